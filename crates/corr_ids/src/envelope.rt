@@ -1,0 +1,14 @@
+//! What the blocks of a message say beside its text.
+
+use crate::bic::Bic;
+use crate::mir::Mir;
+use crate::uetr::Uetr;
+
+/// Who sent a message to whom, under which reference.
+#[derive(Clone, Copy, Debug, PartialEq, Eq)]
+pub struct Envelope {
+    pub mir: Option<Mir>,
+    pub sender: Bic,
+    pub receiver: Bic,
+    pub uetr: Option<Uetr>,
+}

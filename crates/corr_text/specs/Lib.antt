@@ -1,0 +1,4 @@
+pub mod Filled
+pub mod Digits
+pub mod Sets
+pub mod First

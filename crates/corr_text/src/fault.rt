@@ -1,0 +1,15 @@
+//! Codes of refusals, and the faults that carry them.
+
+/// A code of three characters, as `E15` or `P41`.
+#[derive(Clone, Copy, Debug, PartialEq, Eq)]
+pub struct Code(pub [u8; 3]);
+
+/// What is wrong with a message: the code, the tag that it is told of, and which of that tag it is.
+///
+/// `nth` counts from 1; 0 stands for an absence. A tag of two characters has a space as its third byte.
+#[derive(Clone, Copy, Debug, PartialEq, Eq)]
+pub struct Fault {
+    pub code: Code,
+    pub tag: [u8; 3],
+    pub nth: u16,
+}

@@ -1,0 +1,18 @@
+//! Bytes, lists, codes and digits: what every other crate stands on.
+#![tactic(auto)]
+
+mod buf;
+mod decimal;
+mod fault;
+mod list;
+mod memory;
+mod set;
+mod text;
+
+pub use buf::Buf;
+pub use decimal::{digits, put_digits};
+pub use fault::{Code, Fault};
+pub use list::List;
+pub use memory::Memory;
+pub use set::{Set, is_set, is_x};
+pub use text::Text;

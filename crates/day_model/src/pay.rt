@@ -1,0 +1,72 @@
+//! Pays: what a valid and routed message asks to be booked and sent on.
+
+use crate::account::AcctNo;
+use corr_ids::{Bic, Day, Mir, Uetr};
+use corr_money::Minor;
+use corr_text::{List, Text};
+
+/// The side of an account that a leg is booked on.
+#[derive(Clone, Copy, Debug, PartialEq, Eq)]
+pub enum Side {
+    Debit,
+    Credit,
+}
+
+/// The type of the message that a pay came from: MT103, or MT202 COV.
+#[derive(Clone, Copy, Debug, PartialEq, Eq)]
+pub enum Mt {
+    Transfer,
+    Cover,
+}
+
+/// The reference that a statement line quotes for a leg: the other bank's, or that of our order `k`, from 1.
+#[derive(Debug, Drop)]
+pub enum Quote {
+    Theirs(Text),
+    Ours(u8),
+}
+
+/// One side of a booking: an account, debit or credit, and an amount in minor units.
+#[derive(Debug, Drop)]
+pub struct Leg {
+    pub account: AcctNo,
+    pub side: Side,
+    pub amount: Minor,
+    pub quote: Quote,
+}
+
+/// Which of the fields 56a and 57a an order leaves out: none, 56a, or both.
+#[derive(Clone, Copy, Debug, PartialEq, Eq)]
+pub enum Skip {
+    Keep,
+    Mid,
+    Both,
+}
+
+/// A message to send once a pay is booked; `leg` counts from 1.
+#[derive(Clone, Copy, Debug, PartialEq, Eq)]
+pub enum Order {
+    Transfer {
+        to: Bic,
+        skip: Skip,
+        via: Option<Bic>,
+    },
+    Cover { to: Bic, end: Bic, skip: Skip },
+    Pass { to: Bic, skip: Skip },
+    Debit { to: Bic, leg: u8 },
+    Credit { to: Bic, leg: u8 },
+}
+
+/// What one message asks: two legs, the debit first, and the messages to send on.
+///
+/// `text` is the message's block 4, its lines each ended by CR LF; `value` is the value date.
+#[derive(Debug, Drop)]
+pub struct Pay {
+    pub mir: Mir,
+    pub mt: Mt,
+    pub uetr: Option<Uetr>,
+    pub text: Text,
+    pub value: Day,
+    pub legs: List<Leg>,
+    pub orders: List<Order>,
+}
