@@ -2,3 +2,4 @@ pub mod Filled
 pub mod Digits
 pub mod Sets
 pub mod First
+pub mod Faults

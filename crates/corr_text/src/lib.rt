@@ -3,6 +3,7 @@
 
 mod buf;
 mod decimal;
+mod failed;
 mod fault;
 mod list;
 mod memory;
@@ -11,6 +12,7 @@ mod text;
 
 pub use buf::Buf;
 pub use decimal::{digits, put_digits};
+pub use failed::Failed;
 pub use fault::{Code, Fault};
 pub use list::List;
 pub use memory::Memory;

@@ -16,7 +16,10 @@ pub enum Set {
 fn is_mark(b: u8) -> bool
     ensures { result ≡ list_any (λ m. b == m) marks }
 {
-    matches!(b, b' ' | b'/' | b'-' | b'?' | b':' | b'(' | b')' | b'.' | b',' | b'\'' | b'+')
+    matches!(
+        b,
+        b' ' | b'/' | b'-' | b'?' | b':' | b'(' | b')' | b'.' | b',' | b'\'' | b'+'
+    )
 }
 
 /// Whether a byte is in set X: letters, digits, space and `/ - ? : ( ) . , ' +`.
