@@ -1,5 +1,5 @@
 -- Ordered tests: the first that holds.
-use Rattle.std.specs.Prelude.{ℕ, ◌≡◌, Bool, List, [], ◌∷◌, Option, Some, None, Result, Ok, Err, if◌then◌else◌}
+use Rattle.std.specs.Prelude.{Bool, List, [], ◌∷◌, Option, Some, None, Result, Ok, Err, if◌then◌else◌}
 
 -- the first fault of a list of tests, none where no test holds
 abbrev pub first_of : {F : Type 0} → List (Option F) → Option F

@@ -8,6 +8,8 @@ mod fault;
 mod list;
 mod memory;
 mod set;
+#[cfg(test)]
+mod tests;
 mod text;
 
 pub use buf::Buf;

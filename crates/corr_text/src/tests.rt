@@ -1,0 +1,105 @@
+use crate::{Buf, List, Set, Text, digits, is_set, is_x, put_digits};
+use std::test::Fail;
+
+#[test]
+fn digits_are_numbers(rt: HostRuntime) {
+    let rows: [(&[u8], Option<u64>); 9] = [
+        (b"", None),
+        (b"0", Some(0)),
+        (b"007", Some(7)),
+        (b"1000", Some(1000)),
+        (b"9999999999999999999", Some(9_999_999_999_999_999_999)),
+        (b"10000000000000000000", None),
+        (b"00000000000000000000", None),
+        (b"12,5", None),
+        (b"-1", None),
+    ];
+    for (text, want) in rows {
+        assert_eq!(rt; digits(text), want, "{text:?}");
+    }
+}
+
+#[test]
+fn numbers_are_put_behind_a_text(rt: HostRuntime) -> Result<(), Fail> {
+    let rows: [(u64, u8, &[u8]); 7] = [
+        (0, 0, b"P0"),
+        (0, 3, b"P000"),
+        (1, 8, b"P00000001"),
+        (99_999_999, 8, b"P99999999"),
+        (100_000_000, 8, b"P100000000"),
+        (7, 20, b"P00000000000000000007"),
+        (u64::MAX, 20, b"P18446744073709551615"),
+    ];
+    for (n, width, want) in rows {
+        let mut out = Text::from_bytes(rt.alloc(), b"P")?;
+        put_digits(rt.alloc(), n, width, &mut out)?;
+        assert_eq!(rt; out.bytes(), want, "{n} {width}");
+    }
+    Ok(())
+}
+
+// The members of set X, written out.
+const LETTERS: &[u8; 52] = b"ABCDEFGHIJKLMNOPQRSTUVWXYZabcdefghijklmnopqrstuvwxyz";
+
+const REST: &[u8; 21] = b"0123456789 /-?:().,'+";
+
+#[test]
+fn sets_have_their_members(rt: HostRuntime) {
+    for b in LETTERS {
+        assert!(rt; is_x(*b) && is_set(Set::X, *b), "{b}");
+    }
+    for b in REST {
+        assert!(rt; is_x(*b) && is_set(Set::X, *b), "{b}");
+    }
+    let rows = [(Set::X, 73), (Set::N, 10), (Set::A, 26), (Set::C, 36)];
+    for (set, want) in rows {
+        let count = (0..=255u8).filter(|b| is_set(set, *b)).count();
+        assert_eq!(rt; count, want, "{set:?}");
+    }
+    let rows = [
+        (Set::N, b'0', true),
+        (Set::N, b'A', false),
+        (Set::A, b'Z', true),
+        (Set::A, b'z', false),
+        (Set::C, b'9', true),
+        (Set::C, b'a', false),
+    ];
+    for (set, b, want) in rows {
+        assert_eq!(rt; is_set(set, b), want, "{set:?} {b}");
+    }
+}
+
+#[test]
+fn a_text_is_copied_and_grows(rt: HostRuntime) -> Result<(), Fail> {
+    let mut text = Text::from_bytes(rt.alloc(), b"REF1")?;
+    let copy = text.copy(rt.alloc())?;
+    text.push(b"")?;
+    text.push(b"//X")?;
+    assert_eq!(rt; text.bytes(), b"REF1//X".as_slice());
+    assert_eq!(rt; copy.bytes(), b"REF1".as_slice());
+    Ok(())
+}
+
+#[test]
+fn a_buffer_is_filled_again(rt: HostRuntime) -> Result<(), Fail> {
+    let mut buf = Buf::new(rt.alloc());
+    assert_eq!(rt; buf.bytes(), b"".as_slice());
+    buf.reserve(4)?;
+    buf.push(b"AB")?;
+    buf.push(b"CD")?;
+    assert_eq!(rt; buf.bytes(), b"ABCD".as_slice());
+    buf.clear();
+    buf.push(b"EFGHI")?;
+    assert_eq!(rt; buf.bytes(), b"EFGHI".as_slice());
+    Ok(())
+}
+
+#[test]
+fn a_list_keeps_its_order(rt: HostRuntime) -> Result<(), Fail> {
+    let mut list = List::new(rt.alloc());
+    list.push(3u64)?;
+    list.push(1)?;
+    list.push(2)?;
+    assert_eq!(rt; list.as_slice(), [3, 1, 2].as_slice());
+    Ok(())
+}
