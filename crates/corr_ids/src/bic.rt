@@ -1,41 +1,16 @@
 //! Bank identifiers.
 
-ghost use Rattle.std.specs.Prelude.{◌≡◌, ◌≢◌, ◌≤◌, IsTrue, length, take};
-ghost use Rattle.std.specs.List.{list_all};
-ghost use Rattle.std.specs.Char.{is_ascii_uppercase};
-ghost use Rattle.corr_ids.specs.Bic.{bic_of, branch_of, is_bic, is_c};
+ghost use Rattle.std.specs.Prelude.{◌≡◌, ◌≢◌, ◌≤◌, ◌++◌, IsTrue, IfSome, OnOk, OnErr, length, take, Some};
+ghost use Rattle.corr_ids.specs.Bic.{IsBic, bic_of, bic_text, branch_of, is_bic};
 
-/// A bank identifier: its first eight characters and its branch.
+use crate::form::{all_letters, all_of_c};
+use corr_text::{Memory, Text};
+
+/// A bank identifier (BIC, ISO 9362): its first eight characters and its branch, `XXX` for the head office.
 #[derive(Clone, Copy, Debug, PartialEq, Eq)]
 pub struct Bic {
     pub head: [u8; 8],
     pub branch: [u8; 3],
-}
-
-/// The address of a logical terminal: a BIC with the terminal's letter behind its first eight characters.
-#[derive(Clone, Copy, Debug, PartialEq, Eq)]
-pub struct LtAddress {
-    pub head: [u8; 8],
-    pub lt: u8,
-    pub branch: [u8; 3],
-}
-
-fn is_capital_or_digit(b: u8) -> bool
-    ensures { result ≡ is_c b }
-{
-    b.is_ascii_uppercase() || b.is_ascii_digit()
-}
-
-fn all_letters(b: &[u8]) -> bool
-    ensures { result ≡ list_all is_ascii_uppercase b.now }
-{
-    b.iter().all(|c| c.is_ascii_uppercase())
-}
-
-fn all_capitals_or_digits(b: &[u8]) -> bool
-    ensures { result ≡ list_all is_c b.now }
-{
-    b.iter().all(|c| is_capital_or_digit(*c))
 }
 
 #[tactic(auto, unfolding(crate::specs::Bic::is_bic))]
@@ -44,7 +19,7 @@ fn has_bic_form(b: &[u8]) -> bool
     ensures long { IsTrue result → 8 ≤ length b.now }
     ensures full { IsTrue result → length b.now ≢ 8 → length b.now ≡ 11 }
 {
-    (b.len() == 8 || b.len() == 11) && all_letters(&b[..6]) && all_capitals_or_digits(&b[6..])
+    (b.len() == 8 || b.len() == 11) && all_letters(&b[..6]) && all_of_c(&b[6..])
 }
 
 fn head(b: &[u8]) -> [u8; 8]
@@ -68,9 +43,12 @@ fn branch(b: &[u8]) -> [u8; 3]
     branch
 }
 
-/// The BIC that these bytes spell.
+/// The BIC that these bytes spell, `4!a2!a2!c[3!c]`: without a branch it is `XXX`.
+///
+/// `ALPHDEFF` is the BIC with the head `ALPHDEFF` and the branch `XXX`; `ALPHDEFF50` and `alphdeff` spell none.
 pub fn read_bic(b: &[u8]) -> Option<Bic>
-    ensures { result ≡ bic_of b.now }
+    ensures value { result ≡ bic_of b.now }
+    ensures form { IfSome result IsBic }
 {
     if !has_bic_form(b) {
         return None;
@@ -79,4 +57,27 @@ pub fn read_bic(b: &[u8]) -> Option<Bic>
         head: head(b),
         branch: branch(b),
     })
+}
+
+fn with_branch(b: &Bic) -> [u8; 11]
+    ensures { result ≡ b.now.head ++ b.now.branch }
+{
+    let mut full = [0; 11];
+    full[..8].copy_from_slice(&b.head);
+    full[8..].copy_from_slice(&b.branch);
+    full
+}
+
+/// Adds a BIC: 8 characters where its branch is `XXX`, else 11. Want of memory leaves the text as it was.
+///
+/// The head `ALPHDEFF` is printed `ALPHDEFF` with the branch `XXX`, and `ALPHDEFF500` with the branch `500`.
+pub fn put_bic(b: &Bic, out: &mut Text) -> Result<(), Memory>
+    ensures ok { OnOk result (out.new ≡ out.old ++ bic_text b.now) }
+    ensures err { OnErr result (out.new ≡ out.old) }
+    ensures again { IsBic b.now → bic_of (bic_text b.now) ≡ Some b.now }
+{
+    if b.branch == *b"XXX" {
+        return out.push(&b.head);
+    }
+    out.push(&with_branch(b))
 }

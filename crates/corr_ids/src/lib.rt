@@ -1,14 +1,21 @@
-//! Identifiers: banks, terminals, message references, days.
+//! Identifiers: banks, terminals, message references, transaction references, days.
+//!
+//! Their grammars stand in docs/messages.md, "Identifiers and dates". No reader takes memory.
 #![tactic(auto)]
 
+mod address;
 mod bic;
 mod day;
 mod envelope;
+mod form;
 mod mir;
+#[cfg(test)]
+mod tests;
 mod uetr;
 
-pub use bic::{Bic, LtAddress, read_bic};
-pub use day::{Day, day_from_yymmdd};
+pub use address::{LtAddress, read_lt};
+pub use bic::{Bic, put_bic, read_bic};
+pub use day::{Day, day_from_yymmdd, day_of_year, put_yymmdd};
 pub use envelope::Envelope;
-pub use mir::Mir;
-pub use uetr::Uetr;
+pub use mir::{Mir, read_mir};
+pub use uetr::{Uetr, read_uetr};

@@ -1,0 +1,5 @@
+use Rattle.corr_ids.proofs.Spelling.{bic-printed}
+use Rattle.corr_ids.proofs.bic.put_bic.Goals as goal
+
+pub returns-then-eq-clause-again : goal.returns-then-eq-clause-again
+returns-then-eq-clause-again c = bic-printed c.args.b.now

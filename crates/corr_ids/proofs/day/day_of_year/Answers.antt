@@ -1,0 +1,5 @@
+use Rattle.corr_ids.proofs.Century.{civil-again}
+use Rattle.corr_ids.proofs.day.day_of_year.Goals as goal
+
+pub returns-clause-date : goal.returns-clause-date
+returns-clause-date c = civil-again c.args.d c.requires
