@@ -2,5 +2,13 @@
 #![tactic(auto)]
 
 mod amount;
+mod fault;
+mod reading;
+#[cfg(test)]
+mod tests;
+mod writing;
 
 pub use amount::{Amount, Ccy, Minor};
+pub use fault::AmountFault;
+pub use reading::read_15d;
+pub use writing::{put_15d, put_signed, put_total};
