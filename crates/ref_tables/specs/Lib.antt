@@ -1,0 +1,7 @@
+pub mod Rows
+pub mod Columns
+pub mod Refusals
+pub mod Seen
+pub mod Tables
+pub mod Accounts
+pub mod AccountList

@@ -1,0 +1,24 @@
+-- The rows of a table file.
+use Rattle.std.specs.Prelude.{ℕ, List, [], length, Option, Some, None, unwrap_or, nat_le, if◌then◌else◌}
+use Rattle.csv.specs.Reading.{default_config, records, strip_bom}
+use Rattle.csv.specs.Records.{field_at}
+
+-- the cells of a row
+abbrev pub Cells : Type 0
+Cells = List (List ℕ)
+
+-- the rows of a file, as csv reads its records, none of them a header
+unfoldable pub rows_of : List ℕ → List Cells
+rows_of file = records default_config (strip_bom file)
+
+-- the cell of a row at a place, from 0; no bytes past its last
+abbrev pub cell : ℕ → Cells → List ℕ
+cell k row = unwrap_or (field_at row k) []
+
+-- the items, unless there are more than this
+abbrev pub up_to : {A : Type 0} → ℕ → List A → Option (List A)
+up_to most xs = if nat_le (length xs) most then Some xs else None
+
+-- the rows of a file, unless it has more than 8 MiB or more rows than this
+abbrev pub rows_within : ℕ → List ℕ → Option (List Cells)
+rows_within most file = if nat_le (length file) 8388608 then up_to most (rows_of file) else None

@@ -1,0 +1,27 @@
+-- What contracts see of the reference tables, and what they say.
+use Rattle.std.specs.Prelude.{ℕ, Bool, false, List, Option, unwrap_or, is_some, nat_le}
+use Rattle.std.specs.List.{list_all}
+use Rattle.std.specs.Map.{lookup}
+use Rattle.std.specs.Str.{bytes_eq}
+
+-- banks by head, with their branches; currencies by code, with their decimals; countries by code, and whether they are listed
+pub record Tables : Type 0 where
+  pub bics : List (List ℕ × List ℕ)
+  pub ccys : List (List ℕ × ℕ)
+  pub countries : List (List ℕ × Bool)
+
+-- a bank of the table has this head
+abbrev pub has_head : Tables → List ℕ → Bool
+has_head t head = is_some (lookup (bytes_eq head) t.bics)
+
+-- the decimals of a currency, none where it is not in the table
+abbrev pub decimals_in : Tables → List ℕ → Option ℕ
+decimals_in t ccy = lookup (bytes_eq ccy) t.ccys
+
+-- a country is listed: it is in the table, with Y
+abbrev pub is_listed : Tables → List ℕ → Bool
+is_listed t country = unwrap_or (lookup (bytes_eq country) t.countries) false
+
+-- each currency has at most 4 decimals
+abbrev pub few_decimals : List (List ℕ × ℕ) → Bool
+few_decimals ccys = list_all (λ c. nat_le c.1 4) ccys

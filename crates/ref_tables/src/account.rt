@@ -1,0 +1,21 @@
+//! A row of the table of accounts.
+
+use corr_ids::Bic;
+use corr_money::Ccy;
+use corr_text::Text;
+
+/// An account as the table has it, for example `VALPHEUR,V,ALPHDEFF,EUR,-10000000,90000000000,5000000`.
+///
+/// `kind` is `C` (a customer's), `V` (vostro) or `N` (nostro); `decimals` are those of the currency; `floor`, `ceil`
+/// and `opening` are balances in minor units, credits positive.
+#[derive(Debug, Drop)]
+pub struct AccountRow {
+    pub id: Text,
+    pub kind: u8,
+    pub owner: Bic,
+    pub ccy: Ccy,
+    pub decimals: u8,
+    pub floor: i64,
+    pub ceil: i64,
+    pub opening: i64,
+}

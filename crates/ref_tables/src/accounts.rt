@@ -1,0 +1,186 @@
+//! The table of accounts.
+
+ghost use Rattle.std.specs.Prelude.{◌≡◌, ◌≤◌, ◌<◌, [], IfErr, IfOk, All, MatchResult, None, Some, length, map, position};
+ghost use Rattle.csv.specs.Records.{fields_of};
+ghost use Rattle.ref_tables.specs.AccountList.{AreAccounts};
+ghost use Rattle.ref_tables.specs.Accounts.{account_fault, account_of, accounts_fault, clashes, form_fault, is_balance, owner_fits, same_relation, standing_fault, within_limits};
+ghost use Rattle.ref_tables.specs.Refusals.{Tells, against, first_bad_row, named};
+ghost use Rattle.ref_tables.specs.Rows.{cell, rows_of};
+
+use crate::account::AccountRow;
+use crate::columns::{ccy, is_account_id, kind, signed};
+use crate::fault::{TableFault, TableName, Why, bad};
+use crate::rows::{cell, read_rows};
+use crate::tables::RefTables;
+use corr_ids::{Bic, read_bic};
+use corr_text::Text;
+use csv::ByteRecord;
+use std::alloc::Global;
+
+const MAX_ACCOUNTS: usize = 1000;
+
+/// The kind of a customer's account.
+const CUSTOMER: u8 = b'C';
+
+/// Balances are below this in size.
+const BALANCE_LIMIT: u64 = 100000000000000;
+
+// The account that a row says, whose id is this text; a currency that is not in the table is refused later.
+fn read_columns(t: &RefTables, row: &ByteRecord, id: Text) -> Result<AccountRow, Why>
+    requires { id ≡ cell 0 (fields_of row.now) }
+    ensures { MatchResult result
+        (λ a. (form_fault (fields_of row.now) ≡ None) × (a ≡ account_of t.now (fields_of row.now)) × (a.decimals ≤ 4))
+        (λ why. form_fault (fields_of row.now) ≡ Some why) }
+{
+    if row.len() != 7 {
+        return Err(Why::Columns);
+    }
+    if !is_account_id(cell(row, 0)) {
+        return Err(Why::Value { col: 1 });
+    }
+    let kind = kind(cell(row, 1)).ok_or(Why::Value { col: 2 })?;
+    let owner = read_bic(cell(row, 2)).ok_or(Why::Value { col: 3 })?;
+    let ccy = ccy(cell(row, 3)).ok_or(Why::Value { col: 4 })?;
+    let floor = signed(cell(row, 4)).ok_or(Why::Value { col: 5 })?;
+    let ceil = signed(cell(row, 5)).ok_or(Why::Value { col: 6 })?;
+    let opening = signed(cell(row, 6)).ok_or(Why::Value { col: 7 })?;
+    Ok(AccountRow {
+        id,
+        kind,
+        owner,
+        ccy,
+        decimals: t.decimals(ccy).unwrap_or(0),
+        floor,
+        ceil,
+        opening,
+    })
+}
+
+fn has_same_relation(a: &AccountRow, b: &AccountRow) -> bool
+    ensures { result ≡ same_relation a.now b.now }
+{
+    a.kind != CUSTOMER && a.kind == b.kind && a.owner.head == b.owner.head && a.ccy.0 == b.ccy.0
+}
+
+fn clashes(a: &AccountRow, b: &AccountRow) -> bool
+    ensures { result ≡ clashes a.now b.now }
+{
+    a.id.bytes() == b.id.bytes() || has_same_relation(a, b)
+}
+
+fn owner_fits(home: &Bic, a: &AccountRow) -> bool
+    ensures { result ≡ owner_fits home.now.head a.now }
+{
+    (a.kind == CUSTOMER) == (a.owner.head == home.head)
+}
+
+fn is_balance(z: i64) -> bool
+    ensures { result ≡ is_balance z }
+{
+    z.unsigned_abs() < BALANCE_LIMIT
+}
+
+fn within_limits(a: &AccountRow) -> bool
+    ensures { result ≡ within_limits a.now }
+{
+    is_balance(a.floor)
+        && is_balance(a.ceil)
+        && is_balance(a.opening)
+        && a.floor <= a.opening
+        && a.opening <= a.ceil
+}
+
+// The first of these accounts that a table can't have beside this one.
+fn first_clash(account: &AccountRow, earlier: &[AccountRow]) -> Option<usize>
+    ensures { result ≡ position (clashes account.now) earlier.now }
+{
+    earlier.iter().position(|e| clashes(account, e))
+}
+
+// What is wrong with an account, given those of the rows before it.
+fn standing(home: &Bic, t: &RefTables, earlier: &[AccountRow], account: &AccountRow) -> Option<Why>
+    requires { length earlier.now < 1000 }
+    ensures { result ≡ standing_fault home.now.head t.now earlier.now account.now }
+{
+    if let Some(at) = first_clash(account, earlier) {
+        return Some(Why::Double { row: at as u32 + 1 });
+    }
+    if !t.has_bic(&account.owner.head) || !owner_fits(home, account) {
+        return Some(Why::Bic);
+    }
+    if t.decimals(account.ccy).is_none() {
+        return Some(Why::Currency);
+    }
+    if !within_limits(account) {
+        return Some(Why::Limits);
+    }
+    None
+}
+
+// Reads a row, given the accounts of the rows before it.
+fn read_row(
+    home: &Bic,
+    t: &RefTables,
+    earlier: &[AccountRow],
+    row: &ByteRecord,
+    id: Text,
+) -> Result<AccountRow, Why>
+    requires id_read { id ≡ cell 0 (fields_of row.now) }
+    requires few { length earlier.now < 1000 }
+    ensures { MatchResult result
+        (λ a. (account_fault home.now.head t.now earlier.now (fields_of row.now) ≡ None) × (a ≡ account_of t.now (fields_of row.now)) × (a.decimals ≤ 4))
+        (λ why. account_fault home.now.head t.now earlier.now (fields_of row.now) ≡ Some why) }
+{
+    let account = read_columns(t, row, id)?;
+    match standing(home, t, earlier, &account) {
+        None => Ok(account),
+        Some(why) => Err(why),
+    }
+}
+
+// The accounts that rows say.
+fn enter_rows(
+    alloc: Global,
+    home: &Bic,
+    t: &RefTables,
+    rows: &[ByteRecord],
+) -> Result<Vec<AccountRow>, TableFault>
+    requires { length rows.now ≤ 1000 }
+    ensures ok { IfOk result (λ v.
+        (first_bad_row (against (account_of t.now) (account_fault home.now.head t.now)) [] (map fields_of rows.now) ≡ None)
+        × (v.items ≡ map (account_of t.now) (map fields_of rows.now))
+        × All (λ a. a.decimals ≤ 4) v.items) }
+    ensures bad { IfErr result (Tells (named TableName.Accounts
+        (first_bad_row (against (account_of t.now) (account_fault home.now.head t.now)) [] (map fields_of rows.now)))) }
+{
+    let mut accounts = Vec::new(alloc);
+    for row in rows {
+        let id = Text::from_bytes(alloc, cell(row, 0))?;
+        match read_row(home, t, accounts.as_slice(), row, id) {
+            Ok(account) => accounts.push(account)?,
+            Err(why) => return Err(bad(TableName::Accounts, accounts.len() + 1, why)),
+        }
+    }
+    Ok(accounts)
+}
+
+/// The accounts of this file, for the home bank `home` and under the tables `t` (docs/tables.md, "accounts").
+///
+/// `Bad` tells the first row that fails, and why.
+#[tactic(auto, using(crate::proofs::Records::rows_within_some))]
+pub fn read_accounts(
+    alloc: Global,
+    file: &[u8],
+    home: &Bic,
+    t: &RefTables,
+) -> Result<Vec<AccountRow>, TableFault>
+    ensures accounts { IfOk result (λ v. AreAccounts home.now.head t.now v.items) }
+    ensures sound { IfOk result (λ v. accounts_fault home.now.head t.now file.now ≡ None) }
+    ensures value { IfOk result (λ v. v.items ≡ map (account_of t.now) (rows_of file.now)) }
+    ensures bad { IfErr result (Tells (named TableName.Accounts (accounts_fault home.now.head t.now file.now))) }
+{
+    match read_rows(alloc, file, MAX_ACCOUNTS)? {
+        Some(rows) => enter_rows(alloc, home, t, rows.as_slice()),
+        None => Err(bad(TableName::Accounts, 0, Why::Rows)),
+    }
+}

@@ -1,0 +1,104 @@
+//! The forms of columns (docs/tables.md, "Columns").
+
+ghost use Rattle.std.specs.Prelude.{◌≡◌, None, option_map, pos, Some, if◌then◌else◌};
+ghost use Rattle.std.specs.List.{list_all};
+ghost use Rattle.std.specs.Char.{is_ascii_uppercase};
+ghost use Rattle.corr_text.specs.Sets.{is_c_byte};
+ghost use Rattle.ref_tables.specs.Columns.{decimals_of, is_account_id as is_account_id_of, is_ccy, is_country, kind_of, magnitude_of, signed_of, yes_of};
+
+use corr_money::Ccy;
+use corr_text::{Set, digits, is_set};
+
+fn all_capitals(b: &[u8]) -> bool
+    ensures { result ≡ list_all is_ascii_uppercase b.now }
+{
+    b.iter().all(|c| c.is_ascii_uppercase())
+}
+
+fn all_capitals_or_digits(b: &[u8]) -> bool
+    ensures { result ≡ list_all is_c_byte b.now }
+{
+    b.iter().all(|c| is_set(Set::C, *c))
+}
+
+/// A currency code: three capital letters.
+pub fn ccy(b: &[u8]) -> Option<Ccy>
+    ensures { result ≡ (if is_ccy b.now then Some (record { 0 = b.now }) else None) }
+{
+    if b.len() != 3 || !all_capitals(b) {
+        return None;
+    }
+    let mut code = [0; 3];
+    code.copy_from_slice(b);
+    Some(Ccy(code))
+}
+
+/// A country code: two capital letters.
+pub fn country(b: &[u8]) -> Option<[u8; 2]>
+    ensures { result ≡ (if is_country b.now then Some b.now else None) }
+{
+    if b.len() != 2 || !all_capitals(b) {
+        return None;
+    }
+    let mut code = [0; 2];
+    code.copy_from_slice(b);
+    Some(code)
+}
+
+/// A number of decimals: one digit, 0 to 4.
+pub fn decimals(b: &[u8]) -> Option<u8>
+    ensures { result ≡ decimals_of b.now }
+{
+    match b {
+        [b] if b'0' <= *b && *b <= b'4' => Some(*b - b'0'),
+        _ => None,
+    }
+}
+
+/// `Y` or `N`.
+pub fn yes_or_no(b: &[u8]) -> Option<bool>
+    ensures { result ≡ yes_of b.now }
+{
+    match b {
+        [b'Y'] => Some(true),
+        [b'N'] => Some(false),
+        _ => None,
+    }
+}
+
+/// Whether these are 1 to 34 capital letters and digits.
+pub fn is_account_id(b: &[u8]) -> bool
+    ensures { result ≡ is_account_id_of b.now }
+{
+    1 <= b.len() && b.len() <= 34 && all_capitals_or_digits(b)
+}
+
+/// `C`, `V` or `N`.
+pub fn kind(b: &[u8]) -> Option<u8>
+    ensures { result ≡ kind_of b.now }
+{
+    match b {
+        [b] if *b == b'C' || *b == b'V' || *b == b'N' => Some(*b),
+        _ => None,
+    }
+}
+
+fn magnitude(b: &[u8]) -> Option<i64>
+    ensures { result ≡ option_map pos (magnitude_of b.now) }
+{
+    if b.len() > 15 {
+        return None;
+    }
+    let n = digits(b)?;
+    Some(n as i64)
+}
+
+/// A signed number: a minus sign or none, then 1 to 15 digits.
+pub fn signed(b: &[u8]) -> Option<i64>
+    ensures { result ≡ signed_of b.now }
+{
+    match b {
+        [b'-', rest @ ..] => Some(-magnitude(rest)?),
+        _ => magnitude(b),
+    }
+}

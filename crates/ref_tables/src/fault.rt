@@ -1,0 +1,87 @@
+//! Why a table file is refused.
+
+ghost use Rattle.std.specs.Prelude.{◌≡◌, ◌<◌};
+ghost use Rattle.ref_tables.specs.declared.fault.TableFault.TheVariants.{Memory as NoMemory};
+
+use corr_text::Memory;
+use std::alloc::{AllocError, AllocFailed};
+
+/// A table, by its name.
+#[derive(Clone, Copy, Debug, PartialEq, Eq)]
+pub enum TableName {
+    Bics,
+    Ccys,
+    Countries,
+    Accounts,
+    Ssi,
+}
+
+/// What is wrong with a row, or with the whole file (docs/tables.md, "Refusals").
+#[derive(Clone, Copy, Debug, PartialEq, Eq)]
+pub enum Why {
+    /// The row has another number of columns than the table.
+    Columns,
+    /// Column `col`, from 1, is the first that is not of its form.
+    Value { col: u8 },
+    /// An earlier row, the first of them at `row`, has the same key.
+    Double { row: u32 },
+    /// A bank that the row names is not in the table of banks, or may not stand there.
+    Bic,
+    /// The row's currency is not in the table of currencies.
+    Currency,
+    /// The row's numbers are too large or out of order.
+    Limits,
+    /// An earlier row, the first of them at `row`, speaks of a day that this one speaks of too.
+    Overlap { row: u32 },
+    /// The row's last day is not after its first.
+    Span,
+    /// The file has too many bytes or too many rows.
+    Rows,
+}
+
+/// The first row of a table that fails, from 1, or 0 for the whole file, and why; or want of memory.
+#[derive(Debug, Drop)]
+pub enum TableFault {
+    Bad {
+        table: TableName,
+        row: u32,
+        why: Why,
+    },
+    Memory,
+}
+
+/// The fault of a row of a table.
+pub fn bad(table: TableName, row: usize, why: Why) -> TableFault
+    requires { row < 200000 }
+    ensures { result ≡ TableFault.Bad table row why }
+{
+    TableFault::Bad {
+        table,
+        row: row as u32,
+        why,
+    }
+}
+
+impl From<Memory> for TableFault {
+    ghost from_gives = { λ _ e. e ≡ NoMemory };
+
+    fn from(_e: Memory) -> TableFault {
+        TableFault::Memory
+    }
+}
+
+impl From<AllocError> for TableFault {
+    ghost from_gives = { λ _ e. e ≡ NoMemory };
+
+    fn from(_e: AllocError) -> TableFault {
+        TableFault::Memory
+    }
+}
+
+impl<T: Drop> From<AllocFailed<T>> for TableFault {
+    ghost from_gives = { λ _ e. e ≡ NoMemory };
+
+    fn from(_e: AllocFailed<T>) -> TableFault {
+        TableFault::Memory
+    }
+}

@@ -1,0 +1,72 @@
+//! Tables whose rows have a key that no two of them share.
+
+ghost use Rattle.std.specs.Prelude.{◌≡◌, ◌<◌, ◌≤◌, ℕ, List, [], IfErr, IfOk, MatchResult, Option, None, Some, length, map};
+ghost use Rattle.std.specs.Str.{bytes_eq};
+ghost use Rattle.indexmap.specs.IndexMap.{get, index_map_len};
+ghost use Rattle.csv.specs.Records.{fields_of};
+ghost use Rattle.ref_tables.specs.Refusals.{Tells, against, first_bad_row, first_fault, named};
+ghost use Rattle.ref_tables.specs.Rows.{Cells, rows_of};
+ghost use Rattle.ref_tables.specs.declared.fault.Why.{Why};
+
+use crate::fault::{TableFault, TableName, Why, bad};
+use crate::rows::read_rows;
+use csv::ByteRecord;
+use indexmap::IndexMap;
+use std::alloc::Global;
+
+/// The rows of one table: what a row says, and how it may fail against what the rows before it say.
+pub trait KeyedRow<const N: usize, V> {
+    ghost entry: { Cells → List ℕ × V };
+
+    ghost fault: { List (List ℕ × V) → Cells → Option Why };
+
+    /// Reads a row, given what the rows before it say.
+    fn read(seen: &IndexMap<[u8; N], V>, row: &ByteRecord) -> Result<([u8; N], V), Why>
+        requires { index_map_len seen.now < 100000 }
+        ensures { MatchResult result
+            (λ e. (fault seen.now.entries (fields_of row.now) ≡ None) × ((e.0, e.1) ≡ entry (fields_of row.now)) × (get bytes_eq seen.now e.0 ≡ None))
+            (λ why. fault seen.now.entries (fields_of row.now) ≡ Some why) };
+}
+
+// What the rows say, by their keys.
+fn enter_rows<const N: usize, V: Drop, R: KeyedRow<N, V>>(
+    alloc: Global,
+    table: TableName,
+    rows: &[ByteRecord],
+) -> Result<IndexMap<[u8; N], V>, TableFault>
+    requires { length rows.now ≤ 100000 }
+    ensures ok { IfOk result (λ m. (first_bad_row (against R.entry R.fault) [] (map fields_of rows.now) ≡ None)
+        × (m.entries ≡ map R.entry (map fields_of rows.now))) }
+    ensures bad { IfErr result (Tells (named table (first_bad_row (against R.entry R.fault) [] (map fields_of rows.now)))) }
+{
+    let mut seen = IndexMap::new(alloc);
+    for row in rows {
+        match R::read(&seen, row) {
+            Ok(entry) => {
+                let key = entry.0;
+                seen.insert(key, entry.1)?;
+            }
+            Err(why) => return Err(bad(table, seen.len() + 1, why)),
+        }
+    }
+    Ok(seen)
+}
+
+/// Reads the file of a table of at most `most` rows.
+#[tactic(auto, using(crate::proofs::Records::rows_within_some))]
+pub fn read_keyed<const N: usize, V: Drop, R: KeyedRow<N, V>>(
+    alloc: Global,
+    table: TableName,
+    most: usize,
+    file: &[u8],
+) -> Result<IndexMap<[u8; N], V>, TableFault>
+    requires { most ≤ 100000 }
+    ensures ok { IfOk result (λ m. (first_fault most (against R.entry R.fault) file.now ≡ None)
+        × (m.entries ≡ map R.entry (rows_of file.now))) }
+    ensures bad { IfErr result (Tells (named table (first_fault most (against R.entry R.fault) file.now))) }
+{
+    match read_rows(alloc, file, most)? {
+        Some(rows) => enter_rows::<N, V, R>(alloc, table, rows.as_slice()),
+        None => Err(bad(table, 0, Why::Rows)),
+    }
+}

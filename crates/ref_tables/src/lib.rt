@@ -1,0 +1,21 @@
+//! The reference tables: banks, currencies, countries and accounts, read from their files (docs/tables.md).
+#![tactic(auto)]
+
+mod account;
+mod accounts;
+mod banks;
+mod columns;
+mod countries;
+mod currencies;
+mod fault;
+mod keyed;
+mod rows;
+mod tables;
+#[cfg(test)]
+mod tests;
+
+pub use account::AccountRow;
+pub use accounts::read_accounts;
+pub use fault::{TableFault, TableName, Why};
+pub use rows::{cell, read_rows};
+pub use tables::{RefTables, read_tables};

@@ -1,0 +1,98 @@
+//! The tables of banks, currencies and countries.
+
+ghost use Rattle.std.specs.Prelude.{◌≡◌, ◌≤◌, IfErr, IfOk, IfSome, None};
+ghost use Rattle.ref_tables.specs.Refusals.{Tells};
+ghost use Rattle.ref_tables.specs.Seen.{decimals_in, has_head, is_listed};
+ghost use Rattle.ref_tables.specs.Tables.{tables_fault, tables_of};
+
+use crate::banks::BankRow;
+use crate::countries::CountryRow;
+use crate::currencies::CurrencyRow;
+use crate::fault::{TableFault, TableName};
+use crate::keyed::read_keyed;
+use corr_money::Ccy;
+use indexmap::IndexMap;
+use std::alloc::Global;
+use std::marker::Model;
+
+const MAX_BANKS: usize = 100000;
+
+const MAX_CURRENCIES: usize = 1000;
+
+const MAX_COUNTRIES: usize = 1000;
+
+/// The banks, currencies and countries that are known.
+///
+/// Contracts see three lists in the order of the files' rows: the banks' heads with their branches, the currencies' codes
+/// with their decimals, and the countries' codes with whether they are listed.
+#[derive(Drop)]
+pub struct RefTables {
+    bics: IndexMap<[u8; 8], [u8; 3]>,
+    ccys: IndexMap<[u8; 3], u8>,
+    countries: IndexMap<[u8; 2], bool>,
+}
+
+impl Model for RefTables {
+    ghost use Rattle.std.specs.Prelude.{IsTrue};
+    ghost use Rattle.ref_tables.specs.Seen.{Tables, few_decimals};
+
+    ghost Value = { Tables };
+
+    ghost view = { λ t. record { bics = t.bics.entries; ccys = t.ccys.entries; countries = t.countries.entries } };
+
+    ghost invariant = { λ t. IsTrue (few_decimals t.ccys.entries) };
+}
+
+impl RefTables {
+    /// Whether a BIC of the table of banks has this head.
+    pub fn has_bic(&self, head: &[u8; 8]) -> bool
+        ensures { result ≡ has_head self.now head.now }
+    {
+        self.bics.contains_key(head)
+    }
+
+    /// The number of decimals of a currency; none where it is not in the table of currencies.
+    #[tactic(auto, using(crate::proofs::Decimals::lookup_few))]
+    pub fn decimals(&self, c: Ccy) -> Option<u8>
+        ensures value { result ≡ decimals_in self.now c.0 }
+        ensures few { IfSome result (λ d. d ≤ 4) }
+    {
+        self.ccys.get(&c.0).copied()
+    }
+
+    /// Whether a country's row says `Y`.
+    pub fn listed(&self, country: &[u8; 2]) -> bool
+        ensures { result ≡ is_listed self.now country.now }
+    {
+        self.countries.get(country).copied().unwrap_or(false)
+    }
+}
+
+/// The tables that these three files hold (docs/tables.md).
+///
+/// `Bad` tells the first row that fails, and why, of the first file that has one.
+#[tactic(auto, using(crate::proofs::Decimals::rows_few))]
+pub fn read_tables(
+    alloc: Global,
+    bics: &[u8],
+    ccys: &[u8],
+    countries: &[u8],
+) -> Result<RefTables, TableFault>
+    ensures sound { IfOk result (λ t. tables_fault bics.now ccys.now countries.now ≡ None) }
+    ensures value { IfOk result (λ t. t ≡ tables_of bics.now ccys.now countries.now) }
+    ensures bad { IfErr result (Tells (tables_fault bics.now ccys.now countries.now)) }
+{
+    let bics = read_keyed::<8, [u8; 3], BankRow>(alloc, TableName::Bics, MAX_BANKS, bics)?;
+    let ccys = read_keyed::<3, u8, CurrencyRow>(alloc, TableName::Ccys, MAX_CURRENCIES, ccys)?;
+    let countries = read_keyed::<2, bool, CountryRow>(
+        alloc,
+        TableName::Countries,
+        MAX_COUNTRIES,
+        countries,
+    )?;
+    Ok(RefTables {
+        bics,
+        ccys,
+        countries,
+    })
+}
