@@ -2,11 +2,28 @@
 #![tactic(auto)]
 
 mod account;
+mod accounts;
 mod entry;
+mod fault;
+mod fit;
+mod funds;
+mod gap;
+mod history;
+mod laws;
 mod pay;
 mod reply;
+mod rows;
+mod same;
+#[cfg(test)]
+mod tests;
 
 pub use account::{Account, AcctNo};
+pub use accounts::Accounts;
 pub use entry::{Entry, Outcome};
+pub use fault::AccountsFault;
+pub use funds::{balance, decide};
+pub use history::History;
+pub use laws::fold_laws;
 pub use pay::{Leg, Mt, Order, Pay, Quote, Side, Skip};
 pub use reply::Reply;
+pub use rows::rows_hold;

@@ -51,10 +51,23 @@ pub enum Order {
         skip: Skip,
         via: Option<Bic>,
     },
-    Cover { to: Bic, end: Bic, skip: Skip },
-    Pass { to: Bic, skip: Skip },
-    Debit { to: Bic, leg: u8 },
-    Credit { to: Bic, leg: u8 },
+    Cover {
+        to: Bic,
+        end: Bic,
+        skip: Skip,
+    },
+    Pass {
+        to: Bic,
+        skip: Skip,
+    },
+    Debit {
+        to: Bic,
+        leg: u8,
+    },
+    Credit {
+        to: Bic,
+        leg: u8,
+    },
 }
 
 /// What one message asks: two legs, the debit first, and the messages to send on.

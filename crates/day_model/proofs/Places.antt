@@ -1,0 +1,31 @@
+-- The first place that passes a test, counted from 0 and from 1.
+use Rattle.std.proofs.Common.{◌≡◌, ℕ, ◌+◌, ◌<◌, ◌≤◌, Bool, true, false, cond, List, [], ◌∷◌, length, Option, Some, None, refl, ap, ◌∙◌, arith}
+use Rattle.std.specs.Prelude.{option_map}
+use Rattle.std.specs.List.{position_from}
+
+-- counted from one more, it is one more
+pub position_from-next : {A : Type 0} (t : A → Bool) (i : ℕ) (xs : List A) → position_from t (i + 1) xs ≡ option_map (λ k. k + 1) (position_from t i xs)
+position_from-next t i [] = refl
+position_from-next t i (x ∷ xs) =
+    elim (t x) as (λ b. cond b (Some (i + 1)) (position_from t (i + 1 + 1) xs) ≡ option_map (λ k. k + 1) (cond b (Some i) (position_from t (i + 1) xs))) [
+      | true ↦ refl
+      | false ↦ position_from-next t (i + 1) xs
+    ]
+
+pub position_from-one : {A : Type 0} (t : A → Bool) (xs : List A) → position_from t 1 xs ≡ option_map (λ k. k + 1) (position_from t 0 xs)
+position_from-one t xs = position_from-next t 0 xs
+
+-- a place lies in the list
+pub position_from-within : {A : Type 0} (t : A → Bool) (i k : ℕ) (xs : List A) → position_from t i xs ≡ Some k → (i ≤ k) × (k < i + length xs)
+position_from-within t i k [] e = cc
+position_from-within t i k (x ∷ xs) e =
+    elim (t x) as (λ b. cond b (Some i) (position_from t (i + 1) xs) ≡ Some k → (i ≤ k) × (k < i + length (x ∷ xs))) [
+      | true ↦ λ h. let s : i ≡ k = cc in (omega arith, omega arith)
+      | false ↦ λ h. let w = position_from-within t (i + 1) k xs h in (omega arith, omega arith)
+    ] e
+
+pub one-Some : {A : Type 0} (t : A → Bool) (k : ℕ) (xs : List A) → position_from t 0 xs ≡ Some k → position_from t 1 xs ≡ Some (k + 1)
+one-Some t k xs e = position_from-one t xs ∙ ap (option_map (λ k. k + 1)) e
+
+pub one-None : {A : Type 0} (t : A → Bool) (xs : List A) → position_from t 0 xs ≡ None → position_from t 1 xs ≡ None
+one-None t xs e = position_from-one t xs ∙ ap (option_map (λ k. k + 1)) e

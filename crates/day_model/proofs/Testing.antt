@@ -1,0 +1,125 @@
+-- Rows that pass the test are those of a book.
+use Rattle.std.proofs.Common.{◌≡◌, ◌≢◌, ℕ, zero, suc, ◌+◌, ◌<◌, ◌≤◌, Bool, true, false, List, [], ◌∷◌, ◌++◌, Option, Some, None, refl, sym, ap, ◌∙◌, subst, arith, leb, eqb, length, ℤ, pos, negsuc, ◌≤ℤ◌, inl, inr}
+use Rattle.std.specs.Prelude.{◌⊎◌, ◌&&◌, ◌||◌, not, int_le, slice_get, IsTrue}
+use Rattle.std.specs.Str.{bytes_eq}
+use Rattle.std.specs.List.{list_all}
+use Rattle.std.specs.Char.{is_ascii_uppercase}
+use Rattle.std.proofs.lemmas.Bool.{and_parts, or_cases, not-true, leb-true, eqb-true, eq-eqb, ne_eqb, cases_order, false≢true, and_from, not_from_true, not_from_false}
+use Rattle.std.proofs.lemmas.Int.{ints}
+use Rattle.std.proofs.lemmas.Option.{same_Some, none-some}
+use Rattle.std.proofs.lemmas.Slice.Eq.{bytes_eq-Decides}
+use Rattle.corr_text.specs.Sets.{is_c_byte}
+use Rattle.corr_ids.specs.Bic.{is_bic}
+use Rattle.corr_money.specs.declared.amount.Ccy.{Ccy}
+use Rattle.day_model.specs.declared.account.Account.{Account}
+use Rattle.day_model.specs.Chart.{AreRows, IsFormed, IsLimited, IsSmall, IsSameBank, is_ccy, is_kind, customer}
+use Rattle.day_model.specs.Rows.{is_formed, has_limits, is_row, apart, all_apart, rows_fit}
+
+-- what all pass, each passes
+all_at : {A : Type 0} (p : A → Bool) (xs : List A) (i : ℕ) (x : A) → list_all p xs ≡ true → slice_get xs i ≡ Some x → p x ≡ true
+all_at p [] i x all at = absurd (none-some x at)
+all_at p (y ∷ xs) zero x all at = subst (λ z. p z ≡ true) (same_Some y x at) (and_parts (p y) (list_all p xs) all).0
+all_at p (y ∷ xs) (suc i) x all at = all_at p xs i x (and_parts (p y) (list_all p xs) all).1 at
+
+-- each is apart from every later one
+apart_at : (xs : List Account) (i j : ℕ) (a b : Account) → all_apart xs ≡ true → i < j → slice_get xs i ≡ Some a → slice_get xs j ≡ Some b → apart a b ≡ true
+apart_at [] i j a b all lt ati atj = absurd (none-some a ati)
+apart_at (x ∷ xs) i zero a b all lt ati atj = absurd (omega arith)
+apart_at (x ∷ xs) zero (suc j) a b all lt ati atj = all_at (apart a) xs j b (subst (λ (z : Account). list_all (apart z) xs ≡ true) (same_Some x a ati) (and_parts (list_all (apart x) xs) (all_apart xs) all).0) atj
+apart_at (x ∷ xs) (suc i) (suc j) a b all lt ati atj = apart_at xs i j a b (and_parts (list_all (apart x) xs) (all_apart xs) all).1 (omega arith) ati atj
+
+formed : (a : Account) → is_formed a ≡ true → IsFormed a
+formed a e =
+    let decimals = and_parts (leb 1 (length a.id) && leb (length a.id) 34 && list_all is_c_byte a.id && is_kind a.kind && is_bic (a.owner.head ++ a.owner.branch) && list_all is_ascii_uppercase a.ccy.0) (leb a.decimals 4) e in
+    let ccy = and_parts (leb 1 (length a.id) && leb (length a.id) 34 && list_all is_c_byte a.id && is_kind a.kind && is_bic (a.owner.head ++ a.owner.branch)) (list_all is_ascii_uppercase a.ccy.0) decimals.0 in
+    let owner = and_parts (leb 1 (length a.id) && leb (length a.id) 34 && list_all is_c_byte a.id && is_kind a.kind) (is_bic (a.owner.head ++ a.owner.branch)) ccy.0 in
+    let kind = and_parts (leb 1 (length a.id) && leb (length a.id) 34 && list_all is_c_byte a.id) (is_kind a.kind) owner.0 in
+    let plain = and_parts (leb 1 (length a.id) && leb (length a.id) 34) (list_all is_c_byte a.id) kind.0 in
+    let sizes = and_parts (leb 1 (length a.id)) (leb (length a.id) 34) plain.0 in
+    record {
+      id_given = leb-true _ _ sizes.0;
+      id_short = leb-true _ _ sizes.1;
+      id_plain = plain.1;
+      kind = kind.1;
+      owner = owner.1;
+      ccy = ccy.1;
+      decimals = leb-true _ _ decimals.1;
+    }
+
+below : (x y : ℤ) → int_le x y ≡ true → x ≤ℤ y
+below x y e = grind (arith, ints)
+
+before : (x y z : ℤ) → x ≤ℤ y → y ≤ℤ z → x ≤ℤ z
+before x y z p q = omega (arith, ints)
+
+limited : (a : Account) → has_limits a ≡ true → IsLimited a
+limited a e =
+    let high = and_parts (int_le (negsuc 99999999999998) a.floor && int_le a.ceil (pos 99999999999999) && int_le a.floor a.opening) (int_le a.opening a.ceil) e in
+    let low = and_parts (int_le (negsuc 99999999999998) a.floor && int_le a.ceil (pos 99999999999999)) (int_le a.floor a.opening) high.0 in
+    let ends = and_parts (int_le (negsuc 99999999999998) a.floor) (int_le a.ceil (pos 99999999999999)) low.0 in
+    let least = below (negsuc 99999999999998) a.floor ends.0 in
+    let most = below a.ceil (pos 99999999999999) ends.1 in
+    let above_floor = below a.floor a.opening low.1 in
+    let below_ceil = below a.opening a.ceil high.1 in
+    let between = before a.floor a.opening a.ceil above_floor below_ceil in
+    record {
+      floor_small = (least, before a.floor a.ceil (pos 99999999999999) between most);
+      ceil_small = (before (negsuc 99999999999998) a.floor a.ceil least between, most);
+      above_floor = above_floor;
+      below_ceil = below_ceil;
+    }
+
+-- what two accounts that are apart have
+record Apart (a b : Account) : Type 0 where
+  ids : a.id ≢ b.id
+  banks : IsSameBank a b → ⊥
+  decimals : a.ccy ≡ b.ccy → a.decimals ≡ b.decimals
+
+same_bytes : (xs ys : List ℕ) → xs ≡ ys → bytes_eq xs ys ≡ true
+same_bytes xs ys e = (bytes_eq-Decides xs ys).1 e
+
+same_decimals : (c d : Bool) → (not c || d) ≡ true → c ≡ true → d ≡ true
+same_decimals true d e is = e
+same_decimals false d e is = absurd (false≢true is)
+
+parted : (a b : Account) → apart a b ≡ true → Apart a b
+parted a b e =
+    let bank : Bool = not (eqb a.kind customer) && eqb a.kind b.kind && bytes_eq a.owner.head b.owner.head && is_ccy a.ccy b.ccy in
+    let last = and_parts (not (bytes_eq a.id b.id) && not bank) (not (is_ccy a.ccy b.ccy) || eqb a.decimals b.decimals) e in
+    let first = and_parts (not (bytes_eq a.id b.id)) (not bank) last.0 in
+    record {
+      ids = λ is. false≢true (sym (not-true (bytes_eq a.id b.id) first.0) ∙ same_bytes a.id b.id is);
+      banks = λ is. false≢true (sym (not-true bank first.1) ∙ and_from (not (eqb a.kind customer) && eqb a.kind b.kind && bytes_eq a.owner.head b.owner.head) (is_ccy a.ccy b.ccy) (and_from (not (eqb a.kind customer) && eqb a.kind b.kind) (bytes_eq a.owner.head b.owner.head) (and_from (not (eqb a.kind customer)) (eqb a.kind b.kind) (not_from_false (eqb a.kind customer) (ne_eqb a.kind customer is.bank)) (eq-eqb a.kind b.kind is.kind)) (same_bytes a.owner.head b.owner.head is.head)) (same_bytes a.ccy.0 b.ccy.0 (ap (λ (c : Ccy). c.0) is.ccy)));
+      decimals = λ is. eqb-true _ _ (same_decimals (is_ccy a.ccy b.ccy) (eqb a.decimals b.decimals) last.1 (same_bytes a.ccy.0 b.ccy.0 (ap (λ (c : Ccy). c.0) is)));
+    }
+
+pub rows_sound : (accounts : List Account) → rows_fit accounts ≡ true → AreRows accounts
+rows_sound accounts e =
+    let split = and_parts (leb (length accounts) 1000 && list_all is_row accounts) (all_apart accounts) e in
+    let ends = and_parts (leb (length accounts) 1000) (list_all is_row accounts) split.0 in
+    record {
+      few = leb-true _ _ ends.0;
+      formed = λ i a at. formed a (and_parts (is_formed a) (has_limits a) (all_at is_row accounts i a ends.1 at)).0;
+      limited = λ i a at. limited a (and_parts (is_formed a) (has_limits a) (all_at is_row accounts i a ends.1 at)).1;
+      ids = λ i j a b ati atj is. elim (cases_order i j) [
+        | inl same ↦ same
+        | inr other ↦ elim other [
+          | inl lt ↦ absurd ((parted a b (apart_at accounts i j a b split.1 lt ati atj)).ids is)
+          | inr gt ↦ absurd ((parted b a (apart_at accounts j i b a split.1 gt atj ati)).ids (sym is))
+        ]
+      ];
+      banks = λ i j a b ati atj is. elim (cases_order i j) [
+        | inl same ↦ same
+        | inr other ↦ elim other [
+          | inl lt ↦ absurd ((parted a b (apart_at accounts i j a b split.1 lt ati atj)).banks is)
+          | inr gt ↦ absurd ((parted b a (apart_at accounts j i b a split.1 gt atj ati)).banks (record { bank = λ z. is.bank (is.kind ∙ z); kind = sym is.kind; head = sym is.head; ccy = sym is.ccy }))
+        ]
+      ];
+      decimals = λ i j a b ati atj is. elim (cases_order i j) [
+        | inl same ↦ ap (λ (x : Account). x.decimals) (same_Some a b (sym ati ∙ ap (slice_get accounts) same ∙ atj))
+        | inr other ↦ elim other [
+          | inl lt ↦ (parted a b (apart_at accounts i j a b split.1 lt ati atj)).decimals is
+          | inr gt ↦ sym ((parted b a (apart_at accounts j i b a split.1 gt atj ati)).decimals (sym is))
+        ]
+      ];
+    }

@@ -1,0 +1,99 @@
+-- The accounts of a book.
+use Rattle.std.specs.Prelude.{◌≡◌, ◌≢◌, ℕ, ◌-◌, ◌+◌, ◌≤◌, Bool, ◌&&◌, ◌||◌, List, [], ◌∷◌, ◌++◌, length, slice_get, Option, Some, option_map, ℤ, pos, negsuc, ◌+ℤ◌, ◌≤ℤ◌, ◌==◌, nat_lt, nat_le, if◌then◌else◌, IsTrue}
+use Rattle.std.specs.Str.{bytes_eq}
+use Rattle.std.specs.List.{position_from, list_all}
+use Rattle.std.specs.Char.{is_ascii_uppercase}
+use Rattle.corr_text.specs.Sets.{is_c_byte}
+use Rattle.corr_ids.specs.Bic.{is_bic}
+use Rattle.corr_ids.specs.declared.bic.Bic.{Bic}
+use Rattle.corr_money.specs.declared.amount.Ccy.{Ccy}
+use Rattle.day_model.specs.declared.account.Account.{Account}
+use Rattle.day_model.specs.declared.account.AcctNo.{AcctNo}
+
+-- what contracts see of `Accounts`: the home BIC, and the accounts in the order of their numbers
+pub record Chart : Type 0 where
+  pub home : Bic
+  pub accounts : List Account
+
+-- numbers of accounts count from 1
+abbrev pub IsListed : Chart → ℕ → Type 0
+IsListed chart n = (1 ≤ n) × (n ≤ length chart.accounts)
+
+-- the account with a number
+abbrev pub account_at : Chart → ℕ → Option Account
+account_at chart n = slice_get chart.accounts (n - 1)
+
+-- the number of the first account that passes a test
+abbrev pub number_of_first : (Account → Bool) → List Account → Option AcctNo
+number_of_first test accounts = option_map (λ n. record { 0 = n }) (position_from test 1 accounts)
+
+abbrev pub has_id : List ℕ → Account → Bool
+has_id id account = bytes_eq account.id id
+
+abbrev pub is_ccy : Ccy → Ccy → Bool
+is_ccy c d = bytes_eq c.0 d.0
+
+-- of this kind, this head of its owner, this currency and this number of decimals
+abbrev pub is_owned : ℕ → List ℕ → Ccy → ℕ → Account → Bool
+is_owned kind head ccy decimals account =
+    (account.kind == kind) && bytes_eq account.owner.head head && is_ccy account.ccy ccy && (account.decimals == decimals)
+
+-- kinds: `C` is a customer's account, `V` vostro and `N` nostro
+abbrev pub customer : ℕ
+customer = 67
+
+abbrev pub vostro : ℕ
+vostro = 86
+
+abbrev pub nostro : ℕ
+nostro = 78
+
+abbrev pub is_kind : ℕ → Bool
+is_kind kind = (kind == customer) || (kind == vostro) || (kind == nostro)
+
+-- the form of an account's columns
+pub record IsFormed (account : Account) : Type 0 where
+  pub id_given : 1 ≤ length account.id
+  pub id_short : length account.id ≤ 34
+  pub id_plain : IsTrue (list_all is_c_byte account.id)
+  pub kind : IsTrue (is_kind account.kind)
+  pub owner : IsTrue (is_bic (account.owner.head ++ account.owner.branch))
+  pub ccy : IsTrue (list_all is_ascii_uppercase account.ccy.0)
+  pub decimals : account.decimals ≤ 4
+
+-- below 10^14 in size
+abbrev pub IsSmall : ℤ → Type 0
+IsSmall n = (negsuc 99999999999998 ≤ℤ n) × (n ≤ℤ pos 99999999999999)
+
+-- floor ≤ opening ≤ ceiling, each below 10^14 in size
+pub record IsLimited (account : Account) : Type 0 where
+  pub floor_small : IsSmall account.floor
+  pub ceil_small : IsSmall account.ceil
+  pub above_floor : account.floor ≤ℤ account.opening
+  pub below_ceil : account.opening ≤ℤ account.ceil
+
+-- of one bank: vostro or nostro accounts of one kind, owner's head and currency
+pub record IsSameBank (a b : Account) : Type 0 where
+  pub bank : a.kind ≢ customer
+  pub kind : a.kind ≡ b.kind
+  pub head : a.owner.head ≡ b.owner.head
+  pub ccy : a.ccy ≡ b.ccy
+
+-- what must hold of the accounts of a book, but for the sums of their openings
+pub record AreRows (accounts : List Account) : Type 0 where
+  pub few : length accounts ≤ 1000
+  pub formed : (i : ℕ) (a : Account) → slice_get accounts i ≡ Some a → IsFormed a
+  pub limited : (i : ℕ) (a : Account) → slice_get accounts i ≡ Some a → IsLimited a
+  pub ids : (i j : ℕ) (a b : Account) → slice_get accounts i ≡ Some a → slice_get accounts j ≡ Some b → a.id ≡ b.id → i ≡ j
+  pub banks : (i j : ℕ) (a b : Account) → slice_get accounts i ≡ Some a → slice_get accounts j ≡ Some b → IsSameBank a b → i ≡ j
+  pub decimals : (i j : ℕ) (a b : Account) → slice_get accounts i ≡ Some a → slice_get accounts j ≡ Some b → a.ccy ≡ b.ccy → a.decimals ≡ b.decimals
+
+-- the sum of the openings of a currency's accounts
+abbrev pub opening_sum : Ccy → List Account → ℤ
+opening_sum ccy [] = pos 0
+opening_sum ccy (account ∷ accounts) = (if is_ccy account.ccy ccy then account.opening else pos 0) +ℤ opening_sum ccy accounts
+
+-- the accounts of a book: the openings of each currency sum to 0
+pub record IsChart (chart : Chart) : Type 0 where
+  pub rows : AreRows chart.accounts
+  pub balanced : (ccy : Ccy) → opening_sum ccy chart.accounts ≡ pos 0

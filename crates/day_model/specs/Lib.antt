@@ -1,0 +1,10 @@
+pub mod Chart
+pub mod Gap
+pub mod Log
+pub mod Fit
+pub mod Balance
+pub mod Next
+pub mod Legal
+pub mod Same
+pub mod Laws
+pub mod Rows

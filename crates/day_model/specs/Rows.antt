@@ -1,0 +1,36 @@
+-- The test of accounts.
+use Rattle.std.specs.Prelude.{ℕ, ◌==◌, ◌&&◌, ◌||◌, Bool, true, not, List, [], ◌∷◌, ◌++◌, length, nat_le, ℤ, pos, negsuc, int_le}
+use Rattle.std.specs.Str.{bytes_eq}
+use Rattle.std.specs.List.{list_all}
+use Rattle.std.specs.Char.{is_ascii_uppercase}
+use Rattle.corr_text.specs.Sets.{is_c_byte}
+use Rattle.corr_ids.specs.Bic.{is_bic}
+use Rattle.day_model.specs.declared.account.Account.{Account}
+use Rattle.day_model.specs.Chart.{is_ccy, is_kind, customer}
+
+abbrev pub is_formed : Account → Bool
+is_formed a =
+    nat_le 1 (length a.id) && nat_le (length a.id) 34 && list_all is_c_byte a.id && is_kind a.kind && is_bic (a.owner.head ++ a.owner.branch)
+    && list_all is_ascii_uppercase a.ccy.0 && nat_le a.decimals 4
+
+abbrev pub has_limits : Account → Bool
+has_limits a =
+    int_le (negsuc 99999999999998) a.floor && int_le a.ceil (pos 99999999999999) && int_le a.floor a.opening && int_le a.opening a.ceil
+
+abbrev pub is_row : Account → Bool
+is_row a = is_formed a && has_limits a
+
+-- other ids and other banks; one currency has one number of decimals
+abbrev pub apart : Account → Account → Bool
+apart a b =
+    not (bytes_eq a.id b.id)
+    && not (not (a.kind == customer) && (a.kind == b.kind) && bytes_eq a.owner.head b.owner.head && is_ccy a.ccy b.ccy)
+    && (not (is_ccy a.ccy b.ccy) || (a.decimals == b.decimals))
+
+abbrev pub all_apart : List Account → Bool
+all_apart [] = true
+all_apart (a ∷ accounts) = list_all (apart a) accounts && all_apart accounts
+
+-- whether accounts are those of a book, but for the sums of their openings
+abbrev pub rows_fit : List Account → Bool
+rows_fit accounts = nat_le (length accounts) 1000 && list_all is_row accounts && all_apart accounts

@@ -1,0 +1,100 @@
+//! The history of a journal.
+
+ghost use Rattle.std.specs.Prelude.{◌≡◌, ◌<◌, ◌≤◌, ◌-◌, ◌++◌, [], ◌∷◌, length, slice_get, OnOk, OnErr, IsOk};
+ghost use Rattle.std.specs.List.{position_from};
+ghost use Rattle.day_model.specs.Next.{entered_at, has_mir};
+
+use crate::entry::Entry;
+use corr_ids::Mir;
+use corr_text::Memory;
+use std::alloc::Global;
+use std::marker::Model;
+
+/// The entries of a journal in their order, at most 100,000. Places are numbered from 1.
+///
+/// Contracts see its entries, and `spare`: for how many more there is room.
+#[derive(Debug, Drop)]
+pub struct History {
+    log: Vec<Entry>,
+}
+
+fn first_of_mir(entries: &[Entry], mir: &Mir) -> Option<usize>
+    ensures { result ≡ position_from (has_mir mir.now) 0 entries.now }
+{
+    entries.iter().position(|entry| entry.pay.mir == *mir)
+}
+
+impl Model for History {
+    ghost use Rattle.std.specs.Prelude.{◌-◌, ◌≤◌, vec_capacity, length};
+    ghost use Rattle.day_model.specs.Log.{Log};
+
+    ghost Value = { Log };
+
+    ghost view = { λ h. record { entries = h.log.items; spare = vec_capacity h.log - length h.log.items } };
+
+    ghost invariant = { λ h. length h.log.items ≤ 100000 };
+}
+
+impl History {
+    /// No entry yet.
+    pub fn new(alloc: Global) -> History
+        ensures { result.entries ≡ [] }
+    {
+        History {
+            log: Vec::new(alloc),
+        }
+    }
+
+    /// Makes room for one entry more.
+    pub fn reserve(&mut self) -> Result<(), Memory>
+        ensures same { self.new.entries ≡ self.old.entries }
+        ensures room { OnOk result (1 ≤ self.new.spare) }
+    {
+        self.log.reserve(1)?;
+        Ok(())
+    }
+
+    /// Adds an entry at the end. It needs no memory where there is room.
+    pub fn push(&mut self, e: Entry) -> Result<(), Memory>
+        requires { length self.old.entries < 100000 }
+        ensures ok { OnOk result (self.new.entries ≡ self.old.entries ++ e ∷ []) }
+        ensures err { OnErr result (self.new.entries ≡ self.old.entries) }
+        ensures room { 0 < self.old.spare → IsOk result }
+    {
+        self.log.push(e)?;
+        Ok(())
+    }
+
+    /// How many entries there are: at most 100,000.
+    pub fn len(&self) -> u32
+        ensures count { result ≡ length self.now.entries }
+        ensures few { result ≤ 100000 }
+    {
+        self.log.len() as u32
+    }
+
+    /// The entries.
+    pub(crate) fn entries(&self) -> &[Entry]
+        ensures value { result.now ≡ self.now.entries }
+        ensures few { length self.now.entries ≤ 100000 }
+    {
+        self.log.as_slice()
+    }
+
+    /// The place of the entry of this reference, if it is entered.
+    pub fn find(&self, mir: &Mir) -> Option<u32>
+        ensures { result ≡ entered_at mir.now self.now.entries }
+    {
+        let at = first_of_mir(self.entries(), mir)?;
+        Some(at as u32 + 1)
+    }
+
+    /// The entry at this place.
+    pub fn get(&self, place: u32) -> &Entry
+        requires from_one { 1 ≤ place }
+        requires there { place ≤ length self.now.entries }
+        ensures { slice_get self.now.entries (place - 1) ≡ Some result.now }
+    {
+        &self.log[place as usize - 1]
+    }
+}

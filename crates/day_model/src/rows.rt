@@ -1,0 +1,109 @@
+//! The test of accounts.
+
+ghost use Rattle.std.specs.Prelude.{◌≡◌, ◌++◌, ◌≤◌, is_some, drop, length, IsTrue};
+ghost use Rattle.std.specs.List.{list_all};
+ghost use Rattle.std.specs.Char.{is_ascii_uppercase};
+ghost use Rattle.corr_text.specs.Sets.{is_c_byte};
+ghost use Rattle.corr_ids.specs.Bic.{is_bic};
+ghost use Rattle.day_model.specs.Rows.{all_apart, apart, has_limits, is_formed, is_row, rows_fit};
+ghost use Rattle.day_model.specs.Chart.{AreRows};
+
+use crate::account::Account;
+use corr_ids::{Bic, read_bic};
+use corr_text::{Set, is_set};
+
+fn spelled(b: &Bic) -> [u8; 11]
+    ensures { result ≡ b.now.head ++ b.now.branch }
+{
+    let mut bytes = [0; 11];
+    bytes[..8].copy_from_slice(&b.head);
+    bytes[8..].copy_from_slice(&b.branch);
+    bytes
+}
+
+fn is_plain(id: &[u8]) -> bool
+    ensures { result ≡ list_all is_c_byte id.now }
+{
+    id.iter().all(|b| is_set(Set::C, *b))
+}
+
+fn is_code(ccy: &[u8]) -> bool
+    ensures { result ≡ list_all is_ascii_uppercase ccy.now }
+{
+    ccy.iter().all(|b| b.is_ascii_uppercase())
+}
+
+#[tactic(auto, unfolding(corr_ids::specs::Bic::is_bic))]
+fn is_bank(b: &Bic) -> bool
+    ensures { result ≡ is_bic (b.now.head ++ b.now.branch) }
+{
+    read_bic(&spelled(b)).is_some()
+}
+
+fn has_form(a: &Account) -> bool
+    ensures { result ≡ is_formed a.now }
+{
+    let id = a.id.bytes();
+    1 <= id.len()
+        && id.len() <= 34
+        && is_plain(id)
+        && (a.kind == b'C' || a.kind == b'V' || a.kind == b'N')
+        && is_bank(&a.owner)
+        && is_code(&a.ccy.0)
+        && a.decimals <= 4
+}
+
+fn is_limited(a: &Account) -> bool
+    ensures { result ≡ has_limits a.now }
+{
+    -99_999_999_999_999 <= a.floor
+        && a.ceil <= 99_999_999_999_999
+        && a.floor <= a.opening
+        && a.opening <= a.ceil
+}
+
+fn is_book_row(a: &Account) -> bool
+    ensures { result ≡ is_row a.now }
+{
+    has_form(a) && is_limited(a)
+}
+
+fn are_apart(a: &Account, b: &Account) -> bool
+    ensures { result ≡ apart a.now b.now }
+{
+    let same_bank = a.kind != b'C'
+        && a.kind == b.kind
+        && a.owner.head == b.owner.head
+        && a.ccy == b.ccy;
+    a.id.bytes() != b.id.bytes() && !same_bank && (a.ccy != b.ccy || a.decimals == b.decimals)
+}
+
+fn is_apart_from(a: &Account, others: &[Account]) -> bool
+    ensures { result ≡ list_all (apart a.now) others.now }
+{
+    others.iter().all(|b| are_apart(a, b))
+}
+
+fn are_all_apart(rows: &[Account]) -> bool
+    ensures { result ≡ all_apart rows.now }
+{
+    match rows {
+        [] => true,
+        [first, others @ ..] => is_apart_from(first, others) && are_all_apart(others),
+    }
+}
+
+fn are_rows(rows: &[Account]) -> bool
+    ensures { result ≡ list_all is_row rows.now }
+{
+    rows.iter().all(|a| is_book_row(a))
+}
+
+/// Whether these rows may be the accounts of a book, but for the sums of their openings.
+#[tactic(auto, using(crate::proofs::Testing::rows_sound))]
+pub fn rows_hold(rows: &[Account]) -> bool
+    ensures value { result ≡ rows_fit rows.now }
+    ensures sound { IsTrue result → AreRows rows.now }
+{
+    rows.len() <= 1000 && are_rows(rows) && are_all_apart(rows)
+}
