@@ -1,0 +1,99 @@
+-- What a cutter knows of the bytes that it was fed.
+use Rattle.std.proofs.Common.{◌≡◌, ℕ, zero, suc, ◌+◌, ◌-◌, List, [], ◌∷◌, ◌++◌, length, take, Option, Some, None, refl, ap, sym, ◌∙◌, arith, subst}
+use Rattle.std.proofs.lemmas.List.{append-nil}
+use Rattle.fin_frame.specs.File.{lead, IsFileOf, IsCutInto}
+use Rattle.fin_frame.specs.File.IsFileOf.{more as file_more}
+use Rattle.fin_frame.specs.Shown.{Shows, IsSound, EndsWithin, AreWhole, Begins, HaveBegun}
+use Rattle.fin_frame.specs.Shown.EndsWithin.{inside as ends_inside, behind as ends_behind, apart as ends_apart}
+use Rattle.fin_frame.specs.Machine.{State, at_start, with_open, run, unbalanced_at, IsAfter}
+use Rattle.fin_frame.specs.Cutting.{state_of, IsShown, Knows, WasFed, IsWholeFile, IsUnbalanced}
+use Rattle.fin_frame.specs.declared.cutter.Cutter.{Cutter}
+use Rattle.fin_frame.specs.declared.fault.FrameFault.{FrameFault}
+use Rattle.fin_frame.specs.declared.fault.FrameFault.TheVariants.{Stray, TooLong, Unbalanced, Memory}
+use Rattle.fin_frame.proofs.Showing.{shown-comes, whole-comes, begun-comes, cut-comes, ends-come}
+use Rattle.fin_frame.proofs.Tracking.{Tracks, tracks-whole, tracks-begun}
+use Rattle.fin_frame.proofs.Tracking.Tracks.{tracks_gap, tracks_opening, tracks_message, tracks_behind, tracks_failed}
+use Rattle.fin_frame.proofs.Tracked.{all-tracks}
+
+are-whole : (fed : List ℕ) → AreWhole fed (run (at_start []) fed).given
+are-whole fed = record { shown = tracks-whole (all-tracks fed); all = λ others shown. whole-comes shown }
+
+have-begun : (fed : List ℕ) → HaveBegun fed (run (at_start []) fed).begun
+have-begun fed = record { last = tracks-begun (all-tracks fed); most = λ k begun. begun-comes begun }
+
+-- the fault that the machine came to
+tracks-shown : {bytes : List ℕ} {s : State} (fault : FrameFault) → Tracks bytes s → s.failed ≡ Some fault → (messages : List (List ℕ)) × Shows bytes messages fault × Begins s.given messages
+tracks-shown fault (tracks_gap file gap messages front far) is = cc
+tracks-shown fault (tracks_opening file gap messages matched front far le) is = cc
+tracks-shown fault (tracks_message file gap message messages d front closed fits) is = cc
+tracks-shown fault (tracks_behind file gap message messages matched front closed le) is = cc
+tracks-shown fault (tracks_failed bytes s messages other shown failed begins whole last) is =
+    let same : other ≡ fault = cc in
+    (messages, subst (λ f. Shows bytes messages f) same shown, begins)
+
+is-shown : (fed : List ℕ) (fault : FrameFault) → (run (at_start []) fed).failed ≡ Some fault → IsShown fault fed (run (at_start []) fed).given
+is-shown fed fault is =
+    let found = tracks-shown fault (all-tracks fed) is in
+    record { messages = found.0; shown = found.1; before = found.2; only = λ messages other shown. let came : Some other ≡ Some fault = sym (shown-comes shown) ∙ is in cc }
+
+knows-fault : (fed : List ℕ) (now : State) (fault : FrameFault) → now.failed ≡ Some fault → now ≡ run (at_start []) fed → IsShown fault fed now.given × AreWhole fed now.given × HaveBegun fed now.begun
+knows-fault fed now fault is same =
+    subst (λ t. IsShown fault fed t.given × AreWhole fed t.given × HaveBegun fed t.begun) (sym same)
+    (is-shown fed fault (sym (ap (λ t. t.failed) same) ∙ is), are-whole fed, have-begun fed)
+
+pub knows : (failed : Option FrameFault) (fed : List ℕ) (now : State) → now.failed ≡ failed → IsAfter failed now (run (at_start []) fed) → Knows failed fed now.given now.begun
+knows None fed now is same =
+    subst (λ t. IsSound fed × AreWhole fed t.given × HaveBegun fed t.begun) (sym same)
+    ((λ messages fault shown. let e : Some fault ≡ None = sym (shown-comes shown) ∙ sym (ap (λ t. t.failed) same) ∙ is in cc), are-whole fed, have-begun fed)
+knows (Some (Stray at)) fed now is same = knows-fault fed now (Stray at) is same
+knows (Some (TooLong at)) fed now is same = knows-fault fed now (TooLong at) is same
+knows (Some (Unbalanced at)) fed now is same = knows-fault fed now (Unbalanced at) is same
+knows (Some Memory) fed now is lags =
+    (((run (at_start []) fed).given, are-whole fed, lags.0), ((run (at_start []) fed).begun, have-begun fed, lags.1))
+
+pub was-fed : (c : Cutter) (fed : List ℕ) (given : List (List ℕ)) → (c.failed ≡ None → c.fed ≡ length fed) → IsAfter c.failed (state_of c given) (run (at_start []) fed) → WasFed c fed given
+was-fed c fed given count stands = record { count = count; stands = stands; knows = knows c.failed fed (state_of c given) refl stands }
+
+-- the end of the input
+
+tracks-balanced : {bytes : List ℕ} {s : State} → Tracks bytes s → s.failed ≡ None → unbalanced_at s.stage s.fed ≡ None → IsCutInto bytes (with_open s.given s.held)
+tracks-balanced (tracks_gap file gap messages front far) sound balanced = (gap, front)
+tracks-balanced (tracks_opening file gap messages matched front far le) sound balanced = cc
+tracks-balanced (tracks_message file gap message messages zero front closed fits) sound balanced =
+    ([], subst (λ x. IsFileOf x (messages ++ message ∷ []) []) (append-nil (file ++ message)) (file_more file message [] messages front (closed, fits) (refl, omega arith)))
+tracks-balanced (tracks_message file gap message messages (suc d) front closed fits) sound balanced = cc
+tracks-balanced (tracks_behind file gap message messages matched front closed le) sound balanced = cc
+tracks-balanced (tracks_failed bytes s messages fault shown failed begins whole last) sound balanced =
+    absurd (let e : None ≡ Some fault = sym sound ∙ failed in cc)
+
+tracks-unbalanced : {bytes : List ℕ} {s : State} (at : ℕ) → Tracks bytes s → s.failed ≡ None → unbalanced_at s.stage s.fed ≡ Some at → EndsWithin bytes at
+tracks-unbalanced at (tracks_gap file gap messages front far) sound is = cc
+tracks-unbalanced at (tracks_opening file gap messages matched front far le) sound is =
+    let place : (length file + suc matched) - suc matched ≡ at = cc in
+    let same : length file ≡ at = omega arith in
+    subst (λ k. EndsWithin (file ++ take (suc matched) lead) k) same (ends_apart matched file front far le)
+tracks-unbalanced at (tracks_message file gap message messages zero front closed fits) sound is = cc
+tracks-unbalanced at (tracks_message file gap message messages (suc d) front closed fits) sound is =
+    let same : length file ≡ at = cc in subst (λ k. EndsWithin (file ++ message) k) same (ends_inside file message front closed)
+tracks-unbalanced at (tracks_behind file gap message messages matched front closed le) sound is =
+    let same : length file ≡ at = cc in subst (λ k. EndsWithin (file ++ message ++ take (suc matched) lead) k) same (ends_behind matched file message front closed le)
+tracks-unbalanced at (tracks_failed bytes s messages fault shown failed begins whole last) sound is =
+    absurd (let e : None ≡ Some fault = sym sound ∙ failed in cc)
+
+pub whole-file : (fed : List ℕ) → (run (at_start []) fed).failed ≡ None → unbalanced_at (run (at_start []) fed).stage (run (at_start []) fed).fed ≡ None → IsWholeFile fed (with_open (run (at_start []) fed).given (run (at_start []) fed).held)
+whole-file fed sound balanced = record {
+  cut = tracks-balanced (all-tracks fed) sound balanced;
+  only = λ others cut. sym (cut-comes cut).all;
+  balanced = λ at ends. let e : None ≡ Some at = sym balanced ∙ ends-come ends sound in cc;
+}
+
+pub is-unbalanced : (fed : List ℕ) (at : ℕ) → (run (at_start []) fed).failed ≡ None → unbalanced_at (run (at_start []) fed).stage (run (at_start []) fed).fed ≡ Some at → IsUnbalanced fed at
+is-unbalanced fed at sound is = record {
+  ends = tracks-unbalanced at (all-tracks fed) sound is;
+  only = λ other ends. let e : Some other ≡ Some at = sym (ends-come ends sound) ∙ is in cc;
+  no_file = λ messages cut. let e : None ≡ Some at = sym (cut-comes cut).balanced ∙ is in cc;
+}
+
+-- a file has one cut at most
+pub one-cut : (file : List ℕ) (a b : List (List ℕ)) → IsCutInto file a → IsCutInto file b → a ≡ b
+one-cut file a b cut_a cut_b = sym (cut-comes cut_a).all ∙ (cut-comes cut_b).all

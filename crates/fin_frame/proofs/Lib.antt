@@ -1,0 +1,10 @@
+pub mod Groups
+pub mod Running
+pub mod Steps
+pub mod Led
+pub mod Showing
+pub mod Tracking
+pub mod Tracked
+pub mod Known
+pub mod Feeding
+pub mod Ending

@@ -1,0 +1,16 @@
+use Rattle.std.proofs.Common.{◌≡◌, ◌+◌, length, None}
+use Rattle.fin_frame.specs.Shown.{Begins}
+use Rattle.fin_frame.specs.Machine.{run}
+use Rattle.fin_frame.specs.Cutting.{state_of}
+use Rattle.fin_frame.proofs.cutter.Cutter.take_all.Given as goal
+
+abbrev pub invariant-loop-rest : goal.invariant-loop-rest
+invariant-loop-rest l = record {
+  sound : l.self.failed ≡ None;
+  size : l.self.fed + length l.rest ≡ l.fn.self.fed + length l.piece;
+  grown : Begins l.fn.out l.out;
+  later : run (state_of l.self l.out) l.rest ≡ run (state_of l.fn.self l.fn.out) l.piece;
+}
+
+abbrev pub decreases-loop-rest : goal.decreases-loop-rest
+decreases-loop-rest l = length l.rest
