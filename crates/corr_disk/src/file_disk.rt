@@ -1,0 +1,194 @@
+//! A real file.
+
+ghost use Rattle.std.specs.Prelude.{◌≡◌, ◌≤◌, ◌+◌, ◌^◌, [], ℕ, List, Some, None, false, length, if◌then◌else◌, IsTrue, IfOk, OnOk};
+ghost use Rattle.std.specs.Option.{ForSome};
+ghost use Rattle.std.specs.Str.{is_utf8};
+ghost use Rattle.corr_disk.specs.Laws.{not_told};
+
+use crate::count::count_fault;
+use crate::{Disk, Failed};
+use corr_text::Text;
+use std::fs::{OpenFile, OpenOptions};
+use std::io::{self, Read, Seek, SeekFrom, Write};
+use std::rt::Files;
+
+/// A real file, which is opened or made at the first call. It tells neither its bytes nor its images: what a
+/// file holds, and what a sync of it has made sure of, is trusted of the system.
+///
+/// With a path that isn't UTF-8 every call fails.
+#[derive(Drop)]
+pub struct FileDisk<'a, R: Files> {
+    rt: &'a R,
+    path: Text,
+    file: Option<R::File>,
+    faults: u64,
+    ghost opened: { ForSome file (λ _. IsTrue (is_utf8 path)) },
+}
+
+impl<'a, R: Files> FileDisk<'a, R> {
+    /// The file at this path, not yet opened.
+    pub fn new(rt: &'a R, path: Text) -> FileDisk<'a, R>
+        ensures faults { ⟦<FileDisk<'a, R> as Disk>⟧.faults result ≡ 0 }
+    {
+        FileDisk {
+            rt,
+            path,
+            file: None,
+            faults: 0,
+        }
+    }
+
+    /// Opens or makes the file, where it isn't open.
+    fn open(&mut self) -> Result<(), Failed>
+        ensures path { self.new.path ≡ self.old.path }
+        ensures faults { self.new.faults ≡ self.old.faults }
+    {
+        if self.file.is_none() {
+            self.file = Some(open_at(self.rt, &self.path)?);
+        }
+        Ok(())
+    }
+
+    fn measure(&mut self) -> Result<u64, Failed>
+        ensures path { self.new.path ≡ self.old.path }
+        ensures faults { self.new.faults ≡ self.old.faults }
+        ensures open { OnOk result (IsTrue (is_utf8 self.old.path)) }
+    {
+        self.open()?;
+        match &self.file {
+            Some(file) => Ok(file.metadata().map_err(|_| Failed)?.len()),
+            None => Err(Failed),
+        }
+    }
+
+    fn read(&mut self, at: u64, buf: &mut [u8]) -> Result<usize, Failed>
+        ensures path { self.new.path ≡ self.old.path }
+        ensures faults { self.new.faults ≡ self.old.faults }
+        ensures open { OnOk result (IsTrue (is_utf8 self.old.path)) }
+        ensures within { IfOk result (λ n. n ≤ length buf.old) }
+    {
+        self.open()?;
+        match &mut self.file {
+            Some(file) => fill(file, at, buf).map_err(|_| Failed),
+            None => Err(Failed),
+        }
+    }
+
+    fn write(&mut self, at: u64, bytes: &[u8]) -> Result<(), Failed>
+        ensures path { self.new.path ≡ self.old.path }
+        ensures faults { self.new.faults ≡ self.old.faults }
+        ensures open { OnOk result (IsTrue (is_utf8 self.old.path)) }
+    {
+        self.open()?;
+        match &mut self.file {
+            Some(file) => put(file, at, bytes).map_err(|_| Failed),
+            None => Err(Failed),
+        }
+    }
+
+    fn settle(&mut self) -> Result<(), Failed>
+        ensures path { self.new.path ≡ self.old.path }
+        ensures faults { self.new.faults ≡ self.old.faults }
+        ensures open { OnOk result (IsTrue (is_utf8 self.old.path)) }
+    {
+        self.open()?;
+        match &self.file {
+            Some(file) => file.sync_all().map_err(|_| Failed),
+            None => Err(Failed),
+        }
+    }
+}
+
+impl<'a, R: Files> Disk for FileDisk<'a, R> {
+    ghost honest = { λ _. false };
+
+    ghost reads = { λ _. [] };
+
+    ghost may_leave = { λ _ _. ⊥ };
+
+    ghost moment = { λ _. 0 };
+
+    ghost left_since = { λ _ _ _. ⊥ };
+
+    ghost faults = { λ d. d.faults };
+
+    ghost calls_left = { λ d. if is_utf8 d.path then None else Some 0 };
+
+    ghost counts_now = { λ d t c le now. now };
+
+    ghost only_now = { λ d c left. left };
+
+    ghost reads_may_stay = { λ d honest. absurd (not_told honest) };
+
+    fn faults(&self) -> u64 {
+        self.faults
+    }
+
+    fn len(&mut self) -> Result<u64, Failed> {
+        match self.measure() {
+            Ok(len) => Ok(len),
+            Err(Failed) => Err(count_fault(&mut self.faults)),
+        }
+    }
+
+    fn read_at(&mut self, at: u64, buf: &mut [u8]) -> Result<usize, Failed> {
+        match self.read(at, buf) {
+            Ok(count) => Ok(count),
+            Err(Failed) => Err(count_fault(&mut self.faults)),
+        }
+    }
+
+    fn write_at(&mut self, at: u64, bytes: &[u8]) -> Result<(), Failed> {
+        match self.write(at, bytes) {
+            Ok(()) => Ok(()),
+            Err(Failed) => Err(count_fault(&mut self.faults)),
+        }
+    }
+
+    fn sync(&mut self) -> Result<(), Failed> {
+        match self.settle() {
+            Ok(()) => Ok(()),
+            Err(Failed) => Err(count_fault(&mut self.faults)),
+        }
+    }
+}
+
+/// Opens or makes the file at a path. A path that isn't UTF-8 names none.
+fn open_at<R: Files>(rt: &R, path: &Text) -> Result<R::File, Failed>
+    ensures { OnOk result (IsTrue (is_utf8 path.now)) }
+{
+    match str::from_utf8(path.bytes()) {
+        Ok(path) => OpenOptions::new()
+            .read(true)
+            .write(true)
+            .create(true)
+            .open(rt, path)
+            .map_err(|_| Failed),
+        Err(_) => Err(Failed),
+    }
+}
+
+/// Reads from a place on, until the buffer is full or the file ends.
+fn fill<F: Read + Seek>(file: &mut F, at: u64, buf: &mut [u8]) -> io::Result<usize>
+    ensures { IfOk result (λ n. n ≤ length buf.old) }
+{
+    file.seek(SeekFrom::Start(at))?;
+    let mut count = 0;
+    for _ in 0..u64::MAX {
+        if count == buf.len() {
+            break;
+        }
+        match file.read(&mut buf[count..]) {
+            Ok(0) => break,
+            Ok(n) => count += n,
+            Err(error) if error.kind() == io::ErrorKind::Interrupted => {}
+            Err(error) => return Err(error),
+        }
+    }
+    Ok(count)
+}
+
+fn put<F: Write + Seek>(file: &mut F, at: u64, bytes: &[u8]) -> io::Result<()> {
+    file.seek(SeekFrom::Start(at))?;
+    file.write_all(bytes)
+}
