@@ -3,3 +3,4 @@ pub mod Digits
 pub mod Sets
 pub mod First
 pub mod Faults
+pub mod Lines

@@ -1,4 +1,4 @@
-use crate::{Buf, List, Set, Text, digits, is_set, is_x, put_digits};
+use crate::{Buf, List, Set, Text, digits, first_line, is_set, is_x, put_digits};
 use std::test::Fail;
 
 #[test]
@@ -102,4 +102,21 @@ fn a_list_keeps_its_order(rt: HostRuntime) -> Result<(), Fail> {
     list.push(2)?;
     assert_eq!(rt; list.as_slice(), [3, 1, 2].as_slice());
     Ok(())
+}
+
+#[test]
+fn a_text_is_cut_behind_its_first_line_end(rt: HostRuntime) {
+    let rows: [(&[u8], &[u8], &[u8]); 6] = [
+        (b":20:A\r\n:21:B", b":20:A", b":21:B"),
+        (b":20:A\n:21:B", b":20:A", b":21:B"),
+        (b":20:A", b":20:A", b""),
+        (b"\r\n", b"", b""),
+        (b"A\r\r\nB", b"A\r", b"B"),
+        (b"A\rB\n", b"A\rB", b""),
+    ];
+    for (text, line, rest) in rows {
+        let cut = first_line(text);
+        assert_eq!(rt; cut.line, line);
+        assert_eq!(rt; cut.rest, rest);
+    }
 }
