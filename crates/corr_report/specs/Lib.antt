@@ -1,0 +1,5 @@
+pub mod Lines
+pub mod Report
+pub mod Bookings
+pub mod Totals
+pub mod Outcomes

@@ -1,0 +1,66 @@
+-- The report of a run.
+use Rattle.std.specs.Prelude.{ℕ, ℤ, ◌-◌, ◌≤◌, ◌==◌, List, [], ◌∷◌, ◌++◌, length, take, replicate, codes, slice_get, slice_index, Some, None, if◌then◌else◌}
+use Rattle.std.specs.Fmt.{decimal}
+use Rattle.corr_text.specs.Digits.{padded}
+use Rattle.corr_money.specs.Amounts.{amount_text, signed_text}
+use Rattle.day_model.specs.declared.entry.Entry.{Entry}
+use Rattle.day_model.specs.declared.entry.Outcome.{Outcome}
+use Rattle.day_model.specs.declared.entry.Outcome.TheVariants.{Booked, Unfunded}
+use Rattle.day_model.specs.declared.pay.Leg.{Leg}
+use Rattle.day_model.specs.declared.reply.Reply.{Reply}
+use Rattle.day_model.specs.declared.reply.Reply.TheVariants.{Entered, Conflict, Refused, Unrouted}
+use Rattle.day_model.specs.Chart.{Chart, account_at}
+use Rattle.corr_report.specs.Lines.{line, numbered, said}
+use Rattle.corr_report.specs.Totals.{totals_of}
+
+-- a reply names a place of the history
+abbrev pub NamesPlace : List Entry → Reply → Type 0
+NamesPlace entries (Entered mir place) = (1 ≤ place) × (place ≤ length entries)
+NamesPlace entries (Conflict mir place) = (1 ≤ place) × (place ≤ length entries)
+NamesPlace entries (Refused mir fault) = Unit {0}
+NamesPlace entries (Unrouted mir code) = Unit {0}
+
+-- the message's reference, or 28 dashes
+abbrev pub mir_text : Reply → List ℕ
+mir_text (Entered mir place) = mir.0
+mir_text (Conflict mir place) = mir.0
+mir_text (Unrouted mir code) = mir.0
+mir_text (Refused (Some mir) fault) = mir.0
+mir_text (Refused None fault) = replicate 28 45
+
+-- a tag of two characters has a space behind them, which isn't printed
+abbrev pub tag_text : List ℕ → List ℕ
+tag_text tag = if slice_index tag 2 == 32 then take 2 tag else tag
+
+-- the account of a leg, and a balance of it
+abbrev pub balance_words : Chart → ℤ → Leg → List (List ℕ)
+balance_words chart balance leg = said (account_at chart leg.account.0) (λ account. account.id ∷ signed_text account.decimals balance ∷ [])
+
+-- the currency and the amount of a leg
+abbrev pub amount_words : Chart → Leg → List (List ℕ)
+amount_words chart leg = said (account_at chart leg.account.0) (λ account. account.ccy.0 ∷ amount_text account.decimals leg.amount.0 ∷ [])
+
+-- the debit leg, which is the first, or leg k, from 1, that failed: `BOOKED 00000001 EUR 1234,50`, or `UNFUNDED 00000001 VBETAEUR 10000,00`
+abbrev pub entry_words : Chart → ℕ → List Leg → Outcome → List (List ℕ)
+entry_words chart place legs Booked = codes "BOOKED" ∷ padded 8 place ∷ said (slice_get legs 0) (amount_words chart)
+entry_words chart place legs (Unfunded k balance) = codes "UNFUNDED" ∷ padded 8 place ∷ said (slice_get legs (k - 1)) (balance_words chart balance)
+
+-- what became of a message
+abbrev pub reply_words : Chart → List Entry → Reply → List (List ℕ)
+reply_words chart entries (Entered mir place) = said (slice_get entries (place - 1)) (λ entry. entry_words chart place entry.pay.legs entry.outcome)
+reply_words chart entries (Conflict mir place) = codes "P41" ∷ padded 8 place ∷ []
+reply_words chart entries (Refused mir fault) = codes "REFUSED" ∷ fault.code.0 ∷ tag_text fault.tag ∷ decimal fault.nth ∷ []
+reply_words chart entries (Unrouted mir code) = codes "REFUSED" ∷ code.0 ∷ []
+
+-- the line of the n-th message
+abbrev pub reply_line : Chart → List Entry → ℕ → Reply → List ℕ
+reply_line chart entries n reply = line (padded 6 n) (mir_text reply ∷ reply_words chart entries reply)
+
+-- `MESSAGES 000001 ENTRIES 00000001`
+abbrev pub count_line : ℕ → ℕ → List ℕ
+count_line messages entries = line (codes "MESSAGES") (padded 6 messages ∷ codes "ENTRIES" ∷ padded 8 entries ∷ [])
+
+-- a line for each message, the counts, and the totals of each currency
+abbrev pub report_of : Chart → List Entry → List Reply → List ℕ
+report_of chart entries replies =
+    numbered (reply_line chart entries) 1 replies ++ count_line (length replies) (length entries) ++ totals_of chart entries

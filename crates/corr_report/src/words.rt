@@ -1,0 +1,72 @@
+//! The words of a line.
+
+ghost use Rattle.std.specs.Prelude.{◌≡◌, ◌<◌, ◌≤◌, ◌^◌, ◌++◌, ◌∷◌, OnOk};
+ghost use Rattle.std.specs.Fmt.{decimal};
+ghost use Rattle.corr_text.specs.Digits.{padded};
+ghost use Rattle.corr_money.specs.Amounts.{amount_text, signed_text};
+
+use corr_money::{Minor, put_15d, put_signed, put_total};
+use corr_text::{Memory, Text, put_digits};
+use std::alloc::Global;
+
+/// Adds a space and a word.
+pub(crate) fn put_word(word: &[u8], out: &mut Text) -> Result<(), Memory>
+    ensures { OnOk result (out.new ≡ out.old ++ 32 ∷ word.now) }
+{
+    out.push(b" ")?;
+    out.push(word)
+}
+
+/// Adds a space and a number, with zeros before it up to a width.
+pub(crate) fn put_number(alloc: Global, n: u64, width: u8, out: &mut Text) -> Result<(), Memory>
+    ensures { OnOk result (out.new ≡ out.old ++ 32 ∷ padded width n) }
+{
+    out.push(b" ")?;
+    put_digits(alloc, n, width, out)
+}
+
+/// Adds a space and an amount.
+pub(crate) fn put_amount(
+    alloc: Global,
+    m: Minor,
+    decimals: u8,
+    out: &mut Text,
+) -> Result<(), Memory>
+    requires decimals { decimals ≤ 4 }
+    requires bound { m.0 < 10 ^ 14 }
+    ensures { OnOk result (out.new ≡ out.old ++ 32 ∷ amount_text decimals m.0) }
+{
+    out.push(b" ")?;
+    put_15d(alloc, m, decimals, out)
+}
+
+/// Adds a space and a balance.
+pub(crate) fn put_balance(
+    alloc: Global,
+    balance: i64,
+    decimals: u8,
+    out: &mut Text,
+) -> Result<(), Memory>
+    requires { decimals ≤ 4 }
+    ensures { OnOk result (out.new ≡ out.old ++ 32 ∷ signed_text decimals balance) }
+{
+    out.push(b" ")?;
+    put_signed(alloc, balance, decimals, out)
+}
+
+/// Adds a space and a total.
+pub(crate) fn put_sum(alloc: Global, sum: u64, decimals: u8, out: &mut Text) -> Result<(), Memory>
+    requires { decimals ≤ 4 }
+    ensures { OnOk result (out.new ≡ out.old ++ 32 ∷ amount_text decimals sum) }
+{
+    out.push(b" ")?;
+    put_total(alloc, sum, decimals, out)
+}
+
+/// Adds a space and a number as it is.
+pub(crate) fn put_plain(alloc: Global, n: u64, out: &mut Text) -> Result<(), Memory>
+    ensures { OnOk result (out.new ≡ out.old ++ 32 ∷ decimal n) }
+{
+    let digits = n.to_string(alloc)?;
+    put_word(digits.as_bytes(), out)
+}
