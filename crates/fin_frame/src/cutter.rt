@@ -16,6 +16,9 @@ const LEAD: [u8; 3] = *b"{1:";
 const MOST_BYTES: usize = 16384;
 
 /// Cuts the bytes of a file into its messages, in whatever pieces they come.
+///
+/// A message is a group in braces that begins `{1:` and the groups directly behind it, 16,384 bytes at most, as
+/// `{1:F01HOMEUS33AXXX0001000007}{4:..}`. Line ends, spaces and one `$` may stand between two messages.
 #[derive(Debug, Drop)]
 pub struct Cutter {
     alloc: Global,
@@ -54,7 +57,8 @@ impl Cutter {
 
     /// Takes the next bytes of the file, and adds each message that they show to be whole.
     ///
-    /// `Stray` and `TooLong` come where the bytes fed so far show them. After any fault it comes again, and no message.
+    /// `Stray` and `TooLong` come where the bytes fed so far show them, `Memory` where there was no room. After any
+    /// fault it comes again, and no message.
     pub fn feed(&mut self, piece: &[u8], out: &mut List<Text>) -> Result<(), FrameFault>
         // All the bytes of a file are fewer than 2 ^ 32.
         requires few { self.old.failed ≡ None → self.old.fed + length piece.now < 2 ^ 32 }
@@ -78,7 +82,8 @@ impl Cutter {
 
     /// The end of the file: adds the last message.
     ///
-    /// After a fault it comes again. Otherwise `Unbalanced` comes where the file ends within a group.
+    /// A fault of `feed` comes again. Otherwise `Unbalanced` comes where the file ends within a group, and `Memory`
+    /// where there was no room for the message.
     pub fn finish(mut self, out: &mut List<Text>) -> Result<(), FrameFault>
         // The messages given, with what is added, are those of the file, or it ends within a group.
         ensures ends { (fed : _) (given : _) → WasFed self fed given →
