@@ -4,7 +4,7 @@ use Rattle.std.specs.Prelude.{◌⊎◌, ◌&&◌, ◌||◌, not, int_le, slice_
 use Rattle.std.specs.Str.{bytes_eq}
 use Rattle.std.specs.List.{list_all}
 use Rattle.std.specs.Char.{is_ascii_uppercase}
-use Rattle.std.proofs.lemmas.Bool.{and_parts, or_cases, not-true, leb-true, eqb-true, eq-eqb, ne_eqb, cases_order, false≢true, and_from, not_from_true, not_from_false}
+use Rattle.std.proofs.lemmas.Bool.{and_parts, le-leb, or_cases, not-true, leb-true, eqb-true, eq-eqb, ne_eqb, cases_order, false≢true, and_from, not_from_true, not_from_false}
 use Rattle.std.proofs.lemmas.Int.{ints}
 use Rattle.std.proofs.lemmas.Option.{same_Some, none-some}
 use Rattle.std.proofs.lemmas.Slice.Eq.{bytes_eq-Decides}
@@ -123,3 +123,74 @@ rows_sound accounts e =
         ]
       ];
     }
+
+-- what each passes, all pass
+all_pass : {A : Type 0} (p : A → Bool) (xs : List A) → ((i : ℕ) (x : A) → slice_get xs i ≡ Some x → p x ≡ true) → list_all p xs ≡ true
+all_pass p [] each = refl
+all_pass p (x ∷ xs) each = and_from (p x) (list_all p xs) (each 0 x refl) (all_pass p xs (λ i y at. each (suc i) y at))
+
+-- where each is apart from every later one, all are
+all_apart_from : (xs : List Account) → ((i j : ℕ) (a b : Account) → i < j → slice_get xs i ≡ Some a → slice_get xs j ≡ Some b → apart a b ≡ true) → all_apart xs ≡ true
+all_apart_from [] each = refl
+all_apart_from (x ∷ xs) each =
+    and_from (list_all (apart x) xs) (all_apart xs) (all_pass (apart x) xs (λ j b at. each 0 (suc j) x b (omega arith) refl at)) (all_apart_from xs (λ i j a b lt ati atj. each (suc i) (suc j) a b (omega arith) ati atj))
+
+formed_passes : (a : Account) → IsFormed a → is_formed a ≡ true
+formed_passes a f =
+    let sizes = and_from (leb 1 (length a.id)) (leb (length a.id) 34) (le-leb _ _ f.id_given) (le-leb _ _ f.id_short) in
+    let plain = and_from (leb 1 (length a.id) && leb (length a.id) 34) (list_all is_c_byte a.id) sizes f.id_plain in
+    let kind = and_from (leb 1 (length a.id) && leb (length a.id) 34 && list_all is_c_byte a.id) (is_kind a.kind) plain f.kind in
+    let owner = and_from (leb 1 (length a.id) && leb (length a.id) 34 && list_all is_c_byte a.id && is_kind a.kind) (is_bic (a.owner.head ++ a.owner.branch)) kind f.owner in
+    let ccy = and_from (leb 1 (length a.id) && leb (length a.id) 34 && list_all is_c_byte a.id && is_kind a.kind && is_bic (a.owner.head ++ a.owner.branch)) (list_all is_ascii_uppercase a.ccy.0) owner f.ccy in
+    and_from (leb 1 (length a.id) && leb (length a.id) 34 && list_all is_c_byte a.id && is_kind a.kind && is_bic (a.owner.head ++ a.owner.branch) && list_all is_ascii_uppercase a.ccy.0) (leb a.decimals 4) ccy (le-leb _ _ f.decimals)
+
+not_above : (x y : ℤ) → x ≤ℤ y → int_le x y ≡ true
+not_above x y e = grind (arith, ints)
+
+limits_pass : (a : Account) → IsLimited a → has_limits a ≡ true
+limits_pass a l =
+    let ends = and_from (int_le (negsuc 99999999999998) a.floor) (int_le a.ceil (pos 99999999999999)) (not_above (negsuc 99999999999998) a.floor l.floor_small.0) (not_above a.ceil (pos 99999999999999) l.ceil_small.1) in
+    let low = and_from (int_le (negsuc 99999999999998) a.floor && int_le a.ceil (pos 99999999999999)) (int_le a.floor a.opening) ends (not_above a.floor a.opening l.above_floor) in
+    and_from (int_le (negsuc 99999999999998) a.floor && int_le a.ceil (pos 99999999999999) && int_le a.floor a.opening) (int_le a.opening a.ceil) low (not_above a.opening a.ceil l.below_ceil)
+
+not_of : (b : Bool) → (b ≡ true → ⊥) → not b ≡ true
+not_of true fails = absurd (fails refl)
+not_of false fails = refl
+
+either : (c d : Bool) → (c ≡ true → d ≡ true) → (not c || d) ≡ true
+either true d so = so refl
+either false d so = refl
+
+ccy_of : (c d : Ccy) → is_ccy c d ≡ true → c ≡ d
+ccy_of c d e = let digits : c.0 ≡ d.0 = (bytes_eq-Decides c.0 d.0).0 e in ap (λ (bs : List ℕ). record { 0 = bs }) digits
+
+same_bank : (a b : Account) → (not (eqb a.kind customer) && eqb a.kind b.kind && bytes_eq a.owner.head b.owner.head && is_ccy a.ccy b.ccy) ≡ true → IsSameBank a b
+same_bank a b e =
+    let ccy = and_parts (not (eqb a.kind customer) && eqb a.kind b.kind && bytes_eq a.owner.head b.owner.head) (is_ccy a.ccy b.ccy) e in
+    let head = and_parts (not (eqb a.kind customer) && eqb a.kind b.kind) (bytes_eq a.owner.head b.owner.head) ccy.0 in
+    let kind = and_parts (not (eqb a.kind customer)) (eqb a.kind b.kind) head.0 in
+    record {
+      bank = λ is. false≢true (sym (not-true (eqb a.kind customer) kind.0) ∙ eq-eqb a.kind customer is);
+      kind = eqb-true _ _ kind.1;
+      head = (bytes_eq-Decides a.owner.head b.owner.head).0 head.1;
+      ccy = ccy_of a.ccy b.ccy ccy.1;
+    }
+
+apart_from : (a b : Account) → Apart a b → apart a b ≡ true
+apart_from a b p =
+    let bank : Bool = not (eqb a.kind customer) && eqb a.kind b.kind && bytes_eq a.owner.head b.owner.head && is_ccy a.ccy b.ccy in
+    let first = and_from (not (bytes_eq a.id b.id)) (not bank) (not_of (bytes_eq a.id b.id) (λ is. p.ids ((bytes_eq-Decides a.id b.id).0 is))) (not_of bank (λ is. p.banks (same_bank a b is))) in
+    and_from (not (bytes_eq a.id b.id) && not bank) (not (is_ccy a.ccy b.ccy) || eqb a.decimals b.decimals) first (either (is_ccy a.ccy b.ccy) (eqb a.decimals b.decimals) (λ is. eq-eqb a.decimals b.decimals (p.decimals (ccy_of a.ccy b.ccy is))))
+
+later : (i j : ℕ) → i < j → i ≡ j → ⊥
+later i j lt is = omega arith
+
+pub rows_complete : (accounts : List Account) → AreRows accounts → rows_fit accounts ≡ true
+rows_complete accounts rows =
+    let each = all_pass is_row accounts (λ i a at. and_from (is_formed a) (has_limits a) (formed_passes a (rows.formed i a at)) (limits_pass a (rows.limited i a at))) in
+    let ends = and_from (leb (length accounts) 1000) (list_all is_row accounts) (le-leb _ _ rows.few) each in
+    and_from (leb (length accounts) 1000 && list_all is_row accounts) (all_apart accounts) ends (all_apart_from accounts (λ i j a b lt ati atj. apart_from a b (record {
+      ids = λ is. later i j lt (rows.ids i j a b ati atj is);
+      banks = λ is. later i j lt (rows.banks i j a b ati atj is);
+      decimals = λ is. rows.decimals i j a b ati atj is;
+    })))

@@ -99,11 +99,17 @@ fn are_rows(rows: &[Account]) -> bool
     rows.iter().all(|a| is_book_row(a))
 }
 
+fn are_fit(rows: &[Account]) -> bool
+    ensures { result ≡ rows_fit rows.now }
+{
+    rows.len() <= 1000 && are_rows(rows) && are_all_apart(rows)
+}
+
 /// Whether these rows may be the accounts of a book, but for the sums of their openings.
-#[tactic(auto, using(crate::proofs::Testing::rows_sound))]
 pub fn rows_hold(rows: &[Account]) -> bool
     ensures value { result ≡ rows_fit rows.now }
     ensures sound { IsTrue result → AreRows rows.now }
+    ensures complete { AreRows rows.now → IsTrue result }
 {
-    rows.len() <= 1000 && are_rows(rows) && are_all_apart(rows)
+    are_fit(rows)
 }
