@@ -1,0 +1,46 @@
+-- The bytes of a journal, and what the bytes of a disk stand for.
+use Rattle.std.specs.Prelude.{◌≡◌, ◌≢◌, ◌⊎◌, ℕ, ◌-◌, ◌^◌, ◌<◌, List, [], ◌∷◌, ◌++◌, length, map, take, drop}
+use Rattle.std.specs.Int.{w32, to_be_bytes}
+
+-- a record behind the four bytes of its length
+abbrev pub sized : List ℕ → List ℕ
+sized r = to_be_bytes w32 (length r) ++ r
+
+-- a record as it is appended: behind its length, and a closed gate after it
+abbrev pub frame_of : List ℕ → List ℕ
+frame_of r = sized r ++ 0 ∷ []
+
+-- the record of a frame
+abbrev pub record_in : List ℕ → List ℕ
+record_in frame = take (length frame - 5) (drop 4 frame)
+
+-- these bytes are a frame
+pub record IsFrame (frame : List ℕ) : Type 0 where
+  pub is : frame ≡ frame_of (record_in frame)
+  pub fits : length (record_in frame) < 2 ^ 32
+
+-- records, each behind its gate
+abbrev pub behind_gates : List (ℕ × List ℕ) → List ℕ
+behind_gates [] = []
+behind_gates (entry ∷ more) = entry.0 ∷ (sized entry.1 ++ behind_gates more)
+
+-- the journal of a header and records: each behind the gate 1, and then a closed gate
+abbrev pub journal_bytes : List ℕ → List (List ℕ) → List ℕ
+journal_bytes head records = behind_gates (map (λ r. (1, r)) (head ∷ records)) ++ 0 ∷ []
+
+-- each gate is open, which any byte but 0 is, and four bytes tell each record's length
+abbrev pub AreOpen : List (ℕ × List ℕ) → Type 0
+AreOpen [] = Unit {0}
+AreOpen (entry ∷ more) = (entry.0 ≢ 0) × (length entry.1 < 2 ^ 32) × AreOpen more
+
+-- The bytes begin with the journal of this header and these records, but for its open gates, which may be any. What follows the closed gate is anything.
+pub record StandsFor (image head : List ℕ) (records : List (List ℕ)) : Type 0 where
+  pub entries : List (ℕ × List ℕ)
+  pub rest : List ℕ
+  pub gates : AreOpen entries
+  pub same : map (λ entry. entry.1) entries ≡ head ∷ records
+  pub is : image ≡ behind_gates entries ++ 0 ∷ rest
+
+-- the bytes stand for these records, or for them with one more
+abbrev pub IsBeforeOrAfter : List ℕ → List (List ℕ) → List ℕ → List ℕ → Type 0
+IsBeforeOrAfter head records r image = StandsFor image head records ⊎ StandsFor image head (records ++ r ∷ [])

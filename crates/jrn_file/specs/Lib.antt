@@ -1,0 +1,6 @@
+pub mod Journal
+pub mod File
+pub mod Faults
+pub mod Making
+pub mod Opening
+pub mod Untouched

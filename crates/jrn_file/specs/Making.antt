@@ -1,0 +1,31 @@
+-- What stands on a disk before a journal is made on it.
+use Rattle.std.specs.Prelude.{◌≡◌, ◌≢◌, ◌⊎◌, ℕ, ◌+◌, ◌<◌, ◌≤◌, List, [], ◌∷◌, length, take}
+use Rattle.corr_disk.specs.Disk.{written, Torn}
+use Rattle.jrn_file.specs.Journal.{StandsFor}
+use Rattle.jrn_file.specs.declared.making.Front.{Front}
+use Rattle.jrn_file.specs.declared.making.Front.TheVariants.{Short, Closed, Open}
+
+-- more than one byte, of which this is the first, and no closed gate
+pub record IsOther (bytes : List ℕ) (first : ℕ) : Type 0 where
+  pub more : 1 < length bytes
+  pub first_is : take 1 bytes ≡ first ∷ []
+  pub not_closed : first ≢ 0
+
+-- at most one byte, or a closed gate in front: a journal may be made here
+abbrev pub IsUnmade : List ℕ → Type 0
+IsUnmade image = (length image ≤ 1) ⊎ (take 1 image ≡ 0 ∷ [])
+
+-- nothing made yet, or the journal of this header
+abbrev pub IsUnmadeOrMade : List ℕ → List ℕ → Type 0
+IsUnmadeOrMade head image = IsUnmade image ⊎ StandsFor image head []
+
+-- what was seen in front
+abbrev pub IsFront : Front → List ℕ → Type 0
+IsFront Short bytes = length bytes ≤ 1
+IsFront Closed bytes = (1 < length bytes) × (take 1 bytes ≡ 0 ∷ [])
+IsFront (Open first) bytes = IsOther bytes first
+
+-- Within an entry at a gate: the frame is being written behind it, or the gate before the whole frame.
+abbrev pub IsEntering : ℕ → List ℕ → List ℕ → List ℕ → Type 0
+IsEntering gate frame bytes image =
+    Torn (gate + 1) (length frame) bytes image ⊎ Torn gate 1 (written (gate + 1) frame bytes) image

@@ -1,0 +1,88 @@
+//! An open journal.
+
+ghost use Rattle.std.specs.Prelude.{◌≡◌, ◌+◌, ◌^◌, ◌<◌, ◌≤◌, ◌↔◌, ◌∷◌, [], ◌++◌, ℕ, List, length, IsTrue, OnOk, IfErr, IsErrOf};
+ghost use Rattle.corr_disk.specs.Disk.{LeavesOnly};
+ghost use Rattle.jrn_file.specs.Journal.{IsFrame, record_in, IsBeforeOrAfter};
+ghost use Rattle.jrn_file.specs.File.{disk_of, end_of, IsSettled, IsOpen};
+ghost use Rattle.jrn_file.specs.Faults.{AppendCause};
+
+use crate::entering::enter;
+use crate::fault::AppendFault;
+use corr_disk::{Disk, Failed};
+
+/// The most bytes that a journal has.
+const MAX_BYTES: u64 = 1 << 30;
+
+/// A journal that was opened, ready for more records.
+#[derive(Drop)]
+pub struct JFile<D: Disk> {
+    disk: D,
+    /// The place of the closed gate.
+    end: u64,
+}
+
+impl<D: Disk> JFile<D> {
+    /// A file whose closed gate stands at this place.
+    pub(crate) fn at(disk: D, end: u64) -> JFile<D>
+        ensures disk { disk_of result ≡ disk }
+        ensures end { end_of result ≡ end }
+    {
+        JFile { disk, end }
+    }
+
+    /// Appends one record, given as its length in four bytes (most significant first), the record and a byte 0.
+    /// It makes four calls of the disk and takes no memory. At Ok the record is on the disk.
+    ///
+    /// `Full` comes exactly where the file would pass 2^30 bytes; `need` is the record's length plus 6. Nothing
+    /// is written then. `DiskFault` comes only where the disk's count of faults rose: open the file again.
+    pub fn append(&mut self, frame: &[u8]) -> Result<(), AppendFault>
+        requires settled { IsOpen D.honest D.reads D.may_leave self.old }
+        requires frame { IsFrame frame.now }
+
+        ensures ok { OnOk result ((head : List ℕ) (records : List (List ℕ)) → IsSettled D.honest D.reads D.may_leave self.old head records
+            → IsSettled D.honest D.reads D.may_leave self.new head (records ++ record_in frame.now ∷ [])) }
+
+        // A crash at any moment of the call leaves the records from before it, with the new one or without.
+        ensures any_moment { (head : List ℕ) (records : List (List ℕ)) → IsSettled D.honest D.reads D.may_leave self.old head records
+            → IsTrue (D.honest (disk_of self.old))
+            → LeavesOnly D.moment D.left_since (disk_of self.old) (disk_of self.new) (IsBeforeOrAfter head records (record_in frame.now)) }
+
+        ensures full { IsErrOf result (AppendFault.Full (end_of self.old) (length frame.now + 1)) ↔ (2 ^ 30 < end_of self.old + (length frame.now + 1)) }
+        ensures cause { IfErr result (AppendCause (D.faults (disk_of self.old)) (D.faults (disk_of self.new)) (self.new ≡ self.old)) }
+        ensures later { D.faults (disk_of self.old) ≤ D.faults (disk_of self.new) }
+        ensures honest { D.honest (disk_of self.new) ≡ D.honest (disk_of self.old) }
+    {
+        let need = frame.len() as u64 + 1;
+        if need > MAX_BYTES.saturating_sub(self.end) {
+            return Err(AppendFault::Full {
+                end: self.end,
+                need,
+            });
+        }
+        let before = self.disk.faults();
+        match enter(&mut self.disk, self.end, frame) {
+            Ok(()) => {
+                self.end += need - 1;
+                Ok(())
+            }
+            Err(Failed) => {
+                let after = self.disk.faults();
+                Err(AppendFault::DiskFault { before, after })
+            }
+        }
+    }
+
+    /// The place of the closed gate. Takes no memory.
+    pub fn end(&self) -> u64
+        ensures { result ≡ end_of self.now }
+    {
+        self.end
+    }
+
+    /// The disk. Takes no memory.
+    pub fn into_disk(self) -> D
+        ensures { result ≡ disk_of self }
+    {
+        self.disk
+    }
+}

@@ -1,0 +1,17 @@
+//! A journal on one disk: records that are each on it before they are acknowledged, whatever moment it stops at.
+#![tactic(auto)]
+
+mod entering;
+mod fault;
+mod file;
+mod frame;
+mod making;
+mod opening;
+mod reading;
+#[cfg(test)]
+mod tests;
+
+pub use fault::{AppendFault, MakeFault, OpenFault};
+pub use file::JFile;
+pub use making::create;
+pub use opening::open_file;
