@@ -1,0 +1,6 @@
+-- The code's heading of a line, as the definitions see it.
+use Rattle.fin_fields.specs.declared.heading.HeadingLine.{HeadingLine}
+use Rattle.fin_fields.specs.Fields.{Heading}
+
+abbrev pub heading_in : HeadingLine → Heading
+heading_in h = record { tag = h.tag; letter = h.letter; content = h.content.now }

@@ -1,0 +1,5 @@
+pub mod Fields
+pub mod Headings
+pub mod Faults
+pub mod Patterns
+pub mod Writing

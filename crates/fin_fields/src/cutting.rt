@@ -1,0 +1,122 @@
+//! The lines of block 4 cut into fields.
+
+ghost use Rattle.std.specs.Prelude.{◌≡◌, ◌≢◌, ◌≤◌, ◌<◌, ◌+◌, [], None, true, All, IfOk, IfErr, length, not, option_map, position};
+ghost use Rattle.corr_text.specs.Lines.{lines_of};
+ghost use Rattle.fin_fields.specs.Fields.{Grouped, fields_of, field_begun, grouped, heading_of, so_far, with_line};
+ghost use Rattle.fin_fields.specs.Headings.{heading_in};
+ghost use Rattle.fin_fields.specs.Writing.{IsField};
+ghost use Rattle.fin_fields.specs.Faults.{faulty_line, field_fault, is_misplaced, outside_x, TellsFieldFault, TellsLineFault};
+
+use crate::fault::FieldFault;
+use crate::field::Field;
+use crate::heading::{HeadingLine, heading};
+use crate::outside::first_outside_x;
+use corr_text::{List, Memory, Text, first_line};
+use std::alloc::Global;
+use std::mem;
+
+fn begin_field(alloc: Global, heading: HeadingLine<'_>) -> Result<Field, Memory>
+    ensures { IfOk result (λ f. f ≡ field_begun (heading_in heading.entry) []) }
+{
+    let mut lines = List::new(alloc);
+    lines.push(Text::from_bytes(alloc, heading.content)?)?;
+    Ok(Field {
+        tag: heading.tag,
+        letter: heading.letter,
+        lines,
+    })
+}
+
+/// Whether a line that begins no field may not continue one either.
+fn breaks_off(line: &[u8]) -> bool
+    requires { heading_of line.now ≡ None }
+    ensures { result ≡ is_misplaced line.now }
+{
+    matches!(line, [] | [b':' | b'-', ..])
+}
+
+/// Takes the next line, unless it is misplaced: it begins a new field, or continues the open one.
+fn add_line(
+    alloc: Global,
+    whole: &mut List<Field>,
+    open_field: &mut Field,
+    line: &[u8],
+) -> Result<bool, Memory>
+    ensures taken { IfOk result (λ taken. taken ≡ not (is_misplaced line.now)) }
+    ensures added { IfOk result (λ taken. taken ≡ true → (g : Grouped) →
+        so_far whole.new open_field.new g ≡ so_far whole.old open_field.old (with_line line.now (heading_of line.now) g)) }
+{
+    match heading(line) {
+        Some(heading) => {
+            let next = begin_field(alloc, heading)?;
+            whole.push(mem::replace(open_field, next))?;
+            Ok(true)
+        }
+        None if breaks_off(line) => Ok(false),
+        None => {
+            open_field.lines.push(Text::from_bytes(alloc, line)?)?;
+            Ok(true)
+        }
+    }
+}
+
+/// The fields of the lines behind the first, which began `open_field`.
+fn group_lines(alloc: Global, text: &[u8], open_field: Field) -> Result<List<Field>, FieldFault>
+    requires few { length (lines_of text.now) < 65535 }
+    ensures fields { IfOk result (λ fields. fields ≡ so_far [] open_field (grouped (lines_of text.now))) }
+    ensures sound { IfOk result (λ _. position is_misplaced (lines_of text.now) ≡ None) }
+    ensures fault { IfErr result (TellsLineFault (option_map (λ i. i + 2) (position is_misplaced (lines_of text.now)))) }
+{
+    let mut whole = List::new(alloc);
+    let mut open_field = open_field;
+    let mut rest = text;
+    let mut number = 1u16;
+    while !rest.is_empty() {
+        let next = first_line(rest);
+        number += 1;
+        if !add_line(alloc, &mut whole, &mut open_field, next.line)? {
+            return Err(FieldFault::P20 { line: number });
+        }
+        rest = next.rest;
+    }
+    whole.push(open_field)?;
+    Ok(whole)
+}
+
+/// The fields of a text whose lines are none at fault.
+fn read_lines(alloc: Global, text: &[u8]) -> Result<List<Field>, FieldFault>
+    requires few { length (lines_of text.now) ≤ 65535 }
+    ensures fields { IfOk result (λ fields. fields ≡ fields_of text.now) }
+    ensures sound { IfOk result (λ _. faulty_line (lines_of text.now) ≡ None) }
+    ensures fault { IfErr result (TellsLineFault (faulty_line (lines_of text.now))) }
+{
+    if text.is_empty() {
+        return Err(FieldFault::P20 { line: 0 });
+    }
+    let first = first_line(text);
+    match heading(first.line) {
+        Some(heading) => {
+            let open_field = begin_field(alloc, heading)?;
+            group_lines(alloc, first.rest, open_field)
+        }
+        None => Err(FieldFault::P20 { line: 1 }),
+    }
+}
+
+/// Cuts the lines of block 4 into fields, each begun by a line `:20:` or `:50K:` and continued by the lines behind it.
+///
+/// P20 comes with the first line, from 1, that begins with `:` without this form, begins with `-`, is empty, or is the
+/// first and begins no field, and with line 0 where there is no line. P21 comes, where no line is at fault, with the
+/// first field that has a byte outside X (docs/messages.md, "Fields"). `put_fields` takes the fields that are cut.
+pub fn cut_fields(alloc: Global, text: &[u8]) -> Result<List<Field>, FieldFault>
+    requires { length (lines_of text.now) ≤ 65535 }
+    ensures fields { IfOk result (λ fields. (field_fault text.now ≡ None) × (fields ≡ fields_of text.now)) }
+    ensures fit { IfOk result (λ fields. (fields ≢ []) × All IsField fields) }
+    ensures fault { IfErr result (TellsFieldFault text.now) }
+{
+    let fields = read_lines(alloc, text)?;
+    match first_outside_x(fields.as_slice()) {
+        Some(fault) => Err(fault),
+        None => Ok(fields),
+    }
+}

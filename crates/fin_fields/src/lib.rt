@@ -1,0 +1,18 @@
+//! The lines of block 4 cut into fields, and fields written back as lines (docs/messages.md, "Fields").
+#![tactic(auto)]
+
+mod cutting;
+mod fault;
+mod field;
+mod heading;
+mod outside;
+mod pattern;
+#[cfg(test)]
+mod tests;
+mod writing;
+
+pub use cutting::cut_fields;
+pub use fault::FieldFault;
+pub use field::Field;
+pub use pattern::{Pattern, matches};
+pub use writing::put_fields;
