@@ -1,0 +1,9 @@
+pub mod KnownParts
+pub mod Cuts
+pub mod Blanks
+pub mod Lookups
+pub mod Fits
+pub mod Turns
+pub mod Opening
+pub mod Running
+pub mod AccountRows

@@ -1,0 +1,74 @@
+use Rattle.std.proofs.Common.{[], ◌∷◌, refl, sym, subst, List, ℕ}
+use Rattle.std.proofs.lemmas.Result.{err_from_is_err_and}
+use Rattle.corr_top.specs.Reading.{IsRead}
+use Rattle.corr_top.proofs.Opening.{nothing_fine, stop_at, table_stop, tables_fine}
+use Rattle.corr_top.proofs.tables.open_tables.Goals as goal
+
+pub returns-in_err-bics-clause-stopped : goal.returns-in_err-bics-clause-stopped
+returns-in_err-bics-clause-stopped g c =
+    let p = err_from_is_err_and c.from_residual.result c.from_residual.ensures.1 in
+    rw (p.1, p.2) (stop_at _ _ [] _ _ tt nothing_fine refl refl c.in_err-bics.field-0.0 c.in_err-bics.ensures.stopped)
+
+pub returns-in_err-read_tables-clause-stopped : goal.returns-in_err-read_tables-clause-stopped
+returns-in_err-read_tables-clause-stopped g c =
+    let p = err_from_is_err_and c.from_residual-in_err-read_tables.result c.from_residual-in_err-read_tables.ensures.1 in
+    let left = g.S.Source.left in
+    let b = c.bytes.result.now in
+    let bics = subst (IsRead 8388608 (left c.args.room.now.tables.bics) (left c.read_file.new.source)) (sym c.bytes.ensures) c.in_ok-bics.ensures.read in
+    rw (p.1, p.2) (table_stop _ _ (b ∷ []) (bics, tt) c.in_err-read_tables.field-0.0 c.in_err-read_tables.ensures.bad)
+
+pub returns-in_err-ccys-clause-stopped : goal.returns-in_err-ccys-clause-stopped
+returns-in_err-ccys-clause-stopped g c =
+    let p = err_from_is_err_and c.from_residual-in_err-ccys.result c.from_residual-in_err-ccys.ensures.1 in
+    let left = g.S.Source.left in
+    let b = c.bytes.result.now in
+    let bics = subst (IsRead 8388608 (left c.args.room.now.tables.bics) (left c.read_file.new.source)) (sym c.bytes.ensures) c.in_ok-bics.ensures.read in
+    rw (p.1, p.2) (stop_at _ _ (b ∷ []) _ _ (bics, tt) (tables_fine (b ∷ []) c.in_ok-read_tables.ensures.sound refl) refl refl c.in_err-ccys.field-0.0 c.in_err-ccys.ensures.stopped)
+
+pub returns-in_err-read_tables-2-clause-stopped : goal.returns-in_err-read_tables-2-clause-stopped
+returns-in_err-read_tables-2-clause-stopped g c =
+    let p = err_from_is_err_and c.from_residual-in_err-read_tables-2.result c.from_residual-in_err-read_tables-2.ensures.1 in
+    let left = g.S.Source.left in
+    let b = c.bytes-2.result.now in
+    let d = c.bytes-3.result.now in
+    let bics = subst (IsRead 8388608 (left c.args.room.now.tables.bics) (left c.read_file.new.source)) (sym c.bytes-2.ensures) c.in_ok-bics.ensures.read in
+    let ccys = subst (IsRead 8388608 (left c.args.room.now.tables.ccys) (left c.read_file-2.new.source)) (sym c.bytes-3.ensures) c.in_ok-ccys.ensures.read in
+    rw (p.1, p.2) (table_stop _ _ (b ∷ d ∷ []) (bics, (ccys, tt)) c.in_err-read_tables-2.field-0.0 c.in_err-read_tables-2.ensures.bad)
+
+pub returns-in_err-countries-clause-stopped : goal.returns-in_err-countries-clause-stopped
+returns-in_err-countries-clause-stopped g c =
+    let p = err_from_is_err_and c.from_residual-in_err-countries.result c.from_residual-in_err-countries.ensures.1 in
+    let left = g.S.Source.left in
+    let b = c.bytes-2.result.now in
+    let d = c.bytes-3.result.now in
+    let bics = subst (IsRead 8388608 (left c.args.room.now.tables.bics) (left c.read_file.new.source)) (sym c.bytes-2.ensures) c.in_ok-bics.ensures.read in
+    let ccys = subst (IsRead 8388608 (left c.args.room.now.tables.ccys) (left c.read_file-2.new.source)) (sym c.bytes-3.ensures) c.in_ok-ccys.ensures.read in
+    rw (p.1, p.2) (stop_at _ _ (b ∷ d ∷ []) _ _ (bics, (ccys, tt)) (tables_fine (b ∷ d ∷ []) c.in_ok-read_tables-2.ensures.sound refl) refl refl c.in_err-countries.field-0.0 c.in_err-countries.ensures.stopped)
+
+pub returns-in_err-read_tables-3-clause-stopped : goal.returns-in_err-read_tables-3-clause-stopped
+returns-in_err-read_tables-3-clause-stopped g c =
+    let p = err_from_is_err_and c.from_residual-in_err-read_tables-3.result c.from_residual-in_err-read_tables-3.ensures.1 in
+    let left = g.S.Source.left in
+    let b = c.bytes-4.result.now in
+    let d = c.bytes-5.result.now in
+    let e = c.bytes-6.result.now in
+    let bics = subst (IsRead 8388608 (left c.args.room.now.tables.bics) (left c.read_file.new.source)) (sym c.bytes-4.ensures) c.in_ok-bics.ensures.read in
+    let ccys = subst (IsRead 8388608 (left c.args.room.now.tables.ccys) (left c.read_file-2.new.source)) (sym c.bytes-5.ensures) c.in_ok-ccys.ensures.read in
+    let countries = subst (IsRead 8388608 (left c.args.room.now.tables.countries) (left c.read_file-3.new.source)) (sym c.bytes-6.ensures) c.in_ok-countries.ensures.read in
+    rw (p.1, p.2) (table_stop _ _ (b ∷ d ∷ e ∷ []) (bics, (ccys, (countries, tt))) c.in_err-read_tables-3.field-0.0 c.in_err-read_tables-3.ensures.bad)
+
+pub returns-clause-ok : goal.returns-clause-ok
+returns-clause-ok g c =
+    let left = g.S.Source.left in
+    let b = c.bytes-4.result.now in
+    let d = c.bytes-5.result.now in
+    let e = c.bytes-6.result.now in
+    let bics = subst (IsRead 8388608 (left c.args.room.now.tables.bics) (left c.read_file.new.source)) (sym c.bytes-4.ensures) c.in_ok-bics.ensures.read in
+    let ccys = subst (IsRead 8388608 (left c.args.room.now.tables.ccys) (left c.read_file-2.new.source)) (sym c.bytes-5.ensures) c.in_ok-ccys.ensures.read in
+    let countries = subst (IsRead 8388608 (left c.args.room.now.tables.countries) (left c.read_file-3.new.source)) (sym c.bytes-6.ensures) c.in_ok-countries.ensures.read in
+    (b, d, e, record {
+      read = (bics, (ccys, (countries, tt)));
+      three = refl;
+      no_fault = (tables_fine (b ∷ d ∷ e ∷ []) c.in_ok-read_tables-3.ensures.sound refl).no_fault;
+      tables = c.in_ok-read_tables-3.ensures.value;
+    })

@@ -1,0 +1,59 @@
+-- What opening the books of a day gives, and how it stops.
+use Rattle.std.specs.Prelude.{ℕ, ◌≡◌, List, [], ◌∷◌, length, None}
+use Rattle.corr_text.specs.Faults.{Rose}
+use Rattle.corr_ids.specs.declared.day.Day.{Day}
+use Rattle.day_model.specs.Chart.{Chart}
+use Rattle.day_model.specs.declared.fault.AccountsFault.{AccountsFault}
+use Rattle.day_model.specs.declared.fault.AccountsFault.TheVariants as accounts
+use Rattle.ref_tables.specs.declared.fault.TableFault.{TableFault}
+use Rattle.ref_tables.specs.declared.fault.TableFault.TheVariants as table
+use Rattle.ref_tables.specs.Seen.{Tables}
+use Rattle.corr_top.specs.declared.answers.Books.{Books}
+use Rattle.corr_top.specs.declared.reading.ReadStop.{ReadStop}
+use Rattle.corr_top.specs.declared.reading.ReadStop.TheVariants as stop
+use Rattle.corr_top.specs.declared.status.Status.{Status}
+use Rattle.corr_top.specs.declared.status.Status.TheVariants as status
+use Rattle.corr_top.specs.Run.{AreRead, AreFine, chart_in, fault_in, limits, tables_in}
+use Rattle.corr_top.specs.Told.{Told}
+
+-- statuses of what stopped
+abbrev pub status_of_stop : ReadStop → Status
+status_of_stop (stop.Fault before after) = status.ReadFault before after
+status_of_stop stop.Memory = status.Memory
+
+abbrev pub status_of_table : TableFault → Status
+status_of_table (table.Bad name row why) = status.Table name row why
+status_of_table table.Memory = status.Memory
+
+abbrev pub status_of_accounts : AccountsFault → Status
+status_of_accounts (accounts.Unbalanced ccy decimals sum) = status.Unbalanced ccy decimals sum
+status_of_accounts accounts.Memory = status.Memory
+
+-- reading one source stopped: its count of faults rose, or memory ran out
+abbrev pub IsReadStop : ℕ → ℕ → Status → Type 0
+IsReadStop then now (status.ReadFault before after) = (before ≡ then) × (after ≡ now) × Rose then now
+IsReadStop then now status.Memory = Unit {0}
+IsReadStop then now _ = ⊥
+
+-- the first three files were read, and these are their tables
+pub record ReadTables (before after : List Told) (t : Tables) (files : List (List ℕ)) : Type 0 where
+  pub read : AreRead limits before after files
+  pub three : length files ≡ 3
+  pub no_fault : fault_in files ≡ None
+  pub tables : t ≡ tables_in files
+
+abbrev pub HasTables : List Told → List Told → Tables → Type 0
+HasTables before after t = (bics : List ℕ) × (ccys : List ℕ) × (countries : List ℕ) × ReadTables before after t (bics ∷ ccys ∷ countries ∷ [])
+
+-- the table files were read, and these are the books of a day over them
+pub record OpenedBooks (before after : List Told) (day : Day) (books : Books) (files : List (List ℕ)) : Type 0 where
+  pub read : AreRead limits before after files
+  pub four : length files ≡ 4
+  pub fine : AreFine files
+  pub tables : books.tables ≡ tables_in files
+  pub accounts : books.accounts ≡ chart_in files
+  pub day_is : books.day ≡ day
+
+abbrev pub HasBooks : List Told → List Told → Day → Books → Type 0
+HasBooks before after day books =
+    (bics : List ℕ) × (ccys : List ℕ) × (countries : List ℕ) × (accounts : List ℕ) × OpenedBooks before after day books (bics ∷ ccys ∷ countries ∷ accounts ∷ [])

@@ -1,0 +1,17 @@
+pub mod Reading
+pub mod Writing
+pub mod Pieces
+pub mod Cutting
+pub mod Words
+pub mod Status
+pub mod Interim
+pub mod Value
+pub mod Seen
+pub mod Message
+pub mod Answers
+pub mod Turn
+pub mod Told
+pub mod Run
+pub mod Ends
+pub mod Books
+pub mod Messages

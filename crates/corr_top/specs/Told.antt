@@ -1,0 +1,16 @@
+-- What the objects of a room tell.
+use Rattle.std.specs.Prelude.{ℕ, List, [], ◌∷◌, Option}
+use Rattle.corr_top.specs.declared.room.Room.{Room}
+
+-- the bytes that a source has left or a sink holds, where it tells them, and its count of faults
+pub record Told : Type 0 where
+  pub bytes : Option (List ℕ)
+  pub faults : ℕ
+
+abbrev pub told : {S : Type 0} → (S → Option (List ℕ)) → (S → ℕ) → S → Told
+told bytes faults s = record { bytes = bytes s; faults = faults s }
+
+-- the sources of a room, in the order in which they are read
+abbrev pub sources : {S K : Type 0} → (S → Option (List ℕ)) → (S → ℕ) → Room S K → List Told
+sources left faults room =
+    told left faults room.tables.bics ∷ told left faults room.tables.ccys ∷ told left faults room.tables.countries ∷ told left faults room.tables.accounts ∷ told left faults room.messages ∷ []

@@ -1,0 +1,156 @@
+//! The messages of a file, answered one after another.
+
+ghost use Rattle.std.specs.Prelude.{◌≡◌, ◌≤◌, ◌<◌, IfOk, OnOk, Some, None, [], length};
+ghost use Rattle.std.specs.List.{All};
+ghost use Rattle.day_model.specs.Fit.{FitsAccounts};
+ghost use Rattle.day_model.specs.Laws.{IsLatest};
+ghost use Rattle.day_model.specs.Legal.{IsLegal};
+ghost use Rattle.day_model.specs.Next.{entered_at, next_history};
+ghost use Rattle.day_model.specs.Same.{reply_to};
+ghost use Rattle.corr_top.specs.Answers.{history_of, replies_of};
+ghost use Rattle.corr_report.specs.Report.{NamesPlace};
+ghost use Rattle.corr_top.specs.Turn.{Passed, Turned};
+
+use crate::message::{Refusal, read_message};
+use crate::pieces::{cut, trimmed};
+use corr_ids::Day;
+use corr_text::Memory;
+use day_model::{Accounts, Entry, History, Pay, Reply, decide};
+use ref_tables::RefTables;
+use std::alloc::Global;
+
+/// What has been answered: the history, and a reply to each message.
+#[derive(Debug, Drop)]
+pub struct Answers {
+    pub history: History,
+    pub replies: Vec<Reply>,
+}
+
+/// The books of a day: the tables, the accounts, and the day on which pays are entered.
+#[derive(Drop)]
+pub struct Books {
+    pub tables: RefTables,
+    pub accounts: Accounts,
+    pub day: Day,
+}
+
+fn reply_to(history: &History, pay: &Pay, place: u32) -> Reply
+    requires { entered_at pay.now.mir history.now.entries ≡ Some place }
+    ensures { reply_to pay.now history.now.entries ≡ Some result }
+{
+    let mir = pay.mir;
+    if pay.is_same(&history.get(place).pay) {
+        Reply::Entered { mir, place }
+    } else {
+        Reply::Conflict { mir, place }
+    }
+}
+
+/// Enters a pay whose reference is new.
+fn enter_new(books: &Books, history: &mut History, pay: Pay) -> Result<Reply, Memory>
+    requires legal { IsLegal books.now.accounts history.old.entries }
+    requires latest { IsLatest history.old.entries books.now.day }
+    requires fits { FitsAccounts books.now.accounts pay }
+    requires new { entered_at pay.mir history.old.entries ≡ None }
+    requires room { length history.old.entries < 100000 }
+    ensures entered { OnOk result (history.new.entries ≡ next_history books.now.accounts history.old.entries pay books.now.day) }
+    ensures reply { IfOk result (λ r. reply_to pay history.new.entries ≡ Some r) }
+{
+    let mir = pay.mir;
+    let outcome = decide(&books.accounts, history, &pay);
+    history.push(Entry {
+        pay,
+        day: books.day,
+        outcome,
+    })?;
+    Ok(Reply::Entered {
+        mir,
+        place: history.len(),
+    })
+}
+
+/// Enters a pay where its reference is new, and answers it.
+fn enter(books: &Books, history: &mut History, pay: Pay) -> Result<Reply, Memory>
+    requires legal { IsLegal books.now.accounts history.old.entries }
+    requires latest { IsLatest history.old.entries books.now.day }
+    requires fits { FitsAccounts books.now.accounts pay }
+    requires room { length history.old.entries < 100000 }
+    ensures entered { OnOk result (history.new.entries ≡ next_history books.now.accounts history.old.entries pay books.now.day) }
+    ensures reply { IfOk result (λ r. reply_to pay history.new.entries ≡ Some r) }
+{
+    match history.find(&pay.mir) {
+        Some(place) => Ok(reply_to(history, &pay, place)),
+        None => enter_new(books, history, pay),
+    }
+}
+
+/// Answers one message.
+fn answer(
+    alloc: Global,
+    books: &Books,
+    answers: &mut Answers,
+    message: &[u8],
+) -> Result<(), Memory>
+    requires legal { IsLegal books.now.accounts answers.old.history.entries }
+    requires latest { IsLatest answers.old.history.entries books.now.day }
+    requires room { length answers.old.history.entries < 100000 }
+    ensures { OnOk result (Turned books.now.tables books.now.accounts books.now.day message.now
+        answers.old.history.entries answers.new.history.entries answers.old.replies.items answers.new.replies.items) }
+{
+    let reply = match read_message(alloc, &books.tables, &books.accounts, message) {
+        Ok(pay) => enter(books, &mut answers.history, pay)?,
+        Err(Refusal::Refused { mir, fault }) => Reply::Refused { mir, fault },
+        Err(Refusal::Memory) => return Err(Memory),
+    };
+    answers.replies.push(reply)?;
+    Ok(())
+}
+
+/// Answers the message in a part of a file, where it holds more than blanks.
+fn answer_part(
+    alloc: Global,
+    books: &Books,
+    answers: &mut Answers,
+    part: &[u8],
+) -> Result<(), Memory>
+    requires legal { IsLegal books.now.accounts answers.old.history.entries }
+    requires latest { IsLatest answers.old.history.entries books.now.day }
+    requires room { length answers.old.history.entries < 100000 }
+    ensures { OnOk result (Passed books.now.tables books.now.accounts books.now.day part.now
+        answers.old.history.entries answers.new.history.entries answers.old.replies.items answers.new.replies.items) }
+{
+    let message = trimmed(part);
+    if message.is_empty() {
+        return Ok(());
+    }
+    answer(alloc, books, answers, message)
+}
+
+/// Nothing has been answered yet.
+fn no_answers(alloc: Global) -> Answers
+    ensures history { result.history.entries ≡ [] }
+    ensures replies { result.replies.items ≡ [] }
+{
+    Answers {
+        history: History::new(alloc),
+        replies: Vec::new(alloc),
+    }
+}
+
+/// The history that the messages of a file make, and the reply to each of them.
+pub fn answer_file(alloc: Global, books: &Books, file: &[u8]) -> Result<Answers, Memory>
+    requires { length file.now ≤ 1048576 }
+    ensures history { IfOk result (λ a. a.history.entries ≡ history_of books.now.tables books.now.accounts books.now.day file.now) }
+    ensures replies { IfOk result (λ a. a.replies.items ≡ replies_of books.now.tables books.now.accounts books.now.day file.now) }
+    ensures legal { IfOk result (λ a. IsLegal books.now.accounts a.history.entries) }
+    ensures places { IfOk result (λ a. All (NamesPlace a.history.entries) a.replies.items) }
+{
+    let mut answers = no_answers(alloc);
+    let mut rest = Some(file);
+    while let Some(text) = rest {
+        let (part, behind) = cut(text);
+        answer_part(alloc, books, &mut answers, part)?;
+        rest = behind;
+    }
+    Ok(answers)
+}

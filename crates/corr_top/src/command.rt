@@ -1,0 +1,40 @@
+//! The top call: the words of a command, and what it is handed.
+
+ghost use Rattle.std.specs.Prelude.{◌≡◌, ◌↔◌, None, IfSome};
+ghost use Rattle.corr_top.specs.Ends.{Ends, IsQuiet};
+ghost use Rattle.corr_top.specs.Told.{sources, told};
+ghost use Rattle.corr_top.specs.Words.{run_day};
+
+use crate::room::{Done, Room};
+use crate::run::run;
+use crate::status::Status;
+use crate::words::run_day;
+use corr_io::{Sink, Source};
+use corr_text::Text;
+use std::alloc::Global;
+
+/// Does what the words say over the objects of a room, and hands the room back (docs/operating.md).
+///
+/// `run DATE 1` reads the table files and the message file, answers each message and writes the report.
+pub fn corr<S: Source, K: Sink>(alloc: Global, words: &[Text], room: Room<S, K>) -> Done<S, K>
+    // words of no command touch nothing
+    ensures usage { run_day words.now ≡ None → (result.status ≡ Status.Usage) × (result.room ≡ room) }
+    // each other status by its cause
+    ensures run { IfSome (run_day words.now) (λ day. Ends (sources S.left S.faults room) (sources S.left S.faults result.room)
+        (told K.held K.faults room.report) (told K.held K.faults result.room.report) day result.status) }
+    // nothing is written but at `Done` and `WriteFault`
+    ensures quiet { IsQuiet result.status → result.room.report ≡ room.report }
+{
+    let mut room = room;
+    let Some(day) = run_day(words) else {
+        return Done {
+            status: Status::Usage,
+            room,
+        };
+    };
+    let status = match run(alloc, day, &mut room) {
+        Ok(()) => Status::Done,
+        Err(status) => status,
+    };
+    Done { status, room }
+}

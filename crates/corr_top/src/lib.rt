@@ -1,0 +1,25 @@
+//! The commands of the bank's payment engine: what each reads, answers and writes.
+#![tactic(auto)]
+
+mod answers;
+mod command;
+mod interim;
+mod line;
+mod message;
+mod pieces;
+mod reading;
+mod room;
+mod run;
+mod slices;
+mod status;
+mod tables;
+#[cfg(test)]
+mod tests;
+mod value;
+mod words;
+mod writing;
+
+pub use command::corr;
+pub use line::status_line;
+pub use room::{Done, Room, Tables};
+pub use status::Status;

@@ -1,0 +1,72 @@
+//! The command `run`: every message of a file is answered, and the report written.
+
+ghost use Rattle.std.specs.Prelude.{◌≡◌, ◌≤◌, length, OnOk, IfOk, IfErr};
+ghost use Rattle.corr_top.specs.Ends.{Ends, IsQuiet};
+ghost use Rattle.corr_top.specs.Messages.{StopsAtMessages, report_over};
+ghost use Rattle.corr_top.specs.Reading.{IsRead};
+ghost use Rattle.corr_top.specs.Told.{sources, told};
+
+use crate::answers::{Books, answer_file};
+use crate::room::Room;
+use crate::status::Status;
+use crate::tables::{open_books, read_file};
+use crate::writing::{WriteStop, write_whole};
+use corr_ids::Day;
+use corr_io::{Sink, Source};
+use corr_report::report;
+use corr_text::{Memory, Text};
+use std::alloc::Global;
+
+/// The most bytes that a message file has: 1 MiB.
+const FILE_LIMIT: usize = 1_048_576;
+
+impl From<WriteStop> for Status {
+    ghost use Rattle.corr_top.specs.declared.status.Status.TheVariants.{WriteFault};
+
+    ghost from_gives = { λ stop status. status ≡ WriteFault stop.before stop.after };
+
+    fn from(stop: WriteStop) -> Status {
+        Status::WriteFault {
+            before: stop.before,
+            after: stop.after,
+        }
+    }
+}
+
+fn read_messages<S: Source>(alloc: Global, source: &mut S) -> Result<Text, Status>
+    ensures read { IfOk result (IsRead 1048576 (S.left source.old) (S.left source.new)) }
+    ensures short { IfOk result (λ text. length text ≤ 1048576) }
+    ensures stopped { IfErr result (StopsAtMessages (S.left source.old) (S.left source.new) (S.faults source.old) (S.faults source.new)) }
+{
+    let file = read_file(alloc, source, FILE_LIMIT)?;
+    if file.bytes().len() > FILE_LIMIT {
+        return Err(Status::TooLarge {
+            bytes: file.bytes().len() as u64,
+            messages: 0,
+        });
+    }
+    Ok(file)
+}
+
+/// The report of a day over these messages.
+fn make_report(alloc: Global, books: &Books, file: &[u8]) -> Result<Text, Memory>
+    requires { length file.now ≤ 1048576 }
+    ensures { IfOk result (λ text. text ≡ report_over books.now file.now) }
+{
+    let answers = answer_file(alloc, books, file)?;
+    report(alloc, &books.accounts, &answers.history, answers.replies.as_slice())
+}
+
+/// Reads the tables and the messages, answers each message and writes the report.
+pub fn run<S: Source, K: Sink>(alloc: Global, day: Day, room: &mut Room<S, K>) -> Result<(), Status>
+    ensures done { OnOk result (Ends (sources S.left S.faults room.old) (sources S.left S.faults room.new)
+        (told K.held K.faults room.old.report) (told K.held K.faults room.new.report) day Status.Done) }
+    ensures stopped { IfErr result (Ends (sources S.left S.faults room.old) (sources S.left S.faults room.new)
+        (told K.held K.faults room.old.report) (told K.held K.faults room.new.report) day) }
+    ensures quiet { IfErr result (λ s. IsQuiet s → room.new.report ≡ room.old.report) }
+{
+    let books = open_books(alloc, room, day)?;
+    let file = read_messages(alloc, &mut room.messages)?;
+    let text = make_report(alloc, &books, file.bytes())?;
+    Ok(write_whole(&mut room.report, text.bytes())?)
+}

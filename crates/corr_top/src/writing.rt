@@ -1,0 +1,40 @@
+//! A text, written whole to a sink.
+
+ghost use Rattle.std.specs.Prelude.{◌≡◌, ◌≤◌, OnOk, OnErr, IfErr};
+ghost use Rattle.std.specs.Io.KnownBytes.{Appends};
+ghost use Rattle.corr_text.specs.Faults.{Rose};
+ghost use Rattle.corr_top.specs.Writing.{AppendsPrefix};
+
+use crate::slices::behind;
+use corr_io::Sink;
+
+/// The count of faults of a sink before a call and after it.
+#[derive(Clone, Copy, Debug, PartialEq, Eq)]
+pub struct WriteStop {
+    pub before: u64,
+    pub after: u64,
+}
+
+/// Appends all of `text` to a sink. After a fault some front part of it was appended.
+pub fn write_whole<K: Sink>(sink: &mut K, text: &[u8]) -> Result<(), WriteStop>
+    ensures written { OnOk result (Appends (K.held sink.old) (K.held sink.new) text.now) }
+    ensures part { AppendsPrefix (K.held sink.old) (K.held sink.new) text.now }
+    ensures stopped { IfErr result (λ e. (e.before ≡ K.faults sink.old)
+        × (e.after ≡ K.faults sink.new) × Rose e.before e.after) }
+    ensures later { K.faults sink.old ≤ K.faults sink.new }
+{
+    let before = sink.faults();
+    let mut rest = text;
+    while !rest.is_empty() {
+        match sink.write(rest) {
+            Ok(count) => rest = behind(rest, count),
+            Err(_) => {
+                return Err(WriteStop {
+                    before,
+                    after: sink.faults(),
+                });
+            }
+        }
+    }
+    Ok(())
+}
