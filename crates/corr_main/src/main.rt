@@ -1,6 +1,9 @@
 //! The program: a folder of files and the words of a command (docs/operating.md).
 #![tactic(auto)]
 
+ghost use Rattle.std.specs.Prelude.{IfErr};
+ghost use Rattle.corr_top.specs.Status.{HasDecimals};
+
 use corr_io::{StdSink, StdSource};
 use corr_text::{Memory, Text};
 use corr_top::{Room, Status, Tables, corr, status_line};
@@ -8,12 +11,15 @@ use std::env;
 use std::io::Write;
 use std::process::ExitCode;
 
-const HELP: &[u8] = b"corr FOLDER run DATE 1\n\nReads bics.csv, ccys.csv, countries.csv, accounts.csv and messages.fin in FOLDER,\nbooks the messages on DATE (YYMMDD) and prints the report.\n\ncorr --help     prints this\ncorr --version  prints the version\n";
+const HELP: &[u8] =
+    b"corr FOLDER run DATE 1\n\nReads bics.csv, ccys.csv, countries.csv, accounts.csv and messages.fin in FOLDER,\nbooks the messages on DATE (YYMMDD) and prints the report.\n\ncorr --help     prints this\ncorr --version  prints the version\n";
 
 const VERSION: &[u8] = b"corr 0.1.0\n";
 
-/// The words of the command line behind the program's name; none where they are not text.
-fn words(rt: &HostRuntime) -> Result<Vec<Text>, Status> {
+/// The words of the command line behind the program's name. `Usage`: one of them is not UTF-8.
+fn words(rt: &HostRuntime) -> Result<Vec<Text>, Status>
+    ensures { IfErr result HasDecimals }
+{
     let alloc = rt.alloc();
     let Ok(args) = env::args(rt) else {
         return Err(Status::Usage);
@@ -64,14 +70,18 @@ fn room<'a>(
 }
 
 /// Does what the words behind the folder say.
-fn run(rt: &HostRuntime, folder: &[u8], words: &[Text]) -> Status {
+fn run(rt: &HostRuntime, folder: &[u8], words: &[Text]) -> Status
+    ensures { HasDecimals result }
+{
     match room(rt, folder) {
         Ok(room) => corr(rt.alloc(), words, room).status,
         Err(Memory) => Status::Memory,
     }
 }
 
-fn print(rt: &HostRuntime, text: &[u8]) -> Status {
+fn print(rt: &HostRuntime, text: &[u8]) -> Status
+    ensures { HasDecimals result }
+{
     match rt.stdout().write_all(text) {
         Ok(()) => Status::Done,
         Err(_) => Status::WriteFault {
@@ -81,9 +91,13 @@ fn print(rt: &HostRuntime, text: &[u8]) -> Status {
     }
 }
 
-fn command(rt: &HostRuntime, words: &[Text]) -> Status {
+/// Without a folder, or with an empty one, no file is touched.
+fn command(rt: &HostRuntime, words: &[Text]) -> Status
+    ensures { HasDecimals result }
+{
     match words {
-        [] => run(rt, b"", &[]),
+        [] => Status::Usage,
+        [folder, ..] if folder.bytes().is_empty() => Status::Usage,
         [word] if word.bytes() == b"--help".as_slice() => print(rt, HELP),
         [word] if word.bytes() == b"--version".as_slice() => print(rt, VERSION),
         [folder, words @ ..] => run(rt, folder.bytes(), words),
@@ -91,7 +105,9 @@ fn command(rt: &HostRuntime, words: &[Text]) -> Status {
 }
 
 /// Tells a status other than 0 on standard error.
-fn tell(rt: &HostRuntime, status: &Status) {
+fn tell(rt: &HostRuntime, status: &Status)
+    requires { HasDecimals status.now }
+{
     if status.number() == 0 {
         return;
     }

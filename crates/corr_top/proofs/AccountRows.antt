@@ -66,11 +66,11 @@ are_rows home t rows are long = record {
   formed = λ i a at. let m = made rows i a at in subst IsFormed m.is (formed home t m.row (are.each i m.row m.there));
   limited = λ i a at. let m = made rows i a at in subst IsLimited m.is (limited home t m.row (are.each i m.row m.there));
   ids = λ i j a b at also same. let m = made rows i a at in let n = made rows j b also in
-    are.ids i j m.row n.row m.there n.there (ap (λ (x : Account). x.id) m.is ∙ same ∙ sym (ap (λ (x : Account). x.id) n.is));
+      are.ids i j m.row n.row m.there n.there (ap (λ (x : Account). x.id) m.is ∙ same ∙ sym (ap (λ (x : Account). x.id) n.is));
   banks = λ i j a b at also same. let m = made rows i a at in let n = made rows j b also in
-    are.relations i j m.row n.row m.there n.there (related m.row n.row (subst (λ x. IsSameBank x (opened n.row)) (sym m.is) (subst (IsSameBank a) (sym n.is) same)));
+      are.relations i j m.row n.row m.there n.there (related m.row n.row (subst (λ x. IsSameBank x (opened n.row)) (sym m.is) (subst (IsSameBank a) (sym n.is) same)));
   decimals = λ i j a b at also same. let m = made rows i a at in let n = made rows j b also in
-    sym (ap (λ (x : Account). x.decimals) m.is) ∙ are.decimals i j m.row n.row m.there n.there (ap (λ (x : Account). x.ccy) m.is ∙ same ∙ sym (ap (λ (x : Account). x.ccy) n.is)) ∙ ap (λ (x : Account). x.decimals) n.is;
+      sym (ap (λ (x : Account). x.decimals) m.is) ∙ are.decimals i j m.row n.row m.there n.there (ap (λ (x : Account). x.ccy) m.is ∙ same ∙ sym (ap (λ (x : Account). x.ccy) n.is)) ∙ ap (λ (x : Account). x.decimals) n.is;
 }
   where
     related : (a b : AccountRow) → IsSameBank (opened a) (opened b) → IsSameRelation a b

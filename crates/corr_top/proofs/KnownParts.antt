@@ -42,11 +42,11 @@ consumes-none (Some a) = refl
 pub appended-more : (a b c : Option (List ℕ)) (text rest : List ℕ) (n m : ℕ) → n ≤ length text → rest ≡ drop n text → m ≤ length rest → Appends a b (take n text) → Appends b c (take m rest)
     → (k : ℕ) × (k ≤ length text) × (drop m rest ≡ drop k text) × Appends a c (take k text)
 appended-more a b c text rest n m le is few done now = (
-    n + m,
-    omega (arith, ap length is, length-drop n text),
-    ap (drop m) is ∙ drop-drop m n text,
-    subst (Appends a c) (sym (take-add n m text ∙ ap (λ (l : List ℕ). take n text ++ take m l) (sym is))) (appends-more a b c (take n text) (take m rest) done now)
-  )
+  n + m,
+  omega (arith, ap length is, length-drop n text),
+  ap (drop m) is ∙ drop-drop m n text,
+  subst (Appends a c) (sym (take-add n m text ∙ ap (λ (l : List ℕ). take n text ++ take m l) (sym is))) (appends-more a b c (take n text) (take m rest) done now),
+)
 
 -- a read that gave nothing though there was room ends a source
 pub read-ended : (limit : ℕ) (a b c : Option (List ℕ)) (text : List ℕ) → Consumes a b text → length text ≤ limit → Consumes b c [] → IsAtEnd c → IsRead limit a c text

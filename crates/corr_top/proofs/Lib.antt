@@ -7,3 +7,4 @@ pub mod Turns
 pub mod Opening
 pub mod Running
 pub mod AccountRows
+pub mod Complete

@@ -75,7 +75,7 @@ pub tables_fine : (files : List (List ℕ)) → tables_fault (file_at 0 files) (
 unfolding fault_in rows_of records_from next_record strip_bom
 tables_fine files none no_file = record {
   no_fault = ap (λ (o : Option (TableName × ℕ × Why)). option_or o (named Accounts (accounts_fault home_head (tables_in files) (file_at 3 files)))) none ∙ ap (λ file. named Accounts (accounts_fault home_head (tables_in files) file)) no_file ∙ ap (named Accounts) (no_accounts (tables_in files));
-  balanced = λ ccy. ap (λ file. opening_sum ccy (map opened (map (account_of (tables_in files)) (rows_of file)))) no_file
+  balanced = λ ccy. ap (λ file. opening_sum ccy (map opened (map (account_of (tables_in files)) (rows_of file)))) no_file;
 }
 
 -- a source that was left alone is the one that was handed in
@@ -122,10 +122,15 @@ four_accounts b d e f t same rows value = ap (map opened) (value ∙ ap (λ (x :
 pub unbalanced_stop : (before after : List Told) (b d e f : List ℕ) → AreRead limits before after (b ∷ d ∷ e ∷ f ∷ []) → fault_in (b ∷ d ∷ e ∷ []) ≡ None
     → (t : Tables) → t ≡ tables_in (b ∷ d ∷ e ∷ []) → accounts_fault home_head t f ≡ None → (rows : List AccountRow) → rows ≡ map (account_of t) (rows_of f)
     → (fault : AccountsFault) → TellsUnbalanced (map opened rows) fault → Stops before after (status_of_accounts fault)
-unbalanced_stop before after b d e f read none t same sound rows value (accounts.Unbalanced ccy decimals sum) is =
-    (b ∷ d ∷ e ∷ f ∷ [], record {
-      read = read; four = refl; no_fault = four_sound b d e f none t same sound;
-      unbalanced = subst (λ (l : List Account). IsFirstUnbalanced l (record { ccy = ccy; decimals = decimals; sum = sum })) (four_accounts b d e f t same rows value) is })
+unbalanced_stop before after b d e f read none t same sound rows value (accounts.Unbalanced ccy decimals sum) is = (
+  b ∷ d ∷ e ∷ f ∷ [],
+  record {
+    read = read;
+    four = refl;
+    no_fault = four_sound b d e f none t same sound;
+    unbalanced = subst (λ (l : List Account). IsFirstUnbalanced l (record { ccy = ccy; decimals = decimals; sum = sum })) (four_accounts b d e f t same rows value) is;
+  },
+)
 unbalanced_stop before after b d e f read none t same sound rows value accounts.Memory is = tt
 
 -- the books over four tables
@@ -136,8 +141,10 @@ pub books_opened : (before after : List Told) (day : Day) (b d e f : List ℕ) �
 books_opened before after day b d e f read none t same sound rows value chart chart_is balanced =
     let list : map opened rows ≡ accounts_in (b ∷ d ∷ e ∷ f ∷ []) = four_accounts b d e f t same rows value in
     record {
-      read = read; four = refl;
+      read = read;
+      four = refl;
       fine = record { no_fault = four_sound b d e f none t same sound; balanced = λ ccy. ap (opening_sum ccy) (sym list) ∙ balanced ccy };
       tables = same;
       accounts = chart_is ∙ ap (λ (l : List Account). record { home = home_bank; accounts = l }) list;
-      day_is = refl }
+      day_is = refl;
+    }

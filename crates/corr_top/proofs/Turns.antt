@@ -138,8 +138,8 @@ one_more chart day all rest pay entries after replies r so_far room fits is told
       history = so_far.history ∙ ap (λ es. fold_of chart es (pays_in rest) day) (sym is);
       told = λ more. answered_more added longer more;
       places = All-append (NamesPlace after) replies (r ∷ [])
-        (All-weaker (NamesPlace entries) (NamesPlace after) (λ x named. subst (λ es. NamesPlace es x) (sym longer) (place_stays entries added x named)) replies so_far.places)
-        (all_one after r (names_place after (Ok pay) r told));
+          (All-weaker (NamesPlace entries) (NamesPlace after) (λ x named. subst (λ es. NamesPlace es x) (sym longer) (place_stays entries added x named)) replies so_far.places)
+          (all_one after r (names_place after (Ok pay) r told));
     }
   where
     answered_more : (added : List Entry) → after ≡ entries ++ added → (more : List Entry) → replies_in (after ++ more) all ≡ (replies ++ r ∷ []) ++ replies_in (after ++ more) rest
@@ -190,7 +190,7 @@ part_if : (t : Tables) (chart : Chart) (day : Day) (all : List (Result Pay Refus
     → Answered chart day all (readings_of t chart rest) after more
 part_if t chart day all message rest true entries after replies more so_far room turned =
     subst (Answered chart day all (readings_of t chart rest) after) (sym turned.answered.2)
-      (next_answered chart day message all (readings_of t chart rest) (message_of t chart message) entries after replies turned.answered.0 so_far room turned.fit turned.entered turned.answered.1)
+    (next_answered chart day message all (readings_of t chart rest) (message_of t chart message) entries after replies turned.answered.0 so_far room turned.fit turned.entered turned.answered.1)
 part_if t chart day all message rest false entries after replies more so_far room same =
     subst (λ es. Answered chart day all (readings_of t chart rest) es more) (sym same.0) (subst (Answered chart day all (readings_of t chart rest) entries) (sym same.1) so_far)
 

@@ -118,8 +118,8 @@ unfoldable pub said_by : Mir → List ℕ → Option Form
 said_by mir bs = do
   lines ← lines_of bs
   if are_formed lines
-    then Some (record { mir = mir; text = text_in bs; reference = lines.reference; value = lines.value; account = lines.account })
-    else None
+      then Some (record { mir = mir; text = text_in bs; reference = lines.reference; value = lines.value; account = lines.account })
+      else None
 
 -- a message of this form, by what it says
 unfoldable pub form_of : List ℕ → Option Form

@@ -15,3 +15,4 @@ pub mod Run
 pub mod Ends
 pub mod Books
 pub mod Messages
+pub mod Complete

@@ -84,7 +84,7 @@ pay_of chart form value debit credit = record {
   text = form.text;
   value = value.day;
   legs = leg_of debit Debit form value ∷ leg_of credit Credit form value ∷ [];
-  orders = orders_for (account_at chart debit.0)
+  orders = orders_for (account_at chart debit.0);
 }
 
 -- the pay that a message asks for: the tests in their order

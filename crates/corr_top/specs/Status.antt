@@ -1,9 +1,65 @@
--- Statuses.
-use Rattle.std.specs.Prelude.{ℕ, ◌≤◌}
+-- Statuses, as numbers and as lines.
+use Rattle.std.specs.Prelude.{ℕ, ◌≤◌, List, ◌∷◌, ◌++◌, codes}
+use Rattle.corr_text.specs.Digits.{padded}
+use Rattle.corr_money.specs.Amounts.{signed_text}
+use Rattle.ref_tables.specs.declared.fault.TableName.{TableName}
+use Rattle.ref_tables.specs.declared.fault.TableName.TheVariants as table
+use Rattle.ref_tables.specs.declared.fault.Why.{Why}
+use Rattle.ref_tables.specs.declared.fault.Why.TheVariants as why
 use Rattle.corr_top.specs.declared.status.Status.{Status}
-use Rattle.corr_top.specs.declared.status.Status.TheVariants.{Unbalanced}
+use Rattle.corr_top.specs.declared.status.Status.TheVariants.{Done, Usage, Table, ReadFault, WriteFault, Unbalanced, Memory, TooLarge}
 
 -- the decimals of an `Unbalanced` are at most 4
 abbrev pub HasDecimals : Status → Type 0
 HasDecimals (Unbalanced ccy decimals sum) = decimals ≤ 4
 HasDecimals _ = Unit {0}
+
+-- the exit status
+abbrev pub number_of : Status → ℕ
+number_of Done = 0
+number_of Usage = 1
+number_of (Table name row reason) = 2
+number_of (ReadFault before after) = 3
+number_of (WriteFault before after) = 4
+number_of (Unbalanced ccy decimals sum) = 6
+number_of Memory = 7
+number_of (TooLarge bytes messages) = 9
+
+-- a number behind a space
+unfoldable pub spaced : ℕ → List ℕ
+spaced n = codes " " ++ padded 1 n
+
+-- the name of a table
+abbrev pub name_text : TableName → List ℕ
+name_text table.Bics = codes "bics"
+name_text table.Ccys = codes "ccys"
+name_text table.Countries = codes "countries"
+name_text table.Accounts = codes "accounts"
+name_text table.Ssi = codes "ssi"
+
+-- what is wrong with a row
+abbrev pub why_text : Why → List ℕ
+why_text why.Columns = codes " columns"
+why_text (why.Value col) = codes " value" ++ spaced col
+why_text (why.Double row) = codes " double" ++ spaced row
+why_text why.Bic = codes " bic"
+why_text why.Currency = codes " currency"
+why_text why.Limits = codes " limits"
+why_text (why.Overlap row) = codes " overlap" ++ spaced row
+why_text why.Span = codes " span"
+why_text why.Rows = codes " rows"
+
+-- how a command ended
+abbrev pub status_text : Status → List ℕ
+status_text Done = codes "done"
+status_text Usage = codes "usage"
+status_text (Table name row reason) = codes "table " ++ name_text name ++ spaced row ++ why_text reason
+status_text (ReadFault before after) = codes "read fault" ++ spaced before ++ spaced after
+status_text (WriteFault before after) = codes "write fault" ++ spaced before ++ spaced after
+status_text (Unbalanced ccy decimals sum) = codes "unbalanced " ++ ccy.0 ++ codes " " ++ signed_text decimals sum
+status_text Memory = codes "no memory"
+status_text (TooLarge bytes messages) = codes "too large" ++ spaced bytes ++ spaced messages
+
+-- its line, without a line end
+abbrev pub line_of : Status → List ℕ
+line_of status = codes "corr: " ++ status_text status

@@ -85,12 +85,7 @@ fn enter(books: &Books, history: &mut History, pay: Pay) -> Result<Reply, Memory
 }
 
 /// Answers one message.
-fn answer(
-    alloc: Global,
-    books: &Books,
-    answers: &mut Answers,
-    message: &[u8],
-) -> Result<(), Memory>
+fn answer(alloc: Global, books: &Books, answers: &mut Answers, message: &[u8]) -> Result<(), Memory>
     requires legal { IsLegal books.now.accounts answers.old.history.entries }
     requires latest { IsLatest answers.old.history.entries books.now.day }
     requires room { length answers.old.history.entries < 100000 }

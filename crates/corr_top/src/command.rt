@@ -1,6 +1,7 @@
 //! The top call: the words of a command, and what it is handed.
 
-ghost use Rattle.std.specs.Prelude.{◌≡◌, ◌↔◌, None, IfSome};
+ghost use Rattle.std.specs.Prelude.{◌≡◌, ◌⊎◌, ℕ, List, None, IfSome};
+ghost use Rattle.corr_top.specs.Complete.{IsReady};
 ghost use Rattle.corr_top.specs.Ends.{Ends, IsQuiet};
 ghost use Rattle.corr_top.specs.Told.{sources, told};
 ghost use Rattle.corr_top.specs.Words.{run_day};
@@ -22,6 +23,9 @@ pub fn corr<S: Source, K: Sink>(alloc: Global, words: &[Text], room: Room<S, K>)
     // each other status by its cause
     ensures run { IfSome (run_day words.now) (λ day. Ends (sources S.left S.faults room) (sources S.left S.faults result.room)
         (told K.held K.faults room.report) (told K.held K.faults result.room.report) day result.status) }
+    // where nothing is wrong and nothing fails, only memory can be wanting
+    ensures complete { IfSome (run_day words.now) (λ _. (files : List (List ℕ)) → IsReady (sources S.left S.faults room) (sources S.left S.faults result.room)
+        (told K.held K.faults room.report) (told K.held K.faults result.room.report) files → (result.status ≡ Status.Done) ⊎ (result.status ≡ Status.Memory)) }
     // nothing is written but at `Done` and `WriteFault`
     ensures quiet { IsQuiet result.status → result.room.report ≡ room.report }
 {

@@ -1,4 +1,4 @@
-//! The one form of message that is read today (docs/messages.md, "Today's form").
+//! The one form of message that is read today (docs/messages.md, "The form of message that is read today").
 
 ghost use Rattle.std.specs.Prelude.{◌≡◌, ◌≤◌, IsTrue, OnSome, not, option_map, length};
 ghost use Rattle.std.specs.List.{list_all, position};
@@ -7,9 +7,9 @@ ghost use Rattle.corr_text.specs.Sets.{is_c_byte, is_x_byte};
 ghost use Rattle.corr_top.specs.Interim.{are_digits, are_formed, form_of, has_double_slash, is_account, is_header, is_home, is_long, is_name, is_priority, is_reference, line_of, lines_of, said_by, stripped, x_count};
 ghost use Rattle.corr_top.specs.Seen.{form_seen, line_seen, lines_seen};
 
-use corr_ids::{Mir, read_lt, read_mir};
 use crate::slices::{behind, front};
 use crate::words::is_word;
+use corr_ids::{Mir, read_lt, read_mir};
 use corr_text::{Set, is_set, is_x};
 
 /// The head of the home bank.

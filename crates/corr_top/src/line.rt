@@ -1,19 +1,26 @@
 //! The line that tells how a command ended.
 
-ghost use Rattle.corr_top.specs.Status.{HasDecimals};
+ghost use Rattle.std.specs.Prelude.{◌≡◌, ◌≤◌, ◌++◌, OnOk, IfOk, codes};
+ghost use Rattle.corr_money.specs.Amounts.{signed_text};
+ghost use Rattle.corr_top.specs.Status.{HasDecimals, line_of, name_text, spaced, status_text, why_text};
 
 use crate::status::Status;
-use corr_money::put_signed;
+use corr_money::{Ccy, put_signed};
 use corr_text::{Memory, Text, put_digits};
 use ref_tables::{TableName, Why};
 use std::alloc::Global;
 
-fn put_number(alloc: Global, n: u64, out: &mut Text) -> Result<(), Memory> {
+#[tactic(auto, unfolding(crate::specs::Status::spaced))]
+fn put_number(alloc: Global, n: u64, out: &mut Text) -> Result<(), Memory>
+    ensures { OnOk result (out.new ≡ out.old ++ spaced n) }
+{
     out.push(b" ")?;
     put_digits(alloc, n, 1, out)
 }
 
-fn table_name(table: TableName) -> &'static [u8] {
+fn table_name(table: TableName) -> &'static [u8]
+    ensures { result.now ≡ name_text table }
+{
     match table {
         TableName::Bics => b"bics",
         TableName::Ccys => b"ccys",
@@ -23,7 +30,9 @@ fn table_name(table: TableName) -> &'static [u8] {
     }
 }
 
-fn put_why(alloc: Global, why: Why, out: &mut Text) -> Result<(), Memory> {
+fn put_why(alloc: Global, why: Why, out: &mut Text) -> Result<(), Memory>
+    ensures { OnOk result (out.new ≡ out.old ++ why_text why) }
+{
     match why {
         Why::Columns => out.push(b" columns"),
         Why::Value { col } => {
@@ -46,8 +55,34 @@ fn put_why(alloc: Global, why: Why, out: &mut Text) -> Result<(), Memory> {
     }
 }
 
+/// Words and two numbers.
+fn put_two(
+    alloc: Global,
+    words: &[u8],
+    first: u64,
+    second: u64,
+    out: &mut Text,
+) -> Result<(), Memory>
+    ensures { OnOk result (out.new ≡ out.old ++ words.now ++ spaced first ++ spaced second) }
+{
+    out.push(words)?;
+    put_number(alloc, first, out)?;
+    put_number(alloc, second, out)
+}
+
+/// A currency and a sum of its minor units.
+fn put_sum(alloc: Global, ccy: Ccy, decimals: u8, sum: i64, out: &mut Text) -> Result<(), Memory>
+    requires { decimals ≤ 4 }
+    ensures { OnOk result (out.new ≡ out.old ++ ccy.0 ++ codes " " ++ signed_text decimals sum) }
+{
+    out.push(&ccy.0)?;
+    out.push(b" ")?;
+    put_signed(alloc, sum, decimals, out)
+}
+
 fn put_status(alloc: Global, s: &Status, out: &mut Text) -> Result<(), Memory>
     requires { HasDecimals s.now }
+    ensures { OnOk result (out.new ≡ out.old ++ status_text s.now) }
 {
     match s {
         Status::Done => out.push(b"done"),
@@ -58,36 +93,31 @@ fn put_status(alloc: Global, s: &Status, out: &mut Text) -> Result<(), Memory>
             put_number(alloc, *row as u64, out)?;
             put_why(alloc, *why, out)
         }
-        Status::ReadFault { before, after } => {
-            out.push(b"read fault")?;
-            put_number(alloc, *before, out)?;
-            put_number(alloc, *after, out)
-        }
-        Status::WriteFault { before, after } => {
-            out.push(b"write fault")?;
-            put_number(alloc, *before, out)?;
-            put_number(alloc, *after, out)
-        }
+        Status::ReadFault { before, after } => put_two(alloc, b"read fault", *before, *after, out),
+        Status::WriteFault { before, after } => put_two(
+            alloc,
+            b"write fault",
+            *before,
+            *after,
+            out,
+        ),
         Status::Unbalanced { ccy, decimals, sum } => {
             out.push(b"unbalanced ")?;
-            out.push(&ccy.0)?;
-            out.push(b" ")?;
-            put_signed(alloc, *sum, *decimals, out)
+            put_sum(alloc, *ccy, *decimals, *sum, out)
         }
         Status::Memory => out.push(b"no memory"),
         Status::TooLarge { bytes, messages } => {
-            out.push(b"too large")?;
-            put_number(alloc, *bytes, out)?;
-            put_number(alloc, *messages as u64, out)
+            put_two(alloc, b"too large", *bytes, *messages as u64, out)
         }
     }
 }
 
-/// The line that tells a status, as `corr: read fault 0 1`, without a line end.
+/// The line that tells a status, as `corr: read fault 0 1`, without a line end (docs/operating.md, "Statuses").
 ///
-/// The decimals of an `Unbalanced` are at most 4.
+/// The decimals of an `Unbalanced` are at most 4. `Memory`: there was no room for the line.
 pub fn status_line(alloc: Global, s: &Status) -> Result<Text, Memory>
     requires { HasDecimals s.now }
+    ensures { IfOk result (λ line. line ≡ line_of s.now) }
 {
     let mut line = Text::from_bytes(alloc, b"corr: ")?;
     put_status(alloc, s, &mut line)?;

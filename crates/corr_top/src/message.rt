@@ -6,13 +6,12 @@ ghost use Rattle.day_model.specs.Fit.{FitsAccounts};
 ghost use Rattle.corr_top.specs.Message.{ReadsAs, another_form, bad_value, customer_account, fits_customer, fits_vostro, leg_of, message_of, orders_for, pay_of, vostro_account};
 ghost use Rattle.corr_top.specs.Seen.{form_seen};
 
-
 use crate::interim::{Form, read_form};
 use crate::value::{Value, read_value};
 use corr_ids::Mir;
 use corr_money::Amount;
 use corr_text::{Code, Fault, List, Memory, Text};
-use day_model::{Account, AcctNo, Accounts, Leg, Mt, Order, Pay, Quote, Side};
+use day_model::{Account, Accounts, AcctNo, Leg, Mt, Order, Pay, Quote, Side};
 use ref_tables::RefTables;
 use std::alloc::Global;
 

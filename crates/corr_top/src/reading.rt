@@ -44,11 +44,7 @@ fn make_chunk(alloc: Global) -> Result<Vec<u8>, AllocError>
 }
 
 /// The bytes of a source up to its end, or one byte more than `limit` where it has more than that.
-pub fn read_whole<S: Source>(
-    alloc: Global,
-    source: &mut S,
-    limit: usize,
-) -> Result<Text, ReadStop>
+pub fn read_whole<S: Source>(alloc: Global, source: &mut S, limit: usize) -> Result<Text, ReadStop>
     requires { limit < 2 ^ 32 }
     ensures read { IfOk result (IsRead limit (S.left source.old) (S.left source.new)) }
     ensures stopped { IfErr result (IsStopped (S.faults source.old) (S.faults source.new)) }

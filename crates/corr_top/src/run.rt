@@ -54,7 +54,12 @@ fn make_report(alloc: Global, books: &Books, file: &[u8]) -> Result<Text, Memory
     ensures { IfOk result (λ text. text ≡ report_over books.now file.now) }
 {
     let answers = answer_file(alloc, books, file)?;
-    report(alloc, &books.accounts, &answers.history, answers.replies.as_slice())
+    report(
+        alloc,
+        &books.accounts,
+        &answers.history,
+        answers.replies.as_slice(),
+    )
 }
 
 /// Reads the tables and the messages, answers each message and writes the report.

@@ -1,5 +1,8 @@
 //! How a command ended.
 
+ghost use Rattle.std.specs.Prelude.{◌≡◌};
+ghost use Rattle.corr_top.specs.Status.{number_of};
+
 use corr_money::Ccy;
 use ref_tables::{TableName, Why};
 
@@ -17,20 +20,35 @@ pub enum Status {
         why: Why,
     },
     /// A source failed: its count of faults before this call and after it.
-    ReadFault { before: u64, after: u64 },
+    ReadFault {
+        before: u64,
+        after: u64,
+    },
     /// A sink failed: its count of faults before this call and after it.
-    WriteFault { before: u64, after: u64 },
+    WriteFault {
+        before: u64,
+        after: u64,
+    },
     /// The openings of a currency's accounts sum to this many minor units, and not to 0.
-    Unbalanced { ccy: Ccy, decimals: u8, sum: i64 },
+    Unbalanced {
+        ccy: Ccy,
+        decimals: u8,
+        sum: i64,
+    },
     /// There was no memory for what was to be made.
     Memory,
     /// The message file passes a limit: the bytes that were read, and the messages that begin in them.
-    TooLarge { bytes: u64, messages: u32 },
+    TooLarge {
+        bytes: u64,
+        messages: u32,
+    },
 }
 
 impl Status {
     /// The status as a number, which is the program's exit status.
-    pub fn number(&self) -> u8 {
+    pub fn number(&self) -> u8
+        ensures { result ≡ number_of self.now }
+    {
         match self {
             Status::Done => 0,
             Status::Usage => 1,

@@ -65,7 +65,11 @@ impl From<AccountsFault> for Status {
 
     fn from(fault: AccountsFault) -> Status {
         match fault {
-            AccountsFault::Unbalanced { ccy, decimals, sum } => Status::Unbalanced { ccy, decimals, sum },
+            AccountsFault::Unbalanced { ccy, decimals, sum } => Status::Unbalanced {
+                ccy,
+                decimals,
+                sum,
+            },
             AccountsFault::Memory => Status::Memory,
         }
     }
@@ -132,7 +136,11 @@ fn open_tables<S: Source, K>(alloc: Global, room: &mut Room<S, K>) -> Result<Ref
 }
 
 /// The accounts of a table as those of a book.
-fn make_accounts(alloc: Global, known: &RefTables, rows: Vec<AccountRow>) -> Result<Accounts, AccountsFault>
+fn make_accounts(
+    alloc: Global,
+    known: &RefTables,
+    rows: Vec<AccountRow>,
+) -> Result<Accounts, AccountsFault>
     requires { AreAccounts home_head known.now rows.items }
     ensures ok { IfOk result (λ a. a ≡ record { home = home_bank; accounts = map opened rows.items }) }
     ensures balanced { OnOk result ((ccy : Ccy) → opening_sum ccy (map opened rows.items) ≡ pos 0) }
@@ -145,7 +153,11 @@ fn make_accounts(alloc: Global, known: &RefTables, rows: Vec<AccountRow>) -> Res
 }
 
 /// The books of a day over the table files, each read and tested before the next.
-pub fn open_books<S: Source, K>(alloc: Global, room: &mut Room<S, K>, day: Day) -> Result<Books, Status>
+pub fn open_books<S: Source, K>(
+    alloc: Global,
+    room: &mut Room<S, K>,
+    day: Day,
+) -> Result<Books, Status>
     ensures ok { IfOk result (HasBooks (sources S.left S.faults room.old) (sources S.left S.faults room.new) day) }
     ensures stopped { IfErr result (Stops (sources S.left S.faults room.old) (sources S.left S.faults room.new)) }
     ensures messages { room.new.messages ≡ room.old.messages }

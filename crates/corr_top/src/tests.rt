@@ -11,9 +11,11 @@ const CCYS: &[u8] = b"EUR,2\nUSD,2\nJPY,0\nKWD,3\n";
 
 const COUNTRIES: &[u8] = b"DE,Y\nFR,Y\nBE,Y\nGB,N\nUS,N\nJP,N\n";
 
-const ACCOUNTS: &[u8] = b"VALPHEUR,V,ALPHDEFF,EUR,-10000000,90000000000,5000000\nVBETAEUR,V,BETAFRPP,EUR,0,90000000000,1000000\nCUST1,C,HOMEUS33,EUR,0,90000000000,0\nNCORREUR,N,CORRBEBB,EUR,-90000000000,90000000000,-6000000\nVDELTJPY,V,DELTJPJT,JPY,0,90000000000,9000000\nNCORRJPY,N,CORRBEBB,JPY,-90000000000,90000000000,-9000000\nCUST2,C,HOMEUS33,JPY,0,90000000000,0\n";
+const ACCOUNTS: &[u8] =
+    b"VALPHEUR,V,ALPHDEFF,EUR,-10000000,90000000000,5000000\nVBETAEUR,V,BETAFRPP,EUR,0,90000000000,1000000\nCUST1,C,HOMEUS33,EUR,0,90000000000,0\nNCORREUR,N,CORRBEBB,EUR,-90000000000,90000000000,-6000000\nVDELTJPY,V,DELTJPJT,JPY,0,90000000000,9000000\nNCORRJPY,N,CORRBEBB,JPY,-90000000000,90000000000,-9000000\nCUST2,C,HOMEUS33,JPY,0,90000000000,0\n";
 
-const FRONT: &[u8] = b"{1:F01HOMEUS33AXXX0001000007}{2:O1031200240603ALPHDEFFAXXX00010000012406031205N}{4:\r\n:20:";
+const FRONT: &[u8] =
+    b"{1:F01HOMEUS33AXXX0001000007}{2:O1031200240603ALPHDEFFAXXX00010000012406031205N}{4:\r\n:20:";
 
 const MIDDLE: &[u8] = b"\r\n:23B:CRED\r\n:32A:";
 
@@ -51,7 +53,11 @@ fn sink(alloc: Global, fails: &[u64]) -> Result<MemSink, Memory> {
     Ok(MemSink::new(alloc, numbers))
 }
 
-fn room(alloc: Global, accounts: &[u8], messages: &[u8]) -> Result<Room<MemSource, MemSink>, Memory> {
+fn room(
+    alloc: Global,
+    accounts: &[u8],
+    messages: &[u8],
+) -> Result<Room<MemSource, MemSink>, Memory> {
     Ok(Room {
         tables: Tables {
             bics: source(alloc, BICS, &[])?,
@@ -64,7 +70,11 @@ fn room(alloc: Global, accounts: &[u8], messages: &[u8]) -> Result<Room<MemSourc
     })
 }
 
-fn run(alloc: Global, date: &[u8], room: Room<MemSource, MemSink>) -> Result<Done<MemSource, MemSink>, Memory> {
+fn run(
+    alloc: Global,
+    date: &[u8],
+    room: Room<MemSource, MemSink>,
+) -> Result<Done<MemSource, MemSink>, Memory> {
     let words = [
         Text::from_bytes(alloc, b"run")?,
         Text::from_bytes(alloc, date)?,
@@ -74,7 +84,12 @@ fn run(alloc: Global, date: &[u8], room: Room<MemSource, MemSink>) -> Result<Don
 }
 
 // The status of a run over these messages is this number, and its report these bytes.
-fn reports(rt: &impl std::process::Abort, alloc: Global, messages: &[u8], report: &[u8]) -> Result<(), Memory> {
+fn reports(
+    rt: &impl std::process::Abort,
+    alloc: Global,
+    messages: &[u8],
+    report: &[u8],
+) -> Result<(), Memory> {
     let done = run(alloc, b"240603", room(alloc, ACCOUNTS, messages)?)?;
     assert_eq!(rt; done.status.number(), 0);
     assert_eq!(rt; done.room.report.bytes(), report);
@@ -82,7 +97,13 @@ fn reports(rt: &impl std::process::Abort, alloc: Global, messages: &[u8], report
 }
 
 // The status line of a run.
-fn tells(rt: &impl std::process::Abort, alloc: Global, number: u8, line: &[u8], room: Room<MemSource, MemSink>) -> Result<(), Memory> {
+fn tells(
+    rt: &impl std::process::Abort,
+    alloc: Global,
+    number: u8,
+    line: &[u8],
+    room: Room<MemSource, MemSink>,
+) -> Result<(), Memory> {
     let done = run(alloc, b"240603", room)?;
     assert_eq!(rt; done.status.number(), number);
     assert_eq!(rt; status_line(alloc, &done.status)?.bytes(), line);
@@ -101,14 +122,24 @@ fn refused(alloc: Global, code: &[u8]) -> Result<Text, Memory> {
 #[test]
 fn an_empty_file_has_an_empty_report(rt: HostRuntime) -> Result<(), Fail> {
     let alloc = rt.alloc();
-    reports(&rt, alloc, b"", b"MESSAGES 000000 ENTRIES 00000000\nTOTAL EUR DEBIT 0,00 CREDIT 0,00\nTOTAL JPY DEBIT 0, CREDIT 0,\n")?;
+    reports(
+        &rt,
+        alloc,
+        b"",
+        b"MESSAGES 000000 ENTRIES 00000000\nTOTAL EUR DEBIT 0,00 CREDIT 0,00\nTOTAL JPY DEBIT 0, CREDIT 0,\n",
+    )?;
     Ok(())
 }
 
 #[test]
 fn the_sample_message_is_booked(rt: HostRuntime) -> Result<(), Fail> {
     let alloc = rt.alloc();
-    reports(&rt, alloc, base(alloc)?.bytes(), b"000001 240603ALPHDEFFAXXX0001000001 BOOKED 00000001 EUR 1234,50\nMESSAGES 000001 ENTRIES 00000001\nTOTAL EUR DEBIT 1234,50 CREDIT 1234,50\nTOTAL JPY DEBIT 0, CREDIT 0,\n")?;
+    reports(
+        &rt,
+        alloc,
+        base(alloc)?.bytes(),
+        b"000001 240603ALPHDEFFAXXX0001000001 BOOKED 00000001 EUR 1234,50\nMESSAGES 000001 ENTRIES 00000001\nTOTAL EUR DEBIT 1234,50 CREDIT 1234,50\nTOTAL JPY DEBIT 0, CREDIT 0,\n",
+    )?;
     Ok(())
 }
 
@@ -120,14 +151,24 @@ fn a_repeat_keeps_its_place_and_a_changed_one_conflicts(rt: HostRuntime) -> Resu
     file.push(base(alloc)?.bytes())?;
     file.push(b" $")?;
     file.push(message(alloc, b"REF2", b"240603EUR1234,5")?.bytes())?;
-    reports(&rt, alloc, file.bytes(), b"000001 240603ALPHDEFFAXXX0001000001 BOOKED 00000001 EUR 1234,50\n000002 240603ALPHDEFFAXXX0001000001 BOOKED 00000001 EUR 1234,50\n000003 240603ALPHDEFFAXXX0001000001 P41 00000001\nMESSAGES 000003 ENTRIES 00000001\nTOTAL EUR DEBIT 1234,50 CREDIT 1234,50\nTOTAL JPY DEBIT 0, CREDIT 0,\n")?;
+    reports(
+        &rt,
+        alloc,
+        file.bytes(),
+        b"000001 240603ALPHDEFFAXXX0001000001 BOOKED 00000001 EUR 1234,50\n000002 240603ALPHDEFFAXXX0001000001 BOOKED 00000001 EUR 1234,50\n000003 240603ALPHDEFFAXXX0001000001 P41 00000001\nMESSAGES 000003 ENTRIES 00000001\nTOTAL EUR DEBIT 1234,50 CREDIT 1234,50\nTOTAL JPY DEBIT 0, CREDIT 0,\n",
+    )?;
     Ok(())
 }
 
 #[test]
 fn another_form_is_refused(rt: HostRuntime) -> Result<(), Fail> {
     let alloc = rt.alloc();
-    reports(&rt, alloc, b"x", b"000001 ---------------------------- REFUSED P90 B4 0\nMESSAGES 000001 ENTRIES 00000000\nTOTAL EUR DEBIT 0,00 CREDIT 0,00\nTOTAL JPY DEBIT 0, CREDIT 0,\n")?;
+    reports(
+        &rt,
+        alloc,
+        b"x",
+        b"000001 ---------------------------- REFUSED P90 B4 0\nMESSAGES 000001 ENTRIES 00000000\nTOTAL EUR DEBIT 0,00 CREDIT 0,00\nTOTAL JPY DEBIT 0, CREDIT 0,\n",
+    )?;
     Ok(())
 }
 
@@ -161,14 +202,24 @@ fn each_test_of_field_32a_has_its_code(rt: HostRuntime) -> Result<(), Fail> {
 fn a_message_without_its_accounts_is_of_another_form(rt: HostRuntime) -> Result<(), Fail> {
     let alloc = rt.alloc();
     // ALPHDEFF has no account in JPY
-    reports(&rt, alloc, message(alloc, b"REF1", b"240603JPY1,")?.bytes(), b"000001 ---------------------------- REFUSED P90 B4 0\nMESSAGES 000001 ENTRIES 00000000\nTOTAL EUR DEBIT 0,00 CREDIT 0,00\nTOTAL JPY DEBIT 0, CREDIT 0,\n")?;
+    reports(
+        &rt,
+        alloc,
+        message(alloc, b"REF1", b"240603JPY1,")?.bytes(),
+        b"000001 ---------------------------- REFUSED P90 B4 0\nMESSAGES 000001 ENTRIES 00000000\nTOTAL EUR DEBIT 0,00 CREDIT 0,00\nTOTAL JPY DEBIT 0, CREDIT 0,\n",
+    )?;
     Ok(())
 }
 
 #[test]
 fn a_pay_past_the_floor_is_not_funded(rt: HostRuntime) -> Result<(), Fail> {
     let alloc = rt.alloc();
-    reports(&rt, alloc, message(alloc, b"REF1", b"240603EUR150000,01")?.bytes(), b"000001 240603ALPHDEFFAXXX0001000001 UNFUNDED 00000001 VALPHEUR 50000,00\nMESSAGES 000001 ENTRIES 00000001\nTOTAL EUR DEBIT 0,00 CREDIT 0,00\nTOTAL JPY DEBIT 0, CREDIT 0,\n")?;
+    reports(
+        &rt,
+        alloc,
+        message(alloc, b"REF1", b"240603EUR150000,01")?.bytes(),
+        b"000001 240603ALPHDEFFAXXX0001000001 UNFUNDED 00000001 VALPHEUR 50000,00\nMESSAGES 000001 ENTRIES 00000001\nTOTAL EUR DEBIT 0,00 CREDIT 0,00\nTOTAL JPY DEBIT 0, CREDIT 0,\n",
+    )?;
     Ok(())
 }
 
@@ -177,7 +228,10 @@ fn words_of_no_command_are_usage(rt: HostRuntime) -> Result<(), Fail> {
     let alloc = rt.alloc();
     let done = run(alloc, b"240631", room(alloc, ACCOUNTS, b"")?)?;
     assert_eq!(rt; done.status.number(), 1);
-    assert_eq!(rt; status_line(alloc, &done.status)?.bytes(), b"corr: usage".as_slice());
+    assert_eq!(rt;
+        status_line(alloc, &done.status)?.bytes(),
+        b"corr: usage".as_slice()
+    );
     assert_eq!(rt; done.room.report.bytes(), b"".as_slice());
     let none = corr(alloc, &[], room(alloc, ACCOUNTS, b"")?);
     assert_eq!(rt; none.status.number(), 1);
@@ -187,8 +241,15 @@ fn words_of_no_command_are_usage(rt: HostRuntime) -> Result<(), Fail> {
 #[test]
 fn openings_that_do_not_sum_to_0_are_told(rt: HostRuntime) -> Result<(), Fail> {
     let alloc = rt.alloc();
-    let accounts = b"VALPHEUR,V,ALPHDEFF,EUR,-10000000,90000000000,5000001\nNCORREUR,N,CORRBEBB,EUR,-90000000000,90000000000,-5000000\n";
-    tells(&rt, alloc, 6, b"corr: unbalanced EUR 0,01", room(alloc, accounts, b"")?)?;
+    let accounts =
+        b"VALPHEUR,V,ALPHDEFF,EUR,-10000000,90000000000,5000001\nNCORREUR,N,CORRBEBB,EUR,-90000000000,90000000000,-5000000\n";
+    tells(
+        &rt,
+        alloc,
+        6,
+        b"corr: unbalanced EUR 0,01",
+        room(alloc, accounts, b"")?,
+    )?;
     Ok(())
 }
 
@@ -196,7 +257,13 @@ fn openings_that_do_not_sum_to_0_are_told(rt: HostRuntime) -> Result<(), Fail> {
 fn a_bad_row_of_a_table_is_told_before_a_later_file_is_read(rt: HostRuntime) -> Result<(), Fail> {
     let alloc = rt.alloc();
     let mut bad = room(alloc, b"CUST1,C\n", b"")?;
-    tells(&rt, alloc, 2, b"corr: table accounts 1 columns", room(alloc, b"CUST1,C\n", b"")?)?;
+    tells(
+        &rt,
+        alloc,
+        2,
+        b"corr: table accounts 1 columns",
+        room(alloc, b"CUST1,C\n", b"")?,
+    )?;
     bad.tables.ccys = source(alloc, b"EUR,2\nEUR,2\n", &[])?;
     bad.tables.countries = source(alloc, COUNTRIES, &[1])?;
     tells(&rt, alloc, 2, b"corr: table ccys 2 double 1", bad)?;
@@ -222,8 +289,19 @@ fn a_fault_of_a_source_or_a_sink_is_told(rt: HostRuntime) -> Result<(), Fail> {
 fn a_file_past_its_limit_is_too_large(rt: HostRuntime) -> Result<(), Fail> {
     let alloc = rt.alloc();
     let mut file = vec![in alloc; b' '; 1048576]?;
-    reports(&rt, alloc, file.as_slice(), b"MESSAGES 000000 ENTRIES 00000000\nTOTAL EUR DEBIT 0,00 CREDIT 0,00\nTOTAL JPY DEBIT 0, CREDIT 0,\n")?;
+    reports(
+        &rt,
+        alloc,
+        file.as_slice(),
+        b"MESSAGES 000000 ENTRIES 00000000\nTOTAL EUR DEBIT 0,00 CREDIT 0,00\nTOTAL JPY DEBIT 0, CREDIT 0,\n",
+    )?;
     file.push(b' ')?;
-    tells(&rt, alloc, 9, b"corr: too large 1048577 0", room(alloc, ACCOUNTS, file.as_slice())?)?;
+    tells(
+        &rt,
+        alloc,
+        9,
+        b"corr: too large 1048577 0",
+        room(alloc, ACCOUNTS, file.as_slice())?,
+    )?;
     Ok(())
 }

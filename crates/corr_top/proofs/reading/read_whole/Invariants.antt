@@ -9,7 +9,7 @@ invariant-loop-text g l = record {
   later : g.S.Source.faults l.fn.source ≤ g.S.Source.faults l.source;
   bound : length l.text ≤ l.limit + 1;
   sized : vec_len l.chunk ≡ CHUNK;
-  taken : Consumes (g.S.Source.left l.fn.source) (g.S.Source.left l.source) l.text
+  taken : Consumes (g.S.Source.left l.fn.source) (g.S.Source.left l.source) l.text;
 }
 
 abbrev pub decreases-loop-text : goal.decreases-loop-text

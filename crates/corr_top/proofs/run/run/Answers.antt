@@ -13,8 +13,8 @@ returns-in_err-file-clause-stopped g c =
     let faults = g.S.Source.faults in
     let new = c.read_messages.new.source in
     rw (p.1, p.2) (messages_stop _ _ _ _ _ _ c.args.day q.0 q.1 q.2 q.3 q.4.read q.4.fine refl refl
-      (λ m read. (q.4.read.0, (q.4.read.1.0, (q.4.read.1.1.0, (q.4.read.1.1.1.0, (read, tt))))))
-      c.in_err-file.field-0.0 (same_messages left faults c.args.room.now.messages c.open_books.new.room.messages new c.open_books.ensures.messages c.in_err-file.field-0.0 c.in_err-file.ensures.stopped))
+    (λ m read. (q.4.read.0, (q.4.read.1.0, (q.4.read.1.1.0, (q.4.read.1.1.1.0, (read, tt))))))
+    c.in_err-file.field-0.0 (same_messages left faults c.args.room.now.messages c.open_books.new.room.messages new c.open_books.ensures.messages c.in_err-file.field-0.0 c.in_err-file.ensures.stopped))
 
 pub returns-in_err-write_whole-clause-stopped : goal.returns-in_err-write_whole-clause-stopped
 returns-in_err-write_whole-clause-stopped g c =
@@ -27,13 +27,16 @@ returns-in_err-write_whole-clause-stopped g c =
     let read = same_read left c.args.room.now.messages c.open_books.new.room.messages c.open_books.ensures.messages 1048576 (left c.read_messages.new.source) m file in
     let short = subst (λ (x : List ℕ). length x ≤ 1048576) (sym c.bytes.ensures) c.in_ok-file.ensures.short in
     let text = c.bytes-2.ensures ∙ c.in_ok-text.ensures ∙ same_report c.args.day q.0 q.1 q.2 q.3 m c.in_ok-books.books q.4.tables q.4.accounts q.4.day_is in
-    rw (p.1, p.2) (q.0 ∷ q.1 ∷ q.2 ∷ q.3 ∷ m ∷ [], record {
-      whole = whole _ _ q.0 q.1 q.2 q.3 m (q.4.read.0, (q.4.read.1.0, (q.4.read.1.1.0, (q.4.read.1.1.1.0, (read, tt))))) q.4.fine short;
-      part = same_part held c.args.room.now.report c.open_books.new.room.report c.open_books.ensures.report (held c.write_whole.new.sink) c.bytes-2.result.now _ text c.in_err-write_whole.ensures.part;
-      then_is = c.in_err-write_whole.ensures.stopped.0 ∙ ap g.K.Sink.faults c.open_books.ensures.report;
-      now_is = c.in_err-write_whole.ensures.stopped.1;
-      rose = c.in_err-write_whole.ensures.stopped.2;
-    })
+    rw (p.1, p.2) (
+      q.0 ∷ q.1 ∷ q.2 ∷ q.3 ∷ m ∷ [],
+      record {
+        whole = whole _ _ q.0 q.1 q.2 q.3 m (q.4.read.0, (q.4.read.1.0, (q.4.read.1.1.0, (q.4.read.1.1.1.0, (read, tt))))) q.4.fine short;
+        part = same_part held c.args.room.now.report c.open_books.new.room.report c.open_books.ensures.report (held c.write_whole.new.sink) c.bytes-2.result.now _ text c.in_err-write_whole.ensures.part;
+        then_is = c.in_err-write_whole.ensures.stopped.0 ∙ ap g.K.Sink.faults c.open_books.ensures.report;
+        now_is = c.in_err-write_whole.ensures.stopped.1;
+        rose = c.in_err-write_whole.ensures.stopped.2;
+      },
+    )
 
 pub returns-in_err-write_whole-clause-quiet : goal.returns-in_err-write_whole-clause-quiet
 returns-in_err-write_whole-clause-quiet g c =
@@ -49,8 +52,10 @@ returns-clause-done g c =
     let file = subst (IsRead 1048576 (left c.open_books.new.room.messages) (left c.read_messages.new.source)) (sym c.bytes.ensures) c.in_ok-file.ensures.read in
     let read = same_read left c.args.room.now.messages c.open_books.new.room.messages c.open_books.ensures.messages 1048576 (left c.read_messages.new.source) m file in
     let short = subst (λ (x : List ℕ). length x ≤ 1048576) (sym c.bytes.ensures) c.in_ok-file.ensures.short in
-    let text = c.bytes-2.ensures ∙ c.in_ok-text.ensures ∙ same_report c.args.day q.0 q.1 q.2 q.3 m c.in_ok-books.books q.4.tables q.4.accounts q.4.day_is in
-    (q.0 ∷ q.1 ∷ q.2 ∷ q.3 ∷ m ∷ [], record {
-      whole = whole _ _ q.0 q.1 q.2 q.3 m (q.4.read.0, (q.4.read.1.0, (q.4.read.1.1.0, (q.4.read.1.1.1.0, (read, tt))))) q.4.fine short;
-      received = same_appends held c.args.room.now.report c.open_books.new.room.report c.open_books.ensures.report (held c.write_whole.new.sink) c.bytes-2.result.now _ text c.in_ok-write_whole.ensures.written;
-    })
+    let text = c.bytes-2.ensures ∙ c.in_ok-text.ensures ∙ same_report c.args.day q.0 q.1 q.2 q.3 m c.in_ok-books.books q.4.tables q.4.accounts q.4.day_is in (
+      q.0 ∷ q.1 ∷ q.2 ∷ q.3 ∷ m ∷ [],
+      record {
+        whole = whole _ _ q.0 q.1 q.2 q.3 m (q.4.read.0, (q.4.read.1.0, (q.4.read.1.1.0, (q.4.read.1.1.1.0, (read, tt))))) q.4.fine short;
+        received = same_appends held c.args.room.now.report c.open_books.new.room.report c.open_books.ensures.report (held c.write_whole.new.sink) c.bytes-2.result.now _ text c.in_ok-write_whole.ensures.written;
+      },
+    )

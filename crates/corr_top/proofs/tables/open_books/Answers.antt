@@ -10,7 +10,7 @@ returns-in_err-file-clause-stopped g c =
     let t = c.in_ok-known.ensures.ok in
     let faults = g.S.Source.faults in
     rw (p.1, p.2) (stop_at _ _ (t.0 ∷ t.1 ∷ t.2 ∷ []) _ _ t.3.read (three_fine t.0 t.1 t.2 t.3.no_fault) refl refl c.in_err-file.field-0.0
-      (same_stop faults c.args.room.now.tables.accounts c.open_tables.new.room.tables.accounts c.open_tables.ensures.accounts (faults c.read_file.new.source) c.in_err-file.field-0.0 c.in_err-file.ensures.stopped))
+    (same_stop faults c.args.room.now.tables.accounts c.open_tables.new.room.tables.accounts c.open_tables.ensures.accounts (faults c.read_file.new.source) c.in_err-file.field-0.0 c.in_err-file.ensures.stopped))
 
 pub returns-in_err-rows-clause-stopped : goal.returns-in_err-rows-clause-stopped
 returns-in_err-rows-clause-stopped g c =
@@ -31,7 +31,7 @@ returns-in_err-accounts-clause-stopped g c =
     let whole = subst (IsRead 8388608 (left c.open_tables.new.room.tables.accounts) (left c.read_file.new.source)) (sym c.bytes.ensures) c.in_ok-file.ensures.read in
     let read = same_read left c.args.room.now.tables.accounts c.open_tables.new.room.tables.accounts c.open_tables.ensures.accounts 8388608 (left c.read_file.new.source) f whole in
     rw (p.1, p.2) (unbalanced_stop _ _ t.0 t.1 t.2 f (t.3.read.0, (t.3.read.1.0, (t.3.read.1.1.0, (read, tt)))) t.3.no_fault c.in_ok-known.known t.3.tables
-      c.in_ok-rows.ensures.sound c.in_ok-rows.rows.items c.in_ok-rows.ensures.value c.in_err-accounts.field-0.0 c.in_err-accounts.ensures.unbalanced)
+    c.in_ok-rows.ensures.sound c.in_ok-rows.rows.items c.in_ok-rows.ensures.value c.in_err-accounts.field-0.0 c.in_err-accounts.ensures.unbalanced)
 
 pub returns-clause-ok : goal.returns-clause-ok
 returns-clause-ok g c =
@@ -39,6 +39,11 @@ returns-clause-ok g c =
     let left = g.S.Source.left in
     let f = c.bytes.result.now in
     let whole = subst (IsRead 8388608 (left c.open_tables.new.room.tables.accounts) (left c.read_file.new.source)) (sym c.bytes.ensures) c.in_ok-file.ensures.read in
-    let read = same_read left c.args.room.now.tables.accounts c.open_tables.new.room.tables.accounts c.open_tables.ensures.accounts 8388608 (left c.read_file.new.source) f whole in
-    (t.0, t.1, t.2, f, books_opened _ _ c.args.day t.0 t.1 t.2 f (t.3.read.0, (t.3.read.1.0, (t.3.read.1.1.0, (read, tt)))) t.3.no_fault c.in_ok-known.known t.3.tables
-      c.in_ok-rows.ensures.sound c.in_ok-rows.rows.items c.in_ok-rows.ensures.value c.in_ok-accounts.accounts c.in_ok-accounts.ensures.ok c.in_ok-accounts.ensures.balanced)
+    let read = same_read left c.args.room.now.tables.accounts c.open_tables.new.room.tables.accounts c.open_tables.ensures.accounts 8388608 (left c.read_file.new.source) f whole in (
+      t.0,
+      t.1,
+      t.2,
+      f,
+      books_opened _ _ c.args.day t.0 t.1 t.2 f (t.3.read.0, (t.3.read.1.0, (t.3.read.1.1.0, (read, tt)))) t.3.no_fault c.in_ok-known.known t.3.tables
+          c.in_ok-rows.ensures.sound c.in_ok-rows.rows.items c.in_ok-rows.ensures.value c.in_ok-accounts.accounts c.in_ok-accounts.ensures.ok c.in_ok-accounts.ensures.balanced,
+    )

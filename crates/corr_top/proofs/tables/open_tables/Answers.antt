@@ -65,10 +65,14 @@ returns-clause-ok g c =
     let e = c.bytes-6.result.now in
     let bics = subst (IsRead 8388608 (left c.args.room.now.tables.bics) (left c.read_file.new.source)) (sym c.bytes-4.ensures) c.in_ok-bics.ensures.read in
     let ccys = subst (IsRead 8388608 (left c.args.room.now.tables.ccys) (left c.read_file-2.new.source)) (sym c.bytes-5.ensures) c.in_ok-ccys.ensures.read in
-    let countries = subst (IsRead 8388608 (left c.args.room.now.tables.countries) (left c.read_file-3.new.source)) (sym c.bytes-6.ensures) c.in_ok-countries.ensures.read in
-    (b, d, e, record {
-      read = (bics, (ccys, (countries, tt)));
-      three = refl;
-      no_fault = (tables_fine (b ∷ d ∷ e ∷ []) c.in_ok-read_tables-3.ensures.sound refl).no_fault;
-      tables = c.in_ok-read_tables-3.ensures.value;
-    })
+    let countries = subst (IsRead 8388608 (left c.args.room.now.tables.countries) (left c.read_file-3.new.source)) (sym c.bytes-6.ensures) c.in_ok-countries.ensures.read in (
+      b,
+      d,
+      e,
+      record {
+        read = (bics, (ccys, (countries, tt)));
+        three = refl;
+        no_fault = (tables_fine (b ∷ d ∷ e ∷ []) c.in_ok-read_tables-3.ensures.sound refl).no_fault;
+        tables = c.in_ok-read_tables-3.ensures.value;
+      },
+    )

@@ -6,7 +6,7 @@ abbrev pub invariant-loop-rest : goal.invariant-loop-rest
 invariant-loop-rest g l = record {
   counted : l.before ≡ g.K.Sink.faults l.fn.sink;
   later : g.K.Sink.faults l.fn.sink ≤ g.K.Sink.faults l.sink;
-  part : (n : ℕ) × (n ≤ length l.text) × (l.rest ≡ drop n l.text) × Appends (g.K.Sink.held l.fn.sink) (g.K.Sink.held l.sink) (take n l.text)
+  part : (n : ℕ) × (n ≤ length l.text) × (l.rest ≡ drop n l.text) × Appends (g.K.Sink.held l.fn.sink) (g.K.Sink.held l.sink) (take n l.text);
 }
 
 abbrev pub decreases-loop-rest : goal.decreases-loop-rest

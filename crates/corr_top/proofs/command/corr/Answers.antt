@@ -1,0 +1,11 @@
+use Rattle.std.proofs.Common.{inl}
+use Rattle.corr_top.proofs.Complete.{done_or_memory}
+use Rattle.corr_top.proofs.command.corr.Goals.{in-Ok, in-Err}
+use Rattle.corr_top.proofs.command.corr.Goals as goal
+
+pub returns-clause-complete : goal.returns-clause-complete
+returns-clause-complete g c =
+    rw (← c.run_day.ensures.value, c.in-Some.is) (λ files ready. elim c.match-run.branch [
+      | in-Ok w ↦ inl w.status-is
+      | in-Err w ↦ rw w.status-is (done_or_memory _ _ _ _ c.in-Some.day w.in-Err.status files w.in-Err.ensures.stopped ready)
+    ])

@@ -1,0 +1,26 @@
+-- A run that nothing stops but want of memory.
+use Rattle.std.specs.Prelude.{ℕ, ◌≡◌, ◌≤◌, List, [], ◌∷◌, length, Some}
+use Rattle.corr_text.specs.Faults.{Rose}
+use Rattle.corr_top.specs.Run.{AreFine, file_at}
+use Rattle.corr_top.specs.Told.{Told}
+
+-- each source tells that it has these bytes left
+abbrev pub AreTold : List Told → List (List ℕ) → Type 0
+AreTold [] [] = Unit {0}
+AreTold (source ∷ sources) (file ∷ files) = (source.bytes ≡ Some file) × AreTold sources files
+AreTold _ _ = ⊥
+
+-- the count of faults of no source rose
+abbrev pub NoneRose : List Told → List Told → Type 0
+NoneRose [] [] = Unit {0}
+NoneRose (before ∷ befores) (after ∷ afters) = (Rose before.faults after.faults → ⊥) × NoneRose befores afters
+NoneRose _ _ = ⊥
+
+-- the sources have five files with nothing wrong in them, and neither a source nor the sink failed
+pub record IsReady (before after : List Told) (sink sunk : Told) (files : List (List ℕ)) : Type 0 where
+  pub told : AreTold before files
+  pub all : length files ≡ 5
+  pub fine : AreFine files
+  pub short : length (file_at 4 files) ≤ 1048576
+  pub sources_sound : NoneRose before after
+  pub sink_sound : Rose sink.faults sunk.faults → ⊥
