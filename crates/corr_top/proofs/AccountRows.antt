@@ -15,6 +15,14 @@ use Rattle.day_model.specs.Chart.{AreRows, IsFormed, IsLimited, IsSameBank, IsSm
 use Rattle.ref_tables.specs.AccountList.{AreAccounts, IsAccount, IsSameRelation}
 use Rattle.ref_tables.specs.Seen.{Tables}
 use Rattle.ref_tables.specs.declared.account.AccountRow.{AccountRow}
+use Rattle.day_model.specs.declared.fault.AccountsFault.{AccountsFault}
+use Rattle.day_model.specs.declared.fault.AccountsFault.TheVariants.{Unbalanced, Memory}
+use Rattle.day_model.specs.Gap.{TellsUnbalanced}
+use Rattle.std.specs.Prelude.{Result, Ok, Err, IfErr}
+use Rattle.ref_tables.specs.declared.fault.TableFault.{TableFault}
+use Rattle.ref_tables.specs.declared.fault.TableFault.TheVariants as table
+use Rattle.corr_top.specs.Status.{HasDecimals}
+use Rattle.corr_top.specs.Books.{TellsDecimals, status_of_accounts, status_of_table}
 use Rattle.corr_top.specs.Run.{opened}
 
 record Made (rows : List AccountRow) (i : ℕ) (a : Account) : Type 0 where
@@ -75,3 +83,22 @@ are_rows home t rows are long = record {
   where
     related : (a b : AccountRow) → IsSameBank (opened a) (opened b) → IsSameRelation a b
     related a b same = record { bank = same.bank; kind = same.kind; head = same.head; ccy = same.ccy }
+
+-- a gap tells the decimals of an account
+pub told_decimals : (accounts : List Account) (fault : AccountsFault) → AreRows accounts → TellsUnbalanced accounts fault → TellsDecimals fault
+told_decimals accounts (Unbalanced ccy decimals sum) rows first =
+    subst (λ d. d ≤ 4) first.is_gap.decimals (rows.formed first.place first.account first.there).decimals
+told_decimals accounts Memory rows first = tt
+
+pub refusal_decimals : {A : Type 0} (accounts : List Account) (r : Result A AccountsFault) → AreRows accounts → IfErr r (TellsUnbalanced accounts) → IfErr r TellsDecimals
+refusal_decimals accounts (Ok a) rows told = tt
+refusal_decimals accounts (Err fault) rows told = told_decimals accounts fault rows told
+
+-- the status of a refusal
+pub accounts_decimals : (fault : AccountsFault) → TellsDecimals fault → HasDecimals (status_of_accounts fault)
+accounts_decimals (Unbalanced ccy decimals sum) few = few
+accounts_decimals Memory few = tt
+
+pub table_decimals : (fault : TableFault) → HasDecimals (status_of_table fault)
+table_decimals (table.Bad name row why) = tt
+table_decimals table.Memory = tt

@@ -1,5 +1,5 @@
 -- What opening the books of a day gives, and how it stops.
-use Rattle.std.specs.Prelude.{ℕ, ◌≡◌, List, [], ◌∷◌, length, None}
+use Rattle.std.specs.Prelude.{ℕ, ◌≤◌, ◌≡◌, List, [], ◌∷◌, length, None}
 use Rattle.corr_text.specs.Faults.{Rose}
 use Rattle.corr_ids.specs.declared.day.Day.{Day}
 use Rattle.day_model.specs.Chart.{Chart}
@@ -28,6 +28,11 @@ status_of_table table.Memory = status.Memory
 abbrev pub status_of_accounts : AccountsFault → Status
 status_of_accounts (accounts.Unbalanced ccy decimals sum) = status.Unbalanced ccy decimals sum
 status_of_accounts accounts.Memory = status.Memory
+
+-- the decimals that a refusal of accounts tells are at most 4
+abbrev pub TellsDecimals : AccountsFault → Type 0
+TellsDecimals (accounts.Unbalanced ccy decimals sum) = decimals ≤ 4
+TellsDecimals accounts.Memory = Unit {0}
 
 -- reading one source stopped: its count of faults rose, or memory ran out
 abbrev pub IsReadStop : ℕ → ℕ → Status → Type 0

@@ -3,6 +3,7 @@
 ghost use Rattle.std.specs.Prelude.{◌≡◌, ◌⊎◌, ℕ, List, None, IfSome};
 ghost use Rattle.corr_top.specs.Complete.{IsReady};
 ghost use Rattle.corr_top.specs.Ends.{Ends, IsQuiet};
+ghost use Rattle.corr_top.specs.Status.{HasDecimals};
 ghost use Rattle.corr_top.specs.Told.{sources, told};
 ghost use Rattle.corr_top.specs.Words.{run_day};
 
@@ -28,6 +29,8 @@ pub fn corr<S: Source, K: Sink>(alloc: Global, words: &[Text], room: Room<S, K>)
         (told K.held K.faults room.report) (told K.held K.faults result.room.report) files → (result.status ≡ Status.Done) ⊎ (result.status ≡ Status.Memory)) }
     // nothing is written but at `Done` and `WriteFault`
     ensures quiet { IsQuiet result.status → result.room.report ≡ room.report }
+    // the decimals of an `Unbalanced` are those of a currency, as `status_line` needs them
+    ensures decimals { HasDecimals result.status }
 {
     let mut room = room;
     let Some(day) = run_day(words) else {

@@ -4,6 +4,7 @@ ghost use Rattle.std.specs.Prelude.{◌≡◌, ◌≤◌, length, OnOk, IfOk, If
 ghost use Rattle.corr_top.specs.Ends.{Ends, IsQuiet};
 ghost use Rattle.corr_top.specs.Messages.{StopsAtMessages, report_over};
 ghost use Rattle.corr_top.specs.Reading.{IsRead};
+ghost use Rattle.corr_top.specs.Status.{HasDecimals};
 ghost use Rattle.corr_top.specs.Told.{sources, told};
 
 use crate::answers::{Books, answer_file};
@@ -36,6 +37,7 @@ impl From<WriteStop> for Status {
 fn read_messages<S: Source>(alloc: Global, source: &mut S) -> Result<Text, Status>
     ensures read { IfOk result (IsRead 1048576 (S.left source.old) (S.left source.new)) }
     ensures short { IfOk result (λ text. length text ≤ 1048576) }
+    ensures decimals { IfErr result HasDecimals }
     ensures stopped { IfErr result (StopsAtMessages (S.left source.old) (S.left source.new) (S.faults source.old) (S.faults source.new)) }
 {
     let file = read_file(alloc, source, FILE_LIMIT)?;
@@ -69,6 +71,7 @@ pub fn run<S: Source, K: Sink>(alloc: Global, day: Day, room: &mut Room<S, K>) -
     ensures stopped { IfErr result (Ends (sources S.left S.faults room.old) (sources S.left S.faults room.new)
         (told K.held K.faults room.old.report) (told K.held K.faults room.new.report) day) }
     ensures quiet { IfErr result (λ s. IsQuiet s → room.new.report ≡ room.old.report) }
+    ensures decimals { IfErr result HasDecimals }
 {
     let books = open_books(alloc, room, day)?;
     let file = read_messages(alloc, &mut room.messages)?;

@@ -5,10 +5,11 @@ ghost use Rattle.corr_money.specs.declared.amount.Ccy.{Ccy};
 ghost use Rattle.day_model.specs.Chart.{opening_sum};
 ghost use Rattle.day_model.specs.Gap.{TellsUnbalanced};
 ghost use Rattle.ref_tables.specs.AccountList.{AreAccounts};
-ghost use Rattle.corr_top.specs.Books.{IsReadStop, HasTables, HasBooks};
+ghost use Rattle.corr_top.specs.Books.{IsReadStop, HasTables, HasBooks, TellsDecimals};
 ghost use Rattle.corr_top.specs.Interim.{home_head};
 ghost use Rattle.corr_top.specs.Reading.{IsRead};
 ghost use Rattle.corr_top.specs.Run.{Stops, home_bank, opened};
+ghost use Rattle.corr_top.specs.Status.{HasDecimals};
 ghost use Rattle.corr_top.specs.Told.{sources};
 
 use crate::answers::Books;
@@ -88,6 +89,7 @@ impl From<Memory> for Status {
 /// The bytes of a source up to its end, or one more than the limit.
 pub fn read_file<S: Source>(alloc: Global, source: &mut S, limit: usize) -> Result<Text, Status>
     requires { limit < 2 ^ 32 }
+    ensures decimals { IfErr result HasDecimals }
     ensures read { IfOk result (IsRead limit (S.left source.old) (S.left source.new)) }
     ensures stopped { IfErr result (IsReadStop (S.faults source.old) (S.faults source.new)) }
 {
@@ -126,6 +128,7 @@ fn open_tables<S: Source, K>(alloc: Global, room: &mut Room<S, K>) -> Result<Ref
     ensures accounts { room.new.tables.accounts ≡ room.old.tables.accounts }
     ensures messages { room.new.messages ≡ room.old.messages }
     ensures report { room.new.report ≡ room.old.report }
+    ensures decimals { IfErr result HasDecimals }
 {
     let bics = read_file(alloc, &mut room.tables.bics, TABLE_LIMIT)?;
     read_tables(alloc, bics.bytes(), &[], &[])?;
@@ -145,6 +148,7 @@ fn make_accounts(
     ensures ok { IfOk result (λ a. a ≡ record { home = home_bank; accounts = map opened rows.items }) }
     ensures balanced { OnOk result ((ccy : Ccy) → opening_sum ccy (map opened rows.items) ≡ pos 0) }
     ensures unbalanced { IfErr result (TellsUnbalanced (map opened rows.items)) }
+    ensures decimals { IfErr result TellsDecimals }
 {
     match open_accounts(alloc, rows) {
         Ok(accounts) => Accounts::new(HOME_BANK, accounts),
@@ -162,6 +166,7 @@ pub fn open_books<S: Source, K>(
     ensures stopped { IfErr result (Stops (sources S.left S.faults room.old) (sources S.left S.faults room.new)) }
     ensures messages { room.new.messages ≡ room.old.messages }
     ensures report { room.new.report ≡ room.old.report }
+    ensures decimals { IfErr result HasDecimals }
 {
     let known = open_tables(alloc, room)?;
     let file = read_file(alloc, &mut room.tables.accounts, TABLE_LIMIT)?;

@@ -226,13 +226,28 @@ fn a_pay_past_the_floor_is_not_funded(rt: HostRuntime) -> Result<(), Fail> {
 #[test]
 fn words_of_no_command_are_usage(rt: HostRuntime) -> Result<(), Fail> {
     let alloc = rt.alloc();
-    let done = run(alloc, b"240631", room(alloc, ACCOUNTS, b"")?)?;
-    assert_eq!(rt; done.status.number(), 1);
-    assert_eq!(rt;
-        status_line(alloc, &done.status)?.bytes(),
-        b"corr: usage".as_slice()
-    );
-    assert_eq!(rt; done.room.report.bytes(), b"".as_slice());
+    let rows: [(&[u8], &[u8], &[u8]); 6] = [
+        (b"run", b"240631", b"1"),
+        (b"run", b"240603", b"17"),
+        (b"run", b"240603", b""),
+        (b"run", b"", b"1"),
+        (b"", b"240603", b"1"),
+        (b"Run", b"240603", b"1"),
+    ];
+    for (command, date, workers) in rows {
+        let words = [
+            Text::from_bytes(alloc, command)?,
+            Text::from_bytes(alloc, date)?,
+            Text::from_bytes(alloc, workers)?,
+        ];
+        let done = corr(alloc, words.as_slice(), room(alloc, ACCOUNTS, b"")?);
+        assert_eq!(rt; done.status.number(), 1);
+        assert_eq!(rt;
+            status_line(alloc, &done.status)?.bytes(),
+            b"corr: usage".as_slice()
+        );
+        assert_eq!(rt; done.room.report.bytes(), b"".as_slice());
+    }
     let none = corr(alloc, &[], room(alloc, ACCOUNTS, b"")?);
     assert_eq!(rt; none.status.number(), 1);
     Ok(())

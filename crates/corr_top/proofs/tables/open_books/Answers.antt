@@ -2,6 +2,7 @@ use Rattle.std.proofs.Common.{[], ◌∷◌, refl, sym, subst, List, ℕ}
 use Rattle.std.proofs.lemmas.Result.{err_from_is_err_and}
 use Rattle.corr_top.specs.Reading.{IsRead}
 use Rattle.corr_top.proofs.Opening.{stop_at, same_stop, same_read, three_fine, accounts_stop, unbalanced_stop, books_opened}
+use Rattle.corr_top.proofs.AccountRows.{accounts_decimals, table_decimals}
 use Rattle.corr_top.proofs.tables.open_books.Goals as goal
 
 pub returns-in_err-file-clause-stopped : goal.returns-in_err-file-clause-stopped
@@ -47,3 +48,13 @@ returns-clause-ok g c =
       books_opened _ _ c.args.day t.0 t.1 t.2 f (t.3.read.0, (t.3.read.1.0, (t.3.read.1.1.0, (read, tt)))) t.3.no_fault c.in_ok-known.known t.3.tables
           c.in_ok-rows.ensures.sound c.in_ok-rows.rows.items c.in_ok-rows.ensures.value c.in_ok-accounts.accounts c.in_ok-accounts.ensures.ok c.in_ok-accounts.ensures.balanced,
     )
+
+pub returns-in_err-rows-clause-decimals : goal.returns-in_err-rows-clause-decimals
+returns-in_err-rows-clause-decimals g c =
+    let p = err_from_is_err_and c.from_residual-in_err-rows.result c.from_residual-in_err-rows.ensures.1 in
+    rw (p.1, p.2) (table_decimals c.in_err-rows.field-0.0)
+
+pub returns-in_err-accounts-clause-decimals : goal.returns-in_err-accounts-clause-decimals
+returns-in_err-accounts-clause-decimals g c =
+    let p = err_from_is_err_and c.from_residual-in_err-accounts.result c.from_residual-in_err-accounts.ensures.1 in
+    rw (p.1, p.2) (accounts_decimals c.in_err-accounts.field-0.0 c.in_err-accounts.ensures.decimals)
