@@ -13,8 +13,6 @@ mod run;
 mod slices;
 mod status;
 mod tables;
-#[cfg(test)]
-mod tests;
 mod value;
 mod words;
 mod writing;
