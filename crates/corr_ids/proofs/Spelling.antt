@@ -11,9 +11,10 @@ use Rattle.std.proofs.lemmas.Slice.Eq.{bytes_eq-Decides}
 use Rattle.std.proofs.lemmas.List.Folds.{list_all-append}
 use Rattle.corr_text.specs.Sets.{is_c_byte}
 use Rattle.corr_ids.specs.declared.bic.Bic.{Bic}
+use Rattle.corr_ids.specs.declared.address.LtAddress.{LtAddress}
 use Rattle.corr_ids.specs.declared.mir.Mir.{Mir}
 use Rattle.corr_ids.specs.Bic.{is_bic, branch_of, bic_of, bic_text, IsBic}
-use Rattle.corr_ids.specs.Address.{is_lt, address_of, bank_of, IsLt}
+use Rattle.corr_ids.specs.Address.{is_lt, address_of, bank_of, lt_text, IsLt}
 use Rattle.corr_ids.specs.Mir.{is_mir, IsMir, sender_text}
 use Rattle.corr_ids.specs.Day.{day_of}
 
@@ -146,6 +147,9 @@ terminal-again b terminal h c =
       get_or_at b.head terminal b.branch 0 8 p.eight,
       behind,
     ) refl
+
+pub lt-form : (a : LtAddress) → IsLt a → is_lt (lt_text a) ≡ true
+lt-form a h = (some_if (is_lt (lt_text a)) (address_of (lt_text a)) a h).0
 
 -- what stands behind a reference's date is an address
 pub mir-sender : (bs : List ℕ) → is_mir bs ≡ true → is_lt (sender_text bs) ≡ true

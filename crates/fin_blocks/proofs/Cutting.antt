@@ -11,11 +11,11 @@ abbrev pub with_bytes : List ℕ → List (List ℕ) → List (List ℕ)
 with_bytes [] pieces = pieces
 with_bytes (b ∷ bs) pieces = with_byte b (with_bytes bs pieces)
 
-with_bytes-push : (bs : List ℕ) (b : ℕ) (pieces : List (List ℕ)) → with_bytes (bs ++ b ∷ []) pieces ≡ with_bytes bs (with_byte b pieces)
+pub with_bytes-push : (bs : List ℕ) (b : ℕ) (pieces : List (List ℕ)) → with_bytes (bs ++ b ∷ []) pieces ≡ with_bytes bs (with_byte b pieces)
 with_bytes-push [] b pieces = refl
 with_bytes-push (x ∷ bs) b pieces = ap (with_byte x) (with_bytes-push bs b pieces)
 
-with_bytes-group : (bs : List ℕ) (b : ℕ) (cs : List ℕ) (pieces : List (List ℕ)) → with_bytes bs ((b ∷ cs) ∷ pieces) ≡ (bs ++ b ∷ cs) ∷ pieces
+pub with_bytes-group : (bs : List ℕ) (b : ℕ) (cs : List ℕ) (pieces : List (List ℕ)) → with_bytes bs ((b ∷ cs) ∷ pieces) ≡ (bs ++ b ∷ cs) ∷ pieces
 with_bytes-group [] b cs pieces = refl
 with_bytes-group (x ∷ []) b cs pieces = refl
 with_bytes-group (x ∷ y ∷ bs) b cs pieces = ap (with_byte x) (with_bytes-group (y ∷ bs) b cs pieces)
@@ -34,10 +34,10 @@ pub starts-open : (bs : List ℕ) → IsOpen bs 0 0
 unfolding groups_of
 starts-open bs = record { front = refl; inside = λ h. absurd (omega (arith, h)); deep = omega arith }
 
-step : (depth b : ℕ) (bs : List ℕ) → depth_after depth b ≢ 0 → pieces_from depth (b ∷ bs) ≡ with_byte b (pieces_from (depth_after depth b) bs)
+pub step : (depth b : ℕ) (bs : List ℕ) → depth_after depth b ≢ 0 → pieces_from depth (b ∷ bs) ≡ with_byte b (pieces_from (depth_after depth b) bs)
 step depth b bs e = grind (arith, nat_tests)
 
-closes : (depth b : ℕ) (bs : List ℕ) → depth_after depth b ≡ 0 → pieces_from depth (b ∷ bs) ≡ (b ∷ []) ∷ pieces_from 0 bs
+pub closes : (depth b : ℕ) (bs : List ℕ) → depth_after depth b ≡ 0 → pieces_from depth (b ∷ bs) ≡ (b ∷ []) ∷ pieces_from 0 bs
 closes depth b bs e = rw e refl
 
 depth-le : (depth b : ℕ) → depth_after depth b ≤ depth + 1

@@ -2,6 +2,7 @@
 use Rattle.std.specs.Prelude.{◌≡◌, ℕ, ◌≤◌, ◌==◌, ◌&&◌, ◌||◌, not, Bool, List, [], ◌∷◌, ◌++◌, map, nat_le, codes, IsTrue}
 use Rattle.std.specs.List.{flat_map, list_all}
 use Rattle.corr_text.specs.Digits.{padded}
+use Rattle.corr_ids.specs.Address.{lt_text}
 use Rattle.corr_ids.specs.declared.bic.Bic.{Bic}
 use Rattle.corr_ids.specs.declared.address.LtAddress.{LtAddress}
 use Rattle.fin_blocks.specs.Forms.{is_plain}
@@ -9,6 +10,18 @@ use Rattle.fin_blocks.specs.User.{may_hold, are_distinct}
 use Rattle.fin_blocks.specs.Text.{text_in, crlf}
 use Rattle.fin_blocks.specs.declared.blocks.Blocks.{Blocks}
 use Rattle.fin_blocks.specs.declared.blocks.App.TheVariants.{Sent}
+
+-- the terminal of a bank that has this letter
+abbrev pub terminal_of : Bic → ℕ → LtAddress
+terminal_of bank letter = record { head = bank.head; lt = letter; branch = bank.branch }
+
+-- block 1: terminal A of the home bank, session and sequence number 0
+abbrev pub own_text : Bic → List ℕ
+own_text home = codes "{1:F01" ++ lt_text (terminal_of home 65) ++ codes "0000000000}"
+
+-- block 2: the type, X for any terminal of the receiver, normal priority
+abbrev pub receiver_text : ℕ → Bic → List ℕ
+receiver_text mt to = codes "{2:I" ++ padded 3 mt ++ lt_text (terminal_of to 88) ++ codes "N}"
 
 -- `{`, the number, `:`, the text, `}`
 abbrev pub subblock_text : ℕ × List ℕ → List ℕ
@@ -19,18 +32,12 @@ abbrev pub user_text : List (ℕ × List ℕ) → List ℕ
 user_text [] = []
 user_text (s ∷ more) = codes "{3:" ++ flat_map subblock_text (s ∷ more) ++ codes "}"
 
--- blocks 1 and 2: terminal A sends from the home bank, X stands for any terminal of the receiver
-abbrev pub heading_text : Bic → ℕ → Bic → List ℕ
-heading_text home mt to =
-    codes "{1:F01" ++ home.head ++ codes "A" ++ home.branch ++ codes "0000000000}"
-    ++ codes "{2:I" ++ padded 3 mt ++ to.head ++ codes "X" ++ to.branch ++ codes "N}"
+-- block 4: the lines, each with its end
+abbrev pub lines_text : List ℕ → List ℕ
+lines_text text = codes "{4:" ++ crlf ++ text ++ codes "-}"
 
 unfoldable pub sent_text : Bic → ℕ → Bic → List (ℕ × List ℕ) → List ℕ → List ℕ
-sent_text home mt to user text = heading_text home mt to ++ user_text user ++ codes "{4:" ++ crlf ++ text ++ codes "-}"
-
--- the terminal of a bank that has this letter
-abbrev pub terminal_of : Bic → ℕ → LtAddress
-terminal_of bank letter = record { head = bank.head; lt = letter; branch = bank.branch }
+sent_text home mt to user text = own_text home ++ receiver_text mt to ++ user_text user ++ lines_text text
 
 -- what such a message says
 abbrev pub sent_blocks : Bic → ℕ → Bic → List (ℕ × List ℕ) → List ℕ → Blocks

@@ -1,28 +1,38 @@
 //! Writing a message that is sent on.
 
-ghost use Rattle.std.specs.Prelude.{◌≡◌, ◌≤◌, ◌++◌, IfOk, IsTrue, OnOk, OnErr, Ok};
+ghost use Rattle.std.specs.Prelude.{◌≡◌, ◌≤◌, ◌++◌, ◌∷◌, IfOk, IsTrue, OnOk, OnErr, Ok};
 ghost use Rattle.std.specs.List.{flat_map};
+ghost use Rattle.corr_ids.specs.Address.{lt_text};
 ghost use Rattle.corr_ids.specs.Bic.{IsBic};
 ghost use Rattle.fin_blocks.specs.Blocks.{blocks_of};
-ghost use Rattle.fin_blocks.specs.Sending.{IsText, are_subblocks, heading_text, sent_blocks, sent_text, subblock_text, user_text};
+ghost use Rattle.fin_blocks.specs.Sending.{IsText, are_subblocks, lines_text, own_text, receiver_text, sent_blocks, sent_text, subblock_text, terminal_of, user_text};
 
 use corr_ids::Bic;
 use corr_text::{Memory, Text, put_digits};
 use std::alloc::Global;
 
-fn put_heading(alloc: Global, home: &Bic, mt: u16, to: &Bic, out: &mut Text) -> Result<(), Memory>
-    ensures { OnOk result (out.new ≡ out.old ++ heading_text home.now mt to.now) }
+fn put_terminal(bank: &Bic, letter: u8, out: &mut Text) -> Result<(), Memory>
+    ensures { OnOk result (out.new ≡ out.old ++ lt_text (terminal_of bank.now letter)) }
+{
+    out.push(&bank.head)?;
+    out.push(&[letter])?;
+    out.push(&bank.branch)
+}
+
+fn put_own(home: &Bic, out: &mut Text) -> Result<(), Memory>
+    ensures { OnOk result (out.new ≡ out.old ++ own_text home.now) }
 {
     out.push(b"{1:F01")?;
-    out.push(&home.head)?;
-    out.push(b"A")?;
-    out.push(&home.branch)?;
-    out.push(b"0000000000}")?;
+    put_terminal(home, b'A', out)?;
+    out.push(b"0000000000}")
+}
+
+fn put_receiver(alloc: Global, mt: u16, to: &Bic, out: &mut Text) -> Result<(), Memory>
+    ensures { OnOk result (out.new ≡ out.old ++ receiver_text mt to.now) }
+{
     out.push(b"{2:I")?;
     put_digits(alloc, mt as u64, 3, out)?;
-    out.push(&to.head)?;
-    out.push(b"X")?;
-    out.push(&to.branch)?;
+    put_terminal(to, b'X', out)?;
     out.push(b"N}")
 }
 
@@ -56,12 +66,20 @@ fn put_user(alloc: Global, user: &[(u16, Text)], out: &mut Text) -> Result<(), M
     out.push(b"}")
 }
 
+fn put_lines(text: &[u8], out: &mut Text) -> Result<(), Memory>
+    ensures { OnOk result (out.new ≡ out.old ++ lines_text text.now) }
+{
+    out.push(b"{4:\r\n")?;
+    out.push(text)?;
+    out.push(b"-}")
+}
+
 /// A message of type `mt` that the home bank sends: block 1 of its terminal `A`, block 2 of input form with normal
 /// priority, block 3 where there is any subblock, and block 4. `read_blocks` reads it to these parts.
 ///
 /// The numbers of `user` have up to three digits and differ, their texts have no braces, and 121 is a UETR; `text`
 /// has no braces and is lines that end with CR LF.
-#[tactic(auto, unfolding(crate::specs::Sending::sent_text))]
+#[tactic(auto, using(crate::proofs::Again::reading_back), unfolding(crate::specs::Sending::sent_text))]
 pub fn put_blocks(
     alloc: Global,
     home: &Bic,
@@ -79,10 +97,9 @@ pub fn put_blocks(
     ensures again { blocks_of (sent_text home.now mt to.now user.now text.now) ≡ Ok (sent_blocks home.now mt to.now user.now text.now) }
 {
     let mut out = Text::from_vec(Vec::with_capacity(alloc, text.len() + 128)?);
-    put_heading(alloc, home, mt, to, &mut out)?;
+    put_own(home, &mut out)?;
+    put_receiver(alloc, mt, to, &mut out)?;
     put_user(alloc, user, &mut out)?;
-    out.push(b"{4:\r\n")?;
-    out.push(text)?;
-    out.push(b"-}")?;
+    put_lines(text, &mut out)?;
     Ok(out)
 }
