@@ -14,6 +14,8 @@ mod text;
 mod trailers;
 mod user;
 mod writing;
+#[cfg(test)]
+mod writing_tests;
 
 pub use blocks::{App, Blocks};
 pub use fault::BlockFault;
