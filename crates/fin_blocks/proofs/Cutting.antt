@@ -1,10 +1,8 @@
 -- Cutting bytes behind their next group.
-use Rattle.std.proofs.Common.{◌≡◌, ℕ, ◌+◌, ◌-◌, ◌<◌, ◌≤◌, ◌≢◌, Bool, true, false, cond, eqb, zero, suc, List, [], ◌∷◌, ◌++◌, length, get_or, take, drop, refl, sym, ap, ◌∙◌, arith}
-use Rattle.std.specs.Prelude.{◌==◌, if◌then◌else◌}
-use Rattle.std.proofs.lemmas.Grind.{common_steps}
+use Rattle.std.proofs.Common.{◌≡◌, ℕ, ◌+◌, ◌<◌, ◌≤◌, ◌≢◌, List, [], ◌∷◌, ◌++◌, length, get_or, take, drop, refl, sym, ap, ◌∙◌, arith}
 use Rattle.std.proofs.lemmas.Bool.Decides.{nat_tests}
 use Rattle.std.proofs.lemmas.List.{take_more, drop_more, drop_all}
-use Rattle.fin_blocks.specs.Groups.{depth_after, with_byte, pieces_from, groups_of, next, after, IsCut}
+use Rattle.fin_blocks.specs.Groups.{depth_after, with_byte, pieces_from, groups_of, next, IsCut}
 
 -- bytes put before the first piece
 abbrev pub with_bytes : List ℕ → List (List ℕ) → List (List ℕ)

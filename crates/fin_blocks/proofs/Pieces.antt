@@ -1,11 +1,9 @@
 -- Reading the pieces of a block one by one.
-use Rattle.std.proofs.Common.{◌≡◌, ℕ, ◌+◌, ◌<◌, ◌≢◌, Bool, true, false, cond, List, [], ◌∷◌, ◌++◌, length, get_or, take, drop, Option, Some, None, refl, sym, ap, ◌∙◌, append_assoc, inl, inr, arith}
+use Rattle.std.proofs.Common.{◌≡◌, ℕ, ◌<◌, false, List, [], ◌∷◌, ◌++◌, length, Option, Some, None, refl, sym, ap, ◌∙◌, append_assoc, inl, inr, arith}
 use Rattle.std.specs.Option.{option_and_then}
-use Rattle.std.proofs.lemmas.Grind.{common_steps}
 use Rattle.std.proofs.lemmas.List.{append-nil}
 use Rattle.std.proofs.lemmas.Bool.{cases_Bool}
-use Rattle.std.proofs.lemmas.Bool.Decides.{nat_tests}
-use Rattle.std.specs.Prelude.{◌==◌, if◌then◌else◌}
+use Rattle.std.specs.Prelude.{◌==◌}
 use Rattle.fin_blocks.specs.Groups.{depth_after, with_byte, pieces_from, groups_of, next, after, IsCut}
 use Rattle.fin_blocks.specs.Forms.{each_of}
 
@@ -35,14 +33,15 @@ pieces_some depth b bs =
           (q.0, q.1, rw (still, p.2) q.2)
     ]
 
-pub groups-some : (bs : List ℕ) → bs ≢ [] → groups_of bs ≡ next (groups_of bs) ∷ after (groups_of bs)
+pub groups-some : (bs : List ℕ) → 0 < length bs → groups_of bs ≡ next (groups_of bs) ∷ after (groups_of bs)
 unfolding groups_of
-groups-some [] some = absurd (some refl)
+groups-some [] some = absurd (omega (arith, some))
 groups-some (b ∷ bs) some = let p = pieces_some 0 b bs in rw p.2 refl
 
-pub groups-none : groups_of [] ≡ []
+pub groups-none : (bs : List ℕ) → length bs ≡ 0 → groups_of bs ≡ []
 unfolding groups_of
-groups-none = refl
+groups-none [] none = refl
+groups-none (b ∷ bs) none = absurd (omega (arith, none))
 
 -- what was read so far, before what is still to read
 abbrev pub before : {A : Type 0} → List A → Option (List A) → Option (List A)
@@ -73,7 +72,7 @@ each-stops : {A : Type 0} (read : List ℕ → Option A) (group : List ℕ) (gro
 unfolding each_of
 each-stops read group groups xs e = rw e refl
 
-pub read-more : {A : Type 0} (read : List ℕ → Option A) (whole rest : List ℕ) (xs : List A) → IsReadTo read whole rest xs → rest ≢ [] → (group left : List ℕ) → IsCut rest group left
+pub read-more : {A : Type 0} (read : List ℕ → Option A) (whole rest : List ℕ) (xs : List A) → IsReadTo read whole rest xs → 0 < length rest → (group left : List ℕ) → IsCut rest group left
     → (x : A) → Some x ≡ read group → IsReadTo read whole left (xs ++ x ∷ [])
 read-more read whole rest xs h some group left cut x e = record {
   same = h.same ∙ ap (λ gs. before xs (each_of read gs)) (groups-some rest some)
@@ -81,12 +80,12 @@ read-more read whole rest xs h some group left cut x e = record {
       ∙ ap (λ gs. before (xs ++ x ∷ []) (each_of read gs)) (sym cut.rest_is_after);
 }
 
-pub read-stops : {A : Type 0} (read : List ℕ → Option A) (whole rest : List ℕ) (xs : List A) → IsReadTo read whole rest xs → rest ≢ [] → (group left : List ℕ) → IsCut rest group left
+pub read-stops : {A : Type 0} (read : List ℕ → Option A) (whole rest : List ℕ) (xs : List A) → IsReadTo read whole rest xs → 0 < length rest → (group left : List ℕ) → IsCut rest group left
     → None ≡ read group → None ≡ each_of read (groups_of whole)
 read-stops read whole rest xs h some group left cut e =
     sym (h.same ∙ ap (λ gs. before xs (each_of read gs)) (groups-some rest some)
     ∙ each-stops read (next (groups_of rest)) (after (groups_of rest)) xs (sym (rw cut.group_is_next at e)))
 
-pub read-all : {A : Type 0} (read : List ℕ → Option A) (whole rest : List ℕ) (xs : List A) → IsReadTo read whole rest xs → rest ≡ [] → Some xs ≡ each_of read (groups_of whole)
+pub read-all : {A : Type 0} (read : List ℕ → Option A) (whole rest : List ℕ) (xs : List A) → IsReadTo read whole rest xs → length rest ≡ 0 → Some xs ≡ each_of read (groups_of whole)
 unfolding each_of
-read-all read whole rest xs h e = sym (h.same ∙ rw (e, groups-none) (ap Some (append-nil xs)))
+read-all read whole rest xs h e = sym (h.same ∙ rw (groups-none rest e) (ap Some (append-nil xs)))

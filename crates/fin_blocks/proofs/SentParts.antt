@@ -18,7 +18,7 @@ use Rattle.corr_ids.specs.declared.bic.Bic.{Bic}
 use Rattle.corr_ids.specs.declared.address.LtAddress.{LtAddress}
 use Rattle.corr_ids.proofs.Spelling.{lt-form, terminal-again}
 use Rattle.fin_blocks.specs.declared.blocks.App.TheVariants.{Sent}
-use Rattle.fin_blocks.specs.Forms.{app_of, basic_in, basic_of, inside, is_basic, is_plain, is_sent, is_tagged, part, received_in, sent_in, tagged_of}
+use Rattle.fin_blocks.specs.Forms.{app_of, basic_in, basic_of, inside, is_basic, is_plain, is_sent, is_sent_length, is_tagged, part, received_in, sent_in, tagged_of}
 use Rattle.fin_blocks.specs.Text.{crlf, ended, is_ended, text_in, text_of}
 use Rattle.fin_blocks.specs.Sending.{IsText, lines_text, own_text, receiver_text, terminal_of}
 use Rattle.fin_blocks.proofs.Between.{between-again, inside-again, inside-other}
@@ -122,7 +122,7 @@ receiver-plain mt to low h =
     plain-both (codes "2:I" ++ padded 3 mt ++ bs) (codes "N") (plain-both (codes "2:I" ++ padded 3 mt) bs (plain-both (codes "2:I") (padded 3 mt) refl n.plain) a.plain) refl
 
 sent-again : (ds bs : List ℕ) (mt : ℕ) (a : LtAddress) → IsThree ds mt → length bs ≡ 12 → lt_of bs ≡ Some a → sent_in (ds ++ bs ++ codes "N") ≡ Some (Sent mt a)
-unfolding sent_in is_sent
+unfolding sent_in is_sent is_sent_length
 sent-again ds bs mt a n long address =
     let whole : List ℕ = ds ++ bs ++ codes "N" in
     let front : length (ds ++ bs) ≡ 15 = omega (arith, n.long, long, length-append ds bs) in

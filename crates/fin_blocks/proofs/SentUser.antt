@@ -46,7 +46,7 @@ subblock-balanced s h = balanced-plain (padded 3 s.0 ++ 58 ∷ s.1) (plain-both 
 
 -- subblocks are one group each
 user-groups : (user : List (ℕ × List ℕ)) → list_all is_subblock user ≡ true → groups_of (flat_map subblock_text user) ≡ map subblock_text user
-user-groups [] h = groups-none
+user-groups [] h = groups-none [] refl
 user-groups (s ∷ user) h =
     let p = and_parts (is_subblock s) (list_all is_subblock user) h in
     group-first (padded 3 s.0 ++ 58 ∷ s.1) (flat_map subblock_text user) (subblock-balanced s (subblock s p.0))

@@ -59,9 +59,13 @@ received_in bs = do
   mir ← mir_of (part 7 28 bs)
   Some (Received mt mir)
 
+-- 16 bytes, and then none, one, three or four
+unfoldable pub is_sent_length : ℕ → Bool
+is_sent_length long = (long == 16) || (long == 17) || (long == 19) || (long == 20)
+
 -- 16 bytes that end with a priority, and then none, one, three or four digits
 unfoldable pub is_sent : List ℕ → Bool
-is_sent bs = ((length bs == 16) || (length bs == 17) || (length bs == 19) || (length bs == 20)) && is_priority (slice_index bs 15) && list_all is_ascii_digit (drop 16 bs)
+is_sent bs = is_sent_length (length bs) && is_priority (slice_index bs 15) && list_all is_ascii_digit (drop 16 bs)
 
 -- block 2 of a sent message behind its I: type 3!n, LT address, priority, optionally 1!n, optionally 3!n
 unfoldable pub sent_in : List ℕ → Option App
@@ -70,9 +74,17 @@ sent_in bs = do
   to ← lt_of (part 3 12 bs)
   Some (Sent mt to)
 
--- `{2:O` or `{2:I`, what these read, `}`
+-- `{2:O`, what received_in reads, `}`
+abbrev pub received_of : List ℕ → Option App
+received_of group = inside (codes "{2:O") group >>= received_in
+
+-- `{2:I`, what sent_in reads, `}`
+abbrev pub sent_of : List ℕ → Option App
+sent_of group = inside (codes "{2:I") group >>= sent_in
+
+-- block 2: of the one form or the other
 abbrev pub app_of : List ℕ → Option App
-app_of group = option_or (inside (codes "{2:O") group >>= received_in) (inside (codes "{2:I") group >>= sent_in)
+app_of group = option_or (received_of group) (sent_of group)
 
 -- the reference of a received message
 abbrev pub mir_in : App → Option Mir

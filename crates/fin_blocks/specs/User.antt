@@ -1,5 +1,5 @@
 -- Block 3: subblocks with distinct numbers.
-use Rattle.std.specs.Prelude.{ℕ, ◌==◌, ◌&&◌, ◌||◌, not, Bool, true, List, [], ◌∷◌, ◌++◌, length, map, Option, Some, None, nat_lt, if◌then◌else◌}
+use Rattle.std.specs.Prelude.{ℕ, ◌==◌, ◌&&◌, ◌||◌, not, Bool, true, List, [], ◌∷◌, ◌++◌, length, map, Option, Some, nat_lt}
 use Rattle.std.specs.List.{list_any}
 use Rattle.corr_text.specs.Digits.{number_of}
 use Rattle.corr_ids.specs.Day.{◌>>=◌}

@@ -2,7 +2,7 @@
 
 ghost use Rattle.std.specs.Prelude.{◌≡◌, ◌≤◌, IsTrue, length, codes};
 ghost use Rattle.corr_text.specs.Digits.{number_of};
-ghost use Rattle.fin_blocks.specs.Forms.{app_of, is_priority as is_priority_of, is_received as is_received_of, is_sent as is_sent_of, mir_in, received_in, sent_in};
+ghost use Rattle.fin_blocks.specs.Forms.{app_of, is_priority as is_priority_of, is_received as is_received_of, is_sent as is_sent_of, is_sent_length as is_sent_length_of, mir_in, received_in, received_of, sent_in, sent_of};
 
 use crate::blocks::App;
 use crate::forms::{all_digits, inside, three_digits};
@@ -22,19 +22,24 @@ fn is_received(b: &[u8]) -> bool
     b.len() == 46 && all_digits(&b[3..7]) && all_digits(&b[35..45]) && is_priority(b[45])
 }
 
+#[tactic(auto, unfolding(crate::specs::Forms::is_sent_length))]
+fn is_sent_length(long: usize) -> bool
+    ensures value { result ≡ is_sent_length_of long }
+    ensures least { IsTrue result → 16 ≤ long }
+{
+    long == 16 || long == 17 || long == 19 || long == 20
+}
+
 #[tactic(auto, unfolding(crate::specs::Forms::is_sent))]
 fn is_sent(b: &[u8]) -> bool
     ensures value { result ≡ is_sent_of b.now }
     ensures long { IsTrue result → 16 ≤ length b.now }
 {
-    let long = b.len();
-    (long == 16 || long == 17 || long == 19 || long == 20)
-        && is_priority(b[15])
-        && all_digits(&b[16..])
+    is_sent_length(b.len()) && is_priority(b[15]) && all_digits(&b[16..])
 }
 
 #[tactic(auto, unfolding(crate::specs::Forms::received_in))]
-fn read_received(b: &[u8]) -> Option<App>
+fn received_inside(b: &[u8]) -> Option<App>
     ensures { result ≡ received_in b.now }
 {
     if !is_received(b) {
@@ -46,7 +51,7 @@ fn read_received(b: &[u8]) -> Option<App>
 }
 
 #[tactic(auto, unfolding(crate::specs::Forms::sent_in))]
-fn read_sent(b: &[u8]) -> Option<App>
+fn sent_inside(b: &[u8]) -> Option<App>
     ensures { result ≡ sent_in b.now }
 {
     if !is_sent(b) {
@@ -57,14 +62,26 @@ fn read_sent(b: &[u8]) -> Option<App>
     Some(App::Sent { mt, to })
 }
 
+fn read_received(group: &[u8]) -> Option<App>
+    ensures { result ≡ received_of group.now }
+{
+    received_inside(inside(b"{2:O", group)?)
+}
+
+fn read_sent(group: &[u8]) -> Option<App>
+    ensures { result ≡ sent_of group.now }
+{
+    sent_inside(inside(b"{2:I", group)?)
+}
+
 /// Block 2 of a message, if the group is one.
 pub fn read_app(group: &[u8]) -> Option<App>
     ensures { result ≡ app_of group.now }
 {
-    if let Some(b) = inside(b"{2:O", group) {
-        return read_received(b);
+    match read_received(group) {
+        Some(app) => Some(app),
+        None => read_sent(group),
     }
-    read_sent(inside(b"{2:I", group)?)
 }
 
 /// The reference of a received message.

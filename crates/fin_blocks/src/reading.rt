@@ -34,7 +34,7 @@ fn are_last(piece: Piece<'_>) -> bool
     requires { IsCut piece.from.now piece.group.now piece.rest.now }
     ensures { result ≡ are_last_of (groups_of piece.entry.from.now) }
 {
-    piece.from.is_empty() || (inside(b"{S:", piece.group).is_some() && piece.rest.is_empty())
+    piece.from.is_empty() || (piece.rest.is_empty() && inside(b"{S:", piece.group).is_some())
 }
 
 fn refuse(code: Code, mir: Option<Mir>) -> Result<Blocks, BlockFault>

@@ -1,4 +1,4 @@
-use Rattle.std.proofs.Common.{◌≡◌, ◌+◌, ◌∙◌, length, drop, sym, arith}
+use Rattle.std.proofs.Common.{◌+◌, ◌∙◌, sym, arith}
 use Rattle.std.proofs.lemmas.List.{take_rest}
 use Rattle.fin_blocks.proofs.Cutting.{starts-open, open-more, is-cut, is-open}
 use Rattle.fin_blocks.proofs.groups.next_group.Goals as goal

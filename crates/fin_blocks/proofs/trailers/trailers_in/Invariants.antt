@@ -4,8 +4,8 @@ use Rattle.fin_blocks.proofs.Pieces.{IsReadTo}
 use Rattle.fin_blocks.proofs.trailers.trailers_in.Given as goal
 
 -- the trailers read so far
-abbrev pub invariant-loop-trailers : goal.invariant-loop-trailers
-invariant-loop-trailers l = IsReadTo trailer_of l.b l.rest l.trailers
+abbrev pub invariant-loop-rest : goal.invariant-loop-rest
+invariant-loop-rest l = IsReadTo trailer_of l.b l.rest l.trailers
 
-abbrev pub decreases-loop-trailers : goal.decreases-loop-trailers
-decreases-loop-trailers l = length l.rest
+abbrev pub decreases-loop-rest : goal.decreases-loop-rest
+decreases-loop-rest l = length l.rest
