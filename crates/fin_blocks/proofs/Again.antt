@@ -6,12 +6,9 @@ use Rattle.corr_text.specs.Digits.{padded}
 use Rattle.corr_ids.specs.Address.{lt_text}
 use Rattle.corr_ids.specs.Bic.{IsBic}
 use Rattle.corr_ids.specs.declared.bic.Bic.{Bic}
-use Rattle.corr_ids.specs.declared.address.LtAddress.{LtAddress}
-use Rattle.fin_blocks.specs.declared.blocks.App.{App}
-use Rattle.fin_blocks.specs.declared.blocks.App.TheVariants.{Sent}
 use Rattle.fin_blocks.specs.Groups.{groups_of}
-use Rattle.fin_blocks.specs.Forms.{app_of, basic_of, inside}
-use Rattle.fin_blocks.specs.Text.{crlf, text_of}
+use Rattle.fin_blocks.specs.Forms.{inside}
+use Rattle.fin_blocks.specs.Text.{crlf}
 use Rattle.fin_blocks.specs.Blocks.{behind, blocks_of, user_of}
 use Rattle.fin_blocks.specs.Sending.{IsText, are_subblocks, lines_text, own_text, receiver_text, sent_blocks, sent_text, subblock_text, terminal_of, user_text}
 use Rattle.fin_blocks.proofs.Between.{inside-again, inside-other}

@@ -1,5 +1,5 @@
 -- What stands between a start and an end is read again as it was put there.
-use Rattle.std.proofs.Common.{◌≡◌, ℕ, ◌+◌, ◌-◌, ◌≤◌, ◌&&◌, Bool, true, false, cond, List, [], ◌∷◌, ◌++◌, length, take, drop, Some, None, refl, sym, ap, ◌∙◌, append_assoc, length-append, arith}
+use Rattle.std.proofs.Common.{◌≡◌, ℕ, ◌+◌, ◌-◌, ◌&&◌, Bool, true, false, List, ◌++◌, length, take, drop, Some, None, refl, ap, ◌∙◌, append_assoc, length-append, arith}
 use Rattle.std.specs.Prelude.{codes, nat_le, bytes_eq}
 use Rattle.std.proofs.lemmas.Bool.{le-leb, and_left, and_right}
 use Rattle.std.proofs.lemmas.List.{take_at, drop_at}

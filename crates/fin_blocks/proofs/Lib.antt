@@ -8,4 +8,5 @@ pub mod Braces
 pub mod Between
 pub mod SentParts
 pub mod SentUser
+pub mod SentLines
 pub mod Again

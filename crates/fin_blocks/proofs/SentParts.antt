@@ -1,12 +1,12 @@
 -- Each block of a sent message is one group, and is read to what it was made of.
-use Rattle.std.proofs.Common.{◌≡◌, ℕ, ◌+◌, ◌-◌, ◌<◌, ◌≤◌, ◌^◌, ◌==◌, ◌&&◌, ◌||◌, ◌⊎◌, inl, inr, Bool, true, false, not, List, [], ◌∷◌, ◌++◌, length, get_or, take, drop, Some, None, refl, sym, ap, ◌∙◌, append_assoc, append-nil, length-append, arith}
-use Rattle.std.specs.Prelude.{codes, nat_le, slice_index}
+use Rattle.std.proofs.Common.{◌≡◌, ℕ, ◌-◌, ◌≤◌, ◌==◌, ◌&&◌, ◌⊎◌, inl, inr, Bool, true, not, List, [], ◌∷◌, ◌++◌, length, get_or, take, drop, Some, refl, sym, ap, ◌∙◌, append_assoc, append-nil, length-append, arith}
+use Rattle.std.specs.Prelude.{codes, slice_index}
 use Rattle.std.specs.Char.{is_ascii_digit, is_ascii_uppercase}
 use Rattle.std.specs.Str.{all_ascii_digits}
 use Rattle.std.specs.List.{flat_map, list_all}
-use Rattle.std.proofs.lemmas.Bool.{and_parts, and_from, or_right, le-leb, eqb-true}
+use Rattle.std.proofs.lemmas.Bool.{and_parts, and_from, or_right, eqb-true}
 use Rattle.std.proofs.lemmas.Bool.Decides.{nat_tests}
-use Rattle.std.proofs.lemmas.List.{take_at, drop_at, drop_all, drop-drop, get_or_at, get_or_push, length_push, take-append-drop}
+use Rattle.std.proofs.lemmas.List.{take_at, drop_at, drop_all, get_or_at, get_or_push, length_push, take-append-drop}
 use Rattle.std.proofs.lemmas.List.Folds.{list_all-append}
 use Rattle.corr_text.specs.Digits.{number_of, padded}
 use Rattle.corr_text.specs.Lines.{lines_of}
@@ -18,7 +18,7 @@ use Rattle.corr_ids.specs.declared.bic.Bic.{Bic}
 use Rattle.corr_ids.specs.declared.address.LtAddress.{LtAddress}
 use Rattle.corr_ids.proofs.Spelling.{lt-form, terminal-again}
 use Rattle.fin_blocks.specs.declared.blocks.App.TheVariants.{Sent}
-use Rattle.fin_blocks.specs.Forms.{app_of, basic_in, basic_of, inside, is_basic, is_plain, is_sent, is_sent_length, is_tagged, part, received_in, sent_in, tagged_of}
+use Rattle.fin_blocks.specs.Forms.{app_of, basic_in, basic_of, is_basic, is_plain, is_sent, is_sent_length, sent_in}
 use Rattle.fin_blocks.specs.Text.{crlf, ended, is_ended, text_in, text_of}
 use Rattle.fin_blocks.specs.Sending.{IsText, lines_text, own_text, receiver_text, terminal_of}
 use Rattle.fin_blocks.proofs.Between.{between-again, inside-again, inside-other}

@@ -1,12 +1,12 @@
 -- Block 3 of a sent message is one group, and is read to its subblocks.
-use Rattle.std.proofs.Common.{◌≡◌, ℕ, ◌+◌, ◌-◌, ◌<◌, ◌≤◌, ◌&&◌, Bool, true, false, List, [], ◌∷◌, ◌++◌, length, map, take, drop, Some, None, refl, sym, ap, ◌∙◌, length-append, arith}
+use Rattle.std.proofs.Common.{◌≡◌, ℕ, ◌&&◌, Bool, true, List, [], ◌∷◌, ◌++◌, length, map, drop, Some, refl, sym, ap, ◌∙◌, length-append, arith}
 use Rattle.std.specs.Prelude.{codes, nat_le, nat_lt}
 use Rattle.std.specs.List.{flat_map, list_all}
 use Rattle.std.proofs.lemmas.Bool.{and_parts, leb-true, le-leb, lt-ltb}
 use Rattle.std.proofs.lemmas.List.{take_at, drop_at, drop-drop, get_or_at}
 use Rattle.corr_text.specs.Digits.{padded}
 use Rattle.fin_blocks.specs.Groups.{groups_of}
-use Rattle.fin_blocks.specs.Forms.{each_of, inside, is_plain, is_tagged, tagged_of}
+use Rattle.fin_blocks.specs.Forms.{each_of, is_plain, is_tagged, tagged_of}
 use Rattle.fin_blocks.specs.User.{are_distinct, may_hold, subblock_of, subblocks_in}
 use Rattle.fin_blocks.specs.Sending.{are_subblocks, subblock_text}
 use Rattle.fin_blocks.proofs.Between.{inside-again}

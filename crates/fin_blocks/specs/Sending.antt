@@ -1,5 +1,5 @@
 -- The layout of a sent message.
-use Rattle.std.specs.Prelude.{◌≡◌, ℕ, ◌≤◌, ◌==◌, ◌&&◌, ◌||◌, not, Bool, List, [], ◌∷◌, ◌++◌, map, nat_le, codes, IsTrue}
+use Rattle.std.specs.Prelude.{◌≡◌, ℕ, ◌&&◌, Bool, List, [], ◌∷◌, ◌++◌, map, nat_le, codes, IsTrue}
 use Rattle.std.specs.List.{flat_map, list_all}
 use Rattle.corr_text.specs.Digits.{padded}
 use Rattle.corr_ids.specs.Address.{lt_text}
