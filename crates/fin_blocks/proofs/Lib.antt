@@ -9,4 +9,4 @@ pub mod Between
 pub mod SentParts
 pub mod SentUser
 pub mod SentLines
-pub mod Again
+pub mod ReadBack

@@ -11,6 +11,9 @@ use corr_ids::Bic;
 use corr_text::{Memory, Text, put_digits};
 use std::alloc::Global;
 
+// Room for what stands around the lines: blocks 1 and 2, block 3 with a UETR, the ends of block 4.
+const AROUND: usize = 128;
+
 fn put_terminal(bank: &Bic, letter: u8, out: &mut Text) -> Result<(), Memory>
     ensures { OnOk result (out.new ≡ out.old ++ lt_text (terminal_of bank.now letter)) }
 {
@@ -74,12 +77,13 @@ fn put_lines(text: &[u8], out: &mut Text) -> Result<(), Memory>
     out.push(b"-}")
 }
 
-/// A message of type `mt` that the home bank sends: block 1 of its terminal `A`, block 2 of input form with normal
-/// priority, block 3 where there is any subblock, and block 4. `read_blocks` reads it to these parts.
+/// A message of type `mt` that the home bank sends (docs/messages.md, "Sent messages"): block 1 of its terminal `A`,
+/// block 2 of input form with normal priority, block 3 where there is any subblock, and block 4. `read_blocks` reads
+/// it to these parts. Want of memory is the only error.
 ///
 /// The numbers of `user` have up to three digits and differ, their texts have no braces, and 121 is a UETR; `text`
 /// has no braces and is lines that end with CR LF.
-#[tactic(auto, using(crate::proofs::Again::reading_back), unfolding(crate::specs::Sending::sent_text))]
+#[tactic(auto, using(crate::proofs::ReadBack::reading_back), unfolding(crate::specs::Sending::sent_text))]
 pub fn put_blocks(
     alloc: Global,
     home: &Bic,
@@ -96,7 +100,7 @@ pub fn put_blocks(
     ensures value { IfOk result (λ t. t ≡ sent_text home.now mt to.now user.now text.now) }
     ensures again { blocks_of (sent_text home.now mt to.now user.now text.now) ≡ Ok (sent_blocks home.now mt to.now user.now text.now) }
 {
-    let mut out = Text::from_vec(Vec::with_capacity(alloc, text.len() + 128)?);
+    let mut out = Text::from_vec(Vec::with_capacity(alloc, text.len() + AROUND)?);
     put_own(home, &mut out)?;
     put_receiver(alloc, mt, to, &mut out)?;
     put_user(alloc, user, &mut out)?;

@@ -16,11 +16,12 @@ use Rattle.fin_blocks.proofs.Braces.{balanced-both, balanced-plain, group-alone,
 use Rattle.fin_blocks.proofs.SentParts.{lines-again, lines-plain, own-again, own-plain, receiver-again, receiver-plain}
 use Rattle.fin_blocks.proofs.SentUser.{IsUser, user-again, user-parts}
 
--- groups that are blocks 1 and 2, at most block 3, and block 4 are the parts of a message
+-- the groups behind block 2 say these subblocks, and the lines behind them
 record IsRead (groups : List (List ℕ)) (user : List (ℕ × List ℕ)) (text : List ℕ) : Type 0 where
   subblocks : user_of groups ≡ Some user
   last : behind (codes "{3:") groups ≡ lines_text text ∷ []
 
+-- blocks 1 and 2, and such groups behind them, are a sent message
 read-through : (m : List ℕ) (home to : Bic) (mt : ℕ) (groups : List (List ℕ)) (user : List (ℕ × List ℕ)) (text : List ℕ)
     → groups_of m ≡ own_text home ∷ receiver_text mt to ∷ groups
     → IsBic home → IsBic to → mt ≤ 999 → IsText text → IsRead groups user text
