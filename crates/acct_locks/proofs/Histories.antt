@@ -1,14 +1,13 @@
 -- The pairs of a history.
-use Rattle.std.proofs.Common.{All, ◌≡◌, ◌+◌, ◌<◌, ◌≤◌, ℕ, zero, suc, List, [], ◌∷◌, ◌++◌, length, take, replicate, get_or, Some, refl, sym, ap, ◌∙◌, subst, arith}
+use Rattle.std.proofs.Common.{◌≡◌, ◌+◌, ◌≤◌, ℕ, zero, suc, List, [], ◌∷◌, ◌++◌, length, take, replicate, Some, sym, ap, ◌∙◌, subst, arith}
 use Rattle.std.specs.Prelude.{slice_get}
 use Rattle.std.proofs.lemmas.List.{get_or-replicate, length-replicate}
 use Rattle.std.proofs.lemmas.Option.{same_Some, slice_get-get_or}
-use Rattle.day_model.specs.declared.pay.Leg.{Leg}
 use Rattle.day_model.specs.declared.entry.Entry.{Entry}
 use Rattle.day_model.specs.Chart.{Chart}
 use Rattle.day_model.specs.Legal.{IsLegal}
-use Rattle.day_model.specs.Totals.{Pair, plus, Fits64, legs_pair, booked_legs, totals_of, pair_at, HasPairs, HasTotals}
-use Rattle.day_model.proofs.Pairs.{totals_more, totals_so_far, legal_totals_fit, entry_adds_its_legs, booked_listed}
+use Rattle.day_model.specs.Totals.{Pair, plus, Fits64, legs_pair, booked_legs, totals_of, pair_at, HasTotals}
+use Rattle.day_model.proofs.Pairs.{totals_more, totals_so_far, legal_totals_fit, entry_adds_its_legs}
 use Rattle.acct_locks.specs.Pairs.{pairs_with, PairsFit}
 use Rattle.acct_locks.proofs.Places.{there_is}
 use Rattle.acct_locks.proofs.Pairs.{length-pairs_from, pair_with}

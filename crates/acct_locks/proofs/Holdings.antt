@@ -1,11 +1,11 @@
 -- Legs on held purses.
-use Rattle.std.proofs.Common.{All, ◌≡◌, ◌≢◌, ◌⊎◌, ◌+◌, ◌<◌, ◌≤◌, ℕ, zero, suc, List, [], ◌∷◌, length, map, refl, sym, ap, ◌∙◌, subst, inl, inr, ⊎_elim, arith}
+use Rattle.std.proofs.Common.{◌≡◌, ◌≢◌, ℕ, List, [], ◌∷◌, refl, sym, ap, ◌∙◌, subst, inl, inr, ⊎_elim, arith}
 use Rattle.std.proofs.lemmas.Bool.{cases_eq, eq-eqb, ne_eqb}
 use Rattle.std.proofs.lemmas.List.Elements.{All-nil, All-cons, All-rest}
 use Rattle.day_model.specs.declared.pay.Leg.{Leg}
 use Rattle.day_model.specs.Totals.{Pair, plus, Fits64, leg_pair, legs_pair}
 use Rattle.day_model.proofs.Pairs.{plus_nothing}
-use Rattle.acct_locks.specs.Holdings.{Holding, Holds, HoldsOnce, held_totals, holding_with, held_with, CanSettle}
+use Rattle.acct_locks.specs.Holdings.{Holding, Holds, HoldsOnce, held_totals, held_with, CanSettle}
 use Rattle.acct_locks.proofs.Pairs.{plus_leg, plus_own, plus_other, fits_less}
 
 -- legs leave the accounts that are held
@@ -61,24 +61,12 @@ settled_last leg purse h next held same added is none =
     let rest = untouched leg held none in
     ap (λ (x : Holding). x ∷ held) here ∙ (λ i. record { table = h.table; number = h.number; pair = totals i } ∷ sym rest i)
 
-pub settled_rest : (leg : Leg) (h : Holding) (held : List Holding) → leg.account.0 ≢ h.number → h ∷ held_with (leg ∷ []) held ≡ held_with (leg ∷ []) (h ∷ held)
-settled_rest leg h held apart =
-    let totals = plus_other h.number h.pair leg apart in
-    λ i. record { table = h.table; number = h.number; pair = sym totals i } ∷ held_with (leg ∷ []) held
-
 -- the purse taken last has the account, and no other has it
 pub last_alone : (h : Holding) (held : List Holding) (n : ℕ) → h.number ≡ n → HoldsOnce (h ∷ held) n → Holds held n → ⊥
 last_alone h held n is once =
     ⊎_elim
     (λ (here : (h.number ≡ n) × (Holds held n → ⊥)). here.1)
     (λ (below : (h.number ≢ n) × HoldsOnce held n). absurd (below.0 is))
-    once
-
-pub once_below : (h : Holding) (held : List Holding) (n : ℕ) → h.number ≢ n → HoldsOnce (h ∷ held) n → HoldsOnce held n
-once_below h held n apart once =
-    ⊎_elim
-    (λ (here : (h.number ≡ n) × (Holds held n → ⊥)). absurd (apart here.0))
-    (λ (below : (h.number ≢ n) × HoldsOnce held n). below.1)
     once
 
 -- the totals of a held account, with what the legs add to it

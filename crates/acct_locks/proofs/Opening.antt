@@ -1,9 +1,8 @@
 -- What the book's seat knows while the purses are made.
-use Rattle.std.proofs.Common.{◌≡◌, ◌⊎◌, ◌<◌, ◌≤◌, ◌+◌, ◌-◌, ℕ, List, [], ◌∷◌, length, Some, refl, sym, ap, ◌∙◌, subst, ⊎_elim, arith}
+use Rattle.std.proofs.Common.{◌≡◌, ◌<◌, ◌≤◌, ◌+◌, ◌-◌, ℕ, List, [], ◌∷◌, Some, ⊎_elim, arith}
 use Rattle.acct_locks.specs.declared.seats.View.{View}
 use Rattle.acct_locks.specs.declared.seats.View.TheVariants.{Book, Purse, Spent}
 use Rattle.day_model.specs.Totals.{Pair, pair_at}
-use Rattle.acct_locks.specs.Pairs.{with_pair}
 use Rattle.acct_locks.specs.Seats.{IsIn, IsBook, pairs_in, away_in, handed_out}
 use Rattle.acct_locks.specs.Holdings.{AwayUpTo}
 use Rattle.acct_locks.proofs.Places.{pair_same}

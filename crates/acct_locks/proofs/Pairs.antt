@@ -1,10 +1,10 @@
 -- Legs on the pairs of a book.
-use Rattle.std.proofs.Common.{◌≡◌, ◌≢◌, ◌+◌, ◌-◌, ◌<◌, ◌≤◌, ℕ, zero, suc, List, [], ◌∷◌, length, drop, get_or, Option, Some, refl, sym, ap, ◌∙◌, subst, arith}
+use Rattle.std.proofs.Common.{◌≡◌, ◌≢◌, ◌+◌, ◌-◌, ◌<◌, ◌≤◌, ℕ, zero, suc, List, [], ◌∷◌, length, drop, get_or, Some, refl, sym, ap, ◌∙◌, subst, arith}
 use Rattle.std.specs.Prelude.{slice_get, slice_set}
 use Rattle.std.proofs.lemmas.List.{drop_more}
 use Rattle.std.proofs.lemmas.Option.{none-some, same_Some, slice_get_read}
 use Rattle.day_model.specs.declared.pay.Leg.{Leg}
-use Rattle.day_model.specs.Totals.{Pair, plus, Fits64, leg_pair, legs_pair, pair_at, HasPairs}
+use Rattle.day_model.specs.Totals.{Pair, plus, Fits64, leg_pair, legs_pair, pair_at}
 use Rattle.day_model.proofs.Pairs.{plus_assoc, plus_nothing, legs_pair-cons, own_leg, other_leg}
 use Rattle.acct_locks.specs.Pairs.{with_pair, pairs_from, pairs_with, PairsFit}
 
@@ -61,12 +61,6 @@ pair_back legs pairs (suc k) q at =
     let here : 1 + k ≡ suc k = omega arith in
     let back = slice_get_back 1 legs pairs k q at in
     (back.0, back.1, subst (λ (m : ℕ). q ≡ plus back.0 (legs_pair m legs)) here back.2)
-
-pub has_pairs_with : (legs : List Leg) (pairs : List Pair) (count : ℕ) (f : ℕ → Pair) → HasPairs pairs count f → HasPairs (pairs_with legs pairs) count (λ n. plus (f n) (legs_pair n legs))
-has_pairs_with legs pairs count f has = record {
-  size = length-pairs_from 1 legs pairs ∙ has.size;
-  each = λ n low high. pair_with legs pairs n (f n) (has.each n low high);
-}
 
 -- no legs, and legs one after another
 pairs_from-nil : (n : ℕ) (pairs : List Pair) → pairs_from n [] pairs ≡ pairs

@@ -1,10 +1,10 @@
 -- The rule of the seats: a purse's seat has the pair that the book's list has for its account.
-use Rattle.std.specs.Prelude.{◌≡◌, ◌==◌, ℕ, ◌⊎◌, List, [], ◌∷◌, Option, Some, None, if◌then◌else◌, slice_get}
+use Rattle.std.specs.Prelude.{◌≡◌, ◌==◌, ℕ, ◌⊎◌, List, [], ◌∷◌, Some, None, if◌then◌else◌}
 use mathlib.Core.Option.{some}
 use lib.ListN.{get_elem?}
 use Rattle.atomic_table.specs.Table.{State, Me, Step}
 use Rattle.acct_locks.specs.declared.seats.View.{View}
-use Rattle.acct_locks.specs.declared.seats.View.TheVariants.{Book, Purse, Spent}
+use Rattle.acct_locks.specs.declared.seats.View.TheVariants.{Book, Purse}
 use Rattle.day_model.specs.Totals.{Pair, pair_at}
 use Rattle.acct_locks.specs.Pairs.{with_pair}
 

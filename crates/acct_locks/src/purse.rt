@@ -48,18 +48,18 @@ impl Purse {
     }
 
     // Takes the seat back and hands it out again, with new totals. The take back tells that the old ones agreed.
-    fn reseat(&mut self, ledger: &Ledger, sides: &mut BookSides, credit: u64, debit: u64)
+    fn reseat(&mut self, ledger: &Ledger, sides: &mut BookSides, totals: (u64, u64))
         requires table { (self.old.table ≡ ledger.now.shared.table_id) × (sides.old.table ≡ ledger.now.shared.table_id) × (0 < ledger.now.shared.table_id.words) }
         ensures agreed { pair_at sides.old.pairs self.old.number ≡ Some self.old.pair }
-        ensures purse { self.new ≡ record self.old { pair = (credit, debit) } }
-        ensures sides { sides.new ≡ record sides.old { pairs = with_pair sides.old.pairs self.old.number (credit, debit) } }
+        ensures purse { self.new ≡ record self.old { pair = totals } }
+        ensures sides { sides.new ≡ record sides.old { pairs = with_pair sides.old.pairs self.old.number totals } }
     {
         let badge = mem::replace(&mut self.badge, Badge::blank());
         take_back(ledger, &mut sides.seat, badge.into_seat());
-        let seat = hand_out(ledger, &mut sides.seat, self.number, (credit, debit));
+        let seat = hand_out(ledger, &mut sides.seat, self.number, totals);
         self.badge = seat.into_badge();
-        self.credit = credit;
-        self.debit = debit;
+        self.credit = totals.0;
+        self.debit = totals.1;
     }
 
     /// Tells that the totals are the pair that the sides have for the account.
@@ -68,9 +68,8 @@ impl Purse {
         ensures agreed { pair_at sides.old.pairs self.old.number ≡ Some self.old.pair }
         ensures same { (self.new ≡ self.old) × (sides.new ≡ sides.old) }
     {
-        let credit = self.credit;
-        let debit = self.debit;
-        self.reseat(ledger, sides, credit, debit);
+        let totals = self.totals();
+        self.reseat(ledger, sides, totals);
     }
 
     /// Adds a leg of this account to the totals, and to the pair that the sides have for it.
@@ -81,7 +80,7 @@ impl Purse {
         ensures purse { self.new ≡ record self.old { pair = plus self.old.pair (leg_pair leg.now) } }
         ensures sides { sides.new ≡ record sides.old { pairs = pairs_with (leg.now ∷ []) sides.old.pairs } }
     {
-        let (credit, debit) = with_leg(self.totals(), leg);
-        self.reseat(ledger, sides, credit, debit);
+        let after = with_leg(self.totals(), leg);
+        self.reseat(ledger, sides, after);
     }
 }

@@ -8,11 +8,7 @@ use std::marker::{Brand, PhantomData};
 /// What a seat knows. No value of it is made.
 pub enum View {
     /// Each account's pair, the accounts that are handed out, and the account and pair that came back last.
-    Book(
-        LinkedList<(u64, u64)>,
-        LinkedList<u32>,
-        Option<(u32, (u64, u64))>,
-    ),
+    Book(LinkedList<(u64, u64)>, LinkedList<u32>, Option<(u32, (u64, u64))>),
     /// An account and its pair.
     Purse(u32, (u64, u64)),
     Spent,

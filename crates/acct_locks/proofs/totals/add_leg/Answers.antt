@@ -1,7 +1,6 @@
-use Rattle.std.proofs.Common.{◌≡◌, ◌-◌, [], ◌∷◌, List, Some, sym, ap, ◌∙◌}
+use Rattle.std.proofs.Common.{◌≡◌, ◌-◌, Some, sym, ap, ◌∙◌}
 use Rattle.std.specs.Prelude.{slice_set}
 use Rattle.day_model.specs.Totals.{Pair, plus, leg_pair, pair_at}
-use Rattle.acct_locks.specs.Pairs.{pairs_with}
 use Rattle.acct_locks.proofs.Pairs.{own_fits, pair_read, pair_written, one_leg}
 use Rattle.acct_locks.proofs.totals.add_leg.Goals as goal
 

@@ -1,6 +1,5 @@
 use Rattle.std.proofs.Common.{◌≡◌, All, subst, rules, arith, ap, sym, ◌∙◌}
 use Rattle.std.proofs.lemmas.List.Elements.{All-push}
-use Rattle.day_model.specs.Totals.{pair_at}
 use Rattle.acct_locks.specs.Holdings.{Holding}
 use Rattle.acct_locks.proofs.Places.{pair_at-next}
 use Rattle.acct_locks.proofs.loose.Loose.of_pairs.Goals as goal

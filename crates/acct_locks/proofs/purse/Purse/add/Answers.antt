@@ -11,7 +11,7 @@ returns-clause-sides c =
     let sides = c.args.sides.now in
     let leg = c.args.leg.now in
     let added = plus it.pair (leg_pair leg) in
-    let totals : c.with_leg-credit.result ≡ added = c.with_leg-credit.ensures ∙ ap (λ (p : Pair). plus p (leg_pair leg)) c.totals.ensures in
+    let totals : c.with_leg-after.result ≡ added = c.with_leg-after.ensures ∙ ap (λ (p : Pair). plus p (leg_pair leg)) c.totals.ensures in
     let there : pair_at sides.pairs leg.account.0 ≡ Some it.pair = subst (λ (n : ℕ). pair_at sides.pairs n ≡ Some it.pair) (sym c.requires.account) e.agreed in
     let pairs : with_pair sides.pairs it.number added ≡ pairs_with (leg ∷ []) sides.pairs =
     ap (λ (n : ℕ). with_pair sides.pairs n added) (sym c.requires.account) ∙ sym (one_leg leg sides.pairs it.pair there) in
