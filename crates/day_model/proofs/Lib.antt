@@ -5,4 +5,5 @@ pub mod LegTests
 pub mod Openings
 pub mod Sums
 pub mod Growth
+pub mod Pairs
 pub mod Testing

@@ -8,3 +8,4 @@ pub mod Legal
 pub mod Same
 pub mod Laws
 pub mod Rows
+pub mod Totals

@@ -16,6 +16,7 @@ mod rows;
 mod same;
 #[cfg(test)]
 mod tests;
+mod totals;
 
 pub use account::{Account, AcctNo};
 pub use accounts::Accounts;
@@ -27,3 +28,4 @@ pub use laws::fold_laws;
 pub use pay::{Leg, Mt, Order, Pay, Quote, Side, Skip};
 pub use reply::Reply;
 pub use rows::rows_hold;
+pub use totals::totals_laws;

@@ -1,0 +1,34 @@
+-- What the book's seat knows while the purses are made.
+use Rattle.std.proofs.Common.{◌≡◌, ◌<◌, ◌≤◌, ◌+◌, ◌-◌, ℕ, List, [], ◌∷◌, Some, ⊎_elim, arith}
+use Rattle.acct_locks.specs.declared.seats.View.{View}
+use Rattle.acct_locks.specs.declared.seats.View.TheVariants.{Book, Purse, Spent}
+use Rattle.day_model.specs.Totals.{Pair, pair_at}
+use Rattle.acct_locks.specs.Seats.{IsIn, IsBook, pairs_in, away_in, handed_out}
+use Rattle.acct_locks.specs.Holdings.{AwayUpTo}
+use Rattle.acct_locks.proofs.Places.{pair_same}
+
+pub in_away : (n m : ℕ) (aw : List ℕ) → AwayUpTo n aw → IsIn m aw → m ≤ n
+in_away n m [] a h = absurd h
+in_away n m (x ∷ xs) a h = ⊎_elim (λ (e : x ≡ m). omega (arith, a.0)) (λ i. in_away n m xs a.1 i) h
+
+pub away_more : (n m : ℕ) (aw : List ℕ) → n ≤ m → AwayUpTo n aw → AwayUpTo m aw
+away_more n m [] le a = tt
+away_more n m (x ∷ xs) le a = (omega (arith, a.0), away_more n m xs le a.1)
+
+-- a number above 0 has one before it
+before : (k : ℕ) → 0 < k → (n : ℕ) × (n + 1 ≡ k)
+before k pos = (k - 1, omega arith)
+
+pub handed_next : (v : View) (k : ℕ) (p : Pair) → IsBook v → ((n : ℕ) → n + 1 ≡ k → AwayUpTo n (away_in v)) → 0 < k → pair_at (pairs_in v) k ≡ Some p
+    → IsBook (handed_out k p v) × (pairs_in (handed_out k p v) ≡ pairs_in v) × AwayUpTo k (away_in (handed_out k p v))
+handed_next (Book ps aw back) k p isb away pos at =
+    let b = before k pos in
+    (tt, pair_same ps k p at, (omega arith, away_more b.0 k aw (omega arith) (away b.0 b.1)))
+handed_next (Purse a b) k p isb away pos at = absurd isb
+handed_next Spent k p isb away pos at = absurd isb
+
+pub next_home : (v : View) (k : ℕ) → ((n : ℕ) → n + 1 ≡ k → AwayUpTo n (away_in v)) → 0 < k → IsIn k (away_in v) → ⊥
+next_home v k away pos h =
+    let b = before k pos in
+    let le : k ≤ b.0 = in_away b.0 k (away_in v) (away b.0 b.1) h in
+    omega arith

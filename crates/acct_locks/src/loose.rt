@@ -1,0 +1,107 @@
+//! The purses before they have a name.
+
+ghost use Rattle.std.specs.Prelude.{◌≡◌, ◌<◌, ◌≤◌, ◌^◌, ◌+◌, ℕ, [], length, Some, IfOk};
+ghost use Rattle.day_model.specs.Legal.{IsLegal};
+ghost use Rattle.day_model.specs.Totals.{HasTotals, pair_at};
+ghost use Rattle.acct_locks.specs.Seats.{IsBook, pairs_in, away_in};
+ghost use Rattle.acct_locks.specs.Holdings.{AwayUpTo};
+
+use crate::name::Name;
+use crate::purse::Purse;
+use crate::purses::{Named, Purses};
+use crate::seats::{Ledger, SeatOf};
+use crate::sides::BookSides;
+use crate::steps::{hand_out, open};
+use crate::totals::totals;
+use corr_text::Memory;
+use day_model::{Accounts, History};
+use std::alloc::Global;
+use std::marker::{Model, PhantomData};
+use std::sync::Mutex;
+
+/// The purses of an opening, one for each account, before they have a name and locks.
+///
+/// Contracts see the table that they are of, and how many there are.
+#[derive(Drop)]
+pub struct Loose {
+    ledger: Ledger,
+    purses: Vec<Purse>,
+}
+
+impl Model for Loose {
+    ghost use Rattle.std.specs.Prelude.{◌≡◌, ◌<◌, ◌^◌, length, All};
+    ghost use Rattle.acct_locks.specs.Holdings.{LooseHand};
+
+    ghost Value = { LooseHand };
+
+    ghost view = { λ l. record { table = l.ledger.shared.table_id; count = length l.purses.items } };
+
+    ghost invariant = { λ l. (l.ledger.shared.table_id.words ≡ 1) × (length l.purses.items < 2 ^ 32) × All (λ p. p.table ≡ l.ledger.shared.table_id) l.purses.items };
+}
+
+// The purse of the next account.
+fn next_purse(ledger: &Ledger, seat: &mut SeatOf, number: u32, pair: (u64, u64)) -> Purse
+    requires table { (seat.old.table_id ≡ ledger.now.shared.table_id) × (ledger.now.shared.table_id.words ≡ 1) }
+    requires seat { IsBook seat.old.me.0 × (seat.old.me.1 ≡ []) }
+    requires next { (0 < number) × ((n : ℕ) → n + 1 ≡ number → AwayUpTo n (away_in seat.old.me.0)) }
+    requires pair { pair_at (pairs_in seat.old.me.0) number ≡ Some pair }
+    ensures book { (seat.new.table_id ≡ seat.old.table_id) × IsBook seat.new.me.0 × (seat.new.me.1 ≡ []) × (pairs_in seat.new.me.0 ≡ pairs_in seat.old.me.0) × AwayUpTo number (away_in seat.new.me.0) }
+    ensures purse { result ≡ record { table = ledger.now.shared.table_id; number = number; pair = pair } }
+{
+    let purse = hand_out(ledger, seat, number, pair);
+    Purse {
+        number,
+        credit: pair.0,
+        debit: pair.1,
+        badge: purse.into_badge(),
+    }
+}
+
+impl Loose {
+    /// One purse for each account, with its totals after the history, and the sides of the book, which have the same.
+    ///
+    /// The history is legal for the accounts.
+    pub fn new(alloc: Global, a: &Accounts, h: &History) -> Result<(Loose, BookSides), Memory>
+        requires legal { IsLegal a.now h.now.entries }
+        ensures table { IfOk result (λ r. r.0.table ≡ r.1.table) }
+        ensures purses { IfOk result (λ r. r.0.count ≡ length a.now.accounts) }
+        ensures sides { IfOk result (λ r. HasTotals r.1.pairs (length a.now.accounts) h.now.entries) }
+    {
+        let pairs = totals(alloc, a, h)?;
+        Loose::of_pairs(alloc, pairs)
+    }
+
+    // One purse for each pair.
+    fn of_pairs(alloc: Global, pairs: Vec<(u64, u64)>) -> Result<(Loose, BookSides), Memory>
+        requires { length pairs.items < 2 ^ 32 }
+        ensures { IfOk result (λ r. (r.0.table ≡ r.1.table) × (r.0.count ≡ length pairs.items) × (r.1.pairs ≡ pairs.items)) }
+    {
+        let (ledger, mut seat) = open(alloc, &pairs)?;
+        let mut purses = Vec::new(alloc);
+        let mut number = 0u32;
+        for pair in &pairs {
+            number += 1;
+            let purse = next_purse(&ledger, &mut seat, number, *pair);
+            purses.push(purse)?;
+        }
+        Ok((Loose { ledger, purses }, BookSides { seat }))
+    }
+
+    /// Puts each purse behind a lock of its own. `N` names the table of these purses.
+    ///
+    /// After `Memory` the purses are gone, and no purse agrees with the sides any more.
+    pub fn lock<N: Name>(self, alloc: Global) -> Result<Purses<N>, Memory>
+        requires named { self.table ≡ N.table }
+        ensures count { IfOk result (λ p. p ≡ self.count) }
+    {
+        let Loose { ledger, purses } = self;
+        let mut locks = Vec::new(alloc);
+        for purse in purses {
+            locks.push(Mutex::new(Named {
+                purse,
+                of: PhantomData,
+            }))?;
+        }
+        Ok(Purses { ledger, locks })
+    }
+}

@@ -1,0 +1,217 @@
+ghost use Rattle.std.specs.Prelude.{◌≡◌, ◌<◌, ◌≤◌, length, IfOk};
+ghost use Rattle.day_model.specs.Legal.{IsLegal};
+ghost use Rattle.acct_locks.specs.Holdings.{Holds};
+
+use super::*;
+use corr_ids::{Bic, Day, Mir};
+use corr_money::{Ccy, Minor};
+use corr_text::{List, Memory, Text};
+use day_model::{
+    Account, Accounts, AcctNo, Entry, History, Leg, Mt, Pay, Quote, Side, decide, rows_hold,
+};
+use std::alloc::Global;
+use std::marker::{Brand, PhantomData};
+use std::process::Abort;
+use std::sync::{Mutex, Wait};
+use std::test::*;
+use std::thread::{Threads, join};
+
+fn bic(head: [u8; 8]) -> Bic {
+    Bic {
+        head,
+        branch: *b"XXX",
+    }
+}
+
+fn customer(alloc: Global, id: &[u8]) -> Result<Account, Memory> {
+    Ok(Account {
+        id: Text::from_bytes(alloc, id)?,
+        kind: b'C',
+        owner: bic(*b"HOMEUS33"),
+        ccy: Ccy(*b"EUR"),
+        decimals: 2,
+        floor: -90_000_000,
+        ceil: 90_000_000,
+        opening: 0,
+    })
+}
+
+fn three_accounts<R: Abort>(rt: &R, alloc: Global) -> Result<Accounts, Fail>
+    ensures { IfOk result (λ a. length a.accounts ≡ 3) }
+{
+    let mut rows = List::new(alloc);
+    for id in [b"CUST1", b"CUST2", b"CUST3"] {
+        rows.push(customer(alloc, id)?)?;
+    }
+    assert!(rt; rows_hold(rows.as_slice()));
+    let accounts = Accounts::new(bic(*b"HOMEUS33"), rows)?;
+    assert!(rt; accounts.count() == 3);
+    Ok(accounts)
+}
+
+fn leg(account: u32, side: Side, amount: u64) -> Leg
+    ensures { (result.account.0 ≡ account) × (result.side ≡ side) × (result.amount.0 ≡ amount) }
+{
+    Leg {
+        account: AcctNo(account),
+        side,
+        amount: Minor(amount),
+        quote: Quote::Ours(1),
+    }
+}
+
+fn pay(alloc: Global, debit: u32, credit: u32, amount: u64) -> Result<Pay, Memory> {
+    let mut legs = List::new(alloc);
+    legs.push(leg(debit, Side::Debit, amount))?;
+    legs.push(leg(credit, Side::Credit, amount))?;
+    Ok(Pay {
+        mir: Mir(*b"240603BETAFRPPAXXX0001000001"),
+        mt: Mt::Transfer,
+        uetr: None,
+        text: Text::from_bytes(alloc, b"-")?,
+        value: Day(19_877),
+        legs,
+        orders: List::new(alloc),
+    })
+}
+
+// 250.00 from account 1 to account 2.
+#[tactic(auto, using(day_model::proofs::Growth::legal_here))]
+fn one_entry<R: Abort>(rt: &R, alloc: Global, a: &Accounts) -> Result<History, Fail>
+    ensures { IfOk result (λ h. IsLegal a.now h.entries) }
+{
+    let mut history = History::new(alloc);
+    let pay = pay(alloc, 1, 2, 25_000)?;
+    assert!(rt; a.fits(&pay));
+    let outcome = decide(a, &history, &pay);
+    history.push(Entry {
+        pay,
+        day: Day(19_877),
+        outcome,
+    })?;
+    Ok(history)
+}
+
+fn opened<R: Abort>(rt: &R, alloc: Global) -> Result<(Loose, BookSides), Fail>
+    ensures { IfOk result (λ r. (r.0.table ≡ r.1.table) × (r.0.count ≡ 3)) }
+{
+    let accounts = three_accounts(rt, alloc)?;
+    let history = one_entry(rt, alloc, &accounts)?;
+    let parts = Loose::new(alloc, &accounts, &history)?;
+    Ok(parts)
+}
+
+// The sides under a lock, of the table that N names.
+#[derive(Drop)]
+struct Desk<N: Name> {
+    sides: BookSides,
+    of: PhantomData<N>,
+    ghost named: { sides.table ≡ N.table },
+}
+
+impl<N: Name> Desk<N> {
+    fn new(sides: BookSides) -> Desk<N>
+        requires { sides.table ≡ N.table }
+    {
+        Desk {
+            sides,
+            of: PhantomData,
+        }
+    }
+
+    fn agree<H: Held>(&mut self, held: &mut H, n: AcctNo)
+        requires held { Holds (H.held held.old) n.0 }
+        requires table { H.table held.old ≡ N.table }
+        ensures { (H.held held.new ≡ H.held held.old) × (H.table held.new ≡ H.table held.old) }
+    {
+        held.agree(&mut self.sides, n);
+    }
+}
+
+fn take_two<N: Name>(
+    rt: &impl Wait,
+    purses: &Purses<N>,
+    desk: &Mutex<Desk<N>>,
+    low: AcctNo,
+    high: AcctNo,
+) -> bool
+    requires { (0 < low.0) × (low.0 < high.0) × (high.0 ≤ purses.now) }
+{
+    let mut held = purses.hold().take(rt, low).take(rt, high);
+    let before = (held.totals(low), held.totals(high));
+    desk.lock(rt).agree(&mut held, low);
+    desk.lock(rt).agree(&mut held, high);
+    let same = (held.totals(low), held.totals(high)) == before;
+    held.give_back();
+    same
+}
+
+// Each thread takes two accounts in rising order, and then the sides.
+fn in_two_threads<N: Name + Send + Sync, R: Threads + Wait + Abort + Sync>(
+    rt: &R,
+    alloc: Global,
+    loose: Loose,
+    sides: BookSides,
+) -> Result<(), Fail>
+    requires { (loose.table ≡ N.table) × (sides.table ≡ N.table) × (loose.count ≡ 3) }
+{
+    let purses = loose.lock::<N>(alloc)?;
+    let desk = Mutex::new(Desk::<N>::new(sides));
+    let (one, two) = join(
+        rt,
+        || -> bool
+            requires { purses ≡ 3 }
+        { take_two(rt, &purses, &desk, AcctNo(1), AcctNo(2)) },
+        || -> bool
+            requires { purses ≡ 3 }
+        { take_two(rt, &purses, &desk, AcctNo(2), AcctNo(3)) },
+    );
+    assert!(rt; one && two);
+    let held = purses
+        .hold()
+        .take(rt, AcctNo(1))
+        .take(rt, AcctNo(2))
+        .take(rt, AcctNo(3));
+    let all = (
+        held.totals(AcctNo(1)),
+        held.totals(AcctNo(2)),
+        held.totals(AcctNo(3)),
+    );
+    held.give_back();
+    assert_eq!(rt; all, ((0, 25_000), (25_000, 0), (0, 0)));
+    Ok(())
+}
+
+#[test]
+fn two_threads_take_two_accounts_each(rt: HostRuntime) -> Result<(), Fail> {
+    let (loose, sides) = opened(&rt, rt.alloc())?;
+    in_two_threads::<Brand, _>(&rt, rt.alloc(), loose, sides)
+}
+
+fn settled<N: Name, R: Wait + Abort>(
+    rt: &R,
+    alloc: Global,
+    loose: Loose,
+    mut sides: BookSides,
+) -> Result<(), Fail>
+    requires { (loose.table ≡ N.table) × (sides.table ≡ N.table) × (loose.count ≡ 3) }
+{
+    let purses = loose.lock::<N>(alloc)?;
+    let mut held = purses.hold().take(rt, AcctNo(1)).take(rt, AcctNo(2));
+    let before = (held.totals(AcctNo(1)), held.totals(AcctNo(2)));
+    assert!(rt; before.0 == (0, 25_000) && before.1 == (25_000, 0));
+    let legs = [leg(1, Side::Debit, 700), leg(2, Side::Credit, 700)];
+    held.settle(&mut sides, &legs);
+    held.agree(&mut sides, AcctNo(1));
+    held.agree(&mut sides, AcctNo(2));
+    let after = (held.totals(AcctNo(1)), held.totals(AcctNo(2)));
+    held.give_back();
+    assert_eq!(rt; after, ((0, 25_700), (25_700, 0)));
+    Ok(())
+}
+
+#[test]
+fn a_debit_and_a_credit_are_settled(rt: HostRuntime) -> Result<(), Fail> {
+    let (loose, sides) = opened(&rt, rt.alloc())?;
+    settled::<Brand, _>(&rt, rt.alloc(), loose, sides)
+}

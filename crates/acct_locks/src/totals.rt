@@ -1,0 +1,62 @@
+//! The totals of a history.
+
+ghost use Rattle.std.specs.Prelude.{◌≡◌, ◌≤◌, [], ◌∷◌, length, All, IfOk};
+ghost use Rattle.day_model.specs.Legal.{IsLegal};
+ghost use Rattle.day_model.specs.Totals.{Fits64, HasTotals, booked_legs, leg_pair, plus};
+ghost use Rattle.acct_locks.specs.Pairs.{PairsFit, pairs_with};
+
+use corr_text::Memory;
+use day_model::{Accounts, Entry, History, Leg, Outcome, Side};
+use std::alloc::Global;
+
+/// An account's totals with a leg added.
+pub(crate) fn with_leg(totals: (u64, u64), leg: &Leg) -> (u64, u64)
+    requires { Fits64 (plus totals (leg_pair leg.now)) }
+    ensures { result ≡ plus totals (leg_pair leg.now) }
+{
+    match leg.side {
+        Side::Credit => (totals.0 + leg.amount.0, totals.1),
+        Side::Debit => (totals.0, totals.1 + leg.amount.0),
+    }
+}
+
+fn add_leg(pairs: &mut Vec<(u64, u64)>, leg: &Leg)
+    requires listed { (1 ≤ leg.now.account.0) × (leg.now.account.0 ≤ length pairs.old.items) }
+    requires fits { PairsFit (leg.now ∷ []) pairs.old.items }
+    ensures { pairs.new.items ≡ pairs_with (leg.now ∷ []) pairs.old.items }
+{
+    let at = leg.account.0 as usize - 1;
+    pairs[at] = with_leg(pairs[at], leg);
+}
+
+fn add_legs(pairs: &mut Vec<(u64, u64)>, legs: &[Leg])
+    requires listed { All (λ leg. (1 ≤ leg.account.0) × (leg.account.0 ≤ length pairs.old.items)) legs.now }
+    requires fits { PairsFit legs.now pairs.old.items }
+    ensures { pairs.new.items ≡ pairs_with legs.now pairs.old.items }
+{
+    for leg in legs {
+        add_leg(pairs, leg);
+    }
+}
+
+fn legs_booked(entry: &Entry) -> &[Leg]
+    ensures { result.now ≡ booked_legs entry.now }
+{
+    match entry.outcome {
+        Outcome::Booked => entry.pay.legs.as_slice(),
+        Outcome::Unfunded { .. } => &[],
+    }
+}
+
+/// Each account's totals after a history.
+pub(crate) fn totals(alloc: Global, a: &Accounts, h: &History) -> Result<Vec<(u64, u64)>, Memory>
+    requires legal { IsLegal a.now h.now.entries }
+    ensures value { IfOk result (λ v. HasTotals v.items (length a.now.accounts) h.now.entries) }
+    ensures few { IfOk result (λ v. length v.items ≤ 1000) }
+{
+    let mut pairs = vec![in alloc; (0, 0); a.count() as usize]?;
+    for at in 0..h.len() {
+        add_legs(&mut pairs, legs_booked(h.get(at + 1)));
+    }
+    Ok(pairs)
+}
