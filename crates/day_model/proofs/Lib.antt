@@ -6,3 +6,9 @@ pub mod Openings
 pub mod Sums
 pub mod Growth
 pub mod Testing
+pub mod CoreWorkers
+pub mod CorePurses
+pub mod CoreLedgers
+pub mod CoreHoldings
+pub mod CoreSteps
+pub mod CoreReady

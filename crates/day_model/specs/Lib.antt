@@ -8,3 +8,6 @@ pub mod Legal
 pub mod Same
 pub mod Laws
 pub mod Rows
+pub mod CoreLedger
+pub mod CoreStep
+pub mod CoreSound
