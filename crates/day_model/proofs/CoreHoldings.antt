@@ -17,9 +17,6 @@ use Rattle.day_model.proofs.Fitting.{Transfer, transfer}
 use Rattle.day_model.proofs.Growth.{none_passes}
 use Rattle.day_model.proofs.CoreWorkers.{There, job_there, worker_at-from_one}
 
-
-
-
 -- one account more
 holds-also_holding : (account : AcctNo) (job : Job) (n : ℕ) → holds (also_holding account job) n ≡ (holds job n || (eqb account.0 n || false))
 holds-also_holding account job n = list_any-append (λ (a : AcctNo). eqb a.0 n) job.held (account ∷ [])
@@ -119,14 +116,14 @@ least_after job account wanted before = record {
     | inr new ↦ subst (λ (m : ℕ). has_account job.pay m ≡ true) new (wanted_own job account.0 wanted).0
   ];
   least = λ m n held own free.
-    let unheld = unheld_after account job n free in
-    elim (held_after account job m held) [
-      | inl old ↦ before.least m n old own unheld.0
-      | inr new ↦
-          let le = wanted_least job account.0 n wanted own unheld.0 in
-          let other : account.0 ≢ n = unheld.1 in
-          omega arith
-    ];
+      let unheld = unheld_after account job n free in
+      elim (held_after account job m held) [
+        | inl old ↦ before.least m n old own unheld.0
+        | inr new ↦
+            let le = wanted_least job account.0 n wanted own unheld.0 in
+            let other : account.0 ≢ n = unheld.1 in
+            omega arith
+      ];
 }
 
 -- each account of a pay that fits is listed
@@ -144,27 +141,27 @@ pub position_at : {A : Type 0} (t : A → Bool) (i k : ℕ) (xs : List A) → po
 position_at t i k [] e = absurd (none-some k e)
 position_at t i k (x ∷ xs) e =
     elim (cases_Bool (t x)) [
-      | inl yes ↦
-          let is : i ≡ k = same_Some i k (sym (cond-true (t x) (Some i) (position_from t (i + 1) xs) yes) ∙ e) in
-          (0, x, omega arith, refl, yes)
-      | inr no ↦
-          let rest = position_at t (i + 1) k xs (sym (cond-false (t x) (Some i) (position_from t (i + 1) xs) no) ∙ e) in
+      | inl passed ↦
+          let is : i ≡ k = same_Some i k (sym (cond-true (t x) (Some i) (position_from t (i + 1) xs) passed) ∙ e) in
+          (0, x, omega arith, refl, passed)
+      | inr failed ↦
+          let rest = position_at t (i + 1) k xs (sym (cond-false (t x) (Some i) (position_from t (i + 1) xs) failed) ∙ e) in
           (suc rest.0, rest.1, omega (arith, rest.2), rest.3, rest.4)
     ]
 
 pub position_least : {A : Type 0} (t : A → Bool) (i k j : ℕ) (xs : List A) (x : A) → position_from t i xs ≡ Some k → slice_get xs j ≡ Some x → t x ≡ true → k ≤ i + j
-position_least t i k j [] x e at yes = absurd (none-some x at)
-position_least t i k zero (y ∷ xs) x e at yes =
-    let here : t y ≡ true = ap t (same_Some y x at) ∙ yes in
+position_least t i k j [] x e at passed = absurd (none-some x at)
+position_least t i k zero (y ∷ xs) x e at passed =
+    let here : t y ≡ true = ap t (same_Some y x at) ∙ passed in
     let is : i ≡ k = same_Some i k (sym (cond-true (t y) (Some i) (position_from t (i + 1) xs) here) ∙ e) in
     omega arith
-position_least t i k (suc j) (y ∷ xs) x e at yes =
+position_least t i k (suc j) (y ∷ xs) x e at passed =
     elim (cases_Bool (t y)) [
       | inl here ↦
           let is : i ≡ k = same_Some i k (sym (cond-true (t y) (Some i) (position_from t (i + 1) xs) here) ∙ e) in
           omega arith
-      | inr no ↦
-          let rest = position_least t (i + 1) k j xs x (sym (cond-false (t y) (Some i) (position_from t (i + 1) xs) no) ∙ e) at yes in
+      | inr failed ↦
+          let rest = position_least t (i + 1) k j xs x (sym (cond-false (t y) (Some i) (position_from t (i + 1) xs) failed) ∙ e) at passed in
           omega arith
     ]
 

@@ -50,8 +50,8 @@ with_pay_sound ledger pay false booked sound fits is out room =
       legal = one_more ledger.chart ledger.entries pay ledger.day sound.legal fits sound.latest (room refl) is;
       latest = still_latest ledger.chart ledger.entries pay ledger.day false sound.latest;
       purses = subst (λ (es : List Entry). AreAtBalance ledger.chart es (purses_with booked ledger.purses pay.legs)) after
-      (purses_more ledger.chart more ledger.purses n e booked (transfer ledger.chart pay.legs fits) at out
-      (subst (λ (es : List Entry). AreAtBalance ledger.chart es ledger.purses) (sym before) sound.purses));
+          (purses_more ledger.chart more ledger.purses n e booked (transfer ledger.chart pay.legs fits) at out
+          (subst (λ (es : List Entry). AreAtBalance ledger.chart es ledger.purses) (sym before) sound.purses));
     }
 
 has_room : (ledger : LedgerState) (pay : Pay) → may_enter ledger pay ≡ true → is_entered ledger pay ≡ false → length ledger.entries < 100000

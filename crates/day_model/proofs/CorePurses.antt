@@ -71,21 +71,21 @@ pub purses_more : (chart : Chart) (entries : List Entry) (purses : List ℤ) (i 
 purses_more chart entries purses i e true t at booked before = record {
   one_each = length-with_legs chart purses e.pay.legs t ∙ before.one_each;
   balances = λ n there.
-    let more = balance_more chart entries n i e at in
-    let credit = booked_moves Credit n e booked ∙ credits_moved chart e.pay.legs n t in
-    let debit = booked_moves Debit n e booked ∙ debits_moved chart e.pay.legs n t in
-    let b : ℤ = balance_of chart (take i entries) n in
-    legs_at chart purses e.pay.legs n b t before.one_each there.0 (before.balances n there)
-    ∙ ap (λ (z : ℤ). Some z) (sym (more ∙ ap (λ (x : ℕ). (b +ℤ pos x) -ℤ pos (moved_by Debit n e)) credit ∙ ap (λ (x : ℕ). (b +ℤ pos (cond (eqb t.credit.account.0 n) t.credit.amount.0 0)) -ℤ pos x) debit));
+      let more = balance_more chart entries n i e at in
+      let credit = booked_moves Credit n e booked ∙ credits_moved chart e.pay.legs n t in
+      let debit = booked_moves Debit n e booked ∙ debits_moved chart e.pay.legs n t in
+      let b : ℤ = balance_of chart (take i entries) n in
+      legs_at chart purses e.pay.legs n b t before.one_each there.0 (before.balances n there)
+      ∙ ap (λ (z : ℤ). Some z) (sym (more ∙ ap (λ (x : ℕ). (b +ℤ pos x) -ℤ pos (moved_by Debit n e)) credit ∙ ap (λ (x : ℕ). (b +ℤ pos (cond (eqb t.credit.account.0 n) t.credit.amount.0 0)) -ℤ pos x) debit));
 }
 purses_more chart entries purses i e false t at booked before = record {
   one_each = before.one_each;
   balances = λ n there.
-    let more = balance_more chart entries n i e at in
-    let b : ℤ = balance_of chart (take i entries) n in
-    let still : (b +ℤ pos 0) -ℤ pos 0 ≡ b = omega (arith, ints) in
-    before.balances n there
-    ∙ ap (λ (z : ℤ). Some z) (sym (more ∙ ap (λ (x : ℕ). (b +ℤ pos x) -ℤ pos (moved_by Debit n e)) (unmoved Credit n e booked) ∙ ap (λ (x : ℕ). (b +ℤ pos 0) -ℤ pos x) (unmoved Debit n e booked) ∙ still));
+      let more = balance_more chart entries n i e at in
+      let b : ℤ = balance_of chart (take i entries) n in
+      let still : (b +ℤ pos 0) -ℤ pos 0 ≡ b = omega (arith, ints) in
+      before.balances n there
+      ∙ ap (λ (z : ℤ). Some z) (sym (more ∙ ap (λ (x : ℕ). (b +ℤ pos x) -ℤ pos (moved_by Debit n e)) (unmoved Credit n e booked) ∙ ap (λ (x : ℕ). (b +ℤ pos 0) -ℤ pos x) (unmoved Debit n e booked) ∙ still));
 }
 
 -- the legs of a pay that fits can be added

@@ -1,6 +1,6 @@
 -- Where a worker has a job, some worker may go on.
 use Rattle.std.proofs.Common.{◌≡◌, ◌≢◌, ℕ, zero, suc, ◌+◌, ◌-◌, ◌<◌, ◌≤◌, Bool, true, false, cond, eqb, List, [], ◌∷◌, Option, Some, None, refl, sym, ap, ◌∙◌, subst, arith, length, inl, inr}
-use Rattle.std.specs.Prelude.{◌⊎◌, ◌&&◌, ◌||◌, slice_get, is_some, is_none}
+use Rattle.std.specs.Prelude.{◌⊎◌, ◌&&◌, ◌||◌, slice_get, is_some, is_none, IfSome}
 use Rattle.std.specs.List.{position_from}
 use Rattle.std.proofs.lemmas.Bool.{and_from, and_parts, cases_Bool, eq-eqb, eqb-true, false≢true, or_left, or_right}
 use Rattle.std.proofs.lemmas.Option.{none-some, same_Some}
@@ -13,7 +13,7 @@ use Rattle.day_model.specs.CoreStep.{CoreState, holder_of, holds, is_allowed, is
 use Rattle.day_model.specs.CoreSound.{AllIdle, HasHeld, IsKept, IsSound, MayGoOn, NoDeadlock, RunsAreKept, can_go_on, goes_on, is_free}
 use Rattle.day_model.proofs.Growth.{none_passes}
 use Rattle.day_model.proofs.CoreWorkers.{There, job_there}
-use Rattle.day_model.proofs.CoreHoldings.{account_listed, holder_held, job_here, position_at, position_least, wanted_own}
+use Rattle.day_model.proofs.CoreHoldings.{account_listed, holder_held, job_here, no_holder, position_at, position_least, wanted_own}
 use Rattle.day_model.proofs.CoreSteps.{run_accounts, run_begins, run_sound}
 
 unmarked : (o : Option Mark) → is_some o ≡ false → is_none o ≡ true
@@ -22,20 +22,20 @@ unmarked (Some mark) e = absurd (false≢true (sym e))
 
 -- a job that may go on has an event that is allowed
 unmarked_event : (s : CoreState) (w : ℕ) (job : Job) (wanted : Option ℕ) → job_at s.workers w ≡ Some job → wanted_by job ≡ wanted → is_some job.mark ≡ false → is_free s.workers wanted ≡ true → MayGoOn s w
-unmarked_event s w job None at is open free = record {
+unmarked_event s w job None at is waiting free = record {
   event = Commit w;
   its_own = eq-eqb w w refl;
-  allowed = subst (λ (o : Option Job). may_commit o ≡ true) (sym at) (and_from (is_none (wanted_by job)) (is_none job.mark) (ap (λ (o : Option ℕ). is_none o) is) (unmarked job.mark open));
+  allowed = subst (λ (o : Option Job). may_commit o ≡ true) (sym at) (and_from (is_none (wanted_by job)) (is_none job.mark) (ap (λ (o : Option ℕ). is_none o) is) (unmarked job.mark waiting));
 }
-unmarked_event s w job (Some n) at is open free = record {
+unmarked_event s w job (Some n) at is waiting free = record {
   event = Take w (record { 0 = n });
   its_own = eq-eqb w w refl;
   allowed = subst (λ (o : Option Job). may_take s.workers n o ≡ true) (sym at) (and_from (is_number (wanted_by job) n) (is_none (holder_of s.workers n)) (ap (λ (o : Option ℕ). is_number o n) is ∙ eq-eqb n n refl) free);
 }
 
 or_second : (b c : Bool) → b ≡ false → (b || c) ≡ true → c ≡ true
-or_second true c no e = absurd (false≢true (sym no))
-or_second false c no e = e
+or_second true c fails e = absurd (false≢true (sym fails))
+or_second false c fails e = e
 
 pub event_of_job : (s : CoreState) (w : ℕ) (job : Job) → job_at s.workers w ≡ Some job → can_go_on s.workers (Some job) ≡ true → MayGoOn s w
 event_of_job s w job at can =
@@ -45,7 +45,7 @@ event_of_job s w job at can =
         its_own = eq-eqb w w refl;
         allowed = subst (λ (o : Option Job). may_give_back o ≡ true) (sym at) committed;
       }
-      | inr open ↦ unmarked_event s w job (wanted_by job) at refl open (or_second (is_some job.mark) (is_free s.workers (wanted_by job)) open can)
+      | inr waiting ↦ unmarked_event s w job (wanted_by job) at refl waiting (or_second (is_some job.mark) (is_free s.workers (wanted_by job)) waiting can)
     ]
 
 -- and the other way round
@@ -99,8 +99,8 @@ goes : (s : CoreState) (w : ℕ) → MayGoOn s w → GoesOn s w
 goes s w may = by_event s w may.event may.its_own may.allowed
 
 -- some worker goes on
-Someone : CoreState → Type 0
-abbrev Someone s = (w : ℕ) × GoesOn s w
+abbrev Someone : CoreState → Type 0
+Someone s = (w : ℕ) × GoesOn s w
 
 option_cases : (o : Option ℕ) → (o ≡ None) ⊎ ((n : ℕ) × (o ≡ Some n))
 option_cases None = inl refl
@@ -114,15 +114,15 @@ waits zero s w job n sound at wants below =
 waits (suc fuel) s w job n sound at wants below =
     elim (option_cases (holder_of s.workers n)) [
       | inl free ↦
-          let open : is_free s.workers (wanted_by job) ≡ true = ap (is_free s.workers) wants ∙ ap (λ (o : Option ℕ). is_none o) free in
-          (w, record { job = job; at = at; can = or_right (is_some job.mark) (is_free s.workers (wanted_by job)) open })
+          let waiting : is_free s.workers (wanted_by job) ≡ true = ap (is_free s.workers) wants ∙ ap (λ (o : Option ℕ). is_none o) free in
+          (w, record { job = job; at = at; can = or_right (is_some job.mark) (is_free s.workers (wanted_by job)) waiting })
       | inr taken ↦
           let v : ℕ = taken.0 in
           let held : HasHeld s.workers v n = holder_held s.workers n v taken.1 in
           let k : Job = held.0 in
           elim (cases_Bool (is_some k.mark)) [
             | inl committed ↦ (v, record { job = k; at = held.1; can = or_left (is_some k.mark) (is_free s.workers (wanted_by k)) committed })
-            | inr open ↦ elim (option_cases (wanted_by k)) [
+            | inr waiting ↦ elim (option_cases (wanted_by k)) [
               | inl all ↦ (v, record { job = k; at = held.1; can = or_right (is_some k.mark) (is_free s.workers (wanted_by k)) (ap (is_free s.workers) all) })
               | inr more ↦
                   let own = wanted_own k more.0 more.1 in
@@ -183,3 +183,12 @@ idle_none s w idle e =
     let found = position_at (can_go_on s.workers) 1 w s.workers e in
     let job = job_of_ready s.workers found.1 found.4 in
     none-some job.0 (sym (idle found.0 found.1 found.3) ∙ job.1)
+
+-- who holds an account
+pub if_held : (workers : List (Option Job)) (n : ℕ) (o : Option ℕ) → o ≡ holder_of workers n → IfSome o (λ w. HasHeld workers w n)
+if_held workers n None e = tt
+if_held workers n (Some w) e = holder_held workers n w (sym e)
+
+pub only_held : (s : CoreState) (n : ℕ) (o : Option ℕ) → IsSound s → o ≡ holder_of s.workers n → (w : ℕ) → HasHeld s.workers w n → o ≡ Some w
+only_held s n None sound e w held = absurd (no_holder s.workers n w (sym (ap (λ (x : Option ℕ). is_some x) e)) held)
+only_held s n (Some v) sound e w held = ap (λ (x : ℕ). Some x) (sound.apart v w n (holder_held s.workers n v (sym e)) held)

@@ -15,7 +15,7 @@ use Rattle.day_model.specs.declared.core_job.Mark.{Mark}
 use Rattle.day_model.specs.declared.core_job.Mark.TheVariants.{Entered}
 use Rattle.day_model.specs.Fit.{FitsAccounts, legs_fit}
 use Rattle.day_model.specs.CoreLedger.{IsSoundLedger, LedgerState, is_entered, ledger_after, mark_of}
-use Rattle.day_model.specs.CoreStep.{CoreState, after, after_commit, also_holding, drawn, holder_of, holds, is_allowed, is_idle, is_number, job_at, marked, may_commit, may_give_back, may_take, run_of, step_of, wanted_by, with_worker, worker_at}
+use Rattle.day_model.specs.CoreStep.{CoreState, after, after_commit, also_holding, drawn, holder_of, holds, is_allowed, is_idle, is_number, job_at, marked, may_commit, may_give_back, may_take, run_of, step_of, wanted_by, with_job, with_worker, worker_at}
 use Rattle.day_model.specs.CoreSound.{AllIdle, HasHeld, IsSound, IsSoundJob}
 use Rattle.day_model.proofs.CoreWorkers.{There, idle_there, job_after, there, worker_at-from_one, worker_of_job}
 use Rattle.day_model.proofs.CoreHoldings.{held_after, least_after, no_holder}
@@ -86,6 +86,9 @@ nobody : (o : Option ℕ) → is_none o ≡ true → is_some o ≡ false
 nobody None e = refl
 nobody (Some n) e = absurd (false≢true e)
 
+with_job-at : (workers : List (Option Job)) (w : ℕ) (job : Job) (change : Job → Job) → job_at workers w ≡ Some job → with_job workers w change ≡ with_worker workers w (Some (change job))
+with_job-at workers w job change at = ap (λ (o : Option Job). option_map_or (λ j. with_worker workers w (Some (change j))) o workers) at
+
 taken_sound : (s : CoreState) (w : ℕ) (account : AcctNo) (job : Job) → IsSound s → job_at s.workers w ≡ Some job → may_take s.workers account.0 (Some job) ≡ true → IsSound (record s { workers = with_worker s.workers w (Some (also_holding account job)) })
 taken_sound s w account job sound at may =
     let parts = and_parts (is_number (wanted_by job) account.0) (is_none (holder_of s.workers account.0)) may in
@@ -100,10 +103,10 @@ taken_sound s w account job sound at may =
         entered = old.entered;
       });
       alone = λ new n v is held there.
-        elim (held_after account job n (subst (λ (j : Job). holds j n ≡ true) (sym (same_Some (also_holding account job) new is)) held)) [
-          | inl before ↦ sound.apart v w n there (job, at, before)
-          | inr now ↦ absurd (no_holder s.workers account.0 v free (subst (λ (m : ℕ). HasHeld s.workers v m) (sym now) there))
-        ];
+          elim (held_after account job n (subst (λ (j : Job). holds j n ≡ true) (sym (same_Some (also_holding account job) new is)) held)) [
+            | inl before ↦ sound.apart v w n there (job, at, before)
+            | inr now ↦ absurd (no_holder s.workers account.0 v free (subst (λ (m : ℕ). HasHeld s.workers v m) (sym now) there))
+          ];
     }))
 
 given_back_sound : (s : CoreState) (w : ℕ) (job : Job) → IsSound s → job_at s.workers w ≡ Some job → IsSound (after s (GiveBack w))
@@ -114,7 +117,7 @@ given_back_sound s w job sound at =
       alone = λ new n v is held there. absurd (none-some new is);
     }))
 
-committed_sound : (s : CoreState) (w : ℕ) (job : Job) → IsSound s → job_at s.workers w ≡ Some job → IsSound (after_commit s w job)
+pub committed_sound : (s : CoreState) (w : ℕ) (job : Job) → IsSound s → job_at s.workers w ≡ Some job → IsSound (after_commit s w job)
 committed_sound s w job sound at =
     let old = sound.jobs w job at in
     let ledger : LedgerState = ledger_after s.ledger job.pay in
@@ -125,7 +128,7 @@ committed_sound s w job sound at =
       jobs = λ v other here. other_ledger s.ledger ledger other chart (λ pay is. entered_still s.ledger job.pay pay is) (sound.jobs v other here);
       apart = sound.apart;
     } in
-    with_jobs ledger (with_worker s.workers w (Some (marked mark job))) (ledger_after_sound s.ledger job.pay sound.ledger old.fits)
+    subst (λ (ws : List (Option Job)). IsSound (record { ledger = ledger; workers = ws })) (sym (with_job-at s.workers w job (marked mark) at)) (with_jobs ledger (with_worker s.workers w (Some (marked mark job))) (ledger_after_sound s.ledger job.pay sound.ledger old.fits)
     (changed_sound ledger s.workers w (Some job) (Some (marked mark job)) before (worker_of_job s.workers w job at) (record {
       sound = λ new is. subst (λ (j : Job). IsSoundJob ledger j) (same_Some (marked mark job) new is) (record {
         fits = subst (λ c. FitsAccounts c job.pay) (sym chart) old.fits;
@@ -133,7 +136,7 @@ committed_sound s w job sound at =
         entered = λ now. entered_now s.ledger job.pay (same_Some mark Entered now);
       });
       alone = λ new n v is held there. sound.apart v w n there (job, at, subst (λ (j : Job). holds j n ≡ true) (sym (same_Some (marked mark job) new is)) held);
-    }))
+    })))
 
 faulty_sound : (s : CoreState) → IsSound s → IsSound (after s Fault)
 faulty_sound s sound =
@@ -146,9 +149,9 @@ faulty_sound s sound =
     })
 
 -- the events of a worker with a job
-take_cases : (s : CoreState) (w : ℕ) (account : AcctNo) (o : Option Job) → job_at s.workers w ≡ o → may_take s.workers account.0 o ≡ true → IsSound s → IsSound (option_map_or (λ job. record s { workers = with_worker s.workers w (Some (also_holding account job)) }) o s)
-take_cases s w account None at may sound = sound
-take_cases s w account (Some job) at may sound = taken_sound s w account job sound at may
+take_cases : (s : CoreState) (w : ℕ) (account : AcctNo) (o : Option Job) → job_at s.workers w ≡ o → may_take s.workers account.0 o ≡ true → IsSound s → IsSound (after s (Take w account))
+take_cases s w account None at may sound = absurd (false≢true may)
+take_cases s w account (Some job) at may sound = subst (λ (ws : List (Option Job)). IsSound (record { ledger = s.ledger; workers = ws })) (sym (with_job-at s.workers w job (also_holding account) at)) (taken_sound s w account job sound at may)
 
 commit_cases : (s : CoreState) (w : ℕ) (o : Option Job) → job_at s.workers w ≡ o → IsSound s → IsSound (option_map_or (after_commit s w) o s)
 commit_cases s w None at sound = sound
@@ -161,7 +164,7 @@ give_back_cases s w (Some job) at may sound = given_back_sound s w job sound at
 idle_at : (s : CoreState) (w : ℕ) → is_idle (worker_at s.workers w) ≡ true → worker_at s.workers w ≡ Some None
 idle_at s w e = let t = idle_there s.workers w e in worker_at-from_one s.workers w t.from_one ∙ t.at
 
-after_sound : (s : CoreState) (event : Event) → is_allowed s event ≡ true → IsSound s → IsSound (after s event)
+pub after_sound : (s : CoreState) (event : Event) → is_allowed s event ≡ true → IsSound s → IsSound (after s event)
 after_sound s (Draw w pay) may sound =
     let parts = and_parts (is_idle (worker_at s.workers w)) (legs_fit s.ledger.chart pay.legs) may in
     drawn_sound s w pay sound (idle_at s w parts.0) parts.1
@@ -183,11 +186,7 @@ grows_not ledger new chart entries = record { accounts = chart; begins = ([], en
 
 after_grows : (s : CoreState) (event : Event) → Grows s.ledger (after s event).ledger
 after_grows s (Draw w pay) = grows_not s.ledger s.ledger refl refl
-after_grows s (Take w account) = by_job (job_at s.workers w)
-  where
-    by_job : (o : Option Job) → Grows s.ledger (option_map_or (λ job. record s { workers = with_worker s.workers w (Some (also_holding account job)) }) o s).ledger
-    by_job None = grows_not s.ledger s.ledger refl refl
-    by_job (Some job) = grows_not s.ledger s.ledger refl refl
+after_grows s (Take w account) = grows_not s.ledger s.ledger refl refl
 after_grows s (Commit w) = by_job (job_at s.workers w)
   where
     by_job : (o : Option Job) → Grows s.ledger (option_map_or (after_commit s w) o s).ledger
@@ -217,11 +216,7 @@ run_begins s (event ∷ events) =
 -- after a fault the ledger stays
 after_broken : (s : CoreState) (event : Event) → s.ledger.broken ≡ true → (after s event).ledger ≡ s.ledger
 after_broken s (Draw w pay) broken = refl
-after_broken s (Take w account) broken = by_job (job_at s.workers w)
-  where
-    by_job : (o : Option Job) → (option_map_or (λ job. record s { workers = with_worker s.workers w (Some (also_holding account job)) }) o s).ledger ≡ s.ledger
-    by_job None = refl
-    by_job (Some job) = refl
+after_broken s (Take w account) broken = refl
 after_broken s (Commit w) broken = by_job (job_at s.workers w)
   where
     by_job : (o : Option Job) → (option_map_or (after_commit s w) o s).ledger ≡ s.ledger
@@ -242,9 +237,15 @@ run_broken s (event ∷ events) broken =
 pub fault_freezes : (s : CoreState) (events : List Event) → (run_of (step_of s Fault) events).ledger.entries ≡ s.ledger.entries
 fault_freezes s events = ap (λ (l : LedgerState). l.entries) (run_broken (step_of s Fault) events refl)
 
--- an event that is allowed, and one that isn't
-pub step-allowed : (s : CoreState) (event : Event) → is_allowed s event ≡ true → step_of s event ≡ after s event
-step-allowed s event may = cond-true (is_allowed s event) (after s event) s may
-
-pub step-refused : (s : CoreState) (event : Event) → is_allowed s event ≡ false → step_of s event ≡ s
-step-refused s event not_allowed = cond-false (is_allowed s event) (after s event) s not_allowed
+-- workers without a job
+pub idle_sound : (ledger : LedgerState) (workers : List (Option Job)) → IsSoundLedger ledger → length workers < 2 ^ 32 → AllIdle workers → IsSound (record { ledger = ledger; workers = workers })
+idle_sound ledger workers sound few idle =
+    let none : (w : ℕ) (job : Job) → job_at workers w ≡ Some job → ⊥ = λ w job at.
+    let t = there workers w (Some job) (worker_of_job workers w job at) in
+    none-some job (sym (idle (w - 1) (Some job) t.at)) in
+    record {
+      ledger = sound;
+      few = few;
+      jobs = λ w job at. absurd (none w job at);
+      apart = λ v w n first second. absurd (none v first.0 first.1);
+    }

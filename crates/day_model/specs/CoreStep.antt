@@ -94,17 +94,20 @@ also_holding account job = record job { held = job.held ++ account ∷ [] }
 abbrev pub marked : Mark → Job → Job
 marked mark job = record job { mark = Some mark }
 
+-- a worker's job changed
+abbrev pub with_job : List (Option Job) → ℕ → (Job → Job) → List (Option Job)
+with_job workers n change = option_map_or (λ job. with_worker workers n (Some (change job))) (job_at workers n) workers
+
 abbrev pub after_commit : CoreState → ℕ → Job → CoreState
 after_commit s worker job = record {
   ledger = ledger_after s.ledger job.pay;
-  workers = with_worker s.workers worker (Some (marked (mark_of s.ledger job.pay) job));
+  workers = with_job s.workers worker (marked (mark_of s.ledger job.pay));
 }
 
 -- what an event that is allowed changes
 abbrev pub after : CoreState → Event → CoreState
 after s (Draw worker pay) = record s { workers = with_worker s.workers worker (Some (drawn pay)) }
-after s (Take worker account) =
-    option_map_or (λ job. record s { workers = with_worker s.workers worker (Some (also_holding account job)) }) (job_at s.workers worker) s
+after s (Take worker account) = record s { workers = with_job s.workers worker (also_holding account) }
 after s (Commit worker) = option_map_or (after_commit s worker) (job_at s.workers worker) s
 after s (GiveBack worker) = record s { workers = with_worker s.workers worker None }
 after s Fault = record s { ledger = record s.ledger { broken = true } }

@@ -1,10 +1,10 @@
 //! The jobs of a core's workers.
 
 ghost use Rattle.std.specs.Prelude.{◌≡◌, ◌<◌, ◌≤◌, ◌^◌, [], Some, length, OnOk, OnErr, IfOk};
-ghost use Rattle.std.specs.Option.{option_copied, option_map_or};
+ghost use Rattle.std.specs.Option.{option_copied};
 ghost use Rattle.std.specs.List.{position_from};
 ghost use Rattle.day_model.specs.CoreSound.{AllIdle};
-ghost use Rattle.day_model.specs.CoreStep.{also_holding, drawn, has_held, holder_of, holds, is_idle, job_at, least_unheld, lesser, marked, may_commit, may_give_back, may_take, wanted_by, with_worker, worker_at};
+ghost use Rattle.day_model.specs.CoreStep.{also_holding, drawn, has_held, holder_of, holds, is_idle, job_at, least_unheld, lesser, marked, may_commit, may_give_back, may_take, wanted_by, with_job, with_worker, worker_at};
 
 use crate::account::AcctNo;
 use crate::pay::{Leg, Pay};
@@ -30,13 +30,7 @@ fn the_lesser(n: u32, least: Option<u32>) -> u32
     ensures { result ≡ lesser n least }
 {
     match least {
-        Some(m) => {
-            if m < n {
-                m
-            } else {
-                n
-            }
-        }
+        Some(m) => { if m < n { m } else { n } }
         None => n,
     }
 }
@@ -165,7 +159,7 @@ pub(crate) fn hold(
 ) -> Result<(), Memory>
     requires from_one { 1 ≤ worker }
     requires there { worker ≤ length workers.old.items }
-    ensures ok { OnOk result (workers.new.items ≡ option_map_or (λ job. with_worker workers.old.items worker (Some (also_holding account job))) (job_at workers.old.items worker) workers.old.items) }
+    ensures ok { OnOk result (workers.new.items ≡ with_job workers.old.items worker (also_holding account)) }
     ensures err { OnErr result (workers.new.items ≡ workers.old.items) }
 {
     match &mut workers[worker as usize - 1] {
@@ -178,7 +172,7 @@ pub(crate) fn hold(
 pub(crate) fn set_mark(workers: &mut Vec<Option<Job>>, worker: u32, mark: Mark)
     requires from_one { 1 ≤ worker }
     requires there { worker ≤ length workers.old.items }
-    ensures { workers.new.items ≡ option_map_or (λ job. with_worker workers.old.items worker (Some (marked mark job))) (job_at workers.old.items worker) workers.old.items }
+    ensures { workers.new.items ≡ with_job workers.old.items worker (marked mark) }
 {
     if let Some(job) = &mut workers[worker as usize - 1] {
         job.mark = Some(mark);

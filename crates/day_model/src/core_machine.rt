@@ -1,8 +1,6 @@
 //! Workers that enter pays into one history, as a machine that takes one event after another.
 
 ghost use Rattle.std.specs.Prelude.{◌≡◌, ◌≤◌, ◌↔◌, ℕ, Some, IfOk, OnOk, OnErr, IfSome, IsNone};
-ghost use Rattle.day_model.specs.declared.core_event.Event.{Event};
-ghost use Rattle.day_model.specs.declared.core_event.Event.TheVariants.{Draw, Take, Commit, GiveBack, Fault};
 ghost use Rattle.day_model.specs.Legal.{IsLegal};
 ghost use Rattle.day_model.specs.CoreStep.{step_of};
 ghost use Rattle.day_model.specs.CoreSound.{AllIdle, FaultFreezes, HasHeld, IsFirst, MayGoOn, RunsAreKept};
@@ -103,6 +101,20 @@ impl Core {
         self.ledger.fail();
     }
 
+    fn apply(&mut self, e: Event) -> Result<(), Memory>
+        ensures ok { OnOk result (self.new ≡ step_of self.old e) }
+        ensures err { OnErr result (self.new ≡ self.old) }
+    {
+        match e {
+            Event::Draw { worker, pay } => self.draw(worker, pay),
+            Event::Take { worker, account } => self.take(worker, account)?,
+            Event::Commit { worker } => self.commit(worker)?,
+            Event::GiveBack { worker } => self.give_back(worker),
+            Event::Fault => self.fail(),
+        }
+        Ok(())
+    }
+
     /// Takes one event. One that isn't allowed changes nothing, and so does want of memory.
     ///
     /// Whatever events follow, in whatever order, the history stays legal and begins as before, purses are at their
@@ -113,15 +125,9 @@ impl Core {
         ensures runs { RunsAreKept self.old }
         ensures frozen { FaultFreezes self.old }
     {
+        // A look at a field tells the contract what every core keeps.
         let _ = &self.workers;
-        match e {
-            Event::Draw { worker, pay } => self.draw(worker, pay),
-            Event::Take { worker, account } => self.take(worker, account)?,
-            Event::Commit { worker } => self.commit(worker)?,
-            Event::GiveBack { worker } => self.give_back(worker),
-            Event::Fault => self.fail(),
-        }
-        Ok(())
+        self.apply(e)
     }
 
     /// The least worker to which a Take, a Commit or a GiveBack is allowed; none exactly where every worker is idle.
