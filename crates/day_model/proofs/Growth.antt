@@ -39,13 +39,13 @@ tail_fails true i o e = absurd (false≢true (sym e))
 tail_fails false i o e = e
 
 -- where none passes, each fails
-none_passes : {A : Type 0} (t : A → Bool) (i k : ℕ) (xs : List A) (x : A) → is_some (position_from t i xs) ≡ false → slice_get xs k ≡ Some x → t x ≡ false
+pub none_passes : {A : Type 0} (t : A → Bool) (i k : ℕ) (xs : List A) (x : A) → is_some (position_from t i xs) ≡ false → slice_get xs k ≡ Some x → t x ≡ false
 none_passes t i k [] x none at = absurd (none-some x at)
 none_passes t i zero (y ∷ xs) x none at = ap t (sym (same_Some y x at)) ∙ head_fails (t y) i (position_from t (i + 1) xs) none
 none_passes t i (suc k) (y ∷ xs) x none at = none_passes t (i + 1) k xs x (tail_fails (t y) i (position_from t (i + 1) xs) none) at
 
 -- an element of a list and one more is an old one, or the new one
-pushed : {A : Type 0} (xs : List A) (y : A) (k : ℕ) (x : A) → slice_get (xs ++ y ∷ []) k ≡ Some x → (slice_get xs k ≡ Some x) ⊎ ((k ≡ length xs) × (y ≡ x))
+pub pushed : {A : Type 0} (xs : List A) (y : A) (k : ℕ) (x : A) → slice_get (xs ++ y ∷ []) k ≡ Some x → (slice_get xs k ≡ Some x) ⊎ ((k ≡ length xs) × (y ≡ x))
 pushed [] y zero x at = inr (refl, same_Some y x at)
 pushed [] y (suc k) x at = absurd (none-some x at)
 pushed (z ∷ xs) y zero x at = inl at
@@ -59,7 +59,7 @@ same_mir : (mir : Mir) (e : Entry) → e.pay.mir ≡ mir → has_mir mir e ≡ t
 same_mir mir e is = (bytes_eq-Decides e.pay.mir.0 mir.0).1 (ap (λ (m : Mir). m.0) is)
 
 -- a legal history with one entry more, whose reference is new and whose day is no earlier
-one_more : (chart : Chart) (entries : List Entry) (pay : Pay) (day : Day) → IsLegal chart entries → FitsAccounts chart pay → IsLatest entries day → length entries < 100000 → is_some (entered_at pay.mir entries) ≡ false → IsLegal chart (entries ++ entry_of chart entries pay day ∷ [])
+pub one_more : (chart : Chart) (entries : List Entry) (pay : Pay) (day : Day) → IsLegal chart entries → FitsAccounts chart pay → IsLatest entries day → length entries < 100000 → is_some (entered_at pay.mir entries) ≡ false → IsLegal chart (entries ++ entry_of chart entries pay day ∷ [])
 one_more chart entries pay day legal fit latest room new =
     let e : Entry = entry_of chart entries pay day in
     record {
@@ -125,7 +125,7 @@ fold_of_append chart entries [] b day = refl
 fold_of_append chart entries (pay ∷ pays) b day = fold_of_append chart (next_history chart entries pay day) pays b day
 
 -- what is entered stays so
-still : (mir : Mir) (entries more : List Entry) → is_some (entered_at mir entries) ≡ true → is_some (entered_at mir (entries ++ more)) ≡ true
+pub still : (mir : Mir) (entries more : List Entry) → is_some (entered_at mir entries) ≡ true → is_some (entered_at mir (entries ++ more)) ≡ true
 still mir entries more e = found (entered_at mir entries) refl e
   where
     found : (o : Option ℕ) → entered_at mir entries ≡ o → is_some o ≡ true → is_some (entered_at mir (entries ++ more)) ≡ true
@@ -146,7 +146,7 @@ last_found t i (x ∷ xs) y e =
       | false ↦ last_found t (i + 1) xs y e
     ]
 
-enters : (chart : Chart) (entries : List Entry) (pay : Pay) (day : Day) (b : Bool) → is_some (entered_at pay.mir entries) ≡ b → is_some (entered_at pay.mir (if b then entries else entries ++ entry_of chart entries pay day ∷ [])) ≡ true
+pub enters : (chart : Chart) (entries : List Entry) (pay : Pay) (day : Day) (b : Bool) → is_some (entered_at pay.mir entries) ≡ b → is_some (entered_at pay.mir (if b then entries else entries ++ entry_of chart entries pay day ∷ [])) ≡ true
 enters chart entries pay day true is = is
 enters chart entries pay day false is = last_found (has_mir pay.mir) 1 entries (entry_of chart entries pay day) (same_mir pay.mir (entry_of chart entries pay day) refl)
 
@@ -181,7 +181,7 @@ grown : (chart : Chart) (entries : List Entry) (pay : Pay) (day : Day) (b : Bool
 grown chart entries pay day true = omega arith
 grown chart entries pay day false = rw (length-append entries (entry_of chart entries pay day ∷ [])) (omega arith)
 
-still_latest : (chart : Chart) (entries : List Entry) (pay : Pay) (day : Day) (b : Bool) → IsLatest entries day → IsLatest (if b then entries else entries ++ entry_of chart entries pay day ∷ []) day
+pub still_latest : (chart : Chart) (entries : List Entry) (pay : Pay) (day : Day) (b : Bool) → IsLatest entries day → IsLatest (if b then entries else entries ++ entry_of chart entries pay day ∷ []) day
 still_latest chart entries pay day true latest = latest
 still_latest chart entries pay day false latest = λ i x at. elim (pushed entries (entry_of chart entries pay day) i x at) [
   | inl old ↦ latest i x old

@@ -7,3 +7,9 @@ pub mod Sums
 pub mod Growth
 pub mod Pairs
 pub mod Testing
+pub mod CoreWorkers
+pub mod CorePurses
+pub mod CoreLedgers
+pub mod CoreHoldings
+pub mod CoreSteps
+pub mod CoreReady

@@ -9,3 +9,6 @@ pub mod Same
 pub mod Laws
 pub mod Rows
 pub mod Totals
+pub mod CoreLedger
+pub mod CoreStep
+pub mod CoreSound

@@ -70,7 +70,7 @@ pub fn balance(a: &Accounts, h: &History, n: AcctNo) -> i64
     balance
 }
 
-fn after_leg(balance: i64, leg: &Leg) -> i64
+pub(crate) fn after_leg(balance: i64, leg: &Leg) -> i64
     requires small { IsSmall balance }
     requires amount { leg.now.amount.0 < 100000000000000 }
     ensures { result ≡ changed leg.now.side leg.now.amount.0 balance }

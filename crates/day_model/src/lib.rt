@@ -3,6 +3,12 @@
 
 mod account;
 mod accounts;
+mod copy;
+mod core_event;
+mod core_job;
+mod core_ledger;
+mod core_machine;
+mod core_ready;
 mod entry;
 mod fault;
 mod fit;
@@ -20,6 +26,8 @@ mod totals;
 
 pub use account::{Account, AcctNo};
 pub use accounts::Accounts;
+pub use core_event::Event;
+pub use core_machine::Core;
 pub use entry::{Entry, Outcome};
 pub use fault::AccountsFault;
 pub use funds::{balance, decide};

@@ -1,0 +1,87 @@
+-- What holds of a core after every list of events.
+use Rattle.std.specs.Prelude.{◌≡◌, ℕ, ◌<◌, ◌^◌, ◌==◌, ◌||◌, Bool, true, false, List, ◌++◌, Option, Some, None, length, slice_get, is_some, is_none}
+use Rattle.std.specs.List.{list_any}
+use Rattle.day_model.specs.declared.entry.Entry.{Entry}
+use Rattle.day_model.specs.declared.pay.Pay.{Pay}
+use Rattle.day_model.specs.declared.core_event.Event.{Event}
+use Rattle.day_model.specs.declared.core_event.Event.TheVariants.{Draw, Take, Commit, GiveBack, Fault}
+use Rattle.day_model.specs.declared.core_job.Job.{Job}
+use Rattle.day_model.specs.declared.core_job.Mark.TheVariants.{Entered}
+use Rattle.day_model.specs.Chart.{Chart}
+use Rattle.day_model.specs.Fit.{FitsAccounts}
+use Rattle.day_model.specs.CoreLedger.{LedgerState, IsSoundLedger, IsFirstLedger, is_entered}
+use Rattle.day_model.specs.CoreStep.{CoreState, job_at, holder_of, holds, wanted_by, is_allowed, step_of, run_of}
+
+-- no worker has a job
+abbrev pub AllIdle : List (Option Job) → Type 0
+AllIdle workers = (i : ℕ) (job : Option Job) → slice_get workers i ≡ Some job → job ≡ None
+
+-- the core of a history, whose workers are idle
+pub record IsFirst (chart : Chart) (entries : List Entry) (workers : ℕ) (s : CoreState) : Type 0 where
+  pub ledger : IsFirstLedger chart entries s.ledger
+  pub count : length s.workers ≡ workers
+  pub idle : AllIdle s.workers
+
+abbrev pub has_account : Pay → ℕ → Bool
+has_account pay n = list_any (λ leg. leg.account.0 == n) pay.legs
+
+-- what a job holds are the least of its accounts
+pub record HoldsLeast (job : Job) : Type 0 where
+  pub own : (n : ℕ) → holds job n ≡ true → has_account job.pay n ≡ true
+  pub least : (m n : ℕ) → holds job m ≡ true → has_account job.pay n ≡ true → holds job n ≡ false → m < n
+
+-- the job of a worker holds account n
+abbrev pub HasHeld : List (Option Job) → ℕ → ℕ → Type 0
+HasHeld workers worker n = (job : Job) × (job_at workers worker ≡ Some job) × (holds job n ≡ true)
+
+pub record IsSoundJob (ledger : LedgerState) (job : Job) : Type 0 where
+  pub fits : FitsAccounts ledger.chart job.pay
+  pub least : HoldsLeast job
+  pub entered : job.mark ≡ Some Entered → is_entered ledger job.pay ≡ true
+
+-- the ledger is sound, each job too, and no two workers hold one account
+pub record IsSound (s : CoreState) : Type 0 where
+  pub ledger : IsSoundLedger s.ledger
+  pub few : length s.workers < 2 ^ 32
+  pub jobs : (worker : ℕ) (job : Job) → job_at s.workers worker ≡ Some job → IsSoundJob s.ledger job
+  pub apart : (v w n : ℕ) → HasHeld s.workers v n → HasHeld s.workers w n → v ≡ w
+
+-- an event by which a worker goes on with its job
+abbrev pub goes_on : ℕ → Event → Bool
+goes_on worker (Draw w pay) = false
+goes_on worker (Take w account) = w == worker
+goes_on worker (Commit w) = w == worker
+goes_on worker (GiveBack w) = w == worker
+goes_on worker Fault = false
+
+pub record MayGoOn (s : CoreState) (worker : ℕ) : Type 0 where
+  pub event : Event
+  pub its_own : goes_on worker event ≡ true
+  pub allowed : is_allowed s event ≡ true
+
+abbrev pub is_free : List (Option Job) → Option ℕ → Bool
+is_free workers (Some n) = is_none (holder_of workers n)
+is_free workers None = true
+
+-- a worker that may go on: its job is committed, or the account that it wants is free, or it wants none
+abbrev pub can_go_on : List (Option Job) → Option Job → Bool
+can_go_on workers (Some job) = is_some job.mark || is_free workers (wanted_by job)
+can_go_on workers None = false
+
+-- where a worker has a job, some worker may go on
+abbrev pub NoDeadlock : CoreState → Type 0
+NoDeadlock s = (worker : ℕ) (job : Job) → job_at s.workers worker ≡ Some job → (w : ℕ) × MayGoOn s w
+
+-- what holds of a state that a list of events leads to
+pub record IsKept (first s : CoreState) : Type 0 where
+  pub sound : IsSound s
+  pub accounts : s.ledger.chart ≡ first.ledger.chart
+  pub begins : (more : List Entry) × (s.ledger.entries ≡ first.ledger.entries ++ more)
+  pub no_deadlock : NoDeadlock s
+
+abbrev pub RunsAreKept : CoreState → Type 0
+RunsAreKept s = (events : List Event) → IsKept s (run_of s events)
+
+-- after a fault the history stays
+abbrev pub FaultFreezes : CoreState → Type 0
+FaultFreezes s = (events : List Event) → (run_of (step_of s Fault) events).ledger.entries ≡ s.ledger.entries
