@@ -248,9 +248,9 @@ bic-stands None text lines go x s = record {
 bic-stands (Some line) text lines go x s = record {
   continued = All-cons Continues text [] go (λ k d lt. absurd (omega arith));
   bytes =
-    All-cons (λ line. has_other_byte line ≡ false) line (text ∷ [])
-    (All-head (λ line. has_other_byte line ≡ false) line lines s.bytes)
-    (All-cons (λ line. has_other_byte line ≡ false) text [] x (λ k d lt. absurd (omega arith)));
+      All-cons (λ line. has_other_byte line ≡ false) line (text ∷ [])
+      (All-head (λ line. has_other_byte line ≡ false) line lines s.bytes)
+      (All-cons (λ line. has_other_byte line ≡ false) text [] x (λ k d lt. absurd (omega arith)));
 }
 
 bic-party-stands : (first : Option (List ℕ)) (rest : List (List ℕ)) (p : Party) → bic_party first rest ≡ Some p → Stand (led_by first rest) → Stand (party_lines p)

@@ -1,303 +1,272 @@
 //! Party fields as messages hold them.
 
 use crate::{Party, PartyFault, account_of, put_party, read_party};
-use corr_ids::Bic;
 use corr_text::{List, Memory, Text};
 use fin_fields::Field;
 use std::alloc::Global;
 use std::test::Fail;
 
-// 34 characters, the most of an account.
-const LONG: &[u8] = b"1234567890123456789012345678901234";
-
-// 35 characters, the most of a line of name and address.
-const LINE: &[u8] = b"A NAME OF THIRTY-FIVE CHARACTERS 12";
-
-// A row of a table: tag, letter and lines.
-type Row<'a> = (u8, Option<u8>, &'a [&'a [u8]]);
-
-fn field(alloc: Global, row: &Row<'_>) -> Result<Field, Memory> {
-    let mut lines = List::new(alloc);
-    for line in row.2 {
-        lines.push(Text::from_bytes(alloc, line)?)?;
+// A field in one row: two digits, the letter or a space, and the lines with bars between them.
+fn field(alloc: Global, row: &[u8]) -> Result<Field, Memory> {
+    match row {
+        [tens @ b'0'..=b'9', ones @ b'0'..=b'9', letter, content @ ..] => {
+            let mut lines = List::new(alloc);
+            for line in content.split(|b| *b == b'|') {
+                lines.push(Text::from_bytes(alloc, line)?)?;
+            }
+            Ok(Field {
+                tag: 10 * (*tens - b'0') + (*ones - b'0'),
+                letter: if *letter == b' ' { None } else { Some(*letter) },
+                lines,
+            })
+        }
+        _ => Err(Memory),
     }
-    Ok(Field {
-        tag: row.0,
-        letter: row.1,
-        lines,
-    })
 }
 
-fn is_row(f: &Field, row: &Row<'_>) -> bool {
+fn is_same(f: &Field, g: &Field) -> bool {
     let lines = f.lines.as_slice();
-    f.tag == row.0
-        && f.letter == row.1
-        && lines.len() == row.2.len()
+    let others = g.lines.as_slice();
+    f.tag == g.tag
+        && f.letter == g.letter
+        && lines.len() == others.len()
         && lines
             .iter()
-            .zip(row.2)
-            .all(|(line, want)| line.bytes() == *want)
+            .zip(others.iter())
+            .all(|(line, other)| line.bytes() == other.bytes())
 }
 
-// What is read of each row and written is the row again.
-fn come_back(alloc: Global, rows: &[Row<'_>]) -> Result<bool, PartyFault> {
-    for row in rows {
-        let party = read_party(alloc, &field(alloc, row)?)?;
-        let written = put_party(alloc, row.0, &party)?;
-        if !is_row(&written, row) {
-            return Ok(false);
-        }
-    }
-    Ok(true)
+// Whether what is read of a row and written is the row again.
+fn comes_back(alloc: Global, row: &[u8]) -> Result<bool, PartyFault> {
+    let f = field(alloc, row)?;
+    let party = read_party(alloc, &f)?;
+    let written = put_party(alloc, f.tag, &party)?;
+    Ok(is_same(&written, &f))
 }
 
-// The first row, from 1, that isn't refused, else 0.
-fn first_taken(alloc: Global, rows: &[Row<'_>]) -> Result<usize, Memory> {
-    for (i, row) in rows.iter().enumerate() {
-        match read_party(alloc, &field(alloc, row)?) {
-            Ok(_party) => return Ok(i + 1),
-            Err(PartyFault::P24) => {}
-            Err(PartyFault::Memory) => return Err(Memory),
-        }
+fn is_text(text: &Option<Text>, want: &[u8]) -> bool {
+    match text {
+        Some(text) => text.bytes() == want,
+        None => false,
     }
-    Ok(0)
+}
+
+fn is_refused(alloc: Global, row: &[u8]) -> Result<bool, Memory> {
+    let f = field(alloc, row)?;
+    match read_party(alloc, &f) {
+        Ok(_party) => Ok(false),
+        Err(PartyFault::P24) => Ok(true),
+        Err(PartyFault::Memory) => Err(Memory),
+    }
 }
 
 #[test]
 fn banks_are_read_and_written(rt: HostRuntime) -> Result<(), Fail> {
-    let rows: [Row<'_>; 21] = [
-        (52, Some(b'A'), &[b"ALPHDEFF"]),
-        (53, Some(b'A'), &[b"/C/12", b"ALPHDEFF500"]),
-        (54, Some(b'A'), &[b"//AB", b"ALPHDEFF"]),
-        (55, Some(b'A'), &[b"/1", b"BETAFRPP"]),
-        (
-            58,
-            Some(b'A'),
-            &[b"/C/1234567890123456789012345678901234", b"BETAFRPP"],
-        ),
-        (
-            57,
-            Some(b'A'),
-            &[b"/1234567890123456789012345678901234", b"BETAFRPP"],
-        ),
-        (53, Some(b'B'), &[b"/CUST1"]),
-        (54, Some(b'B'), &[b"PARIS"]),
-        (55, Some(b'B'), &[b"/C/12", b"PARIS"]),
-        (57, Some(b'B'), &[b"/12", b"/X"]),
-        (57, Some(b'B'), &[LINE]),
-        (53, Some(b'B'), &[b"/C/"]),
-        (56, Some(b'C'), &[b"//AB"]),
-        (57, Some(b'C'), &[b"/1234567890123456789012345678901234"]),
-        (56, Some(b'C'), &[b"/C/12345678901234567890123456789012"]),
-        (52, Some(b'D'), &[b"A BANK"]),
-        (56, Some(b'D'), &[b"/12", b"A BANK", b"B", b"C", b"D"]),
-        (57, Some(b'D'), &[b"A BANK", b"/C/D"]),
-        (58, Some(b'D'), &[LINE, LINE, LINE, LINE]),
-        (53, Some(b'D'), &[b"//AB", b"A BANK"]),
-        (
-            55,
-            Some(b'D'),
-            &[b"/C/1234567890123456789012345678901234", b"A BANK"],
-        ),
+    let rows: [&[u8]; 21] = [
+        b"52AALPHDEFF",
+        b"53A/C/12|ALPHDEFF500",
+        b"54A//AB|ALPHDEFF",
+        b"55A/1|BETAFRPP",
+        b"58A/C/1234567890123456789012345678901234|BETAFRPP",
+        b"57A/1234567890123456789012345678901234|BETAFRPP",
+        b"53B/CUST1",
+        b"54BPARIS",
+        b"55B/C/12|PARIS",
+        b"57B/12|/X",
+        b"57BA NAME OF THIRTY-FIVE CHARACTERS 12",
+        b"53B/C/",
+        b"56C//AB",
+        b"57C/1234567890123456789012345678901234",
+        b"56C/C/12345678901234567890123456789012",
+        b"52DA BANK",
+        b"56D/12|A BANK|B|C|D",
+        b"57DA BANK|/C/D",
+        b"58DA NAME OF THIRTY-FIVE CHARACTERS 12|A NAME OF THIRTY-FIVE CHARACTERS 12|A NAME OF THIRTY-FIVE CHARACTERS 12|A NAME OF THIRTY-FIVE CHARACTERS 12",
+        b"53D//AB|A BANK",
+        b"55D/C/1234567890123456789012345678901234|A BANK",
     ];
-    assert!(rt; come_back(rt.alloc(), &rows)?);
+    for row in rows {
+        assert!(rt; comes_back(rt.alloc(), row)?, "{row:?}");
+    }
     Ok(())
 }
 
 #[test]
 fn customers_are_read_and_written(rt: HostRuntime) -> Result<(), Fail> {
-    let rows: [Row<'_>; 14] = [
-        (50, Some(b'A'), &[b"ALPHDEFF"]),
-        (59, Some(b'A'), &[b"/12", b"ALPHDEFF500"]),
-        (50, Some(b'K'), &[b"A PAYER"]),
-        (50, Some(b'K'), &[b"/12", b"A", b"B", b"C", b"D"]),
-        (59, None, &[b"/CUST1", b"A PAYEE"]),
-        (59, None, &[b"//", LINE]),
-        (
-            59,
-            None,
-            &[b"/1234567890123456789012345678901234", b"A PAYEE"],
-        ),
-        (59, None, &[b"A PAYEE", b"/12"]),
-        (50, Some(b'F'), &[b"NIDN/DE/12", b"1/A PAYER"]),
-        (50, Some(b'F'), &[b"/12", b"1/A", b"1/B", b"2/C", b"9/D"]),
-        (
-            50,
-            Some(b'F'),
-            &[LINE, b"1/A NAME OF THIRTY-THREE CHARACTERS"],
-        ),
-        (59, Some(b'F'), &[b"1/A PAYEE"]),
-        (59, Some(b'F'), &[b"/12", b"1/A", b"2/B", b"2/C", b"3/D"]),
-        (59, Some(b'F'), &[b"/C/D", b"1//"]),
+    let rows: [&[u8]; 14] = [
+        b"50AALPHDEFF",
+        b"59A/12|ALPHDEFF500",
+        b"50KA PAYER",
+        b"50K/12|A|B|C|D",
+        b"59 /CUST1|A PAYEE",
+        b"59 //|A NAME OF THIRTY-FIVE CHARACTERS 12",
+        b"59 /1234567890123456789012345678901234|A PAYEE",
+        b"59 A PAYEE|/12",
+        b"50FNIDN/DE/12|1/A PAYER",
+        b"50F/12|1/A|1/B|2/C|9/D",
+        b"50FA NAME OF THIRTY-FIVE CHARACTERS 12|1/A NAME OF THIRTY-THREE CHARACTERS",
+        b"59F1/A PAYEE",
+        b"59F/12|1/A|2/B|2/C|3/D",
+        b"59F/C/D|1//",
     ];
-    assert!(rt; come_back(rt.alloc(), &rows)?);
-    Ok(())
-}
-
-#[test]
-fn a_tag_and_letter_without_a_grammar_is_refused(rt: HostRuntime) -> Result<(), Fail> {
-    let rows: [Row<'_>; 18] = [
-        (20, None, &[b"REF1"]),
-        (51, Some(b'A'), &[b"ALPHDEFF"]),
-        (60, Some(b'A'), &[b"ALPHDEFF"]),
-        (52, Some(b'B'), &[b"PARIS"]),
-        (56, Some(b'B'), &[b"PARIS"]),
-        (58, Some(b'B'), &[b"PARIS"]),
-        (55, Some(b'C'), &[b"/12"]),
-        (58, Some(b'C'), &[b"/12"]),
-        (50, Some(b'D'), &[b"A PAYER"]),
-        (59, Some(b'D'), &[b"A PAYEE"]),
-        (51, Some(b'D'), &[b"A BANK"]),
-        (50, None, &[b"A PAYER"]),
-        (52, None, &[b"A BANK"]),
-        (59, Some(b'K'), &[b"A PAYEE"]),
-        (52, Some(b'K'), &[b"A BANK"]),
-        (52, Some(b'F'), &[b"/12", b"1/A"]),
-        (50, Some(b'H'), &[b"/12", b"A PAYER"]),
-        (59, Some(b'a'), &[b"ALPHDEFF"]),
-    ];
-    assert_eq!(rt; first_taken(rt.alloc(), &rows)?, 0);
-    Ok(())
-}
-
-#[test]
-fn banks_off_their_grammar_are_refused(rt: HostRuntime) -> Result<(), Fail> {
-    let rows: [Row<'_>; 27] = [
-        (52, Some(b'A'), &[]),
-        (52, Some(b'A'), &[b"ALPHDEF"]),
-        (52, Some(b'A'), &[b"ALPHDEFF", b"X"]),
-        (52, Some(b'A'), &[b"12", b"ALPHDEFF"]),
-        (52, Some(b'A'), &[b"", b"ALPHDEFF"]),
-        (52, Some(b'A'), &[b"/12"]),
-        (52, Some(b'A'), &[b"/", b"ALPHDEFF"]),
-        (
-            52,
-            Some(b'A'),
-            &[b"/12345678901234567890123456789012345", b"ALPHDEFF"],
-        ),
-        (
-            52,
-            Some(b'A'),
-            &[b"/C/12345678901234567890123456789012345", b"ALPHDEFF"],
-        ),
-        (
-            52,
-            Some(b'A'),
-            &[b"/c/1234567890123456789012345678901234", b"ALPHDEFF"],
-        ),
-        (52, Some(b'A'), &[b"/1*2", b"ALPHDEFF"]),
-        (53, Some(b'B'), &[]),
-        (53, Some(b'B'), &[b""]),
-        (53, Some(b'B'), &[b"PARIS", b"LYON"]),
-        (53, Some(b'B'), &[b"/12", b""]),
-        (53, Some(b'B'), &[b"/12", b"PARIS", b"LYON"]),
-        (53, Some(b'B'), &[b"A NAME OF THIRTY-SIX CHARACTERS 1234"]),
-        (56, Some(b'C'), &[b"12"]),
-        (56, Some(b'C'), &[b"/12", b"A BANK"]),
-        (56, Some(b'C'), &[b"/C/1234567890123456789012345678901234"]),
-        (56, Some(b'C'), &[]),
-        (52, Some(b'D'), &[]),
-        (52, Some(b'D'), &[b"/12"]),
-        (52, Some(b'D'), &[b"/12", b"/13", b"A BANK"]),
-        (52, Some(b'D'), &[b"A", b"B", b"C", b"D", b"E"]),
-        (52, Some(b'D'), &[b"A", b""]),
-        (52, Some(b'D'), &[b"", b"A BANK"]),
-    ];
-    assert_eq!(rt; first_taken(rt.alloc(), &rows)?, 0);
-    Ok(())
-}
-
-#[test]
-fn customers_off_their_grammar_are_refused(rt: HostRuntime) -> Result<(), Fail> {
-    let rows: [Row<'_>; 22] = [
-        (
-            50,
-            Some(b'A'),
-            &[b"/12345678901234567890123456789012345", b"ALPHDEFF"],
-        ),
-        (
-            50,
-            Some(b'A'),
-            &[b"/C/1234567890123456789012345678901234", b"ALPHDEFF"],
-        ),
-        (59, Some(b'A'), &[b"ALPHDEF"]),
-        (
-            50,
-            Some(b'K'),
-            &[b"/12345678901234567890123456789012345", b"A PAYER"],
-        ),
-        (50, Some(b'K'), &[b"A", b"B", b"C", b"D", b"E"]),
-        (50, Some(b'K'), &[b"A NAME OF THIRTY-SIX CHARACTERS 1234"]),
-        (50, Some(b'K'), &[b""]),
-        (59, None, &[b"/12"]),
-        (59, None, &[b"/", b"A PAYEE"]),
-        (
-            59,
-            None,
-            &[b"/12345678901234567890123456789012345", b"A PAYEE"],
-        ),
-        (50, Some(b'F'), &[b"1/A PAYER"]),
-        (50, Some(b'F'), &[b"", b"1/A PAYER"]),
-        (50, Some(b'F'), &[b"/12", b"2/A PAYER"]),
-        (50, Some(b'F'), &[b"/12", b"1/A", b"3/B", b"2/C"]),
-        (
-            50,
-            Some(b'F'),
-            &[b"/12", b"1/A", b"1/B", b"1/C", b"1/D", b"1/E"],
-        ),
-        (50, Some(b'F'), &[b"/12", b"1/"]),
-        (50, Some(b'F'), &[b"/12", b"1A"]),
-        (
-            50,
-            Some(b'F'),
-            &[b"/12", b"1/A NAME OF THIRTY-FOUR CHARACTERS 1"],
-        ),
-        (
-            50,
-            Some(b'F'),
-            &[b"A NAME OF THIRTY-SIX CHARACTERS 1234", b"1/A"],
-        ),
-        (59, Some(b'F'), &[b"A", b"1/A PAYEE"]),
-        (59, Some(b'F'), &[b"/12"]),
-        (59, Some(b'F'), &[]),
-    ];
-    assert_eq!(rt; first_taken(rt.alloc(), &rows)?, 0);
-    Ok(())
-}
-
-#[test]
-fn a_bank_has_its_line_and_bic(rt: HostRuntime) -> Result<(), Fail> {
-    let row: Row<'_> = (52, Some(b'A'), &[b"/C/12", b"ALPHDEFFXXX"]);
-    let want = Bic {
-        head: *b"ALPHDEFF",
-        branch: *b"XXX",
-    };
-    match read_party(rt.alloc(), &field(rt.alloc(), &row)?)? {
-        Party::A {
-            line: Some(line),
-            bic,
-        } => {
-            assert_eq!(rt; line.bytes(), b"/C/12".as_slice());
-            assert_eq!(rt; bic, want);
-            assert_eq!(rt; account_of(line.bytes()), b"12".as_slice());
-        }
-        _ => assert!(rt; false),
+    for row in rows {
+        assert!(rt; comes_back(rt.alloc(), row)?, "{row:?}");
     }
     Ok(())
 }
 
 #[test]
+fn a_tag_and_letter_without_a_grammar_is_refused(rt: HostRuntime) -> Result<(), Fail> {
+    let rows: [&[u8]; 18] = [
+        b"20 REF1",
+        b"51AALPHDEFF",
+        b"60AALPHDEFF",
+        b"52BPARIS",
+        b"56BPARIS",
+        b"58BPARIS",
+        b"55C/12",
+        b"58C/12",
+        b"50DA PAYER",
+        b"59DA PAYEE",
+        b"51DA BANK",
+        b"50 A PAYER",
+        b"52 A BANK",
+        b"59KA PAYEE",
+        b"52KA BANK",
+        b"52F/12|1/A",
+        b"50H/12|A PAYER",
+        b"59aALPHDEFF",
+    ];
+    for row in rows {
+        assert!(rt; is_refused(rt.alloc(), row)?, "{row:?}");
+    }
+    Ok(())
+}
+
+#[test]
+fn banks_off_their_grammar_are_refused(rt: HostRuntime) -> Result<(), Fail> {
+    let rows: [&[u8]; 23] = [
+        b"52AALPHDEF",
+        b"52AALPHDEFF|X",
+        b"52A12|ALPHDEFF",
+        b"52A|ALPHDEFF",
+        b"52A/12",
+        b"52A/|ALPHDEFF",
+        b"52A/12345678901234567890123456789012345|ALPHDEFF",
+        b"52A/C/12345678901234567890123456789012345|ALPHDEFF",
+        b"52A/c/1234567890123456789012345678901234|ALPHDEFF",
+        b"52A/1*2|ALPHDEFF",
+        b"53B",
+        b"53BPARIS|LYON",
+        b"53B/12|",
+        b"53B/12|PARIS|LYON",
+        b"53BA NAME OF THIRTY-SIX CHARACTERS 1234",
+        b"56C12",
+        b"56C/12|A BANK",
+        b"56C/C/1234567890123456789012345678901234",
+        b"52D/12",
+        b"52D/12|/13|A BANK",
+        b"52DA|B|C|D|E",
+        b"52DA|",
+        b"52D|A BANK",
+    ];
+    for row in rows {
+        assert!(rt; is_refused(rt.alloc(), row)?, "{row:?}");
+    }
+    Ok(())
+}
+
+#[test]
+fn customers_off_their_grammar_are_refused(rt: HostRuntime) -> Result<(), Fail> {
+    let rows: [&[u8]; 21] = [
+        b"50A/12345678901234567890123456789012345|ALPHDEFF",
+        b"50A/C/1234567890123456789012345678901234|ALPHDEFF",
+        b"59AALPHDEF",
+        b"50K/12345678901234567890123456789012345|A PAYER",
+        b"50KA|B|C|D|E",
+        b"50KA NAME OF THIRTY-SIX CHARACTERS 1234",
+        b"50K",
+        b"59 /12",
+        b"59 /|A PAYEE",
+        b"59 /12345678901234567890123456789012345|A PAYEE",
+        b"50F1/A PAYER",
+        b"50F|1/A PAYER",
+        b"50F/12|2/A PAYER",
+        b"50F/12|1/A|3/B|2/C",
+        b"50F/12|1/A|1/B|1/C|1/D|1/E",
+        b"50F/12|1/",
+        b"50F/12|1A",
+        b"50F/12|1/A NAME OF THIRTY-FOUR CHARACTERS 1",
+        b"50FA NAME OF THIRTY-SIX CHARACTERS 1234|1/A",
+        b"59FA|1/A PAYEE",
+        b"59F/12",
+    ];
+    for row in rows {
+        assert!(rt; is_refused(rt.alloc(), row)?, "{row:?}");
+    }
+    Ok(())
+}
+
+#[test]
+fn a_field_without_lines_is_refused(rt: HostRuntime) -> Result<(), Fail> {
+    for (tag, letter) in [
+        (52, Some(b'A')),
+        (53, Some(b'B')),
+        (56, Some(b'C')),
+        (52, Some(b'D')),
+        (50, Some(b'F')),
+        (50, Some(b'K')),
+        (59, None),
+    ] {
+        let f = Field {
+            tag,
+            letter,
+            lines: List::new(rt.alloc()),
+        };
+        assert!(rt; read_party(rt.alloc(), &f).is_err(), "{tag} {letter:?}");
+    }
+    Ok(())
+}
+
+#[test]
+fn a_bank_has_its_line_and_bic(rt: HostRuntime) -> Result<(), Fail> {
+    let f = field(rt.alloc(), b"52A/C/12|ALPHDEFFXXX")?;
+    let party = read_party(rt.alloc(), &f)?;
+    match &party {
+        Party::A { line, bic } => {
+            assert_eq!(rt; bic.head, *b"ALPHDEFF");
+            assert_eq!(rt; bic.branch, *b"XXX");
+            assert!(rt; is_text(line, b"/C/12"));
+        }
+        other => assert!(rt; false, "{other:?}"),
+    }
+    let written = put_party(rt.alloc(), 58, &party)?;
+    assert!(rt; is_same(&written, &field(rt.alloc(), b"58A/C/12|ALPHDEFF")?));
+    Ok(())
+}
+
+#[test]
 fn a_payee_has_an_account_without_its_slash(rt: HostRuntime) -> Result<(), Fail> {
-    let row: Row<'_> = (59, None, &[b"/C/D", b"A PAYEE"]);
-    match read_party(rt.alloc(), &field(rt.alloc(), &row)?)? {
-        Party::K {
-            account: Some(account),
-            lines,
-        } => {
-            assert_eq!(rt; account.bytes(), b"C/D".as_slice());
+    let party = read_party(rt.alloc(), &field(rt.alloc(), b"59 /C/D|A PAYEE")?)?;
+    match &party {
+        Party::K { account, lines } => {
+            assert!(rt; is_text(account, b"C/D"));
             assert_eq!(rt; lines.as_slice().len(), 1);
         }
-        _ => assert!(rt; false),
+        other => assert!(rt; false, "{other:?}"),
+    }
+    Ok(())
+}
+
+#[test]
+fn a_place_stands_without_a_party_line(rt: HostRuntime) -> Result<(), Fail> {
+    let party = read_party(rt.alloc(), &field(rt.alloc(), b"53BPARIS")?)?;
+    match &party {
+        Party::B { line, place } => {
+            assert!(rt; line.is_none());
+            assert!(rt; is_text(place, b"PARIS"));
+        }
+        other => assert!(rt; false, "{other:?}"),
     }
     Ok(())
 }
@@ -313,7 +282,10 @@ fn accounts_of_party_lines(rt: HostRuntime) {
         (b"/c/12", b"c/12"),
         (b"/1/12", b"1/12"),
         (b"/CD/12", b"CD/12"),
-        (b"/C/1234567890123456789012345678901234", LONG),
+        (
+            b"/C/1234567890123456789012345678901234",
+            b"1234567890123456789012345678901234",
+        ),
         (b"PARIS", b""),
         (b"", b""),
     ];
