@@ -1,13 +1,11 @@
 -- A party that was read is read again as it is written.
-use Rattle.std.proofs.Common.{◌≡◌, ℕ, ◌==◌, ◌&&◌, ◌||◌, not, Bool, true, false, cond, List, [], ◌∷◌, ◌++◌, take, drop, Option, Some, None, option_map, option_and_then, refl, sym, ap, ◌∙◌, arith}
-use Rattle.std.specs.Prelude.{IfSome}
+use Rattle.std.proofs.Common.{◌≡◌, ℕ, ◌==◌, ◌&&◌, not, Bool, true, false, cond, List, [], ◌∷◌, drop, Option, Some, None, option_map, option_and_then, refl, sym, ap, ◌∙◌, arith}
 use Rattle.std.specs.List.{All}
-use Rattle.std.specs.Char.{is_ascii_uppercase}
 use Rattle.std.proofs.lemmas.List.Elements.{All-cons, All-head}
 use Rattle.std.proofs.lemmas.Bool.Decides.{nat_tests}
 use Rattle.corr_text.specs.Lines.{begins_with}
 use Rattle.corr_ids.specs.declared.bic.Bic.{Bic}
-use Rattle.corr_ids.specs.Bic.{is_bic, bic_of, bic_text, branch_of}
+use Rattle.corr_ids.specs.Bic.{bic_of, bic_text}
 use Rattle.corr_ids.proofs.Spelling.{some_if}
 use Rattle.fin_fields.specs.declared.field.Field.{Field}
 use Rattle.fin_fields.specs.Faults.{has_other_byte}

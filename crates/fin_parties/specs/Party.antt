@@ -1,6 +1,6 @@
 -- The grammar of parties, by cases on a field's tag and letter.
-use Rattle.std.specs.Prelude.{ℕ, ◌==◌, ◌&&◌, ◌||◌, not, Bool, false, List, [], ◌∷◌, length, drop, Option, Some, None, option_map, option_and_then, is_some, nat_le, if◌then◌else◌}
-use Rattle.std.specs.List.{list_all, list_any, zip}
+use Rattle.std.specs.Prelude.{ℕ, ◌==◌, ◌&&◌, ◌||◌, not, Bool, false, List, [], ◌∷◌, length, drop, Option, Some, None, option_map, option_and_then, nat_le, if◌then◌else◌}
+use Rattle.std.specs.List.{list_all, zip}
 use Rattle.std.specs.Char.{is_ascii_digit, is_ascii_uppercase}
 use Rattle.corr_text.specs.declared.set.Set.TheVariants.{X}
 use Rattle.corr_text.specs.Lines.{begins_with}

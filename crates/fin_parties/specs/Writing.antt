@@ -1,5 +1,5 @@
 -- Parties written as fields.
-use Rattle.std.specs.Prelude.{ℕ, ◌==◌, List, [], ◌∷◌, ◌++◌, Option, Some, None, option_map, if◌then◌else◌}
+use Rattle.std.specs.Prelude.{ℕ, ◌==◌, List, [], ◌∷◌, Option, Some, None, option_map, if◌then◌else◌}
 use Rattle.corr_ids.specs.Bic.{bic_text}
 use Rattle.fin_fields.specs.declared.field.Field.{Field}
 use Rattle.fin_parties.specs.declared.party.Party.{Party}

@@ -1,4 +1,3 @@
-use Rattle.std.proofs.Common.{◌≡◌}
 use Rattle.fin_parties.proofs.Again.{party-again, letter-kept, party-fit}
 use Rattle.fin_parties.proofs.writing.put_party.Goals as goal
 
