@@ -14,5 +14,5 @@ mod writing;
 pub use cutting::cut_fields;
 pub use fault::FieldFault;
 pub use field::Field;
-pub use pattern::{Pattern, matches};
+pub use pattern::{Pattern, is_run_of, lines_match, matches};
 pub use writing::put_fields;
