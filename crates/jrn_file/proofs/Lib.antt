@@ -1,6 +1,7 @@
 mod Bytes
 mod Calls
 mod EntryImages
+pub mod Frames
 mod Head
 mod OneReading
 mod Records
