@@ -29,3 +29,10 @@ call_more n old mid new result so_far counts = calls_in_turn n 1 old mid new so_
 -- so many are at most more
 pub calls_within : (n most : ℕ) (old new : Option ℕ) → CallsMade n old new → n ≤ most → AtMostCalls most old new
 calls_within n most old new made within = (n, within, made)
+
+-- so many calls, and at most so many more
+pub calls_then : (n m most : ℕ) (old mid new : Option ℕ) → CallsMade n old mid → AtMostCalls m mid new → n + m ≤ most → AtMostCalls most old new
+calls_then n m most old mid new made more within = (n + more.0, omega (arith, more.1, within), calls_in_turn n more.0 old mid new made more.2)
+
+pub at_most_weaker : (m most : ℕ) (old new : Option ℕ) → AtMostCalls m old new → m ≤ most → AtMostCalls most old new
+at_most_weaker m most old new made within = (made.0, omega (arith, made.1, within), made.2)

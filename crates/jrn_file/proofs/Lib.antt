@@ -2,6 +2,7 @@ mod Bytes
 mod Calls
 mod EntryImages
 pub mod Frames
+mod Fronts
 mod Head
 mod OneReading
 mod Records
