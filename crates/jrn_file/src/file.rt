@@ -53,7 +53,7 @@ impl<D: Disk> JFile<D> {
         ensures no_more_calls { AtMostCalls 4 (D.calls_left (disk_of self.old)) (D.calls_left (disk_of self.new)) }
 
         ensures full { IsErrOf result (AppendFault.Full (end_of self.old) (length frame.now + 1)) ↔ (2 ^ 30 < end_of self.old + (length frame.now + 1)) }
-        ensures cause { IfErr result (AppendCause (D.faults (disk_of self.old)) (D.faults (disk_of self.new)) (self.new ≡ self.old)) }
+        ensures cause { IfErr result (AppendCause (D.faults (disk_of self.old)) (D.faults (disk_of self.new)) (end_of self.old) (length frame.now + 1) (self.new ≡ self.old)) }
         ensures later { D.faults (disk_of self.old) ≤ D.faults (disk_of self.new) }
         ensures honest { D.honest (disk_of self.new) ≡ D.honest (disk_of self.old) }
     {
