@@ -1,3 +1,4 @@
+pub mod Counted
 pub mod Moments
 mod Steps
 mod Torn

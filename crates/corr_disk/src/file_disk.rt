@@ -29,6 +29,7 @@ impl<'a, R: Files> FileDisk<'a, R> {
     /// The file at this path, not yet opened.
     pub fn new(rt: &'a R, path: Text) -> FileDisk<'a, R>
         ensures faults { ⟦<FileDisk<'a, R> as Disk>⟧.faults result ≡ 0 }
+        ensures calls { ⟦<FileDisk<'a, R> as Disk>⟧.calls_left result ≡ (if is_utf8 path then None else Some 0) }
     {
         FileDisk {
             rt,

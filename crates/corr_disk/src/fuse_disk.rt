@@ -38,6 +38,7 @@ impl FuseDisk {
         ensures images { Only bytes (⟦<FuseDisk as Disk>⟧.may_leave result) }
         ensures faults { ⟦<FuseDisk as Disk>⟧.faults result ≡ 0 }
         ensures calls { ⟦<FuseDisk as Disk>⟧.calls_left result ≡ Some calls }
+        ensures sure { IsTrue (⟦<FuseDisk as Disk>⟧.is_sure result) }
         ensures torn { result.torn ≡ torn }
     {
         FuseDisk {

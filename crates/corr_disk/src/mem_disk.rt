@@ -1,6 +1,6 @@
 //! A disk in memory.
 
-ghost use Rattle.std.specs.Prelude.{◌≡◌, IsTrue, true, length};
+ghost use Rattle.std.specs.Prelude.{◌≡◌, None, IsTrue, true, length};
 ghost use Rattle.corr_disk.specs.Disk.{Only, ReadsAt};
 ghost use Rattle.corr_disk.specs.Past.{bytes_after, Image, LeftSince};
 ghost use Rattle.corr_disk.specs.Laws.{now_counts, no_other, reads_stay};
@@ -25,6 +25,7 @@ impl MemDisk {
         ensures reads { ⟦<MemDisk as Disk>⟧.reads result ≡ bytes }
         ensures images { Only bytes (⟦<MemDisk as Disk>⟧.may_leave result) }
         ensures faults { ⟦<MemDisk as Disk>⟧.faults result ≡ 0 }
+        ensures calls { ⟦<MemDisk as Disk>⟧.calls_left result ≡ None }
         ensures sure { IsTrue (⟦<MemDisk as Disk>⟧.is_sure result) }
     {
         MemDisk {

@@ -1,6 +1,8 @@
 mod Bytes
 mod Calls
 mod EntryImages
+pub mod Frames
+mod Fronts
 mod Head
 mod OneReading
 mod Records

@@ -1,5 +1,5 @@
 -- The causes of faults.
-use Rattle.std.specs.Prelude.{◌≡◌, ℕ, ◌≤◌, Result, IsErrOf}
+use Rattle.std.specs.Prelude.{◌≡◌, ℕ, ◌+◌, ◌^◌, ◌<◌, ◌≤◌, Result, IsErrOf}
 use Rattle.corr_text.specs.Faults.{Rose}
 use Rattle.jrn_file.specs.declared.fault.AppendFault.{AppendFault}
 use Rattle.jrn_file.specs.declared.fault.AppendFault.TheVariants as append
@@ -14,10 +14,17 @@ pub record Tells (old before after new : ℕ) : Type 0 where
   pub rose : Rose before after
   pub until : after ≤ new
 
--- a full file is as before
-abbrev pub AppendCause : ℕ → ℕ → Type 0 → AppendFault → Type 0
-AppendCause old new untouched (append.Full end need) = untouched
-AppendCause old new untouched (append.DiskFault before after) = Tells old before after new
+-- With so many bytes more behind its closed gate the file would pass its limit. It is as before.
+pub record IsFull (at more end need : ℕ) (untouched : Type 0) : Type 0 where
+  pub end_is : end ≡ at
+  pub need_is : need ≡ more
+  pub past : 2 ^ 30 < end + need
+  pub same : untouched
+
+-- Full tells the place of the closed gate and the bytes that are needed.
+abbrev pub AppendCause : ℕ → ℕ → ℕ → ℕ → Type 0 → AppendFault → Type 0
+AppendCause old new at more untouched (append.Full end need) = IsFull at more end need untouched
+AppendCause old new at more untouched (append.DiskFault before after) = Tells old before after new
 
 -- Exists tells the first byte of what is there.
 abbrev pub MakeCause : ℕ → ℕ → (ℕ → Type 0) → MakeFault → Type 0

@@ -1,5 +1,5 @@
 -- What stands on a disk before a journal is made on it.
-use Rattle.std.specs.Prelude.{◌≡◌, ◌≢◌, ◌⊎◌, ℕ, ◌+◌, ◌<◌, ◌≤◌, List, [], ◌∷◌, length, take}
+use Rattle.std.specs.Prelude.{◌≡◌, ◌≢◌, ◌⊎◌, ℕ, ◌+◌, ◌<◌, ◌≤◌, List, [], ◌∷◌, length, take, if◌then◌else◌, ◌==◌}
 use Rattle.corr_disk.specs.Disk.{written, Torn}
 use Rattle.jrn_file.specs.Journal.{StandsFor}
 use Rattle.jrn_file.specs.declared.making.Front.{Front}
@@ -24,6 +24,18 @@ abbrev pub IsFront : Front → List ℕ → Type 0
 IsFront Short bytes = length bytes ≤ 1
 IsFront Closed bytes = (1 < length bytes) × (take 1 bytes ≡ 0 ∷ [])
 IsFront (Open first) bytes = IsOther bytes first
+
+-- the calls that show it: the length, and the first byte where there is more than one
+abbrev pub calls_to_look : Front → ℕ
+calls_to_look Short = 1
+calls_to_look Closed = 2
+calls_to_look (Open first) = 2
+
+-- The calls that make a journal on a disk of these bytes: those that show its front, a write and a sync of a closed gate where there is at most one byte, and the four that enter the header. Where something else stands there, those that show it alone.
+abbrev pub calls_to_make : List ℕ → ℕ
+calls_to_make [] = 7
+calls_to_make (first ∷ []) = 7
+calls_to_make (first ∷ second ∷ more) = if first == 0 then 6 else 2
 
 -- Within an entry at a gate: the frame is being written behind it, or the gate before the whole frame.
 abbrev pub IsEntering : ℕ → List ℕ → List ℕ → List ℕ → Type 0

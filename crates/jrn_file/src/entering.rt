@@ -1,6 +1,7 @@
 //! One record onto the disk.
 
 ghost use Rattle.std.specs.Prelude.{◌≡◌, ◌+◌, ◌^◌, ◌<◌, ◌≤◌, [], ◌∷◌, length, IsTrue, OnOk};
+ghost use Rattle.corr_disk.specs.Calls.{CallsMade, AtMostCalls};
 ghost use Rattle.corr_disk.specs.Disk.{written, Only, LeavesOnly};
 ghost use Rattle.corr_text.specs.Faults.{HasCause};
 ghost use Rattle.jrn_file.specs.Making.{IsEntering};
@@ -20,6 +21,8 @@ pub(crate) fn enter<D: Disk>(disk: &mut D, gate: u64, frame: &[u8]) -> Result<()
     ensures durable { OnOk result (Only (D.reads disk.new) (D.may_leave disk.new)) }
     ensures any_moment { IsTrue (D.honest disk.old) → Only (D.reads disk.old) (D.may_leave disk.old)
         → LeavesOnly D.moment D.left_since disk.old disk.new (IsEntering gate frame.now (D.reads disk.old)) }
+    ensures calls { OnOk result (CallsMade 4 (D.calls_left disk.old) (D.calls_left disk.new)) }
+    ensures no_more_calls { AtMostCalls 4 (D.calls_left disk.old) (D.calls_left disk.new) }
 {
     disk.write_at(gate + 1, frame)?;
     disk.sync()?;

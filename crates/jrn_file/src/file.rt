@@ -1,6 +1,7 @@
 //! An open journal.
 
 ghost use Rattle.std.specs.Prelude.{◌≡◌, ◌+◌, ◌^◌, ◌<◌, ◌≤◌, ◌↔◌, ◌∷◌, [], ◌++◌, ℕ, List, length, IsTrue, OnOk, IfErr, IsErrOf};
+ghost use Rattle.corr_disk.specs.Calls.{CallsMade, AtMostCalls};
 ghost use Rattle.corr_disk.specs.Disk.{LeavesOnly};
 ghost use Rattle.jrn_file.specs.Journal.{IsFrame, record_in, IsBeforeOrAfter};
 ghost use Rattle.jrn_file.specs.File.{disk_of, end_of, IsSettled, IsOpen};
@@ -47,8 +48,12 @@ impl<D: Disk> JFile<D> {
             → IsTrue (D.honest (disk_of self.old))
             → LeavesOnly D.moment D.left_since (disk_of self.old) (disk_of self.new) (IsBeforeOrAfter head records (record_in frame.now)) }
 
+        // It makes four calls of the disk, and no more where it fails.
+        ensures calls { OnOk result (CallsMade 4 (D.calls_left (disk_of self.old)) (D.calls_left (disk_of self.new))) }
+        ensures no_more_calls { AtMostCalls 4 (D.calls_left (disk_of self.old)) (D.calls_left (disk_of self.new)) }
+
         ensures full { IsErrOf result (AppendFault.Full (end_of self.old) (length frame.now + 1)) ↔ (2 ^ 30 < end_of self.old + (length frame.now + 1)) }
-        ensures cause { IfErr result (AppendCause (D.faults (disk_of self.old)) (D.faults (disk_of self.new)) (self.new ≡ self.old)) }
+        ensures cause { IfErr result (AppendCause (D.faults (disk_of self.old)) (D.faults (disk_of self.new)) (end_of self.old) (length frame.now + 1) (self.new ≡ self.old)) }
         ensures later { D.faults (disk_of self.old) ≤ D.faults (disk_of self.new) }
         ensures honest { D.honest (disk_of self.new) ≡ D.honest (disk_of self.old) }
     {

@@ -1,6 +1,7 @@
 //! Opening a journal.
 
 ghost use Rattle.std.specs.Prelude.{◌≡◌, ◌≤◌, ◌∷◌, ℕ, List, IsTrue, IfOk, IfErr, OnOk, MatchResult};
+ghost use Rattle.corr_disk.specs.Calls.{CallsMade, AtMostCalls};
 ghost use Rattle.corr_disk.specs.Disk.{Only};
 ghost use Rattle.jrn_file.specs.Faults.{LoadCause};
 ghost use Rattle.jrn_file.specs.File.{disk_of};
@@ -38,6 +39,9 @@ pub fn open_file<D: Disk>(alloc: Global, disk: D) -> Result<(JFile<D>, Vec<Text>
     ensures untouched { MatchResult result
         (λ r. IsUntouched D.reads D.may_leave D.moment D.left_since disk (disk_of r.0))
         (λ e. IsUntouched D.reads D.may_leave D.moment D.left_since disk e.0) }
+    // It makes three calls of the disk, and no more where it fails.
+    ensures calls { MatchResult result (λ r. CallsMade 3 (D.calls_left disk) (D.calls_left (disk_of r.0))) (λ e. AtMostCalls 3 (D.calls_left disk) (D.calls_left e.0)) }
+
     ensures honest { MatchResult result (λ r. D.honest (disk_of r.0) ≡ D.honest disk) (λ e. D.honest e.0 ≡ D.honest disk) }
     ensures later { MatchResult result (λ r. D.faults disk ≤ D.faults (disk_of r.0)) (λ e. D.faults disk ≤ D.faults e.0) }
 {
@@ -92,6 +96,8 @@ fn load<D: Disk>(alloc: Global, disk: &mut D) -> Result<Vec<u8>, LoadFault>
     ensures untouched { IsUntouched D.reads D.may_leave D.moment D.left_since disk.old disk.new }
     ensures honest { D.honest disk.new ≡ D.honest disk.old }
     ensures cause { LoadCause (D.faults disk.old) (D.faults disk.new) result }
+    ensures calls { OnOk result (CallsMade 3 (D.calls_left disk.old) (D.calls_left disk.new)) }
+    ensures no_more_calls { AtMostCalls 3 (D.calls_left disk.old) (D.calls_left disk.new) }
 {
     disk.sync()?;
     let len = disk.len()?;

@@ -1,6 +1,8 @@
 use Rattle.corr_disk.proofs.Moments.{started, goes_on}
 use Rattle.jrn_file.specs.Making.{IsEntering}
 use Rattle.jrn_file.proofs.EntryImages.{entering-only, entering-frame, entering-gate}
+use Rattle.std.proofs.Common.{arith}
+use Rattle.corr_disk.proofs.Counted.{one_call, call_more, calls_within}
 use Rattle.jrn_file.proofs.entering.enter.Goals as goal
 
 pub returns-in_err-sync-clause-any_moment : goal.returns-in_err-sync-clause-any_moment
@@ -42,3 +44,27 @@ returns-clause-any_moment g c honest only =
     let opened = entering-gate _ _ _ _ between _ _ c.in_ok-sync.ensures.durable c.write_at-2.ensures.crash in
     let done = goes_on D.moment D.left_since old c.sync.new.self c.write_at-2.new.self P _ kept c.write_at-2.ensures.time opened in
     goes_on D.moment D.left_since old c.write_at-2.new.self c.sync-2.new.self P _ done c.sync-2.ensures.time (λ b now. opened b (c.sync-2.ensures.crash b now))
+
+pub returns-in_err-sync-clause-no_more_calls : goal.returns-in_err-sync-clause-no_more_calls
+returns-in_err-sync-clause-no_more_calls g c =
+    let left = g.D.Disk.calls_left in
+    let framed = one_call (left c.args.disk.now) (left c.write_at.new.self) c.write_at.result c.write_at.ensures.stops in
+    let synced = call_more 1 (left c.args.disk.now) (left c.write_at.new.self) (left c.sync.new.self) c.sync.result framed c.sync.ensures.stops in
+    calls_within 2 4 (left c.args.disk.now) (left c.sync.new.self) synced (omega arith)
+
+pub returns-in_err-write_at-2-clause-no_more_calls : goal.returns-in_err-write_at-2-clause-no_more_calls
+returns-in_err-write_at-2-clause-no_more_calls g c =
+    let left = g.D.Disk.calls_left in
+    let framed = one_call (left c.args.disk.now) (left c.write_at.new.self) c.write_at.result c.write_at.ensures.stops in
+    let synced = call_more 1 (left c.args.disk.now) (left c.write_at.new.self) (left c.sync.new.self) c.sync.result framed c.sync.ensures.stops in
+    let opened = call_more 2 (left c.args.disk.now) (left c.sync.new.self) (left c.write_at-2.new.self) c.write_at-2.result synced c.write_at-2.ensures.stops in
+    calls_within 3 4 (left c.args.disk.now) (left c.write_at-2.new.self) opened (omega arith)
+
+pub returns-clause-no_more_calls : goal.returns-clause-no_more_calls
+returns-clause-no_more_calls g c =
+    let left = g.D.Disk.calls_left in
+    let framed = one_call (left c.args.disk.now) (left c.write_at.new.self) c.write_at.result c.write_at.ensures.stops in
+    let synced = call_more 1 (left c.args.disk.now) (left c.write_at.new.self) (left c.sync.new.self) c.sync.result framed c.sync.ensures.stops in
+    let opened = call_more 2 (left c.args.disk.now) (left c.sync.new.self) (left c.write_at-2.new.self) c.write_at-2.result synced c.write_at-2.ensures.stops in
+    let settled = call_more 3 (left c.args.disk.now) (left c.write_at-2.new.self) (left c.sync-2.new.self) c.sync-2.result opened c.sync-2.ensures.stops in
+    calls_within 4 4 (left c.args.disk.now) (left c.sync-2.new.self) settled (omega arith)
