@@ -4,13 +4,12 @@ use Rattle.std.specs.List.{list_any}
 use Rattle.std.proofs.lemmas.Bool.{cases_Bool, eqb-true}
 use Rattle.corr_text.specs.First.{first_of, fault_of, unless}
 use Rattle.corr_text.specs.declared.fault.Code.{Code}
-use Rattle.corr_text.specs.declared.fault.Fault.{Fault}
 use Rattle.fin_fields.specs.declared.field.Field.{Field}
 use Rattle.fin_layout.specs.declared.place.Place.{Place}
 use Rattle.fin_layout.specs.declared.fault.TheConstants.{P22}
 use Rattle.fin_layout.specs.Naming.{fault_at, absent}
 use Rattle.fin_layout.specs.Order.{field_in, is_missing, missing_from, places_from}
-use Rattle.fin_layout.specs.Contents.{all_from, in_option, in_place, may_read, must_read}
+use Rattle.fin_layout.specs.Contents.{all_from, in_option, in_place}
 use Rattle.fin_layout.specs.Tests.{contents_from, tests}
 use Rattle.fin_layout.proofs.FoundField.{field-here, field-later, shifted}
 

@@ -7,7 +7,7 @@ use Rattle.corr_text.specs.First.{◌>>=◌, first_of}
 use Rattle.corr_text.specs.declared.fault.Code.{Code}
 use Rattle.corr_text.specs.declared.fault.Fault.{Fault}
 use Rattle.fin_fields.specs.declared.field.Field.{Field}
-use Rattle.fin_layout.specs.Contents.{all_from, located}
+use Rattle.fin_layout.specs.Contents.{all_from}
 use Rattle.fin_layout.specs.Segments.{places_of, joined}
 use Rattle.fin_layout.specs.Tests.{contents_from}
 use Rattle.fin_layout.proofs.InTurn.{with_front, with_none}

@@ -59,6 +59,7 @@ const ORDER: [Place; 7] = [
     },
 ];
 
+#[derive(Drop)]
 struct FirstLine;
 
 impl Content for FirstLine {
@@ -74,6 +75,7 @@ impl Content for FirstLine {
     }
 }
 
+#[derive(Drop)]
 struct Most {
     lines: usize,
 }
@@ -90,7 +92,6 @@ impl Contents for Most {
     }
 }
 
-#[tactic(auto, using(Rattle::fin_fields::proofs::Bounds::lines_few))]
 fn cut(alloc: Global, text: &[u8]) -> Result<List<Field>, FieldFault>
     ensures { IfOk result (λ fields. length fields ≤ 1000) }
 {
@@ -141,6 +142,73 @@ fn fields_take_their_places(rt: HostRuntime) -> Result<(), Fail> {
             Err(MtFault::Memory) => return Err(Memory.into()),
             Err(fault) => assert_eq!(rt; Some(fault), want),
         }
+    }
+    Ok(())
+}
+
+#[test]
+fn contents_are_told_in_the_order_of_the_text(rt: HostRuntime) -> Result<(), Fail> {
+    let fields = cut(
+        rt.alloc(),
+        b":20:R\n:52A:C\n:58A:B\n:50K:P\n:52A:C\nD\n:59:Q\nR\nS",
+    )?;
+    let fields = fields.as_slice();
+    let rows: [(usize, Option<MtFault>); 4] = [
+        (3, None),
+        (2, fault(P24, b"59 ", 1)),
+        (1, fault(P24, b"52A", 2)),
+        (0, fault(P24, b"20 ", 1)),
+    ];
+    for (lines, want) in rows {
+        match check_fields(rt.alloc(), &ORDER, &Most { lines }, fields) {
+            Ok(found) => assert!(rt; want.is_none() && found.len() == 6),
+            Err(MtFault::Memory) => return Err(Memory.into()),
+            Err(fault) => assert_eq!(rt; Some(fault), want),
+        }
+    }
+    Ok(())
+}
+
+#[test]
+fn fields_are_read_by_their_places(rt: HostRuntime) -> Result<(), Fail> {
+    let fields = cut(
+        rt.alloc(),
+        b":20:R\n:13C:A\n:13C:B\n:58A:C\n:50K:D\n:52D:E\n:59:F",
+    )?;
+    let fields = fields.as_slice();
+    let found = check_structure(rt.alloc(), &ORDER, fields)?;
+    let found = found.as_slice();
+    assert!(rt; found == [0, 1, 1, 3, 4, 5, 6].as_slice());
+    let to = read_one(rt.alloc(), &FirstLine, &ORDER, fields, found, 3)?;
+    assert!(rt; to.bytes() == b"C".as_slice());
+    assert!(rt; read_optional(rt.alloc(), &FirstLine, fields, found, 2)?.is_none());
+    match read_optional(rt.alloc(), &FirstLine, fields, found, 5)? {
+        Some(by) => assert!(rt; by.bytes() == b"E".as_slice()),
+        None => assert!(rt; false, "the second 52a"),
+    }
+    let times = read_all(rt.alloc(), &FirstLine, fields, found, 1)?;
+    match times.as_slice() {
+        [first, second] => assert!(rt;
+            first.bytes() == b"A".as_slice() && second.bytes() == b"B".as_slice()
+        ),
+        _ => assert!(rt; false, "two times"),
+    }
+    Ok(())
+}
+
+#[test]
+fn a_content_is_refused_at_its_field(rt: HostRuntime) -> Result<(), Fail> {
+    let bare = Field {
+        tag: 20,
+        letter: None,
+        lines: List::new(rt.alloc()),
+    };
+    assert_eq!(rt; refusal(rt.alloc(), &FirstLine, &bare)?, Some(P24));
+    let fields = [bare];
+    match read_one(rt.alloc(), &FirstLine, &ORDER, &fields, &[0], 0) {
+        Ok(_) => assert!(rt; false, "no line"),
+        Err(MtFault::Memory) => return Err(Memory.into()),
+        Err(got) => assert_eq!(rt; Some(got), fault(P24, b"20 ", 1)),
     }
     Ok(())
 }

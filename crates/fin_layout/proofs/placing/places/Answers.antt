@@ -1,5 +1,5 @@
 use Rattle.std.proofs.Common.{arith}
-use Rattle.fin_layout.proofs.PlacedSoFar.{places-start, places-more, places-stop, places-end}
+use Rattle.fin_layout.proofs.PlacedSoFar.{places-more, places-stop, places-end}
 use Rattle.fin_layout.proofs.placing.places.Goals as goal
 
 pub returns-in-None-clause-value : goal.returns-in-None-clause-value

@@ -1,4 +1,4 @@
-use Rattle.std.proofs.Common.{◌≡◌, ◌∙◌, ◌==◌, true, false, sym, arith, get_or}
+use Rattle.std.proofs.Common.{◌≡◌, ◌==◌, true, false, arith, get_or}
 use Rattle.std.proofs.lemmas.Result.{err_from_is_err_and}
 use Rattle.std.proofs.lemmas.Bool.Decides.{nat_tests}
 use Rattle.fin_layout.proofs.InTurn.{all-more, all-other, all-stop, all-end, placed-ok, placed-err}
