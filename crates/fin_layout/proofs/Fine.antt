@@ -2,15 +2,19 @@
 use Rattle.std.proofs.Common.{◌≡◌, ℕ, zero, suc, ◌+◌, ◌==◌, ◌&&◌, not, Bool, true, false, cond, List, [], ◌∷◌, length, option_map, option_and_then, position, slice_get, Option, Some, None, Result, Ok, Err, refl, sym, ap, ◌∙◌, arith, inl, inr}
 use Rattle.std.specs.List.{list_any}
 use Rattle.std.proofs.lemmas.Bool.{cases_Bool, eqb-true}
-use Rattle.corr_text.specs.First.{first_of, fault_of, unless}
+use Rattle.corr_text.specs.First.{first_of, fault_of, unless, ◌>>=◌}
 use Rattle.corr_text.specs.declared.fault.Code.{Code}
+use Rattle.corr_text.specs.declared.fault.Fault.{Fault}
 use Rattle.fin_fields.specs.declared.field.Field.{Field}
 use Rattle.fin_layout.specs.declared.place.Place.{Place}
 use Rattle.fin_layout.specs.declared.fault.TheConstants.{P22}
 use Rattle.fin_layout.specs.Naming.{fault_at, absent}
 use Rattle.fin_layout.specs.Order.{field_in, is_missing, missing_from, places_from}
 use Rattle.fin_layout.specs.Contents.{all_from, in_option, in_place}
-use Rattle.fin_layout.specs.Tests.{contents_from, tests}
+use Rattle.fin_layout.specs.Reading.{Fails, Tells}
+use Rattle.fin_layout.specs.Tests.{contents_from, tests, without}
+use Rattle.fin_layout.specs.declared.fault.MtFault.{MtFault}
+use Rattle.fin_layout.specs.declared.fault.MtFault.TheVariants as faults
 use Rattle.fin_layout.proofs.FoundField.{field-here, field-later, shifted}
 
 first-none : {A : Type 0} (o : Option A) (more : List (Option A)) → first_of (o ∷ more) ≡ None → (o ≡ None) × (first_of more ≡ None)
@@ -182,3 +186,12 @@ module _ {A : Type 0} {order : List Place} {test : ℕ → Field → Option Code
   -- a place of several fields
   pub many-fine : (xs : List A) × (all_from fs k read 0 found fs ≡ Ok xs)
   many-fine = all-fine test fs k read of 0 found fs hold.contents
+
+-- ---- the verdict of tests in a row of steps
+
+pub passed-fails : {A : Type 0} (first : Option Fault) (next : Result A Fault) (e : MtFault) → Tells first e → Fails e (without first >>= λ _. next)
+passed-fails first next faults.Memory h = tt
+passed-fails first next (faults.Bad fault) h = rw h refl
+
+pub passed-on : {A : Type 0} (first : Option Fault) (next : Result A Fault) → first ≡ None → (without first >>= λ _. next) ≡ next
+passed-on first next h = rw h refl

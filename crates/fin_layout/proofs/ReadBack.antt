@@ -1,5 +1,5 @@
 -- What was read at a place is what some field says.
-use Rattle.std.proofs.Common.{◌≡◌, ℕ, ◌+◌, ◌==◌, ◌⊎◌, Bool, true, false, cond, List, [], ◌∷◌, map, Option, Some, None, Result, Ok, Err, refl, ap, inl, inr}
+use Rattle.std.proofs.Common.{◌≡◌, ℕ, ◌+◌, ◌≤◌, ◌==◌, ◌⊎◌, Bool, true, false, cond, List, [], ◌∷◌, length, map, Option, Some, None, Result, Ok, Err, refl, ap, arith, inl, inr}
 use Rattle.corr_text.specs.First.{◌>>=◌}
 use Rattle.corr_text.specs.declared.fault.Code.{Code}
 use Rattle.corr_text.specs.declared.fault.Fault.{Fault}
@@ -45,4 +45,20 @@ all-ok whole k read write again i (p ∷ found) (f ∷ fs) xs e =
           let (x, ys, first, others, same) = here in
           rw (← same) (again f x (located-ok whole i (read f) x first), all-ok whole k read write again (i + 1) found fs ys others)
       | inr later ↦ all-ok whole k read write again (i + 1) found fs xs later
+    ]
+
+-- no more is read than there are fields
+pub all-few : {A : Type 0} (whole : List Field) (k : ℕ) (read : Field → Result A Code) (i : ℕ) (found : List ℕ) (fs : List Field) (xs : List A) → all_from whole k read i found fs ≡ Ok xs → length xs ≤ length fs
+unfolding all_from
+all-few whole k read i [] fs [] e = omega arith
+all-few whole k read i [] fs (x ∷ xs) e = absurd (cc e)
+all-few whole k read i (p ∷ found) [] [] e = omega arith
+all-few whole k read i (p ∷ found) [] (x ∷ xs) e = absurd (cc e)
+all-few whole k read i (p ∷ found) (f ∷ fs) xs e =
+    elim (all-step (p == k) (located whole i (read f)) (all_from whole k read (i + 1) found fs) (all_from whole k read (i + 1) found fs) xs e) [
+      | inl here ↦
+          let (x, ys, first, others, same) = here in
+          let few = all-few whole k read (i + 1) found fs ys others in
+          rw (← same) (omega (arith, few))
+      | inr later ↦ let few = all-few whole k read (i + 1) found fs xs later in omega (arith, few)
     ]

@@ -1,6 +1,6 @@
 //! What the fields at a place say.
 
-ghost use Rattle.std.specs.Prelude.{◌≡◌, ◌≤◌, ◌<◌, length};
+ghost use Rattle.std.specs.Prelude.{◌≡◌, ◌≤◌, ◌<◌, IfOk, length};
 ghost use Rattle.fin_layout.specs.Contents.{all_from, in_option, in_place};
 ghost use Rattle.fin_layout.specs.Reading.{Gives, placed};
 
@@ -71,7 +71,8 @@ pub fn read_all<C: Content>(
 ) -> Result<List<C::Value>, MtFault>
     requires few { length fields.now ≤ 65535 }
     requires each { length found.now ≤ length fields.now }
-    ensures { Gives result (all_from fields.now place (C.meaning content.now) 0 found.now fields.now) }
+    ensures value { Gives result (all_from fields.now place (C.meaning content.now) 0 found.now fields.now) }
+    ensures few { IfOk result (λ l. length l ≤ length fields.now) }
 {
     let mut all = List::new(alloc);
     for (at, taken) in found.iter().enumerate() {
