@@ -2,6 +2,7 @@
 #![tactic(auto)]
 
 mod buf;
+mod copying;
 mod decimal;
 mod failed;
 mod fault;
@@ -14,6 +15,7 @@ mod tests;
 mod text;
 
 pub use buf::Buf;
+pub use copying::{copy_texts, push_texts};
 pub use decimal::{digits, put_digits};
 pub use failed::Failed;
 pub use fault::{Code, Fault};

@@ -1,4 +1,6 @@
-use crate::{Buf, List, Set, Text, digits, first_line, is_set, is_x, put_digits};
+use crate::{
+    Buf, List, Set, Text, copy_texts, digits, first_line, is_set, is_x, push_texts, put_digits,
+};
 use std::test::Fail;
 
 #[test]
@@ -101,6 +103,22 @@ fn a_list_keeps_its_order(rt: HostRuntime) -> Result<(), Fail> {
     list.push(1)?;
     list.push(2)?;
     assert_eq!(rt; list.as_slice(), [3, 1, 2].as_slice());
+    Ok(())
+}
+
+#[test]
+fn texts_are_copied_behind_others(rt: HostRuntime) -> Result<(), Fail> {
+    let texts = [
+        Text::from_bytes(rt.alloc(), b"A")?,
+        Text::from_bytes(rt.alloc(), b"BC")?,
+    ];
+    let mut copies = copy_texts(rt.alloc(), &texts)?;
+    push_texts(rt.alloc(), &texts[1..], &mut copies)?;
+    let copies = copies.as_slice();
+    assert_eq!(rt; copies.len(), 3);
+    assert_eq!(rt; copies[0].bytes(), b"A".as_slice());
+    assert_eq!(rt; copies[1].bytes(), b"BC".as_slice());
+    assert_eq!(rt; copies[2].bytes(), b"BC".as_slice());
     Ok(())
 }
 

@@ -15,6 +15,6 @@ mod writing;
 pub use cutting::cut_fields;
 pub use fault::FieldFault;
 pub use field::Field;
-pub use pattern::{Pattern, matches};
+pub use pattern::{Pattern, is_run_of, lines_match, matches};
 pub use tag::{letter_of, nth_of, tag_of};
 pub use writing::put_fields;

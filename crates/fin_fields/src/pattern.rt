@@ -22,7 +22,8 @@ fn all_in(set: Set, line: &[u8]) -> bool
     line.iter().all(|b| is_set(set, *b))
 }
 
-fn is_run_of(set: Set, len: u8, line: &[u8]) -> bool
+/// Whether a line is 1 to `len` bytes of the set.
+pub fn is_run_of(set: Set, len: u8, line: &[u8]) -> bool
     ensures { result ≡ is_run (is_in set) len line.now }
 {
     1 <= line.len() && line.len() <= len as usize && all_in(set, line)
@@ -36,12 +37,11 @@ fn all_runs(len: u8, lines: &[Text]) -> bool
         .all(|line| is_run_of(Set::X, len, line.bytes()))
 }
 
-/// Whether a field's lines have this format: for `Lines` 1 to `max` lines of 1 to `len` of X, for `Fixed` one line of
-/// exactly `len` of the set, for `UpTo` one line of 1 to `len` of the set.
-pub fn matches(f: &Field, p: Pattern) -> bool
-    ensures { result ≡ meets p f.now.lines }
+/// Whether lines have this format: for `Lines` 1 to `max` lines of 1 to `len` of X, for `Fixed` one line of exactly `len`
+/// of the set, for `UpTo` one line of 1 to `len` of the set.
+pub fn lines_match(lines: &[Text], p: Pattern) -> bool
+    ensures { result ≡ meets p lines.now }
 {
-    let lines = f.lines.as_slice();
     match p {
         Pattern::Lines { max, len } => 1 <= lines.len()
             && lines.len() <= max as usize
@@ -58,4 +58,11 @@ pub fn matches(f: &Field, p: Pattern) -> bool
             _ => false,
         },
     }
+}
+
+/// Whether a field's lines have this format, as `lines_match` says.
+pub fn matches(f: &Field, p: Pattern) -> bool
+    ensures { result ≡ meets p f.now.lines }
+{
+    lines_match(f.lines.as_slice(), p)
 }

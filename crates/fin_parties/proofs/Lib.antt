@@ -1,0 +1,2 @@
+pub mod BicLines
+pub mod Again

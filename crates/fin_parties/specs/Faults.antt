@@ -1,0 +1,15 @@
+-- What a reader of parties answers.
+use Rattle.std.specs.Prelude.{◌≡◌, Option, Some, None, Result, Ok, Err}
+use Rattle.fin_parties.specs.declared.fault.PartyFault.{PartyFault}
+use Rattle.fin_parties.specs.declared.fault.PartyFault.TheVariants.{P24, Memory}
+use Rattle.fin_parties.specs.declared.party.Party.{Party}
+
+-- P24 is told where there is no party, or want of memory
+abbrev pub TellsPartyFault : Option Party → PartyFault → Type 0
+TellsPartyFault party P24 = party ≡ None
+TellsPartyFault party Memory = Unit {0}
+
+-- what is read is this party, and P24 where there is none
+abbrev pub Reads : Option Party → Result Party PartyFault → Type 0
+Reads party (Ok p) = party ≡ Some p
+Reads party (Err fault) = TellsPartyFault party fault

@@ -1,0 +1,19 @@
+//! Parties: institutions and customers, as the fields of a message name them (docs/messages.md, "Parties").
+#![tactic(auto)]
+
+mod fault;
+mod form;
+mod line;
+mod numbered;
+mod opening;
+mod party;
+mod reading;
+#[cfg(test)]
+mod tests;
+mod writing;
+
+pub use fault::PartyFault;
+pub use line::account_of;
+pub use party::Party;
+pub use reading::read_party;
+pub use writing::put_party;

@@ -1,0 +1,188 @@
+//! Fields read as parties.
+
+ghost use Rattle.std.specs.Prelude.{◌≡◌, Some, IfOk, IfErr, drop, option_map};
+ghost use Rattle.fin_parties.specs.Party.{account_party, behind, bic_party, customer_party, is_line, is_name, name_party, party_in, party_of, payee_party, payer_party, place_party};
+ghost use Rattle.fin_parties.specs.declared.opening.Opening.TheVariants.{AccountLine, PartyLine};
+ghost use Rattle.fin_parties.specs.Faults.{Reads, TellsPartyFault};
+
+use crate::fault::PartyFault;
+use crate::form::{Form, form_of};
+use crate::line::{has_slash, is_account_line};
+use crate::numbered::are_numbered;
+use crate::opening::{Opening, parts_of};
+use crate::party::Party;
+use corr_ids::read_bic;
+use corr_text::{Memory, Set, Text, copy_texts};
+use fin_fields::{Field, Pattern, is_run_of, lines_match};
+use std::alloc::Global;
+
+fn is_line(line: &[u8]) -> bool
+    ensures { result ≡ is_line line.now }
+{
+    is_run_of(Set::X, 35, line)
+}
+
+fn is_name(lines: &[Text]) -> bool
+    ensures { result ≡ is_name lines.now }
+{
+    match lines {
+        [] => false,
+        [first, ..] => !has_slash(first.bytes())
+            && lines_match(lines, Pattern::Lines { max: 4, len: 35 }),
+    }
+}
+
+fn copy_line(alloc: Global, line: Option<&[u8]>) -> Result<Option<Text>, Memory>
+    ensures { IfOk result (λ copy. copy ≡ option_map (λ b. b.now) line.entry) }
+{
+    match line {
+        Some(line) => Ok(Some(Text::from_bytes(alloc, line)?)),
+        None => Ok(None),
+    }
+}
+
+fn copy_account(alloc: Global, line: Option<&[u8]>) -> Result<Option<Text>, Memory>
+    ensures { IfOk result (λ copy. copy ≡ option_map (λ b. drop 1 b.now) line.entry) }
+{
+    match line {
+        Some([_, account @ ..]) => Ok(Some(Text::from_bytes(alloc, account)?)),
+        Some(line) => Ok(Some(Text::from_bytes(alloc, line)?)),
+        None => Ok(None),
+    }
+}
+
+fn read_bic_party(alloc: Global, opening: Opening, lines: &[Text]) -> Result<Party, PartyFault>
+    ensures { Reads (behind opening bic_party lines.now) result }
+{
+    let Some(parts) = parts_of(opening, lines) else {
+        return Err(PartyFault::P24);
+    };
+    let [text] = parts.rest else {
+        return Err(PartyFault::P24);
+    };
+    let Some(bic) = read_bic(text.bytes()) else {
+        return Err(PartyFault::P24);
+    };
+    Ok(Party::A {
+        line: copy_line(alloc, parts.first)?,
+        bic,
+    })
+}
+
+fn read_place_party(alloc: Global, lines: &[Text]) -> Result<Party, PartyFault>
+    ensures { Reads (behind PartyLine place_party lines.now) result }
+{
+    let Some(parts) = parts_of(Opening::PartyLine, lines) else {
+        return Err(PartyFault::P24);
+    };
+    match (parts.first, parts.rest) {
+        (Some(line), []) => Ok(Party::B {
+            line: Some(Text::from_bytes(alloc, line)?),
+            place: None,
+        }),
+        (first, [place]) if is_line(place.bytes()) => Ok(Party::B {
+            line: copy_line(alloc, first)?,
+            place: Some(place.copy(alloc)?),
+        }),
+        _ => Err(PartyFault::P24),
+    }
+}
+
+fn read_account_party(alloc: Global, lines: &[Text]) -> Result<Party, PartyFault>
+    ensures { Reads (account_party lines.now) result }
+{
+    match lines {
+        [line] if is_account_line(line.bytes()) => Ok(Party::C {
+            line: line.copy(alloc)?,
+        }),
+        _ => Err(PartyFault::P24),
+    }
+}
+
+fn read_name_party(alloc: Global, lines: &[Text]) -> Result<Party, PartyFault>
+    ensures { Reads (behind PartyLine name_party lines.now) result }
+{
+    let Some(parts) = parts_of(Opening::PartyLine, lines) else {
+        return Err(PartyFault::P24);
+    };
+    if !is_name(parts.rest) {
+        return Err(PartyFault::P24);
+    }
+    Ok(Party::D {
+        line: copy_line(alloc, parts.first)?,
+        lines: copy_texts(alloc, parts.rest)?,
+    })
+}
+
+fn read_customer_party(alloc: Global, lines: &[Text]) -> Result<Party, PartyFault>
+    ensures { Reads (behind AccountLine customer_party lines.now) result }
+{
+    let Some(parts) = parts_of(Opening::AccountLine, lines) else {
+        return Err(PartyFault::P24);
+    };
+    if !is_name(parts.rest) {
+        return Err(PartyFault::P24);
+    }
+    Ok(Party::K {
+        account: copy_account(alloc, parts.first)?,
+        lines: copy_texts(alloc, parts.rest)?,
+    })
+}
+
+fn read_payer_party(alloc: Global, lines: &[Text]) -> Result<Party, PartyFault>
+    ensures { Reads (payer_party lines.now) result }
+{
+    match lines {
+        [line, rest @ ..] if is_line(line.bytes()) && are_numbered(rest) => Ok(Party::F {
+            line: Some(line.copy(alloc)?),
+            lines: copy_texts(alloc, rest)?,
+        }),
+        _ => Err(PartyFault::P24),
+    }
+}
+
+fn read_payee_party(alloc: Global, lines: &[Text]) -> Result<Party, PartyFault>
+    ensures { Reads (behind AccountLine payee_party lines.now) result }
+{
+    let Some(parts) = parts_of(Opening::AccountLine, lines) else {
+        return Err(PartyFault::P24);
+    };
+    if !are_numbered(parts.rest) {
+        return Err(PartyFault::P24);
+    }
+    Ok(Party::F {
+        line: copy_line(alloc, parts.first)?,
+        lines: copy_texts(alloc, parts.rest)?,
+    })
+}
+
+#[tactic(auto, unfolding(crate::specs::Party::party_in))]
+fn read_lines(alloc: Global, form: Form, lines: &[Text]) -> Result<Party, PartyFault>
+    ensures { Reads (party_in form lines.now) result }
+{
+    match form {
+        Form::BankA => read_bic_party(alloc, Opening::PartyLine, lines),
+        Form::BankB => read_place_party(alloc, lines),
+        Form::BankC => read_account_party(alloc, lines),
+        Form::BankD => read_name_party(alloc, lines),
+        Form::CustomerA => read_bic_party(alloc, Opening::AccountLine, lines),
+        Form::CustomerK => read_customer_party(alloc, lines),
+        Form::PayerF => read_payer_party(alloc, lines),
+        Form::PayeeF => read_payee_party(alloc, lines),
+    }
+}
+
+/// The party that a field names, by the grammar of its tag and letter.
+///
+/// P24 comes exactly where the field isn't in that grammar (docs/messages.md, "Parties"): 52A to 58A, 53B, 54B, 55B, 57B,
+/// 56C, 57C, 52D to 58D, 50A, 50F, 50K, 59, 59A and 59F have one. Whether a BIC is known is not tested.
+#[tactic(auto, unfolding(crate::specs::Party::party_of))]
+pub fn read_party(alloc: Global, f: &Field) -> Result<Party, PartyFault>
+    ensures party { IfOk result (λ p. party_of f.now ≡ Some p) }
+    ensures fault { IfErr result (TellsPartyFault (party_of f.now)) }
+{
+    match form_of(f.tag, f.letter) {
+        Some(form) => read_lines(alloc, form, f.lines.as_slice()),
+        None => Err(PartyFault::P24),
+    }
+}
