@@ -4,7 +4,7 @@ ghost use Rattle.std.specs.Prelude.{◌≡◌, ◌==◌, ◌<◌, ◌≤◌, ◌
 ghost use Rattle.std.specs.List.{list_all, position};
 ghost use Rattle.std.specs.Char.{is_ascii_digit};
 ghost use Rattle.std.specs.Str.Parse.{digits_value, digits_value_after};
-ghost use Rattle.corr_money.specs.Amounts.{amount_of, is_comma};
+ghost use Rattle.corr_money.specs.Amounts.{amount_of, is_comma, is_comma_number};
 
 use crate::amount::Minor;
 use crate::fault::AmountFault;
@@ -51,6 +51,17 @@ fn minor(whole: &[u8], written: &[u8], decimals: u8) -> u64
 {
     let missing = &b"0000"[..decimals as usize - written.len()];
     number_after(number_after(number_after(0, whole), written), missing)
+}
+
+/// Whether bytes are digits with exactly one comma and at least one digit before it.
+#[tactic(auto, unfolding(crate::specs::Amounts::is_comma_number))]
+pub fn is_comma_number(b: &[u8]) -> bool
+    ensures { result ≡ is_comma_number b.now }
+{
+    match first_comma(b) {
+        Some(comma) => 0 < comma && are_digits(&b[..comma]) && are_digits(&b[comma + 1..]),
+        None => false,
+    }
 }
 
 /// The amount, in minor units of a currency with so many `decimals` (at most 4), that a field's `15d` writes: digits with

@@ -1,12 +1,10 @@
--- Fields are no more than the lines, these no more than the bytes, and each tag has two digits.
+-- Fields are no more than the lines, these no more than the bytes, and a heading's tag has two digits.
 use Rattle.std.proofs.Common.{◌≡◌, ℕ, suc, ◌+◌, ◌-◌, ◌*◌, ◌≤◌, ◌==◌, ◌&&◌, Bool, true, false, cond, List, [], ◌∷◌, length, Option, Some, None, refl, arith}
 use Rattle.std.specs.Prelude.{IfSome}
 use Rattle.std.specs.Char.{is_ascii_digit, is_ascii_uppercase}
-use Rattle.std.specs.List.{All}
 use Rattle.std.proofs.lemmas.Bool.Decides.{nat_tests}
-use Rattle.std.proofs.lemmas.List.Elements.{All-cons}
 use Rattle.corr_text.specs.Lines.{begins_with, lines_of, with_byte}
-use Rattle.fin_fields.specs.Fields.{Grouped, Heading, behind_letter, behind_tag, field_begun, grouped, heading_of, with_line}
+use Rattle.fin_fields.specs.Fields.{Grouped, Heading, behind_letter, behind_tag, grouped, heading_of, with_line}
 
 -- what a line says that begins a field has a tag of two digits, and a capital letter if any
 pub record IsHeading (h : Heading) : Type 0 where
@@ -35,14 +33,6 @@ is-heading (c ∷ []) = tt
 is-heading (c ∷ tens ∷ []) = tt
 is-heading (c ∷ tens ∷ ones ∷ rest) =
     either ((c == 58) && is_ascii_digit tens && is_ascii_digit ones) _ _ (λ h. behind-tag _ rest (two-digits (c == 58) tens ones h)) tt
-
-with-tag : (line : List ℕ) (h : Option Heading) (g : Grouped) → IfSome h IsHeading → All (λ f. f.tag ≤ 99) g.fields → All (λ f. f.tag ≤ 99) (with_line line h g).fields
-with-tag line None g one more = more
-with-tag line (Some h) g one more = All-cons (λ f. f.tag ≤ 99) (field_begun h g.continued) g.fields one.tag more
-
-pub tags-two_digits : (lines : List (List ℕ)) → All (λ f. f.tag ≤ 99) (grouped lines).fields
-tags-two_digits [] = λ k d lt. absurd (omega arith)
-tags-two_digits (line ∷ lines) = with-tag line (heading_of line) (grouped lines) (is-heading line) (tags-two_digits lines)
 
 one-more : (line : List ℕ) (h : Option Heading) (g : Grouped) (n : ℕ) → length g.fields ≤ n → length (with_line line h g).fields ≤ n + 1
 one-more line None g n le = omega arith

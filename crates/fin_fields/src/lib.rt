@@ -7,6 +7,7 @@ mod field;
 mod heading;
 mod outside;
 mod pattern;
+mod tag;
 #[cfg(test)]
 mod tests;
 mod writing;
@@ -15,4 +16,5 @@ pub use cutting::cut_fields;
 pub use fault::FieldFault;
 pub use field::Field;
 pub use pattern::{Pattern, is_run_of, lines_match, matches};
+pub use tag::{letter_of, nth_of, tag_of};
 pub use writing::put_fields;

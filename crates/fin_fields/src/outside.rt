@@ -1,18 +1,13 @@
 //! Bytes outside set X.
 
-ghost use Rattle.std.specs.Prelude.{◌≡◌, ◌≤◌, ◌<◌, ◌+◌, All, count_by, length, not, position, take};
+ghost use Rattle.std.specs.Prelude.{◌≡◌, ◌≤◌, length, not, position};
 ghost use Rattle.std.specs.List.{list_any};
-ghost use Rattle.fin_fields.specs.Faults.{has_other_byte, is_like, is_outside_x, letter_of, nth_of, outside_x, tag_of};
+ghost use Rattle.fin_fields.specs.Faults.{has_other_byte, is_outside_x, outside_x};
 
 use crate::fault::FieldFault;
 use crate::field::Field;
+use crate::tag::{nth_of, tag_of};
 use corr_text::{Text, is_x};
-
-fn letter(f: &Field) -> u8
-    ensures { result ≡ letter_of f.now }
-{
-    f.letter.unwrap_or(b' ')
-}
 
 fn has_byte_outside_x(line: &[u8]) -> bool
     ensures { result ≡ has_other_byte line.now }
@@ -34,26 +29,14 @@ fn first_place(fields: &[Field]) -> Option<usize>
         .position(|f| lines_outside_x(f.lines.as_slice()))
 }
 
-fn alike(fields: &[Field], f: &Field) -> usize
-    ensures value { result ≡ count_by (is_like f.now) fields.now }
-    ensures bound { result ≤ length fields.now }
-{
-    fields
-        .iter()
-        .filter(|g| g.tag == f.tag && letter(g) == letter(f))
-        .count()
-}
-
 /// The fault of the first field with a byte outside X, none where there is no such field.
 pub fn first_outside_x(fields: &[Field]) -> Option<FieldFault>
     requires few { length fields.now ≤ 65535 }
-    requires tags { All (λ f. f.tag ≤ 99) fields.now }
     ensures { result ≡ outside_x fields.now }
 {
     let at = first_place(fields)?;
-    let f = &fields[at];
     Some(FieldFault::P21 {
-        tag: [b'0' + f.tag / 10, b'0' + f.tag % 10, letter(f)],
-        nth: alike(&fields[..at + 1], f) as u16,
+        tag: tag_of(&fields[at]),
+        nth: nth_of(fields, at),
     })
 }

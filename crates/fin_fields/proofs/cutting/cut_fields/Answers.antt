@@ -2,19 +2,14 @@ use Rattle.std.proofs.Common.{◌≡◌, ◌∙◌, None, ap, sym, arith}
 use Rattle.fin_fields.specs.Fields.{fields_of}
 use Rattle.fin_fields.specs.Faults.{outside_x}
 use Rattle.corr_text.specs.Lines.{lines_of}
-use Rattle.fin_fields.proofs.Bounds.{fields-few, tags-two_digits}
+use Rattle.fin_fields.proofs.Bounds.{fields-few}
 use Rattle.fin_fields.proofs.Fit.{all-fit, some-fields}
 use Rattle.fin_fields.proofs.cutting.cut_fields.Goals as goal
 
-pub first_outside_x-requires-clause-few : goal.first_outside_x-requires-clause-few
-first_outside_x-requires-clause-few c =
+pub first_outside_x-requires : goal.first_outside_x-requires
+first_outside_x-requires c =
     let same : c.as_slice.result.now ≡ fields_of c.args.text.now = c.as_slice.ensures ∙ c.in_ok-fields.ensures.fields in
     rw same (omega (arith, fields-few (lines_of c.args.text.now)))
-
-pub first_outside_x-requires-clause-tags : goal.first_outside_x-requires-clause-tags
-first_outside_x-requires-clause-tags c =
-    let same : c.as_slice.result.now ≡ fields_of c.args.text.now = c.as_slice.ensures ∙ c.in_ok-fields.ensures.fields in
-    rw same (tags-two_digits (lines_of c.args.text.now))
 
 pub returns-in-None-clause-fit : goal.returns-in-None-clause-fit
 returns-in-None-clause-fit c =

@@ -1,0 +1,3 @@
+pub mod Plain
+pub mod Money
+pub mod Parties

@@ -1,0 +1,106 @@
+//! Amounts with their currency: fields 33B, 71F and 71G.
+
+ghost use Rattle.std.specs.Prelude.{◌≡◌, ◌≤◌, ◌<◌, ◌^◌, IfOk, IfSome, IsTrue, drop, length, take};
+ghost use Rattle.fin_contents.specs.Money.{amount_code, ccy_amount_in, ccy_amount_of, is_ccy_amount, minor_in};
+ghost use Rattle.fin_layout.specs.Reading.{Reads};
+
+use crate::codes::{C03, P27, T40, T43, T52};
+use crate::line::{are_in, one_line};
+use corr_money::{Amount, AmountFault, Ccy, Minor, read_15d};
+use corr_text::{Code, Set};
+use fin_fields::Field;
+use fin_layout::{Content, P24, Refusal};
+use ref_tables::RefTables;
+use std::alloc::Global;
+
+/// A currency and an amount, `3!a15d`. P24: the field is not one line of three capital letters and one or more characters
+/// of X. T52: the currency is not in the table of currencies. T40, T43, C03, P27: the amount is none, too long, has more
+/// decimals than the currency, or is not below 10^14 minor units.
+#[derive(Clone, Copy)]
+pub struct CcyAmount<'a> {
+    pub tables: &'a RefTables,
+}
+
+/// Whether a line is three capital letters and one or more characters of X.
+pub fn is_ccy_amount(line: &[u8]) -> bool
+    ensures value { result ≡ is_ccy_amount line.now }
+    ensures long { IsTrue result → 4 ≤ length line.now }
+{
+    4 <= line.len() && are_in(Set::A, &line[..3]) && are_in(Set::X, &line[3..])
+}
+
+fn amount_code(e: AmountFault) -> Code
+    ensures { result ≡ amount_code e }
+{
+    match e {
+        AmountFault::T40 => T40,
+        AmountFault::T43 => T43,
+        AmountFault::C03 => C03,
+        AmountFault::TooLarge => P27,
+    }
+}
+
+fn minor_in(decimals: u8, b: &[u8]) -> Result<Minor, Code>
+    requires { decimals ≤ 4 }
+    ensures { result ≡ minor_in decimals b.now }
+{
+    match read_15d(b, decimals) {
+        Ok(minor) => Ok(minor),
+        Err(e) => Err(amount_code(e)),
+    }
+}
+
+fn ccy(line: &[u8]) -> Ccy
+    requires { 3 ≤ length line.now }
+    ensures { result ≡ record { 0 = take 3 line.now } }
+{
+    let mut code = [0; 3];
+    code.copy_from_slice(&line[..3]);
+    Ccy(code)
+}
+
+/// The currency and the amount of a line that has their form.
+#[tactic(auto, unfolding(crate::specs::Money::ccy_amount_in))]
+pub fn ccy_amount_in(tables: &RefTables, line: &[u8]) -> Result<Amount, Code>
+    requires { 4 ≤ length line.now }
+    ensures { result ≡ ccy_amount_in tables.now line.now }
+{
+    let ccy = ccy(line);
+    let Some(decimals) = tables.decimals(ccy) else {
+        return Err(T52);
+    };
+    match minor_in(decimals, &line[3..]) {
+        Ok(minor) => Ok(Amount {
+            ccy,
+            minor,
+            decimals,
+        }),
+        Err(code) => Err(code),
+    }
+}
+
+#[tactic(auto, unfolding(crate::specs::Money::ccy_amount_of))]
+fn read_ccy_amount(tables: &RefTables, f: &Field) -> Result<Amount, Refusal>
+    ensures { Reads result (ccy_amount_of tables.now f.now) }
+{
+    let Some(line) = one_line(f) else {
+        return Err(Refusal::Bad(P24));
+    };
+    if !is_ccy_amount(line) {
+        return Err(Refusal::Bad(P24));
+    }
+    match ccy_amount_in(tables, line) {
+        Ok(amount) => Ok(amount),
+        Err(code) => Err(Refusal::Bad(code)),
+    }
+}
+
+impl Content for CcyAmount<'_> {
+    type Value = Amount;
+
+    ghost meaning = { λ c f. ccy_amount_of c.tables.now f };
+
+    fn read(&self, _alloc: Global, f: &Field) -> Result<Amount, Refusal> {
+        read_ccy_amount(self.tables, f)
+    }
+}

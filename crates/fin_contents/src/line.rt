@@ -1,0 +1,56 @@
+//! Lines and their parts.
+
+ghost use Rattle.std.specs.Prelude.{◌≡◌, option_map};
+ghost use Rattle.std.specs.List.{list_all, position};
+ghost use Rattle.corr_text.specs.Sets.{is_in};
+ghost use Rattle.corr_text.specs.Lines.{begins_with};
+ghost use Rattle.fin_contents.specs.Plain.{is_slash, one_line, sized};
+
+use corr_text::{Set, is_set};
+use fin_fields::Field;
+
+/// The line of a field that has one line; none of any other field.
+pub fn one_line(f: &Field) -> Option<&[u8]>
+    ensures { option_map (λ b. b.now) result ≡ one_line f.now }
+{
+    match f.lines.as_slice() {
+        [line] => Some(line.bytes()),
+        _ => None,
+    }
+}
+
+/// Bytes as an array, none where their number is another.
+pub fn array_of<const N: usize>(b: &[u8]) -> Option<[u8; N]>
+    ensures { result ≡ sized N b.now }
+{
+    if b.len() != N {
+        return None;
+    }
+    let mut array = [0; N];
+    array.copy_from_slice(b);
+    Some(array)
+}
+
+/// Whether all bytes are in a set.
+pub fn are_in(set: Set, b: &[u8]) -> bool
+    ensures { result ≡ list_all (is_in set) b.now }
+{
+    b.iter().all(|c| is_set(set, *c))
+}
+
+/// Whether bytes begin with this one.
+pub fn begins_with(byte: u8, b: &[u8]) -> bool
+    ensures { result ≡ begins_with byte b.now }
+{
+    match b {
+        [first, ..] => *first == byte,
+        [] => false,
+    }
+}
+
+/// The place of the first slash.
+pub fn first_slash(b: &[u8]) -> Option<usize>
+    ensures { result ≡ position is_slash b.now }
+{
+    b.iter().position(|c| *c == b'/')
+}

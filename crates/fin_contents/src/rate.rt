@@ -1,0 +1,50 @@
+//! Rates: field 36.
+
+ghost use Rattle.std.specs.Prelude.{◌≡◌};
+ghost use Rattle.fin_contents.specs.Money.{rate_of};
+ghost use Rattle.fin_layout.specs.Reading.{Reads};
+
+use crate::codes::{T40, T43};
+use crate::line::{are_in, one_line};
+use corr_money::is_comma_number;
+use corr_text::{Set, Text};
+use fin_fields::Field;
+use fin_layout::{Content, P24, Refusal};
+use std::alloc::Global;
+
+/// The number of characters that a rate has at most.
+const LENGTH: usize = 12;
+
+/// A rate, `12d`. P24: the field is not one line of one or more characters of X. T40: it is not digits with exactly one
+/// comma and a digit before it. T43: it has more than 12 characters.
+#[derive(Clone, Copy)]
+pub struct Rate;
+
+#[tactic(auto, unfolding(crate::specs::Money::rate_of))]
+fn read_rate(alloc: Global, f: &Field) -> Result<Text, Refusal>
+    ensures { Reads result (rate_of f.now) }
+{
+    let Some(line) = one_line(f) else {
+        return Err(Refusal::Bad(P24));
+    };
+    if line.is_empty() || !are_in(Set::X, line) {
+        return Err(Refusal::Bad(P24));
+    }
+    if !is_comma_number(line) {
+        return Err(Refusal::Bad(T40));
+    }
+    if line.len() > LENGTH {
+        return Err(Refusal::Bad(T43));
+    }
+    Ok(Text::from_bytes(alloc, line)?)
+}
+
+impl Content for Rate {
+    type Value = Text;
+
+    ghost meaning = { λ _ f. rate_of f };
+
+    fn read(&self, alloc: Global, f: &Field) -> Result<Text, Refusal> {
+        read_rate(alloc, f)
+    }
+}

@@ -1,0 +1,70 @@
+//! References: fields 20 and 21.
+
+ghost use Rattle.std.specs.Prelude.{◌≡◌, ◌==◌, ◌&&◌};
+ghost use Rattle.std.specs.List.{list_any, zip};
+ghost use Rattle.fin_contents.specs.Plain.{has_double_slash, has_stray_slash, reference_of};
+ghost use Rattle.fin_layout.specs.Reading.{Reads};
+
+use crate::codes::T26;
+use crate::line::{begins_with, one_line};
+use corr_text::{Set, Text};
+use fin_fields::{Field, is_run_of};
+use fin_layout::{Content, P24, Refusal};
+use std::alloc::Global;
+
+/// A reference, `16x`. P24: the field is not one line of 1 to 16 characters of X. T26: it begins or ends with a slash, or
+/// has two slashes in a row.
+///
+/// Example: `REF/1` is one, and `/REF1`, `REF1/` and `REF//1` are refused with T26.
+#[derive(Clone, Copy)]
+pub struct Reference;
+
+fn are_slashes(b: &[u8], next: &[u8]) -> bool
+    ensures { result ≡ list_any (λ p. (p.0 == 47) && (p.1 == 47)) (zip b.now next.now) }
+{
+    b.iter().zip(next.iter()).any(|(c, d)| *c == b'/' && *d == b'/')
+}
+
+fn has_double_slash(line: &[u8]) -> bool
+    ensures { result ≡ has_double_slash line.now }
+{
+    match line {
+        [] => false,
+        [_, rest @ ..] => are_slashes(line, rest),
+    }
+}
+
+fn has_stray_slash(line: &[u8]) -> bool
+    ensures { result ≡ has_stray_slash line.now }
+{
+    match line {
+        [] => false,
+        [.., last] => begins_with(b'/', line) || *last == b'/' || has_double_slash(line),
+    }
+}
+
+#[tactic(auto, unfolding(crate::specs::Plain::reference_of))]
+fn read_reference(alloc: Global, f: &Field) -> Result<Text, Refusal>
+    ensures { Reads result (reference_of f.now) }
+{
+    let Some(line) = one_line(f) else {
+        return Err(Refusal::Bad(P24));
+    };
+    if !is_run_of(Set::X, 16, line) {
+        return Err(Refusal::Bad(P24));
+    }
+    if has_stray_slash(line) {
+        return Err(Refusal::Bad(T26));
+    }
+    Ok(Text::from_bytes(alloc, line)?)
+}
+
+impl Content for Reference {
+    type Value = Text;
+
+    ghost meaning = { λ _ f. reference_of f };
+
+    fn read(&self, alloc: Global, f: &Field) -> Result<Text, Refusal> {
+        read_reference(alloc, f)
+    }
+}

@@ -1,0 +1,58 @@
+//! Times: field 13C.
+
+ghost use Rattle.std.specs.Prelude.{◌≡◌};
+ghost use Rattle.fin_contents.specs.Plain.{is_clock, is_time, time_of};
+ghost use Rattle.fin_layout.specs.Reading.{Reads};
+
+use crate::line::{are_in, begins_with, first_slash, one_line};
+use corr_text::{Set, Text};
+use fin_fields::{Field, is_run_of};
+use fin_layout::{Content, P24, Refusal};
+use std::alloc::Global;
+
+/// A time, `/`, 1 to 8 of C, `/4!n`, `+` or `-`, `4!n`. P24: the field is not one line of this form.
+///
+/// Example: `/CLSTIME/0915+0100`.
+#[derive(Clone, Copy)]
+pub struct Time;
+
+fn is_clock(b: &[u8]) -> bool
+    ensures { result ≡ is_clock b.now }
+{
+    b.len() == 9
+        && are_in(Set::N, &b[..4])
+        && (begins_with(b'+', &b[4..]) || begins_with(b'-', &b[4..]))
+        && are_in(Set::N, &b[5..])
+}
+
+fn is_time(line: &[u8]) -> bool
+    ensures { result ≡ is_time line.now }
+{
+    let [b'/', rest @ ..] = line else {
+        return false;
+    };
+    match first_slash(rest) {
+        Some(at) => is_run_of(Set::C, 8, &rest[..at]) && is_clock(&rest[at + 1..]),
+        None => false,
+    }
+}
+
+#[tactic(auto, unfolding(crate::specs::Plain::time_of))]
+fn read_time(alloc: Global, f: &Field) -> Result<Text, Refusal>
+    ensures { Reads result (time_of f.now) }
+{
+    match one_line(f) {
+        Some(line) if is_time(line) => Ok(Text::from_bytes(alloc, line)?),
+        _ => Err(Refusal::Bad(P24)),
+    }
+}
+
+impl Content for Time {
+    type Value = Text;
+
+    ghost meaning = { λ _ f. time_of f };
+
+    fn read(&self, alloc: Global, f: &Field) -> Result<Text, Refusal> {
+        read_time(alloc, f)
+    }
+}

@@ -1,0 +1,6 @@
+pub mod Order
+pub mod Naming
+pub mod Reading
+pub mod Contents
+pub mod Tests
+pub mod Segments

@@ -1,0 +1,43 @@
+-- What a reader of the code answers, against what the definitions say.
+use Rattle.std.specs.Prelude.{◌≡◌, List, ℕ, Option, Some, Result, Ok, Err}
+use Rattle.corr_text.specs.declared.fault.Code.{Code}
+use Rattle.corr_text.specs.declared.fault.Fault.{Fault}
+use Rattle.fin_fields.specs.declared.field.Field.{Field}
+use Rattle.fin_layout.specs.declared.fault.MtFault.{MtFault}
+use Rattle.fin_layout.specs.declared.fault.MtFault.TheVariants as faults
+use Rattle.fin_layout.specs.declared.fault.Refusal.{Refusal}
+use Rattle.fin_layout.specs.declared.fault.Refusal.TheVariants as refusals
+use Rattle.fin_layout.specs.Naming.{fault_at}
+
+-- a refusal is that of the content, or want of memory
+abbrev pub Refuses : {A : Type 0} → Refusal → Result A Code → Type 0
+Refuses refusals.Memory content = Unit {0}
+Refuses (refusals.Bad code) content = content ≡ Err code
+
+-- a content that is read is what the field says
+abbrev pub Reads : {A : Type 0} → Result A Refusal → Result A Code → Type 0
+Reads (Ok x) content = content ≡ Ok x
+Reads (Err e) content = Refuses e content
+
+-- the same of a message
+abbrev pub Fails : {A : Type 0} → MtFault → Result A Fault → Type 0
+Fails faults.Memory message = Unit {0}
+Fails (faults.Bad fault) message = message ≡ Err fault
+
+abbrev pub Gives : {A : Type 0} → Result A MtFault → Result A Fault → Type 0
+Gives (Ok x) message = message ≡ Ok x
+Gives (Err e) message = Fails e message
+
+-- a fault tells the first test that fails, or want of memory
+abbrev pub Tells : Option Fault → MtFault → Type 0
+Tells first (faults.Bad fault) = first ≡ Some fault
+Tells first faults.Memory = Unit {0}
+
+-- the refusal of a content as a fault of its field
+abbrev pub fault_of_field : List Field → ℕ → Refusal → MtFault
+fault_of_field fs i refusals.Memory = faults.Memory
+fault_of_field fs i (refusals.Bad code) = faults.Bad (fault_at fs i code)
+
+abbrev pub placed : {A : Type 0} → List Field → ℕ → Result A Refusal → Result A MtFault
+placed fs i (Ok x) = Ok x
+placed fs i (Err e) = Err (fault_of_field fs i e)

@@ -1,0 +1,24 @@
+//! The field at a place.
+
+ghost use Rattle.std.specs.Prelude.{◌≡◌, ◌<◌, ◌==◌, IfSome, length, option_map, position};
+ghost use Rattle.fin_layout.specs.Order.{field_in};
+
+use fin_fields::Field;
+
+fn position_of(found: &[usize], place: usize) -> Option<usize>
+    ensures { result ≡ position (λ p. p == place) found.now }
+{
+    found.iter().position(|p| *p == place)
+}
+
+/// The first field that takes a place, and which of the fields it is, from 0; none where no field takes it. `found` are
+/// the places of the fields.
+pub fn find<'a>(fields: &'a [Field], found: &[usize], place: usize) -> Option<(usize, &'a Field)>
+    ensures value { option_map (λ x. (x.0, x.1.now)) result ≡ field_in fields.now found.now place }
+    ensures within { IfSome result (λ x. x.0 < length fields.now) }
+{
+    match position_of(found, place) {
+        Some(at) if at < fields.len() => Some((at, &fields[at])),
+        _ => None,
+    }
+}

@@ -1,0 +1,25 @@
+//! The fields of a message type in their order: which place each field takes, which field is at fault, and what the
+//! fields at a place say. Every message type names its places and its kinds of content, and has the rest from here.
+#![tactic(auto)]
+
+mod content;
+mod fault;
+mod finding;
+mod naming;
+mod place;
+mod placing;
+mod reading;
+mod structure;
+mod testing;
+#[cfg(test)]
+mod tests;
+
+pub use content::{Content, Contents, refusal};
+pub use fault::{MtFault, P22, P23, P24, Refusal};
+pub use finding::find;
+pub use naming::{absent, fault_at};
+pub use place::Place;
+pub use placing::{missing, places};
+pub use reading::{read_all, read_one, read_optional};
+pub use structure::check_structure;
+pub use testing::check_fields;

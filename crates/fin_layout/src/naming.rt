@@ -1,0 +1,34 @@
+//! The faults of fields, each with its tag and occurrence.
+
+ghost use Rattle.std.specs.Prelude.{◌≡◌, ◌≤◌, ◌<◌, length};
+ghost use Rattle.fin_layout.specs.Naming.{absent, fault_at};
+
+use crate::fault::P23;
+use crate::place::{Place, place_tag};
+use corr_text::{Code, Fault};
+use fin_fields::{Field, nth_of, tag_of};
+
+/// A fault of a field: the code, the field's tag with its letter, and which of that tag it is, from 1.
+pub fn fault_at(fields: &[Field], at: usize, code: Code) -> Fault
+    requires few { length fields.now ≤ 65535 }
+    requires within { at < length fields.now }
+    ensures { result ≡ fault_at fields.now at code }
+{
+    Fault {
+        code,
+        tag: tag_of(&fields[at]),
+        nth: nth_of(fields, at),
+    }
+}
+
+/// The fault of a place that no field takes and one must: P23 with the place's tag and occurrence 0.
+pub fn absent(order: &[Place], at: usize) -> Fault
+    requires { at < length order.now }
+    ensures { result ≡ absent order.now at }
+{
+    Fault {
+        code: P23,
+        tag: place_tag(&order[at]),
+        nth: 0,
+    }
+}

@@ -1,0 +1,76 @@
+//! The places that fields take.
+
+ghost use Rattle.std.specs.Prelude.{◌≡◌, ◌≤◌, ◌<◌, IfOk, IfSome, length, position};
+ghost use Rattle.fin_layout.specs.Order.{fits, free_after, is_missing, missing_from, place_from, places_from};
+
+use crate::place::{Place, fits};
+use corr_text::Memory;
+use fin_fields::Field;
+use std::alloc::Global;
+
+fn first_fit(order: &[Place], f: &Field) -> Option<usize>
+    ensures value { result ≡ position (λ p. fits p f.now) order.now }
+    ensures within { IfSome result (λ k. k < length order.now) }
+{
+    order.iter().position(|p| fits(p, f))
+}
+
+fn place_from(order: &[Place], free: usize, f: &Field) -> Option<usize>
+    requires { free ≤ length order.now }
+    ensures value { result ≡ place_from order.now free f.now }
+    ensures within { IfSome result (λ k. k < length order.now) }
+{
+    match first_fit(&order[free..], f) {
+        Some(at) => Some(free + at),
+        None => None,
+    }
+}
+
+fn free_after(order: &[Place], at: usize) -> usize
+    requires { at < length order.now }
+    ensures value { result ≡ free_after order.now at }
+    ensures within { result ≤ length order.now }
+{
+    if order[at].many { at } else { at + 1 }
+}
+
+/// The places that the fields take, in their order and up to the first field that takes none.
+///
+/// A field takes the first place behind that of the field before it which allows it, or that same place where more than
+/// one field may stand there.
+pub fn places(alloc: Global, order: &[Place], fields: &[Field]) -> Result<Vec<usize>, Memory>
+    ensures value { IfOk result (λ v. v.items ≡ places_from order.now 0 fields.now) }
+    ensures few { IfOk result (λ v. length v.items ≤ length fields.now) }
+{
+    let mut found = Vec::new(alloc);
+    let mut free = 0;
+    for f in fields {
+        match place_from(order, free, f) {
+            Some(at) => {
+                found.push(at)?;
+                free = free_after(order, at);
+            }
+            None => return Ok(found),
+        }
+    }
+    Ok(found)
+}
+
+fn is_missing(place: &Place, at: usize, found: &[usize]) -> bool
+    ensures { result ≡ is_missing place.now at found.now }
+{
+    place.must && !found.contains(&at)
+}
+
+/// The first place that a field must take and none of the places in `found` is; none where there is no such place.
+pub fn missing(order: &[Place], found: &[usize]) -> Option<usize>
+    ensures value { result ≡ missing_from 0 order.now found.now }
+    ensures within { IfSome result (λ k. k < length order.now) }
+{
+    for (at, place) in order.iter().enumerate() {
+        if is_missing(place, at, found) {
+            return Some(at);
+        }
+    }
+    None
+}

@@ -1,0 +1,85 @@
+//! What the fields at a place say.
+
+ghost use Rattle.std.specs.Prelude.{◌≡◌, ◌≤◌, ◌<◌, IfOk, length};
+ghost use Rattle.fin_layout.specs.Contents.{all_from, in_option, in_place};
+ghost use Rattle.fin_layout.specs.Reading.{Gives, placed};
+
+use crate::content::Content;
+use crate::fault::{MtFault, Refusal};
+use crate::finding::find;
+use crate::naming::{absent, fault_at};
+use crate::place::Place;
+use corr_text::List;
+use fin_fields::Field;
+use std::alloc::Global;
+
+fn locate<T>(fields: &[Field], at: usize, read: Result<T, Refusal>) -> Result<T, MtFault>
+    requires few { length fields.now ≤ 65535 }
+    requires within { at < length fields.now }
+    ensures { result ≡ placed fields.now at read }
+{
+    match read {
+        Ok(x) => Ok(x),
+        Err(Refusal::Bad(code)) => Err(MtFault::Bad(fault_at(fields, at, code))),
+        Err(Refusal::Memory) => Err(MtFault::Memory),
+    }
+}
+
+/// What the field at a mandatory place says. `Bad`: what is wrong with the field, or P23 where no field takes the place.
+pub fn read_one<C: Content>(
+    alloc: Global,
+    content: &C,
+    order: &[Place],
+    fields: &[Field],
+    found: &[usize],
+    place: usize,
+) -> Result<C::Value, MtFault>
+    requires few { length fields.now ≤ 65535 }
+    requires within { place < length order.now }
+    ensures { Gives result (in_place order.now fields.now found.now place (C.meaning content.now)) }
+{
+    match find(fields, found, place) {
+        Some((at, f)) => locate(fields, at, content.read(alloc, f)),
+        None => Err(MtFault::Bad(absent(order, place))),
+    }
+}
+
+/// What the field at an optional place says, if there is one. `Bad`: what is wrong with it.
+pub fn read_optional<C: Content>(
+    alloc: Global,
+    content: &C,
+    fields: &[Field],
+    found: &[usize],
+    place: usize,
+) -> Result<Option<C::Value>, MtFault>
+    requires few { length fields.now ≤ 65535 }
+    ensures { Gives result (in_option fields.now found.now place (C.meaning content.now)) }
+{
+    match find(fields, found, place) {
+        Some((at, f)) => Ok(Some(locate(fields, at, content.read(alloc, f))?)),
+        None => Ok(None),
+    }
+}
+
+/// What the fields at a place say, in their order. `Bad`: what is wrong with the first of them that is refused.
+pub fn read_all<C: Content>(
+    alloc: Global,
+    content: &C,
+    fields: &[Field],
+    found: &[usize],
+    place: usize,
+) -> Result<List<C::Value>, MtFault>
+    requires few { length fields.now ≤ 65535 }
+    requires each { length found.now ≤ length fields.now }
+    ensures value { Gives result (all_from fields.now place (C.meaning content.now) 0 found.now fields.now) }
+    ensures few { IfOk result (λ l. length l ≤ length fields.now) }
+{
+    let mut all = List::new(alloc);
+    for (at, taken) in found.iter().enumerate() {
+        if *taken == place {
+            let read = content.read(alloc, &fields[at]);
+            all.push(locate(fields, at, read)?)?;
+        }
+    }
+    Ok(all)
+}

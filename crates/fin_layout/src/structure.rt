@@ -1,0 +1,39 @@
+//! The structure of a message: each field at a place, each mandatory place taken.
+
+ghost use Rattle.std.specs.Prelude.{◌≡◌, ◌≤◌, None, IfErr, IfOk, length};
+ghost use Rattle.corr_text.specs.First.{first_of};
+ghost use Rattle.fin_layout.specs.Order.{places_from};
+ghost use Rattle.fin_layout.specs.Reading.{Tells};
+ghost use Rattle.fin_layout.specs.Tests.{structure_tests};
+
+use crate::fault::{MtFault, P22};
+use crate::naming::{absent, fault_at};
+use crate::place::Place;
+use crate::placing::{missing, places};
+use fin_fields::Field;
+use std::alloc::Global;
+
+/// The place of each field.
+///
+/// P22: the first field that the order does not allow behind the field before it, with its tag and occurrence. Else P23:
+/// the first mandatory place that no field takes, with its tag (two digits where it has options) and occurrence 0.
+pub fn check_structure(
+    alloc: Global,
+    order: &[Place],
+    fields: &[Field],
+) -> Result<Vec<usize>, MtFault>
+    requires few { length fields.now ≤ 65535 }
+    ensures fault { IfErr result (Tells (first_of (structure_tests order.now fields.now))) }
+    ensures sound { IfOk result (λ _. first_of (structure_tests order.now fields.now) ≡ None) }
+    ensures places { IfOk result (λ v. v.items ≡ places_from order.now 0 fields.now) }
+    ensures each { IfOk result (λ v. length v.items ≡ length fields.now) }
+{
+    let found = places(alloc, order, fields)?;
+    if found.len() != fields.len() {
+        return Err(MtFault::Bad(fault_at(fields, found.len(), P22)));
+    }
+    if let Some(at) = missing(order, found.as_slice()) {
+        return Err(MtFault::Bad(absent(order, at)));
+    }
+    Ok(found)
+}
