@@ -1,5 +1,5 @@
 -- Messages answered one after another: what the history and the replies are so far, and in the end.
-use Rattle.std.proofs.Common.{◌≡◌, ℕ, zero, suc, ◌+◌, ◌-◌, ◌*◌, ◌<◌, ◌≤◌, Bool, true, false, cond, List, [], ◌∷◌, ◌++◌, length, Option, Some, None, Result, Ok, Err, refl, sym, ap, ◌∙◌, subst, arith, append_assoc, length-append, ℤ, ◌≤ℤ◌, inl, inr}
+use Rattle.std.proofs.Common.{◌≡◌, ℕ, zero, suc, ◌+◌, ◌-◌, ◌*◌, ◌<◌, ◌≤◌, Bool, true, false, cond, List, [], ◌∷◌, ◌++◌, length, drop, Option, Some, None, Result, Ok, Err, refl, sym, ap, ◌∙◌, subst, arith, append_assoc, length-append, ℤ, ◌≤ℤ◌, inl, inr}
 use Rattle.std.specs.Prelude.{◌⊎◌, MatchBool, slice_get, is_some, option_and_then, if◌then◌else◌}
 use Rattle.std.specs.List.{All}
 use Rattle.std.proofs.lemmas.Int.{ints}
@@ -195,3 +195,9 @@ message_answered t chart day all message rest entries after replies more so_far 
 pub message_few : (t : Tables) (chart : Chart) (day : Day) (message : List ℕ) (entries after : List Entry) (replies more : List Reply)
     → Turned t chart day message entries after replies more → length after ≤ length entries + 1
 message_few t chart day message entries after replies more turned = few_more chart day (message_of t chart message) entries after turned.entered
+
+pub none_left : (messages : List (List ℕ)) (n : ℕ) → length messages ≤ n → drop n messages ≡ []
+none_left [] zero le = refl
+none_left [] (suc n) le = refl
+none_left (m ∷ messages) zero le = absurd (omega arith)
+none_left (m ∷ messages) (suc n) le = none_left messages n (omega arith)

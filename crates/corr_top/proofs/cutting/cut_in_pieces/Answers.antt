@@ -1,5 +1,6 @@
 use Rattle.std.proofs.Common.{◌≡◌, ◌+◌, ◌-◌, ◌<◌, ◌++◌, [], ℕ, List, length, ap, arith, refl, sym, subst, ◌∙◌, length-append, take, drop, append_assoc}
 use Rattle.std.proofs.lemmas.List.{append-nil, take-append-drop}
+use Rattle.std.proofs.lemmas.Grind.{common_steps}
 use Rattle.std.proofs.lemmas.Result.{err_from_is_err_and}
 use Rattle.corr_top.specs.Feeding.{HasPassed, StopsFeeding}
 use Rattle.corr_top.specs.MessageFile.{IsMessageFile}
@@ -14,7 +15,7 @@ returns-in_err-feed_piece-clause-stopped c =
     let p = err_from_is_err_and c.from_residual.result c.from_residual.ensures.1 in
     let so_far = c.loop-rest.invariant in
     let rest = c.loop-rest.rest.now in
-    let some : 0 < length rest = omega (arith, c.is_empty.ensures, c.loop-rest-test.true) in
+    let some : 0 < length rest = grind (arith, common_steps) in
     let parts : c.split_at.result.0.now ++ c.split_at.result.1.now ≡ rest = ap (λ (x : List ℕ). x ++ c.split_at.result.1.now) c.split_at.ensures.front ∙ ap (λ (x : List ℕ). take c.min.result rest ++ x) c.split_at.ensures.back ∙ take-append-drop c.min.result rest in
     let stopped = c.in_err-feed_piece.ensures.stopped so_far.0 so_far.2 (counted so_far.0 c.split_at.result.0.now c.split_at.result.1.now rest c.args.file.now parts so_far.1) in
     rw (p.1, p.2) (stops-here c.loop-rest.cutter c.args.size c.args.file.now so_far.0 rest c.min.result c.loop-rest.messages c.in_err-feed_piece.field-0.0 so_far.2 so_far.1 some
@@ -35,6 +36,6 @@ pub returns-clause-ok : goal.returns-clause-ok
 returns-clause-ok c =
     let so_far = c.loop-rest.invariant in
     let ended = c.in_ok-finish.ensures.ends so_far.0 c.loop-rest.messages so_far.2.was in
-    let none : length c.loop-rest.rest.now ≡ 0 = omega (arith, c.is_empty.ensures, c.loop-rest-test.false) in
+    let none : length c.loop-rest.rest.now ≡ 0 = grind (arith, common_steps) in
     subst (λ ms. IsMessageFile c.args.file.now ms) (sym ended.1)
     (cut-at-end c.loop-rest.cutter c.args.file.now so_far.0 c.loop-rest.rest.now c.loop-rest.messages (c.loop-rest.messages ++ ended.0) so_far.2 so_far.1 none ended.2)

@@ -1,6 +1,6 @@
-use Rattle.std.proofs.Common.{[], ◌∷◌, ◌∙◌, refl, sym, ap, subst, List, ℕ}
+use Rattle.std.proofs.Common.{[], ◌∷◌, ◌∙◌, ◌≤◌, length, refl, sym, ap, subst, List, ℕ}
 use Rattle.std.proofs.lemmas.Result.{err_from_is_err_and}
-use Rattle.corr_top.specs.Messages.{HasMessages}
+use Rattle.std.specs.Prelude.{All}
 use Rattle.corr_top.proofs.MessageFiles.{all-short}
 use Rattle.corr_top.proofs.Opening.{same_read}
 use Rattle.corr_top.proofs.Running.{messages_stop, same_appends, same_messages, same_over, same_part, same_report, whole}
@@ -60,3 +60,23 @@ returns-clause-done g c =
         received = same_appends held c.args.room.now.report c.open_books.new.room.report c.open_books.ensures.report (held c.write_whole.new.sink) c.bytes.result.now _ text c.in_ok-write_whole.ensures.written;
       },
     )
+
+pub make_report-requires-clause-short : goal.make_report-requires-clause-short
+make_report-requires-clause-short g c =
+    let has = c.in_ok-messages.ensures.read in
+    subst (λ (ms : List (List ℕ)). All (λ m. length m ≤ 16384) ms) (sym c.as_slice.ensures) (all-short has.file c.in_ok-messages.messages has.are)
+
+pub returns-in_err-text-clause-stopped : goal.returns-in_err-text-clause-stopped
+returns-in_err-text-clause-stopped g c =
+    let p = err_from_is_err_and c.from_residual-in_err-text.result c.from_residual-in_err-text.ensures.1 in
+    rw (p.1, p.2) tt
+
+pub returns-in_err-text-clause-decimals : goal.returns-in_err-text-clause-decimals
+returns-in_err-text-clause-decimals g c =
+    let p = err_from_is_err_and c.from_residual-in_err-text.result c.from_residual-in_err-text.ensures.1 in
+    rw (p.1, p.2) tt
+
+pub returns-in_err-write_whole-clause-decimals : goal.returns-in_err-write_whole-clause-decimals
+returns-in_err-write_whole-clause-decimals g c =
+    let p = err_from_is_err_and c.from_residual-in_err-write_whole.result c.from_residual-in_err-write_whole.ensures.1 in
+    rw (p.1, p.2) tt
