@@ -30,59 +30,7 @@ past-more : (bytes more : List ℕ) → IsPast bytes → IsPast (bytes ++ more)
 past-more bytes more (inl long) = inl (let e = length-append bytes more in omega arith)
 past-more bytes more (inr begun) = inr (begun.0, begun.1, begun-more more begun.2)
 
-not-past : (bytes : List ℕ) (n : ℕ) → HaveBegun bytes n → length bytes ≤ 67108864 → n ≤ 50000 → IsPast bytes → ⊥
-not-past bytes n begun short few (inl long) = omega arith
-not-past bytes n begun short few (inr more) = let k = begun.most more.0 more.2 in let over = more.1 in omega arith
-
-begun-past : (bytes : List ℕ) (n : ℕ) → (n ≡ 0) ⊎ HasBegun bytes n → 50000 < n → IsPast bytes
-begun-past bytes n (inl none) over = absurd (omega arith)
-begun-past bytes n (inr has) over = inr (n, over, has)
-
-is-past : (bytes : List ℕ) (n : ℕ) → HaveBegun bytes n → (67108864 < length bytes) ⊎ (50000 < n) → IsPast bytes
-is-past bytes n begun (inl long) = inl long
-is-past bytes n begun (inr over) = begun-past bytes n begun.last over
-
 -- ---- what a call of the cutter tells
-
-pub answer-ok : (o : Option FrameFault) → answer_of o ≡ Ok tt → o ≡ None
-answer-ok None e = refl
-answer-ok (Some fault) e = absurd (cc e)
-
-pub answer-err : (o : Option FrameFault) (fault : FrameFault) → answer_of o ≡ Err fault → o ≡ Some fault
-answer-err None fault e = absurd (cc e)
-answer-err (Some other) fault e = ap (λ (f : FrameFault). Some f) (let same : other ≡ fault = cc e in same)
-
-begun-known : (o : Option FrameFault) (fed : List ℕ) (given : List (List ℕ)) (n : ℕ) → (o ≡ Some frame.Memory → ⊥) → Knows o fed given n → HaveBegun fed n
-begun-known None fed given n other knows = knows.2
-begun-known (Some (frame.Stray at)) fed given n other knows = knows.2
-begun-known (Some (frame.TooLong at)) fed given n other knows = knows.2
-begun-known (Some (frame.Unbalanced at)) fed given n other knows = knows.2
-begun-known (Some frame.Memory) fed given n other knows = absurd (other refl)
-
-pub stops-large : (o : Option FrameFault) (fed : List ℕ) (given : List (List ℕ)) (n bytes : ℕ) → (o ≡ Some frame.Memory → ⊥) → Knows o fed given n → bytes ≡ length fed
-    → (67108864 < bytes) ⊎ (50000 < n) → StopsFeeding fed (status.TooLarge bytes n)
-stops-large o fed given n bytes other knows same over =
-    let begun = begun-known o fed given n other knows in
-    (same, is-past fed n begun (subst (λ k. (67108864 < k) ⊎ (50000 < n)) same over), begun)
-
-stops-shown : (fault : FrameFault) (fed : List ℕ) (given : List (List ℕ)) (n : ℕ) → Knows (Some fault) fed given n → length fed ≤ 67108864 → n ≤ 50000 → StopsFeeding fed (status_of_frame fault)
-stops-shown (frame.Stray at) fed given n knows short few =
-    record { messages = knows.0.messages; fault = frame.Stray at; shown = knows.0.shown; within = not-past fed n knows.2 short few; at_is = refl }
-stops-shown (frame.TooLong at) fed given n knows short few =
-    record { messages = knows.0.messages; fault = frame.TooLong at; shown = knows.0.shown; within = not-past fed n knows.2 short few; at_is = refl }
-stops-shown (frame.Unbalanced at) fed given n knows short few =
-    record { messages = knows.0.messages; fault = frame.Unbalanced at; shown = knows.0.shown; within = not-past fed n knows.2 short few; at_is = refl }
-stops-shown frame.Memory fed given n knows short few = tt
-
-pub stops-fault : (o : Option FrameFault) (fault : FrameFault) (fed : List ℕ) (given : List (List ℕ)) (n bytes : ℕ) → o ≡ Some fault → Knows o fed given n → bytes ≡ length fed → bytes ≤ 67108864 → n ≤ 50000
-    → StopsFeeding fed (status_of_frame fault)
-stops-fault o fault fed given n bytes is knows same short few =
-    stops-shown fault fed given n (subst (λ x. Knows x fed given n) is knows) (subst (λ k. k ≤ 67108864) same short) few
-
-pub goes-on : (c : Cutter) (fed : List ℕ) (given : List (List ℕ)) (n bytes : ℕ) → WasFed c fed given → c.failed ≡ None → Knows c.failed fed given n → bytes ≡ length fed → bytes ≤ 67108864 → n ≤ 50000
-    → HasPassed c fed given
-goes-on c fed given n bytes was sound knows same short few =
-    record { was = was; sound = sound; within = not-past fed n (subst (λ o. Knows o fed given n) sound knows).2 (subst (λ k. k ≤ 67108864) same short) few }
 
 -- a cutter that was made now
 pub starts : (c : Cutter) (given : List (List ℕ)) → WasFed c [] [] → c.failed ≡ None → given ≡ [] → HasPassed c [] given
@@ -137,24 +85,12 @@ whole-so : (fed rest file : List ℕ) → fed ++ rest ≡ file → length rest �
 whole-so fed [] file whole none = sym (append-nil fed) ∙ whole
 whole-so fed (b ∷ rest) file whole none = absurd (omega arith)
 
-ends-err : (c : Cutter) (fault : FrameFault) (size : ℕ) (file : List ℕ) (given all : List (List ℕ)) → HasPassed c file given → Ends None (Err fault) file all → StopsInPieces size file (status_of_frame fault)
-ends-err c (frame.Unbalanced at) size file given all so_far ends = inr (record { passed = is-passed c file given so_far; ends = ends.ends })
-ends-err c (frame.Stray at) size file given all so_far ends = absurd ends
-ends-err c (frame.TooLong at) size file given all so_far ends = absurd ends
-ends-err c frame.Memory size file given all so_far ends = tt
-
-pub stops-at-end : (c : Cutter) (fault : FrameFault) (size : ℕ) (file fed rest : List ℕ) (given all : List (List ℕ)) → HasPassed c fed given → fed ++ rest ≡ file → length rest ≡ 0 → Ends c.failed (Err fault) fed all
-    → StopsInPieces size file (status_of_frame fault)
-stops-at-end c fault size file fed rest given all so_far whole none ends =
-    let same = whole-so fed rest file whole none in
-    subst (λ f. StopsInPieces size f (status_of_frame fault)) same (ends-err c fault size fed given all so_far (subst (λ o. Ends o (Err fault) fed all) so_far.sound ends))
-
 -- the messages of a file begin in it
 messages-begin : {file : List ℕ} {messages : List (List ℕ)} {gap : List ℕ} → IsFileOf file messages gap → (length messages ≡ 0) ⊎ HasBegun file (length messages)
 messages-begin (file_start gap) = inl refl
 messages-begin (file_more file message gap messages front is behind) =
     inr (subst (λ k. HasBegun (file ++ message ++ gap) k) (sym (length-append messages (message ∷ [])))
-        (subst (λ x. HasBegun x (length messages + 1)) parts (has_begun file (drop 3 message ++ gap) messages front)))
+    (subst (λ x. HasBegun x (length messages + 1)) parts (has_begun file (drop 3 message ++ gap) messages front)))
   where
     parts : file ++ lead ++ (drop 3 message ++ gap) ≡ file ++ message ++ gap
     parts = sym (append_assoc (file ++ lead) (drop 3 message) gap) ∙ ap (λ l. l ++ gap) (append_assoc file lead (drop 3 message)) ∙ ap (λ l. file ++ l ++ gap) (sym (message-leads is.0))

@@ -171,7 +171,7 @@ blocks-size m =
     size text is =
         let group = next (behind (codes "{3:") (after (after (groups_of m)))) in
         let short : length group ≤ length m = next-small (length m) (behind (codes "{3:") (after (after (groups_of m))))
-            (behind-small (length m) (codes "{3:") (after (after (groups_of m))) (after-small (length m) (after (groups_of m)) (after-small (length m) (groups_of m) (groups-small m)))) in
+        (behind-small (length m) (codes "{3:") (after (after (groups_of m))) (after-small (length m) (after (groups_of m)) (after-small (length m) (groups_of m) (groups-small m)))) in
         let le : length text ≤ 3 * length group = subst (λ o. IfSome o (λ x. length x ≤ 3 * length group)) is (text-of-size group) in
         omega arith
 

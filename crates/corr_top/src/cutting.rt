@@ -26,9 +26,8 @@ impl From<FrameFault> for Status {
 
     fn from(fault: FrameFault) -> Status {
         match fault {
-            FrameFault::Stray { at } | FrameFault::TooLong { at } | FrameFault::Unbalanced { at } => {
-                Status::Framing { at }
-            }
+            FrameFault::Stray { at } | FrameFault::TooLong { at } | FrameFault::Unbalanced { at } =>
+                { Status::Framing { at } }
             FrameFault::Memory => Status::Memory,
         }
     }

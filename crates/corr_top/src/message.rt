@@ -8,8 +8,8 @@ ghost use Rattle.corr_top.specs.Refusals.{ReadsAs};
 ghost use Rattle.corr_top.specs.Seen.{form_seen};
 
 use crate::interim::{Form, read_form};
-use crate::verdict::{Opened, open_message};
 use crate::value::{Value, read_value};
+use crate::verdict::{Opened, open_message};
 use corr_ids::Mir;
 use corr_money::Amount;
 use corr_text::{Code, Fault, List, Memory, Text};

@@ -212,12 +212,7 @@ fn transaction(blocks: &Blocks) -> Option<Uetr>
 }
 
 /// The first fault of a received message's blocks.
-fn heading_fault(
-    blocks: &Blocks,
-    mir: &Mir,
-    home: &[u8; 8],
-    tables: &RefTables,
-) -> Option<Fault>
+fn heading_fault(blocks: &Blocks, mir: &Mir, home: &[u8; 8], tables: &RefTables) -> Option<Fault>
     ensures { result ≡ first_of (heading_tests home.now tables.now blocks.now mir.now) }
 {
     let mt = type_of(&blocks.app);

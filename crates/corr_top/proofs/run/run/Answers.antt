@@ -26,7 +26,7 @@ returns-in_err-write_whole-clause-stopped g c =
     let has = c.in_ok-messages.ensures.read in
     let read = same_read left c.args.room.now.messages c.open_books.new.room.messages c.open_books.ensures.messages 67108864 (left c.read_messages.new.source) has.file has.read in
     let text = c.bytes.ensures ∙ c.in_ok-text.ensures ∙ same_over c.in_ok-books.books c.as_slice.result.now c.in_ok-messages.messages c.as_slice.ensures
-        ∙ same_report c.args.day q.0 q.1 q.2 q.3 has.file c.in_ok-messages.messages c.in_ok-books.books q.4.tables q.4.accounts q.4.day_is in
+    ∙ same_report c.args.day q.0 q.1 q.2 q.3 has.file c.in_ok-messages.messages c.in_ok-books.books q.4.tables q.4.accounts q.4.day_is in
     rw (p.1, p.2) (
       q.0 ∷ q.1 ∷ q.2 ∷ q.3 ∷ has.file ∷ [],
       c.in_ok-messages.messages,
@@ -52,7 +52,7 @@ returns-clause-done g c =
     let has = c.in_ok-messages.ensures.read in
     let read = same_read left c.args.room.now.messages c.open_books.new.room.messages c.open_books.ensures.messages 67108864 (left c.read_messages.new.source) has.file has.read in
     let text = c.bytes.ensures ∙ c.in_ok-text.ensures ∙ same_over c.in_ok-books.books c.as_slice.result.now c.in_ok-messages.messages c.as_slice.ensures
-        ∙ same_report c.args.day q.0 q.1 q.2 q.3 has.file c.in_ok-messages.messages c.in_ok-books.books q.4.tables q.4.accounts q.4.day_is in (
+    ∙ same_report c.args.day q.0 q.1 q.2 q.3 has.file c.in_ok-messages.messages c.in_ok-books.books q.4.tables q.4.accounts q.4.day_is in (
       q.0 ∷ q.1 ∷ q.2 ∷ q.3 ∷ has.file ∷ [],
       c.in_ok-messages.messages,
       record {
