@@ -6,14 +6,15 @@ use Rattle.std.specs.List.{list_all}
 use Rattle.std.specs.Str.{bytes_eq}
 use Rattle.std.proofs.lemmas.Bool.{cases_Bool, eqb-true}
 use Rattle.std.proofs.lemmas.Bool.Decides.{nat_tests}
-use Rattle.std.proofs.lemmas.List.{length-append, length-take-le, length-drop, take_all, take_at, drop_at, take-append-drop, take-append-le, drop-append-le, drop_more}
+use Rattle.std.proofs.lemmas.List.{length-append, length-take-le, length-drop, take_all, take_at, drop_at, take-append-drop, take-append-le, drop-append-le, drop_more, drop-drop, get_or_at}
 use Rattle.std.proofs.lemmas.Slice.Eq.{bytes_eq-Decides}
 use Rattle.std.proofs.lemmas.List.Folds.{list_all-append}
 use Rattle.corr_text.specs.Sets.{is_c_byte}
 use Rattle.corr_ids.specs.declared.bic.Bic.{Bic}
+use Rattle.corr_ids.specs.declared.address.LtAddress.{LtAddress}
 use Rattle.corr_ids.specs.declared.mir.Mir.{Mir}
 use Rattle.corr_ids.specs.Bic.{is_bic, branch_of, bic_of, bic_text, IsBic}
-use Rattle.corr_ids.specs.Address.{is_lt, address_of, bank_of, IsLt}
+use Rattle.corr_ids.specs.Address.{is_lt, address_of, bank_of, lt_text, IsLt}
 use Rattle.corr_ids.specs.Mir.{is_mir, IsMir, sender_text}
 use Rattle.corr_ids.specs.Day.{day_of}
 
@@ -53,23 +54,40 @@ bic-again line h =
           rw (other, take-append-drop 8 line, h, other) refl
     ]
 
--- and is read again as it is printed
-short-again : (b : Bic) → IsBic b → b.branch ≡ codes "XXX" → bic_of b.head ≡ Some b
+-- what a BIC's grammar asks of its parts
+record BicParts (b : Bic) : Type 0 where
+  eight : length b.head ≡ 8
+  three : length b.branch ≡ 3
+  letters : list_all is_ascii_uppercase (take 6 b.head) ≡ true
+  rest : list_all is_c_byte (drop 6 b.head) ≡ true
+  branch : list_all is_c_byte b.branch ≡ true
+
+bic-parts : (b : Bic) → IsBic b → BicParts b
 unfolding is_bic
-short-again b h short =
+bic-parts b h =
     let full : List ℕ = b.head ++ b.branch in
     let s = some_if (is_bic full) (record { head = take 8 full; branch = branch_of full }) b h in
     let p = and_parts3 ((length full == 8) || (length full == 11)) (list_all is_ascii_uppercase (take 6 full)) (list_all is_c_byte (drop 6 full)) s.0 in
     let head : take 8 full ≡ b.head = ap (λ x. x.head) s.1 in
-    let three : length b.branch ≡ 3 = ap length short in
+    let tail : branch_of full ≡ b.branch = ap (λ x. x.branch) s.1 in
     let long : (length full ≡ 8) ⊎ (length full ≡ 11) = grind (arith, nat_tests) in
     let eight : length b.head ≡ 8 = omega (arith, ap length head, length-take-le 8 full, long) in
     let low : 6 ≤ length b.head = omega arith in
     let rest : list_all is_c_byte (drop 6 b.head ++ b.branch) ≡ true = rw (drop-append-le 6 b.head b.branch low) at p.2 in
     let both : (list_all is_c_byte (drop 6 b.head) && list_all is_c_byte b.branch) ≡ true = sym (list_all-append is_c_byte (drop 6 b.head) b.branch) ∙ rest in
-    let letters : list_all is_ascii_uppercase (take 6 b.head) ≡ true = rw (take-append-le 6 b.head b.branch low) at p.1 in
     let q = and_parts2 (list_all is_c_byte (drop 6 b.head)) (list_all is_c_byte b.branch) both in
-    rw (eight, letters, q.0, take_all 8 b.head (omega arith), ← short) refl
+    let three : length b.branch ≡ 3 = elim long [
+      | inl short ↦ let none : codes "XXX" ≡ b.branch = rw short at tail in sym (ap length none)
+      | inr whole ↦ omega (arith, whole, eight, length-append b.head b.branch)
+    ] in
+    record { eight = eight; three = three; letters = rw (take-append-le 6 b.head b.branch low) at p.1; rest = q.0; branch = q.1 }
+
+-- and is read again as it is printed
+short-again : (b : Bic) → IsBic b → b.branch ≡ codes "XXX" → bic_of b.head ≡ Some b
+unfolding is_bic
+short-again b h short =
+    let p = bic-parts b h in
+    rw (p.eight, p.letters, p.rest, take_all 8 b.head (omega (arith, p.eight)), ← short) refl
 
 pub bic-printed : (b : Bic) → IsBic b → bic_of (bic_text b) ≡ Some b
 bic-printed b h =
@@ -106,6 +124,32 @@ lt-bank bs h =
     let q = and_parts2 (list_all is_c_byte (drop 6 (take 8 bs))) (list_all is_c_byte last) both in
     let r = and_parts2 (is_c_byte (get_or bs 8 0)) (list_all is_c_byte (drop 9 bs)) q.1 in
     bic_from (take 8 bs) (drop 9 bs) eight three letters q.0 r.1
+
+-- a bank's terminal, a capital letter or a digit, has an address that is read again as it is spelled
+pub terminal-again : (b : Bic) (terminal : ℕ) → IsBic b → is_c_byte terminal ≡ true → IsLt (record { head = b.head; lt = terminal; branch = b.branch })
+unfolding is_lt
+terminal-again b terminal h c =
+    let p = bic-parts b h in
+    let last : List ℕ = terminal ∷ b.branch in
+    let low : 6 ≤ length b.head = omega (arith, p.eight) in
+    let long : length (b.head ++ last) ≡ 12 = omega (arith, p.eight, p.three, length-append b.head last) in
+    let behind : drop 9 (b.head ++ last) ≡ b.branch = sym (drop-drop 1 8 (b.head ++ last)) ∙ ap (drop 1) (drop_at b.head last 8 p.eight) in
+    rw (
+      long,
+      take-append-le 6 b.head last low,
+      drop-append-le 6 b.head last low,
+      list_all-append is_c_byte (drop 6 b.head) last,
+      p.letters,
+      p.rest,
+      c,
+      p.branch,
+      take_at b.head last 8 p.eight,
+      get_or_at b.head terminal b.branch 0 8 p.eight,
+      behind,
+    ) refl
+
+pub lt-form : (a : LtAddress) → IsLt a → is_lt (lt_text a) ≡ true
+lt-form a h = (some_if (is_lt (lt_text a)) (address_of (lt_text a)) a h).0
 
 -- what stands behind a reference's date is an address
 pub mir-sender : (bs : List ℕ) → is_mir bs ≡ true → is_lt (sender_text bs) ≡ true

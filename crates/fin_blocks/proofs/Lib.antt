@@ -1,0 +1,12 @@
+pub mod Numbers
+pub mod Cutting
+pub mod Pieces
+pub mod Ending
+pub mod Distinct
+pub mod Lines
+pub mod Braces
+pub mod Between
+pub mod SentParts
+pub mod SentUser
+pub mod SentLines
+pub mod ReadBack

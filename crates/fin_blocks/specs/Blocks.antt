@@ -1,0 +1,60 @@
+-- The blocks of a message, read in their order: the first that is not of its form is the fault.
+use Rattle.std.specs.Prelude.{◌≡◌, ℕ, Bool, true, false, List, [], ◌∷◌, Option, Some, None, Result, Ok, Err, is_some, bytes_eq, codes, if◌then◌else◌}
+use Rattle.corr_text.specs.First.{check, or_fault, ◌>>=◌}
+use Rattle.fin_blocks.specs.Groups.{groups_of, next, after}
+use Rattle.fin_blocks.specs.Forms.{inside, basic_of, app_of, mir_in, each_of, trailer_of}
+use Rattle.fin_blocks.specs.User.{subblocks_in}
+use Rattle.fin_blocks.specs.Text.{text_of}
+use Rattle.fin_blocks.specs.declared.blocks.Blocks.{Blocks}
+use Rattle.fin_blocks.specs.declared.fault.BlockFault.{BlockFault}
+use Rattle.fin_blocks.specs.declared.fault.BlockFault.TheVariants as fault
+use Rattle.fin_blocks.specs.declared.fault.TheConstants.{P01, P02, P03, P04, P05, P06}
+
+-- whether the next group is the block that begins so
+abbrev pub has_next : List ℕ → List (List ℕ) → Bool
+has_next start groups = is_some (inside start (next groups))
+
+-- the groups behind that block, or all where it does not come next
+abbrev pub behind : List ℕ → List (List ℕ) → List (List ℕ)
+behind start groups = if has_next start groups then after groups else groups
+
+-- what a block that may be absent says
+abbrev pub optional : {A : Type 0} → (List ℕ → Option (List A)) → Option (List ℕ) → Option (List A)
+optional read None = Some []
+optional read (Some bs) = read bs
+
+-- block 3, `{3:`, subblocks, `}`
+abbrev pub user_of : List (List ℕ) → Option (List (ℕ × List ℕ))
+user_of groups = optional subblocks_in (inside (codes "{3:") (next groups))
+
+-- block 5, `{5:`, trailers, `}`
+abbrev pub trailers_of : List (List ℕ) → Option (List (List ℕ))
+trailers_of groups = optional (λ bs. each_of trailer_of (groups_of bs)) (inside (codes "{5:") (next groups))
+
+-- nothing more, or one last group `{S:`
+abbrev pub are_last : List (List ℕ) → Bool
+are_last [] = true
+are_last (group ∷ []) = is_some (inside (codes "{S:") group)
+are_last _ = false
+
+-- the parts of a message, or the first of P01 to P06 with the reference of a received message from P04 on
+unfoldable pub blocks_of : List ℕ → Result Blocks BlockFault
+blocks_of m = do
+  let first = groups_of m
+  basic ← or_fault (basic_of (next first)) (fault.Bad P01 None)
+  _ ← check (bytes_eq basic.version (codes "01")) (fault.Bad P02 None)
+  let second = after first
+  app ← or_fault (app_of (next second)) (fault.Bad P03 None)
+  let third = after second
+  user ← or_fault (user_of third) (fault.Bad P04 (mir_in app))
+  let fourth = behind (codes "{3:") third
+  text ← or_fault (text_of (next fourth)) (fault.Bad P05 (mir_in app))
+  let fifth = after fourth
+  trailers ← or_fault (trailers_of fifth) (fault.Bad P06 (mir_in app))
+  _ ← check (are_last (behind (codes "{5:") fifth)) (fault.Bad P06 (mir_in app))
+  Ok (record { own = basic.own; app = app; user = user; text = text; trailers = trailers })
+
+-- an error tells this fault, or want of memory
+abbrev pub Tells : Result Blocks BlockFault → BlockFault → Type 0
+Tells meant (fault.Bad code mir) = meant ≡ Err (fault.Bad code mir)
+Tells meant fault.Memory = Unit {0}

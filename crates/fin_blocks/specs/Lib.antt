@@ -1,0 +1,6 @@
+pub mod Groups
+pub mod Forms
+pub mod User
+pub mod Text
+pub mod Blocks
+pub mod Sending

@@ -1,0 +1,27 @@
+//! The parts of a message.
+
+use corr_ids::{LtAddress, Mir};
+use corr_text::{List, Text};
+
+/// Block 2: what a message is, and where it comes from or goes to.
+#[derive(Clone, Copy, Debug, PartialEq, Eq)]
+pub enum App {
+    /// Of output form: the type, as 103, and the reference under which its sender handed it in.
+    Received { mt: u16, mir: Mir },
+    /// Of input form: the type and the receiver's terminal.
+    Sent { mt: u16, to: LtAddress },
+}
+
+/// The parts of a message.
+#[derive(Debug, Drop)]
+pub struct Blocks {
+    /// The terminal of block 1.
+    pub own: LtAddress,
+    pub app: App,
+    /// The subblocks of block 3: numbers and texts.
+    pub user: List<(u16, Text)>,
+    /// The lines of block 4, each ended by CR LF.
+    pub text: Text,
+    /// The codes of block 5.
+    pub trailers: List<[u8; 3]>,
+}

@@ -1,0 +1,47 @@
+//! Groups: a `{` up to its matching `}`.
+
+ghost use Rattle.std.specs.Prelude.{◌≡◌, ◌≢◌, ◌<◌, ◌+◌, ◌^◌, [], length};
+ghost use Rattle.fin_blocks.specs.Groups.{IsCut, depth_after as depth_of};
+
+/// Bytes, their next group, and what stands behind it.
+#[derive(Clone, Copy, Debug)]
+pub struct Piece<'a> {
+    pub from: &'a [u8],
+    pub group: &'a [u8],
+    pub rest: &'a [u8],
+}
+
+fn depth_after(depth: usize, b: u8) -> usize
+    requires { depth + 1 < 2 ^ 64 }
+    ensures { result ≡ depth_of depth b }
+{
+    match b {
+        b'{' => depth + 1,
+        b'}' => depth.saturating_sub(1),
+        _ => depth,
+    }
+}
+
+/// Cuts bytes behind their next group; a group that is never closed is empty, with nothing behind it.
+pub fn next_group(bytes: &[u8]) -> Piece<'_>
+    ensures from { result.from.now ≡ bytes.now }
+    ensures cut { IsCut bytes.now result.group.now result.rest.now }
+    ensures shorter { bytes.now ≢ [] → length result.rest.now < length bytes.now }
+{
+    let mut depth = 0;
+    for (at, b) in bytes.iter().enumerate() {
+        depth = depth_after(depth, *b);
+        if depth == 0 {
+            return Piece {
+                from: bytes,
+                group: &bytes[..at + 1],
+                rest: &bytes[at + 1..],
+            };
+        }
+    }
+    Piece {
+        from: bytes,
+        group: &[],
+        rest: &[],
+    }
+}

@@ -1,0 +1,51 @@
+//! Block 4: the text of a message.
+
+ghost use Rattle.std.specs.Prelude.{◌≡◌, ◌++◌, ◌∷◌, [], codes, option_map, IfOk};
+ghost use Rattle.std.specs.Option.{option_or};
+ghost use Rattle.fin_blocks.specs.Forms.{between as between_of};
+ghost use Rattle.fin_blocks.specs.Text.{crlf, is_ended as is_ended_of, text_in, text_of};
+
+use crate::forms::between;
+use corr_text::{Memory, Text, first_line};
+use std::alloc::Global;
+
+fn lines_between(group: &[u8]) -> Option<&[u8]>
+    ensures { option_map (λ b. b.now) result
+        ≡ option_or (between_of (codes "{4:" ++ crlf) (codes "-}") group.now) (between_of (codes "{4:" ++ 10 ∷ []) (codes "-}") group.now) }
+{
+    if let Some(lines) = between(b"{4:\r\n", b"-}", group) {
+        return Some(lines);
+    }
+    between(b"{4:\n", b"-}", group)
+}
+
+fn is_ended(b: &[u8]) -> bool
+    ensures { result ≡ is_ended_of b.now }
+{
+    b.is_empty() || b[b.len() - 1] == b'\n'
+}
+
+fn copy_lines(alloc: Global, b: &[u8]) -> Result<Text, Memory>
+    ensures { IfOk result (λ t. t ≡ text_in b.now) }
+{
+    let mut text = Text::from_vec(Vec::with_capacity(alloc, b.len())?);
+    let mut rest = b;
+    while !rest.is_empty() {
+        let cut = first_line(rest);
+        text.push(cut.line)?;
+        text.push(b"\r\n")?;
+        rest = cut.rest;
+    }
+    Ok(text)
+}
+
+/// The lines of block 4, each ended by CR LF, if the group is one.
+#[tactic(auto, unfolding(crate::specs::Text::text_of))]
+pub fn read_text(alloc: Global, group: &[u8]) -> Result<Option<Text>, Memory>
+    ensures { IfOk result (λ o. o ≡ text_of group.now) }
+{
+    match lines_between(group) {
+        Some(lines) if is_ended(lines) => Ok(Some(copy_lines(alloc, lines)?)),
+        _ => Ok(None),
+    }
+}
