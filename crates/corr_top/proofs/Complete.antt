@@ -24,10 +24,11 @@ use Rattle.corr_top.specs.declared.status.Status.{Status}
 use Rattle.corr_top.specs.declared.status.Status.TheVariants as status
 use Rattle.corr_top.specs.Complete.{AreTold, IsReady, NoneRose}
 use Rattle.corr_top.specs.Ends.{Ends, StopsAtWrite}
-use Rattle.corr_top.specs.Interim.{home_head}
+use Rattle.corr_top.specs.MessageFile.{StopsCutting}
 use Rattle.corr_top.specs.Reading.{IsRead}
-use Rattle.corr_top.specs.Run.{AreRead, StopsAtRead, StopsAtTable, StopsTooLarge, StopsUnbalanced, accounts_in, fault_in, file_at, limits, tables_in}
+use Rattle.corr_top.specs.Run.{AreRead, StopsAtFile, StopsAtRead, StopsAtTable, StopsUnbalanced, accounts_in, fault_in, file_at, home_head, limits, tables_in}
 use Rattle.corr_top.specs.Told.{Told}
+use Rattle.corr_top.proofs.MessageFiles.{no-fault}
 
 -- ---- what was read of files that are within their limits
 
@@ -114,7 +115,7 @@ small name most test file e =
 
 -- ---- files with nothing wrong in them
 
-within : (files : List (List ℕ)) → NoFault files → length (file_at 4 files) ≤ 1048576 → AreWithin limits files
+within : (files : List (List ℕ)) → NoFault files → length (file_at 4 files) ≤ 67108864 → AreWithin limits files
 within [] f short = tt
 within (a ∷ []) f short = (small _ _ _ a f.bics, tt)
 within (a ∷ b ∷ []) f short = (small _ _ _ a f.bics, (small _ _ _ b f.ccys, tt))
@@ -124,10 +125,10 @@ within (a ∷ b ∷ c ∷ d ∷ e ∷ more) f short =
     (small _ _ _ a f.bics, (small _ _ _ b f.ccys, (small _ _ _ c f.countries, (small _ _ _ d f.accounts, (short, tt)))))
 
 -- the first ones of them were read
-got_front : (before after : List Told) (sink sunk : Told) (files got : List (List ℕ)) → IsReady before after sink sunk files → AreRead limits before after got
+got_front : (before after : List Told) (sink sunk : Told) (files messages got : List (List ℕ)) → IsReady before after sink sunk files messages → AreRead limits before after got
     → got ≡ take (length got) files
-got_front before after sink sunk files got ready read =
-    front_of limits before after got files read ready.told (within files (each_fault files ready.fine.no_fault) ready.short)
+got_front before after sink sunk files messages got ready read =
+    front_of limits before after got files read ready.told (within files (each_fault files ready.fine.no_fault) ready.messages_are.short)
 
 front_fine : (n : ℕ) (files : List (List ℕ)) → length files ≡ 5 → NoFault files → NoFault (take n files)
 front_fine n [] all f = absurd (omega arith)
@@ -136,9 +137,9 @@ front_fine n (a ∷ b ∷ []) all f = absurd (omega arith)
 front_fine n (a ∷ b ∷ c ∷ []) all f = absurd (omega arith)
 front_fine n (a ∷ b ∷ c ∷ d ∷ more) all f = front_fault n a b c d more f
 
-got_fine : (before after : List Told) (sink sunk : Told) (files got : List (List ℕ)) → IsReady before after sink sunk files → AreRead limits before after got → fault_in got ≡ None
-got_fine before after sink sunk files got ready read =
-    let front = got_front before after sink sunk files got ready read in
+got_fine : (before after : List Told) (sink sunk : Told) (files messages got : List (List ℕ)) → IsReady before after sink sunk files messages → AreRead limits before after got → fault_in got ≡ None
+got_fine before after sink sunk files messages got ready read =
+    let front = got_front before after sink sunk files messages got ready read in
     no_fault got (subst NoFault (sym front) (front_fine (length got) files ready.all (each_fault files ready.fine.no_fault)))
 
 front_accounts : (files : List (List ℕ)) → length files ≡ 5 → accounts_in (take 4 files) ≡ accounts_in files
@@ -161,47 +162,46 @@ none_failed (b ∷ before) (a ∷ after) (suc n) old new none was is rose = none
 
 -- ---- each other status contradicts it
 
-no_table : (before after : List Told) (sink sunk : Told) (files : List (List ℕ)) (name : TableName) (row : ℕ) (why : Why) (got : List (List ℕ))
-    → IsReady before after sink sunk files → StopsAtTable before after name row why got → ⊥
-no_table before after sink sunk files name row why got ready stop =
-    none-some _ (sym (got_fine before after sink sunk files got ready stop.read) ∙ stop.fault)
+no_table : (before after : List Told) (sink sunk : Told) (files messages : List (List ℕ)) (name : TableName) (row : ℕ) (why : Why) (got : List (List ℕ))
+    → IsReady before after sink sunk files messages → StopsAtTable before after name row why got → ⊥
+no_table before after sink sunk files messages name row why got ready stop =
+    none-some _ (sym (got_fine before after sink sunk files messages got ready stop.read) ∙ stop.fault)
 
-no_gap : (before after : List Told) (sink sunk : Told) (files : List (List ℕ)) (ccy : Ccy) (decimals : ℕ) (sum : ℤ) (got : List (List ℕ))
-    → IsReady before after sink sunk files → StopsUnbalanced before after ccy decimals sum got → ⊥
-no_gap before after sink sunk files ccy decimals sum got ready stop =
-    let front = got_front before after sink sunk files got ready stop.read in
+no_gap : (before after : List Told) (sink sunk : Told) (files messages : List (List ℕ)) (ccy : Ccy) (decimals : ℕ) (sum : ℤ) (got : List (List ℕ))
+    → IsReady before after sink sunk files messages → StopsUnbalanced before after ccy decimals sum got → ⊥
+no_gap before after sink sunk files messages ccy decimals sum got ready stop =
+    let front = got_front before after sink sunk files messages got ready stop.read in
     let four : got ≡ take 4 files = subst (λ n. got ≡ take n files) stop.four front in
     let same : accounts_in got ≡ accounts_in files = ap accounts_in four ∙ front_accounts files ready.all in
     let gap = stop.unbalanced.is_gap in
     gap.off (sym gap.sum_is ∙ ap (opening_sum ccy) same ∙ ready.fine.balanced ccy)
 
-not_large : (before after : List Told) (sink sunk : Told) (files : List (List ℕ)) (bytes messages : ℕ) (got : List (List ℕ))
-    → IsReady before after sink sunk files → StopsTooLarge before after bytes messages got → ⊥
-not_large before after sink sunk files bytes messages got ready stop =
-    let front = got_front before after sink sunk files got ready stop.read in
-    let five : got ≡ files = subst (λ n. got ≡ take n files) stop.all front ∙ front_all files ready.all in
-    let past : 1048576 < length (file_at 4 files) = subst (λ fs. 1048576 < length (file_at 4 fs)) five stop.past in
-    let short = ready.short in
-    omega arith
+file_stop : (before after : List Told) (sink sunk : Told) (files messages : List (List ℕ)) (stop : Status) (got : List (List ℕ))
+    → IsReady before after sink sunk files messages → StopsAtFile before after stop got → stop ≡ status.Memory
+file_stop before after sink sunk files messages stop got ready stops =
+    let front = got_front before after sink sunk files messages got ready stops.read in
+    let five : got ≡ files = subst (λ n. got ≡ take n files) stops.all front ∙ front_all files ready.all in
+    no-fault (file_at 4 files) messages stop ready.messages_are (subst (λ fs. StopsCutting (file_at 4 fs) stop) five stops.stopped)
 
 no_read_fault : (before after : List Told) (then now : ℕ) (files got : List (List ℕ)) → NoneRose before after → StopsAtRead before after then now got → ⊥
 no_read_fault before after then now files got none stop =
     let f = stop.failed in
     none_failed before after (length got) f.old f.new none f.was f.is f.rose
 
-no_write_fault : (before after : List Told) (sink sunk : Told) (day : Day) (then now : ℕ) (files got : List (List ℕ))
-    → IsReady before after sink sunk files → StopsAtWrite before after sink sunk day then now got → ⊥
-no_write_fault before after sink sunk day then now files got ready stop =
+no_write_fault : (before after : List Told) (sink sunk : Told) (day : Day) (then now : ℕ) (files messages got told : List (List ℕ))
+    → IsReady before after sink sunk files messages → StopsAtWrite before after sink sunk day then now got told → ⊥
+no_write_fault before after sink sunk day then now files messages got told ready stop =
     ready.sink_sound (subst (λ n. Rose n sunk.faults) stop.then_is (subst (λ n. Rose then n) stop.now_is stop.rose))
 
 -- a run over files with nothing wrong in them, in which neither a source nor the sink failed
-pub done_or_memory : (before after : List Told) (sink sunk : Told) (day : Day) (s : Status) (files : List (List ℕ)) → Ends before after sink sunk day s
-    → IsReady before after sink sunk files → (s ≡ status.Done) ⊎ (s ≡ status.Memory)
-done_or_memory before after sink sunk day status.Done files e ready = inl refl
-done_or_memory before after sink sunk day status.Memory files e ready = inr refl
-done_or_memory before after sink sunk day status.Usage files e ready = absurd e
-done_or_memory before after sink sunk day (status.Table name row why) files e ready = absurd (no_table before after sink sunk files name row why e.0 ready e.1)
-done_or_memory before after sink sunk day (status.ReadFault then now) files e ready = absurd (no_read_fault before after then now files e.0 ready.sources_sound e.1)
-done_or_memory before after sink sunk day (status.WriteFault then now) files e ready = absurd (no_write_fault before after sink sunk day then now files e.0 ready e.1)
-done_or_memory before after sink sunk day (status.Unbalanced ccy decimals sum) files e ready = absurd (no_gap before after sink sunk files ccy decimals sum e.0 ready e.1)
-done_or_memory before after sink sunk day (status.TooLarge bytes messages) files e ready = absurd (not_large before after sink sunk files bytes messages e.0 ready e.1)
+pub done_or_memory : (before after : List Told) (sink sunk : Told) (day : Day) (s : Status) (files messages : List (List ℕ)) → Ends before after sink sunk day s
+    → IsReady before after sink sunk files messages → (s ≡ status.Done) ⊎ (s ≡ status.Memory)
+done_or_memory before after sink sunk day status.Done files messages e ready = inl refl
+done_or_memory before after sink sunk day status.Memory files messages e ready = inr refl
+done_or_memory before after sink sunk day status.Usage files messages e ready = absurd e
+done_or_memory before after sink sunk day (status.Table name row why) files messages e ready = absurd (no_table before after sink sunk files messages name row why e.0 ready e.1)
+done_or_memory before after sink sunk day (status.ReadFault then now) files messages e ready = absurd (no_read_fault before after then now files e.0 ready.sources_sound e.1)
+done_or_memory before after sink sunk day (status.WriteFault then now) files messages e ready = absurd (no_write_fault before after sink sunk day then now files messages e.0 e.1 ready e.2)
+done_or_memory before after sink sunk day (status.Unbalanced ccy decimals sum) files messages e ready = absurd (no_gap before after sink sunk files messages ccy decimals sum e.0 ready e.1)
+done_or_memory before after sink sunk day (status.TooLarge bytes count) files messages e ready = inr (file_stop before after sink sunk files messages (status.TooLarge bytes count) e.0 ready e.1)
+done_or_memory before after sink sunk day (status.Framing at) files messages e ready = inr (file_stop before after sink sunk files messages (status.Framing at) e.0 ready e.1)

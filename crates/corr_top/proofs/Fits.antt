@@ -14,6 +14,7 @@ use Rattle.day_model.specs.Chart.{Chart, IsListed, account_at, is_ccy, customer,
 use Rattle.day_model.specs.Fit.{is_listed, same_ccy, amounts_fit, accounts_fit, legs_fit, FitsAccounts}
 use Rattle.corr_top.specs.declared.value.Value.{Value}
 use Rattle.corr_top.specs.Interim.{Form}
+use Rattle.corr_top.specs.declared.verdict.Opened.{Opened}
 use Rattle.corr_top.specs.Message.{fits_vostro, fits_customer, leg_of, pay_of}
 
 all_of : (a b : Bool) → a ≡ true → b ≡ true → (a && b) ≡ true
@@ -49,11 +50,11 @@ amounts n above below = grind (arith, nat_tests)
 distinct : (m n : ℕ) → m ≢ n → not (eqb m n) ≡ true
 distinct m n ne = grind (arith, nat_tests)
 
-pub fits : (chart : Chart) (form : Form) (value : Value) (debit credit : AcctNo) → IsListed chart debit.0 → IsListed chart credit.0
+pub fits : (chart : Chart) (o : Opened) (form : Form) (value : Value) (debit credit : AcctNo) → IsListed chart debit.0 → IsListed chart credit.0
     → fits_vostro value.amount (account_at chart debit.0) ≡ true → fits_customer value.amount (account_at chart credit.0) ≡ true
-    → 0 < value.amount.minor.0 → value.amount.minor.0 < 100000000000000 → FitsAccounts chart (pay_of chart form value debit credit)
+    → 0 < value.amount.minor.0 → value.amount.minor.0 < 100000000000000 → FitsAccounts chart (pay_of chart o form value debit credit)
 unfolding pay_of
-fits chart form value debit credit dl cl v c above below =
+fits chart o form value debit credit dl cl v c above below =
     let n = value.amount.minor.0 in
     let other : debit.0 ≢ credit.0 = λ e. apart value.amount (account_at chart credit.0) (subst (λ k. fits_vostro value.amount (account_at chart k) ≡ true) e v) c in
     let accounts = all_of _ _ (all_of _ _ (all_of _ _ (listed chart debit.0 dl) (listed chart credit.0 cl)) (distinct debit.0 credit.0 other)) (one_ccy value.amount (account_at chart debit.0) (account_at chart credit.0) v c) in

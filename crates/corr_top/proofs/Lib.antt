@@ -1,6 +1,6 @@
 pub mod KnownParts
-pub mod Cuts
-pub mod Blanks
+pub mod MessageFiles
+pub mod TextSizes
 pub mod Lookups
 pub mod Fits
 pub mod Turns

@@ -20,7 +20,7 @@ use Rattle.ref_tables.specs.declared.fault.Why.{Why}
 use Rattle.corr_money.specs.declared.amount.Ccy.{Ccy}
 use Rattle.day_model.specs.Chart.{opening_sum}
 use Rattle.corr_top.specs.Books.{IsReadStop, status_of_table}
-use Rattle.corr_top.specs.Interim.{home_head}
+use Rattle.corr_top.specs.Run.{home_head}
 use Rattle.corr_top.specs.Run.{AreFine, AreRead, Stops, accounts_in, fault_in, file_at, limits, opened, tables_in}
 use Rattle.corr_top.specs.Told.{Told}
 use Rattle.corr_top.specs.Reading.{IsRead}
@@ -64,6 +64,7 @@ stop_at before after files old new read fine was is (status.ReadFault b a) why =
     (files, record { read = read; fine = fine; failed = record { old = old; new = new; was = was; is = is; then_is = why.0; now_is = why.1; rose = why.2 } })
 stop_at before after files old new read fine was is status.Memory why = tt
 stop_at before after files old new read fine was is status.Done why = absurd why
+stop_at before after files old new read fine was is (status.Framing at) why = absurd why
 stop_at before after files old new read fine was is status.Usage why = absurd why
 stop_at before after files old new read fine was is (status.Table t r w) why = absurd why
 stop_at before after files old new read fine was is (status.WriteFault b a) why = absurd why

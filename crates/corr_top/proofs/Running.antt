@@ -1,6 +1,6 @@
 -- How a run ends, from how its steps end.
-use Rattle.std.proofs.Common.{◌≡◌, ℕ, ◌≤◌, List, [], ◌∷◌, Option, Some, None, refl, sym, ap, ◌∙◌, subst}
-use Rattle.std.specs.Prelude.{length, slice_get}
+use Rattle.std.proofs.Common.{◌≡◌, ℕ, List, [], ◌∷◌, Option, Some, None, refl, sym, ap, ◌∙◌, subst}
+use Rattle.std.specs.Prelude.{slice_get}
 use Rattle.std.specs.Io.KnownBytes.{Appends}
 use Rattle.corr_text.specs.Faults.{Rose}
 use Rattle.corr_ids.specs.declared.day.Day.{Day}
@@ -12,6 +12,7 @@ use Rattle.corr_top.specs.declared.status.Status.{Status}
 use Rattle.corr_top.specs.declared.status.Status.TheVariants as status
 use Rattle.corr_top.specs.Answers.{history_of, replies_of}
 use Rattle.corr_top.specs.Ends.{Ends, RunsAsOneThread, StopsAtWrite}
+use Rattle.corr_top.specs.MessageFile.{IsMessageFile}
 use Rattle.corr_top.specs.Messages.{StopsAtMessages, report_over}
 use Rattle.corr_top.specs.Reading.{IsRead}
 use Rattle.corr_top.specs.Run.{AreFine, AreRead, IsWhole, chart_in, fault_in, limits, report_in, tables_in}
@@ -23,19 +24,21 @@ five_fine : (b d e f m : List ℕ) → AreFine (b ∷ d ∷ e ∷ f ∷ []) → 
 unfolding fault_in
 five_fine b d e f m fine = record { no_fault = fine.no_fault; balanced = fine.balanced }
 
-pub whole : (before after : List Told) (b d e f m : List ℕ) → AreRead limits before after (b ∷ d ∷ e ∷ f ∷ m ∷ []) → AreFine (b ∷ d ∷ e ∷ f ∷ []) → length m ≤ 1048576
-    → IsWhole before after (b ∷ d ∷ e ∷ f ∷ m ∷ [])
-whole before after b d e f m read fine short = record { read = read; all = refl; fine = five_fine b d e f m fine; short = short }
+pub whole : (before after : List Told) (b d e f m : List ℕ) (messages : List (List ℕ)) → AreRead limits before after (b ∷ d ∷ e ∷ f ∷ m ∷ []) → AreFine (b ∷ d ∷ e ∷ f ∷ []) → IsMessageFile m messages
+    → IsWhole before after (b ∷ d ∷ e ∷ f ∷ m ∷ []) messages
+whole before after b d e f m messages read fine are = record { read = read; all = refl; fine = five_fine b d e f m fine; messages_are = are }
 
 -- reading the messages stopped
 pub messages_stop : (before after : List Told) (sink sunk old new : Told) (day : Day) (b d e f : List ℕ) → AreRead limits before after (b ∷ d ∷ e ∷ f ∷ []) → AreFine (b ∷ d ∷ e ∷ f ∷ [])
     → slice_get before 4 ≡ Some old → slice_get after 4 ≡ Some new
-    → ((m : List ℕ) → IsRead 1048576 old.bytes new.bytes m → AreRead limits before after (b ∷ d ∷ e ∷ f ∷ m ∷ []))
+    → ((m : List ℕ) → IsRead 67108864 old.bytes new.bytes m → AreRead limits before after (b ∷ d ∷ e ∷ f ∷ m ∷ []))
     → (s : Status) → StopsAtMessages old.bytes new.bytes old.faults new.faults s → Ends before after sink sunk day s
 messages_stop before after sink sunk old new day b d e f read fine was is more (status.ReadFault then now) why =
     (b ∷ d ∷ e ∷ f ∷ [], record { read = read; fine = fine; failed = record { old = old; new = new; was = was; is = is; then_is = why.0; now_is = why.1; rose = why.2 } })
 messages_stop before after sink sunk old new day b d e f read fine was is more (status.TooLarge bytes messages) why =
-    (b ∷ d ∷ e ∷ f ∷ why.0 ∷ [], record { read = more why.0 why.1; all = refl; fine = five_fine b d e f why.0 fine; past = why.2; bytes_are = why.3; messages_are = why.4 })
+    (b ∷ d ∷ e ∷ f ∷ why.0 ∷ [], record { read = more why.0 why.1; all = refl; fine = five_fine b d e f why.0 fine; stopped = why.2 })
+messages_stop before after sink sunk old new day b d e f read fine was is more (status.Framing at) why =
+    (b ∷ d ∷ e ∷ f ∷ why.0 ∷ [], record { read = more why.0 why.1; all = refl; fine = five_fine b d e f why.0 fine; stopped = why.2 })
 messages_stop before after sink sunk old new day b d e f read fine was is more status.Memory why = tt
 messages_stop before after sink sunk old new day b d e f read fine was is more status.Done why = absurd why
 messages_stop before after sink sunk old new day b d e f read fine was is more status.Usage why = absurd why
@@ -48,12 +51,15 @@ pub same_messages : {A : Type 0} (left : A → Option (List ℕ)) (faults : A �
     → StopsAtMessages (left mid) (left new) (faults mid) (faults new) s → StopsAtMessages (left old) (left new) (faults old) (faults new) s
 same_messages {A} left faults old mid new same s why = let P : A → Type 0 = λ a. StopsAtMessages (left a) (left new) (faults a) (faults new) s in subst P same why
 
+pub same_over : (books : Books) (x y : List (List ℕ)) → x ≡ y → report_over books x ≡ report_over books y
+same_over books x y e = ap (report_over books) e
+
 -- the report over the books that were opened is the report of the run
-pub same_report : (day : Day) (b d e f m : List ℕ) (books : Books) → books.tables ≡ tables_in (b ∷ d ∷ e ∷ f ∷ []) → books.accounts ≡ chart_in (b ∷ d ∷ e ∷ f ∷ []) → books.day ≡ day
-    → report_over books m ≡ report_in day (b ∷ d ∷ e ∷ f ∷ m ∷ [])
+pub same_report : (day : Day) (b d e f m : List ℕ) (messages : List (List ℕ)) (books : Books) → books.tables ≡ tables_in (b ∷ d ∷ e ∷ f ∷ []) → books.accounts ≡ chart_in (b ∷ d ∷ e ∷ f ∷ []) → books.day ≡ day
+    → report_over books messages ≡ report_in day (b ∷ d ∷ e ∷ f ∷ m ∷ []) messages
 unfolding report_in
-same_report day b d e f m books tables accounts days =
-    let over : Tables → Chart → Day → List ℕ = λ t c x. report_of c (history_of t c x m) (replies_of t c x m) in
+same_report day b d e f m messages books tables accounts days =
+    let over : Tables → Chart → Day → List ℕ = λ t c x. report_of c (history_of t c x messages) (replies_of t c x messages) in
     ap (λ (t : Tables). over t books.accounts books.day) tables
     ∙ ap (λ (c : Chart). over (tables_in (b ∷ d ∷ e ∷ f ∷ [])) c books.day) accounts
     ∙ ap (over (tables_in (b ∷ d ∷ e ∷ f ∷ [])) (chart_in (b ∷ d ∷ e ∷ f ∷ []))) days

@@ -1,5 +1,5 @@
 -- Messages answered one after another: what the history and the replies are so far, and in the end.
-use Rattle.std.proofs.Common.{◌≡◌, ℕ, zero, suc, ◌+◌, ◌-◌, ◌*◌, ◌<◌, ◌≤◌, Bool, true, false, cond, List, [], ◌∷◌, ◌++◌, length, Option, Some, None, Result, Ok, Err, refl, sym, ap, ◌∙◌, subst, arith, append_assoc, length-append, ℤ, ◌≤ℤ◌, inl, inr}
+use Rattle.std.proofs.Common.{◌≡◌, ℕ, zero, suc, ◌+◌, ◌-◌, ◌*◌, ◌<◌, ◌≤◌, Bool, true, false, cond, List, [], ◌∷◌, ◌++◌, length, drop, Option, Some, None, Result, Ok, Err, refl, sym, ap, ◌∙◌, subst, arith, append_assoc, length-append, ℤ, ◌≤ℤ◌, inl, inr}
 use Rattle.std.specs.Prelude.{◌⊎◌, MatchBool, slice_get, is_some, option_and_then, if◌then◌else◌}
 use Rattle.std.specs.List.{All}
 use Rattle.std.proofs.lemmas.Int.{ints}
@@ -19,12 +19,12 @@ use Rattle.day_model.specs.Next.{entered_at, entry_of, next_history, fold_of}
 use Rattle.day_model.specs.Same.{reply_at, reply_to, is_same_pay}
 use Rattle.day_model.proofs.Growth.{places_stay, stays_legal, next_begins}
 use Rattle.day_model.proofs.Places.{position_from-within}
-use Rattle.corr_top.specs.Message.{Refused, pays_in, reply_in, replies_in}
+use Rattle.corr_top.specs.Message.{pays_in, reply_in, replies_in}
+use Rattle.corr_top.specs.Verdict.{Refused}
 use Rattle.corr_report.specs.Report.{NamesPlace}
 use Rattle.ref_tables.specs.Seen.{Tables}
 use Rattle.corr_top.specs.Message.{message_of, readings_of}
-use Rattle.corr_top.specs.Pieces.{begun, ended, is_filled, messages_in}
-use Rattle.corr_top.specs.Turn.{history_after, IsFit, Turned, Passed}
+use Rattle.corr_top.specs.Turn.{history_after, IsFit, Turned}
 
 -- an element keeps its place when others follow
 get_stays : {A : Type 0} (xs ys : List A) (k : ℕ) (x : A) → slice_get xs k ≡ Some x → slice_get (xs ++ ys) k ≡ Some x
@@ -152,11 +152,11 @@ one_more chart day all rest pay entries after replies r so_far room fits is told
         here ∙ ap (λ xs. replies ++ xs) first ∙ sym (append_assoc replies (r ∷ []) (replies_in (after ++ more) rest))
 
 -- the next message is answered
-pub next_answered : (chart : Chart) (day : Day) (message : List ℕ) (all rest : List (Result Pay Refused)) (reading : Result Pay Refused) (entries after : List Entry) (replies : List Reply) (r : Reply)
-    → Answered chart day all (reading ∷ rest) entries replies → length entries < 100000 → IsFit chart message reading
+pub next_answered : (chart : Chart) (day : Day) (all rest : List (Result Pay Refused)) (reading : Result Pay Refused) (entries after : List Entry) (replies : List Reply) (r : Reply)
+    → Answered chart day all (reading ∷ rest) entries replies → length entries < 100000 → IsFit chart reading
     → after ≡ history_after chart day entries reading → reply_in after reading ≡ Some r → Answered chart day all rest after (replies ++ r ∷ [])
-next_answered chart day message all rest (Ok pay) entries after replies r so_far room fit is told = one_more chart day all rest pay entries after replies r so_far room fit.0 is told
-next_answered chart day message all rest (Err refused) entries after replies r so_far room fit is told =
+next_answered chart day all rest (Ok pay) entries after replies r so_far room fit is told = one_more chart day all rest pay entries after replies r so_far room fit is told
+next_answered chart day all rest (Err refused) entries after replies r so_far room fit is told =
     let reply_is = same_Some _ r told in
     record {
       legal = subst (IsLegal chart) (sym is) so_far.legal;
@@ -170,10 +170,10 @@ next_answered chart day message all rest (Err refused) entries after replies r s
     refused_more reply_is more =
         so_far.told more ∙ ap (λ x. replies ++ (x ∷ replies_in (entries ++ more) rest)) reply_is ∙ sym (append_assoc replies (r ∷ []) (replies_in (entries ++ more) rest))
 
--- and adds at most one entry, where it has at least 85 bytes
-pub few_more : (chart : Chart) (day : Day) (message : List ℕ) (reading : Result Pay Refused) (entries after : List Entry) → IsFit chart message reading → after ≡ history_after chart day entries reading → 85 * length after ≤ 85 * length entries + length message
-few_more chart day message (Ok pay) entries after fit is = let l = longer_next chart entries pay day in let long = fit.1 in omega (arith, l, long, ap length is)
-few_more chart day message (Err refused) entries after fit is = omega (arith, ap length is)
+-- and adds at most one entry
+few_more : (chart : Chart) (day : Day) (reading : Result Pay Refused) (entries after : List Entry) → after ≡ history_after chart day entries reading → length after ≤ length entries + 1
+few_more chart day (Ok pay) entries after is = let l = longer_next chart entries pay day in omega (arith, l, ap length is)
+few_more chart day (Err refused) entries after is = omega (arith, ap length is)
 
 -- nothing is left
 pub all_answered : (chart : Chart) (day : Day) (all : List (Result Pay Refused)) (entries : List Entry) (replies : List Reply) → Answered chart day all [] entries replies
@@ -183,30 +183,21 @@ all_answered chart day all entries replies so_far =
     let here : replies_in entries all ≡ replies = subst (λ es. replies_in es all ≡ replies ++ []) (append-nil entries) told ∙ append-nil replies in
     (sym so_far.history, sym (subst (λ es. replies_in es all ≡ replies) (sym so_far.history) here))
 
--- a part of the file is passed: it holds blanks alone, or a message
-part_if : (t : Tables) (chart : Chart) (day : Day) (all : List (Result Pay Refused)) (message : List ℕ) (rest : List (List ℕ)) (b : Bool) (entries after : List Entry) (replies more : List Reply)
-    → Answered chart day all (readings_of t chart (cond b (message ∷ rest) rest)) entries replies → length entries < 100000
-    → MatchBool b (Turned t chart day message entries after replies more) ((after ≡ entries) × (more ≡ replies))
+-- a message is answered
+pub message_answered : (t : Tables) (chart : Chart) (day : Day) (all : List (Result Pay Refused)) (message : List ℕ) (rest : List (List ℕ)) (entries after : List Entry) (replies more : List Reply)
+    → Answered chart day all (readings_of t chart (message ∷ rest)) entries replies → length entries < 100000
+    → Turned t chart day message entries after replies more
     → Answered chart day all (readings_of t chart rest) after more
-part_if t chart day all message rest true entries after replies more so_far room turned =
+message_answered t chart day all message rest entries after replies more so_far room turned =
     subst (Answered chart day all (readings_of t chart rest) after) (sym turned.answered.2)
-    (next_answered chart day message all (readings_of t chart rest) (message_of t chart message) entries after replies turned.answered.0 so_far room turned.fit turned.entered turned.answered.1)
-part_if t chart day all message rest false entries after replies more so_far room same =
-    subst (λ es. Answered chart day all (readings_of t chart rest) es more) (sym same.0) (subst (Answered chart day all (readings_of t chart rest) entries) (sym same.1) so_far)
+    (next_answered chart day all (readings_of t chart rest) (message_of t chart message) entries after replies turned.answered.0 so_far room turned.fit turned.entered turned.answered.1)
 
-pub part_answered : (t : Tables) (chart : Chart) (day : Day) (all : List (Result Pay Refused)) (part : List ℕ) (parts : List (List ℕ)) (entries after : List Entry) (replies more : List Reply)
-    → Answered chart day all (readings_of t chart (messages_in (part ∷ parts))) entries replies → length entries < 100000
-    → Passed t chart day part entries after replies more
-    → Answered chart day all (readings_of t chart (messages_in parts)) after more
-part_answered t chart day all part parts entries after replies more so_far room passed =
-    part_if t chart day all (ended (begun part)) (messages_in parts) (is_filled (ended (begun part))) entries after replies more so_far room passed.turned
+pub message_few : (t : Tables) (chart : Chart) (day : Day) (message : List ℕ) (entries after : List Entry) (replies more : List Reply)
+    → Turned t chart day message entries after replies more → length after ≤ length entries + 1
+message_few t chart day message entries after replies more turned = few_more chart day (message_of t chart message) entries after turned.entered
 
-few_if : (t : Tables) (chart : Chart) (day : Day) (message : List ℕ) (b : Bool) (entries after : List Entry) (replies more : List Reply)
-    → MatchBool b (Turned t chart day message entries after replies more) ((after ≡ entries) × (more ≡ replies)) → 85 * length after ≤ 85 * length entries + length message
-few_if t chart day message true entries after replies more turned = few_more chart day message (message_of t chart message) entries after turned.fit turned.entered
-few_if t chart day message false entries after replies more same = omega (arith, ap length same.0)
-
-pub part_few : (t : Tables) (chart : Chart) (day : Day) (part : List ℕ) (entries after : List Entry) (replies more : List Reply)
-    → Passed t chart day part entries after replies more → 85 * length after ≤ 85 * length entries + length part
-part_few t chart day part entries after replies more passed =
-    omega (arith, few_if t chart day (ended (begun part)) (is_filled (ended (begun part))) entries after replies more passed.turned, passed.within)
+pub none_left : (messages : List (List ℕ)) (n : ℕ) → length messages ≤ n → drop n messages ≡ []
+none_left [] zero le = refl
+none_left [] (suc n) le = refl
+none_left (m ∷ messages) zero le = absurd (omega arith)
+none_left (m ∷ messages) (suc n) le = none_left messages n (omega arith)

@@ -1,6 +1,7 @@
 -- A run that nothing stops but want of memory.
-use Rattle.std.specs.Prelude.{ℕ, ◌≡◌, ◌≤◌, List, [], ◌∷◌, length, Some}
+use Rattle.std.specs.Prelude.{ℕ, ◌≡◌, List, [], ◌∷◌, length, Some}
 use Rattle.corr_text.specs.Faults.{Rose}
+use Rattle.corr_top.specs.MessageFile.{IsMessageFile}
 use Rattle.corr_top.specs.Run.{AreFine, file_at}
 use Rattle.corr_top.specs.Told.{Told}
 
@@ -16,11 +17,11 @@ NoneRose [] [] = Unit {0}
 NoneRose (before ∷ befores) (after ∷ afters) = (Rose before.faults after.faults → ⊥) × NoneRose befores afters
 NoneRose _ _ = ⊥
 
--- the sources have five files with nothing wrong in them, and neither a source nor the sink failed
-pub record IsReady (before after : List Told) (sink sunk : Told) (files : List (List ℕ)) : Type 0 where
+-- the sources have five files with nothing wrong in them, the last one of these messages, and neither a source nor the sink failed
+pub record IsReady (before after : List Told) (sink sunk : Told) (files messages : List (List ℕ)) : Type 0 where
   pub told : AreTold before files
   pub all : length files ≡ 5
   pub fine : AreFine files
-  pub short : length (file_at 4 files) ≤ 1048576
+  pub messages_are : IsMessageFile (file_at 4 files) messages
   pub sources_sound : NoneRose before after
   pub sink_sound : Rose sink.faults sunk.faults → ⊥

@@ -1,58 +1,15 @@
--- The one form of message that is read today: an MT103 to HOMEUS33 with the fields 20, 23B, 32A, 50K, 59 and 71A.
-use Rattle.std.specs.Prelude.{ℕ, ◌+◌, ◌-◌, ◌==◌, ◌&&◌, ◌||◌, Bool, true, false, not, List, [], ◌∷◌, ◌++◌, length, take, drop, map, nat_lt, nat_le, slice_get, slice_index, Option, Some, None, is_some, unwrap_or, option_map, option_and_then, Result, Ok, Err, codes, if◌then◌else◌}
-use Rattle.std.specs.List.{list_all, list_any, position}
-use Rattle.std.specs.Option.{option_map_or}
+-- The one form of message that is booked today: an MT103 with the fields 20, 23B, 32A, 50K, 59 and 71A.
+use Rattle.std.specs.Prelude.{ℕ, ◌-◌, ◌==◌, ◌&&◌, ◌||◌, Bool, false, not, List, [], ◌∷◌, length, nat_le, slice_index, Option, Some, None, option_and_then, codes, if◌then◌else◌}
+use Rattle.std.specs.List.{list_all}
 use Rattle.std.specs.Str.{bytes_eq}
-use Rattle.std.specs.Char.{is_ascii_digit, is_ascii_uppercase}
-use Rattle.corr_text.specs.Sets.{is_x_byte, is_c_byte}
-use Rattle.corr_ids.specs.Address.{lt_of}
-use Rattle.corr_ids.specs.Mir.{mir_of}
-use Rattle.corr_ids.specs.declared.bic.Bic.{Bic}
-use Rattle.corr_ids.specs.declared.mir.Mir.{Mir}
+use Rattle.corr_text.specs.Sets.{is_c_byte}
+use Rattle.fin_fields.specs.Faults.{letter_of}
+use Rattle.fin_fields.specs.declared.field.Field.{Field}
+use Rattle.corr_top.specs.declared.verdict.Opened.{Opened}
 
 infixl 10 ◌>>=◌
 abbrev ◌>>=◌ : {A B : Type 0} → Option A → (A → Option B) → Option B
 o >>= f = option_and_then f o
-
--- n bytes from place i on
-abbrev pub part : ℕ → ℕ → List ℕ → List ℕ
-part i n bs = take n (drop i bs)
-
-abbrev pub are_digits : ℕ → List ℕ → Bool
-are_digits n bs = (length bs == n) && list_all is_ascii_digit bs
-
--- the head of the home bank
-abbrev pub home_head : List ℕ
-home_head = codes "HOMEUS33"
-
-abbrev pub is_home : List ℕ → Bool
-is_home bs = option_map_or (λ address. bytes_eq address.head home_head) (lt_of bs) false
-
--- S, U or N
-abbrev pub is_priority : List ℕ → Bool
-is_priority bs = bytes_eq bs (codes "S") || bytes_eq bs (codes "U") || bytes_eq bs (codes "N")
-
--- `{1:F01` address `n!10` `}{2:O103` 4!n MIR 10!n `N}{4:` and a line end: 85 bytes
-unfoldable pub is_header : List ℕ → Bool
-is_header bs =
-    nat_le 85 (length bs) && bytes_eq (part 0 6 bs) (codes "{1:F01") && is_home (part 6 12 bs) && are_digits 10 (part 18 10 bs)
-    && bytes_eq (part 28 8 bs) (codes "}{2:O103") && are_digits 4 (part 36 4 bs) && are_digits 10 (part 68 10 bs) && is_priority (part 78 1 bs)
-    && bytes_eq (part 79 6 bs) (125 ∷ 123 ∷ 52 ∷ 58 ∷ 13 ∷ 10 ∷ [])
-
--- how many bytes of X stand at its front
-abbrev pub x_count : List ℕ → ℕ
-x_count bs = unwrap_or (position (λ b. not (is_x_byte b)) bs) (length bs)
-
--- a text without the word that it begins with, none where it does not
-abbrev pub stripped : List ℕ → List ℕ → Option (List ℕ)
-stripped word bs = if bytes_eq (take (length word) bs) word then Some (drop (length word) bs) else None
-
--- a line that begins with these bytes and goes on with bytes of X: what goes on, and the lines behind it
-unfoldable pub line_of : List ℕ → List ℕ → Option (List ℕ × List ℕ)
-line_of word bs = do
-  content ← stripped word bs
-  rest ← stripped (13 ∷ 10 ∷ []) (drop (x_count content) content)
-  Some (take (x_count content) content, rest)
 
 -- 1 to n bytes
 abbrev pub is_long : ℕ → List ℕ → Bool
@@ -66,7 +23,7 @@ has_double_slash _ = false
 abbrev pub is_reference : List ℕ → Bool
 is_reference bs = is_long 16 bs && not (slice_index bs 0 == 47) && not (slice_index bs (length bs - 1) == 47) && not (has_double_slash bs)
 
--- a name or an address in one line
+-- a name or an address in one line: it begins with none of `/`, `:` and `-`
 abbrev pub is_name : List ℕ → Bool
 is_name bs = is_long 35 bs && not (slice_index bs 0 == 47) && not (slice_index bs 0 == 58) && not (slice_index bs 0 == 45)
 
@@ -74,55 +31,74 @@ is_name bs = is_long 35 bs && not (slice_index bs 0 == 47) && not (slice_index b
 abbrev pub is_account : List ℕ → Bool
 is_account bs = is_long 34 bs && list_all is_c_byte bs
 
--- what such a message says: its input reference, its text, and the contents of fields 20, 32A and 59
-pub record Form : Type 0 where
-  pub mir : Mir
-  pub text : List ℕ
-  pub reference : List ℕ
-  pub value : List ℕ
-  pub account : List ℕ
+-- a field of this tag and letter, or of none where the letter is a space
+abbrev pub has_tag : ℕ → ℕ → Field → Bool
+has_tag tag letter f = (f.tag == tag) && (letter_of f == letter)
 
--- the contents of the fields, in their order, where nothing but `-}` stands behind them
-pub record Lines : Type 0 where
+abbrev pub single : List (List ℕ) → Option (List ℕ)
+single (line ∷ []) = Some line
+single _ = None
+
+-- the line of such a field, where it has one
+abbrev pub line_of : ℕ → ℕ → Field → Option (List ℕ)
+line_of tag letter f = if has_tag tag letter f then single f.lines else None
+
+-- the payee: an account behind `/`, and a name
+pub record Payee : Type 0 where
+  pub account : List ℕ
+  pub name : List ℕ
+
+abbrev pub behind_slash : List ℕ → List ℕ → Option Payee
+behind_slash [] name = None
+behind_slash (b ∷ account) name = if b == 47 then Some (record { account = account; name = name }) else None
+
+abbrev pub payee_in : List (List ℕ) → Option Payee
+payee_in (first ∷ name ∷ []) = behind_slash first name
+payee_in _ = None
+
+abbrev pub payee_of : Field → Option Payee
+payee_of f = if has_tag 59 32 f then payee_in f.lines else None
+
+-- the contents of the six fields
+pub record Contents : Type 0 where
   pub reference : List ℕ
   pub operation : List ℕ
   pub value : List ℕ
   pub payer : List ℕ
-  pub account : List ℕ
-  pub payee : List ℕ
+  pub payee : Payee
   pub charges : List ℕ
-  pub rest : List ℕ
 
-unfoldable pub lines_of : List ℕ → Option Lines
-lines_of bs = do
-  l20 ← line_of (codes ":20:") bs
-  l23 ← line_of (codes ":23B:") l20.1
-  l32 ← line_of (codes ":32A:") l23.1
-  l50 ← line_of (codes ":50K:") l32.1
-  l59 ← line_of (codes ":59:/") l50.1
-  payee ← line_of [] l59.1
-  l71 ← line_of (codes ":71A:") payee.1
-  Some (record { reference = l20.0; operation = l23.0; value = l32.0; payer = l50.0; account = l59.0; payee = payee.0; charges = l71.0; rest = l71.1 })
+unfoldable pub six_of : Field → Field → Field → Field → Field → Field → Option Contents
+six_of f20 f23 f32 f50 f59 f71 = do
+  reference ← line_of 20 32 f20
+  operation ← line_of 23 66 f23
+  value ← line_of 32 65 f32
+  payer ← line_of 50 75 f50
+  payee ← payee_of f59
+  charges ← line_of 71 65 f71
+  Some (record { reference = reference; operation = operation; value = value; payer = payer; payee = payee; charges = charges })
 
--- their contents are of this form
-abbrev pub are_formed : Lines → Bool
-are_formed l =
-    is_reference l.reference && bytes_eq l.operation (codes "CRED") && is_long 40 l.value && is_name l.payer
-    && is_account l.account && is_name l.payee && bytes_eq l.charges (codes "SHA") && bytes_eq l.rest (codes "-}")
+abbrev pub contents_of : List Field → Option Contents
+contents_of (f20 ∷ f23 ∷ f32 ∷ f50 ∷ f59 ∷ f71 ∷ []) = six_of f20 f23 f32 f50 f59 f71
+contents_of _ = None
 
-abbrev pub text_in : List ℕ → List ℕ
-text_in bs = take (length bs - 2) bs
+-- they are of this form; field 32A is tested later
+abbrev pub are_formed : Contents → Bool
+are_formed c =
+    is_reference c.reference && bytes_eq c.operation (codes "CRED") && is_long 40 c.value && is_name c.payer
+    && is_account c.payee.account && is_name c.payee.name && bytes_eq c.charges (codes "SHA")
 
--- what the text of a message says
-unfoldable pub said_by : Mir → List ℕ → Option Form
-said_by mir bs = do
-  lines ← lines_of bs
-  if are_formed lines
-      then Some (record { mir = mir; text = text_in bs; reference = lines.reference; value = lines.value; account = lines.account })
-      else None
+-- the contents of fields 20, 32A and 59
+pub record Form : Type 0 where
+  pub reference : List ℕ
+  pub value : List ℕ
+  pub account : List ℕ
 
--- a message of this form, by what it says
-unfoldable pub form_of : List ℕ → Option Form
-form_of bs = if is_header bs then (do
-  mir ← mir_of (part 40 28 bs)
-  said_by mir (drop 85 bs)) else None
+unfoldable pub form_of : List Field → Option Form
+form_of fields = do
+  c ← contents_of fields
+  if are_formed c then Some (record { reference = c.reference; value = c.value; account = c.payee.account }) else None
+
+-- what an MT103 of this form says
+abbrev pub form_in : Opened → Option Form
+form_in o = if o.mt == 103 then form_of o.fields else None

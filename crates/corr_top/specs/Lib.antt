@@ -1,9 +1,11 @@
 pub mod Reading
 pub mod Writing
-pub mod Pieces
-pub mod Cutting
+pub mod MessageFile
+pub mod Feeding
 pub mod Words
 pub mod Status
+pub mod Verdict
+pub mod Refusals
 pub mod Interim
 pub mod Value
 pub mod Seen

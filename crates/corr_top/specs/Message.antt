@@ -24,21 +24,16 @@ use Rattle.day_model.specs.declared.reply.Reply.TheVariants as reply
 use Rattle.day_model.specs.Chart.{Chart, account_at, number_of_first, has_id, is_owned, is_ccy, customer, vostro}
 use Rattle.day_model.specs.Same.{reply_to}
 use Rattle.ref_tables.specs.Seen.{Tables}
-use Rattle.corr_top.specs.declared.message.Refusal.{Refusal}
-use Rattle.corr_top.specs.declared.message.Refusal.TheVariants as refusal
 use Rattle.corr_top.specs.declared.message.TheConstants.{P90}
 use Rattle.corr_top.specs.declared.value.Value.{Value}
-use Rattle.corr_top.specs.Interim.{Form, form_of}
-use Rattle.corr_top.specs.Pieces.{pieces_of}
+use Rattle.corr_top.specs.Interim.{Form, form_in}
+use Rattle.corr_top.specs.Verdict.{Refused, at_block, opened_of}
+use Rattle.corr_top.specs.declared.verdict.Opened.{Opened}
 use Rattle.corr_top.specs.Value.{value_of}
 
--- why a message gives no pay: its reference where that is told, and the fault
-abbrev pub Refused : Type 0
-Refused = Option Mir × Fault
-
 -- a message of another form, or without its accounts
-abbrev pub another_form : Refused
-another_form = (None, record { code = P90; tag = codes "B4 "; nth = 0 })
+abbrev pub another_form : Mir → Refused
+another_form mir = (Some mir, at_block P90 (codes "B4 "))
 
 -- a test of the content of field 32A
 abbrev pub bad_value : Mir → Code → Refused
@@ -76,12 +71,12 @@ abbrev pub leg_of : AcctNo → Side → Form → Value → Leg
 leg_of account side form value = record { account = account; side = side; amount = value.amount.minor; quote = Theirs form.reference }
 
 -- the pay between two accounts: a debit and a credit that quote field 20
-unfoldable pub pay_of : Chart → Form → Value → AcctNo → AcctNo → Pay
-pay_of chart form value debit credit = record {
-  mir = form.mir;
+unfoldable pub pay_of : Chart → Opened → Form → Value → AcctNo → AcctNo → Pay
+pay_of chart o form value debit credit = record {
+  mir = o.mir;
   mt = Transfer;
-  uetr = None;
-  text = form.text;
+  uetr = o.uetr;
+  text = o.text;
   value = value.day;
   legs = leg_of debit Debit form value ∷ leg_of credit Credit form value ∷ [];
   orders = orders_for (account_at chart debit.0);
@@ -90,20 +85,12 @@ pay_of chart form value debit credit = record {
 -- the pay that a message asks for: the tests in their order
 unfoldable pub message_of : Tables → Chart → List ℕ → Result Pay Refused
 message_of t chart bs = do
-  form ← or_fault (form_of bs) another_form
-  value ← value_in form.mir (value_of t form.value)
-  debit ← or_fault (vostro_account chart (sender_of form.mir).head value.amount) another_form
-  credit ← or_fault (customer_account chart form.account value.amount) another_form
-  Ok (pay_of chart form value debit credit)
-
--- what the reader answered is what the definition gives, but for want of memory
-abbrev pub FailsAs : Refusal → Result Pay Refused → Type 0
-FailsAs (refusal.Refused mir fault) read = read ≡ Err (mir, fault)
-FailsAs refusal.Memory read = Unit {0}
-
-abbrev pub ReadsAs : Result Pay Refusal → Result Pay Refused → Type 0
-ReadsAs (Ok pay) read = read ≡ Ok pay
-ReadsAs (Err e) read = FailsAs e read
+  o ← opened_of chart.home.head t bs
+  form ← or_fault (form_in o) (another_form o.mir)
+  value ← value_in o.mir (value_of t form.value)
+  debit ← or_fault (vostro_account chart (sender_of o.mir).head value.amount) (another_form o.mir)
+  credit ← or_fault (customer_account chart form.account value.amount) (another_form o.mir)
+  Ok (pay_of chart o form value debit credit)
 
 -- each message of a list of them
 abbrev pub readings_of : Tables → Chart → List (List ℕ) → List (Result Pay Refused)

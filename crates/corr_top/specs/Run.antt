@@ -1,7 +1,6 @@
 -- A run: what was read of the files, what they say, and how it ended.
 use Rattle.std.specs.Prelude.{ℕ, ◌≡◌, ◌+◌, ◌≤◌, ◌<◌, List, [], ◌∷◌, length, map, slice_get, codes, Option, Some, None, unwrap_or, ℤ, pos}
 use Rattle.std.specs.Option.{option_or}
-use Rattle.std.specs.Io.KnownBytes.{Appends}
 use Rattle.corr_text.specs.Faults.{Rose}
 use Rattle.corr_ids.specs.declared.bic.Bic.{Bic}
 use Rattle.corr_ids.specs.declared.day.Day.{Day}
@@ -23,7 +22,7 @@ use Rattle.corr_report.specs.Report.{report_of}
 use Rattle.corr_top.specs.declared.status.Status.{Status}
 use Rattle.corr_top.specs.declared.status.Status.TheVariants as status
 use Rattle.corr_top.specs.Answers.{history_of, replies_of}
-use Rattle.corr_top.specs.Interim.{home_head}
+use Rattle.corr_top.specs.MessageFile.{IsMessageFile, StopsCutting}
 use Rattle.corr_top.specs.Reading.{IsRead}
 use Rattle.corr_top.specs.Told.{Told}
 use Rattle.corr_top.specs.Writing.{AppendsPrefix}
@@ -35,6 +34,10 @@ file_at n files = unwrap_or (slice_get files n) []
 -- the tables of banks, currencies and countries
 abbrev pub tables_in : List (List ℕ) → Tables
 tables_in files = tables_of (file_at 0 files) (file_at 1 files) (file_at 2 files)
+
+-- the head of the home bank
+abbrev pub home_head : List ℕ
+home_head = codes "HOMEUS33"
 
 abbrev pub home_bank : Bic
 home_bank = record { head = home_head; branch = codes "XXX" }
@@ -54,9 +57,9 @@ chart_in files = record { home = home_bank; accounts = accounts_in files }
 unfoldable pub fault_in : List (List ℕ) → Option (TableName × ℕ × Why)
 fault_in files = option_or (tables_fault (file_at 0 files) (file_at 1 files) (file_at 2 files)) (named Accounts (accounts_fault home_head (tables_in files) (file_at 3 files)))
 
--- the most bytes that each file has: 8 MiB for a table, 1 MiB for the messages
+-- the most bytes that each file has: 8 MiB for a table, 64 MiB for the messages
 abbrev pub limits : List ℕ
-limits = 8388608 ∷ 8388608 ∷ 8388608 ∷ 8388608 ∷ 1048576 ∷ []
+limits = 8388608 ∷ 8388608 ∷ 8388608 ∷ 8388608 ∷ 67108864 ∷ []
 
 -- these files were read, one source after another
 abbrev pub AreRead : List ℕ → List Told → List Told → List (List ℕ) → Type 0
@@ -70,11 +73,11 @@ pub record AreFine (files : List (List ℕ)) : Type 0 where
   pub balanced : (ccy : Ccy) → opening_sum ccy (accounts_in files) ≡ pos 0
 
 -- the report of a day: the history of one thread over the messages of the last file, and the reply to each of them
-unfoldable pub report_in : Day → List (List ℕ) → List ℕ
-report_in day files =
+unfoldable pub report_in : Day → List (List ℕ) → List (List ℕ) → List ℕ
+report_in day files messages =
     let t = tables_in files in
     let chart = chart_in files in
-    report_of chart (history_of t chart day (file_at 4 files)) (replies_of t chart day (file_at 4 files))
+    report_of chart (history_of t chart day messages) (replies_of t chart day messages)
 
 -- the count of faults of the n-th source, from 0, rose, and these are its two values
 pub record HasFailed (before after : List Told) (n then now : ℕ) : Type 0 where
@@ -86,12 +89,12 @@ pub record HasFailed (before after : List Told) (n then now : ℕ) : Type 0 wher
   pub now_is : now ≡ new.faults
   pub rose : Rose old.faults new.faults
 
--- all five files were read, and nothing is wrong with them
-pub record IsWhole (before after : List Told) (files : List (List ℕ)) : Type 0 where
+-- all five files were read, nothing is wrong with them, and these are the messages of the last one
+pub record IsWhole (before after : List Told) (files messages : List (List ℕ)) : Type 0 where
   pub read : AreRead limits before after files
   pub all : length files ≡ 5
   pub fine : AreFine files
-  pub short : length (file_at 4 files) ≤ 1048576
+  pub messages_are : IsMessageFile (file_at 4 files) messages
 
 -- the files up to a table with a fault, which is told
 pub record StopsAtTable (before after : List Told) (table : TableName) (row : ℕ) (why : Why) (files : List (List ℕ)) : Type 0 where
@@ -111,21 +114,20 @@ pub record StopsAtRead (before after : List Told) (then now : ℕ) (files : List
   pub fine : AreFine files
   pub failed : HasFailed before after (length files) then now
 
--- the message file has more bytes than its limit
-pub record StopsTooLarge (before after : List Told) (bytes messages : ℕ) (files : List (List ℕ)) : Type 0 where
+-- the message file passes a limit, or can't be cut
+pub record StopsAtFile (before after : List Told) (stop : Status) (files : List (List ℕ)) : Type 0 where
   pub read : AreRead limits before after files
   pub all : length files ≡ 5
   pub fine : AreFine files
-  pub past : 1048576 < length (file_at 4 files)
-  pub bytes_are : bytes ≡ 1048577
-  pub messages_are : messages ≡ 0
+  pub stopped : StopsCutting (file_at 4 files) stop
 
 -- how reading and answering stop before anything is written
 abbrev pub Stops : List Told → List Told → Status → Type 0
 Stops before after (status.Table table row why) = (files : List (List ℕ)) × StopsAtTable before after table row why files
 Stops before after (status.Unbalanced ccy decimals sum) = (files : List (List ℕ)) × StopsUnbalanced before after ccy decimals sum files
 Stops before after (status.ReadFault then now) = (files : List (List ℕ)) × StopsAtRead before after then now files
-Stops before after (status.TooLarge bytes messages) = (files : List (List ℕ)) × StopsTooLarge before after bytes messages files
+Stops before after (status.TooLarge bytes messages) = (files : List (List ℕ)) × StopsAtFile before after (status.TooLarge bytes messages) files
+Stops before after (status.Framing at) = (files : List (List ℕ)) × StopsAtFile before after (status.Framing at) files
 Stops before after status.Memory = Unit {0}
 Stops before after status.Done = ⊥
 Stops before after status.Usage = ⊥

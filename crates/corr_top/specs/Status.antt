@@ -7,7 +7,7 @@ use Rattle.ref_tables.specs.declared.fault.TableName.TheVariants as table
 use Rattle.ref_tables.specs.declared.fault.Why.{Why}
 use Rattle.ref_tables.specs.declared.fault.Why.TheVariants as why
 use Rattle.corr_top.specs.declared.status.Status.{Status}
-use Rattle.corr_top.specs.declared.status.Status.TheVariants.{Done, Usage, Table, ReadFault, WriteFault, Unbalanced, Memory, TooLarge}
+use Rattle.corr_top.specs.declared.status.Status.TheVariants.{Done, Usage, Table, ReadFault, WriteFault, Unbalanced, Memory, TooLarge, Framing}
 
 -- the decimals of an `Unbalanced` are at most 4
 abbrev pub HasDecimals : Status → Type 0
@@ -24,6 +24,7 @@ number_of (WriteFault before after) = 4
 number_of (Unbalanced ccy decimals sum) = 6
 number_of Memory = 7
 number_of (TooLarge bytes messages) = 9
+number_of (Framing at) = 10
 
 -- a number behind a space
 unfoldable pub spaced : ℕ → List ℕ
@@ -59,6 +60,7 @@ status_text (WriteFault before after) = codes "write fault" ++ spaced before ++ 
 status_text (Unbalanced ccy decimals sum) = codes "unbalanced " ++ ccy.0 ++ codes " " ++ signed_text decimals sum
 status_text Memory = codes "no memory"
 status_text (TooLarge bytes messages) = codes "too large" ++ spaced bytes ++ spaced messages
+status_text (Framing at) = codes "framing" ++ spaced at
 
 -- its line, without a line end
 abbrev pub line_of : Status → List ℕ

@@ -8,26 +8,21 @@ use Rattle.day_model.specs.Chart.{Chart}
 use Rattle.day_model.specs.Fit.{FitsAccounts}
 use Rattle.day_model.specs.Next.{next_history}
 use Rattle.ref_tables.specs.Seen.{Tables}
-use Rattle.corr_top.specs.Pieces.{begun, ended, is_filled}
-use Rattle.corr_top.specs.Message.{Refused, message_of, reply_in}
+use Rattle.corr_top.specs.Message.{message_of, reply_in}
+use Rattle.corr_top.specs.Verdict.{Refused}
 
 -- the history after a message: a refused one adds nothing
 abbrev pub history_after : Chart → Day → List Entry → Result Pay Refused → List Entry
 history_after chart day entries (Ok pay) = next_history chart entries pay day
 history_after chart day entries (Err refused) = entries
 
--- a pay fits the accounts, and its message has at least 85 bytes
-abbrev pub IsFit : Chart → List ℕ → Result Pay Refused → Type 0
-IsFit chart message (Ok pay) = FitsAccounts chart pay × (85 ≤ length message)
-IsFit chart message (Err refused) = Unit {0}
+-- a pay fits the accounts
+abbrev pub IsFit : Chart → Result Pay Refused → Type 0
+IsFit chart (Ok pay) = FitsAccounts chart pay
+IsFit chart (Err refused) = Unit {0}
 
 -- a message was entered, and its reply added
 pub record Turned (t : Tables) (chart : Chart) (day : Day) (message : List ℕ) (before after : List Entry) (replies more : List Reply) : Type 0 where
   pub entered : after ≡ history_after chart day before (message_of t chart message)
   pub answered : (r : Reply) × (reply_in after (message_of t chart message) ≡ Some r) × (more ≡ replies ++ r ∷ [])
-  pub fit : IsFit chart message (message_of t chart message)
-
--- a part of the file was passed: the message in it was entered and answered, or it holds blanks alone and nothing changed
-pub record Passed (t : Tables) (chart : Chart) (day : Day) (part : List ℕ) (before after : List Entry) (replies more : List Reply) : Type 0 where
-  pub turned : MatchBool (is_filled (ended (begun part))) (Turned t chart day (ended (begun part)) before after replies more) ((after ≡ before) × (more ≡ replies))
-  pub within : length (ended (begun part)) ≤ length part
+  pub fit : IsFit chart (message_of t chart message)

@@ -15,7 +15,10 @@ use Rattle.corr_money.specs.declared.fault.AmountFault.TheVariants as amount
 use Rattle.ref_tables.specs.Seen.{Tables, decimals_in}
 use Rattle.corr_top.specs.declared.value.Value.{Value}
 use Rattle.corr_top.specs.declared.value.TheConstants.{P24, P26, P27, T40, T43, T50, T52, C03, C08}
-use Rattle.corr_top.specs.Interim.{part}
+
+-- n bytes from place i on
+abbrev pub part : ℕ → ℕ → List ℕ → List ℕ
+part i n bs = take n (drop i bs)
 
 -- six digits, three capital letters, at least one byte
 abbrev pub has_shape : List ℕ → Bool

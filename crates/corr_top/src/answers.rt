@@ -1,4 +1,4 @@
-//! The messages of a file, answered one after another.
+//! Messages, answered one after another.
 
 ghost use Rattle.std.specs.Prelude.{◌≡◌, ◌≤◌, ◌<◌, IfOk, OnOk, Some, None, [], length};
 ghost use Rattle.std.specs.List.{All};
@@ -9,12 +9,11 @@ ghost use Rattle.day_model.specs.Next.{entered_at, next_history};
 ghost use Rattle.day_model.specs.Same.{reply_to};
 ghost use Rattle.corr_top.specs.Answers.{history_of, replies_of};
 ghost use Rattle.corr_report.specs.Report.{NamesPlace};
-ghost use Rattle.corr_top.specs.Turn.{Passed, Turned};
+ghost use Rattle.corr_top.specs.Turn.{Turned};
 
 use crate::message::{Refusal, read_message};
-use crate::pieces::{cut, trimmed};
 use corr_ids::Day;
-use corr_text::Memory;
+use corr_text::{Memory, Text};
 use day_model::{Accounts, Entry, History, Pay, Reply, decide};
 use ref_tables::RefTables;
 use std::alloc::Global;
@@ -89,6 +88,7 @@ fn answer(alloc: Global, books: &Books, answers: &mut Answers, message: &[u8]) -
     requires legal { IsLegal books.now.accounts answers.old.history.entries }
     requires latest { IsLatest answers.old.history.entries books.now.day }
     requires room { length answers.old.history.entries < 100000 }
+    requires short { length message.now ≤ 16384 }
     ensures { OnOk result (Turned books.now.tables books.now.accounts books.now.day message.now
         answers.old.history.entries answers.new.history.entries answers.old.replies.items answers.new.replies.items) }
 {
@@ -99,26 +99,6 @@ fn answer(alloc: Global, books: &Books, answers: &mut Answers, message: &[u8]) -
     };
     answers.replies.push(reply)?;
     Ok(())
-}
-
-/// Answers the message in a part of a file, where it holds more than blanks.
-fn answer_part(
-    alloc: Global,
-    books: &Books,
-    answers: &mut Answers,
-    part: &[u8],
-) -> Result<(), Memory>
-    requires legal { IsLegal books.now.accounts answers.old.history.entries }
-    requires latest { IsLatest answers.old.history.entries books.now.day }
-    requires room { length answers.old.history.entries < 100000 }
-    ensures { OnOk result (Passed books.now.tables books.now.accounts books.now.day part.now
-        answers.old.history.entries answers.new.history.entries answers.old.replies.items answers.new.replies.items) }
-{
-    let message = trimmed(part);
-    if message.is_empty() {
-        return Ok(());
-    }
-    answer(alloc, books, answers, message)
 }
 
 /// Nothing has been answered yet.
@@ -132,20 +112,18 @@ fn no_answers(alloc: Global) -> Answers
     }
 }
 
-/// The history that the messages of a file make, and the reply to each of them.
-pub fn answer_file(alloc: Global, books: &Books, file: &[u8]) -> Result<Answers, Memory>
-    requires { length file.now ≤ 1048576 }
-    ensures history { IfOk result (λ a. a.history.entries ≡ history_of books.now.tables books.now.accounts books.now.day file.now) }
-    ensures replies { IfOk result (λ a. a.replies.items ≡ replies_of books.now.tables books.now.accounts books.now.day file.now) }
+/// The history that messages make, and the reply to each of them: at most 50,000 of at most 16,384 bytes.
+pub fn answer_all(alloc: Global, books: &Books, messages: &[Text]) -> Result<Answers, Memory>
+    requires few { length messages.now ≤ 50000 }
+    requires short { All (λ m. length m ≤ 16384) messages.now }
+    ensures history { IfOk result (λ a. a.history.entries ≡ history_of books.now.tables books.now.accounts books.now.day messages.now) }
+    ensures replies { IfOk result (λ a. a.replies.items ≡ replies_of books.now.tables books.now.accounts books.now.day messages.now) }
     ensures legal { IfOk result (λ a. IsLegal books.now.accounts a.history.entries) }
     ensures places { IfOk result (λ a. All (NamesPlace a.history.entries) a.replies.items) }
 {
     let mut answers = no_answers(alloc);
-    let mut rest = Some(file);
-    while let Some(text) = rest {
-        let (part, behind) = cut(text);
-        answer_part(alloc, books, &mut answers, part)?;
-        rest = behind;
+    for message in messages {
+        answer(alloc, books, &mut answers, message.bytes())?;
     }
     Ok(answers)
 }

@@ -25,8 +25,8 @@ pub fn corr<S: Source, K: Sink>(alloc: Global, words: &[Text], room: Room<S, K>)
     ensures run { IfSome (run_day words.now) (λ day. Ends (sources S.left S.faults room) (sources S.left S.faults result.room)
         (told K.held K.faults room.report) (told K.held K.faults result.room.report) day result.status) }
     // where nothing is wrong and nothing fails, only memory can be wanting
-    ensures complete { IfSome (run_day words.now) (λ _. (files : List (List ℕ)) → IsReady (sources S.left S.faults room) (sources S.left S.faults result.room)
-        (told K.held K.faults room.report) (told K.held K.faults result.room.report) files → (result.status ≡ Status.Done) ⊎ (result.status ≡ Status.Memory)) }
+    ensures complete { IfSome (run_day words.now) (λ _. (files messages : List (List ℕ)) → IsReady (sources S.left S.faults room) (sources S.left S.faults result.room)
+        (told K.held K.faults room.report) (told K.held K.faults result.room.report) files messages → (result.status ≡ Status.Done) ⊎ (result.status ≡ Status.Memory)) }
     // nothing is written but at `Done` and `WriteFault`
     ensures quiet { IsQuiet result.status → result.room.report ≡ room.report }
     // the decimals of an `Unbalanced` are those of a currency, as `status_line` needs them

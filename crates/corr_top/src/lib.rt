@@ -3,10 +3,10 @@
 
 mod answers;
 mod command;
+mod cutting;
 mod interim;
 mod line;
 mod message;
-mod pieces;
 mod reading;
 mod room;
 mod run;
@@ -14,6 +14,7 @@ mod slices;
 mod status;
 mod tables;
 mod value;
+mod verdict;
 mod words;
 mod writing;
 

@@ -109,6 +109,10 @@ fn put_status(alloc: Global, s: &Status, out: &mut Text) -> Result<(), Memory>
         Status::TooLarge { bytes, messages } => {
             put_two(alloc, b"too large", *bytes, *messages as u64, out)
         }
+        Status::Framing { at } => {
+            out.push(b"framing")?;
+            put_number(alloc, *at, out)
+        }
     }
 }
 

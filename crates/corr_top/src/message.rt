@@ -1,13 +1,15 @@
 //! A message, read to the pay that it asks for or to its refusal.
 
-ghost use Rattle.std.specs.Prelude.{◌≡◌, ◌≤◌, ◌<◌, IsTrue, IfOk, IfSome, OnOk, List, [], ◌∷◌, option_map, Some, None, length};
+ghost use Rattle.std.specs.Prelude.{◌≡◌, ◌≤◌, ◌<◌, IsTrue, IfOk, IfSome, List, [], ◌∷◌, Some, None, length};
 ghost use Rattle.day_model.specs.Chart.{IsListed, account_at};
 ghost use Rattle.day_model.specs.Fit.{FitsAccounts};
-ghost use Rattle.corr_top.specs.Message.{ReadsAs, another_form, bad_value, customer_account, fits_customer, fits_vostro, leg_of, message_of, orders_for, pay_of, vostro_account};
+ghost use Rattle.corr_top.specs.Message.{another_form, bad_value, customer_account, fits_customer, fits_vostro, leg_of, message_of, orders_for, pay_of, vostro_account};
+ghost use Rattle.corr_top.specs.Refusals.{ReadsAs};
 ghost use Rattle.corr_top.specs.Seen.{form_seen};
 
 use crate::interim::{Form, read_form};
 use crate::value::{Value, read_value};
+use crate::verdict::{Opened, open_message};
 use corr_ids::Mir;
 use corr_money::Amount;
 use corr_text::{Code, Fault, List, Memory, Text};
@@ -39,11 +41,11 @@ const CUSTOMER: u8 = b'C';
 const VOSTRO: u8 = b'V';
 
 /// A message of another form, or one whose accounts are not there.
-fn another_form() -> Refusal
-    ensures { result ≡ Refusal.Refused another_form.0 another_form.1 }
+fn another_form(mir: Mir) -> Refusal
+    ensures { result ≡ Refusal.Refused (another_form mir).0 (another_form mir).1 }
 {
     Refusal::Refused {
-        mir: None,
+        mir: Some(mir),
         fault: Fault {
             code: P90,
             tag: *b"B4 ",
@@ -146,6 +148,7 @@ fn make_orders(alloc: Global, accounts: &Accounts, debit: AcctNo) -> Result<List
 fn make_pay(
     alloc: Global,
     accounts: &Accounts,
+    opened: &Opened,
     form: &Form<'_>,
     value: &Value,
     debit: AcctNo,
@@ -157,23 +160,23 @@ fn make_pay(
     requires credit_fits { IsTrue (fits_customer value.now.amount (account_at accounts.now credit.0)) }
     requires positive { 0 < value.now.amount.minor.0 }
     requires small { value.now.amount.minor.0 < 100000000000000 }
-    ensures value { IfOk result (λ p. p ≡ pay_of accounts.now (form_seen form.now) value.now debit credit) }
+    ensures value { IfOk result (λ p. p ≡ pay_of accounts.now opened.now (form_seen form.now) value.now debit credit) }
     ensures fits { IfOk result (FitsAccounts accounts.now) }
 {
     let legs = make_legs(alloc, form, value, debit, credit)?;
     let orders = make_orders(alloc, accounts, debit)?;
     Ok(Pay {
-        mir: form.mir,
+        mir: opened.mir,
         mt: Mt::Transfer,
-        uetr: None,
-        text: Text::from_bytes(alloc, form.text)?,
+        uetr: opened.uetr,
+        text: opened.text.copy(alloc)?,
         value: value.day,
         legs,
         orders,
     })
 }
 
-/// The pay that a message asks for, or its refusal.
+/// The pay that a message of at most 16,384 bytes asks for, or its refusal.
 #[tactic(auto, unfolding(crate::specs::Message::message_of))]
 pub fn read_message(
     alloc: Global,
@@ -181,23 +184,24 @@ pub fn read_message(
     accounts: &Accounts,
     b: &[u8],
 ) -> Result<Pay, Refusal>
+    requires { length b.now ≤ 16384 }
     ensures value { ReadsAs result (message_of tables.now accounts.now b.now) }
     ensures fits { IfOk result (FitsAccounts accounts.now) }
-    ensures long { OnOk result (85 ≤ length b.now) }
 {
-    let Some(form) = read_form(b) else {
-        return Err(another_form());
+    let opened = open_message(alloc, &accounts.home().head, tables, b)?;
+    let Some(form) = read_form(&opened) else {
+        return Err(another_form(opened.mir));
     };
     let value = match read_value(tables, form.value) {
         Ok(value) => value,
-        Err(code) => return Err(bad_value(form.mir, code)),
+        Err(code) => return Err(bad_value(opened.mir, code)),
     };
-    let head = form.mir.sender().head;
+    let head = opened.mir.sender().head;
     let Some(debit) = vostro_account(accounts, &head, &value.amount) else {
-        return Err(another_form());
+        return Err(another_form(opened.mir));
     };
     let Some(credit) = customer_account(accounts, form.account, &value.amount) else {
-        return Err(another_form());
+        return Err(another_form(opened.mir));
     };
-    Ok(make_pay(alloc, accounts, &form, &value, debit, credit)?)
+    Ok(make_pay(alloc, accounts, &opened, &form, &value, debit, credit)?)
 }

@@ -1,13 +1,13 @@
 //! The command `run`: every message of a file is answered, and the report written.
 
-ghost use Rattle.std.specs.Prelude.{◌≡◌, ◌≤◌, length, OnOk, IfOk, IfErr};
+ghost use Rattle.std.specs.Prelude.{◌≡◌, ◌≤◌, length, All, OnOk, IfOk, IfErr};
 ghost use Rattle.corr_top.specs.Ends.{Ends, IsQuiet};
-ghost use Rattle.corr_top.specs.Messages.{StopsAtMessages, report_over};
-ghost use Rattle.corr_top.specs.Reading.{IsRead};
+ghost use Rattle.corr_top.specs.Messages.{HasMessages, StopsAtMessages, report_over};
 ghost use Rattle.corr_top.specs.Status.{HasDecimals};
 ghost use Rattle.corr_top.specs.Told.{sources, told};
 
-use crate::answers::{Books, answer_file};
+use crate::answers::{Books, answer_all};
+use crate::cutting::{FILE_LIMIT, cut_file};
 use crate::room::Room;
 use crate::status::Status;
 use crate::tables::{open_books, read_file};
@@ -15,11 +15,8 @@ use crate::writing::{WriteStop, write_whole};
 use corr_ids::Day;
 use corr_io::{Sink, Source};
 use corr_report::report;
-use corr_text::{Memory, Text};
+use corr_text::{List, Memory, Text};
 use std::alloc::Global;
-
-/// The most bytes that a message file has: 1 MiB.
-const FILE_LIMIT: usize = 1_048_576;
 
 impl From<WriteStop> for Status {
     ghost use Rattle.corr_top.specs.declared.status.Status.TheVariants.{WriteFault};
@@ -34,28 +31,23 @@ impl From<WriteStop> for Status {
     }
 }
 
-fn read_messages<S: Source>(alloc: Global, source: &mut S) -> Result<Text, Status>
-    ensures read { IfOk result (IsRead 1048576 (S.left source.old) (S.left source.new)) }
-    ensures short { IfOk result (λ text. length text ≤ 1048576) }
+/// The messages of the message file, or its first fault.
+fn read_messages<S: Source>(alloc: Global, source: &mut S) -> Result<List<Text>, Status>
+    ensures read { IfOk result (HasMessages (S.left source.old) (S.left source.new)) }
     ensures decimals { IfErr result HasDecimals }
     ensures stopped { IfErr result (StopsAtMessages (S.left source.old) (S.left source.new) (S.faults source.old) (S.faults source.new)) }
 {
     let file = read_file(alloc, source, FILE_LIMIT)?;
-    if file.bytes().len() > FILE_LIMIT {
-        return Err(Status::TooLarge {
-            bytes: file.bytes().len() as u64,
-            messages: 0,
-        });
-    }
-    Ok(file)
+    cut_file(alloc, file.bytes())
 }
 
-/// The report of a day over these messages.
-fn make_report(alloc: Global, books: &Books, file: &[u8]) -> Result<Text, Memory>
-    requires { length file.now ≤ 1048576 }
-    ensures { IfOk result (λ text. text ≡ report_over books.now file.now) }
+/// The report of a day over messages.
+fn make_report(alloc: Global, books: &Books, messages: &[Text]) -> Result<Text, Memory>
+    requires few { length messages.now ≤ 50000 }
+    requires short { All (λ m. length m ≤ 16384) messages.now }
+    ensures { IfOk result (λ text. text ≡ report_over books.now messages.now) }
 {
-    let answers = answer_file(alloc, books, file)?;
+    let answers = answer_all(alloc, books, messages)?;
     report(
         alloc,
         &books.accounts,
@@ -74,7 +66,7 @@ pub fn run<S: Source, K: Sink>(alloc: Global, day: Day, room: &mut Room<S, K>) -
     ensures decimals { IfErr result HasDecimals }
 {
     let books = open_books(alloc, room, day)?;
-    let file = read_messages(alloc, &mut room.messages)?;
-    let text = make_report(alloc, &books, file.bytes())?;
+    let messages = read_messages(alloc, &mut room.messages)?;
+    let text = make_report(alloc, &books, messages.as_slice())?;
     Ok(write_whole(&mut room.report, text.bytes())?)
 }

@@ -37,10 +37,15 @@ pub enum Status {
     },
     /// There was no memory for what was to be made.
     Memory,
-    /// The message file passes a limit: the bytes that were read, and the messages that begin in them.
+    /// The message file passes a limit: the number of its bytes up to the first that does, and the messages that begin
+    /// in them.
     TooLarge {
         bytes: u64,
         messages: u32,
+    },
+    /// The message file can't be cut: the place of the fault, in bytes from 0.
+    Framing {
+        at: u64,
     },
 }
 
@@ -58,6 +63,7 @@ impl Status {
             Status::Unbalanced { .. } => 6,
             Status::Memory => 7,
             Status::TooLarge { .. } => 9,
+            Status::Framing { .. } => 10,
         }
     }
 }

@@ -6,14 +6,12 @@ ghost use Rattle.day_model.specs.Chart.{opening_sum};
 ghost use Rattle.day_model.specs.Gap.{TellsUnbalanced};
 ghost use Rattle.ref_tables.specs.AccountList.{AreAccounts};
 ghost use Rattle.corr_top.specs.Books.{IsReadStop, HasTables, HasBooks, TellsDecimals};
-ghost use Rattle.corr_top.specs.Interim.{home_head};
 ghost use Rattle.corr_top.specs.Reading.{IsRead};
-ghost use Rattle.corr_top.specs.Run.{Stops, home_bank, opened};
+ghost use Rattle.corr_top.specs.Run.{Stops, home_bank, home_head, opened};
 ghost use Rattle.corr_top.specs.Status.{HasDecimals};
 ghost use Rattle.corr_top.specs.Told.{sources};
 
 use crate::answers::Books;
-use crate::interim::HOME;
 use crate::reading::{ReadStop, read_whole};
 use crate::room::Room;
 use crate::status::Status;
@@ -26,6 +24,9 @@ use std::alloc::Global;
 
 /// The most bytes that a table file has: 8 MiB.
 pub const TABLE_LIMIT: usize = 8_388_608;
+
+/// The head of the home bank.
+const HOME: [u8; 8] = *b"HOMEUS33";
 
 /// The home bank.
 pub const HOME_BANK: Bic = Bic {

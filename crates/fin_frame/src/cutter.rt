@@ -42,6 +42,7 @@ impl Cutter {
     /// A cutter that was fed nothing yet.
     pub fn new(alloc: Global) -> Cutter
         ensures made { WasFed result [] [] }
+        ensures sound { result.failed ≡ None }
         // A file has one cut at most.
         ensures one_cut { (file : _) (messages : _) (others : _) → IsCutInto file messages → IsCutInto file others → messages ≡ others }
     {

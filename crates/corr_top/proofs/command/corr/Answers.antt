@@ -5,7 +5,7 @@ use Rattle.corr_top.proofs.command.corr.Goals as goal
 
 pub returns-clause-complete : goal.returns-clause-complete
 returns-clause-complete g c =
-    rw (← c.run_day.ensures.value, c.in-Some.is) (λ files ready. elim c.match-run.branch [
+    rw (← c.run_day.ensures.value, c.in-Some.is) (λ files messages ready. elim c.match-run.branch [
       | in-Ok w ↦ inl w.status-is
-      | in-Err w ↦ rw w.status-is (done_or_memory _ _ _ _ c.in-Some.day w.in-Err.status files w.in-Err.ensures.stopped ready)
+      | in-Err w ↦ rw w.status-is (done_or_memory _ _ _ _ c.in-Some.day w.in-Err.status files messages w.in-Err.ensures.stopped ready)
     ])

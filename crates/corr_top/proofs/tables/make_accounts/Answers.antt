@@ -3,7 +3,7 @@ use Rattle.std.proofs.lemmas.List.{length-map}
 use Rattle.day_model.specs.Chart.{AreRows}
 use Rattle.std.specs.Prelude.{IfErr}
 use Rattle.day_model.specs.Gap.{TellsUnbalanced}
-use Rattle.corr_top.specs.Interim.{home_head}
+use Rattle.corr_top.specs.Run.{home_head}
 use Rattle.corr_top.specs.Run.{opened}
 use Rattle.corr_top.proofs.AccountRows.{are_rows, refusal_decimals}
 use Rattle.corr_top.proofs.tables.make_accounts.Goals as goal

@@ -1,0 +1,165 @@
+-- Message files: what their bytes show, and what a cutter that was fed them knows.
+use Rattle.std.proofs.Common.{◌≡◌, ℕ, zero, suc, ◌+◌, ◌-◌, ◌<◌, ◌≤◌, ◌⊎◌, inl, inr, List, [], ◌∷◌, ◌++◌, length, take, drop, Option, Some, None, Result, Ok, Err, refl, sym, ap, ◌∙◌, subst, arith, append_assoc, length-append}
+use Rattle.std.specs.Prelude.{All}
+use Rattle.std.proofs.lemmas.List.{append-nil, take-append-drop}
+use Rattle.std.proofs.lemmas.Bool.{cases_lt}
+use Rattle.std.proofs.lemmas.List.Elements.{All-append, All-cons}
+use Rattle.std.proofs.lemmas.Option.{none-some}
+use Rattle.fin_frame.specs.Cutting.{Ends, IsUnbalanced, IsWholeFile, Knows, WasFed, answer_of}
+use Rattle.fin_frame.specs.File.{IsCutInto, IsFileOf, IsMessage, lead}
+use Rattle.fin_frame.specs.File.IsFileOf.{start as file_start, more as file_more}
+use Rattle.fin_frame.specs.Machine.{State, at_start, run}
+use Rattle.fin_frame.specs.Shown.{HasBegun, HaveBegun, IsSound, Shows}
+use Rattle.fin_frame.specs.Shown.HasBegun.{begun as has_begun}
+use Rattle.fin_frame.specs.declared.cutter.Cutter.{Cutter}
+use Rattle.fin_frame.specs.declared.fault.FrameFault.{FrameFault}
+use Rattle.fin_frame.specs.declared.fault.FrameFault.TheVariants as frame
+use Rattle.fin_frame.proofs.Led.{Rests, file-run, message-leads}
+use Rattle.fin_frame.proofs.Led.Rests.{rests_apart, rests_behind}
+use Rattle.fin_frame.proofs.Running.{run-append, run-failed}
+use Rattle.fin_frame.proofs.Showing.{begun-comes, cut-comes, ends-come, shown-comes}
+use Rattle.fin_frame.proofs.Tracking.{begun-more}
+use Rattle.corr_top.specs.declared.status.Status.{Status}
+use Rattle.corr_top.specs.declared.status.Status.TheVariants as status
+use Rattle.corr_top.specs.Feeding.{HasPassed, StopsFeeding, StopsInPieces, status_of_frame}
+use Rattle.corr_top.specs.MessageFile.{EndsOpen, IsAtFault, IsMessageFile, IsPassed, IsPast, IsTooLarge, IsUncut, ShowsFault, StopsCutting}
+
+-- ---- limits
+
+past-more : (bytes more : List ℕ) → IsPast bytes → IsPast (bytes ++ more)
+past-more bytes more (inl long) = inl (let e = length-append bytes more in omega arith)
+past-more bytes more (inr begun) = inr (begun.0, begun.1, begun-more more begun.2)
+
+-- ---- what a call of the cutter tells
+
+-- a cutter that was made now
+pub starts : (c : Cutter) (given : List (List ℕ)) → WasFed c [] [] → c.failed ≡ None → given ≡ [] → HasPassed c [] given
+starts c given was sound none = record { was = subst (λ g. WasFed c [] g) (sym none) was; sound = sound; within = nothing }
+  where
+    nothing : IsPast [] → ⊥
+    nothing (inl long) = omega arith
+    nothing (inr begun) = let k = begun-comes begun.2 in let over = begun.1 in omega arith
+
+-- ---- how cutting in pieces stops
+
+-- how many bytes of a file there are up to and with a piece
+pub counted : (fed piece behind rest file : List ℕ) → piece ++ behind ≡ rest → fed ++ rest ≡ file → length file - length behind ≡ length (fed ++ piece)
+counted fed piece behind rest file parts whole =
+    let a = ap length whole in let b = length-append fed rest in let d = ap length parts in let e = length-append piece behind in let f = length-append fed piece in omega arith
+
+is-passed : (c : Cutter) (fed : List ℕ) (given : List (List ℕ)) → HasPassed c fed given → IsPassed fed
+is-passed c fed given so_far = record { sound = (subst (λ o. Knows o fed given c.begun) so_far.sound so_far.was.knows).0; within = so_far.within }
+
+large-here : (c : Cutter) (file fed rest : List ℕ) (given : List (List ℕ)) (bytes messages : ℕ) → HasPassed c fed given → fed ++ rest ≡ file → 0 < length rest → StopsFeeding (fed ++ take 1 rest) (status.TooLarge bytes messages) → IsTooLarge file bytes messages
+large-here c file fed [] given bytes messages so_far whole some stop = absurd (omega arith)
+large-here c file fed (b ∷ rest) given bytes messages so_far whole some stop = record {
+  passed = fed;
+  byte = b;
+  rest = rest;
+  file_is = sym whole;
+  before = is-passed c fed given so_far;
+  past = stop.1;
+  bytes_are = stop.0 ∙ length-append fed (b ∷ []);
+  begun = stop.2;
+}
+
+pub stops-here : (c : Cutter) (size : ℕ) (file fed rest : List ℕ) (n : ℕ) (given : List (List ℕ)) (s : Status) → HasPassed c fed given → fed ++ rest ≡ file → 0 < length rest → (size ≡ 1 → n ≡ 1)
+    → StopsFeeding (fed ++ take n rest) s → StopsInPieces size file s
+stops-here c size file fed rest n given (status.TooLarge bytes messages) so_far whole some one stop =
+    λ is. large-here c file fed rest given bytes messages so_far whole some (subst (λ k. StopsFeeding (fed ++ take k rest) (status.TooLarge bytes messages)) (one is) stop)
+stops-here c size file fed rest n given (status.Framing at) so_far whole some one stop = inl (record { front = fed ++ take n rest; rest = drop n rest; file_is = parts; fault = stop })
+  where
+    parts : file ≡ (fed ++ take n rest) ++ drop n rest
+    parts = sym whole ∙ ap (λ l. fed ++ l) (sym (take-append-drop n rest)) ∙ sym (append_assoc fed (take n rest) (drop n rest))
+stops-here c size file fed rest n given status.Memory so_far whole some one stop = tt
+stops-here c size file fed rest n given status.Done so_far whole some one stop = stop
+stops-here c size file fed rest n given status.Usage so_far whole some one stop = stop
+stops-here c size file fed rest n given (status.Table t r w) so_far whole some one stop = stop
+stops-here c size file fed rest n given (status.ReadFault x y) so_far whole some one stop = stop
+stops-here c size file fed rest n given (status.WriteFault x y) so_far whole some one stop = stop
+stops-here c size file fed rest n given (status.Unbalanced x y z) so_far whole some one stop = stop
+
+-- ---- the end of the file
+
+whole-so : (fed rest file : List ℕ) → fed ++ rest ≡ file → length rest ≡ 0 → fed ≡ file
+whole-so fed [] file whole none = sym (append-nil fed) ∙ whole
+whole-so fed (b ∷ rest) file whole none = absurd (omega arith)
+
+-- the messages of a file begin in it
+messages-begin : {file : List ℕ} {messages : List (List ℕ)} {gap : List ℕ} → IsFileOf file messages gap → (length messages ≡ 0) ⊎ HasBegun file (length messages)
+messages-begin (file_start gap) = inl refl
+messages-begin (file_more file message gap messages front is behind) =
+    inr (subst (λ k. HasBegun (file ++ message ++ gap) k) (sym (length-append messages (message ∷ [])))
+    (subst (λ x. HasBegun x (length messages + 1)) parts (has_begun file (drop 3 message ++ gap) messages front)))
+  where
+    parts : file ++ lead ++ (drop 3 message ++ gap) ≡ file ++ message ++ gap
+    parts = sym (append_assoc (file ++ lead) (drop 3 message) gap) ∙ ap (λ l. l ++ gap) (append_assoc file lead (drop 3 message)) ∙ ap (λ l. file ++ l ++ gap) (sym (message-leads is.0))
+
+few-messages : (file : List ℕ) (messages : List (List ℕ)) → (IsPast file → ⊥) → (length messages ≡ 0) ⊎ HasBegun file (length messages) → (50000 < length messages) ⊎ (length messages ≤ 50000) → length messages ≤ 50000
+few-messages file messages within begin (inr few) = few
+few-messages file messages within (inl none) (inl many) = omega arith
+few-messages file messages within (inr has) (inl many) = absurd (within (inr (length messages, many, has)))
+
+short-file : (file : List ℕ) → (IsPast file → ⊥) → (67108864 < length file) ⊎ (length file ≤ 67108864) → length file ≤ 67108864
+short-file file within (inr short) = short
+short-file file within (inl long) = absurd (within (inl long))
+
+message-file : (file : List ℕ) (messages : List (List ℕ)) → IsCutInto file messages → (IsPast file → ⊥) → IsMessageFile file messages
+message-file file messages cut within = record {
+  cut = cut;
+  short = short-file file within (cases_lt 67108864 (length file));
+  few = few-messages file messages within (messages-begin cut.1) (cases_lt 50000 (length messages));
+}
+
+pub cut-at-end : (c : Cutter) (file fed rest : List ℕ) (given all : List (List ℕ)) → HasPassed c fed given → fed ++ rest ≡ file → length rest ≡ 0 → Ends c.failed (Ok tt) fed all → IsMessageFile file all
+cut-at-end c file fed rest given all so_far whole none ends =
+    let same = whole-so fed rest file whole none in
+    let cut = (subst (λ o. Ends o (Ok tt) fed all) so_far.sound ends).cut in
+    subst (λ f. IsMessageFile f all) same (message-file fed all cut so_far.within)
+
+-- ---- the messages of a file are short
+
+short-messages : {file : List ℕ} {messages : List (List ℕ)} {gap : List ℕ} → IsFileOf file messages gap → All (λ m. length m ≤ 16384) messages
+short-messages (file_start gap) = λ k d within. absurd (omega arith)
+short-messages (file_more file message gap messages front is behind) =
+    All-append (λ m. length m ≤ 16384) messages (message ∷ []) (short-messages front) (All-cons (λ m. length m ≤ 16384) message [] is.1 (λ k d within. absurd (omega arith)))
+
+pub all-short : (file : List ℕ) (messages : List (List ℕ)) → IsMessageFile file messages → All (λ m. length m ≤ 16384) messages
+all-short file messages is = short-messages is.cut.1
+
+-- ---- a file of messages has no fault
+
+rests-begun : {n : ℕ} {messages : List (List ℕ)} {gap : List ℕ} {s : State} → Rests n messages gap s → s.begun ≡ length messages
+rests-begun (rests_apart n messages gap far) = refl
+rests-begun (rests_behind n from messages message) = sym (length-append messages (message ∷ []))
+
+few-begun : (file : List ℕ) (messages : List (List ℕ)) (n : ℕ) → IsCutInto file messages → HasBegun file n → n ≤ length messages
+few-begun file messages n cut has = let k = begun-comes has in let same = rests-begun (file-run cut.1) in omega arith
+
+not-large : (file : List ℕ) (messages : List (List ℕ)) → IsMessageFile file messages → IsPast file → ⊥
+not-large file messages is (inl long) = let short = is.short in omega arith
+not-large file messages is (inr begun) = let k = few-begun file messages begun.0 is.cut begun.2 in let over = begun.1 in let few = is.few in omega arith
+
+still-failed : (front rest : List ℕ) (fault : FrameFault) → (run (at_start []) front).failed ≡ Some fault → (run (at_start []) (front ++ rest)).failed ≡ Some fault
+still-failed front rest fault failed =
+    ap (λ t. t.failed) (run-append (at_start []) front rest ∙ run-failed (run (at_start []) front) fault rest failed) ∙ failed
+
+not-uncut : (file : List ℕ) (messages : List (List ℕ)) (at : ℕ) → IsCutInto file messages → IsUncut file at → ⊥
+not-uncut file messages at cut (inl shows) =
+    let f = shows.fault in
+    let failed : (run (at_start []) file).failed ≡ Some f.fault = subst (λ x. (run (at_start []) x).failed ≡ Some f.fault) (sym shows.file_is) (still-failed shows.front shows.rest f.fault (shown-comes f.shown)) in
+    none-some f.fault (sym (cut-comes cut).sound ∙ failed)
+not-uncut file messages at cut (inr ends) =
+    none-some at (sym (cut-comes cut).balanced ∙ ends-come ends.ends (cut-comes cut).sound)
+
+pub no-fault : (file : List ℕ) (messages : List (List ℕ)) (s : Status) → IsMessageFile file messages → StopsCutting file s → s ≡ status.Memory
+no-fault file messages (status.TooLarge bytes n) is large =
+    absurd (not-large file messages is (subst IsPast (append_assoc large.passed (large.byte ∷ []) large.rest ∙ sym large.file_is) (past-more (large.passed ++ large.byte ∷ []) large.rest large.past)))
+no-fault file messages (status.Framing at) is uncut = absurd (not-uncut file messages at is.cut uncut)
+no-fault file messages status.Memory is stop = refl
+no-fault file messages status.Done is stop = absurd stop
+no-fault file messages status.Usage is stop = absurd stop
+no-fault file messages (status.Table t r w) is stop = absurd stop
+no-fault file messages (status.ReadFault x y) is stop = absurd stop
+no-fault file messages (status.WriteFault x y) is stop = absurd stop
+no-fault file messages (status.Unbalanced x y z) is stop = absurd stop

@@ -1,0 +1,72 @@
+-- The message file: its messages, or its first fault.
+use Rattle.std.specs.Prelude.{ℕ, ◌≡◌, ◌+◌, ◌≤◌, ◌<◌, ◌⊎◌, List, [], ◌∷◌, ◌++◌, length}
+use Rattle.fin_frame.specs.File.{IsCutInto}
+use Rattle.fin_frame.specs.Shown.{EndsWithin, HasBegun, HaveBegun, IsSound, Shows}
+use Rattle.fin_frame.specs.declared.fault.FrameFault.{FrameFault}
+use Rattle.fin_frame.specs.declared.fault.FrameFault.TheVariants as frame
+use Rattle.corr_top.specs.declared.status.Status.{Status}
+use Rattle.corr_top.specs.declared.status.Status.TheVariants as status
+
+-- the bytes pass a limit of the file: they are more than 64 MiB, or a message past the 50,000th has begun in them
+abbrev pub IsPast : List ℕ → Type 0
+IsPast bytes = (67108864 < length bytes) ⊎ ((n : ℕ) × (50000 < n) × HasBegun bytes n)
+
+-- the file is these messages, within its limits
+pub record IsMessageFile (file : List ℕ) (messages : List (List ℕ)) : Type 0 where
+  pub cut : IsCutInto file messages
+  pub short : length file ≤ 67108864
+  pub few : length messages ≤ 50000
+
+-- the bytes show no fault and pass no limit
+pub record IsPassed (bytes : List ℕ) : Type 0 where
+  pub sound : IsSound bytes
+  pub within : IsPast bytes → ⊥
+
+-- The file passes a limit at some byte, up to which nothing is wrong. That is told by how many bytes there are up to and
+-- with this one, and how many messages have begun in them.
+pub record IsTooLarge (file : List ℕ) (bytes messages : ℕ) : Type 0 where
+  pub passed : List ℕ
+  pub byte : ℕ
+  pub rest : List ℕ
+  pub file_is : file ≡ passed ++ byte ∷ rest
+  pub before : IsPassed passed
+  pub past : IsPast (passed ++ byte ∷ [])
+  pub bytes_are : bytes ≡ length passed + 1
+  pub begun : HaveBegun (passed ++ byte ∷ []) messages
+
+-- the place of a fault
+abbrev pub place_of : FrameFault → ℕ
+place_of (frame.Stray at) = at
+place_of (frame.TooLong at) = at
+place_of (frame.Unbalanced at) = at
+place_of frame.Memory = 0
+
+-- the bytes show a fault at this place and pass no limit
+pub record IsAtFault (bytes : List ℕ) (at : ℕ) : Type 0 where
+  pub messages : List (List ℕ)
+  pub fault : FrameFault
+  pub shown : Shows bytes messages fault
+  pub within : IsPast bytes → ⊥
+  pub at_is : at ≡ place_of fault
+
+-- the file can't be cut: some first bytes show a fault at this place and pass no limit
+pub record ShowsFault (file : List ℕ) (at : ℕ) : Type 0 where
+  pub front : List ℕ
+  pub rest : List ℕ
+  pub file_is : file ≡ front ++ rest
+  pub fault : IsAtFault front at
+
+-- or it ends within a group of the message at this place, and nothing else is wrong
+pub record EndsOpen (file : List ℕ) (at : ℕ) : Type 0 where
+  pub passed : IsPassed file
+  pub ends : EndsWithin file at
+
+abbrev pub IsUncut : List ℕ → ℕ → Type 0
+IsUncut file at = ShowsFault file at ⊎ EndsOpen file at
+
+-- how cutting a file stops
+abbrev pub StopsCutting : List ℕ → Status → Type 0
+StopsCutting file (status.TooLarge bytes messages) = IsTooLarge file bytes messages
+StopsCutting file (status.Framing at) = IsUncut file at
+StopsCutting file status.Memory = Unit {0}
+StopsCutting file _ = ⊥
