@@ -1,8 +1,9 @@
 //! Workers that enter pays into one history, as a machine that takes one event after another.
 
-ghost use Rattle.std.specs.Prelude.{◌≡◌, ◌≤◌, ◌↔◌, ℕ, Some, IfOk, OnOk, OnErr, IfSome, IsNone};
+ghost use Rattle.std.specs.Prelude.{◌≡◌, ◌≤◌, ◌↔◌, ◌&&◌, ℕ, Some, IfOk, OnOk, OnErr, IfSome, IsNone};
 ghost use Rattle.day_model.specs.Legal.{IsLegal};
-ghost use Rattle.day_model.specs.CoreStep.{step_of};
+ghost use Rattle.day_model.specs.Fit.{legs_fit};
+ghost use Rattle.day_model.specs.CoreStep.{is_idle, step_of, worker_at};
 ghost use Rattle.day_model.specs.CoreSound.{AllIdle, FaultFreezes, HasHeld, IsFirst, MayGoOn, RunsAreKept};
 
 use crate::account::AcctNo;
@@ -40,6 +41,12 @@ impl Model for Core {
     ghost invariant = { λ c. IsSound (record { ledger = c.ledger; workers = c.workers.items }) };
 }
 
+fn can_draw(ledger: &Ledger, workers: &[Option<Job>], worker: u32, pay: &Pay) -> bool
+    ensures { result ≡ (is_idle (worker_at workers.now worker) && legs_fit ledger.now.chart pay.now.legs) }
+{
+    idles(workers, worker) && ledger.accounts().fits(pay)
+}
+
 impl Core {
     /// The core of a history: its workers, numbered from 1, have no job.
     pub fn new(alloc: Global, a: Accounts, h: History, workers: u32) -> Result<Core, Memory>
@@ -57,7 +64,7 @@ impl Core {
     fn draw(&mut self, worker: u32, pay: Pay)
         ensures { self.new ≡ step_of self.old (Event.Draw worker pay) }
     {
-        if idles(&self.workers, worker) && self.ledger.accounts().fits(&pay) {
+        if can_draw(&self.ledger, &self.workers, worker, &pay) {
             put(&mut self.workers, worker, Some(Job::new(self.alloc, pay)));
         }
     }

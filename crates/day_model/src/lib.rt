@@ -9,6 +9,8 @@ mod core_job;
 mod core_ledger;
 mod core_machine;
 mod core_ready;
+#[cfg(test)]
+mod core_tests;
 mod entry;
 mod fault;
 mod fit;
