@@ -16,8 +16,6 @@ use Rattle.fin_parties.specs.declared.opening.Opening.TheVariants.{PartyLine, Ac
 use Rattle.fin_parties.specs.declared.party.Party.{Party}
 use Rattle.fin_parties.specs.declared.party.Party.TheVariants as party
 
--- ---- lines
-
 -- 34x: 1 to 34 of X
 abbrev pub is_account : List ℕ → Bool
 is_account account = is_run (is_in X) 34 account
@@ -70,8 +68,6 @@ are_numbered [] = false
 are_numbered (line ∷ lines) =
     nat_le (length (line ∷ lines)) 4 && (number_in line == 49) && list_all is_numbered (line ∷ lines) && rises (line ∷ lines)
 
--- ---- the first line
-
 -- what a first line is that begins with a slash
 abbrev pub opens : Opening → List ℕ → Bool
 opens PartyLine line = is_party_line line
@@ -89,8 +85,6 @@ parts_of opening (line ∷ lines) =
     if not (begins_with 47 line) then Some (record { first = None; rest = line ∷ lines })
     else if opens opening line then Some (record { first = Some line; rest = lines })
     else None
-
--- ---- the forms
 
 -- optional first line, then a BIC
 abbrev pub bic_party : Option (List ℕ) → List (List ℕ) → Option Party
@@ -124,8 +118,6 @@ payer_party (line ∷ lines) = if is_line line && are_numbered lines then Some (
 -- optional first line, then numbered lines
 abbrev pub payee_party : Option (List ℕ) → List (List ℕ) → Option Party
 payee_party first lines = if are_numbered lines then Some (party.F first lines) else None
-
--- ---- the grammar
 
 -- 52A to 58A; 50A, 59A
 abbrev pub form_a : ℕ → Option Form
