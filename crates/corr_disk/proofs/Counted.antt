@@ -1,5 +1,5 @@
 -- Calls of a disk are counted.
-use Rattle.std.proofs.Common.{◌≡◌, ℕ, ◌+◌, ◌-◌, ◌≤◌, Option, Some, None, refl, subst, sym, ◌∙◌, ap, arith}
+use Rattle.std.proofs.Common.{◌≡◌, ℕ, ◌+◌, ◌-◌, ◌≤◌, Option, Some, None, refl, subst, ◌∙◌, ap, arith}
 use Rattle.std.specs.Prelude.{Result}
 use Rattle.corr_disk.specs.Disk.{CountsDown}
 use Rattle.corr_disk.specs.Calls.{CallsMade, AtMostCalls}
