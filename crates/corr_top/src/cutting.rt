@@ -26,8 +26,9 @@ impl From<FrameFault> for Status {
 
     fn from(fault: FrameFault) -> Status {
         match fault {
-            FrameFault::Stray { at } | FrameFault::TooLong { at } | FrameFault::Unbalanced { at } =>
-                { Status::Framing { at } }
+            FrameFault::Stray { at } => Status::Framing { at },
+            FrameFault::TooLong { at } => Status::Framing { at },
+            FrameFault::Unbalanced { at } => Status::Framing { at },
             FrameFault::Memory => Status::Memory,
         }
     }

@@ -13,6 +13,8 @@ mod run;
 mod slices;
 mod status;
 mod tables;
+#[cfg(test)]
+mod tests;
 mod value;
 mod verdict;
 mod words;
