@@ -1,13 +1,13 @@
 -- The accounts of a table are the accounts of a book.
-use Rattle.std.proofs.Common.{◌≡◌, ℕ, zero, suc, ◌+◌, ◌<◌, ◌≤◌, ◌^◌, Bool, true, false, cond, List, [], ◌∷◌, ◌++◌, Option, Some, None, refl, sym, ap, ◌∙◌, subst, arith, length, map, eqb, leb}
-use Rattle.std.specs.Prelude.{◌&&◌, slice_get, ℤ, pos, negsuc, ◌≤ℤ◌, unsigned_abs, IsTrue}
+use Rattle.std.proofs.Common.{◌≡◌, ℕ, zero, suc, ◌<◌, ◌≤◌, ◌^◌, true, List, [], ◌∷◌, ◌++◌, Some, refl, sym, ap, ◌∙◌, subst, arith, length, map, eqb, leb}
+use Rattle.std.specs.Prelude.{◌&&◌, slice_get, ℤ, pos, negsuc, unsigned_abs}
 use Rattle.std.specs.List.{list_all}
 use Rattle.std.specs.Char.{is_ascii_uppercase}
 use Rattle.std.proofs.lemmas.Bool.{and_parts, leb-true}
 use Rattle.std.proofs.lemmas.Int.{ints}
 use Rattle.std.proofs.lemmas.Option.{same_Some, none-some}
 use Rattle.corr_text.specs.Sets.{is_c_byte}
-use Rattle.corr_ids.specs.Bic.{bic_of, branch_of, is_bic, IsBic}
+use Rattle.corr_ids.specs.Bic.{bic_of, is_bic, IsBic}
 use Rattle.corr_ids.specs.declared.bic.Bic.{Bic}
 use Rattle.corr_ids.proofs.Spelling.{some_if, bic-again}
 use Rattle.day_model.specs.declared.account.Account.{Account}

@@ -1,7 +1,6 @@
 -- The pay of a message fits the accounts.
-use Rattle.std.proofs.Common.{◌≡◌, ◌≢◌, ℕ, ◌<◌, Bool, true, false, List, [], ◌∷◌, Option, Some, None, refl, sym, ap, ◌∙◌, subst, arith, eqb, ltb, leb}
-use Rattle.std.specs.Prelude.{not, ◌&&◌, ◌==◌, nat_lt, length, IsTrue}
-use Rattle.std.specs.Str.{bytes_eq}
+use Rattle.std.proofs.Common.{◌≡◌, ◌≢◌, ℕ, ◌<◌, Bool, true, false, Option, Some, None, sym, ◌∙◌, subst, arith, eqb}
+use Rattle.std.specs.Prelude.{not, ◌&&◌}
 use Rattle.std.proofs.lemmas.Bool.{and_parts, eqb-true, false≢true}
 use Rattle.std.proofs.lemmas.Bool.Decides.{nat_tests}
 use Rattle.std.proofs.lemmas.Slice.Eq.{bytes_eq-Decides}
@@ -9,13 +8,12 @@ use Rattle.corr_money.specs.declared.amount.Amount.{Amount}
 use Rattle.corr_money.specs.declared.amount.Ccy.{Ccy}
 use Rattle.day_model.specs.declared.account.Account.{Account}
 use Rattle.day_model.specs.declared.account.AcctNo.{AcctNo}
-use Rattle.day_model.specs.declared.pay.Side.TheVariants.{Debit, Credit}
 use Rattle.day_model.specs.Chart.{Chart, IsListed, account_at, is_ccy, customer, vostro}
-use Rattle.day_model.specs.Fit.{is_listed, same_ccy, amounts_fit, accounts_fit, legs_fit, FitsAccounts}
+use Rattle.day_model.specs.Fit.{is_listed, same_ccy, amounts_fit, FitsAccounts}
 use Rattle.corr_top.specs.declared.value.Value.{Value}
 use Rattle.corr_top.specs.Interim.{Form}
 use Rattle.corr_top.specs.declared.verdict.Opened.{Opened}
-use Rattle.corr_top.specs.Message.{fits_vostro, fits_customer, leg_of, pay_of}
+use Rattle.corr_top.specs.Message.{fits_vostro, fits_customer, pay_of}
 
 all_of : (a b : Bool) → a ≡ true → b ≡ true → (a && b) ≡ true
 all_of true b x y = y

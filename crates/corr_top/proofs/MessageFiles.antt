@@ -1,19 +1,18 @@
 -- Message files: what their bytes show, and what a cutter that was fed them knows.
-use Rattle.std.proofs.Common.{◌≡◌, ℕ, zero, suc, ◌+◌, ◌-◌, ◌<◌, ◌≤◌, ◌⊎◌, inl, inr, List, [], ◌∷◌, ◌++◌, length, take, drop, Option, Some, None, Result, Ok, Err, refl, sym, ap, ◌∙◌, subst, arith, append_assoc, length-append}
+use Rattle.std.proofs.Common.{◌≡◌, ℕ, ◌+◌, ◌-◌, ◌<◌, ◌≤◌, ◌⊎◌, inl, inr, List, [], ◌∷◌, ◌++◌, length, take, drop, Some, None, Ok, refl, sym, ap, ◌∙◌, subst, arith, append_assoc, length-append}
 use Rattle.std.specs.Prelude.{All}
 use Rattle.std.proofs.lemmas.List.{append-nil, take-append-drop}
 use Rattle.std.proofs.lemmas.Bool.{cases_lt}
 use Rattle.std.proofs.lemmas.List.Elements.{All-append, All-cons}
 use Rattle.std.proofs.lemmas.Option.{none-some}
-use Rattle.fin_frame.specs.Cutting.{Ends, IsUnbalanced, IsWholeFile, Knows, WasFed, answer_of}
-use Rattle.fin_frame.specs.File.{IsCutInto, IsFileOf, IsMessage, lead}
+use Rattle.fin_frame.specs.Cutting.{Ends, Knows, WasFed}
+use Rattle.fin_frame.specs.File.{IsCutInto, IsFileOf, lead}
 use Rattle.fin_frame.specs.File.IsFileOf.{start as file_start, more as file_more}
 use Rattle.fin_frame.specs.Machine.{State, at_start, run}
-use Rattle.fin_frame.specs.Shown.{HasBegun, HaveBegun, IsSound, Shows}
+use Rattle.fin_frame.specs.Shown.{HasBegun}
 use Rattle.fin_frame.specs.Shown.HasBegun.{begun as has_begun}
 use Rattle.fin_frame.specs.declared.cutter.Cutter.{Cutter}
 use Rattle.fin_frame.specs.declared.fault.FrameFault.{FrameFault}
-use Rattle.fin_frame.specs.declared.fault.FrameFault.TheVariants as frame
 use Rattle.fin_frame.proofs.Led.{Rests, file-run, message-leads}
 use Rattle.fin_frame.proofs.Led.Rests.{rests_apart, rests_behind}
 use Rattle.fin_frame.proofs.Running.{run-append, run-failed}
@@ -21,8 +20,8 @@ use Rattle.fin_frame.proofs.Showing.{begun-comes, cut-comes, ends-come, shown-co
 use Rattle.fin_frame.proofs.Tracking.{begun-more}
 use Rattle.corr_top.specs.declared.status.Status.{Status}
 use Rattle.corr_top.specs.declared.status.Status.TheVariants as status
-use Rattle.corr_top.specs.Feeding.{HasPassed, StopsFeeding, StopsInPieces, status_of_frame}
-use Rattle.corr_top.specs.MessageFile.{EndsOpen, IsAtFault, IsMessageFile, IsPassed, IsPast, IsTooLarge, IsUncut, ShowsFault, StopsCutting}
+use Rattle.corr_top.specs.Feeding.{HasPassed, StopsFeeding, StopsInPieces}
+use Rattle.corr_top.specs.MessageFile.{IsMessageFile, IsPassed, IsPast, IsTooLarge, IsUncut, StopsCutting}
 
 -- ---- limits
 

@@ -1,8 +1,7 @@
 -- How a run ends, from how its steps end.
-use Rattle.std.proofs.Common.{◌≡◌, ℕ, List, [], ◌∷◌, Option, Some, None, refl, sym, ap, ◌∙◌, subst}
+use Rattle.std.proofs.Common.{◌≡◌, ℕ, List, [], ◌∷◌, Option, Some, refl, ap, ◌∙◌, subst}
 use Rattle.std.specs.Prelude.{slice_get}
 use Rattle.std.specs.Io.KnownBytes.{Appends}
-use Rattle.corr_text.specs.Faults.{Rose}
 use Rattle.corr_ids.specs.declared.day.Day.{Day}
 use Rattle.day_model.specs.Chart.{Chart}
 use Rattle.corr_report.specs.Report.{report_of}
@@ -11,7 +10,7 @@ use Rattle.corr_top.specs.declared.answers.Books.{Books}
 use Rattle.corr_top.specs.declared.status.Status.{Status}
 use Rattle.corr_top.specs.declared.status.Status.TheVariants as status
 use Rattle.corr_top.specs.Answers.{history_of, replies_of}
-use Rattle.corr_top.specs.Ends.{Ends, RunsAsOneThread, StopsAtWrite}
+use Rattle.corr_top.specs.Ends.{Ends}
 use Rattle.corr_top.specs.MessageFile.{IsMessageFile}
 use Rattle.corr_top.specs.Messages.{StopsAtMessages, report_over}
 use Rattle.corr_top.specs.Reading.{IsRead}

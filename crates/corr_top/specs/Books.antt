@@ -2,7 +2,6 @@
 use Rattle.std.specs.Prelude.{ℕ, ◌≤◌, ◌≡◌, List, [], ◌∷◌, length, None}
 use Rattle.corr_text.specs.Faults.{Rose}
 use Rattle.corr_ids.specs.declared.day.Day.{Day}
-use Rattle.day_model.specs.Chart.{Chart}
 use Rattle.day_model.specs.declared.fault.AccountsFault.{AccountsFault}
 use Rattle.day_model.specs.declared.fault.AccountsFault.TheVariants as accounts
 use Rattle.ref_tables.specs.declared.fault.TableFault.{TableFault}

@@ -1,5 +1,5 @@
 -- A message file, fed to a cutter piece by piece.
-use Rattle.std.specs.Prelude.{ℕ, ◌≡◌, List, ◌++◌, length, None}
+use Rattle.std.specs.Prelude.{ℕ, ◌≡◌, List, length, None}
 use Rattle.fin_frame.specs.Cutting.{WasFed}
 use Rattle.fin_frame.specs.Shown.{HaveBegun}
 use Rattle.fin_frame.specs.declared.cutter.Cutter.{Cutter}

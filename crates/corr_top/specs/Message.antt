@@ -1,10 +1,9 @@
 -- What a message asks for: a pay between two accounts, or a refusal.
-use Rattle.std.specs.Prelude.{◌≡◌, ℕ, ◌==◌, ◌&&◌, Bool, false, List, [], ◌∷◌, length, map, codes, Option, Some, None, option_and_then, Result, Ok, Err, if◌then◌else◌}
+use Rattle.std.specs.Prelude.{ℕ, ◌==◌, ◌&&◌, Bool, false, List, [], ◌∷◌, map, codes, Option, Some, None, option_and_then, Result, Ok, Err, if◌then◌else◌}
 use Rattle.std.specs.List.{filter_map}
 use Rattle.std.specs.Result.{result_ok}
 use Rattle.corr_text.specs.First.{or_fault, ◌>>=◌}
 use Rattle.corr_text.specs.declared.fault.Code.{Code}
-use Rattle.corr_text.specs.declared.fault.Fault.{Fault}
 use Rattle.corr_ids.specs.Mir.{sender_of}
 use Rattle.corr_ids.specs.declared.mir.Mir.{Mir}
 use Rattle.corr_money.specs.declared.amount.Amount.{Amount}

@@ -1,5 +1,5 @@
 -- A run: what was read of the files, what they say, and how it ended.
-use Rattle.std.specs.Prelude.{ℕ, ◌≡◌, ◌+◌, ◌≤◌, ◌<◌, List, [], ◌∷◌, length, map, slice_get, codes, Option, Some, None, unwrap_or, ℤ, pos}
+use Rattle.std.specs.Prelude.{ℕ, ◌≡◌, List, [], ◌∷◌, length, map, slice_get, codes, Option, Some, None, unwrap_or, ℤ, pos}
 use Rattle.std.specs.Option.{option_or}
 use Rattle.corr_text.specs.Faults.{Rose}
 use Rattle.corr_ids.specs.declared.bic.Bic.{Bic}
@@ -25,7 +25,6 @@ use Rattle.corr_top.specs.Answers.{history_of, replies_of}
 use Rattle.corr_top.specs.MessageFile.{IsMessageFile, StopsCutting}
 use Rattle.corr_top.specs.Reading.{IsRead}
 use Rattle.corr_top.specs.Told.{Told}
-use Rattle.corr_top.specs.Writing.{AppendsPrefix}
 
 -- the bytes that were read of the n-th file, from 0; a file that was not reached has none
 abbrev pub file_at : ℕ → List (List ℕ) → List ℕ

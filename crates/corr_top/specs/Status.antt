@@ -1,5 +1,5 @@
 -- Statuses, as numbers and as lines.
-use Rattle.std.specs.Prelude.{ℕ, ◌≤◌, List, ◌∷◌, ◌++◌, codes}
+use Rattle.std.specs.Prelude.{ℕ, ◌≤◌, List, ◌++◌, codes}
 use Rattle.corr_text.specs.Digits.{padded}
 use Rattle.corr_money.specs.Amounts.{signed_text}
 use Rattle.ref_tables.specs.declared.fault.TableName.{TableName}

@@ -1,24 +1,18 @@
 -- Field 32A: a value date, a currency and an amount.
-use Rattle.std.specs.Prelude.{ℕ, ◌==◌, ◌&&◌, Bool, not, List, [], ◌∷◌, length, take, drop, nat_lt, nat_le, Result, Ok, Err, codes}
+use Rattle.std.specs.Prelude.{ℕ, ◌&&◌, Bool, not, List, [], ◌∷◌, length, take, drop, nat_lt, nat_le, Result, Ok, Err, codes}
 use Rattle.std.specs.List.{list_all, list_any}
 use Rattle.std.specs.Str.{bytes_eq}
 use Rattle.std.specs.Char.{is_ascii_digit, is_ascii_uppercase}
 use Rattle.corr_text.specs.First.{check, or_fault, ◌>>=◌}
 use Rattle.corr_text.specs.declared.fault.Code.{Code}
 use Rattle.corr_ids.specs.Day.{day_of}
-use Rattle.corr_ids.specs.declared.day.Day.{Day}
 use Rattle.corr_money.specs.Amounts.{amount_of}
-use Rattle.corr_money.specs.declared.amount.Amount.{Amount}
-use Rattle.corr_money.specs.declared.amount.Minor.{Minor}
 use Rattle.corr_money.specs.declared.fault.AmountFault.{AmountFault}
 use Rattle.corr_money.specs.declared.fault.AmountFault.TheVariants as amount
+use Rattle.fin_blocks.specs.Forms.{part}
 use Rattle.ref_tables.specs.Seen.{Tables, decimals_in}
 use Rattle.corr_top.specs.declared.value.Value.{Value}
 use Rattle.corr_top.specs.declared.value.TheConstants.{P24, P26, P27, T40, T43, T50, T52, C03, C08}
-
--- n bytes from place i on
-abbrev pub part : ℕ → ℕ → List ℕ → List ℕ
-part i n bs = take n (drop i bs)
 
 -- six digits, three capital letters, at least one byte
 abbrev pub has_shape : List ℕ → Bool

@@ -1,5 +1,5 @@
 -- The first tests of a message, in their order: its blocks, where it comes from and what it is, its lines and characters.
-use Rattle.std.specs.Prelude.{ℕ, ◌==◌, ◌&&◌, ◌||◌, not, Bool, true, false, List, [], ◌∷◌, codes, Option, Some, None, is_none, option_map, option_and_then, Result, Ok, Err, position, slice_get, if◌then◌else◌}
+use Rattle.std.specs.Prelude.{ℕ, ◌==◌, ◌||◌, not, Bool, true, false, List, [], ◌∷◌, codes, Option, Some, None, is_none, option_map, option_and_then, Result, Ok, Err, position, slice_get, if◌then◌else◌}
 use Rattle.std.specs.List.{list_any}
 use Rattle.std.specs.Option.{option_map_or}
 use Rattle.std.specs.Str.{bytes_eq}
@@ -23,7 +23,7 @@ use Rattle.fin_fields.specs.declared.fault.FieldFault.{FieldFault}
 use Rattle.fin_fields.specs.declared.fault.FieldFault.TheVariants as field
 use Rattle.ref_tables.specs.Seen.{Tables, has_head}
 use Rattle.corr_top.specs.declared.verdict.Opened.{Opened}
-use Rattle.corr_top.specs.declared.verdict.TheConstants.{P01, P02, P03, P04, P05, P07, P08, P09, P10, P11, P12, P13, P20, P21}
+use Rattle.corr_top.specs.declared.verdict.TheConstants.{P01, P07, P08, P09, P10, P11, P12, P13, P20, P21}
 
 -- why a message gives no pay: its reference where that is told, and the fault
 abbrev pub Refused : Type 0

@@ -1,14 +1,6 @@
-//! The two parts of a text at a place.
+//! What stands behind a place of a text.
 
-ghost use Rattle.std.specs.Prelude.{◌≡◌, ◌≤◌, drop, length, take};
-
-/// The first `count` bytes.
-pub fn front(text: &[u8], count: usize) -> &[u8]
-    requires { count ≤ length text.now }
-    ensures { result.now ≡ take count text.now }
-{
-    &text[..count]
-}
+ghost use Rattle.std.specs.Prelude.{◌≡◌, ◌≤◌, drop, length};
 
 /// What stands behind the first `count` bytes.
 pub fn behind(text: &[u8], count: usize) -> &[u8]

@@ -4,7 +4,8 @@ ghost use Rattle.std.specs.Prelude.{◌≡◌, ◌≤◌, ◌<◌, IfOk, IsTrue,
 ghost use Rattle.std.specs.List.{list_all};
 ghost use Rattle.std.specs.Char.{is_ascii_digit, is_ascii_uppercase};
 ghost use Rattle.corr_money.specs.Amounts.{amount_of};
-ghost use Rattle.corr_top.specs.Value.{code_of, coded, has_shape, is_metal, part, value_of};
+ghost use Rattle.fin_blocks.specs.Forms.{part};
+ghost use Rattle.corr_top.specs.Value.{code_of, coded, has_shape, is_metal, value_of};
 
 use corr_ids::{Day, day_from_yymmdd};
 use corr_money::{Amount, AmountFault, Ccy, Minor, read_15d};

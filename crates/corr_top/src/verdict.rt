@@ -251,7 +251,7 @@ fn read_fields(alloc: Global, mir: Mir, text: &[u8]) -> Result<List<Field>, Refu
 }
 
 /// The parts of a message of at most 16,384 bytes that the bank with this head received, or its first fault
-/// (docs/messages.md, "The first tests").
+/// (docs/messages.md, "The first tests of a message").
 #[tactic(auto, unfolding(crate::specs::Verdict::opened_of))]
 pub fn open_message(
     alloc: Global,

@@ -1,4 +1,4 @@
-use Rattle.std.proofs.Common.{◌≡◌, ◌∙◌, ◌+◌, ◌≤◌, ◌∷◌, [], refl, sym, ap, subst, List, ℕ, length, drop, arith}
+use Rattle.std.proofs.Common.{◌≡◌, ◌+◌, ◌∷◌, refl, subst, List, ℕ, drop, arith}
 use Rattle.std.proofs.lemmas.Option.{slice_get_read}
 use Rattle.corr_top.specs.Message.{readings_of}
 use Rattle.corr_top.specs.Turn.{Turned}

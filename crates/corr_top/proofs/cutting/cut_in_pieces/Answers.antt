@@ -1,8 +1,8 @@
-use Rattle.std.proofs.Common.{◌≡◌, ◌+◌, ◌-◌, ◌<◌, ◌++◌, [], ℕ, List, length, ap, arith, refl, sym, subst, ◌∙◌, length-append, take, drop, append_assoc}
-use Rattle.std.proofs.lemmas.List.{append-nil, take-append-drop}
+use Rattle.std.proofs.Common.{◌≡◌, ◌<◌, ◌++◌, [], ℕ, List, length, ap, arith, refl, sym, subst, ◌∙◌, take, append_assoc}
+use Rattle.std.proofs.lemmas.List.{take-append-drop}
 use Rattle.std.proofs.lemmas.Grind.{common_steps}
 use Rattle.std.proofs.lemmas.Result.{err_from_is_err_and}
-use Rattle.corr_top.specs.Feeding.{HasPassed, StopsFeeding}
+use Rattle.corr_top.specs.Feeding.{StopsFeeding}
 use Rattle.corr_top.specs.MessageFile.{IsMessageFile}
 use Rattle.corr_top.proofs.MessageFiles.{counted, cut-at-end, starts, stops-here}
 use Rattle.corr_top.proofs.cutting.cut_in_pieces.Goals as goal

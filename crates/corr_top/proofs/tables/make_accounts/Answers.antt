@@ -1,4 +1,4 @@
-use Rattle.std.proofs.Common.{sym, subst, map}
+use Rattle.std.proofs.Common.{sym, subst}
 use Rattle.std.proofs.lemmas.List.{length-map}
 use Rattle.day_model.specs.Chart.{AreRows}
 use Rattle.std.specs.Prelude.{IfErr}

@@ -1,4 +1,4 @@
-use Rattle.std.proofs.Common.{[], ◌∷◌, refl, sym, subst, List, ℕ}
+use Rattle.std.proofs.Common.{[], ◌∷◌, refl, sym, subst}
 use Rattle.std.proofs.lemmas.Result.{err_from_is_err_and}
 use Rattle.corr_top.specs.Reading.{IsRead}
 use Rattle.corr_top.proofs.Opening.{nothing_fine, stop_at, table_stop, tables_fine}
