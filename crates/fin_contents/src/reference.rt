@@ -22,7 +22,9 @@ pub struct Reference;
 fn are_slashes(b: &[u8], next: &[u8]) -> bool
     ensures { result ≡ list_any (λ p. (p.0 == 47) && (p.1 == 47)) (zip b.now next.now) }
 {
-    b.iter().zip(next.iter()).any(|(c, d)| *c == b'/' && *d == b'/')
+    b.iter()
+        .zip(next.iter())
+        .any(|(c, d)| *c == b'/' && *d == b'/')
 }
 
 fn has_double_slash(line: &[u8]) -> bool
