@@ -113,12 +113,13 @@ fn texts_are_copied_behind_others(rt: HostRuntime) -> Result<(), Fail> {
         Text::from_bytes(rt.alloc(), b"BC")?,
     ];
     let mut copies = copy_texts(rt.alloc(), &texts)?;
-    push_texts(rt.alloc(), &texts[1..], &mut copies)?;
+    push_texts(rt.alloc(), &texts, &mut copies)?;
     let copies = copies.as_slice();
-    assert_eq!(rt; copies.len(), 3);
+    assert_eq!(rt; copies.len(), 4);
     assert_eq!(rt; copies[0].bytes(), b"A".as_slice());
     assert_eq!(rt; copies[1].bytes(), b"BC".as_slice());
-    assert_eq!(rt; copies[2].bytes(), b"BC".as_slice());
+    assert_eq!(rt; copies[2].bytes(), b"A".as_slice());
+    assert_eq!(rt; copies[3].bytes(), b"BC".as_slice());
     Ok(())
 }
 
