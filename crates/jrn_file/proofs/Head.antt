@@ -3,7 +3,7 @@ use Rattle.std.proofs.Common.{◌≡◌, ◌≢◌, inl, inr, ℕ, ◌^◌, ◌<
 use Rattle.std.proofs.lemmas.List.{append-nil}
 use Rattle.std.proofs.lemmas.Bool.{cases_eq}
 use Rattle.corr_disk.specs.Disk.{written, Torn, Follows, Only}
-use Rattle.jrn_file.specs.Journal.{sized, frame_of, record_in, IsFrame, StandsFor}
+use Rattle.jrn_file.specs.Journal.{sized, frame_of, record_in, IsFrame, IsWritten, StandsFor}
 use Rattle.jrn_file.specs.Making.{IsUnmade, IsUnmadeOrMade, IsEntering}
 use Rattle.jrn_file.proofs.Bytes.{written-behind, written-gate, torn-behind, torn-gate}
 
@@ -58,8 +58,18 @@ module _ (bytes : List ℕ) (closed : take 1 bytes ≡ 0 ∷ []) (frame : List �
         | inr open_gate ↦ inr (stands-first (get_or c 0 0) (record_in frame) rest c open_gate framed.fits is)
       ]
 
+  opened : (c : List ℕ) → c ≡ written 0 (1 ∷ []) (written 1 frame bytes) → c ≡ 1 ∷ (frame_of (record_in frame) ++ drop (length frame) (drop 1 bytes))
+  opened c is =
+      is
+      ∙ ap (λ (b : List ℕ). written 0 (1 ∷ []) b) between
+      ∙ written-gate [] 0 refl 0 1 (frame_of (record_in frame) ++ drop (length frame) (drop 1 bytes))
+
   pub entered-head : (c : List ℕ) → c ≡ written 0 (1 ∷ []) (written 1 frame bytes) → StandsFor c (record_in frame) []
-  entered-head c is =
-      let rest = drop (length frame) (drop 1 bytes) in
-      stands-first 1 (record_in frame) rest c (omega arith) framed.fits
-      (is ∙ ap (λ (b : List ℕ). written 0 (1 ∷ []) b) between ∙ written-gate [] 0 refl 0 1 (frame_of (record_in frame) ++ rest))
+  entered-head c is = stands-first 1 (record_in frame) (drop (length frame) (drop 1 bytes)) c (omega arith) framed.fits (opened c is)
+
+  pub written-head : (c : List ℕ) → c ≡ written 0 (1 ∷ []) (written 1 frame bytes) → IsWritten c (record_in frame) []
+  written-head c is = record {
+    rest = drop (length frame) (drop 1 bytes);
+    is = opened c is
+        ∙ ap (λ (l : List ℕ). 1 ∷ ((l ++ 0 ∷ []) ++ drop (length frame) (drop 1 bytes))) (sym (append-nil (sized (record_in frame))));
+  }

@@ -2,7 +2,7 @@
 
 ghost use Rattle.std.specs.Prelude.{◌≡◌, ◌+◌, ◌^◌, ◌<◌, ◌≤◌, ◌↔◌, ◌∷◌, [], ◌++◌, ℕ, List, length, IsTrue, OnOk, IfErr, IsErrOf};
 ghost use Rattle.corr_disk.specs.Calls.{CallsMade, AtMostCalls};
-ghost use Rattle.corr_disk.specs.Disk.{LeavesOnly};
+ghost use Rattle.corr_disk.specs.Disk.{written, LeavesOnly};
 ghost use Rattle.jrn_file.specs.Journal.{IsFrame, record_in, IsBeforeOrAfter};
 ghost use Rattle.jrn_file.specs.File.{disk_of, end_of, IsSettled, IsOpen};
 ghost use Rattle.jrn_file.specs.Faults.{AppendCause};
@@ -42,6 +42,9 @@ impl<D: Disk> JFile<D> {
 
         ensures ok { OnOk result ((head : List ℕ) (records : List (List ℕ)) → IsSettled D.honest D.reads D.may_leave self.old head records
             → IsSettled D.honest D.reads D.may_leave self.new head (records ++ record_in frame.now ∷ [])) }
+
+        // The record stands behind the gate that was closed, which is 1 now.
+        ensures bytes { IsTrue (D.honest (disk_of self.old)) → OnOk result (D.reads (disk_of self.new) ≡ written (end_of self.old) (1 ∷ []) (written (end_of self.old + 1) frame.now (D.reads (disk_of self.old)))) }
 
         // A crash at any moment of the call leaves the records from before it, with the new one or without.
         ensures any_moment { (head : List ℕ) (records : List (List ℕ)) → IsSettled D.honest D.reads D.may_leave self.old head records

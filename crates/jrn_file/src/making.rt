@@ -5,7 +5,7 @@ ghost use Rattle.corr_disk.specs.Calls.{CallsMade, AtMostCalls};
 ghost use Rattle.corr_disk.specs.Disk.{Only, LeavesOnly};
 ghost use Rattle.corr_text.specs.Faults.{HasCause};
 ghost use Rattle.jrn_file.specs.Faults.{MakeCause, IsRefusal};
-ghost use Rattle.jrn_file.specs.Journal.{StandsFor, IsFrame, record_in};
+ghost use Rattle.jrn_file.specs.Journal.{StandsFor, IsFrame, IsWritten, record_in};
 ghost use Rattle.jrn_file.specs.Making.{IsOther, IsUnmade, IsUnmadeOrMade, IsFront, calls_to_look, calls_to_make};
 ghost use Rattle.jrn_file.specs.Untouched.{IsUntouched};
 
@@ -37,6 +37,7 @@ pub fn create<D: Disk>(alloc: Global, disk: D, head: &[u8]) -> Result<D, (D, Mak
     requires { length head.now ≤ 1048576 }
 
     ensures made { IsTrue (D.honest disk) → IfOk result (λ made. StandsFor (D.reads made) head.now []) }
+    ensures bytes { IsTrue (D.honest disk) → IfOk result (λ made. IsWritten (D.reads made) head.now []) }
     ensures durable { IsTrue (D.honest disk) → IfOk result (λ made. Only (D.reads made) (D.may_leave made)) }
 
     // Exists exactly where something else stands there, and then nothing is written, whatever the answer.
@@ -84,6 +85,7 @@ fn make<D: Disk>(disk: &mut D, frame: &[u8]) -> Result<Option<u8>, Failed>
     ensures honest { D.honest disk.new ≡ D.honest disk.old }
     ensures cause { HasCause (D.faults disk.old) (D.faults disk.new) result }
     ensures made { IsTrue (D.honest disk.old) → IfOk result (λ other. IfNone other (StandsFor (D.reads disk.new) (record_in frame.now) [])) }
+    ensures bytes { IsTrue (D.honest disk.old) → IfOk result (λ other. IfNone other (IsWritten (D.reads disk.new) (record_in frame.now) [])) }
     ensures durable { IsTrue (D.honest disk.old) → IfOk result (λ other. IfNone other (Only (D.reads disk.new) (D.may_leave disk.new))) }
     ensures other { IsTrue (D.honest disk.old) → IfOk result (λ other. IfSome other (IsOther (D.reads disk.old))) }
     ensures exists { (first : ℕ) → IsTrue (D.honest disk.old) → IsOther (D.reads disk.old) first → IfOk result (λ other. other ≡ Some first) }
@@ -151,6 +153,7 @@ fn enter_head<D: Disk>(disk: &mut D, frame: &[u8]) -> Result<(), Failed>
     ensures honest { D.honest disk.new ≡ D.honest disk.old }
     ensures cause { HasCause (D.faults disk.old) (D.faults disk.new) result }
     ensures made { IsTrue (D.honest disk.old) → OnOk result (StandsFor (D.reads disk.new) (record_in frame.now) []) }
+    ensures bytes { IsTrue (D.honest disk.old) → OnOk result (IsWritten (D.reads disk.new) (record_in frame.now) []) }
     ensures durable { OnOk result (Only (D.reads disk.new) (D.may_leave disk.new)) }
     ensures any_moment { IsTrue (D.honest disk.old) → Only (D.reads disk.old) (D.may_leave disk.old)
         → LeavesOnly D.moment D.left_since disk.old disk.new (IsUnmadeOrMade (record_in frame.now)) }
