@@ -69,7 +69,8 @@ pub trait Disk {
         ensures sure { IsTrue (is_sure self.old) → IsRunning (calls_left self.old) → IsOk result }
         ensures stays_sure { is_sure self.new ≡ is_sure self.old };
 
-    /// Writes all of `bytes` from place `at` on, over what is there and past the end.
+    /// Writes all of `bytes` from place `at` on, over what is there and past the end. `at` is the length at most, and the
+    /// bytes end at 2^30 at most.
     ///
     /// `Failed` comes only where the count of faults rose. A read of this range then gives any bytes.
     fn write_at(&mut self, at: u64, bytes: &[u8]) -> Result<(), Failed>

@@ -48,7 +48,7 @@ fn can_draw(ledger: &Ledger, workers: &[Option<Job>], worker: u32, pay: &Pay) ->
 }
 
 impl Core {
-    /// The core of a history: its workers, numbered from 1, have no job.
+    /// The core of a history that is legal for the accounts: its workers, numbered from 1, have no job.
     pub fn new(alloc: Global, a: Accounts, h: History, workers: u32) -> Result<Core, Memory>
         requires { IsLegal a h.entries }
         ensures first { IfOk result (IsFirst a h.entries workers) }
@@ -155,7 +155,7 @@ impl Core {
         self.ledger.history()
     }
 
-    /// The worker that holds this account.
+    /// The number of the worker that holds this account; none exactly where nobody does.
     pub fn holder(&self, n: AcctNo) -> Option<u32>
         ensures holds { IfSome result (λ worker. HasHeld self.now.workers worker n.0) }
         ensures only { (worker : ℕ) → HasHeld self.now.workers worker n.0 → result ≡ Some worker }
