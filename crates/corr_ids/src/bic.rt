@@ -59,7 +59,8 @@ pub fn read_bic(b: &[u8]) -> Option<Bic>
     })
 }
 
-fn with_branch(b: &Bic) -> [u8; 11]
+/// The 11 characters of a BIC, its branch too where that is `XXX`.
+pub fn with_branch(b: &Bic) -> [u8; 11]
     ensures { result ≡ b.now.head ++ b.now.branch }
 {
     let mut full = [0; 11];

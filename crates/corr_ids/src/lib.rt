@@ -14,7 +14,7 @@ mod tests;
 mod uetr;
 
 pub use address::{LtAddress, read_lt};
-pub use bic::{Bic, put_bic, read_bic};
+pub use bic::{Bic, put_bic, read_bic, with_branch};
 pub use day::{Day, day_from_yymmdd, day_of_year, put_yymmdd};
 pub use envelope::Envelope;
 pub use mir::{Mir, read_mir};

@@ -8,6 +8,8 @@ mod metal;
 mod party;
 mod rate;
 mod reference;
+#[cfg(test)]
+mod tests;
 mod texts;
 mod time;
 mod value;

@@ -16,6 +16,7 @@ mod tests;
 
 pub use account::AccountRow;
 pub use accounts::read_accounts;
-pub use fault::{TableFault, TableName, Why};
+pub use columns::{ccy, is_account_id};
+pub use fault::{TableFault, TableName, Why, bad};
 pub use rows::{cell, read_rows};
 pub use tables::{RefTables, read_tables};

@@ -1,0 +1,181 @@
+//! Contents as messages hold them.
+
+use crate::{
+    C03, C08, CcyAmount, KnownParty, P25, P26, P27, Rate, Reference, T26, T40, T43, T50, T52,
+    Texts, Time, Value, ValueDate,
+};
+use corr_ids::Day;
+use corr_money::{Amount, Ccy, Minor};
+use corr_text::{Code, List, Memory, Text};
+use fin_fields::Field;
+use fin_layout::{Content, P24, refusal};
+use ref_tables::{RefTables, TableFault, read_tables};
+use std::alloc::Global;
+use std::test::Fail;
+
+const BICS: &[u8] = b"HOMEUS33\nALPHDEFF\n";
+
+const CCYS: &[u8] = b"EUR,2\nJPY,0\n";
+
+fn tables(alloc: Global) -> Result<RefTables, TableFault> {
+    read_tables(alloc, BICS, CCYS, b"DE,Y\n")
+}
+
+fn field(alloc: Global, tag: u8, letter: Option<u8>, line: &[u8]) -> Result<Field, Memory> {
+    let mut lines = List::new(alloc);
+    lines.push(Text::from_bytes(alloc, line)?)?;
+    Ok(Field { tag, letter, lines })
+}
+
+#[test]
+fn references_have_no_stray_slash(rt: HostRuntime) -> Result<(), Fail> {
+    let rows: [(&[u8], Option<Code>); 10] = [
+        (b"REF1", None),
+        (b"A/B", None),
+        (b"ABCDEFGHIJKLMNOP", None),
+        (b"ABCDEFGHIJKLMNOPQ", Some(P24)),
+        (b"", Some(P24)),
+        (b"A*B", Some(P24)),
+        (b"/REF", Some(T26)),
+        (b"REF/", Some(T26)),
+        (b"A//B", Some(T26)),
+        (b"/", Some(T26)),
+    ];
+    for (line, want) in rows {
+        let f = field(rt.alloc(), 20, None, line)?;
+        assert_eq!(rt; refusal(rt.alloc(), &Reference, &f)?, want);
+    }
+    Ok(())
+}
+
+#[test]
+fn times_have_their_form(rt: HostRuntime) -> Result<(), Fail> {
+    let rows: [(&[u8], Option<Code>); 9] = [
+        (b"/CLSTIME/0915+0100", None),
+        (b"/A/1249-0500", None),
+        (b"CLSTIME/0915+0100", Some(P24)),
+        (b"/CLSTIME/0915", Some(P24)),
+        (b"/CLSTIME/0915 0100", Some(P24)),
+        (b"/CLSTIME/0915+01000", Some(P24)),
+        (b"/CLSTIME99/0915+0100", Some(P24)),
+        (b"/clstime/0915+0100", Some(P24)),
+        (b"/", Some(P24)),
+    ];
+    for (line, want) in rows {
+        let f = field(rt.alloc(), 13, Some(b'C'), line)?;
+        assert_eq!(rt; refusal(rt.alloc(), &Time, &f)?, want);
+    }
+    Ok(())
+}
+
+#[test]
+fn values_are_tested_in_order(rt: HostRuntime) -> Result<(), Fail> {
+    let tables = tables(rt.alloc())?;
+    let rows: [(&[u8], Option<Code>); 15] = [
+        (b"240603EUR1234,5", None),
+        (b"240603EUR", Some(P24)),
+        (b"24063EUR1,", Some(P24)),
+        (b"240603EuR1,", Some(P24)),
+        (b"240230XAU1", Some(T50)),
+        (b"240603XAU1", Some(C08)),
+        (b"240603XPT1,", Some(C08)),
+        (b"240603CHF1", Some(T52)),
+        (b"240603EUR1", Some(T40)),
+        (b"240603EUR1234567890123,45", Some(T43)),
+        (b"240603EUR1,234", Some(C03)),
+        (b"240603JPY1,0", Some(C03)),
+        (b"240603EUR1000000000000,0", Some(P27)),
+        (b"240603EUR0,00", Some(P26)),
+        (b"240603JPY1,", None),
+    ];
+    for (line, want) in rows {
+        let f = field(rt.alloc(), 32, Some(b'A'), line)?;
+        assert_eq!(rt;
+            refusal(rt.alloc(), &ValueDate { tables: &tables }, &f)?,
+            want
+        );
+    }
+    let f = field(rt.alloc(), 32, Some(b'A'), b"240603EUR1234,5")?;
+    let value = Value {
+        day: Day(19877),
+        amount: Amount {
+            ccy: Ccy(*b"EUR"),
+            minor: Minor(123450),
+            decimals: 2,
+        },
+    };
+    match (ValueDate { tables: &tables }).read(rt.alloc(), &f) {
+        Ok(got) => assert_eq!(rt; got, value),
+        Err(_) => assert!(rt; false, "a value"),
+    }
+    Ok(())
+}
+
+#[test]
+fn other_amounts_may_be_zero(rt: HostRuntime) -> Result<(), Fail> {
+    let tables = tables(rt.alloc())?;
+    let amounts: [(&[u8], Option<Code>); 6] = [
+        (b"EUR0,", None),
+        (b"EUR12,34", None),
+        (b"EUR", Some(P24)),
+        (b"eur1,", Some(P24)),
+        (b"XAU1,", Some(T52)),
+        (b"EUR1,,", Some(T40)),
+    ];
+    for (line, want) in amounts {
+        let f = field(rt.alloc(), 33, Some(b'B'), line)?;
+        assert_eq!(rt;
+            refusal(rt.alloc(), &CcyAmount { tables: &tables }, &f)?,
+            want
+        );
+    }
+    let rates: [(&[u8], Option<Code>); 8] = [
+        (b"0,", None),
+        (b"1234567890,1", None),
+        (b"", Some(P24)),
+        (b"1*", Some(P24)),
+        (b"1", Some(T40)),
+        (b",5", Some(T40)),
+        (b"1234567890,12", Some(T43)),
+        (b"12345678901234", Some(T40)),
+    ];
+    for (line, want) in rates {
+        let f = field(rt.alloc(), 36, None, line)?;
+        assert_eq!(rt; refusal(rt.alloc(), &Rate, &f)?, want);
+    }
+    Ok(())
+}
+
+#[test]
+fn parties_are_known(rt: HostRuntime) -> Result<(), Fail> {
+    let tables = tables(rt.alloc())?;
+    let rows: [(Option<u8>, &[u8], Option<Code>); 5] = [
+        (Some(b'A'), b"ALPHDEFF", None),
+        (Some(b'A'), b"ALPHDEFF500", None),
+        (Some(b'A'), b"GAMMGB2L", Some(P25)),
+        (Some(b'A'), b"ALPH", Some(P24)),
+        (Some(b'D'), b"A BANK", None),
+    ];
+    for (letter, line, want) in rows {
+        let f = field(rt.alloc(), 52, letter, line)?;
+        assert_eq!(rt;
+            refusal(rt.alloc(), &KnownParty { tables: &tables }, &f)?,
+            want
+        );
+    }
+    Ok(())
+}
+
+#[test]
+fn texts_have_so_many_lines(rt: HostRuntime) -> Result<(), Fail> {
+    let mut f = field(rt.alloc(), 70, None, b"A")?;
+    assert_eq!(rt; refusal(rt.alloc(), &Texts { most: 2 }, &f)?, None);
+    f.lines.push(Text::from_bytes(rt.alloc(), b"B")?)?;
+    assert_eq!(rt; refusal(rt.alloc(), &Texts { most: 2 }, &f)?, None);
+    assert_eq!(rt; refusal(rt.alloc(), &Texts { most: 1 }, &f)?, Some(P24));
+    match (Texts { most: 2 }).read(rt.alloc(), &f) {
+        Ok(lines) => assert_eq!(rt; lines.as_slice().len(), 2),
+        Err(_) => assert!(rt; false, "two lines"),
+    }
+    Ok(())
+}
