@@ -1,0 +1,16 @@
+//! MT202 COV, the cover of a customer transfer: its fields in their order, what they say, and what is wrong with them.
+#![tactic(auto)]
+
+mod codes;
+mod message;
+mod order;
+mod reading;
+mod rules;
+#[cfg(test)]
+mod tests;
+mod verdict;
+
+pub use codes::{C68, C81};
+pub use message::Mt202Cov;
+pub use order::ORDER;
+pub use verdict::read_mt202cov;
