@@ -16,7 +16,7 @@ use Rattle.mt202cov.specs.Message.{content_test, contents_of, mt202cov_of}
 use Rattle.mt202cov.specs.Rules.{all_rules}
 use Rattle.mt202cov.specs.declared.message.Mt202Cov.{Mt202Cov}
 use Rattle.mt202cov.specs.declared.order.TheConstants.{ORDER}
-use Rattle.mt202cov.proofs.Refused.{refused}
+use Rattle.mt202cov.proofs.Refused.{contents-refused}
 
 abbrev finished : Mt202Cov → Result Mt202Cov Fault
 finished m = passed (all_rules m) >>= λ _. Ok m
@@ -33,7 +33,7 @@ module _ (t : Tables) (fs : List Field) where
   unfolding mt202cov_of
   in-contents sound =
       in-turn ORDER (content_test t) fs (behind_structure t fs (places_from ORDER 0 fs)) sound
-      (λ fault l. fails-before (contents_of t fs (places_from ORDER 0 fs)) finished fault (refused t fs fault l))
+      (λ fault l. fails-before (contents_of t fs (places_from ORDER 0 fs)) finished fault (contents-refused l))
 
   module _ (found : List ℕ) (placed : found ≡ places_from ORDER 0 fs) (sound : first_of (structure_tests ORDER fs) ≡ None) where
     from-contents : mt202cov_of t fs ≡ behind_structure t fs found

@@ -1,11 +1,18 @@
 //! MT202 COV, the cover of a customer transfer: its fields in their order, what they say, and what is wrong with them.
 #![tactic(auto)]
 
+mod banks;
 mod codes;
+mod customers;
+mod details;
+mod lines;
 mod message;
 mod order;
 mod reading;
 mod rules;
+mod sequences;
+mod steps;
+mod terms;
 #[cfg(test)]
 mod tests;
 mod verdict;
