@@ -16,12 +16,15 @@ use std::alloc::Global;
 fn message(terms: Terms, parties: Parties, details: Details) -> Mt103
     ensures { result ≡ message_of terms parties details }
 {
+    let op = terms.op;
+    let kind = terms.kind;
+    let charge = details.charge;
     Mt103 {
         reference: terms.reference,
         times: terms.times,
-        op: terms.op,
+        op,
         instrs: terms.instrs,
-        kind: terms.kind,
+        kind,
         value: terms.value.day,
         amount: terms.value.amount,
         ordered: terms.ordered,
@@ -35,7 +38,7 @@ fn message(terms: Terms, parties: Parties, details: Details) -> Mt103
         p57: parties.p57,
         payee: parties.payee,
         info: details.info,
-        charge: details.charge,
+        charge,
         taken: details.taken,
         given: details.given,
         notes: details.notes,
