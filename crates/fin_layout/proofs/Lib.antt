@@ -6,3 +6,4 @@ pub mod Grouped
 pub mod ReadGroups
 pub mod Fine
 pub mod ReadBack
+pub mod InOrder
