@@ -3,7 +3,6 @@
 
 mod charge;
 mod codes;
-mod contents;
 mod details;
 mod instruction;
 mod instruction_tests;

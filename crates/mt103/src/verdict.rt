@@ -1,6 +1,6 @@
 //! An MT103 read from its fields.
 
-ghost use Rattle.std.specs.Prelude.{◌≡◌, ◌≤◌, [], ◌∷◌, None, Ok, length};
+ghost use Rattle.std.specs.Prelude.{◌≡◌, ◌≤◌, [], ◌∷◌, IfOk, None, Ok, length};
 ghost use Rattle.corr_text.specs.First.{first_of};
 ghost use Rattle.fin_layout.specs.Order.{places_from};
 ghost use Rattle.fin_layout.specs.Reading.{Gives};
@@ -9,7 +9,6 @@ ghost use Rattle.mt103.specs.Message.{contents_of, field_tests, mt103_of};
 ghost use Rattle.mt103.specs.declared.message.Mt103.{Mt103 as Mt103Seen};
 ghost use Rattle.mt103.specs.declared.order.TheConstants.{ORDER as order};
 
-use crate::contents::Mt103Contents;
 use crate::instruction::Instr;
 use crate::instruction_tests::{d98, e46};
 use crate::message::Mt103;
@@ -17,7 +16,7 @@ use crate::order::ORDER;
 use crate::reading::read_contents;
 use corr_text::Fault;
 use fin_fields::Field;
-use fin_layout::{MtFault, check_fields};
+use fin_layout::{MtFault, check_structure};
 use ref_tables::RefTables;
 use std::alloc::Global;
 
@@ -40,11 +39,11 @@ fn instructions_fault(instrs: &[Instr]) -> Option<Fault>
 pub fn read_mt103(alloc: Global, f: &[Field], t: &RefTables) -> Result<Mt103, MtFault>
     requires few { length f.now ≤ 65535 }
     ensures message { Gives result (mt103_of t.now f.now) }
+    ensures few { IfOk result (λ m. length m.instrs ≤ length f.now) }
     ensures complete { first_of (field_tests t.now f.now) ≡ None
         → (m : Mt103Seen) × (contents_of t.now f.now (places_from order 0 f.now) ≡ Ok m) }
 {
-    let contents = Mt103Contents { tables: t };
-    let found = check_fields(alloc, &ORDER, &contents, f)?;
+    let found = check_structure(alloc, &ORDER, f)?;
     let m = read_contents(alloc, t, f, found.as_slice())?;
     match instructions_fault(m.instrs.as_slice()) {
         Some(fault) => Err(MtFault::Bad(fault)),
