@@ -41,7 +41,7 @@ module _ (t : Tables) (fs : List Field) where
   module _ (sound : first_of (structure_tests ORDER fs) ≡ None) where
     as-contents : mt103_of t fs ≡ (said_by t fs >>= finished)
     unfolding mt103_of
-    as-contents = in-turn ORDER (content_test t) fs (said_by t fs >>= finished) sound (λ fault lies. fails-before (said_by t fs) finished fault (contents-refused lies))
+    as-contents = in-turn ORDER (content_test t) fs (said_by t fs >>= finished) sound (λ fault lies. fails-before (said_by t fs) finished fault (contents-refused t fs (places_from ORDER 0 fs) fault lies))
 
     module _ (found : List ℕ) (places : found ≡ places_from ORDER 0 fs) where
       pub contents-fail : (e : MtFault) → Fails e (contents_of t fs found) → Fails e (mt103_of t fs)

@@ -6,7 +6,7 @@ use Rattle.mt103.proofs.verdict.read_mt103.Goals as goal
 
 pub returns-in_err-found-clause-message : goal.returns-in_err-found-clause-message
 returns-in_err-found-clause-message c =
-    let p = err_from_is_err_and c.from_residual-in_err-found.result c.from_residual-in_err-found.ensures.1 in
+    let p = err_from_is_err_and c.from_residual.result c.from_residual.ensures.1 in
     rw (p.1, p.2) (structure-fail c.args.t.now c.args.f.now c.in_err-found.field-0.0 c.in_err-found.ensures.fault)
 
 pub returns-in_err-found-clause-complete : goal.returns-in_err-found-clause-complete
@@ -31,7 +31,7 @@ returns-in-Some-clause-complete c = complete c.args.t.now c.args.f.now
 pub returns-clause-message : goal.returns-clause-message
 returns-clause-message c =
     all-pass c.args.t.now c.args.f.now c.in_ok-found.ensures.sound c.as_slice.result.now (c.as_slice.ensures.value ∙ c.in_ok-found.ensures.places) c.in_ok-m.m c.in_ok-m.ensures.value
-    c.as_slice-2.result.now c.as_slice-2.ensures (sym c.instructions_fault.ensures ∙ c.in_default.is)
+    c.as_slice-2.result.now c.as_slice-2.ensures (sym c.instructions_fault.ensures ∙ c.in-None.is)
 
 pub returns-clause-complete : goal.returns-clause-complete
 returns-clause-complete c = complete c.args.t.now c.args.f.now
