@@ -1,0 +1,6 @@
+pub mod Steps
+pub mod Bytes
+pub mod Days
+pub mod Again
+pub mod Fit
+pub mod Said
