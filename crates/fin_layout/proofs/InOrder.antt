@@ -1,8 +1,7 @@
 -- The contents of a message's fields, read place by place: the first that is refused is the first in the text.
 --
--- A message type reads its contents by `in_place`, `in_option` and `all_from` over the places of its order from 0 on, each
--- behind the one before by `>>=`. Where its structure has no fault, that is all that `tests` and then the contents tell
--- (`in-turn`). It owes for this that a fault is met, one line a place, and none is left at the end:
+-- A message type reads its contents by `in_place`, `in_option` and `all_from` over the places of its order, from 0 on and
+-- each behind the one before by `>>=`. For these contents it says that a fault that lies somewhere is met, one line a place:
 --
 --     refused : (t : Tables) (fs : List Field) (fault : Fault) → LiesFrom ORDER (content_test t) fs (places_from ORDER 0 fs) fault 0 → contents_of t fs (places_from ORDER 0 fs) ≡ Err fault
 --     unfolding contents_of
@@ -11,7 +10,10 @@
 --         all-met l1 time_of (λ f. refl) _ (λ _ l2.
 --         option-met l2 kind_of (λ f. refl) refl _ (λ _ l3.
 --         .. none-left l22)))
-use Rattle.std.proofs.Common.{◌≡◌, ℕ, zero, suc, ◌+◌, ◌<◌, ◌≤◌, ◌==◌, ◌⊎◌, Bool, true, false, cond, List, [], ◌∷◌, length, get_or, drop, option_map, option_and_then, position, slice_get, Option, Some, None, Result, Ok, Err, refl, sym, ap, ◌∙◌, arith, inl, inr}
+--
+-- Its reader calls `check_structure`. Where that fails, `structure-fails` says that the message is refused with its fault;
+-- else `in-turn` says that the message is what its contents tell: the tests of the contents are those of the reading.
+use Rattle.std.proofs.Common.{◌≡◌, ℕ, ◌+◌, ◌<◌, ◌≤◌, ◌==◌, ◌⊎◌, true, false, List, [], ◌∷◌, length, drop, option_map, position, slice_get, Option, Some, None, Result, Ok, Err, refl, sym, ap, ◌∙◌, arith, inl, inr}
 use Rattle.std.proofs.lemmas.Bool.{cases_Bool, cases_lt, eqb-true}
 use Rattle.std.proofs.lemmas.Bool.Decides.{nat_tests}
 use Rattle.std.proofs.lemmas.List.{length-drop}
@@ -25,10 +27,13 @@ use Rattle.fin_layout.specs.declared.place.Place.{Place}
 use Rattle.fin_layout.specs.Naming.{absent, fault_at}
 use Rattle.fin_layout.specs.Order.{field_in, fits, free_after, missing_from, place_from, places_from}
 use Rattle.fin_layout.specs.Contents.{all_from, in_option, in_place}
-use Rattle.fin_layout.specs.Tests.{contents_from, misplaced, lacking, passed, structure_tests, tests, without}
-use Rattle.fin_layout.proofs.FoundField.{field-here, field-later, shifted}
+use Rattle.fin_layout.specs.Reading.{Fails, Tells}
+use Rattle.fin_layout.specs.declared.fault.MtFault.{MtFault}
+use Rattle.fin_layout.specs.declared.fault.MtFault.TheVariants as faults
+use Rattle.fin_layout.specs.Tests.{contents_from, misplaced, lacking, passed, structure_tests, tests}
+use Rattle.fin_layout.proofs.FoundField.{field-here, field-later}
 use Rattle.fin_layout.proofs.Grouped.{free_after-bounds}
-use Rattle.fin_layout.proofs.Fine.{IsTestOf, field-nil, first-none, holds-none, map-none, passed-on, present, read-none, second, taken-from, unshifted}
+use Rattle.fin_layout.proofs.Fine.{IsTestOf, field-nil, first-none, holds-none, map-none, passed-fails, passed-on, present, read-none, second, taken-from, unshifted}
 
 -- ---- places never fall
 
@@ -343,12 +348,29 @@ module _ {order : List Place} {test : ℕ → Field → Option Code} {fs : List 
     pub one-met : {B : Type 0} → free_after order k ≡ k + 1 → (p : Place) → slice_get order k ≡ Some p → p.must ≡ true → (next : A → Result B Fault) → ((x : A) → LiesFrom order test fs found fault (k + 1) → next x ≡ Err fault) → (in_place order fs found k read >>= next) ≡ Err fault
     one-met single p e must next on = bind-fails fault (LiesFrom order test fs found fault (k + 1)) (in_place order fs found k read) next (one-meets single p e must) on
 
--- where the structure has no fault, the contents that are read place by place tell the first fault of the text, or what it says
-pub in-turn : {A B : Type 0} (order : List Place) (test : ℕ → Field → Option Code) (fs : List Field) (contents : Result A Fault) (further : A → Result B Fault) → first_of (structure_tests order fs) ≡ None
-    → ((fault : Fault) → LiesFrom order test fs (places_from order 0 fs) fault 0 → contents ≡ Err fault)
-    → (passed (tests order test fs) >>= λ _. contents >>= further) ≡ (contents >>= further)
-in-turn order test fs contents further sound refused = go (first_of (tests order test fs)) refl
+-- ---- the verdict of a message's fields
+
+-- steps behind a refused reading are not taken
+pub fails-before : {A B : Type 0} (read : Result A Fault) (further : A → Result B Fault) (fault : Fault) → read ≡ Err fault → (read >>= further) ≡ Err fault
+fails-before read further fault e = rw e refl
+
+-- where the structure has no fault, what the contents tell place by place is what the tests and then the contents tell
+pub in-turn : {A : Type 0} (order : List Place) (test : ℕ → Field → Option Code) (fs : List Field) (read : Result A Fault) → first_of (structure_tests order fs) ≡ None
+    → ((fault : Fault) → LiesFrom order test fs (places_from order 0 fs) fault 0 → read ≡ Err fault)
+    → (passed (tests order test fs) >>= λ _. read) ≡ read
+in-turn order test fs read sound refused = go (first_of (tests order test fs)) refl
   where
-    go : (o : Option Fault) → first_of (tests order test fs) ≡ o → (without (first_of (tests order test fs)) >>= λ _. contents >>= further) ≡ (contents >>= further)
-    go None none = passed-on (first_of (tests order test fs)) (contents >>= further) none
+    go : (o : Option Fault) → first_of (tests order test fs) ≡ o → (passed (tests order test fs) >>= λ _. read) ≡ read
+    go None none = passed-on (first_of (tests order test fs)) read none
     go (Some fault) some = rw (some, refused fault (lies-somewhere order test fs fault sound some)) refl
+
+-- a fault of the structure is the first of all
+pub structure-fails : {A : Type 0} (order : List Place) (test : ℕ → Field → Option Code) (fs : List Field) (read : Result A Fault) (e : MtFault) → Tells (first_of (structure_tests order fs)) e → Fails e (passed (tests order test fs) >>= λ _. read)
+structure-fails order test fs read faults.Memory h = tt
+structure-fails order test fs read (faults.Bad fault) h =
+    passed-fails (first_of (tests order test fs)) read (faults.Bad fault) (first-of-all (misplaced order fs) (lacking order fs) (contents_from test fs 0 (places_from order 0 fs) fs) fault h)
+  where
+    first-of-all : (one two : Option Fault) (more : List (Option Fault)) (fault : Fault) → first_of (one ∷ two ∷ []) ≡ Some fault → first_of (one ∷ two ∷ more) ≡ Some fault
+    first-of-all (Some x) two more fault h = h
+    first-of-all None (Some x) more fault h = h
+    first-of-all None None more fault h = absurd (cc h)

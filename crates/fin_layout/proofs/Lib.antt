@@ -1,6 +1,5 @@
 pub mod PlacedSoFar
 pub mod InTurn
-pub mod Tested
 pub mod FoundField
 pub mod Grouped
 pub mod ReadGroups
