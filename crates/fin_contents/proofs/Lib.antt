@@ -4,3 +4,5 @@ pub mod Days
 pub mod Again
 pub mod Fit
 pub mod Said
+pub mod Back
+pub mod Placed
