@@ -1,4 +1,5 @@
 pub mod Complete
 pub mod FirstGiven
 pub mod Outcome
+pub mod Parts
 pub mod Refused
