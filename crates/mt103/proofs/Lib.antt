@@ -1,5 +1,4 @@
 pub mod Complete
 pub mod FirstGiven
 pub mod Outcome
-pub mod Parts
 pub mod Refused
