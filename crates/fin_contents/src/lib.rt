@@ -8,6 +8,7 @@ mod metal;
 mod party;
 mod rate;
 mod reference;
+mod short;
 #[cfg(test)]
 mod tests;
 mod texts;
@@ -20,6 +21,7 @@ pub use line::{are_in, array_of, one_line};
 pub use party::KnownParty;
 pub use rate::Rate;
 pub use reference::Reference;
+pub use short::ShortLine;
 pub use texts::Texts;
-pub use time::Time;
+pub use time::{Time, is_clock};
 pub use value::{Value, ValueDate};
