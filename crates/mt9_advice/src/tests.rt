@@ -1,0 +1,4 @@
+//! Advices as messages hold them.
+
+#[test]
+fn nothing(rt: HostRuntime) {}
