@@ -72,22 +72,60 @@ module _ (t : Tables) (fs : List Field) (found : List ℕ) (h : Holds (Stands OR
       let times = all-each IsField (line_field 13 (Some 67)) m.times (each-weaker (Said (Stands ORDER IsField 2) time_of) (λ x. IsField (line_field 13 (Some 67) x)) m.times (said-all (Stands ORDER IsField) fs 2 time_of 0 found fs m.times h r.times) time-fit) in
       let ordered = ordered-fit t (Stands ORDER IsField 18) m.ordered amounts.ordered (said-option (Stands ORDER IsField) fs 18 (ccy_amount_of t) found m.ordered h r.ordered) in
       each-joined IsField (segments m) (
-        (reference-fit 0 20 (omega arith) m.reference r.reference, tt), (
-        (reference-fit 1 21 (omega arith) m.related r.related, tt), (
-        times, (
-        (value-fit t value.field (value_in m) amounts.value value.says, tt), (
-        some-party-fit 4 52 refl m.a52 r.a52, (
-        some-party-fit 5 53 refl m.a53 r.a53, (
-        some-party-fit 6 54 refl m.a54 r.a54, (
-        some-party-fit 7 56 refl m.a56 r.a56, (
-        some-party-fit 8 57 refl m.a57 r.a57, (
-        (party-fit 9 58 refl m.a58 r.a58, tt), (
-        notes-fit 10 6 72 (omega arith) m.a_notes r.a_notes, (
-        (party-fit 11 50 refl m.payer r.payer, tt), (
-        some-party-fit 12 52 refl m.b52 r.b52, (
-        some-party-fit 13 56 refl m.b56 r.b56, (
-        some-party-fit 14 57 refl m.b57 r.b57, (
-        (party-fit 15 59 refl m.payee r.payee, tt), (
-        notes-fit 16 4 70 (omega arith) m.info r.info, (
-        notes-fit 17 6 72 (omega arith) m.b_notes r.b_notes, (
-        ordered, tt)))))))))))))))))))
+        (reference-fit 0 20 (omega arith) m.reference r.reference, tt),
+        (
+          (reference-fit 1 21 (omega arith) m.related r.related, tt),
+          (
+            times,
+            (
+              (value-fit t value.field (value_in m) amounts.value value.says, tt),
+              (
+                some-party-fit 4 52 refl m.a52 r.a52,
+                (
+                  some-party-fit 5 53 refl m.a53 r.a53,
+                  (
+                    some-party-fit 6 54 refl m.a54 r.a54,
+                    (
+                      some-party-fit 7 56 refl m.a56 r.a56,
+                      (
+                        some-party-fit 8 57 refl m.a57 r.a57,
+                        (
+                          (party-fit 9 58 refl m.a58 r.a58, tt),
+                          (
+                            notes-fit 10 6 72 (omega arith) m.a_notes r.a_notes,
+                            (
+                              (party-fit 11 50 refl m.payer r.payer, tt),
+                              (
+                                some-party-fit 12 52 refl m.b52 r.b52,
+                                (
+                                  some-party-fit 13 56 refl m.b56 r.b56,
+                                  (
+                                    some-party-fit 14 57 refl m.b57 r.b57,
+                                    (
+                                      (party-fit 15 59 refl m.payee r.payee, tt),
+                                      (
+                                        notes-fit 16 4 70 (omega arith) m.info r.info,
+                                        (
+                                          notes-fit 17 6 72 (omega arith) m.b_notes r.b_notes,
+                                          (
+                                            ordered,
+                                            tt,
+                                          ),
+                                        ),
+                                      ),
+                                    ),
+                                  ),
+                                ),
+                              ),
+                            ),
+                          ),
+                        ),
+                      ),
+                    ),
+                  ),
+                ),
+              ),
+            ),
+          ),
+        ),
+      )

@@ -4,7 +4,7 @@ use Rattle.corr_text.specs.First.{◌>>=◌}
 use Rattle.corr_text.specs.declared.fault.Fault.{Fault}
 use Rattle.ref_tables.specs.Seen.{Tables}
 use Rattle.fin_fields.specs.declared.field.Field.{Field}
-use Rattle.fin_layout.proofs.InOrder.{LiesFrom, all-met, none-left, one-met, option-met}
+use Rattle.fin_layout.proofs.InOrder.{LiesFrom, all-in, none-left, one-in, option-in, option-met}
 use Rattle.fin_contents.specs.Money.{ccy_amount_of, value_of}
 use Rattle.fin_contents.specs.Parties.{known_party_of}
 use Rattle.fin_contents.specs.Plain.{reference_of, texts_of, time_of}
@@ -17,61 +17,62 @@ use Rattle.mt202cov.specs.declared.sequences.SequenceA.{SequenceA}
 use Rattle.mt202cov.specs.declared.sequences.SequenceB.{SequenceB}
 use Rattle.mt202cov.specs.declared.terms.Terms.{Terms}
 
--- steps within a step are steps in a row
-inner : {A B C F : Type 0} (read : Result A F) (next : A → Result B F) (further : B → Result C F) → (read >>= next >>= further) ≡ (read >>= λ x. next x >>= further)
-inner (Ok x) next further = refl
-inner (Err e) next further = refl
-
-module _ {t : Tables} {fs : List Field} {found : List ℕ} {fault : Fault} where
+module _ (t : Tables) (fs : List Field) (found : List ℕ) (fault : Fault) where
   abbrev Lies : ℕ → Type 0
   Lies k = LiesFrom ORDER (content_test t) fs found fault k
 
   terms-refused : {B : Type 0} → Lies 0 → (next : Terms → Result B Fault) → ((x : Terms) → Lies 4 → next x ≡ Err fault) → (terms_of t fs found >>= next) ≡ Err fault
   unfolding terms_of
   terms-refused l0 next on =
-      inner _ _ next ∙ one-met l0 reference_of (λ f. refl) refl _ refl refl _ (λ _ l1.
-      inner _ _ next ∙ one-met l1 reference_of (λ f. refl) refl _ refl refl _ (λ _ l2.
-      inner _ _ next ∙ all-met l2 time_of (λ f. refl) _ (λ _ l3.
-      inner _ _ next ∙ one-met l3 (value_of t) (λ f. refl) refl _ refl refl _ (λ _ l4. on _ l4))))
+      one-in l0 reference_of (λ f. refl) refl _ refl refl _ next (λ _ l1.
+      one-in l1 reference_of (λ f. refl) refl _ refl refl _ next (λ _ l2.
+      all-in l2 time_of (λ f. refl) _ next (λ _ l3.
+      one-in l3 (value_of t) (λ f. refl) refl _ refl refl _ next (λ _ l4. on _ l4))))
 
   banks-refused : {B : Type 0} → Lies 4 → (next : Banks → Result B Fault) → ((x : Banks) → Lies 10 → next x ≡ Err fault) → (banks_of t fs found >>= next) ≡ Err fault
   unfolding banks_of
   banks-refused l4 next on =
-      inner _ _ next ∙ option-met l4 (known_party_of t) (λ f. refl) refl _ (λ _ l5.
-      inner _ _ next ∙ option-met l5 (known_party_of t) (λ f. refl) refl _ (λ _ l6.
-      inner _ _ next ∙ option-met l6 (known_party_of t) (λ f. refl) refl _ (λ _ l7.
-      inner _ _ next ∙ option-met l7 (known_party_of t) (λ f. refl) refl _ (λ _ l8.
-      inner _ _ next ∙ option-met l8 (known_party_of t) (λ f. refl) refl _ (λ _ l9.
-      inner _ _ next ∙ one-met l9 (known_party_of t) (λ f. refl) refl _ refl refl _ (λ _ l10. on _ l10))))))
+      option-in l4 (known_party_of t) (λ f. refl) refl _ next (λ _ l5.
+      option-in l5 (known_party_of t) (λ f. refl) refl _ next (λ _ l6.
+      option-in l6 (known_party_of t) (λ f. refl) refl _ next (λ _ l7.
+      option-in l7 (known_party_of t) (λ f. refl) refl _ next (λ _ l8.
+      option-in l8 (known_party_of t) (λ f. refl) refl _ next (λ _ l9.
+      one-in l9 (known_party_of t) (λ f. refl) refl _ refl refl _ next (λ _ l10. on _ l10))))))
 
   customers-refused : {B : Type 0} → Lies 11 → (next : Customers → Result B Fault) → ((x : Customers) → Lies 16 → next x ≡ Err fault) → (customers_of t fs found >>= next) ≡ Err fault
   unfolding customers_of
   customers-refused l11 next on =
-      inner _ _ next ∙ one-met l11 (known_party_of t) (λ f. refl) refl _ refl refl _ (λ _ l12.
-      inner _ _ next ∙ option-met l12 (known_party_of t) (λ f. refl) refl _ (λ _ l13.
-      inner _ _ next ∙ option-met l13 (known_party_of t) (λ f. refl) refl _ (λ _ l14.
-      inner _ _ next ∙ option-met l14 (known_party_of t) (λ f. refl) refl _ (λ _ l15.
-      inner _ _ next ∙ one-met l15 (known_party_of t) (λ f. refl) refl _ refl refl _ (λ _ l16. on _ l16)))))
+      one-in l11 (known_party_of t) (λ f. refl) refl _ refl refl _ next (λ _ l12.
+      option-in l12 (known_party_of t) (λ f. refl) refl _ next (λ _ l13.
+      option-in l13 (known_party_of t) (λ f. refl) refl _ next (λ _ l14.
+      option-in l14 (known_party_of t) (λ f. refl) refl _ next (λ _ l15.
+      one-in l15 (known_party_of t) (λ f. refl) refl _ refl refl _ next (λ _ l16. on _ l16)))))
 
   details-refused : {B : Type 0} → Lies 16 → (next : Details → Result B Fault) → ((x : Details) → Lies 19 → next x ≡ Err fault) → (details_of t fs found >>= next) ≡ Err fault
   unfolding details_of
   details-refused l16 next on =
-      inner _ _ next ∙ option-met l16 (texts_of 4) (λ f. refl) refl _ (λ _ l17.
-      inner _ _ next ∙ option-met l17 (texts_of 6) (λ f. refl) refl _ (λ _ l18.
-      inner _ _ next ∙ option-met l18 (ccy_amount_of t) (λ f. refl) refl _ (λ _ l19. on _ l19)))
+      option-in l16 (texts_of 4) (λ f. refl) refl _ next (λ _ l17.
+      option-in l17 (texts_of 6) (λ f. refl) refl _ next (λ _ l18.
+      option-in l18 (ccy_amount_of t) (λ f. refl) refl _ next (λ _ l19. on _ l19)))
+
+  -- a part within a larger one, whose steps are a step of the whole
+  within : {X A B : Type 0} (part : Result X Fault) (after : ℕ) → ((next : X → Result B Fault) → ((x : X) → Lies after → next x ≡ Err fault) → (part >>= next) ≡ Err fault) → (next : X → Result A Fault) (further : A → Result B Fault)
+      → ((x : X) → Lies after → (next x >>= further) ≡ Err fault) → (part >>= next >>= further) ≡ Err fault
+  within (Ok x) after refused next further on = refused (λ y. next y >>= further) on
+  within (Err e) after refused next further on = refused (λ y. next y >>= further) on
 
   sequence_a-refused : {B : Type 0} → Lies 0 → (next : SequenceA → Result B Fault) → ((x : SequenceA) → Lies 11 → next x ≡ Err fault) → (sequence_a_of t fs found >>= next) ≡ Err fault
   unfolding sequence_a_of
   sequence_a-refused l0 next on =
-      inner _ _ next ∙ terms-refused l0 _ (λ _ l4.
-      inner _ _ next ∙ banks-refused l4 _ (λ _ l10.
-      inner _ _ next ∙ option-met l10 (texts_of 6) (λ f. refl) refl _ (λ _ l11. on _ l11)))
+      within (terms_of t fs found) 4 (terms-refused l0) _ next (λ _ l4.
+      within (banks_of t fs found) 10 (banks-refused l4) _ next (λ _ l10.
+      option-in l10 (texts_of 6) (λ f. refl) refl _ next (λ _ l11. on _ l11)))
 
   sequence_b-refused : {B : Type 0} → Lies 11 → (next : SequenceB → Result B Fault) → ((x : SequenceB) → Lies 19 → next x ≡ Err fault) → (sequence_b_of t fs found >>= next) ≡ Err fault
   unfolding sequence_b_of
   sequence_b-refused l11 next on =
-      inner _ _ next ∙ customers-refused l11 _ (λ _ l16.
-      inner _ _ next ∙ details-refused l16 _ (λ _ l19. on _ l19))
+      within (customers_of t fs found) 16 (customers-refused l11) _ next (λ _ l16.
+      within (details_of t fs found) 19 (details-refused l16) _ next (λ _ l19. on _ l19))
 
   pub contents-refused : Lies 0 → contents_of t fs found ≡ Err fault
   unfolding contents_of

@@ -1,5 +1,5 @@
 -- A cover that was read is written in the order of its places, and each place is read again.
-use Rattle.std.proofs.Common.{◌≡◌, ℕ, ◌+◌, ◌==◌, not, true, List, [], ◌∷◌, ◌++◌, length, get_or, drop, take, slice_get, map, Option, Some, None, Ok, refl, sym, ap, ◌∙◌, arith, inl, inr}
+use Rattle.std.proofs.Common.{◌≡◌, ℕ, ◌+◌, ◌==◌, not, false, true, List, [], ◌∷◌, ◌++◌, length, get_or, drop, take, slice_get, map, Option, Some, None, Ok, refl, sym, ap, ◌∙◌, arith, inl, inr}
 use Rattle.std.specs.Prelude.{IfSome}
 use Rattle.std.specs.List.{list_all, list_any}
 use Rattle.ref_tables.specs.Seen.{Tables}
@@ -29,14 +29,6 @@ any = record { tag = 0; options = []; many = false; must = false }
 
 -- ---- the places
 
--- the places below stay behind
-on : {low j : ℕ} {s : List Field} {ss : List (List Field)} → Segment ORDER low j s → Segments ORDER low (j + 1) ss → Segments ORDER low j (s ∷ ss)
-on {low} seg more = (seg, (low, inl (omega arith), more))
-
--- 50a is there, so all places up to it are behind
-past-payer : {ss : List (List Field)} (f : Field) → Segment ORDER 0 11 (f ∷ []) → Segments ORDER 12 12 ss → Segments ORDER 0 11 ((f ∷ []) ∷ ss)
-past-payer f seg more = (seg, (12, inr (omega arith, omega arith), more))
-
 -- each mandatory place is taken
 pub none-missing : (found : List ℕ) → list_any (λ q. q == 0) found ≡ true → list_any (λ q. q == 1) found ≡ true → list_any (λ q. q == 3) found ≡ true → list_any (λ q. q == 9) found ≡ true → list_any (λ q. q == 11) found ≡ true
     → list_any (λ q. q == 15) found ≡ true → missing_from 0 ORDER found ≡ None
@@ -58,26 +50,140 @@ module _ (t : Tables) (fs : List Field) (found : List ℕ) (P : Field → Type 0
         (some-weaker (Said (Stands ORDER P k) (known_party_of t)) (λ p. IsFirst ORDER low k (party_field tag p)) o (said-option (Stands ORDER P) fs k (known_party_of t) found o h e) party-first)
 
   pub in-segments : (m : Mt202Cov) → Readings t fs found m → Segments ORDER 0 0 (segments m)
-  in-segments m r =
-      (on (one-segment ORDER 0 0 (line_field 20 None m.reference) refl)
-      (on (one-segment ORDER 0 1 (line_field 21 None m.related) refl)
-      (on (all-segment ORDER 0 2 (line_field 13 (Some 67)) m.times refl (each-all _ m.times (λ x. refl)))
-      (on (one-segment ORDER 0 3 (value_field (value_in m)) refl)
-      (on (some-party 0 4 52 refl (take 4 (drop 0 ORDER)) (drop 5 ORDER) refl refl refl m.a52 r.a52)
-      (on (some-party 0 5 53 refl (take 5 (drop 0 ORDER)) (drop 6 ORDER) refl refl refl m.a53 r.a53)
-      (on (some-party 0 6 54 refl (take 6 (drop 0 ORDER)) (drop 7 ORDER) refl refl refl m.a54 r.a54)
-      (on (some-party 0 7 56 refl (take 7 (drop 0 ORDER)) (drop 8 ORDER) refl refl refl m.a56 r.a56)
-      (on (some-party 0 8 57 refl (take 8 (drop 0 ORDER)) (drop 9 ORDER) refl refl refl m.a57 r.a57)
-      (on (one-party 0 9 58 refl (take 9 (drop 0 ORDER)) (drop 10 ORDER) refl refl refl m.a58 r.a58)
-      (on (lines-segment ORDER 0 10 72 None m.a_notes refl)
-      (past-payer (party_field 50 m.payer) (one-party 0 11 50 refl (take 11 (drop 0 ORDER)) (drop 12 ORDER) refl refl refl m.payer r.payer)
-      (on (some-party 12 12 52 refl (take 0 (drop 12 ORDER)) (drop 13 ORDER) refl refl refl m.b52 r.b52)
-      (on (some-party 12 13 56 refl (take 1 (drop 12 ORDER)) (drop 14 ORDER) refl refl refl m.b56 r.b56)
-      (on (some-party 12 14 57 refl (take 2 (drop 12 ORDER)) (drop 15 ORDER) refl refl refl m.b57 r.b57)
-      (on (one-party 12 15 59 refl (take 3 (drop 12 ORDER)) (drop 16 ORDER) refl refl refl m.payee r.payee)
-      (on (lines-segment ORDER 12 16 70 None m.info refl)
-      (on (lines-segment ORDER 12 17 72 None m.b_notes refl)
-      (on (some-segment ORDER 12 18 (ccy_amount_field 33 (Some 66)) m.ordered (some-all _ m.ordered (λ x. refl))) tt)))))))))))))))))))
+  in-segments m r = (
+    one-segment ORDER 0 0 (line_field 20 None m.reference) refl,
+    (
+      0,
+      inl (omega arith),
+      (
+        one-segment ORDER 0 1 (line_field 21 None m.related) refl,
+        (
+          0,
+          inl (omega arith),
+          (
+            all-segment ORDER 0 2 (line_field 13 (Some 67)) m.times refl (each-all _ m.times (λ x. refl)),
+            (
+              0,
+              inl (omega arith),
+              (
+                one-segment ORDER 0 3 (value_field (value_in m)) refl,
+                (
+                  0,
+                  inl (omega arith),
+                  (
+                    some-party 0 4 52 refl (take 4 (drop 0 ORDER)) (drop 5 ORDER) refl refl refl m.a52 r.a52,
+                    (
+                      0,
+                      inl (omega arith),
+                      (
+                        some-party 0 5 53 refl (take 5 (drop 0 ORDER)) (drop 6 ORDER) refl refl refl m.a53 r.a53,
+                        (
+                          0,
+                          inl (omega arith),
+                          (
+                            some-party 0 6 54 refl (take 6 (drop 0 ORDER)) (drop 7 ORDER) refl refl refl m.a54 r.a54,
+                            (
+                              0,
+                              inl (omega arith),
+                              (
+                                some-party 0 7 56 refl (take 7 (drop 0 ORDER)) (drop 8 ORDER) refl refl refl m.a56 r.a56,
+                                (
+                                  0,
+                                  inl (omega arith),
+                                  (
+                                    some-party 0 8 57 refl (take 8 (drop 0 ORDER)) (drop 9 ORDER) refl refl refl m.a57 r.a57,
+                                    (
+                                      0,
+                                      inl (omega arith),
+                                      (
+                                        one-party 0 9 58 refl (take 9 (drop 0 ORDER)) (drop 10 ORDER) refl refl refl m.a58 r.a58,
+                                        (
+                                          0,
+                                          inl (omega arith),
+                                          (
+                                            lines-segment ORDER 0 10 72 None m.a_notes refl,
+                                            (
+                                              0,
+                                              inl (omega arith),
+                                              (
+                                                one-party 0 11 50 refl (take 11 (drop 0 ORDER)) (drop 12 ORDER) refl refl refl m.payer r.payer,
+                                                (
+                                                  12,
+                                                  inr (omega arith, omega arith),
+                                                  (
+                                                    some-party 12 12 52 refl (take 0 (drop 12 ORDER)) (drop 13 ORDER) refl refl refl m.b52 r.b52,
+                                                    (
+                                                      12,
+                                                      inl (omega arith),
+                                                      (
+                                                        some-party 12 13 56 refl (take 1 (drop 12 ORDER)) (drop 14 ORDER) refl refl refl m.b56 r.b56,
+                                                        (
+                                                          12,
+                                                          inl (omega arith),
+                                                          (
+                                                            some-party 12 14 57 refl (take 2 (drop 12 ORDER)) (drop 15 ORDER) refl refl refl m.b57 r.b57,
+                                                            (
+                                                              12,
+                                                              inl (omega arith),
+                                                              (
+                                                                one-party 12 15 59 refl (take 3 (drop 12 ORDER)) (drop 16 ORDER) refl refl refl m.payee r.payee,
+                                                                (
+                                                                  12,
+                                                                  inl (omega arith),
+                                                                  (
+                                                                    lines-segment ORDER 12 16 70 None m.info refl,
+                                                                    (
+                                                                      12,
+                                                                      inl (omega arith),
+                                                                      (
+                                                                        lines-segment ORDER 12 17 72 None m.b_notes refl,
+                                                                        (
+                                                                          12,
+                                                                          inl (omega arith),
+                                                                          (
+                                                                            some-segment ORDER 12 18 (ccy_amount_field 33 (Some 66)) m.ordered (some-all _ m.ordered (λ x. refl)),
+                                                                            (
+                                                                              12,
+                                                                              inl (omega arith),
+                                                                              tt,
+                                                                            ),
+                                                                          ),
+                                                                        ),
+                                                                      ),
+                                                                    ),
+                                                                  ),
+                                                                ),
+                                                              ),
+                                                            ),
+                                                          ),
+                                                        ),
+                                                      ),
+                                                    ),
+                                                  ),
+                                                ),
+                                              ),
+                                            ),
+                                          ),
+                                        ),
+                                      ),
+                                    ),
+                                  ),
+                                ),
+                              ),
+                            ),
+                          ),
+                        ),
+                      ),
+                    ),
+                  ),
+                ),
+              ),
+            ),
+          ),
+        ),
+      ),
+    ),
+  )
 
   -- ---- what is read of them
 

@@ -14,21 +14,29 @@ use Rattle.mt202cov.specs.declared.message.Mt202Cov.{Mt202Cov}
 abbrev pub value_in : Mt202Cov → Value
 value_in m = record { day = m.value; amount = m.amount }
 
--- the fields of each place of sequence A, 20 to 72
-abbrev pub sequence_a_fields : Mt202Cov → List (List Field)
-sequence_a_fields m =
+-- the fields of each place from 20 to 32A
+abbrev pub terms_fields : Mt202Cov → List (List Field)
+terms_fields m =
     (line_field 20 None m.reference ∷ [])
     ∷ (line_field 21 None m.related ∷ [])
     ∷ map (line_field 13 (Some 67)) m.times
     ∷ (value_field (value_in m) ∷ [])
-    ∷ some_field (party_field 52) m.a52
+    ∷ []
+
+-- those from 52a to 58a of sequence A
+abbrev pub bank_fields : Mt202Cov → List (List Field)
+bank_fields m =
+    some_field (party_field 52) m.a52
     ∷ some_field (party_field 53) m.a53
     ∷ some_field (party_field 54) m.a54
     ∷ some_field (party_field 56) m.a56
     ∷ some_field (party_field 57) m.a57
     ∷ (party_field 58 m.a58 ∷ [])
-    ∷ lines_fields 72 None m.a_notes
     ∷ []
+
+-- those of sequence A
+abbrev pub sequence_a_fields : Mt202Cov → List (List Field)
+sequence_a_fields m = terms_fields m ++ bank_fields m ++ lines_fields 72 None m.a_notes ∷ []
 
 -- those of sequence B, 50a to 33B
 abbrev pub sequence_b_fields : Mt202Cov → List (List Field)

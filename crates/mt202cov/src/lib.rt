@@ -16,8 +16,10 @@ mod terms;
 #[cfg(test)]
 mod tests;
 mod verdict;
+mod writing;
 
 pub use codes::{C68, C81};
 pub use message::Mt202Cov;
 pub use order::ORDER;
 pub use verdict::read_mt202cov;
+pub use writing::put_mt202cov;

@@ -1,8 +1,9 @@
 //! Covers as messages hold them.
 
-ghost use Rattle.std.specs.Prelude.{◌≤◌, IfOk, length};
+ghost use Rattle.std.specs.Prelude.{◌≤◌, All, IfOk, length};
+ghost use Rattle.fin_fields.specs.Writing.{IsField};
 
-use crate::{C68, C81, Mt202Cov, read_mt202cov};
+use crate::{C68, C81, Mt202Cov, put_mt202cov, read_mt202cov};
 use corr_ids::Day;
 use corr_text::{Code, Fault, List, Memory, Text};
 use fin_contents::{C03, C08, P25, P26, P27, T26, T40, T43, T50, T52};
@@ -23,7 +24,8 @@ fn tables(alloc: Global) -> Result<RefTables, TableFault> {
 }
 
 fn cut(alloc: Global, text: &[u8]) -> Result<List<Field>, FieldFault>
-    ensures { IfOk result (λ fields. length fields ≤ 1000) }
+    ensures few { IfOk result (λ fields. length fields ≤ 1000) }
+    ensures fit { IfOk result (λ fields. All IsField fields) }
 {
     if text.len() > 1000 {
         return Err(FieldFault::Memory);
@@ -473,6 +475,40 @@ fn an_intermediary_stands_with_the_bank_behind_it(rt: HostRuntime) -> Result<(),
     for (parts, want) in rows {
         let text = cover(rt.alloc(), parts)?;
         assert_eq!(rt; refused(rt.alloc(), &tables, text.bytes())?, want);
+    }
+    Ok(())
+}
+
+// The text as it is written of the cover that it says.
+fn rewritten(alloc: Global, tables: &RefTables, text: &[u8]) -> Result<Text, Fail> {
+    let fields = cut(alloc, text)?;
+    let m = match read_mt202cov(alloc, fields.as_slice(), tables) {
+        Ok(m) => m,
+        Err(_) => return Err("the row is no cover")?,
+    };
+    Ok(put_mt202cov(alloc, &m)?)
+}
+
+#[test]
+fn a_cover_is_written_in_the_order_of_its_places(rt: HostRuntime) -> Result<(), Fail> {
+    let tables = tables(rt.alloc())?;
+    let rows: [(&[u8], &[u8]); 3] = [
+        (
+            b":20:P00000001K2\n:21:P00000001K1\n:32A:240603EUR1234,5\n:58A:BETAFRPPXXX\n:50K:A PAYER\n:52A:ALPHDEFF\n:59:/CUST9\nA PAYEE\n:33B:EUR1234,5\n",
+            b":20:P00000001K2\r\n:21:P00000001K1\r\n:32A:240603EUR1234,50\r\n:58A:BETAFRPP\r\n:50K:A PAYER\r\n:52A:ALPHDEFF\r\n:59:/CUST9\r\nA PAYEE\r\n:33B:EUR1234,50\r\n",
+        ),
+        (
+            b":20:R\n:21:I\n:13C:/A/0915+0100\n:13C:/B/0930-0500\n:32A:000229JPY7,\n:52D:A BANK\n:53B:/12\nPARIS\n:54A:/12\nALPHDEFF\n:56A:ALPHDEFF012\n:57D:B\n:58D:/C/1\nC\n:72:/INS/A\nB\n:50A:/3\nALPHDEFF\n:56D:D\n:57A:ALPHDEFF\n:59F:1/P\n1/Q\n",
+            b":20:R\r\n:21:I\r\n:13C:/A/0915+0100\r\n:13C:/B/0930-0500\r\n:32A:000229JPY7,\r\n:52D:A BANK\r\n:53B:/12\r\nPARIS\r\n:54A:/12\r\nALPHDEFF\r\n:56A:ALPHDEFF012\r\n:57D:B\r\n:58D:/C/1\r\nC\r\n:72:/INS/A\r\nB\r\n:50A:/3\r\nALPHDEFF\r\n:56D:D\r\n:57A:ALPHDEFF\r\n:59F:1/P\r\n1/Q\r\n",
+        ),
+        (
+            b":20:R\n:21:I\n:32A:991231EUR0,01\n:58D:C\n:72:A\n:50F:/1\n1/P\n2/Q\n:52A:BETAFRPP\n:56C:/12\n:57B:PARIS\n:59A:/1\nBETAFRPP\n:70:FOR\nB\n:72:A\n:33B:JPY0,\n",
+            b":20:R\r\n:21:I\r\n:32A:991231EUR0,01\r\n:58D:C\r\n:72:A\r\n:50F:/1\r\n1/P\r\n2/Q\r\n:52A:BETAFRPP\r\n:56C:/12\r\n:57B:PARIS\r\n:59A:/1\r\nBETAFRPP\r\n:70:FOR\r\nB\r\n:72:A\r\n:33B:JPY0,\r\n",
+        ),
+    ];
+    for (text, want) in rows {
+        let written = rewritten(rt.alloc(), &tables, text)?;
+        assert_eq!(rt; written.bytes(), want);
     }
     Ok(())
 }

@@ -7,7 +7,7 @@ ghost use Rattle.fin_fields.specs.Writing.{fields_text};
 ghost use Rattle.fin_fields.specs.declared.field.Field.{Field as FieldSeen};
 ghost use Rattle.fin_layout.specs.Segments.{joined};
 ghost use Rattle.mt202cov.specs.Message.{mt202cov_of};
-ghost use Rattle.mt202cov.specs.Writing.{AreAmounts, IsReadable, mt202cov_fields, sequence_a_fields, sequence_b_fields};
+ghost use Rattle.mt202cov.specs.Writing.{AreAmounts, IsReadable, bank_fields, mt202cov_fields, sequence_a_fields, sequence_b_fields, terms_fields};
 ghost use Rattle.ref_tables.specs.Seen.{Tables};
 
 use crate::message::Mt202Cov;
@@ -19,9 +19,10 @@ use fin_contents::{
 use fin_fields::{Field, put_fields};
 use std::alloc::Global;
 
-fn push_sequence_a(alloc: Global, m: &Mt202Cov, fields: &mut List<Field>) -> Result<(), Memory>
+// 20 to 32A.
+fn push_terms(alloc: Global, m: &Mt202Cov, fields: &mut List<Field>) -> Result<(), Memory>
     requires { AreAmounts m.now }
-    ensures { OnOk result (fields.new ≡ fields.old ++ joined (sequence_a_fields m.now)) }
+    ensures { OnOk result (fields.new ≡ fields.old ++ joined (terms_fields m.now)) }
 {
     let value = Value {
         day: m.value,
@@ -30,13 +31,27 @@ fn push_sequence_a(alloc: Global, m: &Mt202Cov, fields: &mut List<Field>) -> Res
     fields.push(put_reference(alloc, 20, &m.reference)?)?;
     fields.push(put_reference(alloc, 21, &m.related)?)?;
     push_times(alloc, m.times.as_slice(), fields)?;
-    fields.push(put_value(alloc, &value)?)?;
+    fields.push(put_value(alloc, &value)?)
+}
+
+// 52a to 58a of sequence A.
+fn push_banks(alloc: Global, m: &Mt202Cov, fields: &mut List<Field>) -> Result<(), Memory>
+    ensures { OnOk result (fields.new ≡ fields.old ++ joined (bank_fields m.now)) }
+{
     push_party(alloc, 52, &m.a52, fields)?;
     push_party(alloc, 53, &m.a53, fields)?;
     push_party(alloc, 54, &m.a54, fields)?;
     push_party(alloc, 56, &m.a56, fields)?;
     push_party(alloc, 57, &m.a57, fields)?;
-    fields.push(put_known_party(alloc, 58, &m.a58)?)?;
+    fields.push(put_known_party(alloc, 58, &m.a58)?)
+}
+
+fn push_sequence_a(alloc: Global, m: &Mt202Cov, fields: &mut List<Field>) -> Result<(), Memory>
+    requires { AreAmounts m.now }
+    ensures { OnOk result (fields.new ≡ fields.old ++ joined (sequence_a_fields m.now)) }
+{
+    push_terms(alloc, m, fields)?;
+    push_banks(alloc, m, fields)?;
     push_texts(alloc, 72, None, m.a_notes.as_slice(), fields)
 }
 
