@@ -32,9 +32,13 @@ is_op m op = bytes_eq m.op op
 abbrev pub is_charge : Mt103 → List ℕ → Bool
 is_charge m charge = bytes_eq m.charge charge
 
+-- 23B is SSTD or SPAY
+abbrev pub is_standard : Mt103 → Bool
+is_standard m = is_op m (codes "SSTD") || is_op m (codes "SPAY")
+
 -- 23B names a service level
 abbrev pub has_level : Mt103 → Bool
-has_level m = is_op m (codes "SPRI") || is_op m (codes "SSTD") || is_op m (codes "SPAY")
+has_level m = is_op m (codes "SPRI") || is_standard m
 
 -- an amount is there in another currency than that of 32A
 abbrev pub is_foreign : Mt103 → Option Amount → Bool
@@ -66,7 +70,7 @@ e01 m = if is_op m (codes "SPRI") then option_map (λ i. fault_at E01 (codes "23
 
 -- SSTD and SPAY: no 23E
 unfoldable pub e02 : Mt103 → Option Fault
-e02 m = broken ((is_op m (codes "SSTD") || is_op m (codes "SPAY")) && is_given m.instrs) E02 (codes "23E") 1
+e02 m = broken (is_standard m && is_given m.instrs) E02 (codes "23E") 1
 
 -- at a service level: no 53D
 unfoldable pub e03 : Mt103 → Option Fault
@@ -104,7 +108,7 @@ e16 m = broken (is_op m (codes "SPRI") && is_some m.p56) E16 (codes "56 ") 1
 
 -- SSTD and SPAY: 56a by option A, or by option C with a clearing code
 unfoldable pub e17 : Mt103 → Option Fault
-e17 m = broken ((is_op m (codes "SSTD") || is_op m (codes "SPAY")) && (is_d m.p56 || is_uncleared_c m.p56)) E17 (codes "56 ") 1
+e17 m = broken (is_standard m && (is_d m.p56 || is_uncleared_c m.p56)) E17 (codes "56 ") 1
 
 -- at a service level: no 57B, and 57D has a party line
 unfoldable pub e09 : Mt103 → Option Fault

@@ -1,7 +1,7 @@
 //! The operation of a transfer and who bears its charges: fields 23B and 71A.
 
-ghost use Rattle.std.specs.Prelude.{◌≡◌, ◌||◌, codes};
-ghost use Rattle.mt103_rules.specs.Rules.{has_level, is_charge, is_op};
+ghost use Rattle.std.specs.Prelude.{◌≡◌};
+ghost use Rattle.mt103_rules.specs.Rules.{has_level, is_charge, is_op, is_standard};
 
 use mt103::Mt103;
 
@@ -21,7 +21,7 @@ pub fn is_charge(m: &Mt103, charge: &[u8; 3]) -> bool
 
 /// Whether 23B is SSTD or SPAY.
 pub fn is_standard(m: &Mt103) -> bool
-    ensures { result ≡ is_op m.now (codes "SSTD") || is_op m.now (codes "SPAY") }
+    ensures { result ≡ is_standard m.now }
 {
     is_op(m, b"SSTD") || is_op(m, b"SPAY")
 }

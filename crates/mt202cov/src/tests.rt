@@ -70,13 +70,20 @@ fn fault(code: Code, tag: &[u8; 3], nth: u16) -> Option<MtFault> {
     }))
 }
 
-// What is refused, none for a cover that is read.
-fn refused(alloc: Global, tables: &RefTables, text: &[u8]) -> Result<Option<MtFault>, FieldFault> {
-    match read(alloc, tables, text)? {
+// Generic, so that a cover is let go as one value.
+fn let_go<M: Drop>(_m: M) {}
+
+fn fault_of<M: Drop>(read: Result<M, MtFault>) -> Result<Option<MtFault>, Memory> {
+    match read {
         Ok(_) => Ok(None),
-        Err(MtFault::Memory) => Err(FieldFault::Memory),
+        Err(MtFault::Memory) => Err(Memory),
         Err(fault) => Ok(Some(fault)),
     }
+}
+
+// What is refused, none for a cover that is read.
+fn refused(alloc: Global, tables: &RefTables, text: &[u8]) -> Result<Option<MtFault>, FieldFault> {
+    Ok(fault_of(read(alloc, tables, text)?)?)
 }
 
 fn is_bank(party: &Option<Party>, head: &[u8; 8]) -> bool {
@@ -119,13 +126,14 @@ fn each_sequence_has_its_own_fields(rt: HostRuntime) -> Result<(), Fail> {
         Some(amount) => assert_eq!(rt; amount.minor.0, 7),
         None => assert!(rt; false, "the ordered amount"),
     }
-    match m.payee {
+    match &m.payee {
         Party::K {
             account: Some(account),
             ..
         } => assert_eq!(rt; account.bytes(), b"CUST1".as_slice()),
         _ => assert!(rt; false, "the payee's account"),
     }
+    let_go(m);
     Ok(())
 }
 
@@ -486,7 +494,9 @@ fn rewritten(alloc: Global, tables: &RefTables, text: &[u8]) -> Result<Text, Fai
         Ok(m) => m,
         Err(_) => return Err("the row is no cover")?,
     };
-    Ok(put_mt202cov(alloc, &m)?)
+    let written = put_mt202cov(alloc, &m);
+    let_go(m);
+    Ok(written?)
 }
 
 #[test]
