@@ -173,3 +173,12 @@ pub asked_row : (ccy : Ccy) (bank : List ℕ) (day : Day) (rows : List SsiRow)
     → option_and_then (slice_get rows) (find (holds_at (is_asked ccy bank day) rows) (places_of (has_key (key_of ccy.0 bank)) 0 rows)) ≡ naming bank (filter (is_in_force ccy day) rows)
 asked_row ccy bank day rows =
     first_item (has_key (key_of ccy.0 bank)) (is_asked ccy bank day) (λ r e. asked-key ccy bank day r e) rows ∙ sym (find-filter (λ r. bytes_eq bank r.bank) (is_in_force ccy day) rows)
+
+module _ (rows : List SsiRow) (groups : List (List ℕ × List ℕ)) (key : List ℕ) where
+  -- the places that the index has for a key
+  pub places-some : (places : List ℕ) → IsIndexOf rows groups → Some places ≡ lookup (bytes_eq key) groups → places ≡ places_of (has_key key) 0 rows
+  places-some places index e = ap (λ (o : Option (List ℕ)). unwrap_or o []) e ∙ index key
+
+  -- no row has a key that the index has not
+  pub places-none : IsIndexOf rows groups → None ≡ lookup (bytes_eq key) groups → [] ≡ places_of (has_key key) 0 rows
+  places-none index e = ap (λ (o : Option (List ℕ)). unwrap_or o []) e ∙ index key

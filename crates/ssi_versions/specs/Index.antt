@@ -17,7 +17,7 @@ abbrev pub tail_of : List ℕ → List ℕ
 tail_of bank = if length bank == 11 then drop 8 bank else replicate 3 0
 
 abbrev pub key_of : List ℕ → List ℕ → List ℕ
-key_of ccy bank = ccy ++ head_of bank ++ tail_of bank
+key_of ccy bank = ccy ++ (head_of bank ++ tail_of bank)
 
 abbrev pub has_key : List ℕ → SsiRow → Bool
 has_key key r = bytes_eq key (key_of r.ccy.0 r.bank)

@@ -1,6 +1,7 @@
 //! The places of rows, by currency and bank.
 
-ghost use Rattle.std.specs.Prelude.{◌≡◌, ◌++◌, OnOk, find};
+ghost use Rattle.std.specs.Prelude.{◌≡◌, ◌++◌, OnOk, find, slice_get};
+ghost use Rattle.std.specs.Option.{option_and_then, option_copied};
 ghost use Rattle.ssi_versions.specs.Index.{NotesPlace, head_of, holds_at, key_of, tail_of};
 ghost use Rattle.ssi_versions.specs.Rows.{overlaps, shares_a_day};
 ghost use Rattle.ssi_versions.specs.Instruction.{is_asked, is_in_force};
@@ -62,7 +63,8 @@ pub fn note(
 ) -> Result<(), Memory>
     ensures { OnOk result (NotesPlace groups.old.entries groups.new.entries key place) }
 {
-    groups.entry(key)?.or_insert(List::new(alloc)).push(place)
+    groups.entry(key)?.or_insert(List::new(alloc)).push(place)?;
+    Ok(())
 }
 
 fn shares_a_day(a: &SsiRow, b: &SsiRow) -> bool
@@ -94,6 +96,13 @@ pub fn first_overlap(rows: &[SsiRow], places: &[usize], row: &SsiRow) -> Option<
         .iter()
         .copied()
         .find(|at| overlaps_at(rows, *at, row))
+}
+
+/// The row at a place, if there is one.
+pub fn row_at(rows: &[SsiRow], place: Option<usize>) -> Option<&SsiRow>
+    ensures { option_copied result ≡ option_and_then (slice_get rows.now) place }
+{
+    rows.get(place?)
 }
 
 fn is_in_force(row: &SsiRow, ccy: Ccy, day: Day) -> bool

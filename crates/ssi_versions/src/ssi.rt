@@ -93,8 +93,8 @@ impl Ssi {
         ensures { option_copied result ≡ naming bank.now (filter (is_in_force ccy day) self.now) }
     {
         let rows = self.rows.as_slice();
-        let at = index::first_in_force(rows, self.places(ccy, bank), ccy, bank, day)?;
-        rows.get(at)
+        let at = index::first_in_force(rows, self.places(ccy, bank), ccy, bank, day);
+        index::row_at(rows, at)
     }
 
     /// The instructions that this file holds, under the tables `t` (docs/tables.md, "ssi").

@@ -19,7 +19,7 @@ loop-row-preserved c =
     let row = fields_of c.row-item.result in
     let place = row-at fields_of c.args.rows.now c.loop-row.row-index c.row-item.result c.row-item.is c.loop-row-test.true in
     let read = c.in-Ok.ensures in
-    let added : c.in_ok-enter.result ≡ c.loop-row.ssi ++ instruction_of row ∷ [] = c.in_ok-enter.ensures ∙ ap (λ a. c.loop-row.ssi ++ a ∷ []) read.1 in
+    let added = c.in_ok-ssi-in-Ok.ensures ∙ ap (λ a. c.loop-row.ssi ++ a ∷ []) read.1 in
     enters c.loop-row.invariant row place.0 place.1 _ read.0 added
 
 pub returns-in-Err-clause-bad : goal.returns-in-Err-clause-bad
