@@ -1,9 +1,10 @@
 -- The rows of the table by currency and bank: where a bank's rows stand, without a look at the others.
-use Rattle.std.specs.Prelude.{◌≡◌, ℕ, ◌+◌, ◌==◌, Bool, false, List, [], ◌∷◌, ◌++◌, length, take, drop, replicate, unwrap_or, nat_lt, slice_get, if◌then◌else◌}
+use Rattle.std.specs.Prelude.{◌≡◌, All, ℕ, ◌+◌, ◌==◌, Bool, false, List, [], ◌∷◌, ◌++◌, length, take, drop, replicate, unwrap_or, nat_lt, slice_get, if◌then◌else◌}
 use Rattle.std.specs.Map.{lookup}
 use Rattle.std.specs.Option.{option_map_or}
 use Rattle.std.specs.Str.{bytes_eq}
 use Rattle.ssi_versions.specs.declared.row.SsiRow.{SsiRow}
+use Rattle.ssi_versions.specs.InstructionList.{IsInForm}
 
 -- the rows, as contracts see the table
 abbrev pub Instructions : Type 0
@@ -42,3 +43,8 @@ NotesPlace old new key place = (other : List ℕ) → noted new other ≡ (if by
 -- for each key the places of its rows are noted
 abbrev pub IsIndexOf : List SsiRow → List (List ℕ × List ℕ) → Type 0
 IsIndexOf rows groups = (key : List ℕ) → noted groups key ≡ places_of (has_key key) 0 rows
+
+-- the table: instructions in form, and their index
+pub record IsTable (rows : List SsiRow) (groups : List (List ℕ × List ℕ)) : Type 0 where
+  pub form : All IsInForm rows
+  pub index : IsIndexOf rows groups

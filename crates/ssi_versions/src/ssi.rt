@@ -1,11 +1,12 @@
 //! The table of instructions.
 
-ghost use Rattle.std.specs.Prelude.{◌≡◌, ◌++◌, ◌∷◌, [], IfErr, IfOk, None, filter, length, map, position};
+ghost use Rattle.std.specs.Prelude.{◌≡◌, ◌++◌, ◌∷◌, [], IfErr, IfOk, IfSome, None, filter, length, map, position};
 ghost use Rattle.std.specs.Option.{option_copied};
 ghost use Rattle.ref_tables.specs.Refusals.{Tells, named};
 ghost use Rattle.ref_tables.specs.Rows.{rows_of};
 ghost use Rattle.ssi_versions.specs.Index.{has_key, key_of, places_of};
 ghost use Rattle.ssi_versions.specs.Instruction.{instruction_at, is_in_force, naming};
+ghost use Rattle.ssi_versions.specs.InstructionList.{AreInstructions, IsInForm};
 ghost use Rattle.ssi_versions.specs.Rows.{instruction_of, overlaps, ssi_fault};
 
 use crate::index;
@@ -29,13 +30,13 @@ pub struct Ssi {
 }
 
 impl Model for Ssi {
-    ghost use Rattle.ssi_versions.specs.Index.{Instructions, IsIndexOf};
+    ghost use Rattle.ssi_versions.specs.Index.{Instructions, IsTable};
 
     ghost Value = { Instructions };
 
     ghost view = { λ s. s.rows.items };
 
-    ghost invariant = { λ s. IsIndexOf s.rows.items s.groups.entries };
+    ghost invariant = { λ s. IsTable s.rows.items s.groups.entries };
 }
 
 impl Ssi {
@@ -58,6 +59,7 @@ impl Ssi {
 
     /// The table with one more row.
     pub(crate) fn enter(self, alloc: Global, row: SsiRow) -> Result<Ssi, Memory>
+        requires { IsInForm row }
         ensures { IfOk result (λ s. s ≡ self ++ row ∷ []) }
     {
         let Ssi {
@@ -90,7 +92,8 @@ impl Ssi {
 
     // The row in force that names its bank by this text.
     fn naming(&self, ccy: Ccy, bank: &[u8], day: Day) -> Option<&SsiRow>
-        ensures { option_copied result ≡ naming bank.now (filter (is_in_force ccy day) self.now) }
+        ensures form { IfSome result (λ r. IsInForm r.now) }
+        ensures row { option_copied result ≡ naming bank.now (filter (is_in_force ccy day) self.now) }
     {
         let rows = self.rows.as_slice();
         let at = index::first_in_force(rows, self.places(ccy, bank), ccy, bank, day);
@@ -102,6 +105,7 @@ impl Ssi {
     /// `Bad` tells the first row that fails, and why.
     #[tactic(auto, using(ref_tables::proofs::Records::rows_within_some))]
     pub fn read(alloc: Global, file: &[u8], t: &RefTables) -> Result<Ssi, TableFault>
+        ensures instructions { IfOk result (λ s. AreInstructions t.now s) }
         ensures sound { IfOk result (λ s. ssi_fault t.now file.now ≡ None) }
         ensures value { IfOk result (λ s. s ≡ map instruction_of (rows_of file.now)) }
         ensures bad { IfErr result (Tells (named TableName.Ssi (ssi_fault t.now file.now))) }
@@ -115,7 +119,8 @@ impl Ssi {
     /// The instruction by which a bank is paid in a currency on a value date: among the rows in force on that day the
     /// one of the bank's 11 characters, else of its first 8, else of `*`. Takes no memory.
     pub fn at(&self, ccy: Ccy, bank: &Bic, day: Day) -> Option<&SsiRow>
-        ensures { option_copied result ≡ instruction_at self.now ccy bank.now day }
+        ensures form { IfSome result (λ r. IsInForm r.now) }
+        ensures row { option_copied result ≡ instruction_at self.now ccy bank.now day }
     {
         if let Some(row) = self.naming(ccy, &with_branch(bank), day) {
             return Some(row);

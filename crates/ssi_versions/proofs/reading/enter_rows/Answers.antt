@@ -3,6 +3,7 @@ use Rattle.std.proofs.lemmas.List.{length-map}
 use Rattle.csv.specs.Records.{fields_of}
 use Rattle.ssi_versions.specs.Rows.{instruction_of}
 use Rattle.ref_tables.proofs.Entered.{enters, refuses, all-entered, length-entered, row-at, starts}
+use Rattle.ssi_versions.proofs.Standing.{read-in-form}
 use Rattle.ssi_versions.proofs.reading.enter_rows.Goals as goal
 
 pub loop-row-init : goal.loop-row-init
@@ -13,6 +14,11 @@ read_row-requires-clause-few c =
     let before : c.loop-row.row-index ≤ length (map fields_of c.args.rows.now) = simp length-map (omega arith) in
     let many = length-entered c.loop-row.invariant before in
     omega (arith, many)
+
+pub enter-requires : goal.enter-requires
+enter-requires c =
+    let read = c.in-Ok.ensures in
+    rw read.1 (read-in-form c.args.t.now c.loop-row.ssi (fields_of c.row-item.result) read.0)
 
 pub loop-row-preserved : goal.loop-row-preserved
 loop-row-preserved c =
