@@ -1,5 +1,5 @@
 -- What holds of the instructions that a table gives.
-use Rattle.std.specs.Prelude.{◌≡◌, ◌≤◌, ◌↔◌, ◌<ℤ◌, ℕ, List, length, slice_get, Option, Some, None, is_some, IsTrue}
+use Rattle.std.specs.Prelude.{◌≡◌, ◌≤◌, ◌↔◌, ◌<ℤ◌, ℕ, List, length, slice_get, Some, None, is_some, IsTrue}
 use Rattle.corr_ids.specs.Bic.{IsBic}
 use Rattle.corr_ids.specs.declared.bic.Bic.{Bic}
 use Rattle.corr_ids.specs.declared.day.Day.{Day}

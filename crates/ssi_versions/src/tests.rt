@@ -29,14 +29,16 @@ fn banks(alloc: Global) -> Result<RefTables, Fail> {
     let bics = b"HOMEUS33\nALPHDEFF\nBETAFRPP\nGAMMGB2L\nCORRBEBB\n";
     match read_tables(alloc, bics, b"EUR,2\nUSD,2\n", b"") {
         Ok(tables) => Ok(tables),
-        Err(_) => Err("the sample tables are refused")?,
+        Err(TableFault::Memory) => Err("no memory")?,
+        Err(TableFault::Bad { .. }) => Err("the sample tables are refused")?,
     }
 }
 
 fn read(alloc: Global, file: &[u8]) -> Result<Ssi, Fail> {
     match Ssi::read(alloc, file, &banks(alloc)?) {
         Ok(ssi) => Ok(ssi),
-        Err(_) => Err("the instructions are refused")?,
+        Err(TableFault::Memory) => Err("no memory")?,
+        Err(TableFault::Bad { .. }) => Err("the instructions are refused")?,
     }
 }
 

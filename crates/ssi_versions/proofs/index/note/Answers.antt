@@ -1,4 +1,4 @@
-use Rattle.std.proofs.Common.{◌≡◌, ◌∙◌, ◌++◌, ◌∷◌, [], refl, arith}
+use Rattle.std.proofs.Common.{◌≡◌, ◌++◌, ◌∷◌, [], refl, arith}
 use Rattle.ssi_versions.specs.Index.{noted}
 use Rattle.ssi_versions.proofs.Places.{notes_place}
 use Rattle.ssi_versions.proofs.index.note.Goals as goal

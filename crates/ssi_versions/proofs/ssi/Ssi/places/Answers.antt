@@ -1,4 +1,4 @@
-use Rattle.std.proofs.Common.{◌≡◌, ◌∙◌, refl}
+use Rattle.std.proofs.Common.{◌≡◌, ◌∙◌}
 use Rattle.ssi_versions.proofs.Places.{places-some, places-none}
 use Rattle.ssi_versions.proofs.ssi.Ssi.places.Goals as goal
 
