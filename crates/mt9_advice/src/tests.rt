@@ -1,4 +1,0 @@
-//! Advices as messages hold them.
-
-#[test]
-fn nothing(rt: HostRuntime) {}
