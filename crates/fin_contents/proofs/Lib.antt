@@ -1,0 +1,8 @@
+pub mod Steps
+pub mod Bytes
+pub mod Days
+pub mod Again
+pub mod Fit
+pub mod Said
+pub mod Back
+pub mod Placed

@@ -1,3 +1,4 @@
 pub mod Plain
 pub mod Money
 pub mod Parties
+pub mod Writing

@@ -1,13 +1,17 @@
 //! Amounts with their currency: fields 33B, 71F and 71G.
 
-ghost use Rattle.std.specs.Prelude.{◌≡◌, ◌≤◌, ◌<◌, ◌^◌, IfOk, IfSome, IsTrue, drop, length, take};
+ghost use Rattle.std.specs.Prelude.{◌≡◌, ◌≤◌, ◌<◌, ◌^◌, ◌++◌, IfOk, IfSome, IsTrue, Ok, OnOk, drop, length, take};
 ghost use Rattle.fin_contents.specs.Money.{amount_code, ccy_amount_in, ccy_amount_of, is_ccy_amount, minor_in};
+ghost use Rattle.fin_contents.specs.Writing.{IsAmount, IsHeading, ccy_amount_field, ccy_amount_text};
+ghost use Rattle.fin_fields.specs.Writing.{IsField};
+ghost use Rattle.fin_fields.specs.declared.field.Field.{Field as FieldSeen};
 ghost use Rattle.fin_layout.specs.Reading.{Reads};
+ghost use Rattle.ref_tables.specs.Seen.{Tables};
 
 use crate::codes::{C03, P27, T40, T43, T52};
-use crate::line::{are_in, one_line};
-use corr_money::{Amount, AmountFault, Ccy, Minor, read_15d};
-use corr_text::{Code, Set};
+use crate::line::{are_in, line_field, one_line};
+use corr_money::{Amount, AmountFault, Ccy, Minor, put_15d, read_15d};
+use corr_text::{Code, Memory, Set, Text};
 use fin_fields::Field;
 use fin_layout::{Content, P24, Refusal};
 use ref_tables::RefTables;
@@ -103,4 +107,33 @@ impl Content for CcyAmount<'_> {
     fn read(&self, _alloc: Global, f: &Field) -> Result<Amount, Refusal> {
         read_ccy_amount(self.tables, f)
     }
+}
+
+/// Adds a currency and an amount with all its decimals.
+pub fn put_ccy_amount_text(alloc: Global, amount: &Amount, out: &mut Text) -> Result<(), Memory>
+    requires { IsAmount amount.now }
+    ensures { OnOk result (out.new ≡ out.old ++ ccy_amount_text amount.now) }
+{
+    out.push(&amount.ccy.0)?;
+    put_15d(alloc, amount.minor, amount.decimals, out)
+}
+
+/// Writes a currency and an amount as a field of this tag and letter, with exactly as many decimals as the currency has.
+/// What was read under some tables is read again from it, and the field may stand in a text.
+///
+/// Example: 123450 cents of EUR are `EUR1234,50`.
+pub fn put_ccy_amount(
+    alloc: Global,
+    tag: u8,
+    letter: Option<u8>,
+    amount: &Amount,
+) -> Result<Field, Memory>
+    requires { IsAmount amount.now }
+    ensures field { IfOk result (λ f. f ≡ ccy_amount_field tag letter amount.now) }
+    ensures again { IfOk result (λ f. (t : Tables) (read : FieldSeen) → ccy_amount_of t read ≡ Ok amount.now → ccy_amount_of t f ≡ Ok amount.now) }
+    ensures fit { IfOk result (λ f. (t : Tables) (read : FieldSeen) → ccy_amount_of t read ≡ Ok amount.now → IsHeading tag letter → IsField f) }
+{
+    let mut line = Text::from_bytes(alloc, b"")?;
+    put_ccy_amount_text(alloc, amount, &mut line)?;
+    line_field(alloc, tag, letter, line.bytes())
 }

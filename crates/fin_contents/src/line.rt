@@ -1,13 +1,15 @@
 //! Lines and their parts.
 
-ghost use Rattle.std.specs.Prelude.{◌≡◌, option_map};
+ghost use Rattle.std.specs.Prelude.{◌≡◌, IfOk, option_map};
 ghost use Rattle.std.specs.List.{list_all, position};
 ghost use Rattle.corr_text.specs.Sets.{is_in};
 ghost use Rattle.corr_text.specs.Lines.{begins_with};
 ghost use Rattle.fin_contents.specs.Plain.{is_slash, one_line, sized};
+ghost use Rattle.fin_contents.specs.Writing.{line_field};
 
-use corr_text::{Set, is_set};
+use corr_text::{List, Memory, Set, Text, is_set};
 use fin_fields::Field;
+use std::alloc::Global;
 
 /// The line of a field that has one line; none of any other field.
 pub fn one_line(f: &Field) -> Option<&[u8]>
@@ -53,4 +55,13 @@ pub fn first_slash(b: &[u8]) -> Option<usize>
     ensures { result ≡ position is_slash b.now }
 {
     b.iter().position(|c| *c == b'/')
+}
+
+/// A field of one line.
+pub fn line_field(alloc: Global, tag: u8, letter: Option<u8>, line: &[u8]) -> Result<Field, Memory>
+    ensures { IfOk result (λ f. f ≡ line_field tag letter line.now) }
+{
+    let mut lines = List::new(alloc);
+    lines.push(Text::from_bytes(alloc, line)?)?;
+    Ok(Field { tag, letter, lines })
 }

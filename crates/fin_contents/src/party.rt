@@ -1,13 +1,18 @@
 //! Parties: fields 50a to 59a.
 
-ghost use Rattle.std.specs.Prelude.{◌≡◌};
+ghost use Rattle.std.specs.Prelude.{◌≡◌, IfOk, Ok};
 ghost use Rattle.fin_contents.specs.Parties.{is_known, known_party_of};
+ghost use Rattle.fin_fields.specs.Writing.{IsField};
+ghost use Rattle.fin_fields.specs.declared.field.Field.{Field as FieldSeen};
 ghost use Rattle.fin_layout.specs.Reading.{Reads};
+ghost use Rattle.fin_parties.specs.Writing.{party_field};
+ghost use Rattle.ref_tables.specs.Seen.{Tables};
 
 use crate::codes::P25;
+use corr_text::Memory;
 use fin_fields::Field;
 use fin_layout::{Content, P24, Refusal};
-use fin_parties::{Party, PartyFault, read_party};
+use fin_parties::{Party, PartyFault, put_party, read_party};
 use ref_tables::RefTables;
 use std::alloc::Global;
 
@@ -50,4 +55,15 @@ impl Content for KnownParty<'_> {
     fn read(&self, alloc: Global, f: &Field) -> Result<Party, Refusal> {
         read_known_party(alloc, self.tables, f)
     }
+}
+
+/// Writes a party as a field of this tag. What was read under some tables from a field of that tag is read again from it, the
+/// letters of both are one, and the written field may stand in a text where the other did.
+pub fn put_known_party(alloc: Global, tag: u8, p: &Party) -> Result<Field, Memory>
+    ensures field { IfOk result (λ f. f ≡ party_field tag p.now) }
+    ensures again { IfOk result (λ f. (t : Tables) (read : FieldSeen) → read.tag ≡ tag → known_party_of t read ≡ Ok p.now → known_party_of t f ≡ Ok p.now) }
+    ensures letter { IfOk result (λ f. (t : Tables) (read : FieldSeen) → read.tag ≡ tag → known_party_of t read ≡ Ok p.now → f.letter ≡ read.letter) }
+    ensures fit { IfOk result (λ f. (t : Tables) (read : FieldSeen) → read.tag ≡ tag → known_party_of t read ≡ Ok p.now → IsField read → IsField f) }
+{
+    put_party(alloc, tag, p)
 }

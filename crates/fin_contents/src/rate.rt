@@ -1,13 +1,16 @@
 //! Rates: field 36.
 
-ghost use Rattle.std.specs.Prelude.{◌≡◌};
+ghost use Rattle.std.specs.Prelude.{◌≡◌, IfOk, None, Ok};
 ghost use Rattle.fin_contents.specs.Money.{rate_of};
+ghost use Rattle.fin_contents.specs.Writing.{line_field};
+ghost use Rattle.fin_fields.specs.Writing.{IsField};
+ghost use Rattle.fin_fields.specs.declared.field.Field.{Field as FieldSeen};
 ghost use Rattle.fin_layout.specs.Reading.{Reads};
 
 use crate::codes::{T40, T43};
-use crate::line::{are_in, one_line};
+use crate::line::{are_in, line_field, one_line};
 use corr_money::is_comma_number;
-use corr_text::{Set, Text};
+use corr_text::{Memory, Set, Text};
 use fin_fields::Field;
 use fin_layout::{Content, P24, Refusal};
 use std::alloc::Global;
@@ -47,4 +50,14 @@ impl Content for Rate {
     fn read(&self, alloc: Global, f: &Field) -> Result<Text, Refusal> {
         read_rate(alloc, f)
     }
+}
+
+/// Writes a rate as field 36. What was read is read again from it, and the field may stand in a text where the one that was
+/// read did.
+pub fn put_rate(alloc: Global, rate: &Text) -> Result<Field, Memory>
+    ensures field { IfOk result (λ f. f ≡ line_field 36 None rate.now) }
+    ensures again { IfOk result (λ f. (read : FieldSeen) → rate_of read ≡ Ok rate.now → rate_of f ≡ Ok rate.now) }
+    ensures fit { IfOk result (λ f. (read : FieldSeen) → rate_of read ≡ Ok rate.now → IsField read → IsField f) }
+{
+    line_field(alloc, 36, None, rate.bytes())
 }

@@ -1,13 +1,16 @@
 //! References: fields 20 and 21.
 
-ghost use Rattle.std.specs.Prelude.{◌≡◌, ◌==◌, ◌&&◌};
+ghost use Rattle.std.specs.Prelude.{◌≡◌, ◌==◌, ◌&&◌, ◌≤◌, IfOk, None, Ok};
 ghost use Rattle.std.specs.List.{list_any, zip};
 ghost use Rattle.fin_contents.specs.Plain.{has_double_slash, has_stray_slash, reference_of};
+ghost use Rattle.fin_contents.specs.Writing.{line_field};
+ghost use Rattle.fin_fields.specs.Writing.{IsField};
+ghost use Rattle.fin_fields.specs.declared.field.Field.{Field as FieldSeen};
 ghost use Rattle.fin_layout.specs.Reading.{Reads};
 
 use crate::codes::T26;
-use crate::line::{begins_with, one_line};
-use corr_text::{Set, Text};
+use crate::line::{begins_with, line_field, one_line};
+use corr_text::{Memory, Set, Text};
 use fin_fields::{Field, is_run_of};
 use fin_layout::{Content, P24, Refusal};
 use std::alloc::Global;
@@ -69,4 +72,14 @@ impl Content for Reference {
     fn read(&self, alloc: Global, f: &Field) -> Result<Text, Refusal> {
         read_reference(alloc, f)
     }
+}
+
+/// Writes a reference as a field of this tag. What was read is read again from it, and the field may stand in a text where
+/// the one that was read did.
+pub fn put_reference(alloc: Global, tag: u8, reference: &Text) -> Result<Field, Memory>
+    ensures field { IfOk result (λ f. f ≡ line_field tag None reference.now) }
+    ensures again { IfOk result (λ f. (read : FieldSeen) → reference_of read ≡ Ok reference.now → reference_of f ≡ Ok reference.now) }
+    ensures fit { IfOk result (λ f. (read : FieldSeen) → reference_of read ≡ Ok reference.now → IsField read → tag ≤ 99 → IsField f) }
+{
+    line_field(alloc, tag, None, reference.bytes())
 }

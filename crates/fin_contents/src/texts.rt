@@ -1,10 +1,13 @@
 //! Lines of text: fields 70, 72 and 77B.
 
-ghost use Rattle.std.specs.Prelude.{◌≡◌};
+ghost use Rattle.std.specs.Prelude.{◌≡◌, ℕ, IfOk, Ok};
 ghost use Rattle.fin_contents.specs.Plain.{texts_of};
+ghost use Rattle.fin_contents.specs.Writing.{IsHeading, lines_field};
+ghost use Rattle.fin_fields.specs.Writing.{IsField};
+ghost use Rattle.fin_fields.specs.declared.field.Field.{Field as FieldSeen};
 ghost use Rattle.fin_layout.specs.Reading.{Reads};
 
-use corr_text::{List, Text, copy_texts};
+use corr_text::{List, Memory, Text, copy_texts};
 use fin_fields::{Field, Pattern, matches};
 use fin_layout::{Content, P24, Refusal};
 use std::alloc::Global;
@@ -33,4 +36,18 @@ impl Content for Texts {
     fn read(&self, alloc: Global, f: &Field) -> Result<List<Text>, Refusal> {
         read_texts(alloc, self.most, f)
     }
+}
+
+/// Writes lines of text as a field of this tag and letter. What was read is read again from it, and the field may stand in a
+/// text where the one that was read did.
+pub fn put_texts(alloc: Global, tag: u8, letter: Option<u8>, lines: &[Text]) -> Result<Field, Memory>
+    ensures field { IfOk result (λ f. f ≡ lines_field tag letter lines.now) }
+    ensures again { IfOk result (λ f. (most : ℕ) (read : FieldSeen) → texts_of most read ≡ Ok lines.now → texts_of most f ≡ Ok lines.now) }
+    ensures fit { IfOk result (λ f. (most : ℕ) (read : FieldSeen) → texts_of most read ≡ Ok lines.now → IsField read → IsHeading tag letter → IsField f) }
+{
+    Ok(Field {
+        tag,
+        letter,
+        lines: copy_texts(alloc, lines)?,
+    })
 }

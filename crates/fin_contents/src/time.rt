@@ -1,11 +1,14 @@
 //! Times: field 13C.
 
-ghost use Rattle.std.specs.Prelude.{◌≡◌};
+ghost use Rattle.std.specs.Prelude.{◌≡◌, IfOk, Ok, Some};
 ghost use Rattle.fin_contents.specs.Plain.{is_clock, is_time, time_of};
+ghost use Rattle.fin_contents.specs.Writing.{line_field};
+ghost use Rattle.fin_fields.specs.Writing.{IsField};
+ghost use Rattle.fin_fields.specs.declared.field.Field.{Field as FieldSeen};
 ghost use Rattle.fin_layout.specs.Reading.{Reads};
 
-use crate::line::{are_in, begins_with, first_slash, one_line};
-use corr_text::{Set, Text};
+use crate::line::{are_in, begins_with, first_slash, line_field, one_line};
+use corr_text::{Memory, Set, Text};
 use fin_fields::{Field, is_run_of};
 use fin_layout::{Content, P24, Refusal};
 use std::alloc::Global;
@@ -16,7 +19,8 @@ use std::alloc::Global;
 #[derive(Clone, Copy)]
 pub struct Time;
 
-fn is_clock(b: &[u8]) -> bool
+/// Whether bytes are a time of day with its distance from UTC, `4!n`, `+` or `-`, `4!n`, as `0915+0100`.
+pub fn is_clock(b: &[u8]) -> bool
     ensures { result ≡ is_clock b.now }
 {
     b.len() == 9
@@ -55,4 +59,14 @@ impl Content for Time {
     fn read(&self, alloc: Global, f: &Field) -> Result<Text, Refusal> {
         read_time(alloc, f)
     }
+}
+
+/// Writes a time as field 13C. What was read is read again from it, and the field may stand in a text where the one that was
+/// read did.
+pub fn put_time(alloc: Global, time: &Text) -> Result<Field, Memory>
+    ensures field { IfOk result (λ f. f ≡ line_field 13 (Some 67) time.now) }
+    ensures again { IfOk result (λ f. (read : FieldSeen) → time_of read ≡ Ok time.now → time_of f ≡ Ok time.now) }
+    ensures fit { IfOk result (λ f. (read : FieldSeen) → time_of read ≡ Ok time.now → IsField read → IsField f) }
+{
+    line_field(alloc, 13, Some(b'C'), time.bytes())
 }

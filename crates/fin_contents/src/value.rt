@@ -1,16 +1,21 @@
 //! The value date, currency and amount: field 32A.
 
-ghost use Rattle.std.specs.Prelude.{◌≡◌, ◌≤◌, IsTrue, drop, length, take};
+ghost use Rattle.std.specs.Prelude.{◌≡◌, ◌≤◌, ◌++◌, IfOk, IsTrue, Ok, drop, length, take};
 ghost use Rattle.fin_contents.specs.Money.{is_dated_amount, value_in, value_of};
+ghost use Rattle.corr_ids.specs.Day.{yymmdd_of};
+ghost use Rattle.fin_contents.specs.Writing.{IsValue, ccy_amount_text, value_field};
+ghost use Rattle.fin_fields.specs.Writing.{IsField};
+ghost use Rattle.fin_fields.specs.declared.field.Field.{Field as FieldSeen};
 ghost use Rattle.fin_layout.specs.Reading.{Reads};
+ghost use Rattle.ref_tables.specs.Seen.{Tables};
 
-use crate::amount::{ccy_amount_in, is_ccy_amount};
+use crate::amount::{ccy_amount_in, is_ccy_amount, put_ccy_amount_text};
 use crate::codes::{C08, P26, T50};
-use crate::line::{are_in, one_line};
+use crate::line::{are_in, line_field, one_line};
 use crate::metal::is_metal;
-use corr_ids::{Day, day_from_yymmdd};
+use corr_ids::{Day, day_from_yymmdd, put_yymmdd};
 use corr_money::Amount;
-use corr_text::{Code, Set};
+use corr_text::{Code, Memory, Set, Text};
 use fin_fields::Field;
 use fin_layout::{Content, P24, Refusal};
 use ref_tables::RefTables;
@@ -82,4 +87,20 @@ impl Content for ValueDate<'_> {
     fn read(&self, _alloc: Global, f: &Field) -> Result<Value, Refusal> {
         read_value(self.tables, f)
     }
+}
+
+/// Writes a value date and an amount as field 32A, the amount with exactly as many decimals as the currency has. What was
+/// read under some tables is read again from it, and the field may stand in a text.
+///
+/// Example: 3 June 2024 and 123450 cents of EUR are `240603EUR1234,50`.
+pub fn put_value(alloc: Global, value: &Value) -> Result<Field, Memory>
+    requires { IsValue value.now }
+    ensures field { IfOk result (λ f. f ≡ value_field value.now) }
+    ensures again { IfOk result (λ f. (t : Tables) (read : FieldSeen) → value_of t read ≡ Ok value.now → value_of t f ≡ Ok value.now) }
+    ensures fit { IfOk result (λ f. (t : Tables) (read : FieldSeen) → value_of t read ≡ Ok value.now → IsField f) }
+{
+    let mut line = Text::from_bytes(alloc, b"")?;
+    put_yymmdd(value.day, &mut line)?;
+    put_ccy_amount_text(alloc, &value.amount, &mut line)?;
+    line_field(alloc, 32, Some(b'A'), line.bytes())
 }

@@ -17,15 +17,15 @@ use Rattle.fin_layout.specs.declared.fault.MtFault.{MtFault}
 use Rattle.fin_layout.specs.declared.fault.MtFault.TheVariants as faults
 use Rattle.fin_layout.proofs.FoundField.{field-here, field-later, shifted}
 
-first-none : {A : Type 0} (o : Option A) (more : List (Option A)) → first_of (o ∷ more) ≡ None → (o ≡ None) × (first_of more ≡ None)
+pub first-none : {A : Type 0} (o : Option A) (more : List (Option A)) → first_of (o ∷ more) ≡ None → (o ≡ None) × (first_of more ≡ None)
 first-none None more h = (refl, h)
 first-none (Some x) more h = absurd (cc h)
 
-map-none : {A B : Type 0} (g : A → B) (o : Option A) → option_map g o ≡ None → o ≡ None
+pub map-none : {A B : Type 0} (g : A → B) (o : Option A) → option_map g o ≡ None → o ≡ None
 map-none g None h = refl
 map-none g (Some x) h = absurd (cc h)
 
-holds-none : {F : Type 0} (b : Bool) (fault : F) → unless b fault ≡ None → b ≡ true
+pub holds-none : {F : Type 0} (b : Bool) (fault : F) → unless b fault ≡ None → b ≡ true
 holds-none true fault h = refl
 holds-none false fault h = absurd (cc h)
 
@@ -57,7 +57,7 @@ none-later : (b : Bool) (k : ℕ) (o : Option ℕ) → cond b (Some k) o ≡ Non
 none-later true k o h = absurd (cc h)
 none-later false k o h = h
 
-taken-from : (order : List Place) (j n k : ℕ) (p : Place) (found : List ℕ) → k ≡ j + n → missing_from j order found ≡ None → slice_get order n ≡ Some p → p.must ≡ true → list_any (λ q. q == k) found ≡ true
+pub taken-from : (order : List Place) (j n k : ℕ) (p : Place) (found : List ℕ) → k ≡ j + n → missing_from j order found ≡ None → slice_get order n ≡ Some p → p.must ≡ true → list_any (λ q. q == k) found ≡ true
 unfolding missing_from
 taken-from [] j n k p found at h e m = absurd (cc e)
 taken-from (x ∷ order) j zero k p found at h e m =
@@ -69,19 +69,19 @@ taken-from (x ∷ order) j (suc n) k p found at h e m =
 
 -- ---- the field that is found passed its test
 
-unshifted : (o : Option (ℕ × Field)) (n : ℕ) (f : Field) → option_map (shifted 1) o ≡ Some (n, f) → (m : ℕ) × (o ≡ Some (m, f))
+pub unshifted : (o : Option (ℕ × Field)) (n : ℕ) (f : Field) → option_map (shifted 1) o ≡ Some (n, f) → (m : ℕ) × (o ≡ Some (m, f))
 unshifted None n f h = absurd (cc h)
 unshifted (Some (m, g)) n f h =
     let pair : shifted 1 (m, g) ≡ (n, f) = cc h in
     (m, ap (λ (x : Field). Some (m, x)) (ap (λ (x : ℕ × Field). x.1) pair))
 
-abbrev numbered : ℕ → Field → ℕ × Field
+abbrev pub numbered : ℕ → Field → ℕ × Field
 numbered n f = (n, f)
 
-abbrev found_at : ℕ → Field → Option (ℕ × Field)
+abbrev pub found_at : ℕ → Field → Option (ℕ × Field)
 found_at n f = Some (n, f)
 
-second : (m n : ℕ) (g f : Field) → found_at m g ≡ found_at n f → g ≡ f
+pub second : (m n : ℕ) (g f : Field) → found_at m g ≡ found_at n f → g ≡ f
 second m n g f h =
     let pair : numbered m g ≡ numbered n f = cc h in
     ap (λ (x : ℕ × Field). x.1) pair
@@ -90,7 +90,7 @@ nil-get : (o : Option ℕ) → option_and_then {U = ℕ × Field} (λ i. option_
 nil-get None = refl
 nil-get (Some i) = refl
 
-field-nil : (found : List ℕ) (k : ℕ) → field_in [] found k ≡ None
+pub field-nil : (found : List ℕ) (k : ℕ) → field_in [] found k ≡ None
 field-nil found k = nil-get (position (λ p. p == k) found)
 
 module _ (test : ℕ → Field → Option Code) (whole : List Field) where

@@ -45,7 +45,7 @@ placed-from order low j free f d e from le =
 -- ---- placing
 
 -- behind a field the next place is free, or the same
-free_after-bounds : (order : List Place) (k : ℕ) → (k ≤ free_after order k) × (free_after order k ≤ k + 1)
+pub free_after-bounds : (order : List Place) (k : ℕ) → (k ≤ free_after order k) × (free_after order k ≤ k + 1)
 free_after-bounds order k = go (slice_get order k)
   where
     next : (many : Bool) → (k ≤ cond many k (k + 1)) × (cond many k (k + 1) ≤ k + 1)

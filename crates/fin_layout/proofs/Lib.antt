@@ -1,8 +1,8 @@
 pub mod PlacedSoFar
 pub mod InTurn
-pub mod Tested
 pub mod FoundField
 pub mod Grouped
 pub mod ReadGroups
 pub mod Fine
 pub mod ReadBack
+pub mod InOrder

@@ -1,6 +1,6 @@
 //! Kinds of content.
 
-ghost use Rattle.std.specs.Prelude.{◌≡◌, ℕ, IfOk, Option, Result};
+ghost use Rattle.std.specs.Prelude.{◌≡◌, IfOk, Result};
 ghost use Rattle.corr_text.specs.First.{fault_of};
 ghost use Rattle.corr_text.specs.declared.fault.Code.{Code as CodeSeen};
 ghost use Rattle.fin_fields.specs.declared.field.Field.{Field as FieldSeen};
@@ -22,16 +22,6 @@ pub trait Content {
     /// Reads a field. `Bad` comes exactly where the content is wrong, with the code of the first test that it fails.
     fn read(&self, alloc: Global, f: &Field) -> Result<Self::Value, Refusal>
         ensures { Reads result (meaning self.now f.now) };
-}
-
-/// The contents of a message type: what is wrong with a field at each of its places.
-pub trait Contents {
-    /// The code of what is wrong with a field at a place, none where nothing is.
-    ghost content_test: { Self → ℕ → FieldSeen → Option CodeSeen };
-
-    /// Tests a field at a place.
-    fn test(&self, alloc: Global, place: usize, f: &Field) -> Result<Option<Code>, Memory>
-        ensures { IfOk result (λ o. o ≡ content_test self.now place f.now) };
 }
 
 /// The code of what is wrong with a field of some kind of content, none where nothing is.

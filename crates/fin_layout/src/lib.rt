@@ -10,11 +10,10 @@ mod place;
 mod placing;
 mod reading;
 mod structure;
-mod testing;
 #[cfg(test)]
 mod tests;
 
-pub use content::{Content, Contents, refusal};
+pub use content::{Content, refusal};
 pub use fault::{MtFault, P22, P23, P24, Refusal};
 pub use finding::find;
 pub use naming::{absent, fault_at};
@@ -22,4 +21,3 @@ pub use place::Place;
 pub use placing::{missing, places};
 pub use reading::{read_all, read_one, read_optional};
 pub use structure::check_structure;
-pub use testing::check_fields;

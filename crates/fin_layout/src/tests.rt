@@ -1,12 +1,12 @@
 //! A small cover: two sequences that share tags, as of an MT202 COV.
 
-ghost use Rattle.std.specs.Prelude.{◌≤◌, None, Some, IfOk, if◌then◌else◌, length, nat_le, slice_get};
+ghost use Rattle.std.specs.Prelude.{◌≤◌, IfOk, length, slice_get};
 ghost use Rattle.corr_text.specs.First.{or_fault};
 ghost use Rattle.fin_layout.specs.declared.fault.TheConstants.{P24 as WrongFormat};
 
 use crate::{
-    Content, Contents, MtFault, P22, P23, P24, Place, Refusal, check_fields, check_structure,
-    read_all, read_one, read_optional, refusal,
+    Content, MtFault, P22, P23, P24, Place, Refusal, check_structure, read_all, read_one,
+    read_optional, refusal,
 };
 use corr_text::{Code, Fault, List, Memory, Text};
 use fin_fields::{Field, FieldFault, cut_fields};
@@ -75,23 +75,6 @@ impl Content for FirstLine {
     }
 }
 
-#[derive(Drop)]
-struct Most {
-    lines: usize,
-}
-
-impl Contents for Most {
-    ghost content_test = { λ c _ f. if nat_le (length f.lines) c.lines then None else Some WrongFormat };
-
-    fn test(&self, _alloc: Global, _place: usize, f: &Field) -> Result<Option<Code>, Memory> {
-        if f.lines.as_slice().len() <= self.lines {
-            Ok(None)
-        } else {
-            Ok(Some(P24))
-        }
-    }
-}
-
 fn cut(alloc: Global, text: &[u8]) -> Result<List<Field>, FieldFault>
     ensures { IfOk result (λ fields. length fields ≤ 1000) }
 {
@@ -139,29 +122,6 @@ fn fields_take_their_places(rt: HostRuntime) -> Result<(), Fail> {
         let fields = cut(rt.alloc(), text)?;
         match check_structure(rt.alloc(), &ORDER, fields.as_slice()) {
             Ok(found) => assert!(rt; want.is_none() && found.len() == fields.as_slice().len()),
-            Err(MtFault::Memory) => return Err(Memory.into()),
-            Err(fault) => assert_eq!(rt; Some(fault), want),
-        }
-    }
-    Ok(())
-}
-
-#[test]
-fn contents_are_told_in_the_order_of_the_text(rt: HostRuntime) -> Result<(), Fail> {
-    let fields = cut(
-        rt.alloc(),
-        b":20:R\n:52A:C\n:58A:B\n:50K:P\n:52A:C\nD\n:59:Q\nR\nS",
-    )?;
-    let fields = fields.as_slice();
-    let rows: [(usize, Option<MtFault>); 4] = [
-        (3, None),
-        (2, fault(P24, b"59 ", 1)),
-        (1, fault(P24, b"52A", 2)),
-        (0, fault(P24, b"20 ", 1)),
-    ];
-    for (lines, want) in rows {
-        match check_fields(rt.alloc(), &ORDER, &Most { lines }, fields) {
-            Ok(found) => assert!(rt; want.is_none() && found.len() == 6),
             Err(MtFault::Memory) => return Err(Memory.into()),
             Err(fault) => assert_eq!(rt; Some(fault), want),
         }

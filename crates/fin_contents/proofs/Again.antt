@@ -1,0 +1,270 @@
+-- A content that was read is read again from the field that it is written as.
+use Rattle.std.proofs.Common.{◌≡◌, ℕ, ◌+◌, ◌<◌, ◌≤◌, ◌^◌, ◌==◌, ◌&&◌, not, Bool, true, false, List, [], ◌∷◌, ◌++◌, length, take, drop, Option, Some, None, Result, Ok, Err, refl, sym, ap, ◌∙◌, arith, nat_le, nat_lt}
+use Rattle.std.specs.Prelude.{IfSome, IsTrue}
+use Rattle.std.specs.List.{list_all}
+use Rattle.std.proofs.lemmas.Bool.{le-leb}
+use Rattle.std.proofs.lemmas.Bool.Decides.{nat_tests}
+use Rattle.std.proofs.lemmas.List.{drop_at, length-append, length-take-le, take_at}
+use Rattle.std.specs.Str.{bytes_eq}
+use Rattle.corr_text.specs.First.{check, or_fault, ◌>>=◌}
+use Rattle.corr_text.specs.Sets.{is_in}
+use Rattle.corr_text.specs.declared.fault.Code.{Code}
+use Rattle.corr_text.specs.declared.set.Set.TheVariants.{X, N, A}
+use Rattle.corr_ids.specs.declared.day.Day.{Day}
+use Rattle.corr_ids.specs.Day.{InCentury, day_of, yymmdd_of}
+use Rattle.corr_ids.proofs.DaySpelling.{day-spelled}
+use Rattle.corr_money.specs.Amounts.{amount_of, amount_text, decimals_of, is_comma_number, minor_of}
+use Rattle.corr_money.specs.declared.amount.Amount.{Amount}
+use Rattle.corr_money.specs.declared.amount.Minor.{Minor}
+use Rattle.corr_money.specs.declared.fault.AmountFault.{AmountFault}
+use Rattle.corr_money.specs.declared.fault.AmountFault.TheVariants.{T40 as NoNumber, T43 as TooLong, C03 as TooFine, TooLarge}
+use Rattle.corr_money.proofs.Written.{reads_written}
+use Rattle.ref_tables.specs.Seen.{Tables, decimals_in, few_decimals}
+use Rattle.ref_tables.proofs.Decimals.{lookup_few}
+use Rattle.fin_fields.specs.declared.field.Field.{Field}
+use Rattle.fin_fields.specs.declared.pattern.Pattern.TheVariants.{Lines}
+use Rattle.fin_fields.specs.Patterns.{is_run, meets}
+use Rattle.fin_layout.specs.declared.fault.TheConstants.{P24}
+use Rattle.fin_parties.specs.Party.{party_of}
+use Rattle.fin_parties.specs.Writing.{party_field}
+use Rattle.fin_parties.specs.declared.party.Party.{Party}
+use Rattle.fin_parties.proofs.Again.{party-again}
+use Rattle.fin_contents.specs.declared.codes.TheConstants.{C08, P25, P26, T26, T40, T43, T50, T52}
+use Rattle.fin_contents.specs.declared.value.Value.{Value}
+use Rattle.fin_contents.specs.Money.{amount_code, ccy_amount_in, ccy_amount_of, coded, is_ccy_amount, is_dated_amount, is_metal, minor_in, rate_of, value_in, value_of}
+use Rattle.fin_contents.specs.Parties.{is_known, known_party_of}
+use Rattle.fin_contents.specs.Plain.{has_stray_slash, is_time, one_line, reference_of, short_line_of, texts_of, time_of}
+use Rattle.fin_contents.specs.Writing.{IsAmount, IsValue, ccy_amount_field, ccy_amount_text, line_field, lines_field, value_field}
+use Rattle.fin_contents.proofs.Bytes.{and-three, comma_number-of-x}
+use Rattle.fin_contents.proofs.Days.{day-in-century}
+use Rattle.fin_contents.proofs.Steps.{checked, is-only, read-then, there}
+
+-- ---- contents that keep their lines
+
+pub reference-kept : (f : Field) (x : List ℕ) → reference_of f ≡ Ok x → f.lines ≡ x ∷ []
+unfolding reference_of
+reference-kept f x e =
+    let line = there (one_line f) P24 _ x e in
+    let run = checked (is_run (is_in X) 16 line.0) P24 _ x line.2 in
+    let plain = checked (not (has_stray_slash line.0)) T26 _ x run.1 in
+    let same : line.0 ≡ x = cc plain.1 in
+    is-only f.lines line.0 line.1 ∙ ap (λ (y : List ℕ). y ∷ []) same
+
+pub reference-again : (tag : ℕ) (letter : Option ℕ) (f : Field) (x : List ℕ) → reference_of f ≡ Ok x → reference_of (line_field tag letter x) ≡ Ok x
+unfolding reference_of
+reference-again tag letter f x e = ap (λ (ls : List (List ℕ)). reference_of (lines_field tag letter ls)) (sym (reference-kept f x e)) ∙ e
+
+pub time-kept : (f : Field) (x : List ℕ) → time_of f ≡ Ok x → f.lines ≡ x ∷ []
+unfolding time_of
+time-kept f x e =
+    let line = there (one_line f) P24 _ x e in
+    let is = checked (is_time line.0) P24 _ x line.2 in
+    let same : line.0 ≡ x = cc is.1 in
+    is-only f.lines line.0 line.1 ∙ ap (λ (y : List ℕ). y ∷ []) same
+
+pub time-again : (tag : ℕ) (letter : Option ℕ) (f : Field) (x : List ℕ) → time_of f ≡ Ok x → time_of (line_field tag letter x) ≡ Ok x
+unfolding time_of
+time-again tag letter f x e = ap (λ (ls : List (List ℕ)). time_of (lines_field tag letter ls)) (sym (time-kept f x e)) ∙ e
+
+pub rate-kept : (f : Field) (x : List ℕ) → rate_of f ≡ Ok x → f.lines ≡ x ∷ []
+unfolding rate_of
+rate-kept f x e =
+    let line = there (one_line f) P24 _ x e in
+    let some = checked (nat_le 1 (length line.0) && list_all (is_in X) line.0) P24 _ x line.2 in
+    let number = checked (is_comma_number line.0) T40 _ x some.1 in
+    let short = checked (nat_le (length line.0) 12) T43 _ x number.1 in
+    let same : line.0 ≡ x = cc short.1 in
+    is-only f.lines line.0 line.1 ∙ ap (λ (y : List ℕ). y ∷ []) same
+
+pub rate-again : (tag : ℕ) (letter : Option ℕ) (f : Field) (x : List ℕ) → rate_of f ≡ Ok x → rate_of (line_field tag letter x) ≡ Ok x
+unfolding rate_of
+rate-again tag letter f x e = ap (λ (ls : List (List ℕ)). rate_of (lines_field tag letter ls)) (sym (rate-kept f x e)) ∙ e
+
+pub short_line-kept : (most : ℕ) (f : Field) (x : List ℕ) → short_line_of most f ≡ Ok x → f.lines ≡ x ∷ []
+unfolding short_line_of
+short_line-kept most f x e =
+    let line = there (one_line f) P24 _ x e in
+    let run = checked (is_run (is_in X) most line.0) P24 _ x line.2 in
+    let same : line.0 ≡ x = cc run.1 in
+    is-only f.lines line.0 line.1 ∙ ap (λ (y : List ℕ). y ∷ []) same
+
+pub short_line-again : (most tag : ℕ) (letter : Option ℕ) (f : Field) (x : List ℕ) → short_line_of most f ≡ Ok x → short_line_of most (line_field tag letter x) ≡ Ok x
+unfolding short_line_of
+short_line-again most tag letter f x e = ap (λ (ls : List (List ℕ)). short_line_of most (lines_field tag letter ls)) (sym (short_line-kept most f x e)) ∙ e
+
+pub texts-kept : (most : ℕ) (f : Field) (lines : List (List ℕ)) → texts_of most f ≡ Ok lines → f.lines ≡ lines
+unfolding texts_of
+texts-kept most f lines e = cc (checked (meets (Lines most 35) f.lines) P24 _ lines e).1
+
+pub texts-again : (most tag : ℕ) (letter : Option ℕ) (f : Field) (lines : List (List ℕ)) → texts_of most f ≡ Ok lines → texts_of most (lines_field tag letter lines) ≡ Ok lines
+unfolding texts_of
+texts-again most tag letter f lines e = ap (λ (ls : List (List ℕ)). texts_of most (lines_field tag letter ls)) (sym (texts-kept most f lines e)) ∙ e
+
+-- ---- amounts
+
+coded-ok : (r : Result Minor AmountFault) (minor : Minor) → coded r ≡ Ok minor → r ≡ Ok minor
+coded-ok (Ok m) minor e = ap Ok (cc e)
+coded-ok (Err fault) minor e = absurd (cc e)
+
+-- what is known of an amount that was read from a line
+record AmountRead (t : Tables) (line : List ℕ) (a : Amount) : Type 0 where
+  ccy : a.ccy.0 ≡ take 3 line
+  known : decimals_in t (take 3 line) ≡ Some a.decimals
+  minor : amount_of a.decimals (drop 3 line) ≡ Ok a.minor
+
+amount-read : (t : Tables) (line : List ℕ) (a : Amount) → ccy_amount_in t line ≡ Ok a → AmountRead t line a
+unfolding ccy_amount_in
+amount-read t line a e =
+    let decimals = there (decimals_in t (take 3 line)) T52 _ a e in
+    let minor = read-then (minor_in decimals.0 (drop 3 line)) _ a decimals.2 in
+    let same : record { ccy = record { 0 = take 3 line }; minor = minor.0; decimals = decimals.0 } ≡ a = cc minor.2 in
+    rw (← same) (record { ccy = refl; known = decimals.1; minor = coded-ok (amount_of decimals.0 (drop 3 line)) minor.0 minor.1 })
+
+below : (n : ℕ) → nat_lt n 100000000000000 ≡ true → n < 10 ^ 14
+below n e = grind (arith, nat_tests)
+
+-- an amount that was read is below the end of amounts
+small-amount : (decimals : ℕ) (bs : List ℕ) (m : Minor) → amount_of decimals bs ≡ Ok m → (is_comma_number bs ≡ true) × (m.0 < 10 ^ 14)
+unfolding amount_of
+small-amount decimals bs m e =
+    let number = checked (is_comma_number bs) NoNumber _ m e in
+    let short = checked (nat_le (length bs) 15) TooLong _ m number.1 in
+    let few = checked (nat_le (length (decimals_of bs)) decimals) TooFine _ m short.1 in
+    let small = checked (nat_lt (minor_of decimals bs) 100000000000000) TooLarge _ m few.1 in
+    let same : record { 0 = minor_of decimals bs } ≡ m = cc small.1 in
+    (number.0, rw (← same) (below (minor_of decimals bs) small.0))
+
+some-few : (o : Option ℕ) (d : ℕ) → o ≡ Some d → IfSome o (λ n. n ≤ 4) → d ≤ 4
+some-few (Some n) d e h = let same : n ≡ d = cc e in rw (← same) h
+some-few None d e h = absurd (cc e)
+
+-- what was read may be written, where the table's currencies have at most 4 decimals
+amount-is : (t : Tables) (line : List ℕ) (a : Amount) → IsTrue (few_decimals t.ccys) → ccy_amount_in t line ≡ Ok a → IsAmount a
+amount-is t line a few e =
+    let read = amount-read t line a e in
+    record {
+      small = (small-amount a.decimals (drop 3 line) a.minor read.minor).1;
+      few = some-few (decimals_in t (take 3 line)) a.decimals read.known (lookup_few (bytes_eq (take 3 line)) t.ccys few);
+    }
+
+pub ccy_amount-is : (t : Tables) (f : Field) (a : Amount) → IsTrue (few_decimals t.ccys) → ccy_amount_of t f ≡ Ok a → IsAmount a
+unfolding ccy_amount_of
+ccy_amount-is t f a few e =
+    let line = there (one_line f) P24 _ a e in
+    let form = checked (is_ccy_amount line.0) P24 _ a line.2 in
+    amount-is t line.0 a few form.1
+
+-- an amount as it is written
+record AmountWritten (t : Tables) (a : Amount) : Type 0 where
+  form : is_ccy_amount (ccy_amount_text a) ≡ true
+  read : ccy_amount_in t (ccy_amount_text a) ≡ Ok a
+  front : take 3 (ccy_amount_text a) ≡ a.ccy.0
+
+within-4 : (n : ℕ) → nat_le 4 n ≡ true → 3 ≤ n
+within-4 n e = grind (arith, nat_tests)
+
+amount-written : (t : Tables) (line : List ℕ) (a : Amount) → IsAmount a → is_ccy_amount line ≡ true → ccy_amount_in t line ≡ Ok a → AmountWritten t a
+unfolding ccy_amount_in
+amount-written t line a is form e =
+    let read = amount-read t line a e in
+    let parts = and-three (nat_le 4 (length line)) (list_all (is_in A) (take 3 line)) (list_all (is_in X) (drop 3 line)) form in
+    let text : List ℕ = amount_text a.decimals a.minor.0 in
+    let three : length a.ccy.0 ≡ 3 = ap (λ (x : List ℕ). length x) read.ccy ∙ length-take-le 3 line (within-4 (length line) parts.0) in
+    let front : take 3 (a.ccy.0 ++ text) ≡ a.ccy.0 = take_at a.ccy.0 text 3 three in
+    let back : drop 3 (a.ccy.0 ++ text) ≡ text = drop_at a.ccy.0 text 3 three in
+    let letters : list_all (is_in A) a.ccy.0 ≡ true = ap (λ (x : List ℕ). list_all (is_in A) x) read.ccy ∙ parts.1 in
+    let known : decimals_in t a.ccy.0 ≡ Some a.decimals = ap (λ (x : List ℕ). decimals_in t x) read.ccy ∙ read.known in
+    let minor : amount_of a.decimals text ≡ Ok a.minor = reads_written a.decimals a.minor.0 is.few is.small in
+    let number = comma_number-of-x text (small-amount a.decimals text a.minor minor).0 in
+    let long : nat_le 4 (length (a.ccy.0 ++ text)) ≡ true = le-leb 4 (length (a.ccy.0 ++ text)) (omega (arith, length-append a.ccy.0 text, three, number.1)) in
+    record {
+      form = rw (long, front, letters, back, number.0) refl;
+      read = rw (front, known, back, minor) refl;
+      front = front;
+    }
+
+pub ccy_amount-again : (tag : ℕ) (letter : Option ℕ) (t : Tables) (f : Field) (a : Amount) → IsAmount a → ccy_amount_of t f ≡ Ok a → ccy_amount_of t (ccy_amount_field tag letter a) ≡ Ok a
+unfolding ccy_amount_of
+ccy_amount-again tag letter t f a is e =
+    let line = there (one_line f) P24 _ a e in
+    let form = checked (is_ccy_amount line.0) P24 _ a line.2 in
+    let written = amount-written t line.0 a is form.0 form.1 in
+    rw (written.form, written.read) refl
+
+-- ---- values
+
+-- what is known of a value that was read from a line
+record ValueRead (t : Tables) (line : List ℕ) (v : Value) : Type 0 where
+  day : day_of (take 6 line) ≡ Some v.day
+  metal : is_metal (take 3 (drop 6 line)) ≡ false
+  amount : ccy_amount_in t (drop 6 line) ≡ Ok v.amount
+  some : (v.amount.minor.0 == 0) ≡ false
+
+not-true : (b : Bool) → not b ≡ true → b ≡ false
+not-true true e = absurd (cc e)
+not-true false e = refl
+
+value-read : (t : Tables) (line : List ℕ) (v : Value) → value_in t line ≡ Ok v → ValueRead t line v
+unfolding value_in
+value-read t line v e =
+    let day = there (day_of (take 6 line)) T50 _ v e in
+    let metal = checked (not (is_metal (take 3 (drop 6 line)))) C08 _ v day.2 in
+    let amount = read-then (ccy_amount_in t (drop 6 line)) _ v metal.1 in
+    let some = checked (not (amount.0.minor.0 == 0)) P26 _ v amount.2 in
+    let same : record { day = day.0; amount = amount.0 } ≡ v = cc some.1 in
+    rw (← same) (record { day = day.1; metal = not-true (is_metal (take 3 (drop 6 line))) metal.0; amount = amount.1; some = not-true (amount.0.minor.0 == 0) some.0 })
+
+pub value-is : (t : Tables) (f : Field) (v : Value) → IsTrue (few_decimals t.ccys) → value_of t f ≡ Ok v → IsValue v
+unfolding value_of
+value-is t f v few e =
+    let line = there (one_line f) P24 _ v e in
+    let form = checked (is_dated_amount line.0) P24 _ v line.2 in
+    let read = value-read t line.0 v form.1 in
+    record { day = day-in-century (take 6 line.0) v.day read.day; amount = amount-is t (drop 6 line.0) v.amount few read.amount }
+
+-- six digits before an amount
+dated : (n : ℕ) → nat_le 4 n ≡ true → nat_le 10 (6 + n) ≡ true
+dated n e = grind (arith, nat_tests)
+
+-- a date and an amount behind it
+value-written : (t : Tables) (line date : List ℕ) (v : Value) → IsValue v → date ≡ take 6 line → length date ≡ 6 → is_dated_amount line ≡ true → value_in t line ≡ Ok v
+    → (is_dated_amount (date ++ ccy_amount_text v.amount) ≡ true) × (value_in t (date ++ ccy_amount_text v.amount) ≡ Ok v)
+unfolding value_in
+value-written t line date v is spelled six form e =
+    let read = value-read t line v e in
+    let parts = and-three (nat_le 10 (length line)) (list_all (is_in N) (take 6 line)) (is_ccy_amount (drop 6 line)) form in
+    let amount = amount-written t (drop 6 line) v.amount is.amount parts.2 read.amount in
+    let text : List ℕ = ccy_amount_text v.amount in
+    let front : take 6 (date ++ text) ≡ date = take_at date text 6 six in
+    let back : drop 6 (date ++ text) ≡ text = drop_at date text 6 six in
+    let digits : list_all (is_in N) date ≡ true = ap (λ (x : List ℕ). list_all (is_in N) x) spelled ∙ parts.1 in
+    let day : day_of date ≡ Some v.day = ap (λ (x : List ℕ). day_of x) spelled ∙ read.day in
+    let metal : is_metal (take 3 text) ≡ false = ap (λ (x : List ℕ). is_metal x) (amount.front ∙ (amount-read t (drop 6 line) v.amount read.amount).ccy) ∙ read.metal in
+    let four = (and-three (nat_le 4 (length text)) (list_all (is_in A) (take 3 text)) (list_all (is_in X) (drop 3 text)) amount.form).0 in
+    let long : nat_le 10 (length (date ++ text)) ≡ true = rw (length-append date text, six) (dated (length text) four) in
+    (rw (long, front, digits, back, amount.form) refl, rw (front, day, back, metal, amount.read, read.some) refl)
+
+pub value-again : (t : Tables) (f : Field) (v : Value) → IsValue v → value_of t f ≡ Ok v → value_of t (value_field v) ≡ Ok v
+unfolding value_of
+value-again t f v is e =
+    let line = there (one_line f) P24 _ v e in
+    let form = checked (is_dated_amount line.0) P24 _ v line.2 in
+    let written = value-written t line.0 (yymmdd_of v.day) v is (day-spelled (take 6 line.0) v.day (value-read t line.0 v form.1).day) refl form.0 form.1 in
+    rw (written.0, written.1) refl
+
+-- ---- parties
+
+-- a party whose bank is known is a party of its field
+pub party-of-known : (t : Tables) (f : Field) (p : Party) → known_party_of t f ≡ Ok p → (party_of f ≡ Some p) × (is_known t p ≡ true)
+unfolding known_party_of
+party-of-known t f p e =
+    let party = there (party_of f) P24 _ p e in
+    let known = checked (is_known t party.0) P25 _ p party.2 in
+    let same : party.0 ≡ p = cc known.1 in
+    rw (← same) (party.1, known.0)
+
+pub known_party-again : (t : Tables) (f : Field) (p : Party) → known_party_of t f ≡ Ok p → known_party_of t (party_field f.tag p) ≡ Ok p
+unfolding known_party_of
+known_party-again t f p e =
+    let read = party-of-known t f p e in
+    rw (party-again f p read.0, read.1) refl

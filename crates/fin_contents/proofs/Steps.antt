@@ -1,0 +1,28 @@
+-- Readings in steps: each test holds, and each part is there.
+use Rattle.std.proofs.Common.{◌≡◌, IfOk, Bool, true, false, List, [], ◌∷◌, ℕ, Option, Some, None, Result, Ok, Err, refl, ap}
+use Rattle.corr_text.specs.First.{check, or_fault, ◌>>=◌}
+use Rattle.fin_fields.specs.declared.field.Field.{Field}
+use Rattle.fin_contents.specs.Plain.{only_line}
+
+pub checked : {A F : Type 0} (b : Bool) (fault : F) (next : Result A F) (x : A) → (check b fault >>= λ _. next) ≡ Ok x → (b ≡ true) × (next ≡ Ok x)
+checked true fault next x e = (refl, e)
+checked false fault next x e = absurd (cc e)
+
+pub there : {A B F : Type 0} (o : Option A) (fault : F) (next : A → Result B F) (y : B) → (or_fault o fault >>= next) ≡ Ok y → (x : A) × (o ≡ Some x) × (next x ≡ Ok y)
+there (Some x) fault next y e = (x, refl, e)
+there None fault next y e = absurd (cc e)
+
+pub read-then : {A B F : Type 0} (r : Result A F) (next : A → Result B F) (y : B) → (r >>= next) ≡ Ok y → (x : A) × (r ≡ Ok x) × (next x ≡ Ok y)
+read-then (Ok x) next y e = (x, refl, e)
+read-then (Err f) next y e = absurd (cc e)
+
+-- the line of one line
+pub is-only : (lines : List (List ℕ)) (line : List ℕ) → only_line lines ≡ Some line → lines ≡ line ∷ []
+is-only [] line e = absurd (cc e)
+is-only (l ∷ []) line e = ap (λ (x : List ℕ). x ∷ []) (cc e)
+is-only (l ∷ m ∷ more) line e = absurd (cc e)
+
+-- what holds of the field that is written
+pub written : {E : Type 0} (result : Result Field E) (w v : Field) (Q : Field → Type 0) → IfOk result (λ f. f ≡ w) → w ≡ v → Q v → IfOk result Q
+written (Ok f) w v Q e same q = rw (e, same) q
+written (Err x) w v Q e same q = tt

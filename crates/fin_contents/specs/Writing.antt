@@ -1,0 +1,52 @@
+-- Contents written as fields.
+use Rattle.std.specs.Prelude.{◌≡◌, ℕ, ◌<◌, ◌≤◌, ◌^◌, true, List, [], ◌∷◌, ◌++◌, Option, Some, None, IfSome}
+use Rattle.std.specs.Char.{is_ascii_uppercase}
+use Rattle.corr_ids.specs.Day.{InCentury, yymmdd_of}
+use Rattle.corr_money.specs.Amounts.{amount_text}
+use Rattle.corr_money.specs.declared.amount.Amount.{Amount}
+use Rattle.fin_fields.specs.declared.field.Field.{Field}
+use Rattle.fin_contents.specs.declared.value.Value.{Value}
+
+-- a tag and a letter that a text can show
+pub record IsHeading (tag : ℕ) (letter : Option ℕ) : Type 0 where
+  pub two_digits : tag ≤ 99
+  pub capital : IfSome letter (λ c. is_ascii_uppercase c ≡ true)
+
+-- lines of text: 70, 72, 77B
+abbrev pub lines_field : ℕ → Option ℕ → List (List ℕ) → Field
+lines_field tag letter lines = record { tag = tag; letter = letter; lines = lines }
+
+-- one line: references, times, rates and codes
+abbrev pub line_field : ℕ → Option ℕ → List ℕ → Field
+line_field tag letter line = lines_field tag letter (line ∷ [])
+
+-- an amount that can be written: below 10^14 minor units of a currency with at most 4 decimals
+pub record IsAmount (a : Amount) : Type 0 where
+  pub small : a.minor.0 < 10 ^ 14
+  pub few : a.decimals ≤ 4
+
+-- 33B, 71F, 71G: the currency, and the amount with all its decimals
+abbrev pub ccy_amount_text : Amount → List ℕ
+ccy_amount_text a = a.ccy.0 ++ amount_text a.decimals a.minor.0
+
+abbrev pub ccy_amount_field : ℕ → Option ℕ → Amount → Field
+ccy_amount_field tag letter a = line_field tag letter (ccy_amount_text a)
+
+-- a value that can be written: a day from 1980 to 2079, and such an amount
+pub record IsValue (v : Value) : Type 0 where
+  pub day : InCentury v.day
+  pub amount : IsAmount v.amount
+
+-- 32A: the date before them
+abbrev pub value_field : Value → Field
+value_field v = line_field 32 (Some 65) (yymmdd_of v.day ++ ccy_amount_text v.amount)
+
+-- lines that may be none: no field, or one
+abbrev pub lines_fields : ℕ → Option ℕ → List (List ℕ) → List Field
+lines_fields tag letter [] = []
+lines_fields tag letter (line ∷ lines) = lines_field tag letter (line ∷ lines) ∷ []
+
+-- a content that may be there: no field, or one
+abbrev pub some_field : {A : Type 0} → (A → Field) → Option A → List Field
+some_field write None = []
+some_field write (Some x) = write x ∷ []

@@ -1,0 +1,4 @@
+pub mod Complete
+pub mod FirstGiven
+pub mod Outcome
+pub mod Refused

@@ -1,0 +1,4 @@
+pub mod Codes
+pub mod Instructions
+pub mod Message
+pub mod Writing

@@ -1,0 +1,122 @@
+-- An MT103: what its fields say, or its first fault.
+use Rattle.std.specs.Prelude.{ℕ, ◌==◌, ◌||◌, List, [], ◌∷◌, Option, Result, Ok, Err, unwrap_or, if◌then◌else◌}
+use Rattle.corr_text.specs.First.{fault_of, ◌>>=◌}
+use Rattle.corr_text.specs.declared.fault.Code.{Code}
+use Rattle.corr_text.specs.declared.fault.Fault.{Fault}
+use Rattle.ref_tables.specs.Seen.{Tables}
+use Rattle.fin_fields.specs.declared.field.Field.{Field}
+use Rattle.fin_layout.specs.Contents.{all_from, in_option, in_place}
+use Rattle.fin_layout.specs.Order.{places_from}
+use Rattle.fin_layout.specs.Tests.{passed, tests}
+use Rattle.fin_contents.specs.Money.{ccy_amount_of, rate_of, value_of}
+use Rattle.fin_contents.specs.Parties.{known_party_of}
+use Rattle.fin_contents.specs.Plain.{reference_of, texts_of, time_of}
+use Rattle.mt103.specs.Codes.{charge_of, instr_of, kind_of, operation_of}
+use Rattle.mt103.specs.Instructions.{d98, e46}
+use Rattle.mt103.specs.declared.details.Details.{Details}
+use Rattle.mt103.specs.declared.message.Mt103.{Mt103}
+use Rattle.mt103.specs.declared.parties.Parties.{Parties}
+use Rattle.mt103.specs.declared.terms.Terms.{Terms}
+use Rattle.mt103.specs.declared.order.TheConstants.{ORDER}
+
+-- what is wrong with the content of a field at a place of the order
+abbrev pub content_test : Tables → ℕ → Field → Option Code
+content_test t k f =
+    if k == 0 then fault_of (reference_of f)
+    else if k == 1 then fault_of (time_of f)
+    else if k == 2 then fault_of (operation_of f)
+    else if k == 3 then fault_of (instr_of f)
+    else if k == 4 then fault_of (kind_of f)
+    else if k == 5 then fault_of (value_of t f)
+    else if (k == 6) || (k == 18) || (k == 19) then fault_of (ccy_amount_of t f)
+    else if k == 7 then fault_of (rate_of f)
+    else if k == 16 then fault_of (texts_of 4 f)
+    else if k == 17 then fault_of (charge_of f)
+    else if k == 20 then fault_of (texts_of 6 f)
+    else if k == 21 then fault_of (texts_of 3 f)
+    else fault_of (known_party_of t f)
+
+-- what 20 to 36 say
+unfoldable pub terms_of : Tables → List Field → List ℕ → Result Terms Fault
+terms_of t fs found = do
+  reference ← in_place ORDER fs found 0 reference_of
+  times ← all_from fs 1 time_of 0 found fs
+  op ← in_place ORDER fs found 2 operation_of
+  instrs ← all_from fs 3 instr_of 0 found fs
+  kind ← in_option fs found 4 kind_of
+  value ← in_place ORDER fs found 5 (value_of t)
+  ordered ← in_option fs found 6 (ccy_amount_of t)
+  rate ← in_option fs found 7 rate_of
+  Ok (record { reference = reference; times = times; op = op; instrs = instrs; kind = kind; value = value; ordered = ordered; rate = rate })
+
+-- what 50a to 59a say
+unfoldable pub parties_of : Tables → List Field → List ℕ → Result Parties Fault
+parties_of t fs found = do
+  payer ← in_place ORDER fs found 8 (known_party_of t)
+  p52 ← in_option fs found 9 (known_party_of t)
+  p53 ← in_option fs found 10 (known_party_of t)
+  p54 ← in_option fs found 11 (known_party_of t)
+  p55 ← in_option fs found 12 (known_party_of t)
+  p56 ← in_option fs found 13 (known_party_of t)
+  p57 ← in_option fs found 14 (known_party_of t)
+  payee ← in_place ORDER fs found 15 (known_party_of t)
+  Ok (record { payer = payer; p52 = p52; p53 = p53; p54 = p54; p55 = p55; p56 = p56; p57 = p57; payee = payee })
+
+-- what 70 to 77B say
+unfoldable pub details_of : Tables → List Field → List ℕ → Result Details Fault
+details_of t fs found = do
+  info ← in_option fs found 16 (texts_of 4)
+  charge ← in_place ORDER fs found 17 charge_of
+  taken ← all_from fs 18 (ccy_amount_of t) 0 found fs
+  given ← in_option fs found 19 (ccy_amount_of t)
+  notes ← in_option fs found 20 (texts_of 6)
+  regulatory ← in_option fs found 21 (texts_of 3)
+  Ok (record { info = unwrap_or info []; charge = charge; taken = taken; given = given; notes = unwrap_or notes []; regulatory = unwrap_or regulatory [] })
+
+-- a message of its parts
+abbrev pub message_of : Terms → Parties → Details → Mt103
+message_of terms parties details = record {
+  reference = terms.reference;
+  times = terms.times;
+  op = terms.op;
+  instrs = terms.instrs;
+  kind = terms.kind;
+  value = terms.value.day;
+  amount = terms.value.amount;
+  ordered = terms.ordered;
+  rate = terms.rate;
+  payer = parties.payer;
+  p52 = parties.p52;
+  p53 = parties.p53;
+  p54 = parties.p54;
+  p55 = parties.p55;
+  p56 = parties.p56;
+  p57 = parties.p57;
+  payee = parties.payee;
+  info = details.info;
+  charge = details.charge;
+  taken = details.taken;
+  given = details.given;
+  notes = details.notes;
+  regulatory = details.regulatory;
+}
+
+-- what fields at these places say
+unfoldable pub contents_of : Tables → List Field → List ℕ → Result Mt103 Fault
+contents_of t fs found = do
+  terms ← terms_of t fs found
+  parties ← parties_of t fs found
+  details ← details_of t fs found
+  Ok (message_of terms parties details)
+
+-- the tests of the fields of an MT103: structure, then contents in the text's order
+abbrev pub field_tests : Tables → List Field → List (Option Fault)
+field_tests t fs = tests ORDER (content_test t) fs
+
+-- what the fields of an MT103 say, or the first test that fails: structure, contents, and the instructions together
+unfoldable pub mt103_of : Tables → List Field → Result Mt103 Fault
+mt103_of t fs = do
+  _ ← passed (field_tests t fs)
+  m ← contents_of t fs (places_from ORDER 0 fs)
+  _ ← passed (e46 m.instrs ∷ d98 m.instrs ∷ [])
+  Ok m

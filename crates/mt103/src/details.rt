@@ -1,0 +1,64 @@
+//! The details of a transfer: fields 70 to 77B.
+
+ghost use Rattle.std.specs.Prelude.{◌≡◌, ◌≤◌, [], length, unwrap_or};
+ghost use Rattle.fin_layout.specs.Reading.{Gives};
+ghost use Rattle.mt103.specs.Message.{details_of};
+
+use crate::charge::Charge;
+use crate::order::ORDER;
+use corr_money::Amount;
+use corr_text::{List, Text};
+use fin_contents::{CcyAmount, Texts};
+use fin_fields::Field;
+use fin_layout::{MtFault, read_all, read_one, read_optional};
+use ref_tables::RefTables;
+use std::alloc::Global;
+
+/// What 70, 71A, 71F, 71G, 72 and 77B say.
+#[derive(Drop)]
+pub struct Details {
+    pub info: List<Text>,
+    pub charge: [u8; 3],
+    pub taken: List<Amount>,
+    pub given: Option<Amount>,
+    pub notes: List<Text>,
+    pub regulatory: List<Text>,
+}
+
+fn or_none(alloc: Global, texts: Option<List<Text>>) -> List<Text>
+    ensures { result ≡ unwrap_or texts [] }
+{
+    match texts {
+        Some(texts) => texts,
+        None => List::new(alloc),
+    }
+}
+
+/// The details that fields at these places say.
+#[tactic(auto, unfolding(crate::specs::Message::details_of))]
+pub fn read_details(
+    alloc: Global,
+    tables: &RefTables,
+    fields: &[Field],
+    found: &[usize],
+) -> Result<Details, MtFault>
+    requires few { length fields.now ≤ 65535 }
+    requires each { length found.now ≤ length fields.now }
+    ensures { Gives result (details_of tables.now fields.now found.now) }
+{
+    let amount = CcyAmount { tables };
+    let info = read_optional(alloc, &Texts { most: 4 }, fields, found, 16)?;
+    let charge = read_one(alloc, &Charge, &ORDER, fields, found, 17)?;
+    let taken = read_all(alloc, &amount, fields, found, 18)?;
+    let given = read_optional(alloc, &amount, fields, found, 19)?;
+    let notes = read_optional(alloc, &Texts { most: 6 }, fields, found, 20)?;
+    let regulatory = read_optional(alloc, &Texts { most: 3 }, fields, found, 21)?;
+    Ok(Details {
+        info: or_none(alloc, info),
+        charge,
+        taken,
+        given,
+        notes: or_none(alloc, notes),
+        regulatory: or_none(alloc, regulatory),
+    })
+}

@@ -1,0 +1,26 @@
+//! MT103, the customer transfer: its fields in their order, what they say, and what is wrong with them.
+#![tactic(auto)]
+
+mod charge;
+mod codes;
+mod details;
+mod instruction;
+mod instruction_tests;
+mod kind;
+mod message;
+mod operation;
+mod order;
+mod parties;
+mod reading;
+mod terms;
+#[cfg(test)]
+mod tests;
+mod verdict;
+mod writing;
+
+pub use codes::{D97, D98, E46, P28, T08, T36};
+pub use instruction::Instr;
+pub use message::Mt103;
+pub use order::ORDER;
+pub use verdict::read_mt103;
+pub use writing::put_mt103;

@@ -1,0 +1,52 @@
+//! An MT103 read from its fields.
+
+ghost use Rattle.std.specs.Prelude.{◌≡◌, ◌≤◌, [], ◌∷◌, IfOk, None, Ok, length};
+ghost use Rattle.corr_text.specs.First.{first_of};
+ghost use Rattle.fin_layout.specs.Order.{places_from};
+ghost use Rattle.fin_layout.specs.Reading.{Gives};
+ghost use Rattle.mt103.specs.Instructions.{d98, e46};
+ghost use Rattle.mt103.specs.Message.{contents_of, field_tests, mt103_of};
+ghost use Rattle.mt103.specs.declared.message.Mt103.{Mt103 as Mt103Seen};
+ghost use Rattle.mt103.specs.declared.order.TheConstants.{ORDER as order};
+
+use crate::instruction::Instr;
+use crate::instruction_tests::{d98, e46};
+use crate::message::Mt103;
+use crate::order::ORDER;
+use crate::reading::read_contents;
+use corr_text::Fault;
+use fin_fields::Field;
+use fin_layout::{MtFault, check_structure};
+use ref_tables::RefTables;
+use std::alloc::Global;
+
+fn instructions_fault(instrs: &[Instr]) -> Option<Fault>
+    requires { length instrs.now ≤ 65535 }
+    ensures { result ≡ first_of (e46 instrs.now ∷ d98 instrs.now ∷ []) }
+{
+    match e46(instrs) {
+        Some(fault) => Some(fault),
+        None => d98(instrs),
+    }
+}
+
+/// The transfer that the fields of block 4 say.
+///
+/// `Bad` tells the first test that fails (docs/messages.md, "MT103"): P22 and P23 of the order of fields; then each content
+/// in the order of the text, with its field's tag and occurrence; then E46, the first 23E whose code came before; then D98,
+/// the first 23E whose code stands before an earlier one's in the list of codes. Where no test of the fields fails they say
+/// a message (`complete`), so there is no other refusal. The rules of the transfer are not tested here.
+pub fn read_mt103(alloc: Global, f: &[Field], t: &RefTables) -> Result<Mt103, MtFault>
+    requires few { length f.now ≤ 65535 }
+    ensures message { Gives result (mt103_of t.now f.now) }
+    ensures few { IfOk result (λ m. length m.instrs ≤ length f.now) }
+    ensures complete { first_of (field_tests t.now f.now) ≡ None
+        → (m : Mt103Seen) × (contents_of t.now f.now (places_from order 0 f.now) ≡ Ok m) }
+{
+    let found = check_structure(alloc, &ORDER, f)?;
+    let m = read_contents(alloc, t, f, found.as_slice())?;
+    match instructions_fault(m.instrs.as_slice()) {
+        Some(fault) => Err(MtFault::Bad(fault)),
+        None => Ok(m),
+    }
+}

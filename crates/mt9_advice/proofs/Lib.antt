@@ -1,0 +1,4 @@
+pub mod Refused
+pub mod Outcome
+pub mod Again
+pub mod Written
