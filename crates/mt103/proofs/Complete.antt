@@ -14,7 +14,7 @@ use Rattle.fin_contents.specs.Parties.{known_party_of}
 use Rattle.fin_contents.specs.Plain.{reference_of, texts_of, time_of}
 use Rattle.fin_contents.specs.declared.value.Value.{Value}
 use Rattle.mt103.specs.Codes.{charge_of, instr_of, kind_of, operation_of}
-use Rattle.mt103.specs.Message.{content_test, contents_of, details_of, field_tests, parties_of, terms_of}
+use Rattle.mt103.specs.Message.{content_test, contents_of, details_of, field_tests, message_of, parties_of, terms_of}
 use Rattle.mt103.specs.declared.details.Details.{Details}
 use Rattle.mt103.specs.declared.instruction.Instr.{Instr}
 use Rattle.mt103.specs.declared.message.Mt103.{Mt103}
@@ -39,12 +39,12 @@ module _ (t : Tables) (fs : List Field) (found : List ℕ) where
 
   terms-fine : AllHold ORDER (content_test t) fs found → (x : Terms) × (terms_of t fs found ≡ Ok x)
   terms-fine hold =
-      let x0 = must-fine hold 0 0 reference_of (λ f. refl) _ refl refl in
+      let x0 = must-fine hold 0 reference_of (λ f. refl) _ refl refl in
       let x1 = many-fine hold 1 time_of (λ f. refl) in
-      let x2 = must-fine hold 2 2 operation_of (λ f. refl) _ refl refl in
+      let x2 = must-fine hold 2 operation_of (λ f. refl) _ refl refl in
       let x3 = many-fine hold 3 instr_of (λ f. refl) in
       let x4 = may-fine hold 4 kind_of (λ f. refl) in
-      let x5 = must-fine hold 5 5 (value_of t) (λ f. refl) _ refl refl in
+      let x5 = must-fine hold 5 (value_of t) (λ f. refl) _ refl refl in
       let x6 = may-fine hold 6 (ccy_amount_of t) (λ f. refl) in
       let x7 = may-fine hold 7 rate_of (λ f. refl) in
       (_, terms-made x0.0 x1.0 x2.0 x3.0 x4.0 x5.0 x6.0 x7.0 x0.1 x1.1 x2.1 x3.1 x4.1 x5.1 x6.1 x7.1)
@@ -65,14 +65,14 @@ module _ (t : Tables) (fs : List Field) (found : List ℕ) where
 
   parties-fine : AllHold ORDER (content_test t) fs found → (x : Parties) × (parties_of t fs found ≡ Ok x)
   parties-fine hold =
-      let x8 = must-fine hold 8 8 (known_party_of t) (λ f. refl) _ refl refl in
+      let x8 = must-fine hold 8 (known_party_of t) (λ f. refl) _ refl refl in
       let x9 = may-fine hold 9 (known_party_of t) (λ f. refl) in
       let x10 = may-fine hold 10 (known_party_of t) (λ f. refl) in
       let x11 = may-fine hold 11 (known_party_of t) (λ f. refl) in
       let x12 = may-fine hold 12 (known_party_of t) (λ f. refl) in
       let x13 = may-fine hold 13 (known_party_of t) (λ f. refl) in
       let x14 = may-fine hold 14 (known_party_of t) (λ f. refl) in
-      let x15 = must-fine hold 15 15 (known_party_of t) (λ f. refl) _ refl refl in
+      let x15 = must-fine hold 15 (known_party_of t) (λ f. refl) _ refl refl in
       (_, parties-made x8.0 x9.0 x10.0 x11.0 x12.0 x13.0 x14.0 x15.0 x8.1 x9.1 x10.1 x11.1 x12.1 x13.1 x14.1 x15.1)
 
   details-made : (info : Option (List (List ℕ))) (charge : List ℕ) (taken : List Amount) (given : Option Amount) (notes : Option (List (List ℕ))) (regulatory : Option (List (List ℕ)))
@@ -90,7 +90,7 @@ module _ (t : Tables) (fs : List Field) (found : List ℕ) where
   details-fine : AllHold ORDER (content_test t) fs found → (x : Details) × (details_of t fs found ≡ Ok x)
   details-fine hold =
       let x16 = may-fine hold 16 (texts_of 4) (λ f. refl) in
-      let x17 = must-fine hold 17 17 charge_of (λ f. refl) _ refl refl in
+      let x17 = must-fine hold 17 charge_of (λ f. refl) _ refl refl in
       let x18 = many-fine hold 18 (ccy_amount_of t) (λ f. refl) in
       let x19 = may-fine hold 19 (ccy_amount_of t) (λ f. refl) in
       let x20 = may-fine hold 20 (texts_of 6) (λ f. refl) in
@@ -100,7 +100,7 @@ module _ (t : Tables) (fs : List Field) (found : List ℕ) where
   contents-fine : (terms : (x : Terms) × (terms_of t fs found ≡ Ok x)) (parties : (x : Parties) × (parties_of t fs found ≡ Ok x)) (details : (x : Details) × (details_of t fs found ≡ Ok x))
       → (m : Mt103) × (contents_of t fs found ≡ Ok m)
   unfolding contents_of
-  contents-fine terms parties details = (_, rw (terms.1, parties.1, details.1) refl)
+  contents-fine terms parties details = (message_of terms.0 parties.0 details.0, rw (terms.1, parties.1, details.1) refl)
 
 pub complete : (t : Tables) (fs : List Field) → first_of (field_tests t fs) ≡ None → (m : Mt103) × (contents_of t fs (places_from ORDER 0 fs) ≡ Ok m)
 complete t fs none =
