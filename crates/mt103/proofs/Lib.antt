@@ -3,3 +3,7 @@ pub mod FirstGiven
 pub mod Outcome
 pub mod Refused
 pub mod Kept
+pub mod Says
+pub mod Moved
+pub mod Standing
+pub mod RoundTrip
