@@ -27,10 +27,10 @@ unfolding contents_of
 details-fail t fs found terms parties faults.Memory read also h = tt
 details-fail t fs found terms parties (faults.Bad fault) read also h = rw (read, also, h) refl
 
-abbrev finished : Mt103 → Result Mt103 Fault
+abbrev pub finished : Mt103 → Result Mt103 Fault
 finished m = passed (e46 m.instrs ∷ d98 m.instrs ∷ []) >>= λ _. Ok m
 
-abbrev said_by : Tables → List Field → Result Mt103 Fault
+abbrev pub said_by : Tables → List Field → Result Mt103 Fault
 said_by t fs = contents_of t fs (places_from ORDER 0 fs)
 
 module _ (t : Tables) (fs : List Field) where
@@ -39,7 +39,7 @@ module _ (t : Tables) (fs : List Field) where
   structure-fail e h = structure-fails ORDER (content_test t) fs (said_by t fs >>= finished) e h
 
   module _ (sound : first_of (structure_tests ORDER fs) ≡ None) where
-    as-contents : mt103_of t fs ≡ (said_by t fs >>= finished)
+    pub as-contents : mt103_of t fs ≡ (said_by t fs >>= finished)
     unfolding mt103_of
     as-contents = in-turn ORDER (content_test t) fs (said_by t fs >>= finished) sound (λ fault lies. fails-before (said_by t fs) finished fault (contents-refused t fs (places_from ORDER 0 fs) fault lies))
 

@@ -2,8 +2,9 @@
 
 ghost use Rattle.std.specs.Prelude.{◌≤◌, IfOk, length};
 
-use crate::{D97, D98, E46, Mt103, P28, T08, T36, read_mt103};
+use crate::{D97, D98, E46, Instr, Mt103, P28, T08, T36, read_mt103};
 use corr_ids::Day;
+use corr_money::Amount;
 use corr_text::{Code, Fault, List, Memory, Text};
 use fin_contents::{C03, C08, P25, P26, P27, T26, T40, T43, T50, T52};
 use fin_fields::{Field, FieldFault, cut_fields};
@@ -78,14 +79,63 @@ fn check(alloc: Global, tables: &RefTables, row: &Refused) -> Result<bool, Field
     let (at, other, code, tag, nth) = *row;
     let text = transfer(alloc, at, other)?;
     let fault = fault_of(alloc, tables, text.bytes())?;
-    Ok(
-        fault
-            == Some(Fault {
-                code,
-                tag: *tag,
-                nth,
-            }),
-    )
+    let want = Fault {
+        code,
+        tag: *tag,
+        nth,
+    };
+    Ok(fault == Some(want))
+}
+
+fn account(p: &Party) -> &[u8] {
+    match p {
+        Party::K {
+            account: Some(account),
+            ..
+        } => account.bytes(),
+        _ => b"",
+    }
+}
+
+fn are_the_instructions(instrs: &[Instr]) -> bool {
+    match instrs {
+        [first, second] => {
+            first.code == *b"PHOB"
+                && first.text.is_some()
+                && second.code == *b"TELB"
+                && second.text.is_none()
+        }
+        _ => false,
+    }
+}
+
+fn are_the_charges(taken: &[Amount]) -> bool {
+    match taken {
+        [first, second] => first.minor.0 == 100 && second.minor.0 == 250,
+        _ => false,
+    }
+}
+
+fn says_the_terms(m: &Mt103) -> bool {
+    m.reference.bytes() == b"REF1".as_slice()
+        && m.op == *b"CRED"
+        && are_the_instructions(m.instrs.as_slice())
+        && m.kind.is_none()
+        && m.value == Day(19877)
+        && m.amount.minor.0 == 123450
+        && m.ordered.is_some()
+        && m.rate.is_some()
+}
+
+fn says_the_details(m: &Mt103) -> bool {
+    m.p52.is_some()
+        && m.p57.is_none()
+        && account(&m.payee) == b"CUST1".as_slice()
+        && m.info.as_slice().is_empty()
+        && m.charge == *b"SHA"
+        && are_the_charges(m.taken.as_slice())
+        && m.given.is_none()
+        && m.notes.as_slice().len() == 2
 }
 
 #[test]
@@ -94,37 +144,9 @@ fn the_sample_is_read(rt: HostRuntime) -> Result<(), Fail> {
     let text =
         b":20:REF1\n:23B:CRED\n:23E:PHOB/20.527\n:23E:TELB\n:32A:240603EUR1234,5\n:33B:USD1300,\n:36:1,0533
 :50K:A PAYER\n:52A:ALPHDEFF\n:59:/CUST1\nA PAYEE\n:71A:SHA\n:71F:EUR1,\n:71F:EUR2,5\n:72:/ACC/A\n//B\n";
-    let m = match read(rt.alloc(), &tables, text)? {
-        Ok(m) => m,
-        Err(_) => return Err("the sample is refused")?,
-    };
-    assert_eq!(rt; m.reference.bytes(), b"REF1".as_slice());
-    assert_eq!(rt; m.op, *b"CRED");
-    assert_eq!(rt; m.value, Day(19877));
-    assert_eq!(rt; m.amount.minor.0, 123450);
-    assert_eq!(rt; m.charge, *b"SHA");
-    assert!(rt; m.ordered.is_some() && m.rate.is_some() && m.p52.is_some() && m.p57.is_none());
-    assert!(rt; m.info.as_slice().is_empty() && m.kind.is_none() && m.given.is_none());
-    assert_eq!(rt; m.notes.as_slice().len(), 2);
-    match m.instrs.as_slice() {
-        [first, second] => assert!(rt;
-            first.code == *b"PHOB"
-                && first.text.is_some()
-                && second.code == *b"TELB"
-                && second.text.is_none()
-        ),
-        _ => assert!(rt; false, "two instructions"),
-    }
-    match m.taken.as_slice() {
-        [first, second] => assert!(rt; first.minor.0 == 100 && second.minor.0 == 250),
-        _ => assert!(rt; false, "two charges"),
-    }
-    match m.payee {
-        Party::K {
-            account: Some(account),
-            ..
-        } => assert_eq!(rt; account.bytes(), b"CUST1".as_slice()),
-        _ => assert!(rt; false, "the payee's account"),
+    match read(rt.alloc(), &tables, text)? {
+        Ok(m) => assert!(rt; says_the_terms(&m) && says_the_details(&m)),
+        Err(_) => assert!(rt; false, "the sample is refused"),
     }
     Ok(())
 }
