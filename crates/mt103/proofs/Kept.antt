@@ -72,6 +72,9 @@ text-kept (slash ∷ rest) text e =
     let is : slash ≡ 47 = eqb-true slash 47 (and-both (slash == 47) (is_run (is_in X) 30 rest) s.0).0 in
     rw (← s.1, is) refl
 
+two-parts : (line code : List ℕ) (text : Option (List ℕ)) → take 4 line ≡ code → drop 4 line ≡ text_behind text → line ≡ code ++ text_behind text
+two-parts line code text front back = sym (take-append-drop 4 line) ∙ rw (front, back) refl
+
 pub instr-kept : (f : Field) (i : Instr) → instr_of f ≡ Ok i → f.lines ≡ (i.code ++ text_behind i.text) ∷ []
 unfolding instr_of
 instr-kept f i e =
@@ -82,7 +85,7 @@ instr-kept f i e =
     let plain = checked (is_none text.0 || takes_text code.0) D97 _ i known.1 in
     let same : record { code = code.0; text = text.0 } ≡ i = cc plain.1 in
     let front : take 4 line.0 ≡ code.0 = (some_if (nat_le 4 (length line.0) && list_all (is_in C) (take 4 line.0)) (take 4 line.0) code.0 code.1).1 in
-    let whole : line.0 ≡ code.0 ++ text_behind text.0 = sym (take-append-drop 4 line.0) ∙ rw (front, text-kept (drop 4 line.0) text.0 text.1) refl in
+    let whole = two-parts line.0 code.0 text.0 front (text-kept (drop 4 line.0) text.0 text.1) in
     is-only f.lines line.0 line.1 ∙ ap (λ (x : List ℕ). x ∷ []) whole ∙ ap (λ (x : Instr). (x.code ++ text_behind x.text) ∷ []) same
 
 pub instr-again : (f : Field) (i : Instr) → instr_of f ≡ Ok i → instr_of (instr_field i) ≡ Ok i

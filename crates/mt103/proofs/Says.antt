@@ -8,7 +8,7 @@ use Rattle.fin_layout.specs.Contents.{all_from, in_option, in_place}
 use Rattle.fin_contents.specs.Money.{ccy_amount_of, rate_of, value_of}
 use Rattle.fin_contents.specs.Parties.{known_party_of}
 use Rattle.fin_contents.specs.Plain.{reference_of, texts_of, time_of}
-use Rattle.fin_contents.proofs.Steps.{read-then}
+use Rattle.fin_contents.proofs.Steps.{read-then, told-is}
 use Rattle.mt103.specs.Codes.{charge_of, instr_of, kind_of, operation_of}
 use Rattle.mt103.specs.Message.{contents_of, details_of, message_of, parties_of, terms_of}
 use Rattle.mt103.specs.declared.details.Details.{Details}
@@ -63,7 +63,7 @@ module _ (t : Tables) (fs : List Field) (found : List ℕ) where
       let v = read-then (in_place ORDER fs found 5 (value_of t)) _ x k.2 in
       let o = read-then (in_option fs found 6 (ccy_amount_of t)) _ x v.2 in
       let r = read-then (in_option fs found 7 rate_of) _ x o.2 in
-      let same : record { reference = a.0; times = b.0; op = c.0; instrs = d.0; kind = k.0; value = v.0; ordered = o.0; rate = r.0 } ≡ x = cc r.2 in
+      let same : record { reference = a.0; times = b.0; op = c.0; instrs = d.0; kind = k.0; value = v.0; ordered = o.0; rate = r.0 } ≡ x = told-is _ x r.2 in
       rw (← same) (record { reference = a.1; times = b.1; op = c.1; instrs = d.1; kind = k.1; value = v.1; ordered = o.1; rate = r.1 })
 
   pub terms-said : (x : Terms) → TermsSay t fs found x → terms_of t fs found ≡ Ok x
@@ -81,7 +81,7 @@ module _ (t : Tables) (fs : List Field) (found : List ℕ) where
       let h = read-then (in_option fs found 13 (known_party_of t)) _ x g.2 in
       let i = read-then (in_option fs found 14 (known_party_of t)) _ x h.2 in
       let j = read-then (in_place ORDER fs found 15 (known_party_of t)) _ x i.2 in
-      let same : record { payer = a.0; p52 = b.0; p53 = c.0; p54 = d.0; p55 = g.0; p56 = h.0; p57 = i.0; payee = j.0 } ≡ x = cc j.2 in
+      let same : record { payer = a.0; p52 = b.0; p53 = c.0; p54 = d.0; p55 = g.0; p56 = h.0; p57 = i.0; payee = j.0 } ≡ x = told-is _ x j.2 in
       rw (← same) (record { payer = a.1; p52 = b.1; p53 = c.1; p54 = d.1; p55 = g.1; p56 = h.1; p57 = i.1; payee = j.1 })
 
   pub parties-said : (x : Parties) → PartiesSay t fs found x → parties_of t fs found ≡ Ok x
@@ -97,7 +97,7 @@ module _ (t : Tables) (fs : List Field) (found : List ℕ) where
       let d = read-then (in_option fs found 19 (ccy_amount_of t)) _ x c.2 in
       let n = read-then (in_option fs found 20 (texts_of 6)) _ x d.2 in
       let r = read-then (in_option fs found 21 (texts_of 3)) _ x n.2 in
-      let same : record { info = unwrap_or a.0 []; charge = b.0; taken = c.0; given = d.0; notes = unwrap_or n.0 []; regulatory = unwrap_or r.0 [] } ≡ x = cc r.2 in
+      let same : record { info = unwrap_or a.0 []; charge = b.0; taken = c.0; given = d.0; notes = unwrap_or n.0 []; regulatory = unwrap_or r.0 [] } ≡ x = told-is _ x r.2 in
       rw (← same) (record {
         info = record { said = a.0; read = a.1; same = refl };
         charge = b.1;
@@ -134,7 +134,7 @@ contents-say t fs found m e =
       terms_say = terms-say t fs found a.0 a.1;
       parties_say = parties-say t fs found b.0 b.1;
       details_say = details-say t fs found c.0 c.1;
-      same = cc c.2;
+      same = told-is (message_of a.0 b.0 c.0) m c.2;
     }
 
 pub contents-said : (t : Tables) (fs : List Field) (found : List ℕ) (a : Terms) (b : Parties) (c : Details) → TermsSay t fs found a → PartiesSay t fs found b → DetailsSay t fs found c → contents_of t fs found ≡ Ok (message_of a b c)
