@@ -40,7 +40,13 @@ fn refused<C: Content>(alloc: Global, content: &C, f: &Field) -> Result<Option<C
 }
 
 // Whether a field has this tag and letter and these bytes, its lines with a line feed behind each.
-fn is_field(alloc: Global, f: &Field, tag: u8, letter: Option<u8>, want: &[u8]) -> Result<bool, Memory> {
+fn is_field(
+    alloc: Global,
+    f: &Field,
+    tag: u8,
+    letter: Option<u8>,
+    want: &[u8],
+) -> Result<bool, Memory> {
     let mut text = Text::from_bytes(alloc, b"")?;
     for line in f.lines.as_slice() {
         text.push(line.bytes())?;
@@ -282,7 +288,11 @@ fn fields_are_added_where_there_is_a_content(rt: HostRuntime) -> Result<(), Fail
         line: Text::from_bytes(rt.alloc(), b"//FW1")?,
     };
     push_times(rt.alloc(), times.as_slice(), &mut fields)?;
-    push_rate(rt.alloc(), &Some(Text::from_bytes(rt.alloc(), b"1,")?), &mut fields)?;
+    push_rate(
+        rt.alloc(),
+        &Some(Text::from_bytes(rt.alloc(), b"1,")?),
+        &mut fields,
+    )?;
     push_ccy_amount(rt.alloc(), 33, Some(b'B'), &Some(amount), &mut fields)?;
     push_ccy_amounts(rt.alloc(), 71, Some(b'F'), &[amount, amount], &mut fields)?;
     push_party(rt.alloc(), 56, &Some(party), &mut fields)?;
