@@ -7,8 +7,8 @@ mod credit;
 mod debit;
 mod order;
 mod stamp;
-
-
+#[cfg(test)]
+mod tests;
 mod writing;
 
 pub use credit::{C06, Mt910, read_mt910};
