@@ -36,10 +36,7 @@ use Rattle.mt9_advice.specs.declared.debit.Mt900.{Mt900}
 use Rattle.mt9_advice.specs.declared.order.TheConstants.{ACCOUNT, INTERMEDIARY, NOTES, ORDER_900, ORDER_910, ORDERING, PAYER, REFERENCE, RELATED, STAMP, VALUE}
 use Rattle.mt9_advice.proofs.Again.{Says900, Says910, SaysBooking, booking_900, booking_910, moved-900, moved-910, said-900, said-910, says-900, says-910, stamp-kept}
 use Rattle.mt9_advice.proofs.Outcome.{as-contents-900, rule-holds}
-
--- an order that begins with 20, 21, 25, 13D and 32A
-abbrev begun : List Place → List Place
-begun rest = REFERENCE ∷ RELATED ∷ ACCOUNT ∷ STAMP ∷ VALUE ∷ rest
+use Rattle.mt9_advice.proofs.Refused.{begun}
 
 abbrev written : Booking → List (List Field) → List (List Field)
 written b more = booking_fields b.reference b.related b.account b.at b.value ++ more
