@@ -17,12 +17,7 @@ use std::test::Fail;
 type Refused<'a> = (usize, &'a [u8], Code, &'a [u8; 3], u16);
 
 fn tables(alloc: Global) -> Result<RefTables, TableFault> {
-    read_tables(
-        alloc,
-        b"HOMEUS33\nALPHDEFF\n",
-        b"EUR,2\nJPY,0\n",
-        b"DE,Y\n",
-    )
+    read_tables(alloc, b"HOMEUS33\nALPHDEFF\n", b"EUR,2\nJPY,0\n", b"DE,Y\n")
 }
 
 fn cut(alloc: Global, text: &[u8]) -> Result<List<Field>, FieldFault>
@@ -142,14 +137,26 @@ fn the_first_test_that_fails_is_told(rt: HostRuntime) -> Result<(), Fail> {
         (4, b":52B:A\n", P22, b"52B", 1),
         (4, b":52A:ALPHDEFF\n:52D:A\n", P22, b"52D", 1),
         (4, b":72:A\n:52A:ALPHDEFF\n", P22, b"52A", 1),
-        (3, b":32A:240603EUR1,\n:13D:2406031215+0200\n", P22, b"13D", 1),
+        (
+            3,
+            b":32A:240603EUR1,\n:13D:2406031215+0200\n",
+            P22,
+            b"13D",
+            1,
+        ),
         (0, b"", P23, b"20 ", 0),
         (1, b"", P23, b"21 ", 0),
         (2, b"", P23, b"25 ", 0),
         (3, b"", P23, b"32A", 0),
         (0, b":20:/A\n", T26, b"20 ", 1),
         (1, b":21:ABCDEFGHIJKLMNOPQ\n", P24, b"21 ", 1),
-        (2, b":25:ABCDEFGHIJKLMNOPQRSTUVWXYZ0123456789\n", P24, b"25 ", 1),
+        (
+            2,
+            b":25:ABCDEFGHIJKLMNOPQRSTUVWXYZ0123456789\n",
+            P24,
+            b"25 ",
+            1,
+        ),
         (2, b":25:A\nB\n", P24, b"25 ", 1),
         (2, b":25:A\n:13D:240603121+0200\n", P24, b"13D", 1),
         (2, b":25:A\n:13D:2406031215 0200\n", P24, b"13D", 1),
@@ -159,7 +166,13 @@ fn the_first_test_that_fails_is_told(rt: HostRuntime) -> Result<(), Fail> {
         (3, b":32A:240603EUR0,\n", P26, b"32A", 1),
         (4, b":52A:DELTJPJT\n", P25, b"52A", 1),
         (4, b":52D:A\nB\nC\nD\nE\n", P24, b"52D", 1),
-        (4, b":52A:ALPHDEFF\n:72:A\nB\nC\nD\nE\nF\nG\n", P24, b"72 ", 1),
+        (
+            4,
+            b":52A:ALPHDEFF\n:72:A\nB\nC\nD\nE\nF\nG\n",
+            P24,
+            b"72 ",
+            1,
+        ),
     ];
     for row in &rows {
         assert!(rt; check(rt.alloc(), &tables, row)?, "{}", row.0);
@@ -180,7 +193,13 @@ fn amounts_are_tested_in_order(rt: HostRuntime) -> Result<(), Fail> {
     for row in &rows {
         assert!(rt; check(rt.alloc(), &tables, row)?, "{}", row.0);
     }
-    let large = (3, b":32A:240603EUR1000000000000,\n".as_slice(), P27, b"32A", 1);
+    let large = (
+        3,
+        b":32A:240603EUR1000000000000,\n".as_slice(),
+        P27,
+        b"32A",
+        1,
+    );
     assert!(rt; check(rt.alloc(), &tables, &large)?);
     Ok(())
 }
@@ -188,7 +207,13 @@ fn amounts_are_tested_in_order(rt: HostRuntime) -> Result<(), Fail> {
 #[test]
 fn the_first_refused_content_is_the_first_in_the_text(rt: HostRuntime) -> Result<(), Fail> {
     let tables = tables(rt.alloc())?;
-    let two = (1, b":21:ABCDEFGHIJKLMNOPQ\n:25:A\nB\n".as_slice(), P22, b"25 ", 2);
+    let two = (
+        1,
+        b":21:ABCDEFGHIJKLMNOPQ\n:25:A\nB\n".as_slice(),
+        P22,
+        b"25 ",
+        2,
+    );
     assert!(rt; check(rt.alloc(), &tables, &two)?);
     let text = b":20:A\n:21:B\n:25:C\nD\n:32A:240603USD1,\n:52A:DELTJPJT\n";
     let want = Some(Fault {
