@@ -2,3 +2,4 @@ pub mod Refused
 pub mod Outcome
 pub mod Again
 pub mod Written
+pub mod Complete

@@ -36,10 +36,7 @@ use Rattle.mt9_advice.specs.declared.debit.Mt900.{Mt900}
 use Rattle.mt9_advice.specs.declared.order.TheConstants.{ACCOUNT, INTERMEDIARY, NOTES, ORDER_900, ORDER_910, ORDERING, PAYER, REFERENCE, RELATED, STAMP, VALUE}
 use Rattle.mt9_advice.proofs.Again.{Says900, Says910, SaysBooking, booking_900, booking_910, moved-900, moved-910, said-900, said-910, says-900, says-910, stamp-kept}
 use Rattle.mt9_advice.proofs.Outcome.{as-contents-900, rule-holds}
-
--- an order that begins with 20, 21, 25, 13D and 32A
-abbrev begun : List Place → List Place
-begun rest = REFERENCE ∷ RELATED ∷ ACCOUNT ∷ STAMP ∷ VALUE ∷ rest
+use Rattle.mt9_advice.proofs.Refused.{begun}
 
 abbrev written : Booking → List (List Field) → List (List Field)
 written b more = booking_fields b.reference b.related b.account b.at b.value ++ more
@@ -49,12 +46,35 @@ written b more = booking_fields b.reference b.related b.account b.at b.value ++ 
 booking-placed : (rest : List Place) (b : Booking) (more : List (List Field)) → Segments (begun rest) 0 5 more → Segments (begun rest) 0 0 (written b more)
 booking-placed rest b more later =
     let order = begun rest in
-    let behind = STAMP ∷ VALUE ∷ rest in
-    (one-segment order 0 0 (line_field 20 None b.reference) (first-of-tag order 0 [] REFERENCE (RELATED ∷ ACCOUNT ∷ behind) (line_field 20 None b.reference) refl refl refl), (0, inl (omega arith),
-    (one-segment order 0 1 (line_field 21 None b.related) (first-of-tag order 0 (REFERENCE ∷ []) RELATED (ACCOUNT ∷ behind) (line_field 21 None b.related) refl refl refl), (0, inl (omega arith),
-    (one-segment order 0 2 (line_field 25 None b.account) (first-of-tag order 0 (REFERENCE ∷ RELATED ∷ []) ACCOUNT behind (line_field 25 None b.account) refl refl refl), (0, inl (omega arith),
-    (some-segment order 0 3 (line_field 13 (Some 68)) b.at (some-all _ b.at (λ x. first-of-tag order 0 (REFERENCE ∷ RELATED ∷ ACCOUNT ∷ []) STAMP (VALUE ∷ rest) (line_field 13 (Some 68) x) refl refl refl)), (0, inl (omega arith),
-    (one-segment order 0 4 (value_field b.value) (first-of-tag order 0 (REFERENCE ∷ RELATED ∷ ACCOUNT ∷ STAMP ∷ []) VALUE rest (value_field b.value) refl refl refl), (0, inl (omega arith), later))))))))))
+    let behind = STAMP ∷ VALUE ∷ rest in (
+      one-segment order 0 0 (line_field 20 None b.reference) (first-of-tag order 0 [] REFERENCE (RELATED ∷ ACCOUNT ∷ behind) (line_field 20 None b.reference) refl refl refl),
+      (
+        0,
+        inl (omega arith),
+        (
+          one-segment order 0 1 (line_field 21 None b.related) (first-of-tag order 0 (REFERENCE ∷ []) RELATED (ACCOUNT ∷ behind) (line_field 21 None b.related) refl refl refl),
+          (
+            0,
+            inl (omega arith),
+            (
+              one-segment order 0 2 (line_field 25 None b.account) (first-of-tag order 0 (REFERENCE ∷ RELATED ∷ []) ACCOUNT behind (line_field 25 None b.account) refl refl refl),
+              (
+                0,
+                inl (omega arith),
+                (
+                  some-segment order 0 3 (line_field 13 (Some 68)) b.at (some-all _ b.at (λ x. first-of-tag order 0 (REFERENCE ∷ RELATED ∷ ACCOUNT ∷ []) STAMP (VALUE ∷ rest) (line_field 13 (Some 68) x) refl refl refl)),
+                  (
+                    0,
+                    inl (omega arith),
+                    (one-segment order 0 4 (value_field b.value) (first-of-tag order 0 (REFERENCE ∷ RELATED ∷ ACCOUNT ∷ STAMP ∷ []) VALUE rest (value_field b.value) refl refl refl), (0, inl (omega arith), later)),
+                  ),
+                ),
+              ),
+            ),
+          ),
+        ),
+      ),
+    )
 
 booking-there : (rest : List Place) (b : Booking) (more : List (List Field)) → missing_from 0 (begun rest) (places_of 0 (written b more)) ≡ missing_from 5 rest (places_of 0 (written b more))
 unfolding missing_from
@@ -66,18 +86,40 @@ Fits place tag o = IfSome o (λ p. fits place (party_field tag p) ≡ true)
 
 placed-900 : (m : Mt900) → Fits ORDERING 52 m.p52 → Segments ORDER_900 0 0 (segments_900 m)
 placed-900 m p52 =
-    booking-placed (ORDERING ∷ NOTES ∷ []) (booking_900 m) (some_field (party_field 52) m.p52 ∷ lines_fields 72 None m.notes ∷ [])
-    (some-segment ORDER_900 0 5 (party_field 52) m.p52 (some-weaker _ _ m.p52 p52 (λ p e. first-of-tag ORDER_900 0 (begun []) ORDERING (NOTES ∷ []) (party_field 52 p) refl refl e)), (0, inl (omega arith),
-    (lines-segment ORDER_900 0 6 72 None m.notes refl, (0, inl (omega arith), tt))))
+    booking-placed (ORDERING ∷ NOTES ∷ []) (booking_900 m) (some_field (party_field 52) m.p52 ∷ lines_fields 72 None m.notes ∷ []) (
+      some-segment ORDER_900 0 5 (party_field 52) m.p52 (some-weaker _ _ m.p52 p52 (λ p e. first-of-tag ORDER_900 0 (begun []) ORDERING (NOTES ∷ []) (party_field 52 p) refl refl e)),
+      (
+        0,
+        inl (omega arith),
+        (lines-segment ORDER_900 0 6 72 None m.notes refl, (0, inl (omega arith), tt)),
+      ),
+    )
 
 placed-910 : (m : Mt910) → Fits PAYER 50 m.payer → Fits ORDERING 52 m.p52 → Fits INTERMEDIARY 56 m.p56 → Segments ORDER_910 0 0 (segments_910 m)
 placed-910 m payer p52 p56 =
     booking-placed (PAYER ∷ ORDERING ∷ INTERMEDIARY ∷ NOTES ∷ []) (booking_910 m)
-    (some_field (party_field 50) m.payer ∷ some_field (party_field 52) m.p52 ∷ some_field (party_field 56) m.p56 ∷ lines_fields 72 None m.notes ∷ [])
-    (some-segment ORDER_910 0 5 (party_field 50) m.payer (some-weaker _ _ m.payer payer (λ p e. first-of-tag ORDER_910 0 (begun []) PAYER (ORDERING ∷ INTERMEDIARY ∷ NOTES ∷ []) (party_field 50 p) refl refl e)), (0, inl (omega arith),
-    (some-segment ORDER_910 0 6 (party_field 52) m.p52 (some-weaker _ _ m.p52 p52 (λ p e. first-of-tag ORDER_910 0 (begun (PAYER ∷ [])) ORDERING (INTERMEDIARY ∷ NOTES ∷ []) (party_field 52 p) refl refl e)), (0, inl (omega arith),
-    (some-segment ORDER_910 0 7 (party_field 56) m.p56 (some-weaker _ _ m.p56 p56 (λ p e. first-of-tag ORDER_910 0 (begun (PAYER ∷ ORDERING ∷ [])) INTERMEDIARY (NOTES ∷ []) (party_field 56 p) refl refl e)), (0, inl (omega arith),
-    (lines-segment ORDER_910 0 8 72 None m.notes refl, (0, inl (omega arith), tt))))))))
+    (some_field (party_field 50) m.payer ∷ some_field (party_field 52) m.p52 ∷ some_field (party_field 56) m.p56 ∷ lines_fields 72 None m.notes ∷ []) (
+      some-segment ORDER_910 0 5 (party_field 50) m.payer (some-weaker _ _ m.payer payer (λ p e. first-of-tag ORDER_910 0 (begun []) PAYER (ORDERING ∷ INTERMEDIARY ∷ NOTES ∷ []) (party_field 50 p) refl refl e)),
+      (
+        0,
+        inl (omega arith),
+        (
+          some-segment ORDER_910 0 6 (party_field 52) m.p52 (some-weaker _ _ m.p52 p52 (λ p e. first-of-tag ORDER_910 0 (begun (PAYER ∷ [])) ORDERING (INTERMEDIARY ∷ NOTES ∷ []) (party_field 52 p) refl refl e)),
+          (
+            0,
+            inl (omega arith),
+            (
+              some-segment ORDER_910 0 7 (party_field 56) m.p56 (some-weaker _ _ m.p56 p56 (λ p e. first-of-tag ORDER_910 0 (begun (PAYER ∷ ORDERING ∷ [])) INTERMEDIARY (NOTES ∷ []) (party_field 56 p) refl refl e)),
+              (
+                0,
+                inl (omega arith),
+                (lines-segment ORDER_910 0 8 72 None m.notes refl, (0, inl (omega arith), tt)),
+              ),
+            ),
+          ),
+        ),
+      ),
+    )
 
 there-900 : (m : Mt900) → missing_from 0 ORDER_900 (places_of 0 (segments_900 m)) ≡ None
 unfolding missing_from
@@ -193,13 +235,20 @@ module _ (order : List Place) (t : Tables) (fs : List Field) (found : List ℕ) 
       let reference = said-one (Stands order IsField) fs 0 reference_of order found b.reference h s.reference in
       let related = said-one (Stands order IsField) fs 1 (short_line_of 16) order found b.related h s.related in
       let account = said-one (Stands order IsField) fs 2 (short_line_of 35) order found b.account h s.account in
-      let value = said-one (Stands order IsField) fs 4 (value_of t) order found b.value h s.value in
-      ((kept-fit 20 None reference.field (b.reference ∷ []) (record { two_digits = omega arith; capital = tt }) (reference-kept reference.field b.reference reference.says) reference.holds.has, tt),
-      ((kept-fit 21 None related.field (b.related ∷ []) (record { two_digits = omega arith; capital = tt }) (short_line-kept 16 related.field b.related related.says) related.holds.has, tt),
-      ((kept-fit 25 None account.field (b.account ∷ []) (record { two_digits = omega arith; capital = tt }) (short_line-kept 35 account.field b.account account.says) account.holds.has, tt),
-      (some-each IsField (line_field 13 (Some 68)) b.at (some-weaker _ _ b.at (said-option (Stands order IsField) fs 3 stamp_of found b.at h s.at)
-      (λ x r. kept-fit 13 (Some 68) r.field (x ∷ []) (record { two_digits = omega arith; capital = refl }) (stamp-kept r.field x r.says) r.holds.has)),
-      ((value-fit t value.field b.value is value.says, tt), later)))))
+      let value = said-one (Stands order IsField) fs 4 (value_of t) order found b.value h s.value in (
+        (kept-fit 20 None reference.field (b.reference ∷ []) (record { two_digits = omega arith; capital = tt }) (reference-kept reference.field b.reference reference.says) reference.holds.has, tt),
+        (
+          (kept-fit 21 None related.field (b.related ∷ []) (record { two_digits = omega arith; capital = tt }) (short_line-kept 16 related.field b.related related.says) related.holds.has, tt),
+          (
+            (kept-fit 25 None account.field (b.account ∷ []) (record { two_digits = omega arith; capital = tt }) (short_line-kept 35 account.field b.account account.says) account.holds.has, tt),
+            (
+              some-each IsField (line_field 13 (Some 68)) b.at (some-weaker _ _ b.at (said-option (Stands order IsField) fs 3 stamp_of found b.at h s.at)
+                  (λ x r. kept-fit 13 (Some 68) r.field (x ∷ []) (record { two_digits = omega arith; capital = refl }) (stamp-kept r.field x r.says) r.holds.has)),
+              ((value-fit t value.field b.value is value.says, tt), later),
+            ),
+          ),
+        ),
+      )
 
   parties-fit : (k tag : ℕ) (d : Place) (o : Option Party) → (get_or order k d).tag ≡ tag → in_option fs found k (known_party_of t) ≡ Ok o → AllByRecursion IsField (some_field (party_field tag) o)
   parties-fit k tag d o at e =
@@ -219,9 +268,10 @@ fit-900 m r =
     let h = stand ORDER_900 IsField 0 r.fields r.fit in
     let s = said-900 r.tables r.fields found m (contents-of-900 r.tables r.fields m r.says) in
     each-joined IsField (segments_900 m)
-    (booking-fit ORDER_900 r.tables r.fields found h (booking_900 m) (some_field (party_field 52) m.p52 ∷ lines_fields 72 None m.notes ∷ []) (value-900 m r) s.booking
-    (parties-fit ORDER_900 r.tables r.fields found h 5 52 NOTES m.p52 refl s.p52,
-    (notes-fit ORDER_900 r.tables r.fields found h 6 s.lines m.notes s.same s.notes, tt)))
+    (booking-fit ORDER_900 r.tables r.fields found h (booking_900 m) (some_field (party_field 52) m.p52 ∷ lines_fields 72 None m.notes ∷ []) (value-900 m r) s.booking (
+      parties-fit ORDER_900 r.tables r.fields found h 5 52 NOTES m.p52 refl s.p52,
+      (notes-fit ORDER_900 r.tables r.fields found h 6 s.lines m.notes s.same s.notes, tt),
+    ))
 
 pub fit-910 : (m : Mt910) → IsReadable mt910_of m → All IsField (fields_910 m)
 unfolding fields_910
@@ -231,8 +281,13 @@ fit-910 m r =
     let s = said-910 r.tables r.fields found m (contents-of-910 r.tables r.fields m r.says).0 in
     each-joined IsField (segments_910 m)
     (booking-fit ORDER_910 r.tables r.fields found h (booking_910 m)
-    (some_field (party_field 50) m.payer ∷ some_field (party_field 52) m.p52 ∷ some_field (party_field 56) m.p56 ∷ lines_fields 72 None m.notes ∷ []) (value-910 m r) s.booking
-    (parties-fit ORDER_910 r.tables r.fields found h 5 50 NOTES m.payer refl s.payer,
-    (parties-fit ORDER_910 r.tables r.fields found h 6 52 NOTES m.p52 refl s.p52,
-    (parties-fit ORDER_910 r.tables r.fields found h 7 56 NOTES m.p56 refl s.p56,
-    (notes-fit ORDER_910 r.tables r.fields found h 8 s.lines m.notes s.same s.notes, tt)))))
+    (some_field (party_field 50) m.payer ∷ some_field (party_field 52) m.p52 ∷ some_field (party_field 56) m.p56 ∷ lines_fields 72 None m.notes ∷ []) (value-910 m r) s.booking (
+      parties-fit ORDER_910 r.tables r.fields found h 5 50 NOTES m.payer refl s.payer,
+      (
+        parties-fit ORDER_910 r.tables r.fields found h 6 52 NOTES m.p52 refl s.p52,
+        (
+          parties-fit ORDER_910 r.tables r.fields found h 7 56 NOTES m.p56 refl s.p56,
+          (notes-fit ORDER_910 r.tables r.fields found h 8 s.lines m.notes s.same s.notes, tt),
+        ),
+      ),
+    ))
