@@ -3,8 +3,7 @@
 use crate::{
     C03, C08, CcyAmount, KnownParty, P25, P26, P27, Rate, Reference, T26, T40, T43, T50, T52,
     Texts, Time, Value, ValueDate, push_ccy_amount, push_ccy_amounts, push_party, push_rate,
-    push_texts, push_times, put_ccy_amount, put_known_party, put_rate, put_reference, put_texts,
-    put_time, put_value,
+    push_texts, push_times, put_ccy_amount, put_reference, put_value,
 };
 use corr_ids::Day;
 use corr_money::{Amount, Ccy, Minor};
@@ -228,84 +227,84 @@ fn amounts_are_written_with_all_decimals(rt: HostRuntime) -> Result<(), Fail> {
             assert!(rt; is_field(rt.alloc(), &f, 33, Some(b'B'), want)?);
         }
     }
+    Ok(())
+}
+
+const CENTS: Amount = Amount {
+    ccy: Ccy(*b"EUR"),
+    minor: Minor(123450),
+    decimals: 2,
+};
+
+#[test]
+fn a_value_is_written_with_its_date(rt: HostRuntime) -> Result<(), Fail> {
     let value = Value {
         day: Day(19877),
-        amount: Amount {
-            ccy: Ccy(*b"EUR"),
-            minor: Minor(123450),
-            decimals: 2,
-        },
+        amount: CENTS,
     };
     let f = put_value(rt.alloc(), &value)?;
     assert!(rt; is_field(rt.alloc(), &f, 32, Some(b'A'), b"240603EUR1234,50\n")?);
     Ok(())
 }
 
+fn two_times(alloc: Global) -> Result<List<Text>, Memory> {
+    let mut times = List::new(alloc);
+    times.push(Text::from_bytes(alloc, b"/A/0915+0100")?)?;
+    times.push(Text::from_bytes(alloc, b"/B/0915-0100")?)?;
+    Ok(times)
+}
+
 #[test]
-fn other_contents_are_written_as_they_were_read(rt: HostRuntime) -> Result<(), Fail> {
+fn references_are_written_as_they_were_read(rt: HostRuntime) -> Result<(), Fail> {
     let line = Text::from_bytes(rt.alloc(), b"A/B")?;
     let f = put_reference(rt.alloc(), 21, &line)?;
     assert!(rt; is_field(rt.alloc(), &f, 21, None, b"A/B\n")?);
-    let line = Text::from_bytes(rt.alloc(), b"/CLSTIME/0915+0100")?;
-    let f = put_time(rt.alloc(), &line)?;
-    assert!(rt; is_field(rt.alloc(), &f, 13, Some(b'C'), b"/CLSTIME/0915+0100\n")?);
-    let line = Text::from_bytes(rt.alloc(), b"1,0533")?;
-    let f = put_rate(rt.alloc(), &line)?;
-    assert!(rt; is_field(rt.alloc(), &f, 36, None, b"1,0533\n")?);
-    let mut lines = List::new(rt.alloc());
-    lines.push(Text::from_bytes(rt.alloc(), b"A")?)?;
-    lines.push(Text::from_bytes(rt.alloc(), b"B")?)?;
-    let f = put_texts(rt.alloc(), 77, Some(b'B'), lines.as_slice())?;
-    assert!(rt; is_field(rt.alloc(), &f, 77, Some(b'B'), b"A\nB\n")?);
-    let party = Party::B {
-        line: None,
-        place: Some(Text::from_bytes(rt.alloc(), b"PARIS")?),
-    };
-    let f = put_known_party(rt.alloc(), 53, &party)?;
-    assert!(rt; is_field(rt.alloc(), &f, 53, Some(b'B'), b"PARIS\n")?);
     Ok(())
+}
+
+fn nothing_is_added(alloc: Global) -> Result<bool, Memory> {
+    let mut fields = List::new(alloc);
+    push_times(alloc, &[], &mut fields)?;
+    push_rate(alloc, &None, &mut fields)?;
+    push_ccy_amount(alloc, 33, Some(b'B'), &None, &mut fields)?;
+    push_ccy_amounts(alloc, 71, Some(b'F'), &[], &mut fields)?;
+    push_party(alloc, 52, &None, &mut fields)?;
+    push_texts(alloc, 70, None, &[], &mut fields)?;
+    Ok(fields.as_slice().is_empty())
+}
+
+fn contents_of_one(alloc: Global, fields: &mut List<Field>) -> Result<(), Memory> {
+    let rate = Some(Text::from_bytes(alloc, b"1,0533")?);
+    let party = Some(Party::C {
+        line: Text::from_bytes(alloc, b"//FW1")?,
+    });
+    push_rate(alloc, &rate, fields)?;
+    push_ccy_amount(alloc, 33, Some(b'B'), &Some(CENTS), fields)?;
+    push_party(alloc, 56, &party, fields)
+}
+
+fn contents_of_two(alloc: Global, fields: &mut List<Field>) -> Result<(), Memory> {
+    let times = two_times(alloc)?;
+    push_times(alloc, times.as_slice(), fields)?;
+    push_ccy_amounts(alloc, 71, Some(b'F'), &[CENTS, CENTS], fields)?;
+    push_texts(alloc, 77, Some(b'B'), times.as_slice(), fields)
 }
 
 #[test]
 fn fields_are_added_where_there_is_a_content(rt: HostRuntime) -> Result<(), Fail> {
+    assert!(rt; nothing_is_added(rt.alloc())?);
     let mut fields = List::new(rt.alloc());
-    let mut times = List::new(rt.alloc());
-    push_times(rt.alloc(), times.as_slice(), &mut fields)?;
-    push_rate(rt.alloc(), &None, &mut fields)?;
-    push_ccy_amount(rt.alloc(), 33, Some(b'B'), &None, &mut fields)?;
-    push_ccy_amounts(rt.alloc(), 71, Some(b'F'), &[], &mut fields)?;
-    push_party(rt.alloc(), 52, &None, &mut fields)?;
-    push_texts(rt.alloc(), 70, None, &[], &mut fields)?;
-    assert_eq!(rt; fields.as_slice().len(), 0);
-    times.push(Text::from_bytes(rt.alloc(), b"/A/0915+0100")?)?;
-    times.push(Text::from_bytes(rt.alloc(), b"/B/0915-0100")?)?;
-    let amount = Amount {
-        ccy: Ccy(*b"EUR"),
-        minor: Minor(100),
-        decimals: 2,
-    };
-    let party = Party::C {
-        line: Text::from_bytes(rt.alloc(), b"//FW1")?,
-    };
-    push_times(rt.alloc(), times.as_slice(), &mut fields)?;
-    push_rate(
-        rt.alloc(),
-        &Some(Text::from_bytes(rt.alloc(), b"1,")?),
-        &mut fields,
-    )?;
-    push_ccy_amount(rt.alloc(), 33, Some(b'B'), &Some(amount), &mut fields)?;
-    push_ccy_amounts(rt.alloc(), 71, Some(b'F'), &[amount, amount], &mut fields)?;
-    push_party(rt.alloc(), 56, &Some(party), &mut fields)?;
-    push_texts(rt.alloc(), 70, None, times.as_slice(), &mut fields)?;
+    contents_of_one(rt.alloc(), &mut fields)?;
+    contents_of_two(rt.alloc(), &mut fields)?;
     let want: [(u8, Option<u8>, &[u8]); 8] = [
+        (36, None, b"1,0533\n"),
+        (33, Some(b'B'), b"EUR1234,50\n"),
+        (56, Some(b'C'), b"//FW1\n"),
         (13, Some(b'C'), b"/A/0915+0100\n"),
         (13, Some(b'C'), b"/B/0915-0100\n"),
-        (36, None, b"1,\n"),
-        (33, Some(b'B'), b"EUR1,00\n"),
-        (71, Some(b'F'), b"EUR1,00\n"),
-        (71, Some(b'F'), b"EUR1,00\n"),
-        (56, Some(b'C'), b"//FW1\n"),
-        (70, None, b"/A/0915+0100\n/B/0915-0100\n"),
+        (71, Some(b'F'), b"EUR1234,50\n"),
+        (71, Some(b'F'), b"EUR1234,50\n"),
+        (77, Some(b'B'), b"/A/0915+0100\n/B/0915-0100\n"),
     ];
     assert_eq!(rt; fields.as_slice().len(), want.len());
     for (f, (tag, letter, bytes)) in fields.as_slice().iter().zip(want) {
