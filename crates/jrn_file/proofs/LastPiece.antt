@@ -41,7 +41,7 @@ in-last-piece (g ∷ after) piece (h ∷ rest) more (inr cut) open_gate taken sh
         let same : after ++ piece ≡ sized e.1 ++ next =
         ap (λ (l : List ℕ). drop 1 l) is ∙ append_assoc (sized e.1) (behind_gates entries) (h ∷ rest) in
         elim (cases_lt (length piece) (length (h ∷ rest))) [
-        | inl more_left ↦
-          absurd (cut (whole-in-front e.1 next after piece gates.1 same (omega (arith, more_left, ap length same, length-append after piece, length-append (sized e.1) next, length-append (behind_gates entries) (h ∷ rest)))))
-        | inr within ↦ within
+          | inl more_left ↦
+              absurd (cut (whole-in-front e.1 next after piece gates.1 same (omega (arith, more_left, ap length same, length-append after piece, length-append (sized e.1) next, length-append (behind_gates entries) (h ∷ rest)))))
+          | inr within ↦ within
         ]

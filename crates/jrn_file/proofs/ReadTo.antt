@@ -80,10 +80,10 @@ module _ (honest : Bool) (reads : List ℕ) (place : ℕ) (all : List (List ℕ)
   -- a closed gate behind the records
   pub read-end : IsShut held → 0 < length all → OfBytes honest reads (λ bytes. IsReadAs bytes (place - length held) all)
   read-end shut some = (
-      read.bytes ++ drop place reads,
-      subst (λ n. IsReadAs (read.bytes ++ drop place reads) (n - length held) all) read.size (taken-end read.bytes held all read.taken shut some (drop place reads)),
-      read.told,
-    )
+    read.bytes ++ drop place reads,
+    subst (λ n. IsReadAs (read.bytes ++ drop place reads) (n - length held) all) read.size (taken-end read.bytes held all read.taken shut some (drop place reads)),
+    read.told,
+  )
 
   -- a closed gate and no record
   pub read-none : IsShut held → length all ≡ 0 → OfBytes honest reads IsNoJournal

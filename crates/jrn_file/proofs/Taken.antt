@@ -50,8 +50,8 @@ record-within bytes at r begins =
 pub stops-shut : (bytes : List ℕ) (at : ℕ) → (at < length bytes → get_or bytes at 0 ≡ 0) → IsNoJournal (drop at bytes)
 stops-shut bytes at shut =
     elim (cases_lt at (length bytes)) [
-    | inr past ↦ subst IsNoJournal (sym (drop_all at bytes past)) tt
-    | inl within ↦ subst IsNoJournal (sym (drop_more bytes at 0 within)) (inl (shut within))
+      | inr past ↦ subst IsNoJournal (sym (drop_all at bytes past)) tt
+      | inl within ↦ subst IsNoJournal (sym (drop_more bytes at 0 within)) (inl (shut within))
     ]
 
 pub stops-cut : (bytes : List ℕ) (at : ℕ) → at < length bytes → (IsWhole (drop (at + 1) bytes) → ⊥) → IsNoJournal (drop at bytes)
@@ -77,10 +77,14 @@ taken-then bytes held piece rest all more one two = record {
     | inr some ↦ inr some
     | inl none ↦ elim one.gate [
       | inl none_before ↦ inl (ap (λ (l : List (List ℕ)). l ++ more) none_before ∙ none)
-      | inr some_held ↦ inr (omega (arith, some_held, length-append held piece,
-          ap length (two.is ∙ ap (λ (l : List ℕ). l ++ rest) (no-entries two.entries (ap length (two.same ∙ none))))))
-      ]
-    ];
+      | inr some_held ↦ inr (omega (
+        arith,
+        some_held,
+        length-append held piece,
+        ap length (two.is ∙ ap (λ (l : List ℕ). l ++ rest) (no-entries two.entries (ap length (two.same ∙ none)))),
+      ))
+    ]
+  ];
 }
 
 -- a closed gate behind the records
@@ -101,8 +105,14 @@ taken-end bytes (gate ∷ after) (head ∷ records) taken shut some behind = rec
         ∙ append_assoc (behind_gates taken.entries) (gate ∷ after) behind
         ∙ ap (λ (g : ℕ). behind_gates taken.entries ++ g ∷ (after ++ behind)) shut;
   };
-  place = omega (arith, ap length taken.is, length-append (behind_gates taken.entries) (gate ∷ after),
-      length-behind_gates taken.entries, ap size_of taken.same, length-journal_bytes head records);
+  place = omega (
+    arith,
+    ap length taken.is,
+    length-append (behind_gates taken.entries) (gate ∷ after),
+    length-behind_gates taken.entries,
+    ap size_of taken.same,
+    length-journal_bytes head records,
+  );
 }
 
 only-held : (bytes held : List ℕ) (all : List (List ℕ)) → IsTaken bytes all held → length all ≡ 0 → bytes ≡ held

@@ -249,9 +249,7 @@ fn records_that_cross_the_edges_of_pieces_are_put_together(rt: HostRuntime) -> R
 }
 
 #[test]
-fn a_journal_that_is_cut_short_is_refused_whatever_the_pieces(
-    rt: HostRuntime,
-) -> Result<(), Fail> {
+fn a_journal_that_is_cut_short_is_refused_whatever_the_pieces(rt: HostRuntime) -> Result<(), Fail> {
     let alloc = rt.alloc();
     for len in 0..37usize {
         // the open gate with no whole record behind it, behind the header

@@ -80,9 +80,9 @@ overflow_sub-gate g c =
     let all = c.take_records.new.records.items in
     let held = c.take_records.new.held.items in
     let piece = piece-of (D.honest old) (D.honest c.loop-index.disk) (D.reads old) (D.reads c.loop-index.disk) at c.args.piece n c.loop-index.held.items c.read_piece.new.held.items
-        c.loop-index.invariant.honest c.loop-index.invariant.untouched.same c.in_ok-count.ensures.piece in
+    c.loop-index.invariant.honest c.loop-index.invariant.untouched.same c.in_ok-count.ensures.piece in
     let now = read-on (D.honest old) (D.reads old) at c.args.piece n c.loop-index.records.items all c.loop-index.held.items c.read_piece.new.held.items held
-        c.loop-index.invariant.read piece c.in_ok-take_records.ensures.taken in
+    c.loop-index.invariant.read piece c.in_ok-take_records.ensures.taken in
     omega (arith, held-within (D.honest old) (D.reads old) (at + n) all held now, c.len.ensures ∙ c.take_records.new.held.ok.0)
 
 pub returns-then-is_none-clause-fault : goal.returns-then-is_none-clause-fault
@@ -94,9 +94,9 @@ returns-then-is_none-clause-fault g c =
     let all = c.take_records.new.records.items in
     let held = c.take_records.new.held.items in
     let piece = piece-of (D.honest old) (D.honest c.loop-index.disk) (D.reads old) (D.reads c.loop-index.disk) at c.args.piece n c.loop-index.held.items c.read_piece.new.held.items
-        c.loop-index.invariant.honest c.loop-index.invariant.untouched.same c.in_ok-count.ensures.piece in
+    c.loop-index.invariant.honest c.loop-index.invariant.untouched.same c.in_ok-count.ensures.piece in
     let now = read-on (D.honest old) (D.reads old) at c.args.piece n c.loop-index.records.items all c.loop-index.held.items c.read_piece.new.held.items held
-        c.loop-index.invariant.read piece c.in_ok-take_records.ensures.taken in
+    c.loop-index.invariant.read piece c.in_ok-take_records.ensures.taken in
     let shut = subst IsShut c.as_slice.ensures.value c.if-is_closed.ensures.shut in
     let none = subst (λ l. length l ≡ 0) c.as_slice-then-is_closed.ensures.value c.if-is_none.ensures.none in
     read-none (D.honest old) (D.reads old) (at + n) all held now shut none
@@ -127,9 +127,9 @@ returns-then-is_closed-clause-records g c =
     let all = c.take_records.new.records.items in
     let held = c.take_records.new.held.items in
     let piece = piece-of (D.honest old) (D.honest c.loop-index.disk) (D.reads old) (D.reads c.loop-index.disk) at c.args.piece n c.loop-index.held.items c.read_piece.new.held.items
-        c.loop-index.invariant.honest c.loop-index.invariant.untouched.same c.in_ok-count.ensures.piece in
+    c.loop-index.invariant.honest c.loop-index.invariant.untouched.same c.in_ok-count.ensures.piece in
     let now = read-on (D.honest old) (D.reads old) at c.args.piece n c.loop-index.records.items all c.loop-index.held.items c.read_piece.new.held.items held
-        c.loop-index.invariant.read piece c.in_ok-take_records.ensures.taken in
+    c.loop-index.invariant.read piece c.in_ok-take_records.ensures.taken in
     let shut = subst IsShut c.as_slice.ensures.value c.if-is_closed.ensures.shut in
     let some = subst (λ l. 0 < length l) c.as_slice-then-is_closed.ensures.value c.if-is_none.ensures.some in
     let P : ℕ → Type 0 = λ k. OfBytes (D.honest old) (D.reads old) (λ bytes. IsReadAs bytes (at + n - k) all) in
@@ -144,14 +144,14 @@ returns-then-is_closed-clause-calls g c =
     let all = c.take_records.new.records.items in
     let held = c.take_records.new.held.items in
     let piece = piece-of (D.honest old) (D.honest c.loop-index.disk) (D.reads old) (D.reads c.loop-index.disk) at c.args.piece n c.loop-index.held.items c.read_piece.new.held.items
-        c.loop-index.invariant.honest c.loop-index.invariant.untouched.same c.in_ok-count.ensures.piece in
+    c.loop-index.invariant.honest c.loop-index.invariant.untouched.same c.in_ok-count.ensures.piece in
     let now = read-on (D.honest old) (D.reads old) at c.args.piece n c.loop-index.records.items all c.loop-index.held.items c.read_piece.new.held.items held
-        c.loop-index.invariant.read piece c.in_ok-take_records.ensures.taken in
+    c.loop-index.invariant.read piece c.in_ok-take_records.ensures.taken in
     let shut = subst IsShut c.as_slice.ensures.value c.if-is_closed.ensures.shut in
     let index = c.loop-index.index in
     let taken = c.in_ok-take_records.ensures.taken in
     let place = gate-in-piece (D.honest old) (D.reads old) index c.args.piece n taken.0 c.loop-index.held.items c.read_piece.new.held.items held
-        c.loop-index.invariant.stopped c.loop-index.invariant.open_gate piece taken.2 shut in
+    c.loop-index.invariant.stopped c.loop-index.invariant.open_gate piece taken.2 shut in
     let P : ℕ → Type 0 = λ k. CallsMade (calls_to_open c.args.piece (at + n - k)) (D.calls_left old) (D.calls_left c.read_piece.new.disk) in
     subst P (sym (c.len.ensures ∙ c.take_records.new.held.ok.0))
     (subst (λ k. CallsMade k (D.calls_left old) (D.calls_left c.read_piece.new.disk)) (omega (arith, place))
@@ -183,9 +183,9 @@ returns-then-count-piece-clause-fault g c =
     let all = c.take_records.new.records.items in
     let held = c.take_records.new.held.items in
     let piece = piece-of (D.honest old) (D.honest c.loop-index.disk) (D.reads old) (D.reads c.loop-index.disk) at c.args.piece n c.loop-index.held.items c.read_piece.new.held.items
-        c.loop-index.invariant.honest c.loop-index.invariant.untouched.same c.in_ok-count.ensures.piece in
+    c.loop-index.invariant.honest c.loop-index.invariant.untouched.same c.in_ok-count.ensures.piece in
     let now = read-on (D.honest old) (D.reads old) at c.args.piece n c.loop-index.records.items all c.loop-index.held.items c.read_piece.new.held.items held
-        c.loop-index.invariant.read piece c.in_ok-take_records.ensures.taken in
+    c.loop-index.invariant.read piece c.in_ok-take_records.ensures.taken in
     let open_gate = subst (λ l. IsShut l → ⊥) c.as_slice.ensures.value c.if-is_closed.ensures.open in
     let records = c.as_slice-then-count-piece.ensures.value in
     let P : ℕ → Type 0 = λ k. 0 < length all → c.refusal.result ≡ Damaged (at + n - k) in
@@ -221,9 +221,9 @@ loop-index-preserved g c =
     let all = c.take_records.new.records.items in
     let held = c.take_records.new.held.items in
     let piece = piece-of (D.honest old) (D.honest c.loop-index.disk) (D.reads old) (D.reads c.loop-index.disk) at c.args.piece n c.loop-index.held.items c.read_piece.new.held.items
-        c.loop-index.invariant.honest c.loop-index.invariant.untouched.same c.in_ok-count.ensures.piece in
+    c.loop-index.invariant.honest c.loop-index.invariant.untouched.same c.in_ok-count.ensures.piece in
     let now = read-on (D.honest old) (D.reads old) at c.args.piece n c.loop-index.records.items all c.loop-index.held.items c.read_piece.new.held.items held
-        c.loop-index.invariant.read piece c.in_ok-take_records.ensures.taken in
+    c.loop-index.invariant.read piece c.in_ok-take_records.ensures.taken in
     let mid = c.loop-index.disk in
     let new = c.read_piece.new.disk in
     let index = c.loop-index.index in

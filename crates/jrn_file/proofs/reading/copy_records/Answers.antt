@@ -13,7 +13,7 @@ loop-alloc-preserved c =
     let taken = c.loop-alloc.invariant.taken in
     let before = taken.0 in
     let grown = c.in_ok-push-in-Some.ensures.items ∙ ap (λ x. c.loop-alloc.records.items ++ x ∷ []) c.in_ok-from_bytes-in-Some.ensures
-        ∙ ap (λ l. l ++ r ∷ []) taken.1 ∙ append_assoc c.args.records.now.items before (r ∷ []) in
+    ∙ ap (λ l. l ++ r ∷ []) taken.1 ∙ append_assoc c.args.records.now.items before (r ∷ []) in
     record {
       within = omega (arith, c.loop-alloc-test.ensures.open.0, record-within bytes at r begins);
       taken = (before ++ r ∷ [], grown, taken-more bytes before at r taken.2 c.loop-alloc-test.ensures.open.0 c.loop-alloc-test.ensures.open.1 begins);
