@@ -180,8 +180,8 @@ text-of-sized group n le =
     let lf : List ℕ = codes "{4:" ++ 10 ∷ [] in
     then-some P (Sized n) (option_or (between crlf (codes "-}") group) (between lf (codes "-}") group)) _
     (or-some P _ _
-        (weaker (λ bs. length bs + 7 ≤ length group) P (between crlf (codes "-}") group) (λ bs h. omega arith) (between-size crlf (codes "-}") group))
-        (weaker (λ bs. length bs + 6 ≤ length group) P (between lf (codes "-}") group) (λ bs h. omega arith) (between-size lf (codes "-}") group)))
+    (weaker (λ bs. length bs + 7 ≤ length group) P (between crlf (codes "-}") group) (λ bs h. omega arith) (between-size crlf (codes "-}") group))
+    (weaker (λ bs. length bs + 6 ≤ length group) P (between lf (codes "-}") group) (λ bs h. omega arith) (between-size lf (codes "-}") group)))
     (λ bs h. when-some (Sized n) _ (text_in bs) (λ _. text-in-sized bs n h))
 
 -- ---- the text of a message: what holds of it holds of the fifth of seven steps
