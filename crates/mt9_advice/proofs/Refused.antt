@@ -14,7 +14,7 @@ use Rattle.mt9_advice.specs.declared.booking.Booking.{Booking}
 use Rattle.mt9_advice.specs.declared.order.TheConstants.{ACCOUNT, ORDER_900, ORDER_910, REFERENCE, RELATED, STAMP, VALUE}
 
 -- an order that begins with 20, 21, 25, 13D and 32A
-abbrev begun : List Place → List Place
+abbrev pub begun : List Place → List Place
 begun rest = REFERENCE ∷ RELATED ∷ ACCOUNT ∷ STAMP ∷ VALUE ∷ rest
 
 module _ (t : Tables) (fs : List Field) (found : List ℕ) (fault : Fault) where

@@ -1,8 +1,12 @@
 //! MT900, the confirmation of a debit.
 
-ghost use Rattle.std.specs.Prelude.{◌≡◌, ◌≤◌, length};
+ghost use Rattle.std.specs.Prelude.{◌≡◌, ◌≤◌, None, Ok, length};
+ghost use Rattle.corr_text.specs.First.{first_of};
+ghost use Rattle.fin_layout.specs.Order.{places_from};
 ghost use Rattle.fin_layout.specs.Reading.{Gives};
-ghost use Rattle.mt9_advice.specs.Advice.{contents_900, mt900, mt900_of};
+ghost use Rattle.mt9_advice.specs.Advice.{contents_900, mt900, mt900_of, tests_900};
+ghost use Rattle.mt9_advice.specs.declared.debit.Mt900.{Mt900 as Mt900Seen};
+ghost use Rattle.mt9_advice.specs.declared.order.TheConstants.{ORDER_900 as order};
 
 use crate::booking::{Booking, or_none, read_booking};
 use crate::order::ORDER_900;
@@ -71,10 +75,14 @@ fn read_contents(
 /// The confirmation of a debit that the fields of block 4 say.
 ///
 /// `Bad` tells the first test that fails (docs/messages.md, "MT900 and MT910"): P22 and P23 of the order of fields; then each
-/// content in the order of the text, with its field's tag and occurrence.
+/// content in the order of the text, with its field's tag and occurrence. Where no test fails the fields say a confirmation
+/// (`complete`), so there is no other refusal.
+#[tactic(auto, using(crate::proofs::Complete::complete_900))]
 pub fn read_mt900(alloc: Global, f: &[Field], t: &RefTables) -> Result<Mt900, MtFault>
     requires few { length f.now ≤ 65535 }
     ensures message { Gives result (mt900_of t.now f.now) }
+    ensures complete { first_of (tests_900 t.now f.now) ≡ None
+        → (m : Mt900Seen) × (contents_900 t.now f.now (places_from order 0 f.now) ≡ Ok m) }
 {
     let found = check_structure(alloc, &ORDER_900, f)?;
     read_contents(alloc, t, f, found.as_slice())

@@ -9,7 +9,11 @@ mod order;
 mod stamp;
 #[cfg(test)]
 mod tests;
+mod writing;
+#[cfg(test)]
+mod writing_tests;
 
 pub use credit::{C06, Mt910, read_mt910};
 pub use debit::{Mt900, read_mt900};
 pub use order::{ORDER_900, ORDER_910};
+pub use writing::{put_mt900, put_mt910};

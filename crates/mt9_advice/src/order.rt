@@ -75,9 +75,7 @@ pub const NOTES: Place = Place {
 };
 
 /// The places of an MT900's fields, numbered from 0: 20, 21, 25, 13D, 32A, 52a, 72. 20, 21, 25 and 32A must be there.
-pub const ORDER_900: [Place; 7] = [
-    REFERENCE, RELATED, ACCOUNT, STAMP, VALUE, ORDERING, NOTES,
-];
+pub const ORDER_900: [Place; 7] = [REFERENCE, RELATED, ACCOUNT, STAMP, VALUE, ORDERING, NOTES];
 
 /// The places of an MT910's fields, numbered from 0: 20, 21, 25, 13D, 32A, 50a, 52a, 56a, 72. 20, 21, 25 and 32A must be
 /// there.
