@@ -37,19 +37,29 @@ fn cut(alloc: Global, text: &[u8]) -> Result<List<Field>, FieldFault>
     Ok(fields)
 }
 
-// The sample cover with these lines behind 21, 32A, 58A, 50K and 59.
-fn cover(alloc: Global, parts: [&[u8]; 5]) -> Result<Text, Memory> {
-    let [times, banks, between, customers, rest] = parts;
-    let mut text = Text::from_bytes(alloc, b":20:REF1\n:21:INV7\n")?;
-    text.push(times)?;
-    text.push(b":32A:240603EUR1234,5\n")?;
-    text.push(banks)?;
-    text.push(b":58A:BETAFRPP\n")?;
-    text.push(between)?;
-    text.push(b":50K:A PAYER\n")?;
-    text.push(customers)?;
-    text.push(b":59:/CUST1\nA PAYEE\n")?;
-    text.push(rest)?;
+// A part of the sample cover.
+fn sample(k: usize) -> &'static [u8] {
+    match k {
+        0 => b":20:REF1\n:21:INV7\n",
+        1 => b":32A:240603EUR1234,5\n",
+        2 => b":58A:BETAFRPP\n",
+        3 => b":50K:A PAYER\n",
+        _ => b":59:/CUST1\nA PAYEE\n",
+    }
+}
+
+// The sample cover with lines behind two of its parts: 0 is 21, 1 is 32A, 2 is 58A, 3 is 50K, 4 is 59, 5 is none.
+fn cover(alloc: Global, first: (usize, &[u8]), second: (usize, &[u8])) -> Result<Text, Memory> {
+    let mut text = Text::from_bytes(alloc, b"")?;
+    for k in 0..5 {
+        text.push(sample(k))?;
+        if first.0 == k {
+            text.push(first.1)?;
+        }
+        if second.0 == k {
+            text.push(second.1)?;
+        }
+    }
     Ok(text)
 }
 
@@ -62,12 +72,8 @@ fn read(
     Ok(read_mt202cov(alloc, fields.as_slice(), tables))
 }
 
-fn fault(code: Code, tag: &[u8; 3], nth: u16) -> Option<MtFault> {
-    Some(MtFault::Bad(Fault {
-        code,
-        tag: *tag,
-        nth,
-    }))
+fn refusal(code: Code, tag: [u8; 3], nth: u16) -> Option<MtFault> {
+    Some(MtFault::Bad(Fault { code, tag, nth }))
 }
 
 // Generic, so that a cover is let go as one value.
@@ -86,6 +92,17 @@ fn refused(alloc: Global, tables: &RefTables, text: &[u8]) -> Result<Option<MtFa
     Ok(fault_of(read(alloc, tables, text)?)?)
 }
 
+// What is refused of the sample cover with lines behind two of its parts.
+fn outcome(
+    alloc: Global,
+    tables: &RefTables,
+    first: (usize, &[u8]),
+    second: (usize, &[u8]),
+) -> Result<Option<MtFault>, Fail> {
+    let text = cover(alloc, first, second)?;
+    Ok(refused(alloc, tables, text.bytes())?)
+}
+
 fn is_bank(party: &Option<Party>, head: &[u8; 8]) -> bool {
     match party {
         Some(Party::A { bic, .. }) => bic.head == *head,
@@ -96,17 +113,9 @@ fn is_bank(party: &Option<Party>, head: &[u8; 8]) -> bool {
 #[test]
 fn each_sequence_has_its_own_fields(rt: HostRuntime) -> Result<(), Fail> {
     let tables = tables(rt.alloc())?;
-    let text = cover(
-        rt.alloc(),
-        [
-            b":13C:/CLSTIME/0915+0100\n:13C:/RNCTIME/0930-0500\n".as_slice(),
-            b":52A:ALPHDEFF\n:56A:BETAFRPP\n:57A:CORRBEBB\n".as_slice(),
-            b":72:/INS/A\n".as_slice(),
-            b":52A:BETAFRPP\n:56A:CORRBEBB\n:57A:ALPHDEFF\n".as_slice(),
-            b":70:FOR B\n:72:/INS/B\n/INS/C\n:33B:JPY7,\n".as_slice(),
-        ],
-    )?;
-    let m = match read(rt.alloc(), &tables, text.bytes())? {
+    let text =
+        b":20:REF1\n:21:INV7\n:13C:/CLSTIME/0915+0100\n:13C:/RNCTIME/0930-0500\n:32A:240603EUR1234,5\n:52A:ALPHDEFF\n:56A:BETAFRPP\n:57A:CORRBEBB\n:58A:BETAFRPP\n:72:/INS/A\n:50K:A PAYER\n:52A:BETAFRPP\n:56A:CORRBEBB\n:57A:ALPHDEFF\n:59:/CUST1\nA PAYEE\n:70:FOR B\n:72:/INS/B\n/INS/C\n:33B:JPY7,\n";
+    let m = match read(rt.alloc(), &tables, text)? {
         Ok(m) => m,
         Err(_) => return Err("the sample is refused")?,
     };
@@ -138,351 +147,320 @@ fn each_sequence_has_its_own_fields(rt: HostRuntime) -> Result<(), Fail> {
 }
 
 #[test]
-fn options_stand_where_the_sequence_has_them(rt: HostRuntime) -> Result<(), Fail> {
+fn what_each_sequence_may_have_is_read(rt: HostRuntime) -> Result<(), Fail> {
     let tables = tables(rt.alloc())?;
-    let rows: [([&[u8]; 5], Option<MtFault>); 26] = [
-        ([b"", b"", b"", b"", b""], None),
-        ([b"", b":52D:A BANK\n", b"", b":52D:A BANK\n", b""], None),
-        (
-            [b"", b":53A:ALPHDEFF\n:54A:ALPHDEFF\n", b"", b"", b""],
-            None,
-        ),
-        ([b"", b":53B:/12\n:54B:PARIS\n", b"", b"", b""], None),
-        ([b"", b":53D:A BANK\n:54D:A BANK\n", b"", b"", b""], None),
-        ([b"", b":56D:A BANK\n:57B:PARIS\n", b"", b"", b""], None),
-        ([b"", b":56A:ALPHDEFF\n:57D:A BANK\n", b"", b"", b""], None),
-        ([b"", b"", b"", b":56C:/12\n:57C:/13\n", b""], None),
-        ([b"", b"", b"", b":56D:A BANK\n:57B:PARIS\n", b""], None),
-        ([b"", b"", b"", b":56A:ALPHDEFF\n:57D:A BANK\n", b""], None),
-        // an option of sequence B alone takes its place there, so the next field of A is misplaced
-        ([b"", b":56C:/12\n", b"", b"", b""], fault(P22, b"58A", 1)),
-        ([b"", b":57C:/12\n", b"", b"", b""], fault(P22, b"58A", 1)),
-        ([b"", b":52B:/12\n", b"", b"", b""], fault(P22, b"52B", 1)),
-        ([b"", b":53C:/12\n", b"", b"", b""], fault(P22, b"53C", 1)),
-        ([b"", b":54C:/12\n", b"", b"", b""], fault(P22, b"54C", 1)),
-        (
-            [b"", b":55A:ALPHDEFF\n", b"", b"", b""],
-            fault(P22, b"55A", 1),
-        ),
-        ([b"", b":56B:/12\n", b"", b"", b""], fault(P22, b"56B", 1)),
-        ([b"", b"", b"", b":52B:/12\n", b""], fault(P22, b"52B", 1)),
-        ([b"", b"", b"", b":52C:/12\n", b""], fault(P22, b"52C", 1)),
-        ([b"", b"", b"", b":56B:/12\n", b""], fault(P22, b"56B", 1)),
-        (
-            [b"", b"", b"", b":53A:ALPHDEFF\n", b""],
-            fault(P22, b"53A", 1),
-        ),
-        (
-            [b"", b"", b"", b"", b":59A:ALPHDEFF\n"],
-            fault(P22, b"59A", 1),
-        ),
-        ([b"", b"", b"", b"", b":71A:SHA\n"], fault(P22, b"71A", 1)),
-        ([b":23B:CRED\n", b"", b"", b"", b""], fault(P22, b"23B", 1)),
-        ([b"", b":33B:EUR1,\n", b"", b"", b""], fault(P22, b"58A", 1)),
-        (
-            [b"", b"", b":58D:A BANK\n", b"", b""],
-            fault(P22, b"58D", 1),
-        ),
+    let rows: [((usize, &[u8]), (usize, &[u8])); 14] = [
+        ((5, b""), (5, b"")),
+        ((1, b":52D:A BANK\n"), (3, b":52D:A BANK\n")),
+        ((1, b":53A:ALPHDEFF\n:54A:ALPHDEFF\n"), (5, b"")),
+        ((1, b":53B:/12\n:54B:PARIS\n"), (5, b"")),
+        ((1, b":53D:A BANK\n:54D:A BANK\n"), (5, b"")),
+        ((1, b":56D:A BANK\n:57B:PARIS\n"), (5, b"")),
+        ((1, b":56A:ALPHDEFF\n:57D:A BANK\n"), (5, b"")),
+        ((3, b":56C:/12\n:57C:/13\n"), (5, b"")),
+        ((3, b":56D:A BANK\n:57B:PARIS\n"), (5, b"")),
+        ((3, b":56A:ALPHDEFF\n:57D:A BANK\n"), (5, b"")),
+        ((4, b":70:A\nB\nC\nD\n"), (5, b"")),
+        ((4, b":33B:XAU0,\n"), (5, b"")),
+        ((1, b":56A:ALPHDEFF\n:57A:ALPHDEFF\n"), (5, b"")),
+        ((1, b":57A:ALPHDEFF\n"), (3, b":57C:/12\n")),
     ];
-    for (parts, want) in rows {
-        let text = cover(rt.alloc(), parts)?;
-        assert_eq!(rt; refused(rt.alloc(), &tables, text.bytes())?, want);
+    for (first, second) in rows {
+        assert_eq!(rt; outcome(rt.alloc(), &tables, first, second)?, None);
     }
     Ok(())
 }
 
 #[test]
-fn misplaced_fields_are_told_across_the_sequences(rt: HostRuntime) -> Result<(), Fail> {
+fn an_option_that_no_place_has_is_misplaced(rt: HostRuntime) -> Result<(), Fail> {
     let tables = tables(rt.alloc())?;
-    let rows: [([&[u8]; 5], Option<MtFault>); 16] = [
-        ([b":20:REF2\n", b"", b"", b"", b""], fault(P22, b"20 ", 2)),
-        ([b":21:INV8\n", b"", b"", b"", b""], fault(P22, b"21 ", 2)),
-        (
-            [b"", b":13C:/CLSTIME/0915+0100\n", b"", b"", b""],
-            fault(P22, b"13C", 1),
-        ),
-        (
-            [b"", b":54A:ALPHDEFF\n:53A:ALPHDEFF\n", b"", b"", b""],
-            fault(P22, b"53A", 1),
-        ),
-        // 72 stands behind 58a, and 52a behind 52a is that of sequence B
-        ([b"", b":72:/INS/A\n", b"", b"", b""], fault(P22, b"58A", 1)),
-        (
-            [b"", b":52D:A BANK\n:52A:ALPHDEFF\n", b"", b"", b""],
-            fault(P22, b"58A", 1),
-        ),
-        (
-            [b"", b"", b":52A:ALPHDEFF\n", b"", b""],
-            fault(P22, b"50K", 1),
-        ),
-        (
-            [b"", b"", b":57A:ALPHDEFF\n", b"", b""],
-            fault(P22, b"50K", 1),
-        ),
-        (
-            [b"", b"", b":72:/A\n:72:/B\n", b"", b""],
-            fault(P22, b"50K", 1),
-        ),
-        (
-            [b"", b"", b"", b":50F:/1\n1/A\n", b""],
-            fault(P22, b"50F", 1),
-        ),
-        (
-            [
-                b"",
-                b":52A:ALPHDEFF\n",
-                b"",
-                b":52A:ALPHDEFF\n:52A:ALPHDEFF\n",
-                b"",
-            ],
-            fault(P22, b"52A", 3),
-        ),
-        (
-            [b"", b"", b"", b":57A:ALPHDEFF\n:56A:ALPHDEFF\n", b""],
-            fault(P22, b"56A", 1),
-        ),
-        ([b"", b"", b"", b":70:FOR B\n", b""], fault(P22, b"59 ", 1)),
-        (
-            [b"", b"", b":72:/A\n", b"", b":33B:EUR1,\n:72:/B\n"],
-            fault(P22, b"72 ", 2),
-        ),
-        (
-            [b"", b"", b"", b"", b":72:/B\n:70:FOR B\n"],
-            fault(P22, b"70 ", 1),
-        ),
-        (
-            [b"", b"", b"", b"", b":33B:EUR1,\n:33B:EUR1,\n"],
-            fault(P22, b"33B", 2),
-        ),
+    let rows: [(usize, &[u8], Code, [u8; 3], u16); 13] = [
+        (1, b":52B:/12\n", P22, *b"52B", 1),
+        (1, b":53C:/12\n", P22, *b"53C", 1),
+        (1, b":54C:/12\n", P22, *b"54C", 1),
+        (1, b":55A:ALPHDEFF\n", P22, *b"55A", 1),
+        (1, b":56B:/12\n", P22, *b"56B", 1),
+        (3, b":52B:/12\n", P22, *b"52B", 1),
+        (3, b":52C:/12\n", P22, *b"52C", 1),
+        (3, b":56B:/12\n", P22, *b"56B", 1),
+        (3, b":53A:ALPHDEFF\n", P22, *b"53A", 1),
+        (4, b":59A:ALPHDEFF\n", P22, *b"59A", 1),
+        (4, b":71A:SHA\n", P22, *b"71A", 1),
+        (0, b":23B:CRED\n", P22, *b"23B", 1),
+        (2, b":58D:A BANK\n", P22, *b"58D", 1),
     ];
-    for (parts, want) in rows {
-        let text = cover(rt.alloc(), parts)?;
-        assert_eq!(rt; refused(rt.alloc(), &tables, text.bytes())?, want);
+    for (at, lines, code, tag, nth) in rows {
+        let got = outcome(rt.alloc(), &tables, (at, lines), (5, b""))?;
+        assert_eq!(rt; got, refusal(code, tag, nth));
     }
     Ok(())
 }
 
 #[test]
-fn mandatory_fields_are_asked_for_in_order(rt: HostRuntime) -> Result<(), Fail> {
+fn fields_out_of_order_are_told(rt: HostRuntime) -> Result<(), Fail> {
     let tables = tables(rt.alloc())?;
-    let rows: [(&[u8], Option<MtFault>); 12] = [
+    let rows: [(usize, &[u8], Code, [u8; 3], u16); 17] = [
+        (1, b":56C:/12\n", P22, *b"58A", 1),
+        (1, b":57C:/12\n", P22, *b"58A", 1),
+        (1, b":33B:EUR1,\n", P22, *b"58A", 1),
+        (0, b":20:REF2\n", P22, *b"20 ", 2),
+        (0, b":21:INV8\n", P22, *b"21 ", 2),
+        (1, b":13C:/CLSTIME/0915+0100\n", P22, *b"13C", 1),
+        (1, b":54A:ALPHDEFF\n:53A:ALPHDEFF\n", P22, *b"53A", 1),
+        (1, b":72:/INS/A\n", P22, *b"58A", 1),
+        (1, b":52D:A BANK\n:52A:ALPHDEFF\n", P22, *b"58A", 1),
+        (2, b":52A:ALPHDEFF\n", P22, *b"50K", 1),
+        (2, b":57A:ALPHDEFF\n", P22, *b"50K", 1),
+        (2, b":72:/A\n:72:/B\n", P22, *b"50K", 1),
+        (3, b":50F:/1\n1/A\n", P22, *b"50F", 1),
+        (3, b":57A:ALPHDEFF\n:56A:ALPHDEFF\n", P22, *b"56A", 1),
+        (3, b":70:FOR B\n", P22, *b"59 ", 1),
+        (4, b":72:/B\n:70:FOR B\n", P22, *b"70 ", 1),
+        (4, b":33B:EUR1,\n:33B:EUR1,\n", P22, *b"33B", 2),
+    ];
+    for (at, lines, code, tag, nth) in rows {
+        let got = outcome(rt.alloc(), &tables, (at, lines), (5, b""))?;
+        assert_eq!(rt; got, refusal(code, tag, nth));
+    }
+    Ok(())
+}
+
+#[test]
+fn contents_are_tested(rt: HostRuntime) -> Result<(), Fail> {
+    let tables = tables(rt.alloc())?;
+    let rows: [(usize, &[u8], Code, [u8; 3], u16); 14] = [
+        (0, b":13C:/CLSTIME/0915\n", P24, *b"13C", 1),
+        (1, b":52A:GAMMGB2L\n", P25, *b"52A", 1),
+        (1, b":52A:BETAFR\n", P24, *b"52A", 1),
+        (1, b":53A:GAMMGB2L\n", P25, *b"53A", 1),
+        (1, b":53B:\n", P24, *b"53B", 1),
+        (2, b":72:A\nB\nC\nD\nE\nF\nG\n", P24, *b"72 ", 1),
+        (3, b":56C:12\n", P24, *b"56C", 1),
+        (4, b":70:A\nB\nC\nD\nE\n", P24, *b"70 ", 1),
+        (4, b":33B:EUR\n", P24, *b"33B", 1),
+        (4, b":33B:USD1,\n", T52, *b"33B", 1),
+        (4, b":33B:JPY1,5\n", C03, *b"33B", 1),
+        (1, b":56A:ALPHDEFF\n", C81, *b"57 ", 0),
+        (3, b":56A:BETAFRPP\n", C68, *b"57 ", 0),
+        (3, b":56C:/12\n", C68, *b"57 ", 0),
+    ];
+    for (at, lines, code, tag, nth) in rows {
+        let got = outcome(rt.alloc(), &tables, (at, lines), (5, b""))?;
+        assert_eq!(rt; got, refusal(code, tag, nth));
+    }
+    Ok(())
+}
+
+#[test]
+fn the_first_fault_across_the_sequences_is_told(rt: HostRuntime) -> Result<(), Fail> {
+    let tables = tables(rt.alloc())?;
+    let rows: [((usize, &[u8]), (usize, &[u8]), Code, [u8; 3], u16); 9] = [
+        (
+            (1, b":52A:ALPHDEFF\n"),
+            (3, b":52A:ALPHDEFF\n:52A:ALPHDEFF\n"),
+            P22,
+            *b"52A",
+            3,
+        ),
+        (
+            (2, b":72:/A\n"),
+            (4, b":33B:EUR1,\n:72:/B\n"),
+            P22,
+            *b"72 ",
+            2,
+        ),
+        (
+            (0, b":13C:/A/0915+0100\n:13C:/A/\n"),
+            (1, b":52A:GAMMGB2L\n"),
+            P24,
+            *b"13C",
+            2,
+        ),
+        (
+            (1, b":57A:GAMMGB2L\n"),
+            (3, b":52A:GAMMGB2L\n"),
+            P25,
+            *b"57A",
+            1,
+        ),
+        (
+            (1, b":52A:ALPHDEFF\n"),
+            (3, b":52A:GAMMGB2L\n"),
+            P25,
+            *b"52A",
+            2,
+        ),
+        (
+            (2, b":72:A\nB\nC\nD\nE\nF\n"),
+            (4, b":72:A\nB\nC\nD\nE\nF\nG\n"),
+            P24,
+            *b"72 ",
+            2,
+        ),
+        (
+            (1, b":56D:A BANK\n"),
+            (3, b":57A:ALPHDEFF\n"),
+            C81,
+            *b"57 ",
+            0,
+        ),
+        (
+            (1, b":57A:ALPHDEFF\n"),
+            (3, b":56A:ALPHDEFF\n"),
+            C68,
+            *b"57 ",
+            0,
+        ),
+        (
+            (1, b":56A:ALPHDEFF\n"),
+            (3, b":56A:ALPHDEFF\n"),
+            C81,
+            *b"57 ",
+            0,
+        ),
+    ];
+    for (first, second, code, tag, nth) in rows {
+        let got = outcome(rt.alloc(), &tables, first, second)?;
+        assert_eq!(rt; got, refusal(code, tag, nth));
+    }
+    Ok(())
+}
+
+#[test]
+fn what_is_missing_is_told_before_what_is_wrong(rt: HostRuntime) -> Result<(), Fail> {
+    let tables = tables(rt.alloc())?;
+    let rows: [(&[u8], Code, [u8; 3], u16); 13] = [
         (
             b":21:I\n:32A:240603EUR1,\n:58A:BETAFRPP\n:50K:P\n:59:P\n",
-            fault(P23, b"20 ", 0),
+            P23,
+            *b"20 ",
+            0,
         ),
         (
             b":20:R\n:32A:240603EUR1,\n:58A:BETAFRPP\n:50K:P\n:59:P\n",
-            fault(P23, b"21 ", 0),
+            P23,
+            *b"21 ",
+            0,
         ),
         (
             b":20:R\n:21:I\n:58A:BETAFRPP\n:50K:P\n:59:P\n",
-            fault(P23, b"32A", 0),
+            P23,
+            *b"32A",
+            0,
         ),
         (
             b":20:R\n:21:I\n:32A:240603EUR1,\n:50K:P\n:59:P\n",
-            fault(P23, b"58 ", 0),
+            P23,
+            *b"58 ",
+            0,
         ),
         (
             b":20:R\n:21:I\n:32A:240603EUR1,\n:58D:B\n:59:P\n",
-            fault(P23, b"50 ", 0),
+            P23,
+            *b"50 ",
+            0,
         ),
         (
             b":20:R\n:21:I\n:32A:240603EUR1,\n:58D:B\n:50K:P\n",
-            fault(P23, b"59 ", 0),
+            P23,
+            *b"59 ",
+            0,
         ),
-        (b":20:R\n:21:I\n:32A:240603EUR1,\n", fault(P23, b"58 ", 0)),
+        (b":20:R\n:21:I\n:32A:240603EUR1,\n", P23, *b"58 ", 0),
         (
             b":20:R/\n:21:I/\n:32A:240699EUR0,\n:58D:B\n:50K:P\n",
-            fault(P23, b"59 ", 0),
+            P23,
+            *b"59 ",
+            0,
         ),
         (
             b":20:R\n:21:I\n:32A:240603EUR1,\n:58C:/12\n:50K:P\n:59:P\n",
-            fault(P22, b"58C", 1),
+            P22,
+            *b"58C",
+            1,
         ),
         (
             b":20:R\n:21:I\n:32A:240603EUR1,\n:58B:/12\n:50K:P\n:59:P\n",
-            fault(P22, b"58B", 1),
+            P22,
+            *b"58B",
+            1,
         ),
         (
-            b":20:R\n:21:I\n:32A:240603EUR1,\n:58D:B\n:50A:ALPHDEFF\n:59A:/1\nBETAFRPP\n",
-            None,
+            b":20:R/\n:21:I/\n:32A:240603XAU1,\n:58D:B\n:50K:P\n:59:P\n",
+            T26,
+            *b"20 ",
+            1,
         ),
         (
-            b":20:R\n:21:I\n:32A:240603EUR1,\n:58D:/12\nB\n:50F:/1\n1/P\n:59F:1/P\n2/Q\n",
-            None,
+            b":20:R\n:21:/I\n:32A:240603XAU1,\n:58D:B\n:50K:P\n:59:P\n",
+            T26,
+            *b"21 ",
+            1,
+        ),
+        (
+            b":20:R\n:21:I\n:32A:240603EUR1,\n:56A:ALPHDEFF\n:58D:B\n:50K:P\n:56A:ALPHDEFF\n:59:P\n:70:A\nB\nC\nD\nE\n",
+            P24,
+            *b"70 ",
+            1,
         ),
     ];
-    for (text, want) in rows {
-        assert_eq!(rt; refused(rt.alloc(), &tables, text)?, want);
+    for (text, code, tag, nth) in rows {
+        let got = refused(rt.alloc(), &tables, text)?;
+        assert_eq!(rt; got, refusal(code, tag, nth));
     }
     Ok(())
+}
+
+#[test]
+fn parties_of_every_option_are_read(rt: HostRuntime) -> Result<(), Fail> {
+    let tables = tables(rt.alloc())?;
+    let rows: [&[u8]; 3] = [
+        b":20:R\n:21:I\n:32A:240603EUR1,\n:58D:B\n:50A:ALPHDEFF\n:59A:/1\nBETAFRPP\n",
+        b":20:R\n:21:I\n:32A:240603EUR1,\n:58D:/12\nB\n:50F:/1\n1/P\n:59F:1/P\n2/Q\n",
+        b":20:R/1\n:21:I/1\n:32A:240603JPY7,\n:58D:B\n:50K:P\n:59:P\n",
+    ];
+    for text in rows {
+        assert_eq!(rt; refused(rt.alloc(), &tables, text)?, None);
+    }
+    Ok(())
+}
+
+// A cover with this content in 20, 21 or 32A.
+fn heading(alloc: Global, place: usize, content: &[u8]) -> Result<Text, Memory> {
+    let mut text = Text::from_bytes(alloc, b":20:")?;
+    text.push(if place == 0 { content } else { b"R" })?;
+    text.push(b"\n:21:")?;
+    text.push(if place == 1 { content } else { b"I" })?;
+    text.push(b"\n:32A:")?;
+    text.push(if place == 2 { content } else { b"240603EUR1," })?;
+    text.push(b"\n:58A:BETAFRPP\n:50K:P\n:59:P\n")?;
+    Ok(text)
 }
 
 #[test]
 fn references_dates_and_amounts_are_tested(rt: HostRuntime) -> Result<(), Fail> {
     let tables = tables(rt.alloc())?;
-    let rows: [([&[u8]; 3], Option<MtFault>); 19] = [
-        ([b"R/1", b"I/1", b"240603JPY7,"], None),
-        ([b"R/", b"I/", b"240603XAU1,"], fault(T26, b"20 ", 1)),
-        ([b"R", b"/I", b"240603XAU1,"], fault(T26, b"21 ", 1)),
-        ([b"R", b"I/", b"240603EUR1,"], fault(T26, b"21 ", 1)),
-        ([b"R", b"I//J", b"240603EUR1,"], fault(T26, b"21 ", 1)),
-        (
-            [b"R", b"ABCDEFGHIJKLMNOPQ", b"240603EUR1,"],
-            fault(P24, b"21 ", 1),
-        ),
-        ([b"R", b"I\nJ", b"240603EUR1,"], fault(P24, b"21 ", 1)),
-        ([b"R", b"I", b"240603EUR"], fault(P24, b"32A", 1)),
-        ([b"R", b"I", b"2406031EUR1,"], fault(P24, b"32A", 1)),
-        ([b"R", b"I", b"240631XAU1,"], fault(T50, b"32A", 1)),
-        ([b"R", b"I", b"240603XAU1,"], fault(C08, b"32A", 1)),
-        ([b"R", b"I", b"240603XPT1,"], fault(C08, b"32A", 1)),
-        ([b"R", b"I", b"240603USD1"], fault(T52, b"32A", 1)),
-        ([b"R", b"I", b"240603EUR1234"], fault(T40, b"32A", 1)),
-        (
-            [b"R", b"I", b"240603EUR123456789012345,"],
-            fault(T43, b"32A", 1),
-        ),
-        ([b"R", b"I", b"240603JPY1,5"], fault(C03, b"32A", 1)),
-        (
-            [b"R", b"I", b"240603EUR99999999999999,"],
-            fault(P27, b"32A", 1),
-        ),
-        ([b"R", b"I", b"240603EUR0,"], fault(P26, b"32A", 1)),
-        ([b"R", b"I", b"240603EUR0,01"], None),
+    let rows: [(usize, &[u8], Code, [u8; 3]); 15] = [
+        (1, b"I/", T26, *b"21 "),
+        (1, b"I//J", T26, *b"21 "),
+        (1, b"ABCDEFGHIJKLMNOPQ", P24, *b"21 "),
+        (1, b"I\nJ", P24, *b"21 "),
+        (2, b"240603EUR", P24, *b"32A"),
+        (2, b"2406031EUR1,", P24, *b"32A"),
+        (2, b"240631XAU1,", T50, *b"32A"),
+        (2, b"240603XAU1,", C08, *b"32A"),
+        (2, b"240603XPT1,", C08, *b"32A"),
+        (2, b"240603USD1", T52, *b"32A"),
+        (2, b"240603EUR1234", T40, *b"32A"),
+        (2, b"240603EUR123456789012345,", T43, *b"32A"),
+        (2, b"240603JPY1,5", C03, *b"32A"),
+        (2, b"240603EUR99999999999999,", P27, *b"32A"),
+        (2, b"240603EUR0,", P26, *b"32A"),
     ];
-    for (parts, want) in rows {
-        let [reference, related, value] = parts;
-        let mut text = Text::from_bytes(rt.alloc(), b":20:")?;
-        text.push(reference)?;
-        text.push(b"\n:21:")?;
-        text.push(related)?;
-        text.push(b"\n:32A:")?;
-        text.push(value)?;
-        text.push(b"\n:58A:BETAFRPP\n:50K:P\n:59:P\n")?;
-        assert_eq!(rt; refused(rt.alloc(), &tables, text.bytes())?, want);
-    }
-    Ok(())
-}
-
-#[test]
-fn contents_are_tested_in_the_order_of_the_text(rt: HostRuntime) -> Result<(), Fail> {
-    let tables = tables(rt.alloc())?;
-    let rows: [([&[u8]; 5], Option<MtFault>); 17] = [
-        (
-            [b":13C:/CLSTIME/0915\n", b"", b"", b"", b""],
-            fault(P24, b"13C", 1),
-        ),
-        (
-            [
-                b":13C:/A/0915+0100\n:13C:/A/\n",
-                b":52A:GAMMGB2L\n",
-                b"",
-                b"",
-                b"",
-            ],
-            fault(P24, b"13C", 2),
-        ),
-        (
-            [b"", b":52A:GAMMGB2L\n", b"", b"", b""],
-            fault(P25, b"52A", 1),
-        ),
-        (
-            [b"", b":52A:BETAFR\n", b"", b"", b""],
-            fault(P24, b"52A", 1),
-        ),
-        (
-            [b"", b":53A:GAMMGB2L\n", b"", b"", b""],
-            fault(P25, b"53A", 1),
-        ),
-        ([b"", b":53B:\n", b"", b"", b""], fault(P24, b"53B", 1)),
-        (
-            [b"", b":57A:GAMMGB2L\n", b"", b":52A:GAMMGB2L\n", b""],
-            fault(P25, b"57A", 1),
-        ),
-        (
-            [b"", b":52A:ALPHDEFF\n", b"", b":52A:GAMMGB2L\n", b""],
-            fault(P25, b"52A", 2),
-        ),
-        (
-            [b"", b"", b":72:A\nB\nC\nD\nE\nF\nG\n", b"", b""],
-            fault(P24, b"72 ", 1),
-        ),
-        (
-            [
-                b"",
-                b"",
-                b":72:A\nB\nC\nD\nE\nF\n",
-                b"",
-                b":72:A\nB\nC\nD\nE\nF\nG\n",
-            ],
-            fault(P24, b"72 ", 2),
-        ),
-        ([b"", b"", b"", b":56C:12\n", b""], fault(P24, b"56C", 1)),
-        (
-            [b"", b"", b"", b"", b":70:A\nB\nC\nD\nE\n"],
-            fault(P24, b"70 ", 1),
-        ),
-        ([b"", b"", b"", b"", b":70:A\nB\nC\nD\n"], None),
-        ([b"", b"", b"", b"", b":33B:EUR\n"], fault(P24, b"33B", 1)),
-        ([b"", b"", b"", b"", b":33B:USD1,\n"], fault(T52, b"33B", 1)),
-        (
-            [b"", b"", b"", b"", b":33B:JPY1,5\n"],
-            fault(C03, b"33B", 1),
-        ),
-        ([b"", b"", b"", b"", b":33B:XAU0,\n"], None),
-    ];
-    for (parts, want) in rows {
-        let text = cover(rt.alloc(), parts)?;
-        assert_eq!(rt; refused(rt.alloc(), &tables, text.bytes())?, want);
-    }
-    Ok(())
-}
-
-#[test]
-fn an_intermediary_stands_with_the_bank_behind_it(rt: HostRuntime) -> Result<(), Fail> {
-    let tables = tables(rt.alloc())?;
-    let rows: [([&[u8]; 5], Option<MtFault>); 9] = [
-        (
-            [b"", b":56A:ALPHDEFF\n:57A:ALPHDEFF\n", b"", b"", b""],
-            None,
-        ),
-        ([b"", b":57A:ALPHDEFF\n", b"", b":57C:/12\n", b""], None),
-        (
-            [b"", b":56A:ALPHDEFF\n", b"", b"", b""],
-            fault(C81, b"57 ", 0),
-        ),
-        (
-            [b"", b"", b"", b":56A:BETAFRPP\n", b""],
-            fault(C68, b"57 ", 0),
-        ),
-        ([b"", b"", b"", b":56C:/12\n", b""], fault(C68, b"57 ", 0)),
-        (
-            [b"", b":56D:A BANK\n", b"", b":57A:ALPHDEFF\n", b""],
-            fault(C81, b"57 ", 0),
-        ),
-        (
-            [b"", b":57A:ALPHDEFF\n", b"", b":56A:ALPHDEFF\n", b""],
-            fault(C68, b"57 ", 0),
-        ),
-        (
-            [b"", b":56A:ALPHDEFF\n", b"", b":56A:ALPHDEFF\n", b""],
-            fault(C81, b"57 ", 0),
-        ),
-        (
-            [
-                b"",
-                b":56A:ALPHDEFF\n",
-                b"",
-                b":56A:ALPHDEFF\n",
-                b":70:A\nB\nC\nD\nE\n",
-            ],
-            fault(P24, b"70 ", 1),
-        ),
-    ];
-    for (parts, want) in rows {
-        let text = cover(rt.alloc(), parts)?;
-        assert_eq!(rt; refused(rt.alloc(), &tables, text.bytes())?, want);
+    for (place, content, code, tag) in rows {
+        let text = heading(rt.alloc(), place, content)?;
+        let got = refused(rt.alloc(), &tables, text.bytes())?;
+        assert_eq!(rt; got, refusal(code, tag, 1));
     }
     Ok(())
 }
