@@ -1,0 +1,4 @@
+pub mod Parts
+pub mod Heading
+pub mod Verdict
+pub mod Answers
