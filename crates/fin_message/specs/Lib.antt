@@ -2,3 +2,4 @@ pub mod Parts
 pub mod Heading
 pub mod Verdict
 pub mod Answers
+pub mod Sound
