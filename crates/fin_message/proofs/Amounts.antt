@@ -1,10 +1,9 @@
 -- The amount of a transfer is above zero and below 10^14 minor units.
-use Rattle.std.proofs.Common.{◌≡◌, ℕ, ◌+◌, ◌<◌, ◌==◌, not, Bool, true, false, List, [], ◌∷◌, ◌++◌, length, replicate, take, drop, Option, Some, None, Result, Ok, Err, refl, sym, ap, arith}
+use Rattle.std.proofs.Common.{◌≡◌, ℕ, ◌<◌, ◌==◌, not, Bool, true, false, List, [], ◌∷◌, length, take, drop, Option, Some, None, Result, Ok, Err, refl, sym, arith}
 use Rattle.std.specs.Prelude.{IfOk, nat_le, nat_lt}
 use Rattle.std.proofs.lemmas.Bool.Decides.{nat_tests}
 use Rattle.corr_text.specs.First.{check, or_fault, ◌>>=◌}
 use Rattle.corr_text.specs.declared.fault.Code.{Code}
-use Rattle.corr_text.specs.declared.fault.Fault.{Fault}
 use Rattle.corr_ids.specs.Day.{day_of}
 use Rattle.corr_ids.specs.declared.day.Day.{Day}
 use Rattle.corr_money.specs.Amounts.{amount_of, decimals_of, is_comma_number, minor_of}
@@ -24,11 +23,9 @@ use Rattle.fin_contents.specs.declared.codes.TheConstants.{C08, P26, T50, T52}
 use Rattle.fin_contents.specs.declared.value.Value.{Value}
 use Rattle.mt103.specs.Codes.{instr_of, kind_of, operation_of}
 use Rattle.mt103.specs.Instructions.{d98, e46}
-use Rattle.mt103.specs.Message.{contents_of, details_of, field_tests, message_of, mt103_of, parties_of, terms_of}
-use Rattle.mt103.specs.declared.details.Details.{Details}
+use Rattle.mt103.specs.Message.{contents_of, details_of, field_tests, mt103_of, parties_of, terms_of}
 use Rattle.mt103.specs.declared.message.Mt103.{Mt103}
 use Rattle.mt103.specs.declared.order.TheConstants.{ORDER}
-use Rattle.mt103.specs.declared.parties.Parties.{Parties}
 use Rattle.mt103.specs.declared.terms.Terms.{Terms}
 use Rattle.fin_message.specs.Sound.{IsAmount}
 
@@ -119,7 +116,7 @@ terms-amount t fs found =
     then P (in_option fs found 4 kind_of) _ (λ kind _.
     of-step P (λ (v : Value). IsAmount v.amount) (in_place ORDER fs found 5 (value_of t)) _ (read-amount t fs (field_in fs found 5)) (λ value amount.
     then P (in_option fs found 6 (ccy_amount_of t)) _ (λ ordered _.
-    then P (in_option fs found 7 rate_of) _ (λ rate _. amount)))))))
+    then P (in_option fs found 7 rate_of) _ (λ rate _. amount))))))))
 
 contents-amount : (t : Tables) (fs : List Field) (found : List ℕ) → IfOk (contents_of t fs found) (λ m. IsAmount m.amount)
 unfolding contents_of

@@ -1,5 +1,5 @@
 -- What the code answers, against what is meant.
-use Rattle.std.specs.Prelude.{◌≡◌, Result, Ok, Err, Some, codes}
+use Rattle.std.specs.Prelude.{◌≡◌, Result, Ok, Err, codes}
 use Rattle.fin_blocks.specs.declared.fault.BlockFault.{BlockFault}
 use Rattle.fin_blocks.specs.declared.fault.BlockFault.TheVariants as block
 use Rattle.fin_fields.specs.declared.fault.FieldFault.{FieldFault}

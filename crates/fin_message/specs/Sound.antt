@@ -1,14 +1,21 @@
 -- What every valid message has.
-use Rattle.std.specs.Prelude.{ℕ, ◌<◌, IsSome}
+use Rattle.std.specs.Prelude.{◌≡◌, ℕ, ◌<◌, ◌≤◌, List, length, None, IsSome}
+use Rattle.corr_ids.specs.declared.envelope.Envelope.{Envelope}
 use Rattle.corr_money.specs.declared.amount.Amount.{Amount}
+use Rattle.fin_message.specs.declared.direction.Direction.{Direction}
+use Rattle.fin_message.specs.declared.direction.Direction.TheVariants.{Received, Sent}
 use Rattle.fin_message.specs.declared.message.Message.{Message}
 use Rattle.fin_message.specs.declared.message.Message.TheVariants.{Transfer}
 
--- a message of output form has its reference
-abbrev pub HasMir : Message → Type 0
-HasMir (Transfer envelope text transfer) = IsSome envelope.mir
+-- a received message has its reference, a sent one has none yet
+abbrev pub IsOfForm : Direction → Envelope → Type 0
+IsOfForm Received envelope = IsSome envelope.mir
+IsOfForm Sent envelope = envelope.mir ≡ None
 
--- an amount above zero and below 10^14 minor units
+abbrev pub Goes : Direction → Message → Type 0
+Goes way (Transfer envelope text transfer) = IsOfForm way envelope
+
+-- above zero and below 10^14 minor units
 pub record IsAmount (amount : Amount) : Type 0 where
   pub positive : 0 < amount.minor.0
   pub small : amount.minor.0 < 100000000000000
@@ -16,3 +23,13 @@ pub record IsAmount (amount : Amount) : Type 0 where
 -- the amount of field 32A
 abbrev pub HasAmount : Message → Type 0
 HasAmount (Transfer envelope text transfer) = IsAmount transfer.amount
+
+-- the lines of block 4
+abbrev pub lines_in : Message → List ℕ
+lines_in (Transfer envelope text transfer) = text
+
+-- a valid message that goes this way, with lines of at most so many bytes
+pub record IsSound (way : Direction) (most : ℕ) (message : Message) : Type 0 where
+  pub goes : Goes way message
+  pub amount : HasAmount message
+  pub short : length (lines_in message) ≤ most

@@ -1,6 +1,6 @@
 //! The tests of a message's blocks against the home bank and the table of banks.
 
-ghost use Rattle.std.specs.Prelude.{◌≡◌, option_map};
+ghost use Rattle.std.specs.Prelude.{◌≡◌, codes, option_map};
 ghost use Rattle.std.specs.Str.{bytes_eq};
 ghost use Rattle.corr_text.specs.First.{first_of};
 ghost use Rattle.fin_message.specs.Heading.{fits_validation as fits, has_form as has_form_of, heading_tests, is_type as is_type_of};

@@ -1,10 +1,12 @@
 //! The verdict on a message.
 
-ghost use Rattle.std.specs.Prelude.{◌≡◌, ◌≤◌, length};
+ghost use Rattle.std.specs.Prelude.{◌≡◌, ◌≤◌, ◌*◌, IfOk, length};
 ghost use Rattle.corr_text.specs.Lines.{lines_of};
+ghost use Rattle.fin_fields.specs.Fields.{fields_of};
 ghost use Rattle.fin_layout.specs.Reading.{Gives};
 ghost use Rattle.fin_message.specs.Answers.{Answers};
-ghost use Rattle.fin_message.specs.Verdict.{judged, message_of, sent_verdict_of, verdict_of};
+ghost use Rattle.fin_message.specs.Sound.{IsSound};
+ghost use Rattle.fin_message.specs.Verdict.{judged, message_in, message_of, sent_verdict_of, verdict_of};
 
 use crate::codes::P90;
 use crate::direction::Direction;
@@ -16,9 +18,27 @@ use crate::parts::{reference, type_of};
 use crate::transfer::read_transfer;
 use corr_ids::Bic;
 use fin_blocks::{Blocks, read_blocks};
+use fin_fields::Field;
 use fin_layout::MtFault;
 use ref_tables::RefTables;
 use std::alloc::Global;
+
+/// The message that blocks and their fields say, by its type. `Bad`: the first test of the type that it fails.
+fn read_of_type(
+    alloc: Global,
+    t: &RefTables,
+    blocks: Blocks,
+    fields: &[Field],
+) -> Result<Message, MtFault>
+    requires few { length fields.now ≤ 65535 }
+    requires same { fields.now ≡ fields_of blocks.text }
+    ensures { Gives result (message_in t.now blocks) }
+{
+    match type_of(&blocks.app) {
+        103 => read_transfer(alloc, t, blocks, fields),
+        _ => Err(MtFault::Bad(at_block(P90, *b"B4 "))),
+    }
+}
 
 /// The message that blocks say. `Bad`: the first test behind those of the blocks that it fails.
 #[tactic(auto, unfolding(crate::specs::Verdict::message_of))]
@@ -36,10 +56,7 @@ fn read_message(
         return Err(MtFault::Bad(fault));
     }
     let fields = read_fields(alloc, blocks.text.bytes())?;
-    match type_of(&blocks.app) {
-        103 => read_transfer(alloc, t, blocks, fields.as_slice()),
-        _ => Err(MtFault::Bad(at_block(P90, *b"B4 "))),
-    }
+    read_of_type(alloc, t, blocks, fields.as_slice())
 }
 
 #[tactic(auto, unfolding(crate::specs::Verdict::judged))]
@@ -68,20 +85,18 @@ fn judge(
 ///
 /// The message's reference is told with the fault where blocks 1 and 2 are read (none of P01 to P03 holds) and block 2 is
 /// of output form. A message has at most 65,535 bytes.
-pub fn verdict(
-    alloc: Global,
-    m: &[u8],
-    home: &Bic,
-    t: &RefTables,
-) -> Result<Message, MessageFault>
+#[tactic(auto, using(crate::proofs::Judged::sound))]
+pub fn verdict(alloc: Global, m: &[u8], home: &Bic, t: &RefTables) -> Result<Message, MessageFault>
     requires { length m.now ≤ 65535 }
-    ensures { Answers result (verdict_of home.now t.now m.now) }
+    ensures value { Answers result (verdict_of home.now t.now m.now) }
+    ensures sound { IfOk result (IsSound Direction.Received (2 * length m.now)) }
 {
     judge(alloc, Direction::Received, home, t, m)
 }
 
 /// The same of a message that the home bank sends: block 2 is of input form (else P07) and names the receiver, who is in
 /// the table of banks (else P12); block 1 is the home bank's, as in a received message.
+#[tactic(auto, using(crate::proofs::Judged::sound))]
 pub fn check_sent(
     alloc: Global,
     m: &[u8],
@@ -89,7 +104,8 @@ pub fn check_sent(
     t: &RefTables,
 ) -> Result<Message, MessageFault>
     requires { length m.now ≤ 65535 }
-    ensures { Answers result (sent_verdict_of home.now t.now m.now) }
+    ensures value { Answers result (sent_verdict_of home.now t.now m.now) }
+    ensures sound { IfOk result (IsSound Direction.Sent (2 * length m.now)) }
 {
     judge(alloc, Direction::Sent, home, t, m)
 }

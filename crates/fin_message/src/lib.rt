@@ -6,16 +6,14 @@ mod direction;
 mod fault;
 mod fields;
 mod heading;
+mod judging;
 mod message;
 mod parts;
 #[cfg(test)]
 mod tests;
-
-
 mod transfer;
-mod judging;
 
 pub use codes::{P07, P08, P09, P10, P11, P12, P13, P20, P21, P90};
 pub use fault::MessageFault;
-pub use message::Message;
 pub use judging::{check_sent, verdict};
+pub use message::Message;

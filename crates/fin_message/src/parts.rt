@@ -31,10 +31,9 @@ pub fn reference(app: &App) -> Option<Mir>
 fn bank(terminal: LtAddress) -> Bic
     ensures { result ≡ bank_of terminal }
 {
-    Bic {
-        head: terminal.head,
-        branch: terminal.branch,
-    }
+    let head = terminal.head;
+    let branch = terminal.branch;
+    Bic { head, branch }
 }
 
 /// The bank that block 2 names.

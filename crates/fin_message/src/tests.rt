@@ -125,7 +125,8 @@ fn a_received_transfer_is_read(rt: HostRuntime) -> Result<(), Fail> {
 #[test]
 fn a_sent_transfer_is_read(rt: HostRuntime) -> Result<(), Fail> {
     let t = tables(rt.alloc())?;
-    let sent = b"{1:F01HOMEUS33AXXX0000000000}{2:I103BETAFRPPXXXXN}{4:\r\n:20:P00000001K1\r\n:23B:CRED\r\n:32A:240603EUR1234,50\r\n:33B:EUR1234,50\r\n:50K:A PAYER\r\n:52A:ALPHDEFF\r\n:59:/CUST9\r\nA PAYEE\r\n:71A:SHA\r\n-}";
+    let sent =
+        b"{1:F01HOMEUS33AXXX0000000000}{2:I103BETAFRPPXXXXN}{4:\r\n:20:P00000001K1\r\n:23B:CRED\r\n:32A:240603EUR1234,50\r\n:33B:EUR1234,50\r\n:50K:A PAYER\r\n:52A:ALPHDEFF\r\n:59:/CUST9\r\nA PAYEE\r\n:71A:SHA\r\n-}";
     match answer(rt.alloc(), &t, true, &[sent])? {
         Ok(Message::Transfer(envelope, _, transfer)) => {
             assert_eq!(rt; envelope.mir, None);
@@ -136,7 +137,15 @@ fn a_sent_transfer_is_read(rt: HostRuntime) -> Result<(), Fail> {
         }
         Err(_) => return Err("the sent message is refused")?,
     }
-    assert!(rt; is_told(rt.alloc(), &t, false, &[sent], refused(None, P07, b"B2 ", 0))?);
+    assert!(rt;
+        is_told(
+            rt.alloc(),
+            &t,
+            false,
+            &[sent],
+            refused(None, P07, b"B2 ", 0)
+        )?
+    );
     Ok(())
 }
 
@@ -144,15 +153,45 @@ fn a_sent_transfer_is_read(rt: HostRuntime) -> Result<(), Fail> {
 fn the_form_of_blocks_comes_first(rt: HostRuntime) -> Result<(), Fail> {
     let t = tables(rt.alloc())?;
     let rows: [(&[u8], &[u8], &[u8], Option<MessageFault>); 9] = [
-        (b"{1:F01HOMEUS33AXXX000100000}", FROM_ALPHA, LINES, refused(None, P01, b"B1 ", 0)),
-        (b"{1:F21HOMEUS33AXXX0001000001}", b"{4:{177:2406031200}{451:0}}", b"", refused(None, P02, b"B1 ", 0)),
+        (
+            b"{1:F01HOMEUS33AXXX000100000}",
+            FROM_ALPHA,
+            LINES,
+            refused(None, P01, b"B1 ", 0),
+        ),
+        (
+            b"{1:F21HOMEUS33AXXX0001000001}",
+            b"{4:{177:2406031200}{451:0}}",
+            b"",
+            refused(None, P02, b"B1 ", 0),
+        ),
         (BLOCK1, b"{2:O103}", LINES, refused(None, P03, b"B2 ", 0)),
-        (BLOCK1, FROM_ALPHA, b"{3:}", refused(Some(MIR), P04, b"B3 ", 0)),
-        (BLOCK1, FROM_ALPHA, b"{5:}", refused(Some(MIR), P05, b"B4 ", 0)),
-        (BLOCK1, FROM_ALPHA, b"{4:\n-}{5:{x}}", refused(Some(MIR), P06, b"B5 ", 0)),
+        (
+            BLOCK1,
+            FROM_ALPHA,
+            b"{3:}",
+            refused(Some(MIR), P04, b"B3 ", 0),
+        ),
+        (
+            BLOCK1,
+            FROM_ALPHA,
+            b"{5:}",
+            refused(Some(MIR), P05, b"B4 ", 0),
+        ),
+        (
+            BLOCK1,
+            FROM_ALPHA,
+            b"{4:\n-}{5:{x}}",
+            refused(Some(MIR), P06, b"B5 ", 0),
+        ),
         (BLOCK1, TO_BETA, b"{3:}", refused(None, P04, b"B3 ", 0)),
         (BLOCK1, TO_BETA, b"{5:}", refused(None, P05, b"B4 ", 0)),
-        (BLOCK1, TO_BETA, b"{4:\n-}{9:}", refused(None, P06, b"B5 ", 0)),
+        (
+            BLOCK1,
+            TO_BETA,
+            b"{4:\n-}{9:}",
+            refused(None, P06, b"B5 ", 0),
+        ),
     ];
     for (first, second, rest, want) in rows {
         assert!(rt; is_told(rt.alloc(), &t, false, &[first, second, rest], want)?);
@@ -166,8 +205,24 @@ fn a_message_that_goes_the_other_way(rt: HostRuntime) -> Result<(), Fail> {
     let t = tables(rt.alloc())?;
     let other = b"{1:F01BETAFRPPAXXX0001000007}".as_slice();
     for first in [BLOCK1, other] {
-        assert!(rt; is_told(rt.alloc(), &t, false, &[first, TO_BETA, LINES], refused(None, P07, b"B2 ", 0))?);
-        assert!(rt; is_told(rt.alloc(), &t, true, &[first, FROM_ALPHA, LINES], refused(Some(MIR), P07, b"B2 ", 0))?);
+        assert!(rt;
+            is_told(
+                rt.alloc(),
+                &t,
+                false,
+                &[first, TO_BETA, LINES],
+                refused(None, P07, b"B2 ", 0)
+            )?
+        );
+        assert!(rt;
+            is_told(
+                rt.alloc(),
+                &t,
+                true,
+                &[first, FROM_ALPHA, LINES],
+                refused(Some(MIR), P07, b"B2 ", 0)
+            )?
+        );
     }
     Ok(())
 }
@@ -203,16 +258,65 @@ fn blocks_are_tested_in_their_order(rt: HostRuntime) -> Result<(), Fail> {
     let other = b"{1:F01BETAFRPPAXXX0001000007}".as_slice();
     let stranger = Mir(*b"240603NOBODEFFAXXX0001000001");
     let rows: [(&[u8], [&[u8]; 2], &[u8], Mir, Code, &[u8; 3]); 10] = [
-        (other, STRANGER, b"{4:\n-}{5:{PDE:}{TNG:}}", stranger, P08, b"B1 "),
-        (BLOCK1, STRANGER, b"{4:\n-}{5:{PDE:}{TNG:}}", stranger, P09, b"B5 "),
-        (BLOCK1, STRANGER, b"{4:\n-}{5:{PDE:}}", stranger, P10, b"B5 "),
-        (BLOCK1, STRANGER, b"{3:{119:COV}}{4:\n-}", stranger, P11, b"B2 "),
-        (BLOCK1, STRANGER_103, b"{3:{119:COV}}{4:\n-}", stranger, P12, b"B2 "),
+        (
+            other,
+            STRANGER,
+            b"{4:\n-}{5:{PDE:}{TNG:}}",
+            stranger,
+            P08,
+            b"B1 ",
+        ),
+        (
+            BLOCK1,
+            STRANGER,
+            b"{4:\n-}{5:{PDE:}{TNG:}}",
+            stranger,
+            P09,
+            b"B5 ",
+        ),
+        (
+            BLOCK1,
+            STRANGER,
+            b"{4:\n-}{5:{PDE:}}",
+            stranger,
+            P10,
+            b"B5 ",
+        ),
+        (
+            BLOCK1,
+            STRANGER,
+            b"{3:{119:COV}}{4:\n-}",
+            stranger,
+            P11,
+            b"B2 ",
+        ),
+        (
+            BLOCK1,
+            STRANGER_103,
+            b"{3:{119:COV}}{4:\n-}",
+            stranger,
+            P12,
+            b"B2 ",
+        ),
         (BLOCK1, ALPHA_103, b"{3:{119:COV}}{4:\n-}", MIR, P13, b"B3 "),
         (BLOCK1, ALPHA_202, b"{4:\n-}", MIR, P13, b"B3 "),
-        (BLOCK1, ALPHA_202, b"{3:{119:REMIT}}{4:\n-}", MIR, P13, b"B3 "),
+        (
+            BLOCK1,
+            ALPHA_202,
+            b"{3:{119:REMIT}}{4:\n-}",
+            MIR,
+            P13,
+            b"B3 ",
+        ),
         (BLOCK1, ALPHA_103, b"{4:\n-}", MIR, P20, b"B4 "),
-        (BLOCK1, ALPHA_202, b"{3:{119:COV}}{4:\n:20:X\n-}", MIR, P90, b"B4 "),
+        (
+            BLOCK1,
+            ALPHA_202,
+            b"{3:{119:COV}}{4:\n:20:X\n-}",
+            MIR,
+            P90,
+            b"B4 ",
+        ),
     ];
     for (first, [received, sent], rest, mir, code, tag) in rows {
         let want = refused(Some(mir), code, tag, 0);
@@ -227,11 +331,20 @@ fn blocks_are_tested_in_their_order(rt: HostRuntime) -> Result<(), Fail> {
 fn lines_come_before_characters_and_both_before_the_type(rt: HostRuntime) -> Result<(), Fail> {
     let t = tables(rt.alloc())?;
     let rows: [(&[u8], Option<MessageFault>); 5] = [
-        (b"{4:\n:20:a_b\n\n:23B:CRED\n-}", refused(Some(MIR), P20, b"B4 ", 2)),
+        (
+            b"{4:\n:20:a_b\n\n:23B:CRED\n-}",
+            refused(Some(MIR), P20, b"B4 ", 2),
+        ),
         (b"{4:\nx\n:20:a_b\n-}", refused(Some(MIR), P20, b"B4 ", 1)),
-        (b"{4:\n:20:X\n:20:a_b\n:20:{x}\n-}", refused(Some(MIR), P21, b"20 ", 2)),
+        (
+            b"{4:\n:20:X\n:20:a_b\n:20:{x}\n-}",
+            refused(Some(MIR), P21, b"20 ", 2),
+        ),
         (b"{4:\n:23B:a_b\n-}", refused(Some(MIR), P21, b"23B", 1)),
-        (b"{3:{119:any}}{4:\n:20:X\n-}", refused(Some(MIR), P90, b"B4 ", 0)),
+        (
+            b"{3:{119:any}}{4:\n:20:X\n-}",
+            refused(Some(MIR), P90, b"B4 ", 0),
+        ),
     ];
     for (rest, want) in rows {
         let [received, _] = ALPHA_950;
@@ -270,17 +383,98 @@ fn rules_come_last(rt: HostRuntime) -> Result<(), Fail> {
     let t = tables(rt.alloc())?;
     let sends = |code: &[u8; 3], tag: &[u8; 3], nth| refused(Some(MIR), Code(*code), tag, nth);
     let rows: [([&[u8]; 5], Option<MessageFault>); 11] = [
-        ([b"CRED", b":33B:USD1300,\n", b"", CUSTOMER, b"SHA"], sends(b"D75", b"36 ", 0)),
-        ([b"CRED", b":33B:USD1300,\n:36:1,0533\n", b"", CUSTOMER, b"SHA"], None),
-        ([b"CRED", b":33B:EUR1234,5\n:36:1,0533\n", b"", CUSTOMER, b"SHA"], sends(b"D75", b"36 ", 1)),
-        ([b"SPRI", b"", b":56A:CORRBEBB\n:57A:BETAFRPP\n", CUSTOMER, b"SHA"], sends(b"E16", b"56 ", 1)),
-        ([b"SSTD", b"", b":56C:/ABC\n:57A:BETAFRPP\n", CUSTOMER, b"SHA"], sends(b"E17", b"56 ", 1)),
-        ([b"SSTD", b"", b":56C://FW021000089\n:57A:BETAFRPP\n", CUSTOMER, b"SHA"], None),
-        ([b"CRED", b"", b"", CUSTOMER, b"BEN"], sends(b"E15", b"71F", 0)),
-        ([b"CRED", b"", b"", CUSTOMER, b"BEN\n:71F:EUR1,"], sends(b"D51", b"33B", 0)),
-        ([b"CRED", b":33B:EUR1235,5\n", b"", CUSTOMER, b"BEN\n:71F:EUR1,"], None),
-        ([b"CRED", b":33B:USD1300,\n", b":57A:BETAFRP\n", CUSTOMER, b"SHA"], sends(b"P24", b"57A", 1)),
-        ([b"CRED", b":33B:USD1300,\n", b":56A:NOBODEFF\n", CUSTOMER, b"SHA"], sends(b"P25", b"56A", 1)),
+        (
+            [b"CRED", b":33B:USD1300,\n", b"", CUSTOMER, b"SHA"],
+            sends(b"D75", b"36 ", 0),
+        ),
+        (
+            [
+                b"CRED",
+                b":33B:USD1300,\n:36:1,0533\n",
+                b"",
+                CUSTOMER,
+                b"SHA",
+            ],
+            None,
+        ),
+        (
+            [
+                b"CRED",
+                b":33B:EUR1234,5\n:36:1,0533\n",
+                b"",
+                CUSTOMER,
+                b"SHA",
+            ],
+            sends(b"D75", b"36 ", 1),
+        ),
+        (
+            [
+                b"SPRI",
+                b"",
+                b":56A:CORRBEBB\n:57A:BETAFRPP\n",
+                CUSTOMER,
+                b"SHA",
+            ],
+            sends(b"E16", b"56 ", 1),
+        ),
+        (
+            [
+                b"SSTD",
+                b"",
+                b":56C:/ABC\n:57A:BETAFRPP\n",
+                CUSTOMER,
+                b"SHA",
+            ],
+            sends(b"E17", b"56 ", 1),
+        ),
+        (
+            [
+                b"SSTD",
+                b"",
+                b":56C://FW021000089\n:57A:BETAFRPP\n",
+                CUSTOMER,
+                b"SHA",
+            ],
+            None,
+        ),
+        (
+            [b"CRED", b"", b"", CUSTOMER, b"BEN"],
+            sends(b"E15", b"71F", 0),
+        ),
+        (
+            [b"CRED", b"", b"", CUSTOMER, b"BEN\n:71F:EUR1,"],
+            sends(b"D51", b"33B", 0),
+        ),
+        (
+            [
+                b"CRED",
+                b":33B:EUR1235,5\n",
+                b"",
+                CUSTOMER,
+                b"BEN\n:71F:EUR1,",
+            ],
+            None,
+        ),
+        (
+            [
+                b"CRED",
+                b":33B:USD1300,\n",
+                b":57A:BETAFRP\n",
+                CUSTOMER,
+                b"SHA",
+            ],
+            sends(b"P24", b"57A", 1),
+        ),
+        (
+            [
+                b"CRED",
+                b":33B:USD1300,\n",
+                b":56A:NOBODEFF\n",
+                CUSTOMER,
+                b"SHA",
+            ],
+            sends(b"P25", b"56A", 1),
+        ),
     ];
     for (lines, want) in rows {
         assert_eq!(rt; transfer(rt.alloc(), &t, lines)?, want);
@@ -300,9 +494,17 @@ fn the_banks_of_the_rules_are_those_of_the_message(rt: HostRuntime) -> Result<()
     ];
     for (countries, received, sent) in rows {
         let t = read_tables(rt.alloc(), b"ALPHDEFF\nBETAFRPP\n", b"EUR,2\n", countries)?;
-        let want = if received { refused(Some(MIR), d49, b"33B", 0) } else { None };
+        let want = if received {
+            refused(Some(MIR), d49, b"33B", 0)
+        } else {
+            None
+        };
         assert!(rt; is_told(rt.alloc(), &t, false, &[BLOCK1, FROM_ALPHA, LINES], want)?);
-        let want = if sent { refused(None, d49, b"33B", 0) } else { None };
+        let want = if sent {
+            refused(None, d49, b"33B", 0)
+        } else {
+            None
+        };
         assert!(rt; is_told(rt.alloc(), &t, true, &[BLOCK1, TO_BETA, LINES], want)?);
     }
     Ok(())
