@@ -1,7 +1,10 @@
 -- What every valid message has.
-use Rattle.std.specs.Prelude.{◌≡◌, ℕ, ◌<◌, ◌≤◌, List, length, None, IsSome}
+use Rattle.std.specs.Prelude.{◌≡◌, ℕ, ◌<◌, ◌≤◌, List, length, None, Ok, IsSome}
 use Rattle.corr_ids.specs.declared.envelope.Envelope.{Envelope}
 use Rattle.corr_money.specs.declared.amount.Amount.{Amount}
+use Rattle.fin_fields.specs.Fields.{fields_of}
+use Rattle.mt103.specs.Message.{mt103_of}
+use Rattle.ref_tables.specs.Seen.{Tables}
 use Rattle.fin_message.specs.declared.direction.Direction.{Direction}
 use Rattle.fin_message.specs.declared.direction.Direction.TheVariants.{Received, Sent}
 use Rattle.fin_message.specs.declared.message.Message.{Message}
@@ -28,8 +31,13 @@ HasAmount (Transfer envelope text transfer) = IsAmount transfer.amount
 abbrev pub lines_in : Message → List ℕ
 lines_in (Transfer envelope text transfer) = text
 
--- a valid message that goes this way, with lines of at most so many bytes
-pub record IsSound (way : Direction) (most : ℕ) (message : Message) : Type 0 where
+-- the lines say what the message has beside its envelope
+abbrev pub IsRead : Tables → Message → Type 0
+IsRead t (Transfer envelope text transfer) = mt103_of t (fields_of text) ≡ Ok transfer
+
+-- a valid message that goes this way under these tables, with lines of at most so many bytes
+pub record IsSound (way : Direction) (t : Tables) (most : ℕ) (message : Message) : Type 0 where
   pub goes : Goes way message
+  pub read : IsRead t message
   pub amount : HasAmount message
   pub short : length (lines_in message) ≤ most

@@ -89,7 +89,7 @@ fn judge(
 pub fn verdict(alloc: Global, m: &[u8], home: &Bic, t: &RefTables) -> Result<Message, MessageFault>
     requires { length m.now ≤ 65535 }
     ensures value { Answers result (verdict_of home.now t.now m.now) }
-    ensures sound { IfOk result (IsSound Direction.Received (2 * length m.now)) }
+    ensures sound { IfOk result (IsSound Direction.Received t.now (2 * length m.now)) }
 {
     judge(alloc, Direction::Received, home, t, m)
 }
@@ -105,7 +105,7 @@ pub fn check_sent(
 ) -> Result<Message, MessageFault>
     requires { length m.now ≤ 65535 }
     ensures value { Answers result (sent_verdict_of home.now t.now m.now) }
-    ensures sound { IfOk result (IsSound Direction.Sent (2 * length m.now)) }
+    ensures sound { IfOk result (IsSound Direction.Sent t.now (2 * length m.now)) }
 {
     judge(alloc, Direction::Sent, home, t, m)
 }

@@ -1,7 +1,7 @@
 use Rattle.std.proofs.Common.{sym}
 use Rattle.day_model.specs.Chart.{has_id}
 use Rattle.corr_top.proofs.Lookups.{number_listed}
-use Rattle.corr_top.proofs.message.customer_account.Goals as goal
+use Rattle.corr_top.proofs.interim.customer_account.Goals as goal
 
 pub get-requires : goal.get-requires
 get-requires c = number_listed (has_id c.args.id.now) c.args.accounts.now c.in_ok-number.number (sym c.in_ok-number.ensures)

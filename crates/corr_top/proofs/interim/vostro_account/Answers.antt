@@ -1,6 +1,6 @@
 use Rattle.day_model.specs.Chart.{is_owned, vostro}
 use Rattle.corr_top.proofs.Lookups.{found_listed, found_vostro}
-use Rattle.corr_top.proofs.message.vostro_account.Goals as goal
+use Rattle.corr_top.proofs.interim.vostro_account.Goals as goal
 
 pub returns-clause-listed : goal.returns-clause-listed
 returns-clause-listed c =
