@@ -1,6 +1,7 @@
 //! Transfers as messages hold them.
 
-ghost use Rattle.std.specs.Prelude.{◌≤◌, IfOk, length};
+ghost use Rattle.std.specs.Prelude.{◌≤◌, All, IfOk, length};
+ghost use Rattle.fin_fields.specs.Writing.{IsField};
 
 use crate::{D97, D98, E46, Instr, Mt103, P28, T08, T36, read_mt103};
 use corr_ids::Day;
@@ -17,17 +18,18 @@ use std::test::Fail;
 // A field of the sample transfer by its number, what stands in its place, and the fault: code, tag and occurrence.
 type Refused<'a> = (usize, &'a [u8], Code, &'a [u8; 3], u16);
 
-fn tables(alloc: Global) -> Result<RefTables, TableFault> {
+pub fn tables(alloc: Global) -> Result<RefTables, TableFault> {
     read_tables(
         alloc,
-        b"HOMEUS33\nALPHDEFF\n",
-        b"EUR,2\nUSD,2\nJPY,0\n",
+        b"HOMEUS33\nALPHDEFF\nBETAFRPP\n",
+        b"EUR,2\nUSD,2\nJPY,0\nKWD,3\n",
         b"DE,Y\n",
     )
 }
 
-fn cut(alloc: Global, text: &[u8]) -> Result<List<Field>, FieldFault>
-    ensures { IfOk result (λ fields. length fields ≤ 1000) }
+pub fn cut(alloc: Global, text: &[u8]) -> Result<List<Field>, FieldFault>
+    ensures few { IfOk result (λ fields. length fields ≤ 1000) }
+    ensures fit { IfOk result (λ fields. All IsField fields) }
 {
     if text.len() > 1000 {
         return Err(FieldFault::Memory);
@@ -65,13 +67,20 @@ fn read(
     Ok(read_mt103(alloc, fields.as_slice(), tables))
 }
 
-// The fault of a text, none where it is a message.
-fn fault_of(alloc: Global, tables: &RefTables, text: &[u8]) -> Result<Option<Fault>, FieldFault> {
-    match read(alloc, tables, text)? {
+// Generic, so that a transfer is let go as one value.
+pub fn let_go<M: Drop>(_m: M) {}
+
+fn fault_in<M: Drop>(read: Result<M, MtFault>) -> Result<Option<Fault>, FieldFault> {
+    match read {
         Ok(_) => Ok(None),
         Err(MtFault::Bad(fault)) => Ok(Some(fault)),
         Err(MtFault::Memory) => Err(FieldFault::Memory),
     }
+}
+
+// The fault of a text, none where it is a message.
+fn fault_of(alloc: Global, tables: &RefTables, text: &[u8]) -> Result<Option<Fault>, FieldFault> {
+    fault_in(read(alloc, tables, text)?)
 }
 
 // The fault of the sample transfer with one of its fields written otherwise is that of the row.
@@ -144,10 +153,13 @@ fn the_sample_is_read(rt: HostRuntime) -> Result<(), Fail> {
     let text =
         b":20:REF1\n:23B:CRED\n:23E:PHOB/20.527\n:23E:TELB\n:32A:240603EUR1234,5\n:33B:USD1300,\n:36:1,0533
 :50K:A PAYER\n:52A:ALPHDEFF\n:59:/CUST1\nA PAYEE\n:71A:SHA\n:71F:EUR1,\n:71F:EUR2,5\n:72:/ACC/A\n//B\n";
-    match read(rt.alloc(), &tables, text)? {
-        Ok(m) => assert!(rt; says_the_terms(&m) && says_the_details(&m)),
-        Err(_) => assert!(rt; false, "the sample is refused"),
-    }
+    let m = match read(rt.alloc(), &tables, text)? {
+        Ok(m) => m,
+        Err(_) => return Err("the sample is refused")?,
+    };
+    let said = says_the_terms(&m) && says_the_details(&m);
+    let_go(m);
+    assert!(rt; said);
     Ok(())
 }
 
