@@ -33,7 +33,7 @@ use Rattle.fin_contents.specs.declared.codes.TheConstants.{C08, P25, P26, T26, T
 use Rattle.fin_contents.specs.declared.value.Value.{Value}
 use Rattle.fin_contents.specs.Money.{amount_code, ccy_amount_in, ccy_amount_of, coded, is_ccy_amount, is_dated_amount, is_metal, minor_in, rate_of, value_in, value_of}
 use Rattle.fin_contents.specs.Parties.{is_known, known_party_of}
-use Rattle.fin_contents.specs.Plain.{has_stray_slash, is_time, one_line, reference_of, texts_of, time_of}
+use Rattle.fin_contents.specs.Plain.{has_stray_slash, is_time, one_line, reference_of, short_line_of, texts_of, time_of}
 use Rattle.fin_contents.specs.Writing.{IsAmount, IsValue, ccy_amount_field, ccy_amount_text, line_field, lines_field, value_field}
 use Rattle.fin_contents.proofs.Bytes.{and-three, comma_number-of-x}
 use Rattle.fin_contents.proofs.Days.{day-in-century}
@@ -79,6 +79,18 @@ rate-kept f x e =
 pub rate-again : (tag : ℕ) (letter : Option ℕ) (f : Field) (x : List ℕ) → rate_of f ≡ Ok x → rate_of (line_field tag letter x) ≡ Ok x
 unfolding rate_of
 rate-again tag letter f x e = ap (λ (ls : List (List ℕ)). rate_of (lines_field tag letter ls)) (sym (rate-kept f x e)) ∙ e
+
+pub short_line-kept : (most : ℕ) (f : Field) (x : List ℕ) → short_line_of most f ≡ Ok x → f.lines ≡ x ∷ []
+unfolding short_line_of
+short_line-kept most f x e =
+    let line = there (one_line f) P24 _ x e in
+    let run = checked (is_run (is_in X) most line.0) P24 _ x line.2 in
+    let same : line.0 ≡ x = cc run.1 in
+    is-only f.lines line.0 line.1 ∙ ap (λ (y : List ℕ). y ∷ []) same
+
+pub short_line-again : (most tag : ℕ) (letter : Option ℕ) (f : Field) (x : List ℕ) → short_line_of most f ≡ Ok x → short_line_of most (line_field tag letter x) ≡ Ok x
+unfolding short_line_of
+short_line-again most tag letter f x e = ap (λ (ls : List (List ℕ)). short_line_of most (lines_field tag letter ls)) (sym (short_line-kept most f x e)) ∙ e
 
 pub texts-kept : (most : ℕ) (f : Field) (lines : List (List ℕ)) → texts_of most f ≡ Ok lines → f.lines ≡ lines
 unfolding texts_of

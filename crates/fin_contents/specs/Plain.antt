@@ -61,6 +61,13 @@ time_of f = do
   _ ← check (is_time line) P24
   Ok line
 
+-- one line: `most` x
+unfoldable pub short_line_of : ℕ → Field → Result (List ℕ) Code
+short_line_of most f = do
+  line ← or_fault (one_line f) P24
+  _ ← check (is_run (is_in X) most line) P24
+  Ok line
+
 -- 1 to `most` lines of 35x
 unfoldable pub texts_of : ℕ → Field → Result (List (List ℕ)) Code
 texts_of most f = do

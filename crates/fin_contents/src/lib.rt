@@ -9,6 +9,7 @@ mod metal;
 mod party;
 mod rate;
 mod reference;
+mod short;
 #[cfg(test)]
 mod tests;
 mod texts;
@@ -24,6 +25,7 @@ pub use line::{are_in, array_of, line_field, one_line};
 pub use party::{KnownParty, put_known_party};
 pub use rate::{Rate, put_rate};
 pub use reference::{Reference, put_reference};
+pub use short::{ShortLine, put_short_line};
 pub use texts::{Texts, put_texts};
-pub use time::{Time, put_time};
+pub use time::{Time, is_clock, put_time};
 pub use value::{Value, ValueDate, put_value};

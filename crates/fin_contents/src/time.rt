@@ -19,7 +19,8 @@ use std::alloc::Global;
 #[derive(Clone, Copy)]
 pub struct Time;
 
-fn is_clock(b: &[u8]) -> bool
+/// Whether bytes are a time of day with its distance from UTC, `4!n`, `+` or `-`, `4!n`, as `0915+0100`.
+pub fn is_clock(b: &[u8]) -> bool
     ensures { result ≡ is_clock b.now }
 {
     b.len() == 9

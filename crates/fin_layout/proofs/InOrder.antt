@@ -11,6 +11,16 @@
 --         option-met l2 kind_of (λ f. refl) refl _ (λ _ l3.
 --         .. none-left l22)))
 --
+-- A part of the contents that has steps of its own and is a step of the whole, as 20 to 36, is met in the same way:
+--
+--     terms-refused : LiesFrom .. 0 → (next : Terms → Result B Fault) → ((x : Terms) → LiesFrom .. 8 → next x ≡ Err fault) → (terms_of t fs found >>= next) ≡ Err fault
+--     unfolding terms_of
+--     terms-refused l0 next on =
+--         one-in l0 reference_of (λ f. refl) refl _ refl refl _ next (λ _ l1.
+--         all-in l1 time_of (λ f. refl) _ next (λ _ l2.
+--         option-in l2 kind_of (λ f. refl) refl _ next (λ _ l3.
+--         .. on _ l8)))
+--
 -- Its reader calls `check_structure`. Where that fails, `structure-fails` says that the message is refused with its fault;
 -- else `in-turn` says that the message is what its contents tell: the tests of the contents are those of the reading.
 use Rattle.std.proofs.Common.{◌≡◌, ℕ, ◌+◌, ◌<◌, ◌≤◌, ◌==◌, ◌⊎◌, true, false, List, [], ◌∷◌, length, drop, option_map, position, slice_get, Option, Some, None, Result, Ok, Err, refl, sym, ap, ◌∙◌, arith, inl, inr}
@@ -301,6 +311,11 @@ all-behind order test whole fault low i (q ∷ found) (f ∷ fs) up fine some =
 pub none-left : {A : Type 0} {order : List Place} {test : ℕ → Field → Option Code} {fs : List Field} {found : List ℕ} {fault : Fault} → LiesFrom order test fs found fault (length order) → A
 none-left {A} {order} {test} {fs} {found} {fault} l = absurd (all-behind order test fs fault 0 0 found fs l.rising l.fine l.first)
 
+-- steps within a step are steps in a row
+inner : {A B C F : Type 0} (read : Result A F) (next : A → Result B F) (further : B → Result C F) → (read >>= next >>= further) ≡ (read >>= λ x. next x >>= further)
+inner (Ok x) next further = refl
+inner (Err e) next further = refl
+
 module _ {order : List Place} {test : ℕ → Field → Option Code} {fs : List Field} {found : List ℕ} {fault : Fault} {k : ℕ} (l : LiesFrom order test fs found fault k) where
   behind-next : FineBelow test (k + 1) found fs → LiesFrom order test fs found fault (k + 1)
   behind-next fine = record { rising = l.rising; whole = l.whole; complete = l.complete; first = l.first; fine = fine }
@@ -347,6 +362,18 @@ module _ {order : List Place} {test : ℕ → Field → Option Code} {fs : List 
 
     pub one-met : {B : Type 0} → free_after order k ≡ k + 1 → (p : Place) → slice_get order k ≡ Some p → p.must ≡ true → (next : A → Result B Fault) → ((x : A) → LiesFrom order test fs found fault (k + 1) → next x ≡ Err fault) → (in_place order fs found k read >>= next) ≡ Err fault
     one-met single p e must next on = bind-fails fault (LiesFrom order test fs found fault (k + 1)) (in_place order fs found k read) next (one-meets single p e must) on
+
+    -- the same within a part of the contents, whose steps are a step of the whole
+    pub all-in : {B C : Type 0} (next : List A → Result B Fault) (further : B → Result C Fault) → ((xs : List A) → LiesFrom order test fs found fault (k + 1) → (next xs >>= further) ≡ Err fault) → (all_from fs k read 0 found fs >>= next >>= further) ≡ Err fault
+    all-in next further on = inner (all_from fs k read 0 found fs) next further ∙ all-met (λ xs. next xs >>= further) on
+
+    pub option-in : {B C : Type 0} → free_after order k ≡ k + 1 → (next : Option A → Result B Fault) (further : B → Result C Fault) → ((x : Option A) → LiesFrom order test fs found fault (k + 1) → (next x >>= further) ≡ Err fault)
+        → (in_option fs found k read >>= next >>= further) ≡ Err fault
+    option-in single next further on = inner (in_option fs found k read) next further ∙ option-met single (λ x. next x >>= further) on
+
+    pub one-in : {B C : Type 0} → free_after order k ≡ k + 1 → (p : Place) → slice_get order k ≡ Some p → p.must ≡ true → (next : A → Result B Fault) (further : B → Result C Fault) → ((x : A) → LiesFrom order test fs found fault (k + 1) → (next x >>= further) ≡ Err fault)
+        → (in_place order fs found k read >>= next >>= further) ≡ Err fault
+    one-in single p e must next further on = inner (in_place order fs found k read) next further ∙ one-met single p e must (λ x. next x >>= further) on
 
 -- ---- the verdict of a message's fields
 

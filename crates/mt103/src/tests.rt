@@ -151,10 +151,8 @@ fn the_sample_is_read(rt: HostRuntime) -> Result<(), Fail> {
     Ok(())
 }
 
-#[test]
-fn what_may_stand_is_read(rt: HostRuntime) -> Result<(), Fail> {
-    let tables = tables(rt.alloc())?;
-    let rows: [(usize, &[u8]); 19] = [
+fn what_may_stand() -> [(usize, &'static [u8]); 19] {
+    [
         (0, b":20:ABCDEFGH/JKLMNOP\n"),
         (0, b":20:REF1\n:13C:/CLSTIME/0915+0100\n:13C:/A/0915-0100\n"),
         (1, b":23B:SSTD\n:23E:SDVA\n:23E:PHON/1\n:23E:TELI\n"),
@@ -177,18 +175,21 @@ fn what_may_stand_is_read(rt: HostRuntime) -> Result<(), Fail> {
         (5, b":71A:OUR\n:72:/A\n/B\n/C\n/D\n/E\n/F\n"),
         (5, b":71A:OUR\n:77B:A\nB\nC\n"),
         (6, b""),
-    ];
-    for (at, other) in rows {
+    ]
+}
+
+#[test]
+fn what_may_stand_is_read(rt: HostRuntime) -> Result<(), Fail> {
+    let tables = tables(rt.alloc())?;
+    for (at, other) in what_may_stand() {
         let text = transfer(rt.alloc(), at, other)?;
         assert_eq!(rt; fault_of(rt.alloc(), &tables, text.bytes())?, None);
     }
     Ok(())
 }
 
-#[test]
-fn misplaced_and_missing_fields_are_told(rt: HostRuntime) -> Result<(), Fail> {
-    let tables = tables(rt.alloc())?;
-    let rows: [Refused; 21] = [
+fn misplaced() -> [Refused<'static>; 21] {
+    [
         (0, b"", P23, b"20 ", 0),
         (1, b"", P23, b"23B", 0),
         (2, b"", P23, b"32A", 0),
@@ -216,17 +217,20 @@ fn misplaced_and_missing_fields_are_told(rt: HostRuntime) -> Result<(), Fail> {
             b"71G",
             2,
         ),
-    ];
-    for row in rows.iter() {
+    ]
+}
+
+#[test]
+fn misplaced_and_missing_fields_are_told(rt: HostRuntime) -> Result<(), Fail> {
+    let tables = tables(rt.alloc())?;
+    for row in misplaced().iter() {
         assert!(rt; check(rt.alloc(), &tables, row)?, "{}", row.0);
     }
     Ok(())
 }
 
-#[test]
-fn wrong_codes_and_references_are_told(rt: HostRuntime) -> Result<(), Fail> {
-    let tables = tables(rt.alloc())?;
-    let rows: [Refused; 23] = [
+fn wrong_codes() -> [Refused<'static>; 23] {
+    [
         (0, b":20:\n", P24, b"20 ", 1),
         (0, b":20:ABCDEFGHIJKLMNOPQ\n", P24, b"20 ", 1),
         (0, b":20:REF1\nREF2\n", P24, b"20 ", 1),
@@ -262,17 +266,20 @@ fn wrong_codes_and_references_are_told(rt: HostRuntime) -> Result<(), Fail> {
         (5, b":71A:SHA\nSHA\n", T08, b"71A", 1),
         (5, b":71A:SHA\n:72:A\nB\nC\nD\nE\nF\nG\n", P24, b"72 ", 1),
         (5, b":71A:SHA\n:77B:A\nB\nC\nD\n", P24, b"77B", 1),
-    ];
-    for row in rows.iter() {
+    ]
+}
+
+#[test]
+fn wrong_codes_and_references_are_told(rt: HostRuntime) -> Result<(), Fail> {
+    let tables = tables(rt.alloc())?;
+    for row in wrong_codes().iter() {
         assert!(rt; check(rt.alloc(), &tables, row)?, "{}", row.0);
     }
     Ok(())
 }
 
-#[test]
-fn wrong_amounts_are_told(rt: HostRuntime) -> Result<(), Fail> {
-    let tables = tables(rt.alloc())?;
-    let rows: [Refused; 24] = [
+fn wrong_amounts() -> [Refused<'static>; 24] {
+    [
         (2, b":32A:240603EUR\n", P24, b"32A", 1),
         (2, b":32A:24060AEUR1,\n", P24, b"32A", 1),
         (2, b":32A:240631XAU1\n", T50, b"32A", 1),
@@ -297,17 +304,20 @@ fn wrong_amounts_are_told(rt: HostRuntime) -> Result<(), Fail> {
         (5, b":71A:SHA\n:71F:EUR1,\n:71F:EUR2\n", T40, b"71F", 2),
         (5, b":71A:SHA\n:71F:EU1,\n", P24, b"71F", 1),
         (5, b":71A:SHA\n:71G:EUR1,234\n", C03, b"71G", 1),
-    ];
-    for row in rows.iter() {
+    ]
+}
+
+#[test]
+fn wrong_amounts_are_told(rt: HostRuntime) -> Result<(), Fail> {
+    let tables = tables(rt.alloc())?;
+    for row in wrong_amounts().iter() {
         assert!(rt; check(rt.alloc(), &tables, row)?, "{}", row.0);
     }
     Ok(())
 }
 
-#[test]
-fn wrong_parties_are_told(rt: HostRuntime) -> Result<(), Fail> {
-    let tables = tables(rt.alloc())?;
-    let rows: [Refused; 15] = [
+fn wrong_parties() -> [Refused<'static>; 15] {
+    [
         (3, b":50A:/A\nGAMMGB2L\n", P25, b"50A", 1),
         (3, b":50K:/A\n", P24, b"50K", 1),
         (3, b":50F:/A\n2/NAME\n", P24, b"50F", 1),
@@ -323,17 +333,20 @@ fn wrong_parties_are_told(rt: HostRuntime) -> Result<(), Fail> {
         (4, b":59:/CUST1\n", P24, b"59 ", 1),
         (4, b":59A:GAMMGB2L\n", P25, b"59A", 1),
         (4, b":59F:/A\n1/NAME\n3/DE\n2/STREET\n", P24, b"59F", 1),
-    ];
-    for row in rows.iter() {
+    ]
+}
+
+#[test]
+fn wrong_parties_are_told(rt: HostRuntime) -> Result<(), Fail> {
+    let tables = tables(rt.alloc())?;
+    for row in wrong_parties().iter() {
         assert!(rt; check(rt.alloc(), &tables, row)?, "{}", row.0);
     }
     Ok(())
 }
 
-#[test]
-fn instructions_are_told_together(rt: HostRuntime) -> Result<(), Fail> {
-    let tables = tables(rt.alloc())?;
-    let rows: [Refused; 6] = [
+fn wrong_together() -> [Refused<'static>; 6] {
+    [
         (1, b":23B:CRED\n:23E:PHON\n:23E:PHON\n", E46, b"23E", 2),
         (
             1,
@@ -364,17 +377,20 @@ fn instructions_are_told_together(rt: HostRuntime) -> Result<(), Fail> {
             b"23E",
             3,
         ),
-    ];
-    for row in rows.iter() {
+    ]
+}
+
+#[test]
+fn instructions_are_told_together(rt: HostRuntime) -> Result<(), Fail> {
+    let tables = tables(rt.alloc())?;
+    for row in wrong_together().iter() {
         assert!(rt; check(rt.alloc(), &tables, row)?, "{}", row.0);
     }
     Ok(())
 }
 
-#[test]
-fn the_first_fault_of_a_text_is_told(rt: HostRuntime) -> Result<(), Fail> {
-    let tables = tables(rt.alloc())?;
-    let rows: [(&[u8], Code, &[u8; 3], u16); 4] = [
+fn texts() -> [(&'static [u8], Code, &'static [u8; 3], u16); 4] {
+    [
         (
             b":20:R/\n:23B:CREDI\n:32A:240603EUR0,\n:50K:P\n:59:P\n:71A:SHO\n",
             T26,
@@ -399,8 +415,13 @@ fn the_first_fault_of_a_text_is_told(rt: HostRuntime) -> Result<(), Fail> {
             b"71A",
             1,
         ),
-    ];
-    for (text, code, tag, nth) in rows {
+    ]
+}
+
+#[test]
+fn the_first_fault_of_a_text_is_told(rt: HostRuntime) -> Result<(), Fail> {
+    let tables = tables(rt.alloc())?;
+    for (text, code, tag, nth) in texts() {
         let want = Fault {
             code,
             tag: *tag,
