@@ -95,6 +95,12 @@ fn times_have_their_form(rt: HostRuntime) -> Result<(), Fail> {
     Ok(())
 }
 
+// The code of a line as field 32A.
+fn value_code(alloc: Global, tables: &RefTables, line: &[u8]) -> Result<Option<Code>, Memory> {
+    let f = field(alloc, 32, Some(b'A'), line)?;
+    refused(alloc, &ValueDate { tables }, &f)
+}
+
 #[test]
 fn values_are_tested_in_order(rt: HostRuntime) -> Result<(), Fail> {
     let tables = tables(rt.alloc())?;
@@ -116,20 +122,24 @@ fn values_are_tested_in_order(rt: HostRuntime) -> Result<(), Fail> {
         (b"240603JPY1,", None),
     ];
     for (line, want) in rows {
-        let f = field(rt.alloc(), 32, Some(b'A'), line)?;
-        assert_eq!(rt;
-            refused(rt.alloc(), &ValueDate { tables: &tables }, &f)?,
-            want
-        );
+        assert_eq!(rt; value_code(rt.alloc(), &tables, line)?, want);
     }
+    Ok(())
+}
+
+const CENTS: Amount = Amount {
+    ccy: Ccy(*b"EUR"),
+    minor: Minor(123450),
+    decimals: 2,
+};
+
+#[test]
+fn a_value_is_read(rt: HostRuntime) -> Result<(), Fail> {
+    let tables = tables(rt.alloc())?;
     let f = field(rt.alloc(), 32, Some(b'A'), b"240603EUR1234,5")?;
     let value = Value {
         day: Day(19877),
-        amount: Amount {
-            ccy: Ccy(*b"EUR"),
-            minor: Minor(123450),
-            decimals: 2,
-        },
+        amount: CENTS,
     };
     match (ValueDate { tables: &tables }).read(rt.alloc(), &f) {
         Ok(got) => assert_eq!(rt; got, value),
@@ -138,10 +148,16 @@ fn values_are_tested_in_order(rt: HostRuntime) -> Result<(), Fail> {
     Ok(())
 }
 
+// The code of a line as field 33B.
+fn amount_code(alloc: Global, tables: &RefTables, line: &[u8]) -> Result<Option<Code>, Memory> {
+    let f = field(alloc, 33, Some(b'B'), line)?;
+    refused(alloc, &CcyAmount { tables }, &f)
+}
+
 #[test]
 fn other_amounts_may_be_zero(rt: HostRuntime) -> Result<(), Fail> {
     let tables = tables(rt.alloc())?;
-    let amounts: [(&[u8], Option<Code>); 6] = [
+    let rows: [(&[u8], Option<Code>); 6] = [
         (b"EUR0,", None),
         (b"EUR12,34", None),
         (b"EUR", Some(P24)),
@@ -149,14 +165,15 @@ fn other_amounts_may_be_zero(rt: HostRuntime) -> Result<(), Fail> {
         (b"XAU1,", Some(T52)),
         (b"EUR1,,", Some(T40)),
     ];
-    for (line, want) in amounts {
-        let f = field(rt.alloc(), 33, Some(b'B'), line)?;
-        assert_eq!(rt;
-            refused(rt.alloc(), &CcyAmount { tables: &tables }, &f)?,
-            want
-        );
+    for (line, want) in rows {
+        assert_eq!(rt; amount_code(rt.alloc(), &tables, line)?, want);
     }
-    let rates: [(&[u8], Option<Code>); 8] = [
+    Ok(())
+}
+
+#[test]
+fn rates_have_their_form(rt: HostRuntime) -> Result<(), Fail> {
+    let rows: [(&[u8], Option<Code>); 8] = [
         (b"0,", None),
         (b"1234567890,1", None),
         (b"", Some(P24)),
@@ -166,7 +183,7 @@ fn other_amounts_may_be_zero(rt: HostRuntime) -> Result<(), Fail> {
         (b"1234567890,12", Some(T43)),
         (b"12345678901234", Some(T40)),
     ];
-    for (line, want) in rates {
+    for (line, want) in rows {
         let f = field(rt.alloc(), 36, None, line)?;
         assert_eq!(rt; refused(rt.alloc(), &Rate, &f)?, want);
     }
@@ -229,12 +246,6 @@ fn amounts_are_written_with_all_decimals(rt: HostRuntime) -> Result<(), Fail> {
     }
     Ok(())
 }
-
-const CENTS: Amount = Amount {
-    ccy: Ccy(*b"EUR"),
-    minor: Minor(123450),
-    decimals: 2,
-};
 
 #[test]
 fn a_value_is_written_with_its_date(rt: HostRuntime) -> Result<(), Fail> {
