@@ -48,19 +48,38 @@ fn sample(k: usize) -> &'static [u8] {
     }
 }
 
-// The sample cover with lines behind two of its parts: 0 is 21, 1 is 32A, 2 is 58A, 3 is 50K, 4 is 59, 5 is none.
-fn cover(alloc: Global, first: (usize, &[u8]), second: (usize, &[u8])) -> Result<Text, Memory> {
+// The sample cover with these lines behind one of its parts.
+fn cover(alloc: Global, at: usize, lines: &[u8]) -> Result<Text, Memory> {
     let mut text = Text::from_bytes(alloc, b"")?;
     for k in 0..5 {
         text.push(sample(k))?;
-        if first.0 == k {
-            text.push(first.1)?;
-        }
-        if second.0 == k {
-            text.push(second.1)?;
+        if k == at {
+            text.push(lines)?;
         }
     }
     Ok(text)
+}
+
+// A cover with this content in 20, 21 or 32A.
+fn heading(alloc: Global, at: usize, content: &[u8]) -> Result<Text, Memory> {
+    let mut text = Text::from_bytes(alloc, b":20:")?;
+    text.push(if at == 20 { content } else { b"R" })?;
+    text.push(b"\n:21:")?;
+    text.push(if at == 21 { content } else { b"I" })?;
+    text.push(b"\n:32A:")?;
+    text.push(if at == 32 { content } else { b"240603EUR1," })?;
+    text.push(b"\n:58A:BETAFRPP\n:50K:P\n:59:P\n")?;
+    Ok(text)
+}
+
+// The text of a row: the sample cover with lines behind 21 (0), 32A (1), 58A (2), 50K (3) or 59 (4); a cover with a content
+// in 20, 21 or 32A (20, 21, 32); or the lines alone (5).
+fn text_of(alloc: Global, at: usize, lines: &[u8]) -> Result<Text, Memory> {
+    match at {
+        5 => Text::from_bytes(alloc, lines),
+        0..=4 => cover(alloc, at, lines),
+        _ => heading(alloc, at, lines),
+    }
 }
 
 fn read(
@@ -72,8 +91,15 @@ fn read(
     Ok(read_mt202cov(alloc, fields.as_slice(), tables))
 }
 
-fn refusal(code: Code, tag: [u8; 3], nth: u16) -> Option<MtFault> {
-    Some(MtFault::Bad(Fault { code, tag, nth }))
+// Where the lines of a row stand, the lines, and what is told of the text: the code, the tag, and which of that tag.
+type Row<'a> = (usize, &'a [u8], Code, [u8; 3], u16);
+
+fn refusal(row: &Row) -> Option<MtFault> {
+    Some(MtFault::Bad(Fault {
+        code: row.2,
+        tag: row.3,
+        nth: row.4,
+    }))
 }
 
 // Generic, so that a cover is let go as one value.
@@ -92,15 +118,52 @@ fn refused(alloc: Global, tables: &RefTables, text: &[u8]) -> Result<Option<MtFa
     Ok(fault_of(read(alloc, tables, text)?)?)
 }
 
-// What is refused of the sample cover with lines behind two of its parts.
 fn outcome(
     alloc: Global,
     tables: &RefTables,
-    first: (usize, &[u8]),
-    second: (usize, &[u8]),
+    at: usize,
+    lines: &[u8],
 ) -> Result<Option<MtFault>, Fail> {
-    let text = cover(alloc, first, second)?;
+    let text = text_of(alloc, at, lines)?;
     Ok(refused(alloc, tables, text.bytes())?)
+}
+
+fn first_wrong_of(alloc: Global, tables: &RefTables, rows: &[Row]) -> Result<Option<usize>, Fail> {
+    for (i, row) in rows.iter().enumerate() {
+        if outcome(alloc, tables, row.0, row.1)? != refusal(row) {
+            return Ok(Some(i));
+        }
+    }
+    Ok(None)
+}
+
+// The first row of which something else is told.
+fn first_wrong(alloc: Global, rows: &[Row]) -> Result<Option<usize>, Fail> {
+    let tables = tables(alloc)?;
+    let wrong = first_wrong_of(alloc, &tables, rows);
+    let_go(tables);
+    wrong
+}
+
+fn first_refused_of(
+    alloc: Global,
+    tables: &RefTables,
+    rows: &[(usize, &[u8])],
+) -> Result<Option<usize>, Fail> {
+    for (i, row) in rows.iter().enumerate() {
+        if outcome(alloc, tables, row.0, row.1)?.is_some() {
+            return Ok(Some(i));
+        }
+    }
+    Ok(None)
+}
+
+// The first row that is no cover.
+fn first_refused(alloc: Global, rows: &[(usize, &[u8])]) -> Result<Option<usize>, Fail> {
+    let tables = tables(alloc)?;
+    let at = first_refused_of(alloc, &tables, rows);
+    let_go(tables);
+    at
 }
 
 fn is_bank(party: &Option<Party>, head: &[u8; 8]) -> bool {
@@ -148,33 +211,55 @@ fn each_sequence_has_its_own_fields(rt: HostRuntime) -> Result<(), Fail> {
 
 #[test]
 fn what_each_sequence_may_have_is_read(rt: HostRuntime) -> Result<(), Fail> {
-    let tables = tables(rt.alloc())?;
-    let rows: [((usize, &[u8]), (usize, &[u8])); 14] = [
-        ((5, b""), (5, b"")),
-        ((1, b":52D:A BANK\n"), (3, b":52D:A BANK\n")),
-        ((1, b":53A:ALPHDEFF\n:54A:ALPHDEFF\n"), (5, b"")),
-        ((1, b":53B:/12\n:54B:PARIS\n"), (5, b"")),
-        ((1, b":53D:A BANK\n:54D:A BANK\n"), (5, b"")),
-        ((1, b":56D:A BANK\n:57B:PARIS\n"), (5, b"")),
-        ((1, b":56A:ALPHDEFF\n:57D:A BANK\n"), (5, b"")),
-        ((3, b":56C:/12\n:57C:/13\n"), (5, b"")),
-        ((3, b":56D:A BANK\n:57B:PARIS\n"), (5, b"")),
-        ((3, b":56A:ALPHDEFF\n:57D:A BANK\n"), (5, b"")),
-        ((4, b":70:A\nB\nC\nD\n"), (5, b"")),
-        ((4, b":33B:XAU0,\n"), (5, b"")),
-        ((1, b":56A:ALPHDEFF\n:57A:ALPHDEFF\n"), (5, b"")),
-        ((1, b":57A:ALPHDEFF\n"), (3, b":57C:/12\n")),
+    let rows: [(usize, &[u8]); 14] = [
+        (0, b""),
+        (
+            5,
+            b":20:REF1\n:21:INV7\n:32A:240603EUR1234,5\n:52D:A BANK\n:58A:BETAFRPP\n:50K:A PAYER\n:52D:A BANK\n:59:/CUST1\nA PAYEE\n",
+        ),
+        (1, b":53A:ALPHDEFF\n:54A:ALPHDEFF\n"),
+        (1, b":53B:/12\n:54B:PARIS\n"),
+        (1, b":53D:A BANK\n:54D:A BANK\n"),
+        (1, b":56D:A BANK\n:57B:PARIS\n"),
+        (1, b":56A:ALPHDEFF\n:57D:A BANK\n"),
+        (3, b":56C:/12\n:57C:/13\n"),
+        (3, b":56D:A BANK\n:57B:PARIS\n"),
+        (3, b":56A:ALPHDEFF\n:57D:A BANK\n"),
+        (4, b":70:A\nB\nC\nD\n"),
+        (4, b":33B:XAU0,\n"),
+        (1, b":56A:ALPHDEFF\n:57A:ALPHDEFF\n"),
+        (
+            5,
+            b":20:REF1\n:21:INV7\n:32A:240603EUR1234,5\n:57A:ALPHDEFF\n:58A:BETAFRPP\n:50K:A PAYER\n:57C:/12\n:59:/CUST1\nA PAYEE\n",
+        ),
     ];
-    for (first, second) in rows {
-        assert_eq!(rt; outcome(rt.alloc(), &tables, first, second)?, None);
-    }
+    assert_eq!(rt; first_refused(rt.alloc(), &rows)?, None);
+    Ok(())
+}
+
+#[test]
+fn parties_of_every_option_are_read(rt: HostRuntime) -> Result<(), Fail> {
+    let rows: [(usize, &[u8]); 3] = [
+        (
+            5,
+            b":20:R\n:21:I\n:32A:240603EUR1,\n:58D:B\n:50A:ALPHDEFF\n:59A:/1\nBETAFRPP\n",
+        ),
+        (
+            5,
+            b":20:R\n:21:I\n:32A:240603EUR1,\n:58D:/12\nB\n:50F:/1\n1/P\n:59F:1/P\n2/Q\n",
+        ),
+        (
+            5,
+            b":20:R/1\n:21:I/1\n:32A:240603JPY7,\n:58D:B\n:50K:P\n:59:P\n",
+        ),
+    ];
+    assert_eq!(rt; first_refused(rt.alloc(), &rows)?, None);
     Ok(())
 }
 
 #[test]
 fn an_option_that_no_place_has_is_misplaced(rt: HostRuntime) -> Result<(), Fail> {
-    let tables = tables(rt.alloc())?;
-    let rows: [(usize, &[u8], Code, [u8; 3], u16); 13] = [
+    let rows: [Row; 13] = [
         (1, b":52B:/12\n", P22, *b"52B", 1),
         (1, b":53C:/12\n", P22, *b"53C", 1),
         (1, b":54C:/12\n", P22, *b"54C", 1),
@@ -189,17 +274,13 @@ fn an_option_that_no_place_has_is_misplaced(rt: HostRuntime) -> Result<(), Fail>
         (0, b":23B:CRED\n", P22, *b"23B", 1),
         (2, b":58D:A BANK\n", P22, *b"58D", 1),
     ];
-    for (at, lines, code, tag, nth) in rows {
-        let got = outcome(rt.alloc(), &tables, (at, lines), (5, b""))?;
-        assert_eq!(rt; got, refusal(code, tag, nth));
-    }
+    assert_eq!(rt; first_wrong(rt.alloc(), &rows)?, None);
     Ok(())
 }
 
 #[test]
 fn fields_out_of_order_are_told(rt: HostRuntime) -> Result<(), Fail> {
-    let tables = tables(rt.alloc())?;
-    let rows: [(usize, &[u8], Code, [u8; 3], u16); 17] = [
+    let rows: [Row; 17] = [
         (1, b":56C:/12\n", P22, *b"58A", 1),
         (1, b":57C:/12\n", P22, *b"58A", 1),
         (1, b":33B:EUR1,\n", P22, *b"58A", 1),
@@ -218,17 +299,13 @@ fn fields_out_of_order_are_told(rt: HostRuntime) -> Result<(), Fail> {
         (4, b":72:/B\n:70:FOR B\n", P22, *b"70 ", 1),
         (4, b":33B:EUR1,\n:33B:EUR1,\n", P22, *b"33B", 2),
     ];
-    for (at, lines, code, tag, nth) in rows {
-        let got = outcome(rt.alloc(), &tables, (at, lines), (5, b""))?;
-        assert_eq!(rt; got, refusal(code, tag, nth));
-    }
+    assert_eq!(rt; first_wrong(rt.alloc(), &rows)?, None);
     Ok(())
 }
 
 #[test]
 fn contents_are_tested(rt: HostRuntime) -> Result<(), Fail> {
-    let tables = tables(rt.alloc())?;
-    let rows: [(usize, &[u8], Code, [u8; 3], u16); 14] = [
+    let rows: [Row; 14] = [
         (0, b":13C:/CLSTIME/0915\n", P24, *b"13C", 1),
         (1, b":52A:GAMMGB2L\n", P25, *b"52A", 1),
         (1, b":52A:BETAFR\n", P24, *b"52A", 1),
@@ -244,224 +321,194 @@ fn contents_are_tested(rt: HostRuntime) -> Result<(), Fail> {
         (3, b":56A:BETAFRPP\n", C68, *b"57 ", 0),
         (3, b":56C:/12\n", C68, *b"57 ", 0),
     ];
-    for (at, lines, code, tag, nth) in rows {
-        let got = outcome(rt.alloc(), &tables, (at, lines), (5, b""))?;
-        assert_eq!(rt; got, refusal(code, tag, nth));
-    }
+    assert_eq!(rt; first_wrong(rt.alloc(), &rows)?, None);
     Ok(())
 }
 
 #[test]
 fn the_first_fault_across_the_sequences_is_told(rt: HostRuntime) -> Result<(), Fail> {
-    let tables = tables(rt.alloc())?;
-    let rows: [((usize, &[u8]), (usize, &[u8]), Code, [u8; 3], u16); 9] = [
+    let rows: [Row; 9] = [
         (
-            (1, b":52A:ALPHDEFF\n"),
-            (3, b":52A:ALPHDEFF\n:52A:ALPHDEFF\n"),
+            5,
+            b":20:REF1\n:21:INV7\n:32A:240603EUR1234,5\n:52A:ALPHDEFF\n:58A:BETAFRPP\n:50K:A PAYER\n:52A:ALPHDEFF\n:52A:ALPHDEFF\n:59:/CUST1\nA PAYEE\n",
             P22,
             *b"52A",
             3,
         ),
         (
-            (2, b":72:/A\n"),
-            (4, b":33B:EUR1,\n:72:/B\n"),
+            5,
+            b":20:REF1\n:21:INV7\n:32A:240603EUR1234,5\n:58A:BETAFRPP\n:72:/A\n:50K:A PAYER\n:59:/CUST1\nA PAYEE\n:33B:EUR1,\n:72:/B\n",
             P22,
             *b"72 ",
             2,
         ),
         (
-            (0, b":13C:/A/0915+0100\n:13C:/A/\n"),
-            (1, b":52A:GAMMGB2L\n"),
+            5,
+            b":20:REF1\n:21:INV7\n:13C:/A/0915+0100\n:13C:/A/\n:32A:240603EUR1234,5\n:52A:GAMMGB2L\n:58A:BETAFRPP\n:50K:A PAYER\n:59:/CUST1\nA PAYEE\n",
             P24,
             *b"13C",
             2,
         ),
         (
-            (1, b":57A:GAMMGB2L\n"),
-            (3, b":52A:GAMMGB2L\n"),
+            5,
+            b":20:REF1\n:21:INV7\n:32A:240603EUR1234,5\n:57A:GAMMGB2L\n:58A:BETAFRPP\n:50K:A PAYER\n:52A:GAMMGB2L\n:59:/CUST1\nA PAYEE\n",
             P25,
             *b"57A",
             1,
         ),
         (
-            (1, b":52A:ALPHDEFF\n"),
-            (3, b":52A:GAMMGB2L\n"),
+            5,
+            b":20:REF1\n:21:INV7\n:32A:240603EUR1234,5\n:52A:ALPHDEFF\n:58A:BETAFRPP\n:50K:A PAYER\n:52A:GAMMGB2L\n:59:/CUST1\nA PAYEE\n",
             P25,
             *b"52A",
             2,
         ),
         (
-            (2, b":72:A\nB\nC\nD\nE\nF\n"),
-            (4, b":72:A\nB\nC\nD\nE\nF\nG\n"),
+            5,
+            b":20:REF1\n:21:INV7\n:32A:240603EUR1234,5\n:58A:BETAFRPP\n:72:A\nB\nC\nD\nE\nF\n:50K:A PAYER\n:59:/CUST1\nA PAYEE\n:72:A\nB\nC\nD\nE\nF\nG\n",
             P24,
             *b"72 ",
             2,
         ),
         (
-            (1, b":56D:A BANK\n"),
-            (3, b":57A:ALPHDEFF\n"),
+            5,
+            b":20:REF1\n:21:INV7\n:32A:240603EUR1234,5\n:56D:A BANK\n:58A:BETAFRPP\n:50K:A PAYER\n:57A:ALPHDEFF\n:59:/CUST1\nA PAYEE\n",
             C81,
             *b"57 ",
             0,
         ),
         (
-            (1, b":57A:ALPHDEFF\n"),
-            (3, b":56A:ALPHDEFF\n"),
+            5,
+            b":20:REF1\n:21:INV7\n:32A:240603EUR1234,5\n:57A:ALPHDEFF\n:58A:BETAFRPP\n:50K:A PAYER\n:56A:ALPHDEFF\n:59:/CUST1\nA PAYEE\n",
             C68,
             *b"57 ",
             0,
         ),
         (
-            (1, b":56A:ALPHDEFF\n"),
-            (3, b":56A:ALPHDEFF\n"),
+            5,
+            b":20:REF1\n:21:INV7\n:32A:240603EUR1234,5\n:56A:ALPHDEFF\n:58A:BETAFRPP\n:50K:A PAYER\n:56A:ALPHDEFF\n:59:/CUST1\nA PAYEE\n",
             C81,
             *b"57 ",
             0,
         ),
     ];
-    for (first, second, code, tag, nth) in rows {
-        let got = outcome(rt.alloc(), &tables, first, second)?;
-        assert_eq!(rt; got, refusal(code, tag, nth));
-    }
+    assert_eq!(rt; first_wrong(rt.alloc(), &rows)?, None);
     Ok(())
 }
 
 #[test]
 fn what_is_missing_is_told_before_what_is_wrong(rt: HostRuntime) -> Result<(), Fail> {
-    let tables = tables(rt.alloc())?;
-    let rows: [(&[u8], Code, [u8; 3], u16); 13] = [
+    let rows: [Row; 13] = [
         (
+            5,
             b":21:I\n:32A:240603EUR1,\n:58A:BETAFRPP\n:50K:P\n:59:P\n",
             P23,
             *b"20 ",
             0,
         ),
         (
+            5,
             b":20:R\n:32A:240603EUR1,\n:58A:BETAFRPP\n:50K:P\n:59:P\n",
             P23,
             *b"21 ",
             0,
         ),
         (
+            5,
             b":20:R\n:21:I\n:58A:BETAFRPP\n:50K:P\n:59:P\n",
             P23,
             *b"32A",
             0,
         ),
         (
+            5,
             b":20:R\n:21:I\n:32A:240603EUR1,\n:50K:P\n:59:P\n",
             P23,
             *b"58 ",
             0,
         ),
         (
+            5,
             b":20:R\n:21:I\n:32A:240603EUR1,\n:58D:B\n:59:P\n",
             P23,
             *b"50 ",
             0,
         ),
         (
+            5,
             b":20:R\n:21:I\n:32A:240603EUR1,\n:58D:B\n:50K:P\n",
             P23,
             *b"59 ",
             0,
         ),
-        (b":20:R\n:21:I\n:32A:240603EUR1,\n", P23, *b"58 ", 0),
+        (5, b":20:R\n:21:I\n:32A:240603EUR1,\n", P23, *b"58 ", 0),
         (
+            5,
             b":20:R/\n:21:I/\n:32A:240699EUR0,\n:58D:B\n:50K:P\n",
             P23,
             *b"59 ",
             0,
         ),
         (
+            5,
             b":20:R\n:21:I\n:32A:240603EUR1,\n:58C:/12\n:50K:P\n:59:P\n",
             P22,
             *b"58C",
             1,
         ),
         (
+            5,
             b":20:R\n:21:I\n:32A:240603EUR1,\n:58B:/12\n:50K:P\n:59:P\n",
             P22,
             *b"58B",
             1,
         ),
         (
+            5,
             b":20:R/\n:21:I/\n:32A:240603XAU1,\n:58D:B\n:50K:P\n:59:P\n",
             T26,
             *b"20 ",
             1,
         ),
         (
+            5,
             b":20:R\n:21:/I\n:32A:240603XAU1,\n:58D:B\n:50K:P\n:59:P\n",
             T26,
             *b"21 ",
             1,
         ),
         (
+            5,
             b":20:R\n:21:I\n:32A:240603EUR1,\n:56A:ALPHDEFF\n:58D:B\n:50K:P\n:56A:ALPHDEFF\n:59:P\n:70:A\nB\nC\nD\nE\n",
             P24,
             *b"70 ",
             1,
         ),
     ];
-    for (text, code, tag, nth) in rows {
-        let got = refused(rt.alloc(), &tables, text)?;
-        assert_eq!(rt; got, refusal(code, tag, nth));
-    }
+    assert_eq!(rt; first_wrong(rt.alloc(), &rows)?, None);
     Ok(())
-}
-
-#[test]
-fn parties_of_every_option_are_read(rt: HostRuntime) -> Result<(), Fail> {
-    let tables = tables(rt.alloc())?;
-    let rows: [&[u8]; 3] = [
-        b":20:R\n:21:I\n:32A:240603EUR1,\n:58D:B\n:50A:ALPHDEFF\n:59A:/1\nBETAFRPP\n",
-        b":20:R\n:21:I\n:32A:240603EUR1,\n:58D:/12\nB\n:50F:/1\n1/P\n:59F:1/P\n2/Q\n",
-        b":20:R/1\n:21:I/1\n:32A:240603JPY7,\n:58D:B\n:50K:P\n:59:P\n",
-    ];
-    for text in rows {
-        assert_eq!(rt; refused(rt.alloc(), &tables, text)?, None);
-    }
-    Ok(())
-}
-
-// A cover with this content in 20, 21 or 32A.
-fn heading(alloc: Global, place: usize, content: &[u8]) -> Result<Text, Memory> {
-    let mut text = Text::from_bytes(alloc, b":20:")?;
-    text.push(if place == 0 { content } else { b"R" })?;
-    text.push(b"\n:21:")?;
-    text.push(if place == 1 { content } else { b"I" })?;
-    text.push(b"\n:32A:")?;
-    text.push(if place == 2 { content } else { b"240603EUR1," })?;
-    text.push(b"\n:58A:BETAFRPP\n:50K:P\n:59:P\n")?;
-    Ok(text)
 }
 
 #[test]
 fn references_dates_and_amounts_are_tested(rt: HostRuntime) -> Result<(), Fail> {
-    let tables = tables(rt.alloc())?;
-    let rows: [(usize, &[u8], Code, [u8; 3]); 15] = [
-        (1, b"I/", T26, *b"21 "),
-        (1, b"I//J", T26, *b"21 "),
-        (1, b"ABCDEFGHIJKLMNOPQ", P24, *b"21 "),
-        (1, b"I\nJ", P24, *b"21 "),
-        (2, b"240603EUR", P24, *b"32A"),
-        (2, b"2406031EUR1,", P24, *b"32A"),
-        (2, b"240631XAU1,", T50, *b"32A"),
-        (2, b"240603XAU1,", C08, *b"32A"),
-        (2, b"240603XPT1,", C08, *b"32A"),
-        (2, b"240603USD1", T52, *b"32A"),
-        (2, b"240603EUR1234", T40, *b"32A"),
-        (2, b"240603EUR123456789012345,", T43, *b"32A"),
-        (2, b"240603JPY1,5", C03, *b"32A"),
-        (2, b"240603EUR99999999999999,", P27, *b"32A"),
-        (2, b"240603EUR0,", P26, *b"32A"),
+    let rows: [Row; 15] = [
+        (21, b"I/", T26, *b"21 ", 1),
+        (21, b"I//J", T26, *b"21 ", 1),
+        (21, b"ABCDEFGHIJKLMNOPQ", P24, *b"21 ", 1),
+        (21, b"I\nJ", P24, *b"21 ", 1),
+        (32, b"240603EUR", P24, *b"32A", 1),
+        (32, b"2406031EUR1,", P24, *b"32A", 1),
+        (32, b"240631XAU1,", T50, *b"32A", 1),
+        (32, b"240603XAU1,", C08, *b"32A", 1),
+        (32, b"240603XPT1,", C08, *b"32A", 1),
+        (32, b"240603USD1", T52, *b"32A", 1),
+        (32, b"240603EUR1234", T40, *b"32A", 1),
+        (32, b"240603EUR123456789012345,", T43, *b"32A", 1),
+        (32, b"240603JPY1,5", C03, *b"32A", 1),
+        (32, b"240603EUR99999999999999,", P27, *b"32A", 1),
+        (32, b"240603EUR0,", P26, *b"32A", 1),
     ];
-    for (place, content, code, tag) in rows {
-        let text = heading(rt.alloc(), place, content)?;
-        let got = refused(rt.alloc(), &tables, text.bytes())?;
-        assert_eq!(rt; got, refusal(code, tag, 1));
-    }
+    assert_eq!(rt; first_wrong(rt.alloc(), &rows)?, None);
     Ok(())
 }
 
@@ -477,9 +524,30 @@ fn rewritten(alloc: Global, tables: &RefTables, text: &[u8]) -> Result<Text, Fai
     Ok(written?)
 }
 
+fn first_unlike_of(
+    alloc: Global,
+    tables: &RefTables,
+    rows: &[(&[u8], &[u8])],
+) -> Result<Option<usize>, Fail> {
+    for (i, row) in rows.iter().enumerate() {
+        let written = rewritten(alloc, tables, row.0)?;
+        if written.bytes() != row.1 {
+            return Ok(Some(i));
+        }
+    }
+    Ok(None)
+}
+
+// The first row whose cover is written otherwise.
+fn first_unlike(alloc: Global, rows: &[(&[u8], &[u8])]) -> Result<Option<usize>, Fail> {
+    let tables = tables(alloc)?;
+    let unlike = first_unlike_of(alloc, &tables, rows);
+    let_go(tables);
+    unlike
+}
+
 #[test]
 fn a_cover_is_written_in_the_order_of_its_places(rt: HostRuntime) -> Result<(), Fail> {
-    let tables = tables(rt.alloc())?;
     let rows: [(&[u8], &[u8]); 3] = [
         (
             b":20:P00000001K2\n:21:P00000001K1\n:32A:240603EUR1234,5\n:58A:BETAFRPPXXX\n:50K:A PAYER\n:52A:ALPHDEFF\n:59:/CUST9\nA PAYEE\n:33B:EUR1234,5\n",
@@ -494,9 +562,6 @@ fn a_cover_is_written_in_the_order_of_its_places(rt: HostRuntime) -> Result<(), 
             b":20:R\r\n:21:I\r\n:32A:991231EUR0,01\r\n:58D:C\r\n:72:A\r\n:50F:/1\r\n1/P\r\n2/Q\r\n:52A:BETAFRPP\r\n:56C:/12\r\n:57B:PARIS\r\n:59A:/1\r\nBETAFRPP\r\n:70:FOR\r\nB\r\n:72:A\r\n:33B:JPY0,\r\n",
         ),
     ];
-    for (text, want) in rows {
-        let written = rewritten(rt.alloc(), &tables, text)?;
-        assert_eq!(rt; written.bytes(), want);
-    }
+    assert_eq!(rt; first_unlike(rt.alloc(), &rows)?, None);
     Ok(())
 }
