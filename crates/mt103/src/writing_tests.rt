@@ -1,5 +1,8 @@
 //! Transfers written from what was read.
 
+ghost use Rattle.std.specs.Prelude.{IsTrue};
+ghost use Rattle.ref_tables.specs.Seen.{few_decimals};
+
 use crate::tests::{cut, let_go, tables};
 use crate::{put_mt103, read_mt103};
 use corr_text::Text;
@@ -9,7 +12,9 @@ use std::alloc::Global;
 use std::test::Fail;
 
 // The transfer of a text, written; none where the text says no transfer.
-fn written(alloc: Global, tables: &RefTables, text: &[u8]) -> Result<Option<Text>, FieldFault> {
+fn written(alloc: Global, tables: &RefTables, text: &[u8]) -> Result<Option<Text>, FieldFault>
+    requires { IsTrue (few_decimals tables.now.ccys) }
+{
     let fields = cut(alloc, text)?;
     match read_mt103(alloc, fields.as_slice(), tables) {
         Ok(m) => {
