@@ -1,51 +1,41 @@
 //! Advices written from what was read.
 
-ghost use Rattle.std.specs.Prelude.{◌≤◌, All, IfOk, length};
-ghost use Rattle.fin_fields.specs.Writing.{IsField};
+ghost use Rattle.std.specs.Prelude.{IsTrue};
+ghost use Rattle.ref_tables.specs.Seen.{few_decimals};
 
+use crate::tests::{cut, let_go, tables};
 use crate::{put_mt900, put_mt910, read_mt900, read_mt910};
-use corr_text::{List, Text};
-use fin_fields::{Field, FieldFault, cut_fields};
-use ref_tables::{RefTables, TableFault, read_tables};
+use corr_text::Text;
+use fin_fields::FieldFault;
+use ref_tables::RefTables;
 use std::alloc::Global;
 use std::test::Fail;
 
-fn tables(alloc: Global) -> Result<RefTables, TableFault> {
-    read_tables(
-        alloc,
-        b"HOMEUS33\nALPHDEFF\nBETAFRPP\n",
-        b"EUR,2\nJPY,0\nKWD,3\n",
-        b"DE,Y\n",
-    )
-}
-
-fn cut(alloc: Global, text: &[u8]) -> Result<List<Field>, FieldFault>
-    ensures few { IfOk result (λ fields. length fields ≤ 1000) }
-    ensures fit { IfOk result (λ fields. All IsField fields) }
-{
-    if text.len() > 1000 {
-        return Err(FieldFault::Memory);
-    }
-    let fields = cut_fields(alloc, text)?;
-    if fields.as_slice().len() > 1000 {
-        return Err(FieldFault::Memory);
-    }
-    Ok(fields)
-}
-
 // The confirmation of a text, written; none where the text says none.
-fn debit(alloc: Global, tables: &RefTables, text: &[u8]) -> Result<Option<Text>, FieldFault> {
+fn debit(alloc: Global, tables: &RefTables, text: &[u8]) -> Result<Option<Text>, FieldFault>
+    requires { IsTrue (few_decimals tables.now.ccys) }
+{
     let fields = cut(alloc, text)?;
     match read_mt900(alloc, fields.as_slice(), tables) {
-        Ok(m) => Ok(Some(put_mt900(alloc, &m)?)),
+        Ok(m) => {
+            let text = put_mt900(alloc, &m);
+            let_go(m);
+            Ok(Some(text?))
+        }
         Err(_) => Ok(None),
     }
 }
 
-fn credit(alloc: Global, tables: &RefTables, text: &[u8]) -> Result<Option<Text>, FieldFault> {
+fn credit(alloc: Global, tables: &RefTables, text: &[u8]) -> Result<Option<Text>, FieldFault>
+    requires { IsTrue (few_decimals tables.now.ccys) }
+{
     let fields = cut(alloc, text)?;
     match read_mt910(alloc, fields.as_slice(), tables) {
-        Ok(m) => Ok(Some(put_mt910(alloc, &m)?)),
+        Ok(m) => {
+            let text = put_mt910(alloc, &m);
+            let_go(m);
+            Ok(Some(text?))
+        }
         Err(_) => Ok(None),
     }
 }
