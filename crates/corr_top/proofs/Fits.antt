@@ -1,5 +1,5 @@
 -- The pay of a message fits the accounts.
-use Rattle.std.proofs.Common.{◌≡◌, ◌≢◌, ℕ, ◌<◌, Bool, true, false, Option, Some, None, sym, ◌∙◌, subst, arith, eqb}
+use Rattle.std.proofs.Common.{◌≡◌, ◌≢◌, ℕ, ◌<◌, Bool, true, false, List, Option, Some, None, sym, ◌∙◌, subst, arith, eqb}
 use Rattle.std.specs.Prelude.{not, ◌&&◌}
 use Rattle.std.proofs.lemmas.Bool.{and_parts, eqb-true, false≢true}
 use Rattle.std.proofs.lemmas.Bool.Decides.{nat_tests}
@@ -10,10 +10,9 @@ use Rattle.day_model.specs.declared.account.Account.{Account}
 use Rattle.day_model.specs.declared.account.AcctNo.{AcctNo}
 use Rattle.day_model.specs.Chart.{Chart, IsListed, account_at, is_ccy, customer, vostro}
 use Rattle.day_model.specs.Fit.{is_listed, same_ccy, amounts_fit, FitsAccounts}
-use Rattle.corr_top.specs.declared.value.Value.{Value}
-use Rattle.corr_top.specs.Interim.{Form}
-use Rattle.corr_top.specs.declared.verdict.Opened.{Opened}
-use Rattle.corr_top.specs.Message.{fits_vostro, fits_customer, pay_of}
+use Rattle.corr_ids.specs.declared.envelope.Envelope.{Envelope}
+use Rattle.mt103.specs.declared.message.Mt103.{Mt103}
+use Rattle.corr_top.specs.Interim.{fits_vostro, fits_customer, pay_of}
 
 all_of : (a b : Bool) → a ≡ true → b ≡ true → (a && b) ≡ true
 all_of true b x y = y
@@ -48,12 +47,12 @@ amounts n above below = grind (arith, nat_tests)
 distinct : (m n : ℕ) → m ≢ n → not (eqb m n) ≡ true
 distinct m n ne = grind (arith, nat_tests)
 
-pub fits : (chart : Chart) (o : Opened) (form : Form) (value : Value) (debit credit : AcctNo) → IsListed chart debit.0 → IsListed chart credit.0
-    → fits_vostro value.amount (account_at chart debit.0) ≡ true → fits_customer value.amount (account_at chart credit.0) ≡ true
-    → 0 < value.amount.minor.0 → value.amount.minor.0 < 100000000000000 → FitsAccounts chart (pay_of chart o form value debit credit)
+pub fits : (chart : Chart) (envelope : Envelope) (text : List ℕ) (m : Mt103) (debit credit : AcctNo) → IsListed chart debit.0 → IsListed chart credit.0
+    → fits_vostro m.amount (account_at chart debit.0) ≡ true → fits_customer m.amount (account_at chart credit.0) ≡ true
+    → 0 < m.amount.minor.0 → m.amount.minor.0 < 100000000000000 → FitsAccounts chart (pay_of chart envelope text m debit credit)
 unfolding pay_of
-fits chart o form value debit credit dl cl v c above below =
-    let n = value.amount.minor.0 in
-    let other : debit.0 ≢ credit.0 = λ e. apart value.amount (account_at chart credit.0) (subst (λ k. fits_vostro value.amount (account_at chart k) ≡ true) e v) c in
-    let accounts = all_of _ _ (all_of _ _ (all_of _ _ (listed chart debit.0 dl) (listed chart credit.0 cl)) (distinct debit.0 credit.0 other)) (one_ccy value.amount (account_at chart debit.0) (account_at chart credit.0) v c) in
+fits chart envelope text m debit credit dl cl v c above below =
+    let n = m.amount.minor.0 in
+    let other : debit.0 ≢ credit.0 = λ e. apart m.amount (account_at chart credit.0) (subst (λ k. fits_vostro m.amount (account_at chart k) ≡ true) e v) c in
+    let accounts = all_of _ _ (all_of _ _ (all_of _ _ (listed chart debit.0 dl) (listed chart credit.0 cl)) (distinct debit.0 credit.0 other)) (one_ccy m.amount (account_at chart debit.0) (account_at chart credit.0) v c) in
     all_of _ _ (amounts n above below) accounts

@@ -1,6 +1,5 @@
 pub mod KnownParts
 pub mod MessageFiles
-pub mod TextSizes
 pub mod Lookups
 pub mod Fits
 pub mod Turns

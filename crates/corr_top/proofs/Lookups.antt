@@ -17,7 +17,7 @@ use Rattle.day_model.specs.Chart.{Chart, IsListed, account_at, number_of_first, 
 use Rattle.day_model.specs.Next.{has_mir, entered_at}
 use Rattle.day_model.specs.Same.{is_mt, is_uetr, is_same_pay, reply_at, reply_to}
 use Rattle.day_model.proofs.Places.{position_from-within}
-use Rattle.corr_top.specs.Message.{fits_vostro}
+use Rattle.corr_top.specs.Interim.{fits_vostro}
 
 -- what is found passes the test, and stands there
 pub found_passes : {A : Type 0} (t : A → Bool) (i k n : ℕ) (xs : List A) → k ≡ i + n → position_from t i xs ≡ Some k → (x : A) × (slice_get xs n ≡ Some x) × (t x ≡ true)

@@ -19,8 +19,9 @@ use Rattle.day_model.specs.Next.{entered_at, entry_of, next_history, fold_of}
 use Rattle.day_model.specs.Same.{reply_at, reply_to, is_same_pay}
 use Rattle.day_model.proofs.Growth.{places_stay, stays_legal, next_begins}
 use Rattle.day_model.proofs.Places.{position_from-within}
-use Rattle.corr_top.specs.Message.{pays_in, reply_in, replies_in}
-use Rattle.corr_top.specs.Verdict.{Refused}
+use Rattle.corr_top.specs.Message.{pays_in, replies_in, reply_for, reply_in}
+use Rattle.corr_top.specs.declared.message.NoPay.{NoPay}
+use Rattle.corr_top.specs.declared.message.NoPay.TheVariants as no_pay
 use Rattle.corr_report.specs.Report.{NamesPlace}
 use Rattle.ref_tables.specs.Seen.{Tables}
 use Rattle.corr_top.specs.Message.{message_of, readings_of}
@@ -66,9 +67,14 @@ named_from pay entries (Some place) r at is =
     let w = position_from-within _ 1 place entries at in
     named_at pay place entries (slice_get entries (place - 1)) r (w.0, omega (arith, w.1)) is
 
-names_place : (entries : List Entry) (reading : Result Pay Refused) (r : Reply) → reply_in entries reading ≡ Some r → NamesPlace entries r
+-- a message without a pay names none
+names_none : (entries : List Entry) (why : NoPay) → NamesPlace entries (reply_for why)
+names_none entries (no_pay.Refused mir fault) = tt
+names_none entries (no_pay.Unrouted mir code) = tt
+
+names_place : (entries : List Entry) (reading : Result Pay NoPay) (r : Reply) → reply_in entries reading ≡ Some r → NamesPlace entries r
 names_place entries (Ok pay) r is = named_from pay entries (entered_at pay.mir entries) r refl is
-names_place entries (Err refused) r is = subst (NamesPlace entries) (same_Some _ r is) tt
+names_place entries (Err why) r is = subst (NamesPlace entries) (same_Some _ r is) (names_none entries why)
 
 place_stays : (entries more : List Entry) (r : Reply) → NamesPlace entries r → NamesPlace (entries ++ more) r
 place_stays entries more (reply.Entered mir place) (low, high) = (low, omega (arith, length-append {A = Entry}))
@@ -103,14 +109,14 @@ longer_next chart entries pay day =
     ]
 
 -- so far: the history and the replies of the readings of all messages but the rest
-pub record Answered (chart : Chart) (day : Day) (all rest : List (Result Pay Refused)) (entries : List Entry) (replies : List Reply) : Type 0 where
+pub record Answered (chart : Chart) (day : Day) (all rest : List (Result Pay NoPay)) (entries : List Entry) (replies : List Reply) : Type 0 where
   pub legal : IsLegal chart entries
   pub latest : IsLatest entries day
   pub history : fold_of chart [] (pays_in all) day ≡ fold_of chart entries (pays_in rest) day
   pub told : (more : List Entry) → replies_in (entries ++ more) all ≡ replies ++ replies_in (entries ++ more) rest
   pub places : All (NamesPlace entries) replies
 
-pub before_all : (chart : Chart) (day : Day) (all : List (Result Pay Refused)) → Answered chart day all all [] []
+pub before_all : (chart : Chart) (day : Day) (all : List (Result Pay NoPay)) → Answered chart day all all [] []
 before_all chart day all = record {
   legal = record {
     short = omega arith;
@@ -125,7 +131,7 @@ before_all chart day all = record {
   places = λ k d within. absurd (omega arith);
 }
 
-one_more : (chart : Chart) (day : Day) (all rest : List (Result Pay Refused)) (pay : Pay) (entries after : List Entry) (replies : List Reply) (r : Reply)
+one_more : (chart : Chart) (day : Day) (all rest : List (Result Pay NoPay)) (pay : Pay) (entries after : List Entry) (replies : List Reply) (r : Reply)
     → Answered chart day all (Ok pay ∷ rest) entries replies → length entries < 100000 → FitsAccounts chart pay
     → after ≡ next_history chart entries pay day → reply_to pay after ≡ Some r → Answered chart day all rest after (replies ++ r ∷ [])
 one_more chart day all rest pay entries after replies r so_far room fits is told =
@@ -152,31 +158,31 @@ one_more chart day all rest pay entries after replies r so_far room fits is told
         here ∙ ap (λ xs. replies ++ xs) first ∙ sym (append_assoc replies (r ∷ []) (replies_in (after ++ more) rest))
 
 -- the next message is answered
-pub next_answered : (chart : Chart) (day : Day) (all rest : List (Result Pay Refused)) (reading : Result Pay Refused) (entries after : List Entry) (replies : List Reply) (r : Reply)
+pub next_answered : (chart : Chart) (day : Day) (all rest : List (Result Pay NoPay)) (reading : Result Pay NoPay) (entries after : List Entry) (replies : List Reply) (r : Reply)
     → Answered chart day all (reading ∷ rest) entries replies → length entries < 100000 → IsFit chart reading
     → after ≡ history_after chart day entries reading → reply_in after reading ≡ Some r → Answered chart day all rest after (replies ++ r ∷ [])
 next_answered chart day all rest (Ok pay) entries after replies r so_far room fit is told = one_more chart day all rest pay entries after replies r so_far room fit is told
-next_answered chart day all rest (Err refused) entries after replies r so_far room fit is told =
+next_answered chart day all rest (Err why) entries after replies r so_far room fit is told =
     let reply_is = same_Some _ r told in
     record {
       legal = subst (IsLegal chart) (sym is) so_far.legal;
       latest = subst (λ es. IsLatest es day) (sym is) so_far.latest;
       history = so_far.history ∙ ap (λ es. fold_of chart es (pays_in rest) day) (sym is);
       told = λ more. subst (λ es. replies_in (es ++ more) all ≡ (replies ++ r ∷ []) ++ replies_in (es ++ more) rest) (sym is) (refused_more reply_is more);
-      places = subst (λ es. All (NamesPlace es) (replies ++ r ∷ [])) (sym is) (All-append (NamesPlace entries) replies (r ∷ []) so_far.places (all_one entries r (names_place entries (Err refused) r told)));
+      places = subst (λ es. All (NamesPlace es) (replies ++ r ∷ [])) (sym is) (All-append (NamesPlace entries) replies (r ∷ []) so_far.places (all_one entries r (names_place entries (Err why) r told)));
     }
   where
-    refused_more : reply.Refused refused.0 refused.1 ≡ r → (more : List Entry) → replies_in (entries ++ more) all ≡ (replies ++ r ∷ []) ++ replies_in (entries ++ more) rest
+    refused_more : reply_for why ≡ r → (more : List Entry) → replies_in (entries ++ more) all ≡ (replies ++ r ∷ []) ++ replies_in (entries ++ more) rest
     refused_more reply_is more =
         so_far.told more ∙ ap (λ x. replies ++ (x ∷ replies_in (entries ++ more) rest)) reply_is ∙ sym (append_assoc replies (r ∷ []) (replies_in (entries ++ more) rest))
 
 -- and adds at most one entry
-few_more : (chart : Chart) (day : Day) (reading : Result Pay Refused) (entries after : List Entry) → after ≡ history_after chart day entries reading → length after ≤ length entries + 1
+few_more : (chart : Chart) (day : Day) (reading : Result Pay NoPay) (entries after : List Entry) → after ≡ history_after chart day entries reading → length after ≤ length entries + 1
 few_more chart day (Ok pay) entries after is = let l = longer_next chart entries pay day in omega (arith, l, ap length is)
-few_more chart day (Err refused) entries after is = omega (arith, ap length is)
+few_more chart day (Err why) entries after is = omega (arith, ap length is)
 
 -- nothing is left
-pub all_answered : (chart : Chart) (day : Day) (all : List (Result Pay Refused)) (entries : List Entry) (replies : List Reply) → Answered chart day all [] entries replies
+pub all_answered : (chart : Chart) (day : Day) (all : List (Result Pay NoPay)) (entries : List Entry) (replies : List Reply) → Answered chart day all [] entries replies
     → (entries ≡ fold_of chart [] (pays_in all) day) × (replies ≡ replies_in (fold_of chart [] (pays_in all) day) all)
 all_answered chart day all entries replies so_far =
     let told = so_far.told [] in
@@ -184,7 +190,7 @@ all_answered chart day all entries replies so_far =
     (sym so_far.history, sym (subst (λ es. replies_in es all ≡ replies) (sym so_far.history) here))
 
 -- a message is answered
-pub message_answered : (t : Tables) (chart : Chart) (day : Day) (all : List (Result Pay Refused)) (message : List ℕ) (rest : List (List ℕ)) (entries after : List Entry) (replies more : List Reply)
+pub message_answered : (t : Tables) (chart : Chart) (day : Day) (all : List (Result Pay NoPay)) (message : List ℕ) (rest : List (List ℕ)) (entries after : List Entry) (replies more : List Reply)
     → Answered chart day all (readings_of t chart (message ∷ rest)) entries replies → length entries < 100000
     → Turned t chart day message entries after replies more
     → Answered chart day all (readings_of t chart rest) after more

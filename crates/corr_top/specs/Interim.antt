@@ -1,104 +1,97 @@
--- The one form of message that is booked today: an MT103 with the fields 20, 23B, 32A, 50K, 59 and 71A.
-use Rattle.std.specs.Prelude.{ℕ, ◌-◌, ◌==◌, ◌&&◌, ◌||◌, Bool, false, not, List, [], ◌∷◌, length, nat_le, slice_index, Option, Some, None, option_and_then, codes, if◌then◌else◌}
-use Rattle.std.specs.List.{list_all}
-use Rattle.std.specs.Str.{bytes_eq}
-use Rattle.corr_text.specs.Sets.{is_c_byte}
-use Rattle.fin_fields.specs.Faults.{letter_of}
-use Rattle.fin_fields.specs.declared.field.Field.{Field}
-use Rattle.corr_top.specs.declared.verdict.Opened.{Opened}
+-- The route of a transfer: between an account of its sender and a customer's account. A transfer of another kind has none.
+use Rattle.std.specs.Prelude.{◌≡◌, ℕ, ◌==◌, ◌&&◌, ◌||◌, not, Bool, false, List, [], ◌∷◌, drop, Option, Some, None, is_some, option_and_then, option_map, unwrap_or, Result, Ok, Err, if◌then◌else◌}
+use Rattle.corr_text.specs.First.{check, or_fault, ◌>>=◌}
+use Rattle.corr_text.specs.declared.fault.Code.{Code}
+use Rattle.corr_ids.specs.declared.envelope.Envelope.{Envelope}
+use Rattle.corr_ids.specs.declared.mir.Mir.{Mir}
+use Rattle.corr_money.specs.declared.amount.Amount.{Amount}
+use Rattle.day_model.specs.declared.account.Account.{Account}
+use Rattle.day_model.specs.declared.account.AcctNo.{AcctNo}
+use Rattle.day_model.specs.declared.pay.Pay.{Pay}
+use Rattle.day_model.specs.declared.pay.Leg.{Leg}
+use Rattle.day_model.specs.declared.pay.Mt.TheVariants.{Transfer}
+use Rattle.day_model.specs.declared.pay.Side.{Side}
+use Rattle.day_model.specs.declared.pay.Side.TheVariants.{Debit, Credit}
+use Rattle.day_model.specs.declared.pay.Order.{Order}
+use Rattle.day_model.specs.declared.pay.Order.TheVariants as order
+use Rattle.day_model.specs.declared.pay.Quote.TheVariants.{Theirs}
+use Rattle.day_model.specs.Chart.{Chart, account_at, customer, has_id, is_ccy, is_owned, number_of_first, vostro}
+use Rattle.fin_parties.specs.declared.party.Party.{Party}
+use Rattle.fin_parties.specs.declared.party.Party.TheVariants as party
+use Rattle.mt103.specs.declared.message.Mt103.{Mt103}
+use Rattle.corr_top.specs.declared.interim.PlanFault.{PlanFault}
+use Rattle.corr_top.specs.declared.interim.PlanFault.TheVariants as fault
+use Rattle.corr_top.specs.declared.interim.TheConstants.{P90}
 
-infixl 10 ◌>>=◌
-abbrev ◌>>=◌ : {A B : Type 0} → Option A → (A → Option B) → Option B
-o >>= f = option_and_then f o
+-- 53a, 54a, 56a or 57a is there
+abbrev pub is_routed : Mt103 → Bool
+is_routed m = is_some m.p53 || is_some m.p54 || is_some m.p56 || is_some m.p57
 
--- 1 to n bytes
-abbrev pub is_long : ℕ → List ℕ → Bool
-is_long n bs = nat_le 1 (length bs) && nat_le (length bs) n
+-- the account of 59a: what stands behind the slash of its first line
+abbrev pub payee_account : Party → Option (List ℕ)
+payee_account (party.K account lines) = account
+payee_account (party.A line bic) = option_map (drop 1) line
+payee_account (party.F line lines) = option_map (drop 1) line
+payee_account _ = None
 
--- a reference: 1 to 16 bytes, no `/` at either end and no `//`
-abbrev pub has_double_slash : List ℕ → Bool
-has_double_slash (a ∷ b ∷ bs) = ((a == 47) && (b == 47)) || has_double_slash (b ∷ bs)
-has_double_slash _ = false
+-- a customer's account that an amount fits
+abbrev pub fits_customer : Amount → Option Account → Bool
+fits_customer amount (Some account) = (account.kind == customer) && is_ccy account.ccy amount.ccy && (account.decimals == amount.decimals)
+fits_customer amount None = false
 
-abbrev pub is_reference : List ℕ → Bool
-is_reference bs = is_long 16 bs && not (slice_index bs 0 == 47) && not (slice_index bs (length bs - 1) == 47) && not (has_double_slash bs)
+-- the account with this id, where it is such an account
+abbrev pub customer_account : Chart → List ℕ → Amount → Option AcctNo
+customer_account chart id amount =
+    option_and_then (λ n. if fits_customer amount (account_at chart n.0) then Some n else None) (number_of_first (has_id id) chart.accounts)
 
--- a name or an address in one line: it begins with none of `/`, `:` and `-`
-abbrev pub is_name : List ℕ → Bool
-is_name bs = is_long 35 bs && not (slice_index bs 0 == 47) && not (slice_index bs 0 == 58) && not (slice_index bs 0 == 45)
+-- the vostro account of the bank with this head that an amount fits
+abbrev pub vostro_account : Chart → List ℕ → Amount → Option AcctNo
+vostro_account chart head amount = number_of_first (is_owned vostro head amount.ccy amount.decimals) chart.accounts
 
--- an account's id
-abbrev pub is_account : List ℕ → Bool
-is_account bs = is_long 34 bs && list_all is_c_byte bs
+-- the account with this number is a vostro account that an amount fits
+abbrev pub fits_vostro : Amount → Option Account → Bool
+fits_vostro amount (Some account) = (account.kind == vostro) && is_ccy account.ccy amount.ccy && (account.decimals == amount.decimals)
+fits_vostro amount None = false
 
--- a field of this tag and letter, or of none where the letter is a space
-abbrev pub has_tag : ℕ → ℕ → Field → Bool
-has_tag tag letter f = (f.tag == tag) && (letter_of f == letter)
+-- an advice to the owner of the debited account
+abbrev pub orders_for : Option Account → List Order
+orders_for (Some account) = order.Debit account.owner 1 ∷ []
+orders_for None = []
 
-abbrev pub single : List (List ℕ) → Option (List ℕ)
-single (line ∷ []) = Some line
-single _ = None
+-- a leg quotes field 20
+abbrev pub leg_of : AcctNo → Side → Mt103 → Leg
+leg_of account side m = record { account = account; side = side; amount = m.amount.minor; quote = Theirs m.reference }
 
--- the line of such a field, where it has one
-abbrev pub line_of : ℕ → ℕ → Field → Option (List ℕ)
-line_of tag letter f = if has_tag tag letter f then single f.lines else None
+-- the reference of a message; a received one has it
+abbrev pub mir_in : Envelope → Mir
+mir_in envelope = unwrap_or envelope.mir (record { 0 = [] })
 
--- the payee: an account behind `/`, and a name
-pub record Payee : Type 0 where
-  pub account : List ℕ
-  pub name : List ℕ
+-- the pay between two accounts: a debit, a credit, and an advice of the debit
+unfoldable pub pay_of : Chart → Envelope → List ℕ → Mt103 → AcctNo → AcctNo → Pay
+pay_of chart envelope text m debit credit = record {
+  mir = mir_in envelope;
+  mt = Transfer;
+  uetr = envelope.uetr;
+  text = text;
+  value = m.value;
+  legs = leg_of debit Debit m ∷ leg_of credit Credit m ∷ [];
+  orders = orders_for (account_at chart debit.0);
+}
 
-abbrev pub behind_slash : List ℕ → List ℕ → Option Payee
-behind_slash [] name = None
-behind_slash (b ∷ account) name = if b == 47 then Some (record { account = account; name = name }) else None
+-- the pay of a valid transfer, or why it has no route
+unfoldable pub plan_of : Chart → Envelope → List ℕ → Mt103 → Result Pay Code
+plan_of chart envelope text m = do
+  _ ← check (not (is_routed m)) P90
+  debit ← or_fault (vostro_account chart envelope.sender.head m.amount) P90
+  id ← or_fault (payee_account m.payee) P90
+  credit ← or_fault (customer_account chart id m.amount) P90
+  Ok (pay_of chart envelope text m debit credit)
 
-abbrev pub payee_in : List (List ℕ) → Option Payee
-payee_in (first ∷ name ∷ []) = behind_slash first name
-payee_in _ = None
+-- an answer is the plan that is meant, or want of memory
+abbrev pub FailsAs : PlanFault → Result Pay Code → Type 0
+FailsAs (fault.Code code) meant = meant ≡ Err code
+FailsAs fault.Memory meant = Unit {0}
 
-abbrev pub payee_of : Field → Option Payee
-payee_of f = if has_tag 59 32 f then payee_in f.lines else None
-
--- the contents of the six fields
-pub record Contents : Type 0 where
-  pub reference : List ℕ
-  pub operation : List ℕ
-  pub value : List ℕ
-  pub payer : List ℕ
-  pub payee : Payee
-  pub charges : List ℕ
-
-unfoldable pub six_of : Field → Field → Field → Field → Field → Field → Option Contents
-six_of f20 f23 f32 f50 f59 f71 = do
-  reference ← line_of 20 32 f20
-  operation ← line_of 23 66 f23
-  value ← line_of 32 65 f32
-  payer ← line_of 50 75 f50
-  payee ← payee_of f59
-  charges ← line_of 71 65 f71
-  Some (record { reference = reference; operation = operation; value = value; payer = payer; payee = payee; charges = charges })
-
-abbrev pub contents_of : List Field → Option Contents
-contents_of (f20 ∷ f23 ∷ f32 ∷ f50 ∷ f59 ∷ f71 ∷ []) = six_of f20 f23 f32 f50 f59 f71
-contents_of _ = None
-
--- they are of this form; field 32A is tested later
-abbrev pub are_formed : Contents → Bool
-are_formed c =
-    is_reference c.reference && bytes_eq c.operation (codes "CRED") && is_long 40 c.value && is_name c.payer
-    && is_account c.payee.account && is_name c.payee.name && bytes_eq c.charges (codes "SHA")
-
--- the contents of fields 20, 32A and 59
-pub record Form : Type 0 where
-  pub reference : List ℕ
-  pub value : List ℕ
-  pub account : List ℕ
-
-unfoldable pub form_of : List Field → Option Form
-form_of fields = do
-  c ← contents_of fields
-  if are_formed c then Some (record { reference = c.reference; value = c.value; account = c.payee.account }) else None
-
--- what an MT103 of this form says
-abbrev pub form_in : Opened → Option Form
-form_in o = if o.mt == 103 then form_of o.fields else None
+abbrev pub Plans : Result Pay PlanFault → Result Pay Code → Type 0
+Plans (Ok pay) meant = meant ≡ Ok pay
+Plans (Err e) meant = FailsAs e meant

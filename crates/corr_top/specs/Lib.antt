@@ -4,12 +4,9 @@ pub mod MessageFile
 pub mod Feeding
 pub mod Words
 pub mod Status
-pub mod Verdict
-pub mod Refusals
 pub mod Interim
-pub mod Value
-pub mod Seen
 pub mod Message
+pub mod Replies
 pub mod Answers
 pub mod Turn
 pub mod Told

@@ -9,17 +9,17 @@ use Rattle.day_model.specs.Fit.{FitsAccounts}
 use Rattle.day_model.specs.Next.{next_history}
 use Rattle.ref_tables.specs.Seen.{Tables}
 use Rattle.corr_top.specs.Message.{message_of, reply_in}
-use Rattle.corr_top.specs.Verdict.{Refused}
+use Rattle.corr_top.specs.declared.message.NoPay.{NoPay}
 
 -- the history after a message: a refused one adds nothing
-abbrev pub history_after : Chart → Day → List Entry → Result Pay Refused → List Entry
+abbrev pub history_after : Chart → Day → List Entry → Result Pay NoPay → List Entry
 history_after chart day entries (Ok pay) = next_history chart entries pay day
-history_after chart day entries (Err refused) = entries
+history_after chart day entries (Err why) = entries
 
 -- a pay fits the accounts
-abbrev pub IsFit : Chart → Result Pay Refused → Type 0
+abbrev pub IsFit : Chart → Result Pay NoPay → Type 0
 IsFit chart (Ok pay) = FitsAccounts chart pay
-IsFit chart (Err refused) = Unit {0}
+IsFit chart (Err why) = Unit {0}
 
 -- a message was entered, and its reply added
 pub record Turned (t : Tables) (chart : Chart) (day : Day) (message : List ℕ) (before after : List Entry) (replies more : List Reply) : Type 0 where

@@ -11,7 +11,7 @@ ghost use Rattle.corr_top.specs.Answers.{history_of, replies_of};
 ghost use Rattle.corr_report.specs.Report.{NamesPlace};
 ghost use Rattle.corr_top.specs.Turn.{Turned};
 
-use crate::message::{Refusal, read_message};
+use crate::message::{Stop, read_message, reply_for};
 use corr_ids::Day;
 use corr_text::{Memory, Text};
 use day_model::{Accounts, Entry, History, Pay, Reply, decide};
@@ -94,8 +94,8 @@ fn answer(alloc: Global, books: &Books, answers: &mut Answers, message: &[u8]) -
 {
     let reply = match read_message(alloc, &books.tables, &books.accounts, message) {
         Ok(pay) => enter(books, &mut answers.history, pay)?,
-        Err(Refusal::Refused { mir, fault }) => Reply::Refused { mir, fault },
-        Err(Refusal::Memory) => return Err(Memory),
+        Err(Stop::NoPay(why)) => reply_for(why),
+        Err(Stop::Memory) => return Err(Memory),
     };
     answers.replies.push(reply)?;
     Ok(())

@@ -1,215 +1,218 @@
-//! The one form of message that is booked today (docs/messages.md, "The form of message that is booked today").
+//! The pay of a transfer between an account of its sender and a customer's account: the one route that is known today.
 
-ghost use Rattle.std.specs.Prelude.{◌≡◌, ◌≤◌, option_map, length};
-ghost use Rattle.std.specs.List.{list_all};
-ghost use Rattle.corr_text.specs.Sets.{is_c_byte};
-ghost use Rattle.fin_fields.specs.Faults.{letter_of};
-ghost use Rattle.corr_top.specs.Interim.{are_formed, behind_slash, contents_of, form_in, form_of, has_double_slash, has_tag, is_account, is_long, is_name, is_reference, line_of, payee_in, payee_of, single, six_of};
-ghost use Rattle.corr_top.specs.Seen.{contents_seen, form_seen, payee_seen};
+ghost use Rattle.std.specs.Prelude.{◌≡◌, ◌<◌, drop, IfOk, IfSome, IsSome, IsTrue, Some, [], ◌∷◌, option_map};
+ghost use Rattle.day_model.specs.Chart.{IsListed, account_at};
+ghost use Rattle.day_model.specs.Fit.{FitsAccounts};
+ghost use Rattle.corr_top.specs.Interim.{Plans, customer_account, fits_customer, fits_vostro, is_routed as is_routed_of, leg_of, mir_in, orders_for, pay_of, payee_account as payee_account_of, plan_of, vostro_account};
 
-use crate::verdict::Opened;
-use crate::words::is_word;
-use corr_text::{Set, Text, is_set};
-use fin_fields::Field;
+use corr_ids::{Envelope, Mir};
+use corr_money::Amount;
+use corr_text::{Code, List, Memory, Text};
+use day_model::{Account, Accounts, AcctNo, Leg, Mt, Order, Pay, Quote, Side};
+use fin_parties::Party;
+use mt103::Mt103;
+use std::alloc::Global;
 
-/// The contents of fields 20, 32A and 59 of a message of this form, as parts of its fields.
-#[derive(Clone, Copy)]
-pub struct Form<'a> {
-    pub reference: &'a [u8],
-    pub value: &'a [u8],
-    pub account: &'a [u8],
+/// A transfer with another route than this one.
+pub const P90: Code = Code(*b"P90");
+
+/// Why a transfer has no pay.
+#[derive(Clone, Copy, Debug, PartialEq, Eq)]
+pub enum PlanFault {
+    /// It has no route, with this code.
+    Code(Code),
+    /// There was no memory for the pay.
+    Memory,
 }
 
-/// The two lines of field 59: an account's id, which stands behind `/`, and a name.
-#[derive(Clone, Copy)]
-struct Payee<'a> {
-    account: &'a [u8],
-    name: &'a [u8],
-}
+impl From<Memory> for PlanFault {
+    ghost use Rattle.corr_top.specs.declared.interim.PlanFault.TheVariants.{Memory as NoMemory};
 
-/// The contents of the six fields.
-#[derive(Clone, Copy)]
-struct Contents<'a> {
-    reference: &'a [u8],
-    operation: &'a [u8],
-    value: &'a [u8],
-    payer: &'a [u8],
-    payee: Payee<'a>,
-    charges: &'a [u8],
-}
+    ghost from_gives = { λ _ e. e ≡ NoMemory };
 
-fn is_long(n: usize, b: &[u8]) -> bool
-    ensures { result ≡ is_long n b.now }
-{
-    1 <= b.len() && b.len() <= n
-}
-
-fn has_double_slash(b: &[u8]) -> bool
-    ensures { result ≡ has_double_slash b.now }
-{
-    let mut rest = b;
-    while let [first, more @ ..] = rest {
-        if *first == b'/' && more.first() == Some(&b'/') {
-            return true;
-        }
-        rest = more;
+    fn from(_e: Memory) -> PlanFault {
+        PlanFault::Memory
     }
-    false
 }
 
-fn is_reference(b: &[u8]) -> bool
-    ensures { result ≡ is_reference b.now }
+const CUSTOMER: u8 = b'C';
+
+const VOSTRO: u8 = b'V';
+
+/// Whether a transfer names institutions that would give it another route.
+fn is_routed(m: &Mt103) -> bool
+    ensures { result ≡ is_routed_of m.now }
 {
-    is_long(16, b) && b[0] != b'/' && b[b.len() - 1] != b'/' && !has_double_slash(b)
+    m.p53.is_some() || m.p54.is_some() || m.p56.is_some() || m.p57.is_some()
 }
 
-fn is_name(b: &[u8]) -> bool
-    ensures { result ≡ is_name b.now }
+/// What stands behind the slash of a line.
+fn behind_slash(line: &[u8]) -> &[u8]
+    ensures { result.now ≡ drop 1 line.now }
 {
-    is_long(35, b) && b[0] != b'/' && b[0] != b':' && b[0] != b'-'
+    match line {
+        [_, rest @ ..] => rest,
+        [] => line,
+    }
 }
 
-fn are_capitals_or_digits(b: &[u8]) -> bool
-    ensures { result ≡ list_all is_c_byte b.now }
+fn account_in(line: &Option<Text>) -> Option<&[u8]>
+    ensures { option_map (λ id. id.now) result ≡ option_map (drop 1) line.now }
 {
-    b.iter().all(|c| is_set(Set::C, *c))
+    match line {
+        Some(line) => Some(behind_slash(line.bytes())),
+        None => None,
+    }
 }
 
-fn is_account(b: &[u8]) -> bool
-    ensures { result ≡ is_account b.now }
+/// The account of field 59a.
+fn payee_account(payee: &Party) -> Option<&[u8]>
+    ensures { option_map (λ id. id.now) result ≡ payee_account_of payee.now }
 {
-    is_long(34, b) && are_capitals_or_digits(b)
-}
-
-fn letter(f: &Field) -> u8
-    ensures { result ≡ letter_of f.now }
-{
-    f.letter.unwrap_or(b' ')
-}
-
-/// Whether a field has this tag and letter, a space standing for no letter.
-fn has_tag(tag: u8, of_letter: u8, f: &Field) -> bool
-    ensures { result ≡ has_tag tag of_letter f.now }
-{
-    f.tag == tag && letter(f) == of_letter
-}
-
-fn single(lines: &[Text]) -> Option<&[u8]>
-    ensures { option_map (λ l. l.now) result ≡ single lines.now }
-{
-    match lines {
-        [line] => Some(line.bytes()),
+    match payee {
+        Party::K { account, .. } => match account {
+            Some(account) => Some(account.bytes()),
+            None => None,
+        },
+        Party::A { line, .. } | Party::F { line, .. } => account_in(line),
         _ => None,
     }
 }
 
-/// The line of a field of this tag and letter, where it has one line.
-fn line(tag: u8, of_letter: u8, f: &Field) -> Option<&[u8]>
-    ensures { option_map (λ l. l.now) result ≡ line_of tag of_letter f.now }
+fn fits_customer(account: &Account, amount: &Amount) -> bool
+    ensures { result ≡ fits_customer amount.now (Some account.now) }
 {
-    if !has_tag(tag, of_letter, f) {
-        return None;
-    }
-    single(f.lines.as_slice())
+    account.kind == CUSTOMER && account.ccy == amount.ccy && account.decimals == amount.decimals
 }
 
-fn behind_slash<'a>(first: &'a [u8], name: &'a [u8]) -> Option<Payee<'a>>
-    ensures { option_map payee_seen result ≡ behind_slash first.now name.now }
+/// The customer's account with this id, where an amount fits it.
+fn customer_account(accounts: &Accounts, id: &[u8], amount: &Amount) -> Option<AcctNo>
+    ensures value { result ≡ customer_account accounts.now id.now amount.now }
+    ensures listed { IfSome result (λ n. IsListed accounts.now n.0) }
+    ensures fits { IfSome result (λ n. IsTrue (fits_customer amount.now (account_at accounts.now n.0))) }
 {
-    match first {
-        [b'/', account @ ..] => Some(Payee { account, name }),
-        _ => None,
-    }
-}
-
-fn payee_in(lines: &[Text]) -> Option<Payee<'_>>
-    ensures { option_map payee_seen result ≡ payee_in lines.now }
-{
-    match lines {
-        [first, name] => behind_slash(first.bytes(), name.bytes()),
-        _ => None,
+    let number = accounts.find(id)?;
+    if fits_customer(accounts.get(number), amount) {
+        Some(number)
+    } else {
+        None
     }
 }
 
-fn read_payee(f: &Field) -> Option<Payee<'_>>
-    ensures { option_map payee_seen result ≡ payee_of f.now }
+/// The vostro account of the bank with this head that an amount fits.
+fn vostro_account(accounts: &Accounts, head: &[u8; 8], amount: &Amount) -> Option<AcctNo>
+    ensures value { result ≡ vostro_account accounts.now head.now amount.now }
+    ensures listed { IfSome result (λ n. IsListed accounts.now n.0) }
+    ensures fits { IfSome result (λ n. IsTrue (fits_vostro amount.now (account_at accounts.now n.0))) }
 {
-    if !has_tag(59, b' ', f) {
-        return None;
-    }
-    payee_in(f.lines.as_slice())
+    accounts.owned(VOSTRO, head, amount.ccy, amount.decimals)
 }
 
-/// The contents of six fields, where each has its tag.
-#[tactic(auto, unfolding(crate::specs::Interim::six_of))]
-fn six<'a>(
-    f20: &'a Field,
-    f23: &'a Field,
-    f32: &'a Field,
-    f50: &'a Field,
-    f59: &'a Field,
-    f71: &'a Field,
-) -> Option<Contents<'a>>
-    ensures { option_map contents_seen result ≡ six_of f20.now f23.now f32.now f50.now f59.now f71.now }
+fn make_leg(alloc: Global, account: AcctNo, side: Side, m: &Mt103) -> Result<Leg, Memory>
+    ensures { IfOk result (λ l. l ≡ leg_of account side m.now) }
 {
-    let reference = line(20, b' ', f20)?;
-    let operation = line(23, b'B', f23)?;
-    let value = line(32, b'A', f32)?;
-    let payer = line(50, b'K', f50)?;
-    let payee = read_payee(f59)?;
-    let charges = line(71, b'A', f71)?;
-    Some(Contents {
-        reference,
-        operation,
-        value,
-        payer,
-        payee,
-        charges,
+    Ok(Leg {
+        account,
+        side,
+        amount: m.amount.minor,
+        quote: Quote::Theirs(m.reference.copy(alloc)?),
     })
 }
 
-fn read_contents(fields: &[Field]) -> Option<Contents<'_>>
-    ensures { option_map contents_seen result ≡ contents_of fields.now }
+fn make_legs(alloc: Global, m: &Mt103, debit: AcctNo, credit: AcctNo) -> Result<List<Leg>, Memory>
+    ensures { IfOk result (λ l. l ≡ leg_of debit Side.Debit m.now ∷ leg_of credit Side.Credit m.now ∷ []) }
 {
-    match fields {
-        [f20, f23, f32, f50, f59, f71] => six(f20, f23, f32, f50, f59, f71),
-        _ => None,
+    let mut legs = List::new(alloc);
+    legs.push(make_leg(alloc, debit, Side::Debit, m)?)?;
+    legs.push(make_leg(alloc, credit, Side::Credit, m)?)?;
+    Ok(legs)
+}
+
+/// An advice to the owner of the debited account.
+fn make_orders(alloc: Global, accounts: &Accounts, debit: AcctNo) -> Result<List<Order>, Memory>
+    requires { IsListed accounts.now debit.0 }
+    ensures { IfOk result (λ l. l ≡ orders_for (account_at accounts.now debit.0)) }
+{
+    let mut orders = List::new(alloc);
+    orders.push(Order::Debit {
+        to: accounts.get(debit).owner,
+        leg: 1,
+    })?;
+    Ok(orders)
+}
+
+/// The reference of a received message.
+pub fn reference(envelope: &Envelope) -> Mir
+    requires { IsSome envelope.now.mir }
+    ensures { result ≡ mir_in envelope.now }
+{
+    match envelope.mir {
+        Some(mir) => mir,
+        None => unreachable!(),
     }
 }
 
-fn are_formed(c: &Contents<'_>) -> bool
-    ensures { result ≡ are_formed (contents_seen c.now) }
+/// The pay of a transfer between two accounts: a debit and a credit that quote field 20, and an advice.
+#[tactic(auto, unfolding(crate::specs::Interim::pay_of))]
+fn make_pay(
+    alloc: Global,
+    envelope: &Envelope,
+    text: &Text,
+    m: &Mt103,
+    accounts: &Accounts,
+    debit: AcctNo,
+    credit: AcctNo,
+) -> Result<Pay, Memory>
+    requires received { IsSome envelope.now.mir }
+    requires debit_listed { IsListed accounts.now debit.0 }
+    requires credit_listed { IsListed accounts.now credit.0 }
+    requires debit_fits { IsTrue (fits_vostro m.now.amount (account_at accounts.now debit.0)) }
+    requires credit_fits { IsTrue (fits_customer m.now.amount (account_at accounts.now credit.0)) }
+    requires positive { 0 < m.now.amount.minor.0 }
+    requires small { m.now.amount.minor.0 < 100000000000000 }
+    ensures value { IfOk result (λ p. p ≡ pay_of accounts.now envelope.now text.now m.now debit credit) }
+    ensures fits { IfOk result (FitsAccounts accounts.now) }
 {
-    is_reference(c.reference)
-        && is_word(c.operation, b"CRED")
-        && is_long(40, c.value)
-        && is_name(c.payer)
-        && is_account(c.payee.account)
-        && is_name(c.payee.name)
-        && is_word(c.charges, b"SHA")
-}
-
-#[tactic(auto, unfolding(crate::specs::Interim::form_of))]
-fn form_of_fields(fields: &[Field]) -> Option<Form<'_>>
-    ensures { option_map form_seen result ≡ form_of fields.now }
-{
-    let c = read_contents(fields)?;
-    if !are_formed(&c) {
-        return None;
-    }
-    Some(Form {
-        reference: c.reference,
-        value: c.value,
-        account: c.payee.account,
+    let legs = make_legs(alloc, m, debit, credit)?;
+    let orders = make_orders(alloc, accounts, debit)?;
+    Ok(Pay {
+        mir: reference(envelope),
+        mt: Mt::Transfer,
+        uetr: envelope.uetr,
+        text: text.copy(alloc)?,
+        value: m.value,
+        legs,
+        orders,
     })
 }
 
-/// What a message says, none where it is not an MT103 of this form.
-pub fn read_form(opened: &Opened) -> Option<Form<'_>>
-    ensures { option_map form_seen result ≡ form_in opened.now }
+/// The pay of a valid transfer. P90: it has one of 53a, 54a, 56a and 57a, its sender owns no vostro account in the
+/// amount's currency, or 59a names no customer's account in it.
+#[tactic(auto, unfolding(crate::specs::Interim::plan_of))]
+pub fn plan(
+    alloc: Global,
+    envelope: &Envelope,
+    text: &Text,
+    m: &Mt103,
+    accounts: &Accounts,
+) -> Result<Pay, PlanFault>
+    requires received { IsSome envelope.now.mir }
+    requires positive { 0 < m.now.amount.minor.0 }
+    requires small { m.now.amount.minor.0 < 100000000000000 }
+    ensures value { Plans result (plan_of accounts.now envelope.now text.now m.now) }
+    ensures fits { IfOk result (FitsAccounts accounts.now) }
 {
-    if opened.mt != 103 {
-        return None;
+    if is_routed(m) {
+        return Err(PlanFault::Code(P90));
     }
-    form_of_fields(opened.fields.as_slice())
+    let Some(debit) = vostro_account(accounts, &envelope.sender.head, &m.amount) else {
+        return Err(PlanFault::Code(P90));
+    };
+    let Some(id) = payee_account(&m.payee) else {
+        return Err(PlanFault::Code(P90));
+    };
+    let Some(credit) = customer_account(accounts, id, &m.amount) else {
+        return Err(PlanFault::Code(P90));
+    };
+    Ok(make_pay(alloc, envelope, text, m, accounts, debit, credit)?)
 }

@@ -15,8 +15,6 @@ mod status;
 mod tables;
 #[cfg(test)]
 mod tests;
-mod value;
-mod verdict;
 mod words;
 mod writing;
 

@@ -10,3 +10,4 @@ pub mod SentParts
 pub mod SentUser
 pub mod SentLines
 pub mod ReadBack
+pub mod Sizes

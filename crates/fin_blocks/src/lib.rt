@@ -18,6 +18,6 @@ mod writing;
 mod writing_tests;
 
 pub use blocks::{App, Blocks};
-pub use fault::BlockFault;
+pub use fault::{BlockFault, P01, P02, P03, P04, P05, P06};
 pub use reading::read_blocks;
 pub use writing::put_blocks;

@@ -4,7 +4,7 @@ use Rattle.std.specs.Prelude.{IfSome}
 use Rattle.std.specs.List.{All, AllByRecursion, list_all, list_any}
 use Rattle.std.proofs.lemmas.Bool.{eqb-true}
 use Rattle.std.proofs.lemmas.Bool.Decides.{nat_tests}
-use Rattle.std.proofs.lemmas.List.Elements.{All-append, All-cons}
+use Rattle.std.proofs.lemmas.List.Elements.{All-append, All-cons, All-head, All-tail}
 use Rattle.ref_tables.specs.Seen.{Tables}
 use Rattle.fin_fields.specs.declared.field.Field.{Field}
 use Rattle.fin_fields.specs.Faults.{letter_of}
@@ -67,6 +67,10 @@ abbrev pub Each : (Field → Type 0) → List (List Field) → Type 0
 Each P [] = Unit {0}
 Each P (s ∷ ss) = AllByRecursion P s × Each P ss
 
+pub each-append : (P : Field → Type 0) (segs more : List (List Field)) → Each P segs → Each P more → Each P (segs ++ more)
+each-append P [] more e f = f
+each-append P (s ∷ ss) more e f = (e.0, each-append P ss more e.1 f)
+
 pub some-each : {A : Type 0} (P : Field → Type 0) (write : A → Field) (o : Option A) → IfSome o (λ x. P (write x)) → AllByRecursion P (some_field write o)
 some-each P write None e = tt
 some-each P write (Some x) e = (e, tt)
@@ -82,6 +86,10 @@ lines-each P tag letter (line ∷ lines) (inr e) = (e, tt)
 pub all-of : {A : Type 0} (P : A → Type 0) (xs : List A) → AllByRecursion P xs → All P xs
 all-of P [] e = λ k d lt. absurd (omega arith)
 all-of P (x ∷ xs) e = All-cons P x xs e.0 (all-of P xs e.1)
+
+pub each-of : {A : Type 0} (P : A → Type 0) (xs : List A) → All P xs → AllByRecursion P xs
+each-of P [] e = tt
+each-of P (x ∷ xs) e = (All-head P x xs e, each-of P xs (All-tail P x xs e))
 
 pub each-joined : (P : Field → Type 0) (segs : List (List Field)) → Each P segs → All P (joined segs)
 each-joined P [] e = λ k d lt. absurd (omega arith)

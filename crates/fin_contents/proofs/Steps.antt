@@ -1,6 +1,7 @@
 -- Readings in steps: each test holds, and each part is there.
 use Rattle.std.proofs.Common.{◌≡◌, IfOk, Bool, true, false, List, [], ◌∷◌, ℕ, Option, Some, None, Result, Ok, Err, refl, ap}
 use Rattle.corr_text.specs.First.{check, or_fault, ◌>>=◌}
+use Rattle.corr_text.specs.declared.fault.Fault.{Fault}
 use Rattle.fin_fields.specs.declared.field.Field.{Field}
 use Rattle.fin_contents.specs.Plain.{only_line}
 
@@ -15,6 +16,13 @@ there None fault next y e = absurd (cc e)
 pub read-then : {A B F : Type 0} (r : Result A F) (next : A → Result B F) (y : B) → (r >>= next) ≡ Ok y → (x : A) × (r ≡ Ok x) × (next x ≡ Ok y)
 read-then (Ok x) next y e = (x, refl, e)
 read-then (Err f) next y e = absurd (cc e)
+
+-- what a message says
+abbrev pub told : {A : Type 0} → A → Result A Fault
+told x = Ok x
+
+pub told-is : {A : Type 0} (x y : A) → told x ≡ told y → x ≡ y
+told-is x y e = cc e
 
 -- the line of one line
 pub is-only : (lines : List (List ℕ)) (line : List ℕ) → only_line lines ≡ Some line → lines ≡ line ∷ []

@@ -40,7 +40,12 @@ impl Content for Texts {
 
 /// Writes lines of text as a field of this tag and letter. What was read is read again from it, and the field may stand in a
 /// text where the one that was read did.
-pub fn put_texts(alloc: Global, tag: u8, letter: Option<u8>, lines: &[Text]) -> Result<Field, Memory>
+pub fn put_texts(
+    alloc: Global,
+    tag: u8,
+    letter: Option<u8>,
+    lines: &[Text],
+) -> Result<Field, Memory>
     ensures field { IfOk result (λ f. f ≡ lines_field tag letter lines.now) }
     ensures again { IfOk result (λ f. (most : ℕ) (read : FieldSeen) → texts_of most read ≡ Ok lines.now → texts_of most f ≡ Ok lines.now) }
     ensures fit { IfOk result (λ f. (most : ℕ) (read : FieldSeen) → texts_of most read ≡ Ok lines.now → IsField read → IsHeading tag letter → IsField f) }

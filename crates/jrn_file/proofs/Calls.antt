@@ -1,7 +1,7 @@
 -- Calls that write nothing, in turn.
 use Rattle.std.proofs.Common.{◌≡◌, ℕ, List, refl, sym, ◌∙◌, subst}
 use Rattle.corr_disk.specs.Disk.{NoMore, Only, Elapses, LeavesOnly}
-use Rattle.corr_disk.proofs.Moments.{started, goes_on, weaker}
+use Rattle.corr_disk.proofs.Moments.{started, goes_on, then_on, weaker}
 use Rattle.jrn_file.specs.Untouched.{IsUntouched}
 
 module _ {D : Type 0} (reads : D → List ℕ) (may_leave : D → List ℕ → Type 0) (moment : D → ℕ) (left_since : D → ℕ → List ℕ → Type 0)
@@ -30,3 +30,13 @@ module _ {D : Type 0} (reads : D → List ℕ) (may_leave : D → List ℕ → T
       → P (reads old) → LeavesOnly moment left_since old new P
   untouched-leaves old new P untouched only has =
       weaker moment left_since old new (may_leave old) P (λ c left. subst P (sym (only c left)) has) untouched.any_moment
+
+  -- one run of calls after another
+  pub untouched-then : (old mid new : D) → IsUntouched reads may_leave moment left_since old mid → IsUntouched reads may_leave moment left_since mid new
+      → IsUntouched reads may_leave moment left_since old new
+  untouched-then old mid new first second = record {
+    same = second.same ∙ first.same;
+    no_more = λ c left. first.no_more c (second.no_more c left);
+    any_moment = then_on moment left_since old mid new (may_leave old) first.any_moment
+        (weaker moment left_since mid new (may_leave mid) (may_leave old) first.no_more second.any_moment);
+  }

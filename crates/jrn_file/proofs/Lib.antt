@@ -1,10 +1,14 @@
+mod Behind
 mod Bytes
 mod Calls
 mod EntryImages
 pub mod Frames
 mod Fronts
 mod Head
+mod LastPiece
 mod OneReading
+mod Opened
+mod ReadTo
 mod Records
-mod SoFar
+mod Taken
 mod Whole

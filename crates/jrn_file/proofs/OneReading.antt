@@ -4,10 +4,17 @@ use Rattle.std.specs.Int.{w32, to_be_bytes, from_be_bytes}
 use Rattle.std.proofs.lemmas.List.{take_at, drop_at}
 use Rattle.std.proofs.lemmas.Nat.{from_be_bytes-to_be_bytes_4}
 use Rattle.jrn_file.specs.Journal.{sized, behind_gates, AreOpen, StandsFor}
-use Rattle.jrn_file.specs.Opening.{IsNoJournal, IsDamagedAt, IsReadAs, Explains, IsFailure, IsOrFailure}
+use Rattle.jrn_file.specs.Opening.{IsNoJournal, IsDamagedAt, IsReadAs, ExplainsLoad, IsFailure, IsOrFailure}
 use Rattle.jrn_file.specs.declared.fault.OpenFault.{OpenFault}
 use Rattle.jrn_file.specs.declared.fault.OpenFault.TheVariants.{NotAJournal, Damaged, DiskFault, Memory}
 use Rattle.jrn_file.proofs.Records.{size_of, length-behind_gates}
+
+-- what the bytes must be for a refusal
+abbrev pub Explains : OpenFault → List ℕ → Type 0
+Explains NotAJournal image = IsNoJournal image
+Explains (Damaged at) image = IsDamagedAt image at
+Explains (DiskFault before after) image = ⊥
+Explains Memory image = Unit {0}
 
 -- a record is where its length says
 sized-one : (a b c d : List ℕ) → length a < 2 ^ 32 → length b < 2 ^ 32 → sized a ++ c ≡ sized b ++ d → (a ≡ b) × (c ≡ d)

@@ -5,8 +5,8 @@ use Rattle.jrn_file.specs.declared.fault.AppendFault.{AppendFault}
 use Rattle.jrn_file.specs.declared.fault.AppendFault.TheVariants as append
 use Rattle.jrn_file.specs.declared.fault.MakeFault.{MakeFault}
 use Rattle.jrn_file.specs.declared.fault.MakeFault.TheVariants as making
-use Rattle.jrn_file.specs.declared.opening.LoadFault.{LoadFault}
-use Rattle.jrn_file.specs.declared.opening.LoadFault.TheVariants as load
+use Rattle.jrn_file.specs.declared.loading.LoadFault.{LoadFault}
+use Rattle.jrn_file.specs.declared.loading.LoadFault.TheVariants as load
 
 -- the counts that a fault of the disk tells: it rose between them, within the call
 pub record Tells (old before after new : ℕ) : Type 0 where

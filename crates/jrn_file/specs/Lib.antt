@@ -4,3 +4,4 @@ pub mod Faults
 pub mod Making
 pub mod Opening
 pub mod Untouched
+pub mod Pieces

@@ -3,9 +3,12 @@ use Rattle.std.specs.Prelude.{◌≡◌, ◌≢◌, ◌⊎◌, ℕ, ◌+◌, ◌
 use Rattle.jrn_file.specs.Journal.{sized, behind_gates, AreOpen, journal_bytes, StandsFor}
 use Rattle.jrn_file.specs.File.{IsSettled}
 use Rattle.jrn_file.specs.Faults.{Tells}
+use Rattle.jrn_file.specs.Pieces.{OfBytes}
 use Rattle.jrn_file.specs.declared.file.JFile.{JFile}
 use Rattle.jrn_file.specs.declared.fault.OpenFault.{OpenFault}
 use Rattle.jrn_file.specs.declared.fault.OpenFault.TheVariants.{NotAJournal, Damaged, DiskFault, Memory}
+use Rattle.jrn_file.specs.declared.loading.LoadFault.{LoadFault}
+use Rattle.jrn_file.specs.declared.loading.LoadFault.TheVariants as load
 
 -- behind an open gate: this record, with its length before it and a gate after it
 pub record BeginsWith (after r : List ℕ) : Type 0 where
@@ -18,10 +21,15 @@ pub record BeginsWith (after r : List ℕ) : Type 0 where
 abbrev pub IsWhole : List ℕ → Type 0
 IsWhole after = (r : List ℕ) × BeginsWith after r
 
--- no header record: no byte, a closed gate in front, or a first record that isn't whole
+-- no record in front: no byte, a closed gate, or an open one with no whole record behind it
 abbrev pub IsNoJournal : List ℕ → Type 0
 IsNoJournal [] = Unit {0}
 IsNoJournal (gate ∷ after) = (gate ≡ 0) ⊎ (IsWhole after → ⊥)
+
+-- a closed gate in front
+abbrev pub IsShut : List ℕ → Type 0
+IsShut [] = ⊥
+IsShut (gate ∷ after) = gate ≡ 0
 
 -- behind whole records, at this place, an open gate with no whole record behind it
 pub record IsDamagedAt (image : List ℕ) (at : ℕ) : Type 0 where
@@ -43,12 +51,13 @@ pub record IsReadAs (image : List ℕ) (end : ℕ) (all : List (List ℕ)) : Typ
   pub stands : StandsFor image head records
   pub place : end + 1 ≡ length (journal_bytes head records)
 
--- what the bytes must be for a refusal
-abbrev pub Explains : OpenFault → List ℕ → Type 0
-Explains NotAJournal image = IsNoJournal image
-Explains (Damaged at) image = IsDamagedAt image at
-Explains (DiskFault before after) image = ⊥
-Explains Memory image = Unit {0}
+-- what the bytes of a disk must be where no records could be had
+abbrev pub ExplainsLoad : Bool → List ℕ → LoadFault → Type 0
+ExplainsLoad honest reads load.Disk = Unit {0}
+ExplainsLoad honest reads (load.Refused NotAJournal) = OfBytes honest reads IsNoJournal
+ExplainsLoad honest reads (load.Refused (Damaged at)) = OfBytes honest reads (λ bytes. IsDamagedAt bytes at)
+ExplainsLoad honest reads (load.Refused (DiskFault before after)) = ⊥
+ExplainsLoad honest reads (load.Refused Memory) = Unit {0}
 
 -- a fault of the disk tells its counts, and the two refusals what the bytes are, where they are told
 abbrev pub OpenCause : ℕ → ℕ → Bool → List ℕ → OpenFault → Type 0

@@ -5,6 +5,7 @@ mod entering;
 mod fault;
 mod file;
 mod frame;
+mod loading;
 mod making;
 mod opening;
 mod reading;

@@ -1,20 +1,22 @@
 //! Opening a journal.
 
-ghost use Rattle.std.specs.Prelude.{◌≡◌, ◌≤◌, ◌∷◌, ℕ, List, IsTrue, IfOk, IfErr, OnOk, MatchResult};
+ghost use Rattle.std.specs.Prelude.{◌≡◌, ◌≤◌, ◌^◌, ◌∷◌, ℕ, List, length, IsTrue, IfOk, IfErr, MatchResult};
 ghost use Rattle.corr_disk.specs.Calls.{CallsMade, AtMostCalls};
-ghost use Rattle.corr_disk.specs.Disk.{Only};
-ghost use Rattle.jrn_file.specs.Faults.{LoadCause};
-ghost use Rattle.jrn_file.specs.File.{disk_of};
+ghost use Rattle.jrn_file.specs.File.{disk_of, end_of};
 ghost use Rattle.jrn_file.specs.Journal.{StandsFor};
 ghost use Rattle.jrn_file.specs.Opening.{IsOpened, OpenCause, IsFailure, IsOrFailure, IsNoJournal, IsDamagedAt};
+ghost use Rattle.jrn_file.specs.Pieces.{calls_to_open};
 ghost use Rattle.jrn_file.specs.Untouched.{IsUntouched};
 
 use crate::fault::OpenFault;
 use crate::file::JFile;
-use crate::reading::read_records;
-use corr_disk::{Disk, Failed};
+use crate::loading::{LoadFault, load};
+use corr_disk::Disk;
 use corr_text::Text;
-use std::alloc::{AllocError, Global};
+use std::alloc::Global;
+
+/// How many bytes each read of an opening asks for.
+const PIECE: usize = 1 << 20;
 
 /// Opens a journal that a stop at any moment may have left, and gives its header record and its records up to
 /// the first closed gate. It syncs the disk first, and writes nothing.
@@ -39,70 +41,22 @@ pub fn open_file<D: Disk>(alloc: Global, disk: D) -> Result<(JFile<D>, Vec<Text>
     ensures untouched { MatchResult result
         (λ r. IsUntouched D.reads D.may_leave D.moment D.left_since disk (disk_of r.0))
         (λ e. IsUntouched D.reads D.may_leave D.moment D.left_since disk e.0) }
-    // It makes three calls of the disk, and no more where it fails.
-    ensures calls { MatchResult result (λ r. CallsMade 3 (D.calls_left disk) (D.calls_left (disk_of r.0))) (λ e. AtMostCalls 3 (D.calls_left disk) (D.calls_left e.0)) }
+
+    // It makes one sync and a read for each 2^20 bytes up to the closed gate, or where it refuses or fails, at most up to the end.
+    ensures calls { IfOk result (λ r. CallsMade (calls_to_open (2 ^ 20) (end_of r.0)) (D.calls_left disk) (D.calls_left (disk_of r.0))) }
+    ensures no_more_calls { IsTrue (D.honest disk) → IfErr result (λ e. AtMostCalls (calls_to_open (2 ^ 20) (length (D.reads disk))) (D.calls_left disk) (D.calls_left e.0)) }
 
     ensures honest { MatchResult result (λ r. D.honest (disk_of r.0) ≡ D.honest disk) (λ e. D.honest e.0 ≡ D.honest disk) }
     ensures later { MatchResult result (λ r. D.faults disk ≤ D.faults (disk_of r.0)) (λ e. D.faults disk ≤ D.faults e.0) }
 {
     let mut disk = disk;
     let before = disk.faults();
-    match load(alloc, &mut disk) {
-        Ok(bytes) => match read_records(alloc, bytes.as_slice()) {
-            Ok((end, records)) => Ok((JFile::at(disk, end), records)),
-            Err(fault) => Err((disk, fault)),
-        },
+    match load(alloc, &mut disk, PIECE) {
+        Ok((end, records)) => Ok((JFile::at(disk, end), records)),
         Err(LoadFault::Disk) => {
             let after = disk.faults();
             Err((disk, OpenFault::DiskFault { before, after }))
         }
-        Err(LoadFault::Memory) => Err((disk, OpenFault::Memory)),
+        Err(LoadFault::Refused(fault)) => Err((disk, fault)),
     }
-}
-
-/// Why the bytes could not be had.
-#[derive(Drop)]
-enum LoadFault {
-    Disk,
-    Memory,
-}
-
-impl From<Failed> for LoadFault {
-    ghost use Rattle.std.specs.Prelude.{◌≡◌};
-    ghost use Rattle.jrn_file.specs.declared.opening.LoadFault.TheVariants as load;
-
-    ghost from_gives = { λ _ e. e ≡ load.Disk };
-
-    fn from(_: Failed) -> LoadFault {
-        LoadFault::Disk
-    }
-}
-
-impl From<AllocError> for LoadFault {
-    ghost use Rattle.std.specs.Prelude.{◌≡◌};
-    ghost use Rattle.jrn_file.specs.declared.opening.LoadFault.TheVariants as load;
-
-    ghost from_gives = { λ _ e. e ≡ load.Memory };
-
-    fn from(_: AllocError) -> LoadFault {
-        LoadFault::Memory
-    }
-}
-
-/// Syncs the disk and reads all its bytes, in one piece.
-fn load<D: Disk>(alloc: Global, disk: &mut D) -> Result<Vec<u8>, LoadFault>
-    ensures bytes { IsTrue (D.honest disk.old) → IfOk result (λ bytes. bytes.items ≡ D.reads disk.old) }
-    ensures durable { OnOk result (Only (D.reads disk.new) (D.may_leave disk.new)) }
-    ensures untouched { IsUntouched D.reads D.may_leave D.moment D.left_since disk.old disk.new }
-    ensures honest { D.honest disk.new ≡ D.honest disk.old }
-    ensures cause { LoadCause (D.faults disk.old) (D.faults disk.new) result }
-    ensures calls { OnOk result (CallsMade 3 (D.calls_left disk.old) (D.calls_left disk.new)) }
-    ensures no_more_calls { AtMostCalls 3 (D.calls_left disk.old) (D.calls_left disk.new) }
-{
-    disk.sync()?;
-    let len = disk.len()?;
-    let mut bytes = vec![in alloc; 0; len as usize]?;
-    let count = disk.read_at(0, bytes.as_mut_slice())?;
-    bytes.truncate(count);
-    Ok(bytes)
 }

@@ -1,20 +1,35 @@
 //! The records in a journal's bytes.
 
-ghost use Rattle.std.specs.Prelude.{◌≡◌, ◌≢◌, ◌<◌, ◌≤◌, length, take, slice_index, IfOk, IfErr, IfSome, IfNone};
+ghost use Rattle.std.specs.Prelude.{◌≡◌, ◌≢◌, ◌<◌, ◌≤◌, ◌++◌, ℕ, List, length, take, drop, slice_index, IfOk, OnOk, IfSome, IfNone};
 ghost use Rattle.std.specs.Bool.{OnTrue, OnFalse};
 ghost use Rattle.std.specs.Int.{w32, from_be_bytes};
-ghost use Rattle.jrn_file.specs.Opening.{BeginsWith, IsWhole, IsReadAs, Explains};
+ghost use Rattle.jrn_file.specs.Opening.{BeginsWith, IsWhole, IsNoJournal, IsShut};
+ghost use Rattle.jrn_file.specs.Pieces.{IsTaken};
 
 use crate::fault::OpenFault;
-use corr_text::Text;
-use std::alloc::Global;
+use corr_text::{Memory, Text};
+use std::alloc::{AllocError, Global};
 
-/// Reads the records up to the first closed gate, and the place of that gate.
-pub(crate) fn read_records(alloc: Global, bytes: &[u8]) -> Result<(u64, Vec<Text>), OpenFault>
-    ensures records { IfOk result (λ read. IsReadAs bytes.now read.0 read.1.items) }
-    ensures fault { IfErr result (λ e. Explains e bytes.now) }
+/// Takes the whole records in front out of the held bytes.
+pub(crate) fn take_records(
+    alloc: Global,
+    held: &mut Vec<u8>,
+    records: &mut Vec<Text>,
+) -> Result<(), Memory>
+    ensures taken { OnOk result ((more : List (List ℕ)) × (records.new.items ≡ records.old.items ++ more) × IsTaken held.old.items more held.new.items) }
+    ensures stopped { OnOk result (IsNoJournal held.new.items) }
 {
-    let mut records = Vec::new(alloc);
+    let at = copy_records(alloc, held.as_slice(), records)?;
+    drop_front(held, at)?;
+    Ok(())
+}
+
+/// Copies the whole records in front of these bytes, and answers the place behind them.
+fn copy_records(alloc: Global, bytes: &[u8], records: &mut Vec<Text>) -> Result<usize, Memory>
+    ensures taken { IfOk result (λ at. (more : List (List ℕ)) × (records.new.items ≡ records.old.items ++ more) × IsTaken bytes.now more (drop at bytes.now)) }
+    ensures stopped { IfOk result (λ at. IsNoJournal (drop at bytes.now)) }
+    ensures within { IfOk result (λ at. at ≤ length bytes.now) }
+{
     let mut at = 0;
     while is_open(bytes, at) {
         match whole_record(&bytes[at + 1..]) {
@@ -22,13 +37,22 @@ pub(crate) fn read_records(alloc: Global, bytes: &[u8]) -> Result<(u64, Vec<Text
                 records.push(Text::from_bytes(alloc, record)?)?;
                 at += 5 + record.len();
             }
-            None => return Err(refusal(at, records.as_slice())),
+            None => return Ok(at),
         }
     }
-    if is_none(records.as_slice()) {
-        return Err(OpenFault::NotAJournal);
+    Ok(at)
+}
+
+/// Drops so many bytes in front. Where there are none to drop, nothing is moved.
+fn drop_front(held: &mut Vec<u8>, count: usize) -> Result<(), AllocError>
+    requires { count ≤ length held.old.items }
+    ensures { OnOk result (held.new.items ≡ drop count held.old.items) }
+{
+    if count > 0 {
+        let rest = held.split_off(count)?;
+        *held = rest;
     }
-    Ok((at as u64, records))
+    Ok(())
 }
 
 /// Whether an open gate stands at this place.
@@ -39,19 +63,27 @@ fn is_open(bytes: &[u8], at: usize) -> bool
     at < bytes.len() && bytes[at] != 0
 }
 
+/// Whether a closed gate stands in front.
+pub(crate) fn is_closed(held: &[u8]) -> bool
+    ensures shut { OnTrue result (IsShut held.now) }
+    ensures open { OnFalse result (IsShut held.now → ⊥) }
+{
+    !held.is_empty() && held[0] == 0
+}
+
 /// What an open gate at this place tells with no whole record behind it, after these records.
-fn refusal(at: usize, records: &[Text]) -> OpenFault
+pub(crate) fn refusal(gate: u64, records: &[Text]) -> OpenFault
     ensures none { length records.now ≡ 0 → result ≡ OpenFault.NotAJournal }
-    ensures some { 0 < length records.now → result ≡ OpenFault.Damaged at }
+    ensures some { 0 < length records.now → result ≡ OpenFault.Damaged gate }
 {
     if is_none(records) {
         return OpenFault::NotAJournal;
     }
-    OpenFault::Damaged { at: at as u64 }
+    OpenFault::Damaged { at: gate }
 }
 
 /// Whether there is no record.
-fn is_none(records: &[Text]) -> bool
+pub(crate) fn is_none(records: &[Text]) -> bool
     ensures none { OnTrue result (length records.now ≡ 0) }
     ensures some { OnFalse result (0 < length records.now) }
 {

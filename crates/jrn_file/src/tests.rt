@@ -3,6 +3,7 @@ ghost use Rattle.jrn_file.specs.File.{IsOpen};
 ghost use Rattle.jrn_file.specs.Journal.{IsFrame};
 
 use crate::frame::framed;
+use crate::loading::{LoadFault, load};
 use crate::{AppendFault, JFile, MakeFault, OpenFault, create, open_file};
 use corr_disk::{Disk, Failed, FileDisk, FuseDisk, MemDisk};
 use corr_text::{Memory, Text};
@@ -84,7 +85,7 @@ fn a_journal_is_made_appended_to_and_opened(rt: HostRuntime) -> Result<(), Fail>
     Ok(())
 }
 
-// Opening makes three calls of the disk, and appending four.
+// Opening a small file makes two calls of the disk, and appending four.
 #[test]
 fn an_append_that_stops_leaves_the_records_before_or_with_the_new_one(
     rt: HostRuntime,
@@ -92,7 +93,7 @@ fn an_append_that_stops_leaves_the_records_before_or_with_the_new_one(
     let alloc = rt.alloc();
     for calls in 0..5u64 {
         for torn in 0..12u64 {
-            let (mut file, _) = open(alloc, fuse(alloc, HEAD, calls + 3, torn)?)?;
+            let (mut file, _) = open(alloc, fuse(alloc, HEAD, calls + 2, torn)?)?;
             let answer = add(&mut file, framed(alloc, b"AB")?.as_slice());
             assert_eq!(rt; answer.is_ok(), calls == 4);
             if let Err(fault) = answer {
@@ -217,6 +218,58 @@ fn any_byte_but_zero_opens_a_gate_and_what_follows_is_anything(
     let alloc = rt.alloc();
     let image = Text::from_bytes(alloc, b"\xfe\0\0\0\x01H\x80\0\0\0\0\0\x01\x02")?;
     assert_eq!(rt; count(alloc, image)?, Some(2));
+    Ok(())
+}
+
+// The header record H and three more, of 2, 0 and 13 bytes, with their closed gate at 36.
+const THREE: &[u8] = b"\x01\0\0\0\x01H\x01\0\0\0\x02AB\x01\0\0\0\0\x01\0\0\0\x0dABCDEFGHIJKLM\0xyz";
+
+// A sync, and a read for each piece up to the closed gate: with a call fewer nothing is opened.
+#[test]
+fn records_that_cross_the_edges_of_pieces_are_put_together(rt: HostRuntime) -> Result<(), Fail> {
+    let alloc = rt.alloc();
+    let texts: [&[u8]; 4] = [b"H", b"AB", b"", b"ABCDEFGHIJKLM"];
+    for piece in 1..42usize {
+        let calls = 2 + 36 / piece as u64;
+        for passed in 0..calls + 1 {
+            let mut disk = fuse(alloc, THREE, passed, 0)?;
+            match load(alloc, &mut disk, piece) {
+                Ok((end, records)) => {
+                    assert_eq!(rt; (passed, end, records.len()), (calls, 36, 4));
+                    for (record, text) in records.iter().zip(texts) {
+                        assert_eq!(rt; record.bytes(), text);
+                    }
+                }
+                Err(LoadFault::Disk) => assert!(rt; passed < calls),
+                Err(LoadFault::Refused(fault)) => return Err(fault.into()),
+            }
+        }
+    }
+    Ok(())
+}
+
+#[test]
+fn a_journal_that_is_cut_short_is_refused_whatever_the_pieces(rt: HostRuntime) -> Result<(), Fail> {
+    let alloc = rt.alloc();
+    for len in 0..37usize {
+        // the open gate with no whole record behind it, behind the header
+        let place = match len {
+            0..=6 => None,
+            7..=13 => Some(6),
+            14..=18 => Some(13),
+            _ => Some(18),
+        };
+        for piece in 1..42usize {
+            let mut disk = memory(alloc, &THREE[..len])?;
+            match load(alloc, &mut disk, piece) {
+                Err(LoadFault::Refused(OpenFault::NotAJournal)) => assert!(rt; place.is_none()),
+                Err(LoadFault::Refused(OpenFault::Damaged { at })) => {
+                    assert_eq!(rt; Some(at), place)
+                }
+                _ => assert!(rt; false),
+            }
+        }
+    }
     Ok(())
 }
 

@@ -2,3 +2,8 @@ pub mod Complete
 pub mod FirstGiven
 pub mod Outcome
 pub mod Refused
+pub mod Kept
+pub mod Says
+pub mod Moved
+pub mod Standing
+pub mod RoundTrip

@@ -1,5 +1,5 @@
 -- The outcome of the tests of an MT103, in their order.
-use Rattle.std.proofs.Common.{◌≡◌, List, [], ◌∷◌, Some, None, Result, Ok, Err, refl, ◌∙◌}
+use Rattle.std.proofs.Common.{◌≡◌, ℕ, List, [], ◌∷◌, Some, None, Result, Ok, Err, refl, ◌∙◌}
 use Rattle.corr_text.specs.First.{first_of, ◌>>=◌}
 use Rattle.corr_text.specs.declared.fault.Fault.{Fault}
 use Rattle.ref_tables.specs.Seen.{Tables}
@@ -12,36 +12,45 @@ use Rattle.fin_layout.specs.declared.fault.MtFault.TheVariants as faults
 use Rattle.fin_layout.proofs.Fine.{passed-fails, passed-on}
 use Rattle.fin_layout.proofs.InOrder.{fails-before, in-turn, structure-fails}
 use Rattle.mt103.specs.Instructions.{d98, e46}
-use Rattle.mt103.specs.Message.{content_test, contents_of, mt103_of}
+use Rattle.mt103.specs.Message.{content_test, contents_of, details_of, mt103_of, parties_of, terms_of}
+use Rattle.mt103.specs.declared.instruction.Instr.{Instr}
 use Rattle.mt103.specs.declared.message.Mt103.{Mt103}
 use Rattle.mt103.specs.declared.order.TheConstants.{ORDER}
+use Rattle.mt103.specs.declared.parties.Parties.{Parties}
+use Rattle.mt103.specs.declared.terms.Terms.{Terms}
 use Rattle.mt103.proofs.Refused.{contents-refused}
 
-abbrev finished : Mt103 → Result Mt103 Fault
+-- the details are refused, where the terms and the parties are read
+pub details-fail : (t : Tables) (fs : List Field) (found : List ℕ) (terms : Terms) (parties : Parties) (e : MtFault)
+    → terms_of t fs found ≡ Ok terms → parties_of t fs found ≡ Ok parties → Fails e (details_of t fs found) → Fails e (contents_of t fs found)
+unfolding contents_of
+details-fail t fs found terms parties faults.Memory read also h = tt
+details-fail t fs found terms parties (faults.Bad fault) read also h = rw (read, also, h) refl
+
+abbrev pub finished : Mt103 → Result Mt103 Fault
 finished m = passed (e46 m.instrs ∷ d98 m.instrs ∷ []) >>= λ _. Ok m
 
-abbrev behind_fields : Tables → List Field → Result Mt103 Fault
-behind_fields t fs = contents_of t fs (places_from ORDER 0 fs) >>= finished
+abbrev pub said_by : Tables → List Field → Result Mt103 Fault
+said_by t fs = contents_of t fs (places_from ORDER 0 fs)
 
 module _ (t : Tables) (fs : List Field) where
   pub structure-fail : (e : MtFault) → Tells (first_of (structure_tests ORDER fs)) e → Fails e (mt103_of t fs)
   unfolding mt103_of
-  structure-fail e h = structure-fails ORDER (content_test t) fs (behind_fields t fs) e h
+  structure-fail e h = structure-fails ORDER (content_test t) fs (said_by t fs >>= finished) e h
 
   module _ (sound : first_of (structure_tests ORDER fs) ≡ None) where
-    pub as-contents : mt103_of t fs ≡ behind_fields t fs
+    pub as-contents : mt103_of t fs ≡ (said_by t fs >>= finished)
     unfolding mt103_of
-    as-contents =
-        in-turn ORDER (content_test t) fs (behind_fields t fs) sound
-        (λ fault lies. fails-before (contents_of t fs (places_from ORDER 0 fs)) finished fault (contents-refused lies))
+    as-contents = in-turn ORDER (content_test t) fs (said_by t fs >>= finished) sound (λ fault lies. fails-before (said_by t fs) finished fault (contents-refused t fs (places_from ORDER 0 fs) fault lies))
 
-    pub contents-fail : (e : MtFault) → Fails e (contents_of t fs (places_from ORDER 0 fs)) → Fails e (mt103_of t fs)
-    contents-fail faults.Memory h = tt
-    contents-fail (faults.Bad fault) h = as-contents ∙ fails-before (contents_of t fs (places_from ORDER 0 fs)) finished fault h
+    module _ (found : List ℕ) (places : found ≡ places_from ORDER 0 fs) where
+      pub contents-fail : (e : MtFault) → Fails e (contents_of t fs found) → Fails e (mt103_of t fs)
+      contents-fail faults.Memory h = tt
+      contents-fail (faults.Bad fault) h = as-contents ∙ fails-before (said_by t fs) finished fault (rw places at h)
 
-    module _ (m : Mt103) (said : contents_of t fs (places_from ORDER 0 fs) ≡ Ok m) where
-      pub instrs-fail : (fault : Fault) → first_of (e46 m.instrs ∷ d98 m.instrs ∷ []) ≡ Some fault → mt103_of t fs ≡ Err fault
-      instrs-fail fault h = as-contents ∙ rw said (passed-fails (first_of (e46 m.instrs ∷ d98 m.instrs ∷ [])) (Ok m) (faults.Bad fault) h)
+      module _ (m : Mt103) (said : contents_of t fs found ≡ Ok m) (instrs : List Instr) (same : instrs ≡ m.instrs) where
+        pub instrs-fail : (fault : Fault) → first_of (e46 instrs ∷ d98 instrs ∷ []) ≡ Some fault → mt103_of t fs ≡ Err fault
+        instrs-fail fault h = as-contents ∙ rw (rw places at said) (passed-fails (first_of (e46 m.instrs ∷ d98 m.instrs ∷ [])) (Ok m) (faults.Bad fault) (rw same at h))
 
-      pub all-pass : first_of (e46 m.instrs ∷ d98 m.instrs ∷ []) ≡ None → mt103_of t fs ≡ Ok m
-      all-pass h = as-contents ∙ rw said (passed-on (first_of (e46 m.instrs ∷ d98 m.instrs ∷ [])) (Ok m) h)
+        pub all-pass : first_of (e46 instrs ∷ d98 instrs ∷ []) ≡ None → mt103_of t fs ≡ Ok m
+        all-pass h = as-contents ∙ rw (rw places at said) (passed-on (first_of (e46 m.instrs ∷ d98 m.instrs ∷ [])) (Ok m) (rw same at h))

@@ -1,9 +1,11 @@
 //! Transfers as messages hold them.
 
-ghost use Rattle.std.specs.Prelude.{◌≤◌, IfOk, length};
+ghost use Rattle.std.specs.Prelude.{◌≤◌, All, IfOk, length};
+ghost use Rattle.fin_fields.specs.Writing.{IsField};
 
-use crate::{D97, D98, E46, Mt103, P28, T08, T36, read_mt103};
+use crate::{D97, D98, E46, Instr, Mt103, P28, T08, T36, read_mt103};
 use corr_ids::Day;
+use corr_money::Amount;
 use corr_text::{Code, Fault, List, Memory, Text};
 use fin_contents::{C03, C08, P25, P26, P27, T26, T40, T43, T50, T52};
 use fin_fields::{Field, FieldFault, cut_fields};
@@ -16,17 +18,18 @@ use std::test::Fail;
 // A field of the sample transfer by its number, what stands in its place, and the fault: code, tag and occurrence.
 type Refused<'a> = (usize, &'a [u8], Code, &'a [u8; 3], u16);
 
-fn tables(alloc: Global) -> Result<RefTables, TableFault> {
+pub fn tables(alloc: Global) -> Result<RefTables, TableFault> {
     read_tables(
         alloc,
-        b"HOMEUS33\nALPHDEFF\n",
-        b"EUR,2\nUSD,2\nJPY,0\n",
+        b"HOMEUS33\nALPHDEFF\nBETAFRPP\n",
+        b"EUR,2\nUSD,2\nJPY,0\nKWD,3\n",
         b"DE,Y\n",
     )
 }
 
-fn cut(alloc: Global, text: &[u8]) -> Result<List<Field>, FieldFault>
-    ensures { IfOk result (λ fields. length fields ≤ 1000) }
+pub fn cut(alloc: Global, text: &[u8]) -> Result<List<Field>, FieldFault>
+    ensures few { IfOk result (λ fields. length fields ≤ 1000) }
+    ensures fit { IfOk result (λ fields. All IsField fields) }
 {
     if text.len() > 1000 {
         return Err(FieldFault::Memory);
@@ -64,13 +67,20 @@ fn read(
     Ok(read_mt103(alloc, fields.as_slice(), tables))
 }
 
-// The fault of a text, none where it is a message.
-fn fault_of(alloc: Global, tables: &RefTables, text: &[u8]) -> Result<Option<Fault>, FieldFault> {
-    match read(alloc, tables, text)? {
+// Generic, so that a transfer is let go as one value.
+pub fn let_go<M: Drop>(_m: M) {}
+
+fn fault_in<M: Drop>(read: Result<M, MtFault>) -> Result<Option<Fault>, FieldFault> {
+    match read {
         Ok(_) => Ok(None),
         Err(MtFault::Bad(fault)) => Ok(Some(fault)),
         Err(MtFault::Memory) => Err(FieldFault::Memory),
     }
+}
+
+// The fault of a text, none where it is a message.
+fn fault_of(alloc: Global, tables: &RefTables, text: &[u8]) -> Result<Option<Fault>, FieldFault> {
+    fault_in(read(alloc, tables, text)?)
 }
 
 // The fault of the sample transfer with one of its fields written otherwise is that of the row.
@@ -78,14 +88,63 @@ fn check(alloc: Global, tables: &RefTables, row: &Refused) -> Result<bool, Field
     let (at, other, code, tag, nth) = *row;
     let text = transfer(alloc, at, other)?;
     let fault = fault_of(alloc, tables, text.bytes())?;
-    Ok(
-        fault
-            == Some(Fault {
-                code,
-                tag: *tag,
-                nth,
-            }),
-    )
+    let want = Fault {
+        code,
+        tag: *tag,
+        nth,
+    };
+    Ok(fault == Some(want))
+}
+
+fn account(p: &Party) -> &[u8] {
+    match p {
+        Party::K {
+            account: Some(account),
+            ..
+        } => account.bytes(),
+        _ => b"",
+    }
+}
+
+fn are_the_instructions(instrs: &[Instr]) -> bool {
+    match instrs {
+        [first, second] => {
+            first.code == *b"PHOB"
+                && first.text.is_some()
+                && second.code == *b"TELB"
+                && second.text.is_none()
+        }
+        _ => false,
+    }
+}
+
+fn are_the_charges(taken: &[Amount]) -> bool {
+    match taken {
+        [first, second] => first.minor.0 == 100 && second.minor.0 == 250,
+        _ => false,
+    }
+}
+
+fn says_the_terms(m: &Mt103) -> bool {
+    m.reference.bytes() == b"REF1".as_slice()
+        && m.op == *b"CRED"
+        && are_the_instructions(m.instrs.as_slice())
+        && m.kind.is_none()
+        && m.value == Day(19877)
+        && m.amount.minor.0 == 123450
+        && m.ordered.is_some()
+        && m.rate.is_some()
+}
+
+fn says_the_details(m: &Mt103) -> bool {
+    m.p52.is_some()
+        && m.p57.is_none()
+        && account(&m.payee) == b"CUST1".as_slice()
+        && m.info.as_slice().is_empty()
+        && m.charge == *b"SHA"
+        && are_the_charges(m.taken.as_slice())
+        && m.given.is_none()
+        && m.notes.as_slice().len() == 2
 }
 
 #[test]
@@ -98,41 +157,14 @@ fn the_sample_is_read(rt: HostRuntime) -> Result<(), Fail> {
         Ok(m) => m,
         Err(_) => return Err("the sample is refused")?,
     };
-    assert_eq!(rt; m.reference.bytes(), b"REF1".as_slice());
-    assert_eq!(rt; m.op, *b"CRED");
-    assert_eq!(rt; m.value, Day(19877));
-    assert_eq!(rt; m.amount.minor.0, 123450);
-    assert_eq!(rt; m.charge, *b"SHA");
-    assert!(rt; m.ordered.is_some() && m.rate.is_some() && m.p52.is_some() && m.p57.is_none());
-    assert!(rt; m.info.as_slice().is_empty() && m.kind.is_none() && m.given.is_none());
-    assert_eq!(rt; m.notes.as_slice().len(), 2);
-    match m.instrs.as_slice() {
-        [first, second] => assert!(rt;
-            first.code == *b"PHOB"
-                && first.text.is_some()
-                && second.code == *b"TELB"
-                && second.text.is_none()
-        ),
-        _ => assert!(rt; false, "two instructions"),
-    }
-    match m.taken.as_slice() {
-        [first, second] => assert!(rt; first.minor.0 == 100 && second.minor.0 == 250),
-        _ => assert!(rt; false, "two charges"),
-    }
-    match m.payee {
-        Party::K {
-            account: Some(account),
-            ..
-        } => assert_eq!(rt; account.bytes(), b"CUST1".as_slice()),
-        _ => assert!(rt; false, "the payee's account"),
-    }
+    let said = says_the_terms(&m) && says_the_details(&m);
+    let_go(m);
+    assert!(rt; said);
     Ok(())
 }
 
-#[test]
-fn what_may_stand_is_read(rt: HostRuntime) -> Result<(), Fail> {
-    let tables = tables(rt.alloc())?;
-    let rows: [(usize, &[u8]); 19] = [
+fn what_may_stand() -> [(usize, &'static [u8]); 19] {
+    [
         (0, b":20:ABCDEFGH/JKLMNOP\n"),
         (0, b":20:REF1\n:13C:/CLSTIME/0915+0100\n:13C:/A/0915-0100\n"),
         (1, b":23B:SSTD\n:23E:SDVA\n:23E:PHON/1\n:23E:TELI\n"),
@@ -155,18 +187,21 @@ fn what_may_stand_is_read(rt: HostRuntime) -> Result<(), Fail> {
         (5, b":71A:OUR\n:72:/A\n/B\n/C\n/D\n/E\n/F\n"),
         (5, b":71A:OUR\n:77B:A\nB\nC\n"),
         (6, b""),
-    ];
-    for (at, other) in rows {
+    ]
+}
+
+#[test]
+fn what_may_stand_is_read(rt: HostRuntime) -> Result<(), Fail> {
+    let tables = tables(rt.alloc())?;
+    for (at, other) in what_may_stand() {
         let text = transfer(rt.alloc(), at, other)?;
         assert_eq!(rt; fault_of(rt.alloc(), &tables, text.bytes())?, None);
     }
     Ok(())
 }
 
-#[test]
-fn misplaced_and_missing_fields_are_told(rt: HostRuntime) -> Result<(), Fail> {
-    let tables = tables(rt.alloc())?;
-    let rows: [Refused; 21] = [
+fn misplaced() -> [Refused<'static>; 21] {
+    [
         (0, b"", P23, b"20 ", 0),
         (1, b"", P23, b"23B", 0),
         (2, b"", P23, b"32A", 0),
@@ -194,17 +229,20 @@ fn misplaced_and_missing_fields_are_told(rt: HostRuntime) -> Result<(), Fail> {
             b"71G",
             2,
         ),
-    ];
-    for row in rows.iter() {
+    ]
+}
+
+#[test]
+fn misplaced_and_missing_fields_are_told(rt: HostRuntime) -> Result<(), Fail> {
+    let tables = tables(rt.alloc())?;
+    for row in misplaced().iter() {
         assert!(rt; check(rt.alloc(), &tables, row)?, "{}", row.0);
     }
     Ok(())
 }
 
-#[test]
-fn wrong_codes_and_references_are_told(rt: HostRuntime) -> Result<(), Fail> {
-    let tables = tables(rt.alloc())?;
-    let rows: [Refused; 23] = [
+fn wrong_codes() -> [Refused<'static>; 23] {
+    [
         (0, b":20:\n", P24, b"20 ", 1),
         (0, b":20:ABCDEFGHIJKLMNOPQ\n", P24, b"20 ", 1),
         (0, b":20:REF1\nREF2\n", P24, b"20 ", 1),
@@ -240,17 +278,20 @@ fn wrong_codes_and_references_are_told(rt: HostRuntime) -> Result<(), Fail> {
         (5, b":71A:SHA\nSHA\n", T08, b"71A", 1),
         (5, b":71A:SHA\n:72:A\nB\nC\nD\nE\nF\nG\n", P24, b"72 ", 1),
         (5, b":71A:SHA\n:77B:A\nB\nC\nD\n", P24, b"77B", 1),
-    ];
-    for row in rows.iter() {
+    ]
+}
+
+#[test]
+fn wrong_codes_and_references_are_told(rt: HostRuntime) -> Result<(), Fail> {
+    let tables = tables(rt.alloc())?;
+    for row in wrong_codes().iter() {
         assert!(rt; check(rt.alloc(), &tables, row)?, "{}", row.0);
     }
     Ok(())
 }
 
-#[test]
-fn wrong_amounts_are_told(rt: HostRuntime) -> Result<(), Fail> {
-    let tables = tables(rt.alloc())?;
-    let rows: [Refused; 24] = [
+fn wrong_amounts() -> [Refused<'static>; 24] {
+    [
         (2, b":32A:240603EUR\n", P24, b"32A", 1),
         (2, b":32A:24060AEUR1,\n", P24, b"32A", 1),
         (2, b":32A:240631XAU1\n", T50, b"32A", 1),
@@ -275,17 +316,20 @@ fn wrong_amounts_are_told(rt: HostRuntime) -> Result<(), Fail> {
         (5, b":71A:SHA\n:71F:EUR1,\n:71F:EUR2\n", T40, b"71F", 2),
         (5, b":71A:SHA\n:71F:EU1,\n", P24, b"71F", 1),
         (5, b":71A:SHA\n:71G:EUR1,234\n", C03, b"71G", 1),
-    ];
-    for row in rows.iter() {
+    ]
+}
+
+#[test]
+fn wrong_amounts_are_told(rt: HostRuntime) -> Result<(), Fail> {
+    let tables = tables(rt.alloc())?;
+    for row in wrong_amounts().iter() {
         assert!(rt; check(rt.alloc(), &tables, row)?, "{}", row.0);
     }
     Ok(())
 }
 
-#[test]
-fn wrong_parties_are_told(rt: HostRuntime) -> Result<(), Fail> {
-    let tables = tables(rt.alloc())?;
-    let rows: [Refused; 15] = [
+fn wrong_parties() -> [Refused<'static>; 15] {
+    [
         (3, b":50A:/A\nGAMMGB2L\n", P25, b"50A", 1),
         (3, b":50K:/A\n", P24, b"50K", 1),
         (3, b":50F:/A\n2/NAME\n", P24, b"50F", 1),
@@ -301,17 +345,20 @@ fn wrong_parties_are_told(rt: HostRuntime) -> Result<(), Fail> {
         (4, b":59:/CUST1\n", P24, b"59 ", 1),
         (4, b":59A:GAMMGB2L\n", P25, b"59A", 1),
         (4, b":59F:/A\n1/NAME\n3/DE\n2/STREET\n", P24, b"59F", 1),
-    ];
-    for row in rows.iter() {
+    ]
+}
+
+#[test]
+fn wrong_parties_are_told(rt: HostRuntime) -> Result<(), Fail> {
+    let tables = tables(rt.alloc())?;
+    for row in wrong_parties().iter() {
         assert!(rt; check(rt.alloc(), &tables, row)?, "{}", row.0);
     }
     Ok(())
 }
 
-#[test]
-fn instructions_are_told_together(rt: HostRuntime) -> Result<(), Fail> {
-    let tables = tables(rt.alloc())?;
-    let rows: [Refused; 6] = [
+fn wrong_together() -> [Refused<'static>; 6] {
+    [
         (1, b":23B:CRED\n:23E:PHON\n:23E:PHON\n", E46, b"23E", 2),
         (
             1,
@@ -342,17 +389,20 @@ fn instructions_are_told_together(rt: HostRuntime) -> Result<(), Fail> {
             b"23E",
             3,
         ),
-    ];
-    for row in rows.iter() {
+    ]
+}
+
+#[test]
+fn instructions_are_told_together(rt: HostRuntime) -> Result<(), Fail> {
+    let tables = tables(rt.alloc())?;
+    for row in wrong_together().iter() {
         assert!(rt; check(rt.alloc(), &tables, row)?, "{}", row.0);
     }
     Ok(())
 }
 
-#[test]
-fn the_first_fault_of_a_text_is_told(rt: HostRuntime) -> Result<(), Fail> {
-    let tables = tables(rt.alloc())?;
-    let rows: [(&[u8], Code, &[u8; 3], u16); 4] = [
+fn texts() -> [(&'static [u8], Code, &'static [u8; 3], u16); 4] {
+    [
         (
             b":20:R/\n:23B:CREDI\n:32A:240603EUR0,\n:50K:P\n:59:P\n:71A:SHO\n",
             T26,
@@ -377,8 +427,13 @@ fn the_first_fault_of_a_text_is_told(rt: HostRuntime) -> Result<(), Fail> {
             b"71A",
             1,
         ),
-    ];
-    for (text, code, tag, nth) in rows {
+    ]
+}
+
+#[test]
+fn the_first_fault_of_a_text_is_told(rt: HostRuntime) -> Result<(), Fail> {
+    let tables = tables(rt.alloc())?;
+    for (text, code, tag, nth) in texts() {
         let want = Fault {
             code,
             tag: *tag,

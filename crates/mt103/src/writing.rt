@@ -50,11 +50,7 @@ fn push_instrs(alloc: Global, instrs: &[Instr], fields: &mut List<Field>) -> Res
     Ok(())
 }
 
-fn push_kind(
-    alloc: Global,
-    kind: &Option<[u8; 3]>,
-    fields: &mut List<Field>,
-) -> Result<(), Memory>
+fn push_kind(alloc: Global, kind: &Option<[u8; 3]>, fields: &mut List<Field>) -> Result<(), Memory>
     ensures { OnOk result (fields.new ≡ fields.old ++ some_field (line_field 26 (Some 84)) kind.now) }
 {
     match kind {

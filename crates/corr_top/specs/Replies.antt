@@ -1,0 +1,29 @@
+-- What a reader of messages answers, against what is meant.
+use Rattle.std.specs.Prelude.{◌≡◌, Result, Ok, Err}
+use Rattle.corr_ids.specs.declared.mir.Mir.{Mir}
+use Rattle.fin_message.specs.declared.fault.MessageFault.{MessageFault}
+use Rattle.fin_message.specs.declared.fault.MessageFault.TheVariants as message
+use Rattle.corr_top.specs.declared.interim.PlanFault.{PlanFault}
+use Rattle.corr_top.specs.declared.interim.PlanFault.TheVariants as plan
+use Rattle.corr_top.specs.declared.message.NoPay.{NoPay}
+use Rattle.corr_top.specs.declared.message.NoPay.TheVariants.{Refused, Unrouted}
+use Rattle.corr_top.specs.declared.message.Stop.{Stop}
+use Rattle.corr_top.specs.declared.message.Stop.TheVariants as stop
+
+abbrev pub stop_of_verdict : MessageFault → Stop
+stop_of_verdict (message.Refused mir fault) = stop.NoPay (Refused mir fault)
+stop_of_verdict message.Memory = stop.Memory
+
+abbrev pub stop_of_plan : Mir → PlanFault → Stop
+stop_of_plan mir (plan.Code code) = stop.NoPay (Unrouted mir code)
+stop_of_plan mir plan.Memory = stop.Memory
+
+-- an error is the reason that is meant, or want of memory
+abbrev pub FailsAs : {A : Type 0} → Stop → Result A NoPay → Type 0
+FailsAs (stop.NoPay why) meant = meant ≡ Err why
+FailsAs stop.Memory meant = Unit {0}
+
+-- what was read is what is meant
+abbrev pub ReadsAs : {A : Type 0} → Result A Stop → Result A NoPay → Type 0
+ReadsAs (Ok x) meant = meant ≡ Ok x
+ReadsAs (Err e) meant = FailsAs e meant

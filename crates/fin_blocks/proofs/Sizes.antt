@@ -1,0 +1,257 @@
+-- The text of a message has no more lines than the message has bytes, and at most twice as many bytes, since a line end
+-- becomes CR LF.
+use Rattle.std.proofs.Common.{◌≡◌, ℕ, zero, suc, ◌+◌, ◌-◌, ◌*◌, ◌==◌, ◌&&◌, not, ◌≤◌, Bool, true, false, cond, List, [], ◌∷◌, ◌++◌, length, take, drop, Option, Some, None, Result, Ok, Err, refl, sym, ap, ◌∙◌, subst, arith, length-append, length-drop, append_assoc}
+use Rattle.std.specs.Prelude.{IfOk, IfSome, bytes_eq, codes, nat_le}
+use Rattle.std.specs.List.{flat_map, list_all}
+use Rattle.std.specs.Option.{option_or}
+use Rattle.std.proofs.lemmas.Bool.{and_parts, not-true}
+use Rattle.std.proofs.lemmas.Bool.Decides.{nat_tests}
+use Rattle.std.proofs.lemmas.List.{length-take}
+use Rattle.corr_text.specs.First.{check, or_fault, ◌>>=◌}
+use Rattle.corr_text.specs.Lines.{begins_with, lines_of, with_byte as with_line_byte}
+use Rattle.corr_ids.specs.Day.{◌>>=◌ as ◌then◌}
+use Rattle.fin_blocks.specs.Blocks.{are_last, behind, blocks_of, has_next, trailers_of, user_of}
+use Rattle.fin_blocks.specs.Forms.{app_of, basic_of, between, mir_in}
+use Rattle.fin_blocks.specs.Groups.{after, depth_after, groups_of, next, pieces_from, with_byte}
+use Rattle.fin_blocks.specs.Text.{ended, text_in, text_of}
+use Rattle.fin_blocks.specs.declared.blocks.Blocks.{Blocks}
+use Rattle.fin_blocks.specs.declared.fault.BlockFault.TheVariants as fault
+use Rattle.fin_blocks.specs.declared.fault.TheConstants.{P01, P02, P03, P04, P05, P06}
+
+-- ---- pieces of at most n bytes
+
+abbrev AreSmall : ℕ → List (List ℕ) → Type 0
+AreSmall n [] = Unit {0}
+AreSmall n (piece ∷ pieces) = (length piece ≤ n) × AreSmall n pieces
+
+still-small : (n : ℕ) (pieces : List (List ℕ)) → AreSmall n pieces → AreSmall (suc n) pieces
+still-small n [] small = tt
+still-small n (piece ∷ pieces) small = (let le = small.0 in omega arith, still-small n pieces small.1)
+
+small-with : (n b : ℕ) (pieces : List (List ℕ)) → AreSmall n pieces → AreSmall (suc n) (with_byte b pieces)
+small-with n b [] small = tt
+small-with n b ([] ∷ pieces) small = (omega arith, still-small n pieces small.1)
+small-with n b ((c ∷ cs) ∷ pieces) small = (let le = small.0 in omega arith, still-small n pieces small.1)
+
+either : (n : ℕ) (t : Bool) (xs ys : List (List ℕ)) → AreSmall n xs → AreSmall n ys → AreSmall n (cond t xs ys)
+either n true xs ys a b = a
+either n false xs ys a b = b
+
+pieces-small : (depth : ℕ) (bs : List ℕ) → AreSmall (length bs) (pieces_from depth bs)
+pieces-small depth [] = either zero (depth == 0) [] ([] ∷ []) tt (omega arith, tt)
+pieces-small depth (b ∷ bs) =
+    either (suc (length bs)) (depth_after depth b == 0) ((b ∷ []) ∷ pieces_from 0 bs) (with_byte b (pieces_from (depth_after depth b) bs))
+    (omega arith, still-small (length bs) (pieces_from 0 bs) (pieces-small 0 bs))
+    (small-with (length bs) b (pieces_from (depth_after depth b) bs) (pieces-small (depth_after depth b) bs))
+
+groups-small : (bs : List ℕ) → AreSmall (length bs) (groups_of bs)
+unfolding groups_of
+groups-small bs = pieces-small 0 bs
+
+next-small : (n : ℕ) (groups : List (List ℕ)) → AreSmall n groups → length (next groups) ≤ n
+next-small n [] small = omega arith
+next-small n (group ∷ groups) small = small.0
+
+after-small : (n : ℕ) (groups : List (List ℕ)) → AreSmall n groups → AreSmall n (after groups)
+after-small n [] small = tt
+after-small n (group ∷ groups) small = small.1
+
+behind-small : (n : ℕ) (start : List ℕ) (groups : List (List ℕ)) → AreSmall n groups → AreSmall n (behind start groups)
+behind-small n start groups small = either n (has_next start groups) (after groups) groups (after-small n groups small) small
+
+-- ---- lines, each with a new end
+
+line-size : (line : List ℕ) (lines : List (List ℕ)) → length (flat_map ended (line ∷ lines)) ≡ length line + 2 + length (flat_map ended lines)
+line-size line lines = let a = length-append (ended line) (flat_map ended lines) in let b = length-append line (13 ∷ 10 ∷ []) in omega arith
+
+with-size : (b : ℕ) (lines : List (List ℕ)) (n : ℕ) → length (flat_map ended lines) ≤ 2 * n + 1 → length (flat_map ended (with_line_byte b lines)) ≤ 2 * suc n + 1
+with-size b [] n le = omega arith
+with-size b (line ∷ lines) n le = let a = line-size line lines in let c = line-size (b ∷ line) lines in omega arith
+
+line-case : (end return : Bool) (b : ℕ) (lines : List (List ℕ)) (n : ℕ) → length (flat_map ended lines) ≤ 2 * n + 1
+    → length (flat_map ended (cond end ([] ∷ lines) (cond return lines (with_line_byte b lines)))) ≤ 2 * suc n + 1
+line-case true return b lines n le = let a = line-size [] lines in omega arith
+line-case false true b lines n le = omega arith
+line-case false false b lines n le = with-size b lines n le
+
+lines-size : (bs : List ℕ) → length (flat_map ended (lines_of bs)) ≤ 2 * length bs + 1
+lines-size [] = omega arith
+lines-size (b ∷ bs) = line-case (b == 10) ((b == 13) && begins_with 10 bs) b (lines_of bs) (length bs) (lines-size bs)
+
+-- no line holds a line feed, and so lines that are written with their ends are read again
+
+abbrev are_inner : List (List ℕ) → Bool
+are_inner lines = list_all (λ line. list_all (λ b. not (b == 10)) line) lines
+
+inner-with : (b : ℕ) (lines : List (List ℕ)) → (b == 10) ≡ false → are_inner lines ≡ true → are_inner (with_line_byte b lines) ≡ true
+inner-with b [] other inner = rw other refl
+inner-with b (line ∷ lines) other inner = rw other inner
+
+inner-case : (end return : Bool) (b : ℕ) (lines : List (List ℕ)) → (b == 10) ≡ end → are_inner lines ≡ true
+    → are_inner (cond end ([] ∷ lines) (cond return lines (with_line_byte b lines))) ≡ true
+inner-case true return b lines is inner = inner
+inner-case false true b lines is inner = inner
+inner-case false false b lines is inner = inner-with b lines is inner
+
+lines-inner : (bs : List ℕ) → are_inner (lines_of bs) ≡ true
+lines-inner [] = refl
+lines-inner (b ∷ bs) = inner-case (b == 10) ((b == 13) && begins_with 10 bs) b (lines_of bs) refl (lines-inner bs)
+
+begins-other : (line rest : List ℕ) → list_all (λ b. not (b == 10)) line ≡ true → begins_with 10 (line ++ 13 ∷ 10 ∷ rest) ≡ false
+begins-other [] rest inner = refl
+begins-other (c ∷ cs) rest inner = not-true (c == 10) (and_parts (not (c == 10)) (list_all (λ b. not (b == 10)) cs) inner).0
+
+and-false : (b : Bool) → (b && false) ≡ false
+and-false true = refl
+and-false false = refl
+
+line-again : (line rest : List ℕ) → list_all (λ b. not (b == 10)) line ≡ true → lines_of (line ++ 13 ∷ 10 ∷ rest) ≡ line ∷ lines_of rest
+line-again [] rest inner = refl
+line-again (b ∷ bs) rest inner =
+    let p = and_parts (not (b == 10)) (list_all (λ c. not (c == 10)) bs) inner in
+    rw (not-true (b == 10) p.0, begins-other bs rest p.1, and-false (b == 13)) (ap (with_line_byte b) (line-again bs rest p.1))
+
+ended-again : (lines : List (List ℕ)) → are_inner lines ≡ true → lines_of (flat_map ended lines) ≡ lines
+ended-again [] inner = refl
+ended-again (line ∷ lines) inner =
+    let p = and_parts (list_all (λ b. not (b == 10)) line) (are_inner lines) inner in
+    ap lines_of (append_assoc line (13 ∷ 10 ∷ []) (flat_map ended lines)) ∙ line-again line (flat_map ended lines) p.0 ∙ ap (λ ls. line ∷ ls) (ended-again lines p.1)
+
+with-few : (b : ℕ) (lines : List (List ℕ)) (n : ℕ) → length lines ≤ n → length (with_line_byte b lines) ≤ suc n
+with-few b [] n le = omega arith
+with-few b (line ∷ lines) n le = omega arith
+
+few-case : (end return : Bool) (b : ℕ) (lines : List (List ℕ)) (n : ℕ) → length lines ≤ n → length (cond end ([] ∷ lines) (cond return lines (with_line_byte b lines))) ≤ suc n
+few-case true return b lines n le = omega arith
+few-case false true b lines n le = omega arith
+few-case false false b lines n le = with-few b lines n le
+
+lines-few : (bs : List ℕ) → length (lines_of bs) ≤ length bs
+lines-few [] = omega arith
+lines-few (b ∷ bs) = few-case (b == 10) ((b == 13) && begins_with 10 bs) b (lines_of bs) (length bs) (lines-few bs)
+
+-- a text that came of this many bytes
+record Sized (n : ℕ) (text : List ℕ) : Type 0 where
+  lines : length (lines_of text) ≤ n
+  bytes : length text ≤ 2 * n
+
+text-in-sized : (bs : List ℕ) (n : ℕ) → length bs + 6 ≤ n → Sized n (text_in bs)
+unfolding text_in
+text-in-sized bs n le = record {
+  lines = omega (arith, ap length (ended-again (lines_of bs) (lines-inner bs)), lines-few bs);
+  bytes = omega (arith, lines-size bs);
+}
+
+-- ---- what stands between a start and an end, and the text of block 4
+
+when-some : (P : List ℕ → Type 0) (t : Bool) (bs : List ℕ) → (t ≡ true → P bs) → IfSome (cond t (Some bs) None) P
+when-some P true bs p = p refl
+when-some P false bs p = tt
+
+fits : (k n : ℕ) (b c : Bool) → (nat_le k n && b && c) ≡ true → k ≤ n
+fits k n b c h = grind (arith, nat_tests)
+
+part-size : (k n j : ℕ) (group : List ℕ) → n ≡ length group → k ≤ n → length (take (n - k) (drop j group)) + k ≤ n
+part-size k n j group e le = let a = length-take (n - k) (drop j group) in let b = length-drop j group in omega arith
+
+between-size : (start end group : List ℕ) → IfSome (between start end group) (λ bs. length bs + (length start + length end) ≤ length group)
+unfolding between
+between-size start end group =
+    when-some (λ bs. length bs + (length start + length end) ≤ length group) _ (take (length group - (length start + length end)) (drop (length start) group))
+    (λ h. part-size (length start + length end) (length group) (length start) group refl (fits (length start + length end) (length group) _ _ h))
+
+or-some : (P : List ℕ → Type 0) (o p : Option (List ℕ)) → IfSome o P → IfSome p P → IfSome (option_or o p) P
+or-some P None p a b = b
+or-some P (Some bs) p a b = a
+
+then-some : (P Q : List ℕ → Type 0) (o : Option (List ℕ)) (f : List ℕ → Option (List ℕ)) → IfSome o P → ((bs : List ℕ) → P bs → IfSome (f bs) Q) → IfSome (o then f) Q
+then-some P Q None f a b = tt
+then-some P Q (Some bs) f a b = b bs a
+
+weaker : (P Q : List ℕ → Type 0) (o : Option (List ℕ)) → ((bs : List ℕ) → P bs → Q bs) → IfSome o P → IfSome o Q
+weaker P Q None f a = tt
+weaker P Q (Some bs) f a = f bs a
+
+text-of-sized : (group : List ℕ) (n : ℕ) → length group ≤ n → IfSome (text_of group) (Sized n)
+unfolding text_of
+text-of-sized group n le =
+    let P : List ℕ → Type 0 = λ bs. length bs + 6 ≤ n in
+    let crlf : List ℕ = codes "{4:" ++ 13 ∷ 10 ∷ [] in
+    let lf : List ℕ = codes "{4:" ++ 10 ∷ [] in
+    then-some P (Sized n) (option_or (between crlf (codes "-}") group) (between lf (codes "-}") group)) _
+    (or-some P _ _
+    (weaker (λ bs. length bs + 7 ≤ length group) P (between crlf (codes "-}") group) (λ bs h. omega arith) (between-size crlf (codes "-}") group))
+    (weaker (λ bs. length bs + 6 ≤ length group) P (between lf (codes "-}") group) (λ bs h. omega arith) (between-size lf (codes "-}") group)))
+    (λ bs h. when-some (Sized n) _ (text_in bs) (λ _. text-in-sized bs n h))
+
+-- ---- the text of a message: what holds of it holds of the fifth of seven steps
+
+step-7 : {A7 B F : Type 0} (P : B → Type 0) (r7 : Result A7 F) (y : B) → P y → IfOk (r7 >>= λ last. Ok y) P
+step-7 P (Ok x) y p = p
+step-7 P (Err e) y p = tt
+
+step-6 : {A6 A7 B F : Type 0} (P : B → Type 0) (r6 : Result A6 F) (r7 : Result A7 F) (z : A6 → B) → ((t : A6) → P (z t)) → IfOk (r6 >>= λ t. r7 >>= λ last. Ok (z t)) P
+step-6 P (Ok t) r7 z p = step-7 P r7 (z t) (p t)
+step-6 P (Err e) r7 z p = tt
+
+step-5 : {A5 A6 A7 B F : Type 0} (P : B → Type 0) (r5 : Result A5 F) (r6 : Result A6 F) (r7 : Result A7 F) (z : A5 → A6 → B) → ((x : A5) → r5 ≡ Ok x → (t : A6) → P (z x t))
+    → IfOk (r5 >>= λ x. r6 >>= λ t. r7 >>= λ last. Ok (z x t)) P
+step-5 P (Ok x) r6 r7 z p = step-6 P r6 r7 (z x) (p x refl)
+step-5 P (Err e) r6 r7 z p = tt
+
+step-4 : {A4 A5 A6 A7 B F : Type 0} (P : B → Type 0) (r4 : Result A4 F) (r5 : Result A5 F) (r6 : Result A6 F) (r7 : Result A7 F) (z : A4 → A5 → A6 → B) → ((u : A4) (x : A5) → r5 ≡ Ok x → (t : A6) → P (z u x t))
+    → IfOk (r4 >>= λ u. r5 >>= λ x. r6 >>= λ t. r7 >>= λ last. Ok (z u x t)) P
+step-4 P (Ok u) r5 r6 r7 z p = step-5 P r5 r6 r7 (z u) (p u)
+step-4 P (Err e) r5 r6 r7 z p = tt
+
+step-3 : {A3 A4 A5 A6 A7 B F : Type 0} (P : B → Type 0) (r3 : Result A3 F) (r4 : A3 → Result A4 F) (r5 : A3 → Result A5 F) (r6 : A3 → Result A6 F) (r7 : A3 → Result A7 F) (z : A3 → A4 → A5 → A6 → B)
+    → ((a : A3) (u : A4) (x : A5) → r5 a ≡ Ok x → (t : A6) → P (z a u x t))
+    → IfOk (r3 >>= λ a. r4 a >>= λ u. r5 a >>= λ x. r6 a >>= λ t. r7 a >>= λ last. Ok (z a u x t)) P
+step-3 P (Ok a) r4 r5 r6 r7 z p = step-4 P (r4 a) (r5 a) (r6 a) (r7 a) (z a) (p a)
+step-3 P (Err e) r4 r5 r6 r7 z p = tt
+
+step-2 : {A2 A3 A4 A5 A6 A7 B F : Type 0} (P : B → Type 0) (r2 : Result A2 F) (r3 : Result A3 F) (r4 : A3 → Result A4 F) (r5 : A3 → Result A5 F) (r6 : A3 → Result A6 F) (r7 : A3 → Result A7 F) (z : A3 → A4 → A5 → A6 → B)
+    → ((a : A3) (u : A4) (x : A5) → r5 a ≡ Ok x → (t : A6) → P (z a u x t))
+    → IfOk (r2 >>= λ version. r3 >>= λ a. r4 a >>= λ u. r5 a >>= λ x. r6 a >>= λ t. r7 a >>= λ last. Ok (z a u x t)) P
+step-2 P (Ok version) r3 r4 r5 r6 r7 z p = step-3 P r3 r4 r5 r6 r7 z p
+step-2 P (Err e) r3 r4 r5 r6 r7 z p = tt
+
+step-1 : {A1 A2 A3 A4 A5 A6 A7 B F : Type 0} (P : B → Type 0) (r1 : Result A1 F) (r2 : A1 → Result A2 F) (r3 : Result A3 F) (r4 : A3 → Result A4 F) (r5 : A3 → Result A5 F) (r6 : A3 → Result A6 F) (r7 : A3 → Result A7 F) (z : A1 → A3 → A4 → A5 → A6 → B)
+    → ((y : A1) (a : A3) (u : A4) (x : A5) → r5 a ≡ Ok x → (t : A6) → P (z y a u x t))
+    → IfOk (r1 >>= λ y. r2 y >>= λ version. r3 >>= λ a. r4 a >>= λ u. r5 a >>= λ x. r6 a >>= λ t. r7 a >>= λ last. Ok (z y a u x t)) P
+step-1 P (Ok y) r2 r3 r4 r5 r6 r7 z p = step-2 P (r2 y) r3 r4 r5 r6 r7 (z y) (p y)
+step-1 P (Err e) r2 r3 r4 r5 r6 r7 z p = tt
+
+found : {F : Type 0} (o : Option (List ℕ)) (fault : F) (x : List ℕ) → or_fault o fault ≡ Ok x → o ≡ Some x
+found (Some y) fault x e = ap (λ (z : List ℕ). Some z) (let same : y ≡ x = cc in same)
+found None fault x e = absurd (cc e)
+
+blocks-sized : (m : List ℕ) → IfOk (blocks_of m) (λ b. Sized (length m) b.text)
+unfolding blocks_of
+blocks-sized m =
+    let third = after (after (groups_of m)) in
+    let fourth = behind (codes "{3:") third in
+    let fifth = after fourth in
+    step-1 (λ (b : Blocks). Sized (length m) b.text)
+    (or_fault (basic_of (next (groups_of m))) (fault.Bad P01 None))
+    (λ basic. check (bytes_eq basic.version (codes "01")) (fault.Bad P02 None))
+    (or_fault (app_of (next (after (groups_of m)))) (fault.Bad P03 None))
+    (λ app. or_fault (user_of third) (fault.Bad P04 (mir_in app)))
+    (λ app. or_fault (text_of (next fourth)) (fault.Bad P05 (mir_in app)))
+    (λ app. or_fault (trailers_of fifth) (fault.Bad P06 (mir_in app)))
+    (λ app. check (are_last (behind (codes "{5:") fifth)) (fault.Bad P06 (mir_in app)))
+    (λ basic app user text trailers. record { own = basic.own; app = app; user = user; text = text; trailers = trailers })
+    (λ basic app user text is trailers. sized text (found (text_of (next fourth)) (fault.Bad P05 (mir_in app)) text is))
+  where
+    sized : (text : List ℕ) → text_of (next (behind (codes "{3:") (after (after (groups_of m))))) ≡ Some text → Sized (length m) text
+    sized text is =
+        let group = next (behind (codes "{3:") (after (after (groups_of m)))) in
+        let short : length group ≤ length m = next-small (length m) (behind (codes "{3:") (after (after (groups_of m))))
+        (behind-small (length m) (codes "{3:") (after (after (groups_of m))) (after-small (length m) (after (groups_of m)) (after-small (length m) (groups_of m) (groups-small m)))) in
+        subst (λ o. IfSome o (Sized (length m))) is (text-of-sized group (length m) short)
+
+pub text_lines : (m : List ℕ) (b : Blocks) → blocks_of m ≡ Ok b → length (lines_of b.text) ≤ length m
+text_lines m b e = (subst (λ r. IfOk r (λ x. Sized (length m) x.text)) e (blocks-sized m)).lines
+
+pub text_bytes : (m : List ℕ) (b : Blocks) → blocks_of m ≡ Ok b → length b.text ≤ 2 * length m
+text_bytes m b e = (subst (λ r. IfOk r (λ x. Sized (length m) x.text)) e (blocks-sized m)).bytes

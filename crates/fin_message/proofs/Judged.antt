@@ -1,0 +1,102 @@
+-- What a message has that passes every test.
+use Rattle.std.proofs.Common.{◌≡◌, ℕ, ◌*◌, ◌≤◌, ◌==◌, Bool, true, false, cond, List, [], ◌∷◌, length, Option, Result, Ok, Err, refl, sym, subst}
+use Rattle.std.specs.Prelude.{IfOk, codes}
+use Rattle.corr_text.specs.First.{unless}
+use Rattle.corr_text.specs.declared.fault.Fault.{Fault}
+use Rattle.corr_ids.specs.declared.bic.Bic.{Bic}
+use Rattle.corr_ids.specs.declared.address.LtAddress.{LtAddress}
+use Rattle.corr_ids.specs.declared.uetr.Uetr.{Uetr}
+use Rattle.fin_blocks.specs.Blocks.{blocks_of}
+use Rattle.fin_blocks.specs.declared.blocks.App.{App}
+use Rattle.fin_blocks.specs.declared.blocks.App.TheVariants as form
+use Rattle.fin_blocks.specs.declared.blocks.Blocks.{Blocks}
+use Rattle.fin_blocks.specs.declared.fault.BlockFault.{BlockFault}
+use Rattle.fin_blocks.proofs.Sizes.{text_bytes}
+use Rattle.fin_fields.specs.Fields.{fields_of}
+use Rattle.fin_layout.specs.Tests.{passed}
+use Rattle.mt103.specs.Message.{mt103_of}
+use Rattle.mt103.specs.declared.message.Mt103.{Mt103}
+use Rattle.mt103_rules.specs.Rules.{all_rules}
+use Rattle.ref_tables.specs.Seen.{Tables}
+use Rattle.fin_message.specs.Answers.{Answers}
+use Rattle.fin_message.specs.Heading.{at_block, has_form, heading_tests}
+use Rattle.fin_message.specs.Parts.{envelope_of, envelope_with, type_of, uetr_in}
+use Rattle.fin_message.specs.Sound.{Goes, HasAmount, IsAmount, IsOfForm, IsRead, IsSound, lines_in}
+use Rattle.fin_message.specs.Verdict.{Refused, blocks_in, judged, line_test, message_of, told_of, transfer_of}
+use Rattle.fin_message.specs.declared.codes.TheConstants.{P07, P90}
+use Rattle.fin_message.specs.declared.direction.Direction.{Direction}
+use Rattle.fin_message.specs.declared.direction.Direction.TheVariants.{Received, Sent}
+use Rattle.fin_message.specs.declared.fault.MessageFault.{MessageFault}
+use Rattle.fin_message.specs.declared.message.Message.{Message}
+use Rattle.fin_message.proofs.Amounts.{then, transfer-amount}
+
+of-form : (way : Direction) (own : LtAddress) (app : App) (uetr : Option Uetr) → has_form way app ≡ true → IsOfForm way (envelope_with own app uetr)
+of-form Received own (form.Received mt mir) uetr e = refl
+of-form Received own (form.Sent mt to) uetr e = absurd (cc e)
+of-form Sent own (form.Received mt mir) uetr e = absurd (cc e)
+of-form Sent own (form.Sent mt to) uetr e = refl
+
+first-holds : (holds : Bool) (fault : Fault) (others : List (Option Fault)) (x : Unit {0}) → passed (unless holds fault ∷ others) ≡ Ok x → holds ≡ true
+first-holds true fault others x e = refl
+first-holds false fault others x e = absurd (cc e)
+
+-- what a message says that came of blocks
+record Says (way : Direction) (t : Tables) (text : List ℕ) (x : Message) : Type 0 where
+  goes : Goes way x
+  read : IsRead t x
+  amount : HasAmount x
+  lines : lines_in x ≡ text
+
+transfer-says : (way : Direction) (t : Tables) (b : Blocks) → has_form way b.app ≡ true → IfOk (transfer_of t b) (Says way t b.text)
+unfolding transfer_of
+transfer-says way t b e =
+    let P : Message → Type 0 = Says way t b.text in
+    then P (mt103_of t (fields_of b.text)) _ (λ transfer read.
+    then P (passed (all_rules (envelope_of b).sender (envelope_of b).receiver t transfer)) _ (λ _ _.
+    record {
+      goes = of-form way b.own b.app (uetr_in b) e;
+      read = read;
+      amount = subst (λ r. IfOk r (λ (m : Mt103). IsAmount m.amount)) read (transfer-amount t (fields_of b.text));
+      lines = refl;
+    }))
+
+either-ok : (P : Message → Type 0) (test : Bool) (r : Result Message Fault) (fault : Fault) → IfOk r P → IfOk (cond test r (Err fault)) P
+either-ok P true r fault p = p
+either-ok P false r fault p = tt
+
+message-says : (way : Direction) (home : Bic) (t : Tables) (b : Blocks) → IfOk (message_of way home t b) (Says way t b.text)
+unfolding message_of
+message-says way home t b =
+    let P : Message → Type 0 = Says way t b.text in
+    then P (passed (heading_tests way home t b)) _ (λ x e.
+    then P (passed (line_test b.text ∷ [])) _ (λ _ _.
+    either-ok P (type_of b.app == 103) (transfer_of t b) (at_block P90 (codes "B4 "))
+    (transfer-says way t b (first-holds (has_form way b.app) (at_block P07 (codes "B2 ")) _ x e))))
+
+told-says : (P : Message → Type 0) (b : Blocks) (r : Result Message Fault) → IfOk r P → IfOk (told_of b r) P
+told-says P b (Ok x) p = p
+told-says P b (Err e) p = tt
+
+read-blocks : (r : Result Blocks BlockFault) (b : Blocks) → blocks_in r ≡ Ok b → r ≡ Ok b
+read-blocks (Ok x) b e = cc e
+read-blocks (Err fault) b e = absurd (cc e)
+
+judged-sound : (way : Direction) (home : Bic) (t : Tables) (m : List ℕ) → IfOk (judged way home t m) (IsSound way t (2 * length m))
+unfolding judged
+judged-sound way home t m =
+    let P : Message → Type 0 = IsSound way t (2 * length m) in
+    then P (blocks_in (blocks_of m)) _ (λ b e. told-says P b (message_of way home t b)
+    (weaker (message_of way home t b) (Says way t b.text) P
+    (λ x says. record { goes = says.goes; read = says.read; amount = says.amount; short = subst (λ text. length text ≤ 2 * length m) (sym says.lines) (text_bytes m b (read-blocks (blocks_of m) b e)) })
+    (message-says way home t b)))
+  where
+    weaker : (r : Result Message Fault) (P Q : Message → Type 0) → ((x : Message) → P x → Q x) → IfOk r P → IfOk r Q
+    weaker (Ok x) P Q f p = f x p
+    weaker (Err e) P Q f p = tt
+
+answered : (P : Message → Type 0) (r : Result Message MessageFault) (meant : Result Message Refused) → Answers r meant → IfOk meant P → IfOk r P
+answered P (Ok x) meant a p = subst (λ o. IfOk o P) a p
+answered P (Err e) meant a p = tt
+
+pub sound : (way : Direction) (home : Bic) (t : Tables) (m : List ℕ) (r : Result Message MessageFault) → Answers r (judged way home t m) → IfOk r (IsSound way t (2 * length m))
+sound way home t m r a = answered (IsSound way t (2 * length m)) r (judged way home t m) a (judged-sound way home t m)

@@ -1,0 +1,33 @@
+-- What the code answers, against what is meant.
+use Rattle.std.specs.Prelude.{◌≡◌, Result, Ok, Err, codes}
+use Rattle.fin_blocks.specs.declared.fault.BlockFault.{BlockFault}
+use Rattle.fin_blocks.specs.declared.fault.BlockFault.TheVariants as block
+use Rattle.fin_fields.specs.declared.fault.FieldFault.{FieldFault}
+use Rattle.fin_fields.specs.declared.fault.FieldFault.TheVariants as field
+use Rattle.fin_layout.specs.declared.fault.MtFault.{MtFault}
+use Rattle.fin_layout.specs.declared.fault.MtFault.TheVariants as mt
+use Rattle.fin_message.specs.Heading.{at_block}
+use Rattle.fin_message.specs.Verdict.{Refused, block_tag}
+use Rattle.fin_message.specs.declared.codes.TheConstants.{P20, P21}
+use Rattle.fin_message.specs.declared.fault.MessageFault.{MessageFault}
+use Rattle.fin_message.specs.declared.fault.MessageFault.TheVariants as message
+
+-- an error is the refusal that is meant, or want of memory
+abbrev pub Refuses : {A : Type 0} → MessageFault → Result A Refused → Type 0
+Refuses (message.Refused mir fault) meant = meant ≡ Err (mir, fault)
+Refuses message.Memory meant = Unit {0}
+
+-- an answer is the one that is meant, or want of memory
+abbrev pub Answers : {A : Type 0} → Result A MessageFault → Result A Refused → Type 0
+Answers (Ok x) meant = meant ≡ Ok x
+Answers (Err e) meant = Refuses e meant
+
+-- faults of blocks and of lines, as the code carries them
+abbrev pub fault_of_blocks : BlockFault → MessageFault
+fault_of_blocks (block.Bad code mir) = message.Refused mir (at_block code (block_tag code))
+fault_of_blocks block.Memory = message.Memory
+
+abbrev pub fault_of_fields : FieldFault → MtFault
+fault_of_fields (field.P20 line) = mt.Bad (record { code = P20; tag = codes "B4 "; nth = line })
+fault_of_fields (field.P21 tag nth) = mt.Bad (record { code = P21; tag = tag; nth = nth })
+fault_of_fields field.Memory = mt.Memory

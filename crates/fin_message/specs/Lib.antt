@@ -1,0 +1,5 @@
+pub mod Parts
+pub mod Heading
+pub mod Verdict
+pub mod Answers
+pub mod Sound

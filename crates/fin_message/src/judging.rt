@@ -1,0 +1,111 @@
+//! The verdict on a message.
+
+ghost use Rattle.std.specs.Prelude.{◌≡◌, ◌≤◌, ◌*◌, IfOk, length};
+ghost use Rattle.corr_text.specs.Lines.{lines_of};
+ghost use Rattle.fin_fields.specs.Fields.{fields_of};
+ghost use Rattle.fin_layout.specs.Reading.{Gives};
+ghost use Rattle.fin_message.specs.Answers.{Answers};
+ghost use Rattle.fin_message.specs.Sound.{IsSound};
+ghost use Rattle.fin_message.specs.Verdict.{judged, message_in, message_of, sent_verdict_of, verdict_of};
+
+use crate::codes::P90;
+use crate::direction::Direction;
+use crate::fault::{MessageFault, at_block};
+use crate::fields::read_fields;
+use crate::heading::heading_fault;
+use crate::message::Message;
+use crate::parts::{reference, type_of};
+use crate::transfer::read_transfer;
+use corr_ids::Bic;
+use fin_blocks::{Blocks, read_blocks};
+use fin_fields::Field;
+use fin_layout::MtFault;
+use ref_tables::RefTables;
+use std::alloc::Global;
+
+/// The message that blocks and their fields say, by its type. `Bad`: the first test of the type that it fails.
+fn read_of_type(
+    alloc: Global,
+    t: &RefTables,
+    blocks: Blocks,
+    fields: &[Field],
+) -> Result<Message, MtFault>
+    requires few { length fields.now ≤ 65535 }
+    requires same { fields.now ≡ fields_of blocks.text }
+    ensures { Gives result (message_in t.now blocks) }
+{
+    match type_of(&blocks.app) {
+        103 => read_transfer(alloc, t, blocks, fields),
+        _ => Err(MtFault::Bad(at_block(P90, *b"B4 "))),
+    }
+}
+
+/// The message that blocks say. `Bad`: the first test behind those of the blocks that it fails.
+#[tactic(auto, unfolding(crate::specs::Verdict::message_of))]
+fn read_message(
+    alloc: Global,
+    way: Direction,
+    home: &Bic,
+    t: &RefTables,
+    blocks: Blocks,
+) -> Result<Message, MtFault>
+    requires { length (lines_of blocks.text) ≤ 65535 }
+    ensures { Gives result (message_of way home.now t.now blocks) }
+{
+    if let Some(fault) = heading_fault(way, home, t, &blocks) {
+        return Err(MtFault::Bad(fault));
+    }
+    let fields = read_fields(alloc, blocks.text.bytes())?;
+    read_of_type(alloc, t, blocks, fields.as_slice())
+}
+
+#[tactic(auto, unfolding(crate::specs::Verdict::judged))]
+fn judge(
+    alloc: Global,
+    way: Direction,
+    home: &Bic,
+    t: &RefTables,
+    m: &[u8],
+) -> Result<Message, MessageFault>
+    requires { length m.now ≤ 65535 }
+    ensures { Answers result (judged way home.now t.now m.now) }
+{
+    let blocks = read_blocks(alloc, m)?;
+    let mir = reference(&blocks.app);
+    match read_message(alloc, way, home, t, blocks) {
+        Ok(message) => Ok(message),
+        Err(MtFault::Bad(fault)) => Err(MessageFault::Refused { mir, fault }),
+        Err(MtFault::Memory) => Err(MessageFault::Memory),
+    }
+}
+
+/// What a message says that the home bank received, or the first test that it fails (docs/messages.md, "The tests of a
+/// message"): its blocks (P01 to P06), what they say (P07 to P13), its lines and characters (P20, P21), then by its type
+/// the order of its fields, their contents and its rules. P90 is a type whose fields are not read.
+///
+/// The message's reference is told with the fault where blocks 1 and 2 are read (none of P01 to P03 holds) and block 2 is
+/// of output form. A message has at most 65,535 bytes.
+#[tactic(auto, using(crate::proofs::Judged::sound))]
+pub fn verdict(alloc: Global, m: &[u8], home: &Bic, t: &RefTables) -> Result<Message, MessageFault>
+    requires { length m.now ≤ 65535 }
+    ensures value { Answers result (verdict_of home.now t.now m.now) }
+    ensures sound { IfOk result (IsSound Direction.Received t.now (2 * length m.now)) }
+{
+    judge(alloc, Direction::Received, home, t, m)
+}
+
+/// The same of a message that the home bank sends: block 2 is of input form (else P07) and names the receiver, who is in
+/// the table of banks (else P12); block 1 is the home bank's, as in a received message.
+#[tactic(auto, using(crate::proofs::Judged::sound))]
+pub fn check_sent(
+    alloc: Global,
+    m: &[u8],
+    home: &Bic,
+    t: &RefTables,
+) -> Result<Message, MessageFault>
+    requires { length m.now ≤ 65535 }
+    ensures value { Answers result (sent_verdict_of home.now t.now m.now) }
+    ensures sound { IfOk result (IsSound Direction.Sent t.now (2 * length m.now)) }
+{
+    judge(alloc, Direction::Sent, home, t, m)
+}

@@ -1,0 +1,47 @@
+-- A record that was cut short before a piece came ends within that piece.
+use Rattle.std.proofs.Common.{◌≡◌, inl, inr, ℕ, suc, refl, ◌+◌, ◌-◌, ◌^◌, ◌<◌, ◌≤◌, List, [], ◌∷◌, ◌++◌, length, get_or, take, drop, sym, ◌∙◌, ap, arith, append_assoc, length-append}
+use Rattle.std.proofs.lemmas.List.{take_at}
+use Rattle.std.proofs.lemmas.Bool.{cases_lt}
+use Rattle.std.proofs.Math.Seq.{take-append-add}
+use Rattle.jrn_file.specs.Journal.{sized, behind_gates, AreOpen}
+use Rattle.jrn_file.specs.Opening.{IsWhole, IsNoJournal, IsShut}
+use Rattle.jrn_file.specs.Pieces.{IsTaken}
+
+-- a front that is longer than a record has it whole
+whole-in-front : (r next after piece : List ℕ) → length r < 2 ^ 32 → after ++ piece ≡ sized r ++ next → length (sized r) < length after → IsWhole after
+whole-in-front r [] after piece fits is long =
+    absurd (omega (arith, long, ap length is, length-append after piece, length-append (sized r) []))
+whole-in-front r (gate ∷ next) after piece fits is long =
+    let k = length after - length (sized r) - 1 in
+    let size : length after ≡ length (sized r) + suc k = omega (arith, long) in (
+      r,
+      record {
+        gate = gate;
+        rest = take k next;
+        fits = fits;
+        is = sym (take_at after piece (length after) refl)
+            ∙ ap (λ (l : List ℕ). take (length after) l) is
+            ∙ ap (λ (n : ℕ). take n (sized r ++ gate ∷ next)) size
+            ∙ take-append-add (sized r) (gate ∷ next) (suc k);
+      },
+    )
+
+pub in-last-piece : (held piece rest : List ℕ) (more : List (List ℕ)) → IsNoJournal held → (IsShut held → ⊥) → IsTaken (held ++ piece) more rest → IsShut rest
+    → length rest ≤ length piece
+in-last-piece [] piece rest more stopped open_gate taken shut =
+    omega (arith, ap length taken.is, length-append (behind_gates taken.entries) rest)
+in-last-piece (g ∷ after) piece rest more (inl closed) open_gate taken shut = absurd (open_gate closed)
+in-last-piece (g ∷ after) piece [] more (inr cut) open_gate taken shut = absurd shut
+in-last-piece (g ∷ after) piece (h ∷ rest) more (inr cut) open_gate taken shut = behind taken.entries taken.gates taken.is
+  where
+    behind : (entries : List (ℕ × List ℕ)) → AreOpen entries → g ∷ (after ++ piece) ≡ behind_gates entries ++ h ∷ rest → length (h ∷ rest) ≤ length piece
+    behind [] gates is = absurd (open_gate (ap (λ (l : List ℕ). get_or l 0 0) is ∙ shut))
+    behind (e ∷ entries) gates is =
+        let next = behind_gates entries ++ h ∷ rest in
+        let same : after ++ piece ≡ sized e.1 ++ next =
+        ap (λ (l : List ℕ). drop 1 l) is ∙ append_assoc (sized e.1) (behind_gates entries) (h ∷ rest) in
+        elim (cases_lt (length piece) (length (h ∷ rest))) [
+          | inl more_left ↦
+              absurd (cut (whole-in-front e.1 next after piece gates.1 same (omega (arith, more_left, ap length same, length-append after piece, length-append (sized e.1) next, length-append (behind_gates entries) (h ∷ rest)))))
+          | inr within ↦ within
+        ]

@@ -1,0 +1,45 @@
+-- A journal that was opened, and one that was refused.
+use Rattle.std.proofs.Common.{◌≡◌, ℕ, ◌+◌, Bool, IsTrue, List, length, sym, ◌∙◌, ap, subst, arith}
+use Rattle.corr_disk.specs.Disk.{Only}
+use Rattle.jrn_file.specs.Journal.{StandsFor}
+use Rattle.jrn_file.specs.File.{disk_of, end_of}
+use Rattle.jrn_file.specs.Opening.{IsNoJournal, IsDamagedAt, IsReadAs, ExplainsLoad, OpenCause, IsOpened}
+use Rattle.jrn_file.specs.Pieces.{OfBytes}
+use Rattle.jrn_file.specs.declared.file.JFile.{JFile}
+use Rattle.jrn_file.specs.declared.fault.OpenFault.{OpenFault}
+use Rattle.jrn_file.specs.declared.fault.OpenFault.TheVariants.{NotAJournal, Damaged, DiskFault, Memory}
+use Rattle.jrn_file.specs.declared.loading.LoadFault.TheVariants as load
+use Rattle.jrn_file.proofs.OneReading.{Explains}
+
+-- what holds of the bytes that a disk tells
+pub read-of : (honest : Bool) (reads : List ℕ) (end : ℕ) (all : List (List ℕ)) → OfBytes honest reads (λ bytes. IsReadAs bytes end all) → IsTrue honest → IsReadAs reads end all
+read-of honest reads end all some told = subst (λ b. IsReadAs b end all) (some.2 told) some.1
+
+pub explains-of : (honest : Bool) (reads : List ℕ) (fault : OpenFault) → ExplainsLoad honest reads (load.Refused fault) → IsTrue honest → Explains fault reads
+explains-of honest reads NotAJournal some told = subst IsNoJournal (some.2 told) some.1
+explains-of honest reads (Damaged at) some told = subst (λ b. IsDamagedAt b at) (some.2 told) some.1
+explains-of honest reads (DiskFault before after) some told = some
+explains-of honest reads Memory some told = tt
+
+pub cause-of : (old new : ℕ) (honest : Bool) (reads : List ℕ) (fault : OpenFault) → ExplainsLoad honest reads (load.Refused fault) → OpenCause old new honest reads fault
+cause-of old new honest reads NotAJournal some = λ told. explains-of honest reads NotAJournal some told
+cause-of old new honest reads (Damaged at) some = λ told. explains-of honest reads (Damaged at) some told
+cause-of old new honest reads (DiskFault before after) some = absurd some
+cause-of old new honest reads Memory some = tt
+
+-- the file of a disk that was read
+pub opened : {D : Type 0} (honest : D → Bool) (reads : D → List ℕ) (may_leave : D → List ℕ → Type 0) (file : JFile D) (old disk : D) (end : ℕ) (all : List (List ℕ))
+    → disk_of file ≡ disk → end_of file ≡ end → honest disk ≡ honest old → reads disk ≡ reads old → Only (reads disk) (may_leave disk)
+    → OfBytes (honest old) (reads old) (λ bytes. IsReadAs bytes end all) → IsOpened honest reads may_leave file all
+opened {D} honest reads may_leave file old disk end all disk_is end_is same_honest same_reads durable some = record {
+  head = some.1.head;
+  records = some.1.records;
+  all_is = some.1.all_is;
+  settled = record {
+    stands = λ told.
+        let here : reads (disk_of file) ≡ some.0 = ap reads disk_is ∙ same_reads ∙ sym (some.2 (subst IsTrue (ap honest disk_is ∙ same_honest) told)) in
+        subst (λ b. StandsFor b some.1.head some.1.records) (sym here) some.1.stands;
+    durable = λ told. subst (λ d. Only (reads d) (may_leave d)) (sym disk_is) durable;
+    place = ap (λ (n : ℕ). n + 1) end_is ∙ some.1.place;
+  };
+}

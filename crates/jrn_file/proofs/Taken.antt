@@ -1,0 +1,157 @@
+-- Records that are taken out of bytes.
+use Rattle.std.proofs.Common.{◌≡◌, ◌≢◌, ◌⊎◌, inl, inr, ℕ, ◌+◌, ◌-◌, ◌<◌, ◌≤◌, List, [], ◌∷◌, ◌++◌, length, map, get_or, take, drop, refl, sym, ◌∙◌, ap, subst, arith, append_assoc, length-append, length-drop}
+use Rattle.std.proofs.lemmas.List.{append-nil, map-append, drop_at, drop_more, drop-drop, drop_all, take_at, nil_from_length, take-append-le}
+use Rattle.std.proofs.lemmas.Bool.{cases_lt}
+use Rattle.jrn_file.specs.Journal.{sized, behind_gates, AreOpen}
+use Rattle.jrn_file.specs.Opening.{BeginsWith, IsWhole, IsNoJournal, IsShut, IsDamagedAt, IsReadAs}
+use Rattle.jrn_file.proofs.OneReading.{Explains}
+use Rattle.jrn_file.specs.Pieces.{IsTaken}
+use Rattle.jrn_file.specs.declared.fault.OpenFault.{OpenFault}
+use Rattle.jrn_file.specs.declared.fault.OpenFault.TheVariants.{NotAJournal, Damaged}
+use Rattle.jrn_file.proofs.Records.{size_of, length-behind_gates, length-journal_bytes, length-sized, behind_gates-append, AreOpen-append}
+
+pub taken-start : (bytes : List ℕ) → IsTaken bytes [] bytes
+taken-start bytes = record { entries = []; gates = tt; same = refl; is = refl; gate = inl refl }
+
+-- one record more
+pub taken-more : (bytes : List ℕ) (all : List (List ℕ)) (at : ℕ) (r : List ℕ) → IsTaken bytes all (drop at bytes) → at < length bytes → get_or bytes at 0 ≢ 0
+    → BeginsWith (drop (at + 1) bytes) r → IsTaken bytes (all ++ r ∷ []) (drop (at + (5 + length r)) bytes)
+taken-more bytes all at r taken within open_gate begins =
+    let gate = get_or bytes at 0 in
+    let entry : ℕ × List ℕ = (gate, r) in
+    let front = behind_gates taken.entries in
+    let next = begins.gate ∷ begins.rest in
+    let whole : bytes ≡ behind_gates (taken.entries ++ entry ∷ []) ++ next =
+    taken.is
+    ∙ ap (λ (l : List ℕ). front ++ l) (drop_more bytes at 0 within ∙ ap (λ (l : List ℕ). gate ∷ l) begins.is)
+    ∙ ap (λ (l : List ℕ). front ++ gate ∷ (l ++ next)) (sym (append-nil (sized r)))
+    ∙ sym (append_assoc front (gate ∷ (sized r ++ [])) next)
+    ∙ ap (λ (l : List ℕ). l ++ next) (sym (behind_gates-append taken.entries (entry ∷ []))) in
+    let size : at + (5 + length r) ≡ at + 1 + length (sized r) = omega (arith, length-sized r) in
+    let tail : drop (at + (5 + length r)) bytes ≡ next =
+    ap (λ (n : ℕ). drop n bytes) size
+    ∙ sym (drop-drop (length (sized r)) (at + 1) bytes)
+    ∙ ap (λ (l : List ℕ). drop (length (sized r)) l) begins.is
+    ∙ drop_at (sized r) next (length (sized r)) refl in
+    subst (λ l. IsTaken bytes (all ++ r ∷ []) l) (sym tail) (record {
+      entries = taken.entries ++ entry ∷ [];
+      gates = AreOpen-append taken.entries (entry ∷ []) taken.gates (open_gate, begins.fits, tt);
+      same = map-append (λ (e : ℕ × List ℕ). e.1) taken.entries (entry ∷ []) ∙ ap (λ (l : List (List ℕ)). l ++ r ∷ []) taken.same;
+      is = whole;
+      gate = inr (omega arith);
+    })
+
+-- a record behind this place ends within the bytes
+pub record-within : (bytes : List ℕ) (at : ℕ) (r : List ℕ) → BeginsWith (drop (at + 1) bytes) r → at + (5 + length r) ≤ length bytes
+record-within bytes at r begins =
+    omega (arith, ap length begins.is, length-drop (at + 1) bytes, length-append (sized r) (begins.gate ∷ begins.rest), length-sized r)
+
+-- no record stands here
+pub stops-shut : (bytes : List ℕ) (at : ℕ) → (at < length bytes → get_or bytes at 0 ≡ 0) → IsNoJournal (drop at bytes)
+stops-shut bytes at shut =
+    elim (cases_lt at (length bytes)) [
+      | inr past ↦ subst IsNoJournal (sym (drop_all at bytes past)) tt
+      | inl within ↦ subst IsNoJournal (sym (drop_more bytes at 0 within)) (inl (shut within))
+    ]
+
+pub stops-cut : (bytes : List ℕ) (at : ℕ) → at < length bytes → (IsWhole (drop (at + 1) bytes) → ⊥) → IsNoJournal (drop at bytes)
+stops-cut bytes at within cut = subst IsNoJournal (sym (drop_more bytes at 0 within)) (inr cut)
+
+no-entries : (entries : List (ℕ × List ℕ)) → length (map (λ (e : ℕ × List ℕ). e.1) entries) ≡ 0 → behind_gates entries ≡ []
+no-entries [] none = refl
+no-entries (e ∷ entries) none = absurd (omega (arith, none))
+
+-- the next bytes come
+pub taken-then : (bytes held piece rest : List ℕ) (all more : List (List ℕ)) → IsTaken bytes all held → IsTaken (held ++ piece) more rest
+    → IsTaken (bytes ++ piece) (all ++ more) rest
+taken-then bytes held piece rest all more one two = record {
+  entries = one.entries ++ two.entries;
+  gates = AreOpen-append one.entries two.entries one.gates two.gates;
+  same = map-append (λ (e : ℕ × List ℕ). e.1) one.entries two.entries ∙ ap (λ (l : List (List ℕ)). l ++ map (λ (e : ℕ × List ℕ). e.1) two.entries) one.same ∙ ap (λ (l : List (List ℕ)). all ++ l) two.same;
+  is = ap (λ (l : List ℕ). l ++ piece) one.is
+      ∙ append_assoc (behind_gates one.entries) held piece
+      ∙ ap (λ (l : List ℕ). behind_gates one.entries ++ l) two.is
+      ∙ sym (append_assoc (behind_gates one.entries) (behind_gates two.entries) rest)
+      ∙ ap (λ (l : List ℕ). l ++ rest) (sym (behind_gates-append one.entries two.entries));
+  gate = elim two.gate [
+    | inr some ↦ inr some
+    | inl none ↦ elim one.gate [
+      | inl none_before ↦ inl (ap (λ (l : List (List ℕ)). l ++ more) none_before ∙ none)
+      | inr some_held ↦ inr (omega (
+        arith,
+        some_held,
+        length-append held piece,
+        ap length (two.is ∙ ap (λ (l : List ℕ). l ++ rest) (no-entries two.entries (ap length (two.same ∙ none)))),
+      ))
+    ]
+  ];
+}
+
+-- a closed gate behind the records
+pub taken-end : (bytes held : List ℕ) (all : List (List ℕ)) → IsTaken bytes all held → IsShut held → 0 < length all
+    → (behind : List ℕ) → IsReadAs (bytes ++ behind) (length bytes - length held) all
+taken-end bytes [] all taken shut some behind = absurd shut
+taken-end bytes (gate ∷ after) [] taken shut some behind = absurd (omega (arith, some))
+taken-end bytes (gate ∷ after) (head ∷ records) taken shut some behind = record {
+  head = head;
+  records = records;
+  all_is = refl;
+  stands = record {
+    entries = taken.entries;
+    rest = after ++ behind;
+    gates = taken.gates;
+    same = taken.same;
+    is = ap (λ (l : List ℕ). l ++ behind) taken.is
+        ∙ append_assoc (behind_gates taken.entries) (gate ∷ after) behind
+        ∙ ap (λ (g : ℕ). behind_gates taken.entries ++ g ∷ (after ++ behind)) shut;
+  };
+  place = omega (
+    arith,
+    ap length taken.is,
+    length-append (behind_gates taken.entries) (gate ∷ after),
+    length-behind_gates taken.entries,
+    ap size_of taken.same,
+    length-journal_bytes head records,
+  );
+}
+
+only-held : (bytes held : List ℕ) (all : List (List ℕ)) → IsTaken bytes all held → length all ≡ 0 → bytes ≡ held
+only-held bytes held all taken none =
+    taken.is ∙ ap (λ (l : List ℕ). l ++ held) (no-entries taken.entries (ap length taken.same ∙ none))
+
+-- a closed gate and no record
+pub taken-none : (bytes held : List ℕ) (all : List (List ℕ)) → IsTaken bytes all held → IsShut held → length all ≡ 0
+    → (behind : List ℕ) → IsNoJournal (bytes ++ behind)
+taken-none bytes [] all taken shut none behind = absurd shut
+taken-none bytes (gate ∷ after) all taken shut none behind =
+    let P : List ℕ → Type 0 = λ l. IsNoJournal (l ++ behind) in
+    subst P (sym (only-held bytes (gate ∷ after) all taken none)) (inl shut)
+
+-- an open gate, or nothing, and no whole record behind it
+pub taken-refused : (bytes held : List ℕ) (all : List (List ℕ)) → IsTaken bytes all held → IsNoJournal held → (IsShut held → ⊥) → (fault : OpenFault)
+    → (length all ≡ 0 → fault ≡ NotAJournal) → (0 < length all → fault ≡ Damaged (length bytes - length held)) → Explains fault bytes
+taken-refused bytes held [] taken stopped open_gate fault none some =
+    subst (λ f. Explains f bytes) (sym (none refl)) (subst IsNoJournal (sym (only-held bytes held [] taken refl)) stopped)
+taken-refused bytes [] (r ∷ all) taken stopped open_gate fault none some =
+    elim taken.gate [ inl empty ↦ absurd (omega (arith, ap length empty)) | inr lt ↦ absurd (omega (arith, lt)) ]
+taken-refused bytes (gate ∷ after) (r ∷ all) taken (inl shut) open_gate fault none some = absurd (open_gate shut)
+taken-refused bytes (gate ∷ after) (r ∷ all) taken (inr cut) open_gate fault none some =
+    let size : length bytes - length (gate ∷ after) ≡ length (behind_gates taken.entries) =
+    omega (arith, ap length taken.is, length-append (behind_gates taken.entries) (gate ∷ after)) in
+    subst (λ f. Explains f bytes) (sym (some (omega arith))) (damaged taken.entries taken.gates taken.same taken.is size)
+  where
+    damaged : (entries : List (ℕ × List ℕ)) → AreOpen entries → map (λ (e : ℕ × List ℕ). e.1) entries ≡ r ∷ all
+        → bytes ≡ behind_gates entries ++ gate ∷ after → length bytes - length (gate ∷ after) ≡ length (behind_gates entries)
+        → IsDamagedAt bytes (length bytes - length (gate ∷ after))
+    damaged [] gates same is place = absurd (omega (arith, ap length same))
+    damaged (first ∷ more) gates same is place = record {
+      first = first;
+      more = more;
+      gate = gate;
+      after = after;
+      gates = gates;
+      not_closed = open_gate;
+      cut_short = cut;
+      is = is;
+      place = place;
+    }

@@ -1,0 +1,121 @@
+//! The records of a disk, read piece by piece.
+
+ghost use Rattle.std.specs.Prelude.{◌≡◌, ◌+◌, ◌^◌, ◌<◌, ◌≤◌, length, IsTrue, IfOk, IfErr, OnOk};
+ghost use Rattle.corr_disk.specs.Calls.{CallsMade, AtMostCalls};
+ghost use Rattle.corr_disk.specs.Disk.{Only};
+ghost use Rattle.jrn_file.specs.Faults.{LoadCause};
+ghost use Rattle.jrn_file.specs.Opening.{IsReadAs, ExplainsLoad};
+ghost use Rattle.jrn_file.specs.Pieces.{IsPiece, OfBytes, calls_to_open};
+ghost use Rattle.jrn_file.specs.Untouched.{IsUntouched};
+
+use crate::fault::OpenFault;
+use crate::reading::{is_closed, is_none, refusal, take_records};
+use corr_disk::{Disk, Failed};
+use corr_text::{Memory, Text};
+use std::alloc::{AllocError, Global};
+
+/// Why no records could be had.
+#[derive(Drop)]
+pub(crate) enum LoadFault {
+    /// A call of the disk failed.
+    Disk,
+    /// The bytes are refused, or memory is wanting.
+    Refused(OpenFault),
+}
+
+impl From<Failed> for LoadFault {
+    ghost use Rattle.std.specs.Prelude.{◌≡◌};
+    ghost use Rattle.jrn_file.specs.declared.loading.LoadFault.TheVariants as load;
+
+    ghost from_gives = { λ _ e. e ≡ load.Disk };
+
+    fn from(_: Failed) -> LoadFault {
+        LoadFault::Disk
+    }
+}
+
+impl From<Memory> for LoadFault {
+    ghost use Rattle.std.specs.Prelude.{◌≡◌};
+    ghost use Rattle.jrn_file.specs.declared.fault.OpenFault.TheVariants as open_fault;
+    ghost use Rattle.jrn_file.specs.declared.loading.LoadFault.TheVariants as load;
+
+    ghost from_gives = { λ _ e. e ≡ load.Refused open_fault.Memory };
+
+    fn from(_: Memory) -> LoadFault {
+        LoadFault::Refused(OpenFault::Memory)
+    }
+}
+
+impl From<AllocError> for LoadFault {
+    ghost use Rattle.std.specs.Prelude.{◌≡◌};
+    ghost use Rattle.jrn_file.specs.declared.fault.OpenFault.TheVariants as open_fault;
+    ghost use Rattle.jrn_file.specs.declared.loading.LoadFault.TheVariants as load;
+
+    ghost from_gives = { λ _ e. e ≡ load.Refused open_fault.Memory };
+
+    fn from(_: AllocError) -> LoadFault {
+        LoadFault::Refused(OpenFault::Memory)
+    }
+}
+
+/// Syncs the disk and reads its records up to the first closed gate, so many bytes by each read. Gives the place of
+/// that gate and the records.
+pub(crate) fn load<D: Disk>(
+    alloc: Global,
+    disk: &mut D,
+    piece: usize,
+) -> Result<(u64, Vec<Text>), LoadFault>
+    requires some { 0 < piece }
+    requires few { piece ≤ 2 ^ 30 }
+    ensures records { IfOk result (λ read. OfBytes (D.honest disk.old) (D.reads disk.old) (λ bytes. IsReadAs bytes read.0 read.1.items)) }
+    ensures fault { IfErr result (ExplainsLoad (D.honest disk.old) (D.reads disk.old)) }
+    ensures durable { OnOk result (Only (D.reads disk.new) (D.may_leave disk.new)) }
+    ensures untouched { IsUntouched D.reads D.may_leave D.moment D.left_since disk.old disk.new }
+    ensures honest { D.honest disk.new ≡ D.honest disk.old }
+    ensures cause { LoadCause (D.faults disk.old) (D.faults disk.new) result }
+    ensures calls { IfOk result (λ read. CallsMade (calls_to_open piece read.0) (D.calls_left disk.old) (D.calls_left disk.new)) }
+    ensures no_more_calls { IsTrue (D.honest disk.old) → AtMostCalls (calls_to_open piece (length (D.reads disk.old))) (D.calls_left disk.old) (D.calls_left disk.new) }
+{
+    disk.sync()?;
+    let mut records = Vec::new(alloc);
+    let mut held = Vec::new(alloc);
+    for index in 0..u64::MAX / piece as u64 {
+        let at = index * piece as u64;
+        let count = read_piece(disk, at, piece, &mut held)?;
+        take_records(alloc, &mut held, &mut records)?;
+        let gate = at + count as u64 - held.len() as u64;
+        if is_closed(held.as_slice()) {
+            if is_none(records.as_slice()) {
+                return Err(LoadFault::Refused(OpenFault::NotAJournal));
+            }
+            return Ok((gate, records));
+        }
+        if count < piece {
+            return Err(LoadFault::Refused(refusal(gate, records.as_slice())));
+        }
+    }
+    Err(LoadFault::Refused(OpenFault::Memory))
+}
+
+/// Reads so many bytes from this place of the disk on, or as many as there are, and puts them behind the held ones.
+fn read_piece<D: Disk>(
+    disk: &mut D,
+    at: u64,
+    piece: usize,
+    held: &mut Vec<u8>,
+) -> Result<usize, LoadFault>
+    requires few { piece ≤ 2 ^ 30 }
+    ensures piece { IfOk result (λ n. IsPiece (D.honest disk.old) (D.reads disk.old) at piece n held.old.items held.new.items) }
+    ensures fault { IfErr result (ExplainsLoad (D.honest disk.old) (D.reads disk.old)) }
+    ensures untouched { IsUntouched D.reads D.may_leave D.moment D.left_since disk.old disk.new }
+    ensures honest { D.honest disk.new ≡ D.honest disk.old }
+    ensures cause { LoadCause (D.faults disk.old) (D.faults disk.new) result }
+    ensures calls { OnOk result (CallsMade 1 (D.calls_left disk.old) (D.calls_left disk.new)) }
+    ensures no_more_calls { AtMostCalls 1 (D.calls_left disk.old) (D.calls_left disk.new) }
+{
+    let old = held.len();
+    held.resize(old + piece, 0)?;
+    let count = disk.read_at(at, &mut held[old..])?;
+    held.truncate(old + count);
+    Ok(count)
+}

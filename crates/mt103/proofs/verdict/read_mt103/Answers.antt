@@ -1,0 +1,37 @@
+use Rattle.std.proofs.Common.{◌∙◌, sym}
+use Rattle.std.proofs.lemmas.Result.{err_from_is_err_and}
+use Rattle.mt103.proofs.Complete.{complete}
+use Rattle.mt103.proofs.Outcome.{all-pass, contents-fail, instrs-fail, structure-fail}
+use Rattle.mt103.proofs.verdict.read_mt103.Goals as goal
+
+pub returns-in_err-found-clause-message : goal.returns-in_err-found-clause-message
+returns-in_err-found-clause-message c =
+    let p = err_from_is_err_and c.from_residual.result c.from_residual.ensures.1 in
+    rw (p.1, p.2) (structure-fail c.args.t.now c.args.f.now c.in_err-found.field-0.0 c.in_err-found.ensures.fault)
+
+pub returns-in_err-found-clause-complete : goal.returns-in_err-found-clause-complete
+returns-in_err-found-clause-complete c = complete c.args.t.now c.args.f.now
+
+pub returns-in_err-m-clause-message : goal.returns-in_err-m-clause-message
+returns-in_err-m-clause-message c =
+    let p = err_from_is_err_and c.from_residual-in_err-m.result c.from_residual-in_err-m.ensures.1 in
+    rw (p.1, p.2) (contents-fail c.args.t.now c.args.f.now c.in_ok-found.ensures.sound c.as_slice.result.now (c.as_slice.ensures.value ∙ c.in_ok-found.ensures.places) c.in_err-m.field-0.0 c.in_err-m.ensures.value)
+
+pub returns-in_err-m-clause-complete : goal.returns-in_err-m-clause-complete
+returns-in_err-m-clause-complete c = complete c.args.t.now c.args.f.now
+
+pub returns-in-Some-clause-message : goal.returns-in-Some-clause-message
+returns-in-Some-clause-message c =
+    instrs-fail c.args.t.now c.args.f.now c.in_ok-found.ensures.sound c.as_slice.result.now (c.as_slice.ensures.value ∙ c.in_ok-found.ensures.places) c.in_ok-m.m c.in_ok-m.ensures.value
+    c.as_slice-2.result.now c.as_slice-2.ensures c.in-Some.fault (sym c.instructions_fault.ensures ∙ c.in-Some.is)
+
+pub returns-in-Some-clause-complete : goal.returns-in-Some-clause-complete
+returns-in-Some-clause-complete c = complete c.args.t.now c.args.f.now
+
+pub returns-clause-message : goal.returns-clause-message
+returns-clause-message c =
+    all-pass c.args.t.now c.args.f.now c.in_ok-found.ensures.sound c.as_slice.result.now (c.as_slice.ensures.value ∙ c.in_ok-found.ensures.places) c.in_ok-m.m c.in_ok-m.ensures.value
+    c.as_slice-2.result.now c.as_slice-2.ensures (sym c.instructions_fault.ensures ∙ c.in-None.is)
+
+pub returns-clause-complete : goal.returns-clause-complete
+returns-clause-complete c = complete c.args.t.now c.args.f.now

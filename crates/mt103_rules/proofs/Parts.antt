@@ -1,0 +1,10 @@
+-- Lists of tests behind one another.
+use Rattle.std.proofs.Common.{◌≡◌, List, [], ◌∷◌, ◌++◌, Option, Some, None, refl}
+use Rattle.std.specs.Option.{option_or}
+use Rattle.corr_text.specs.First.{first_of}
+
+-- the first fault of both is that of the one, else that of the other
+pub first_of_append : {F : Type 0} (xs ys : List (Option F)) → first_of (xs ++ ys) ≡ option_or (first_of xs) (first_of ys)
+first_of_append [] ys = refl
+first_of_append (None ∷ xs) ys = first_of_append xs ys
+first_of_append (Some x ∷ xs) ys = refl

@@ -1,0 +1,50 @@
+-- The rows of the table by currency and bank: where a bank's rows stand, without a look at the others.
+use Rattle.std.specs.Prelude.{◌≡◌, All, ℕ, ◌+◌, ◌==◌, Bool, false, List, [], ◌∷◌, ◌++◌, length, take, drop, replicate, unwrap_or, nat_lt, slice_get, if◌then◌else◌}
+use Rattle.std.specs.Map.{lookup}
+use Rattle.std.specs.Option.{option_map_or}
+use Rattle.std.specs.Str.{bytes_eq}
+use Rattle.ssi_versions.specs.declared.row.SsiRow.{SsiRow}
+use Rattle.ssi_versions.specs.InstructionList.{IsInForm}
+
+-- the rows, as contracts see the table
+abbrev pub Instructions : Type 0
+Instructions = List SsiRow
+
+-- a key: the currency, the first eight bytes of the bank's text and its last three, zeros where it has none; texts may share one
+abbrev pub head_of : List ℕ → List ℕ
+head_of bank = if nat_lt (length bank) 8 then replicate 8 0 else take 8 bank
+
+abbrev pub tail_of : List ℕ → List ℕ
+tail_of bank = if length bank == 11 then drop 8 bank else replicate 3 0
+
+abbrev pub key_of : List ℕ → List ℕ → List ℕ
+key_of ccy bank = ccy ++ (head_of bank ++ tail_of bank)
+
+abbrev pub has_key : List ℕ → SsiRow → Bool
+has_key key r = bytes_eq key (key_of r.ccy.0 r.bank)
+
+-- the places of the items that pass, where the first item stands at this place
+unfoldable pub places_of : {A : Type 0} → (A → Bool) → ℕ → List A → List ℕ
+places_of test at [] = []
+places_of test at (x ∷ xs) = if test x then at ∷ places_of test (at + 1) xs else places_of test (at + 1) xs
+
+-- there is an item at this place, and it passes
+abbrev pub holds_at : {A : Type 0} → (A → Bool) → List A → ℕ → Bool
+holds_at test xs i = option_map_or test (slice_get xs i) false
+
+-- the places that are noted for a key
+abbrev pub noted : List (List ℕ × List ℕ) → List ℕ → List ℕ
+noted groups key = unwrap_or (lookup (bytes_eq key) groups) []
+
+-- one more place is noted for this key
+abbrev pub NotesPlace : List (List ℕ × List ℕ) → List (List ℕ × List ℕ) → List ℕ → ℕ → Type 0
+NotesPlace old new key place = (other : List ℕ) → noted new other ≡ (if bytes_eq key other then noted old key ++ place ∷ [] else noted old other)
+
+-- for each key the places of its rows are noted
+abbrev pub IsIndexOf : List SsiRow → List (List ℕ × List ℕ) → Type 0
+IsIndexOf rows groups = (key : List ℕ) → noted groups key ≡ places_of (has_key key) 0 rows
+
+-- the table: instructions in form, and their index
+pub record IsTable (rows : List SsiRow) (groups : List (List ℕ × List ℕ)) : Type 0 where
+  pub form : All IsInForm rows
+  pub index : IsIndexOf rows groups

@@ -1,0 +1,4 @@
+pub mod Rows
+pub mod Instruction
+pub mod InstructionList
+pub mod Index
