@@ -1,27 +1,18 @@
 -- An advice that was read and is written is read again.
-use Rattle.std.proofs.Common.{◌≡◌, ℕ, ◌+◌, ◌≤◌, ◌==◌, ◌⊎◌, true, false, List, [], ◌∷◌, ◌++◌, get_or, slice_get, Option, Some, None, Result, Ok, Err, refl, sym, ap, ◌∙◌, arith, inl, inr}
-use Rattle.std.specs.Prelude.{IfSome, IsTrue, unwrap_or}
-use Rattle.std.specs.List.{All, AllByRecursion, list_any}
-use Rattle.corr_text.specs.First.{first_of, ◌>>=◌}
-use Rattle.corr_text.specs.declared.fault.Fault.{Fault}
+use Rattle.std.proofs.Common.{◌≡◌, ℕ, List, [], ◌∷◌, ◌++◌, get_or, slice_get, Option, Some, None, Ok, refl, sym, ap, ◌∙◌}
+use Rattle.std.specs.Prelude.{unwrap_or}
 use Rattle.ref_tables.specs.Seen.{Tables}
 use Rattle.fin_fields.specs.declared.field.Field.{Field}
-use Rattle.fin_fields.specs.Writing.{IsField}
 use Rattle.fin_layout.specs.declared.fault.TheConstants.{P24}
 use Rattle.fin_layout.specs.declared.place.Place.{Place}
 use Rattle.fin_layout.specs.Contents.{in_option, in_place}
-use Rattle.fin_layout.specs.Order.{missing_from, places_from}
-use Rattle.fin_layout.specs.Segments.{IsFirst, Segments, joined, places_of}
-use Rattle.fin_layout.specs.Tests.{structure_tests}
-use Rattle.fin_layout.proofs.FoundField.{grouped-taken}
-use Rattle.fin_layout.proofs.Grouped.{grouped-places, grouped-structure}
+use Rattle.fin_layout.specs.Segments.{joined, places_of}
 use Rattle.fin_parties.specs.Writing.{party_field}
 use Rattle.fin_parties.specs.declared.party.Party.{Party}
 use Rattle.fin_contents.specs.Money.{value_of}
 use Rattle.fin_contents.specs.Parties.{known_party_of}
 use Rattle.fin_contents.specs.Plain.{one_line, reference_of, short_line_of, texts_of}
 use Rattle.fin_contents.specs.Writing.{IsValue, line_field, lines_field, lines_fields, some_field, value_field}
-use Rattle.fin_contents.specs.declared.value.Value.{Value}
 use Rattle.fin_contents.proofs.Again.{reference-again, short_line-again, texts-again, value-again}
 use Rattle.fin_contents.proofs.Back.{lines-moved, one-moved, option-moved, some-all}
 use Rattle.fin_contents.proofs.Placed.{party-again-at}

@@ -1,5 +1,5 @@
 -- Where no test of an advice's fields fails, its fields say an advice.
-use Rattle.std.proofs.Common.{◌≡◌, ℕ, List, [], Some, None, Ok, refl}
+use Rattle.std.proofs.Common.{◌≡◌, ℕ, List, [], None, Ok, refl}
 use Rattle.std.specs.Prelude.{unwrap_or}
 use Rattle.corr_text.specs.First.{first_of}
 use Rattle.ref_tables.specs.Seen.{Tables}

@@ -1,10 +1,12 @@
 -- The fields that an advice is written as stand in its order, may stand in a text, and say the advice.
-use Rattle.std.proofs.Common.{◌≡◌, ℕ, ◌+◌, ◌≤◌, ◌==◌, ◌⊎◌, not, true, false, List, [], ◌∷◌, ◌++◌, get_or, slice_get, Option, Some, None, Result, Ok, Err, refl, sym, ap, ◌∙◌, arith, inl, inr}
+use Rattle.std.proofs.Common.{◌≡◌, ℕ, true, List, [], ◌∷◌, ◌++◌, get_or, Option, Some, None, Result, Ok, Err, refl, sym, ap, ◌∙◌, arith, inl, inr}
 use Rattle.std.specs.Prelude.{IfOk, IfSome, IsTrue, unwrap_or}
-use Rattle.std.specs.List.{All, AllByRecursion, list_any}
-use Rattle.corr_text.specs.First.{first_of, ◌>>=◌}
+use Rattle.std.specs.List.{All, AllByRecursion}
 use Rattle.corr_text.specs.declared.fault.Fault.{Fault}
+use Rattle.ref_tables.specs.Rows.{rows_of}
 use Rattle.ref_tables.specs.Seen.{Tables, few_decimals}
+use Rattle.ref_tables.specs.Tables.{tables_of}
+use Rattle.ref_tables.proofs.Decimals.{rows_few}
 use Rattle.fin_fields.specs.declared.field.Field.{Field}
 use Rattle.fin_fields.specs.Fields.{fields_of}
 use Rattle.fin_fields.specs.Writing.{IsField, fields_text}
@@ -12,7 +14,7 @@ use Rattle.fin_layout.specs.declared.place.Place.{Place}
 use Rattle.fin_layout.specs.Contents.{in_option}
 use Rattle.fin_layout.specs.Order.{fits, missing_from, places_from}
 use Rattle.fin_layout.specs.Segments.{Segments, joined, places_of}
-use Rattle.fin_layout.specs.Tests.{passed, structure_tests}
+use Rattle.fin_layout.specs.Tests.{passed}
 use Rattle.fin_layout.proofs.FoundField.{grouped-taken}
 use Rattle.fin_layout.proofs.Grouped.{grouped-places, grouped-structure}
 use Rattle.fin_parties.specs.Writing.{party_field}
@@ -20,13 +22,12 @@ use Rattle.fin_parties.specs.declared.party.Party.{Party}
 use Rattle.fin_contents.specs.Money.{value_of}
 use Rattle.fin_contents.specs.Parties.{known_party_of}
 use Rattle.fin_contents.specs.Plain.{reference_of, short_line_of, texts_of}
-use Rattle.fin_contents.specs.Writing.{IsValue, line_field, lines_field, lines_fields, some_field, value_field}
-use Rattle.fin_contents.specs.declared.value.Value.{Value}
+use Rattle.fin_contents.specs.Writing.{IsValue, line_field, lines_fields, some_field, value_field}
 use Rattle.fin_contents.proofs.Again.{reference-kept, short_line-kept, texts-kept, value-is}
 use Rattle.fin_contents.proofs.Back.{some-all, some-weaker}
 use Rattle.fin_contents.proofs.Fit.{kept-fit, value-fit}
 use Rattle.fin_contents.proofs.Placed.{Each, each-joined, first-of-tag, lines-each, lines-segment, one-segment, party-fit-at, party-fits-at, some-each, some-segment}
-use Rattle.fin_contents.proofs.Said.{Holds, Said, Stands, said-one, said-option, stand}
+use Rattle.fin_contents.proofs.Said.{Holds, Stands, said-one, said-option, stand}
 use Rattle.fin_contents.proofs.Steps.{read-then}
 use Rattle.mt9_advice.specs.Advice.{c06, contents_900, contents_910, mt900_of, mt910_of, stamp_of, tests_900, tests_910}
 use Rattle.mt9_advice.specs.Writing.{IsReadable, booking_fields, fields_900, fields_910, segments_900, segments_910}
@@ -34,7 +35,7 @@ use Rattle.mt9_advice.specs.declared.booking.Booking.{Booking}
 use Rattle.mt9_advice.specs.declared.credit.Mt910.{Mt910}
 use Rattle.mt9_advice.specs.declared.debit.Mt900.{Mt900}
 use Rattle.mt9_advice.specs.declared.order.TheConstants.{ACCOUNT, INTERMEDIARY, NOTES, ORDER_900, ORDER_910, ORDERING, PAYER, REFERENCE, RELATED, STAMP, VALUE}
-use Rattle.mt9_advice.proofs.Again.{Says900, Says910, SaysBooking, booking_900, booking_910, moved-900, moved-910, said-900, said-910, says-900, says-910, stamp-kept}
+use Rattle.mt9_advice.proofs.Again.{SaysBooking, booking_900, booking_910, moved-900, moved-910, said-900, said-910, says-900, says-910, stamp-kept}
 use Rattle.mt9_advice.proofs.Outcome.{as-contents-900, rule-holds}
 use Rattle.mt9_advice.proofs.Refused.{begun}
 
@@ -291,3 +292,14 @@ fit-910 m r =
         ),
       ),
     ))
+
+-- ---- who writes what was read knows that it may
+
+-- what fields of a text say may be written
+pub readable : {M : Type 0} (read : Tables → List Field → Result M Fault) (t : Tables) (fields shown : List Field) (m : M) → IsTrue (few_decimals t.ccys) → All IsField fields → shown ≡ fields → read t shown ≡ Ok m → IsReadable read m
+readable read t fields shown m few fit same says = record { tables = t; few = few; fields = fields; fit = fit; says = rw (← same) says }
+
+-- tables that were read have currencies of at most 4 decimals
+pub tables-few : {E : Type 0} (r : Result Tables E) (bics ccys countries : List ℕ) → IfOk r (λ t. t ≡ tables_of bics ccys countries) → IfOk r (λ t. IsTrue (few_decimals t.ccys))
+tables-few (Err e) bics ccys countries is = tt
+tables-few (Ok t) bics ccys countries is = rw is (rows_few (rows_of ccys))

@@ -1,5 +1,5 @@
 -- What an MT900 and an MT910 say, or the first test that they fail.
-use Rattle.std.specs.Prelude.{ℕ, ◌==◌, ◌&&◌, ◌||◌, Bool, List, [], ◌∷◌, length, take, drop, Option, Some, None, Result, Ok, Err, nat_le, codes, is_some, unwrap_or, if◌then◌else◌}
+use Rattle.std.specs.Prelude.{ℕ, ◌==◌, ◌&&◌, ◌||◌, Bool, List, [], ◌∷◌, length, take, drop, Option, Result, Ok, nat_le, codes, is_some, unwrap_or, if◌then◌else◌}
 use Rattle.std.specs.List.{list_all}
 use Rattle.corr_text.specs.First.{check, fault_of, or_fault, unless, ◌>>=◌}
 use Rattle.corr_text.specs.Sets.{is_in}

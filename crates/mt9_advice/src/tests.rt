@@ -1,7 +1,8 @@
 //! Advices as messages hold them.
 
-ghost use Rattle.std.specs.Prelude.{◌≤◌, All, IfOk, length};
+ghost use Rattle.std.specs.Prelude.{◌≤◌, All, IfOk, IsTrue, length};
 ghost use Rattle.fin_fields.specs.Writing.{IsField};
+ghost use Rattle.ref_tables.specs.Seen.{few_decimals};
 
 use crate::{C06, Mt900, Mt910, read_mt900, read_mt910};
 use corr_ids::Day;
@@ -17,7 +18,9 @@ use std::test::Fail;
 // A field of the sample by its number, what stands in its place, and the fault: code, tag and occurrence.
 type Refused<'a> = (usize, &'a [u8], Code, &'a [u8; 3], u16);
 
-pub fn tables(alloc: Global) -> Result<RefTables, TableFault> {
+pub fn tables(alloc: Global) -> Result<RefTables, TableFault>
+    ensures { IfOk result (λ t. IsTrue (few_decimals t.ccys)) }
+{
     read_tables(
         alloc,
         b"HOMEUS33\nALPHDEFF\nBETAFRPP\n",

@@ -1,5 +1,8 @@
 //! Advices written from what was read.
 
+ghost use Rattle.std.specs.Prelude.{IsTrue};
+ghost use Rattle.ref_tables.specs.Seen.{few_decimals};
+
 use crate::tests::{cut, let_go, tables};
 use crate::{put_mt900, put_mt910, read_mt900, read_mt910};
 use corr_text::Text;
@@ -9,7 +12,9 @@ use std::alloc::Global;
 use std::test::Fail;
 
 // The confirmation of a text, written; none where the text says none.
-fn debit(alloc: Global, tables: &RefTables, text: &[u8]) -> Result<Option<Text>, FieldFault> {
+fn debit(alloc: Global, tables: &RefTables, text: &[u8]) -> Result<Option<Text>, FieldFault>
+    requires { IsTrue (few_decimals tables.now.ccys) }
+{
     let fields = cut(alloc, text)?;
     match read_mt900(alloc, fields.as_slice(), tables) {
         Ok(m) => {
@@ -21,7 +26,9 @@ fn debit(alloc: Global, tables: &RefTables, text: &[u8]) -> Result<Option<Text>,
     }
 }
 
-fn credit(alloc: Global, tables: &RefTables, text: &[u8]) -> Result<Option<Text>, FieldFault> {
+fn credit(alloc: Global, tables: &RefTables, text: &[u8]) -> Result<Option<Text>, FieldFault>
+    requires { IsTrue (few_decimals tables.now.ccys) }
+{
     let fields = cut(alloc, text)?;
     match read_mt910(alloc, fields.as_slice(), tables) {
         Ok(m) => {

@@ -1,4 +1,4 @@
-use Rattle.std.proofs.Common.{◌≡◌, sym, ◌∙◌}
+use Rattle.std.proofs.Common.{sym, ◌∙◌}
 use Rattle.std.proofs.lemmas.Result.{err_from_is_err_and}
 use Rattle.mt9_advice.proofs.Outcome.{contents-910, rule-fails, rule-holds, structure-910}
 use Rattle.mt9_advice.proofs.credit.read_mt910.Goals as goal

@@ -1,4 +1,4 @@
-use Rattle.std.proofs.Common.{◌≡◌, sym, ◌∙◌}
+use Rattle.std.proofs.Common.{◌∙◌}
 use Rattle.std.proofs.lemmas.Result.{err_from_is_err_and}
 use Rattle.mt9_advice.proofs.Outcome.{gives-900, structure-900}
 use Rattle.mt9_advice.proofs.debit.read_mt900.Goals as goal
