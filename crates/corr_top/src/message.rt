@@ -2,7 +2,9 @@
 
 ghost use Rattle.std.specs.Prelude.{◌≡◌, ◌≤◌, IfOk, length};
 ghost use Rattle.day_model.specs.Fit.{FitsAccounts};
-ghost use Rattle.corr_top.specs.Message.{message_of, reply_for};
+ghost use Rattle.fin_message.specs.Sound.{Goes, HasAmount};
+ghost use Rattle.fin_message.specs.declared.direction.Direction.TheVariants.{Received};
+ghost use Rattle.corr_top.specs.Message.{message_of, pay_in, reply_for};
 ghost use Rattle.corr_top.specs.Replies.{ReadsAs, stop_of_plan};
 
 use crate::interim::{PlanFault, plan, reference};
@@ -61,6 +63,20 @@ pub fn reply_for(why: NoPay) -> Reply
     }
 }
 
+/// The pay of a valid message, or why it has no route.
+fn read_pay(alloc: Global, accounts: &Accounts, message: &Message) -> Result<Pay, Stop>
+    requires received { Goes Received message.now }
+    requires amount { HasAmount message.now }
+    ensures value { ReadsAs result (pay_in accounts.now message.now) }
+    ensures fits { IfOk result (FitsAccounts accounts.now) }
+{
+    let Message::Transfer(envelope, text, transfer) = message;
+    match plan(alloc, envelope, text, transfer, accounts) {
+        Ok(pay) => Ok(pay),
+        Err(fault) => Err(refuse_plan(reference(envelope), fault)),
+    }
+}
+
 /// The pay that a message of at most 16,384 bytes asks for, or why it gives none.
 #[tactic(auto, unfolding(crate::specs::Message::message_of))]
 pub fn read_message(
@@ -73,9 +89,6 @@ pub fn read_message(
     ensures value { ReadsAs result (message_of tables.now accounts.now b.now) }
     ensures fits { IfOk result (FitsAccounts accounts.now) }
 {
-    let Message::Transfer(envelope, text, transfer) = verdict(alloc, b, accounts.home(), tables)?;
-    match plan(alloc, &envelope, &text, &transfer, accounts) {
-        Ok(pay) => Ok(pay),
-        Err(fault) => Err(refuse_plan(reference(&envelope), fault)),
-    }
+    let message = verdict(alloc, b, accounts.home(), tables)?;
+    read_pay(alloc, accounts, &message)
 }
