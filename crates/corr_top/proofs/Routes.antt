@@ -1,14 +1,15 @@
--- A plan that fails is the reply of a message without a route.
-use Rattle.std.proofs.Common.{Result, ap}
-use Rattle.corr_text.specs.declared.fault.Code.{Code}
-use Rattle.corr_ids.specs.declared.envelope.Envelope.{Envelope}
+-- What a reading means behind a verdict.
+use Rattle.std.proofs.Common.{◌≡◌, Result, Ok, subst, sym}
+use Rattle.corr_text.specs.First.{◌>>=◌}
 use Rattle.day_model.specs.declared.pay.Pay.{Pay}
-use Rattle.corr_top.specs.declared.interim.PlanFault.{PlanFault}
-use Rattle.corr_top.specs.declared.interim.PlanFault.TheVariants as fault
-use Rattle.corr_top.specs.Interim.{FailsAs as PlanFails, mir_in}
-use Rattle.corr_top.specs.Message.{unrouted}
-use Rattle.corr_top.specs.Replies.{FailsAs, stop_of_plan}
+use Rattle.day_model.specs.Chart.{Chart}
+use Rattle.fin_message.specs.declared.message.Message.{Message}
+use Rattle.fin_message.specs.Verdict.{Refused}
+use Rattle.corr_top.specs.declared.message.NoPay.{NoPay}
+use Rattle.corr_top.specs.declared.message.Stop.{Stop}
+use Rattle.corr_top.specs.Message.{pay_in, refused}
+use Rattle.corr_top.specs.Replies.{ReadsAs}
 
-pub no_route : (envelope : Envelope) (e : PlanFault) (meant : Result Pay Code) → PlanFails e meant → FailsAs (stop_of_plan (mir_in envelope) e) (unrouted envelope meant)
-no_route envelope (fault.Code code) meant is = ap (unrouted envelope) is
-no_route envelope fault.Memory meant is = tt
+pub read_on : (chart : Chart) (judged : Result Message Refused) (message : Message) (r : Result Pay Stop) → judged ≡ Ok message → ReadsAs r (pay_in chart message)
+    → ReadsAs r (refused judged >>= λ valid. pay_in chart valid)
+read_on chart judged message r is reads = subst (λ (v : Result Message Refused). ReadsAs r (refused v >>= λ valid. pay_in chart valid)) (sym is) reads

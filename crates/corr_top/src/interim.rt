@@ -214,7 +214,5 @@ pub fn plan(
     let Some(credit) = customer_account(accounts, id, &m.amount) else {
         return Err(PlanFault::Code(P90));
     };
-    Ok(make_pay(
-        alloc, envelope, text, m, accounts, debit, credit,
-    )?)
+    Ok(make_pay(alloc, envelope, text, m, accounts, debit, credit)?)
 }

@@ -5,7 +5,7 @@ ghost use Rattle.day_model.specs.Fit.{FitsAccounts};
 ghost use Rattle.fin_message.specs.Sound.{Goes, HasAmount};
 ghost use Rattle.fin_message.specs.declared.direction.Direction.TheVariants.{Received};
 ghost use Rattle.corr_top.specs.Message.{message_of, pay_in, reply_for};
-ghost use Rattle.corr_top.specs.Replies.{ReadsAs, stop_of_plan};
+ghost use Rattle.corr_top.specs.Replies.{ReadsAs};
 
 use crate::interim::{PlanFault, plan, reference};
 use corr_ids::Mir;
@@ -44,15 +44,6 @@ impl From<MessageFault> for Stop {
     }
 }
 
-fn refuse_plan(mir: Mir, fault: PlanFault) -> Stop
-    ensures { result ≡ stop_of_plan mir fault }
-{
-    match fault {
-        PlanFault::Code(code) => Stop::NoPay(NoPay::Unrouted { mir, code }),
-        PlanFault::Memory => Stop::Memory,
-    }
-}
-
 /// The reply to a message that gives no pay.
 pub fn reply_for(why: NoPay) -> Reply
     ensures { result ≡ reply_for why }
@@ -73,7 +64,11 @@ fn read_pay(alloc: Global, accounts: &Accounts, message: &Message) -> Result<Pay
     let Message::Transfer(envelope, text, transfer) = message;
     match plan(alloc, envelope, text, transfer, accounts) {
         Ok(pay) => Ok(pay),
-        Err(fault) => Err(refuse_plan(reference(envelope), fault)),
+        Err(PlanFault::Code(code)) => Err(Stop::NoPay(NoPay::Unrouted {
+            mir: reference(envelope),
+            code,
+        })),
+        Err(PlanFault::Memory) => Err(Stop::Memory),
     }
 }
 
