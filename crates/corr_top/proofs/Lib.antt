@@ -1,7 +1,7 @@
 pub mod KnownParts
 pub mod MessageFiles
 pub mod Lookups
-pub mod Fits
+pub mod Routes
 pub mod Turns
 pub mod Opening
 pub mod Running

@@ -1,22 +1,15 @@
 -- What a reader of messages answers, against what is meant.
 use Rattle.std.specs.Prelude.{◌≡◌, Result, Ok, Err}
-use Rattle.corr_ids.specs.declared.mir.Mir.{Mir}
 use Rattle.fin_message.specs.declared.fault.MessageFault.{MessageFault}
 use Rattle.fin_message.specs.declared.fault.MessageFault.TheVariants as message
-use Rattle.corr_top.specs.declared.interim.PlanFault.{PlanFault}
-use Rattle.corr_top.specs.declared.interim.PlanFault.TheVariants as plan
 use Rattle.corr_top.specs.declared.message.NoPay.{NoPay}
-use Rattle.corr_top.specs.declared.message.NoPay.TheVariants.{Refused, Unrouted}
+use Rattle.corr_top.specs.declared.message.NoPay.TheVariants.{Refused}
 use Rattle.corr_top.specs.declared.message.Stop.{Stop}
 use Rattle.corr_top.specs.declared.message.Stop.TheVariants as stop
 
 abbrev pub stop_of_verdict : MessageFault → Stop
 stop_of_verdict (message.Refused mir fault) = stop.NoPay (Refused mir fault)
 stop_of_verdict message.Memory = stop.Memory
-
-abbrev pub stop_of_plan : Mir → PlanFault → Stop
-stop_of_plan mir (plan.Code code) = stop.NoPay (Unrouted mir code)
-stop_of_plan mir plan.Memory = stop.Memory
 
 -- an error is the reason that is meant, or want of memory
 abbrev pub FailsAs : {A : Type 0} → Stop → Result A NoPay → Type 0

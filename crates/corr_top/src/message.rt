@@ -2,8 +2,10 @@
 
 ghost use Rattle.std.specs.Prelude.{◌≡◌, ◌≤◌, IfOk, length};
 ghost use Rattle.day_model.specs.Fit.{FitsAccounts};
-ghost use Rattle.corr_top.specs.Message.{message_of, reply_for};
-ghost use Rattle.corr_top.specs.Replies.{ReadsAs, stop_of_plan};
+ghost use Rattle.fin_message.specs.Sound.{Goes, HasAmount};
+ghost use Rattle.fin_message.specs.declared.direction.Direction.TheVariants.{Received};
+ghost use Rattle.corr_top.specs.Message.{message_of, pay_in, reply_for};
+ghost use Rattle.corr_top.specs.Replies.{ReadsAs};
 
 use crate::interim::{PlanFault, plan, reference};
 use corr_ids::Mir;
@@ -42,15 +44,6 @@ impl From<MessageFault> for Stop {
     }
 }
 
-fn refuse_plan(mir: Mir, fault: PlanFault) -> Stop
-    ensures { result ≡ stop_of_plan mir fault }
-{
-    match fault {
-        PlanFault::Code(code) => Stop::NoPay(NoPay::Unrouted { mir, code }),
-        PlanFault::Memory => Stop::Memory,
-    }
-}
-
 /// The reply to a message that gives no pay.
 pub fn reply_for(why: NoPay) -> Reply
     ensures { result ≡ reply_for why }
@@ -58,6 +51,24 @@ pub fn reply_for(why: NoPay) -> Reply
     match why {
         NoPay::Refused { mir, fault } => Reply::Refused { mir, fault },
         NoPay::Unrouted { mir, code } => Reply::Unrouted { mir, code },
+    }
+}
+
+/// The pay of a valid message, or why it has no route.
+fn read_pay(alloc: Global, accounts: &Accounts, message: &Message) -> Result<Pay, Stop>
+    requires received { Goes Received message.now }
+    requires amount { HasAmount message.now }
+    ensures value { ReadsAs result (pay_in accounts.now message.now) }
+    ensures fits { IfOk result (FitsAccounts accounts.now) }
+{
+    let Message::Transfer(envelope, text, transfer) = message;
+    match plan(alloc, envelope, text, transfer, accounts) {
+        Ok(pay) => Ok(pay),
+        Err(PlanFault::Code(code)) => Err(Stop::NoPay(NoPay::Unrouted {
+            mir: reference(envelope),
+            code,
+        })),
+        Err(PlanFault::Memory) => Err(Stop::Memory),
     }
 }
 
@@ -73,9 +84,6 @@ pub fn read_message(
     ensures value { ReadsAs result (message_of tables.now accounts.now b.now) }
     ensures fits { IfOk result (FitsAccounts accounts.now) }
 {
-    let Message::Transfer(envelope, text, transfer) = verdict(alloc, b, accounts.home(), tables)?;
-    match plan(alloc, &envelope, &text, &transfer, accounts) {
-        Ok(pay) => Ok(pay),
-        Err(fault) => Err(refuse_plan(reference(&envelope), fault)),
-    }
+    let message = verdict(alloc, b, accounts.home(), tables)?;
+    read_pay(alloc, accounts, &message)
 }
