@@ -1,6 +1,0 @@
-pub mod Refused
-pub mod Outcome
-pub mod Readings
-pub mod Written
-pub mod Fit
-pub mod RoundTrip

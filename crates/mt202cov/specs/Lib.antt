@@ -1,4 +1,0 @@
-pub mod Steps
-pub mod Rules
-pub mod Message
-pub mod Writing

@@ -1,5 +1,0 @@
-pub mod Refused
-pub mod Outcome
-pub mod Again
-pub mod Written
-pub mod Complete
