@@ -9,8 +9,6 @@ mod heading;
 mod judging;
 mod message;
 mod parts;
-#[cfg(test)]
-mod tests;
 mod transfer;
 
 pub use codes::{P07, P08, P09, P10, P11, P12, P13, P20, P21, P90};
