@@ -1,0 +1,131 @@
+-- The fields that a cover is written as may stand in a text.
+use Rattle.std.proofs.Common.{◌≡◌, ℕ, ◌≤◌, ◌⊎◌, List, [], ◌∷◌, get_or, Option, Some, None, Ok, refl, sym, arith, inl, inr}
+use Rattle.std.specs.Prelude.{IfSome, unwrap_or, true}
+use Rattle.std.specs.Char.{is_ascii_uppercase}
+use Rattle.std.specs.List.{All, AllByRecursion}
+use Rattle.corr_money.specs.declared.amount.Amount.{Amount}
+use Rattle.ref_tables.specs.Seen.{Tables}
+use Rattle.fin_fields.specs.declared.field.Field.{Field}
+use Rattle.fin_fields.specs.Writing.{IsField}
+use Rattle.fin_layout.specs.Contents.{in_option, in_place}
+use Rattle.fin_layout.specs.Segments.{joined}
+use Rattle.fin_parties.specs.Writing.{party_field}
+use Rattle.fin_parties.specs.declared.party.Party.{Party}
+use Rattle.fin_contents.specs.Money.{ccy_amount_of, value_of}
+use Rattle.fin_contents.specs.Parties.{known_party_of}
+use Rattle.fin_contents.specs.Plain.{reference_of, texts_of, time_of}
+use Rattle.fin_contents.specs.Writing.{IsAmount, IsHeading, ccy_amount_field, line_field, lines_field, lines_fields, some_field}
+use Rattle.fin_contents.proofs.Again.{reference-kept, texts-kept, time-kept}
+use Rattle.fin_contents.proofs.Back.{each-weaker, some-weaker}
+use Rattle.fin_contents.proofs.Fit.{ccy_amount-fit, kept-fit, value-fit}
+use Rattle.fin_contents.proofs.Placed.{all-each, each-joined, lines-each, party-fit-at, some-each}
+use Rattle.fin_contents.proofs.Said.{Holds, Said, Stands, said-all, said-one, said-option}
+use Rattle.mt202cov.specs.Writing.{AreAmounts, segments, value_in}
+use Rattle.mt202cov.specs.declared.message.Mt202Cov.{Mt202Cov}
+use Rattle.mt202cov.specs.declared.order.TheConstants.{ORDER}
+use Rattle.mt202cov.proofs.Readings.{LinesRead, Readings}
+use Rattle.mt202cov.proofs.Written.{any}
+
+plain : (tag : ℕ) → tag ≤ 99 → IsHeading tag None
+plain tag le = record { two_digits = le; capital = tt }
+
+lettered : (tag letter : ℕ) → tag ≤ 99 → IfSome (Some letter) (λ c. is_ascii_uppercase c ≡ true) → IsHeading tag (Some letter)
+lettered tag letter le is = record { two_digits = le; capital = is }
+
+ordered-fit : (t : Tables) (Q : Field → Type 0) (o : Option Amount) → IfSome o IsAmount → IfSome o (Said Q (ccy_amount_of t)) → AllByRecursion IsField (some_field (ccy_amount_field 33 (Some 66)) o)
+ordered-fit t Q None is s = tt
+ordered-fit t Q (Some x) is s = (ccy_amount-fit 33 (Some 66) t s.field x (lettered 33 66 (omega arith) refl) is s.says, tt)
+
+module _ (t : Tables) (fs : List Field) (found : List ℕ) (h : Holds (Stands ORDER IsField) found fs) where
+  reference-fit : (k tag : ℕ) → tag ≤ 99 → (x : List ℕ) → in_place ORDER fs found k reference_of ≡ Ok x → IsField (line_field tag None x)
+  reference-fit k tag le x e =
+      let s = said-one (Stands ORDER IsField) fs k reference_of ORDER found x h e in
+      kept-fit tag None s.field (x ∷ []) (plain tag le) (reference-kept s.field x s.says) s.holds.has
+
+  time-fit : (x : List ℕ) → Said (Stands ORDER IsField 2) time_of x → IsField (line_field 13 (Some 67) x)
+  time-fit x s = kept-fit 13 (Some 67) s.field (x ∷ []) (lettered 13 67 (omega arith) refl) (time-kept s.field x s.says) s.holds.has
+
+  module _ (k tag : ℕ) (at : (get_or ORDER k any).tag ≡ tag) where
+    said-fit : (p : Party) → Said (Stands ORDER IsField k) (known_party_of t) p → IsField (party_field tag p)
+    said-fit p s = party-fit-at ORDER IsField k tag any at t p (λ f is. is) s
+
+    party-fit : (p : Party) → in_place ORDER fs found k (known_party_of t) ≡ Ok p → IsField (party_field tag p)
+    party-fit p e = said-fit p (said-one (Stands ORDER IsField) fs k (known_party_of t) ORDER found p h e)
+
+    some-party-fit : (o : Option Party) → in_option fs found k (known_party_of t) ≡ Ok o → AllByRecursion IsField (some_field (party_field tag) o)
+    some-party-fit o e =
+        some-each IsField (party_field tag) o
+        (some-weaker (Said (Stands ORDER IsField k) (known_party_of t)) (λ p. IsField (party_field tag p)) o (said-option (Stands ORDER IsField) fs k (known_party_of t) found o h e) said-fit)
+
+  notes-fit : (k most tag : ℕ) → tag ≤ 99 → (lines : List (List ℕ)) → LinesRead fs found k most lines → AllByRecursion IsField (lines_fields tag None lines)
+  notes-fit k most tag le lines (o, e, same) = lines-each IsField tag None lines (by o e same)
+    where
+      by : (o : Option (List (List ℕ))) → in_option fs found k (texts_of most) ≡ Ok o → unwrap_or o [] ≡ lines → (lines ≡ []) ⊎ IsField (lines_field tag None lines)
+      by None e same = inl (sym same)
+      by (Some ls) e same =
+          let s = said-option (Stands ORDER IsField) fs k (texts_of most) found (Some ls) h e in
+          inr (rw (← same) (kept-fit tag None s.field ls (plain tag le) (texts-kept most s.field ls s.says) s.holds.has))
+
+  pub all-fit : (m : Mt202Cov) → Readings t fs found m → AreAmounts m → All IsField (joined (segments m))
+  all-fit m r amounts =
+      let value = said-one (Stands ORDER IsField) fs 3 (value_of t) ORDER found (value_in m) h r.value in
+      let times = all-each IsField (line_field 13 (Some 67)) m.times (each-weaker (Said (Stands ORDER IsField 2) time_of) (λ x. IsField (line_field 13 (Some 67) x)) m.times (said-all (Stands ORDER IsField) fs 2 time_of 0 found fs m.times h r.times) time-fit) in
+      let ordered = ordered-fit t (Stands ORDER IsField 18) m.ordered amounts.ordered (said-option (Stands ORDER IsField) fs 18 (ccy_amount_of t) found m.ordered h r.ordered) in
+      each-joined IsField (segments m) (
+        (reference-fit 0 20 (omega arith) m.reference r.reference, tt),
+        (
+          (reference-fit 1 21 (omega arith) m.related r.related, tt),
+          (
+            times,
+            (
+              (value-fit t value.field (value_in m) amounts.value value.says, tt),
+              (
+                some-party-fit 4 52 refl m.a52 r.a52,
+                (
+                  some-party-fit 5 53 refl m.a53 r.a53,
+                  (
+                    some-party-fit 6 54 refl m.a54 r.a54,
+                    (
+                      some-party-fit 7 56 refl m.a56 r.a56,
+                      (
+                        some-party-fit 8 57 refl m.a57 r.a57,
+                        (
+                          (party-fit 9 58 refl m.a58 r.a58, tt),
+                          (
+                            notes-fit 10 6 72 (omega arith) m.a_notes r.a_notes,
+                            (
+                              (party-fit 11 50 refl m.payer r.payer, tt),
+                              (
+                                some-party-fit 12 52 refl m.b52 r.b52,
+                                (
+                                  some-party-fit 13 56 refl m.b56 r.b56,
+                                  (
+                                    some-party-fit 14 57 refl m.b57 r.b57,
+                                    (
+                                      (party-fit 15 59 refl m.payee r.payee, tt),
+                                      (
+                                        notes-fit 16 4 70 (omega arith) m.info r.info,
+                                        (
+                                          notes-fit 17 6 72 (omega arith) m.b_notes r.b_notes,
+                                          (
+                                            ordered,
+                                            tt,
+                                          ),
+                                        ),
+                                      ),
+                                    ),
+                                  ),
+                                ),
+                              ),
+                            ),
+                          ),
+                        ),
+                      ),
+                    ),
+                  ),
+                ),
+              ),
+            ),
+          ),
+        ),
+      )

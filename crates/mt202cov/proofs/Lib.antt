@@ -1,0 +1,6 @@
+pub mod Refused
+pub mod Outcome
+pub mod Readings
+pub mod Written
+pub mod Fit
+pub mod RoundTrip

@@ -1,0 +1,130 @@
+-- An MT202 COV: what its fields say, or its first fault.
+use Rattle.std.specs.Prelude.{ℕ, ◌==◌, ◌||◌, List, [], Option, Result, Ok, unwrap_or, if◌then◌else◌}
+use Rattle.corr_text.specs.First.{fault_of, ◌>>=◌}
+use Rattle.corr_text.specs.declared.fault.Code.{Code}
+use Rattle.corr_text.specs.declared.fault.Fault.{Fault}
+use Rattle.ref_tables.specs.Seen.{Tables}
+use Rattle.fin_fields.specs.declared.field.Field.{Field}
+use Rattle.fin_layout.specs.Contents.{all_from, in_option, in_place}
+use Rattle.fin_layout.specs.Order.{places_from}
+use Rattle.fin_layout.specs.Tests.{passed, tests}
+use Rattle.fin_contents.specs.Money.{ccy_amount_of, value_of}
+use Rattle.fin_contents.specs.Parties.{known_party_of}
+use Rattle.fin_contents.specs.Plain.{reference_of, texts_of, time_of}
+use Rattle.mt202cov.specs.Rules.{all_rules}
+use Rattle.mt202cov.specs.declared.banks.Banks.{Banks}
+use Rattle.mt202cov.specs.declared.customers.Customers.{Customers}
+use Rattle.mt202cov.specs.declared.details.Details.{Details}
+use Rattle.mt202cov.specs.declared.message.Mt202Cov.{Mt202Cov}
+use Rattle.mt202cov.specs.declared.sequences.SequenceA.{SequenceA}
+use Rattle.mt202cov.specs.declared.sequences.SequenceB.{SequenceB}
+use Rattle.mt202cov.specs.declared.terms.Terms.{Terms}
+use Rattle.mt202cov.specs.declared.order.TheConstants.{ORDER}
+
+-- what is wrong with the content of a field at a place of the order
+abbrev pub content_test : Tables → ℕ → Field → Option Code
+content_test t k f =
+    if (k == 0) || (k == 1) then fault_of (reference_of f)
+    else if k == 2 then fault_of (time_of f)
+    else if k == 3 then fault_of (value_of t f)
+    else if (k == 10) || (k == 17) then fault_of (texts_of 6 f)
+    else if k == 16 then fault_of (texts_of 4 f)
+    else if k == 18 then fault_of (ccy_amount_of t f)
+    else fault_of (known_party_of t f)
+
+-- what 20 to 32A say
+unfoldable pub terms_of : Tables → List Field → List ℕ → Result Terms Fault
+terms_of t fs found = do
+  reference ← in_place ORDER fs found 0 reference_of
+  related ← in_place ORDER fs found 1 reference_of
+  times ← all_from fs 2 time_of 0 found fs
+  value ← in_place ORDER fs found 3 (value_of t)
+  Ok (record { reference = reference; related = related; times = times; value = value })
+
+-- what 52a to 58a of sequence A say
+unfoldable pub banks_of : Tables → List Field → List ℕ → Result Banks Fault
+banks_of t fs found = do
+  p52 ← in_option fs found 4 (known_party_of t)
+  p53 ← in_option fs found 5 (known_party_of t)
+  p54 ← in_option fs found 6 (known_party_of t)
+  p56 ← in_option fs found 7 (known_party_of t)
+  p57 ← in_option fs found 8 (known_party_of t)
+  p58 ← in_place ORDER fs found 9 (known_party_of t)
+  Ok (record { p52 = p52; p53 = p53; p54 = p54; p56 = p56; p57 = p57; p58 = p58 })
+
+-- what 50a to 59a of sequence B say
+unfoldable pub customers_of : Tables → List Field → List ℕ → Result Customers Fault
+customers_of t fs found = do
+  payer ← in_place ORDER fs found 11 (known_party_of t)
+  p52 ← in_option fs found 12 (known_party_of t)
+  p56 ← in_option fs found 13 (known_party_of t)
+  p57 ← in_option fs found 14 (known_party_of t)
+  payee ← in_place ORDER fs found 15 (known_party_of t)
+  Ok (record { payer = payer; p52 = p52; p56 = p56; p57 = p57; payee = payee })
+
+-- what 70, 72 and 33B of sequence B say
+unfoldable pub details_of : Tables → List Field → List ℕ → Result Details Fault
+details_of t fs found = do
+  info ← in_option fs found 16 (texts_of 4)
+  notes ← in_option fs found 17 (texts_of 6)
+  ordered ← in_option fs found 18 (ccy_amount_of t)
+  Ok (record { info = unwrap_or info []; notes = unwrap_or notes []; ordered = ordered })
+
+-- what sequence A says
+unfoldable pub sequence_a_of : Tables → List Field → List ℕ → Result SequenceA Fault
+sequence_a_of t fs found = do
+  terms ← terms_of t fs found
+  banks ← banks_of t fs found
+  notes ← in_option fs found 10 (texts_of 6)
+  Ok (record { terms = terms; banks = banks; notes = unwrap_or notes [] })
+
+-- what sequence B says
+unfoldable pub sequence_b_of : Tables → List Field → List ℕ → Result SequenceB Fault
+sequence_b_of t fs found = do
+  customers ← customers_of t fs found
+  details ← details_of t fs found
+  Ok (record { customers = customers; details = details })
+
+-- a cover of its sequences
+abbrev pub message_of : SequenceA → SequenceB → Mt202Cov
+message_of a b = record {
+  reference = a.terms.reference;
+  related = a.terms.related;
+  times = a.terms.times;
+  value = a.terms.value.day;
+  amount = a.terms.value.amount;
+  a52 = a.banks.p52;
+  a53 = a.banks.p53;
+  a54 = a.banks.p54;
+  a56 = a.banks.p56;
+  a57 = a.banks.p57;
+  a58 = a.banks.p58;
+  a_notes = a.notes;
+  payer = b.customers.payer;
+  b52 = b.customers.p52;
+  b56 = b.customers.p56;
+  b57 = b.customers.p57;
+  payee = b.customers.payee;
+  info = b.details.info;
+  b_notes = b.details.notes;
+  ordered = b.details.ordered;
+}
+
+-- what fields at these places say
+unfoldable pub contents_of : Tables → List Field → List ℕ → Result Mt202Cov Fault
+contents_of t fs found = do
+  a ← sequence_a_of t fs found
+  b ← sequence_b_of t fs found
+  Ok (message_of a b)
+
+-- the tests of the fields of an MT202 COV: structure, then contents in the text's order
+abbrev pub field_tests : Tables → List Field → List (Option Fault)
+field_tests t fs = tests ORDER (content_test t) fs
+
+-- what the fields of an MT202 COV say, or the first test that fails: structure, contents, and the rules
+unfoldable pub mt202cov_of : Tables → List Field → Result Mt202Cov Fault
+mt202cov_of t fs = do
+  _ ← passed (field_tests t fs)
+  m ← contents_of t fs (places_from ORDER 0 fs)
+  _ ← passed (all_rules m)
+  Ok m

@@ -1,0 +1,52 @@
+//! The banks of sequence A: fields 52a to 58a.
+
+ghost use Rattle.std.specs.Prelude.{◌≤◌, length};
+ghost use Rattle.fin_layout.specs.Reading.{Gives};
+ghost use Rattle.mt202cov.specs.Message.{banks_of};
+
+use crate::order::ORDER;
+use fin_contents::KnownParty;
+use fin_fields::Field;
+use fin_layout::{MtFault, read_one, read_optional};
+use fin_parties::Party;
+use ref_tables::RefTables;
+use std::alloc::Global;
+
+/// What 52a, 53a, 54a, 56a, 57a and 58a of sequence A say.
+#[derive(Drop)]
+pub struct Banks {
+    pub p52: Option<Party>,
+    pub p53: Option<Party>,
+    pub p54: Option<Party>,
+    pub p56: Option<Party>,
+    pub p57: Option<Party>,
+    pub p58: Party,
+}
+
+/// The banks that fields at the places of sequence A say.
+#[tactic(auto, unfolding(crate::specs::Message::banks_of))]
+pub fn read_banks(
+    alloc: Global,
+    tables: &RefTables,
+    fields: &[Field],
+    found: &[usize],
+) -> Result<Banks, MtFault>
+    requires { length fields.now ≤ 65535 }
+    ensures { Gives result (banks_of tables.now fields.now found.now) }
+{
+    let party = KnownParty { tables };
+    let p52 = read_optional(alloc, &party, fields, found, 4)?;
+    let p53 = read_optional(alloc, &party, fields, found, 5)?;
+    let p54 = read_optional(alloc, &party, fields, found, 6)?;
+    let p56 = read_optional(alloc, &party, fields, found, 7)?;
+    let p57 = read_optional(alloc, &party, fields, found, 8)?;
+    let p58 = read_one(alloc, &party, &ORDER, fields, found, 9)?;
+    Ok(Banks {
+        p52,
+        p53,
+        p54,
+        p56,
+        p57,
+        p58,
+    })
+}

@@ -1,0 +1,49 @@
+//! The parties of sequence B: fields 50a to 59a.
+
+ghost use Rattle.std.specs.Prelude.{◌≤◌, length};
+ghost use Rattle.fin_layout.specs.Reading.{Gives};
+ghost use Rattle.mt202cov.specs.Message.{customers_of};
+
+use crate::order::ORDER;
+use fin_contents::KnownParty;
+use fin_fields::Field;
+use fin_layout::{MtFault, read_one, read_optional};
+use fin_parties::Party;
+use ref_tables::RefTables;
+use std::alloc::Global;
+
+/// What 50a, 52a, 56a, 57a and 59a of sequence B say.
+#[derive(Drop)]
+pub struct Customers {
+    pub payer: Party,
+    pub p52: Option<Party>,
+    pub p56: Option<Party>,
+    pub p57: Option<Party>,
+    pub payee: Party,
+}
+
+/// The customers and their banks that fields at the places of sequence B say.
+#[tactic(auto, unfolding(crate::specs::Message::customers_of))]
+pub fn read_customers(
+    alloc: Global,
+    tables: &RefTables,
+    fields: &[Field],
+    found: &[usize],
+) -> Result<Customers, MtFault>
+    requires { length fields.now ≤ 65535 }
+    ensures { Gives result (customers_of tables.now fields.now found.now) }
+{
+    let party = KnownParty { tables };
+    let payer = read_one(alloc, &party, &ORDER, fields, found, 11)?;
+    let p52 = read_optional(alloc, &party, fields, found, 12)?;
+    let p56 = read_optional(alloc, &party, fields, found, 13)?;
+    let p57 = read_optional(alloc, &party, fields, found, 14)?;
+    let payee = read_one(alloc, &party, &ORDER, fields, found, 15)?;
+    Ok(Customers {
+        payer,
+        p52,
+        p56,
+        p57,
+        payee,
+    })
+}

@@ -1,0 +1,43 @@
+//! The details of sequence B: fields 70, 72 and 33B.
+
+ghost use Rattle.std.specs.Prelude.{◌≤◌, length};
+ghost use Rattle.fin_layout.specs.Reading.{Gives};
+ghost use Rattle.mt202cov.specs.Message.{details_of};
+
+use crate::lines::or_none;
+use corr_money::Amount;
+use corr_text::{List, Text};
+use fin_contents::{CcyAmount, Texts};
+use fin_fields::Field;
+use fin_layout::{MtFault, read_optional};
+use ref_tables::RefTables;
+use std::alloc::Global;
+
+/// What 70, 72 and 33B of sequence B say.
+#[derive(Drop)]
+pub struct Details {
+    pub info: List<Text>,
+    pub notes: List<Text>,
+    pub ordered: Option<Amount>,
+}
+
+/// The details that fields at the places of sequence B say.
+#[tactic(auto, unfolding(crate::specs::Message::details_of))]
+pub fn read_details(
+    alloc: Global,
+    tables: &RefTables,
+    fields: &[Field],
+    found: &[usize],
+) -> Result<Details, MtFault>
+    requires { length fields.now ≤ 65535 }
+    ensures { Gives result (details_of tables.now fields.now found.now) }
+{
+    let info = read_optional(alloc, &Texts { most: 4 }, fields, found, 16)?;
+    let notes = read_optional(alloc, &Texts { most: 6 }, fields, found, 17)?;
+    let ordered = read_optional(alloc, &CcyAmount { tables }, fields, found, 18)?;
+    Ok(Details {
+        info: or_none(alloc, info),
+        notes: or_none(alloc, notes),
+        ordered,
+    })
+}

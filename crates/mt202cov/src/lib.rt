@@ -1,0 +1,27 @@
+//! MT202 COV, the cover of a customer transfer: its fields in their order, what they say, and what is wrong with them.
+#![tactic(auto)]
+
+mod banks;
+mod codes;
+mod customers;
+mod details;
+mod lines;
+mod message;
+mod order;
+mod reading;
+mod rules;
+mod sequences;
+mod steps;
+mod terms;
+#[cfg(test)]
+mod tests;
+mod verdict;
+mod writing;
+#[cfg(test)]
+mod writing_tests;
+
+pub use codes::{C68, C81};
+pub use message::Mt202Cov;
+pub use order::ORDER;
+pub use verdict::read_mt202cov;
+pub use writing::put_mt202cov;

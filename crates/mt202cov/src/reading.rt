@@ -1,0 +1,58 @@
+//! What the fields of an MT202 COV say.
+
+ghost use Rattle.std.specs.Prelude.{◌≡◌, ◌≤◌, length};
+ghost use Rattle.fin_layout.specs.Reading.{Gives};
+ghost use Rattle.mt202cov.specs.Message.{contents_of, message_of};
+
+use crate::message::Mt202Cov;
+use crate::sequences::{SequenceA, SequenceB, read_sequence_a, read_sequence_b};
+use crate::steps::beside;
+use fin_fields::Field;
+use fin_layout::MtFault;
+use ref_tables::RefTables;
+use std::alloc::Global;
+
+fn message(a: SequenceA, b: SequenceB) -> Mt202Cov
+    ensures { result ≡ message_of a b }
+{
+    Mt202Cov {
+        reference: a.terms.reference,
+        related: a.terms.related,
+        times: a.terms.times,
+        value: a.terms.value.day,
+        amount: a.terms.value.amount,
+        a52: a.banks.p52,
+        a53: a.banks.p53,
+        a54: a.banks.p54,
+        a56: a.banks.p56,
+        a57: a.banks.p57,
+        a58: a.banks.p58,
+        a_notes: a.notes,
+        payer: b.customers.payer,
+        b52: b.customers.p52,
+        b56: b.customers.p56,
+        b57: b.customers.p57,
+        payee: b.customers.payee,
+        info: b.details.info,
+        b_notes: b.details.notes,
+        ordered: b.details.ordered,
+    }
+}
+
+/// The cover that fields at these places say.
+#[tactic(auto, unfolding(crate::specs::Message::contents_of))]
+pub fn read_contents(
+    alloc: Global,
+    tables: &RefTables,
+    fields: &[Field],
+    found: &[usize],
+) -> Result<Mt202Cov, MtFault>
+    requires few { length fields.now ≤ 65535 }
+    requires each { length found.now ≤ length fields.now }
+    ensures { Gives result (contents_of tables.now fields.now found.now) }
+{
+    let a = read_sequence_a(alloc, tables, fields, found)?;
+    let b = read_sequence_b(alloc, tables, fields, found);
+    let (a, b) = beside(a, b)?;
+    Ok(message(a, b))
+}

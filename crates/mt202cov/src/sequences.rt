@@ -1,0 +1,74 @@
+//! The two sequences of a cover.
+
+ghost use Rattle.std.specs.Prelude.{◌≤◌, length};
+ghost use Rattle.fin_layout.specs.Reading.{Gives};
+ghost use Rattle.mt202cov.specs.Message.{sequence_a_of, sequence_b_of};
+
+use crate::banks::{Banks, read_banks};
+use crate::customers::{Customers, read_customers};
+use crate::details::{Details, read_details};
+use crate::lines::or_none;
+use crate::steps::beside;
+use crate::terms::{Terms, read_terms};
+use corr_text::{List, Text};
+use fin_contents::Texts;
+use fin_fields::Field;
+use fin_layout::{MtFault, read_optional};
+use ref_tables::RefTables;
+use std::alloc::Global;
+
+/// What sequence A says, the payment between banks.
+#[derive(Drop)]
+pub struct SequenceA {
+    pub terms: Terms,
+    pub banks: Banks,
+    pub notes: List<Text>,
+}
+
+/// What sequence B says, the transfer that is covered.
+#[derive(Drop)]
+pub struct SequenceB {
+    pub customers: Customers,
+    pub details: Details,
+}
+
+/// What the fields at the places of sequence A say.
+#[tactic(auto, unfolding(crate::specs::Message::sequence_a_of))]
+pub fn read_sequence_a(
+    alloc: Global,
+    tables: &RefTables,
+    fields: &[Field],
+    found: &[usize],
+) -> Result<SequenceA, MtFault>
+    requires few { length fields.now ≤ 65535 }
+    requires each { length found.now ≤ length fields.now }
+    ensures { Gives result (sequence_a_of tables.now fields.now found.now) }
+{
+    let terms = read_terms(alloc, tables, fields, found)?;
+    let banks = read_banks(alloc, tables, fields, found);
+    let both = beside(terms, banks)?;
+    let notes = read_optional(alloc, &Texts { most: 6 }, fields, found, 10);
+    let ((terms, banks), notes) = beside(both, notes)?;
+    Ok(SequenceA {
+        terms,
+        banks,
+        notes: or_none(alloc, notes),
+    })
+}
+
+/// What the fields at the places of sequence B say.
+#[tactic(auto, unfolding(crate::specs::Message::sequence_b_of))]
+pub fn read_sequence_b(
+    alloc: Global,
+    tables: &RefTables,
+    fields: &[Field],
+    found: &[usize],
+) -> Result<SequenceB, MtFault>
+    requires { length fields.now ≤ 65535 }
+    ensures { Gives result (sequence_b_of tables.now fields.now found.now) }
+{
+    let customers = read_customers(alloc, tables, fields, found)?;
+    let details = read_details(alloc, tables, fields, found);
+    let (customers, details) = beside(customers, details)?;
+    Ok(SequenceB { customers, details })
+}

@@ -1,0 +1,46 @@
+//! The terms of a cover: fields 20 to 32A.
+
+ghost use Rattle.std.specs.Prelude.{◌≤◌, length};
+ghost use Rattle.fin_layout.specs.Reading.{Gives};
+ghost use Rattle.mt202cov.specs.Message.{terms_of};
+
+use crate::order::ORDER;
+use corr_text::{List, Text};
+use fin_contents::{Reference, Time, Value, ValueDate};
+use fin_fields::Field;
+use fin_layout::{MtFault, read_all, read_one};
+use ref_tables::RefTables;
+use std::alloc::Global;
+
+/// What 20, 21, 13C and 32A say.
+#[derive(Drop)]
+pub struct Terms {
+    pub reference: Text,
+    pub related: Text,
+    pub times: List<Text>,
+    pub value: Value,
+}
+
+/// The terms that fields at these places say.
+#[tactic(auto, unfolding(crate::specs::Message::terms_of))]
+pub fn read_terms(
+    alloc: Global,
+    tables: &RefTables,
+    fields: &[Field],
+    found: &[usize],
+) -> Result<Terms, MtFault>
+    requires few { length fields.now ≤ 65535 }
+    requires each { length found.now ≤ length fields.now }
+    ensures { Gives result (terms_of tables.now fields.now found.now) }
+{
+    let reference = read_one(alloc, &Reference, &ORDER, fields, found, 0)?;
+    let related = read_one(alloc, &Reference, &ORDER, fields, found, 1)?;
+    let times = read_all(alloc, &Time, fields, found, 2)?;
+    let value = read_one(alloc, &ValueDate { tables }, &ORDER, fields, found, 3)?;
+    Ok(Terms {
+        reference,
+        related,
+        times,
+        value,
+    })
+}

@@ -1,0 +1,5 @@
+pub mod Refused
+pub mod Outcome
+pub mod Again
+pub mod Written
+pub mod Complete

@@ -1,0 +1,13 @@
+use Rattle.std.proofs.Common.{◌∙◌}
+use Rattle.std.proofs.lemmas.Result.{err_from_is_err_and}
+use Rattle.mt9_advice.proofs.Outcome.{gives-900, structure-900}
+use Rattle.mt9_advice.proofs.debit.read_mt900.Goals as goal
+
+pub returns-in_err-found-clause-message : goal.returns-in_err-found-clause-message
+returns-in_err-found-clause-message c =
+    let p = err_from_is_err_and c.from_residual.result c.from_residual.ensures.1 in
+    let fails = structure-900 c.args.t.now c.args.f.now c.in_err-found.field-0.0 c.in_err-found.ensures.fault in
+    rw (p.1, p.2) fails
+
+pub returns-clause-message : goal.returns-clause-message
+returns-clause-message c = gives-900 c.args.t.now c.args.f.now c.as_slice.result.now c.read_contents.result c.in_ok-found.ensures.sound (c.as_slice.ensures.value ∙ c.in_ok-found.ensures.places) c.read_contents.ensures

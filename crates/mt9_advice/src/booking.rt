@@ -1,0 +1,60 @@
+//! What an MT900 and an MT910 have in common.
+
+ghost use Rattle.std.specs.Prelude.{◌≡◌, ◌≤◌, [], length, unwrap_or};
+ghost use Rattle.fin_layout.specs.Reading.{Gives};
+ghost use Rattle.mt9_advice.specs.Advice.{booking_of};
+
+use crate::stamp::Stamp;
+use corr_text::{List, Text};
+use fin_contents::{Reference, ShortLine, Value, ValueDate};
+use fin_fields::Field;
+use fin_layout::{MtFault, Place, read_one, read_optional};
+use ref_tables::RefTables;
+use std::alloc::Global;
+
+/// An entry that was booked: fields 20, 21, 25, 13D and 32A.
+#[derive(Debug, Drop)]
+pub struct Booking {
+    pub reference: Text,
+    pub related: Text,
+    pub account: Text,
+    pub at: Option<Text>,
+    pub value: Value,
+}
+
+/// The entry that the fields at the first five places of an order say.
+#[tactic(auto, unfolding(crate::specs::Advice::booking_of))]
+pub fn read_booking(
+    alloc: Global,
+    order: &[Place],
+    tables: &RefTables,
+    fields: &[Field],
+    found: &[usize],
+) -> Result<Booking, MtFault>
+    requires few { length fields.now ≤ 65535 }
+    requires long { 5 ≤ length order.now }
+    ensures { Gives result (booking_of order.now tables.now fields.now found.now) }
+{
+    let reference = read_one(alloc, &Reference, order, fields, found, 0)?;
+    let related = read_one(alloc, &ShortLine { most: 16 }, order, fields, found, 1)?;
+    let account = read_one(alloc, &ShortLine { most: 35 }, order, fields, found, 2)?;
+    let at = read_optional(alloc, &Stamp, fields, found, 3)?;
+    let value = read_one(alloc, &ValueDate { tables }, order, fields, found, 4)?;
+    Ok(Booking {
+        reference,
+        related,
+        account,
+        at,
+        value,
+    })
+}
+
+/// The lines of a field that may be missing, none where it is.
+pub fn or_none(alloc: Global, texts: Option<List<Text>>) -> List<Text>
+    ensures { result ≡ unwrap_or texts [] }
+{
+    match texts {
+        Some(texts) => texts,
+        None => List::new(alloc),
+    }
+}

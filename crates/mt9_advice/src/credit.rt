@@ -1,0 +1,124 @@
+//! MT910, the confirmation of a credit.
+
+ghost use Rattle.std.specs.Prelude.{◌≡◌, ◌≤◌, None, Ok, length};
+ghost use Rattle.corr_text.specs.First.{first_of};
+ghost use Rattle.fin_layout.specs.Order.{places_from};
+ghost use Rattle.fin_layout.specs.Reading.{Gives};
+ghost use Rattle.mt9_advice.specs.Advice.{c06, contents_910, mt910, mt910_of, tests_910};
+ghost use Rattle.mt9_advice.specs.declared.credit.Mt910.{Mt910 as Mt910Seen};
+ghost use Rattle.mt9_advice.specs.declared.order.TheConstants.{ORDER_910 as order};
+
+use crate::booking::{Booking, or_none, read_booking};
+use crate::order::ORDER_910;
+use corr_ids::Day;
+use corr_money::Amount;
+use corr_text::{Code, Fault, List, Text};
+use fin_contents::{KnownParty, Texts};
+use fin_fields::Field;
+use fin_layout::{MtFault, check_structure, read_optional};
+use fin_parties::Party;
+use ref_tables::RefTables;
+use std::alloc::Global;
+
+/// Neither an ordering customer nor an ordering institution in an MT910.
+pub const C06: Code = Code(*b"C06");
+
+/// A confirmation of a credit.
+#[derive(Debug, Drop)]
+pub struct Mt910 {
+    /// Field 20, the sender's reference.
+    pub reference: Text,
+    /// 21, the reference of the transaction that was booked.
+    pub related: Text,
+    /// 25, the account.
+    pub account: Text,
+    /// 13D, when it was booked.
+    pub at: Option<Text>,
+    /// The value date of 32A.
+    pub value: Day,
+    /// The amount of 32A, above zero.
+    pub amount: Amount,
+    /// 50a, the ordering customer. Where there is none there is `p52`.
+    pub payer: Option<Party>,
+    /// 52a, the ordering institution. Where there is none there is `payer`.
+    pub p52: Option<Party>,
+    /// 56a, the intermediary.
+    pub p56: Option<Party>,
+    /// The lines of 72, sender to receiver; none without the field.
+    pub notes: List<Text>,
+}
+
+fn message(
+    booking: Booking,
+    payer: Option<Party>,
+    p52: Option<Party>,
+    p56: Option<Party>,
+    notes: List<Text>,
+) -> Mt910
+    ensures { result ≡ mt910 booking payer p52 p56 notes }
+{
+    Mt910 {
+        reference: booking.reference,
+        related: booking.related,
+        account: booking.account,
+        at: booking.at,
+        value: booking.value.day,
+        amount: booking.value.amount,
+        payer,
+        p52,
+        p56,
+        notes,
+    }
+}
+
+#[tactic(auto, unfolding(crate::specs::Advice::contents_910))]
+fn read_contents(
+    alloc: Global,
+    tables: &RefTables,
+    fields: &[Field],
+    found: &[usize],
+) -> Result<Mt910, MtFault>
+    requires few { length fields.now ≤ 65535 }
+    ensures { Gives result (contents_910 tables.now fields.now found.now) }
+{
+    let booking = read_booking(alloc, &ORDER_910, tables, fields, found)?;
+    let payer = read_optional(alloc, &KnownParty { tables }, fields, found, 5)?;
+    let p52 = read_optional(alloc, &KnownParty { tables }, fields, found, 6)?;
+    let p56 = read_optional(alloc, &KnownParty { tables }, fields, found, 7)?;
+    let notes = read_optional(alloc, &Texts { most: 6 }, fields, found, 8)?;
+    Ok(message(booking, payer, p52, p56, or_none(alloc, notes)))
+}
+
+fn c06(m: &Mt910) -> Option<Fault>
+    ensures { result ≡ c06 m.now }
+{
+    if m.payer.is_some() || m.p52.is_some() {
+        return None;
+    }
+    Some(Fault {
+        code: C06,
+        tag: *b"50 ",
+        nth: 0,
+    })
+}
+
+/// The confirmation of a credit that the fields of block 4 say.
+///
+/// `Bad` tells the first test that fails (docs/messages.md, "MT900 and MT910"): P22 and P23 of the order of fields; then each
+/// content in the order of the text, with its field's tag and occurrence; then C06 with the tag 50 and occurrence 0, where
+/// neither 50a nor 52a is there. Where no test of the fields fails they say a confirmation (`complete`), so there is no other
+/// refusal.
+#[tactic(auto, using(crate::proofs::Complete::complete_910))]
+pub fn read_mt910(alloc: Global, f: &[Field], t: &RefTables) -> Result<Mt910, MtFault>
+    requires few { length f.now ≤ 65535 }
+    ensures message { Gives result (mt910_of t.now f.now) }
+    ensures complete { first_of (tests_910 t.now f.now) ≡ None
+        → (m : Mt910Seen) × (contents_910 t.now f.now (places_from order 0 f.now) ≡ Ok m) }
+{
+    let found = check_structure(alloc, &ORDER_910, f)?;
+    let m = read_contents(alloc, t, f, found.as_slice())?;
+    match c06(&m) {
+        Some(fault) => Err(MtFault::Bad(fault)),
+        None => Ok(m),
+    }
+}
