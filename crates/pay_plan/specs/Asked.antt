@@ -1,0 +1,34 @@
+-- What a message asks of the books.
+use Rattle.std.specs.Prelude.{Bool, false}
+use Rattle.corr_ids.specs.declared.bic.Bic.{Bic}
+use Rattle.day_model.specs.declared.pay.Mt.TheVariants as mt
+use Rattle.pay_plan.specs.declared.ask.Ask.{Ask}
+use Rattle.pay_plan.specs.declared.ask.Ask.TheVariants.{Transfer, Cover}
+use Rattle.pay_plan.specs.declared.asked.Asked.{Asked}
+use Rattle.pay_plan.specs.Cover.{cover_of}
+use Rattle.pay_plan.specs.Target.{cover_target, names_home, transfer_target}
+
+-- a cover whose beneficiary institution is the home bank
+abbrev pub is_for_home : Bic → Ask → Bool
+is_for_home home (Transfer m) = false
+is_for_home home (Cover m) = names_home home m.now.a58
+
+abbrev pub asked_of : Bic → Ask → Asked
+asked_of home (Transfer m) = record {
+  mt = mt.Transfer;
+  value = m.now.value;
+  amount = m.now.amount;
+  reference = m.now.reference;
+  last_reference = m.now.reference;
+  cover = cover_of m.now.p53 m.now.p54;
+  target = transfer_target home m.now;
+}
+asked_of home (Cover m) = record {
+  mt = mt.Cover;
+  value = m.now.value;
+  amount = m.now.amount;
+  reference = m.now.reference;
+  last_reference = m.now.related;
+  cover = cover_of m.now.a53 m.now.a54;
+  target = cover_target home m.now;
+}

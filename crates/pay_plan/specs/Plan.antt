@@ -1,0 +1,63 @@
+-- The pay of a message, or the first test that it fails.
+use Rattle.std.specs.Prelude.{◌≡◌, ℕ, not, List, [], Result, Ok, Err, unwrap_or}
+use Rattle.std.specs.Option.{option_map_or}
+use Rattle.corr_text.specs.First.{check, ◌>>=◌}
+use Rattle.corr_text.specs.declared.fault.Code.{Code}
+use Rattle.corr_ids.specs.declared.envelope.Envelope.{Envelope}
+use Rattle.corr_ids.specs.declared.mir.Mir.{Mir}
+use Rattle.day_model.specs.Chart.{Chart, account_at}
+use Rattle.day_model.specs.declared.pay.Order.{Order}
+use Rattle.day_model.specs.declared.pay.Pay.{Pay}
+use Rattle.ssi_versions.specs.declared.row.SsiRow.{SsiRow}
+use Rattle.routing.specs.Route.{route_of}
+use Rattle.routing.specs.declared.routed.Routed.{Routed}
+use Rattle.routing.specs.declared.target.Target.{Target}
+use Rattle.pay_plan.specs.declared.ask.Ask.{Ask}
+use Rattle.pay_plan.specs.declared.asked.Asked.{Asked}
+use Rattle.pay_plan.specs.declared.fault.PlanFault.{PlanFault}
+use Rattle.pay_plan.specs.declared.fault.PlanFault.TheVariants as fault
+use Rattle.pay_plan.specs.declared.fault.TheConstants.{P34}
+use Rattle.pay_plan.specs.declared.way.Way.{Way}
+use Rattle.pay_plan.specs.Asked.{asked_of, is_for_home}
+use Rattle.pay_plan.specs.Orders.{orders_of}
+use Rattle.pay_plan.specs.Pay.{legs_of}
+use Rattle.pay_plan.specs.Way.{way_of}
+
+-- the reference of a received message
+abbrev pub mir_in : Envelope → Mir
+mir_in env = unwrap_or env.mir (record { 0 = [] })
+
+-- the orders of a payment whose debit falls on an account of the book
+abbrev pub orders_in : Chart → Way → Target → Routed → List Order
+orders_in chart way target routed = option_map_or (orders_of way target routed.via) (account_at chart routed.debit.0) []
+
+-- what a message asks, booked on the accounts of its route
+abbrev pub pay_of : Envelope → List ℕ → Asked → Routed → Chart → Pay
+pay_of env text asked routed chart =
+    let way = way_of asked.mt asked.target routed.method in
+    record {
+      mir = mir_in env;
+      mt = asked.mt;
+      uetr = env.uetr;
+      text = text;
+      value = asked.value;
+      legs = legs_of way asked routed;
+      orders = orders_in chart way asked.target routed;
+    }
+
+-- a cover for the home bank is refused before its accounts are looked for
+unfoldable pub plan_of : Envelope → List ℕ → Ask → List SsiRow → Chart → Result Pay Code
+plan_of env text ask rows chart = do
+  _ ← check (not (is_for_home chart.home ask)) P34
+  routed ← route_of env.sender (asked_of chart.home ask).amount (asked_of chart.home ask).value (asked_of chart.home ask).cover (asked_of chart.home ask).target rows chart
+  Ok (pay_of env text (asked_of chart.home ask) routed chart)
+
+-- a refusal is the first test that fails, or want of memory
+abbrev pub Refuses : PlanFault → Result Pay Code → Type 0
+Refuses (fault.Code code) plan = plan ≡ Err code
+Refuses fault.Memory plan = Unit {0}
+
+-- what is answered is the plan
+abbrev pub Plans : Result Pay PlanFault → Result Pay Code → Type 0
+Plans (Ok pay) plan = plan ≡ Ok pay
+Plans (Err e) plan = Refuses e plan

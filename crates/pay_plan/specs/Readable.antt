@@ -1,0 +1,26 @@
+-- Which messages ask for a pay.
+use Rattle.std.specs.Prelude.{◌≡◌, List, Ok}
+use Rattle.ref_tables.specs.Seen.{Tables}
+use Rattle.fin_fields.specs.declared.field.Field.{Field}
+use Rattle.mt103.specs.declared.message.Mt103.{Mt103}
+use Rattle.mt103.specs.Message.{mt103_of}
+use Rattle.mt202cov.specs.declared.message.Mt202Cov.{Mt202Cov}
+use Rattle.mt202cov.specs.Message.{mt202cov_of}
+use Rattle.pay_plan.specs.declared.ask.Ask.{Ask}
+use Rattle.pay_plan.specs.declared.ask.Ask.TheVariants.{Transfer, Cover}
+
+-- a transfer is one that its reader gives of some fields under some tables
+pub record IsTransferRead (m : Mt103) : Type 0 where
+  pub tables : Tables
+  pub fields : List Field
+  pub read : mt103_of tables fields ≡ Ok m
+
+-- the same of a cover
+pub record IsCoverRead (m : Mt202Cov) : Type 0 where
+  pub tables : Tables
+  pub fields : List Field
+  pub read : mt202cov_of tables fields ≡ Ok m
+
+abbrev pub IsRead : Ask → Type 0
+IsRead (Transfer m) = IsTransferRead m.now
+IsRead (Cover m) = IsCoverRead m.now

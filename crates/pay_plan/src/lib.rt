@@ -1,0 +1,21 @@
+//! The pay of a message: between which accounts it is booked, and what is sent on (docs/operating.md, "Accounts of a payment"
+//! and "Messages that are sent on").
+#![tactic(auto)]
+
+mod ask;
+mod asked;
+mod cover;
+mod fault;
+mod legs;
+mod orders;
+mod planning;
+mod target;
+#[cfg(test)]
+mod tests;
+#[cfg(test)]
+mod told;
+mod way;
+
+pub use ask::Ask;
+pub use fault::{P34, PlanFault};
+pub use planning::plan;

@@ -1,0 +1,79 @@
+//! The pay of a message.
+
+ghost use Rattle.std.specs.Prelude.{◌≡◌, IfOk, IsSome, Some};
+ghost use Rattle.day_model.specs.Chart.{IsListed};
+ghost use Rattle.day_model.specs.Fit.{FitsAccounts};
+ghost use Rattle.pay_plan.specs.Plan.{Plans, pay_of, plan_of};
+ghost use Rattle.pay_plan.specs.Readable.{IsRead};
+
+use crate::ask::Ask;
+use crate::asked::{Asked, asked_of, is_for_home};
+use crate::fault::{P34, PlanFault};
+use crate::legs::legs_of;
+use crate::orders::orders_of;
+use crate::way::way_of;
+use corr_ids::{Envelope, Mir};
+use corr_text::{Memory, Text};
+use day_model::{Accounts, Pay};
+use routing::{Routed, route};
+use ssi_versions::Ssi;
+use std::alloc::Global;
+
+fn pay_of(
+    alloc: Global,
+    mir: Mir,
+    env: &Envelope,
+    text: &Text,
+    asked: &Asked,
+    routed: &Routed,
+    a: &Accounts,
+) -> Result<Pay, Memory>
+    requires reference { env.now.mir ≡ Some mir }
+    requires debit { IsListed a.now routed.now.debit.0 }
+    ensures { IfOk result (λ pay. pay ≡ pay_of env.now text.now asked.now routed.now a.now) }
+{
+    let way = way_of(asked.mt, &asked.target, routed.method);
+    Ok(Pay {
+        mir,
+        mt: asked.mt,
+        uetr: env.uetr,
+        text: text.copy(alloc)?,
+        value: asked.value,
+        legs: legs_of(alloc, way, asked, routed)?,
+        orders: orders_of(alloc, way, &asked.target, routed.via, a.get(routed.debit))?,
+    })
+}
+
+/// The pay that a message asks for under these instructions and accounts, or the first reason why it has none
+/// (docs/operating.md, "Accounts of a payment").
+///
+/// P34 comes exactly where the message is a cover whose 58a names the home bank by its BIC; else the codes of `route`.
+pub fn plan(
+    alloc: Global,
+    env: &Envelope,
+    text: &Text,
+    ask: Ask<'_>,
+    ssi: &Ssi,
+    a: &Accounts,
+) -> Result<Pay, PlanFault>
+    requires received { IsSome env.now.mir }
+    requires message { IsRead ask }
+    ensures plan { Plans result (plan_of env.now text.now ask.entry ssi.now a.now) }
+    ensures fit { IfOk result (FitsAccounts a.now) }
+{
+    let Some(mir) = env.mir else { unreachable!() };
+    if is_for_home(a.home(), ask) {
+        return Err(PlanFault::Code(P34));
+    }
+    let asked = asked_of(alloc, a.home(), ask)?;
+    let routed = route(
+        &env.sender,
+        &asked.amount,
+        asked.value,
+        &asked.cover,
+        &asked.target,
+        ssi,
+        a,
+    )?;
+    Ok(pay_of(alloc, mir, env, text, &asked, &routed, a)?)
+}

@@ -1,0 +1,107 @@
+//! For whom a message says that it is.
+
+ghost use Rattle.std.specs.Prelude.{◌≡◌, IfOk, drop, option_map};
+ghost use Rattle.pay_plan.specs.Target.{aimed, bank_target, cover_target, customer_target, names_home, payee_account, transfer_target};
+
+use corr_ids::Bic;
+use corr_text::{Memory, Text};
+use fin_parties::Party;
+use mt103::Mt103;
+use mt202cov::Mt202Cov;
+use routing::Target;
+use std::alloc::Global;
+
+/// Whether a party is named by the home bank's BIC.
+pub fn names_home(home: &Bic, p: &Party) -> bool
+    ensures { result ≡ names_home home.now p.now }
+{
+    match p {
+        Party::A { line: _, bic } => bic.head == home.head,
+        _ => false,
+    }
+}
+
+fn bank_target(field: u8, p: &Party) -> Target
+    ensures { result ≡ bank_target field p.now }
+{
+    match p {
+        Party::A { line: _, bic } => Target::Bank { bic: *bic, field },
+        _ => Target::NoBic,
+    }
+}
+
+fn aimed(home: &Bic, field: u8, p: &Option<Party>) -> Option<Target>
+    ensures { result ≡ aimed home.now field p.now }
+{
+    match p {
+        Some(p) if !names_home(home, p) => Some(bank_target(field, p)),
+        _ => None,
+    }
+}
+
+fn behind_slash(line: &[u8]) -> &[u8]
+    ensures { result.now ≡ drop 1 line.now }
+{
+    match line {
+        [_, account @ ..] => account,
+        [] => line,
+    }
+}
+
+// The account of 59a.
+fn payee_account(payee: &Party) -> Option<&[u8]>
+    ensures { option_map (λ b. b.now) result ≡ payee_account payee.now }
+{
+    match payee {
+        Party::K {
+            account: Some(account),
+            lines: _,
+        } => Some(account.bytes()),
+        Party::A {
+            line: Some(line),
+            bic: _,
+        } => Some(behind_slash(line.bytes())),
+        Party::F {
+            line: Some(line),
+            lines: _,
+        } => Some(behind_slash(line.bytes())),
+        _ => None,
+    }
+}
+
+fn customer_target(alloc: Global, payee: &Party) -> Result<Target, Memory>
+    ensures { IfOk result (λ target. target ≡ customer_target payee.now) }
+{
+    match payee_account(payee) {
+        Some(account) => Ok(Target::Customer {
+            account: Some(Text::from_bytes(alloc, account)?),
+        }),
+        None => Ok(Target::Customer { account: None }),
+    }
+}
+
+/// For whom a transfer is: the first of 56a and 57a that doesn't name the home bank, else the customer of 59a.
+pub fn transfer_target(alloc: Global, home: &Bic, m: &Mt103) -> Result<Target, Memory>
+    ensures { IfOk result (λ target. target ≡ transfer_target home.now m.now) }
+{
+    if let Some(target) = aimed(home, 56, &m.p56) {
+        return Ok(target);
+    }
+    if let Some(target) = aimed(home, 57, &m.p57) {
+        return Ok(target);
+    }
+    customer_target(alloc, &m.payee)
+}
+
+/// For whom a cover is: the first of 56a and 57a of sequence A that doesn't name the home bank, else the bank of 58a.
+pub fn cover_target(home: &Bic, m: &Mt202Cov) -> Target
+    ensures { result ≡ cover_target home.now m.now }
+{
+    if let Some(target) = aimed(home, 56, &m.a56) {
+        return target;
+    }
+    if let Some(target) = aimed(home, 57, &m.a57) {
+        return target;
+    }
+    bank_target(58, &m.a58)
+}

@@ -1,0 +1,104 @@
+-- Accounts that are found fit, and an id names one account.
+use Rattle.std.proofs.Common.{◌≡◌, ℕ, ◌-◌, Bool, true, false, List, length, Option, Some, None, IsTrue, IfSome, refl, sym, ap, ◌∙◌, arith, leb, eqb}
+use Rattle.std.specs.Prelude.{◌&&◌, ◌||◌, option_map, slice_get}
+use Rattle.std.specs.List.{position_from}
+use Rattle.std.specs.Str.{bytes_eq}
+use Rattle.std.proofs.lemmas.Bool.{and_parts, le-leb}
+use Rattle.std.proofs.lemmas.Option.{same_Some}
+use Rattle.std.proofs.lemmas.Slice.Eq.{bytes_eq-Decides}
+use Rattle.corr_money.specs.declared.amount.Amount.{Amount}
+use Rattle.day_model.specs.declared.account.Account.{Account}
+use Rattle.day_model.specs.declared.account.AcctNo.{AcctNo}
+use Rattle.day_model.specs.Chart.{AreRows, Chart, IsListed, account_at, customer, has_id, is_ccy, is_owned, nostro, number_of_first, vostro}
+use Rattle.day_model.proofs.Places.{position_from-within}
+use Rattle.routing.specs.Accounts.{fits, fits_at, named, serves}
+use Rattle.routing.specs.declared.ledger.Wanted.{Wanted}
+use Rattle.routing.specs.declared.ledger.Wanted.TheVariants.{Customer, Relation, Vostro, Nostro}
+use Rattle.routing.proofs.Numbers.{StandsAt, found, none-both, none-such, some-both}
+
+-- the place of a numbered account, from 1
+place-of : (t : Account → Bool) (accounts : List Account) (n : AcctNo) → number_of_first t accounts ≡ Some n → position_from t 1 accounts ≡ Some n.0
+place-of t accounts n e =
+    elim (position_from t 1 accounts) as (λ o. option_map (λ k. record { 0 = k }) o ≡ Some n → o ≡ Some n.0) [
+      | Some k ↦ λ h. let s : record { 0 = k } ≡ n = same_Some _ _ h in ap (λ (m : AcctNo). Some m.0) s
+      | None ↦ λ h. cc
+    ] e
+
+pub listed : (t : Account → Bool) (chart : Chart) (n : AcctNo) → number_of_first t chart.accounts ≡ Some n → IsListed chart n.0
+listed t chart n e = let w = position_from-within t 1 n.0 chart.accounts (place-of t chart.accounts n e) in (omega arith, omega arith)
+
+stands : (t : Account → Bool) (chart : Chart) (n : AcctNo) → number_of_first t chart.accounts ≡ Some n → StandsAt t chart.accounts (n.0 - 1)
+stands t chart n e =
+    let l : IsListed chart n.0 = listed t chart n e in
+    found t 1 (n.0 - 1) n.0 chart.accounts (place-of t chart.accounts n e) (omega arith)
+
+-- the first account that passes a test that only fitting ones pass fits
+first-fits : (t : Account → Bool) (chart : Chart) (amount : Amount) (n : AcctNo) → ((x : Account) → t x ≡ true → fits amount x ≡ true) → number_of_first t chart.accounts ≡ Some n → fits_at chart amount n ≡ true
+first-fits t chart amount n only e =
+    let l : IsListed chart n.0 = listed t chart n e in
+    let s : StandsAt t chart.accounts (n.0 - 1) = stands t chart n e in
+    let first : leb 1 n.0 ≡ true = le-leb 1 n.0 l.0 in
+    let last : leb n.0 (length chart.accounts) ≡ true = le-leb n.0 (length chart.accounts) l.1 in
+    rw (first, last, s.there) (only s.item s.passes)
+
+last-two : (a b c d : Bool) → a && b && c && d ≡ true → c && d ≡ true
+last-two true true c d e = e
+last-two true false c d e = cc
+last-two false b c d e = cc
+
+owned-fits : (kind : ℕ) (head : List ℕ) (amount : Amount) (x : Account) → is_owned kind head amount.ccy amount.decimals x ≡ true → fits amount x ≡ true
+owned-fits kind head amount x e = last-two (eqb x.kind kind) (bytes_eq x.owner.head head) (is_ccy x.ccy amount.ccy) (eqb x.decimals amount.decimals) e
+
+either : (a b c : Bool) → (a ≡ true → c ≡ true) → (b ≡ true → c ≡ true) → a || b ≡ true → c ≡ true
+either true b c f g e = f refl
+either false b c f g e = g e
+
+serves-fits : (w : Wanted) (amount : Amount) (x : Account) → serves w amount x ≡ true → fits amount x ≡ true
+serves-fits Customer amount x e = (and_parts (eqb x.kind customer) (fits amount x) e).1
+serves-fits (Relation bank) amount x e =
+    either (is_owned vostro bank.head amount.ccy amount.decimals x) (is_owned nostro bank.head amount.ccy amount.decimals x) (fits amount x)
+    (owned-fits vostro bank.head amount x) (owned-fits nostro bank.head amount x) e
+serves-fits (Vostro bank) amount x e = owned-fits vostro bank.head amount x e
+serves-fits (Nostro bank) amount x e = owned-fits nostro bank.head amount x e
+
+pub owned-Fits : (kind : ℕ) (head : List ℕ) (amount : Amount) (chart : Chart) (o : Option AcctNo) → o ≡ number_of_first (is_owned kind head amount.ccy amount.decimals) chart.accounts → IfSome o (λ n. IsTrue (fits_at chart amount n))
+owned-Fits kind head amount chart (Some n) e = first-fits (is_owned kind head amount.ccy amount.decimals) chart amount n (owned-fits kind head amount) (sym e)
+owned-Fits kind head amount chart None e = tt
+
+abbrev numbered : ℕ → AcctNo
+numbered k = record { 0 = k }
+
+not-found : (o : Option ℕ) → option_map numbered o ≡ None → o ≡ None
+not-found (Some k) h = cc
+not-found None h = refl
+
+pub named-None : (id : List ℕ) (w : Wanted) (amount : Amount) (chart : Chart) → number_of_first (has_id id) chart.accounts ≡ None → named id w amount chart ≡ None
+named-None id w amount chart e =
+    ap (option_map numbered) (none-both (has_id id) (serves w amount) 1 chart.accounts (not-found (position_from (has_id id) 1 chart.accounts) e))
+
+pub named-Some : (id : List ℕ) (w : Wanted) (amount : Amount) (chart : Chart) (n : AcctNo) (x : Account) →
+    number_of_first (has_id id) chart.accounts ≡ Some n → account_at chart n.0 ≡ Some x → serves w amount x ≡ true → named id w amount chart ≡ Some n
+named-Some id w amount chart n x e there passes =
+    let l : IsListed chart n.0 = listed (has_id id) chart n e in
+    let both = some-both (has_id id) (serves w amount) 1 (n.0 - 1) n.0 chart.accounts x (place-of (has_id id) chart.accounts n e) (omega arith) there passes in
+    ap (option_map numbered) both
+
+pub named-Fits : (id : List ℕ) (w : Wanted) (amount : Amount) (chart : Chart) (n : AcctNo) → named id w amount chart ≡ Some n → fits_at chart amount n ≡ true
+named-Fits id w amount chart n e =
+    first-fits (λ x. has_id id x && serves w amount x) chart amount n (λ x both. serves-fits w amount x (and_parts (has_id id x) (serves w amount x) both).1) e
+
+-- ids are distinct: no other account has the id
+pub named-other : (id : List ℕ) (w : Wanted) (amount : Amount) (chart : Chart) (n : AcctNo) (x : Account) → AreRows chart.accounts →
+    number_of_first (has_id id) chart.accounts ≡ Some n → account_at chart n.0 ≡ Some x → serves w amount x ≡ false → named id w amount chart ≡ None
+named-other id w amount chart n x rows e there fails =
+    let s : StandsAt (has_id id) chart.accounts (n.0 - 1) = stands (has_id id) chart n e in
+    let mine : s.item.id ≡ id = (bytes_eq-Decides s.item.id id).0 s.passes in
+    ap (option_map numbered) (none-such (λ y. has_id id y && serves w amount y) 1 chart.accounts (λ k y at.
+    elim (has_id id y) as (λ b. (has_id id y ≡ b) → b && serves w amount y ≡ false) [
+      | true ↦ λ was.
+          let theirs : y.id ≡ id = (bytes_eq-Decides y.id id).0 was in
+          let place : k ≡ n.0 - 1 = rows.ids k (n.0 - 1) y s.item at s.there (theirs ∙ sym mine) in
+          let same : y ≡ x = same_Some _ _ (sym at ∙ ap (slice_get chart.accounts) place ∙ there) in
+          ap (serves w amount) same ∙ fails
+      | false ↦ λ was. refl
+    ] refl))

@@ -1,0 +1,53 @@
+//! The route of a payment.
+
+ghost use Rattle.std.specs.Prelude.{◌≡◌, IfOk};
+ghost use Rattle.routing.specs.Accounts.{AreBetween};
+ghost use Rattle.routing.specs.Route.{route_of};
+
+use crate::codes::P38;
+use crate::cover::Cover;
+use crate::credit::credit_side;
+use crate::debit::debit_side;
+use crate::routed::Routed;
+use crate::target::Target;
+use corr_ids::{Bic, Day};
+use corr_money::Amount;
+use corr_text::Code;
+use day_model::Accounts;
+use ssi_versions::Ssi;
+
+/// The accounts that a payment from `sender` with this value date is booked on, or the first reason why it has no route
+/// (docs/operating.md, "Accounts of a payment"). Takes no memory.
+///
+/// The debit side is decided whole before the credit side. An account fits where its currency and decimals are the
+/// amount's; banks are compared by the heads of their BICs.
+///
+/// - P31 and P32: the sender, or the account or bank that its cover names, has no account that fits; P35: that bank has no BIC.
+/// - P30: no instruction is in force on the value date; P33: the customer has no account that fits; P35: the target has no
+///   BIC; P36: the instruction's account isn't there or doesn't fit.
+/// - P38: both sides are one account.
+#[tactic(auto, unfolding(crate::specs::Route::route_of))]
+pub fn route(
+    sender: &Bic,
+    amount: &Amount,
+    value: Day,
+    cover: &Cover,
+    target: &Target,
+    ssi: &Ssi,
+    a: &Accounts,
+) -> Result<Routed, Code>
+    ensures value { result ≡ route_of sender.now amount.now value cover.now target.now ssi.now a.now }
+    ensures accounts { IfOk result (AreBetween a.now amount.now) }
+{
+    let debit = debit_side(sender, amount, cover, a)?;
+    let credit = credit_side(amount, value, target, ssi, a)?;
+    if debit == credit.account {
+        return Err(P38);
+    }
+    Ok(Routed {
+        debit,
+        credit: credit.account,
+        method: credit.method,
+        via: credit.via,
+    })
+}

@@ -1,0 +1,59 @@
+//! The account to debit.
+
+ghost use Rattle.std.specs.Prelude.{◌≡◌, IfOk, IsTrue};
+ghost use Rattle.routing.specs.Accounts.{fits_at};
+ghost use Rattle.routing.specs.Route.{cover_of_bank, debit_of, is_bank, relation_of};
+
+use crate::codes::{P31, P32, P35};
+use crate::cover::Cover;
+use crate::ledger::{NOSTRO, VOSTRO, Wanted, account_with, named};
+use corr_ids::Bic;
+use corr_money::Amount;
+use corr_text::Code;
+use day_model::{Accounts, AcctNo};
+
+fn is_bank(a: &Bic, b: &Bic) -> bool
+    ensures { result ≡ is_bank a.now b.now }
+{
+    a.head == b.head
+}
+
+fn relation(sender: &Bic, amount: &Amount, a: &Accounts) -> Result<AcctNo, Code>
+    ensures value { result ≡ relation_of sender.now amount.now a.now }
+    ensures fits { IfOk result (λ n. IsTrue (fits_at a.now amount.now n)) }
+{
+    if let Some(vostro) = account_with(VOSTRO, sender, amount, a) {
+        return Ok(vostro);
+    }
+    account_with(NOSTRO, sender, amount, a).ok_or(P31)
+}
+
+fn over_bank(bank: &Bic, sender: &Bic, amount: &Amount, a: &Accounts) -> Result<AcctNo, Code>
+    ensures value { result ≡ cover_of_bank bank.now sender.now amount.now a.now }
+    ensures fits { IfOk result (λ n. IsTrue (fits_at a.now amount.now n)) }
+{
+    if is_bank(bank, sender) || is_bank(bank, a.home()) {
+        return relation(sender, amount, a);
+    }
+    account_with(NOSTRO, bank, amount, a).ok_or(P32)
+}
+
+/// The account to debit, or why there is none: P31, P32 or P35.
+pub fn debit_side(
+    sender: &Bic,
+    amount: &Amount,
+    cover: &Cover,
+    a: &Accounts,
+) -> Result<AcctNo, Code>
+    ensures value { result ≡ debit_of sender.now amount.now cover.now a.now }
+    ensures fits { IfOk result (λ n. IsTrue (fits_at a.now amount.now n)) }
+{
+    match cover {
+        Cover::Relation => relation(sender, amount, a),
+        Cover::Bank(bank) => over_bank(bank, sender, amount, a),
+        Cover::Account(id) => {
+            named(id.bytes(), &Wanted::Relation(*sender), amount, a).ok_or(P32)
+        }
+        Cover::NoBic => Err(P35),
+    }
+}

@@ -1,0 +1,20 @@
+//! Between which two accounts a payment is booked: the debit side by the sender's cover, the credit side by the bank or the
+//! customer that it is for (docs/operating.md, "Accounts of a payment").
+#![tactic(auto)]
+
+mod choice;
+mod codes;
+mod cover;
+mod credit;
+mod debit;
+mod ledger;
+mod routed;
+mod target;
+#[cfg(test)]
+mod tests;
+
+pub use choice::route;
+pub use codes::{P30, P31, P32, P33, P35, P36, P38};
+pub use cover::Cover;
+pub use routed::Routed;
+pub use target::Target;
