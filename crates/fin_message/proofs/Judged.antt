@@ -1,5 +1,5 @@
 -- What a message has that passes every test.
-use Rattle.std.proofs.Common.{◌≡◌, ℕ, ◌*◌, ◌≤◌, ◌==◌, Bool, true, false, cond, List, [], ◌∷◌, length, Option, Result, Ok, Err, refl, sym, subst}
+use Rattle.std.proofs.Common.{◌≡◌, ℕ, ◌*◌, ◌≤◌, ◌==◌, Bool, true, false, cond, List, [], ◌∷◌, length, Option, Result, Ok, Err, refl, sym, subst, arith, inl, inr, ◌⊎◌}
 use Rattle.std.specs.Prelude.{IfOk, codes}
 use Rattle.corr_text.specs.First.{unless}
 use Rattle.corr_text.specs.declared.fault.Fault.{Fault}
@@ -17,13 +17,15 @@ use Rattle.fin_layout.specs.Tests.{passed}
 use Rattle.mt103.specs.Message.{mt103_of}
 use Rattle.mt103.specs.declared.message.Mt103.{Mt103}
 use Rattle.mt103_rules.specs.Rules.{all_rules}
+use Rattle.mt202cov.specs.Message.{mt202cov_of}
+use Rattle.mt9_advice.specs.Advice.{mt900_of, mt910_of}
 use Rattle.ref_tables.specs.Seen.{Tables}
 use Rattle.fin_message.specs.Answers.{Answers}
 use Rattle.fin_message.specs.Heading.{at_block, has_form, heading_tests}
 use Rattle.fin_message.specs.Parts.{envelope_of, envelope_with, type_of, uetr_in}
 use Rattle.fin_message.specs.Sound.{Goes, HasAmount, IsAmount, IsOfForm, IsRead, IsSound, lines_in}
-use Rattle.fin_message.specs.Verdict.{Refused, blocks_in, judged, line_test, message_of, told_of, transfer_of}
-use Rattle.fin_message.specs.declared.codes.TheConstants.{P07, P90}
+use Rattle.fin_message.specs.Verdict.{Refused, blocks_in, cover_of, credit_of, debit_of, judged, line_test, message_in, message_of, told_of, transfer_of}
+use Rattle.fin_message.specs.declared.codes.TheConstants.{P07}
 use Rattle.fin_message.specs.declared.direction.Direction.{Direction}
 use Rattle.fin_message.specs.declared.direction.Direction.TheVariants.{Received, Sent}
 use Rattle.fin_message.specs.declared.fault.MessageFault.{MessageFault}
@@ -36,6 +38,9 @@ of-form Received own (form.Sent mt to) uetr e = absurd (cc e)
 of-form Sent own (form.Received mt mir) uetr e = absurd (cc e)
 of-form Sent own (form.Sent mt to) uetr e = refl
 
+envelope-says : (way : Direction) (b : Blocks) → has_form way b.app ≡ true → IsOfForm way (envelope_of b)
+envelope-says way b e = of-form way b.own b.app (uetr_in b) e
+
 first-holds : (holds : Bool) (fault : Fault) (others : List (Option Fault)) (x : Unit {0}) → passed (unless holds fault ∷ others) ≡ Ok x → holds ≡ true
 first-holds true fault others x e = refl
 first-holds false fault others x e = absurd (cc e)
@@ -45,7 +50,7 @@ record Says (way : Direction) (t : Tables) (text : List ℕ) (x : Message) : Typ
   goes : Goes way x
   read : IsRead t x
   amount : HasAmount x
-  lines : lines_in x ≡ text
+  lines : (lines_in x ≡ text) ⊎ (lines_in x ≡ [])
 
 transfer-says : (way : Direction) (t : Tables) (b : Blocks) → has_form way b.app ≡ true → IfOk (transfer_of t b) (Says way t b.text)
 unfolding transfer_of
@@ -54,15 +59,46 @@ transfer-says way t b e =
     then P (mt103_of t (fields_of b.text)) _ (λ transfer read.
     then P (passed (all_rules (envelope_of b).sender (envelope_of b).receiver t transfer)) _ (λ _ _.
     record {
-      goes = of-form way b.own b.app (uetr_in b) e;
+      goes = envelope-says way b e;
       read = read;
       amount = subst (λ r. IfOk r (λ (m : Mt103). IsAmount m.amount)) read (transfer-amount t (fields_of b.text));
-      lines = refl;
+      lines = inl refl;
     }))
 
-either-ok : (P : Message → Type 0) (test : Bool) (r : Result Message Fault) (fault : Fault) → IfOk r P → IfOk (cond test r (Err fault)) P
-either-ok P true r fault p = p
-either-ok P false r fault p = tt
+cover-says : (way : Direction) (t : Tables) (b : Blocks) → has_form way b.app ≡ true → IfOk (cover_of t b) (Says way t b.text)
+unfolding cover_of
+cover-says way t b e =
+    then (Says way t b.text) (mt202cov_of t (fields_of b.text)) _ (λ cover read.
+    record { goes = envelope-says way b e; read = read; amount = tt; lines = inl refl })
+
+debit-says : (way : Direction) (t : Tables) (b : Blocks) → has_form way b.app ≡ true → IfOk (debit_of t b) (Says way t b.text)
+unfolding debit_of
+debit-says way t b e =
+    then (Says way t b.text) (mt900_of t (fields_of b.text)) _ (λ advice read.
+    record { goes = envelope-says way b e; read = tt; amount = tt; lines = inr refl })
+
+credit-says : (way : Direction) (t : Tables) (b : Blocks) → has_form way b.app ≡ true → IfOk (credit_of t b) (Says way t b.text)
+unfolding credit_of
+credit-says way t b e =
+    then (Says way t b.text) (mt910_of t (fields_of b.text)) _ (λ advice read.
+    record { goes = envelope-says way b e; read = tt; amount = tt; lines = inr refl })
+
+either-ok : (P : Message → Type 0) (test : Bool) (r q : Result Message Fault) → IfOk r P → IfOk q P → IfOk (cond test r q) P
+either-ok P true r q p o = p
+either-ok P false r q p o = o
+
+type-says : (way : Direction) (t : Tables) (b : Blocks) → has_form way b.app ≡ true → IfOk (message_in t b) (Says way t b.text)
+type-says way t b e =
+    let P : Message → Type 0 = Says way t b.text in
+    let mt = type_of b.app in
+    either-ok P (mt == 103) (transfer_of t b) _ (transfer-says way t b e)
+    (either-ok P (mt == 202) (cover_of t b) _ (cover-says way t b e)
+    (either-ok P (mt == 900) (debit_of t b) _ (debit-says way t b e)
+    (either-ok P (mt == 910) (credit_of t b) _ (credit-says way t b e) tt)))
+
+lines-short : (lines text : List ℕ) (n : ℕ) → (lines ≡ text) ⊎ (lines ≡ []) → length text ≤ n → length lines ≤ n
+lines-short lines text n (inl e) le = subst (λ (l : List ℕ). length l ≤ n) (sym e) le
+lines-short lines text n (inr e) le = subst (λ (l : List ℕ). length l ≤ n) (sym e) (omega arith)
 
 message-says : (way : Direction) (home : Bic) (t : Tables) (b : Blocks) → IfOk (message_of way home t b) (Says way t b.text)
 unfolding message_of
@@ -70,8 +106,7 @@ message-says way home t b =
     let P : Message → Type 0 = Says way t b.text in
     then P (passed (heading_tests way home t b)) _ (λ x e.
     then P (passed (line_test b.text ∷ [])) _ (λ _ _.
-    either-ok P (type_of b.app == 103) (transfer_of t b) (at_block P90 (codes "B4 "))
-    (transfer-says way t b (first-holds (has_form way b.app) (at_block P07 (codes "B2 ")) _ x e))))
+    type-says way t b (first-holds (has_form way b.app) (at_block P07 (codes "B2 ")) _ x e)))
 
 told-says : (P : Message → Type 0) (b : Blocks) (r : Result Message Fault) → IfOk r P → IfOk (told_of b r) P
 told-says P b (Ok x) p = p
@@ -87,7 +122,7 @@ judged-sound way home t m =
     let P : Message → Type 0 = IsSound way t (2 * length m) in
     then P (blocks_in (blocks_of m)) _ (λ b e. told-says P b (message_of way home t b)
     (weaker (message_of way home t b) (Says way t b.text) P
-    (λ x says. record { goes = says.goes; read = says.read; amount = says.amount; short = subst (λ text. length text ≤ 2 * length m) (sym says.lines) (text_bytes m b (read-blocks (blocks_of m) b e)) })
+    (λ x says. record { goes = says.goes; read = says.read; amount = says.amount; short = lines-short (lines_in x) b.text (2 * length m) says.lines (text_bytes m b (read-blocks (blocks_of m) b e)) })
     (message-says way home t b)))
   where
     weaker : (r : Result Message Fault) (P Q : Message → Type 0) → ((x : Message) → P x → Q x) → IfOk r P → IfOk r Q

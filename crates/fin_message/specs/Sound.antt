@@ -1,14 +1,15 @@
 -- What every valid message has.
-use Rattle.std.specs.Prelude.{◌≡◌, ℕ, ◌<◌, ◌≤◌, List, length, None, Ok, IsSome}
+use Rattle.std.specs.Prelude.{◌≡◌, ℕ, ◌<◌, ◌≤◌, List, [], length, None, Ok, IsSome}
 use Rattle.corr_ids.specs.declared.envelope.Envelope.{Envelope}
 use Rattle.corr_money.specs.declared.amount.Amount.{Amount}
 use Rattle.fin_fields.specs.Fields.{fields_of}
 use Rattle.mt103.specs.Message.{mt103_of}
+use Rattle.mt202cov.specs.Message.{mt202cov_of}
 use Rattle.ref_tables.specs.Seen.{Tables}
 use Rattle.fin_message.specs.declared.direction.Direction.{Direction}
 use Rattle.fin_message.specs.declared.direction.Direction.TheVariants.{Received, Sent}
 use Rattle.fin_message.specs.declared.message.Message.{Message}
-use Rattle.fin_message.specs.declared.message.Message.TheVariants.{Transfer}
+use Rattle.fin_message.specs.declared.message.Message.TheVariants.{Cover, Credit, Debit, Transfer}
 
 -- a received message has its reference, a sent one has none yet
 abbrev pub IsOfForm : Direction → Envelope → Type 0
@@ -17,23 +18,31 @@ IsOfForm Sent envelope = envelope.mir ≡ None
 
 abbrev pub Goes : Direction → Message → Type 0
 Goes way (Transfer envelope text transfer) = IsOfForm way envelope
+Goes way (Cover envelope text cover) = IsOfForm way envelope
+Goes way (Debit envelope advice) = IsOfForm way envelope
+Goes way (Credit envelope advice) = IsOfForm way envelope
 
 -- above zero and below 10^14 minor units
 pub record IsAmount (amount : Amount) : Type 0 where
   pub positive : 0 < amount.minor.0
   pub small : amount.minor.0 < 100000000000000
 
--- the amount of field 32A
+-- the amount of a transfer's field 32A
 abbrev pub HasAmount : Message → Type 0
 HasAmount (Transfer envelope text transfer) = IsAmount transfer.amount
+HasAmount _ = Unit {0}
 
--- the lines of block 4
+-- the lines of block 4 of a message that is passed on
 abbrev pub lines_in : Message → List ℕ
 lines_in (Transfer envelope text transfer) = text
+lines_in (Cover envelope text cover) = text
+lines_in _ = []
 
 -- the lines say what the message has beside its envelope
 abbrev pub IsRead : Tables → Message → Type 0
 IsRead t (Transfer envelope text transfer) = mt103_of t (fields_of text) ≡ Ok transfer
+IsRead t (Cover envelope text cover) = mt202cov_of t (fields_of text) ≡ Ok cover
+IsRead t _ = Unit {0}
 
 -- a valid message that goes this way under these tables, with lines of at most so many bytes
 pub record IsSound (way : Direction) (t : Tables) (most : ℕ) (message : Message) : Type 0 where

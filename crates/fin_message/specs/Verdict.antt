@@ -23,6 +23,8 @@ use Rattle.fin_fields.specs.declared.fault.FieldFault.TheVariants as field
 use Rattle.fin_layout.specs.Tests.{passed}
 use Rattle.mt103.specs.Message.{mt103_of}
 use Rattle.mt103_rules.specs.Rules.{all_rules}
+use Rattle.mt202cov.specs.Message.{mt202cov_of}
+use Rattle.mt9_advice.specs.Advice.{mt900_of, mt910_of}
 use Rattle.ref_tables.specs.Seen.{Tables}
 use Rattle.fin_message.specs.Heading.{at_block, heading_tests}
 use Rattle.fin_message.specs.Parts.{envelope_of, type_of}
@@ -30,7 +32,7 @@ use Rattle.fin_message.specs.declared.codes.TheConstants.{P20, P21, P90}
 use Rattle.fin_message.specs.declared.direction.Direction.{Direction}
 use Rattle.fin_message.specs.declared.direction.Direction.TheVariants.{Received, Sent}
 use Rattle.fin_message.specs.declared.message.Message.{Message}
-use Rattle.fin_message.specs.declared.message.Message.TheVariants.{Transfer}
+use Rattle.fin_message.specs.declared.message.Message.TheVariants.{Cover, Credit, Debit, Transfer}
 
 -- why a message is refused: its reference where that is told, and the fault
 abbrev pub Refused : Type 0
@@ -77,9 +79,32 @@ transfer_of t b = do
   _ ← passed (all_rules envelope.sender envelope.receiver t transfer)
   Ok (Transfer envelope b.text transfer)
 
--- the message by its type; the other types are not read
+-- an MT202 COV: its fields and its rules
+unfoldable pub cover_of : Tables → Blocks → Result Message Fault
+cover_of t b = do
+  cover ← mt202cov_of t (fields_of b.text)
+  Ok (Cover (envelope_of b) b.text cover)
+
+-- an MT900: its fields
+unfoldable pub debit_of : Tables → Blocks → Result Message Fault
+debit_of t b = do
+  advice ← mt900_of t (fields_of b.text)
+  Ok (Debit (envelope_of b) advice)
+
+-- an MT910: its fields and its rule
+unfoldable pub credit_of : Tables → Blocks → Result Message Fault
+credit_of t b = do
+  advice ← mt910_of t (fields_of b.text)
+  Ok (Credit (envelope_of b) advice)
+
+-- the message by its type; the other type is not read
 abbrev pub message_in : Tables → Blocks → Result Message Fault
-message_in t b = if type_of b.app == 103 then transfer_of t b else Err (at_block P90 (codes "B4 "))
+message_in t b =
+    if type_of b.app == 103 then transfer_of t b
+    else if type_of b.app == 202 then cover_of t b
+    else if type_of b.app == 900 then debit_of t b
+    else if type_of b.app == 910 then credit_of t b
+    else Err (at_block P90 (codes "B4 "))
 
 -- the tests behind those of the blocks, in their order
 unfoldable pub message_of : Direction → Bic → Tables → Blocks → Result Message Fault

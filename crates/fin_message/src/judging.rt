@@ -8,7 +8,9 @@ ghost use Rattle.fin_message.specs.Answers.{Answers};
 ghost use Rattle.fin_message.specs.Sound.{IsSound};
 ghost use Rattle.fin_message.specs.Verdict.{judged, message_in, message_of, sent_verdict_of, verdict_of};
 
+use crate::advices::{read_credit, read_debit};
 use crate::codes::P90;
+use crate::cover::read_cover;
 use crate::direction::Direction;
 use crate::fault::{MessageFault, at_block};
 use crate::fields::read_fields;
@@ -36,6 +38,9 @@ fn read_of_type(
 {
     match type_of(&blocks.app) {
         103 => read_transfer(alloc, t, blocks, fields),
+        202 => read_cover(alloc, t, blocks, fields),
+        900 => read_debit(alloc, t, &blocks, fields),
+        910 => read_credit(alloc, t, &blocks, fields),
         _ => Err(MtFault::Bad(at_block(P90, *b"B4 "))),
     }
 }

@@ -1,17 +1,25 @@
 //! A whole message: what it says, or the first test that it fails (docs/messages.md, "The tests of a message").
 #![tactic(auto)]
 
+mod advices;
 mod codes;
+mod cover;
 mod direction;
 mod fault;
 mod fields;
 mod heading;
 mod judging;
+mod laws;
 mod message;
 mod parts;
+#[cfg(test)]
+mod refusal_tests;
+#[cfg(test)]
+mod tests;
 mod transfer;
 
 pub use codes::{P07, P08, P09, P10, P11, P12, P13, P20, P21, P90};
 pub use fault::MessageFault;
 pub use judging::{check_sent, verdict};
+pub use laws::handbook_laws;
 pub use message::Message;
