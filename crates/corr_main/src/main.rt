@@ -12,7 +12,7 @@ use std::io::Write;
 use std::process::ExitCode;
 
 const HELP: &[u8] =
-    b"corr FOLDER run DATE 1\n\nReads bics.csv, ccys.csv, countries.csv, accounts.csv and messages.fin in FOLDER,\nbooks the messages on DATE (YYMMDD) and prints the report.\n\ncorr --help     prints this\ncorr --version  prints the version\n";
+    b"corr FOLDER run DATE 1\n\nReads bics.csv, ccys.csv, countries.csv, accounts.csv, ssi.csv and messages.fin in\nFOLDER, books the messages on DATE (YYMMDD) and prints the report.\n\ncorr --help     prints this\ncorr --version  prints the version\n";
 
 const VERSION: &[u8] = b"corr 0.1.0\n";
 
@@ -63,6 +63,7 @@ fn room<'a>(
             ccys: source(rt, folder, b"ccys.csv")?,
             countries: source(rt, folder, b"countries.csv")?,
             accounts: source(rt, folder, b"accounts.csv")?,
+            ssi: source(rt, folder, b"ssi.csv")?,
         },
         messages: source(rt, folder, b"messages.fin")?,
         report: StdSink::out(rt),

@@ -2,7 +2,7 @@
 use Rattle.std.proofs.Common.{◌≡◌, ℕ, zero, suc, ◌+◌, ◌≤◌, ◌⊎◌, inl, inr, Bool, true, false, cond, List, [], ◌∷◌, ◌++◌, length, take, Option, Some, None, refl, sym, ap, ap₂, ◌∙◌, subst, arith, append-nil, nat_le, length-append}
 use Rattle.std.specs.Prelude.{slice_get, ℤ}
 use Rattle.std.proofs.Math.Seq.{take-length}
-use Rattle.std.specs.Option.{option_or, option_map_or}
+use Rattle.std.specs.Option.{option_map_or}
 use Rattle.std.proofs.lemmas.Bool.Decides.{nat_tests}
 use Rattle.std.proofs.lemmas.Option.{none-some, same_Some}
 use Rattle.csv.specs.Machine.{next_record}
@@ -15,6 +15,7 @@ use Rattle.ref_tables.specs.Accounts.{accounts_fault}
 use Rattle.ref_tables.specs.Refusals.{RowTest, first_bad_row, first_fault, named}
 use Rattle.ref_tables.specs.Rows.{Cells, rows_of, up_to}
 use Rattle.ref_tables.specs.Tables.{bics_fault, ccys_fault, countries_fault}
+use Rattle.ssi_versions.specs.Rows.{ssi_fault}
 use Rattle.day_model.specs.Chart.{opening_sum}
 use Rattle.ref_tables.specs.declared.fault.TableName.{TableName}
 use Rattle.ref_tables.specs.declared.fault.TableName.TheVariants as table
@@ -57,14 +58,16 @@ front_of (limit ∷ most) (b ∷ before) (a ∷ after) (g ∷ got) (file ∷ fil
 
 -- ---- the faults of the first files
 
-parts_none : {F : Type 0} (p q r s : Option F) → option_or (first_of (p ∷ q ∷ r ∷ [])) s ≡ None → (p ≡ None) × (q ≡ None) × (r ≡ None) × (s ≡ None)
-parts_none None None None s e = (refl, refl, refl, e)
-parts_none None None (Some x) s e = absurd (cc e)
-parts_none None (Some x) r s e = absurd (cc e)
-parts_none (Some x) q r s e = absurd (cc e)
+parts_none : {F : Type 0} (p q r s u : Option F) → first_of (first_of (p ∷ q ∷ r ∷ []) ∷ s ∷ u ∷ []) ≡ None → (p ≡ None) × (q ≡ None) × (r ≡ None) × (s ≡ None) × (u ≡ None)
+parts_none None None None None None e = (refl, refl, refl, refl, refl)
+parts_none None None None None (Some x) e = absurd (cc e)
+parts_none None None None (Some x) u e = absurd (cc e)
+parts_none None None (Some x) s u e = absurd (cc e)
+parts_none None (Some x) r s u e = absurd (cc e)
+parts_none (Some x) q r s u e = absurd (cc e)
 
-none_parts : {F : Type 0} (p q r s : Option F) → p ≡ None → q ≡ None → r ≡ None → s ≡ None → option_or (first_of (p ∷ q ∷ r ∷ [])) s ≡ None
-none_parts p q r s a b c d = rw a (rw b (rw c d))
+none_parts : {F : Type 0} (p q r s u : Option F) → p ≡ None → q ≡ None → r ≡ None → s ≡ None → u ≡ None → first_of (first_of (p ∷ q ∷ r ∷ []) ∷ s ∷ u ∷ []) ≡ None
+none_parts p q r s u a b c d e = rw a (rw b (rw c (rw d (rw e refl))))
 
 -- files of which each has no fault
 record NoFault (files : List (List ℕ)) : Type 0 where
@@ -72,21 +75,26 @@ record NoFault (files : List (List ℕ)) : Type 0 where
   pub ccys : named table.Ccys (ccys_fault (file_at 1 files)) ≡ None
   pub countries : named table.Countries (countries_fault (file_at 2 files)) ≡ None
   pub accounts : named table.Accounts (accounts_fault home_head (tables_in files) (file_at 3 files)) ≡ None
+  pub ssi : named table.Ssi (ssi_fault (tables_in files) (file_at 4 files)) ≡ None
 
 each_fault : (files : List (List ℕ)) → fault_in files ≡ None → NoFault files
 unfolding fault_in
 each_fault files e =
-    let p = parts_none _ _ _ _ e in
-    record { bics = p.0; ccys = p.1; countries = p.2; accounts = p.3 }
+    let p = parts_none _ _ _ _ _ e in
+    record { bics = p.0; ccys = p.1; countries = p.2; accounts = p.3; ssi = p.4 }
 
 no_fault : (files : List (List ℕ)) → NoFault files → fault_in files ≡ None
 unfolding fault_in
-no_fault files f = none_parts _ _ _ _ f.bics f.ccys f.countries f.accounts
+no_fault files f = none_parts _ _ _ _ _ f.bics f.ccys f.countries f.accounts f.ssi
 
 -- a file with no bytes has no fault
 none_in_1000 : (test : RowTest) → first_fault 1000 test [] ≡ None
 unfolding first_bad_row rows_of records_from next_record strip_bom
 none_in_1000 test = refl
+
+none_of_ssi : (test : RowTest) → named table.Ssi (first_fault 10000 test []) ≡ None
+unfolding first_bad_row rows_of records_from next_record strip_bom
+none_of_ssi test = refl
 
 none_of_bics : named table.Bics (bics_fault []) ≡ None
 unfolding first_bad_row rows_of records_from next_record strip_bom
@@ -95,12 +103,13 @@ none_of_bics = refl
 none_of : (name : TableName) (test : RowTest) → named name (first_fault 1000 test []) ≡ None
 none_of name test = ap (named name) (none_in_1000 test)
 
-front_fault : (n : ℕ) (a b c d : List ℕ) (more : List (List ℕ)) → NoFault (a ∷ b ∷ c ∷ d ∷ more) → NoFault (take n (a ∷ b ∷ c ∷ d ∷ more))
-front_fault zero a b c d more f = record { bics = none_of_bics; ccys = none_of _ _; countries = none_of _ _; accounts = none_of _ _ }
-front_fault (suc zero) a b c d more f = record { bics = f.bics; ccys = none_of _ _; countries = none_of _ _; accounts = none_of _ _ }
-front_fault (suc (suc zero)) a b c d more f = record { bics = f.bics; ccys = f.ccys; countries = none_of _ _; accounts = none_of _ _ }
-front_fault (suc (suc (suc zero))) a b c d more f = record { bics = f.bics; ccys = f.ccys; countries = f.countries; accounts = none_of _ _ }
-front_fault (suc (suc (suc (suc n)))) a b c d more f = record { bics = f.bics; ccys = f.ccys; countries = f.countries; accounts = f.accounts }
+front_fault : (n : ℕ) (a b c d e : List ℕ) (more : List (List ℕ)) → NoFault (a ∷ b ∷ c ∷ d ∷ e ∷ more) → NoFault (take n (a ∷ b ∷ c ∷ d ∷ e ∷ more))
+front_fault zero a b c d e more f = record { bics = none_of_bics; ccys = none_of _ _; countries = none_of _ _; accounts = none_of _ _; ssi = none_of_ssi _ }
+front_fault (suc zero) a b c d e more f = record { bics = f.bics; ccys = none_of _ _; countries = none_of _ _; accounts = none_of _ _; ssi = none_of_ssi _ }
+front_fault (suc (suc zero)) a b c d e more f = record { bics = f.bics; ccys = f.ccys; countries = none_of _ _; accounts = none_of _ _; ssi = none_of_ssi _ }
+front_fault (suc (suc (suc zero))) a b c d e more f = record { bics = f.bics; ccys = f.ccys; countries = f.countries; accounts = none_of _ _; ssi = none_of_ssi _ }
+front_fault (suc (suc (suc (suc zero)))) a b c d e more f = record { bics = f.bics; ccys = f.ccys; countries = f.countries; accounts = f.accounts; ssi = none_of_ssi _ }
+front_fault (suc (suc (suc (suc (suc n))))) a b c d e more f = record { bics = f.bics; ccys = f.ccys; countries = f.countries; accounts = f.accounts; ssi = f.ssi }
 
 -- a table file past its limit has a fault
 small_if : (b : Bool) (name : TableName) (test : List Cells → Option (ℕ × Why)) (rows : Option (List Cells))
@@ -115,14 +124,16 @@ small name most test file e =
 
 -- ---- files with nothing wrong in them
 
-within : (files : List (List ℕ)) → NoFault files → length (file_at 4 files) ≤ 67108864 → AreWithin limits files
+within : (files : List (List ℕ)) → NoFault files → length (file_at 5 files) ≤ 67108864 → AreWithin limits files
 within [] f short = tt
 within (a ∷ []) f short = (small _ _ _ a f.bics, tt)
 within (a ∷ b ∷ []) f short = (small _ _ _ a f.bics, (small _ _ _ b f.ccys, tt))
 within (a ∷ b ∷ c ∷ []) f short = (small _ _ _ a f.bics, (small _ _ _ b f.ccys, (small _ _ _ c f.countries, tt)))
 within (a ∷ b ∷ c ∷ d ∷ []) f short = (small _ _ _ a f.bics, (small _ _ _ b f.ccys, (small _ _ _ c f.countries, (small _ _ _ d f.accounts, tt))))
-within (a ∷ b ∷ c ∷ d ∷ e ∷ more) f short =
-    (small _ _ _ a f.bics, (small _ _ _ b f.ccys, (small _ _ _ c f.countries, (small _ _ _ d f.accounts, (short, tt)))))
+within (a ∷ b ∷ c ∷ d ∷ e ∷ []) f short =
+    (small _ _ _ a f.bics, (small _ _ _ b f.ccys, (small _ _ _ c f.countries, (small _ _ _ d f.accounts, (small _ _ _ e f.ssi, tt)))))
+within (a ∷ b ∷ c ∷ d ∷ e ∷ m ∷ more) f short =
+    (small _ _ _ a f.bics, (small _ _ _ b f.ccys, (small _ _ _ c f.countries, (small _ _ _ d f.accounts, (small _ _ _ e f.ssi, (short, tt))))))
 
 -- the first ones of them were read
 got_front : (before after : List Told) (sink sunk : Told) (files messages got : List (List ℕ)) → IsReady before after sink sunk files messages → AreRead limits before after got
@@ -130,26 +141,27 @@ got_front : (before after : List Told) (sink sunk : Told) (files messages got : 
 got_front before after sink sunk files messages got ready read =
     front_of limits before after got files read ready.told (within files (each_fault files ready.fine.no_fault) ready.messages_are.short)
 
-front_fine : (n : ℕ) (files : List (List ℕ)) → length files ≡ 5 → NoFault files → NoFault (take n files)
+front_fine : (n : ℕ) (files : List (List ℕ)) → length files ≡ 6 → NoFault files → NoFault (take n files)
 front_fine n [] all f = absurd (omega arith)
 front_fine n (a ∷ []) all f = absurd (omega arith)
 front_fine n (a ∷ b ∷ []) all f = absurd (omega arith)
 front_fine n (a ∷ b ∷ c ∷ []) all f = absurd (omega arith)
-front_fine n (a ∷ b ∷ c ∷ d ∷ more) all f = front_fault n a b c d more f
+front_fine n (a ∷ b ∷ c ∷ d ∷ []) all f = absurd (omega arith)
+front_fine n (a ∷ b ∷ c ∷ d ∷ e ∷ more) all f = front_fault n a b c d e more f
 
 got_fine : (before after : List Told) (sink sunk : Told) (files messages got : List (List ℕ)) → IsReady before after sink sunk files messages → AreRead limits before after got → fault_in got ≡ None
 got_fine before after sink sunk files messages got ready read =
     let front = got_front before after sink sunk files messages got ready read in
     no_fault got (subst NoFault (sym front) (front_fine (length got) files ready.all (each_fault files ready.fine.no_fault)))
 
-front_accounts : (files : List (List ℕ)) → length files ≡ 5 → accounts_in (take 4 files) ≡ accounts_in files
+front_accounts : (files : List (List ℕ)) → length files ≡ 6 → accounts_in (take 5 files) ≡ accounts_in files
 front_accounts [] all = absurd (omega arith)
 front_accounts (a ∷ []) all = absurd (omega arith)
 front_accounts (a ∷ b ∷ []) all = absurd (omega arith)
 front_accounts (a ∷ b ∷ c ∷ []) all = absurd (omega arith)
 front_accounts (a ∷ b ∷ c ∷ d ∷ more) all = refl
 
-front_all : (files : List (List ℕ)) → length files ≡ 5 → take 5 files ≡ files
+front_all : (files : List (List ℕ)) → length files ≡ 6 → take 6 files ≡ files
 front_all files all = subst (λ n. take n files ≡ files) all (take-length files)
 
 none_failed : (before after : List Told) (n : ℕ) (old new : Told) → NoneRose before after → slice_get before n ≡ Some old → slice_get after n ≡ Some new
@@ -171,17 +183,17 @@ no_gap : (before after : List Told) (sink sunk : Told) (files messages : List (L
     → IsReady before after sink sunk files messages → StopsUnbalanced before after ccy decimals sum got → ⊥
 no_gap before after sink sunk files messages ccy decimals sum got ready stop =
     let front = got_front before after sink sunk files messages got ready stop.read in
-    let four : got ≡ take 4 files = subst (λ n. got ≡ take n files) stop.four front in
-    let same : accounts_in got ≡ accounts_in files = ap accounts_in four ∙ front_accounts files ready.all in
+    let five : got ≡ take 5 files = subst (λ n. got ≡ take n files) stop.five front in
+    let same : accounts_in got ≡ accounts_in files = ap accounts_in five ∙ front_accounts files ready.all in
     let gap = stop.unbalanced.is_gap in
-    gap.off (sym gap.sum_is ∙ ap (opening_sum ccy) same ∙ ready.fine.balanced ccy)
+    gap.off (sym gap.sum_is ∙ ap (opening_sum ccy) same ∙ ready.fine.balanced (omega (arith, ready.all)) ccy)
 
 file_stop : (before after : List Told) (sink sunk : Told) (files messages : List (List ℕ)) (stop : Status) (got : List (List ℕ))
     → IsReady before after sink sunk files messages → StopsAtFile before after stop got → stop ≡ status.Memory
 file_stop before after sink sunk files messages stop got ready stops =
     let front = got_front before after sink sunk files messages got ready stops.read in
-    let five : got ≡ files = subst (λ n. got ≡ take n files) stops.all front ∙ front_all files ready.all in
-    no-fault (file_at 4 files) messages stop ready.messages_are (subst (λ fs. StopsCutting (file_at 4 fs) stop) five stops.stopped)
+    let six : got ≡ files = subst (λ n. got ≡ take n files) stops.all front ∙ front_all files ready.all in
+    no-fault (file_at 5 files) messages stop ready.messages_are (subst (λ fs. StopsCutting (file_at 5 fs) stop) six stops.stopped)
 
 no_read_fault : (before after : List Told) (then now : ℕ) (files got : List (List ℕ)) → NoneRose before after → StopsAtRead before after then now got → ⊥
 no_read_fault before after then now files got none stop =

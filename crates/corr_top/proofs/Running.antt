@@ -1,49 +1,46 @@
 -- How a run ends, from how its steps end.
-use Rattle.std.proofs.Common.{◌≡◌, ℕ, List, [], ◌∷◌, Option, Some, refl, ap, ◌∙◌, subst}
+use Rattle.std.proofs.Common.{◌≡◌, ℕ, List, [], ◌∷◌, Option, Some, refl, ap, subst, arith}
 use Rattle.std.specs.Prelude.{slice_get}
 use Rattle.std.specs.Io.KnownBytes.{Appends}
 use Rattle.corr_ids.specs.declared.day.Day.{Day}
-use Rattle.day_model.specs.Chart.{Chart}
-use Rattle.corr_report.specs.Report.{report_of}
-use Rattle.ref_tables.specs.Seen.{Tables}
-use Rattle.corr_top.specs.declared.answers.Books.{Books}
+use Rattle.corr_top.specs.declared.books.Books.{Books}
 use Rattle.corr_top.specs.declared.status.Status.{Status}
 use Rattle.corr_top.specs.declared.status.Status.TheVariants as status
-use Rattle.corr_top.specs.Answers.{history_of, replies_of}
+use Rattle.corr_top.specs.Answers.{report_over}
 use Rattle.corr_top.specs.Ends.{Ends}
 use Rattle.corr_top.specs.MessageFile.{IsMessageFile}
-use Rattle.corr_top.specs.Messages.{StopsAtMessages, report_over}
+use Rattle.corr_top.specs.Messages.{StopsAtMessages}
 use Rattle.corr_top.specs.Reading.{IsRead}
-use Rattle.corr_top.specs.Run.{AreFine, AreRead, IsWhole, chart_in, fault_in, limits, report_in, tables_in}
+use Rattle.corr_top.specs.Run.{AreFine, AreRead, IsWhole, books_in, fault_in, limits, report_in}
 use Rattle.corr_top.specs.Told.{Told}
 use Rattle.corr_top.specs.Writing.{AppendsPrefix}
 
 -- the message file has no part in what is wrong with the tables
-five_fine : (b d e f m : List ℕ) → AreFine (b ∷ d ∷ e ∷ f ∷ []) → AreFine (b ∷ d ∷ e ∷ f ∷ m ∷ [])
+six_fine : (b d e f g m : List ℕ) → AreFine (b ∷ d ∷ e ∷ f ∷ g ∷ []) → AreFine (b ∷ d ∷ e ∷ f ∷ g ∷ m ∷ [])
 unfolding fault_in
-five_fine b d e f m fine = record { no_fault = fine.no_fault; balanced = fine.balanced }
+six_fine b d e f g m fine = record { no_fault = fine.no_fault; balanced = λ five. fine.balanced (omega arith) }
 
-pub whole : (before after : List Told) (b d e f m : List ℕ) (messages : List (List ℕ)) → AreRead limits before after (b ∷ d ∷ e ∷ f ∷ m ∷ []) → AreFine (b ∷ d ∷ e ∷ f ∷ []) → IsMessageFile m messages
-    → IsWhole before after (b ∷ d ∷ e ∷ f ∷ m ∷ []) messages
-whole before after b d e f m messages read fine are = record { read = read; all = refl; fine = five_fine b d e f m fine; messages_are = are }
+pub whole : (before after : List Told) (b d e f g m : List ℕ) (messages : List (List ℕ)) → AreRead limits before after (b ∷ d ∷ e ∷ f ∷ g ∷ m ∷ []) → AreFine (b ∷ d ∷ e ∷ f ∷ g ∷ []) → IsMessageFile m messages
+    → IsWhole before after (b ∷ d ∷ e ∷ f ∷ g ∷ m ∷ []) messages
+whole before after b d e f g m messages read fine are = record { read = read; all = refl; fine = six_fine b d e f g m fine; messages_are = are }
 
 -- reading the messages stopped
-pub messages_stop : (before after : List Told) (sink sunk old new : Told) (day : Day) (b d e f : List ℕ) → AreRead limits before after (b ∷ d ∷ e ∷ f ∷ []) → AreFine (b ∷ d ∷ e ∷ f ∷ [])
-    → slice_get before 4 ≡ Some old → slice_get after 4 ≡ Some new
-    → ((m : List ℕ) → IsRead 67108864 old.bytes new.bytes m → AreRead limits before after (b ∷ d ∷ e ∷ f ∷ m ∷ []))
+pub messages_stop : (before after : List Told) (sink sunk old new : Told) (day : Day) (b d e f g : List ℕ) → AreRead limits before after (b ∷ d ∷ e ∷ f ∷ g ∷ []) → AreFine (b ∷ d ∷ e ∷ f ∷ g ∷ [])
+    → slice_get before 5 ≡ Some old → slice_get after 5 ≡ Some new
+    → ((m : List ℕ) → IsRead 67108864 old.bytes new.bytes m → AreRead limits before after (b ∷ d ∷ e ∷ f ∷ g ∷ m ∷ []))
     → (s : Status) → StopsAtMessages old.bytes new.bytes old.faults new.faults s → Ends before after sink sunk day s
-messages_stop before after sink sunk old new day b d e f read fine was is more (status.ReadFault then now) why =
-    (b ∷ d ∷ e ∷ f ∷ [], record { read = read; fine = fine; failed = record { old = old; new = new; was = was; is = is; then_is = why.0; now_is = why.1; rose = why.2 } })
-messages_stop before after sink sunk old new day b d e f read fine was is more (status.TooLarge bytes messages) why =
-    (b ∷ d ∷ e ∷ f ∷ why.0 ∷ [], record { read = more why.0 why.1; all = refl; fine = five_fine b d e f why.0 fine; stopped = why.2 })
-messages_stop before after sink sunk old new day b d e f read fine was is more (status.Framing at) why =
-    (b ∷ d ∷ e ∷ f ∷ why.0 ∷ [], record { read = more why.0 why.1; all = refl; fine = five_fine b d e f why.0 fine; stopped = why.2 })
-messages_stop before after sink sunk old new day b d e f read fine was is more status.Memory why = tt
-messages_stop before after sink sunk old new day b d e f read fine was is more status.Done why = absurd why
-messages_stop before after sink sunk old new day b d e f read fine was is more status.Usage why = absurd why
-messages_stop before after sink sunk old new day b d e f read fine was is more (status.Table t r w) why = absurd why
-messages_stop before after sink sunk old new day b d e f read fine was is more (status.WriteFault x y) why = absurd why
-messages_stop before after sink sunk old new day b d e f read fine was is more (status.Unbalanced x y z) why = absurd why
+messages_stop before after sink sunk old new day b d e f g read fine was is more (status.ReadFault then now) why =
+    (b ∷ d ∷ e ∷ f ∷ g ∷ [], record { read = read; fine = fine; failed = record { old = old; new = new; was = was; is = is; then_is = why.0; now_is = why.1; rose = why.2 } })
+messages_stop before after sink sunk old new day b d e f g read fine was is more (status.TooLarge bytes messages) why =
+    (b ∷ d ∷ e ∷ f ∷ g ∷ why.0 ∷ [], record { read = more why.0 why.1; all = refl; fine = six_fine b d e f g why.0 fine; stopped = why.2 })
+messages_stop before after sink sunk old new day b d e f g read fine was is more (status.Framing at) why =
+    (b ∷ d ∷ e ∷ f ∷ g ∷ why.0 ∷ [], record { read = more why.0 why.1; all = refl; fine = six_fine b d e f g why.0 fine; stopped = why.2 })
+messages_stop before after sink sunk old new day b d e f g read fine was is more status.Memory why = tt
+messages_stop before after sink sunk old new day b d e f g read fine was is more status.Done why = absurd why
+messages_stop before after sink sunk old new day b d e f g read fine was is more status.Usage why = absurd why
+messages_stop before after sink sunk old new day b d e f g read fine was is more (status.Table t r w) why = absurd why
+messages_stop before after sink sunk old new day b d e f g read fine was is more (status.WriteFault x y) why = absurd why
+messages_stop before after sink sunk old new day b d e f g read fine was is more (status.Unbalanced x y z) why = absurd why
 
 -- the same of a source that was left alone until then
 pub same_messages : {A : Type 0} (left : A → Option (List ℕ)) (faults : A → ℕ) (old mid new : A) → mid ≡ old → (s : Status)
@@ -54,14 +51,10 @@ pub same_over : (books : Books) (x y : List (List ℕ)) → x ≡ y → report_o
 same_over books x y e = ap (report_over books) e
 
 -- the report over the books that were opened is the report of the run
-pub same_report : (day : Day) (b d e f m : List ℕ) (messages : List (List ℕ)) (books : Books) → books.tables ≡ tables_in (b ∷ d ∷ e ∷ f ∷ []) → books.accounts ≡ chart_in (b ∷ d ∷ e ∷ f ∷ []) → books.day ≡ day
-    → report_over books messages ≡ report_in day (b ∷ d ∷ e ∷ f ∷ m ∷ []) messages
+pub same_report : (day : Day) (b d e f g m : List ℕ) (messages : List (List ℕ)) (books : Books) → books ≡ books_in day (b ∷ d ∷ e ∷ f ∷ g ∷ [])
+    → report_over books messages ≡ report_in day (b ∷ d ∷ e ∷ f ∷ g ∷ m ∷ []) messages
 unfolding report_in
-same_report day b d e f m messages books tables accounts days =
-    let over : Tables → Chart → Day → List ℕ = λ t c x. report_of c (history_of t c x messages) (replies_of t c x messages) in
-    ap (λ (t : Tables). over t books.accounts books.day) tables
-    ∙ ap (λ (c : Chart). over (tables_in (b ∷ d ∷ e ∷ f ∷ [])) c books.day) accounts
-    ∙ ap (over (tables_in (b ∷ d ∷ e ∷ f ∷ [])) (chart_in (b ∷ d ∷ e ∷ f ∷ []))) days
+same_report day b d e f g m messages books are = ap (λ (x : Books). report_over x messages) are
 
 -- what a sink received that was left alone until then
 pub same_appends : {A : Type 0} (held : A → Option (List ℕ)) (old mid : A) → mid ≡ old → (sunk : Option (List ℕ)) (x y : List ℕ) → x ≡ y → Appends (held mid) sunk x → Appends (held old) sunk y

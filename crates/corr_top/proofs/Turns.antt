@@ -23,7 +23,7 @@ use Rattle.corr_top.specs.Message.{pays_in, replies_in, reply_for, reply_in}
 use Rattle.corr_top.specs.declared.message.NoPay.{NoPay}
 use Rattle.corr_top.specs.declared.message.NoPay.TheVariants as no_pay
 use Rattle.corr_report.specs.Report.{NamesPlace}
-use Rattle.ref_tables.specs.Seen.{Tables}
+use Rattle.corr_top.specs.declared.books.Books.{Books}
 use Rattle.corr_top.specs.Message.{message_of, readings_of}
 use Rattle.corr_top.specs.Turn.{history_after, IsFit, Turned}
 
@@ -190,17 +190,17 @@ all_answered chart day all entries replies so_far =
     (sym so_far.history, sym (subst (λ es. replies_in es all ≡ replies) (sym so_far.history) here))
 
 -- a message is answered
-pub message_answered : (t : Tables) (chart : Chart) (day : Day) (all : List (Result Pay NoPay)) (message : List ℕ) (rest : List (List ℕ)) (entries after : List Entry) (replies more : List Reply)
-    → Answered chart day all (readings_of t chart (message ∷ rest)) entries replies → length entries < 100000
-    → Turned t chart day message entries after replies more
-    → Answered chart day all (readings_of t chart rest) after more
-message_answered t chart day all message rest entries after replies more so_far room turned =
-    subst (Answered chart day all (readings_of t chart rest) after) (sym turned.answered.2)
-    (next_answered chart day all (readings_of t chart rest) (message_of t chart message) entries after replies turned.answered.0 so_far room turned.fit turned.entered turned.answered.1)
+pub message_answered : (books : Books) (all : List (Result Pay NoPay)) (message : List ℕ) (rest : List (List ℕ)) (entries after : List Entry) (replies more : List Reply)
+    → Answered books.accounts books.day all (readings_of books (message ∷ rest)) entries replies → length entries < 100000
+    → Turned books message entries after replies more
+    → Answered books.accounts books.day all (readings_of books rest) after more
+message_answered books all message rest entries after replies more so_far room turned =
+    subst (Answered books.accounts books.day all (readings_of books rest) after) (sym turned.answered.2)
+    (next_answered books.accounts books.day all (readings_of books rest) (message_of books message) entries after replies turned.answered.0 so_far room turned.fit turned.entered turned.answered.1)
 
-pub message_few : (t : Tables) (chart : Chart) (day : Day) (message : List ℕ) (entries after : List Entry) (replies more : List Reply)
-    → Turned t chart day message entries after replies more → length after ≤ length entries + 1
-message_few t chart day message entries after replies more turned = few_more chart day (message_of t chart message) entries after turned.entered
+pub message_few : (books : Books) (message : List ℕ) (entries after : List Entry) (replies more : List Reply)
+    → Turned books message entries after replies more → length after ≤ length entries + 1
+message_few books message entries after replies more turned = few_more books.accounts books.day (message_of books message) entries after turned.entered
 
 pub none_left : (messages : List (List ℕ)) (n : ℕ) → length messages ≤ n → drop n messages ≡ []
 none_left [] zero le = refl

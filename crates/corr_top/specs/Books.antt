@@ -7,12 +7,13 @@ use Rattle.day_model.specs.declared.fault.AccountsFault.TheVariants as accounts
 use Rattle.ref_tables.specs.declared.fault.TableFault.{TableFault}
 use Rattle.ref_tables.specs.declared.fault.TableFault.TheVariants as table
 use Rattle.ref_tables.specs.Seen.{Tables}
-use Rattle.corr_top.specs.declared.answers.Books.{Books}
+use Rattle.corr_top.specs.declared.books.Books.{Books}
 use Rattle.corr_top.specs.declared.reading.ReadStop.{ReadStop}
 use Rattle.corr_top.specs.declared.reading.ReadStop.TheVariants as stop
 use Rattle.corr_top.specs.declared.status.Status.{Status}
 use Rattle.corr_top.specs.declared.status.Status.TheVariants as status
-use Rattle.corr_top.specs.Run.{AreRead, AreFine, chart_in, fault_in, limits, tables_in}
+use Rattle.ref_tables.specs.Tables.{tables_fault}
+use Rattle.corr_top.specs.Run.{AreRead, AreFine, books_in, file_at, limits, tables_in}
 use Rattle.corr_top.specs.Told.{Told}
 
 -- statuses of what stopped
@@ -43,7 +44,7 @@ IsReadStop then now _ = ⊥
 pub record ReadTables (before after : List Told) (t : Tables) (files : List (List ℕ)) : Type 0 where
   pub read : AreRead limits before after files
   pub three : length files ≡ 3
-  pub no_fault : fault_in files ≡ None
+  pub sound : tables_fault (file_at 0 files) (file_at 1 files) (file_at 2 files) ≡ None
   pub tables : t ≡ tables_in files
 
 abbrev pub HasTables : List Told → List Told → Tables → Type 0
@@ -52,12 +53,10 @@ HasTables before after t = (bics : List ℕ) × (ccys : List ℕ) × (countries 
 -- the table files were read, and these are the books of a day over them
 pub record OpenedBooks (before after : List Told) (day : Day) (books : Books) (files : List (List ℕ)) : Type 0 where
   pub read : AreRead limits before after files
-  pub four : length files ≡ 4
+  pub five : length files ≡ 5
   pub fine : AreFine files
-  pub tables : books.tables ≡ tables_in files
-  pub accounts : books.accounts ≡ chart_in files
-  pub day_is : books.day ≡ day
+  pub books_are : books ≡ books_in day files
 
 abbrev pub HasBooks : List Told → List Told → Day → Books → Type 0
 HasBooks before after day books =
-    (bics : List ℕ) × (ccys : List ℕ) × (countries : List ℕ) × (accounts : List ℕ) × OpenedBooks before after day books (bics ∷ ccys ∷ countries ∷ accounts ∷ [])
+    (bics : List ℕ) × (ccys : List ℕ) × (countries : List ℕ) × (accounts : List ℕ) × (ssi : List ℕ) × OpenedBooks before after day books (bics ∷ ccys ∷ countries ∷ accounts ∷ ssi ∷ [])

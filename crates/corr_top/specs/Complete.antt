@@ -17,11 +17,11 @@ NoneRose [] [] = Unit {0}
 NoneRose (before ∷ befores) (after ∷ afters) = (Rose before.faults after.faults → ⊥) × NoneRose befores afters
 NoneRose _ _ = ⊥
 
--- the sources have five files with nothing wrong in them, the last one of these messages, and neither a source nor the sink failed
+-- the sources have six files with nothing wrong in them, the last one of these messages, and neither a source nor the sink failed
 pub record IsReady (before after : List Told) (sink sunk : Told) (files messages : List (List ℕ)) : Type 0 where
   pub told : AreTold before files
-  pub all : length files ≡ 5
+  pub all : length files ≡ 6
   pub fine : AreFine files
-  pub messages_are : IsMessageFile (file_at 4 files) messages
+  pub messages_are : IsMessageFile (file_at 5 files) messages
   pub sources_sound : NoneRose before after
   pub sink_sound : Rose sink.faults sunk.faults → ⊥

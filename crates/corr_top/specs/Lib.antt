@@ -4,8 +4,9 @@ pub mod MessageFile
 pub mod Feeding
 pub mod Words
 pub mod Status
-pub mod Interim
+pub mod Asks
 pub mod Message
+pub mod Codes
 pub mod Replies
 pub mod Answers
 pub mod Turn

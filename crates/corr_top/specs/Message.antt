@@ -9,15 +9,16 @@ use Rattle.day_model.specs.declared.entry.Entry.{Entry}
 use Rattle.day_model.specs.declared.pay.Pay.{Pay}
 use Rattle.day_model.specs.declared.reply.Reply.{Reply}
 use Rattle.day_model.specs.declared.reply.Reply.TheVariants as reply
-use Rattle.day_model.specs.Chart.{Chart}
 use Rattle.day_model.specs.Same.{reply_to}
 use Rattle.fin_message.specs.declared.message.Message.{Message}
 use Rattle.fin_message.specs.declared.message.Message.TheVariants as message
 use Rattle.fin_message.specs.Verdict.{Refused as Refusal, verdict_of}
-use Rattle.ref_tables.specs.Seen.{Tables}
+use Rattle.pay_plan.specs.Plan.{mir_in, plan_of}
+use Rattle.corr_top.specs.declared.books.Books.{Books}
 use Rattle.corr_top.specs.declared.message.NoPay.{NoPay}
 use Rattle.corr_top.specs.declared.message.NoPay.TheVariants.{Refused, Unrouted}
-use Rattle.corr_top.specs.Interim.{mir_in, plan_of}
+use Rattle.corr_top.specs.declared.message.TheConstants.{P37}
+use Rattle.corr_top.specs.Asks.{asks_cover, asks_transfer}
 
 -- a message that is not valid
 abbrev pub refused : {A : Type 0} → Result A Refusal → Result A NoPay
@@ -29,19 +30,22 @@ abbrev pub unrouted : {A : Type 0} → Envelope → Result A Code → Result A N
 unrouted envelope (Ok x) = Ok x
 unrouted envelope (Err code) = Err (Unrouted (mir_in envelope) code)
 
--- the pay of a valid message
-abbrev pub pay_in : Chart → Message → Result Pay NoPay
-pay_in chart (message.Transfer envelope text transfer) = unrouted envelope (plan_of chart envelope text transfer)
+-- the pay of a valid message: a transfer and a cover have a plan, an advice asks for nothing
+abbrev pub pay_in : Books → Message → Result Pay NoPay
+pay_in books (message.Transfer envelope text transfer) = unrouted envelope (plan_of envelope text (asks_transfer transfer) books.ssi books.accounts)
+pay_in books (message.Cover envelope text cover) = unrouted envelope (plan_of envelope text (asks_cover cover) books.ssi books.accounts)
+pay_in books (message.Debit envelope advice) = unrouted envelope (Err P37)
+pay_in books (message.Credit envelope advice) = unrouted envelope (Err P37)
 
 -- the pay that a message asks for, or why it gives none
-unfoldable pub message_of : Tables → Chart → List ℕ → Result Pay NoPay
-message_of t chart bs = do
-  valid ← refused (verdict_of chart.home t bs)
-  pay_in chart valid
+unfoldable pub message_of : Books → List ℕ → Result Pay NoPay
+message_of books bs = do
+  valid ← refused (verdict_of books.accounts.home books.tables bs)
+  pay_in books valid
 
 -- each message of a list of them
-abbrev pub readings_of : Tables → Chart → List (List ℕ) → List (Result Pay NoPay)
-readings_of t chart messages = map (message_of t chart) messages
+abbrev pub readings_of : Books → List (List ℕ) → List (Result Pay NoPay)
+readings_of books messages = map (message_of books) messages
 
 -- the pays among them, in their order
 abbrev pub pays_in : List (Result Pay NoPay) → List Pay

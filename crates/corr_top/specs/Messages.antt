@@ -1,18 +1,10 @@
--- The message file, and the report over it.
+-- What was read of the message file.
 use Rattle.std.specs.Prelude.{ℕ, ◌≡◌, List, Option}
 use Rattle.corr_text.specs.Faults.{Rose}
-use Rattle.corr_report.specs.Report.{report_of}
-use Rattle.corr_top.specs.declared.answers.Books.{Books}
 use Rattle.corr_top.specs.declared.status.Status.{Status}
 use Rattle.corr_top.specs.declared.status.Status.TheVariants as status
-use Rattle.corr_top.specs.Answers.{history_of, replies_of}
 use Rattle.corr_top.specs.MessageFile.{IsMessageFile, StopsCutting}
 use Rattle.corr_top.specs.Reading.{IsRead}
-
--- the report of a day's books over messages
-abbrev pub report_over : Books → List (List ℕ) → List ℕ
-report_over books messages =
-    report_of books.accounts (history_of books.tables books.accounts books.day messages) (replies_of books.tables books.accounts books.day messages)
 
 -- a file was read, and these are its messages
 pub record HasMessages (before after : Option (List ℕ)) (messages : List (List ℕ)) : Type 0 where

@@ -1,7 +1,7 @@
 -- A run: what was read of the files, what they say, and how it ended.
-use Rattle.std.specs.Prelude.{ℕ, ◌≡◌, List, [], ◌∷◌, length, map, slice_get, codes, Option, Some, None, unwrap_or, ℤ, pos}
-use Rattle.std.specs.Option.{option_or}
+use Rattle.std.specs.Prelude.{ℕ, ◌≡◌, ◌≤◌, List, [], ◌∷◌, length, map, slice_get, codes, Option, Some, None, unwrap_or, ℤ, pos}
 use Rattle.corr_text.specs.Faults.{Rose}
+use Rattle.corr_text.specs.First.{first_of}
 use Rattle.corr_ids.specs.declared.bic.Bic.{Bic}
 use Rattle.corr_ids.specs.declared.day.Day.{Day}
 use Rattle.corr_money.specs.declared.amount.Ccy.{Ccy}
@@ -11,17 +11,19 @@ use Rattle.day_model.specs.Chart.{Chart, opening_sum}
 use Rattle.day_model.specs.Gap.{TellsUnbalanced}
 use Rattle.ref_tables.specs.declared.account.AccountRow.{AccountRow}
 use Rattle.ref_tables.specs.declared.fault.TableName.{TableName}
-use Rattle.ref_tables.specs.declared.fault.TableName.TheVariants.{Accounts}
+use Rattle.ref_tables.specs.declared.fault.TableName.TheVariants as names
 use Rattle.ref_tables.specs.declared.fault.Why.{Why}
 use Rattle.ref_tables.specs.Accounts.{account_of, accounts_fault}
 use Rattle.ref_tables.specs.Refusals.{named}
 use Rattle.ref_tables.specs.Rows.{rows_of}
 use Rattle.ref_tables.specs.Seen.{Tables}
 use Rattle.ref_tables.specs.Tables.{tables_fault, tables_of}
-use Rattle.corr_report.specs.Report.{report_of}
+use Rattle.ssi_versions.specs.declared.row.SsiRow.{SsiRow}
+use Rattle.ssi_versions.specs.Rows.{instruction_of, ssi_fault}
+use Rattle.corr_top.specs.declared.books.Books.{Books}
 use Rattle.corr_top.specs.declared.status.Status.{Status}
 use Rattle.corr_top.specs.declared.status.Status.TheVariants as status
-use Rattle.corr_top.specs.Answers.{history_of, replies_of}
+use Rattle.corr_top.specs.Answers.{report_over}
 use Rattle.corr_top.specs.MessageFile.{IsMessageFile, StopsCutting}
 use Rattle.corr_top.specs.Reading.{IsRead}
 use Rattle.corr_top.specs.Told.{Told}
@@ -52,13 +54,25 @@ accounts_in files = map opened (map (account_of (tables_in files)) (rows_of (fil
 abbrev pub chart_in : List (List ℕ) → Chart
 chart_in files = record { home = home_bank; accounts = accounts_in files }
 
+-- the instructions
+abbrev pub instructions_in : List (List ℕ) → List SsiRow
+instructions_in files = map instruction_of (rows_of (file_at 4 files))
+
+-- the books of a day over the table files
+abbrev pub books_in : Day → List (List ℕ) → Books
+books_in day files = record { tables = tables_in files; ssi = instructions_in files; accounts = chart_in files; day = day }
+
 -- the first fault of the table files, in the order in which they are read
 unfoldable pub fault_in : List (List ℕ) → Option (TableName × ℕ × Why)
-fault_in files = option_or (tables_fault (file_at 0 files) (file_at 1 files) (file_at 2 files)) (named Accounts (accounts_fault home_head (tables_in files) (file_at 3 files)))
+fault_in files = first_of (
+    tables_fault (file_at 0 files) (file_at 1 files) (file_at 2 files)
+    ∷ named names.Accounts (accounts_fault home_head (tables_in files) (file_at 3 files))
+    ∷ named names.Ssi (ssi_fault (tables_in files) (file_at 4 files))
+    ∷ [])
 
 -- the most bytes that each file has: 8 MiB for a table, 64 MiB for the messages
 abbrev pub limits : List ℕ
-limits = 8388608 ∷ 8388608 ∷ 8388608 ∷ 8388608 ∷ 67108864 ∷ []
+limits = 8388608 ∷ 8388608 ∷ 8388608 ∷ 8388608 ∷ 8388608 ∷ 67108864 ∷ []
 
 -- these files were read, one source after another
 abbrev pub AreRead : List ℕ → List Told → List Told → List (List ℕ) → Type 0
@@ -66,17 +80,14 @@ AreRead most before after [] = Unit {0}
 AreRead (limit ∷ most) (b ∷ before) (a ∷ after) (file ∷ files) = IsRead limit b.bytes a.bytes file × AreRead most before after files
 AreRead _ _ _ (file ∷ files) = ⊥
 
--- no table has a fault, and the openings of each currency sum to 0
+-- no table has a fault, and behind the last table the openings of each currency sum to 0
 pub record AreFine (files : List (List ℕ)) : Type 0 where
   pub no_fault : fault_in files ≡ None
-  pub balanced : (ccy : Ccy) → opening_sum ccy (accounts_in files) ≡ pos 0
+  pub balanced : 5 ≤ length files → (ccy : Ccy) → opening_sum ccy (accounts_in files) ≡ pos 0
 
 -- the report of a day: the history of one thread over the messages of the last file, and the reply to each of them
 unfoldable pub report_in : Day → List (List ℕ) → List (List ℕ) → List ℕ
-report_in day files messages =
-    let t = tables_in files in
-    let chart = chart_in files in
-    report_of chart (history_of t chart day messages) (replies_of t chart day messages)
+report_in day files messages = report_over (books_in day files) messages
 
 -- the count of faults of the n-th source, from 0, rose, and these are its two values
 pub record HasFailed (before after : List Told) (n then now : ℕ) : Type 0 where
@@ -88,22 +99,22 @@ pub record HasFailed (before after : List Told) (n then now : ℕ) : Type 0 wher
   pub now_is : now ≡ new.faults
   pub rose : Rose old.faults new.faults
 
--- all five files were read, nothing is wrong with them, and these are the messages of the last one
+-- all six files were read, nothing is wrong with them, and these are the messages of the last one
 pub record IsWhole (before after : List Told) (files messages : List (List ℕ)) : Type 0 where
   pub read : AreRead limits before after files
-  pub all : length files ≡ 5
+  pub all : length files ≡ 6
   pub fine : AreFine files
-  pub messages_are : IsMessageFile (file_at 4 files) messages
+  pub messages_are : IsMessageFile (file_at 5 files) messages
 
 -- the files up to a table with a fault, which is told
 pub record StopsAtTable (before after : List Told) (table : TableName) (row : ℕ) (why : Why) (files : List (List ℕ)) : Type 0 where
   pub read : AreRead limits before after files
   pub fault : fault_in files ≡ Some (table, row, why)
 
--- the table files, whose openings don't sum to 0 in a currency
+-- all table files, whose openings don't sum to 0 in a currency
 pub record StopsUnbalanced (before after : List Told) (ccy : Ccy) (decimals : ℕ) (sum : ℤ) (files : List (List ℕ)) : Type 0 where
   pub read : AreRead limits before after files
-  pub four : length files ≡ 4
+  pub five : length files ≡ 5
   pub no_fault : fault_in files ≡ None
   pub unbalanced : TellsUnbalanced (accounts_in files) (refused.Unbalanced ccy decimals sum)
 
@@ -116,9 +127,9 @@ pub record StopsAtRead (before after : List Told) (then now : ℕ) (files : List
 -- the message file passes a limit, or can't be cut
 pub record StopsAtFile (before after : List Told) (stop : Status) (files : List (List ℕ)) : Type 0 where
   pub read : AreRead limits before after files
-  pub all : length files ≡ 5
+  pub all : length files ≡ 6
   pub fine : AreFine files
-  pub stopped : StopsCutting (file_at 4 files) stop
+  pub stopped : StopsCutting (file_at 5 files) stop
 
 -- how reading and answering stop before anything is written
 abbrev pub Stops : List Told → List Told → Status → Type 0

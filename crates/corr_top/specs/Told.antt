@@ -13,4 +13,4 @@ told bytes faults s = record { bytes = bytes s; faults = faults s }
 -- the sources of a room, in the order in which they are read
 abbrev pub sources : {S K : Type 0} → (S → Option (List ℕ)) → (S → ℕ) → Room S K → List Told
 sources left faults room =
-    told left faults room.tables.bics ∷ told left faults room.tables.ccys ∷ told left faults room.tables.countries ∷ told left faults room.tables.accounts ∷ told left faults room.messages ∷ []
+    told left faults room.tables.bics ∷ told left faults room.tables.ccys ∷ told left faults room.tables.countries ∷ told left faults room.tables.accounts ∷ told left faults room.tables.ssi ∷ told left faults room.messages ∷ []

@@ -7,8 +7,8 @@ use Rattle.day_model.specs.declared.reply.Reply.{Reply}
 use Rattle.day_model.specs.Chart.{Chart}
 use Rattle.day_model.specs.Fit.{FitsAccounts}
 use Rattle.day_model.specs.Next.{next_history}
-use Rattle.ref_tables.specs.Seen.{Tables}
 use Rattle.corr_top.specs.Message.{message_of, reply_in}
+use Rattle.corr_top.specs.declared.books.Books.{Books}
 use Rattle.corr_top.specs.declared.message.NoPay.{NoPay}
 
 -- the history after a message: a refused one adds nothing
@@ -22,7 +22,7 @@ IsFit chart (Ok pay) = FitsAccounts chart pay
 IsFit chart (Err why) = Unit {0}
 
 -- a message was entered, and its reply added
-pub record Turned (t : Tables) (chart : Chart) (day : Day) (message : List ℕ) (before after : List Entry) (replies more : List Reply) : Type 0 where
-  pub entered : after ≡ history_after chart day before (message_of t chart message)
-  pub answered : (r : Reply) × (reply_in after (message_of t chart message) ≡ Some r) × (more ≡ replies ++ r ∷ [])
-  pub fit : IsFit chart (message_of t chart message)
+pub record Turned (books : Books) (message : List ℕ) (before after : List Entry) (replies more : List Reply) : Type 0 where
+  pub entered : after ≡ history_after books.accounts books.day before (message_of books message)
+  pub answered : (r : Reply) × (reply_in after (message_of books message) ≡ Some r) × (more ≡ replies ++ r ∷ [])
+  pub fit : IsFit books.accounts (message_of books message)

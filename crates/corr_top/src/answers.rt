@@ -11,11 +11,10 @@ ghost use Rattle.corr_top.specs.Answers.{history_of, replies_of};
 ghost use Rattle.corr_report.specs.Report.{NamesPlace};
 ghost use Rattle.corr_top.specs.Turn.{Turned};
 
+use crate::books::Books;
 use crate::message::{Stop, read_message, reply_for};
-use corr_ids::Day;
 use corr_text::{Memory, Text};
-use day_model::{Accounts, Entry, History, Pay, Reply, decide};
-use ref_tables::RefTables;
+use day_model::{Entry, History, Pay, Reply, decide};
 use std::alloc::Global;
 
 /// What has been answered: the history, and a reply to each message.
@@ -23,14 +22,6 @@ use std::alloc::Global;
 pub struct Answers {
     pub history: History,
     pub replies: Vec<Reply>,
-}
-
-/// The books of a day: the tables, the accounts, and the day on which pays are entered.
-#[derive(Drop)]
-pub struct Books {
-    pub tables: RefTables,
-    pub accounts: Accounts,
-    pub day: Day,
 }
 
 fn reply_to(history: &History, pay: &Pay, place: u32) -> Reply
@@ -89,10 +80,10 @@ fn answer(alloc: Global, books: &Books, answers: &mut Answers, message: &[u8]) -
     requires latest { IsLatest answers.old.history.entries books.now.day }
     requires room { length answers.old.history.entries < 100000 }
     requires short { length message.now ≤ 16384 }
-    ensures { OnOk result (Turned books.now.tables books.now.accounts books.now.day message.now
+    ensures { OnOk result (Turned books.now message.now
         answers.old.history.entries answers.new.history.entries answers.old.replies.items answers.new.replies.items) }
 {
-    let reply = match read_message(alloc, &books.tables, &books.accounts, message) {
+    let reply = match read_message(alloc, books, message) {
         Ok(pay) => enter(books, &mut answers.history, pay)?,
         Err(Stop::NoPay(why)) => reply_for(why),
         Err(Stop::Memory) => return Err(Memory),
@@ -116,8 +107,8 @@ fn no_answers(alloc: Global) -> Answers
 pub fn answer_all(alloc: Global, books: &Books, messages: &[Text]) -> Result<Answers, Memory>
     requires few { length messages.now ≤ 50000 }
     requires short { All (λ m. length m ≤ 16384) messages.now }
-    ensures history { IfOk result (λ a. a.history.entries ≡ history_of books.now.tables books.now.accounts books.now.day messages.now) }
-    ensures replies { IfOk result (λ a. a.replies.items ≡ replies_of books.now.tables books.now.accounts books.now.day messages.now) }
+    ensures history { IfOk result (λ a. a.history.entries ≡ history_of books.now messages.now) }
+    ensures replies { IfOk result (λ a. a.replies.items ≡ replies_of books.now messages.now) }
     ensures legal { IfOk result (λ a. IsLegal books.now.accounts a.history.entries) }
     ensures places { IfOk result (λ a. All (NamesPlace a.history.entries) a.replies.items) }
 {

@@ -2,9 +2,10 @@
 #![tactic(auto)]
 
 mod answers;
+mod books;
 mod command;
 mod cutting;
-mod interim;
+mod laws;
 mod line;
 mod message;
 mod reading;
@@ -19,6 +20,7 @@ mod words;
 mod writing;
 
 pub use command::corr;
+pub use laws::route_code_law;
 pub use line::status_line;
 pub use room::{Done, Room, Tables};
 pub use status::Status;

@@ -1,19 +1,24 @@
 //! A message, read to the pay that it asks for.
 
-ghost use Rattle.std.specs.Prelude.{◌≡◌, ◌≤◌, IfOk, length};
+ghost use Rattle.std.specs.Prelude.{◌≡◌, ◌≤◌, IfOk, IsSome, length};
 ghost use Rattle.day_model.specs.Fit.{FitsAccounts};
-ghost use Rattle.fin_message.specs.Sound.{Goes, HasAmount};
+ghost use Rattle.fin_message.specs.Sound.{Goes, IsRead as IsReadMessage};
 ghost use Rattle.fin_message.specs.declared.direction.Direction.TheVariants.{Received};
-ghost use Rattle.corr_top.specs.Message.{message_of, pay_in, reply_for};
+ghost use Rattle.pay_plan.specs.Plan.{mir_in, plan_of};
+ghost use Rattle.pay_plan.specs.Readable.{IsRead};
+ghost use Rattle.corr_top.specs.Message.{message_of, pay_in, reply_for, unrouted};
 ghost use Rattle.corr_top.specs.Replies.{ReadsAs};
 
-use crate::interim::{PlanFault, plan, reference};
-use corr_ids::Mir;
-use corr_text::{Code, Fault};
-use day_model::{Accounts, Pay, Reply};
+use crate::books::Books;
+use corr_ids::{Envelope, Mir};
+use corr_text::{Code, Fault, Text};
+use day_model::{Pay, Reply};
 use fin_message::{Message, MessageFault, verdict};
-use ref_tables::RefTables;
+use pay_plan::{Ask, PlanFault, plan};
 use std::alloc::Global;
+
+/// An advice: it tells of an account and asks for no pay.
+const P37: Code = Code(*b"P37");
 
 /// Why a message gives no pay.
 #[derive(Clone, Copy, Debug, PartialEq, Eq)]
@@ -54,15 +59,31 @@ pub fn reply_for(why: NoPay) -> Reply
     }
 }
 
-/// The pay of a valid message, or why it has no route.
-fn read_pay(alloc: Global, accounts: &Accounts, message: &Message) -> Result<Pay, Stop>
-    requires received { Goes Received message.now }
-    requires amount { HasAmount message.now }
-    ensures value { ReadsAs result (pay_in accounts.now message.now) }
-    ensures fits { IfOk result (FitsAccounts accounts.now) }
+/// The reference of a received message.
+fn reference(envelope: &Envelope) -> Mir
+    requires { IsSome envelope.now.mir }
+    ensures { result ≡ mir_in envelope.now }
 {
-    let Message::Transfer(envelope, text, transfer) = message;
-    match plan(alloc, envelope, text, transfer, accounts) {
+    match envelope.mir {
+        Some(mir) => mir,
+        None => unreachable!(),
+    }
+}
+
+/// The pay that a message asks for, or the code by which it has none.
+fn plan_pay(
+    alloc: Global,
+    books: &Books,
+    envelope: &Envelope,
+    text: &Text,
+    ask: Ask<'_>,
+) -> Result<Pay, Stop>
+    requires received { IsSome envelope.now.mir }
+    requires read { IsRead ask }
+    ensures value { ReadsAs result (unrouted envelope.now (plan_of envelope.now text.now ask.entry books.now.ssi books.now.accounts)) }
+    ensures fits { IfOk result (FitsAccounts books.now.accounts) }
+{
+    match plan(alloc, envelope, text, ask, &books.ssi, &books.accounts) {
         Ok(pay) => Ok(pay),
         Err(PlanFault::Code(code)) => Err(Stop::NoPay(NoPay::Unrouted {
             mir: reference(envelope),
@@ -72,18 +93,39 @@ fn read_pay(alloc: Global, accounts: &Accounts, message: &Message) -> Result<Pay
     }
 }
 
+/// The pay of a valid message, or why it has none. An advice asks for none.
+fn read_pay(alloc: Global, books: &Books, message: &Message) -> Result<Pay, Stop>
+    requires received { Goes Received message.now }
+    requires read { IsReadMessage books.now.tables message.now }
+    ensures value { ReadsAs result (pay_in books.now message.now) }
+    ensures fits { IfOk result (FitsAccounts books.now.accounts) }
+{
+    match message {
+        Message::Transfer(envelope, text, transfer) => {
+            plan_pay(alloc, books, envelope, text, Ask::Transfer(transfer))
+        }
+        Message::Cover(envelope, text, cover) => {
+            plan_pay(alloc, books, envelope, text, Ask::Cover(cover))
+        }
+        Message::Debit(envelope, _) | Message::Credit(envelope, _) => {
+            Err(Stop::NoPay(NoPay::Unrouted {
+                mir: reference(envelope),
+                code: P37,
+            }))
+        }
+    }
+}
+
 /// The pay that a message of at most 16,384 bytes asks for, or why it gives none.
 #[tactic(auto, unfolding(crate::specs::Message::message_of))]
-pub fn read_message(
-    alloc: Global,
-    tables: &RefTables,
-    accounts: &Accounts,
-    b: &[u8],
-) -> Result<Pay, Stop>
+pub fn read_message(alloc: Global, books: &Books, b: &[u8]) -> Result<Pay, Stop>
     requires { length b.now ≤ 16384 }
-    ensures value { ReadsAs result (message_of tables.now accounts.now b.now) }
-    ensures fits { IfOk result (FitsAccounts accounts.now) }
+    ensures value { ReadsAs result (message_of books.now b.now) }
+    ensures fits { IfOk result (FitsAccounts books.now.accounts) }
 {
-    let message = verdict(alloc, b, accounts.home(), tables)?;
-    read_pay(alloc, accounts, &message)
+    let message = verdict(alloc, b, books.accounts.home(), &books.tables)?;
+    let pay = read_pay(alloc, books, &message);
+    // as one step: the checker counts each part of a value that ends with the function
+    drop(message);
+    pay
 }

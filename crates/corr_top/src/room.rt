@@ -9,6 +9,7 @@ pub struct Tables<S> {
     pub ccys: S,
     pub countries: S,
     pub accounts: S,
+    pub ssi: S,
 }
 
 /// What a command is handed: the table files, the message file and the sink of its report.

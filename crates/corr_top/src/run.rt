@@ -2,11 +2,13 @@
 
 ghost use Rattle.std.specs.Prelude.{◌≡◌, ◌≤◌, length, All, OnOk, IfOk, IfErr};
 ghost use Rattle.corr_top.specs.Ends.{Ends, IsQuiet};
-ghost use Rattle.corr_top.specs.Messages.{HasMessages, StopsAtMessages, report_over};
+ghost use Rattle.corr_top.specs.Answers.{report_over};
+ghost use Rattle.corr_top.specs.Messages.{HasMessages, StopsAtMessages};
 ghost use Rattle.corr_top.specs.Status.{HasDecimals};
 ghost use Rattle.corr_top.specs.Told.{sources, told};
 
-use crate::answers::{Books, answer_all};
+use crate::answers::answer_all;
+use crate::books::Books;
 use crate::cutting::{FILE_LIMIT, cut_file};
 use crate::room::Room;
 use crate::status::Status;

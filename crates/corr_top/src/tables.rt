@@ -1,6 +1,6 @@
 //! The table files, read and tested in their order.
 
-ghost use Rattle.std.specs.Prelude.{◌≡◌, ◌≤◌, ◌<◌, ◌^◌, IfOk, IfErr, OnErr, OnOk, map, pos};
+ghost use Rattle.std.specs.Prelude.{◌≡◌, ◌<◌, ◌^◌, IfOk, IfErr, OnOk, map, pos};
 ghost use Rattle.corr_money.specs.declared.amount.Ccy.{Ccy};
 ghost use Rattle.day_model.specs.Chart.{opening_sum};
 ghost use Rattle.day_model.specs.Gap.{TellsUnbalanced};
@@ -11,7 +11,7 @@ ghost use Rattle.corr_top.specs.Run.{Stops, home_bank, home_head, opened};
 ghost use Rattle.corr_top.specs.Status.{HasDecimals};
 ghost use Rattle.corr_top.specs.Told.{sources};
 
-use crate::answers::Books;
+use crate::books::Books;
 use crate::reading::{ReadStop, read_whole};
 use crate::room::Room;
 use crate::status::Status;
@@ -20,6 +20,7 @@ use corr_io::Source;
 use corr_text::{List, Memory, Text};
 use day_model::{Account, Accounts, AccountsFault};
 use ref_tables::{AccountRow, RefTables, TableFault, read_accounts, read_tables};
+use ssi_versions::Ssi;
 use std::alloc::Global;
 
 /// The most bytes that a table file has: 8 MiB.
@@ -127,6 +128,7 @@ fn open_tables<S: Source, K>(alloc: Global, room: &mut Room<S, K>) -> Result<Ref
     ensures ok { IfOk result (HasTables (sources S.left S.faults room.old) (sources S.left S.faults room.new)) }
     ensures stopped { IfErr result (Stops (sources S.left S.faults room.old) (sources S.left S.faults room.new)) }
     ensures accounts { room.new.tables.accounts ≡ room.old.tables.accounts }
+    ensures ssi { room.new.tables.ssi ≡ room.old.tables.ssi }
     ensures messages { room.new.messages ≡ room.old.messages }
     ensures report { room.new.report ≡ room.old.report }
     ensures decimals { IfErr result HasDecimals }
@@ -157,7 +159,7 @@ fn make_accounts(
     }
 }
 
-/// The books of a day over the table files, each read and tested before the next.
+/// The books of a day over the table files, each read and tested before the next. The openings are summed behind them.
 pub fn open_books<S: Source, K>(
     alloc: Global,
     room: &mut Room<S, K>,
@@ -169,12 +171,15 @@ pub fn open_books<S: Source, K>(
     ensures report { room.new.report ≡ room.old.report }
     ensures decimals { IfErr result HasDecimals }
 {
-    let known = open_tables(alloc, room)?;
+    let tables = open_tables(alloc, room)?;
     let file = read_file(alloc, &mut room.tables.accounts, TABLE_LIMIT)?;
-    let rows = read_accounts(alloc, file.bytes(), &HOME_BANK, &known)?;
-    let accounts = make_accounts(alloc, &known, rows)?;
+    let rows = read_accounts(alloc, file.bytes(), &HOME_BANK, &tables)?;
+    let instructions = read_file(alloc, &mut room.tables.ssi, TABLE_LIMIT)?;
+    let ssi = Ssi::read(alloc, instructions.bytes(), &tables)?;
+    let accounts = make_accounts(alloc, &tables, rows)?;
     Ok(Books {
-        tables: known,
+        tables,
+        ssi,
         accounts,
         day,
     })

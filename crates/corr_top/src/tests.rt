@@ -13,6 +13,19 @@ const MESSAGE: &[u8] =
 const REPORT: &[u8] =
     b"000001 240603ALPHDEFFAXXX0001000001 BOOKED 00000001 EUR 1,50\nMESSAGES 000001 ENTRIES 00000001\nTOTAL EUR DEBIT 1,50 CREDIT 1,50\n";
 
+// A cover whose bank is its sender, and a notice of a debit.
+const COVER: &[u8] =
+    b"{1:F01HOMEUS33AXXX0001000007}{2:O2021200240603ALPHDEFFAXXX00010000012406031205N}{3:{119:COV}}{4:\n:20:REF1\n:21:REF2\n:32A:240603EUR1,5\n:58A:ALPHDEFF\n:50K:A\n:59:/C\nB\n-}";
+
+const NOTICE: &[u8] =
+    b"{1:F01HOMEUS33AXXX0001000007}{2:O9001200240603ALPHDEFFAXXX00010000012406031205N}{4:\n:20:REF1\n:21:REF2\n:25:C\n:32A:240603EUR1,5\n-}";
+
+const ONE_ACCOUNT: &[u8] =
+    b"000001 240603ALPHDEFFAXXX0001000001 REFUSED P38\nMESSAGES 000001 ENTRIES 00000000\nTOTAL EUR DEBIT 0,00 CREDIT 0,00\n";
+
+const AN_ADVICE: &[u8] =
+    b"000001 240603ALPHDEFFAXXX0001000001 REFUSED P37\nMESSAGES 000001 ENTRIES 00000000\nTOTAL EUR DEBIT 0,00 CREDIT 0,00\n";
+
 fn source(alloc: Global, bytes: &[u8]) -> Result<MemSource, Memory> {
     let bytes = Text::from_bytes(alloc, bytes)?;
     Ok(MemSource::new(bytes, List::new(alloc)))
@@ -27,6 +40,7 @@ fn tables(alloc: Global) -> Result<Tables<MemSource>, Memory> {
             alloc,
             b"V,V,ALPHDEFF,EUR,-900,900,0\nC,C,HOMEUS33,EUR,0,900,0\n",
         )?,
+        ssi: source(alloc, b"EUR,ALPHDEFF,BOOK,,V,240101,791231\n")?,
     })
 }
 
@@ -53,6 +67,17 @@ fn a_message_is_booked(rt: HostRuntime) -> Result<(), Fail> {
     let done = run(rt.alloc(), MESSAGE)?;
     assert_eq!(rt; done.status.number(), 0);
     assert_eq!(rt; done.room.report.bytes(), REPORT);
+    Ok(())
+}
+
+#[test]
+fn a_valid_message_without_a_pay_is_told_by_its_code(rt: HostRuntime) -> Result<(), Fail> {
+    let rows: [(&[u8], &[u8]); 2] = [(COVER, ONE_ACCOUNT), (NOTICE, AN_ADVICE)];
+    for (message, report) in rows {
+        let done = run(rt.alloc(), message)?;
+        assert_eq!(rt; done.status.number(), 0);
+        assert_eq!(rt; done.room.report.bytes(), report);
+    }
     Ok(())
 }
 

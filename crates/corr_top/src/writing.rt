@@ -1,6 +1,6 @@
 //! A text, written whole to a sink.
 
-ghost use Rattle.std.specs.Prelude.{◌≡◌, ◌≤◌, OnOk, OnErr, IfErr};
+ghost use Rattle.std.specs.Prelude.{◌≡◌, ◌≤◌, OnOk, IfErr};
 ghost use Rattle.std.specs.Io.KnownBytes.{Appends};
 ghost use Rattle.corr_text.specs.Faults.{Rose};
 ghost use Rattle.corr_top.specs.Writing.{AppendsPrefix};

@@ -5,6 +5,6 @@ use Rattle.corr_top.proofs.answers.answer_all.Given as goal
 
 abbrev pub invariant-loop-message : goal.invariant-loop-message
 invariant-loop-message l = record {
-  so_far : Answered l.books.accounts l.books.day (readings_of l.books.tables l.books.accounts l.fn.messages) (readings_of l.books.tables l.books.accounts (drop l.message-index l.fn.messages)) l.answers.history.entries l.answers.replies.items;
+  so_far : Answered l.books.accounts l.books.day (readings_of l.books l.fn.messages) (readings_of l.books (drop l.message-index l.fn.messages)) l.answers.history.entries l.answers.replies.items;
   few : length l.answers.history.entries ≤ l.message-index;
 }

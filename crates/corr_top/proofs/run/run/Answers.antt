@@ -13,8 +13,8 @@ returns-in_err-messages-clause-stopped g c =
     let left = g.S.Source.left in
     let faults = g.S.Source.faults in
     let new = c.read_messages.new.source in
-    rw (p.1, p.2) (messages_stop _ _ _ _ _ _ c.args.day q.0 q.1 q.2 q.3 q.4.read q.4.fine refl refl
-    (λ m read. (q.4.read.0, (q.4.read.1.0, (q.4.read.1.1.0, (q.4.read.1.1.1.0, (read, tt))))))
+    rw (p.1, p.2) (messages_stop _ _ _ _ _ _ c.args.day q.0 q.1 q.2 q.3 q.4 q.5.read q.5.fine refl refl
+    (λ m read. (q.5.read.0, (q.5.read.1.0, (q.5.read.1.1.0, (q.5.read.1.1.1.0, (q.5.read.1.1.1.1.0, (read, tt)))))))
     c.in_err-messages.field-0.0 (same_messages left faults c.args.room.now.messages c.open_books.new.room.messages new c.open_books.ensures.messages c.in_err-messages.field-0.0 c.in_err-messages.ensures.stopped))
 
 pub returns-in_err-write_whole-clause-stopped : goal.returns-in_err-write_whole-clause-stopped
@@ -26,12 +26,12 @@ returns-in_err-write_whole-clause-stopped g c =
     let has = c.in_ok-messages.ensures.read in
     let read = same_read left c.args.room.now.messages c.open_books.new.room.messages c.open_books.ensures.messages 67108864 (left c.read_messages.new.source) has.file has.read in
     let text = c.bytes.ensures ∙ c.in_ok-text.ensures ∙ same_over c.in_ok-books.books c.as_slice.result.now c.in_ok-messages.messages c.as_slice.ensures
-    ∙ same_report c.args.day q.0 q.1 q.2 q.3 has.file c.in_ok-messages.messages c.in_ok-books.books q.4.tables q.4.accounts q.4.day_is in
+    ∙ same_report c.args.day q.0 q.1 q.2 q.3 q.4 has.file c.in_ok-messages.messages c.in_ok-books.books q.5.books_are in
     rw (p.1, p.2) (
-      q.0 ∷ q.1 ∷ q.2 ∷ q.3 ∷ has.file ∷ [],
+      q.0 ∷ q.1 ∷ q.2 ∷ q.3 ∷ q.4 ∷ has.file ∷ [],
       c.in_ok-messages.messages,
       record {
-        whole = whole _ _ q.0 q.1 q.2 q.3 has.file c.in_ok-messages.messages (q.4.read.0, (q.4.read.1.0, (q.4.read.1.1.0, (q.4.read.1.1.1.0, (read, tt))))) q.4.fine has.are;
+        whole = whole _ _ q.0 q.1 q.2 q.3 q.4 has.file c.in_ok-messages.messages (q.5.read.0, (q.5.read.1.0, (q.5.read.1.1.0, (q.5.read.1.1.1.0, (q.5.read.1.1.1.1.0, (read, tt)))))) q.5.fine has.are;
         part = same_part held c.args.room.now.report c.open_books.new.room.report c.open_books.ensures.report (held c.write_whole.new.sink) c.bytes.result.now _ text c.in_err-write_whole.ensures.part;
         then_is = c.in_err-write_whole.ensures.stopped.0 ∙ ap g.K.Sink.faults c.open_books.ensures.report;
         now_is = c.in_err-write_whole.ensures.stopped.1;
@@ -52,11 +52,11 @@ returns-clause-done g c =
     let has = c.in_ok-messages.ensures.read in
     let read = same_read left c.args.room.now.messages c.open_books.new.room.messages c.open_books.ensures.messages 67108864 (left c.read_messages.new.source) has.file has.read in
     let text = c.bytes.ensures ∙ c.in_ok-text.ensures ∙ same_over c.in_ok-books.books c.as_slice.result.now c.in_ok-messages.messages c.as_slice.ensures
-    ∙ same_report c.args.day q.0 q.1 q.2 q.3 has.file c.in_ok-messages.messages c.in_ok-books.books q.4.tables q.4.accounts q.4.day_is in (
-      q.0 ∷ q.1 ∷ q.2 ∷ q.3 ∷ has.file ∷ [],
+    ∙ same_report c.args.day q.0 q.1 q.2 q.3 q.4 has.file c.in_ok-messages.messages c.in_ok-books.books q.5.books_are in (
+      q.0 ∷ q.1 ∷ q.2 ∷ q.3 ∷ q.4 ∷ has.file ∷ [],
       c.in_ok-messages.messages,
       record {
-        whole = whole _ _ q.0 q.1 q.2 q.3 has.file c.in_ok-messages.messages (q.4.read.0, (q.4.read.1.0, (q.4.read.1.1.0, (q.4.read.1.1.1.0, (read, tt))))) q.4.fine has.are;
+        whole = whole _ _ q.0 q.1 q.2 q.3 q.4 has.file c.in_ok-messages.messages (q.5.read.0, (q.5.read.1.0, (q.5.read.1.1.0, (q.5.read.1.1.1.0, (q.5.read.1.1.1.1.0, (read, tt)))))) q.5.fine has.are;
         received = same_appends held c.args.room.now.report c.open_books.new.room.report c.open_books.ensures.report (held c.write_whole.new.sink) c.bytes.result.now _ text c.in_ok-write_whole.ensures.written;
       },
     )
@@ -80,3 +80,8 @@ pub returns-in_err-write_whole-clause-decimals : goal.returns-in_err-write_whole
 returns-in_err-write_whole-clause-decimals g c =
     let p = err_from_is_err_and c.from_residual-in_err-write_whole.result c.from_residual-in_err-write_whole.ensures.1 in
     rw (p.1, p.2) tt
+
+pub returns-in_err-messages-clause-decimals : goal.returns-in_err-messages-clause-decimals
+returns-in_err-messages-clause-decimals g c =
+    let p = err_from_is_err_and c.from_residual-in_err-messages.result c.from_residual-in_err-messages.ensures.1 in
+    rw (p.1, p.2) c.in_err-messages.ensures.decimals

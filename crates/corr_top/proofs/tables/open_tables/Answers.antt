@@ -1,4 +1,4 @@
-use Rattle.std.proofs.Common.{[], ◌∷◌, refl, sym, subst}
+use Rattle.std.proofs.Common.{[], ◌∷◌, refl, sym, subst, arith}
 use Rattle.std.proofs.lemmas.Result.{err_from_is_err_and}
 use Rattle.corr_top.specs.Reading.{IsRead}
 use Rattle.corr_top.proofs.Opening.{nothing_fine, stop_at, table_stop, tables_fine}
@@ -23,7 +23,7 @@ returns-in_err-ccys-clause-stopped g c =
     let left = g.S.Source.left in
     let b = c.bytes.result.now in
     let bics = subst (IsRead 8388608 (left c.args.room.now.tables.bics) (left c.read_file.new.source)) (sym c.bytes.ensures) c.in_ok-bics.ensures.read in
-    rw (p.1, p.2) (stop_at _ _ (b ∷ []) _ _ (bics, tt) (tables_fine (b ∷ []) c.in_ok-read_tables.ensures.sound refl) refl refl c.in_err-ccys.field-0.0 c.in_err-ccys.ensures.stopped)
+    rw (p.1, p.2) (stop_at _ _ (b ∷ []) _ _ (bics, tt) (tables_fine (b ∷ []) c.in_ok-read_tables.ensures.sound refl refl (omega arith)) refl refl c.in_err-ccys.field-0.0 c.in_err-ccys.ensures.stopped)
 
 pub returns-in_err-read_tables-2-clause-stopped : goal.returns-in_err-read_tables-2-clause-stopped
 returns-in_err-read_tables-2-clause-stopped g c =
@@ -43,7 +43,7 @@ returns-in_err-countries-clause-stopped g c =
     let d = c.bytes-3.result.now in
     let bics = subst (IsRead 8388608 (left c.args.room.now.tables.bics) (left c.read_file.new.source)) (sym c.bytes-2.ensures) c.in_ok-bics.ensures.read in
     let ccys = subst (IsRead 8388608 (left c.args.room.now.tables.ccys) (left c.read_file-2.new.source)) (sym c.bytes-3.ensures) c.in_ok-ccys.ensures.read in
-    rw (p.1, p.2) (stop_at _ _ (b ∷ d ∷ []) _ _ (bics, (ccys, tt)) (tables_fine (b ∷ d ∷ []) c.in_ok-read_tables-2.ensures.sound refl) refl refl c.in_err-countries.field-0.0 c.in_err-countries.ensures.stopped)
+    rw (p.1, p.2) (stop_at _ _ (b ∷ d ∷ []) _ _ (bics, (ccys, tt)) (tables_fine (b ∷ d ∷ []) c.in_ok-read_tables-2.ensures.sound refl refl (omega arith)) refl refl c.in_err-countries.field-0.0 c.in_err-countries.ensures.stopped)
 
 pub returns-in_err-read_tables-3-clause-stopped : goal.returns-in_err-read_tables-3-clause-stopped
 returns-in_err-read_tables-3-clause-stopped g c =
@@ -72,7 +72,7 @@ returns-clause-ok g c =
       record {
         read = (bics, (ccys, (countries, tt)));
         three = refl;
-        no_fault = (tables_fine (b ∷ d ∷ e ∷ []) c.in_ok-read_tables-3.ensures.sound refl).no_fault;
+        sound = c.in_ok-read_tables-3.ensures.sound;
         tables = c.in_ok-read_tables-3.ensures.value;
       },
     )
