@@ -4,3 +4,4 @@ pub mod Sets
 pub mod First
 pub mod Faults
 pub mod Lines
+pub mod Braces

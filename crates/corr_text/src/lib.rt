@@ -1,6 +1,7 @@
 //! Bytes, lists, codes and digits: what every other crate stands on.
 #![tactic(auto)]
 
+mod brace;
 mod buf;
 mod copying;
 mod decimal;
@@ -14,12 +15,13 @@ mod set;
 mod tests;
 mod text;
 
+pub use brace::next_brace;
 pub use buf::Buf;
 pub use copying::{copy_texts, push_texts};
 pub use decimal::{digits, put_digits};
 pub use failed::Failed;
 pub use fault::{Code, Fault};
-pub use lines::{FirstLine, first_line};
+pub use lines::{FirstLine, first_line, plain_line};
 pub use list::List;
 pub use memory::Memory;
 pub use set::{Set, is_set, is_x};

@@ -1,8 +1,11 @@
 //! The lines of a text.
 
-ghost use Rattle.std.specs.Prelude.{◌≡◌, ◌==◌, ◌<◌, ◌≢◌, [], ◌∷◌, length};
-ghost use Rattle.std.specs.List.{position};
+ghost use Rattle.std.specs.Prelude.{◌≡◌, ◌==◌, ◌<◌, ◌≤◌, ◌+◌, ◌≢◌, [], ◌∷◌, false, not, length, take, drop, IfSome};
+ghost use Rattle.std.specs.List.{list_any, position};
 ghost use Rattle.corr_text.specs.Lines.{lines_of, trimmed};
+ghost use Rattle.corr_text.specs.Sets.{is_x_byte};
+
+use crate::set::is_x;
 
 /// The first line of a text, without its end, and what stands behind that end.
 #[derive(Clone, Copy, Debug)]
@@ -44,4 +47,40 @@ pub fn first_line(text: &[u8]) -> FirstLine<'_>
             rest: &text[text.len()..],
         },
     }
+}
+
+fn first_outside_x(text: &[u8]) -> Option<usize>
+    ensures { result ≡ position (λ b. not (is_x_byte b)) text.now }
+{
+    text.iter().position(|b| !is_x(*b))
+}
+
+fn cut_at(text: &[u8], at: usize, end: usize) -> FirstLine<'_>
+    requires { at + end ≤ length text.now }
+    ensures line { result.line.now ≡ take at text.now }
+    ensures rest { result.rest.now ≡ drop (at + end) text.now }
+{
+    FirstLine {
+        line: &text[..at],
+        rest: &text[at + end..],
+    }
+}
+
+/// Cuts a text as `first_line` does, where its first line has bytes of set X alone.
+pub fn plain_line(text: &[u8]) -> Option<FirstLine<'_>>
+    requires { text.now ≢ [] }
+    ensures cut { IfSome result (λ first. lines_of text.now ≡ first.line.now ∷ lines_of first.rest.now) }
+    ensures plain { IfSome result (λ first. list_any (λ b. not (is_x_byte b)) first.line.now ≡ false) }
+    ensures shorter { IfSome result (λ first. length first.rest.now < length text.now) }
+{
+    let Some(at) = first_outside_x(text) else {
+        return Some(cut_at(text, text.len(), 0));
+    };
+    if text[at] == b'\n' {
+        return Some(cut_at(text, at, 1));
+    }
+    if text[at] == b'\r' && at + 1 < text.len() && text[at + 1] == b'\n' {
+        return Some(cut_at(text, at, 2));
+    }
+    None
 }

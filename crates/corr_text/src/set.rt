@@ -1,8 +1,7 @@
 //! The sets of characters that field formats name (docs/messages.md, "Characters").
 
-ghost use Rattle.std.specs.Prelude.{◌≡◌, ◌==◌};
-ghost use Rattle.std.specs.List.{list_any};
-ghost use Rattle.corr_text.specs.Sets.{is_in, is_x_byte, marks};
+ghost use Rattle.std.specs.Prelude.{◌≡◌};
+ghost use Rattle.corr_text.specs.Sets.{is_in, is_x_byte};
 
 /// A set of characters: X, N (digits), A (capital letters), C (capital letters and digits).
 #[derive(Clone, Copy, Debug, PartialEq, Eq)]
@@ -13,20 +12,23 @@ pub enum Set {
     C,
 }
 
-fn is_mark(b: u8) -> bool
-    ensures { result ≡ list_any (λ m. b == m) marks }
-{
-    matches!(
-        b,
-        b' ' | b'/' | b'-' | b'?' | b':' | b'(' | b')' | b'.' | b',' | b'\'' | b'+'
-    )
-}
+// 1 at each byte of set X, 0 at each other one.
+const IN_X: [u8; 256] = [
+    0, 0, 0, 0, 0, 0, 0, 0, 0, 0, 0, 0, 0, 0, 0, 0, 0, 0, 0, 0, 0, 0, 0, 0, 0, 0, 0, 0, 0, 0, 0, 0,
+    1, 0, 0, 0, 0, 0, 0, 1, 1, 1, 0, 1, 1, 1, 1, 1, 1, 1, 1, 1, 1, 1, 1, 1, 1, 1, 1, 0, 0, 0, 0, 1,
+    0, 1, 1, 1, 1, 1, 1, 1, 1, 1, 1, 1, 1, 1, 1, 1, 1, 1, 1, 1, 1, 1, 1, 1, 1, 1, 1, 0, 0, 0, 0, 0,
+    0, 1, 1, 1, 1, 1, 1, 1, 1, 1, 1, 1, 1, 1, 1, 1, 1, 1, 1, 1, 1, 1, 1, 1, 1, 1, 1, 0, 0, 0, 0, 0,
+    0, 0, 0, 0, 0, 0, 0, 0, 0, 0, 0, 0, 0, 0, 0, 0, 0, 0, 0, 0, 0, 0, 0, 0, 0, 0, 0, 0, 0, 0, 0, 0,
+    0, 0, 0, 0, 0, 0, 0, 0, 0, 0, 0, 0, 0, 0, 0, 0, 0, 0, 0, 0, 0, 0, 0, 0, 0, 0, 0, 0, 0, 0, 0, 0,
+    0, 0, 0, 0, 0, 0, 0, 0, 0, 0, 0, 0, 0, 0, 0, 0, 0, 0, 0, 0, 0, 0, 0, 0, 0, 0, 0, 0, 0, 0, 0, 0,
+    0, 0, 0, 0, 0, 0, 0, 0, 0, 0, 0, 0, 0, 0, 0, 0, 0, 0, 0, 0, 0, 0, 0, 0, 0, 0, 0, 0, 0, 0, 0, 0,
+];
 
 /// Whether a byte is in set X: letters, digits, space and `/ - ? : ( ) . , ' +`.
 pub fn is_x(b: u8) -> bool
     ensures { result ≡ is_x_byte b }
 {
-    b.is_ascii_uppercase() || b.is_ascii_lowercase() || b.is_ascii_digit() || is_mark(b)
+    IN_X[b as usize] == 1
 }
 
 /// Whether a byte is in this set.

@@ -9,17 +9,8 @@ ghost use Rattle.day_model.specs.Rows.{all_apart, apart, has_limits, is_formed, 
 ghost use Rattle.day_model.specs.Chart.{AreRows};
 
 use crate::account::Account;
-use corr_ids::{Bic, read_bic};
+use corr_ids::{Bic, read_bic, with_branch};
 use corr_text::{Set, is_set};
-
-fn spelled(b: &Bic) -> [u8; 11]
-    ensures { result ≡ b.now.head ++ b.now.branch }
-{
-    let mut bytes = [0; 11];
-    bytes[..8].copy_from_slice(&b.head);
-    bytes[8..].copy_from_slice(&b.branch);
-    bytes
-}
 
 fn is_plain(id: &[u8]) -> bool
     ensures { result ≡ list_all is_c_byte id.now }
@@ -37,7 +28,7 @@ fn is_code(ccy: &[u8]) -> bool
 fn is_bank(b: &Bic) -> bool
     ensures { result ≡ is_bic (b.now.head ++ b.now.branch) }
 {
-    read_bic(&spelled(b)).is_some()
+    read_bic(&with_branch(b)).is_some()
 }
 
 fn has_form(a: &Account) -> bool

@@ -1,7 +1,10 @@
 -- Cutting bytes behind their next group.
-use Rattle.std.proofs.Common.{◌≡◌, ℕ, ◌+◌, ◌<◌, ◌≤◌, ◌≢◌, List, [], ◌∷◌, ◌++◌, length, get_or, take, drop, refl, sym, ap, ◌∙◌, arith}
+use Rattle.std.proofs.Common.{◌≡◌, ℕ, zero, suc, ◌+◌, ◌-◌, ◌<◌, ◌≤◌, ◌≢◌, false, List, [], ◌∷◌, ◌++◌, length, get_or, take, drop, refl, sym, ap, subst, ◌∙◌, arith}
+use Rattle.std.specs.Prelude.{◌==◌}
+use Rattle.std.proofs.lemmas.Bool.{or_parts}
 use Rattle.std.proofs.lemmas.Bool.Decides.{nat_tests}
 use Rattle.std.proofs.lemmas.List.{take_more, drop_more, drop_all}
+use Rattle.corr_text.specs.Braces.{is_brace}
 use Rattle.fin_blocks.specs.Groups.{depth_after, with_byte, pieces_from, groups_of, next, IsCut}
 
 -- bytes put before the first piece
@@ -50,6 +53,29 @@ open-more {bs} {at} {depth} h next e some lt = record {
   inside = λ l. omega (arith, some);
   deep = omega (arith, e, h.deep, depth-le depth (get_or bs at 0));
 }
+
+depth-other : (depth b : ℕ) → is_brace b ≡ false → depth_after depth b ≡ depth
+depth-other depth b h =
+    let parts = or_parts (b == 123) (b == 125) h in
+    rw (parts.0, parts.1) refl
+
+open-others : {bs : List ℕ} {at depth : ℕ} (n : ℕ) → IsOpen bs at depth → 0 < depth → at + n ≤ length bs
+    → ((k : ℕ) → at ≤ k → k < at + n → is_brace (get_or bs k 0) ≡ false) → IsOpen bs (at + n) depth
+open-others {bs} {at} {depth} zero h some le others =
+    let same : at ≡ at + zero = omega arith in
+    subst (λ i. IsOpen bs i depth) same h
+open-others {bs} {at} {depth} (suc n) h some le others =
+    let before : IsOpen bs (at + n) depth = open-others n h some (omega (arith, le)) (λ k low high. others k low (omega (arith, high))) in
+    let other : depth_after depth (get_or bs (at + n) 0) ≡ depth = depth-other depth (get_or bs (at + n) 0) (others (at + n) (omega arith) (omega arith)) in
+    let same : (at + n) + 1 ≡ at + suc n = omega arith in
+    subst (λ i. IsOpen bs i depth) same (open-more before depth (sym other) (λ e. absurd (omega (arith, some, e))) (omega (arith, le)))
+
+-- open up to the next brace
+pub open-to : {bs : List ℕ} {at depth : ℕ} (to : ℕ) → IsOpen bs at depth → 0 < depth → at ≤ to → to ≤ length bs
+    → ((k : ℕ) → at ≤ k → k < to → is_brace (get_or bs k 0) ≡ false) → IsOpen bs to depth
+open-to {bs} {at} {depth} to h some low le others =
+    let same : at + (to - at) ≡ to = omega (arith, low) in
+    subst (λ i. IsOpen bs i depth) same (open-others (to - at) h some (omega (arith, low, le)) (λ k a b. others k a (omega (arith, low, b))))
 
 pub is-cut : {bs : List ℕ} {at depth : ℕ} → IsOpen bs at depth → depth_after depth (get_or bs at 0) ≡ 0 → at < length bs → IsCut bs (take (at + 1) bs) (drop (at + 1) bs)
 unfolding groups_of

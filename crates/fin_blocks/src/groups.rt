@@ -3,6 +3,8 @@
 ghost use Rattle.std.specs.Prelude.{◌≡◌, ◌≢◌, ◌<◌, ◌+◌, ◌^◌, [], length};
 ghost use Rattle.fin_blocks.specs.Groups.{IsCut, depth_after as depth_of};
 
+use corr_text::next_brace;
+
 /// Bytes, their next group, and what stands behind it.
 #[derive(Clone, Copy, Debug)]
 pub struct Piece<'a> {
@@ -29,8 +31,9 @@ pub fn next_group(bytes: &[u8]) -> Piece<'_>
     ensures shorter { bytes.now ≢ [] → length result.rest.now < length bytes.now }
 {
     let mut depth = 0;
-    for (at, b) in bytes.iter().enumerate() {
-        depth = depth_after(depth, *b);
+    let mut at = 0;
+    while at < bytes.len() {
+        depth = depth_after(depth, bytes[at]);
         if depth == 0 {
             return Piece {
                 from: bytes,
@@ -38,6 +41,7 @@ pub fn next_group(bytes: &[u8]) -> Piece<'_>
                 rest: &bytes[at + 1..],
             };
         }
+        at = next_brace(bytes, at + 1);
     }
     Piece {
         from: bytes,

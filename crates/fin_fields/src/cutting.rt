@@ -1,19 +1,61 @@
 //! The lines of block 4 cut into fields.
 
-ghost use Rattle.std.specs.Prelude.{◌≡◌, ◌≢◌, ◌≤◌, ◌<◌, ◌+◌, [], None, true, All, IfOk, IfErr, length, not, option_map, position};
+ghost use Rattle.std.specs.Prelude.{◌≡◌, ◌≢◌, ◌≤◌, ◌<◌, ◌+◌, [], ◌∷◌, None, true, false, All, IfOk, IfErr, length, not, option_map, position};
+ghost use Rattle.std.specs.List.{list_any};
 ghost use Rattle.corr_text.specs.Lines.{lines_of};
 ghost use Rattle.fin_fields.specs.Fields.{Grouped, fields_of, field_begun, grouped, heading_of, so_far, with_line};
 ghost use Rattle.fin_fields.specs.Headings.{heading_in};
 ghost use Rattle.fin_fields.specs.Writing.{IsField};
-ghost use Rattle.fin_fields.specs.Faults.{faulty_line, field_fault, is_misplaced, outside_x, TellsFieldFault, TellsLineFault};
+ghost use Rattle.fin_fields.specs.Faults.{faulty_line, field_fault, has_other_byte, is_misplaced, outside_x, TellsFieldFault, TellsLineFault};
 
 use crate::fault::FieldFault;
 use crate::field::Field;
 use crate::heading::{HeadingLine, heading};
 use crate::outside::first_outside_x;
-use corr_text::{List, Memory, Text, first_line};
+use corr_text::{List, Memory, Text, first_line, plain_line};
 use std::alloc::Global;
 use std::mem;
+
+/// For how many fields there is room at first.
+const ROOM: usize = 8;
+
+/// A text cut behind its first line, and whether the lines so far are known to have bytes of set X alone.
+#[derive(Clone, Copy)]
+struct NextLine<'a> {
+    line: &'a [u8],
+    rest: &'a [u8],
+    plain: bool,
+}
+
+/// The fields of lines, and whether these are known to have bytes of set X alone.
+#[derive(Drop)]
+struct ReadLines {
+    fields: List<Field>,
+    plain: bool,
+}
+
+fn next_line(text: &[u8], plain: bool) -> NextLine<'_>
+    requires { text.now ≢ [] }
+    ensures cut { lines_of text.now ≡ result.line.now ∷ lines_of result.rest.now }
+    ensures shorter { length result.rest.now < length text.now }
+    ensures plain { result.plain ≡ true → (plain ≡ true) × (has_other_byte result.line.now ≡ false) }
+{
+    match plain_line(text) {
+        Some(first) => NextLine {
+            line: first.line,
+            rest: first.rest,
+            plain,
+        },
+        None => {
+            let first = first_line(text);
+            NextLine {
+                line: first.line,
+                rest: first.rest,
+                plain: false,
+            }
+        }
+    }
+}
 
 fn begin_field(alloc: Global, heading: HeadingLine<'_>) -> Result<Field, Memory>
     ensures { IfOk result (λ f. f ≡ field_begun (heading_in heading.entry) []) }
@@ -61,43 +103,55 @@ fn add_line(
 }
 
 /// The fields of the lines behind the first, which began `open_field`.
-fn group_lines(alloc: Global, text: &[u8], open_field: Field) -> Result<List<Field>, FieldFault>
+fn group_lines(
+    alloc: Global,
+    text: &[u8],
+    open_field: Field,
+    plain: bool,
+) -> Result<ReadLines, FieldFault>
     requires few { length (lines_of text.now) < 65535 }
-    ensures fields { IfOk result (λ fields. fields ≡ so_far [] open_field (grouped (lines_of text.now))) }
+    ensures fields { IfOk result (λ read. read.fields ≡ so_far [] open_field (grouped (lines_of text.now))) }
+    ensures plain { IfOk result (λ read. read.plain ≡ true → (plain ≡ true) × (list_any has_other_byte (lines_of text.now) ≡ false)) }
     ensures sound { IfOk result (λ _. position is_misplaced (lines_of text.now) ≡ None) }
     ensures fault { IfErr result (TellsLineFault (option_map (λ i. i + 2) (position is_misplaced (lines_of text.now)))) }
 {
-    let mut whole = List::new(alloc);
+    let mut whole = List::with_room(alloc, ROOM)?;
     let mut open_field = open_field;
     let mut rest = text;
+    let mut plain = plain;
     let mut number = 1u16;
     while !rest.is_empty() {
-        let next = first_line(rest);
+        let next = next_line(rest, plain);
         number += 1;
         if !add_line(alloc, &mut whole, &mut open_field, next.line)? {
             return Err(FieldFault::P20 { line: number });
         }
         rest = next.rest;
+        plain = next.plain;
     }
     whole.push(open_field)?;
-    Ok(whole)
+    Ok(ReadLines {
+        fields: whole,
+        plain,
+    })
 }
 
 /// The fields of a text whose lines are none at fault.
-fn read_lines(alloc: Global, text: &[u8]) -> Result<List<Field>, FieldFault>
+fn read_lines(alloc: Global, text: &[u8]) -> Result<ReadLines, FieldFault>
     requires few { length (lines_of text.now) ≤ 65535 }
-    ensures fields { IfOk result (λ fields. fields ≡ fields_of text.now) }
+    ensures fields { IfOk result (λ read. read.fields ≡ fields_of text.now) }
+    ensures plain { IfOk result (λ read. read.plain ≡ true → list_any has_other_byte (lines_of text.now) ≡ false) }
     ensures sound { IfOk result (λ _. faulty_line (lines_of text.now) ≡ None) }
     ensures fault { IfErr result (TellsLineFault (faulty_line (lines_of text.now))) }
 {
     if text.is_empty() {
         return Err(FieldFault::P20 { line: 0 });
     }
-    let first = first_line(text);
+    let first = next_line(text, true);
     match heading(first.line) {
         Some(heading) => {
             let open_field = begin_field(alloc, heading)?;
-            group_lines(alloc, first.rest, open_field)
+            group_lines(alloc, first.rest, open_field, first.plain)
         }
         None => Err(FieldFault::P20 { line: 1 }),
     }
@@ -114,9 +168,12 @@ pub fn cut_fields(alloc: Global, text: &[u8]) -> Result<List<Field>, FieldFault>
     ensures fit { IfOk result (λ fields. (fields ≢ []) × All IsField fields) }
     ensures fault { IfErr result (TellsFieldFault text.now) }
 {
-    let fields = read_lines(alloc, text)?;
-    match first_outside_x(fields.as_slice()) {
+    let read = read_lines(alloc, text)?;
+    if read.plain {
+        return Ok(read.fields);
+    }
+    match first_outside_x(read.fields.as_slice()) {
         Some(fault) => Err(fault),
-        None => Ok(fields),
+        None => Ok(read.fields),
     }
 }

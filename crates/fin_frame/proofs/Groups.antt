@@ -1,7 +1,10 @@
 -- Groups, byte by byte.
-use Rattle.std.proofs.Common.{◌≡◌, ◌<◌, ◌≤◌, ℕ, zero, suc, ◌+◌, List, [], ◌∷◌, ◌++◌, length, take, get_or, Some, ap, arith}
+use Rattle.std.proofs.Common.{◌≡◌, ◌<◌, ◌≤◌, ℕ, zero, suc, ◌+◌, ◌-◌, false, List, [], ◌∷◌, ◌++◌, length, take, get_or, Some, refl, ap, subst, ◌∙◌, arith}
+use Rattle.std.specs.Prelude.{◌==◌}
+use Rattle.std.proofs.lemmas.Bool.{or_parts}
 use Rattle.std.proofs.lemmas.Grind.{common_steps}
 use Rattle.std.proofs.lemmas.List.{take_more}
+use Rattle.corr_text.specs.Braces.{is_brace}
 use Rattle.fin_frame.specs.File.{left_open, nesting}
 
 -- one more byte within a group
@@ -17,3 +20,29 @@ left_open-take d xs i e lt is some = rw (take_more xs i 0 lt) (left_open-more d 
 
 pub nesting-le : (d b : ℕ) → nesting d b ≤ d + 1
 nesting-le d b = grind (arith, common_steps)
+
+-- ---- bytes that are no brace
+
+nesting-other : (d b : ℕ) → is_brace b ≡ false → nesting d b ≡ d
+nesting-other d b h =
+    let parts = or_parts (b == 123) (b == 125) h in
+    rw (parts.0, parts.1) refl
+
+left_open-others : (d : ℕ) (xs : List ℕ) (i n e : ℕ) → i + n ≤ length xs → left_open d (take i xs) ≡ Some e → 0 < e
+    → ((k : ℕ) → i ≤ k → k < i + n → is_brace (get_or xs k 0) ≡ false) → left_open d (take (i + n) xs) ≡ Some e
+left_open-others d xs i zero e le is some others =
+    let same : i ≡ i + zero = omega arith in
+    subst (λ n. left_open d (take n xs) ≡ Some e) same is
+left_open-others d xs i (suc n) e le is some others =
+    let before = left_open-others d xs i n e (omega (arith, le)) is some (λ k low high. others k low (omega (arith, high))) in
+    let same : (i + n) + 1 ≡ i + suc n = omega arith in
+    subst (λ k. left_open d (take k xs) ≡ Some e) same
+    (left_open-take d xs (i + n) e (omega (arith, le)) before some ∙ ap Some (nesting-other e (get_or xs (i + n) 0) (others (i + n) (omega arith) (omega arith))))
+
+-- the front up to the next brace
+pub left_open-to : (d : ℕ) (xs : List ℕ) (i j e : ℕ) → left_open d (take i xs) ≡ Some e → 0 < e → i ≤ j → j ≤ length xs
+    → ((k : ℕ) → i ≤ k → k < j → is_brace (get_or xs k 0) ≡ false) → left_open d (take j xs) ≡ Some e
+left_open-to d xs i j e is some low le others =
+    let same : i + (j - i) ≡ j = omega (arith, low) in
+    subst (λ k. left_open d (take k xs) ≡ Some e) same
+    (left_open-others d xs i (j - i) e (omega (arith, low, le)) is some (λ k a b. others k a (omega (arith, low, b))))

@@ -15,6 +15,9 @@ const LEAD: [u8; 3] = *b"{1:";
 /// The most bytes of a message.
 const MOST_BYTES: usize = 16384;
 
+/// How much room a message has at first, for most are short.
+const ROOM: usize = 253;
+
 /// Cuts the bytes of a file into its messages, in whatever pieces they come.
 ///
 /// A message is a group in braces that begins `{1:` and the groups directly behind it, 16,384 bytes at most, as
@@ -282,7 +285,7 @@ impl Cutter {
         ensures ok { OnOk result (state_of self.new out.new ≡ begins (state_of self.old out.old)) }
         ensures err { OnErr result ((out.new ≡ out.old) × (self.new.begun ≡ self.old.begun)) }
     {
-        let first = Text::from_bytes(self.alloc, &LEAD)?;
+        let first = Text::with_room(self.alloc, &LEAD, ROOM)?;
         self.give(out)?;
         self.held = Some(first);
         self.stage = Stage::Within {

@@ -3,6 +3,8 @@
 ghost use Rattle.std.specs.Prelude.{◌≡◌, ◌⊎◌, ◌+◌, ◌^◌, ◌<◌, ◌≤◌, length, take, Some};
 ghost use Rattle.fin_frame.specs.File.{left_open, nesting};
 
+use corr_text::next_brace;
+
 /// How many groups are open behind a byte, within `depth` of them.
 fn behind(depth: u32, b: u8) -> u32
     requires some { 0 < depth }
@@ -28,8 +30,12 @@ pub(crate) fn within(bytes: &[u8], depth: u32) -> (usize, u32)
     let mut left = depth;
     let mut len = 0;
     while left > 0 && len < bytes.len() {
-        left = behind(left, bytes[len]);
-        len += 1;
+        let at = next_brace(bytes, len);
+        if at == bytes.len() {
+            return (at, left);
+        }
+        left = behind(left, bytes[at]);
+        len = at + 1;
     }
     (len, left)
 }
