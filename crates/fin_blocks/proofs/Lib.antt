@@ -11,3 +11,4 @@ pub mod SentUser
 pub mod SentLines
 pub mod ReadBack
 pub mod Sizes
+pub mod Unchanged

@@ -1,7 +1,6 @@
 //! Block 2: what a message is, and where it comes from or goes to.
 
-ghost use Rattle.std.specs.Prelude.{◌≡◌, ◌≤◌, IsTrue, length, codes};
-ghost use Rattle.corr_text.specs.Digits.{number_of};
+ghost use Rattle.std.specs.Prelude.{◌≡◌, ◌≤◌, IsTrue, length};
 ghost use Rattle.fin_blocks.specs.Forms.{app_of, is_priority as is_priority_of, is_received as is_received_of, is_sent as is_sent_of, is_sent_length as is_sent_length_of, mir_in, received_in, received_of, sent_in, sent_of};
 
 use crate::blocks::App;

@@ -1,6 +1,6 @@
 //! Block 1: the terminal that a message belongs to.
 
-ghost use Rattle.std.specs.Prelude.{◌≡◌, IsTrue, codes, length};
+ghost use Rattle.std.specs.Prelude.{◌≡◌, IsTrue, length};
 ghost use Rattle.fin_blocks.specs.Forms.{basic_in, basic_of, is_basic as is_basic_of};
 
 use crate::forms::{all_digits, inside};

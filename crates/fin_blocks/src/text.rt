@@ -1,6 +1,6 @@
 //! Block 4: the text of a message.
 
-ghost use Rattle.std.specs.Prelude.{◌≡◌, ◌++◌, ◌∷◌, [], codes, option_map, IfOk};
+ghost use Rattle.std.specs.Prelude.{◌≡◌, ◌++◌, ◌∷◌, [], codes, option_map, true, IfOk};
 ghost use Rattle.std.specs.Option.{option_or};
 ghost use Rattle.fin_blocks.specs.Forms.{between as between_of};
 ghost use Rattle.fin_blocks.specs.Text.{crlf, is_ended as is_ended_of, text_in, text_of};
@@ -39,13 +39,36 @@ fn copy_lines(alloc: Global, b: &[u8]) -> Result<Text, Memory>
     Ok(text)
 }
 
+/// Whether each line feed has a carriage return before it.
+fn has_crlf_alone(b: &[u8]) -> bool
+    ensures { result ≡ true → is_ended_of b.now ≡ true → text_in b.now ≡ b.now }
+{
+    for (at, c) in b.iter().enumerate() {
+        if *c == b'\n' && (at == 0 || b[at - 1] != b'\r') {
+            return false;
+        }
+    }
+    true
+}
+
+/// The lines of block 4, each ended by CR LF, at once where they are so already.
+fn text_of_lines(alloc: Global, b: &[u8]) -> Result<Text, Memory>
+    requires { is_ended_of b.now ≡ true }
+    ensures { IfOk result (λ t. t ≡ text_in b.now) }
+{
+    if has_crlf_alone(b) {
+        return Text::from_bytes(alloc, b);
+    }
+    copy_lines(alloc, b)
+}
+
 /// The lines of block 4, each ended by CR LF, if the group is one.
 #[tactic(auto, unfolding(crate::specs::Text::text_of))]
 pub fn read_text(alloc: Global, group: &[u8]) -> Result<Option<Text>, Memory>
     ensures { IfOk result (λ o. o ≡ text_of group.now) }
 {
     match lines_between(group) {
-        Some(lines) if is_ended(lines) => Ok(Some(copy_lines(alloc, lines)?)),
+        Some(lines) if is_ended(lines) => Ok(Some(text_of_lines(alloc, lines)?)),
         _ => Ok(None),
     }
 }

@@ -1,6 +1,6 @@
 //! Writing a message that is sent on.
 
-ghost use Rattle.std.specs.Prelude.{◌≡◌, ◌≤◌, ◌++◌, ◌∷◌, IfOk, IsTrue, OnOk, OnErr, Ok};
+ghost use Rattle.std.specs.Prelude.{◌≡◌, ◌≤◌, ◌++◌, IfOk, IsTrue, OnOk, Ok};
 ghost use Rattle.std.specs.List.{flat_map};
 ghost use Rattle.corr_ids.specs.Address.{lt_text};
 ghost use Rattle.corr_ids.specs.Bic.{IsBic};

@@ -19,6 +19,9 @@ use std::mem;
 /// For how many fields there is room at first.
 const ROOM: usize = 8;
 
+/// For how many lines of a field there is room at first.
+const LINE_ROOM: usize = 4;
+
 /// A text cut behind its first line, and whether the lines so far are known to have bytes of set X alone.
 #[derive(Clone, Copy)]
 struct NextLine<'a> {
@@ -60,7 +63,7 @@ fn next_line(text: &[u8], plain: bool) -> NextLine<'_>
 fn begin_field(alloc: Global, heading: HeadingLine<'_>) -> Result<Field, Memory>
     ensures { IfOk result (λ f. f ≡ field_begun (heading_in heading.entry) []) }
 {
-    let mut lines = List::new(alloc);
+    let mut lines = List::with_room(alloc, LINE_ROOM)?;
     lines.push(Text::from_bytes(alloc, heading.content)?)?;
     Ok(Field {
         tag: heading.tag,

@@ -1,6 +1,6 @@
 //! Bytes outside set X.
 
-ghost use Rattle.std.specs.Prelude.{◌≡◌, ◌≤◌, length, not, position};
+ghost use Rattle.std.specs.Prelude.{◌≡◌, ◌≤◌, length, position};
 ghost use Rattle.std.specs.List.{list_any};
 ghost use Rattle.fin_fields.specs.Faults.{has_other_byte, is_outside_x, outside_x};
 
