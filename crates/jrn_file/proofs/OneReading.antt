@@ -4,7 +4,7 @@ use Rattle.std.specs.Int.{w32, to_be_bytes, from_be_bytes}
 use Rattle.std.proofs.lemmas.List.{take_at, drop_at}
 use Rattle.std.proofs.lemmas.Nat.{from_be_bytes-to_be_bytes_4}
 use Rattle.jrn_file.specs.Journal.{sized, behind_gates, AreOpen, StandsFor}
-use Rattle.jrn_file.specs.Opening.{IsNoJournal, IsDamagedAt, IsReadAs, ExplainsLoad, IsFailure, IsOrFailure}
+use Rattle.jrn_file.specs.Opening.{IsNoJournal, IsDamagedAt, IsReadAs, IsFailure, IsOrFailure}
 use Rattle.jrn_file.specs.declared.fault.OpenFault.{OpenFault}
 use Rattle.jrn_file.specs.declared.fault.OpenFault.TheVariants.{NotAJournal, Damaged, DiskFault, Memory}
 use Rattle.jrn_file.proofs.Records.{size_of, length-behind_gates}

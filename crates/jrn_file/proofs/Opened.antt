@@ -1,5 +1,5 @@
 -- A journal that was opened, and one that was refused.
-use Rattle.std.proofs.Common.{◌≡◌, ℕ, ◌+◌, Bool, IsTrue, List, length, sym, ◌∙◌, ap, subst, arith}
+use Rattle.std.proofs.Common.{◌≡◌, ℕ, ◌+◌, Bool, IsTrue, List, sym, ◌∙◌, ap, subst}
 use Rattle.corr_disk.specs.Disk.{Only}
 use Rattle.jrn_file.specs.Journal.{StandsFor}
 use Rattle.jrn_file.specs.File.{disk_of, end_of}

@@ -19,7 +19,8 @@ use std::alloc::Global;
 const PIECE: usize = 1 << 20;
 
 /// Opens a journal that a stop at any moment may have left, and gives its header record and its records up to
-/// the first closed gate. It syncs the disk first, and writes nothing.
+/// the first closed gate. It syncs the disk first, reads pieces of 2^20 bytes in rising order up to that gate,
+/// and writes nothing.
 ///
 /// `NotAJournal` comes exactly where the disk is empty, its first byte is 0 or its first record is not whole:
 /// its length, that many bytes and one byte after them. `Damaged` comes exactly where a later open gate has no
@@ -42,7 +43,8 @@ pub fn open_file<D: Disk>(alloc: Global, disk: D) -> Result<(JFile<D>, Vec<Text>
         (λ r. IsUntouched D.reads D.may_leave D.moment D.left_since disk (disk_of r.0))
         (λ e. IsUntouched D.reads D.may_leave D.moment D.left_since disk e.0) }
 
-    // It makes one sync and a read for each 2^20 bytes up to the closed gate, or where it refuses or fails, at most up to the end.
+    // It makes as many calls as a sync and a read of each 2^20 bytes up to the closed gate are; where it refuses
+    // or fails, no more than those up to the end.
     ensures calls { IfOk result (λ r. CallsMade (calls_to_open (2 ^ 20) (end_of r.0)) (D.calls_left disk) (D.calls_left (disk_of r.0))) }
     ensures no_more_calls { IsTrue (D.honest disk) → IfErr result (λ e. AtMostCalls (calls_to_open (2 ^ 20) (length (D.reads disk))) (D.calls_left disk) (D.calls_left e.0)) }
 

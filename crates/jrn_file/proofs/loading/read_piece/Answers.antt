@@ -1,8 +1,6 @@
-use Rattle.std.proofs.Common.{rules, ◌≡◌, ◌+◌, ◌^◌, ◌<◌, ◌≤◌, length, IsTrue, IfOk, IfErr, OnOk, ℕ, ◌-◌, List, [], ◌∷◌, ◌++◌, take, drop, arith, ap, ◌∙◌, length-drop}
+use Rattle.std.proofs.Common.{◌≡◌, ◌+◌, ◌≤◌, length, ◌-◌, take, drop, arith, ◌∙◌, length-drop}
 use Rattle.std.proofs.lemmas.List.{length-take}
-use Rattle.corr_disk.specs.Disk.{ReadsAt}
 use Rattle.corr_disk.proofs.Counted.{one_call, calls_within}
-use Rattle.jrn_file.specs.Pieces.{IsPiece}
 use Rattle.jrn_file.proofs.Behind.{read-behind, read-gives}
 use Rattle.jrn_file.proofs.loading.read_piece.Goals as goal
 
