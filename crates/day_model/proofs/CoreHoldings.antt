@@ -1,8 +1,8 @@
 -- What a job holds and what it wants.
-use Rattle.std.proofs.Common.{◌≡◌, ◌≢◌, ℕ, zero, suc, ◌+◌, ◌-◌, ◌<◌, ◌≤◌, Bool, true, false, cond, eqb, ltb, List, [], ◌∷◌, ◌++◌, Option, Some, None, refl, sym, ap, ◌∙◌, subst, arith, length, inl, inr}
+use Rattle.std.proofs.Common.{◌≡◌, ◌≢◌, ℕ, zero, suc, ◌+◌, ◌-◌, ◌≤◌, Bool, true, false, cond, eqb, ltb, List, [], ◌∷◌, Option, Some, None, refl, sym, ap, ◌∙◌, subst, arith, length, inl, inr}
 use Rattle.std.specs.Prelude.{◌⊎◌, ◌||◌, slice_get, is_some, option_and_then}
 use Rattle.std.specs.List.{list_any, position_from}
-use Rattle.std.proofs.lemmas.Bool.{cases_Bool, cond-true, cond-false, eq-eqb, eqb-true, eqb-false, false≢true, or_cases, or_left, or_parts, or_right, ltb-true, ltb-false, cases_eq}
+use Rattle.std.proofs.lemmas.Bool.{cases_Bool, cond-true, cond-false, eq-eqb, eqb-true, eqb-false, false≢true, or_cases, or_left, or_parts, or_right, ltb-true, ltb-false}
 use Rattle.std.proofs.lemmas.List.Folds.{list_any-append}
 use Rattle.std.proofs.lemmas.Option.{none-some, same_Some}
 use Rattle.day_model.specs.declared.account.AcctNo.{AcctNo}
@@ -13,9 +13,9 @@ use Rattle.day_model.specs.Chart.{Chart}
 use Rattle.day_model.specs.Fit.{FitsAccounts}
 use Rattle.day_model.specs.CoreStep.{also_holding, has_held, holder_of, holds, job_at, least_unheld, lesser, wanted_by, worker_at}
 use Rattle.day_model.specs.CoreSound.{HasHeld, HoldsLeast, has_account}
-use Rattle.day_model.proofs.Fitting.{Transfer, transfer}
+use Rattle.day_model.proofs.Fitting.{transfer}
 use Rattle.day_model.proofs.Growth.{none_passes}
-use Rattle.day_model.proofs.CoreWorkers.{There, job_there, worker_at-from_one}
+use Rattle.day_model.proofs.CoreWorkers.{job_there, worker_at-from_one}
 
 -- one account more
 holds-also_holding : (account : AcctNo) (job : Job) (n : ℕ) → holds (also_holding account job) n ≡ (holds job n || (eqb account.0 n || false))

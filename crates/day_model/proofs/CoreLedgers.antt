@@ -1,22 +1,17 @@
 -- A pay that is entered leaves the ledger sound.
-use Rattle.std.proofs.Common.{◌≡◌, ◌≢◌, ℕ, ◌+◌, ◌-◌, ◌<◌, ◌≤◌, Bool, true, false, cond, ltb, List, [], ◌∷◌, ◌++◌, Option, Some, None, refl, sym, ap, ◌∙◌, subst, arith, length, take, ℤ, pos, ◌≤ℤ◌, inl, inr}
-use Rattle.std.specs.Prelude.{◌⊎◌, ◌&&◌, ◌||◌, not, slice_get, is_some, unwrap_or, option_map, if◌then◌else◌}
-use Rattle.std.proofs.lemmas.Bool.{and_parts, and_left, cases_order, cond-false, false≢true, ltb-true, not_from_true}
-use Rattle.std.proofs.lemmas.Int.{ints}
+use Rattle.std.proofs.Common.{◌≡◌, ℕ, ◌+◌, ◌-◌, ◌<◌, Bool, true, false, cond, ltb, List, [], ◌∷◌, ◌++◌, Some, refl, sym, ap, ◌∙◌, subst, arith, length, take}
+use Rattle.std.specs.Prelude.{◌||◌, not, slice_get, is_some, if◌then◌else◌}
+use Rattle.std.proofs.lemmas.Bool.{and_parts, and_left, cond-false, ltb-true, not_from_true}
 use Rattle.std.proofs.lemmas.List.{append-nil, get_or_push, length_push, take-append-le, take_all}
-use Rattle.std.proofs.lemmas.Option.{slice_get-get_or, slice_get_within, same_Some}
-use Rattle.corr_ids.specs.declared.day.Day.{Day}
+use Rattle.std.proofs.lemmas.Option.{slice_get-get_or}
 use Rattle.day_model.specs.declared.pay.Pay.{Pay}
 use Rattle.day_model.specs.declared.entry.Entry.{Entry}
 use Rattle.day_model.specs.declared.core_job.Mark.{Mark}
 use Rattle.day_model.specs.declared.core_job.Mark.TheVariants.{Entered, Refused}
-use Rattle.day_model.specs.Chart.{Chart, IsChart}
 use Rattle.day_model.specs.Fit.{FitsAccounts}
 use Rattle.day_model.specs.Balance.{is_booked, outcome_of}
 use Rattle.day_model.specs.Next.{entered_at, entry_of, next_history}
-use Rattle.day_model.specs.Legal.{IsLegal}
-use Rattle.day_model.specs.Laws.{IsLatest}
-use Rattle.day_model.specs.CoreLedger.{AreAtBalance, CanAddAll, IsSoundLedger, LedgerState, day_of_last, is_entered, ledger_after, mark_of, may_enter}
+use Rattle.day_model.specs.CoreLedger.{AreAtBalance, CanAddAll, IsSoundLedger, LedgerState, is_entered, ledger_after, mark_of, may_enter}
 use Rattle.day_model.proofs.Fitting.{transfer}
 use Rattle.day_model.proofs.Growth.{enters, next_begins, one_more, still, still_latest}
 use Rattle.day_model.proofs.CorePurses.{can_add_all, purses_more, purses_with}

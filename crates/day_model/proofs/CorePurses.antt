@@ -1,16 +1,13 @@
 -- Purses stay at their balances.
-use Rattle.std.proofs.Common.{◌≡◌, ◌≢◌, ℕ, zero, suc, ◌+◌, ◌-◌, ◌<◌, ◌≤◌, Bool, true, false, cond, eqb, List, [], ◌∷◌, ◌++◌, Option, Some, None, refl, sym, ap, ◌∙◌, subst, arith, length, take, ℤ, pos, ◌+ℤ◌, ◌-ℤ◌, inl, inr}
-use Rattle.std.specs.Prelude.{◌⊎◌, slice_get, slice_set, sum_by, unwrap_or, if◌then◌else◌}
-use Rattle.std.proofs.lemmas.Bool.{cases_eq, cases_lt, eq-eqb, ne_eqb}
+use Rattle.std.proofs.Common.{◌≡◌, ◌≢◌, ℕ, zero, suc, ◌+◌, ◌-◌, ◌<◌, ◌≤◌, Bool, true, false, cond, eqb, List, Option, Some, sym, ap, ◌∙◌, subst, arith, length, take, ℤ, pos, ◌+ℤ◌, ◌-ℤ◌, inl, inr}
+use Rattle.std.specs.Prelude.{slice_get, unwrap_or, if◌then◌else◌}
+use Rattle.std.proofs.lemmas.Bool.{cases_eq, eq-eqb, ne_eqb}
 use Rattle.std.proofs.lemmas.Int.{ints}
-use Rattle.std.proofs.lemmas.List.{length-set, length_push}
-use Rattle.std.proofs.lemmas.Option.{slice_get_cases}
-use Rattle.day_model.specs.declared.account.Account.{Account}
-use Rattle.day_model.specs.declared.pay.Side.{Side}
+use Rattle.std.proofs.lemmas.List.{length-set}
 use Rattle.day_model.specs.declared.pay.Side.TheVariants.{Debit, Credit}
 use Rattle.day_model.specs.declared.pay.Leg.{Leg}
 use Rattle.day_model.specs.declared.entry.Entry.{Entry}
-use Rattle.day_model.specs.Chart.{Chart, IsChart, IsListed, IsSmall, account_at}
+use Rattle.day_model.specs.Chart.{Chart, IsChart, IsSmall}
 use Rattle.day_model.specs.Balance.{balance_of, changed, is_booked, moved_by, opening_of}
 use Rattle.day_model.specs.Legal.{IsLegal}
 use Rattle.day_model.specs.CoreLedger.{AreAtBalance, CanAdd, CanAddAll, purse_of, with_leg, with_legs}

@@ -1,8 +1,8 @@
 -- Every event leaves a core sound.
-use Rattle.std.proofs.Common.{◌≡◌, ◌≢◌, ℕ, ◌+◌, ◌-◌, ◌<◌, ◌≤◌, ◌^◌, Bool, true, false, cond, eqb, List, [], ◌∷◌, ◌++◌, Option, Some, None, refl, sym, ap, ◌∙◌, subst, arith, length, append_assoc, inl, inr}
-use Rattle.std.specs.Prelude.{◌⊎◌, ◌&&◌, slice_get, slice_set, is_some, is_none, if◌then◌else◌}
+use Rattle.std.proofs.Common.{◌≡◌, ◌≢◌, ℕ, ◌+◌, ◌-◌, ◌<◌, ◌^◌, Bool, true, false, cond, eqb, List, [], ◌∷◌, ◌++◌, Option, Some, None, refl, sym, ap, ◌∙◌, subst, arith, length, append_assoc, inl, inr}
+use Rattle.std.specs.Prelude.{is_some, is_none, if◌then◌else◌}
 use Rattle.std.specs.Option.{option_map_or}
-use Rattle.std.proofs.lemmas.Bool.{and_parts, cases_Bool, cond-true, cond-false, cond_both, eqb-true, false≢true}
+use Rattle.std.proofs.lemmas.Bool.{and_parts, cond_both, eqb-true, false≢true}
 use Rattle.std.proofs.lemmas.List.{append-nil, length-set}
 use Rattle.std.proofs.lemmas.Option.{none-some, same_Some}
 use Rattle.day_model.specs.declared.account.AcctNo.{AcctNo}
@@ -15,9 +15,9 @@ use Rattle.day_model.specs.declared.core_job.Mark.{Mark}
 use Rattle.day_model.specs.declared.core_job.Mark.TheVariants.{Entered}
 use Rattle.day_model.specs.Fit.{FitsAccounts, legs_fit}
 use Rattle.day_model.specs.CoreLedger.{IsSoundLedger, LedgerState, is_entered, ledger_after, mark_of}
-use Rattle.day_model.specs.CoreStep.{CoreState, after, after_commit, also_holding, drawn, holder_of, holds, is_allowed, is_idle, is_number, job_at, marked, may_commit, may_give_back, may_take, run_of, step_of, wanted_by, with_job, with_worker, worker_at}
+use Rattle.day_model.specs.CoreStep.{CoreState, after, after_commit, also_holding, drawn, holder_of, holds, is_allowed, is_idle, is_number, job_at, marked, may_give_back, may_take, run_of, step_of, wanted_by, with_job, with_worker, worker_at}
 use Rattle.day_model.specs.CoreSound.{AllIdle, HasHeld, IsSound, IsSoundJob}
-use Rattle.day_model.proofs.CoreWorkers.{There, idle_there, job_after, there, worker_at-from_one, worker_of_job}
+use Rattle.day_model.proofs.CoreWorkers.{idle_there, job_after, there, worker_at-from_one, worker_of_job}
 use Rattle.day_model.proofs.CoreHoldings.{held_after, least_after, no_holder}
 use Rattle.day_model.proofs.CoreLedgers.{broken_stays, entered_now, entered_still, ledger_after_sound, ledger_begins, ledger_chart}
 

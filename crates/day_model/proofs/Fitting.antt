@@ -1,15 +1,13 @@
 -- What a pay that fits has.
-use Rattle.std.proofs.Common.{◌≡◌, ◌≢◌, ℕ, zero, suc, ◌+◌, ◌<◌, ◌≤◌, Bool, true, false, List, [], ◌∷◌, Option, Some, None, refl, sym, ap, ◌∙◌, subst, arith, leb, ltb, eqb, cond}
-use Rattle.std.specs.Prelude.{not, ◌&&◌, nat_le, nat_lt, ◌==◌, length, slice_get, IsTrue}
+use Rattle.std.proofs.Common.{◌≡◌, ◌≢◌, ℕ, zero, suc, ◌<◌, true, false, List, [], ◌∷◌, Some, refl, ap, subst, leb, ltb, eqb, cond}
+use Rattle.std.specs.Prelude.{not, ◌&&◌, length, slice_get}
 use Rattle.std.proofs.lemmas.Bool.{and_parts, leb-true, ltb-true, eqb-true, eqb-false, not-true, false≢true}
 use Rattle.std.proofs.lemmas.Option.{same_Some, none-some}
-use Rattle.day_model.specs.declared.account.Account.{Account}
 use Rattle.day_model.specs.declared.pay.Side.{Side}
 use Rattle.day_model.specs.declared.pay.Side.TheVariants.{Debit, Credit}
 use Rattle.day_model.specs.declared.pay.Leg.{Leg}
-use Rattle.day_model.specs.declared.pay.Pay.{Pay}
 use Rattle.day_model.specs.Chart.{Chart, IsListed, account_at}
-use Rattle.day_model.specs.Fit.{is_side, is_listed, same_ccy, amounts_fit, accounts_fit, legs_fit, FitsAccounts}
+use Rattle.day_model.specs.Fit.{is_side, is_listed, same_ccy, amounts_fit, accounts_fit, legs_fit}
 
 -- a debit and a credit of one amount, between two accounts of one currency
 pub record Transfer (chart : Chart) (legs : List Leg) : Type 0 where

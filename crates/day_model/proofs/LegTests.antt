@@ -1,7 +1,7 @@
 -- The tests of a pay's legs, one after another.
-use Rattle.std.proofs.Common.{◌≡◌, ℕ, ◌+◌, ◌<◌, ◌≤◌, Bool, true, false, List, [], ◌∷◌, Option, Some, None, refl, sym, ap, ◌∙◌, length, drop, get_or}
+use Rattle.std.proofs.Common.{◌≡◌, ℕ, ◌+◌, ◌<◌, Bool, true, List, [], ◌∷◌, Option, Some, None, refl, sym, ap, ◌∙◌, length, drop, get_or}
 use Rattle.std.proofs.lemmas.List.{drop_more}
-use Rattle.std.specs.Prelude.{unwrap_or, ℤ}
+use Rattle.std.specs.Prelude.{ℤ}
 use Rattle.corr_text.specs.First.{first_of, unless}
 use Rattle.day_model.specs.declared.pay.Leg.{Leg}
 use Rattle.day_model.specs.declared.entry.Entry.{Entry}

@@ -1,10 +1,10 @@
 -- Sums of openings, and the first currency whose openings don't sum to 0.
-use Rattle.std.proofs.Common.{◌≡◌, ◌≢◌, ℕ, zero, suc, ◌+◌, ◌-◌, ◌*◌, ◌<◌, ◌≤◌, Bool, true, false, cond, List, [], ◌∷◌, ◌++◌, Option, Some, None, refl, sym, ap, ◌∙◌, subst, arith, length, take, get_or, add-one, ℤ, pos, negsuc, ◌+ℤ◌, ◌≤ℤ◌, FitsSigned, w64, Ordering, Less, Equal, Greater, inl, inr}
+use Rattle.std.proofs.Common.{◌≡◌, ◌≢◌, ℕ, zero, suc, ◌+◌, ◌-◌, ◌*◌, ◌<◌, ◌≤◌, Bool, true, false, cond, List, [], ◌∷◌, ◌++◌, Option, Some, None, refl, sym, ap, ◌∙◌, subst, arith, length, take, get_or, ℤ, pos, ◌+ℤ◌, ◌≤ℤ◌, FitsSigned, w64, Ordering, Less, Equal, Greater, inl, inr}
 use Rattle.std.specs.Prelude.{◌⊎◌, slice_get, if◌then◌else◌}
-use Rattle.std.proofs.lemmas.Bool.{cases_Bool, false≢true, cond-true, cond-false, cond_both, cases_lt}
+use Rattle.std.proofs.lemmas.Bool.{cases_Bool, false≢true, cond-false, cond_both, cases_lt}
 use Rattle.std.proofs.lemmas.Int.{ints}
 use Rattle.std.proofs.lemmas.List.{take_more}
-use Rattle.std.proofs.lemmas.Option.{slice_get_within, same_Some, get_or_from_slice_get, slice_get_read}
+use Rattle.std.proofs.lemmas.Option.{slice_get_within, same_Some}
 use Rattle.std.proofs.lemmas.Slice.Eq.{bytes_eq-Decides}
 use Rattle.std.proofs.lemmas.Cmp.{nat_list_cmp_total, tied_itself}
 use Rattle.std.specs.Ordering.{is_lt, nat_cmp}
@@ -12,8 +12,8 @@ use Rattle.std.specs.Cmp.Lexicographic.{slice_cmp}
 use Rattle.corr_money.specs.declared.amount.Ccy.{Ccy}
 use Rattle.day_model.specs.declared.account.Account.{Account}
 use Rattle.day_model.specs.declared.gap.Gap.{Gap}
-use Rattle.day_model.specs.Chart.{AreRows, IsLimited, is_ccy, opening_sum}
-use Rattle.day_model.specs.Gap.{is_before, IsGapOf, GapOf, earlier_of, IsFirstUnbalanced, FirstGap}
+use Rattle.day_model.specs.Chart.{IsLimited, is_ccy, opening_sum}
+use Rattle.day_model.specs.Gap.{is_before, IsGapOf, GapOf, earlier_of, FirstGap}
 
 abbrev pub opening_in : Ccy → Account → ℤ
 opening_in ccy account = if is_ccy account.ccy ccy then account.opening else pos 0

@@ -1,5 +1,5 @@
 -- What legs and entries add to the totals of accounts.
-use Rattle.std.proofs.Common.{◌≡◌, ◌≢◌, ℕ, zero, suc, ◌+◌, ◌<◌, ◌≤◌, Bool, true, false, List, [], ◌∷◌, ◌++◌, length, take, get_or, Option, Some, All, refl, sym, ap, ◌∙◌, subst, arith, eqb, cond}
+use Rattle.std.proofs.Common.{◌≡◌, ◌≢◌, ℕ, zero, suc, ◌+◌, ◌≤◌, Bool, true, false, List, [], ◌∷◌, ◌++◌, take, get_or, Some, All, refl, ap, ◌∙◌, arith, eqb, cond}
 use Rattle.std.specs.Prelude.{slice_get, sum_by}
 use Rattle.std.proofs.lemmas.Bool.{eq-eqb, ne_eqb, cond_both}
 use Rattle.std.proofs.lemmas.List.Sums.{sum_by-cons, sum_by_push, sum_by_more, sum_by-take-le}
@@ -8,8 +8,6 @@ use Rattle.day_model.specs.declared.pay.Side.{Side}
 use Rattle.day_model.specs.declared.pay.Side.TheVariants.{Debit, Credit}
 use Rattle.day_model.specs.declared.pay.Leg.{Leg}
 use Rattle.day_model.specs.declared.entry.Entry.{Entry}
-use Rattle.day_model.specs.declared.entry.Outcome.{Outcome}
-use Rattle.day_model.specs.declared.entry.Outcome.TheVariants.{Booked, Unfunded}
 use Rattle.day_model.specs.Chart.{Chart, IsListed}
 use Rattle.day_model.specs.Balance.{is_booked, moved, moved_by, credits_of, debits_of}
 use Rattle.day_model.specs.Legal.{IsLegal}

@@ -1,10 +1,10 @@
 -- Rows that pass the test are those of a book.
-use Rattle.std.proofs.Common.{◌≡◌, ◌≢◌, ℕ, zero, suc, ◌+◌, ◌<◌, ◌≤◌, Bool, true, false, List, [], ◌∷◌, ◌++◌, Option, Some, None, refl, sym, ap, ◌∙◌, subst, arith, leb, eqb, length, ℤ, pos, negsuc, ◌≤ℤ◌, inl, inr}
-use Rattle.std.specs.Prelude.{◌⊎◌, ◌&&◌, ◌||◌, not, int_le, slice_get, IsTrue}
+use Rattle.std.proofs.Common.{◌≡◌, ◌≢◌, ℕ, zero, suc, ◌+◌, ◌<◌, ◌≤◌, Bool, true, false, List, [], ◌∷◌, ◌++◌, Some, refl, sym, ap, ◌∙◌, subst, arith, leb, eqb, length, ℤ, pos, negsuc, ◌≤ℤ◌, inl, inr}
+use Rattle.std.specs.Prelude.{◌&&◌, ◌||◌, not, int_le, slice_get}
 use Rattle.std.specs.Str.{bytes_eq}
 use Rattle.std.specs.List.{list_all}
 use Rattle.std.specs.Char.{is_ascii_uppercase}
-use Rattle.std.proofs.lemmas.Bool.{and_parts, le-leb, or_cases, not-true, leb-true, eqb-true, eq-eqb, ne_eqb, cases_order, false≢true, and_from, not_from_true, not_from_false}
+use Rattle.std.proofs.lemmas.Bool.{and_parts, le-leb, not-true, leb-true, eqb-true, eq-eqb, ne_eqb, cases_order, false≢true, and_from, not_from_false}
 use Rattle.std.proofs.lemmas.Int.{ints}
 use Rattle.std.proofs.lemmas.Option.{same_Some, none-some}
 use Rattle.std.proofs.lemmas.Slice.Eq.{bytes_eq-Decides}
@@ -12,7 +12,7 @@ use Rattle.corr_text.specs.Sets.{is_c_byte}
 use Rattle.corr_ids.specs.Bic.{is_bic}
 use Rattle.corr_money.specs.declared.amount.Ccy.{Ccy}
 use Rattle.day_model.specs.declared.account.Account.{Account}
-use Rattle.day_model.specs.Chart.{AreRows, IsFormed, IsLimited, IsSmall, IsSameBank, is_ccy, is_kind, customer}
+use Rattle.day_model.specs.Chart.{AreRows, IsFormed, IsLimited, IsSameBank, is_ccy, is_kind, customer}
 use Rattle.day_model.specs.Rows.{is_formed, has_limits, is_row, apart, all_apart, rows_fit}
 
 -- what all pass, each passes

@@ -1,5 +1,5 @@
 -- What the workers of a core enter into: the history, and one purse per account.
-use Rattle.std.specs.Prelude.{◌≡◌, ℕ, ◌-◌, ◌<◌, ◌≤◌, ◌&&◌, ◌||◌, Bool, false, not, List, [], ◌∷◌, Option, Some, length, slice_get, slice_set, is_some, unwrap_or, option_map, ℤ, pos, nat_lt, if◌then◌else◌}
+use Rattle.std.specs.Prelude.{◌≡◌, ℕ, ◌-◌, ◌<◌, ◌≤◌, ◌&&◌, ◌||◌, Bool, false, not, List, [], ◌∷◌, Some, length, slice_get, slice_set, is_some, unwrap_or, option_map, ℤ, pos, nat_lt, if◌then◌else◌}
 use Rattle.corr_ids.specs.declared.day.Day.{Day}
 use Rattle.day_model.specs.declared.pay.Leg.{Leg}
 use Rattle.day_model.specs.declared.pay.Pay.{Pay}

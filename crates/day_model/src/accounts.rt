@@ -1,6 +1,6 @@
 //! The accounts of a book.
 
-ghost use Rattle.std.specs.Prelude.{◌≡◌, ◌≤◌, IfOk, IfErr, OnOk, length, slice_get, pos};
+ghost use Rattle.std.specs.Prelude.{◌≡◌, ◌≤◌, IfOk, IfErr, OnOk, length, pos};
 ghost use Rattle.std.specs.List.{position_from};
 ghost use Rattle.day_model.specs.Chart.{AreRows, IsChart, IsListed, account_at, has_id, is_owned, number_of_first, opening_sum};
 ghost use Rattle.day_model.specs.Gap.{TellsUnbalanced};

@@ -1,6 +1,6 @@
 //! What the workers of a core enter into.
 
-ghost use Rattle.std.specs.Prelude.{◌≡◌, ◌<◌, ◌≤◌, [], true, false, length, IfOk, OnOk, OnErr, if◌then◌else◌};
+ghost use Rattle.std.specs.Prelude.{◌≡◌, ◌<◌, [], true, false, length, IfOk, OnOk, OnErr, if◌then◌else◌};
 ghost use Rattle.day_model.specs.Chart.{IsChart};
 ghost use Rattle.day_model.specs.Fit.{FitsAccounts};
 ghost use Rattle.day_model.specs.Balance.{is_booked};

@@ -1,6 +1,6 @@
 //! Which pays fit a book's accounts.
 
-ghost use Rattle.std.specs.Prelude.{◌≡◌, ◌≤◌, IsTrue, true, length};
+ghost use Rattle.std.specs.Prelude.{◌≡◌, IsTrue};
 ghost use Rattle.day_model.specs.Chart.{IsListed};
 ghost use Rattle.day_model.specs.Fit.{accounts_fit, amounts_fit, is_listed, is_side, legs_fit};
 

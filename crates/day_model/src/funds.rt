@@ -1,9 +1,9 @@
 //! Balances, and the decision on funds.
 
-ghost use Rattle.std.specs.Prelude.{◌≡◌, ◌+◌, ◌<◌, ◌≤◌, ◌^◌, true, length, sum_by, pos, ◌+ℤ◌, ◌-ℤ◌};
+ghost use Rattle.std.specs.Prelude.{◌≡◌, ◌+◌, ◌<◌, ◌≤◌, ◌^◌, true, sum_by, pos, ◌+ℤ◌, ◌-ℤ◌};
 ghost use Rattle.day_model.specs.declared.pay.Side.TheVariants.{Debit, Credit};
 ghost use Rattle.day_model.specs.Chart.{IsListed, IsSmall, account_at};
-ghost use Rattle.day_model.specs.Fit.{FitsAccounts, is_side};
+ghost use Rattle.day_model.specs.Fit.{FitsAccounts};
 ghost use Rattle.day_model.specs.Balance.{balance_of, changed, is_within, moved, moved_by, outcome_of};
 ghost use Rattle.day_model.specs.Legal.{IsLegal};
 ghost use Rattle.day_model.specs.Laws.{BalancesCancel, DebitsEqualCredits, StaysLegal, TotalsFit};

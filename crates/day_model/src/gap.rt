@@ -1,6 +1,6 @@
 //! Openings that don't add up.
 
-ghost use Rattle.std.specs.Prelude.{◌≡◌, length, slice_get, Some, pos, if◌then◌else◌};
+ghost use Rattle.std.specs.Prelude.{◌≡◌, Some, pos, if◌then◌else◌};
 ghost use Rattle.day_model.specs.Chart.{AreRows, is_ccy, opening_sum};
 ghost use Rattle.day_model.specs.Gap.{FirstGap, GapOf, earlier_of, is_before};
 

@@ -1,4 +1,4 @@
-use Rattle.std.proofs.Common.{◌≡◌, ◌+◌, ◌<◌, ◌≤◌, length, Option, Some, None, sym, ap, ◌∙◌, arith, refl}
+use Rattle.std.proofs.Common.{◌≡◌, ◌+◌, ◌<◌, ◌≤◌, length, Some, None, sym, ◌∙◌, arith, refl}
 use Rattle.std.specs.List.{position_from}
 use Rattle.day_model.specs.CoreStep.{has_held}
 use Rattle.day_model.proofs.Places.{one-Some, one-None, position_from-within}

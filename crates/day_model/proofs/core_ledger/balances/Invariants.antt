@@ -1,4 +1,4 @@
-use Rattle.std.proofs.Common.{◌≡◌, take}
+use Rattle.std.proofs.Common.{take}
 use Rattle.day_model.specs.CoreLedger.{AreAtBalance}
 use Rattle.day_model.proofs.core_ledger.balances.Given as goal
 

@@ -1,4 +1,3 @@
-use Rattle.std.proofs.Common.{◌≡◌}
 use Rattle.day_model.proofs.CorePurses.{Opened}
 use Rattle.day_model.proofs.core_ledger.openings.Given as goal
 

@@ -1,11 +1,9 @@
-use Rattle.std.proofs.Common.{◌≡◌, ◌+◌, ◌<◌, Bool, true, List, length, take, get_or, Option, Some, refl, sym, ap, ◌∙◌, subst, arith, ℤ, pos, ◌+ℤ◌, ◌-ℤ◌, to_z, of_z, w64}
-use Rattle.std.specs.Prelude.{slice_get, sum_by}
+use Rattle.std.proofs.Common.{◌+◌, true, refl, sym, ap, ◌∙◌, subst, ℤ, pos, ◌+ℤ◌, ◌-ℤ◌, to_z, of_z, w64}
+use Rattle.std.specs.Prelude.{slice_get}
 use Rattle.std.proofs.lemmas.Int.{to_z-of_z}
 use Rattle.std.proofs.lemmas.Option.{slice_get_read}
-use Rattle.day_model.specs.declared.entry.Entry.{Entry}
 use Rattle.day_model.specs.declared.pay.Side.TheVariants.{Debit, Credit}
-use Rattle.day_model.specs.Chart.{IsSmall, account_at}
-use Rattle.day_model.specs.Balance.{balance_of, is_within, moved_by}
+use Rattle.day_model.specs.Balance.{moved_by}
 use Rattle.day_model.specs.Legal.{IsLegal}
 use Rattle.day_model.proofs.Fitting.{transfer}
 use Rattle.day_model.proofs.Balances.{within_at, small_at, credits_small, debits_small, balance_more}

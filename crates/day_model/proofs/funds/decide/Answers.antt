@@ -1,11 +1,10 @@
-use Rattle.std.proofs.Common.{◌≡◌, ◌+◌, ◌<◌, ◌≤◌, Bool, true, List, length, get_or, Option, Some, refl, sym, ap, ◌∙◌, subst, arith, ℤ, to_z, of_z, w64}
+use Rattle.std.proofs.Common.{◌≡◌, ◌+◌, ◌<◌, true, List, length, get_or, Some, refl, sym, ap, ◌∙◌, subst, to_z, of_z, w64}
 use Rattle.std.proofs.lemmas.Int.{to_z-of_z}
 use Rattle.std.proofs.lemmas.Option.{slice_get_read}
 use Rattle.std.specs.Prelude.{slice_get}
 use Rattle.day_model.specs.declared.pay.Leg.{Leg}
-use Rattle.day_model.specs.Chart.{IsSmall, account_at}
 use Rattle.day_model.specs.Balance.{changed, is_within}
-use Rattle.day_model.proofs.Fitting.{Sound, transfer, leg_sound}
+use Rattle.day_model.proofs.Fitting.{transfer, leg_sound}
 use Rattle.day_model.proofs.Balances.{small_balance}
 use Rattle.day_model.proofs.LegTests.{none_more, leg_passes}
 use Rattle.day_model.proofs.Growth.{stays_legal}

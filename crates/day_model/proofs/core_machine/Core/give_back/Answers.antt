@@ -1,4 +1,4 @@
-use Rattle.std.proofs.Common.{◌≡◌, Bool, true, List, Option, sym, ap, ◌∙◌, subst}
+use Rattle.std.proofs.Common.{◌≡◌, true, List, Option, sym, ap, ◌∙◌, subst}
 use Rattle.day_model.specs.declared.core_event.Event.TheVariants.{GiveBack}
 use Rattle.day_model.specs.declared.core_job.Job.{Job}
 use Rattle.day_model.specs.CoreStep.{CoreState, job_at, may_give_back}

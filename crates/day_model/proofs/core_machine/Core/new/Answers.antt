@@ -1,4 +1,4 @@
-use Rattle.std.proofs.Common.{◌≡◌, ◌<◌, ◌^◌, length, arith}
+use Rattle.std.proofs.Common.{◌<◌, ◌^◌, length, arith}
 use Rattle.day_model.proofs.CoreReady.{runs_kept}
 use Rattle.day_model.proofs.CoreSteps.{idle_sound}
 use Rattle.day_model.proofs.core_machine.Core.new.Goals as goal
