@@ -4,3 +4,4 @@ pub mod Readings
 pub mod Written
 pub mod Fit
 pub mod RoundTrip
+pub mod Complete

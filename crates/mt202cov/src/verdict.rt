@@ -1,8 +1,12 @@
 //! An MT202 COV read from its fields.
 
-ghost use Rattle.std.specs.Prelude.{◌≤◌, length};
+ghost use Rattle.std.specs.Prelude.{◌≡◌, ◌≤◌, None, Ok, length};
+ghost use Rattle.corr_text.specs.First.{first_of};
+ghost use Rattle.fin_layout.specs.Order.{places_from};
 ghost use Rattle.fin_layout.specs.Reading.{Gives};
-ghost use Rattle.mt202cov.specs.Message.{mt202cov_of};
+ghost use Rattle.mt202cov.specs.Message.{contents_of, field_tests, mt202cov_of};
+ghost use Rattle.mt202cov.specs.declared.message.Mt202Cov.{Mt202Cov as Mt202CovSeen};
+ghost use Rattle.mt202cov.specs.declared.order.TheConstants.{ORDER as order};
 
 use crate::message::Mt202Cov;
 use crate::order::ORDER;
@@ -18,10 +22,13 @@ use std::alloc::Global;
 ///
 /// `Bad` tells the first test that fails (docs/messages.md, "MT202 COV"): P22 and P23 of the order of fields, both sequences
 /// being one order; then each content in the order of the text, with its field's tag and occurrence; then the rules, C81
-/// where 56a stands without 57a in sequence A, and C68 where it does in sequence B.
+/// where 56a stands without 57a in sequence A, and C68 where it does in sequence B. Where no test of the fields fails they
+/// say a cover (`complete`), so there is no other refusal.
 pub fn read_mt202cov(alloc: Global, f: &[Field], t: &RefTables) -> Result<Mt202Cov, MtFault>
     requires { length f.now ≤ 65535 }
-    ensures { Gives result (mt202cov_of t.now f.now) }
+    ensures message { Gives result (mt202cov_of t.now f.now) }
+    ensures complete { first_of (field_tests t.now f.now) ≡ None
+        → (m : Mt202CovSeen) × (contents_of t.now f.now (places_from order 0 f.now) ≡ Ok m) }
 {
     let found = check_structure(alloc, &ORDER, f)?;
     let m = read_contents(alloc, t, f, found.as_slice())?;

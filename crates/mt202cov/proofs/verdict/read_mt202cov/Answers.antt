@@ -1,18 +1,28 @@
 use Rattle.std.proofs.Common.{◌∙◌}
 use Rattle.std.proofs.lemmas.Result.{err_from_is_err_and}
+use Rattle.mt202cov.proofs.Complete.{complete}
 use Rattle.mt202cov.proofs.Outcome.{contents-fail, structure-fail, told}
 use Rattle.mt202cov.proofs.verdict.read_mt202cov.Goals as goal
 
-pub returns-in_err-found : goal.returns-in_err-found
-returns-in_err-found c =
+pub returns-in_err-found-clause-message : goal.returns-in_err-found-clause-message
+returns-in_err-found-clause-message c =
     let p = err_from_is_err_and c.from_residual.result c.from_residual.ensures.1 in
     rw (p.1, p.2) (structure-fail c.args.t.now c.args.f.now c.in_err-found.field-0.0 c.in_err-found.ensures.fault)
 
-pub returns-in_err-m : goal.returns-in_err-m
-returns-in_err-m c =
+pub returns-in_err-found-clause-complete : goal.returns-in_err-found-clause-complete
+returns-in_err-found-clause-complete c = complete c.args.t.now c.args.f.now
+
+pub returns-in_err-m-clause-message : goal.returns-in_err-m-clause-message
+returns-in_err-m-clause-message c =
     let p = err_from_is_err_and c.from_residual-in_err-m.result c.from_residual-in_err-m.ensures.1 in
     rw (p.1, p.2) (contents-fail c.args.t.now c.args.f.now c.as_slice.result.now (c.as_slice.ensures.value ∙ c.in_ok-found.ensures.places) c.in_ok-found.ensures.sound c.in_err-m.field-0.0 c.in_err-m.ensures)
 
-pub returns : goal.returns
-returns c =
+pub returns-in_err-m-clause-complete : goal.returns-in_err-m-clause-complete
+returns-in_err-m-clause-complete c = complete c.args.t.now c.args.f.now
+
+pub returns-clause-message : goal.returns-clause-message
+returns-clause-message c =
     rw (c.unless_told.ensures, c.first_rule-fault.ensures) (told c.args.t.now c.args.f.now c.as_slice.result.now (c.as_slice.ensures.value ∙ c.in_ok-found.ensures.places) c.in_ok-found.ensures.sound c.in_ok-m.m c.in_ok-m.ensures)
+
+pub returns-clause-complete : goal.returns-clause-complete
+returns-clause-complete c = complete c.args.t.now c.args.f.now

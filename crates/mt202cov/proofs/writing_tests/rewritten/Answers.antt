@@ -6,5 +6,5 @@ put_mt202cov-text-requires c = record {
   few = c.requires;
   fields = c.as_slice.result.now;
   fit = rw c.as_slice.ensures c.in_ok-fields.ensures.fit;
-  says = c.in-Ok.ensures;
+  says = c.in-Ok.ensures.message;
 }
