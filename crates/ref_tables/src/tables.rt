@@ -1,8 +1,8 @@
 //! The tables of banks, currencies and countries.
 
-ghost use Rattle.std.specs.Prelude.{◌≡◌, ◌≤◌, IfErr, IfOk, IfSome, None};
+ghost use Rattle.std.specs.Prelude.{◌≡◌, ◌≤◌, IfErr, IfOk, IfSome, IsTrue, None};
 ghost use Rattle.ref_tables.specs.Refusals.{Tells};
-ghost use Rattle.ref_tables.specs.Seen.{decimals_in, has_head, is_listed};
+ghost use Rattle.ref_tables.specs.Seen.{decimals_in, few_decimals, has_head, is_listed};
 ghost use Rattle.ref_tables.specs.Tables.{tables_fault, tables_of};
 
 use crate::banks::BankRow;
@@ -70,7 +70,8 @@ impl RefTables {
 
 /// The tables that these three files hold (docs/tables.md).
 ///
-/// `Bad` tells the first row that fails, and why, of the first file that has one.
+/// `Bad` tells the first row that fails, and why, of the first file that has one. Each currency has at most 4 decimals
+/// (`few`), as those ask who write an amount.
 #[tactic(auto, using(crate::proofs::Decimals::rows_few))]
 pub fn read_tables(
     alloc: Global,
@@ -80,6 +81,7 @@ pub fn read_tables(
 ) -> Result<RefTables, TableFault>
     ensures sound { IfOk result (λ t. tables_fault bics.now ccys.now countries.now ≡ None) }
     ensures value { IfOk result (λ t. t ≡ tables_of bics.now ccys.now countries.now) }
+    ensures few { IfOk result (λ t. IsTrue (few_decimals t.ccys)) }
     ensures bad { IfErr result (Tells (tables_fault bics.now ccys.now countries.now)) }
 {
     let bics = read_keyed::<8, [u8; 3], BankRow>(alloc, TableName::Bics, MAX_BANKS, bics)?;
