@@ -25,13 +25,17 @@ use Rattle.fin_fields.specs.declared.field.Field.{Field}
 use Rattle.fin_fields.specs.declared.pattern.Pattern.TheVariants.{Lines}
 use Rattle.fin_fields.specs.Patterns.{is_run, meets}
 use Rattle.fin_layout.specs.declared.fault.TheConstants.{P24}
+use Rattle.fin_layout.specs.declared.place.Place.{Place}
+use Rattle.fin_layout.specs.Contents.{in_place}
+use Rattle.fin_layout.specs.Order.{field_in}
+use Rattle.fin_layout.proofs.ReadBack.{must-ok}
 use Rattle.fin_parties.specs.Party.{party_of}
 use Rattle.fin_parties.specs.Writing.{party_field}
 use Rattle.fin_parties.specs.declared.party.Party.{Party}
 use Rattle.fin_parties.proofs.Again.{party-again}
 use Rattle.fin_contents.specs.declared.codes.TheConstants.{C08, P25, P26, T26, T40, T43, T50, T52}
 use Rattle.fin_contents.specs.declared.value.Value.{Value}
-use Rattle.fin_contents.specs.Money.{amount_code, ccy_amount_in, ccy_amount_of, coded, is_ccy_amount, is_dated_amount, is_metal, minor_in, rate_of, value_in, value_of}
+use Rattle.fin_contents.specs.Money.{IsPayable, amount_code, ccy_amount_in, ccy_amount_of, coded, is_ccy_amount, is_dated_amount, is_metal, minor_in, rate_of, value_in, value_of}
 use Rattle.fin_contents.specs.Parties.{is_known, known_party_of}
 use Rattle.fin_contents.specs.Plain.{has_stray_slash, is_time, one_line, reference_of, short_line_of, texts_of, time_of}
 use Rattle.fin_contents.specs.Writing.{IsAmount, IsValue, ccy_amount_field, ccy_amount_text, line_field, lines_field, value_field}
@@ -221,6 +225,22 @@ value-is t f v few e =
     let form = checked (is_dated_amount line.0) P24 _ v line.2 in
     let read = value-read t line.0 v form.1 in
     record { day = day-in-century (take 6 line.0) v.day read.day; amount = amount-is t (drop 6 line.0) v.amount few read.amount }
+
+positive : (n : ℕ) → (n == 0) ≡ false → 0 < n
+positive n e = grind (arith, nat_tests)
+
+-- what 32A says may be paid
+value-payable : (t : Tables) (f : Field) (v : Value) → value_of t f ≡ Ok v → IsPayable v.amount
+unfolding value_of
+value-payable t f v e =
+    let line = there (one_line f) P24 _ v e in
+    let form = checked (is_dated_amount line.0) P24 _ v line.2 in
+    let read = value-read t line.0 v form.1 in
+    let amount = amount-read t (drop 6 line.0) v.amount read.amount in
+    record { above = positive v.amount.minor.0 read.some; below = (small-amount v.amount.decimals (drop 3 (drop 6 line.0)) v.amount.minor amount.minor).1 }
+
+pub place-payable : (t : Tables) (order : List Place) (fs : List Field) (found : List ℕ) (k : ℕ) (v : Value) → in_place order fs found k (value_of t) ≡ Ok v → IsPayable v.amount
+place-payable t order fs found k v e = let f = must-ok order fs k (value_of t) (field_in fs found k) v e in value-payable t f.0 v f.1
 
 -- six digits before an amount
 dated : (n : ℕ) → nat_le 4 n ≡ true → nat_le 10 (6 + n) ≡ true

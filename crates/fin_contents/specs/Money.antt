@@ -1,5 +1,5 @@
 -- Contents of money: what a field says, or the code of what is wrong with it, tested in this order.
-use Rattle.std.specs.Prelude.{ℕ, ◌==◌, ◌&&◌, ◌||◌, not, Bool, List, [], ◌∷◌, length, take, drop, Option, Result, Ok, Err, nat_le, bytes_eq}
+use Rattle.std.specs.Prelude.{ℕ, ◌<◌, ◌^◌, ◌==◌, ◌&&◌, ◌||◌, not, Bool, List, [], ◌∷◌, length, take, drop, Option, Result, Ok, Err, nat_le, bytes_eq}
 use Rattle.std.specs.List.{list_all, list_any}
 use Rattle.corr_text.specs.First.{check, or_fault, ◌>>=◌}
 use Rattle.corr_text.specs.Sets.{is_in}
@@ -74,6 +74,11 @@ value_of t f = do
   line ← or_fault (one_line f) P24
   _ ← check (is_dated_amount line) P24
   value_in t line
+
+-- an amount that may be paid: above zero and below 10^14 minor units
+pub record IsPayable (a : Amount) : Type 0 where
+  pub above : 0 < a.minor.0
+  pub below : a.minor.0 < 10 ^ 14
 
 -- 36: `12d`
 unfoldable pub rate_of : Field → Result (List ℕ) Code

@@ -7,3 +7,4 @@ pub mod Says
 pub mod Moved
 pub mod Standing
 pub mod RoundTrip
+pub mod Amount

@@ -1,6 +1,5 @@
 -- A transfer that was read is read again as it is written.
-use Rattle.std.proofs.Common.{◌≡◌, ◌≢◌, ℕ, ◌==◌, List, [], ◌∷◌, ◌++◌, Option, Some, None, Result, Ok, true, refl, sym, ap, ◌∙◌, arith}
-use Rattle.std.specs.Prelude.{IsTrue}
+use Rattle.std.proofs.Common.{◌≡◌, ◌≢◌, ℕ, ◌==◌, List, [], ◌∷◌, None, Result, Ok, true, refl, ap, ◌∙◌, arith}
 use Rattle.std.specs.List.{All, list_any}
 use Rattle.corr_text.specs.First.{◌>>=◌, first_of}
 use Rattle.ref_tables.specs.Seen.{Tables}
@@ -14,7 +13,7 @@ use Rattle.fin_layout.proofs.Grouped.{grouped-places, grouped-structure}
 use Rattle.fin_contents.proofs.Placed.{Each, each-joined}
 use Rattle.fin_contents.proofs.Steps.{read-then}
 use Rattle.mt103.specs.Instructions.{d98, e46}
-use Rattle.mt103.specs.Message.{contents_of, field_tests, message_of, mt103_of}
+use Rattle.mt103.specs.Message.{contents_of, field_tests, mt103_of}
 use Rattle.mt103.specs.Writing.{AreAmounts, IsReadable, mt103_fields, segments}
 use Rattle.mt103.specs.declared.message.Mt103.{Mt103}
 use Rattle.mt103.specs.declared.order.TheConstants.{ORDER}
@@ -26,14 +25,14 @@ use Rattle.mt103.proofs.Standing.{all-fit, amounts-are, in-order, some_place}
 -- ---- what a transfer that was read has
 
 -- what it says, and that its instructions stand together
-record Read (t : Tables) (fs : List Field) (m : Mt103) : Type 0 where
-  contents : contents_of t fs (places_from ORDER 0 fs) ≡ Ok m
-  instrs : passed (e46 m.instrs ∷ d98 m.instrs ∷ []) ≡ Ok tt
+pub record Read (t : Tables) (fs : List Field) (m : Mt103) : Type 0 where
+  pub contents : contents_of t fs (places_from ORDER 0 fs) ≡ Ok m
+  pub instrs : passed (e46 m.instrs ∷ d98 m.instrs ∷ []) ≡ Ok tt
 
 unit-ok : {F : Type 0} (r : Result (Unit {0}) F) (x : Unit {0}) → r ≡ Ok x → r ≡ Ok tt
 unit-ok r x e = e
 
-is-read : (t : Tables) (fs : List Field) (m : Mt103) → mt103_of t fs ≡ Ok m → Read t fs m
+pub is-read : (t : Tables) (fs : List Field) (m : Mt103) → mt103_of t fs ≡ Ok m → Read t fs m
 unfolding mt103_of
 is-read t fs m e =
     let fields = read-then (passed (field_tests t fs)) _ m e in

@@ -2,6 +2,7 @@
 
 ghost use Rattle.std.specs.Prelude.{◌≡◌, ◌≤◌, [], ◌∷◌, IfOk, None, Ok, length};
 ghost use Rattle.corr_text.specs.First.{first_of};
+ghost use Rattle.fin_contents.specs.Money.{IsPayable};
 ghost use Rattle.fin_layout.specs.Order.{places_from};
 ghost use Rattle.fin_layout.specs.Reading.{Gives};
 ghost use Rattle.mt103.specs.Instructions.{d98, e46};
@@ -35,11 +36,13 @@ fn instructions_fault(instrs: &[Instr]) -> Option<Fault>
 /// `Bad` tells the first test that fails (docs/messages.md, "MT103"): P22 and P23 of the order of fields; then each content
 /// in the order of the text, with its field's tag and occurrence; then E46, the first 23E whose code came before; then D98,
 /// the first 23E whose code stands before an earlier one's in the list of codes. Where no test of the fields fails they say
-/// a message (`complete`), so there is no other refusal. The rules of the transfer are not tested here.
+/// a message (`complete`), so there is no other refusal. The amount of 32A is above zero and below 10^14 minor units
+/// (`amount`). The rules of the transfer are not tested here.
 pub fn read_mt103(alloc: Global, f: &[Field], t: &RefTables) -> Result<Mt103, MtFault>
     requires few { length f.now ≤ 65535 }
     ensures message { Gives result (mt103_of t.now f.now) }
     ensures few { IfOk result (λ m. length m.instrs ≤ length f.now) }
+    ensures amount { IfOk result (λ m. IsPayable m.amount) }
     ensures complete { first_of (field_tests t.now f.now) ≡ None
         → (m : Mt103Seen) × (contents_of t.now f.now (places_from order 0 f.now) ≡ Ok m) }
 {

@@ -5,3 +5,4 @@ pub mod Written
 pub mod Fit
 pub mod RoundTrip
 pub mod Complete
+pub mod Amount

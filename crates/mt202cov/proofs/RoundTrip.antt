@@ -1,7 +1,7 @@
 -- A cover that may be read is written so that it is read again.
 use Rattle.std.proofs.Common.{◌≡◌, ◌≢◌, ℕ, List, [], Option, Some, None, Ok, refl, sym, arith}
 use Rattle.std.specs.List.{All}
-use Rattle.corr_text.specs.First.{first_of, ◌>>=◌}
+use Rattle.corr_text.specs.First.{first_of}
 use Rattle.corr_text.specs.declared.fault.Fault.{Fault}
 use Rattle.ref_tables.specs.Seen.{Tables}
 use Rattle.fin_fields.specs.declared.field.Field.{Field}
@@ -32,11 +32,11 @@ passed-none None x e = refl
 passed-none (Some fault) x e = absurd (cc e)
 
 -- what is known of a cover that was read
-record Accepted (t : Tables) (fs : List Field) (m : Mt202Cov) : Type 0 where
-  contents : contents_of t fs (places_from ORDER 0 fs) ≡ Ok m
-  rules : first_of (all_rules m) ≡ None
+pub record Accepted (t : Tables) (fs : List Field) (m : Mt202Cov) : Type 0 where
+  pub contents : contents_of t fs (places_from ORDER 0 fs) ≡ Ok m
+  pub rules : first_of (all_rules m) ≡ None
 
-accepted : (t : Tables) (fs : List Field) (m : Mt202Cov) → mt202cov_of t fs ≡ Ok m → Accepted t fs m
+pub accepted : (t : Tables) (fs : List Field) (m : Mt202Cov) → mt202cov_of t fs ≡ Ok m → Accepted t fs m
 unfolding mt202cov_of
 accepted t fs m e =
     let p = read-then (passed (field_tests t fs)) _ m e in

@@ -1,7 +1,8 @@
 //! An MT202 COV read from its fields.
 
-ghost use Rattle.std.specs.Prelude.{◌≡◌, ◌≤◌, None, Ok, length};
+ghost use Rattle.std.specs.Prelude.{◌≡◌, ◌≤◌, IfOk, None, Ok, length};
 ghost use Rattle.corr_text.specs.First.{first_of};
+ghost use Rattle.fin_contents.specs.Money.{IsPayable};
 ghost use Rattle.fin_layout.specs.Order.{places_from};
 ghost use Rattle.fin_layout.specs.Reading.{Gives};
 ghost use Rattle.mt202cov.specs.Message.{contents_of, field_tests, mt202cov_of};
@@ -23,10 +24,12 @@ use std::alloc::Global;
 /// `Bad` tells the first test that fails (docs/messages.md, "MT202 COV"): P22 and P23 of the order of fields, both sequences
 /// being one order; then each content in the order of the text, with its field's tag and occurrence; then the rules, C81
 /// where 56a stands without 57a in sequence A, and C68 where it does in sequence B. Where no test of the fields fails they
-/// say a cover (`complete`), so there is no other refusal.
+/// say a cover (`complete`), so there is no other refusal. The amount of a cover is above zero and below 10^14 minor units
+/// (`amount`).
 pub fn read_mt202cov(alloc: Global, f: &[Field], t: &RefTables) -> Result<Mt202Cov, MtFault>
     requires { length f.now ≤ 65535 }
     ensures message { Gives result (mt202cov_of t.now f.now) }
+    ensures amount { IfOk result (λ m. IsPayable m.amount) }
     ensures complete { first_of (field_tests t.now f.now) ≡ None
         → (m : Mt202CovSeen) × (contents_of t.now f.now (places_from order 0 f.now) ≡ Ok m) }
 {

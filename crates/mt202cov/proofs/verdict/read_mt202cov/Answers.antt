@@ -1,5 +1,6 @@
 use Rattle.std.proofs.Common.{◌∙◌}
 use Rattle.std.proofs.lemmas.Result.{err_from_is_err_and}
+use Rattle.mt202cov.proofs.Amount.{given-payable}
 use Rattle.mt202cov.proofs.Complete.{complete}
 use Rattle.mt202cov.proofs.Outcome.{contents-fail, structure-fail, told}
 use Rattle.mt202cov.proofs.verdict.read_mt202cov.Goals as goal
@@ -23,6 +24,9 @@ returns-in_err-m-clause-complete c = complete c.args.t.now c.args.f.now
 pub returns-clause-message : goal.returns-clause-message
 returns-clause-message c =
     rw (c.unless_told.ensures, c.first_rule-fault.ensures) (told c.args.t.now c.args.f.now c.as_slice.result.now (c.as_slice.ensures.value ∙ c.in_ok-found.ensures.places) c.in_ok-found.ensures.sound c.in_ok-m.m c.in_ok-m.ensures)
+
+pub returns-clause-amount : goal.returns-clause-amount
+returns-clause-amount c = given-payable c.args.t.now c.args.f.now _ (returns-clause-message c)
 
 pub returns-clause-complete : goal.returns-clause-complete
 returns-clause-complete c = complete c.args.t.now c.args.f.now
