@@ -1,5 +1,5 @@
 -- The first of a list that a test refuses, given those before it.
-use Rattle.std.proofs.Common.{◌≡◌, ℕ, ◌+◌, ◌<◌, ◌≤◌, Bool, true, false, List, [], ◌∷◌, ◌++◌, length, get_or, take, drop, Option, Some, None, refl, arith}
+use Rattle.std.proofs.Common.{◌≡◌, ℕ, ◌+◌, ◌<◌, ◌≤◌, Bool, true, false, List, length, get_or, take, drop, Some, None, refl, arith}
 use Rattle.std.proofs.lemmas.List.{drop_more, take_more, drop_all, length-take-le}
 use Rattle.mt103.specs.Instructions.{first_given}
 

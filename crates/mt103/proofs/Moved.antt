@@ -1,7 +1,5 @@
 -- What the fields of a transfer say, the fields say that are written of it.
-use Rattle.std.proofs.Common.{◌≡◌, ℕ, List, [], ◌∷◌, ◌++◌, map, slice_get, Option, Some, None, Ok, true, false, refl, sym, ap, ◌∙◌}
-use Rattle.std.specs.Prelude.{IfSome, unwrap_or}
-use Rattle.std.specs.List.{All, AllByRecursion}
+use Rattle.std.proofs.Common.{◌≡◌, ℕ, List, [], slice_get, Option, Some, None, Ok, false, refl, sym, ap, ◌∙◌}
 use Rattle.corr_money.specs.declared.amount.Amount.{Amount}
 use Rattle.ref_tables.specs.Seen.{Tables}
 use Rattle.fin_fields.specs.declared.field.Field.{Field}
@@ -15,7 +13,7 @@ use Rattle.fin_contents.specs.Parties.{known_party_of}
 use Rattle.fin_contents.specs.Plain.{reference_of, texts_of, time_of}
 use Rattle.fin_contents.specs.Writing.{IsAmount, ccy_amount_field, line_field, lines_fields, value_field}
 use Rattle.fin_contents.proofs.Again.{ccy_amount-again, rate-again, reference-again, texts-again, time-again, value-again}
-use Rattle.fin_contents.proofs.Back.{Again, all-moved, each-all, each-weaker, lines-moved, one-moved, option-moved, some-all, some-weaker}
+use Rattle.fin_contents.proofs.Back.{all-moved, each-all, each-weaker, lines-moved, one-moved, option-moved, some-all, some-weaker}
 use Rattle.fin_contents.proofs.Placed.{each-of, party-again-at}
 use Rattle.fin_contents.proofs.Said.{Holds, Stands, stand}
 use Rattle.mt103.specs.Codes.{charge_of, instr_of, kind_of, operation_of}
@@ -28,7 +26,7 @@ use Rattle.mt103.specs.declared.order.TheConstants.{ORDER}
 use Rattle.mt103.specs.declared.parties.Parties.{Parties}
 use Rattle.mt103.specs.declared.terms.Terms.{Terms}
 use Rattle.mt103.proofs.Kept.{charge-again, instr-again, kind-again, operation-again}
-use Rattle.mt103.proofs.Says.{ContentsSay, DetailsSay, LinesSay, PartiesSay, TermsSay, contents-said, contents-say}
+use Rattle.mt103.proofs.Says.{DetailsSay, LinesSay, PartiesSay, TermsSay, contents-said, contents-say}
 
 -- any field
 abbrev Any : Field → Type 0

@@ -1,7 +1,7 @@
 -- The fields that are written of a transfer that was read stand in its order and may stand in a text.
-use Rattle.std.proofs.Common.{◌≡◌, ℕ, ◌≤◌, ◌⊎◌, List, [], ◌∷◌, ◌++◌, map, get_or, take, drop, Option, Some, None, Result, Ok, true, false, refl, sym, ◌∙◌, arith, inl, inr}
-use Rattle.std.specs.Prelude.{IfSome, IsTrue, unwrap_or}
-use Rattle.std.specs.List.{All, AllByRecursion, list_any}
+use Rattle.std.proofs.Common.{◌≡◌, ℕ, ◌≤◌, ◌⊎◌, List, [], ◌∷◌, ◌++◌, get_or, take, drop, Option, Some, None, Result, Ok, true, false, refl, sym, ◌∙◌, arith, inl, inr}
+use Rattle.std.specs.Prelude.{IsTrue, unwrap_or}
+use Rattle.std.specs.List.{All, AllByRecursion}
 use Rattle.corr_text.specs.declared.fault.Code.{Code}
 use Rattle.corr_money.specs.declared.amount.Amount.{Amount}
 use Rattle.ref_tables.specs.Seen.{Tables, few_decimals}
@@ -9,14 +9,14 @@ use Rattle.fin_fields.specs.declared.field.Field.{Field}
 use Rattle.fin_fields.specs.Writing.{IsField}
 use Rattle.fin_layout.specs.declared.place.Place.{Place}
 use Rattle.fin_layout.specs.Contents.{in_option}
-use Rattle.fin_layout.specs.Order.{fits, missing_from, place_from, places_from}
-use Rattle.fin_layout.specs.Segments.{IsFirst, Segment, Segments}
+use Rattle.fin_layout.specs.Order.{fits, places_from}
+use Rattle.fin_layout.specs.Segments.{Segments}
 use Rattle.fin_parties.specs.Writing.{party_field}
 use Rattle.fin_parties.specs.declared.party.Party.{Party}
 use Rattle.fin_contents.specs.Money.{ccy_amount_of, rate_of, value_of}
 use Rattle.fin_contents.specs.Parties.{known_party_of}
 use Rattle.fin_contents.specs.Plain.{reference_of, texts_of, time_of}
-use Rattle.fin_contents.specs.Writing.{IsAmount, IsHeading, IsValue, ccy_amount_field, line_field, lines_field, lines_fields, some_field, value_field}
+use Rattle.fin_contents.specs.Writing.{IsAmount, IsHeading, IsValue, ccy_amount_field, line_field, lines_field, lines_fields, value_field}
 use Rattle.fin_contents.proofs.Again.{ccy_amount-is, rate-kept, reference-kept, texts-kept, time-kept, value-is}
 use Rattle.fin_contents.proofs.Back.{each-all, each-weaker, some-all, some-weaker}
 use Rattle.fin_contents.proofs.Fit.{ccy_amount-fit, kept-fit, value-fit}

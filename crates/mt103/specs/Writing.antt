@@ -1,6 +1,5 @@
 -- An MT103 written as fields.
 use Rattle.std.specs.Prelude.{◌≡◌, ℕ, List, [], ◌∷◌, ◌++◌, All, IfSome, IsTrue, map, Option, Some, None, Ok}
-use Rattle.corr_money.specs.declared.amount.Amount.{Amount}
 use Rattle.ref_tables.specs.Seen.{Tables, few_decimals}
 use Rattle.fin_fields.specs.declared.field.Field.{Field}
 use Rattle.fin_fields.specs.Writing.{IsField}

@@ -1,6 +1,5 @@
 //! The kind of transaction: field 26T.
 
-ghost use Rattle.std.specs.Prelude.{◌≡◌};
 ghost use Rattle.mt103.specs.Codes.{kind_of};
 ghost use Rattle.fin_layout.specs.Reading.{Reads};
 

@@ -1,6 +1,6 @@
 //! The parties of a transfer: fields 50a to 59a.
 
-ghost use Rattle.std.specs.Prelude.{◌≡◌, ◌≤◌, length};
+ghost use Rattle.std.specs.Prelude.{◌≤◌, length};
 ghost use Rattle.fin_layout.specs.Reading.{Gives};
 ghost use Rattle.mt103.specs.Message.{parties_of};
 

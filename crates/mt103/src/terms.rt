@@ -1,6 +1,6 @@
 //! The terms of a transfer: fields 20 to 36.
 
-ghost use Rattle.std.specs.Prelude.{◌≡◌, ◌≤◌, IfOk, length};
+ghost use Rattle.std.specs.Prelude.{◌≤◌, IfOk, length};
 ghost use Rattle.fin_layout.specs.Reading.{Gives};
 ghost use Rattle.mt103.specs.Message.{terms_of};
 

@@ -1,7 +1,6 @@
 -- What is read at the places of a cover's fields, and the cover that it makes.
 use Rattle.std.proofs.Common.{◌≡◌, ℕ, List, [], Option, Ok, refl}
 use Rattle.std.specs.Prelude.{unwrap_or}
-use Rattle.corr_text.specs.First.{◌>>=◌}
 use Rattle.ref_tables.specs.Seen.{Tables}
 use Rattle.fin_fields.specs.declared.field.Field.{Field}
 use Rattle.fin_layout.specs.Contents.{all_from, in_option, in_place}
