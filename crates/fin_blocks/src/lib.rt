@@ -7,6 +7,7 @@ mod blocks;
 mod fault;
 mod forms;
 mod groups;
+mod laws;
 mod reading;
 #[cfg(test)]
 mod tests;
@@ -19,5 +20,6 @@ mod writing_tests;
 
 pub use blocks::{App, Blocks};
 pub use fault::{BlockFault, P01, P02, P03, P04, P05, P06};
+pub use laws::block_code_law;
 pub use reading::read_blocks;
 pub use writing::put_blocks;
