@@ -1,12 +1,11 @@
 -- What was read at a place is what some field says.
-use Rattle.std.proofs.Common.{◌≡◌, ℕ, ◌+◌, ◌≤◌, ◌==◌, ◌⊎◌, Bool, true, false, cond, List, [], ◌∷◌, length, map, Option, Some, None, Result, Ok, Err, refl, ap, arith, inl, inr}
+use Rattle.std.proofs.Common.{◌≡◌, ℕ, ◌+◌, ◌≤◌, ◌==◌, ◌⊎◌, Bool, true, false, cond, List, [], ◌∷◌, length, Option, Some, None, Result, Ok, Err, refl, ap, arith, inl, inr}
 use Rattle.corr_text.specs.First.{◌>>=◌}
 use Rattle.corr_text.specs.declared.fault.Code.{Code}
 use Rattle.corr_text.specs.declared.fault.Fault.{Fault}
 use Rattle.fin_fields.specs.declared.field.Field.{Field}
 use Rattle.fin_layout.specs.declared.place.Place.{Place}
-use Rattle.fin_layout.specs.Contents.{all_from, located, may_read, must_read}
-use Rattle.fin_layout.proofs.ReadGroups.{ReadsAll}
+use Rattle.fin_layout.specs.Contents.{all_from, located, must_read}
 
 located-ok : {A : Type 0} (fs : List Field) (i : ℕ) (r : Result A Code) (x : A) → located fs i r ≡ Ok x → r ≡ Ok x
 located-ok fs i (Ok y) x e = ap Ok (cc e)
@@ -16,36 +15,12 @@ pub must-ok : {A : Type 0} (order : List Place) (fs : List Field) (k : ℕ) (rea
 must-ok order fs k read None x e = absurd (cc e)
 must-ok order fs k read (Some (i, f)) x e = (f, located-ok fs i (read f) x e)
 
-pub may-ok : {A : Type 0} (fs : List Field) (read : Field → Result A Code) (o : Option (ℕ × Field)) (x : A) → may_read fs read o ≡ Ok (Some x) → (f : Field) × (read f ≡ Ok x)
-may-ok fs read None x e = absurd (cc e)
-may-ok fs read (Some (i, f)) x e = (f, located-ok fs i (read f) x (go (located fs i (read f)) e))
-  where
-    go : {A : Type 0} {x : A} (r : Result A Fault) → (r >>= λ y. Ok (Some y)) ≡ Ok (Some x) → r ≡ Ok x
-    go (Ok y) h = ap Ok (cc h)
-    go (Err c) h = absurd (cc h)
-
 all-step : {A : Type 0} (b : Bool) (first : Result A Fault) (others here : Result (List A) Fault) (xs : List A) → cond b (first >>= λ x. others >>= λ ys. Ok (x ∷ ys)) here ≡ Ok xs
     → ((x : A) × (ys : List A) × (first ≡ Ok x) × (others ≡ Ok ys) × (x ∷ ys ≡ xs)) ⊎ (here ≡ Ok xs)
 all-step true (Ok x) (Ok ys) here xs e = inl (x, ys, refl, refl, cc e)
 all-step true (Ok x) (Err f) here xs e = absurd (cc e)
 all-step true (Err f) others here xs e = absurd (cc e)
 all-step false first others here xs e = inr e
-
--- where each content that was read is read again from what is written of it, so are all at a place
-pub all-ok : {A : Type 0} (whole : List Field) (k : ℕ) (read : Field → Result A Code) (write : A → Field) (again : (f : Field) (x : A) → read f ≡ Ok x → read (write x) ≡ Ok x)
-    (i : ℕ) (found : List ℕ) (fs : List Field) (xs : List A) → all_from whole k read i found fs ≡ Ok xs → ReadsAll read (map write xs) xs
-unfolding all_from
-all-ok whole k read write again i [] fs [] e = tt
-all-ok whole k read write again i [] fs (x ∷ xs) e = absurd (cc e)
-all-ok whole k read write again i (p ∷ found) [] [] e = tt
-all-ok whole k read write again i (p ∷ found) [] (x ∷ xs) e = absurd (cc e)
-all-ok whole k read write again i (p ∷ found) (f ∷ fs) xs e =
-    elim (all-step (p == k) (located whole i (read f)) (all_from whole k read (i + 1) found fs) (all_from whole k read (i + 1) found fs) xs e) [
-      | inl here ↦
-          let (x, ys, first, others, same) = here in
-          rw (← same) (again f x (located-ok whole i (read f) x first), all-ok whole k read write again (i + 1) found fs ys others)
-      | inr later ↦ all-ok whole k read write again (i + 1) found fs xs later
-    ]
 
 -- no more is read than there are fields
 pub all-few : {A : Type 0} (whole : List Field) (k : ℕ) (read : Field → Result A Code) (i : ℕ) (found : List ℕ) (fs : List Field) (xs : List A) → all_from whole k read i found fs ≡ Ok xs → length xs ≤ length fs

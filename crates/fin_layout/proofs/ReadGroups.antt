@@ -1,15 +1,13 @@
 -- Fields that are grouped by place are read group by group.
-use Rattle.std.proofs.Common.{◌≡◌, ℕ, zero, suc, ◌+◌, ◌<◌, ◌==◌, true, false, List, [], ◌∷◌, ◌++◌, length, replicate, slice_get, Option, Some, None, Result, Ok, Err, refl, ap, ◌∙◌, arith}
+use Rattle.std.proofs.Common.{◌≡◌, ℕ, zero, suc, ◌+◌, ◌<◌, ◌==◌, true, false, List, [], ◌∷◌, ◌++◌, length, replicate, slice_get, Some, Result, Ok, Err, refl, ap, ◌∙◌, arith}
 use Rattle.std.proofs.lemmas.Bool.Decides.{nat_tests}
 use Rattle.std.proofs.lemmas.List.{append-nil}
-use Rattle.std.specs.List.{AllByRecursion}
-use Rattle.corr_text.specs.First.{◌>>=◌, first_of}
+use Rattle.corr_text.specs.First.{◌>>=◌}
 use Rattle.corr_text.specs.declared.fault.Code.{Code}
 use Rattle.corr_text.specs.declared.fault.Fault.{Fault}
 use Rattle.fin_fields.specs.declared.field.Field.{Field}
 use Rattle.fin_layout.specs.Contents.{all_from}
 use Rattle.fin_layout.specs.Segments.{places_of, joined}
-use Rattle.fin_layout.specs.Tests.{contents_from}
 use Rattle.fin_layout.proofs.InTurn.{with_front, with_none}
 
 -- each of these fields is read as the value beside it
@@ -61,26 +59,3 @@ grouped-all whole read (s ∷ ss) j (suc n) i k seg xs at e h =
     let apart : (j == k) ≡ false = grind (arith, nat_tests) in
     let past = all-past whole k read j i s (joined ss) (places_of (j + 1) ss) apart in
     past.1 ∙ grouped-all whole read ss (j + 1) n past.0 k seg xs (omega (arith, at)) e h
-
--- ---- tests
-
--- no field of the groups is refused at its place
-abbrev pub AllPass : (ℕ → Field → Option Code) → ℕ → List (List Field) → Type 0
-AllPass test j [] = Unit {0}
-AllPass test j (s ∷ ss) = AllByRecursion (λ f. test j f ≡ None) s × AllPass test (j + 1) ss
-
-module _ (test : ℕ → Field → Option Code) (whole : List Field) where
-  group-passes : (j i : ℕ) (seg fs : List Field) (found : List ℕ) → AllByRecursion (λ f. test j f ≡ None) seg
-      → (n : ℕ) × (first_of (contents_from test whole i (replicate (length seg) j ++ found) (seg ++ fs)) ≡ first_of (contents_from test whole n found fs))
-  unfolding contents_from
-  group-passes j i [] fs found h = (i, refl)
-  group-passes j i (f ∷ seg) fs found h =
-      let later = group-passes j (i + 1) seg fs found h.1 in
-      (later.0, rw h.0 later.1)
-
-  pub grouped-pass : (j i : ℕ) (segs : List (List Field)) → AllPass test j segs → first_of (contents_from test whole i (places_of j segs) (joined segs)) ≡ None
-  unfolding contents_from
-  grouped-pass j i [] h = refl
-  grouped-pass j i (s ∷ ss) h =
-      let here = group-passes j i s (joined ss) (places_of (j + 1) ss) h.0 in
-      here.1 ∙ grouped-pass (j + 1) here.0 ss h.1

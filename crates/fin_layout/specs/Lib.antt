@@ -4,3 +4,5 @@ pub mod Reading
 pub mod Contents
 pub mod Tests
 pub mod Segments
+pub mod Places
+pub mod Constants
