@@ -6,12 +6,10 @@ use Rattle.std.proofs.lemmas.Bool.{le-leb}
 use Rattle.std.proofs.lemmas.Bool.Decides.{nat_tests}
 use Rattle.std.proofs.lemmas.List.{drop_at, length-append, length-take-le, take_at}
 use Rattle.std.specs.Str.{bytes_eq}
-use Rattle.corr_text.specs.First.{check, or_fault, ◌>>=◌}
+use Rattle.corr_text.specs.First.{check, ◌>>=◌}
 use Rattle.corr_text.specs.Sets.{is_in}
-use Rattle.corr_text.specs.declared.fault.Code.{Code}
 use Rattle.corr_text.specs.declared.set.Set.TheVariants.{X, N, A}
-use Rattle.corr_ids.specs.declared.day.Day.{Day}
-use Rattle.corr_ids.specs.Day.{InCentury, day_of, yymmdd_of}
+use Rattle.corr_ids.specs.Day.{day_of, yymmdd_of}
 use Rattle.corr_ids.proofs.DaySpelling.{day-spelled}
 use Rattle.corr_money.specs.Amounts.{amount_of, amount_text, decimals_of, is_comma_number, minor_of}
 use Rattle.corr_money.specs.declared.amount.Amount.{Amount}
@@ -35,7 +33,7 @@ use Rattle.fin_parties.specs.declared.party.Party.{Party}
 use Rattle.fin_parties.proofs.Again.{party-again}
 use Rattle.fin_contents.specs.declared.codes.TheConstants.{C08, P25, P26, T26, T40, T43, T50, T52}
 use Rattle.fin_contents.specs.declared.value.Value.{Value}
-use Rattle.fin_contents.specs.Money.{IsPayable, amount_code, ccy_amount_in, ccy_amount_of, coded, is_ccy_amount, is_dated_amount, is_metal, minor_in, rate_of, value_in, value_of}
+use Rattle.fin_contents.specs.Money.{IsPayable, ccy_amount_in, ccy_amount_of, coded, is_ccy_amount, is_dated_amount, is_metal, minor_in, rate_of, value_in, value_of}
 use Rattle.fin_contents.specs.Parties.{is_known, known_party_of}
 use Rattle.fin_contents.specs.Plain.{has_stray_slash, is_time, one_line, reference_of, short_line_of, texts_of, time_of}
 use Rattle.fin_contents.specs.Writing.{IsAmount, IsValue, ccy_amount_field, ccy_amount_text, line_field, lines_field, value_field}

@@ -2,3 +2,4 @@ pub mod Plain
 pub mod Money
 pub mod Parties
 pub mod Writing
+pub mod Constants

@@ -1,5 +1,5 @@
 -- Parties whose banks are known.
-use Rattle.std.specs.Prelude.{Bool, true, Result, Ok, Err}
+use Rattle.std.specs.Prelude.{Bool, true, Result, Ok}
 use Rattle.corr_text.specs.First.{check, or_fault, ◌>>=◌}
 use Rattle.corr_text.specs.declared.fault.Code.{Code}
 use Rattle.ref_tables.specs.Seen.{Tables, has_head}

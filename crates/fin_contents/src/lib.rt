@@ -4,6 +4,7 @@
 mod amount;
 mod codes;
 mod fields;
+mod laws;
 mod line;
 mod metal;
 mod party;
@@ -21,11 +22,12 @@ pub use codes::{C03, C08, P25, P26, P27, T26, T40, T43, T50, T52};
 pub use fields::{
     push_ccy_amount, push_ccy_amounts, push_party, push_rate, push_texts, push_times,
 };
+pub use laws::content_laws;
 pub use line::{are_in, array_of, line_field, one_line};
 pub use party::{KnownParty, put_known_party};
 pub use rate::{Rate, put_rate};
 pub use reference::{Reference, put_reference};
 pub use short::{ShortLine, put_short_line};
-pub use texts::{Texts, put_texts};
+pub use texts::{Texts, or_none, put_texts};
 pub use time::{Time, is_clock, put_time};
 pub use value::{Value, ValueDate, put_value};

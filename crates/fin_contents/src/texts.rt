@@ -1,6 +1,6 @@
 //! Lines of text: fields 70, 72 and 77B.
 
-ghost use Rattle.std.specs.Prelude.{◌≡◌, ℕ, IfOk, Ok};
+ghost use Rattle.std.specs.Prelude.{◌≡◌, ℕ, [], IfOk, Ok, unwrap_or};
 ghost use Rattle.fin_contents.specs.Plain.{texts_of};
 ghost use Rattle.fin_contents.specs.Writing.{IsHeading, lines_field};
 ghost use Rattle.fin_fields.specs.Writing.{IsField};
@@ -35,6 +35,16 @@ impl Content for Texts {
 
     fn read(&self, alloc: Global, f: &Field) -> Result<List<Text>, Refusal> {
         read_texts(alloc, self.most, f)
+    }
+}
+
+/// The lines of a field that may be missing, none where it is.
+pub fn or_none(alloc: Global, texts: Option<List<Text>>) -> List<Text>
+    ensures { result ≡ unwrap_or texts [] }
+{
+    match texts {
+        Some(texts) => texts,
+        None => List::new(alloc),
     }
 }
 

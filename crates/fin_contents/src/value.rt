@@ -1,8 +1,7 @@
 //! The value date, currency and amount: field 32A.
 
-ghost use Rattle.std.specs.Prelude.{◌≡◌, ◌≤◌, ◌++◌, IfOk, IsTrue, Ok, drop, length, take};
+ghost use Rattle.std.specs.Prelude.{◌≡◌, ◌≤◌, IfOk, IsTrue, Ok, length};
 ghost use Rattle.fin_contents.specs.Money.{is_dated_amount, value_in, value_of};
-ghost use Rattle.corr_ids.specs.Day.{yymmdd_of};
 ghost use Rattle.fin_contents.specs.Writing.{IsValue, ccy_amount_text, value_field};
 ghost use Rattle.fin_fields.specs.Writing.{IsField};
 ghost use Rattle.fin_fields.specs.declared.field.Field.{Field as FieldSeen};

@@ -1,4 +1,4 @@
-use Rattle.std.proofs.Common.{[], ◌∷◌, None, Some, ap, refl, arith}
+use Rattle.std.proofs.Common.{[], ◌∷◌, None, ap, arith}
 use Rattle.fin_contents.specs.Writing.{line_field}
 use Rattle.fin_contents.proofs.Again.{short_line-again, short_line-kept}
 use Rattle.fin_contents.proofs.Fit.{kept-fit}
