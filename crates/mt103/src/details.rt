@@ -1,6 +1,6 @@
 //! The details of a transfer: fields 70 to 77B.
 
-ghost use Rattle.std.specs.Prelude.{◌≡◌, ◌≤◌, [], length, unwrap_or};
+ghost use Rattle.std.specs.Prelude.{◌≤◌, length};
 ghost use Rattle.fin_layout.specs.Reading.{Gives};
 ghost use Rattle.mt103.specs.Message.{details_of};
 
@@ -8,7 +8,7 @@ use crate::charge::Charge;
 use crate::order::ORDER;
 use corr_money::Amount;
 use corr_text::{List, Text};
-use fin_contents::{CcyAmount, Texts};
+use fin_contents::{CcyAmount, Texts, or_none};
 use fin_fields::Field;
 use fin_layout::{MtFault, read_all, read_one, read_optional};
 use ref_tables::RefTables;
@@ -23,15 +23,6 @@ pub struct Details {
     pub given: Option<Amount>,
     pub notes: List<Text>,
     pub regulatory: List<Text>,
-}
-
-fn or_none(alloc: Global, texts: Option<List<Text>>) -> List<Text>
-    ensures { result ≡ unwrap_or texts [] }
-{
-    match texts {
-        Some(texts) => texts,
-        None => List::new(alloc),
-    }
 }
 
 /// The details that fields at these places say.
