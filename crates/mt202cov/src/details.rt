@@ -4,10 +4,9 @@ ghost use Rattle.std.specs.Prelude.{◌≤◌, length};
 ghost use Rattle.fin_layout.specs.Reading.{Gives};
 ghost use Rattle.mt202cov.specs.Message.{details_of};
 
-use crate::lines::or_none;
 use corr_money::Amount;
 use corr_text::{List, Text};
-use fin_contents::{CcyAmount, Texts};
+use fin_contents::{CcyAmount, Texts, or_none};
 use fin_fields::Field;
 use fin_layout::{MtFault, read_optional};
 use ref_tables::RefTables;
