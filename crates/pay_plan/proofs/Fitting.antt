@@ -3,13 +3,13 @@ use Rattle.std.proofs.Common.{◌≡◌, true, refl, eqb, ltb, eq-eqb}
 use Rattle.std.proofs.lemmas.Bool.{lt-ltb}
 use Rattle.day_model.specs.Chart.{Chart}
 use Rattle.day_model.specs.Fit.{accounts_fit, legs_fit}
+use Rattle.fin_contents.specs.Money.{IsPayable}
 use Rattle.routing.specs.declared.routed.Routed.{Routed}
 use Rattle.pay_plan.specs.declared.asked.Asked.{Asked}
 use Rattle.pay_plan.specs.declared.way.Way.{Way}
 use Rattle.pay_plan.specs.Pay.{legs_of}
-use Rattle.pay_plan.proofs.Values.{IsAmount}
 
-pub legs-fit : (chart : Chart) (way : Way) (asked : Asked) (routed : Routed) → accounts_fit chart routed.debit.0 routed.credit.0 ≡ true → IsAmount asked.amount.minor.0 →
+pub legs-fit : (chart : Chart) (way : Way) (asked : Asked) (routed : Routed) → accounts_fit chart routed.debit.0 routed.credit.0 ≡ true → IsPayable asked.amount →
     legs_fit chart (legs_of way asked routed) ≡ true
 legs-fit chart way asked routed accounts amount =
     let same : eqb asked.amount.minor.0 asked.amount.minor.0 ≡ true = eq-eqb asked.amount.minor.0 asked.amount.minor.0 refl in

@@ -1,14 +1,13 @@
--- The amount that a message asks for.
+-- The amount that a message asks for may be paid.
 use Rattle.corr_ids.specs.declared.bic.Bic.{Bic}
+use Rattle.fin_contents.specs.Money.{IsPayable}
+use Rattle.mt103.proofs.Amount.{amount-payable as transfer-payable}
+use Rattle.mt202cov.proofs.Amount.{amount-payable as cover-payable}
 use Rattle.pay_plan.specs.declared.ask.Ask.{Ask}
 use Rattle.pay_plan.specs.declared.ask.Ask.TheVariants.{Transfer, Cover}
 use Rattle.pay_plan.specs.Asked.{asked_of}
 use Rattle.pay_plan.specs.Readable.{IsRead}
-use Rattle.pay_plan.proofs.CoverAmount.{cover-amount}
-use Rattle.pay_plan.proofs.TransferAmount.{transfer-amount}
-use Rattle.pay_plan.proofs.Values.{IsAmount}
 
--- it is above 0 and below 10^14
-pub asked-amount : (home : Bic) (ask : Ask) → IsRead ask → IsAmount (asked_of home ask).amount.minor.0
-asked-amount home (Transfer m) is = transfer-amount m.now is
-asked-amount home (Cover m) is = cover-amount m.now is
+pub asked-amount : (home : Bic) (ask : Ask) → IsRead ask → IsPayable (asked_of home ask).amount
+asked-amount home (Transfer m) is = transfer-payable is.tables is.fields m.now is.read
+asked-amount home (Cover m) is = cover-payable is.tables is.fields m.now is.read

@@ -2,13 +2,13 @@ use Rattle.std.proofs.Common.{◌≡◌, false, Ok, sym, ap, ◌∙◌, subst}
 use Rattle.corr_ids.specs.declared.bic.Bic.{Bic}
 use Rattle.day_model.specs.Fit.{FitsAccounts}
 use Rattle.day_model.specs.declared.pay.Pay.{Pay}
+use Rattle.fin_contents.specs.Money.{IsPayable}
 use Rattle.pay_plan.specs.declared.asked.Asked.{Asked}
 use Rattle.pay_plan.specs.Asked.{asked_of, is_for_home}
 use Rattle.pay_plan.specs.Way.{way_of}
 use Rattle.pay_plan.proofs.Planned.{home-refused, refused-by, route-refused, routed-planned}
 use Rattle.pay_plan.proofs.Fitting.{legs-fit}
 use Rattle.pay_plan.proofs.Readable.{asked-amount}
-use Rattle.pay_plan.proofs.Values.{IsAmount}
 use Rattle.pay_plan.proofs.planning.plan.Goals as goal
 
 pub returns-then-is_for_home-clause-plan : goal.returns-then-is_for_home-clause-plan
@@ -32,8 +32,8 @@ returns-clause-plan c =
 pub returns-clause-fit : goal.returns-clause-fit
 returns-clause-fit c =
     let P : Pay → Type 0 = λ p. FitsAccounts c.args.a.now p in
-    let Q : Asked → Type 0 = λ q. IsAmount q.amount.minor.0 in
+    let Q : Asked → Type 0 = λ q. IsPayable q.amount in
     let asked = c.in_ok-asked.asked in
-    let amount : IsAmount asked.amount.minor.0 = subst Q (sym c.in_ok-asked.ensures) (asked-amount c.home-2.result.now c.args.ask c.requires.message) in
+    let amount : IsPayable asked.amount = subst Q (sym c.in_ok-asked.ensures) (asked-amount c.home-2.result.now c.args.ask c.requires.message) in
     subst P (sym c.in_ok-pay_of.ensures)
     (legs-fit c.args.a.now (way_of asked.mt asked.target c.in_ok-routed.routed.method) asked c.in_ok-routed.routed c.in_ok-routed.ensures.accounts.fit amount)
