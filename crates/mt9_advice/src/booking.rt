@@ -1,11 +1,11 @@
 //! What an MT900 and an MT910 have in common.
 
-ghost use Rattle.std.specs.Prelude.{◌≡◌, ◌≤◌, [], length, unwrap_or};
+ghost use Rattle.std.specs.Prelude.{◌≤◌, length};
 ghost use Rattle.fin_layout.specs.Reading.{Gives};
 ghost use Rattle.mt9_advice.specs.Advice.{booking_of};
 
 use crate::stamp::Stamp;
-use corr_text::{List, Text};
+use corr_text::Text;
 use fin_contents::{Reference, ShortLine, Value, ValueDate};
 use fin_fields::Field;
 use fin_layout::{MtFault, Place, read_one, read_optional};
@@ -47,14 +47,4 @@ pub fn read_booking(
         at,
         value,
     })
-}
-
-/// The lines of a field that may be missing, none where it is.
-pub fn or_none(alloc: Global, texts: Option<List<Text>>) -> List<Text>
-    ensures { result ≡ unwrap_or texts [] }
-{
-    match texts {
-        Some(texts) => texts,
-        None => List::new(alloc),
-    }
 }

@@ -8,12 +8,12 @@ ghost use Rattle.mt9_advice.specs.Advice.{c06, contents_910, mt910, mt910_of, te
 ghost use Rattle.mt9_advice.specs.declared.credit.Mt910.{Mt910 as Mt910Seen};
 ghost use Rattle.mt9_advice.specs.declared.order.TheConstants.{ORDER_910 as order};
 
-use crate::booking::{Booking, or_none, read_booking};
+use crate::booking::{Booking, read_booking};
 use crate::order::ORDER_910;
 use corr_ids::Day;
 use corr_money::Amount;
 use corr_text::{Code, Fault, List, Text};
-use fin_contents::{KnownParty, Texts};
+use fin_contents::{KnownParty, Texts, or_none};
 use fin_fields::Field;
 use fin_layout::{MtFault, check_structure, read_optional};
 use fin_parties::Party;

@@ -8,12 +8,12 @@ ghost use Rattle.mt9_advice.specs.Advice.{contents_900, mt900, mt900_of, tests_9
 ghost use Rattle.mt9_advice.specs.declared.debit.Mt900.{Mt900 as Mt900Seen};
 ghost use Rattle.mt9_advice.specs.declared.order.TheConstants.{ORDER_900 as order};
 
-use crate::booking::{Booking, or_none, read_booking};
+use crate::booking::{Booking, read_booking};
 use crate::order::ORDER_900;
 use corr_ids::Day;
 use corr_money::Amount;
 use corr_text::{List, Text};
-use fin_contents::{KnownParty, Texts};
+use fin_contents::{KnownParty, Texts, or_none};
 use fin_fields::Field;
 use fin_layout::{MtFault, check_structure, read_optional};
 use fin_parties::Party;
