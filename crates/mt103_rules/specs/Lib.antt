@@ -1,3 +1,4 @@
 pub mod Parties
 pub mod Instructions
 pub mod Rules
+pub mod Constants

@@ -8,6 +8,7 @@ mod codes;
 mod first;
 mod institutions;
 mod instructions;
+mod laws;
 mod levels;
 mod operation;
 mod parties;
@@ -19,3 +20,4 @@ pub use codes::{
     E18, E44, E45,
 };
 pub use first::first_rule;
+pub use laws::rule_code_law;
