@@ -1,7 +1,7 @@
 -- What a message has that passes every test.
 use Rattle.std.proofs.Common.{◌≡◌, ℕ, ◌*◌, ◌≤◌, ◌==◌, Bool, true, false, cond, List, [], ◌∷◌, length, Option, Result, Ok, Err, refl, sym, subst, arith, inl, inr, ◌⊎◌}
 use Rattle.std.specs.Prelude.{IfOk, codes}
-use Rattle.corr_text.specs.First.{unless}
+use Rattle.corr_text.specs.First.{unless, ◌>>=◌}
 use Rattle.corr_text.specs.declared.fault.Fault.{Fault}
 use Rattle.corr_ids.specs.declared.bic.Bic.{Bic}
 use Rattle.corr_ids.specs.declared.address.LtAddress.{LtAddress}
@@ -15,22 +15,27 @@ use Rattle.fin_blocks.proofs.Sizes.{text_bytes}
 use Rattle.fin_fields.specs.Fields.{fields_of}
 use Rattle.fin_layout.specs.Tests.{passed}
 use Rattle.mt103.specs.Message.{mt103_of}
-use Rattle.mt103.specs.declared.message.Mt103.{Mt103}
+use Rattle.mt103.proofs.Amount.{amount-payable as transfer-payable}
 use Rattle.mt103_rules.specs.Rules.{all_rules}
 use Rattle.mt202cov.specs.Message.{mt202cov_of}
+use Rattle.mt202cov.proofs.Amount.{amount-payable as cover-payable}
 use Rattle.mt9_advice.specs.Advice.{mt900_of, mt910_of}
 use Rattle.ref_tables.specs.Seen.{Tables}
 use Rattle.fin_message.specs.Answers.{Answers}
 use Rattle.fin_message.specs.Heading.{at_block, has_form, heading_tests}
 use Rattle.fin_message.specs.Parts.{envelope_of, envelope_with, type_of, uetr_in}
-use Rattle.fin_message.specs.Sound.{Goes, HasAmount, IsAmount, IsOfForm, IsRead, IsSound, lines_in}
+use Rattle.fin_message.specs.Sound.{Goes, HasAmount, IsOfForm, IsRead, IsSound, lines_in}
 use Rattle.fin_message.specs.Verdict.{Refused, blocks_in, cover_of, credit_of, debit_of, judged, line_test, message_in, message_of, told_of, transfer_of}
 use Rattle.fin_message.specs.declared.codes.TheConstants.{P07}
 use Rattle.fin_message.specs.declared.direction.Direction.{Direction}
 use Rattle.fin_message.specs.declared.direction.Direction.TheVariants.{Received, Sent}
 use Rattle.fin_message.specs.declared.fault.MessageFault.{MessageFault}
 use Rattle.fin_message.specs.declared.message.Message.{Message}
-use Rattle.fin_message.proofs.Amounts.{then, transfer-amount}
+
+-- what holds of the last of several steps
+then : {A B F : Type 0} (P : B → Type 0) (r : Result A F) (f : A → Result B F) → ((x : A) → r ≡ Ok x → IfOk (f x) P) → IfOk (r >>= f) P
+then P (Ok x) f p = p x refl
+then P (Err e) f p = tt
 
 of-form : (way : Direction) (own : LtAddress) (app : App) (uetr : Option Uetr) → has_form way app ≡ true → IsOfForm way (envelope_with own app uetr)
 of-form Received own (form.Received mt mir) uetr e = refl
@@ -61,7 +66,7 @@ transfer-says way t b e =
     record {
       goes = envelope-says way b e;
       read = read;
-      amount = subst (λ r. IfOk r (λ (m : Mt103). IsAmount m.amount)) read (transfer-amount t (fields_of b.text));
+      amount = transfer-payable t (fields_of b.text) transfer read;
       lines = inl refl;
     }))
 
@@ -69,7 +74,7 @@ cover-says : (way : Direction) (t : Tables) (b : Blocks) → has_form way b.app 
 unfolding cover_of
 cover-says way t b e =
     then (Says way t b.text) (mt202cov_of t (fields_of b.text)) _ (λ cover read.
-    record { goes = envelope-says way b e; read = read; amount = tt; lines = inl refl })
+    record { goes = envelope-says way b e; read = read; amount = cover-payable t (fields_of b.text) cover read; lines = inl refl })
 
 debit-says : (way : Direction) (t : Tables) (b : Blocks) → has_form way b.app ≡ true → IfOk (debit_of t b) (Says way t b.text)
 unfolding debit_of

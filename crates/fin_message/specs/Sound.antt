@@ -1,7 +1,7 @@
 -- What every valid message has.
-use Rattle.std.specs.Prelude.{◌≡◌, ℕ, ◌<◌, ◌≤◌, List, [], length, None, Ok, IsSome}
+use Rattle.std.specs.Prelude.{◌≡◌, ℕ, ◌≤◌, List, [], length, None, Ok, IsSome}
 use Rattle.corr_ids.specs.declared.envelope.Envelope.{Envelope}
-use Rattle.corr_money.specs.declared.amount.Amount.{Amount}
+use Rattle.fin_contents.specs.Money.{IsPayable}
 use Rattle.fin_fields.specs.Fields.{fields_of}
 use Rattle.mt103.specs.Message.{mt103_of}
 use Rattle.mt202cov.specs.Message.{mt202cov_of}
@@ -22,14 +22,10 @@ Goes way (Cover envelope text cover) = IsOfForm way envelope
 Goes way (Debit envelope advice) = IsOfForm way envelope
 Goes way (Credit envelope advice) = IsOfForm way envelope
 
--- above zero and below 10^14 minor units
-pub record IsAmount (amount : Amount) : Type 0 where
-  pub positive : 0 < amount.minor.0
-  pub small : amount.minor.0 < 100000000000000
-
--- the amount of a transfer's field 32A
+-- the amount of field 32A of a transfer and of a cover: above zero and below 10^14 minor units
 abbrev pub HasAmount : Message → Type 0
-HasAmount (Transfer envelope text transfer) = IsAmount transfer.amount
+HasAmount (Transfer envelope text transfer) = IsPayable transfer.amount
+HasAmount (Cover envelope text cover) = IsPayable cover.amount
 HasAmount _ = Unit {0}
 
 -- the lines of block 4 of a message that is passed on
