@@ -6,6 +6,7 @@ mod ask;
 mod asked;
 mod cover;
 mod fault;
+mod laws;
 mod legs;
 mod orders;
 mod planning;
@@ -18,4 +19,5 @@ mod way;
 
 pub use ask::Ask;
 pub use fault::{P34, PlanFault};
+pub use laws::plan_code_law;
 pub use planning::plan;
