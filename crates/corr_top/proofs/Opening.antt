@@ -97,6 +97,12 @@ same_stop {A} faults old mid same now s why = let P : A → Type 0 = λ a. IsRea
 pub same_read : {A : Type 0} (left : A → Option (List ℕ)) (old mid : A) → mid ≡ old → (limit : ℕ) (after : Option (List ℕ)) (text : List ℕ) → IsRead limit (left mid) after text → IsRead limit (left old) after text
 same_read {A} left old mid same limit after text read = let P : A → Type 0 = λ a. IsRead limit (left a) after text in subst P same read
 
+pub one_same : {A : Type 0} (old mid : A) → mid ≡ old → (mid ∷ []) ≡ (old ∷ [])
+one_same old mid same = rw same refl
+
+pub two_same : {A : Type 0} (old mid first last : A) → mid ≡ old → last ≡ first → (mid ∷ last ∷ []) ≡ (old ∷ first ∷ [])
+two_same old mid first last same also = rw same (rw also refl)
+
 -- the fault of the accounts and that of the instructions, under the tables that were read
 accounts_same : (t u : Tables) → t ≡ u → (f : List ℕ) → named names.Accounts (accounts_fault home_head u f) ≡ named names.Accounts (accounts_fault home_head t f)
 accounts_same t u same f = sym (ap (λ (x : Tables). named names.Accounts (accounts_fault home_head x f)) same)

@@ -12,6 +12,7 @@ pub mod Answers
 pub mod Turn
 pub mod Told
 pub mod Run
+pub mod Order
 pub mod Ends
 pub mod Books
 pub mod Messages

@@ -14,3 +14,7 @@ told bytes faults s = record { bytes = bytes s; faults = faults s }
 abbrev pub sources : {S K : Type 0} → (S → Option (List ℕ)) → (S → ℕ) → Room S K → List Told
 sources left faults room =
     told left faults room.tables.bics ∷ told left faults room.tables.ccys ∷ told left faults room.tables.countries ∷ told left faults room.tables.accounts ∷ told left faults room.tables.ssi ∷ told left faults room.messages ∷ []
+
+-- these sources themselves
+abbrev pub in_order : {S K : Type 0} → Room S K → List S
+in_order room = room.tables.bics ∷ room.tables.ccys ∷ room.tables.countries ∷ room.tables.accounts ∷ room.tables.ssi ∷ room.messages ∷ []

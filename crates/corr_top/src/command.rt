@@ -3,6 +3,7 @@
 ghost use Rattle.std.specs.Prelude.{◌≡◌, ◌⊎◌, ℕ, List, None, IfSome};
 ghost use Rattle.corr_top.specs.Complete.{IsReady};
 ghost use Rattle.corr_top.specs.Ends.{Ends, IsQuiet};
+ghost use Rattle.corr_top.specs.Order.{ReadsInOrder};
 ghost use Rattle.corr_top.specs.Status.{HasDecimals};
 ghost use Rattle.corr_top.specs.Told.{sources, told};
 ghost use Rattle.corr_top.specs.Words.{run_day};
@@ -24,6 +25,8 @@ pub fn corr<S: Source, K: Sink>(alloc: Global, words: &[Text], room: Room<S, K>)
     // each other status by its cause
     ensures run { IfSome (run_day words.now) (λ day. Ends (sources S.left S.faults room) (sources S.left S.faults result.room)
         (told K.held K.faults room.report) (told K.held K.faults result.room.report) day result.status) }
+    // no source is touched before those ahead of it were read and found right
+    ensures in_order { ReadsInOrder S.left S.faults room result.room }
     // where nothing is wrong and nothing fails, only memory can be wanting
     ensures complete { IfSome (run_day words.now) (λ _. (files messages : List (List ℕ)) → IsReady (sources S.left S.faults room) (sources S.left S.faults result.room)
         (told K.held K.faults room.report) (told K.held K.faults result.room.report) files messages → (result.status ≡ Status.Done) ⊎ (result.status ≡ Status.Memory)) }

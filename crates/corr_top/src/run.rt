@@ -4,6 +4,7 @@ ghost use Rattle.std.specs.Prelude.{◌≡◌, ◌≤◌, length, All, OnOk, IfO
 ghost use Rattle.corr_top.specs.Ends.{Ends, IsQuiet};
 ghost use Rattle.corr_top.specs.Answers.{report_over};
 ghost use Rattle.corr_top.specs.Messages.{HasMessages, StopsAtMessages};
+ghost use Rattle.corr_top.specs.Order.{ReadsInOrder};
 ghost use Rattle.corr_top.specs.Status.{HasDecimals};
 ghost use Rattle.corr_top.specs.Told.{sources, told};
 
@@ -64,6 +65,7 @@ pub fn run<S: Source, K: Sink>(alloc: Global, day: Day, room: &mut Room<S, K>) -
         (told K.held K.faults room.old.report) (told K.held K.faults room.new.report) day Status.Done) }
     ensures stopped { IfErr result (Ends (sources S.left S.faults room.old) (sources S.left S.faults room.new)
         (told K.held K.faults room.old.report) (told K.held K.faults room.new.report) day) }
+    ensures in_order { ReadsInOrder S.left S.faults room.old room.new }
     ensures quiet { IfErr result (λ s. IsQuiet s → room.new.report ≡ room.old.report) }
     ensures decimals { IfErr result HasDecimals }
 {

@@ -6,6 +6,7 @@ ghost use Rattle.day_model.specs.Chart.{opening_sum};
 ghost use Rattle.day_model.specs.Gap.{TellsUnbalanced};
 ghost use Rattle.ref_tables.specs.AccountList.{AreAccounts};
 ghost use Rattle.corr_top.specs.Books.{IsReadStop, HasTables, HasBooks, TellsDecimals};
+ghost use Rattle.corr_top.specs.Order.{ReadsInOrder};
 ghost use Rattle.corr_top.specs.Reading.{IsRead};
 ghost use Rattle.corr_top.specs.Run.{Stops, home_bank, home_head, opened};
 ghost use Rattle.corr_top.specs.Status.{HasDecimals};
@@ -127,6 +128,7 @@ fn open_accounts(alloc: Global, rows: Vec<AccountRow>) -> Result<List<Account>, 
 fn open_tables<S: Source, K>(alloc: Global, room: &mut Room<S, K>) -> Result<RefTables, Status>
     ensures ok { IfOk result (HasTables (sources S.left S.faults room.old) (sources S.left S.faults room.new)) }
     ensures stopped { IfErr result (Stops (sources S.left S.faults room.old) (sources S.left S.faults room.new)) }
+    ensures in_order { ReadsInOrder S.left S.faults room.old room.new }
     ensures accounts { room.new.tables.accounts ≡ room.old.tables.accounts }
     ensures ssi { room.new.tables.ssi ≡ room.old.tables.ssi }
     ensures messages { room.new.messages ≡ room.old.messages }
@@ -167,6 +169,7 @@ pub fn open_books<S: Source, K>(
 ) -> Result<Books, Status>
     ensures ok { IfOk result (HasBooks (sources S.left S.faults room.old) (sources S.left S.faults room.new) day) }
     ensures stopped { IfErr result (Stops (sources S.left S.faults room.old) (sources S.left S.faults room.new)) }
+    ensures in_order { ReadsInOrder S.left S.faults room.old room.new }
     ensures messages { room.new.messages ≡ room.old.messages }
     ensures report { room.new.report ≡ room.old.report }
     ensures decimals { IfErr result HasDecimals }

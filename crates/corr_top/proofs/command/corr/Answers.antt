@@ -1,5 +1,6 @@
-use Rattle.std.proofs.Common.{inl}
+use Rattle.std.proofs.Common.{[], inl, refl}
 use Rattle.corr_top.proofs.Complete.{done_or_memory}
+use Rattle.corr_top.proofs.Opening.{nothing_fine}
 use Rattle.corr_top.proofs.command.corr.Goals.{in-Ok, in-Err}
 use Rattle.corr_top.proofs.command.corr.Goals as goal
 
@@ -9,3 +10,6 @@ returns-clause-complete g c =
       | in-Ok w ↦ inl w.status-is
       | in-Err w ↦ rw w.status-is (done_or_memory _ _ _ _ c.in-Some.day w.in-Err.status files messages w.in-Err.ensures.stopped ready)
     ])
+
+pub returns-in_default-clause-in_order : goal.returns-in_default-clause-in_order
+returns-in_default-clause-in_order g c = ([], record { read = tt; fine = nothing_fine; untouched = refl })

@@ -85,3 +85,23 @@ pub returns-in_err-messages-clause-decimals : goal.returns-in_err-messages-claus
 returns-in_err-messages-clause-decimals g c =
     let p = err_from_is_err_and c.from_residual-in_err-messages.result c.from_residual-in_err-messages.ensures.1 in
     rw (p.1, p.2) c.in_err-messages.ensures.decimals
+
+pub returns-in_err-messages-clause-in_order : goal.returns-in_err-messages-clause-in_order
+returns-in_err-messages-clause-in_order g c =
+    let q = c.in_ok-books.ensures.ok in
+    (q.0 ∷ q.1 ∷ q.2 ∷ q.3 ∷ q.4 ∷ [], record { read = q.5.read; fine = q.5.fine; untouched = refl })
+
+pub returns-in_err-text-clause-in_order : goal.returns-in_err-text-clause-in_order
+returns-in_err-text-clause-in_order g c =
+    let q = c.in_ok-books.ensures.ok in
+    (q.0 ∷ q.1 ∷ q.2 ∷ q.3 ∷ q.4 ∷ [], record { read = q.5.read; fine = q.5.fine; untouched = refl })
+
+pub returns-in_err-write_whole-clause-in_order : goal.returns-in_err-write_whole-clause-in_order
+returns-in_err-write_whole-clause-in_order g c =
+    let q = c.in_ok-books.ensures.ok in
+    (q.0 ∷ q.1 ∷ q.2 ∷ q.3 ∷ q.4 ∷ [], record { read = q.5.read; fine = q.5.fine; untouched = refl })
+
+pub returns-clause-in_order : goal.returns-clause-in_order
+returns-clause-in_order g c =
+    let q = c.in_ok-books.ensures.ok in
+    (q.0 ∷ q.1 ∷ q.2 ∷ q.3 ∷ q.4 ∷ [], record { read = q.5.read; fine = q.5.fine; untouched = refl })

@@ -1,7 +1,7 @@
 use Rattle.std.proofs.Common.{[], ◌∷◌, refl, sym, subst, arith}
 use Rattle.std.proofs.lemmas.Result.{err_from_is_err_and}
 use Rattle.corr_top.specs.Reading.{IsRead}
-use Rattle.corr_top.proofs.Opening.{AreRows, accounts_fine, accounts_stop, books_opened, same_read, same_stop, ssi_stop, stop_at, tables_fine, unbalanced_stop}
+use Rattle.corr_top.proofs.Opening.{AreRows, accounts_fine, accounts_stop, books_opened, one_same, same_read, same_stop, ssi_stop, stop_at, tables_fine, two_same, unbalanced_stop}
 use Rattle.corr_top.proofs.AccountRows.{accounts_decimals, table_decimals}
 use Rattle.corr_top.proofs.tables.open_books.Goals as goal
 
@@ -97,3 +97,91 @@ pub returns-in_err-accounts-clause-decimals : goal.returns-in_err-accounts-claus
 returns-in_err-accounts-clause-decimals g c =
     let p = err_from_is_err_and c.from_residual-in_err-accounts.result c.from_residual-in_err-accounts.ensures.1 in
     rw (p.1, p.2) (accounts_decimals c.in_err-accounts.field-0.0 c.in_err-accounts.ensures.decimals)
+
+pub returns-in_err-file-clause-in_order : goal.returns-in_err-file-clause-in_order
+returns-in_err-file-clause-in_order g c =
+    let t = c.in_ok-tables.ensures.ok in
+    let room = c.open_tables.new.room in (
+      t.0 ∷ t.1 ∷ t.2 ∷ [],
+      record {
+        read = t.3.read;
+        fine = tables_fine (t.0 ∷ t.1 ∷ t.2 ∷ []) t.3.sound refl refl (omega arith);
+        untouched = two_same c.args.room.now.tables.ssi room.tables.ssi c.args.room.now.messages room.messages c.open_tables.ensures.ssi c.open_tables.ensures.messages;
+      },
+    )
+
+pub returns-in_err-rows-clause-in_order : goal.returns-in_err-rows-clause-in_order
+returns-in_err-rows-clause-in_order g c =
+    let t = c.in_ok-tables.ensures.ok in
+    let room = c.open_tables.new.room in (
+      t.0 ∷ t.1 ∷ t.2 ∷ [],
+      record {
+        read = t.3.read;
+        fine = tables_fine (t.0 ∷ t.1 ∷ t.2 ∷ []) t.3.sound refl refl (omega arith);
+        untouched = two_same c.args.room.now.tables.ssi room.tables.ssi c.args.room.now.messages room.messages c.open_tables.ensures.ssi c.open_tables.ensures.messages;
+      },
+    )
+
+pub returns-in_err-instructions-clause-in_order : goal.returns-in_err-instructions-clause-in_order
+returns-in_err-instructions-clause-in_order g c =
+    let t = c.in_ok-tables.ensures.ok in
+    let room = c.open_tables.new.room in
+    let left = g.S.Source.left in
+    let f = c.bytes.result.now in
+    let whole = subst (IsRead 8388608 (left room.tables.accounts) (left c.read_file.new.source)) (sym c.bytes.ensures) c.in_ok-file.ensures.read in
+    let read = same_read left c.args.room.now.tables.accounts room.tables.accounts c.open_tables.ensures.accounts 8388608 (left c.read_file.new.source) f whole in (
+      t.0 ∷ t.1 ∷ t.2 ∷ f ∷ [],
+      record {
+        read = (t.3.read.0, (t.3.read.1.0, (t.3.read.1.1.0, (read, tt))));
+        fine = accounts_fine t.0 t.1 t.2 f t.3.sound c.in_ok-tables.tables t.3.tables c.in_ok-rows.ensures.sound;
+        untouched = one_same c.args.room.now.messages room.messages c.open_tables.ensures.messages;
+      },
+    )
+
+pub returns-in_err-ssi-clause-in_order : goal.returns-in_err-ssi-clause-in_order
+returns-in_err-ssi-clause-in_order g c =
+    let t = c.in_ok-tables.ensures.ok in
+    let room = c.open_tables.new.room in
+    let left = g.S.Source.left in
+    let f = c.bytes.result.now in
+    let whole = subst (IsRead 8388608 (left room.tables.accounts) (left c.read_file.new.source)) (sym c.bytes.ensures) c.in_ok-file.ensures.read in
+    let read = same_read left c.args.room.now.tables.accounts room.tables.accounts c.open_tables.ensures.accounts 8388608 (left c.read_file.new.source) f whole in (
+      t.0 ∷ t.1 ∷ t.2 ∷ f ∷ [],
+      record {
+        read = (t.3.read.0, (t.3.read.1.0, (t.3.read.1.1.0, (read, tt))));
+        fine = accounts_fine t.0 t.1 t.2 f t.3.sound c.in_ok-tables.tables t.3.tables c.in_ok-rows.ensures.sound;
+        untouched = one_same c.args.room.now.messages room.messages c.open_tables.ensures.messages;
+      },
+    )
+
+pub returns-in_err-accounts-clause-in_order : goal.returns-in_err-accounts-clause-in_order
+returns-in_err-accounts-clause-in_order g c =
+    let t = c.in_ok-tables.ensures.ok in
+    let room = c.open_tables.new.room in
+    let left = g.S.Source.left in
+    let f = c.bytes.result.now in
+    let whole = subst (IsRead 8388608 (left room.tables.accounts) (left c.read_file.new.source)) (sym c.bytes.ensures) c.in_ok-file.ensures.read in
+    let read = same_read left c.args.room.now.tables.accounts room.tables.accounts c.open_tables.ensures.accounts 8388608 (left c.read_file.new.source) f whole in (
+      t.0 ∷ t.1 ∷ t.2 ∷ f ∷ [],
+      record {
+        read = (t.3.read.0, (t.3.read.1.0, (t.3.read.1.1.0, (read, tt))));
+        fine = accounts_fine t.0 t.1 t.2 f t.3.sound c.in_ok-tables.tables t.3.tables c.in_ok-rows.ensures.sound;
+        untouched = one_same c.args.room.now.messages room.messages c.open_tables.ensures.messages;
+      },
+    )
+
+pub returns-clause-in_order : goal.returns-clause-in_order
+returns-clause-in_order g c =
+    let t = c.in_ok-tables.ensures.ok in
+    let room = c.open_tables.new.room in
+    let left = g.S.Source.left in
+    let f = c.bytes.result.now in
+    let whole = subst (IsRead 8388608 (left room.tables.accounts) (left c.read_file.new.source)) (sym c.bytes.ensures) c.in_ok-file.ensures.read in
+    let read = same_read left c.args.room.now.tables.accounts room.tables.accounts c.open_tables.ensures.accounts 8388608 (left c.read_file.new.source) f whole in (
+      t.0 ∷ t.1 ∷ t.2 ∷ f ∷ [],
+      record {
+        read = (t.3.read.0, (t.3.read.1.0, (t.3.read.1.1.0, (read, tt))));
+        fine = accounts_fine t.0 t.1 t.2 f t.3.sound c.in_ok-tables.tables t.3.tables c.in_ok-rows.ensures.sound;
+        untouched = one_same c.args.room.now.messages room.messages c.open_tables.ensures.messages;
+      },
+    )

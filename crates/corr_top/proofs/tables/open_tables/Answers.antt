@@ -76,3 +76,60 @@ returns-clause-ok g c =
         tables = c.in_ok-read_tables-3.ensures.value;
       },
     )
+
+pub returns-in_err-bics-clause-in_order : goal.returns-in_err-bics-clause-in_order
+returns-in_err-bics-clause-in_order g c = ([], record { read = tt; fine = nothing_fine; untouched = refl })
+
+pub returns-in_err-read_tables-clause-in_order : goal.returns-in_err-read_tables-clause-in_order
+returns-in_err-read_tables-clause-in_order g c = ([], record { read = tt; fine = nothing_fine; untouched = refl })
+
+pub returns-in_err-ccys-clause-in_order : goal.returns-in_err-ccys-clause-in_order
+returns-in_err-ccys-clause-in_order g c =
+    let left = g.S.Source.left in
+    let b = c.bytes.result.now in
+    let bics = subst (IsRead 8388608 (left c.args.room.now.tables.bics) (left c.read_file.new.source)) (sym c.bytes.ensures) c.in_ok-bics.ensures.read in (
+      b ∷ [],
+      record { read = (bics, tt); fine = tables_fine (b ∷ []) c.in_ok-read_tables.ensures.sound refl refl (omega arith); untouched = refl },
+    )
+
+pub returns-in_err-read_tables-2-clause-in_order : goal.returns-in_err-read_tables-2-clause-in_order
+returns-in_err-read_tables-2-clause-in_order g c =
+    let left = g.S.Source.left in
+    let b = c.bytes.result.now in
+    let bics = subst (IsRead 8388608 (left c.args.room.now.tables.bics) (left c.read_file.new.source)) (sym c.bytes.ensures) c.in_ok-bics.ensures.read in (
+      b ∷ [],
+      record { read = (bics, tt); fine = tables_fine (b ∷ []) c.in_ok-read_tables.ensures.sound refl refl (omega arith); untouched = refl },
+    )
+
+pub returns-in_err-countries-clause-in_order : goal.returns-in_err-countries-clause-in_order
+returns-in_err-countries-clause-in_order g c =
+    let left = g.S.Source.left in
+    let b = c.bytes-2.result.now in
+    let d = c.bytes-3.result.now in
+    let bics = subst (IsRead 8388608 (left c.args.room.now.tables.bics) (left c.read_file.new.source)) (sym c.bytes-2.ensures) c.in_ok-bics.ensures.read in
+    let ccys = subst (IsRead 8388608 (left c.args.room.now.tables.ccys) (left c.read_file-2.new.source)) (sym c.bytes-3.ensures) c.in_ok-ccys.ensures.read in (
+      b ∷ d ∷ [],
+      record { read = (bics, (ccys, tt)); fine = tables_fine (b ∷ d ∷ []) c.in_ok-read_tables-2.ensures.sound refl refl (omega arith); untouched = refl },
+    )
+
+pub returns-in_err-read_tables-3-clause-in_order : goal.returns-in_err-read_tables-3-clause-in_order
+returns-in_err-read_tables-3-clause-in_order g c =
+    let left = g.S.Source.left in
+    let b = c.bytes-2.result.now in
+    let d = c.bytes-3.result.now in
+    let bics = subst (IsRead 8388608 (left c.args.room.now.tables.bics) (left c.read_file.new.source)) (sym c.bytes-2.ensures) c.in_ok-bics.ensures.read in
+    let ccys = subst (IsRead 8388608 (left c.args.room.now.tables.ccys) (left c.read_file-2.new.source)) (sym c.bytes-3.ensures) c.in_ok-ccys.ensures.read in (
+      b ∷ d ∷ [],
+      record { read = (bics, (ccys, tt)); fine = tables_fine (b ∷ d ∷ []) c.in_ok-read_tables-2.ensures.sound refl refl (omega arith); untouched = refl },
+    )
+
+pub returns-clause-in_order : goal.returns-clause-in_order
+returns-clause-in_order g c =
+    let left = g.S.Source.left in
+    let b = c.bytes-2.result.now in
+    let d = c.bytes-3.result.now in
+    let bics = subst (IsRead 8388608 (left c.args.room.now.tables.bics) (left c.read_file.new.source)) (sym c.bytes-2.ensures) c.in_ok-bics.ensures.read in
+    let ccys = subst (IsRead 8388608 (left c.args.room.now.tables.ccys) (left c.read_file-2.new.source)) (sym c.bytes-3.ensures) c.in_ok-ccys.ensures.read in (
+      b ∷ d ∷ [],
+      record { read = (bics, (ccys, tt)); fine = tables_fine (b ∷ d ∷ []) c.in_ok-read_tables-2.ensures.sound refl refl (omega arith); untouched = refl },
+    )
