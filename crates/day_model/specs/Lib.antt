@@ -2,6 +2,7 @@ pub mod Chart
 pub mod Gap
 pub mod Log
 pub mod Fit
+pub mod Shape
 pub mod Balance
 pub mod Next
 pub mod Legal

@@ -1,9 +1,10 @@
 //! The accounts of a book.
 
-ghost use Rattle.std.specs.Prelude.{◌≡◌, ◌≤◌, IfOk, IfErr, OnOk, length, pos};
+ghost use Rattle.std.specs.Prelude.{◌≡◌, ◌≤◌, IfOk, IfErr, OnOk, length, pos, ◌++◌, IsTrue};
 ghost use Rattle.std.specs.List.{position_from};
 ghost use Rattle.day_model.specs.Chart.{AreRows, IsChart, IsListed, account_at, has_id, is_owned, number_of_first, opening_sum};
 ghost use Rattle.day_model.specs.Gap.{TellsUnbalanced};
+ghost use Rattle.corr_ids.specs.Bic.{IsBic, is_bic};
 ghost use Rattle.corr_money.specs.declared.amount.Ccy.{Ccy};
 
 use crate::account::{Account, AcctNo};
@@ -42,6 +43,15 @@ fn first_owned(
             && account.ccy == ccy
             && account.decimals == decimals
     })
+}
+
+// An owner whose characters are a BIC's is a BIC: its head has eight bytes, and its branch three.
+fn known(owner: &Bic)
+    requires { IsTrue (is_bic (owner.now.head ++ owner.now.branch)) }
+    ensures { IsBic owner.now }
+{
+    let _head: &[u8] = &owner.head;
+    let _branch: &[u8] = &owner.branch;
 }
 
 impl Model for Accounts {
@@ -95,8 +105,11 @@ impl Accounts {
         requires { IsListed self.now a.0 }
         ensures value { account_at self.now a.0 ≡ Some result.now }
         ensures sound { IsChart self.now }
+        ensures owner { IsBic result.now.owner }
     {
-        &self.rows.as_slice()[a.0 as usize - 1]
+        let account = &self.rows.as_slice()[a.0 as usize - 1];
+        known(&account.owner);
+        account
     }
 
     /// The number of the account with this id.

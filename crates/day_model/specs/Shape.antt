@@ -1,0 +1,69 @@
+-- The shape of a pay, whatever the book.
+use Rattle.std.specs.Prelude.{ℕ, ◌≤◌, ◌==◌, ◌&&◌, ◌||◌, ◌-◌, not, Bool, false, All, IfSome, IsTrue, List, [], ◌∷◌, length, drop}
+use Rattle.std.specs.List.{list_all, list_any, zip}
+use Rattle.corr_text.specs.declared.set.Set.TheVariants.{X}
+use Rattle.corr_text.specs.Lines.{begins_with}
+use Rattle.corr_text.specs.Sets.{is_in}
+use Rattle.corr_ids.specs.Bic.{IsBic}
+use Rattle.corr_ids.specs.Day.{InCentury}
+use Rattle.corr_ids.specs.Mir.{IsMir}
+use Rattle.corr_ids.specs.Uetr.{IsUetr}
+use Rattle.day_model.specs.declared.pay.Leg.{Leg}
+use Rattle.day_model.specs.declared.pay.Order.{Order}
+use Rattle.day_model.specs.declared.pay.Order.TheVariants as order
+use Rattle.day_model.specs.declared.pay.Pay.{Pay}
+use Rattle.day_model.specs.declared.pay.Quote.{Quote}
+use Rattle.day_model.specs.declared.pay.Quote.TheVariants.{Ours, Theirs}
+use Rattle.day_model.specs.declared.pay.Side.TheVariants.{Credit, Debit}
+use Rattle.day_model.specs.Fit.{amounts_fit, is_side}
+
+-- a slash at an end, or two in a row
+abbrev pub has_stray_slash : List ℕ → Bool
+has_stray_slash text =
+    begins_with 47 text || begins_with 47 (drop (length text - 1) text) || list_any (λ p. (p.0 == 47) && (p.1 == 47)) (zip text (drop 1 text))
+
+-- a reference: 1 to 16 of X, without a stray slash
+pub record IsReference (text : List ℕ) : Type 0 where
+  pub given : 1 ≤ length text
+  pub short : length text ≤ 16
+  pub plain : IsTrue (list_all (is_in X) text)
+  pub slashes : IsTrue (not (has_stray_slash text))
+
+-- another bank's reference is one; an order's number says no more
+abbrev pub IsQuote : Quote → Type 0
+IsQuote (Theirs text) = IsReference text
+IsQuote (Ours order) = Unit {0}
+
+-- a leg on one of at most 1,000 accounts
+pub record IsLeg (leg : Leg) : Type 0 where
+  pub account : (1 ≤ leg.account.0) × (leg.account.0 ≤ 1000)
+  pub quote : IsQuote leg.quote
+
+-- a debit and then a credit of one amount above 0 and below 10^14, on distinct accounts
+abbrev pub are_legs : List Leg → Bool
+are_legs (debit ∷ credit ∷ []) =
+    is_side Debit debit.side && is_side Credit credit.side && amounts_fit debit.amount.0 credit.amount.0 && not (debit.account.0 == credit.account.0)
+are_legs _ = false
+
+-- a leg's number, from 1, among so many
+abbrev pub IsNumbered : ℕ → ℕ → Type 0
+IsNumbered legs n = (1 ≤ n) × (n ≤ legs)
+
+-- the BICs of an order meet their grammar, and the leg that it names is there
+abbrev pub IsOrder : ℕ → Order → Type 0
+IsOrder legs (order.Transfer to skip via) = IsBic to × IfSome via IsBic
+IsOrder legs (order.Cover to end skip) = IsBic to × IsBic end
+IsOrder legs (order.Pass to skip) = IsBic to
+IsOrder legs (order.Debit to leg) = IsBic to × IsNumbered legs leg
+IsOrder legs (order.Credit to leg) = IsBic to × IsNumbered legs leg
+
+-- what every pay has that is written down: its parts meet their grammar and their bounds
+pub record HasShape (pay : Pay) : Type 0 where
+  pub mir : IsMir pay.mir
+  pub uetr : IfSome pay.uetr IsUetr
+  pub text : length pay.text ≤ 32768
+  pub value : InCentury pay.value
+  pub legs : IsTrue (are_legs pay.legs)
+  pub each_leg : All IsLeg pay.legs
+  pub few_orders : length pay.orders ≤ 255
+  pub each_order : All (IsOrder (length pay.legs)) pay.orders
