@@ -1,6 +1,7 @@
 //! The route of a payment.
 
-ghost use Rattle.std.specs.Prelude.{◌≡◌, IfOk};
+ghost use Rattle.std.specs.Prelude.{◌≡◌, IfOk, IfSome};
+ghost use Rattle.corr_ids.specs.Bic.{IsBic};
 ghost use Rattle.routing.specs.Accounts.{AreBetween};
 ghost use Rattle.routing.specs.Route.{route_of};
 
@@ -38,6 +39,7 @@ pub fn route(
 ) -> Result<Routed, Code>
     ensures value { result ≡ route_of sender.now amount.now value cover.now target.now ssi.now a.now }
     ensures accounts { IfOk result (AreBetween a.now amount.now) }
+    ensures via { IfOk result (λ routed. IfSome routed.via IsBic) }
 {
     let debit = debit_side(sender, amount, cover, a)?;
     let credit = credit_side(amount, value, target, ssi, a)?;

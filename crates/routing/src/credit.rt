@@ -1,7 +1,9 @@
 //! The account to credit.
 
-ghost use Rattle.std.specs.Prelude.{◌≡◌, IfOk, IsTrue};
+ghost use Rattle.std.specs.Prelude.{◌≡◌, IfOk, IfSome, IsTrue};
+ghost use Rattle.corr_ids.specs.Bic.{IsBic};
 ghost use Rattle.routing.specs.Accounts.{fits_at};
+ghost use Rattle.ssi_versions.specs.InstructionList.{IsInForm};
 ghost use Rattle.routing.specs.Route.{bank_credit, booked_credit, carried_credit, credit_of, customer_credit, instructed_credit};
 
 use crate::codes::{P30, P33, P35, P36};
@@ -24,6 +26,7 @@ pub struct Credit {
 fn customer(id: &Option<Text>, amount: &Amount, a: &Accounts) -> Result<Credit, Code>
     ensures value { result ≡ customer_credit id.now amount.now a.now }
     ensures fits { IfOk result (λ c. IsTrue (fits_at a.now amount.now c.account)) }
+    ensures via { IfOk result (λ c. IfSome c.via IsBic) }
 {
     let Some(id) = id else {
         return Err(P33);
@@ -39,6 +42,7 @@ fn customer(id: &Option<Text>, amount: &Amount, a: &Accounts) -> Result<Credit, 
 fn booked(bank: &Bic, id: &[u8], amount: &Amount, a: &Accounts) -> Result<Credit, Code>
     ensures value { result ≡ booked_credit bank.now id.now amount.now a.now }
     ensures fits { IfOk result (λ c. IsTrue (fits_at a.now amount.now c.account)) }
+    ensures via { IfOk result (λ c. IfSome c.via IsBic) }
 {
     let account = named(id, &Wanted::Vostro(*bank), amount, a).ok_or(P36)?;
     Ok(Credit {
@@ -49,8 +53,10 @@ fn booked(bank: &Bic, id: &[u8], amount: &Amount, a: &Accounts) -> Result<Credit
 }
 
 fn carried(row: &SsiRow, amount: &Amount, a: &Accounts) -> Result<Credit, Code>
+    requires { IsInForm row.now }
     ensures value { result ≡ carried_credit row.now amount.now a.now }
     ensures fits { IfOk result (λ c. IsTrue (fits_at a.now amount.now c.account)) }
+    ensures via { IfOk result (λ c. IfSome c.via IsBic) }
 {
     let via = row.via.ok_or(P36)?;
     let account = named(row.account.bytes(), &Wanted::Nostro(via), amount, a).ok_or(P36)?;
@@ -62,8 +68,10 @@ fn carried(row: &SsiRow, amount: &Amount, a: &Accounts) -> Result<Credit, Code>
 }
 
 fn instructed(bank: &Bic, row: &SsiRow, amount: &Amount, a: &Accounts) -> Result<Credit, Code>
+    requires { IsInForm row.now }
     ensures value { result ≡ instructed_credit bank.now row.now amount.now a.now }
     ensures fits { IfOk result (λ c. IsTrue (fits_at a.now amount.now c.account)) }
+    ensures via { IfOk result (λ c. IfSome c.via IsBic) }
 {
     match row.method {
         Method::Book => booked(bank, row.account.bytes(), amount, a),
@@ -74,6 +82,7 @@ fn instructed(bank: &Bic, row: &SsiRow, amount: &Amount, a: &Accounts) -> Result
 fn bank(bank: &Bic, amount: &Amount, value: Day, ssi: &Ssi, a: &Accounts) -> Result<Credit, Code>
     ensures value { result ≡ bank_credit bank.now amount.now value ssi.now a.now }
     ensures fits { IfOk result (λ c. IsTrue (fits_at a.now amount.now c.account)) }
+    ensures via { IfOk result (λ c. IfSome c.via IsBic) }
 {
     match ssi.at(amount.ccy, bank, value) {
         Some(row) => instructed(bank, row, amount, a),
@@ -91,6 +100,7 @@ pub fn credit_side(
 ) -> Result<Credit, Code>
     ensures value { result ≡ credit_of amount.now value target.now ssi.now a.now }
     ensures fits { IfOk result (λ c. IsTrue (fits_at a.now amount.now c.account)) }
+    ensures via { IfOk result (λ c. IfSome c.via IsBic) }
 {
     match target {
         Target::Customer { account } => customer(account, amount, a),
