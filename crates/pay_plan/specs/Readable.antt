@@ -1,5 +1,8 @@
 -- Which messages ask for a pay.
-use Rattle.std.specs.Prelude.{◌≡◌, List, Ok}
+use Rattle.std.specs.Prelude.{◌≡◌, ℕ, ◌≤◌, IfSome, List, Ok, length}
+use Rattle.corr_ids.specs.Mir.{IsMir}
+use Rattle.corr_ids.specs.Uetr.{IsUetr}
+use Rattle.corr_ids.specs.declared.envelope.Envelope.{Envelope}
 use Rattle.ref_tables.specs.Seen.{Tables}
 use Rattle.fin_fields.specs.declared.field.Field.{Field}
 use Rattle.mt103.specs.declared.message.Mt103.{Mt103}
@@ -24,3 +27,9 @@ pub record IsCoverRead (m : Mt202Cov) : Type 0 where
 abbrev pub IsRead : Ask → Type 0
 IsRead (Transfer m) = IsTransferRead m.now
 IsRead (Cover m) = IsCoverRead m.now
+
+-- an envelope and a text whose pay can be written down: the reference and the UETR meet their grammar, and the text is short
+pub record IsWritable (env : Envelope) (text : List ℕ) : Type 0 where
+  pub mir : IfSome env.mir IsMir
+  pub uetr : IfSome env.uetr IsUetr
+  pub short : length text ≤ 32768

@@ -1,10 +1,13 @@
 //! The pay of a message.
 
-ghost use Rattle.std.specs.Prelude.{◌≡◌, IfOk, IsSome, Some};
-ghost use Rattle.day_model.specs.Chart.{IsListed};
+ghost use Rattle.std.specs.Prelude.{◌≡◌, IfOk, IsSome, OnOk, Some};
+ghost use Rattle.corr_ids.specs.Bic.{IsBic};
+ghost use Rattle.day_model.specs.Chart.{IsChart, IsListed, account_at};
 ghost use Rattle.day_model.specs.Fit.{FitsAccounts};
+ghost use Rattle.day_model.specs.Shape.{HasShape};
+ghost use Rattle.day_model.specs.declared.account.Account.{Account};
 ghost use Rattle.pay_plan.specs.Plan.{Plans, pay_of, plan_of};
-ghost use Rattle.pay_plan.specs.Readable.{IsRead};
+ghost use Rattle.pay_plan.specs.Readable.{IsRead, IsWritable};
 
 use crate::ask::Ask;
 use crate::asked::{Asked, asked_of, is_for_home};
@@ -30,7 +33,9 @@ fn pay_of(
 ) -> Result<Pay, Memory>
     requires reference { env.now.mir ≡ Some mir }
     requires debit { IsListed a.now routed.now.debit.0 }
-    ensures { IfOk result (λ pay. pay ≡ pay_of env.now text.now asked.now routed.now a.now) }
+    ensures value { IfOk result (λ pay. pay ≡ pay_of env.now text.now asked.now routed.now a.now) }
+    ensures sound { OnOk result (IsChart a.now) }
+    ensures owner { OnOk result ((x : Account) → account_at a.now routed.now.debit.0 ≡ Some x → IsBic x.owner) }
 {
     let way = way_of(asked.mt, &asked.target, routed.method);
     Ok(Pay {
@@ -48,6 +53,8 @@ fn pay_of(
 /// (docs/operating.md, "Accounts of a payment").
 ///
 /// P34 comes exactly where the message is a cover whose 58a names the home bank by its BIC; else the codes of `route`.
+/// The pay can be written down where the reference and the UETR of `env` meet their grammar and the text has at most
+/// 32,768 bytes.
 pub fn plan(
     alloc: Global,
     env: &Envelope,
@@ -60,6 +67,7 @@ pub fn plan(
     requires message { IsRead ask }
     ensures plan { Plans result (plan_of env.now text.now ask.entry ssi.now a.now) }
     ensures fit { IfOk result (FitsAccounts a.now) }
+    ensures form { IsWritable env.now text.now → IfOk result HasShape }
 {
     let Some(mir) = env.mir else { unreachable!() };
     if is_for_home(a.home(), ask) {

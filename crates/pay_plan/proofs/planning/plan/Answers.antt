@@ -1,6 +1,7 @@
 use Rattle.std.proofs.Common.{◌≡◌, false, Ok, sym, ap, ◌∙◌, subst}
 use Rattle.corr_ids.specs.declared.bic.Bic.{Bic}
 use Rattle.day_model.specs.Fit.{FitsAccounts}
+use Rattle.day_model.specs.Shape.{HasShape}
 use Rattle.day_model.specs.declared.pay.Pay.{Pay}
 use Rattle.fin_contents.specs.Money.{IsPayable}
 use Rattle.pay_plan.specs.declared.asked.Asked.{Asked}
@@ -9,6 +10,7 @@ use Rattle.pay_plan.specs.Way.{way_of}
 use Rattle.pay_plan.proofs.Planned.{home-refused, refused-by, route-refused, routed-planned}
 use Rattle.pay_plan.proofs.Fitting.{legs-fit}
 use Rattle.pay_plan.proofs.Readable.{asked-amount}
+use Rattle.pay_plan.proofs.Shaped.{AskedForm, asked-form, shaped}
 use Rattle.pay_plan.proofs.planning.plan.Goals as goal
 
 pub returns-then-is_for_home-clause-plan : goal.returns-then-is_for_home-clause-plan
@@ -27,7 +29,7 @@ returns-clause-plan c =
     let apart : is_for_home c.args.a.now.home c.args.ask ≡ false = ap (λ (h : Bic). is_for_home h c.args.ask) (sym c.home.ensures) ∙ sym c.if-is_for_home.ensures in
     let is : c.in_ok-asked.asked ≡ asked_of c.args.a.now.home c.args.ask = c.in_ok-asked.ensures ∙ ap (λ (h : Bic). asked_of h c.args.ask) c.home-2.ensures in
     routed-planned c.args.env.now c.args.text.now c.args.ask c.args.ssi.now c.args.a.now c.in_ok-asked.asked c.in_ok-routed.routed apart is (sym c.in_ok-routed.ensures.value)
-    ∙ ap (λ (p : Pay). Ok p) (sym c.in_ok-pay_of.ensures)
+    ∙ ap (λ (p : Pay). Ok p) (sym c.in_ok-pay_of.ensures.value)
 
 pub returns-clause-fit : goal.returns-clause-fit
 returns-clause-fit c =
@@ -35,5 +37,17 @@ returns-clause-fit c =
     let Q : Asked → Type 0 = λ q. IsPayable q.amount in
     let asked = c.in_ok-asked.asked in
     let amount : IsPayable asked.amount = subst Q (sym c.in_ok-asked.ensures) (asked-amount c.home-2.result.now c.args.ask c.requires.message) in
-    subst P (sym c.in_ok-pay_of.ensures)
+    subst P (sym c.in_ok-pay_of.ensures.value)
     (legs-fit c.args.a.now (way_of asked.mt asked.target c.in_ok-routed.routed.method) asked c.in_ok-routed.routed c.in_ok-routed.ensures.accounts.fit amount)
+
+pub returns-clause-form : goal.returns-clause-form
+returns-clause-form c = λ writable.
+    let asked = c.in_ok-asked.asked in
+    let form : AskedForm asked = subst AskedForm (sym c.in_ok-asked.ensures) (asked-form c.home-2.result.now c.args.ask c.requires.message) in
+    let Q : Asked → Type 0 = λ q. IsPayable q.amount in
+    let amount : IsPayable asked.amount = subst Q (sym c.in_ok-asked.ensures) (asked-amount c.home-2.result.now c.args.ask c.requires.message) in
+    let routed = c.in_ok-routed.ensures in
+    let booked = c.in_ok-pay_of.ensures in
+    let fits = legs-fit c.args.a.now (way_of asked.mt asked.target c.in_ok-routed.routed.method) asked c.in_ok-routed.routed routed.accounts.fit amount in
+    subst HasShape (sym booked.value)
+    (shaped c.args.env.now c.args.text.now asked c.in_ok-routed.routed c.args.a.now c.requires.received writable form routed.accounts routed.via fits booked.sound booked.owner)

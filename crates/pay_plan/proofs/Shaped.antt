@@ -1,0 +1,220 @@
+-- The shape of a pay that is planned.
+use Rattle.std.proofs.Common.{◌≡◌, ◌≢◌, ℕ, ◌≤◌, ◌==◌, ◌&&◌, not, Bool, true, false, cond, IfSome, List, [], ◌∷◌, length, Option, Some, None, refl, arith, eqb, leb}
+use Rattle.std.specs.Prelude.{All, IsSome, unwrap_or}
+use Rattle.std.specs.Option.{option_map_or}
+use Rattle.std.proofs.lemmas.Bool.{and_parts, leb-true, ne_eqb}
+use Rattle.std.proofs.lemmas.List.{length-append}
+use Rattle.std.proofs.lemmas.List.Elements.{All-append, All-cons, All-nil}
+use Rattle.corr_text.specs.First.{first_of}
+use Rattle.corr_ids.specs.Bic.{IsBic}
+use Rattle.corr_ids.specs.Day.{InCentury}
+use Rattle.corr_ids.specs.Mir.{IsMir}
+use Rattle.corr_ids.specs.declared.bic.Bic.{Bic}
+use Rattle.corr_ids.specs.declared.envelope.Envelope.{Envelope}
+use Rattle.corr_ids.specs.declared.mir.Mir.{Mir}
+use Rattle.day_model.specs.Chart.{Chart, IsChart, account_at, vostro}
+use Rattle.day_model.specs.Fit.{accounts_fit, amounts_fit, is_listed, legs_fit}
+use Rattle.day_model.specs.Shape.{HasShape, IsLeg, IsOrder, IsQuote, IsReference, are_legs}
+use Rattle.day_model.specs.declared.account.Account.{Account}
+use Rattle.day_model.specs.declared.pay.Leg.{Leg}
+use Rattle.day_model.specs.declared.pay.Order.{Order}
+use Rattle.day_model.specs.declared.pay.Order.TheVariants as order
+use Rattle.day_model.specs.declared.pay.Quote.TheVariants.{Theirs}
+use Rattle.day_model.specs.declared.pay.Side.TheVariants.{Credit, Debit}
+use Rattle.fin_parties.specs.declared.party.Party.{Party}
+use Rattle.fin_parties.specs.declared.party.Party.TheVariants as party
+use Rattle.routing.specs.Accounts.{AreBetween, fits}
+use Rattle.routing.specs.Route.{is_bank}
+use Rattle.routing.specs.declared.routed.Routed.{Routed}
+use Rattle.routing.specs.declared.target.Target.{Target}
+use Rattle.routing.specs.declared.target.Target.TheVariants.{Bank, Customer, NoBic}
+use Rattle.pay_plan.specs.declared.ask.Ask.{Ask}
+use Rattle.pay_plan.specs.declared.ask.Ask.TheVariants.{Cover, Transfer}
+use Rattle.pay_plan.specs.declared.asked.Asked.{Asked}
+use Rattle.pay_plan.specs.declared.way.Way.{Way}
+use Rattle.pay_plan.specs.declared.way.Way.TheVariants.{Covered, Credited, Ends, Onward, Passed}
+use Rattle.pay_plan.specs.Asked.{asked_of}
+use Rattle.pay_plan.specs.Orders.{next_orders, notices_of, orders_by, orders_of, receiver, skip_of}
+use Rattle.pay_plan.specs.Pay.{legs_of, quote_of}
+use Rattle.pay_plan.specs.Plan.{pay_of}
+use Rattle.pay_plan.specs.Readable.{IsRead, IsWritable}
+use Rattle.pay_plan.specs.Target.{aimed, bank_target, customer_target, names_home}
+use Rattle.pay_plan.specs.Way.{way_of}
+use Rattle.pay_plan.proofs.CoverForm.{cover-form}
+use Rattle.pay_plan.proofs.Parties.{HasBic}
+use Rattle.pay_plan.proofs.TransferForm.{transfer-form}
+
+-- ---- what is asked
+
+-- the BIC of a target that has one meets its grammar
+abbrev pub TargetForm : Target → Type 0
+TargetForm (Bank bic field) = IsBic bic
+TargetForm _ = Unit {0}
+
+pub record AskedForm (asked : Asked) : Type 0 where
+  pub reference : IsReference asked.reference
+  pub last_reference : IsReference asked.last_reference
+  pub value : InCentury asked.value
+  pub target : TargetForm asked.target
+
+bank-target : (field : ℕ) (p : Party) → HasBic p → TargetForm (bank_target field p)
+bank-target field (party.A line bic) h = h
+bank-target field (party.B line place) h = tt
+bank-target field (party.C line) h = tt
+bank-target field (party.D line lines) h = tt
+bank-target field (party.K account lines) h = tt
+bank-target field (party.F line lines) h = tt
+
+unless-home : (home : Bool) (target : Target) → TargetForm target → IfSome (cond home None (Some target)) TargetForm
+unless-home true target h = tt
+unless-home false target h = h
+
+aimed-form : (home : Bic) (field : ℕ) (o : Option Party) → IfSome o HasBic → IfSome (aimed home field o) TargetForm
+aimed-form home field None h = tt
+aimed-form home field (Some p) h = unless-home (names_home home p) (bank_target field p) (bank-target field p h)
+
+first-form : (a b : Option Target) (last : Target) → IfSome a TargetForm → IfSome b TargetForm → TargetForm last → TargetForm (unwrap_or (first_of (a ∷ b ∷ [])) last)
+first-form (Some x) b last f g h = f
+first-form None (Some y) last f g h = g
+first-form None None last f g h = h
+
+pub asked-form : (home : Bic) (ask : Ask) → IsRead ask → AskedForm (asked_of home ask)
+asked-form home (Transfer m) is =
+    let x = transfer-form m.now is in
+    let first = aimed-form home 56 m.now.p56 x.p56 in
+    let second = aimed-form home 57 m.now.p57 x.p57 in
+    record {
+      reference = x.reference;
+      last_reference = x.reference;
+      value = x.value;
+      target = first-form (aimed home 56 m.now.p56) (aimed home 57 m.now.p57) (customer_target m.now.payee) first second tt;
+    }
+asked-form home (Cover m) is =
+    let x = cover-form m.now is in
+    let first = aimed-form home 56 m.now.a56 x.a56 in
+    let second = aimed-form home 57 m.now.a57 x.a57 in
+    record {
+      reference = x.reference;
+      last_reference = x.related;
+      value = x.value;
+      target = first-form (aimed home 56 m.now.a56) (aimed home 57 m.now.a57) (bank_target 58 m.now.a58) first second (bank-target 58 m.now.a58 x.a58);
+    }
+
+-- ---- the legs
+
+quote-form : (way : Way) (asked : Asked) → AskedForm asked → IsQuote (quote_of way asked)
+quote-form Ends asked h = h.last_reference
+quote-form Onward asked h = tt
+quote-form Covered asked h = tt
+quote-form Credited asked h = h.last_reference
+quote-form Passed asked h = tt
+
+number-form : (chart : Chart) (n : ℕ) (more : Bool) → IsChart chart → (is_listed chart n && more) ≡ true → (1 ≤ n) × (n ≤ 1000)
+number-form chart n more sound e =
+    let listed = (and_parts (is_listed chart n) more e).0 in
+    let parts = and_parts (leb 1 n) (leb n (length chart.accounts)) listed in
+    let low = leb-true 1 n parts.0 in
+    let high = leb-true n (length chart.accounts) parts.1 in
+    (low, omega (arith, high, sound.rows.few))
+
+two : (x y : Leg) → IsLeg x → IsLeg y → All IsLeg (x ∷ y ∷ [])
+two x y h k = All-cons IsLeg x (y ∷ []) h (All-cons IsLeg y [] k (All-nil IsLeg))
+
+each-leg : (chart : Chart) (way : Way) (asked : Asked) (routed : Routed) → IsChart chart → AskedForm asked → AreBetween chart asked.amount routed → All IsLeg (legs_of way asked routed)
+each-leg chart way asked routed sound h between =
+    let debit = number-form chart routed.debit.0 (option_map_or (fits asked.amount) (account_at chart routed.debit.0) false) sound between.debit in
+    let credit = number-form chart routed.credit.0 (option_map_or (fits asked.amount) (account_at chart routed.credit.0) false) sound between.credit in
+    let first : Leg = record { account = routed.debit; side = Debit; amount = asked.amount.minor; quote = Theirs asked.reference } in
+    let second : Leg = record { account = routed.credit; side = Credit; amount = asked.amount.minor; quote = quote_of way asked } in
+    two first second (record { account = debit; quote = h.reference }) (record { account = credit; quote = quote-form way asked h })
+
+both : (a b : Bool) → a ≡ true → b ≡ true → (a && b) ≡ true
+both a b e f = rw (e, f) refl
+
+-- legs that fit accounts are legs
+legs-form : (chart : Chart) (way : Way) (asked : Asked) (routed : Routed) → legs_fit chart (legs_of way asked routed) ≡ true → routed.debit.0 ≢ routed.credit.0 → are_legs (legs_of way asked routed) ≡ true
+legs-form chart way asked routed fits distinct =
+    let amounts = amounts_fit asked.amount.minor.0 asked.amount.minor.0 in
+    let paid = (and_parts amounts (accounts_fit chart routed.debit.0 routed.credit.0) fits).0 in
+    let same : eqb routed.debit.0 routed.credit.0 ≡ false = ne_eqb routed.debit.0 routed.credit.0 distinct in
+    both amounts (not (eqb routed.debit.0 routed.credit.0)) paid (rw same refl)
+
+-- ---- the orders
+
+receiver-form : (bank : Bic) (via : Option Bic) → IsBic bank → IfSome via IsBic → IsBic (receiver bank via)
+receiver-form bank None h v = h
+receiver-form bank (Some b) h v = v
+
+one : (x : Order) → IsOrder 2 x → All (IsOrder 2) (x ∷ [])
+one x h = All-cons (IsOrder 2) x [] h (All-nil (IsOrder 2))
+
+-- orders in form, and so many at most
+record AreOrders (most : ℕ) (orders : List Order) : Type 0 where
+  each : All (IsOrder 2) orders
+  few : length orders ≤ most
+
+none : AreOrders 2 []
+none = record { each = All-nil (IsOrder 2); few = omega arith }
+
+next-form : (way : Way) (bank : Bic) (field : ℕ) (via : Option Bic) → IsBic bank → IfSome via IsBic → AreOrders 2 (next_orders way bank field via)
+next-form Ends bank field via h v = none
+next-form Onward bank field via h v =
+    let x = order.Transfer (receiver bank via) (skip_of field (is_bank (receiver bank via) bank)) None in
+    record { each = one x (receiver-form bank via h v, tt); few = omega arith }
+next-form Covered bank field via h v =
+    let x = order.Transfer bank (skip_of field true) via in
+    let y = order.Cover (receiver bank via) bank (skip_of field true) in
+    record { each = All-cons (IsOrder 2) x (y ∷ []) (h, v) (one y (receiver-form bank via h v, h)); few = omega arith }
+next-form Credited bank field via h v = record { each = one (order.Credit bank 2) (h, (omega arith, omega arith)); few = omega arith }
+next-form Passed bank field via h v =
+    let x = order.Pass (receiver bank via) (skip_of field (is_bank (receiver bank via) bank)) in
+    record { each = one x (receiver-form bank via h v); few = omega arith }
+
+target-form : (way : Way) (target : Target) (via : Option Bic) → TargetForm target → IfSome via IsBic → AreOrders 2 (orders_by way target via)
+target-form way (Bank bank field) via h v = next-form way bank field via h v
+target-form way (Customer account) via h v = none
+target-form way NoBic via h v = none
+
+if-vostro : (is : Bool) (owner : Bic) → IsBic owner → AreOrders 1 (cond is (order.Debit owner 1 ∷ []) [])
+if-vostro true owner h = record { each = one (order.Debit owner 1) (h, (omega arith, omega arith)); few = omega arith }
+if-vostro false owner h = record { each = All-nil (IsOrder 2); few = omega arith }
+
+notice-form : (a : Account) → IsBic a.owner → AreOrders 1 (notices_of a)
+notice-form a h = if-vostro (a.kind == vostro) a.owner h
+
+both-form : (way : Way) (target : Target) (via : Option Bic) (a : Account) → TargetForm target → IfSome via IsBic → IsBic a.owner → AreOrders 3 (orders_of way target via a)
+both-form way target via a h v o =
+    let first = target-form way target via h v in
+    let last = notice-form a o in
+    record {
+      each = All-append (IsOrder 2) (orders_by way target via) (notices_of a) first.each last.each;
+      few = omega (arith, first.few, last.few, length-append (orders_by way target via) (notices_of a));
+    }
+
+there-form : (way : Way) (target : Target) (via : Option Bic) (o : Option Account) → TargetForm target → IfSome via IsBic → ((a : Account) → o ≡ Some a → IsBic a.owner)
+    → AreOrders 3 (option_map_or (orders_of way target via) o [])
+there-form way target via None h v owner = record { each = All-nil (IsOrder 2); few = omega arith }
+there-form way target via (Some a) h v owner = both-form way target via a h v (owner a refl)
+
+-- ---- the pay
+
+given : (o : Option Mir) (d : Mir) → IsSome o → IfSome o IsMir → IsMir (unwrap_or o d)
+given (Some m) d some h = h
+given None d some h = absurd (cc some)
+
+pub shaped : (env : Envelope) (text : List ℕ) (asked : Asked) (routed : Routed) (chart : Chart) → IsSome env.mir → IsWritable env text
+    → AskedForm asked → AreBetween chart asked.amount routed → IfSome routed.via IsBic → legs_fit chart (legs_of (way_of asked.mt asked.target routed.method) asked routed) ≡ true
+    → IsChart chart → ((a : Account) → account_at chart routed.debit.0 ≡ Some a → IsBic a.owner) → HasShape (pay_of env text asked routed chart)
+shaped env text asked routed chart received writable form between via fits sound owner =
+    let way = way_of asked.mt asked.target routed.method in
+    let orders = there-form way asked.target routed.via (account_at chart routed.debit.0) form.target via owner in
+    record {
+      mir = given env.mir (record { 0 = [] }) received writable.mir;
+      uetr = writable.uetr;
+      text = writable.short;
+      value = form.value;
+      legs = legs-form chart way asked routed fits between.distinct;
+      each_leg = each-leg chart way asked routed sound form between;
+      few_orders = omega (arith, orders.few);
+      each_order = orders.each;
+    }
