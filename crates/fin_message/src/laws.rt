@@ -1,13 +1,9 @@
-//! The names and orders that stand in the handbook.
+//! The codes of headings and lines, as docs/messages.md has them.
 
-ghost use Rattle.fin_message.specs.Handbook.{HasMessageCodes, HasOrders, HasRuleCodes, HasWords};
+ghost use Rattle.fin_message.specs.Constants.{HasMessageCodes};
 
-/// Each code by which a message is refused has its own three characters; what 23B, 23E and 71A may say, the metals that 32A
-/// may not have, and the places of each type's fields are those of docs/messages.md. It does nothing: it says this of the
-/// constants that the tests of a message are written over.
-pub fn handbook_laws()
+/// Each code of a heading, of a line and of a type that is not read has its own three characters (docs/messages.md, "The tests
+/// of a message"). It does nothing: it says this of the constants that the definitions name.
+pub fn message_code_law()
     ensures codes { HasMessageCodes }
-    ensures rules { HasRuleCodes }
-    ensures words { HasWords }
-    ensures orders { HasOrders }
 {}

@@ -21,5 +21,5 @@ mod transfer;
 pub use codes::{P07, P08, P09, P10, P11, P12, P13, P20, P21, P90};
 pub use fault::MessageFault;
 pub use judging::{check_sent, verdict};
-pub use laws::handbook_laws;
+pub use laws::message_code_law;
 pub use message::Message;
