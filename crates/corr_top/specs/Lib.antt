@@ -6,7 +6,6 @@ pub mod Words
 pub mod Status
 pub mod Asks
 pub mod Message
-pub mod Codes
 pub mod Replies
 pub mod Answers
 pub mod Turn
@@ -17,3 +16,4 @@ pub mod Ends
 pub mod Books
 pub mod Messages
 pub mod Complete
+pub mod Constants

@@ -1,9 +1,9 @@
-//! The names of the codes by which a valid message has no pay.
+//! The code by which an advice is not booked, as docs/operating.md has it.
 
-ghost use Rattle.corr_top.specs.Codes.{HasRouteCodes};
+ghost use Rattle.corr_top.specs.Constants.{HasAdviceCode};
 
-/// Each code by which a valid message has no pay has its own three characters (docs/operating.md). It does nothing: it says this of the
-/// constants that routes and plans are written over.
-pub fn route_code_law()
-    ensures { HasRouteCodes }
+/// The code by which an advice is not booked is P37 (docs/operating.md, "The report"). It does nothing: it says this
+/// of the constant that the definitions name.
+pub fn advice_code_law()
+    ensures code { HasAdviceCode }
 {}

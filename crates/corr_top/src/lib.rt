@@ -20,7 +20,7 @@ mod words;
 mod writing;
 
 pub use command::corr;
-pub use laws::route_code_law;
+pub use laws::advice_code_law;
 pub use line::status_line;
 pub use room::{Done, Room, Tables};
 pub use status::Status;
