@@ -3,10 +3,7 @@ use Rattle.std.proofs.Common.{◌≡◌, ℕ, true, List, [], ◌∷◌, ◌++�
 use Rattle.std.specs.Prelude.{IfOk, IfSome, IsTrue, unwrap_or}
 use Rattle.std.specs.List.{All, AllByRecursion}
 use Rattle.corr_text.specs.declared.fault.Fault.{Fault}
-use Rattle.ref_tables.specs.Rows.{rows_of}
 use Rattle.ref_tables.specs.Seen.{Tables, few_decimals}
-use Rattle.ref_tables.specs.Tables.{tables_of}
-use Rattle.ref_tables.proofs.Decimals.{rows_few}
 use Rattle.fin_fields.specs.declared.field.Field.{Field}
 use Rattle.fin_fields.specs.Fields.{fields_of}
 use Rattle.fin_fields.specs.Writing.{IsField, fields_text}
@@ -298,8 +295,3 @@ fit-910 m r =
 -- what fields of a text say may be written
 pub readable : {M : Type 0} (read : Tables → List Field → Result M Fault) (t : Tables) (fields shown : List Field) (m : M) → IsTrue (few_decimals t.ccys) → All IsField fields → shown ≡ fields → read t shown ≡ Ok m → IsReadable read m
 readable read t fields shown m few fit same says = record { tables = t; few = few; fields = fields; fit = fit; says = rw (← same) says }
-
--- tables that were read have currencies of at most 4 decimals
-pub tables-few : {E : Type 0} (r : Result Tables E) (bics ccys countries : List ℕ) → IfOk r (λ t. t ≡ tables_of bics ccys countries) → IfOk r (λ t. IsTrue (few_decimals t.ccys))
-tables-few (Err e) bics ccys countries is = tt
-tables-few (Ok t) bics ccys countries is = rw is (rows_few (rows_of ccys))
