@@ -1,12 +1,15 @@
 -- The BIC of a party that was read meets its grammar.
-use Rattle.std.proofs.Common.{◌≡◌, ℕ, IfSome, List, [], ◌∷◌, Option, Some, None, Result, Ok, drop, option_map, option_and_then, refl, subst, take}
+use Rattle.std.proofs.Common.{◌≡◌, ℕ, IfSome, List, [], ◌∷◌, Option, Some, None, Result, Ok, Err, drop, option_map, option_and_then, refl, ap, subst, take}
 use Rattle.corr_ids.specs.Bic.{IsBic, bic_of, branch_of, is_bic}
 use Rattle.corr_ids.specs.declared.bic.Bic.{Bic}
 use Rattle.corr_ids.proofs.Spelling.{bic-again, some_if}
+use Rattle.corr_text.specs.First.{◌>>=◌}
+use Rattle.corr_text.specs.declared.fault.Code.{Code}
+use Rattle.corr_text.specs.declared.fault.Fault.{Fault}
 use Rattle.ref_tables.specs.Seen.{Tables}
 use Rattle.fin_fields.specs.declared.field.Field.{Field}
-use Rattle.fin_layout.proofs.ReadBack.{may-ok}
-use Rattle.fin_layout.specs.Contents.{in_option}
+use Rattle.fin_layout.proofs.ReadBack.{must-ok}
+use Rattle.fin_layout.specs.Contents.{in_option, located, may_read}
 use Rattle.fin_layout.specs.Order.{field_in}
 use Rattle.fin_layout.specs.declared.fault.TheConstants.{P24}
 use Rattle.fin_parties.specs.declared.form.Form.{Form}
@@ -89,6 +92,15 @@ party-bic t f p e =
     let known = checked (is_known t found.0) P25 _ p found.2 in
     let c = chained (λ form. party_in form f.lines) (form_of f.tag f.letter) found.0 found.1 in
     subst HasBic (ok-is found.0 p known.1) (in-form c.0 f.lines found.0 c.1)
+
+within : {A : Type 0} {x : A} (r : Result A Fault) → (r >>= λ y. Ok (Some y)) ≡ Ok (Some x) → r ≡ Ok x
+within (Ok y) e = ap Ok (cc e)
+within (Err fault) e = absurd (cc e)
+
+-- what was read at a place that may be empty is what some field says
+may-ok : {A : Type 0} (fs : List Field) (read : Field → Result A Code) (o : Option (ℕ × Field)) (x : A) → may_read fs read o ≡ Ok (Some x) → (f : Field) × (read f ≡ Ok x)
+may-ok fs read None x e = absurd (cc e)
+may-ok fs read (Some (i, f)) x e = must-ok [] fs 0 read (Some (i, f)) x (within (located fs i (read f)) e)
 
 -- the same of a field that may be there
 pub bank-form : (t : Tables) (fs : List Field) (found : List ℕ) (k : ℕ) (o : Option Party) → in_option fs found k (known_party_of t) ≡ Ok o → IfSome o HasBic
