@@ -1,5 +1,8 @@
 -- What every valid message has.
-use Rattle.std.specs.Prelude.{◌≡◌, ℕ, ◌≤◌, List, [], length, None, Ok, IsSome}
+use Rattle.std.specs.Prelude.{◌≡◌, ℕ, ◌≤◌, List, [], length, None, Ok, IfSome, IsSome}
+use Rattle.corr_ids.specs.Bic.{IsBic}
+use Rattle.corr_ids.specs.Mir.{IsMir}
+use Rattle.corr_ids.specs.Uetr.{IsUetr}
 use Rattle.corr_ids.specs.declared.envelope.Envelope.{Envelope}
 use Rattle.fin_contents.specs.Money.{IsPayable}
 use Rattle.fin_fields.specs.Fields.{fields_of}
@@ -22,6 +25,19 @@ Goes way (Cover envelope text cover) = IsOfForm way envelope
 Goes way (Debit envelope advice) = IsOfForm way envelope
 Goes way (Credit envelope advice) = IsOfForm way envelope
 
+-- an envelope meets its grammar: so do its references, where given, and its banks
+pub record IsEnvelope (envelope : Envelope) : Type 0 where
+  pub mir : IfSome envelope.mir IsMir
+  pub sender : IsBic envelope.sender
+  pub receiver : IsBic envelope.receiver
+  pub uetr : IfSome envelope.uetr IsUetr
+
+abbrev pub HasEnvelope : Message → Type 0
+HasEnvelope (Transfer envelope text transfer) = IsEnvelope envelope
+HasEnvelope (Cover envelope text cover) = IsEnvelope envelope
+HasEnvelope (Debit envelope advice) = IsEnvelope envelope
+HasEnvelope (Credit envelope advice) = IsEnvelope envelope
+
 -- the amount of field 32A of a transfer and of a cover: above zero and below 10^14 minor units
 abbrev pub HasAmount : Message → Type 0
 HasAmount (Transfer envelope text transfer) = IsPayable transfer.amount
@@ -43,6 +59,7 @@ IsRead t _ = Unit {0}
 -- a valid message that goes this way under these tables, with lines of at most so many bytes
 pub record IsSound (way : Direction) (t : Tables) (most : ℕ) (message : Message) : Type 0 where
   pub goes : Goes way message
+  pub envelope : HasEnvelope message
   pub read : IsRead t message
   pub amount : HasAmount message
   pub short : length (lines_in message) ≤ most
