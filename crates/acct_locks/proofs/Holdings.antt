@@ -4,7 +4,7 @@ use Rattle.std.proofs.lemmas.Bool.{cases_eq, eq-eqb, ne_eqb}
 use Rattle.std.proofs.lemmas.List.Elements.{All-nil, All-cons, All-rest}
 use Rattle.day_model.specs.declared.pay.Leg.{Leg}
 use Rattle.day_model.specs.Totals.{Pair, plus, Fits64, leg_pair, legs_pair}
-use Rattle.day_model.proofs.Pairs.{plus_nothing}
+use Rattle.day_model.proofs.laws.Pairs.{plus_nothing}
 use Rattle.acct_locks.specs.Holdings.{Holding, Holds, HoldsOnce, held_totals, held_with, CanSettle}
 use Rattle.acct_locks.proofs.Pairs.{plus_leg, plus_own, plus_other, fits_less}
 

@@ -5,7 +5,7 @@ use Rattle.std.proofs.lemmas.List.{drop_more}
 use Rattle.std.proofs.lemmas.Option.{none-some, same_Some, slice_get_read}
 use Rattle.day_model.specs.declared.pay.Leg.{Leg}
 use Rattle.day_model.specs.Totals.{Pair, plus, Fits64, leg_pair, legs_pair, pair_at}
-use Rattle.day_model.proofs.Pairs.{plus_assoc, plus_nothing, legs_pair-cons, own_leg, other_leg}
+use Rattle.day_model.proofs.laws.Pairs.{plus_assoc, plus_nothing, legs_pair-cons, own_leg, other_leg}
 use Rattle.acct_locks.specs.Pairs.{with_pair, pairs_from, pairs_with, PairsFit}
 
 -- one leg after another adds what both add

@@ -1,4 +1,3 @@
-pub mod Counted
-pub mod Moments
+pub mod laws
 mod Steps
 mod Torn

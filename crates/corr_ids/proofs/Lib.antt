@@ -1,4 +1,1 @@
-pub mod Century
-pub mod Civil
-pub mod DaySpelling
-pub mod Spelling
+pub mod laws

@@ -9,7 +9,7 @@ use Rattle.std.proofs.lemmas.List.{take-append-drop, take_more, length-replicate
 use Rattle.std.proofs.lemmas.List.Folds.{list_all-append, list_all_at}
 use Rattle.std.proofs.Math.Nat.{pow-le-pow_right}
 use Rattle.std.proofs.lemmas.Int.Digits.{digits_value-lt}
-use Rattle.corr_text.proofs.Number.{digit_is}
+use Rattle.corr_text.proofs.laws.Number.{digit_is}
 
 pub after_append : (n : ℕ) (xs ys : List ℕ) → digits_value_after 10 n (xs ++ ys) ≡ digits_value_after 10 (digits_value_after 10 n xs) ys
 after_append n [] ys = refl

@@ -1,2 +1,2 @@
+pub mod laws
 pub mod Digits
-pub mod Written

@@ -1,4 +1,4 @@
-pub mod Rests
+pub mod laws
 pub mod Sums
 pub mod LineLists
 pub mod FailingLeg

@@ -13,8 +13,8 @@ use Rattle.day_model.specs.declared.pay.Side.TheVariants.{Debit, Credit}
 use Rattle.day_model.specs.Balance.{is_booked, moved, moved_by}
 use Rattle.day_model.specs.Chart.{Chart, is_ccy}
 use Rattle.day_model.specs.Legal.{IsLegal}
-use Rattle.day_model.proofs.Fitting.{Transfer, transfer}
-use Rattle.day_model.proofs.Balances.{debits_moved, credits_moved, debits_small, credits_small}
+use Rattle.day_model.proofs.laws.Fitting.{Transfer, transfer}
+use Rattle.day_model.proofs.laws.Balances.{debits_moved, credits_moved, debits_small, credits_small}
 use Rattle.corr_report.specs.Totals.{AreSums, IsAdded, sum_over}
 
 -- ---- one entry

@@ -9,7 +9,7 @@ use Rattle.std.proofs.lemmas.Option.{same_Some, none-some}
 use Rattle.corr_text.specs.Sets.{is_c_byte}
 use Rattle.corr_ids.specs.Bic.{bic_of, is_bic, IsBic}
 use Rattle.corr_ids.specs.declared.bic.Bic.{Bic}
-use Rattle.corr_ids.proofs.Spelling.{some_if, bic-again}
+use Rattle.corr_ids.proofs.laws.Spelling.{some_if, bic-again}
 use Rattle.day_model.specs.declared.account.Account.{Account}
 use Rattle.day_model.specs.Chart.{AreRows, IsFormed, IsLimited, IsSameBank, IsSmall}
 use Rattle.ref_tables.specs.AccountList.{AreAccounts, IsAccount, IsSameRelation}

@@ -13,11 +13,11 @@ use Rattle.fin_frame.specs.Shown.{HasBegun}
 use Rattle.fin_frame.specs.Shown.HasBegun.{begun as has_begun}
 use Rattle.fin_frame.specs.declared.cutter.Cutter.{Cutter}
 use Rattle.fin_frame.specs.declared.fault.FrameFault.{FrameFault}
-use Rattle.fin_frame.proofs.Led.{Rests, file-run, message-leads}
-use Rattle.fin_frame.proofs.Led.Rests.{rests_apart, rests_behind}
-use Rattle.fin_frame.proofs.Running.{run-append, run-failed}
-use Rattle.fin_frame.proofs.Showing.{begun-comes, cut-comes, ends-come, shown-comes}
-use Rattle.fin_frame.proofs.Tracking.{begun-more}
+use Rattle.fin_frame.proofs.laws.Led.{Rests, file-run, message-leads}
+use Rattle.fin_frame.proofs.laws.Led.Rests.{rests_apart, rests_behind}
+use Rattle.fin_frame.proofs.laws.Running.{run-append, run-failed}
+use Rattle.fin_frame.proofs.laws.Showing.{begun-comes, cut-comes, ends-come, shown-comes}
+use Rattle.fin_frame.proofs.laws.Tracking.{begun-more}
 use Rattle.corr_top.specs.declared.status.Status.{Status}
 use Rattle.corr_top.specs.declared.status.Status.TheVariants as status
 use Rattle.corr_top.specs.Feeding.{HasPassed, StopsFeeding, StopsInPieces}

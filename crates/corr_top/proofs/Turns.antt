@@ -17,8 +17,8 @@ use Rattle.day_model.specs.Laws.{IsLatest}
 use Rattle.day_model.specs.Legal.{IsLegal}
 use Rattle.day_model.specs.Next.{entered_at, entry_of, next_history, fold_of}
 use Rattle.day_model.specs.Same.{reply_at, reply_to, is_same_pay}
-use Rattle.day_model.proofs.Growth.{places_stay, stays_legal, next_begins}
-use Rattle.day_model.proofs.Places.{position_from-within}
+use Rattle.day_model.proofs.laws.Growth.{places_stay, stays_legal, next_begins}
+use Rattle.day_model.proofs.laws.Places.{position_from-within}
 use Rattle.corr_top.specs.Message.{pays_in, replies_in, reply_for, reply_in}
 use Rattle.corr_top.specs.declared.message.NoPay.{NoPay}
 use Rattle.corr_top.specs.declared.message.NoPay.TheVariants as no_pay

@@ -13,8 +13,8 @@ use Rattle.day_model.specs.Chart.{Chart}
 use Rattle.day_model.specs.Fit.{FitsAccounts}
 use Rattle.day_model.specs.CoreStep.{also_holding, has_held, holder_of, holds, job_at, least_unheld, lesser, wanted_by, worker_at}
 use Rattle.day_model.specs.CoreSound.{HasHeld, HoldsLeast, has_account}
-use Rattle.day_model.proofs.Fitting.{transfer}
-use Rattle.day_model.proofs.Growth.{none_passes}
+use Rattle.day_model.proofs.laws.Fitting.{transfer}
+use Rattle.day_model.proofs.laws.Growth.{none_passes}
 use Rattle.day_model.proofs.CoreWorkers.{job_there, worker_at-from_one}
 
 -- one account more

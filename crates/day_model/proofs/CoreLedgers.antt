@@ -12,8 +12,8 @@ use Rattle.day_model.specs.Fit.{FitsAccounts}
 use Rattle.day_model.specs.Balance.{is_booked, outcome_of}
 use Rattle.day_model.specs.Next.{entered_at, entry_of, next_history}
 use Rattle.day_model.specs.CoreLedger.{AreAtBalance, CanAddAll, IsSoundLedger, LedgerState, is_entered, ledger_after, mark_of, may_enter}
-use Rattle.day_model.proofs.Fitting.{transfer}
-use Rattle.day_model.proofs.Growth.{enters, next_begins, one_more, still, still_latest}
+use Rattle.day_model.proofs.laws.Fitting.{transfer}
+use Rattle.day_model.proofs.laws.Growth.{enters, next_begins, one_more, still, still_latest}
 use Rattle.day_model.proofs.CorePurses.{can_add_all, purses_more, purses_with}
 
 pub can_add_now : (ledger : LedgerState) (pay : Pay) → IsSoundLedger ledger → FitsAccounts ledger.chart pay → CanAddAll ledger.purses pay.legs

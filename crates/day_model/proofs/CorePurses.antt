@@ -11,8 +11,8 @@ use Rattle.day_model.specs.Chart.{Chart, IsChart, IsSmall}
 use Rattle.day_model.specs.Balance.{balance_of, changed, is_booked, moved_by, opening_of}
 use Rattle.day_model.specs.Legal.{IsLegal}
 use Rattle.day_model.specs.CoreLedger.{AreAtBalance, CanAdd, CanAddAll, purse_of, with_leg, with_legs}
-use Rattle.day_model.proofs.Fitting.{Transfer}
-use Rattle.day_model.proofs.Balances.{balance_more, booked_moves, unmoved, credits_moved, debits_moved, small_at}
+use Rattle.day_model.proofs.laws.Fitting.{Transfer}
+use Rattle.day_model.proofs.laws.Balances.{balance_more, booked_moves, unmoved, credits_moved, debits_moved, small_at}
 use Rattle.day_model.proofs.CoreWorkers.{slice_get-set_same, slice_get-set_other}
 
 purse_is : (purses : List ℤ) (n : ℕ) (b : ℤ) → slice_get purses (n - 1) ≡ Some b → purse_of purses n ≡ b

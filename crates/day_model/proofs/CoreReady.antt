@@ -10,7 +10,7 @@ use Rattle.day_model.specs.declared.core_job.Job.{Job}
 use Rattle.day_model.specs.declared.core_job.Mark.{Mark}
 use Rattle.day_model.specs.CoreStep.{CoreState, holder_of, holds, is_allowed, is_number, job_at, may_commit, may_give_back, may_take, run_of, wanted_by}
 use Rattle.day_model.specs.CoreSound.{AllIdle, HasHeld, IsSound, MayGoOn, NoDeadlock, RunsAreKept, can_go_on, goes_on, is_free}
-use Rattle.day_model.proofs.Growth.{none_passes}
+use Rattle.day_model.proofs.laws.Growth.{none_passes}
 use Rattle.day_model.proofs.CoreWorkers.{job_there}
 use Rattle.day_model.proofs.CoreHoldings.{account_listed, holder_held, job_here, no_holder, position_at, position_least, wanted_own}
 use Rattle.day_model.proofs.CoreSteps.{run_accounts, run_begins, run_sound}

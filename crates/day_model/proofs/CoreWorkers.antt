@@ -8,7 +8,7 @@ use Rattle.std.proofs.lemmas.Option.{slice_get-get_or, slice_get_past, slice_get
 use Rattle.day_model.specs.declared.core_job.Job.{Job}
 use Rattle.day_model.specs.CoreStep.{worker_at, job_at, with_worker, is_idle}
 use Rattle.day_model.specs.CoreSound.{AllIdle}
-use Rattle.day_model.proofs.Growth.{pushed}
+use Rattle.day_model.proofs.laws.Growth.{pushed}
 
 -- a list after one element was changed
 pub slice_get-set_same : {A : Type 0} (xs : List A) (i : ℕ) (y : A) → i < length xs → slice_get (slice_set xs i y) i ≡ Some y

@@ -1,11 +1,7 @@
-pub mod Places
-pub mod Fitting
-pub mod Balances
+pub mod laws
 pub mod LegTests
 pub mod Openings
 pub mod Sums
-pub mod Growth
-pub mod Pairs
 pub mod Testing
 pub mod CoreWorkers
 pub mod CorePurses

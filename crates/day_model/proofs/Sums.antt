@@ -18,8 +18,8 @@ use Rattle.day_model.specs.Fit.{same_ccy}
 use Rattle.day_model.specs.Balance.{is_booked, moved, moved_by, credits_of, debits_of, balance_of}
 use Rattle.day_model.specs.Legal.{IsLegal}
 use Rattle.day_model.specs.Laws.{sum_in, in_ccy, moved_in, entry_in, turnover, BalancesCancel, DebitsEqualCredits, TotalsFit}
-use Rattle.day_model.proofs.Fitting.{Transfer, transfer}
-use Rattle.day_model.proofs.Balances.{balance_more, booked_moves, unmoved, credits_moved, debits_moved, credits_small, debits_small}
+use Rattle.day_model.proofs.laws.Fitting.{Transfer, transfer}
+use Rattle.day_model.proofs.laws.Balances.{balance_more, booked_moves, unmoved, credits_moved, debits_moved, credits_small, debits_small}
 
 sum_in-same : (ccy : Ccy) (f g : ℕ → ℤ) (n : ℕ) (accounts : List Account) → ((k : ℕ) → f k ≡ g k) → sum_in ccy f n accounts ≡ sum_in ccy g n accounts
 sum_in-same ccy f g n [] same = refl

@@ -6,7 +6,7 @@ use std::process::Abort;
 use std::test::*;
 
 /// A core of two workers over the sample accounts, without an entry yet.
-#[tactic(auto, using(crate::proofs::Growth::legal_here))]
+#[tactic(auto, using(crate::proofs::laws::Growth::legal_here))]
 fn two_workers<R: Abort>(rt: &R, alloc: Global) -> Result<Core, Memory> {
     let Ok(a) = book(rt, alloc, 5_000_000, 9_000_000) else {
         return Err(Memory);

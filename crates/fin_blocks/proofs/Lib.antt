@@ -1,3 +1,4 @@
+pub mod laws
 pub mod Numbers
 pub mod Cutting
 pub mod Pieces
@@ -10,5 +11,4 @@ pub mod SentParts
 pub mod SentUser
 pub mod SentLines
 pub mod ReadBack
-pub mod Sizes
 pub mod Unchanged

@@ -6,7 +6,7 @@ use Rattle.std.proofs.lemmas.Str.Parse.{IsNumeralModel, numerals_by_fold}
 use Rattle.std.proofs.lemmas.Bool.Decides.{nat_tests}
 use Rattle.std.proofs.lemmas.Int.Digits.{digits_value-lt}
 use Rattle.corr_text.specs.Digits.{number_of}
-use Rattle.corr_text.proofs.Number.{digit_is}
+use Rattle.corr_text.proofs.laws.Number.{digit_is}
 
 model : IsNumeralModel (λ ds. all_ascii_digits ds ≡ true) (digits_value_after 10 0)
 model = numerals_by_fold _ (search rules) (digits_value_after 10) (search (rules, digit_is))

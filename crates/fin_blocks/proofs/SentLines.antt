@@ -3,7 +3,7 @@ use Rattle.std.proofs.Common.{◌≡◌, ℕ, ◌&&◌, Bool, true, List, [], �
 use Rattle.std.specs.List.{flat_map, list_all}
 use Rattle.std.proofs.lemmas.Bool.{and_parts}
 use Rattle.corr_text.specs.Lines.{lines_of}
-use Rattle.corr_text.proofs.Written.{is_inner, line-again}
+use Rattle.corr_text.proofs.laws.Written.{is_inner, line-again}
 use Rattle.fin_blocks.specs.Forms.{is_plain}
 use Rattle.fin_blocks.specs.Text.{crlf, ended, text_in}
 use Rattle.fin_blocks.specs.Sending.{IsText}

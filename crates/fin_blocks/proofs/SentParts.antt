@@ -11,12 +11,12 @@ use Rattle.std.proofs.lemmas.List.Folds.{list_all-append}
 use Rattle.corr_text.specs.Digits.{number_of, padded}
 use Rattle.corr_text.specs.Lines.{lines_of}
 use Rattle.corr_text.specs.Sets.{is_c_byte}
-use Rattle.corr_text.proofs.Number.{number_of-padded, length-padded}
+use Rattle.corr_text.proofs.laws.Number.{number_of-padded, length-padded}
 use Rattle.corr_ids.specs.Address.{is_lt, lt_of, lt_text, IsLt}
 use Rattle.corr_ids.specs.Bic.{IsBic}
 use Rattle.corr_ids.specs.declared.bic.Bic.{Bic}
 use Rattle.corr_ids.specs.declared.address.LtAddress.{LtAddress}
-use Rattle.corr_ids.proofs.Spelling.{lt-form, terminal-again}
+use Rattle.corr_ids.proofs.laws.Spelling.{lt-form, terminal-again}
 use Rattle.fin_blocks.specs.declared.blocks.App.TheVariants.{Sent}
 use Rattle.fin_blocks.specs.Forms.{app_of, basic_in, basic_of, is_basic, is_plain, is_sent, is_sent_length, sent_in}
 use Rattle.fin_blocks.specs.Text.{crlf, ended, is_ended, text_in, text_of}

@@ -5,9 +5,9 @@ use Rattle.std.specs.Char.{is_ascii_digit}
 use Rattle.std.proofs.lemmas.Bool.Decides.{nat_tests}
 use Rattle.corr_ids.specs.declared.day.Day.{Day}
 use Rattle.corr_ids.specs.Day.{InCentury, civil_day, day_of, is_civil, pair_of, year_of}
-use Rattle.corr_ids.proofs.Century.{century_from}
-use Rattle.corr_ids.proofs.Civil.{date_from}
-use Rattle.corr_ids.proofs.Spelling.{some_if}
+use Rattle.corr_ids.proofs.laws.Century.{century_from}
+use Rattle.corr_ids.proofs.laws.Civil.{date_from}
+use Rattle.corr_ids.proofs.laws.Spelling.{some_if}
 
 pair-small : (a b n : ℕ) → pair_of a b ≡ Some n → n ≤ 99
 pair-small a b n e =

@@ -1,8 +1,2 @@
-pub mod Steps
-pub mod Bytes
+pub mod laws
 pub mod Days
-pub mod Again
-pub mod Fit
-pub mod Said
-pub mod Back
-pub mod Placed

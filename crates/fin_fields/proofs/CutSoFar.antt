@@ -5,7 +5,7 @@ use Rattle.std.proofs.lemmas.List.{append-nil}
 use Rattle.fin_fields.specs.declared.field.Field.{Field}
 use Rattle.fin_fields.specs.Fields.{Grouped, grouped, heading_of, so_far, with_line}
 use Rattle.fin_fields.specs.Faults.{has_other_byte, is_misplaced}
-use Rattle.fin_fields.proofs.Positions.{position-here, position-later}
+use Rattle.fin_fields.proofs.laws.Positions.{position-here, position-later}
 
 -- what was cut of lines, with those ahead, gives the fields of all of them, and the lines ahead hold their first fault
 pub record CutSoFar (lines ahead : List (List ℕ)) (first : Field) (whole : List Field) (open_field : Field) (number : ℕ) (so_plain at_first : Bool) : Type 0 where

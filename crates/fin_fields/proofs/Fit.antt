@@ -13,8 +13,8 @@ use Rattle.corr_text.specs.Lines.{begins_with}
 use Rattle.fin_fields.specs.Fields.{Grouped, Heading, field_begun, grouped, heading_of, with_line}
 use Rattle.fin_fields.specs.Faults.{faulty_line, has_other_byte, is_empty, is_misplaced, is_outside_x, outside_x, outside_x_at}
 use Rattle.fin_fields.specs.Writing.{Continues, ContinueAll, IsField}
-use Rattle.fin_fields.proofs.Bounds.{IsHeading, is-heading}
-use Rattle.fin_fields.proofs.Positions.{none-passes}
+use Rattle.fin_fields.proofs.laws.Bounds.{IsHeading, is-heading}
+use Rattle.fin_fields.proofs.laws.Positions.{none-passes}
 
 -- ---- no byte is at fault
 

@@ -1,6 +1,5 @@
-pub mod Positions
+pub mod laws
 pub mod CutSoFar
-pub mod Bounds
 pub mod Texts
 pub mod ReadBack
 pub mod Fit

@@ -12,7 +12,7 @@ use Rattle.fin_fields.specs.declared.fault.FieldFault.{FieldFault}
 use Rattle.fin_fields.specs.declared.fault.FieldFault.TheVariants.{P20}
 use Rattle.fin_fields.specs.Fields.{Grouped, Heading, behind_letter, behind_tag, field_begun, fields_of, grouped, heading_of, with_line}
 use Rattle.fin_fields.specs.Faults.{faulty_line, field_fault, has_other_byte, is_outside_x, outside_x, outside_x_at}
-use Rattle.fin_fields.proofs.Positions.{position-none}
+use Rattle.fin_fields.proofs.laws.Positions.{position-none}
 
 -- the bytes behind the first one
 behind-one : (b : ℕ) (bs : List ℕ) → has_other_byte (b ∷ bs) ≡ false → has_other_byte bs ≡ false

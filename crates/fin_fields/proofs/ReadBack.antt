@@ -17,7 +17,7 @@ use Rattle.corr_text.specs.Lines.{begins_with, lines_of, with_byte}
 use Rattle.fin_fields.specs.Fields.{Grouped, Heading, behind_tag, fields_of, grouped, heading_of, with_line}
 use Rattle.fin_fields.specs.Faults.{field_fault, faulty_line, has_other_byte, is_empty, is_misplaced, is_outside_x, outside_x, outside_x_at}
 use Rattle.fin_fields.specs.Writing.{Continues, ContinueAll, IsField, ended, fields_text, heading_text, letter_text}
-use Rattle.fin_fields.proofs.Positions.{position-none}
+use Rattle.fin_fields.proofs.laws.Positions.{position-none}
 
 -- ---- lines that are ended are read back
 

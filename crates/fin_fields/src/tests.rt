@@ -15,7 +15,7 @@ const TRANSFER: &[u8] =
 const ENDED: &[u8] = b":59:\r\nA PAYEE\r\n:71A:SHA\r\n";
 
 // The fields of a short text.
-#[tactic(auto, using(crate::proofs::Bounds::lines_few))]
+#[tactic(auto, using(crate::proofs::laws::Bounds::lines_few))]
 fn cut(alloc: Global, text: &[u8]) -> Result<List<Field>, FieldFault>
     ensures { IfOk result (λ fields. (fields ≢ []) × All IsField fields) }
 {

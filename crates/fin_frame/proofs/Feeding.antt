@@ -7,7 +7,7 @@ use Rattle.fin_frame.specs.Cutting.{state_of, WasFed}
 use Rattle.fin_frame.specs.declared.cutter.Cutter.{Cutter}
 use Rattle.fin_frame.specs.declared.fault.FrameFault.{FrameFault}
 use Rattle.fin_frame.specs.declared.fault.FrameFault.TheVariants.{Stray, TooLong, Unbalanced, Memory}
-use Rattle.fin_frame.proofs.Running.{run-append, run-failed}
+use Rattle.fin_frame.proofs.laws.Running.{run-append, run-failed}
 use Rattle.fin_frame.proofs.Steps.{run-given, run-begun, run-after, run-fed, after, begins-begins}
 use Rattle.fin_frame.proofs.Known.{was-fed}
 

@@ -10,9 +10,9 @@ use Rattle.fin_frame.specs.Cutting.{state_of, IsShown, Knows, WasFed, IsWholeFil
 use Rattle.fin_frame.specs.declared.cutter.Cutter.{Cutter}
 use Rattle.fin_frame.specs.declared.fault.FrameFault.{FrameFault}
 use Rattle.fin_frame.specs.declared.fault.FrameFault.TheVariants.{Stray, TooLong, Unbalanced, Memory}
-use Rattle.fin_frame.proofs.Showing.{shown-comes, whole-comes, begun-comes, cut-comes, ends-come}
-use Rattle.fin_frame.proofs.Tracking.{Tracks, tracks-whole, tracks-begun}
-use Rattle.fin_frame.proofs.Tracking.Tracks.{tracks_gap, tracks_opening, tracks_message, tracks_behind, tracks_failed}
+use Rattle.fin_frame.proofs.laws.Showing.{shown-comes, whole-comes, begun-comes, cut-comes, ends-come}
+use Rattle.fin_frame.proofs.laws.Tracking.{Tracks, tracks-whole, tracks-begun}
+use Rattle.fin_frame.proofs.laws.Tracking.Tracks.{tracks_gap, tracks_opening, tracks_message, tracks_behind, tracks_failed}
 use Rattle.fin_frame.proofs.Tracked.{all-tracks}
 
 are-whole : (fed : List ℕ) → AreWhole fed (run (at_start []) fed).given

@@ -1,9 +1,6 @@
+pub mod laws
 pub mod Groups
-pub mod Running
 pub mod Steps
-pub mod Led
-pub mod Showing
-pub mod Tracking
 pub mod Tracked
 pub mod Known
 pub mod Feeding

@@ -1,7 +1,7 @@
 -- What no step of the machine takes back.
 use Rattle.std.proofs.Common.{◌≡◌, ◌≤◌, ◌⊎◌, ℕ, ◌+◌, ◌-◌, ◌==◌, Bool, true, false, cond, nat_le, List, [], ◌∷◌, ◌++◌, length, get_or, Option, Some, None, is_some, refl, ap, sym, ◌∙◌, arith, inl, inr, append_assoc}
 use Rattle.std.proofs.lemmas.List.{append-nil}
-use Rattle.fin_frame.proofs.Running.{run-failed}
+use Rattle.fin_frame.proofs.laws.Running.{run-failed}
 use Rattle.fin_frame.specs.File.{nesting, lead, is_gap_byte, most_bytes}
 use Rattle.fin_frame.specs.Shown.{Begins}
 use Rattle.fin_frame.specs.Machine.{State, to, fails, gives, begins, held_bytes, with_open, grows, within, resumes, moves, stage_between, next_close, next_at, next, run}

@@ -11,11 +11,11 @@ use Rattle.fin_frame.specs.Machine.{State, at_start, to, fails, begins, grows, w
 use Rattle.fin_frame.specs.declared.fault.FrameFault.{FrameFault}
 use Rattle.fin_frame.specs.declared.fault.FrameFault.TheVariants.{Stray, TooLong}
 use Rattle.fin_frame.specs.declared.stage.Stage.TheVariants.{Between, Opening, Within, Behind}
-use Rattle.fin_frame.proofs.Running.{other-test, state-same, within-full, within-room, behind-resumes}
+use Rattle.fin_frame.proofs.laws.Running.{other-test, state-same, within-full, within-room, behind-resumes}
 use Rattle.fin_frame.proofs.Steps.{begins-self, begins-more}
-use Rattle.fin_frame.proofs.Led.{at_gap, in_message, is_marked, or-none, some-test, close-step, no-more-joined, marked-joined, or-true, gap-again, blank-stage}
-use Rattle.fin_frame.proofs.Tracking.{whole-more, shown-more, not-true, both-true, dollars-append, message-more, file-more, room_of, LastBegun, last-more, in_opening, in_behind, Tracks, moved, tracks-whole, tracks-begun}
-use Rattle.fin_frame.proofs.Tracking.Tracks.{tracks_gap, tracks_opening, tracks_message, tracks_behind, tracks_failed}
+use Rattle.fin_frame.proofs.laws.Led.{at_gap, in_message, is_marked, or-none, some-test, close-step, no-more-joined, marked-joined, or-true, gap-again, blank-stage}
+use Rattle.fin_frame.proofs.laws.Tracking.{whole-more, shown-more, not-true, both-true, dollars-append, message-more, file-more, room_of, LastBegun, last-more, in_opening, in_behind, Tracks, moved, tracks-whole, tracks-begun}
+use Rattle.fin_frame.proofs.laws.Tracking.Tracks.{tracks_gap, tracks_opening, tracks_message, tracks_behind, tracks_failed}
 
 some-joined : {A : Type 0} (xs : List A) (x : A) → no_more (xs ++ x ∷ []) ≡ false
 some-joined [] x = refl

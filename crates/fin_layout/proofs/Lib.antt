@@ -1,8 +1,3 @@
+pub mod laws
 pub mod PlacedSoFar
 pub mod InTurn
-pub mod FoundField
-pub mod Grouped
-pub mod ReadGroups
-pub mod Fine
-pub mod ReadBack
-pub mod InOrder

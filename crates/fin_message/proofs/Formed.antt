@@ -12,7 +12,7 @@ use Rattle.corr_ids.specs.Uetr.{IsUetr, is_uetr, uetr_of}
 use Rattle.corr_ids.specs.declared.address.LtAddress.{LtAddress}
 use Rattle.corr_ids.specs.declared.mir.Mir.{Mir}
 use Rattle.corr_ids.specs.declared.uetr.Uetr.{Uetr}
-use Rattle.corr_ids.proofs.Spelling.{lt-bank, mir-form, mir-sender}
+use Rattle.corr_ids.proofs.laws.Spelling.{lt-bank, mir-form, mir-sender}
 use Rattle.fin_blocks.specs.Blocks.{are_last, behind, blocks_of, trailers_of, user_of}
 use Rattle.fin_blocks.specs.Forms.{app_of, basic_in, basic_of, inside, mir_in, received_in, received_of, sent_in, sent_of}
 use Rattle.fin_blocks.specs.Groups.{after, groups_of, next}

@@ -11,14 +11,14 @@ use Rattle.fin_blocks.specs.declared.blocks.App.{App}
 use Rattle.fin_blocks.specs.declared.blocks.App.TheVariants as form
 use Rattle.fin_blocks.specs.declared.blocks.Blocks.{Blocks}
 use Rattle.fin_blocks.specs.declared.fault.BlockFault.{BlockFault}
-use Rattle.fin_blocks.proofs.Sizes.{text_bytes}
+use Rattle.fin_blocks.proofs.laws.Sizes.{text_bytes}
 use Rattle.fin_fields.specs.Fields.{fields_of}
 use Rattle.fin_layout.specs.Tests.{passed}
 use Rattle.mt103.specs.Message.{mt103_of}
-use Rattle.mt103.proofs.Amount.{amount-payable as transfer-payable}
+use Rattle.mt103.proofs.laws.Amount.{amount-payable as transfer-payable}
 use Rattle.mt103_rules.specs.Rules.{all_rules}
 use Rattle.mt202cov.specs.Message.{mt202cov_of}
-use Rattle.mt202cov.proofs.Amount.{amount-payable as cover-payable}
+use Rattle.mt202cov.proofs.laws.Amount.{amount-payable as cover-payable}
 use Rattle.mt9_advice.specs.Advice.{mt900_of, mt910_of}
 use Rattle.ref_tables.specs.Seen.{Tables}
 use Rattle.fin_message.specs.Answers.{Answers}

@@ -9,7 +9,7 @@ use Rattle.corr_text.specs.Lines.{begins_with}
 use Rattle.corr_text.specs.Sets.{is_c_byte, is_x_byte, marks}
 use Rattle.corr_ids.specs.declared.bic.Bic.{Bic}
 use Rattle.corr_ids.specs.Bic.{is_bic, bic_of, bic_text, branch_of}
-use Rattle.corr_ids.proofs.Spelling.{some_if, bic-again, bic-printed}
+use Rattle.corr_ids.proofs.laws.Spelling.{some_if, bic-again, bic-printed}
 use Rattle.fin_fields.specs.Faults.{has_other_byte, is_empty}
 use Rattle.fin_fields.specs.Writing.{Continues}
 

@@ -1,2 +1,2 @@
+pub mod laws
 pub mod BicLines
-pub mod Again

@@ -1,7 +1,7 @@
 -- Calls that write nothing, in turn.
 use Rattle.std.proofs.Common.{◌≡◌, ℕ, List, refl, sym, ◌∙◌, subst}
 use Rattle.corr_disk.specs.Disk.{NoMore, Only, Elapses, LeavesOnly}
-use Rattle.corr_disk.proofs.Moments.{started, goes_on, then_on, weaker}
+use Rattle.corr_disk.proofs.laws.Moments.{started, goes_on, then_on, weaker}
 use Rattle.jrn_file.specs.Untouched.{IsUntouched}
 
 module _ {D : Type 0} (reads : D → List ℕ) (may_leave : D → List ℕ → Type 0) (moment : D → ℕ) (left_since : D → ℕ → List ℕ → Type 0)

@@ -2,7 +2,7 @@
 use Rattle.std.specs.Prelude.{Option}
 use Rattle.std.proofs.Common.{◌≡◌, ℕ, ◌<◌, ◌≤◌, List, [], ◌∷◌, length, get_or, take, refl, sym, ap, subst, arith}
 use Rattle.corr_disk.specs.Calls.{CallsMade, AtMostCalls}
-use Rattle.corr_disk.proofs.Counted.{calls_then}
+use Rattle.corr_disk.proofs.laws.Counted.{calls_then}
 use Rattle.jrn_file.specs.declared.making.Front.{Front}
 use Rattle.jrn_file.specs.declared.making.Front.TheVariants.{Short, Closed}
 use Rattle.jrn_file.specs.Making.{IsFront, calls_to_look, calls_to_make}

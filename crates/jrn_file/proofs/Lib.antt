@@ -1,8 +1,8 @@
+pub mod laws
 mod Behind
 mod Bytes
 mod Calls
 mod EntryImages
-pub mod Frames
 mod Fronts
 mod Head
 mod LastPiece

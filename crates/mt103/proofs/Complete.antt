@@ -5,7 +5,7 @@ use Rattle.corr_text.specs.First.{first_of}
 use Rattle.ref_tables.specs.Seen.{Tables}
 use Rattle.fin_fields.specs.declared.field.Field.{Field}
 use Rattle.fin_layout.specs.Order.{places_from}
-use Rattle.fin_layout.proofs.Fine.{AllHold, all-hold, may-fine, many-fine, must-fine}
+use Rattle.fin_layout.proofs.laws.Fine.{AllHold, all-hold, may-fine, many-fine, must-fine}
 use Rattle.fin_contents.specs.Money.{ccy_amount_of, rate_of, value_of}
 use Rattle.fin_contents.specs.Parties.{known_party_of}
 use Rattle.fin_contents.specs.Plain.{reference_of, texts_of, time_of}

@@ -6,14 +6,14 @@ use Rattle.std.proofs.lemmas.Bool.{eqb-true}
 use Rattle.std.proofs.lemmas.List.{take-append-drop}
 use Rattle.corr_text.specs.Sets.{is_in}
 use Rattle.corr_text.specs.declared.set.Set.TheVariants.{C, X}
-use Rattle.corr_ids.proofs.Spelling.{some_if}
+use Rattle.corr_ids.proofs.laws.Spelling.{some_if}
 use Rattle.fin_fields.specs.declared.field.Field.{Field}
 use Rattle.fin_fields.specs.Patterns.{is_run}
 use Rattle.fin_layout.specs.declared.fault.TheConstants.{P24}
 use Rattle.fin_contents.specs.Plain.{one_line, sized}
 use Rattle.fin_contents.specs.Writing.{line_field, lines_field}
-use Rattle.fin_contents.proofs.Bytes.{and-both}
-use Rattle.fin_contents.proofs.Steps.{checked, is-only, there}
+use Rattle.fin_contents.proofs.laws.Bytes.{and-both}
+use Rattle.fin_contents.proofs.laws.Steps.{checked, is-only, there}
 use Rattle.mt103.specs.Codes.{charge_of, code_in, instr_of, is_instruction, is_listed, kind_of, operation_of, takes_text, text_in}
 use Rattle.mt103.specs.Writing.{instr_field, text_behind}
 use Rattle.mt103.specs.declared.charge.TheConstants.{CHARGES}

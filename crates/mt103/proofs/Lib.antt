@@ -1,3 +1,4 @@
+pub mod laws
 pub mod Complete
 pub mod FirstGiven
 pub mod Outcome
@@ -7,4 +8,3 @@ pub mod Says
 pub mod Moved
 pub mod Standing
 pub mod RoundTrip
-pub mod Amount

@@ -12,10 +12,10 @@ use Rattle.fin_contents.specs.Money.{ccy_amount_of, rate_of, value_of}
 use Rattle.fin_contents.specs.Parties.{known_party_of}
 use Rattle.fin_contents.specs.Plain.{reference_of, texts_of, time_of}
 use Rattle.fin_contents.specs.Writing.{IsAmount, ccy_amount_field, line_field, lines_fields, value_field}
-use Rattle.fin_contents.proofs.Again.{ccy_amount-again, rate-again, reference-again, texts-again, time-again, value-again}
-use Rattle.fin_contents.proofs.Back.{all-moved, each-all, each-weaker, lines-moved, one-moved, option-moved, some-all, some-weaker}
-use Rattle.fin_contents.proofs.Placed.{each-of, party-again-at}
-use Rattle.fin_contents.proofs.Said.{Holds, Stands, stand}
+use Rattle.fin_contents.proofs.laws.Again.{ccy_amount-again, rate-again, reference-again, texts-again, time-again, value-again}
+use Rattle.fin_contents.proofs.laws.Back.{all-moved, each-all, each-weaker, lines-moved, one-moved, option-moved, some-all, some-weaker}
+use Rattle.fin_contents.proofs.laws.Placed.{each-of, party-again-at}
+use Rattle.fin_contents.proofs.laws.Said.{Holds, Stands, stand}
 use Rattle.mt103.specs.Codes.{charge_of, instr_of, kind_of, operation_of}
 use Rattle.mt103.specs.Message.{contents_of, message_of}
 use Rattle.mt103.specs.Writing.{AreAmounts, instr_field, segments}

@@ -9,8 +9,8 @@ use Rattle.fin_layout.specs.Reading.{Fails, Tells}
 use Rattle.fin_layout.specs.Tests.{passed, structure_tests}
 use Rattle.fin_layout.specs.declared.fault.MtFault.{MtFault}
 use Rattle.fin_layout.specs.declared.fault.MtFault.TheVariants as faults
-use Rattle.fin_layout.proofs.Fine.{passed-fails, passed-on}
-use Rattle.fin_layout.proofs.InOrder.{fails-before, in-turn, structure-fails}
+use Rattle.fin_layout.proofs.laws.Fine.{passed-fails, passed-on}
+use Rattle.fin_layout.proofs.laws.InOrder.{fails-before, in-turn, structure-fails}
 use Rattle.mt103.specs.Instructions.{d98, e46}
 use Rattle.mt103.specs.Message.{content_test, contents_of, details_of, mt103_of, parties_of, terms_of}
 use Rattle.mt103.specs.declared.instruction.Instr.{Instr}

@@ -4,7 +4,7 @@ use Rattle.corr_text.specs.First.{◌>>=◌}
 use Rattle.corr_text.specs.declared.fault.Fault.{Fault}
 use Rattle.ref_tables.specs.Seen.{Tables}
 use Rattle.fin_fields.specs.declared.field.Field.{Field}
-use Rattle.fin_layout.proofs.InOrder.{LiesFrom, all-in, none-left, one-in, option-in}
+use Rattle.fin_layout.proofs.laws.InOrder.{LiesFrom, all-in, none-left, one-in, option-in}
 use Rattle.fin_contents.specs.Money.{ccy_amount_of, rate_of, value_of}
 use Rattle.fin_contents.specs.Parties.{known_party_of}
 use Rattle.fin_contents.specs.Plain.{reference_of, texts_of, time_of}

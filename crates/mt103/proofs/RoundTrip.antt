@@ -8,10 +8,10 @@ use Rattle.fin_fields.specs.Writing.{IsField}
 use Rattle.fin_layout.specs.Order.{missing_from, places_from}
 use Rattle.fin_layout.specs.Segments.{Segments, joined, places_of}
 use Rattle.fin_layout.specs.Tests.{passed, structure_tests}
-use Rattle.fin_layout.proofs.FoundField.{grouped-taken}
-use Rattle.fin_layout.proofs.Grouped.{grouped-places, grouped-structure}
-use Rattle.fin_contents.proofs.Placed.{Each, each-joined}
-use Rattle.fin_contents.proofs.Steps.{read-then}
+use Rattle.fin_layout.proofs.laws.FoundField.{grouped-taken}
+use Rattle.fin_layout.proofs.laws.Grouped.{grouped-places, grouped-structure}
+use Rattle.fin_contents.proofs.laws.Placed.{Each, each-joined}
+use Rattle.fin_contents.proofs.laws.Steps.{read-then}
 use Rattle.mt103.specs.Instructions.{d98, e46}
 use Rattle.mt103.specs.Message.{contents_of, field_tests, mt103_of}
 use Rattle.mt103.specs.Writing.{AreAmounts, IsReadable, mt103_fields, segments}

@@ -7,7 +7,7 @@ use Rattle.fin_layout.specs.Contents.{all_from, in_option, in_place}
 use Rattle.fin_contents.specs.Money.{ccy_amount_of, rate_of, value_of}
 use Rattle.fin_contents.specs.Parties.{known_party_of}
 use Rattle.fin_contents.specs.Plain.{reference_of, texts_of, time_of}
-use Rattle.fin_contents.proofs.Steps.{read-then, told-is}
+use Rattle.fin_contents.proofs.laws.Steps.{read-then, told-is}
 use Rattle.mt103.specs.Codes.{charge_of, instr_of, kind_of, operation_of}
 use Rattle.mt103.specs.Message.{contents_of, details_of, message_of, parties_of, terms_of}
 use Rattle.mt103.specs.declared.details.Details.{Details}

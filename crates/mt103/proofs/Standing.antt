@@ -17,11 +17,11 @@ use Rattle.fin_contents.specs.Money.{ccy_amount_of, rate_of, value_of}
 use Rattle.fin_contents.specs.Parties.{known_party_of}
 use Rattle.fin_contents.specs.Plain.{reference_of, texts_of, time_of}
 use Rattle.fin_contents.specs.Writing.{IsAmount, IsHeading, IsValue, ccy_amount_field, line_field, lines_field, lines_fields, value_field}
-use Rattle.fin_contents.proofs.Again.{ccy_amount-is, rate-kept, reference-kept, texts-kept, time-kept, value-is}
-use Rattle.fin_contents.proofs.Back.{each-all, each-weaker, some-all, some-weaker}
-use Rattle.fin_contents.proofs.Fit.{ccy_amount-fit, kept-fit, value-fit}
-use Rattle.fin_contents.proofs.Placed.{Each, all-each, all-of, all-segment, first-of-tag, lines-each, lines-segment, one-segment, each-append, party-fit-at, party-fits-at, some-each, some-segment}
-use Rattle.fin_contents.proofs.Said.{Holds, Said, Stands, said-all, said-one, said-option, stand}
+use Rattle.fin_contents.proofs.laws.Again.{ccy_amount-is, rate-kept, reference-kept, texts-kept, time-kept, value-is}
+use Rattle.fin_contents.proofs.laws.Back.{each-all, each-weaker, some-all, some-weaker}
+use Rattle.fin_contents.proofs.laws.Fit.{ccy_amount-fit, kept-fit, value-fit}
+use Rattle.fin_contents.proofs.laws.Placed.{Each, all-each, all-of, all-segment, first-of-tag, lines-each, lines-segment, one-segment, each-append, party-fit-at, party-fits-at, some-each, some-segment}
+use Rattle.fin_contents.proofs.laws.Said.{Holds, Said, Stands, said-all, said-one, said-option, stand}
 use Rattle.mt103.specs.Codes.{charge_of, instr_of, kind_of, operation_of}
 use Rattle.mt103.specs.Message.{message_of}
 use Rattle.mt103.specs.Writing.{AreAmounts, detail_fields, instr_field, money_fields, order_fields, party_fields, segments, text_behind}

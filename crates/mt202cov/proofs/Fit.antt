@@ -15,11 +15,11 @@ use Rattle.fin_contents.specs.Money.{ccy_amount_of, value_of}
 use Rattle.fin_contents.specs.Parties.{known_party_of}
 use Rattle.fin_contents.specs.Plain.{reference_of, texts_of, time_of}
 use Rattle.fin_contents.specs.Writing.{IsAmount, IsHeading, ccy_amount_field, line_field, lines_field, lines_fields, some_field}
-use Rattle.fin_contents.proofs.Again.{reference-kept, texts-kept, time-kept}
-use Rattle.fin_contents.proofs.Back.{each-weaker, some-weaker}
-use Rattle.fin_contents.proofs.Fit.{ccy_amount-fit, kept-fit, value-fit}
-use Rattle.fin_contents.proofs.Placed.{all-each, each-joined, lines-each, party-fit-at, some-each}
-use Rattle.fin_contents.proofs.Said.{Holds, Said, Stands, said-all, said-one, said-option}
+use Rattle.fin_contents.proofs.laws.Again.{reference-kept, texts-kept, time-kept}
+use Rattle.fin_contents.proofs.laws.Back.{each-weaker, some-weaker}
+use Rattle.fin_contents.proofs.laws.Fit.{ccy_amount-fit, kept-fit, value-fit}
+use Rattle.fin_contents.proofs.laws.Placed.{all-each, each-joined, lines-each, party-fit-at, some-each}
+use Rattle.fin_contents.proofs.laws.Said.{Holds, Said, Stands, said-all, said-one, said-option}
 use Rattle.mt202cov.specs.Writing.{AreAmounts, segments, value_in}
 use Rattle.mt202cov.specs.declared.message.Mt202Cov.{Mt202Cov}
 use Rattle.mt202cov.specs.declared.order.TheConstants.{ORDER}

@@ -1,3 +1,4 @@
+pub mod laws
 pub mod Refused
 pub mod Outcome
 pub mod Readings
@@ -5,4 +6,3 @@ pub mod Written
 pub mod Fit
 pub mod RoundTrip
 pub mod Complete
-pub mod Amount

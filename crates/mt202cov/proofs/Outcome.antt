@@ -10,8 +10,8 @@ use Rattle.fin_layout.specs.Reading.{Fails, Gives, Tells}
 use Rattle.fin_layout.specs.Tests.{passed, structure_tests}
 use Rattle.fin_layout.specs.declared.fault.MtFault.{MtFault}
 use Rattle.fin_layout.specs.declared.fault.MtFault.TheVariants as faults
-use Rattle.fin_layout.proofs.Fine.{passed-fails, passed-on}
-use Rattle.fin_layout.proofs.InOrder.{fails-before, in-turn, structure-fails}
+use Rattle.fin_layout.proofs.laws.Fine.{passed-fails, passed-on}
+use Rattle.fin_layout.proofs.laws.InOrder.{fails-before, in-turn, structure-fails}
 use Rattle.mt202cov.specs.Message.{content_test, contents_of, mt202cov_of}
 use Rattle.mt202cov.specs.Rules.{all_rules}
 use Rattle.mt202cov.specs.Steps.{unless_told}

@@ -7,7 +7,7 @@ use Rattle.fin_layout.specs.Contents.{all_from, in_option, in_place}
 use Rattle.fin_contents.specs.Money.{ccy_amount_of, value_of}
 use Rattle.fin_contents.specs.Parties.{known_party_of}
 use Rattle.fin_contents.specs.Plain.{reference_of, texts_of, time_of}
-use Rattle.fin_contents.proofs.Steps.{read-then}
+use Rattle.fin_contents.proofs.laws.Steps.{read-then}
 use Rattle.mt202cov.specs.Message.{banks_of, contents_of, customers_of, details_of, message_of, sequence_a_of, sequence_b_of, terms_of}
 use Rattle.mt202cov.specs.Writing.{value_in}
 use Rattle.mt202cov.specs.declared.banks.Banks.{Banks}

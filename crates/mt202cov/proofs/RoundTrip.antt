@@ -9,14 +9,14 @@ use Rattle.fin_fields.specs.Writing.{IsField}
 use Rattle.fin_layout.specs.Order.{places_from}
 use Rattle.fin_layout.specs.Segments.{joined, places_of}
 use Rattle.fin_layout.specs.Tests.{passed, without}
-use Rattle.fin_layout.proofs.FoundField.{grouped-taken}
-use Rattle.fin_layout.proofs.Grouped.{grouped-places, grouped-structure}
+use Rattle.fin_layout.proofs.laws.FoundField.{grouped-taken}
+use Rattle.fin_layout.proofs.laws.Grouped.{grouped-places, grouped-structure}
 use Rattle.fin_contents.specs.Money.{ccy_amount_of, value_of}
 use Rattle.fin_contents.specs.Writing.{IsAmount}
-use Rattle.fin_contents.proofs.Again.{ccy_amount-is, value-is}
-use Rattle.fin_contents.proofs.Back.{some-weaker}
-use Rattle.fin_contents.proofs.Said.{Said, Stands, said-one, said-option, stand}
-use Rattle.fin_contents.proofs.Steps.{read-then}
+use Rattle.fin_contents.proofs.laws.Again.{ccy_amount-is, value-is}
+use Rattle.fin_contents.proofs.laws.Back.{some-weaker}
+use Rattle.fin_contents.proofs.laws.Said.{Said, Stands, said-one, said-option, stand}
+use Rattle.fin_contents.proofs.laws.Steps.{read-then}
 use Rattle.mt202cov.specs.Message.{contents_of, field_tests, mt202cov_of}
 use Rattle.mt202cov.specs.Rules.{all_rules}
 use Rattle.mt202cov.specs.Writing.{AreAmounts, IsReadable, mt202cov_fields, segments, value_in}

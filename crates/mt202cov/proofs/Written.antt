@@ -13,10 +13,10 @@ use Rattle.fin_contents.specs.Money.{ccy_amount_of, value_of}
 use Rattle.fin_contents.specs.Parties.{known_party_of}
 use Rattle.fin_contents.specs.Plain.{reference_of, texts_of, time_of}
 use Rattle.fin_contents.specs.Writing.{IsAmount, ccy_amount_field, line_field, lines_fields, some_field, value_field}
-use Rattle.fin_contents.proofs.Again.{ccy_amount-again, reference-again, texts-again, time-again, value-again}
-use Rattle.fin_contents.proofs.Back.{all-moved, each-all, lines-moved, one-moved, option-moved, some-all, some-weaker}
-use Rattle.fin_contents.proofs.Placed.{all-segment, first-of-tag, lines-segment, one-segment, party-again-at, party-fits-at, some-segment}
-use Rattle.fin_contents.proofs.Said.{Holds, Said, Stands, said-one, said-option}
+use Rattle.fin_contents.proofs.laws.Again.{ccy_amount-again, reference-again, texts-again, time-again, value-again}
+use Rattle.fin_contents.proofs.laws.Back.{all-moved, each-all, lines-moved, one-moved, option-moved, some-all, some-weaker}
+use Rattle.fin_contents.proofs.laws.Placed.{all-segment, first-of-tag, lines-segment, one-segment, party-again-at, party-fits-at, some-segment}
+use Rattle.fin_contents.proofs.laws.Said.{Holds, Said, Stands, said-one, said-option}
 use Rattle.mt202cov.specs.Writing.{AreAmounts, segments, value_in}
 use Rattle.mt202cov.specs.declared.message.Mt202Cov.{Mt202Cov}
 use Rattle.mt202cov.specs.declared.order.TheConstants.{ORDER}

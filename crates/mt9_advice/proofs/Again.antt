@@ -13,11 +13,11 @@ use Rattle.fin_contents.specs.Money.{value_of}
 use Rattle.fin_contents.specs.Parties.{known_party_of}
 use Rattle.fin_contents.specs.Plain.{one_line, reference_of, short_line_of, texts_of}
 use Rattle.fin_contents.specs.Writing.{IsValue, line_field, lines_field, lines_fields, some_field, value_field}
-use Rattle.fin_contents.proofs.Again.{reference-again, short_line-again, texts-again, value-again}
-use Rattle.fin_contents.proofs.Back.{lines-moved, one-moved, option-moved, some-all}
-use Rattle.fin_contents.proofs.Placed.{party-again-at}
-use Rattle.fin_contents.proofs.Said.{Holds, Stands}
-use Rattle.fin_contents.proofs.Steps.{checked, is-only, read-then, there}
+use Rattle.fin_contents.proofs.laws.Again.{reference-again, short_line-again, texts-again, value-again}
+use Rattle.fin_contents.proofs.laws.Back.{lines-moved, one-moved, option-moved, some-all}
+use Rattle.fin_contents.proofs.laws.Placed.{party-again-at}
+use Rattle.fin_contents.proofs.laws.Said.{Holds, Stands}
+use Rattle.fin_contents.proofs.laws.Steps.{checked, is-only, read-then, there}
 use Rattle.mt9_advice.specs.Advice.{booking_of, contents_900, contents_910, is_stamp, mt900, mt910, stamp_of}
 use Rattle.mt9_advice.specs.Writing.{booking_fields, segments_900, segments_910}
 use Rattle.mt9_advice.specs.declared.booking.Booking.{Booking}

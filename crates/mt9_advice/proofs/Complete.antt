@@ -6,7 +6,7 @@ use Rattle.ref_tables.specs.Seen.{Tables}
 use Rattle.fin_fields.specs.declared.field.Field.{Field}
 use Rattle.fin_layout.specs.declared.place.Place.{Place}
 use Rattle.fin_layout.specs.Order.{places_from}
-use Rattle.fin_layout.proofs.Fine.{AllHold, all-hold, may-fine, must-fine}
+use Rattle.fin_layout.proofs.laws.Fine.{AllHold, all-hold, may-fine, must-fine}
 use Rattle.fin_contents.specs.Money.{value_of}
 use Rattle.fin_contents.specs.Parties.{known_party_of}
 use Rattle.fin_contents.specs.Plain.{reference_of, short_line_of, texts_of}

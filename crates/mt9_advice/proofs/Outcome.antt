@@ -9,7 +9,7 @@ use Rattle.fin_layout.specs.Reading.{Fails, Gives, Tells}
 use Rattle.fin_layout.specs.Tests.{passed, structure_tests}
 use Rattle.fin_layout.specs.declared.fault.MtFault.{MtFault}
 use Rattle.fin_layout.specs.declared.fault.MtFault.TheVariants as faults
-use Rattle.fin_layout.proofs.InOrder.{fails-before, in-turn, structure-fails}
+use Rattle.fin_layout.proofs.laws.InOrder.{fails-before, in-turn, structure-fails}
 use Rattle.mt9_advice.specs.Advice.{c06, content_test, contents_900, contents_910, mt900_of, mt910_of}
 use Rattle.mt9_advice.specs.declared.credit.Mt910.{Mt910}
 use Rattle.mt9_advice.specs.declared.debit.Mt900.{Mt900}

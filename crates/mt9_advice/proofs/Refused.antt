@@ -5,7 +5,7 @@ use Rattle.corr_text.specs.declared.fault.Fault.{Fault}
 use Rattle.ref_tables.specs.Seen.{Tables}
 use Rattle.fin_fields.specs.declared.field.Field.{Field}
 use Rattle.fin_layout.specs.declared.place.Place.{Place}
-use Rattle.fin_layout.proofs.InOrder.{LiesFrom, none-left, one-in, option-in, option-met}
+use Rattle.fin_layout.proofs.laws.InOrder.{LiesFrom, none-left, one-in, option-in, option-met}
 use Rattle.fin_contents.specs.Money.{value_of}
 use Rattle.fin_contents.specs.Parties.{known_party_of}
 use Rattle.fin_contents.specs.Plain.{reference_of, short_line_of, texts_of}

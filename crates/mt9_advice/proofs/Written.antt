@@ -12,20 +12,20 @@ use Rattle.fin_layout.specs.Contents.{in_option}
 use Rattle.fin_layout.specs.Order.{fits, missing_from, places_from}
 use Rattle.fin_layout.specs.Segments.{Segments, joined, places_of}
 use Rattle.fin_layout.specs.Tests.{passed}
-use Rattle.fin_layout.proofs.FoundField.{grouped-taken}
-use Rattle.fin_layout.proofs.Grouped.{grouped-places, grouped-structure}
+use Rattle.fin_layout.proofs.laws.FoundField.{grouped-taken}
+use Rattle.fin_layout.proofs.laws.Grouped.{grouped-places, grouped-structure}
 use Rattle.fin_parties.specs.Writing.{party_field}
 use Rattle.fin_parties.specs.declared.party.Party.{Party}
 use Rattle.fin_contents.specs.Money.{value_of}
 use Rattle.fin_contents.specs.Parties.{known_party_of}
 use Rattle.fin_contents.specs.Plain.{reference_of, short_line_of, texts_of}
 use Rattle.fin_contents.specs.Writing.{IsValue, line_field, lines_fields, some_field, value_field}
-use Rattle.fin_contents.proofs.Again.{reference-kept, short_line-kept, texts-kept, value-is}
-use Rattle.fin_contents.proofs.Back.{some-all, some-weaker}
-use Rattle.fin_contents.proofs.Fit.{kept-fit, value-fit}
-use Rattle.fin_contents.proofs.Placed.{Each, each-joined, first-of-tag, lines-each, lines-segment, one-segment, party-fit-at, party-fits-at, some-each, some-segment}
-use Rattle.fin_contents.proofs.Said.{Holds, Stands, said-one, said-option, stand}
-use Rattle.fin_contents.proofs.Steps.{read-then}
+use Rattle.fin_contents.proofs.laws.Again.{reference-kept, short_line-kept, texts-kept, value-is}
+use Rattle.fin_contents.proofs.laws.Back.{some-all, some-weaker}
+use Rattle.fin_contents.proofs.laws.Fit.{kept-fit, value-fit}
+use Rattle.fin_contents.proofs.laws.Placed.{Each, each-joined, first-of-tag, lines-each, lines-segment, one-segment, party-fit-at, party-fits-at, some-each, some-segment}
+use Rattle.fin_contents.proofs.laws.Said.{Holds, Stands, said-one, said-option, stand}
+use Rattle.fin_contents.proofs.laws.Steps.{read-then}
 use Rattle.mt9_advice.specs.Advice.{c06, contents_900, contents_910, mt900_of, mt910_of, stamp_of, tests_900, tests_910}
 use Rattle.mt9_advice.specs.Writing.{IsReadable, booking_fields, fields_900, fields_910, segments_900, segments_910}
 use Rattle.mt9_advice.specs.declared.booking.Booking.{Booking}

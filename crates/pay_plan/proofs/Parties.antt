@@ -2,13 +2,13 @@
 use Rattle.std.proofs.Common.{◌≡◌, ℕ, IfSome, List, [], ◌∷◌, Option, Some, None, Result, Ok, Err, drop, option_map, option_and_then, refl, ap, subst, take}
 use Rattle.corr_ids.specs.Bic.{IsBic, bic_of, branch_of, is_bic}
 use Rattle.corr_ids.specs.declared.bic.Bic.{Bic}
-use Rattle.corr_ids.proofs.Spelling.{bic-again, some_if}
+use Rattle.corr_ids.proofs.laws.Spelling.{bic-again, some_if}
 use Rattle.corr_text.specs.First.{◌>>=◌}
 use Rattle.corr_text.specs.declared.fault.Code.{Code}
 use Rattle.corr_text.specs.declared.fault.Fault.{Fault}
 use Rattle.ref_tables.specs.Seen.{Tables}
 use Rattle.fin_fields.specs.declared.field.Field.{Field}
-use Rattle.fin_layout.proofs.ReadBack.{must-ok}
+use Rattle.fin_layout.proofs.laws.ReadBack.{must-ok}
 use Rattle.fin_layout.specs.Contents.{in_option, located, may_read}
 use Rattle.fin_layout.specs.Order.{field_in}
 use Rattle.fin_layout.specs.declared.fault.TheConstants.{P24}
@@ -18,7 +18,7 @@ use Rattle.fin_parties.specs.declared.opening.Opening.TheVariants.{PartyLine, Ac
 use Rattle.fin_parties.specs.declared.party.Party.{Party}
 use Rattle.fin_parties.specs.declared.party.Party.TheVariants as party
 use Rattle.fin_parties.specs.Party.{account_party, are_numbered, bic_party, customer_party, form_of, is_account_line, is_line, is_name, name_party, parts_of, party_in, party_of, payee_party, payer_party, place_party}
-use Rattle.fin_contents.proofs.Steps.{checked, there}
+use Rattle.fin_contents.proofs.laws.Steps.{checked, there}
 use Rattle.fin_contents.specs.Parties.{is_known, known_party_of}
 use Rattle.fin_contents.specs.declared.codes.TheConstants.{P25}
 

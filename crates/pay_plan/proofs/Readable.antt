@@ -1,8 +1,8 @@
 -- The amount that a message asks for may be paid.
 use Rattle.corr_ids.specs.declared.bic.Bic.{Bic}
 use Rattle.fin_contents.specs.Money.{IsPayable}
-use Rattle.mt103.proofs.Amount.{amount-payable as transfer-payable}
-use Rattle.mt202cov.proofs.Amount.{amount-payable as cover-payable}
+use Rattle.mt103.proofs.laws.Amount.{amount-payable as transfer-payable}
+use Rattle.mt202cov.proofs.laws.Amount.{amount-payable as cover-payable}
 use Rattle.pay_plan.specs.declared.ask.Ask.{Ask}
 use Rattle.pay_plan.specs.declared.ask.Ask.TheVariants.{Transfer, Cover}
 use Rattle.pay_plan.specs.Asked.{asked_of}

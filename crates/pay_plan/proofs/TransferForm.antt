@@ -7,8 +7,8 @@ use Rattle.fin_fields.specs.declared.field.Field.{Field}
 use Rattle.fin_layout.specs.Contents.{all_from, in_option, in_place}
 use Rattle.fin_layout.specs.Order.{field_in, places_from}
 use Rattle.fin_layout.specs.Tests.{passed}
-use Rattle.fin_layout.proofs.ReadBack.{must-ok}
-use Rattle.fin_contents.proofs.Steps.{read-then}
+use Rattle.fin_layout.proofs.laws.ReadBack.{must-ok}
+use Rattle.fin_contents.proofs.laws.Steps.{read-then}
 use Rattle.fin_contents.specs.Money.{ccy_amount_of, rate_of, value_of}
 use Rattle.fin_contents.specs.Parties.{known_party_of}
 use Rattle.fin_contents.specs.Plain.{reference_of, time_of}

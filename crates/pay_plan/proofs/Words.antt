@@ -11,15 +11,15 @@ use Rattle.corr_text.specs.Sets.{is_in}
 use Rattle.corr_text.specs.declared.set.Set.TheVariants.{X}
 use Rattle.corr_ids.specs.Day.{InCentury, civil_day, day_of, is_civil, pair_of, year_of}
 use Rattle.corr_ids.specs.declared.day.Day.{Day}
-use Rattle.corr_ids.proofs.Century.{century_from}
-use Rattle.corr_ids.proofs.Civil.{date_from}
-use Rattle.corr_ids.proofs.Spelling.{some_if}
+use Rattle.corr_ids.proofs.laws.Century.{century_from}
+use Rattle.corr_ids.proofs.laws.Civil.{date_from}
+use Rattle.corr_ids.proofs.laws.Spelling.{some_if}
 use Rattle.day_model.specs.Shape.{IsReference}
 use Rattle.ref_tables.specs.Seen.{Tables}
 use Rattle.fin_fields.specs.declared.field.Field.{Field}
 use Rattle.fin_fields.specs.Patterns.{is_run}
 use Rattle.fin_layout.specs.declared.fault.TheConstants.{P24}
-use Rattle.fin_contents.proofs.Steps.{checked, read-then, there}
+use Rattle.fin_contents.proofs.laws.Steps.{checked, read-then, there}
 use Rattle.fin_contents.specs.Money.{ccy_amount_in, is_dated_amount, is_metal, value_in, value_of}
 use Rattle.fin_contents.specs.Plain.{has_stray_slash, one_line, reference_of}
 use Rattle.fin_contents.specs.declared.codes.TheConstants.{C08, P26, T26, T50}

@@ -1,7 +1,4 @@
-pub mod Records
-pub mod Entered
+pub mod laws
 pub mod Numbers
-pub mod Fine
 pub mod Standing
-pub mod Decimals
 pub mod Entering

@@ -9,7 +9,7 @@ use Rattle.std.proofs.Math.Nat.{pow-le-pow_right}
 use Rattle.std.proofs.lemmas.Bool.Decides.{nat_tests}
 use Rattle.std.proofs.lemmas.Int.Digits.{digits_value-lt}
 use Rattle.corr_text.specs.Digits.{number_of}
-use Rattle.corr_text.proofs.Number.{digit_is}
+use Rattle.corr_text.proofs.laws.Number.{digit_is}
 
 own : IsNumeralModel (λ ds. all_ascii_digits ds ≡ true) (digits_value_after 10 0)
 own = numerals_by_fold _ (search rules) (digits_value_after 10) (search (rules, digit_is))

@@ -21,8 +21,8 @@ use Rattle.ref_tables.specs.Refusals.{against, value, double, first_bad_row}
 use Rattle.ref_tables.specs.Seen.{Tables, has_head, decimals_in}
 use Rattle.ref_tables.specs.Accounts.{account_fault, account_of, clashes, customer, form_fault, owner_fits, standing_fault, within_limits}
 use Rattle.ref_tables.specs.AccountList.{AreAccounts, IsAccount, IsSameRelation}
-use Rattle.ref_tables.proofs.Fine.{both-none, fine-at, head-none, next-holds, none-meets}
-use Rattle.ref_tables.proofs.Records.{rows_within_some}
+use Rattle.ref_tables.proofs.laws.Fine.{both-none, fine-at, head-none, next-holds, none-meets}
+use Rattle.ref_tables.proofs.laws.Records.{rows_within_some}
 
 -- the columns of a row have their forms
 pub record Formed (row : Cells) : Type 0 where

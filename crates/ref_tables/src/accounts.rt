@@ -167,7 +167,7 @@ fn enter_rows(
 /// The accounts of this file, for the home bank `home` and under the tables `t` (docs/tables.md, "accounts").
 ///
 /// `Bad` tells the first row that fails, and why.
-#[tactic(auto, using(crate::proofs::Records::rows_within_some))]
+#[tactic(auto, using(crate::proofs::laws::Records::rows_within_some))]
 pub fn read_accounts(
     alloc: Global,
     file: &[u8],

@@ -53,7 +53,7 @@ fn enter_rows<const N: usize, V: Drop, R: KeyedRow<N, V>>(
 }
 
 /// Reads the file of a table of at most `most` rows.
-#[tactic(auto, using(crate::proofs::Records::rows_within_some))]
+#[tactic(auto, using(crate::proofs::laws::Records::rows_within_some))]
 pub fn read_keyed<const N: usize, V: Drop, R: KeyedRow<N, V>>(
     alloc: Global,
     table: TableName,

@@ -52,7 +52,7 @@ impl RefTables {
     }
 
     /// The number of decimals of a currency; none where it is not in the table of currencies.
-    #[tactic(auto, using(crate::proofs::Decimals::lookup_few))]
+    #[tactic(auto, using(crate::proofs::laws::Decimals::lookup_few))]
     pub fn decimals(&self, c: Ccy) -> Option<u8>
         ensures value { result ≡ decimals_in self.now c.0 }
         ensures few { IfSome result (λ d. d ≤ 4) }
@@ -72,7 +72,7 @@ impl RefTables {
 ///
 /// `Bad` tells the first row that fails, and why, of the first file that has one. Each currency has at most 4 decimals
 /// (`few`), as those ask who write an amount.
-#[tactic(auto, using(crate::proofs::Decimals::rows_few))]
+#[tactic(auto, using(crate::proofs::laws::Decimals::rows_few))]
 pub fn read_tables(
     alloc: Global,
     bics: &[u8],

@@ -10,7 +10,7 @@ use Rattle.corr_money.specs.declared.amount.Amount.{Amount}
 use Rattle.day_model.specs.declared.account.Account.{Account}
 use Rattle.day_model.specs.declared.account.AcctNo.{AcctNo}
 use Rattle.day_model.specs.Chart.{AreRows, Chart, IsListed, account_at, customer, has_id, is_ccy, is_owned, nostro, number_of_first, vostro}
-use Rattle.day_model.proofs.Places.{position_from-within}
+use Rattle.day_model.proofs.laws.Places.{position_from-within}
 use Rattle.routing.specs.Accounts.{fits, fits_at, named, serves}
 use Rattle.routing.specs.declared.ledger.Wanted.{Wanted}
 use Rattle.routing.specs.declared.ledger.Wanted.TheVariants.{Customer, Relation, Vostro, Nostro}

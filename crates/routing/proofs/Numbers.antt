@@ -2,7 +2,7 @@
 use Rattle.std.proofs.Common.{◌≡◌, ℕ, zero, suc, ◌+◌, Bool, true, false, cond, ◌&&◌, List, [], ◌∷◌, Some, None, refl, ap, ◌∙◌, arith}
 use Rattle.std.specs.Prelude.{slice_get}
 use Rattle.std.specs.List.{position_from}
-use Rattle.day_model.proofs.Places.{position_from-within}
+use Rattle.day_model.proofs.laws.Places.{position_from-within}
 
 -- there is an item at this place, and it passes
 pub record StandsAt {A : Type 0} (t : A → Bool) (xs : List A) (j : ℕ) : Type 0 where

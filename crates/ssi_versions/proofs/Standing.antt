@@ -13,7 +13,7 @@ use Rattle.corr_ids.specs.Bic.{bic_of, branch_of, is_bic, IsBic}
 use Rattle.corr_ids.specs.Day.{day_of}
 use Rattle.corr_ids.specs.declared.bic.Bic.{Bic}
 use Rattle.corr_ids.specs.declared.day.Day.{Day}
-use Rattle.corr_ids.proofs.Spelling.{bic-again}
+use Rattle.corr_ids.proofs.laws.Spelling.{bic-again}
 use Rattle.corr_money.specs.declared.amount.Ccy.{Ccy}
 use Rattle.ref_tables.specs.declared.fault.Why.{Why}
 use Rattle.ref_tables.specs.declared.fault.Why.TheVariants as why
@@ -21,8 +21,8 @@ use Rattle.ref_tables.specs.Columns.{is_account_id, is_ccy}
 use Rattle.ref_tables.specs.Rows.{Cells, cell, rows_within}
 use Rattle.ref_tables.specs.Refusals.{against, value, first_bad_row}
 use Rattle.ref_tables.specs.Seen.{Tables, decimals_in}
-use Rattle.ref_tables.proofs.Fine.{both-none, fine-at, head-none, map-none, next-holds, none-meets}
-use Rattle.ref_tables.proofs.Records.{rows_within_some}
+use Rattle.ref_tables.proofs.laws.Fine.{both-none, fine-at, head-none, map-none, next-holds, none-meets}
+use Rattle.ref_tables.proofs.laws.Records.{rows_within_some}
 use Rattle.ssi_versions.specs.declared.method.Method.{Method}
 use Rattle.ssi_versions.specs.declared.method.Method.TheVariants.{Book, Serial, Cover}
 use Rattle.ssi_versions.specs.declared.row.SsiRow.{SsiRow}

@@ -3,7 +3,7 @@ use Rattle.std.specs.Prelude.{slice_get}
 use Rattle.day_model.specs.declared.pay.Leg.{Leg}
 use Rattle.day_model.specs.declared.entry.Entry.{Entry}
 use Rattle.day_model.specs.Totals.{Pair, HasTotals, booked_legs}
-use Rattle.day_model.proofs.Pairs.{booked_listed}
+use Rattle.day_model.proofs.laws.Pairs.{booked_listed}
 use Rattle.acct_locks.specs.Pairs.{PairsFit, pairs_with}
 use Rattle.acct_locks.proofs.Histories.{entry_fits, has_more}
 use Rattle.acct_locks.proofs.totals.totals.Goals as goal

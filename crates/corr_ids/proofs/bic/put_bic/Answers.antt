@@ -1,4 +1,4 @@
-use Rattle.corr_ids.proofs.Spelling.{bic-printed}
+use Rattle.corr_ids.proofs.laws.Spelling.{bic-printed}
 use Rattle.corr_ids.proofs.bic.put_bic.Goals as goal
 
 pub returns-then-eq-clause-again : goal.returns-then-eq-clause-again

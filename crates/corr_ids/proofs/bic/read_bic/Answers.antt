@@ -1,6 +1,6 @@
 use Rattle.std.proofs.Common.{◌≡◌, true}
 use Rattle.corr_ids.specs.Bic.{is_bic}
-use Rattle.corr_ids.proofs.Spelling.{bic-again}
+use Rattle.corr_ids.proofs.laws.Spelling.{bic-again}
 use Rattle.corr_ids.proofs.bic.read_bic.Goals as goal
 
 pub returns-clause-form : goal.returns-clause-form

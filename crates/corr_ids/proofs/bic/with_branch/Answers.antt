@@ -1,5 +1,5 @@
 use Rattle.std.proofs.Common.{◌∷◌, [], refl, arith}
-use Rattle.corr_text.proofs.Filling.{filled}
+use Rattle.corr_text.proofs.laws.Filling.{filled}
 use Rattle.corr_ids.proofs.bic.with_branch.Goals as goal
 
 pub returns : goal.returns

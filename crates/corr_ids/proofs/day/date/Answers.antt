@@ -1,7 +1,7 @@
 use Rattle.std.proofs.Common.{◌≡◌, arith, FitsSigned, w32, w64}
 use Rattle.std.proofs.lemmas.Int.{ints, to_z-of_z}
 use Rattle.jiff_core.specs.Date.{epoch_day}
-use Rattle.corr_ids.proofs.Century.{date_is}
+use Rattle.corr_ids.proofs.laws.Century.{date_is}
 use Rattle.corr_ids.proofs.day.date.Goals as goal
 
 pub returns : goal.returns

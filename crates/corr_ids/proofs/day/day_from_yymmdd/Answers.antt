@@ -1,7 +1,7 @@
 use Rattle.std.proofs.Common.{arith}
 use Rattle.std.proofs.lemmas.Grind.{common_steps}
 use Rattle.corr_ids.specs.Day.{day_of}
-use Rattle.corr_ids.proofs.DaySpelling.{read-spelled}
+use Rattle.corr_ids.proofs.laws.DaySpelling.{read-spelled}
 use Rattle.corr_ids.proofs.day.day_from_yymmdd.Goals as goal
 
 pub returns-clause-spelled : goal.returns-clause-spelled

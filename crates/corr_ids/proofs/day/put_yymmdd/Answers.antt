@@ -1,4 +1,4 @@
-use Rattle.corr_ids.proofs.DaySpelling.{day-again}
+use Rattle.corr_ids.proofs.laws.DaySpelling.{day-again}
 use Rattle.corr_ids.proofs.day.put_yymmdd.Goals as goal
 
 pub returns-clause-again : goal.returns-clause-again

@@ -1,5 +1,5 @@
 use Rattle.std.proofs.Common.{◌≡◌, true}
-use Rattle.corr_ids.proofs.Spelling.{lt-again, mir-sender}
+use Rattle.corr_ids.proofs.laws.Spelling.{lt-again, mir-sender}
 use Rattle.corr_ids.specs.Mir.{is_mir, sender_text}
 use Rattle.corr_ids.proofs.mir.read_mir.Goals as goal
 

@@ -1,4 +1,4 @@
-use Rattle.corr_money.proofs.Written.{reads_written}
+use Rattle.corr_money.proofs.laws.Written.{reads_written}
 use Rattle.corr_money.proofs.writing.put_15d.Goals as goal
 
 pub returns-in_err-text-clause-read_back : goal.returns-in_err-text-clause-read_back

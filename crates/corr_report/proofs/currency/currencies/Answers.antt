@@ -1,5 +1,5 @@
 use Rattle.std.proofs.Common.{◌+◌, ◌-◌, drop, sym, ap, ◌∙◌, arith}
-use Rattle.corr_report.proofs.Rests.{rest_at, rest_none}
+use Rattle.corr_report.proofs.laws.Rests.{rest_at, rest_none}
 use Rattle.corr_report.specs.Totals.{currencies_of}
 use Rattle.corr_report.proofs.currency.currencies.Goals as goal
 

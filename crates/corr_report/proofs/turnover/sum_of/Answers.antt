@@ -1,6 +1,6 @@
 use Rattle.std.proofs.Common.{◌-◌, ap, arith}
 use Rattle.std.specs.Prelude.{slice_index}
-use Rattle.corr_report.proofs.Rests.{rest_at}
+use Rattle.corr_report.proofs.laws.Rests.{rest_at}
 use Rattle.corr_report.specs.Totals.{sum_over}
 use Rattle.corr_report.proofs.turnover.sum_of.Goals as goal
 

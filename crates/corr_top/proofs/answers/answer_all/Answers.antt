@@ -2,7 +2,7 @@ use Rattle.std.proofs.Common.{◌≡◌, ◌+◌, ◌∷◌, refl, subst, List, 
 use Rattle.std.proofs.lemmas.Option.{slice_get_read}
 use Rattle.corr_top.specs.Message.{readings_of}
 use Rattle.corr_top.specs.Turn.{Turned}
-use Rattle.corr_report.proofs.Rests.{drop_at}
+use Rattle.corr_report.proofs.laws.Rests.{drop_at}
 use Rattle.corr_top.proofs.Turns.{Answered, message_answered, message_few, all_answered, none_left}
 use Rattle.corr_top.proofs.answers.answer_all.Goals as goal
 

@@ -1,6 +1,6 @@
 use Rattle.std.proofs.Common.{arith}
 use Rattle.day_model.specs.Next.{has_mir}
-use Rattle.day_model.proofs.Places.{position_from-within}
+use Rattle.day_model.proofs.laws.Places.{position_from-within}
 use Rattle.corr_top.proofs.answers.reply_to.Goals as goal
 
 pub get-requires-clause-from_one : goal.get-requires-clause-from_one

@@ -5,7 +5,7 @@ use Rattle.day_model.specs.declared.pay.Leg.{Leg}
 use Rattle.day_model.specs.Balance.{is_booked}
 use Rattle.day_model.specs.Legal.{IsLegal}
 use Rattle.day_model.specs.CoreLedger.{AreAtBalance, CanAddAll, with_legs}
-use Rattle.day_model.proofs.Fitting.{transfer}
+use Rattle.day_model.proofs.laws.Fitting.{transfer}
 use Rattle.day_model.proofs.CorePurses.{can_add_all, purses_more}
 use Rattle.day_model.proofs.core_ledger.balances.Goals as goal
 

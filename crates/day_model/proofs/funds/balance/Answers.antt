@@ -5,8 +5,8 @@ use Rattle.std.proofs.lemmas.Option.{slice_get_read}
 use Rattle.day_model.specs.declared.pay.Side.TheVariants.{Debit, Credit}
 use Rattle.day_model.specs.Balance.{moved_by}
 use Rattle.day_model.specs.Legal.{IsLegal}
-use Rattle.day_model.proofs.Fitting.{transfer}
-use Rattle.day_model.proofs.Balances.{within_at, small_at, credits_small, debits_small, balance_more}
+use Rattle.day_model.proofs.laws.Fitting.{transfer}
+use Rattle.day_model.proofs.laws.Balances.{within_at, small_at, credits_small, debits_small, balance_more}
 use Rattle.day_model.proofs.Sums.{balances_cancel, debits_equal_credits, totals_fit}
 use Rattle.day_model.proofs.funds.balance.Goals as goal
 

@@ -4,10 +4,10 @@ use Rattle.std.proofs.lemmas.Option.{slice_get_read}
 use Rattle.std.specs.Prelude.{slice_get}
 use Rattle.day_model.specs.declared.pay.Leg.{Leg}
 use Rattle.day_model.specs.Balance.{changed, is_within}
-use Rattle.day_model.proofs.Fitting.{transfer, leg_sound}
-use Rattle.day_model.proofs.Balances.{small_balance}
+use Rattle.day_model.proofs.laws.Fitting.{transfer, leg_sound}
+use Rattle.day_model.proofs.laws.Balances.{small_balance}
 use Rattle.day_model.proofs.LegTests.{none_more, leg_passes}
-use Rattle.day_model.proofs.Growth.{stays_legal}
+use Rattle.day_model.proofs.laws.Growth.{stays_legal}
 use Rattle.day_model.proofs.funds.decide.Goals as goal
 
 pub get-requires : goal.get-requires

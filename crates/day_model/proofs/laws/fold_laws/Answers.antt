@@ -1,4 +1,4 @@
-use Rattle.day_model.proofs.Growth.{empty_is_legal, fold_again, fold_begins, fold_is_legal, fold_of_append, places_stay}
+use Rattle.day_model.proofs.laws.Growth.{empty_is_legal, fold_again, fold_begins, fold_is_legal, fold_of_append, places_stay}
 use Rattle.day_model.proofs.laws.fold_laws.Goals as goal
 
 pub returns-clause-begins : goal.returns-clause-begins

@@ -1,7 +1,7 @@
 use Rattle.std.proofs.Common.{rules}
 use Rattle.fin_blocks.specs.Blocks.{blocks_of}
 use Rattle.fin_blocks.specs.declared.blocks.Blocks.{Blocks}
-use Rattle.fin_blocks.proofs.Sizes.{text_bytes, text_lines}
+use Rattle.fin_blocks.proofs.laws.Sizes.{text_bytes, text_lines}
 use Rattle.fin_blocks.proofs.reading.read_blocks.Goals as goal
 
 pub returns-clause-lines : goal.returns-clause-lines

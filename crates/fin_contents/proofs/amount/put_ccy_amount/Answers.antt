@@ -1,9 +1,9 @@
 use Rattle.std.proofs.Common.{◌≡◌, ap, arith}
 use Rattle.std.proofs.lemmas.Grind.{common_steps}
 use Rattle.fin_contents.specs.Writing.{ccy_amount_text, line_field}
-use Rattle.fin_contents.proofs.Again.{ccy_amount-again}
-use Rattle.fin_contents.proofs.Fit.{ccy_amount-fit}
-use Rattle.fin_contents.proofs.Steps.{written}
+use Rattle.fin_contents.proofs.laws.Again.{ccy_amount-again}
+use Rattle.fin_contents.proofs.laws.Fit.{ccy_amount-fit}
+use Rattle.fin_contents.proofs.laws.Steps.{written}
 use Rattle.fin_contents.proofs.amount.put_ccy_amount.Goals as goal
 
 pub returns-clause-again : goal.returns-clause-again

@@ -1,7 +1,7 @@
 use Rattle.std.proofs.Common.{refl}
-use Rattle.fin_parties.proofs.Again.{letter-kept, party-fit}
-use Rattle.fin_contents.proofs.Again.{known_party-again, party-of-known}
-use Rattle.fin_contents.proofs.Steps.{written}
+use Rattle.fin_parties.proofs.laws.Again.{letter-kept, party-fit}
+use Rattle.fin_contents.proofs.laws.Again.{known_party-again, party-of-known}
+use Rattle.fin_contents.proofs.laws.Steps.{written}
 use Rattle.fin_contents.proofs.party.put_known_party.Goals as goal
 
 pub returns-clause-again : goal.returns-clause-again

@@ -1,8 +1,8 @@
 use Rattle.std.proofs.Common.{[], ◌∷◌, None, ap, arith}
 use Rattle.fin_contents.specs.Writing.{line_field}
-use Rattle.fin_contents.proofs.Again.{short_line-again, short_line-kept}
-use Rattle.fin_contents.proofs.Fit.{kept-fit}
-use Rattle.fin_contents.proofs.Steps.{written}
+use Rattle.fin_contents.proofs.laws.Again.{short_line-again, short_line-kept}
+use Rattle.fin_contents.proofs.laws.Fit.{kept-fit}
+use Rattle.fin_contents.proofs.laws.Steps.{written}
 use Rattle.fin_contents.proofs.short.put_short_line.Goals as goal
 
 pub returns-clause-again : goal.returns-clause-again

@@ -1,5 +1,5 @@
-use Rattle.fin_contents.proofs.Again.{texts-again, texts-kept}
-use Rattle.fin_contents.proofs.Fit.{kept-fit}
+use Rattle.fin_contents.proofs.laws.Again.{texts-again, texts-kept}
+use Rattle.fin_contents.proofs.laws.Fit.{kept-fit}
 use Rattle.fin_contents.proofs.texts.put_texts.Goals as goal
 
 pub returns-clause-again : goal.returns-clause-again

@@ -1,8 +1,8 @@
 use Rattle.std.proofs.Common.{[], ◌∷◌, Some, ap, refl, arith}
 use Rattle.fin_contents.specs.Writing.{line_field}
-use Rattle.fin_contents.proofs.Again.{time-again, time-kept}
-use Rattle.fin_contents.proofs.Fit.{kept-fit}
-use Rattle.fin_contents.proofs.Steps.{written}
+use Rattle.fin_contents.proofs.laws.Again.{time-again, time-kept}
+use Rattle.fin_contents.proofs.laws.Fit.{kept-fit}
+use Rattle.fin_contents.proofs.laws.Steps.{written}
 use Rattle.fin_contents.proofs.time.put_time.Goals as goal
 
 pub returns-clause-again : goal.returns-clause-again

@@ -2,9 +2,9 @@ use Rattle.std.proofs.Common.{◌≡◌, ◌++◌, Some, ap, arith}
 use Rattle.std.proofs.lemmas.Grind.{common_steps}
 use Rattle.corr_ids.specs.Day.{yymmdd_of}
 use Rattle.fin_contents.specs.Writing.{ccy_amount_text, line_field}
-use Rattle.fin_contents.proofs.Again.{value-again}
-use Rattle.fin_contents.proofs.Fit.{value-fit}
-use Rattle.fin_contents.proofs.Steps.{written}
+use Rattle.fin_contents.proofs.laws.Again.{value-again}
+use Rattle.fin_contents.proofs.laws.Fit.{value-fit}
+use Rattle.fin_contents.proofs.laws.Steps.{written}
 use Rattle.fin_contents.proofs.value.put_value.Goals as goal
 
 pub returns-clause-again : goal.returns-clause-again

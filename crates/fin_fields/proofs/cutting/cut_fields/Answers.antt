@@ -2,7 +2,7 @@ use Rattle.std.proofs.Common.{◌≡◌, ◌∙◌, None, ap, sym, arith}
 use Rattle.fin_fields.specs.Fields.{fields_of}
 use Rattle.fin_fields.specs.Faults.{outside_x}
 use Rattle.corr_text.specs.Lines.{lines_of}
-use Rattle.fin_fields.proofs.Bounds.{fields-few}
+use Rattle.fin_fields.proofs.laws.Bounds.{fields-few}
 use Rattle.fin_fields.proofs.Fit.{all-fit, some-fields}
 use Rattle.fin_fields.proofs.Plain.{no-fault, none-outside}
 use Rattle.fin_fields.proofs.cutting.cut_fields.Goals as goal

@@ -1,4 +1,4 @@
-use Rattle.fin_parties.proofs.Again.{party-again, letter-kept, party-fit}
+use Rattle.fin_parties.proofs.laws.Again.{party-again, letter-kept, party-fit}
 use Rattle.fin_parties.proofs.writing.put_party.Goals as goal
 
 pub returns-clause-again : goal.returns-clause-again

@@ -1,8 +1,8 @@
-use Rattle.corr_disk.proofs.Moments.{started, goes_on}
+use Rattle.corr_disk.proofs.laws.Moments.{started, goes_on}
 use Rattle.jrn_file.specs.Making.{IsEntering}
 use Rattle.jrn_file.proofs.EntryImages.{entering-only, entering-frame, entering-gate}
 use Rattle.std.proofs.Common.{arith}
-use Rattle.corr_disk.proofs.Counted.{one_call, call_more, calls_within}
+use Rattle.corr_disk.proofs.laws.Counted.{one_call, call_more, calls_within}
 use Rattle.jrn_file.proofs.entering.enter.Goals as goal
 
 pub returns-in_err-sync-clause-any_moment : goal.returns-in_err-sync-clause-any_moment

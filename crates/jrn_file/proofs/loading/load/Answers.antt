@@ -1,6 +1,6 @@
 use Rattle.std.proofs.Common.{◌≡◌, ℕ, ◌+◌, ◌-◌, ◌*◌, ◌<◌, length, subst, sym, ◌∙◌, arith}
 use Rattle.corr_disk.specs.Calls.{CallsMade}
-use Rattle.corr_disk.proofs.Counted.{one_call, calls_in_turn, calls_then, calls_within}
+use Rattle.corr_disk.proofs.laws.Counted.{one_call, calls_in_turn, calls_then, calls_within}
 use Rattle.jrn_file.specs.Opening.{IsNoJournal, IsShut, IsReadAs}
 use Rattle.jrn_file.specs.Pieces.{OfBytes, calls_to_open}
 use Rattle.jrn_file.proofs.Calls.{untouched-start, untouched-call, untouched-then, untouched-only}

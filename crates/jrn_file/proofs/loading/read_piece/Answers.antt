@@ -1,6 +1,6 @@
 use Rattle.std.proofs.Common.{◌≡◌, ◌+◌, ◌≤◌, length, ◌-◌, take, drop, arith, ◌∙◌, length-drop}
 use Rattle.std.proofs.lemmas.List.{length-take}
-use Rattle.corr_disk.proofs.Counted.{one_call, calls_within}
+use Rattle.corr_disk.proofs.laws.Counted.{one_call, calls_within}
 use Rattle.jrn_file.proofs.Behind.{read-behind, read-gives}
 use Rattle.jrn_file.proofs.loading.read_piece.Goals as goal
 

@@ -1,5 +1,5 @@
 use Rattle.std.proofs.lemmas.Result.{on_ok_weaker}
-use Rattle.corr_disk.proofs.Moments.{weaker}
+use Rattle.corr_disk.proofs.laws.Moments.{weaker}
 use Rattle.jrn_file.specs.Making.{IsUnmadeOrMade}
 use Rattle.jrn_file.specs.Journal.{record_in}
 use Rattle.jrn_file.proofs.Head.{entering-head, entered-head, written-head}

@@ -1,5 +1,5 @@
 use Rattle.std.proofs.Common.{arith}
-use Rattle.corr_disk.proofs.Counted.{one_call, call_more, calls_within}
+use Rattle.corr_disk.proofs.laws.Counted.{one_call, call_more, calls_within}
 use Rattle.jrn_file.proofs.making.look_in_front.Goals as goal
 
 pub returns-in_err-read_at-clause-no_more_calls : goal.returns-in_err-read_at-clause-no_more_calls

@@ -1,5 +1,5 @@
 use Rattle.std.proofs.Common.{arith}
-use Rattle.corr_disk.proofs.Counted.{calls_then, at_most_weaker}
+use Rattle.corr_disk.proofs.laws.Counted.{calls_then, at_most_weaker}
 use Rattle.jrn_file.proofs.Fronts.{closed-within, short-within}
 use Rattle.jrn_file.proofs.making.make.Goals as goal
 

@@ -1,7 +1,7 @@
 use Rattle.std.proofs.Common.{◌≡◌, ◌∷◌, [], ◌++◌, rules, subst}
 use Rattle.jrn_file.specs.File.{IsSettled}
 use Rattle.jrn_file.specs.Journal.{frame_of}
-use Rattle.jrn_file.proofs.Frames.{record_in-frame}
+use Rattle.jrn_file.proofs.laws.Frames.{record_in-frame}
 use Rattle.jrn_lines.proofs.appending.append_line.Goals as goal
 
 pub returns-clause-appended : goal.returns-clause-appended

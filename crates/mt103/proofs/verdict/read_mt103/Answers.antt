@@ -1,6 +1,6 @@
 use Rattle.std.proofs.Common.{◌∙◌, sym}
 use Rattle.std.proofs.lemmas.Result.{err_from_is_err_and}
-use Rattle.mt103.proofs.Amount.{amount-payable}
+use Rattle.mt103.proofs.laws.Amount.{amount-payable}
 use Rattle.mt103.proofs.Complete.{complete}
 use Rattle.mt103.proofs.Outcome.{all-pass, contents-fail, instrs-fail, structure-fail}
 use Rattle.mt103.proofs.verdict.read_mt103.Goals as goal

@@ -1,6 +1,6 @@
 use Rattle.std.proofs.Common.{◌∙◌}
 use Rattle.std.proofs.lemmas.Result.{err_from_is_err_and}
-use Rattle.mt202cov.proofs.Amount.{given-payable}
+use Rattle.mt202cov.proofs.laws.Amount.{given-payable}
 use Rattle.mt202cov.proofs.Complete.{complete}
 use Rattle.mt202cov.proofs.Outcome.{contents-fail, structure-fail, told}
 use Rattle.mt202cov.proofs.verdict.read_mt202cov.Goals as goal

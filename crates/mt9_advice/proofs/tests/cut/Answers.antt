@@ -1,5 +1,5 @@
 use Rattle.std.proofs.Common.{arith}
-use Rattle.fin_fields.proofs.Bounds.{lines_few}
+use Rattle.fin_fields.proofs.laws.Bounds.{lines_few}
 use Rattle.mt9_advice.proofs.tests.cut.Goals as goal
 
 pub cut_fields-requires : goal.cut_fields-requires

@@ -4,7 +4,7 @@ use Rattle.std.proofs.lemmas.List.{length-map}
 use Rattle.std.proofs.lemmas.List.Elements.{All-nil, All-push}
 use Rattle.csv.specs.Records.{fields_of}
 use Rattle.ref_tables.specs.Accounts.{account_of}
-use Rattle.ref_tables.proofs.Entered.{enters, refuses, all-entered, length-entered, row-at, starts}
+use Rattle.ref_tables.proofs.laws.Entered.{enters, refuses, all-entered, length-entered, row-at, starts}
 use Rattle.ref_tables.proofs.accounts.enter_rows.Goals as goal
 
 pub loop-row-init : goal.loop-row-init

@@ -1,6 +1,6 @@
 use Rattle.ref_tables.specs.Accounts.{account_fault, account_of}
 use Rattle.ref_tables.specs.Refusals.{against}
-use Rattle.ref_tables.proofs.Entered.{first_fault-some}
+use Rattle.ref_tables.proofs.laws.Entered.{first_fault-some}
 use Rattle.ref_tables.proofs.Standing.{read-are-accounts}
 use Rattle.ref_tables.proofs.accounts.read_accounts.Goals as goal
 

@@ -3,7 +3,7 @@ use Rattle.std.proofs.lemmas.List.{length-map}
 use Rattle.std.specs.Str.{bytes_eq}
 use Rattle.indexmap.proofs.CallerLemmas.{insert_entry-new}
 use Rattle.csv.specs.Records.{fields_of}
-use Rattle.ref_tables.proofs.Entered.{enters, refuses, all-entered, row-at}
+use Rattle.ref_tables.proofs.laws.Entered.{enters, refuses, all-entered, row-at}
 use Rattle.ref_tables.proofs.keyed.enter_rows.Goals as goal
 
 pub loop-row-preserved : goal.loop-row-preserved

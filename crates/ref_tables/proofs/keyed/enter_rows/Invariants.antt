@@ -1,6 +1,6 @@
 use Rattle.std.proofs.Common.{map}
 use Rattle.csv.specs.Records.{fields_of}
-use Rattle.ref_tables.proofs.Entered.{Entered}
+use Rattle.ref_tables.proofs.laws.Entered.{Entered}
 use Rattle.ref_tables.proofs.keyed.enter_rows.Given as goal
 
 abbrev pub invariant-loop-row : goal.invariant-loop-row

@@ -1,5 +1,5 @@
 use Rattle.ref_tables.specs.Refusals.{against}
-use Rattle.ref_tables.proofs.Entered.{first_fault-some}
+use Rattle.ref_tables.proofs.laws.Entered.{first_fault-some}
 use Rattle.ref_tables.proofs.keyed.read_keyed.Goals as goal
 
 pub returns-in-Some-clause-bad : goal.returns-in-Some-clause-bad

@@ -6,7 +6,7 @@ use Rattle.csv.specs.Records.{fields_of}
 use Rattle.csv.specs.declared.parser.State.TheVariants as st
 use Rattle.csv.proofs.ReadFacts.{rows-end, rows-more}
 use Rattle.ref_tables.specs.Rows.{rows_of}
-use Rattle.ref_tables.proofs.Records.{records-begin, records-end, up_to-more, up_to-all}
+use Rattle.ref_tables.proofs.laws.Records.{records-begin, records-end, up_to-more, up_to-all}
 use Rattle.ref_tables.proofs.rows.read_records.Goals as goal
 
 pub loop-row-init : goal.loop-row-init

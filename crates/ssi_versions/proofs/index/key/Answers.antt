@@ -1,5 +1,5 @@
 use Rattle.std.proofs.Common.{◌∷◌, [], refl, ◌∙◌}
-use Rattle.corr_text.proofs.Filling.{filled}
+use Rattle.corr_text.proofs.laws.Filling.{filled}
 use Rattle.ssi_versions.proofs.index.key.Goals as goal
 
 pub returns : goal.returns

@@ -1,7 +1,7 @@
 use Rattle.std.proofs.Common.{◌≤◌, ◌∙◌, ◌++◌, ◌∷◌, [], ap, refl, arith, length, map}
 use Rattle.std.proofs.lemmas.List.{length-map}
 use Rattle.csv.specs.Records.{fields_of}
-use Rattle.ref_tables.proofs.Entered.{enters, refuses, all-entered, length-entered, row-at, starts}
+use Rattle.ref_tables.proofs.laws.Entered.{enters, refuses, all-entered, length-entered, row-at, starts}
 use Rattle.ssi_versions.proofs.Standing.{read-in-form}
 use Rattle.ssi_versions.proofs.reading.enter_rows.Goals as goal
 

@@ -1,6 +1,6 @@
 use Rattle.std.proofs.Common.{map}
 use Rattle.csv.specs.Records.{fields_of}
-use Rattle.ref_tables.proofs.Entered.{Entered}
+use Rattle.ref_tables.proofs.laws.Entered.{Entered}
 use Rattle.ssi_versions.specs.Rows.{instruction_fault, instruction_of}
 use Rattle.ssi_versions.proofs.reading.enter_rows.Given as goal
 

@@ -1,4 +1,4 @@
-use Rattle.corr_ids.proofs.Spelling.{lt-again, lt-bank, mir-form, mir-sender}
+use Rattle.corr_ids.proofs.laws.Spelling.{lt-again, lt-bank, mir-form, mir-sender}
 use Rattle.corr_ids.specs.Mir.{sender_text}
 use Rattle.corr_ids.proofs.mir.Mir.sender.Goals as goal
 

@@ -1,7 +1,7 @@
 use Rattle.std.proofs.Common.{◌≡◌, ◌+◌, ◌<◌, ◌≤◌, length, Some, None, refl, sym, ap, ◌∙◌, arith}
 use Rattle.std.specs.List.{position_from}
 use Rattle.day_model.specs.Chart.{Chart, is_owned}
-use Rattle.day_model.proofs.Places.{one-Some, one-None, position_from-within}
+use Rattle.day_model.proofs.laws.Places.{one-Some, one-None, position_from-within}
 use Rattle.day_model.proofs.accounts.Accounts.owned.Goals as goal
 
 pub returns-in_err-at : goal.returns-in_err-at

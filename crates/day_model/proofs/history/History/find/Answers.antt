@@ -1,7 +1,7 @@
 use Rattle.std.proofs.Common.{◌≡◌, ◌+◌, ◌<◌, ◌≤◌, length, Some, None, refl, sym, ap, ◌∙◌, arith}
 use Rattle.std.specs.List.{position_from}
 use Rattle.day_model.specs.Next.{has_mir}
-use Rattle.day_model.proofs.Places.{one-Some, one-None, position_from-within}
+use Rattle.day_model.proofs.laws.Places.{one-Some, one-None, position_from-within}
 use Rattle.day_model.proofs.history.History.find.Goals as goal
 
 pub returns-in_err-at : goal.returns-in_err-at

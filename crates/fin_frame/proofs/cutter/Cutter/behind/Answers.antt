@@ -1,7 +1,7 @@
 use Rattle.std.proofs.Common.{◌≡◌, get_or, arith, sym, subst, ap, ◌∙◌}
 use Rattle.fin_frame.specs.Machine.{next_at, next, next_behind, Took, resumes}
 use Rattle.fin_frame.specs.Cutting.{state_of}
-use Rattle.fin_frame.proofs.Running.{run-first, next-sound, behind-more, took-resumed}
+use Rattle.fin_frame.proofs.laws.Running.{run-first, next-sound, behind-more, took-resumed}
 use Rattle.fin_frame.proofs.cutter.Cutter.behind.Goals as goal
 
 pub returns-else-matched-eq2-clause-took : goal.returns-else-matched-eq2-clause-took

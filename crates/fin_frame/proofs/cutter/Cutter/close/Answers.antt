@@ -4,7 +4,7 @@ use Rattle.fin_frame.specs.File.{is_gap_byte}
 use Rattle.fin_frame.specs.Machine.{to}
 use Rattle.fin_frame.specs.Cutting.{state_of}
 use Rattle.fin_frame.specs.declared.stage.Stage.TheVariants.{Between}
-use Rattle.fin_frame.proofs.Running.{close-gap}
+use Rattle.fin_frame.proofs.laws.Running.{close-gap}
 use Rattle.fin_frame.proofs.cutter.Cutter.close.Goals as goal
 
 pub returns-in_ok-give-in-10-clause-took : goal.returns-in_ok-give-in-10-clause-took

@@ -5,7 +5,7 @@ use Rattle.std.proofs.lemmas.List.{length-take-le, take-take}
 use Rattle.fin_frame.specs.Tidy.{is_tidy}
 use Rattle.fin_frame.specs.Cutting.{state_of}
 use Rattle.fin_frame.specs.declared.stage.Stage.TheVariants.{Within}
-use Rattle.fin_frame.proofs.Running.{run-first, next-sound, within-full, took-within, state-same, deep-of}
+use Rattle.fin_frame.proofs.laws.Running.{run-first, next-sound, within-full, took-within, state-same, deep-of}
 use Rattle.fin_frame.proofs.cutter.Cutter.inside.Goals as goal
 
 pub returns-then-held-ge-MOST_BYTES-clause-took : goal.returns-then-held-ge-MOST_BYTES-clause-took

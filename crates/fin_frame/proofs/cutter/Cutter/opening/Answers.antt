@@ -1,6 +1,6 @@
 use Rattle.std.proofs.Common.{refl, sym, ◌∙◌}
 use Rattle.fin_frame.specs.Cutting.{state_of}
-use Rattle.fin_frame.proofs.Running.{opening-more}
+use Rattle.fin_frame.proofs.laws.Running.{opening-more}
 use Rattle.fin_frame.proofs.cutter.Cutter.opening.Goals as goal
 
 pub returns-else-matched-eq2-clause-took : goal.returns-else-matched-eq2-clause-took

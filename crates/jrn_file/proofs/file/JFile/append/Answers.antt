@@ -1,5 +1,5 @@
 use Rattle.std.proofs.Common.{◌≡◌, ◌+◌, ◌-◌, length, sym, ap, ◌∙◌, arith}
-use Rattle.corr_disk.proofs.Moments.{weaker}
+use Rattle.corr_disk.proofs.laws.Moments.{weaker}
 use Rattle.jrn_file.specs.Journal.{IsBeforeOrAfter, record_in}
 use Rattle.jrn_file.proofs.Records.{gate-within, place-more, entering-stands, entered-stands}
 use Rattle.jrn_file.proofs.file.JFile.append.Goals as goal

@@ -1,5 +1,5 @@
 use Rattle.ref_tables.specs.Refusals.{against}
-use Rattle.ref_tables.proofs.Entered.{first_fault-some}
+use Rattle.ref_tables.proofs.laws.Entered.{first_fault-some}
 use Rattle.ssi_versions.specs.Rows.{instruction_fault, instruction_of}
 use Rattle.ssi_versions.proofs.Standing.{read-are-instructions}
 use Rattle.ssi_versions.proofs.ssi.Ssi.read.Goals as goal

@@ -16,9 +16,9 @@ use Rattle.fin_layout.specs.declared.fault.TheConstants.{P24}
 use Rattle.fin_contents.specs.declared.value.Value.{Value}
 use Rattle.fin_contents.specs.Money.{ccy_amount_in, ccy_amount_of, is_ccy_amount, is_dated_amount, value_in, value_of}
 use Rattle.fin_contents.specs.Writing.{IsAmount, IsHeading, IsValue, ccy_amount_field, ccy_amount_text, line_field, lines_field, value_field}
-use Rattle.fin_contents.proofs.Again.{ccy_amount-again, value-again}
-use Rattle.fin_contents.proofs.Bytes.{all-of-x, and-three, digits-of-x, letters-of-x}
-use Rattle.fin_contents.proofs.Steps.{checked}
+use Rattle.fin_contents.proofs.laws.Again.{ccy_amount-again, value-again}
+use Rattle.fin_contents.proofs.laws.Bytes.{all-of-x, and-three, digits-of-x, letters-of-x}
+use Rattle.fin_contents.proofs.laws.Steps.{checked}
 
 -- lines that stood in a text may stand there again
 pub kept-fit : (tag : ℕ) (letter : Option ℕ) (f : Field) (lines : List (List ℕ)) → IsHeading tag letter → f.lines ≡ lines → IsField f → IsField (lines_field tag letter lines)

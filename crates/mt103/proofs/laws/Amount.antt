@@ -4,7 +4,7 @@ use Rattle.ref_tables.specs.Seen.{Tables}
 use Rattle.fin_fields.specs.declared.field.Field.{Field}
 use Rattle.fin_layout.specs.Order.{places_from}
 use Rattle.fin_contents.specs.Money.{IsPayable}
-use Rattle.fin_contents.proofs.Again.{place-payable}
+use Rattle.fin_contents.proofs.laws.Again.{place-payable}
 use Rattle.mt103.specs.Message.{mt103_of}
 use Rattle.mt103.specs.declared.message.Mt103.{Mt103}
 use Rattle.mt103.specs.declared.order.TheConstants.{ORDER}

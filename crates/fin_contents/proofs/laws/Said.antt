@@ -13,8 +13,8 @@ use Rattle.fin_fields.specs.declared.field.Field.{Field}
 use Rattle.fin_layout.specs.declared.place.Place.{Place}
 use Rattle.fin_layout.specs.Contents.{all_from, in_option, in_place, located, may_read, must_read}
 use Rattle.fin_layout.specs.Order.{field_in, fits, free_after, place_from, places_from}
-use Rattle.fin_layout.proofs.FoundField.{field-here, field-later}
-use Rattle.fin_layout.proofs.Fine.{field-nil, second, unshifted}
+use Rattle.fin_layout.proofs.laws.FoundField.{field-here, field-later}
+use Rattle.fin_layout.proofs.laws.Fine.{field-nil, second, unshifted}
 
 -- ---- what holds of each field at its place
 

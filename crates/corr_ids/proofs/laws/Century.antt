@@ -11,7 +11,7 @@ use Rattle.jiff_core.proofs.CalendarLemmas.{days_from_civil-day_count, day_count
 use Rattle.jiff_core.proofs.DateLemmas.{epoch_day_injective}
 use Rattle.corr_ids.specs.declared.day.Day.{Day}
 use Rattle.corr_ids.specs.Day.{Civil, InCentury, civil_day, civil_of, date_after, next_date}
-use Rattle.corr_ids.proofs.Civil.{civil-true}
+use Rattle.corr_ids.proofs.laws.Civil.{civil-true}
 use borrow.Author.Differences.{up, down}
 use borrow.Author.Tests.{ltb-true, ltb-false}
 

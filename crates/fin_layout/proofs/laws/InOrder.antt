@@ -41,9 +41,9 @@ use Rattle.fin_layout.specs.Reading.{Fails, Tells}
 use Rattle.fin_layout.specs.declared.fault.MtFault.{MtFault}
 use Rattle.fin_layout.specs.declared.fault.MtFault.TheVariants as faults
 use Rattle.fin_layout.specs.Tests.{contents_from, misplaced, lacking, passed, structure_tests, tests}
-use Rattle.fin_layout.proofs.FoundField.{field-here, field-later}
-use Rattle.fin_layout.proofs.Grouped.{free_after-bounds}
-use Rattle.fin_layout.proofs.Fine.{IsTestOf, field-nil, first-none, holds-none, map-none, passed-fails, passed-on, present, read-none, second, taken-from, unshifted}
+use Rattle.fin_layout.proofs.laws.FoundField.{field-here, field-later}
+use Rattle.fin_layout.proofs.laws.Grouped.{free_after-bounds}
+use Rattle.fin_layout.proofs.laws.Fine.{IsTestOf, field-nil, first-none, holds-none, map-none, passed-fails, passed-on, present, read-none, second, taken-from, unshifted}
 
 -- ---- places never fall
 

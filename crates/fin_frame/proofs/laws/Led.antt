@@ -11,7 +11,7 @@ use Rattle.fin_frame.specs.Shown.{no_more, stands_apart}
 use Rattle.fin_frame.specs.Machine.{State, at_start, to, fails, gives, held_bytes, landed, grows, within, next_close, next, run, moves, stage_between}
 use Rattle.fin_frame.specs.declared.fault.FrameFault.TheVariants.{TooLong}
 use Rattle.fin_frame.specs.declared.stage.Stage.TheVariants.{Between, Within, Behind}
-use Rattle.fin_frame.proofs.Running.{run-append, run-failed, run-within, run-resumed, within-full, within-room, same-test, other-test, state-same, close-gap}
+use Rattle.fin_frame.proofs.laws.Running.{run-append, run-failed, run-within, run-resumed, within-full, within-room, same-test, other-test, state-same, close-gap}
 
 -- in a gap behind these messages, or before them all
 abbrev pub at_gap : ℕ → List (List ℕ) → Bool → State

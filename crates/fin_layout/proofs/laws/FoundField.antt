@@ -4,7 +4,7 @@ use Rattle.std.proofs.lemmas.Bool.Decides.{nat_tests}
 use Rattle.std.proofs.lemmas.List.Folds.{list_any-append}
 use Rattle.std.specs.List.{list_any}
 use Rattle.fin_fields.specs.declared.field.Field.{Field}
-use Rattle.fin_fields.proofs.Positions.{position-here, position-later}
+use Rattle.fin_fields.proofs.laws.Positions.{position-here, position-later}
 use Rattle.fin_layout.specs.Order.{field_in}
 use Rattle.fin_layout.specs.Segments.{places_of, joined}
 

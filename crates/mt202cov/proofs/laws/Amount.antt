@@ -7,7 +7,7 @@ use Rattle.fin_layout.specs.Order.{places_from}
 use Rattle.fin_layout.specs.Reading.{Gives}
 use Rattle.fin_layout.specs.declared.fault.MtFault.{MtFault}
 use Rattle.fin_contents.specs.Money.{IsPayable}
-use Rattle.fin_contents.proofs.Again.{place-payable}
+use Rattle.fin_contents.proofs.laws.Again.{place-payable}
 use Rattle.mt202cov.specs.Message.{mt202cov_of}
 use Rattle.mt202cov.specs.Writing.{value_in}
 use Rattle.mt202cov.specs.declared.message.Mt202Cov.{Mt202Cov}

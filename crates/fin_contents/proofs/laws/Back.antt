@@ -8,10 +8,10 @@ use Rattle.fin_layout.specs.declared.place.Place.{Place}
 use Rattle.fin_layout.specs.Contents.{all_from, in_option, in_place}
 use Rattle.fin_layout.specs.Order.{field_in}
 use Rattle.fin_layout.specs.Segments.{joined, places_of}
-use Rattle.fin_layout.proofs.FoundField.{grouped-field, grouped-none}
-use Rattle.fin_layout.proofs.ReadGroups.{ReadsAll, grouped-all}
+use Rattle.fin_layout.proofs.laws.FoundField.{grouped-field, grouped-none}
+use Rattle.fin_layout.proofs.laws.ReadGroups.{ReadsAll, grouped-all}
 use Rattle.fin_contents.specs.Writing.{lines_field, lines_fields, some_field}
-use Rattle.fin_contents.proofs.Said.{Holds, Said, said-all, said-one, said-option}
+use Rattle.fin_contents.proofs.laws.Said.{Holds, Said, said-all, said-one, said-option}
 
 -- ---- what holds of each
 

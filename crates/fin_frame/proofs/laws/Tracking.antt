@@ -15,8 +15,8 @@ use Rattle.fin_frame.specs.declared.fault.FrameFault.{FrameFault}
 use Rattle.fin_frame.specs.declared.fault.FrameFault.TheVariants.{Stray, TooLong}
 use Rattle.fin_frame.specs.declared.stage.Stage.TheVariants.{Opening, Behind}
 use Rattle.fin_frame.proofs.Groups.{left_open-more}
-use Rattle.fin_frame.proofs.Running.{lt-test}
-use Rattle.fin_frame.proofs.Led.{at_gap, in_message, is_marked, and-parts, or-parts, no-more-joined, or-true, message-leads, leads}
+use Rattle.fin_frame.proofs.laws.Running.{lt-test}
+use Rattle.fin_frame.proofs.laws.Led.{at_gap, in_message, is_marked, and-parts, or-parts, no-more-joined, or-true, message-leads, leads}
 
 -- more bytes show no less
 

@@ -12,7 +12,7 @@ use Rattle.day_model.specs.Chart.{Chart, IsListed}
 use Rattle.day_model.specs.Balance.{is_booked, moved, moved_by, credits_of, debits_of}
 use Rattle.day_model.specs.Legal.{IsLegal}
 use Rattle.day_model.specs.Totals.{Pair, plus, leg_pair, legs_pair, booked_legs, totals_of, BalanceIsByTotals, EntryAddsItsLegs, LegalTotalsFit}
-use Rattle.day_model.proofs.Fitting.{transfer, leg_sound}
+use Rattle.day_model.proofs.laws.Fitting.{transfer, leg_sound}
 use Rattle.day_model.proofs.Sums.{totals_fit}
 
 pub plus_assoc : (p q r : Pair) → plus (plus p q) r ≡ plus p (plus q r)

@@ -8,19 +8,19 @@ use Rattle.ref_tables.specs.Seen.{Tables}
 use Rattle.fin_fields.specs.declared.field.Field.{Field}
 use Rattle.fin_fields.specs.Faults.{letter_of}
 use Rattle.fin_fields.specs.Writing.{IsField}
-use Rattle.fin_fields.proofs.Positions.{position-here, position-later}
+use Rattle.fin_fields.proofs.laws.Positions.{position-here, position-later}
 use Rattle.fin_layout.specs.declared.place.Place.{Place}
 use Rattle.fin_layout.specs.Order.{fits, free_after, place_from}
 use Rattle.fin_layout.specs.Segments.{IsFirst, Segment, joined}
 use Rattle.fin_parties.specs.Writing.{party_field}
 use Rattle.fin_parties.specs.declared.party.Party.{Party}
-use Rattle.fin_parties.proofs.Again.{letter-kept, party-fit}
+use Rattle.fin_parties.proofs.laws.Again.{letter-kept, party-fit}
 use Rattle.fin_contents.specs.Parties.{known_party_of}
 use Rattle.fin_contents.specs.Writing.{lines_field, lines_fields, some_field}
-use Rattle.fin_contents.proofs.Again.{known_party-again, party-of-known}
-use Rattle.fin_contents.proofs.Back.{Again}
-use Rattle.fin_contents.proofs.Bytes.{and-both}
-use Rattle.fin_contents.proofs.Said.{Said, Stands}
+use Rattle.fin_contents.proofs.laws.Again.{known_party-again, party-of-known}
+use Rattle.fin_contents.proofs.laws.Back.{Again}
+use Rattle.fin_contents.proofs.laws.Bytes.{and-both}
+use Rattle.fin_contents.proofs.laws.Said.{Said, Stands}
 
 -- ---- the first place of a field
 

@@ -6,7 +6,7 @@ use Rattle.std.proofs.lemmas.Bool.Decides.{nat_tests}
 use Rattle.corr_text.specs.Lines.{begins_with}
 use Rattle.corr_ids.specs.declared.bic.Bic.{Bic}
 use Rattle.corr_ids.specs.Bic.{bic_of, bic_text}
-use Rattle.corr_ids.proofs.Spelling.{some_if}
+use Rattle.corr_ids.proofs.laws.Spelling.{some_if}
 use Rattle.fin_fields.specs.declared.field.Field.{Field}
 use Rattle.fin_fields.specs.Faults.{has_other_byte}
 use Rattle.fin_fields.specs.Writing.{Continues, ContinueAll, IsField}

@@ -10,15 +10,15 @@ use Rattle.corr_text.specs.First.{◌>>=◌}
 use Rattle.corr_text.specs.Sets.{is_in}
 use Rattle.corr_text.specs.declared.set.Set.TheVariants.{X, N, A}
 use Rattle.corr_ids.specs.Day.{day_of, yymmdd_of}
-use Rattle.corr_ids.proofs.DaySpelling.{day-spelled}
+use Rattle.corr_ids.proofs.laws.DaySpelling.{day-spelled}
 use Rattle.corr_money.specs.Amounts.{amount_of, amount_text, decimals_of, is_comma_number, minor_of}
 use Rattle.corr_money.specs.declared.amount.Amount.{Amount}
 use Rattle.corr_money.specs.declared.amount.Minor.{Minor}
 use Rattle.corr_money.specs.declared.fault.AmountFault.{AmountFault}
 use Rattle.corr_money.specs.declared.fault.AmountFault.TheVariants.{T40 as NoNumber, T43 as TooLong, C03 as TooFine, TooLarge}
-use Rattle.corr_money.proofs.Written.{reads_written}
+use Rattle.corr_money.proofs.laws.Written.{reads_written}
 use Rattle.ref_tables.specs.Seen.{Tables, decimals_in, few_decimals}
-use Rattle.ref_tables.proofs.Decimals.{lookup_few}
+use Rattle.ref_tables.proofs.laws.Decimals.{lookup_few}
 use Rattle.fin_fields.specs.declared.field.Field.{Field}
 use Rattle.fin_fields.specs.declared.pattern.Pattern.TheVariants.{Lines}
 use Rattle.fin_fields.specs.Patterns.{is_run, meets}
@@ -26,20 +26,20 @@ use Rattle.fin_layout.specs.declared.fault.TheConstants.{P24}
 use Rattle.fin_layout.specs.declared.place.Place.{Place}
 use Rattle.fin_layout.specs.Contents.{in_place}
 use Rattle.fin_layout.specs.Order.{field_in}
-use Rattle.fin_layout.proofs.ReadBack.{must-ok}
+use Rattle.fin_layout.proofs.laws.ReadBack.{must-ok}
 use Rattle.fin_parties.specs.Party.{party_of}
 use Rattle.fin_parties.specs.Writing.{party_field}
 use Rattle.fin_parties.specs.declared.party.Party.{Party}
-use Rattle.fin_parties.proofs.Again.{party-again}
+use Rattle.fin_parties.proofs.laws.Again.{party-again}
 use Rattle.fin_contents.specs.declared.codes.TheConstants.{C08, P25, P26, T26, T40, T43, T50, T52}
 use Rattle.fin_contents.specs.declared.value.Value.{Value}
 use Rattle.fin_contents.specs.Money.{IsPayable, ccy_amount_in, ccy_amount_of, coded, is_ccy_amount, is_dated_amount, is_metal, minor_in, rate_of, value_in, value_of}
 use Rattle.fin_contents.specs.Parties.{is_known, known_party_of}
 use Rattle.fin_contents.specs.Plain.{has_stray_slash, is_time, one_line, reference_of, short_line_of, texts_of, time_of}
 use Rattle.fin_contents.specs.Writing.{IsAmount, IsValue, ccy_amount_field, ccy_amount_text, line_field, lines_field, value_field}
-use Rattle.fin_contents.proofs.Bytes.{and-three, comma_number-of-x}
+use Rattle.fin_contents.proofs.laws.Bytes.{and-three, comma_number-of-x}
 use Rattle.fin_contents.proofs.Days.{day-in-century}
-use Rattle.fin_contents.proofs.Steps.{checked, is-only, read-then, there}
+use Rattle.fin_contents.proofs.laws.Steps.{checked, is-only, read-then, there}
 
 -- ---- contents that keep their lines
 

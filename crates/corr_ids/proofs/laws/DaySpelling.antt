@@ -6,9 +6,9 @@ use Rattle.std.proofs.lemmas.Bool.Decides.{nat_tests}
 use Rattle.jiff_core.specs.Calendar.{days_from_civil}
 use Rattle.corr_ids.specs.declared.day.Day.{Day}
 use Rattle.corr_ids.specs.Day.{Civil, InCentury, civil_day, civil_of, day_of, digits_of, is_civil, pair_of, year_of, yymmdd_of}
-use Rattle.corr_ids.proofs.Century.{century_from, civil-again, civil_is, parted}
-use Rattle.corr_ids.proofs.Civil.{date_from}
-use Rattle.corr_ids.proofs.Spelling.{some_if}
+use Rattle.corr_ids.proofs.laws.Century.{century_from, civil-again, civil_is, parted}
+use Rattle.corr_ids.proofs.laws.Civil.{date_from}
+use Rattle.corr_ids.proofs.laws.Spelling.{some_if}
 
 -- two digits are read again, and so are the last two of a year
 pair-again : (n : ℕ) → n ≤ 99 → pair_of (48 + n / 10) (48 + n % 10) ≡ Some n

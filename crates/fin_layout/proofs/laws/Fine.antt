@@ -15,7 +15,7 @@ use Rattle.fin_layout.specs.Reading.{Fails, Tells}
 use Rattle.fin_layout.specs.Tests.{contents_from, tests, without}
 use Rattle.fin_layout.specs.declared.fault.MtFault.{MtFault}
 use Rattle.fin_layout.specs.declared.fault.MtFault.TheVariants as faults
-use Rattle.fin_layout.proofs.FoundField.{field-here, field-later, shifted}
+use Rattle.fin_layout.proofs.laws.FoundField.{field-here, field-later, shifted}
 
 pub first-none : {A : Type 0} (o : Option A) (more : List (Option A)) → first_of (o ∷ more) ≡ None → (o ≡ None) × (first_of more ≡ None)
 first-none None more h = (refl, h)

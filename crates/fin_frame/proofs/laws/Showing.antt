@@ -12,10 +12,10 @@ use Rattle.fin_frame.specs.Machine.{State, at_start, to, fails, with_open, next_
 use Rattle.fin_frame.specs.declared.fault.FrameFault.{FrameFault}
 use Rattle.fin_frame.specs.declared.fault.FrameFault.TheVariants.{Stray, TooLong}
 use Rattle.fin_frame.specs.declared.stage.Stage.TheVariants.{Opening, Behind}
-use Rattle.fin_frame.proofs.Running.{run-append, run-failed, other-test}
+use Rattle.fin_frame.proofs.laws.Running.{run-append, run-failed, other-test}
 use Rattle.fin_frame.proofs.Steps.{run-given, run-begun}
-use Rattle.fin_frame.proofs.Led.{at_gap, in_message, is_marked, Rests, file-run, message-run, message-over, lead-run, and-parts, or-parts, close-step, no-more-joined}
-use Rattle.fin_frame.proofs.Led.Rests.{rests_apart, rests_behind}
+use Rattle.fin_frame.proofs.laws.Led.{at_gap, in_message, is_marked, Rests, file-run, message-run, message-over, lead-run, and-parts, or-parts, close-step, no-more-joined}
+use Rattle.fin_frame.proofs.laws.Led.Rests.{rests_apart, rests_behind}
 
 not-parts : (b : Bool) → not b ≡ true → b ≡ false
 not-parts true e = cc

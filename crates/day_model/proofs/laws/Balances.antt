@@ -16,7 +16,7 @@ use Rattle.day_model.specs.declared.entry.Outcome.TheVariants.{Booked, Unfunded}
 use Rattle.day_model.specs.Chart.{Chart, IsChart, IsListed, IsLimited, IsSmall, account_at}
 use Rattle.day_model.specs.Balance.{is_booked, moved, moved_by, credits_of, debits_of, balance_of, changed, is_within, leg_test, leg_tests}
 use Rattle.day_model.specs.Legal.{IsLegal}
-use Rattle.day_model.proofs.Fitting.{Transfer, transfer}
+use Rattle.day_model.proofs.laws.Fitting.{Transfer, transfer}
 
 -- a listed number has an account
 pub listed_account : (chart : Chart) (n : ℕ) → IsListed chart n → (a : Account) × (account_at chart n ≡ Some a)

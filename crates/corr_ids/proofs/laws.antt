@@ -1,0 +1,4 @@
+pub mod Century
+pub mod Civil
+pub mod DaySpelling
+pub mod Spelling

@@ -1,0 +1,7 @@
+pub mod Steps
+pub mod Bytes
+pub mod Again
+pub mod Fit
+pub mod Said
+pub mod Back
+pub mod Placed

@@ -1,0 +1,4 @@
+pub mod Running
+pub mod Led
+pub mod Showing
+pub mod Tracking

@@ -1,0 +1,6 @@
+pub mod FoundField
+pub mod Grouped
+pub mod ReadGroups
+pub mod Fine
+pub mod ReadBack
+pub mod InOrder

@@ -1,0 +1,4 @@
+pub mod Records
+pub mod Entered
+pub mod Fine
+pub mod Decimals
