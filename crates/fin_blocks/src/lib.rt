@@ -7,7 +7,7 @@ mod blocks;
 mod fault;
 mod forms;
 mod groups;
-mod laws;
+mod law;
 mod reading;
 #[cfg(test)]
 mod tests;
@@ -20,6 +20,6 @@ mod writing_tests;
 
 pub use blocks::{App, Blocks};
 pub use fault::{BlockFault, P01, P02, P03, P04, P05, P06};
-pub use laws::block_code_law;
+pub use law::block_code_law;
 pub use reading::read_blocks;
 pub use writing::put_blocks;

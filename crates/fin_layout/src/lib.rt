@@ -5,7 +5,7 @@
 mod content;
 mod fault;
 mod finding;
-mod laws;
+mod law;
 mod naming;
 mod place;
 mod placing;
@@ -17,7 +17,7 @@ mod tests;
 pub use content::{Content, refusal};
 pub use fault::{MtFault, P22, P23, P24, Refusal};
 pub use finding::find;
-pub use laws::field_code_law;
+pub use law::field_code_law;
 pub use naming::{absent, fault_at};
 pub use place::Place;
 pub use placing::{missing, places};

@@ -7,7 +7,7 @@ mod details;
 mod instruction;
 mod instruction_tests;
 mod kind;
-mod laws;
+mod law;
 mod message;
 mod operation;
 mod order;
@@ -23,7 +23,7 @@ mod writing_tests;
 
 pub use codes::{D97, D98, E46, P28, T08, T36};
 pub use instruction::Instr;
-pub use laws::transfer_laws;
+pub use law::transfer_laws;
 pub use message::Mt103;
 pub use order::ORDER;
 pub use verdict::read_mt103;

@@ -5,7 +5,7 @@ mod banks;
 mod codes;
 mod customers;
 mod details;
-mod laws;
+mod law;
 mod message;
 mod order;
 mod reading;
@@ -21,7 +21,7 @@ mod writing;
 mod writing_tests;
 
 pub use codes::{C68, C81};
-pub use laws::cover_laws;
+pub use law::cover_laws;
 pub use message::Mt202Cov;
 pub use order::ORDER;
 pub use verdict::read_mt202cov;

@@ -1,5 +1,5 @@
 use Rattle.day_model.proofs.laws.Growth.{empty_is_legal, fold_again, fold_begins, fold_is_legal, fold_of_append, places_stay}
-use Rattle.day_model.proofs.laws.fold_laws.Goals as goal
+use Rattle.day_model.proofs.law.fold_laws.Goals as goal
 
 pub returns-clause-begins : goal.returns-clause-begins
 returns-clause-begins c = fold_begins
