@@ -5,3 +5,4 @@ pub mod First
 pub mod Faults
 pub mod Lines
 pub mod Braces
+pub mod Codes
