@@ -76,7 +76,7 @@ fn pay(alloc: Global, debit: u32, credit: u32, amount: u64) -> Result<Pay, Memor
 }
 
 // 250.00 from account 1 to account 2.
-#[tactic(auto, using(day_model::proofs::Growth::legal_here))]
+#[tactic(auto, using(day_model::proofs::laws::Growth::legal_here))]
 fn one_entry<R: Abort>(rt: &R, alloc: Global, a: &Accounts) -> Result<History, Fail>
     ensures { IfOk result (λ h. IsLegal a.now h.entries) }
 {
