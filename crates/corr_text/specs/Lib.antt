@@ -6,3 +6,4 @@ pub mod Faults
 pub mod Lines
 pub mod Braces
 pub mod Codes
+pub mod Slashes

@@ -1,5 +1,6 @@
 use crate::{
-    Buf, List, Set, Text, copy_texts, digits, first_line, is_set, is_x, push_texts, put_digits,
+    Buf, List, Set, Text, copy_texts, digits, first_line, is_set, is_x, next_brace, plain_line,
+    push_texts, put_digits,
 };
 use std::test::Fail;
 
@@ -83,6 +84,18 @@ fn a_text_is_copied_and_grows(rt: HostRuntime) -> Result<(), Fail> {
 }
 
 #[test]
+fn room_behind_a_text_is_no_part_of_it(rt: HostRuntime) -> Result<(), Fail> {
+    let mut text = Text::with_room(rt.alloc(), b"REF1", 3)?;
+    assert_eq!(rt; text.bytes(), b"REF1".as_slice());
+    text.push(b"//X")?;
+    assert_eq!(rt; text.bytes(), b"REF1//X".as_slice());
+    let mut list = List::with_room(rt.alloc(), 2)?;
+    list.push(7u64)?;
+    assert_eq!(rt; list.as_slice(), [7].as_slice());
+    Ok(())
+}
+
+#[test]
 fn a_buffer_is_filled_again(rt: HostRuntime) -> Result<(), Fail> {
     let mut buf = Buf::new(rt.alloc());
     assert_eq!(rt; buf.bytes(), b"".as_slice());
@@ -137,5 +150,39 @@ fn a_text_is_cut_behind_its_first_line_end(rt: HostRuntime) {
         let cut = first_line(text);
         assert_eq!(rt; cut.line, line);
         assert_eq!(rt; cut.rest, rest);
+    }
+}
+
+#[test]
+fn a_line_is_plain_where_its_bytes_are_of_set_x(rt: HostRuntime) {
+    let rows: [(&[u8], Option<(&[u8], &[u8])>); 8] = [
+        (b":20:A\r\n:21:B", Some((b":20:A", b":21:B"))),
+        (b":20:A\n:21:B", Some((b":20:A", b":21:B"))),
+        (b":20:A", Some((b":20:A", b""))),
+        (b"\r\n", Some((b"", b""))),
+        (b":20:A&B\r\n", None),
+        (b":20:A\rB\r\n", None),
+        (b":20:A\r", None),
+        (b"{", None),
+    ];
+    for (text, want) in rows {
+        let cut = plain_line(text).map(|cut| (cut.line, cut.rest));
+        assert_eq!(rt; cut, want, "{text:?}");
+    }
+}
+
+#[test]
+fn braces_are_found_from_a_place_on(rt: HostRuntime) {
+    let rows: [(&[u8], usize, usize); 7] = [
+        (b"", 0, 0),
+        (b"A", 0, 1),
+        (b"{1:A}", 0, 0),
+        (b"{1:A}", 1, 4),
+        (b"{1:A}", 5, 5),
+        (b"A}B{", 0, 1),
+        (b"A}B{", 2, 3),
+    ];
+    for (text, from, at) in rows {
+        assert_eq!(rt; next_brace(text, from), at, "{text:?} from {from}");
     }
 }

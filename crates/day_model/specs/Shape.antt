@@ -1,9 +1,9 @@
 -- The shape of a pay, whatever the book.
-use Rattle.std.specs.Prelude.{ℕ, ◌≤◌, ◌==◌, ◌&&◌, ◌||◌, ◌-◌, not, Bool, false, All, IfSome, IsTrue, List, [], ◌∷◌, length, drop}
-use Rattle.std.specs.List.{list_all, list_any, zip}
+use Rattle.std.specs.Prelude.{ℕ, ◌≤◌, ◌==◌, ◌&&◌, ◌-◌, not, Bool, false, All, IfSome, IsTrue, List, [], ◌∷◌, length}
+use Rattle.std.specs.List.{list_all}
 use Rattle.corr_text.specs.declared.set.Set.TheVariants.{X}
-use Rattle.corr_text.specs.Lines.{begins_with}
 use Rattle.corr_text.specs.Sets.{is_in}
+use Rattle.corr_text.specs.Slashes.{has_stray_slash}
 use Rattle.corr_ids.specs.Bic.{IsBic}
 use Rattle.corr_ids.specs.Day.{InCentury}
 use Rattle.corr_ids.specs.Mir.{IsMir}
@@ -16,11 +16,6 @@ use Rattle.day_model.specs.declared.pay.Quote.{Quote}
 use Rattle.day_model.specs.declared.pay.Quote.TheVariants.{Ours, Theirs}
 use Rattle.day_model.specs.declared.pay.Side.TheVariants.{Credit, Debit}
 use Rattle.day_model.specs.Fit.{amounts_fit, is_side}
-
--- a slash at an end, or two in a row
-abbrev pub has_stray_slash : List ℕ → Bool
-has_stray_slash text =
-    begins_with 47 text || begins_with 47 (drop (length text - 1) text) || list_any (λ p. (p.0 == 47) && (p.1 == 47)) (zip text (drop 1 text))
 
 -- a reference: 1 to 16 of X, without a stray slash
 pub record IsReference (text : List ℕ) : Type 0 where

@@ -9,7 +9,7 @@ use Rattle.fin_blocks.specs.Text.{crlf, ended, text_in}
 use Rattle.fin_blocks.specs.Sending.{IsText}
 use Rattle.fin_blocks.proofs.SentParts.{plain-both}
 
--- a line without braces and without the bytes of a line end
+-- a line without braces and without a line feed
 abbrev pub is_line : List ℕ → Bool
 is_line line = is_plain line && list_all is_inner line
 

@@ -1,9 +1,10 @@
 -- Contents of plain text: what a field says, or the code of what is wrong with it, tested in this order.
 use Rattle.std.specs.Prelude.{ℕ, ◌-◌, ◌==◌, ◌&&◌, ◌||◌, not, Bool, false, List, [], ◌∷◌, length, take, drop, Option, Some, None, Result, Ok, is_some, if◌then◌else◌}
-use Rattle.std.specs.List.{after_first, before_first, list_all, list_any, position, zip}
+use Rattle.std.specs.List.{after_first, before_first, list_all, position}
 use Rattle.corr_text.specs.First.{check, or_fault, ◌>>=◌}
 use Rattle.corr_text.specs.Lines.{begins_with}
 use Rattle.corr_text.specs.Sets.{is_in}
+use Rattle.corr_text.specs.Slashes.{has_stray_slash}
 use Rattle.corr_text.specs.declared.fault.Code.{Code}
 use Rattle.corr_text.specs.declared.set.Set.TheVariants.{X, N, C}
 use Rattle.fin_fields.specs.declared.field.Field.{Field}
@@ -26,14 +27,6 @@ sized n bs = if length bs == n then Some bs else None
 
 abbrev pub is_slash : ℕ → Bool
 is_slash b = b == 47
-
--- two slashes in a row
-abbrev pub has_double_slash : List ℕ → Bool
-has_double_slash line = list_any (λ p. (p.0 == 47) && (p.1 == 47)) (zip line (drop 1 line))
-
--- a slash at an end, or two in a row
-abbrev pub has_stray_slash : List ℕ → Bool
-has_stray_slash line = begins_with 47 line || begins_with 47 (drop (length line - 1) line) || has_double_slash line
 
 -- a reference: 16x
 unfoldable pub reference_of : Field → Result (List ℕ) Code

@@ -2,7 +2,8 @@
 
 ghost use Rattle.std.specs.Prelude.{◌≡◌, ◌==◌, ◌&&◌, ◌≤◌, IfOk, None, Ok};
 ghost use Rattle.std.specs.List.{list_any, zip};
-ghost use Rattle.fin_contents.specs.Plain.{has_double_slash, has_stray_slash, reference_of};
+ghost use Rattle.corr_text.specs.Slashes.{has_double_slash, has_stray_slash};
+ghost use Rattle.fin_contents.specs.Plain.{reference_of};
 ghost use Rattle.fin_contents.specs.Writing.{line_field};
 ghost use Rattle.fin_fields.specs.Writing.{IsField};
 ghost use Rattle.fin_fields.specs.declared.field.Field.{Field as FieldSeen};

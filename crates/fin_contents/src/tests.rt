@@ -2,7 +2,7 @@
 
 use crate::{
     C03, C08, CcyAmount, KnownParty, P25, P26, P27, Rate, Reference, T26, T40, T43, T50, T52,
-    Texts, Time, Value, ValueDate, push_ccy_amount, push_ccy_amounts, push_party, push_rate,
+    Texts, Time, Value, ValueDate, or_none, push_ccy_amount, push_ccy_amounts, push_party, push_rate,
     push_texts, push_times, put_ccy_amount, put_reference, put_value,
 };
 use corr_ids::Day;
@@ -221,6 +221,18 @@ fn texts_have_so_many_lines(rt: HostRuntime) -> Result<(), Fail> {
         Ok(lines) => assert_eq!(rt; lines.as_slice().len(), 2),
         Err(_) => assert!(rt; false, "two lines"),
     }
+    Ok(())
+}
+
+#[test]
+fn a_missing_text_has_no_line(rt: HostRuntime) -> Result<(), Fail> {
+    let lines = or_none(rt.alloc(), None);
+    assert_eq!(rt; lines.as_slice().len(), 0);
+    let mut given = List::new(rt.alloc());
+    given.push(Text::from_bytes(rt.alloc(), b"/INV/7")?)?;
+    let lines = or_none(rt.alloc(), Some(given));
+    assert_eq!(rt; lines.as_slice().len(), 1);
+    assert_eq!(rt; lines.as_slice()[0].bytes(), b"/INV/7".as_slice());
     Ok(())
 }
 

@@ -2,7 +2,7 @@
 use Rattle.std.proofs.Common.{◌≡◌, ◌≢◌, ℕ, ◌+◌, ◌-◌, ◌*◌, ◌/◌, ◌%◌, ◌<◌, ◌==◌, ◌||◌, not, Bool, true, false, cond, List, [], ◌∷◌, ◌++◌, get_or, position, option_map, option_and_then, is_some, Option, Some, None, refl, sym, ap, ◌∙◌, append_assoc, arith}
 use Rattle.std.specs.Prelude.{IfSome}
 use Rattle.std.specs.Char.{is_ascii_digit, is_ascii_lowercase, is_ascii_uppercase}
-use Rattle.std.specs.List.{All, list_any}
+use Rattle.std.specs.List.{All, list_all, list_any}
 use Rattle.std.proofs.lemmas.Bool.{and_left, and_right, ne_eqb, not-false, or_parts, or_from}
 use Rattle.std.proofs.lemmas.Bool.Decides.{nat_tests}
 use Rattle.std.proofs.lemmas.List.{append-nil}
@@ -10,10 +10,11 @@ use Rattle.std.proofs.lemmas.List.Elements.{All-append, All-cons, All-head, All-
 use Rattle.std.proofs.lemmas.List.Folds.{list_any-append, list_any_none}
 use Rattle.corr_text.specs.Sets.{is_x_byte, marks}
 use Rattle.corr_text.specs.First.{first_of}
+use Rattle.corr_text.proofs.Written.{is_inner, line-again}
 use Rattle.fin_fields.specs.declared.field.Field.{Field}
 use Rattle.fin_fields.specs.declared.fault.FieldFault.{FieldFault}
 use Rattle.fin_fields.specs.declared.fault.FieldFault.TheVariants.{P20}
-use Rattle.corr_text.specs.Lines.{begins_with, lines_of, with_byte}
+use Rattle.corr_text.specs.Lines.{begins_with, lines_of}
 use Rattle.fin_fields.specs.Fields.{Grouped, Heading, behind_tag, fields_of, grouped, heading_of, with_line}
 use Rattle.fin_fields.specs.Faults.{field_fault, faulty_line, has_other_byte, is_empty, is_misplaced, is_outside_x, outside_x, outside_x_at}
 use Rattle.fin_fields.specs.Writing.{Continues, ContinueAll, IsField, ended, fields_text, heading_text, letter_text}
@@ -24,15 +25,14 @@ use Rattle.fin_fields.proofs.laws.Positions.{position-none}
 no-feed : (b : ℕ) → is_x_byte b ≡ true → (b == 10) ≡ false
 no-feed b x = ne_eqb b 10 (λ e. absurd (cc (rw e at x)))
 
-no-return : (b : ℕ) → is_x_byte b ≡ true → (b == 13) ≡ false
-no-return b x = ne_eqb b 13 (λ e. absurd (cc (rw e at x)))
+inner : (line : List ℕ) → has_other_byte line ≡ false → list_all is_inner line ≡ true
+inner [] x = refl
+inner (b ∷ bs) x =
+    let parts = or_parts (not (is_x_byte b)) (has_other_byte bs) x in
+    rw (no-feed b (not-false (is_x_byte b) parts.0)) (inner bs parts.1)
 
 line-read : (line rest : List ℕ) → has_other_byte line ≡ false → lines_of (line ++ 13 ∷ 10 ∷ rest) ≡ line ∷ lines_of rest
-line-read [] rest x = refl
-line-read (b ∷ bs) rest x =
-    let parts = or_parts (not (is_x_byte b)) (has_other_byte bs) x in
-    let in_x = not-false (is_x_byte b) parts.0 in
-    rw (no-feed b in_x, no-return b in_x) (ap (with_byte b) (line-read bs rest parts.1))
+line-read line rest x = line-again line rest (inner line x)
 
 abbrev InX : List ℕ → Type 0
 InX line = has_other_byte line ≡ false

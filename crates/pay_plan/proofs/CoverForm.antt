@@ -9,6 +9,7 @@ use Rattle.fin_layout.specs.Contents.{all_from, in_option, in_place}
 use Rattle.fin_layout.specs.Order.{field_in, places_from}
 use Rattle.fin_layout.specs.Tests.{passed}
 use Rattle.fin_layout.proofs.laws.ReadBack.{must-ok}
+use Rattle.fin_contents.proofs.laws.Again.{value-day}
 use Rattle.fin_contents.proofs.laws.Steps.{read-then}
 use Rattle.fin_contents.specs.Money.{value_of}
 use Rattle.fin_contents.specs.Parties.{known_party_of}
@@ -22,7 +23,7 @@ use Rattle.mt202cov.specs.declared.sequences.SequenceA.{SequenceA}
 use Rattle.mt202cov.specs.declared.terms.Terms.{Terms}
 use Rattle.pay_plan.specs.Readable.{IsCoverRead}
 use Rattle.pay_plan.proofs.Parties.{HasBic, bank-form, ok-is, party-bic}
-use Rattle.pay_plan.proofs.Words.{reference-form, value-century}
+use Rattle.pay_plan.proofs.Words.{reference-form}
 
 pub record CoverForm (m : Mt202Cov) : Type 0 where
   pub reference : IsReference m.reference
@@ -57,7 +58,7 @@ terms-form t fs found x e =
     let f = must-ok ORDER fs 0 reference_of (field_in fs found 0) r0.0 r0.1 in
     let g = must-ok ORDER fs 1 reference_of (field_in fs found 1) r1.0 r1.1 in
     let h = must-ok ORDER fs 3 (value_of t) (field_in fs found 3) r3.0 r3.1 in
-    subst TermsForm same (record { reference = reference-form f.0 r0.0 f.1; related = reference-form g.0 r1.0 g.1; value = value-century t h.0 r3.0 h.1 })
+    subst TermsForm same (record { reference = reference-form f.0 r0.0 f.1; related = reference-form g.0 r1.0 g.1; value = value-day t h.0 r3.0 h.1 })
 
 banks-form : (t : Tables) (fs : List Field) (found : List ℕ) (x : Banks) → banks_of t fs found ≡ Ok x → BanksForm x
 unfolding banks_of

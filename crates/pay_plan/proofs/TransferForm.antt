@@ -8,6 +8,7 @@ use Rattle.fin_layout.specs.Contents.{all_from, in_option, in_place}
 use Rattle.fin_layout.specs.Order.{field_in, places_from}
 use Rattle.fin_layout.specs.Tests.{passed}
 use Rattle.fin_layout.proofs.laws.ReadBack.{must-ok}
+use Rattle.fin_contents.proofs.laws.Again.{value-day}
 use Rattle.fin_contents.proofs.laws.Steps.{read-then}
 use Rattle.fin_contents.specs.Money.{ccy_amount_of, rate_of, value_of}
 use Rattle.fin_contents.specs.Parties.{known_party_of}
@@ -21,7 +22,7 @@ use Rattle.mt103.specs.declared.parties.Parties.{Parties}
 use Rattle.mt103.specs.declared.terms.Terms.{Terms}
 use Rattle.pay_plan.specs.Readable.{IsTransferRead}
 use Rattle.pay_plan.proofs.Parties.{HasBic, bank-form, ok-is}
-use Rattle.pay_plan.proofs.Words.{reference-form, value-century}
+use Rattle.pay_plan.proofs.Words.{reference-form}
 
 pub record TransferForm (m : Mt103) : Type 0 where
   pub reference : IsReference m.reference
@@ -51,7 +52,7 @@ terms-form t fs found x e =
     let same : record { reference = r0.0; times = r1.0; op = r2.0; instrs = r3.0; kind = r4.0; value = r5.0; ordered = r6.0; rate = r7.0 } ≡ x = ok-is _ x r7.2 in
     let f = must-ok ORDER fs 0 reference_of (field_in fs found 0) r0.0 r0.1 in
     let g = must-ok ORDER fs 5 (value_of t) (field_in fs found 5) r5.0 r5.1 in
-    subst TermsForm same (record { reference = reference-form f.0 r0.0 f.1; value = value-century t g.0 r5.0 g.1 })
+    subst TermsForm same (record { reference = reference-form f.0 r0.0 f.1; value = value-day t g.0 r5.0 g.1 })
 
 parties-form : (t : Tables) (fs : List Field) (found : List ℕ) (x : Parties) → parties_of t fs found ≡ Ok x → PartiesForm x
 unfolding parties_of

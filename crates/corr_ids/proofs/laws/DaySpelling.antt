@@ -40,39 +40,40 @@ then_some : {A B : Type 0} (o : Option A) (f : A → Option B) (b : B) → optio
 then_some (Some x) f b e = (x, refl, e)
 then_some None f b e = absurd (cc e)
 
--- a date that was read spells its day
-civil-spelled : (yy m n : ℕ) (d : Day) → yy ≤ 99 → civil_day (year_of yy) m n ≡ Some d → yymmdd_of d ≡ digits_of yy ++ digits_of m ++ digits_of n
-civil-spelled yy m n d h e =
+-- a date that was read is a day of the century, and spells it
+civil-named : (yy m n : ℕ) (d : Day) → yy ≤ 99 → civil_day (year_of yy) m n ≡ Some d → InCentury d × (yymmdd_of d ≡ digits_of yy ++ digits_of m ++ digits_of n)
+civil-named yy m n d h e =
     let year = year_in_century yy h in
     let s = some_if (is_civil (year_of yy) m n) (record { 0 = days_from_civil (pos (year_of yy)) m n }) d e in
     let date = date_from (year_of yy) m n (omega arith) s.0 in
     let century : InCentury d = rw (← s.1) (century_from (year_of yy) m n year.0 date) in
     let is = civil_is (year_of yy) m n d date century (ap (λ x. x.0) s.1) in
-    rw (is.0, is.1, is.2, year.1) refl
+    (century, rw (is.0, is.1, is.2, year.1) refl)
 
 joined : (a b c x y z : List ℕ) → a ≡ x → b ≡ y → c ≡ z → a ++ b ++ c ≡ x ++ y ++ z
 joined a b c x y z p q r = cc
 
--- the day that a text names is spelled by that text alone
-pub day-spelled : (bs : List ℕ) (d : Day) → day_of bs ≡ Some d → yymmdd_of d ≡ bs
+-- the day that a text names is one of the century, and is spelled by that text alone
+pub day-named : (bs : List ℕ) (d : Day) → day_of bs ≡ Some d → InCentury d × (yymmdd_of d ≡ bs)
 unfolding day_of
-day-spelled (y1 ∷ y2 ∷ m1 ∷ m2 ∷ d1 ∷ d2 ∷ []) d e =
+day-named (y1 ∷ y2 ∷ m1 ∷ m2 ∷ d1 ∷ d2 ∷ []) d e =
     let y = then_some (pair_of y1 y2) _ d e in
     let m = then_some (pair_of m1 m2) _ d y.2 in
     let n = then_some (pair_of d1 d2) _ d m.2 in
     let year = pair-spelled y1 y2 y.0 y.1 in
     let month = pair-spelled m1 m2 m.0 m.1 in
     let day = pair-spelled d1 d2 n.0 n.1 in
-    civil-spelled y.0 m.0 n.0 d year.1 n.2 ∙ joined (digits_of y.0) (digits_of m.0) (digits_of n.0) (y1 ∷ y2 ∷ []) (m1 ∷ m2 ∷ []) (d1 ∷ d2 ∷ []) year.0 month.0 day.0
-day-spelled [] d e = absurd (cc e)
-day-spelled (a ∷ []) d e = absurd (cc e)
-day-spelled (a ∷ b ∷ []) d e = absurd (cc e)
-day-spelled (a ∷ b ∷ c ∷ []) d e = absurd (cc e)
-day-spelled (a ∷ b ∷ c ∷ f ∷ []) d e = absurd (cc e)
-day-spelled (a ∷ b ∷ c ∷ f ∷ g ∷ []) d e = absurd (cc e)
-day-spelled (a ∷ b ∷ c ∷ f ∷ g ∷ h ∷ i ∷ more) d e = absurd (cc e)
+    let named = civil-named y.0 m.0 n.0 d year.1 n.2 in
+    (named.0, named.1 ∙ joined (digits_of y.0) (digits_of m.0) (digits_of n.0) (y1 ∷ y2 ∷ []) (m1 ∷ m2 ∷ []) (d1 ∷ d2 ∷ []) year.0 month.0 day.0)
+day-named [] d e = absurd (cc e)
+day-named (a ∷ []) d e = absurd (cc e)
+day-named (a ∷ b ∷ []) d e = absurd (cc e)
+day-named (a ∷ b ∷ c ∷ []) d e = absurd (cc e)
+day-named (a ∷ b ∷ c ∷ f ∷ []) d e = absurd (cc e)
+day-named (a ∷ b ∷ c ∷ f ∷ g ∷ []) d e = absurd (cc e)
+day-named (a ∷ b ∷ c ∷ f ∷ g ∷ h ∷ i ∷ more) d e = absurd (cc e)
 
 -- and what was read tells it
 pub read-spelled : (bs : List ℕ) (read : Option Day) → read ≡ day_of bs → IfSome read (λ d. yymmdd_of d ≡ bs)
-read-spelled bs (Some d) e = day-spelled bs d (sym e)
+read-spelled bs (Some d) e = (day-named bs d (sym e)).1
 read-spelled bs None e = tt

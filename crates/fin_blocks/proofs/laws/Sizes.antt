@@ -1,14 +1,15 @@
 -- The text of a message has no more lines than the message has bytes, and at most twice as many bytes, since a line end
 -- becomes CR LF.
-use Rattle.std.proofs.Common.{◌≡◌, ℕ, zero, suc, ◌+◌, ◌-◌, ◌*◌, ◌==◌, ◌&&◌, not, ◌≤◌, Bool, true, false, cond, List, [], ◌∷◌, ◌++◌, length, take, drop, Option, Some, None, Result, Ok, Err, refl, ap, ◌∙◌, subst, arith, length-append, length-drop, append_assoc}
+use Rattle.std.proofs.Common.{◌≡◌, ℕ, zero, suc, ◌+◌, ◌-◌, ◌*◌, ◌==◌, ◌&&◌, ◌≤◌, Bool, true, false, cond, List, [], ◌∷◌, ◌++◌, length, take, drop, Option, Some, None, Result, Ok, Err, refl, ap, ◌∙◌, subst, arith, length-append, length-drop, append_assoc}
 use Rattle.std.specs.Prelude.{IfOk, IfSome, bytes_eq, codes, nat_le}
 use Rattle.std.specs.List.{flat_map, list_all}
 use Rattle.std.specs.Option.{option_or}
-use Rattle.std.proofs.lemmas.Bool.{and_parts, not-true}
+use Rattle.std.proofs.lemmas.Bool.{and_parts}
 use Rattle.std.proofs.lemmas.Bool.Decides.{nat_tests}
 use Rattle.std.proofs.lemmas.List.{length-take}
 use Rattle.corr_text.specs.First.{check, or_fault, ◌>>=◌}
 use Rattle.corr_text.specs.Lines.{begins_with, lines_of, with_byte as with_line_byte}
+use Rattle.corr_text.proofs.Written.{is_inner, line-again}
 use Rattle.corr_ids.specs.Day.{◌>>=◌ as ◌then◌}
 use Rattle.fin_blocks.specs.Blocks.{are_last, behind, blocks_of, has_next, trailers_of, user_of}
 use Rattle.fin_blocks.specs.Forms.{app_of, basic_of, between, mir_in}
@@ -81,7 +82,7 @@ lines-size (b ∷ bs) = line-case (b == 10) ((b == 13) && begins_with 10 bs) b (
 -- no line holds a line feed, and so lines that are written with their ends are read again
 
 abbrev are_inner : List (List ℕ) → Bool
-are_inner lines = list_all (λ line. list_all (λ b. not (b == 10)) line) lines
+are_inner lines = list_all (list_all is_inner) lines
 
 inner-with : (b : ℕ) (lines : List (List ℕ)) → (b == 10) ≡ false → are_inner lines ≡ true → are_inner (with_line_byte b lines) ≡ true
 inner-with b [] other inner = rw other refl
@@ -97,24 +98,10 @@ lines-inner : (bs : List ℕ) → are_inner (lines_of bs) ≡ true
 lines-inner [] = refl
 lines-inner (b ∷ bs) = inner-case (b == 10) ((b == 13) && begins_with 10 bs) b (lines_of bs) refl (lines-inner bs)
 
-begins-other : (line rest : List ℕ) → list_all (λ b. not (b == 10)) line ≡ true → begins_with 10 (line ++ 13 ∷ 10 ∷ rest) ≡ false
-begins-other [] rest inner = refl
-begins-other (c ∷ cs) rest inner = not-true (c == 10) (and_parts (not (c == 10)) (list_all (λ b. not (b == 10)) cs) inner).0
-
-and-false : (b : Bool) → (b && false) ≡ false
-and-false true = refl
-and-false false = refl
-
-line-again : (line rest : List ℕ) → list_all (λ b. not (b == 10)) line ≡ true → lines_of (line ++ 13 ∷ 10 ∷ rest) ≡ line ∷ lines_of rest
-line-again [] rest inner = refl
-line-again (b ∷ bs) rest inner =
-    let p = and_parts (not (b == 10)) (list_all (λ c. not (c == 10)) bs) inner in
-    rw (not-true (b == 10) p.0, begins-other bs rest p.1, and-false (b == 13)) (ap (with_line_byte b) (line-again bs rest p.1))
-
 ended-again : (lines : List (List ℕ)) → are_inner lines ≡ true → lines_of (flat_map ended lines) ≡ lines
 ended-again [] inner = refl
 ended-again (line ∷ lines) inner =
-    let p = and_parts (list_all (λ b. not (b == 10)) line) (are_inner lines) inner in
+    let p = and_parts (list_all is_inner line) (are_inner lines) inner in
     ap lines_of (append_assoc line (13 ∷ 10 ∷ []) (flat_map ended lines)) ∙ line-again line (flat_map ended lines) p.0 ∙ ap (λ ls. line ∷ ls) (ended-again lines p.1)
 
 with-few : (b : ℕ) (lines : List (List ℕ)) (n : ℕ) → length lines ≤ n → length (with_line_byte b lines) ≤ suc n

@@ -8,9 +8,10 @@ use Rattle.std.proofs.lemmas.List.{drop_at, length-append, length-take-le, take_
 use Rattle.std.specs.Str.{bytes_eq}
 use Rattle.corr_text.specs.First.{◌>>=◌}
 use Rattle.corr_text.specs.Sets.{is_in}
+use Rattle.corr_text.specs.Slashes.{has_stray_slash}
 use Rattle.corr_text.specs.declared.set.Set.TheVariants.{X, N, A}
 use Rattle.corr_ids.specs.Day.{day_of, yymmdd_of}
-use Rattle.corr_ids.proofs.laws.DaySpelling.{day-spelled}
+use Rattle.corr_ids.proofs.laws.DaySpelling.{day-named}
 use Rattle.corr_money.specs.Amounts.{amount_of, amount_text, decimals_of, is_comma_number, minor_of}
 use Rattle.corr_money.specs.declared.amount.Amount.{Amount}
 use Rattle.corr_money.specs.declared.amount.Minor.{Minor}
@@ -35,10 +36,9 @@ use Rattle.fin_contents.specs.declared.codes.TheConstants.{C08, P25, P26, T26, T
 use Rattle.fin_contents.specs.declared.value.Value.{Value}
 use Rattle.fin_contents.specs.Money.{IsPayable, ccy_amount_in, ccy_amount_of, coded, is_ccy_amount, is_dated_amount, is_metal, minor_in, rate_of, value_in, value_of}
 use Rattle.fin_contents.specs.Parties.{is_known, known_party_of}
-use Rattle.fin_contents.specs.Plain.{has_stray_slash, is_time, one_line, reference_of, short_line_of, texts_of, time_of}
+use Rattle.fin_contents.specs.Plain.{is_time, one_line, reference_of, short_line_of, texts_of, time_of}
 use Rattle.fin_contents.specs.Writing.{IsAmount, IsValue, ccy_amount_field, ccy_amount_text, line_field, lines_field, value_field}
 use Rattle.fin_contents.proofs.laws.Bytes.{and-three, comma_number-of-x}
-use Rattle.fin_contents.proofs.Days.{day-in-century}
 use Rattle.fin_contents.proofs.laws.Steps.{checked, is-only, read-then, there}
 
 -- ---- contents that keep their lines
@@ -216,13 +216,21 @@ value-read t line v e =
     let same : record { day = day.0; amount = amount.0 } ≡ v = cc some.1 in
     rw (← same) (record { day = day.1; metal = not-true (is_metal (take 3 (drop 6 line))) metal.0; amount = amount.1; some = not-true (amount.0.minor.0 == 0) some.0 })
 
+-- the day of a value is one of the century
+pub value-day : (t : Tables) (f : Field) (v : Value) → value_of t f ≡ Ok v → InCentury v.day
+unfolding value_of
+value-day t f v e =
+    let line = there (one_line f) P24 _ v e in
+    let form = checked (is_dated_amount line.0) P24 _ v line.2 in
+    (day-named (take 6 line.0) v.day (value-read t line.0 v form.1).day).0
+
 pub value-is : (t : Tables) (f : Field) (v : Value) → IsTrue (few_decimals t.ccys) → value_of t f ≡ Ok v → IsValue v
 unfolding value_of
 value-is t f v few e =
     let line = there (one_line f) P24 _ v e in
     let form = checked (is_dated_amount line.0) P24 _ v line.2 in
     let read = value-read t line.0 v form.1 in
-    record { day = day-in-century (take 6 line.0) v.day read.day; amount = amount-is t (drop 6 line.0) v.amount few read.amount }
+    record { day = value-day t f v e; amount = amount-is t (drop 6 line.0) v.amount few read.amount }
 
 positive : (n : ℕ) → (n == 0) ≡ false → 0 < n
 positive n e = grind (arith, nat_tests)
@@ -267,7 +275,7 @@ unfolding value_of
 value-again t f v is e =
     let line = there (one_line f) P24 _ v e in
     let form = checked (is_dated_amount line.0) P24 _ v line.2 in
-    let written = value-written t line.0 (yymmdd_of v.day) v is (day-spelled (take 6 line.0) v.day (value-read t line.0 v form.1).day) refl form.0 form.1 in
+    let written = value-written t line.0 (yymmdd_of v.day) v is (day-named (take 6 line.0) v.day (value-read t line.0 v form.1).day).1 refl form.0 form.1 in
     rw (written.0, written.1) refl
 
 -- ---- parties
