@@ -5,6 +5,8 @@ use crate::mir::Mir;
 use crate::uetr::Uetr;
 
 /// Who sent a message to whom, under which reference.
+///
+/// `mir` is the reference of a received message, and none of one to send; `uetr` is what field 121 of block 3 holds.
 #[derive(Clone, Copy, Debug, PartialEq, Eq)]
 pub struct Envelope {
     pub mir: Option<Mir>,

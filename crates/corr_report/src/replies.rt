@@ -102,7 +102,7 @@ fn put_counts(alloc: Global, messages: u64, entries: u64, out: &mut Text) -> Res
 /// messages and entries; and for each currency of the accounts, in byte order, the debits and credits of all booked
 /// entries (docs/operating.md, "The report").
 ///
-/// `Memory`: there was no room for the text.
+/// The history is legal for the accounts, and has each place that a reply names. `Memory`: there was no room for the text.
 pub fn report(alloc: Global, a: &Accounts, h: &History, replies: &[Reply]) -> Result<Text, Memory>
     requires legal { IsLegal a.now h.now.entries }
     requires places { All (NamesPlace h.now.entries) replies.now }

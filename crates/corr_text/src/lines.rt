@@ -66,7 +66,8 @@ fn cut_at(text: &[u8], at: usize, end: usize) -> FirstLine<'_>
     }
 }
 
-/// Cuts a text as `first_line` does, where its first line has bytes of set X alone.
+/// Cuts a text as `first_line` does, where its first line has bytes of set X alone; none for any other, which
+/// `first_line` cuts.
 pub fn plain_line(text: &[u8]) -> Option<FirstLine<'_>>
     requires { text.now ≢ [] }
     ensures cut { IfSome result (λ first. lines_of text.now ≡ first.line.now ∷ lines_of first.rest.now) }

@@ -18,7 +18,8 @@ use std::alloc::Global;
 
 /// Does what the words say over the objects of a room, and hands the room back (docs/operating.md).
 ///
-/// `run DATE 1` reads the table files and the message file, answers each message and writes the report.
+/// `run DATE 1`, with `DATE` as YYMMDD, reads the table files and the message file, answers each message on that day and
+/// writes the report. Other words are `Usage`. Nothing is written but at `Done`, and a front part at `WriteFault`.
 pub fn corr<S: Source, K: Sink>(alloc: Global, words: &[Text], room: Room<S, K>) -> Done<S, K>
     // words of no command touch nothing
     ensures usage { run_day words.now ≡ None → (result.status ≡ Status.Usage) × (result.room ≡ room) }

@@ -37,8 +37,8 @@ pub enum Status {
     },
     /// There was no memory for what was to be made.
     Memory,
-    /// The message file passes a limit: the number of its bytes up to the first that does, and the messages that begin
-    /// in them.
+    /// The message file passes a limit: how many bytes there are up to and with the first that passes one, and how many
+    /// messages begin in them.
     TooLarge {
         bytes: u64,
         messages: u32,

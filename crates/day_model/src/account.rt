@@ -8,8 +8,10 @@ use corr_text::Text;
 #[derive(Clone, Copy, Debug, PartialEq, Eq)]
 pub struct AcctNo(pub u32);
 
-/// An account: `kind` is `C` (a customer's), `V` (vostro) or `N` (nostro); `floor`, `ceil` and `opening`
-/// are balances in minor units, credits positive.
+/// An account: `kind` is `C` (a customer's), `V` (vostro) or `N` (nostro).
+///
+/// `floor` and `ceil` are the least and the greatest balance that a booking may leave, `opening` is the balance before the
+/// first entry: in minor units, credits positive.
 #[derive(Debug, Drop)]
 pub struct Account {
     pub id: Text,

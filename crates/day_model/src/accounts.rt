@@ -100,7 +100,7 @@ impl Accounts {
         self.rows.as_slice().len() as u32
     }
 
-    /// The account of this number.
+    /// The account of this number, from 1 to `count`.
     pub fn get(&self, a: AcctNo) -> &Account
         requires { IsListed self.now a.0 }
         ensures value { account_at self.now a.0 ≡ Some result.now }
@@ -112,7 +112,7 @@ impl Accounts {
         account
     }
 
-    /// The number of the account with this id.
+    /// The number of the account with this id, none where no account has it.
     pub fn find(&self, id: &[u8]) -> Option<AcctNo>
         ensures { result ≡ number_of_first (has_id id.now) self.now.accounts }
     {

@@ -3,7 +3,8 @@
 use crate::pay::Pay;
 use corr_ids::Day;
 
-/// Whether a pay was booked, or which leg (from 1) its account could not take, with that account's balance then.
+/// Whether a pay was booked, or which leg (from 1) its account could not take, with that account's balance before it, in
+/// minor units.
 #[derive(Clone, Copy, Debug, PartialEq, Eq)]
 pub enum Outcome {
     Booked,

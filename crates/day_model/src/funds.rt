@@ -88,7 +88,7 @@ fn may_hold(account: &Account, balance: i64) -> bool
 }
 
 /// What becomes of a pay after a history: booked where each leg leaves its account within floor and ceiling,
-/// else unfunded, with the first leg that doesn't and its account's balance.
+/// else unfunded, with the first leg that doesn't, from 1, and its account's balance before it, in minor units.
 pub fn decide(a: &Accounts, h: &History, p: &Pay) -> Outcome
     requires legal { IsLegal a.now h.now.entries }
     requires fits { FitsAccounts a.now p.now }

@@ -54,7 +54,8 @@ impl History {
         Ok(())
     }
 
-    /// Adds an entry at the end. It needs no memory where there is room.
+    /// Adds an entry at the end of fewer than 100,000. It needs no memory where there is room; want of memory leaves the
+    /// entries as they were.
     pub fn push(&mut self, e: Entry) -> Result<(), Memory>
         requires { length self.old.entries < 100000 }
         ensures ok { OnOk result (self.new.entries ≡ self.old.entries ++ e ∷ []) }
@@ -81,7 +82,7 @@ impl History {
         self.log.as_slice()
     }
 
-    /// The place of the entry of this reference, if it is entered.
+    /// The place, from 1, of the entry of this reference, none where it isn't entered.
     pub fn find(&self, mir: &Mir) -> Option<u32>
         ensures { result ≡ entered_at mir.now self.now.entries }
     {
@@ -89,7 +90,7 @@ impl History {
         Some(at as u32 + 1)
     }
 
-    /// The entry at this place.
+    /// The entry at this place, from 1 to `len`.
     pub fn get(&self, place: u32) -> &Entry
         requires from_one { 1 ≤ place }
         requires there { place ≤ length self.now.entries }

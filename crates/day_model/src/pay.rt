@@ -26,7 +26,7 @@ pub enum Quote {
     Ours(u8),
 }
 
-/// One side of a booking: an account, debit or credit, and an amount in minor units.
+/// One side of a booking: an account, debit or credit, an amount in minor units, and what a statement line quotes for it.
 #[derive(Debug, Drop)]
 pub struct Leg {
     pub account: AcctNo,
@@ -46,24 +46,29 @@ pub enum Skip {
 /// A message to send once a pay is booked; `leg` counts from 1.
 #[derive(Clone, Copy, Debug, PartialEq, Eq)]
 pub enum Order {
+    /// A transfer to `to`, with `via` as the bank that covers it.
     Transfer {
         to: Bic,
         skip: Skip,
         via: Option<Bic>,
     },
+    /// A cover to `to`, for the bank `end`.
     Cover {
         to: Bic,
         end: Bic,
         skip: Skip,
     },
+    /// The cover that came, on to `to`.
     Pass {
         to: Bic,
         skip: Skip,
     },
+    /// A notice to `to` that its account was debited by this leg.
     Debit {
         to: Bic,
         leg: u8,
     },
+    /// A notice to `to` that its account was credited by this leg.
     Credit {
         to: Bic,
         leg: u8,

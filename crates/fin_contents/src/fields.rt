@@ -1,4 +1,4 @@
-//! Fields added behind those of a message that stand already.
+//! Fields added behind those of a message that stand already. After want of memory some of those to add may stand there.
 
 ghost use Rattle.std.specs.Prelude.{◌≡◌, ◌++◌, All, IfSome, None, OnOk, Some, map};
 ghost use Rattle.fin_contents.specs.Writing.{IsAmount, ccy_amount_field, line_field, lines_fields, some_field};

@@ -10,7 +10,7 @@ use Rattle.std.proofs.lemmas.List.Elements.{All-append, All-cons, All-head, All-
 use Rattle.std.proofs.lemmas.List.Folds.{list_any-append, list_any_none}
 use Rattle.corr_text.specs.Sets.{is_x_byte, marks}
 use Rattle.corr_text.specs.First.{first_of}
-use Rattle.corr_text.proofs.Written.{is_inner, line-again}
+use Rattle.corr_text.proofs.laws.Written.{is_inner, line-again}
 use Rattle.fin_fields.specs.declared.field.Field.{Field}
 use Rattle.fin_fields.specs.declared.fault.FieldFault.{FieldFault}
 use Rattle.fin_fields.specs.declared.fault.FieldFault.TheVariants.{P20}

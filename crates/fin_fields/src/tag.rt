@@ -29,7 +29,7 @@ fn alike(fields: &[Field], f: &Field) -> usize
         .count()
 }
 
-/// Which field of its tag and letter the field at a place is, counted from 1 and from the start of the fields.
+/// Which field of its tag and letter the field at `at`, from 0, is: counted from 1 and from the start of the fields.
 pub fn nth_of(fields: &[Field], at: usize) -> u16
     requires few { length fields.now ≤ 65535 }
     requires within { at < length fields.now }

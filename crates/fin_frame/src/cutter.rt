@@ -21,7 +21,8 @@ const ROOM: usize = 253;
 /// Cuts the bytes of a file into its messages, in whatever pieces they come.
 ///
 /// A message is a group in braces that begins `{1:` and the groups directly behind it, 16,384 bytes at most, as
-/// `{1:F01HOMEUS33AXXX0001000007}{4:..}`. Line ends, spaces and one `$` may stand between two messages.
+/// `{1:F01HOMEUS33AXXX0001000007}{4:..}`. Line ends, spaces and one `$` may stand between two messages; before the first
+/// there is no `$`.
 #[derive(Debug, Drop)]
 pub struct Cutter {
     alloc: Global,
@@ -62,7 +63,7 @@ impl Cutter {
     /// Takes the next bytes of the file, and adds each message that they show to be whole.
     ///
     /// `Stray` and `TooLong` come where the bytes fed so far show them, `Memory` where there was no room. After any
-    /// fault it comes again, and no message.
+    /// fault it comes again, and no message. The bytes of a file are fewer than 2^32.
     pub fn feed(&mut self, piece: &[u8], out: &mut List<Text>) -> Result<(), FrameFault>
         // All the bytes of a file are fewer than 2 ^ 32.
         requires few { self.old.failed ≡ None → self.old.fed + length piece.now < 2 ^ 32 }

@@ -8,7 +8,7 @@ use crate::place::{Place, place_tag};
 use corr_text::{Code, Fault};
 use fin_fields::{Field, nth_of, tag_of};
 
-/// A fault of a field: the code, the field's tag with its letter, and which of that tag it is, from 1.
+/// A fault of the field at `at`, from 0: the code, the field's tag with its letter, and which of that tag it is, from 1.
 pub fn fault_at(fields: &[Field], at: usize, code: Code) -> Fault
     requires few { length fields.now ≤ 65535 }
     requires within { at < length fields.now }
@@ -21,7 +21,7 @@ pub fn fault_at(fields: &[Field], at: usize, code: Code) -> Fault
     }
 }
 
-/// The fault of a place that no field takes and one must: P23 with the place's tag and occurrence 0.
+/// The fault of a place, `at` from 0, that no field takes and one must: P23 with the place's tag and occurrence 0.
 pub fn absent(order: &[Place], at: usize) -> Fault
     requires { at < length order.now }
     ensures { result ≡ absent order.now at }

@@ -25,7 +25,8 @@ fn locate<T>(fields: &[Field], at: usize, read: Result<T, Refusal>) -> Result<T,
     }
 }
 
-/// What the field at a mandatory place says. `Bad`: what is wrong with the field, or P23 where no field takes the place.
+/// What the field at a mandatory place, from 0, says, where `found` are the places that the fields take. `Bad`: what is wrong
+/// with the field, or P23 where no field takes the place.
 pub fn read_one<C: Content>(
     alloc: Global,
     content: &C,
@@ -44,7 +45,7 @@ pub fn read_one<C: Content>(
     }
 }
 
-/// What the field at an optional place says, if there is one. `Bad`: what is wrong with it.
+/// What the field at an optional place, from 0, says, if there is one. `Bad`: what is wrong with it.
 pub fn read_optional<C: Content>(
     alloc: Global,
     content: &C,
@@ -61,7 +62,7 @@ pub fn read_optional<C: Content>(
     }
 }
 
-/// What the fields at a place say, in their order. `Bad`: what is wrong with the first of them that is refused.
+/// What the fields at a place, from 0, say, in their order. `Bad`: what is wrong with the first of them that is refused.
 pub fn read_all<C: Content>(
     alloc: Global,
     content: &C,

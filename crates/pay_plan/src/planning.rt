@@ -52,7 +52,9 @@ fn pay_of(
 /// The pay that a message asks for under these instructions and accounts, or the first reason why it has none
 /// (docs/operating.md, "Accounts of a payment").
 ///
-/// P34 comes exactly where the message is a cover whose 58a names the home bank by its BIC; else the codes of `route`.
+/// `env` has a reference, and the message is one that its reader gives. P34 comes exactly where it is a cover whose 58a names
+/// the home bank by its BIC; else the codes of `route`. `Memory`: there was no room for the pay.
+///
 /// The pay can be written down where the reference and the UETR of `env` meet their grammar and the text has at most
 /// 32,768 bytes.
 pub fn plan(

@@ -33,7 +33,7 @@ pub enum Why {
     Limits,
     /// An earlier row, the first of them at `row`, speaks of a day that this one speaks of too.
     Overlap { row: u32 },
-    /// The row's last day is not after its first.
+    /// The day that ends the row is not after its first day.
     Span,
     /// The file has too many bytes or too many rows.
     Rows,

@@ -23,7 +23,8 @@ use ssi_versions::Ssi;
 /// The debit side is decided whole before the credit side. An account fits where its currency and decimals are the
 /// amount's; banks are compared by the heads of their BICs.
 ///
-/// - P31 and P32: the sender, or the account or bank that its cover names, has no account that fits; P35: that bank has no BIC.
+/// - P31: the sender has no vostro account here that fits, and we have no nostro account with it; P32: the account that 53B
+///   names, or our account with the bank of 54a or 53a, isn't there or doesn't fit; P35: that bank has no BIC.
 /// - P30: no instruction is in force on the value date; P33: the customer has no account that fits; P35: the target has no
 ///   BIC; P36: the instruction's account isn't there or doesn't fit.
 /// - P38: both sides are one account.

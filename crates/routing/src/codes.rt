@@ -8,7 +8,7 @@ pub const P30: Code = Code(*b"P30");
 /// No account is held in the amount's currency for or with the sender.
 pub const P31: Code = Code(*b"P31");
 
-/// The account or the bank that covers the payment has no account that fits.
+/// The account that 53B names, or our account with the bank that covers the payment, isn't there or doesn't fit.
 pub const P32: Code = Code(*b"P32");
 
 /// The customer that the payment is for has no account that fits.

@@ -9,7 +9,7 @@ use Rattle.std.proofs.lemmas.Bool.Decides.{nat_tests}
 use Rattle.std.proofs.lemmas.List.{length-take}
 use Rattle.corr_text.specs.First.{check, or_fault, ◌>>=◌}
 use Rattle.corr_text.specs.Lines.{begins_with, lines_of, with_byte as with_line_byte}
-use Rattle.corr_text.proofs.Written.{is_inner, line-again}
+use Rattle.corr_text.proofs.laws.Written.{is_inner, line-again}
 use Rattle.corr_ids.specs.Day.{◌>>=◌ as ◌then◌}
 use Rattle.fin_blocks.specs.Blocks.{are_last, behind, blocks_of, has_next, trailers_of, user_of}
 use Rattle.fin_blocks.specs.Forms.{app_of, basic_of, between, mir_in}
