@@ -2,7 +2,7 @@
 
 ghost use Rattle.std.specs.Prelude.{◌≡◌};
 ghost use Rattle.std.specs.List.{list_all};
-ghost use Rattle.std.specs.Char.{is_ascii_digit, is_ascii_uppercase};
+ghost use Rattle.std.specs.Char.{is_ascii_uppercase};
 ghost use Rattle.corr_text.specs.Sets.{is_c_byte};
 
 use corr_text::{Set, is_set};
@@ -19,11 +19,4 @@ pub fn all_of_c(b: &[u8]) -> bool
     ensures { result ≡ list_all is_c_byte b.now }
 {
     b.iter().all(|c| is_set(Set::C, *c))
-}
-
-/// Whether each byte is a digit.
-pub fn all_digits(b: &[u8]) -> bool
-    ensures { result ≡ list_all is_ascii_digit b.now }
-{
-    b.iter().all(|c| is_set(Set::N, *c))
 }

@@ -7,7 +7,7 @@ ghost use Rattle.corr_ids.specs.Mir.{IsMir, is_mir, mir_of, sender_of};
 
 use crate::address::{LtAddress, address, has_lt_form};
 use crate::day::day_from_yymmdd;
-use crate::form::all_digits;
+use corr_text::all_digits;
 
 /// A message input reference, 28 characters: date, sender's LT address, session and sequence number.
 #[derive(Clone, Copy, Debug, PartialEq, Eq)]

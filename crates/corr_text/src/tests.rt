@@ -1,6 +1,6 @@
 use crate::{
-    Buf, List, Set, Text, copy_texts, digits, first_line, is_set, is_x, next_brace, plain_line,
-    push_texts, put_digits,
+    Buf, List, Set, Text, all_digits, copy_texts, digits, first_line, is_set, is_x, next_brace,
+    plain_line, push_texts, put_digits,
 };
 use std::test::Fail;
 
@@ -19,6 +19,20 @@ fn digits_are_numbers(rt: HostRuntime) {
     ];
     for (text, want) in rows {
         assert_eq!(rt; digits(text), want, "{text:?}");
+    }
+}
+
+#[test]
+fn digits_are_told_from_other_bytes(rt: HostRuntime) {
+    let rows: [(&[u8], bool); 5] = [
+        (b"", true),
+        (b"0019", true),
+        (b"00 9", false),
+        (b":9", false),
+        (b"9/", false),
+    ];
+    for (text, want) in rows {
+        assert_eq!(rt; all_digits(text), want, "{text:?}");
     }
 }
 

@@ -4,8 +4,9 @@ ghost use Rattle.std.specs.Prelude.{◌≡◌, ◌≤◌, IsTrue, length};
 ghost use Rattle.fin_blocks.specs.Forms.{app_of, is_priority as is_priority_of, is_received as is_received_of, is_sent as is_sent_of, is_sent_length as is_sent_length_of, mir_in, received_in, received_of, sent_in, sent_of};
 
 use crate::blocks::App;
-use crate::forms::{all_digits, inside, three_digits};
+use crate::forms::{inside, three_digits};
 use corr_ids::{Mir, read_lt, read_mir};
+use corr_text::all_digits;
 
 fn is_priority(b: u8) -> bool
     ensures { result ≡ is_priority_of b }

@@ -3,8 +3,9 @@
 ghost use Rattle.std.specs.Prelude.{◌≡◌, IsTrue, length};
 ghost use Rattle.fin_blocks.specs.Forms.{basic_in, basic_of, is_basic as is_basic_of};
 
-use crate::forms::{all_digits, inside};
+use crate::forms::inside;
 use corr_ids::{LtAddress, read_lt};
+use corr_text::all_digits;
 
 /// The version of the form, and the terminal.
 #[derive(Clone, Copy, Debug)]

@@ -1,19 +1,10 @@
 //! What the forms of blocks share.
 
 ghost use Rattle.std.specs.Prelude.{◌≡◌, ◌==◌, ◌&&◌, ◌<◌, ◌≤◌, ◌+◌, IsTrue, option_map, IfSome, length, Some, None};
-ghost use Rattle.std.specs.List.{list_all};
-ghost use Rattle.std.specs.Char.{is_ascii_digit};
 ghost use Rattle.corr_text.specs.Digits.{number_of};
 ghost use Rattle.fin_blocks.specs.Forms.{between as between_of, inside as inside_of, is_plain as is_plain_of, is_tagged as is_tagged_of, tagged_of};
 
 use corr_text::digits;
-
-/// Whether each byte is a digit.
-pub fn all_digits(b: &[u8]) -> bool
-    ensures { result ≡ list_all is_ascii_digit b.now }
-{
-    b.iter().all(|c| c.is_ascii_digit())
-}
 
 /// Whether no byte is a brace.
 pub fn is_plain(b: &[u8]) -> bool

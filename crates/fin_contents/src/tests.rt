@@ -2,8 +2,8 @@
 
 use crate::{
     C03, C08, CcyAmount, KnownParty, P25, P26, P27, Rate, Reference, T26, T40, T43, T50, T52,
-    Texts, Time, Value, ValueDate, or_none, push_ccy_amount, push_ccy_amounts, push_party, push_rate,
-    push_texts, push_times, put_ccy_amount, put_reference, put_value,
+    Texts, Time, Value, ValueDate, or_none, push_ccy_amount, push_ccy_amounts, push_party,
+    push_rate, push_texts, push_times, put_ccy_amount, put_reference, put_value,
 };
 use corr_ids::Day;
 use corr_money::{Amount, Ccy, Minor};

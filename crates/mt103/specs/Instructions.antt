@@ -7,8 +7,8 @@ use Rattle.corr_text.specs.declared.fault.Fault.{Fault}
 use Rattle.mt103.specs.declared.codes.TheConstants.{D98, E46}
 use Rattle.mt103.specs.declared.instruction.TheConstants.{INSTRUCTIONS}
 use Rattle.mt103.specs.declared.instruction.Instr.{Instr}
-use Rattle.mt103.specs.declared.instruction_tests.Misfit.{Misfit}
-use Rattle.mt103.specs.declared.instruction_tests.Misfit.TheVariants.{Repeated, Early}
+use Rattle.mt103.specs.declared.misfit.Misfit.{Misfit}
+use Rattle.mt103.specs.declared.misfit.Misfit.TheVariants.{Repeated, Early}
 
 -- where a code stands in the list of codes, from 0
 abbrev pub rank_of : List ℕ → ℕ

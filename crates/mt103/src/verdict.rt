@@ -11,8 +11,8 @@ ghost use Rattle.mt103.specs.declared.message.Mt103.{Mt103 as Mt103Seen};
 ghost use Rattle.mt103.specs.declared.order.TheConstants.{ORDER as order};
 
 use crate::instruction::Instr;
-use crate::instruction_tests::{d98, e46};
 use crate::message::Mt103;
+use crate::misfit::{d98, e46};
 use crate::order::ORDER;
 use crate::reading::read_contents;
 use corr_text::Fault;
