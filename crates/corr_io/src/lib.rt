@@ -2,9 +2,9 @@
 #![tactic(auto)]
 
 mod count;
+mod files;
 mod mem_sink;
 mod mem_source;
-mod path;
 mod sink;
 mod source;
 mod std_sink;
@@ -13,6 +13,8 @@ mod std_source;
 mod tests;
 
 pub use corr_text::Failed;
+pub use count::{count_fault, counted};
+pub use files::{open_at, read_some, write_some};
 pub use mem_sink::MemSink;
 pub use mem_source::MemSource;
 pub use sink::Sink;

@@ -68,7 +68,6 @@ impl Sink for MemSink {
         ensures fails { IsTrue (is_next_failing self.old.fails self.old.calls) → is_ok result ≡ false }
         ensures otherwise { OnErr result (IsTrue (is_next_failing self.old.fails self.old.calls) ⊎ (self.old.spare < length piece.now)) }
         ensures full { IfOk result (λ n. n ≡ length piece.now) }
-        ensures faults { self.new.faults ≡ (if is_ok result then self.old.faults else counted self.old.faults) }
         ensures calls { self.new.calls ≡ counted self.old.calls }
         ensures same { self.new.fails ≡ self.old.fails }
     {

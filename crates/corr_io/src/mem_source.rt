@@ -76,7 +76,6 @@ impl Source for MemSource {
         ensures cause { HasCause self.old.faults self.new.faults result }
         ensures fails { is_err result ≡ is_next_failing self.old.fails self.old.calls }
         ensures full { IfOk result (λ n. n ≡ min (length buf.old) (length self.old.left)) }
-        ensures faults { self.new.faults ≡ (if is_ok result then self.old.faults else counted self.old.faults) }
         ensures never { self.old.fails ≡ [] → self.new.faults ≡ self.old.faults }
         ensures calls { self.new.calls ≡ counted self.old.calls }
         ensures same { self.new.fails ≡ self.old.fails }

@@ -10,8 +10,8 @@ use corr_text::Failed;
 
 /// A place that bytes are read from, in order.
 ///
-/// Contracts see the bytes that are left, where it tells them, and a count of its faults, which never falls
-/// and stays at `2^64 - 1` once it is there.
+/// Contracts see the bytes that are left, where it tells them, and a count of its faults. Each call that
+/// succeeds leaves that count, and each that fails adds one to it; it stays at `2^64 - 1` once it is there.
 pub trait Source {
     ghost left: { Self → Option (List ℕ) };
 

@@ -1,15 +1,14 @@
 //! A sink over a file or over standard output.
 
-ghost use Rattle.std.specs.Prelude.{◌≡◌, None};
+ghost use Rattle.std.specs.Prelude.{◌≡◌, ◌<◌, length, None, IfOk};
 ghost use Rattle.std.specs.Io.{WritesAtMost};
 
-use crate::count::count_fault;
-use crate::path::open;
+use crate::count::counted;
+use crate::files::{open_at, write_some};
 use crate::sink::Sink;
 use corr_text::{Failed, Text};
 use std::fs::OpenOptions;
 use std::io;
-use std::io::Write;
 use std::marker::Model;
 use std::rt::Files;
 
@@ -22,6 +21,9 @@ enum Target<F> {
 }
 
 /// A file that is appended to, or standard output. Contracts see its count of faults.
+///
+/// A write that takes nothing of a piece that is not empty is a failure. A write that a signal interrupts is
+/// made again.
 #[derive(Drop)]
 pub struct StdSink<'a, R: Files> {
     rt: &'a R,
@@ -70,7 +72,7 @@ impl<'a, R: Files + Print> StdSink<'a, R> {
         if let Target::Path(path) = &self.target {
             let mut how = OpenOptions::new();
             how.append(true).create(true);
-            self.target = Target::File(open(self.rt, path, &how)?);
+            self.target = Target::File(open_at(self.rt, path, &how)?);
         }
         Ok(())
     }
@@ -78,15 +80,15 @@ impl<'a, R: Files + Print> StdSink<'a, R> {
     // Hands the piece on; how much of it was taken.
     fn put(&mut self, piece: &[u8]) -> Result<usize, Failed>
         ensures bound { WritesAtMost result piece.now }
+        ensures progress { IfOk result (λ n. 0 < length piece.now → 0 < n) }
         ensures count { self.new ≡ self.old }
     {
         self.open()?;
-        let taken = match &mut self.target {
-            Target::Out => self.rt.write_some(piece),
-            Target::File(file) => file.write(piece),
-            Target::Path(_) => return Err(Failed),
-        };
-        taken.map_err(|_| Failed)
+        match &mut self.target {
+            Target::Out => write_some(&mut io::writer(self.rt), piece),
+            Target::File(file) => write_some(file, piece),
+            Target::Path(_) => Err(Failed),
+        }
     }
 }
 
@@ -95,12 +97,9 @@ impl<'a, R: Files + Print> Sink for StdSink<'a, R> {
 
     ghost faults = { λ s. s };
 
-    /// A write that takes nothing of a piece that is not empty is a failure.
     fn write(&mut self, piece: &[u8]) -> Result<usize, Failed> {
-        match self.put(piece) {
-            Ok(n) if n > 0 || piece.is_empty() => Ok(n),
-            _ => Err(count_fault(&mut self.faults)),
-        }
+        let answer = self.put(piece);
+        counted(answer, &mut self.faults)
     }
 
     fn faults(&self) -> u64 {

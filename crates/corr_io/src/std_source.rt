@@ -3,16 +3,18 @@
 ghost use Rattle.std.specs.Prelude.{◌≡◌, None};
 ghost use Rattle.std.specs.Io.{ReadsAtMost};
 
-use crate::count::count_fault;
-use crate::path::open;
+use crate::count::counted;
+use crate::files::{open_at, read_some};
 use crate::source::Source;
 use corr_text::{Failed, Text};
 use std::fs::OpenOptions;
-use std::io::Read;
 use std::marker::Model;
 use std::rt::Files;
 
 /// A file that is read from its front. It is opened at the first read; contracts see its count of faults.
+///
+/// An error of an open file, as of a folder, is a failure and never the end. A read that a signal interrupts
+/// is made again.
 #[derive(Drop)]
 pub struct StdSource<'a, R: Files> {
     rt: &'a R,
@@ -51,10 +53,10 @@ impl<'a, R: Files> StdSource<'a, R> {
         if self.file.is_none() {
             let mut how = OpenOptions::new();
             how.read(true);
-            self.file = Some(open(self.rt, &self.path, &how)?);
+            self.file = Some(open_at(self.rt, &self.path, &how)?);
         }
         match &mut self.file {
-            Some(file) => file.read(buf).map_err(|_| Failed),
+            Some(file) => read_some(file, buf),
             None => Err(Failed),
         }
     }
@@ -66,10 +68,8 @@ impl<'a, R: Files> Source for StdSource<'a, R> {
     ghost faults = { λ s. s };
 
     fn read(&mut self, buf: &mut [u8]) -> Result<usize, Failed> {
-        match self.take(buf) {
-            Ok(n) => Ok(n),
-            Err(Failed) => Err(count_fault(&mut self.faults)),
-        }
+        let answer = self.take(buf);
+        counted(answer, &mut self.faults)
     }
 
     fn faults(&self) -> u64 {

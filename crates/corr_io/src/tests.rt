@@ -1,6 +1,7 @@
 use crate::{Failed, MemSink, MemSource, Sink, Source, StdSink, StdSource};
 use corr_text::{List, Memory, Text};
 use std::alloc::Global;
+use std::fs;
 use std::test::Fail;
 
 // A list of call numbers.
@@ -116,6 +117,34 @@ fn a_file_that_cannot_be_had_is_a_failed_call(rt: HostRuntime) -> Result<(), Fai
         assert_eq!(rt; sink.write(b""), Err(Failed));
         assert_eq!(rt; sink.faults(), 2);
     }
+    Ok(())
+}
+
+const FOLDER: &str = "corr_io_test.folder";
+
+// What an open file answers with an error is no end of it: a folder is opened, and its read fails.
+#[test]
+fn the_read_of_a_folder_fails(rt: HostRuntime) -> Result<(), Fail> {
+    let _ = fs::remove_dir(&rt, FOLDER);
+    fs::create_dir(&rt, FOLDER)?;
+    let mut source = StdSource::new(&rt, Text::from_bytes(rt.alloc(), FOLDER.as_bytes())?);
+    let mut buf = [0u8; 2];
+    assert_eq!(rt; source.read(&mut buf), Err(Failed));
+    assert_eq!(rt; source.read(&mut buf), Err(Failed));
+    assert_eq!(rt; source.faults(), 2);
+    let mut sink = StdSink::file(&rt, Text::from_bytes(rt.alloc(), FOLDER.as_bytes())?);
+    assert_eq!(rt; sink.write(b"A"), Err(Failed));
+    assert_eq!(rt; sink.faults(), 1);
+    fs::remove_dir(&rt, FOLDER)?;
+    Ok(())
+}
+
+#[test]
+fn a_full_device_fails_each_write(rt: HostRuntime) -> Result<(), Fail> {
+    let mut sink = StdSink::file(&rt, Text::from_bytes(rt.alloc(), b"/dev/full")?);
+    assert_eq!(rt; sink.write(b"A"), Err(Failed));
+    assert_eq!(rt; sink.write(b"A"), Err(Failed));
+    assert_eq!(rt; sink.faults(), 2);
     Ok(())
 }
 
