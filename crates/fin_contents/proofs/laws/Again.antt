@@ -10,7 +10,7 @@ use Rattle.corr_text.specs.First.{◌>>=◌}
 use Rattle.corr_text.specs.Sets.{is_in}
 use Rattle.corr_text.specs.Slashes.{has_stray_slash}
 use Rattle.corr_text.specs.declared.set.Set.TheVariants.{X, N, A}
-use Rattle.corr_ids.specs.Day.{day_of, yymmdd_of}
+use Rattle.corr_ids.specs.Day.{InCentury, day_of, yymmdd_of}
 use Rattle.corr_ids.proofs.laws.DaySpelling.{day-named}
 use Rattle.corr_money.specs.Amounts.{amount_of, amount_text, decimals_of, is_comma_number, minor_of}
 use Rattle.corr_money.specs.declared.amount.Amount.{Amount}
