@@ -6,4 +6,5 @@ pub mod Faults
 pub mod Lines
 pub mod Braces
 pub mod Codes
+pub mod Answers
 pub mod Slashes

@@ -1,6 +1,7 @@
 //! The sets of characters that field formats name (docs/messages.md, "Characters").
 
 ghost use Rattle.std.specs.Prelude.{◌≡◌};
+ghost use Rattle.std.specs.List.{list_all};
 ghost use Rattle.corr_text.specs.Sets.{is_in, is_x_byte};
 
 /// A set of characters: X, N (digits), A (capital letters), C (capital letters and digits).
@@ -41,4 +42,11 @@ pub fn is_set(set: Set, b: u8) -> bool
         Set::A => b.is_ascii_uppercase(),
         Set::C => b.is_ascii_uppercase() || b.is_ascii_digit(),
     }
+}
+
+/// Whether each byte of a text is in this set.
+pub fn is_all_of(set: Set, text: &[u8]) -> bool
+    ensures { result ≡ list_all (is_in set) text.now }
+{
+    text.iter().all(|b| is_set(set, *b))
 }
