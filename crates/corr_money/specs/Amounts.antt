@@ -1,5 +1,5 @@
 -- Amounts of money in decimal digits with a comma: how they are read and written.
-use Rattle.std.specs.Prelude.{ℕ, ◌+◌, ◌-◌, ◌==◌, ◌&&◌, Bool, ℤ, List, ◌∷◌, ◌++◌, length, take, drop, replicate, Result, Ok, is_some, nat_lt, nat_le, unsigned_abs, if◌then◌else◌}
+use Rattle.std.specs.Prelude.{ℕ, ◌+◌, ◌-◌, ◌==◌, ◌&&◌, Bool, ℤ, pos, neg_ℤ, List, [], ◌∷◌, ◌++◌, length, take, drop, replicate, Result, Ok, is_some, nat_lt, nat_le, unsigned_abs, if◌then◌else◌}
 use Rattle.std.specs.Int.{is_negative}
 use Rattle.std.specs.List.{after_first, before_first, list_all, position}
 use Rattle.std.specs.Char.{is_ascii_digit}
@@ -10,6 +10,11 @@ use Rattle.corr_money.specs.declared.amount.Minor.{Minor}
 use Rattle.corr_money.specs.declared.fault.AmountFault.{AmountFault}
 use Rattle.corr_money.specs.declared.fault.AmountFault.TheVariants.{T40, T43, C03, TooLarge}
 
+-- amounts are below this number of minor units, 10^14
+abbrev pub amount_end : ℕ
+amount_end = 100000000000000
+
+-- the comma before the decimals
 abbrev pub is_comma : ℕ → Bool
 is_comma b = b == 44
 
@@ -35,7 +40,7 @@ amount_of decimals bs = do
   _ ← check (is_comma_number bs) T40
   _ ← check (nat_le (length bs) 15) T43
   _ ← check (nat_le (length (decimals_of bs)) decimals) C03
-  _ ← check (nat_lt (minor_of decimals bs) 100000000000000) TooLarge
+  _ ← check (nat_lt (minor_of decimals bs) amount_end) TooLarge
   Ok (record { 0 = minor_of decimals bs })
 
 -- digits with a comma before the last so many
@@ -49,3 +54,8 @@ amount_text decimals n = with_comma decimals (padded (decimals + 1) n)
 -- the same with a minus before it where it is below 0
 unfoldable pub signed_text : ℕ → ℤ → List ℕ
 signed_text decimals v = if is_negative v then 45 ∷ amount_text decimals (unsigned_abs v) else amount_text decimals (unsigned_abs v)
+
+-- the number of minor units that an amount writes, below 0 where a minus stands before it
+abbrev pub signed_minor_of : ℕ → List ℕ → ℤ
+signed_minor_of decimals [] = pos 0
+signed_minor_of decimals (b ∷ bs) = if b == 45 then neg_ℤ (pos (minor_of decimals bs)) else pos (minor_of decimals (b ∷ bs))

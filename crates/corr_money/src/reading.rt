@@ -4,7 +4,7 @@ ghost use Rattle.std.specs.Prelude.{◌≡◌, ◌==◌, ◌<◌, ◌≤◌, ◌
 ghost use Rattle.std.specs.List.{list_all, position};
 ghost use Rattle.std.specs.Char.{is_ascii_digit};
 ghost use Rattle.std.specs.Str.Parse.{digits_value, digits_value_after};
-ghost use Rattle.corr_money.specs.Amounts.{amount_of, is_comma, is_comma_number};
+ghost use Rattle.corr_money.specs.Amounts.{amount_end, amount_of, is_comma, is_comma_number};
 
 use crate::amount::Minor;
 use crate::fault::AmountFault;
@@ -69,7 +69,7 @@ pub fn is_comma_number(b: &[u8]) -> bool
 pub fn read_15d(b: &[u8], decimals: u8) -> Result<Minor, AmountFault>
     requires { decimals ≤ 4 }
     ensures value { result ≡ amount_of decimals b.now }
-    ensures bound { IfOk result (λ m. m.0 < 10 ^ 14) }
+    ensures bound { IfOk result (λ m. m.0 < amount_end) }
 {
     let Some(comma) = first_comma(b) else {
         return Err(AmountFault::T40);

@@ -1,7 +1,7 @@
 //! Amounts that are written.
 
-ghost use Rattle.std.specs.Prelude.{◌≡◌, ◌++◌, ◌<◌, ◌≤◌, ◌^◌, IfOk, OnOk, OnErr, Ok};
-ghost use Rattle.corr_money.specs.Amounts.{amount_of, amount_text, signed_text};
+ghost use Rattle.std.specs.Prelude.{◌≡◌, ◌++◌, ◌<◌, ◌≤◌, IfOk, OnOk, OnErr, Ok};
+ghost use Rattle.corr_money.specs.Amounts.{amount_end, amount_of, amount_text, minor_of, signed_minor_of, signed_text};
 
 use crate::amount::Minor;
 use corr_text::{Memory, Text, put_digits};
@@ -30,7 +30,7 @@ fn amount(alloc: Global, n: u64, decimals: u8) -> Result<Text, Memory>
 /// `Memory`: there was no room; then nothing was added.
 pub fn put_15d(alloc: Global, m: Minor, decimals: u8, out: &mut Text) -> Result<(), Memory>
     requires decimals { decimals ≤ 4 }
-    requires bound { m.0 < 10 ^ 14 }
+    requires bound { m.0 < amount_end }
     ensures ok { OnOk result (out.new ≡ out.old ++ amount_text decimals m.0) }
     ensures read_back { amount_of decimals (amount_text decimals m.0) ≡ Ok m }
     ensures err { OnErr result (out.new ≡ out.old) }
@@ -42,10 +42,11 @@ pub fn put_15d(alloc: Global, m: Minor, decimals: u8, out: &mut Text) -> Result<
 /// Adds a number of minor units in the form of `put_15d`, with `-` before it where it is below 0.
 ///
 /// `Memory`: there was no room; then nothing was added.
-#[tactic(auto, unfolding(crate::specs::Amounts::signed_text))]
+#[tactic(auto, using(crate::proofs::laws::Written::printing), unfolding(crate::specs::Amounts::signed_text))]
 pub fn put_signed(alloc: Global, v: i64, decimals: u8, out: &mut Text) -> Result<(), Memory>
     requires { decimals ≤ 4 }
     ensures ok { OnOk result (out.new ≡ out.old ++ signed_text decimals v) }
+    ensures number { signed_minor_of decimals (signed_text decimals v) ≡ v }
     ensures err { OnErr result (out.new ≡ out.old) }
 {
     let amount = amount(alloc, v.unsigned_abs(), decimals)?;
@@ -57,9 +58,11 @@ pub fn put_signed(alloc: Global, v: i64, decimals: u8, out: &mut Text) -> Result
 /// Adds a total of minor units in the form of `put_15d`.
 ///
 /// `Memory`: there was no room; then nothing was added.
+#[tactic(auto, using(crate::proofs::laws::Written::printing))]
 pub fn put_total(alloc: Global, v: u64, decimals: u8, out: &mut Text) -> Result<(), Memory>
     requires { decimals ≤ 4 }
     ensures ok { OnOk result (out.new ≡ out.old ++ amount_text decimals v) }
+    ensures number { minor_of decimals (amount_text decimals v) ≡ v }
     ensures err { OnErr result (out.new ≡ out.old) }
 {
     let text = amount(alloc, v, decimals)?;
