@@ -18,7 +18,7 @@ mod text;
 pub use brace::next_brace;
 pub use buf::Buf;
 pub use copying::{copy_texts, push_texts};
-pub use decimal::{all_digits, digits, put_digits};
+pub use decimal::{Decimal, all_digits, digits, put_digits};
 pub use failed::Failed;
 pub use fault::{Code, Fault};
 pub use lines::{FirstLine, first_line, plain_line};

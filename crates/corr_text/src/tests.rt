@@ -92,7 +92,8 @@ fn a_text_is_copied_and_grows(rt: HostRuntime) -> Result<(), Fail> {
     let copy = text.copy(rt.alloc())?;
     text.push(b"")?;
     text.push(b"//X")?;
-    assert_eq!(rt; text.bytes(), b"REF1//X".as_slice());
+    text.push_all(&[b"", b"Y", b"Z1"])?;
+    assert_eq!(rt; text.bytes(), b"REF1//XYZ1".as_slice());
     assert_eq!(rt; copy.bytes(), b"REF1".as_slice());
     Ok(())
 }
