@@ -1,5 +1,7 @@
 //! The answer of a call, as text.
 
+ghost use Rattle.std.specs.Prelude.{◌<◌};
+
 use corr_text::{Memory, Text, put_digits};
 use std::alloc::Global;
 
@@ -70,6 +72,12 @@ impl Answer {
     pub fn number(&mut self, n: u64) -> Result<(), Memory> {
         self.word(b"")?;
         put_digits(self.alloc, n, 1, &mut self.text)
+    }
+
+    /// Adds a number, with `-` before it where it is below 0.
+    pub fn signed(&mut self, n: i64) -> Result<(), Memory> {
+        self.word(if n < 0 { b"-" } else { b"" })?;
+        put_digits(self.alloc, n.unsigned_abs(), 1, &mut self.text)
     }
 
     /// Adds `yes` or `no`.

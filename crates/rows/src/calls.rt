@@ -1,5 +1,10 @@
 //! The calls that rows name.
 
+mod blocks;
+mod fields;
+mod frame;
+mod ids;
+mod money;
 mod texts;
 
 use crate::answer::Answer;
@@ -22,5 +27,12 @@ pub fn answer(alloc: Global, words: &[Text]) -> Result<Answer, Stop> {
 
 /// Makes a call, and answers whether one has that name.
 fn call(name: &[u8], words: &mut Words, answer: &mut Answer) -> Result<bool, Stop> {
-    Ok(texts::call(name, words, answer)?)
+    Ok(
+        texts::call(name, words, answer)?
+            || ids::call(name, words, answer)?
+            || money::call(name, words, answer)?
+            || frame::call(name, words, answer)?
+            || blocks::call(name, words, answer)?
+            || fields::call(name, words, answer)?,
+    )
 }

@@ -1,7 +1,8 @@
 //! A file of rows.
 
 use crate::calls::answer;
-use crate::head::read_head;
+use crate::head::{Head, read_head};
+use crate::many::read_many;
 use crate::named::{Named, find_text};
 use crate::stop::Stop;
 use corr_text::{Memory, Text, put_digits};
@@ -62,7 +63,8 @@ impl<'a> Reading<'a> {
             [b'|', b' ', line @ ..] => self.body_line(at, line),
             [b'@', name @ ..] => self.named_lines(at, name),
             [b'=', b' ', want @ ..] => self.end_row(at, want),
-            [b't', b'e', b'x', b't', b' ', name @ ..] => self.begin_text(at, name),
+            [b't', b'e', b'x', b't', b' ', name @ ..] => self.begin_text(name),
+            [b'm', b'a', b'n', b'y', b' ', words @ ..] => self.add_many(at, words),
             _ => self.begin_row(at, line),
         }
     }
@@ -85,25 +87,47 @@ impl<'a> Reading<'a> {
     }
 
     /// Begins a named text.
-    fn begin_text(&mut self, at: u64, name: &[u8]) -> Result<(), Memory> {
+    fn begin_text(&mut self, name: &[u8]) -> Result<(), Memory> {
         self.close()?;
         self.open = Open::Text(Text::from_bytes(self.alloc, name)?);
         Ok(())
     }
 
+    /// Names a text of so many pieces.
+    fn add_many(&mut self, at: u64, words: &[u8]) -> Result<(), Memory> {
+        self.close()?;
+        match read_many(self.alloc, words) {
+            Ok(text) => {
+                self.texts.push(text)?;
+                Ok(())
+            }
+            Err(Stop::Unreadable) => self.differs(at, b"unreadable", b""),
+            Err(Stop::Memory) => Err(Memory),
+        }
+    }
+
+    /// The words of a head line, and its answer.
+    fn head(&self, line: &[u8]) -> Result<Head, Stop> {
+        read_head(self.alloc, line, self.texts.as_slice())
+    }
+
     /// Begins a row, and runs it where its answer stands on the same line.
     fn begin_row(&mut self, at: u64, line: &[u8]) -> Result<(), Memory> {
         self.close()?;
-        match read_head(self.alloc, line, self.texts.as_slice()) {
-            Ok(head) => match head.answer {
-                Some(want) => self.run(at, head.words.as_slice(), want.bytes()),
-                None => {
-                    self.open = Open::Row(at, head.words);
-                    Ok(())
-                }
-            },
+        match self.head(line) {
+            Ok(head) => self.begin_words(at, head),
             Err(Stop::Unreadable) => self.differs(at, b"unreadable", b""),
             Err(Stop::Memory) => Err(Memory),
+        }
+    }
+
+    fn begin_words(&mut self, at: u64, head: Head) -> Result<(), Memory> {
+        match head.answer {
+            Some(want) => self.run(at, head.words.as_slice(), want.bytes()),
+            None => {
+                self.open = Open::Row(at, head.words);
+                Ok(())
+            }
         }
     }
 
@@ -154,24 +178,33 @@ impl<'a> Reading<'a> {
     fn differs(&mut self, at: u64, what: &[u8], got: &[u8]) -> Result<(), Memory> {
         self.rows = self.rows.saturating_add(1);
         self.differ = self.differ.saturating_add(1);
-        self.report.push(self.file)?;
-        self.report.push(b":")?;
-        put_digits(self.alloc, at, 1, &mut self.report)?;
-        self.report.push(b": ")?;
-        self.report.push(what)?;
-        self.report.push(got)?;
-        self.report.push(b"\n")
+        let mut line = Text::from_bytes(self.alloc, self.file)?;
+        line.push(b":")?;
+        put_digits(self.alloc, at, 1, &mut line)?;
+        line.push(b": ")?;
+        line.push(what)?;
+        line.push(got)?;
+        line.push(b"\n")?;
+        self.report.push(line.bytes())
+    }
+
+    /// The line of the counts.
+    fn counts(&self) -> Result<Text, Memory> {
+        let mut line = Text::from_bytes(self.alloc, self.file)?;
+        line.push(b": ")?;
+        put_digits(self.alloc, self.rows, 1, &mut line)?;
+        line.push(b" rows, ")?;
+        put_digits(self.alloc, self.differ, 1, &mut line)?;
+        line.push(b" differ\n")?;
+        Ok(line)
     }
 
     /// The report, with the counts as its last line.
     fn finish(mut self) -> Result<Text, Memory> {
         self.close()?;
-        self.report.push(self.file)?;
-        self.report.push(b": ")?;
-        put_digits(self.alloc, self.rows, 1, &mut self.report)?;
-        self.report.push(b" rows, ")?;
-        put_digits(self.alloc, self.differ, 1, &mut self.report)?;
-        self.report.push(b" differ\n")?;
-        Ok(self.report)
+        let counts = self.counts()?;
+        self.report.push(counts.bytes())?;
+        let Reading { report, .. } = self;
+        Ok(report)
     }
 }

@@ -80,13 +80,17 @@ impl<'a> Cutting<'a> {
             At::Closed | At::Sign | At::Answer => {}
             _ => return Err(Stop::Unreadable),
         }
-        let answer = match self.at {
-            At::Sign | At::Answer => Some(self.word),
-            _ => None,
+        let Cutting {
+            at,
+            words,
+            word,
+            ..
+        } = self;
+        let answer = if matches!(at, At::Sign | At::Answer) {
+            Some(word)
+        } else {
+            None
         };
-        Ok(Head {
-            words: self.words,
-            answer,
-        })
+        Ok(Head { words, answer })
     }
 }

@@ -3,8 +3,10 @@
 
 mod answer;
 mod calls;
+mod fields;
 mod file;
 mod head;
+mod many;
 mod named;
 mod step;
 mod stop;

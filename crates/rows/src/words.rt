@@ -43,6 +43,34 @@ impl<'a> Words<'a> {
         }
     }
 
+    /// The next word as a place or a number of things.
+    pub fn place(&mut self) -> Result<usize, Stop> {
+        Ok(self.number()? as usize)
+    }
+
+    /// The next word as a number of `i32`.
+    pub fn small(&mut self) -> Result<i32, Stop> {
+        i32::try_from(self.signed()?).map_err(|_| Stop::Unreadable)
+    }
+
+    /// The next word as so many bytes.
+    pub fn array<const N: usize>(&mut self) -> Result<[u8; N], Stop> {
+        let word = self.next()?;
+        if word.len() != N {
+            return Err(Stop::Unreadable);
+        }
+        let mut array = [0; N];
+        array.copy_from_slice(word);
+        Ok(array)
+    }
+
+    /// All words that are left.
+    pub fn rest(&mut self) -> &'a [Text] {
+        let rest = self.left;
+        self.left = &[];
+        rest
+    }
+
     /// Whether no word is left.
     pub fn are_used(&self) -> bool {
         self.left.is_empty()
