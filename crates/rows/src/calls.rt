@@ -1,10 +1,15 @@
 //! The calls that rows name.
 
 mod blocks;
-mod fields;
+mod contents;
 mod frame;
 mod ids;
+mod layout;
+mod lines;
 mod money;
+mod parties;
+mod ssi;
+mod tables;
 mod texts;
 
 use crate::answer::Answer;
@@ -33,6 +38,11 @@ fn call(name: &[u8], words: &mut Words, answer: &mut Answer) -> Result<bool, Sto
             || money::call(name, words, answer)?
             || frame::call(name, words, answer)?
             || blocks::call(name, words, answer)?
-            || fields::call(name, words, answer)?,
+            || lines::call(name, words, answer)?
+            || parties::call(name, words, answer)?
+            || layout::call(name, words, answer)?
+            || contents::call(name, words, answer)?
+            || tables::call(name, words, answer)?
+            || ssi::call(name, words, answer)?,
     )
 }

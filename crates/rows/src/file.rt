@@ -93,10 +93,14 @@ impl<'a> Reading<'a> {
         Ok(())
     }
 
+    fn many(&self, words: &[u8]) -> Result<Named, Stop> {
+        read_many(self.alloc, words, self.texts.as_slice())
+    }
+
     /// Names a text of so many pieces.
     fn add_many(&mut self, at: u64, words: &[u8]) -> Result<(), Memory> {
         self.close()?;
-        match read_many(self.alloc, words) {
+        match self.many(words) {
             Ok(text) => {
                 self.texts.push(text)?;
                 Ok(())
@@ -122,10 +126,11 @@ impl<'a> Reading<'a> {
     }
 
     fn begin_words(&mut self, at: u64, head: Head) -> Result<(), Memory> {
-        match head.answer {
-            Some(want) => self.run(at, head.words.as_slice(), want.bytes()),
+        let Head { words, answer } = head;
+        match answer {
+            Some(want) => self.run(at, words.as_slice(), want.bytes()),
             None => {
-                self.open = Open::Row(at, head.words);
+                self.open = Open::Row(at, words);
                 Ok(())
             }
         }

@@ -8,8 +8,10 @@ mod file;
 mod head;
 mod many;
 mod named;
+mod party;
 mod step;
 mod stop;
+mod tables;
 mod words;
 
 use crate::file::run_file;

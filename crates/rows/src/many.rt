@@ -10,8 +10,8 @@ use std::alloc::Global;
 /// The text that the words `NAME COUNT PIECE` name: the piece so many times, each `%` in it six capital letters that count up.
 ///
 /// `banks 2 "%AA "` is the text `AAAAAAAA BAAAAAAA ` with the name `banks`.
-pub fn read_many(alloc: Global, words: &[u8]) -> Result<Named, Stop> {
-    let head = read_head(alloc, words, &[])?;
+pub fn read_many(alloc: Global, words: &[u8], texts: &[Named]) -> Result<Named, Stop> {
+    let head = read_head(alloc, words, texts)?;
     let mut words = Words::new(head.words.as_slice());
     let name = Text::from_bytes(alloc, words.next()?)?;
     let count = words.number()?;
@@ -35,11 +35,11 @@ fn many(alloc: Global, count: u64, piece: &[u8]) -> Result<Text, Memory> {
 
 /// Adds the piece of this number, from 0.
 fn put_piece(i: u64, piece: &[u8], text: &mut Text) -> Result<(), Memory> {
-    for b in piece {
-        match b {
-            b'%' => text.push(&letters(i))?,
-            _ => text.push(&[*b])?,
+    for (at, part) in piece.split(|b| *b == b'%').enumerate() {
+        if at > 0 {
+            text.push(&letters(i))?;
         }
+        text.push(part)?;
     }
     Ok(())
 }
