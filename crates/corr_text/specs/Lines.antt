@@ -1,6 +1,7 @@
 -- The lines of a text. A line feed ends a line, and one carriage return before it belongs to that end.
 use Rattle.std.specs.Prelude.{ℕ, ◌==◌, ◌&&◌, Bool, false, List, [], ◌∷◌, if◌then◌else◌}
 
+-- whether this byte is the first of a text
 abbrev pub begins_with : ℕ → List ℕ → Bool
 begins_with b [] = false
 begins_with b (c ∷ cs) = c == b
