@@ -9,8 +9,6 @@ mod core_job;
 mod core_ledger;
 mod core_machine;
 mod core_ready;
-#[cfg(test)]
-mod core_tests;
 mod entry;
 mod fault;
 mod fit;

@@ -13,8 +13,6 @@ mod laws;
 mod message;
 mod parts;
 #[cfg(test)]
-mod refusal_tests;
-#[cfg(test)]
 mod tests;
 mod transfer;
 

@@ -18,8 +18,6 @@ mod terms;
 mod tests;
 mod verdict;
 mod writing;
-#[cfg(test)]
-mod writing_tests;
 
 pub use codes::{D97, D98, E46, P28, T08, T36};
 pub use instruction::Instr;

@@ -17,8 +17,6 @@ mod terms;
 mod tests;
 mod verdict;
 mod writing;
-#[cfg(test)]
-mod writing_tests;
 
 pub use codes::{C68, C81};
 pub use law::cover_laws;

@@ -11,8 +11,6 @@ mod stamp;
 #[cfg(test)]
 mod tests;
 mod writing;
-#[cfg(test)]
-mod writing_tests;
 
 pub use credit::{C06, Mt910, read_mt910};
 pub use debit::{Mt900, read_mt900};

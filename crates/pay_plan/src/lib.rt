@@ -13,8 +13,6 @@ mod planning;
 mod target;
 #[cfg(test)]
 mod tests;
-#[cfg(test)]
-mod told;
 mod way;
 
 pub use ask::Ask;

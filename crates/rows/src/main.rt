@@ -2,13 +2,18 @@
 #![tactic(auto)]
 
 mod answer;
+mod books;
 mod calls;
+mod desks;
 mod fields;
 mod file;
+mod given;
 mod head;
+mod histories;
 mod many;
 mod named;
 mod party;
+mod pays;
 mod step;
 mod stop;
 mod tables;

@@ -64,6 +64,11 @@ impl<'a> Words<'a> {
         Ok(array)
     }
 
+    /// How many words are left.
+    pub fn count(&self) -> usize {
+        self.left.len()
+    }
+
     /// All words that are left.
     pub fn rest(&mut self) -> &'a [Text] {
         let rest = self.left;

@@ -1,4 +1,4 @@
-use Rattle.mt202cov.proofs.writing_tests.rewritten.Goals as goal
+use Rattle.mt202cov.proofs.tests.rewritten.Goals as goal
 
 pub put_mt202cov-text-requires : goal.put_mt202cov-text-requires
 put_mt202cov-text-requires c = record {

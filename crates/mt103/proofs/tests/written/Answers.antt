@@ -1,4 +1,4 @@
-use Rattle.mt103.proofs.writing_tests.written.Goals as goal
+use Rattle.mt103.proofs.tests.written.Goals as goal
 
 pub put_mt103-text-requires : goal.put_mt103-text-requires
 put_mt103-text-requires c = record {

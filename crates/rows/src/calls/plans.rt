@@ -1,0 +1,95 @@
+//! Calls of pay_plan.
+
+ghost use Rattle.std.specs.Prelude.{IsSome};
+ghost use Rattle.pay_plan.specs.Readable.{IsRead};
+
+use crate::answer::Answer;
+use crate::books::{HOME, bic, mir};
+use crate::desks::{Desk, open_desk};
+use crate::given::{cut, let_go, text_in};
+use crate::pays::put_pay;
+use crate::stop::Stop;
+use crate::words::Words;
+use corr_ids::{Bic, Envelope, Mir};
+use corr_text::Text;
+use mt103::read_mt103;
+use mt202cov::read_mt202cov;
+use pay_plan::{Ask, PlanFault, plan};
+
+/// Makes a call, and answers whether one of these has that name.
+pub fn call(name: &[u8], words: &mut Words, answer: &mut Answer) -> Result<bool, Stop> {
+    match name {
+        b"plan_transfer" => transfer(words, answer)?,
+        b"plan_cover" => cover(words, answer)?,
+        _ => return Ok(false),
+    }
+    Ok(true)
+}
+
+fn envelope(mir: Mir, sender: Bic) -> Envelope
+    ensures { IsSome result.mir }
+{
+    Envelope {
+        mir: Some(mir),
+        sender,
+        receiver: HOME,
+        uetr: None,
+    }
+}
+
+/// Adds the pay of a message, or the code why it has none.
+fn put_planned(
+    desk: &Desk,
+    sender: Bic,
+    text: &Text,
+    ask: Ask<'_>,
+    answer: &mut Answer,
+) -> Result<(), Stop>
+    requires { IsRead ask }
+{
+    let alloc = answer.alloc();
+    let env = envelope(mir(alloc, 1)?, sender);
+    match plan(alloc, &env, text, ask, &desk.ssi, &desk.accounts) {
+        Ok(pay) => {
+            let put = put_pay(&pay, answer);
+            let_go(pay);
+            Ok(put?)
+        }
+        Err(PlanFault::Code(code)) => Ok(answer.word(&code.0)?),
+        Err(PlanFault::Memory) => Err(Stop::Memory),
+    }
+}
+
+/// `plan_transfer DESK SENDER FIELDS`: the pay of a transfer, or the code.
+fn transfer(words: &mut Words, answer: &mut Answer) -> Result<(), Stop> {
+    let alloc = answer.alloc();
+    let desk = open_desk(alloc, words.next()?)?;
+    let sender = bic(words)?;
+    let text = text_in(alloc, words)?;
+    let fields = cut(alloc, text.bytes())?;
+    match read_mt103(alloc, fields.as_slice(), &desk.tables) {
+        Ok(m) => {
+            let put = put_planned(&desk, sender, &text, Ask::Transfer(&m), answer);
+            let_go(m);
+            put
+        }
+        Err(_) => Err(Stop::Unreadable),
+    }
+}
+
+/// `plan_cover DESK SENDER FIELDS`: the pay of a cover, or the code.
+fn cover(words: &mut Words, answer: &mut Answer) -> Result<(), Stop> {
+    let alloc = answer.alloc();
+    let desk = open_desk(alloc, words.next()?)?;
+    let sender = bic(words)?;
+    let text = text_in(alloc, words)?;
+    let fields = cut(alloc, text.bytes())?;
+    match read_mt202cov(alloc, fields.as_slice(), &desk.tables) {
+        Ok(m) => {
+            let put = put_planned(&desk, sender, &text, Ask::Cover(&m), answer);
+            let_go(m);
+            put
+        }
+        Err(_) => Err(Stop::Unreadable),
+    }
+}
