@@ -17,8 +17,8 @@ use std::alloc::Global;
 /// A text up to its first empty line, and what follows that line.
 pub fn section(text: &[u8]) -> (&[u8], &[u8]) {
     match memmem::find(text, b"\r\n\r\n") {
-        Some(at) => (&text[..at + 2], &text[at + 4..]),
-        None => (text, b""),
+        Some(at) if at <= text.len() && text.len() - at >= 4 => (&text[..at + 2], &text[at + 4..]),
+        _ => (text, b""),
     }
 }
 

@@ -1,6 +1,7 @@
 //! Histories that rows give.
 
 ghost use Rattle.std.specs.Prelude.{IfOk};
+ghost use Rattle.corr_report.specs.Bookings.{AreInCentury};
 ghost use Rattle.day_model.specs.Laws.{IsLatest};
 ghost use Rattle.day_model.specs.Legal.{IsLegal};
 
@@ -16,8 +17,10 @@ use std::alloc::Global;
 fn enter(a: &Accounts, h: &mut History, p: Pay) -> Result<(), Stop>
     requires legal { IsLegal a.now h.old.entries }
     requires latest { IsLatest h.old.entries TODAY }
+    requires days { AreInCentury h.old.entries }
     ensures legal { IsLegal a.now h.new.entries }
     ensures latest { IsLatest h.new.entries TODAY }
+    ensures days { AreInCentury h.new.entries }
 {
     if !a.fits(&p) || h.find(&p.mir).is_some() || h.len() == 100_000 {
         return Err(Stop::Unreadable);
@@ -34,6 +37,7 @@ fn enter(a: &Accounts, h: &mut History, p: Pay) -> Result<(), Stop>
 /// The history of the pays of these lines.
 pub fn history_in(alloc: Global, a: &Accounts, lines: &[u8]) -> Result<History, Stop>
     ensures legal { IfOk result (λ h. IsLegal a.now h.entries) }
+    ensures days { IfOk result (λ h. AreInCentury h.entries) }
 {
     let mut h = History::new(alloc);
     for cells in lines_in(alloc, lines)?.as_slice() {

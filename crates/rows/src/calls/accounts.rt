@@ -4,9 +4,7 @@ ghost use Rattle.std.specs.Prelude.{IfOk};
 ghost use Rattle.day_model.specs.Chart.{IsListed};
 
 use crate::answer::Answer;
-use crate::books::{
-    HOME, accounts_in, book_in, ccy, cells, pay, rows_in, small,
-};
+use crate::books::{HOME, accounts_in, book_in, ccy, cells, pay, rows_in, small};
 use crate::histories::{history_in, put_outcome};
 use crate::stop::Stop;
 use crate::words::Words;

@@ -27,12 +27,11 @@ const HOME: Bic = Bic {
     branch: *b"XXX",
 };
 
-/// The next word as a message: without the end of its last line, and at most 65,535 bytes.
+/// The next word as a message of at most 65,535 bytes.
 fn message<'a>(words: &mut Words<'a>) -> Result<&'a [u8], Stop>
     ensures { IfOk result (λ m. length m.now ≤ 65535) }
 {
-    let text = words.next()?;
-    let message = text.strip_suffix(b"\n").unwrap_or(text);
+    let message = words.next()?;
     if message.len() > 65535 {
         return Err(Stop::Unreadable);
     }
