@@ -1,5 +1,5 @@
 -- What the calls of a disk do to its bytes, and what a crash may leave between two syncs.
-use Rattle.std.specs.Prelude.{◌≡◌, ◌⊎◌, ℕ, ◌+◌, ◌-◌, ◌<◌, ◌≤◌, min, max, List, ◌++◌, length, take, drop, Option, Some, None, Result, IsErr}
+use Rattle.std.specs.Prelude.{◌≡◌, ◌⊎◌, ℕ, ◌+◌, ◌-◌, ◌≤◌, min, max, List, ◌++◌, length, take, drop}
 
 -- the bytes with this piece written over them from this place on
 abbrev pub written : ℕ → List ℕ → List ℕ → List ℕ
@@ -42,12 +42,8 @@ pub record ReadsAt (bytes : List ℕ) (at n : ℕ) (old new : List ℕ) : Type 0
   pub count : n ≡ min (length old) (length bytes - at)
   pub same : take n new ≡ take n (drop at bytes)
 
--- Of a disk that stops after so many calls: this call is one of them, or fails.
-abbrev pub CountsDown : {T E : Type 0} → Option ℕ → Option ℕ → Result T E → Type 0
-CountsDown None new result = new ≡ None
-CountsDown (Some left) new result = (new ≡ Some (left - 1)) × (left ≡ 0 → IsErr result)
-
--- nothing but its own end stops it
-abbrev pub IsRunning : Option ℕ → Type 0
-IsRunning None = Unit {0}
-IsRunning (Some left) = 0 < left
+-- nothing happened: a read gives the same bytes, and a crash may leave the same images
+pub record IsAsBefore {D : Type 0} (reads : D → List ℕ) (may_leave : D → List ℕ → Type 0) (old new : D) : Type 0 where
+  pub same : reads new ≡ reads old
+  pub no_more : NoMore (may_leave old) (may_leave new)
+  pub no_fewer : NoMore (may_leave new) (may_leave old)

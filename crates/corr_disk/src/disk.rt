@@ -1,12 +1,14 @@
 //! The trait of a disk.
 
-ghost use Rattle.std.specs.Prelude.{◌≡◌, ◌+◌, ◌^◌, ◌≤◌, ℕ, Bool, false, List, Option, None, length, take, IsTrue, IsOk, IfOk, OnOk};
-ghost use Rattle.corr_disk.specs.Disk.{written, Torn, Follows, NoMore, Only, Elapses, ReadsAt, CountsDown, IsRunning};
+ghost use Rattle.std.specs.Prelude.{◌≡◌, ◌+◌, ◌^◌, ◌≤◌, ℕ, Bool, true, false, List, Option, Some, length, IsTrue, IsSome, IsOk, IsErr, IfOk, OnOk, OnErr};
+ghost use Rattle.corr_disk.specs.Calls.{CallsMade};
+ghost use Rattle.corr_disk.specs.Disk.{written, Torn, Follows, NoMore, Only, Elapses, ReadsAt, IsAsBefore};
 ghost use Rattle.corr_text.specs.Faults.{HasCause};
 
 use corr_text::Failed;
 
-/// One file, and what a crash may leave of it. Each call answers `Failed` only where its count of faults rose.
+/// One file, and what a crash may leave of it. Each call that succeeds leaves its count of faults, and each that
+/// answers `Failed` adds one to it; the count stays at `2^64 - 1` once it is there.
 ///
 /// Between two syncs an image may hold any bytes in each written range and may end anywhere between the old
 /// and the new end. After a sync the only image is what a read gives.
@@ -29,11 +31,10 @@ pub trait Disk {
     /// How often it has failed.
     ghost faults: { Self → ℕ };
 
-    /// After how many more calls it stops, where that is known. A disk that has stopped fails each call.
-    ghost calls_left: { Self → Option ℕ } = { λ _. None };
-
-    /// Nothing but its end and want of memory makes it fail.
-    ghost is_sure: { Self → Bool } = { λ _. false };
+    /// What is known of the call that comes after so many others: that it is going to fail (`Some true`), that
+    /// it isn't, but for want of memory (`Some false`), or nothing. A call of which something is known has no
+    /// effect where it fails.
+    ghost plan: { Self → ℕ → Option Bool };
 
     /// The count of faults. Takes no memory.
     fn faults(&self) -> u64
@@ -49,9 +50,10 @@ pub trait Disk {
         ensures time { Elapses (moment self.old) (moment self.new) (left_since self.old) (left_since self.new) (may_leave self.new) }
         ensures honest { honest self.new ≡ honest self.old }
         ensures cause { HasCause (faults self.old) (faults self.new) result }
-        ensures stops { CountsDown (calls_left self.old) (calls_left self.new) result }
-        ensures sure { IsTrue (is_sure self.old) → IsRunning (calls_left self.old) → IsOk result }
-        ensures stays_sure { is_sure self.new ≡ is_sure self.old };
+        ensures planned { plan self.old 0 ≡ Some true → IsErr result }
+        ensures passes { plan self.old 0 ≡ Some false → IsOk result }
+        ensures no_effect { IsSome (plan self.old 0) → OnErr result (IsAsBefore reads may_leave self.old self.new) }
+        ensures next { CallsMade 1 (plan self.old) (plan self.new) };
 
     /// Reads the bytes from place `at` on, and answers how many came. Fewer than the buffer holds come only at
     /// the end, and none only at the end or for an empty buffer.
@@ -65,14 +67,16 @@ pub trait Disk {
         ensures time { Elapses (moment self.old) (moment self.new) (left_since self.old) (left_since self.new) (may_leave self.new) }
         ensures honest { honest self.new ≡ honest self.old }
         ensures cause { HasCause (faults self.old) (faults self.new) result }
-        ensures stops { CountsDown (calls_left self.old) (calls_left self.new) result }
-        ensures sure { IsTrue (is_sure self.old) → IsRunning (calls_left self.old) → IsOk result }
-        ensures stays_sure { is_sure self.new ≡ is_sure self.old };
+        ensures planned { plan self.old 0 ≡ Some true → IsErr result }
+        ensures passes { plan self.old 0 ≡ Some false → IsOk result }
+        ensures no_effect { IsSome (plan self.old 0) → OnErr result (IsAsBefore reads may_leave self.old self.new) }
+        ensures next { CallsMade 1 (plan self.old) (plan self.new) };
 
     /// Writes all of `bytes` from place `at` on, over what is there and past the end. `at` is the length at most, and the
     /// bytes end at 2^30 at most.
     ///
-    /// `Failed` comes only where the count of faults rose. A read of this range then gives any bytes.
+    /// `Failed` comes only where the count of faults rose. A read of this range then gives any bytes, but where
+    /// something was known of the call.
     fn write_at(&mut self, at: u64, bytes: &[u8]) -> Result<(), Failed>
         requires no_gap { IsTrue (honest self.old) → at ≤ length (reads self.old) }
         requires room { at + length bytes.now ≤ 2 ^ 30 }
@@ -82,8 +86,9 @@ pub trait Disk {
         ensures time { Elapses (moment self.old) (moment self.new) (left_since self.old) (left_since self.new) (may_leave self.new) }
         ensures honest { honest self.new ≡ honest self.old }
         ensures cause { HasCause (faults self.old) (faults self.new) result }
-        ensures stops { CountsDown (calls_left self.old) (calls_left self.new) result }
-        ensures stays_sure { is_sure self.new ≡ is_sure self.old };
+        ensures planned { plan self.old 0 ≡ Some true → IsErr result }
+        ensures no_effect { IsSome (plan self.old 0) → OnErr result (IsAsBefore reads may_leave self.old self.new) }
+        ensures next { CallsMade 1 (plan self.old) (plan self.new) };
 
     /// Makes what a read gives the only image.
     ///
@@ -95,9 +100,10 @@ pub trait Disk {
         ensures time { Elapses (moment self.old) (moment self.new) (left_since self.old) (left_since self.new) (may_leave self.new) }
         ensures honest { honest self.new ≡ honest self.old }
         ensures cause { HasCause (faults self.old) (faults self.new) result }
-        ensures stops { CountsDown (calls_left self.old) (calls_left self.new) result }
-        ensures sure { IsTrue (is_sure self.old) → IsRunning (calls_left self.old) → IsOk result }
-        ensures stays_sure { is_sure self.new ≡ is_sure self.old };
+        ensures planned { plan self.old 0 ≡ Some true → IsErr result }
+        ensures passes { plan self.old 0 ≡ Some false → IsOk result }
+        ensures no_effect { IsSome (plan self.old 0) → OnErr result (IsAsBefore reads may_leave self.old self.new) }
+        ensures next { CallsMade 1 (plan self.old) (plan self.new) };
 
     /// This moment is one of those since an earlier one.
     ghost counts_now: { (disk : Self) (t : ℕ) (c : List ℕ) → t ≤ moment disk → may_leave disk c → left_since disk t c };

@@ -1,21 +1,22 @@
 //! A real file.
 
-ghost use Rattle.std.specs.Prelude.{◌≡◌, ◌≤◌, ◌+◌, ◌^◌, [], ℕ, List, Some, None, false, length, if◌then◌else◌, IsTrue, IfOk, OnOk};
+ghost use Rattle.std.specs.Prelude.{◌≡◌, ◌≤◌, ◌+◌, ◌^◌, [], ℕ, Some, None, true, false, length, if◌then◌else◌, IsTrue, IfOk, OnOk};
 ghost use Rattle.std.specs.Option.{ForSome};
 ghost use Rattle.std.specs.Str.{is_utf8};
 ghost use Rattle.corr_disk.specs.Laws.{not_told};
 
-use crate::count::count_fault;
 use crate::{Disk, Failed};
+use corr_io::{counted, open_at, read_some, write_some};
 use corr_text::Text;
 use std::fs::{OpenFile, OpenOptions};
-use std::io::{self, Read, Seek, SeekFrom, Write};
+use std::io::{Read, Seek, SeekFrom, Write};
 use std::rt::Files;
 
 /// A real file, which is opened or made at the first call. It tells neither its bytes nor its images: what a
 /// file holds, and what a sync of it has made sure of, is trusted of the system.
 ///
-/// With a path that isn't UTF-8 every call fails.
+/// With a path that isn't UTF-8 every call fails. A read or a write that a signal interrupts is made again, a
+/// bounded number of times.
 #[derive(Drop)]
 pub struct FileDisk<'a, R: Files> {
     rt: &'a R,
@@ -29,7 +30,7 @@ impl<'a, R: Files> FileDisk<'a, R> {
     /// The file at this path, not yet opened.
     pub fn new(rt: &'a R, path: Text) -> FileDisk<'a, R>
         ensures faults { ⟦<FileDisk<'a, R> as Disk>⟧.faults result ≡ 0 }
-        ensures calls { ⟦<FileDisk<'a, R> as Disk>⟧.calls_left result ≡ (if is_utf8 path then None else Some 0) }
+        ensures plan { (k : ℕ) → ⟦<FileDisk<'a, R> as Disk>⟧.plan result k ≡ (if is_utf8 path then None else Some true) }
     {
         FileDisk {
             rt,
@@ -45,7 +46,7 @@ impl<'a, R: Files> FileDisk<'a, R> {
         ensures faults { self.new.faults ≡ self.old.faults }
     {
         if self.file.is_none() {
-            self.file = Some(open_at(self.rt, &self.path)?);
+            self.file = Some(open_regular(self.rt, &self.path)?);
         }
         Ok(())
     }
@@ -70,7 +71,7 @@ impl<'a, R: Files> FileDisk<'a, R> {
     {
         self.open()?;
         match &mut self.file {
-            Some(file) => fill(file, at, buf).map_err(|_| Failed),
+            Some(file) => fill(file, at, buf),
             None => Err(Failed),
         }
     }
@@ -82,7 +83,7 @@ impl<'a, R: Files> FileDisk<'a, R> {
     {
         self.open()?;
         match &mut self.file {
-            Some(file) => put(file, at, bytes).map_err(|_| Failed),
+            Some(file) => put(file, at, bytes),
             None => Err(Failed),
         }
     }
@@ -113,7 +114,7 @@ impl<'a, R: Files> Disk for FileDisk<'a, R> {
 
     ghost faults = { λ d. d.faults };
 
-    ghost calls_left = { λ d. if is_utf8 d.path then None else Some 0 };
+    ghost plan = { λ d _. if is_utf8 d.path then None else Some true };
 
     ghost counts_now = { λ d t c le now. now };
 
@@ -126,70 +127,65 @@ impl<'a, R: Files> Disk for FileDisk<'a, R> {
     }
 
     fn len(&mut self) -> Result<u64, Failed> {
-        match self.measure() {
-            Ok(len) => Ok(len),
-            Err(Failed) => Err(count_fault(&mut self.faults)),
-        }
+        let answer = self.measure();
+        counted(answer, &mut self.faults)
     }
 
     fn read_at(&mut self, at: u64, buf: &mut [u8]) -> Result<usize, Failed> {
-        match self.read(at, buf) {
-            Ok(count) => Ok(count),
-            Err(Failed) => Err(count_fault(&mut self.faults)),
-        }
+        let answer = self.read(at, buf);
+        counted(answer, &mut self.faults)
     }
 
     fn write_at(&mut self, at: u64, bytes: &[u8]) -> Result<(), Failed> {
-        match self.write(at, bytes) {
-            Ok(()) => Ok(()),
-            Err(Failed) => Err(count_fault(&mut self.faults)),
-        }
+        let answer = self.write(at, bytes);
+        counted(answer, &mut self.faults)
     }
 
     fn sync(&mut self) -> Result<(), Failed> {
-        match self.settle() {
-            Ok(()) => Ok(()),
-            Err(Failed) => Err(count_fault(&mut self.faults)),
-        }
+        let answer = self.settle();
+        counted(answer, &mut self.faults)
     }
 }
 
-/// Opens or makes the file at a path. A path that isn't UTF-8 names none.
-fn open_at<R: Files>(rt: &R, path: &Text) -> Result<R::File, Failed>
+/// Opens or makes the file at a path. What is no regular file, as a folder or a pipe, is none.
+fn open_regular<R: Files>(rt: &R, path: &Text) -> Result<R::File, Failed>
     ensures { OnOk result (IsTrue (is_utf8 path.now)) }
 {
-    match str::from_utf8(path.bytes()) {
-        Ok(path) => OpenOptions::new()
-            .read(true)
-            .write(true)
-            .create(true)
-            .open(rt, path)
-            .map_err(|_| Failed),
-        Err(_) => Err(Failed),
+    let mut how = OpenOptions::new();
+    how.read(true).write(true).create(true);
+    let file = open_at(rt, path, &how)?;
+    let metadata = file.metadata().map_err(|_| Failed)?;
+    if !metadata.is_file() {
+        return Err(Failed);
     }
+    Ok(file)
 }
 
 /// Reads from a place on, until the buffer is full or the file ends.
-fn fill<F: Read + Seek>(file: &mut F, at: u64, buf: &mut [u8]) -> io::Result<usize>
+fn fill<F: Read + Seek>(file: &mut F, at: u64, buf: &mut [u8]) -> Result<usize, Failed>
     ensures { IfOk result (λ n. n ≤ length buf.old) }
 {
-    file.seek(SeekFrom::Start(at))?;
+    file.seek(SeekFrom::Start(at)).map_err(|_| Failed)?;
     let mut count = 0;
     for _ in 0..u64::MAX {
         if count == buf.len() {
             break;
         }
-        match file.read(&mut buf[count..]) {
-            Ok(0) => break,
-            Ok(n) => count += n,
-            Err(error) if error.kind() == io::ErrorKind::Interrupted => {}
-            Err(error) => return Err(error),
+        match read_some(file, &mut buf[count..])? {
+            0 => break,
+            more => count += more,
         }
     }
     Ok(count)
 }
 
-fn put<F: Write + Seek>(file: &mut F, at: u64, bytes: &[u8]) -> io::Result<()> {
-    file.seek(SeekFrom::Start(at))?;
-    file.write_all(bytes)
+/// Writes all of these bytes from a place on.
+fn put<F: Write + Seek>(file: &mut F, at: u64, bytes: &[u8]) -> Result<(), Failed> {
+    file.seek(SeekFrom::Start(at)).map_err(|_| Failed)?;
+    let mut rest = bytes;
+    while !rest.is_empty() {
+        let taken = write_some(file, rest)?;
+        rest = &rest[taken..];
+    }
+    Ok(())
 }

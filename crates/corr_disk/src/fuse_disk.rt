@@ -1,30 +1,29 @@
 //! A disk that stops.
 
-ghost use Rattle.std.specs.Prelude.{◌≡◌, ◌+◌, ◌-◌, ◌^◌, ◌≤◌, ◌↔◌, ◌∷◌, IsTrue, Some, true, length, map, unwrap_or, option_map, IfOk, OnOk, OnErr, IsErr};
+ghost use Rattle.std.specs.Prelude.{◌≡◌, ◌+◌, ◌-◌, ◌^◌, ◌≤◌, ◌∷◌, ℕ, nat_le, IsTrue, Some, true, length, map, unwrap_or, option_map, IfOk, OnOk, OnErr};
+ghost use Rattle.corr_disk.specs.Calls.{fails_at};
 ghost use Rattle.corr_disk.specs.Disk.{Only};
 ghost use Rattle.corr_disk.specs.Past.{bytes_after, Image, LeftSince};
 ghost use Rattle.corr_disk.specs.Laws.{now_counts, no_other, reads_stay};
 ghost use Rattle.corr_disk.specs.Tearing.{arrived, torn_write, left_of};
-ghost use Rattle.corr_text.specs.Faults.{HasCause};
 
-use crate::count::count_fault;
-use crate::mem_disk::copy_out;
-use crate::past::{Past, overwrite};
+use crate::past::overwrite;
+use crate::plan::Plan;
+use crate::planned_disk::{PlannedDisk, copy_out};
 use crate::{Disk, Failed};
+use corr_io::count_fault;
 use corr_text::{Memory, Text};
 use std::alloc::Global;
 
 /// A disk in memory that passes so many calls and then fails every one. It leaves one image of that moment.
 #[derive(Drop)]
 pub struct FuseDisk {
-    past: Past,
+    disk: PlannedDisk,
     /// What a crash leaves, where it isn't what a read gives.
     image: Option<Vec<u8>>,
     alloc: Global,
     torn: u64,
-    calls: u64,
-    faults: u64,
-    ghost left: { unwrap_or (option_map (λ v. v.items) image) (bytes_after past.first past.steps) ≡ left_of torn past.first past.steps },
+    ghost left: { unwrap_or (option_map (λ v. v.items) image) (bytes_after disk.past.first disk.past.steps) ≡ left_of torn disk.past.first disk.past.steps },
 }
 
 impl FuseDisk {
@@ -37,47 +36,43 @@ impl FuseDisk {
         ensures reads { ⟦<FuseDisk as Disk>⟧.reads result ≡ bytes }
         ensures images { Only bytes (⟦<FuseDisk as Disk>⟧.may_leave result) }
         ensures faults { ⟦<FuseDisk as Disk>⟧.faults result ≡ 0 }
-        ensures calls { ⟦<FuseDisk as Disk>⟧.calls_left result ≡ Some calls }
-        ensures sure { IsTrue (⟦<FuseDisk as Disk>⟧.is_sure result) }
-        ensures torn { result.torn ≡ torn }
+        ensures plan { (k : ℕ) → ⟦<FuseDisk as Disk>⟧.plan result k ≡ Some (nat_le calls k) }
     {
         FuseDisk {
-            past: Past::new(alloc, bytes),
+            disk: PlannedDisk::new(alloc, bytes, Plan::After(calls)),
             image: None,
             alloc,
             torn,
-            calls,
-            faults: 0,
         }
     }
 
     /// One image of this moment. Takes no memory.
     pub fn left(self) -> Text
         ensures image { ⟦<FuseDisk as Disk>⟧.may_leave self result }
-        ensures picked { result ≡ left_of self.torn self.past.first self.past.steps }
+        ensures picked { result ≡ left_of self.torn self.disk.past.first self.disk.past.steps }
     {
-        let FuseDisk { past, image, .. } = self;
+        let FuseDisk { disk, image, .. } = self;
         match image {
             Some(image) => Text::from_vec(image),
-            None => past.into_bytes(),
+            None => disk.past.into_bytes(),
         }
     }
 
     /// Writes, and tears the image too.
     fn write(&mut self, at: u64, bytes: &[u8]) -> Result<(), Memory>
-        requires no_gap { at ≤ length (bytes_after self.old.past.first self.old.past.steps) }
+        requires no_gap { at ≤ length (bytes_after self.old.disk.past.first self.old.disk.past.steps) }
         requires room { at + length bytes.now ≤ 2 ^ 30 }
-        ensures first { self.new.past.first ≡ self.old.past.first }
-        ensures ok { OnOk result (self.new.past.steps ≡ Some (at, bytes.now) ∷ self.old.past.steps) }
-        ensures err { OnErr result (self.new.past.steps ≡ self.old.past.steps) }
-        ensures calls { self.new.calls ≡ self.old.calls }
-        ensures faults { self.new.faults ≡ self.old.faults }
+        ensures first { self.new.disk.past.first ≡ self.old.disk.past.first }
+        ensures ok { OnOk result (self.new.disk.past.steps ≡ Some (at, bytes.now) ∷ self.old.disk.past.steps) }
+        ensures err { OnErr result (self.new.disk.past.steps ≡ self.old.disk.past.steps) }
+        ensures plan { self.new.disk.plan ≡ self.old.disk.plan }
+        ensures faults { self.new.disk.faults ≡ self.old.disk.faults }
     {
         let image = match &self.image {
             Some(image) => torn_copy(self.alloc, image.as_slice(), at, bytes, self.torn)?,
-            None => torn_copy(self.alloc, self.past.bytes(), at, bytes, self.torn)?,
+            None => torn_copy(self.alloc, self.disk.past.bytes(), at, bytes, self.torn)?,
         };
-        self.past.write(at, bytes)?;
+        self.disk.past.write(at, bytes)?;
         self.image = Some(image);
         Ok(())
     }
@@ -86,67 +81,52 @@ impl FuseDisk {
 impl Disk for FuseDisk {
     ghost honest = { λ _. true };
 
-    ghost reads = { λ d. bytes_after d.past.first d.past.steps };
+    ghost reads = { λ d. bytes_after d.disk.past.first d.disk.past.steps };
 
-    ghost may_leave = { λ d. Image d.past.first d.past.steps };
+    ghost may_leave = { λ d. Image d.disk.past.first d.disk.past.steps };
 
-    ghost moment = { λ d. length d.past.steps };
+    ghost moment = { λ d. length d.disk.past.steps };
 
-    ghost left_since = { λ d. LeftSince d.past.first d.past.steps };
+    ghost left_since = { λ d. LeftSince d.disk.past.first d.disk.past.steps };
 
-    ghost faults = { λ d. d.faults };
+    ghost faults = { λ d. d.disk.faults };
 
-    ghost calls_left = { λ d. Some d.calls };
+    ghost plan = { λ d k. Some (fails_at d.disk.plan k) };
 
-    ghost is_sure = { λ _. true };
+    ghost counts_now = { λ d t c le now. now_counts d.disk.past.first d.disk.past.steps t c now };
 
-    ghost counts_now = { λ d t c le now. now_counts d.past.first d.past.steps t c now };
+    ghost only_now = { λ d c left. no_other d.disk.past.first d.disk.past.steps c left };
 
-    ghost only_now = { λ d c left. no_other d.past.first d.past.steps c left };
-
-    ghost reads_may_stay = { λ d honest. reads_stay d.past.first d.past.steps };
+    ghost reads_may_stay = { λ d honest. reads_stay d.disk.past.first d.disk.past.steps };
 
     fn faults(&self) -> u64 {
-        self.faults
+        self.disk.faults
     }
 
     fn len(&mut self) -> Result<u64, Failed> {
-        spend(&mut self.calls, &mut self.faults)?;
-        Ok(self.past.bytes().len() as u64)
+        self.disk.begin()?;
+        Ok(self.disk.past.bytes().len() as u64)
     }
 
     fn read_at(&mut self, at: u64, buf: &mut [u8]) -> Result<usize, Failed> {
-        spend(&mut self.calls, &mut self.faults)?;
-        Ok(copy_out(self.past.bytes(), at, buf))
+        self.disk.begin()?;
+        Ok(copy_out(self.disk.past.bytes(), at, buf))
     }
 
     fn write_at(&mut self, at: u64, bytes: &[u8]) -> Result<(), Failed> {
-        spend(&mut self.calls, &mut self.faults)?;
+        self.disk.begin()?;
         match self.write(at, bytes) {
             Ok(()) => Ok(()),
-            Err(Memory) => Err(count_fault(&mut self.faults)),
+            Err(Memory) => Err(count_fault(&mut self.disk.faults)),
         }
     }
 
     fn sync(&mut self) -> Result<(), Failed> {
-        spend(&mut self.calls, &mut self.faults)?;
-        self.past.sync();
+        self.disk.begin()?;
+        self.disk.past.sync();
         self.image = None;
         Ok(())
     }
-}
-
-/// Counts a call, which fails where none is left.
-fn spend(calls: &mut u64, faults: &mut u64) -> Result<(), Failed>
-    ensures blown { IsErr result ↔ (calls.old ≡ 0) }
-    ensures spent { calls.new ≡ calls.old - 1 }
-    ensures cause { HasCause faults.old faults.new result }
-{
-    if *calls == 0 {
-        return Err(count_fault(faults));
-    }
-    *calls -= 1;
-    Ok(())
 }
 
 /// The image after a torn write.

@@ -1,12 +1,14 @@
 //! One file as a journal sees it: what a read gives now, what a crash may leave, and how often it has failed.
 #![tactic(auto)]
 
-mod count;
 mod disk;
 mod file_disk;
 mod fuse_disk;
 mod mem_disk;
+mod once_disk;
 mod past;
+mod plan;
+mod planned_disk;
 #[cfg(test)]
 mod tests;
 
@@ -15,3 +17,4 @@ pub use disk::Disk;
 pub use file_disk::FileDisk;
 pub use fuse_disk::FuseDisk;
 pub use mem_disk::MemDisk;
+pub use once_disk::OnceDisk;

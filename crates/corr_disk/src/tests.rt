@@ -1,4 +1,4 @@
-use crate::{Disk, Failed, FileDisk, FuseDisk, MemDisk};
+use crate::{Disk, Failed, FileDisk, FuseDisk, MemDisk, OnceDisk};
 use corr_text::Text;
 use std::alloc::Global;
 use std::fs;
@@ -100,7 +100,31 @@ fn a_fuse_disk_fails_every_call_once_it_has_stopped(rt: HostRuntime) -> Result<(
     Ok(())
 }
 
+#[test]
+fn a_once_disk_fails_at_one_call_without_effect(rt: HostRuntime) -> Result<(), Fail> {
+    let alloc = rt.alloc();
+    for fail in 0..7u64 {
+        let mut disk = OnceDisk::new(alloc, text(alloc, b"abcd")?, fail);
+        let mut bytes = [0; 4];
+        assert_eq!(rt; disk.len().is_err(), fail == 1);
+        assert_eq!(rt; disk.write_at(0, b"x").is_err(), fail == 2);
+        assert_eq!(rt; disk.sync().is_err(), fail == 3);
+        assert_eq!(rt; disk.write_at(1, b"y").is_err(), fail == 4);
+        assert_eq!(rt; disk.read_at(0, &mut bytes).is_err(), fail == 5);
+        assert_eq!(rt; disk.faults(), u64::from(fail > 0 && fail < 6));
+        assert_eq!(rt; disk.read_at(0, &mut bytes).is_err(), fail == 6);
+        let first = if fail == 2 { b'a' } else { b'x' };
+        let second = if fail == 4 { b'b' } else { b'y' };
+        if fail != 6 {
+            assert_eq!(rt; bytes, [first, second, b'c', b'd']);
+        }
+    }
+    Ok(())
+}
+
 const FILE: &str = "corr_disk_test.jrn";
+
+const FOLDER: &str = "corr_disk_test.folder";
 
 #[test]
 fn a_file_disk_keeps_what_was_written(rt: HostRuntime) -> Result<(), Fail> {
@@ -127,7 +151,15 @@ fn a_file_disk_keeps_what_was_written(rt: HostRuntime) -> Result<(), Fail> {
 #[test]
 fn a_file_disk_fails_where_there_can_be_no_file(rt: HostRuntime) -> Result<(), Fail> {
     let alloc = rt.alloc();
-    let paths: [&[u8]; 3] = [b"\xff", b"", b"no/such/folder/a.jrn"];
+    let _ = fs::remove_dir(&rt, FOLDER);
+    fs::create_dir(&rt, FOLDER)?;
+    let paths: [&[u8]; 5] = [
+        b"\xff",
+        b"",
+        b"no/such/folder/a.jrn",
+        FOLDER.as_bytes(),
+        b"/dev/full",
+    ];
     for path in paths {
         let mut disk = FileDisk::new(&rt, text(alloc, path)?);
         assert!(rt; disk.len().is_err());
@@ -136,5 +168,6 @@ fn a_file_disk_fails_where_there_can_be_no_file(rt: HostRuntime) -> Result<(), F
         assert!(rt; disk.sync().is_err());
         assert_eq!(rt; disk.faults(), 4);
     }
+    fs::remove_dir(&rt, FOLDER)?;
     Ok(())
 }

@@ -1,5 +1,5 @@
 -- How many calls make a journal, by what stands in front.
-use Rattle.std.specs.Prelude.{Option}
+use Rattle.std.specs.Prelude.{Bool, Option}
 use Rattle.std.proofs.Common.{◌≡◌, ℕ, ◌<◌, ◌≤◌, List, [], ◌∷◌, length, get_or, take, refl, sym, ap, subst, arith}
 use Rattle.corr_disk.specs.Calls.{CallsMade, AtMostCalls}
 use Rattle.corr_disk.proofs.laws.Counted.{calls_then}
@@ -18,7 +18,7 @@ closed-calls (a ∷ []) more closed = absurd (omega (arith, more))
 closed-calls (a ∷ b ∷ bytes) more closed =
     subst (λ k. calls_to_make (k ∷ b ∷ bytes) ≡ 6) (sym (ap (λ (l : List ℕ). get_or l 0 0) closed)) refl
 
-module _ (bytes : List ℕ) (front : Front) (shown : IsFront front bytes) (old mid new : Option ℕ) (looked : CallsMade (calls_to_look front) old mid) where
+module _ (bytes : List ℕ) (front : Front) (shown : IsFront front bytes) (old mid new : ℕ → Option Bool) (looked : CallsMade (calls_to_look front) old mid) where
   -- a closed gate, behind which the header is entered
   pub closed-within : front ≡ Closed → AtMostCalls 4 mid new → AtMostCalls (calls_to_make bytes) old new
   closed-within is entered =

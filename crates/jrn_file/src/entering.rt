@@ -21,8 +21,8 @@ pub(crate) fn enter<D: Disk>(disk: &mut D, gate: u64, frame: &[u8]) -> Result<()
     ensures durable { OnOk result (Only (D.reads disk.new) (D.may_leave disk.new)) }
     ensures any_moment { IsTrue (D.honest disk.old) → Only (D.reads disk.old) (D.may_leave disk.old)
         → LeavesOnly D.moment D.left_since disk.old disk.new (IsEntering gate frame.now (D.reads disk.old)) }
-    ensures calls { OnOk result (CallsMade 4 (D.calls_left disk.old) (D.calls_left disk.new)) }
-    ensures no_more_calls { AtMostCalls 4 (D.calls_left disk.old) (D.calls_left disk.new) }
+    ensures calls { OnOk result (CallsMade 4 (D.plan disk.old) (D.plan disk.new)) }
+    ensures no_more_calls { AtMostCalls 4 (D.plan disk.old) (D.plan disk.new) }
 {
     disk.write_at(gate + 1, frame)?;
     disk.sync()?;

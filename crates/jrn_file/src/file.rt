@@ -52,8 +52,8 @@ impl<D: Disk> JFile<D> {
             → LeavesOnly D.moment D.left_since (disk_of self.old) (disk_of self.new) (IsBeforeOrAfter head records (record_in frame.now)) }
 
         // It makes four calls of the disk, and no more where it fails.
-        ensures calls { OnOk result (CallsMade 4 (D.calls_left (disk_of self.old)) (D.calls_left (disk_of self.new))) }
-        ensures no_more_calls { AtMostCalls 4 (D.calls_left (disk_of self.old)) (D.calls_left (disk_of self.new)) }
+        ensures calls { OnOk result (CallsMade 4 (D.plan (disk_of self.old)) (D.plan (disk_of self.new))) }
+        ensures no_more_calls { AtMostCalls 4 (D.plan (disk_of self.old)) (D.plan (disk_of self.new)) }
 
         ensures full { IsErrOf result (AppendFault.Full (end_of self.old) (length frame.now + 1)) ↔ (2 ^ 30 < end_of self.old + (length frame.now + 1)) }
         ensures cause { IfErr result (AppendCause (D.faults (disk_of self.old)) (D.faults (disk_of self.new)) (end_of self.old) (length frame.now + 1) (self.new ≡ self.old)) }

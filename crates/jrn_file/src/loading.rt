@@ -73,8 +73,8 @@ pub(crate) fn load<D: Disk>(
     ensures untouched { IsUntouched D.reads D.may_leave D.moment D.left_since disk.old disk.new }
     ensures honest { D.honest disk.new ≡ D.honest disk.old }
     ensures cause { LoadCause (D.faults disk.old) (D.faults disk.new) result }
-    ensures calls { IfOk result (λ read. CallsMade (calls_to_open piece read.0) (D.calls_left disk.old) (D.calls_left disk.new)) }
-    ensures no_more_calls { IsTrue (D.honest disk.old) → AtMostCalls (calls_to_open piece (length (D.reads disk.old))) (D.calls_left disk.old) (D.calls_left disk.new) }
+    ensures calls { IfOk result (λ read. CallsMade (calls_to_open piece read.0) (D.plan disk.old) (D.plan disk.new)) }
+    ensures no_more_calls { IsTrue (D.honest disk.old) → AtMostCalls (calls_to_open piece (length (D.reads disk.old))) (D.plan disk.old) (D.plan disk.new) }
 {
     disk.sync()?;
     let mut records = Vec::new(alloc);
@@ -110,8 +110,8 @@ fn read_piece<D: Disk>(
     ensures untouched { IsUntouched D.reads D.may_leave D.moment D.left_since disk.old disk.new }
     ensures honest { D.honest disk.new ≡ D.honest disk.old }
     ensures cause { LoadCause (D.faults disk.old) (D.faults disk.new) result }
-    ensures calls { OnOk result (CallsMade 1 (D.calls_left disk.old) (D.calls_left disk.new)) }
-    ensures no_more_calls { AtMostCalls 1 (D.calls_left disk.old) (D.calls_left disk.new) }
+    ensures calls { OnOk result (CallsMade 1 (D.plan disk.old) (D.plan disk.new)) }
+    ensures no_more_calls { AtMostCalls 1 (D.plan disk.old) (D.plan disk.new) }
 {
     let old = held.len();
     held.resize(old + piece, 0)?;

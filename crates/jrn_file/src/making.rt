@@ -56,8 +56,8 @@ pub fn create<D: Disk>(alloc: Global, disk: D, head: &[u8]) -> Result<D, (D, Mak
         (λ e. LeavesOnly D.moment D.left_since disk e.0 (IsUnmadeOrMade head.now)) }
 
     // It makes the calls of the disk that it needs, and no more where it fails.
-    ensures calls { IsTrue (D.honest disk) → IfOk result (λ made. CallsMade (calls_to_make (D.reads disk)) (D.calls_left disk) (D.calls_left made)) }
-    ensures no_more_calls { IsTrue (D.honest disk) → IfErr result (λ e. AtMostCalls (calls_to_make (D.reads disk)) (D.calls_left disk) (D.calls_left e.0)) }
+    ensures calls { IsTrue (D.honest disk) → IfOk result (λ made. CallsMade (calls_to_make (D.reads disk)) (D.plan disk) (D.plan made)) }
+    ensures no_more_calls { IsTrue (D.honest disk) → IfErr result (λ e. AtMostCalls (calls_to_make (D.reads disk)) (D.plan disk) (D.plan e.0)) }
 
     ensures honest { MatchResult result (λ made. D.honest made ≡ D.honest disk) (λ e. D.honest e.0 ≡ D.honest disk) }
     ensures later { MatchResult result (λ made. D.faults disk ≤ D.faults made) (λ e. D.faults disk ≤ D.faults e.0) }
@@ -92,8 +92,8 @@ fn make<D: Disk>(disk: &mut D, frame: &[u8]) -> Result<Option<u8>, Failed>
     ensures untouched { (first : ℕ) → IsTrue (D.honest disk.old) → IsOther (D.reads disk.old) first → IsUntouched D.reads D.may_leave D.moment D.left_since disk.old disk.new }
     ensures any_moment { IsTrue (D.honest disk.old) → Only (D.reads disk.old) (D.may_leave disk.old) → IsUnmade (D.reads disk.old)
         → LeavesOnly D.moment D.left_since disk.old disk.new (IsUnmadeOrMade (record_in frame.now)) }
-    ensures calls { IsTrue (D.honest disk.old) → OnOk result (CallsMade (calls_to_make (D.reads disk.old)) (D.calls_left disk.old) (D.calls_left disk.new)) }
-    ensures no_more_calls { IsTrue (D.honest disk.old) → AtMostCalls (calls_to_make (D.reads disk.old)) (D.calls_left disk.old) (D.calls_left disk.new) }
+    ensures calls { IsTrue (D.honest disk.old) → OnOk result (CallsMade (calls_to_make (D.reads disk.old)) (D.plan disk.old) (D.plan disk.new)) }
+    ensures no_more_calls { IsTrue (D.honest disk.old) → AtMostCalls (calls_to_make (D.reads disk.old)) (D.plan disk.old) (D.plan disk.new) }
 {
     match look_in_front(disk)? {
         Front::Open(first) => Ok(Some(first)),
@@ -115,8 +115,8 @@ fn look_in_front<D: Disk>(disk: &mut D) -> Result<Front, Failed>
     ensures honest { D.honest disk.new ≡ D.honest disk.old }
     ensures cause { HasCause (D.faults disk.old) (D.faults disk.new) result }
     ensures untouched { IsUntouched D.reads D.may_leave D.moment D.left_since disk.old disk.new }
-    ensures calls { IfOk result (λ front. CallsMade (calls_to_look front) (D.calls_left disk.old) (D.calls_left disk.new)) }
-    ensures no_more_calls { AtMostCalls 2 (D.calls_left disk.old) (D.calls_left disk.new) }
+    ensures calls { IfOk result (λ front. CallsMade (calls_to_look front) (D.plan disk.old) (D.plan disk.new)) }
+    ensures no_more_calls { AtMostCalls 2 (D.plan disk.old) (D.plan disk.new) }
 {
     if disk.len()? <= 1 {
         return Ok(Front::Short);
@@ -138,8 +138,8 @@ fn blank<D: Disk>(disk: &mut D) -> Result<(), Failed>
     ensures durable { OnOk result (Only (D.reads disk.new) (D.may_leave disk.new)) }
     ensures any_moment { IsTrue (D.honest disk.old) → Only (D.reads disk.old) (D.may_leave disk.old)
         → LeavesOnly D.moment D.left_since disk.old disk.new IsUnmade }
-    ensures calls { OnOk result (CallsMade 2 (D.calls_left disk.old) (D.calls_left disk.new)) }
-    ensures no_more_calls { AtMostCalls 2 (D.calls_left disk.old) (D.calls_left disk.new) }
+    ensures calls { OnOk result (CallsMade 2 (D.plan disk.old) (D.plan disk.new)) }
+    ensures no_more_calls { AtMostCalls 2 (D.plan disk.old) (D.plan disk.new) }
 {
     disk.write_at(0, &[0])?;
     disk.sync()
@@ -157,8 +157,8 @@ fn enter_head<D: Disk>(disk: &mut D, frame: &[u8]) -> Result<(), Failed>
     ensures durable { OnOk result (Only (D.reads disk.new) (D.may_leave disk.new)) }
     ensures any_moment { IsTrue (D.honest disk.old) → Only (D.reads disk.old) (D.may_leave disk.old)
         → LeavesOnly D.moment D.left_since disk.old disk.new (IsUnmadeOrMade (record_in frame.now)) }
-    ensures calls { OnOk result (CallsMade 4 (D.calls_left disk.old) (D.calls_left disk.new)) }
-    ensures no_more_calls { AtMostCalls 4 (D.calls_left disk.old) (D.calls_left disk.new) }
+    ensures calls { OnOk result (CallsMade 4 (D.plan disk.old) (D.plan disk.new)) }
+    ensures no_more_calls { AtMostCalls 4 (D.plan disk.old) (D.plan disk.new) }
 {
     enter(disk, 0, frame)
 }

@@ -45,8 +45,8 @@ pub fn open_file<D: Disk>(alloc: Global, disk: D) -> Result<(JFile<D>, Vec<Text>
 
     // It makes as many calls as a sync and a read of each 2^20 bytes up to the closed gate are; where it refuses
     // or fails, no more than those up to the end.
-    ensures calls { IfOk result (λ r. CallsMade (calls_to_open (2 ^ 20) (end_of r.0)) (D.calls_left disk) (D.calls_left (disk_of r.0))) }
-    ensures no_more_calls { IsTrue (D.honest disk) → IfErr result (λ e. AtMostCalls (calls_to_open (2 ^ 20) (length (D.reads disk))) (D.calls_left disk) (D.calls_left e.0)) }
+    ensures calls { IfOk result (λ r. CallsMade (calls_to_open (2 ^ 20) (end_of r.0)) (D.plan disk) (D.plan (disk_of r.0))) }
+    ensures no_more_calls { IsTrue (D.honest disk) → IfErr result (λ e. AtMostCalls (calls_to_open (2 ^ 20) (length (D.reads disk))) (D.plan disk) (D.plan e.0)) }
 
     ensures honest { MatchResult result (λ r. D.honest (disk_of r.0) ≡ D.honest disk) (λ e. D.honest e.0 ≡ D.honest disk) }
     ensures later { MatchResult result (λ r. D.faults disk ≤ D.faults (disk_of r.0)) (λ e. D.faults disk ≤ D.faults e.0) }

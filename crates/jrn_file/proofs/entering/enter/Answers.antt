@@ -2,7 +2,7 @@ use Rattle.corr_disk.proofs.laws.Moments.{started, goes_on}
 use Rattle.jrn_file.specs.Making.{IsEntering}
 use Rattle.jrn_file.proofs.EntryImages.{entering-only, entering-frame, entering-gate}
 use Rattle.std.proofs.Common.{arith}
-use Rattle.corr_disk.proofs.laws.Counted.{one_call, call_more, calls_within}
+use Rattle.corr_disk.proofs.laws.Counted.{call_more, calls_within}
 use Rattle.jrn_file.proofs.entering.enter.Goals as goal
 
 pub returns-in_err-sync-clause-any_moment : goal.returns-in_err-sync-clause-any_moment
@@ -47,24 +47,24 @@ returns-clause-any_moment g c honest only =
 
 pub returns-in_err-sync-clause-no_more_calls : goal.returns-in_err-sync-clause-no_more_calls
 returns-in_err-sync-clause-no_more_calls g c =
-    let left = g.D.Disk.calls_left in
-    let framed = one_call (left c.args.disk.now) (left c.write_at.new.self) c.write_at.result c.write_at.ensures.stops in
-    let synced = call_more 1 (left c.args.disk.now) (left c.write_at.new.self) (left c.sync.new.self) c.sync.result framed c.sync.ensures.stops in
-    calls_within 2 4 (left c.args.disk.now) (left c.sync.new.self) synced (omega arith)
+    let plan = g.D.Disk.plan in
+    let framed = c.write_at.ensures.next in
+    let synced = call_more 1 (plan c.args.disk.now) (plan c.write_at.new.self) (plan c.sync.new.self) framed c.sync.ensures.next in
+    calls_within 2 4 (plan c.args.disk.now) (plan c.sync.new.self) synced (omega arith)
 
 pub returns-in_err-write_at-2-clause-no_more_calls : goal.returns-in_err-write_at-2-clause-no_more_calls
 returns-in_err-write_at-2-clause-no_more_calls g c =
-    let left = g.D.Disk.calls_left in
-    let framed = one_call (left c.args.disk.now) (left c.write_at.new.self) c.write_at.result c.write_at.ensures.stops in
-    let synced = call_more 1 (left c.args.disk.now) (left c.write_at.new.self) (left c.sync.new.self) c.sync.result framed c.sync.ensures.stops in
-    let opened = call_more 2 (left c.args.disk.now) (left c.sync.new.self) (left c.write_at-2.new.self) c.write_at-2.result synced c.write_at-2.ensures.stops in
-    calls_within 3 4 (left c.args.disk.now) (left c.write_at-2.new.self) opened (omega arith)
+    let plan = g.D.Disk.plan in
+    let framed = c.write_at.ensures.next in
+    let synced = call_more 1 (plan c.args.disk.now) (plan c.write_at.new.self) (plan c.sync.new.self) framed c.sync.ensures.next in
+    let opened = call_more 2 (plan c.args.disk.now) (plan c.sync.new.self) (plan c.write_at-2.new.self) synced c.write_at-2.ensures.next in
+    calls_within 3 4 (plan c.args.disk.now) (plan c.write_at-2.new.self) opened (omega arith)
 
 pub returns-clause-no_more_calls : goal.returns-clause-no_more_calls
 returns-clause-no_more_calls g c =
-    let left = g.D.Disk.calls_left in
-    let framed = one_call (left c.args.disk.now) (left c.write_at.new.self) c.write_at.result c.write_at.ensures.stops in
-    let synced = call_more 1 (left c.args.disk.now) (left c.write_at.new.self) (left c.sync.new.self) c.sync.result framed c.sync.ensures.stops in
-    let opened = call_more 2 (left c.args.disk.now) (left c.sync.new.self) (left c.write_at-2.new.self) c.write_at-2.result synced c.write_at-2.ensures.stops in
-    let settled = call_more 3 (left c.args.disk.now) (left c.write_at-2.new.self) (left c.sync-2.new.self) c.sync-2.result opened c.sync-2.ensures.stops in
-    calls_within 4 4 (left c.args.disk.now) (left c.sync-2.new.self) settled (omega arith)
+    let plan = g.D.Disk.plan in
+    let framed = c.write_at.ensures.next in
+    let synced = call_more 1 (plan c.args.disk.now) (plan c.write_at.new.self) (plan c.sync.new.self) framed c.sync.ensures.next in
+    let opened = call_more 2 (plan c.args.disk.now) (plan c.sync.new.self) (plan c.write_at-2.new.self) synced c.write_at-2.ensures.next in
+    let settled = call_more 3 (plan c.args.disk.now) (plan c.write_at-2.new.self) (plan c.sync-2.new.self) opened c.sync-2.ensures.next in
+    calls_within 4 4 (plan c.args.disk.now) (plan c.sync-2.new.self) settled (omega arith)

@@ -1,6 +1,6 @@
 use Rattle.std.proofs.Common.{◌≡◌, ℕ, ◌+◌, ◌-◌, ◌*◌, ◌<◌, length, subst, sym, ◌∙◌, arith}
 use Rattle.corr_disk.specs.Calls.{CallsMade}
-use Rattle.corr_disk.proofs.laws.Counted.{one_call, calls_in_turn, calls_then, calls_within}
+use Rattle.corr_disk.proofs.laws.Counted.{calls_in_turn, calls_then, calls_within}
 use Rattle.jrn_file.specs.Opening.{IsNoJournal, IsShut, IsReadAs}
 use Rattle.jrn_file.specs.Pieces.{OfBytes, calls_to_open}
 use Rattle.jrn_file.proofs.Calls.{untouched-start, untouched-call, untouched-then, untouched-only}
@@ -10,9 +10,9 @@ use Rattle.jrn_file.proofs.loading.load.Goals as goal
 
 pub returns-in_err-sync-clause-no_more_calls : goal.returns-in_err-sync-clause-no_more_calls
 returns-in_err-sync-clause-no_more_calls g c told =
-    let left = g.D.Disk.calls_left in
-    calls_within 1 (calls_to_open c.args.piece (length (g.D.Disk.reads c.args.disk.now))) (left c.args.disk.now) (left c.sync.new.self)
-    (one_call (left c.args.disk.now) (left c.sync.new.self) c.sync.result c.sync.ensures.stops) (omega arith)
+    let plan = g.D.Disk.plan in
+    calls_within 1 (calls_to_open c.args.piece (length (g.D.Disk.reads c.args.disk.now))) (plan c.args.disk.now) (plan c.sync.new.self)
+    (c.sync.ensures.next) (omega arith)
 
 pub loop-index-init : goal.loop-index-init
 loop-index-init g c =
@@ -28,7 +28,7 @@ loop-index-init g c =
       durable = λ b left. c.in_ok-sync.ensures.durable b left ∙ sym c.sync.ensures.reads;
       honest = c.sync.ensures.honest;
       later = c.sync.ensures.cause.later;
-      calls = one_call (D.calls_left old) (D.calls_left new) c.sync.result c.sync.ensures.stops;
+      calls = c.sync.ensures.next;
     }
 
 pub overflow_mul-at : goal.overflow_mul-at
@@ -47,7 +47,7 @@ returns-in_err-count-clause-no_more_calls g c told =
     let new = c.read_piece.new.disk in
     let index = c.loop-index.index in
     let within = read-within (D.honest old) (D.reads old) (index * c.args.piece) c.loop-index.records.items c.loop-index.held.items c.loop-index.invariant.read told in
-    calls_then (1 + index) 1 (calls_to_open c.args.piece (length (D.reads old))) (D.calls_left old) (D.calls_left mid) (D.calls_left new) c.loop-index.invariant.calls c.read_piece.ensures.no_more_calls
+    calls_then (1 + index) 1 (calls_to_open c.args.piece (length (D.reads old))) (D.plan old) (D.plan mid) (D.plan new) c.loop-index.invariant.calls c.read_piece.ensures.no_more_calls
     (omega (arith, calls-within index c.args.piece (length (D.reads old)) c.requires.some within))
 
 pub returns-in_err-take_records-clause-untouched : goal.returns-in_err-take_records-clause-untouched
@@ -63,8 +63,8 @@ returns-in_err-take_records-clause-no_more_calls g c told =
     let new = c.read_piece.new.disk in
     let index = c.loop-index.index in
     let within = read-within (D.honest old) (D.reads old) (index * c.args.piece) c.loop-index.records.items c.loop-index.held.items c.loop-index.invariant.read told in
-    calls_within (1 + index + 1) (calls_to_open c.args.piece (length (D.reads old))) (D.calls_left old) (D.calls_left new)
-    (calls_in_turn (1 + index) 1 (D.calls_left old) (D.calls_left mid) (D.calls_left new) c.loop-index.invariant.calls c.in_ok-count.ensures.calls)
+    calls_within (1 + index + 1) (calls_to_open c.args.piece (length (D.reads old))) (D.plan old) (D.plan new)
+    (calls_in_turn (1 + index) 1 (D.plan old) (D.plan mid) (D.plan new) c.loop-index.invariant.calls c.in_ok-count.ensures.calls)
     (omega (arith, calls-within index c.args.piece (length (D.reads old)) c.requires.some within))
 
 pub overflow_add-gate : goal.overflow_add-gate
@@ -114,8 +114,8 @@ returns-then-is_none-clause-no_more_calls g c told =
     let new = c.read_piece.new.disk in
     let index = c.loop-index.index in
     let within = read-within (D.honest old) (D.reads old) (index * c.args.piece) c.loop-index.records.items c.loop-index.held.items c.loop-index.invariant.read told in
-    calls_within (1 + index + 1) (calls_to_open c.args.piece (length (D.reads old))) (D.calls_left old) (D.calls_left new)
-    (calls_in_turn (1 + index) 1 (D.calls_left old) (D.calls_left mid) (D.calls_left new) c.loop-index.invariant.calls c.in_ok-count.ensures.calls)
+    calls_within (1 + index + 1) (calls_to_open c.args.piece (length (D.reads old))) (D.plan old) (D.plan new)
+    (calls_in_turn (1 + index) 1 (D.plan old) (D.plan mid) (D.plan new) c.loop-index.invariant.calls c.in_ok-count.ensures.calls)
     (omega (arith, calls-within index c.args.piece (length (D.reads old)) c.requires.some within))
 
 pub returns-then-is_closed-clause-records : goal.returns-then-is_closed-clause-records
@@ -152,10 +152,10 @@ returns-then-is_closed-clause-calls g c =
     let taken = c.in_ok-take_records.ensures.taken in
     let place = gate-in-piece (D.honest old) (D.reads old) index c.args.piece n taken.0 c.loop-index.held.items c.read_piece.new.held.items held
     c.loop-index.invariant.stopped c.loop-index.invariant.open_gate piece taken.2 shut in
-    let P : ℕ → Type 0 = λ k. CallsMade (calls_to_open c.args.piece (at + n - k)) (D.calls_left old) (D.calls_left c.read_piece.new.disk) in
+    let P : ℕ → Type 0 = λ k. CallsMade (calls_to_open c.args.piece (at + n - k)) (D.plan old) (D.plan c.read_piece.new.disk) in
     subst P (sym (c.len.ensures ∙ c.take_records.new.held.ok.0))
-    (subst (λ k. CallsMade k (D.calls_left old) (D.calls_left c.read_piece.new.disk)) (omega (arith, place))
-    (calls_in_turn (1 + index) 1 (D.calls_left old) (D.calls_left c.loop-index.disk) (D.calls_left c.read_piece.new.disk) c.loop-index.invariant.calls c.in_ok-count.ensures.calls))
+    (subst (λ k. CallsMade k (D.plan old) (D.plan c.read_piece.new.disk)) (omega (arith, place))
+    (calls_in_turn (1 + index) 1 (D.plan old) (D.plan c.loop-index.disk) (D.plan c.read_piece.new.disk) c.loop-index.invariant.calls c.in_ok-count.ensures.calls))
 
 pub returns-then-is_closed-clause-untouched : goal.returns-then-is_closed-clause-untouched
 returns-then-is_closed-clause-untouched g c =
@@ -170,8 +170,8 @@ returns-then-is_closed-clause-no_more_calls g c told =
     let new = c.read_piece.new.disk in
     let index = c.loop-index.index in
     let within = read-within (D.honest old) (D.reads old) (index * c.args.piece) c.loop-index.records.items c.loop-index.held.items c.loop-index.invariant.read told in
-    calls_within (1 + index + 1) (calls_to_open c.args.piece (length (D.reads old))) (D.calls_left old) (D.calls_left new)
-    (calls_in_turn (1 + index) 1 (D.calls_left old) (D.calls_left mid) (D.calls_left new) c.loop-index.invariant.calls c.in_ok-count.ensures.calls)
+    calls_within (1 + index + 1) (calls_to_open c.args.piece (length (D.reads old))) (D.plan old) (D.plan new)
+    (calls_in_turn (1 + index) 1 (D.plan old) (D.plan mid) (D.plan new) c.loop-index.invariant.calls c.in_ok-count.ensures.calls)
     (omega (arith, calls-within index c.args.piece (length (D.reads old)) c.requires.some within))
 
 pub returns-then-count-piece-clause-fault : goal.returns-then-count-piece-clause-fault
@@ -208,8 +208,8 @@ returns-then-count-piece-clause-no_more_calls g c told =
     let new = c.read_piece.new.disk in
     let index = c.loop-index.index in
     let within = read-within (D.honest old) (D.reads old) (index * c.args.piece) c.loop-index.records.items c.loop-index.held.items c.loop-index.invariant.read told in
-    calls_within (1 + index + 1) (calls_to_open c.args.piece (length (D.reads old))) (D.calls_left old) (D.calls_left new)
-    (calls_in_turn (1 + index) 1 (D.calls_left old) (D.calls_left mid) (D.calls_left new) c.loop-index.invariant.calls c.in_ok-count.ensures.calls)
+    calls_within (1 + index + 1) (calls_to_open c.args.piece (length (D.reads old))) (D.plan old) (D.plan new)
+    (calls_in_turn (1 + index) 1 (D.plan old) (D.plan mid) (D.plan new) c.loop-index.invariant.calls c.in_ok-count.ensures.calls)
     (omega (arith, calls-within index c.args.piece (length (D.reads old)) c.requires.some within))
 
 pub loop-index-preserved : goal.loop-index-preserved
@@ -237,8 +237,8 @@ loop-index-preserved g c =
       durable = untouched-only D.reads D.may_leave D.moment D.left_since g.met.D.Disk.only_now mid new c.read_piece.ensures.untouched c.loop-index.invariant.durable;
       honest = c.read_piece.ensures.honest ∙ c.loop-index.invariant.honest;
       later = omega (arith, c.loop-index.invariant.later, c.read_piece.ensures.cause.later);
-      calls = subst (λ k. CallsMade k (D.calls_left old) (D.calls_left new)) (omega arith)
-          (calls_in_turn (1 + index) 1 (D.calls_left old) (D.calls_left mid) (D.calls_left new) c.loop-index.invariant.calls c.in_ok-count.ensures.calls);
+      calls = subst (λ k. CallsMade k (D.plan old) (D.plan new)) (omega arith)
+          (calls_in_turn (1 + index) 1 (D.plan old) (D.plan mid) (D.plan new) c.loop-index.invariant.calls c.in_ok-count.ensures.calls);
     }
 
 pub returns-clause-no_more_calls : goal.returns-clause-no_more_calls
@@ -247,5 +247,5 @@ returns-clause-no_more_calls g c told =
     let old = c.args.disk.now in
     let index = c.loop-index.index in
     let within = read-within (D.honest old) (D.reads old) (index * c.args.piece) c.loop-index.records.items c.loop-index.held.items c.loop-index.invariant.read told in
-    calls_within (1 + index) (calls_to_open c.args.piece (length (D.reads old))) (D.calls_left old) (D.calls_left c.loop-index.disk) c.loop-index.invariant.calls
+    calls_within (1 + index) (calls_to_open c.args.piece (length (D.reads old))) (D.plan old) (D.plan c.loop-index.disk) c.loop-index.invariant.calls
     (omega (arith, calls-within index c.args.piece (length (D.reads old)) c.requires.some within))

@@ -15,5 +15,5 @@ invariant-loop-index g l = record {
   durable : Only (g.D.Disk.reads l.disk) (g.D.Disk.may_leave l.disk);
   honest : g.D.Disk.honest l.disk ≡ g.D.Disk.honest l.fn.disk;
   later : g.D.Disk.faults l.fn.disk ≤ g.D.Disk.faults l.disk;
-  calls : CallsMade (1 + l.index) (g.D.Disk.calls_left l.fn.disk) (g.D.Disk.calls_left l.disk);
+  calls : CallsMade (1 + l.index) (g.D.Disk.plan l.fn.disk) (g.D.Disk.plan l.disk);
 }

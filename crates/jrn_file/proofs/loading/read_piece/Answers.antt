@@ -1,18 +1,18 @@
 use Rattle.std.proofs.Common.{◌≡◌, ◌+◌, ◌≤◌, length, ◌-◌, take, drop, arith, ◌∙◌, length-drop}
 use Rattle.std.proofs.lemmas.List.{length-take}
-use Rattle.corr_disk.proofs.laws.Counted.{one_call, calls_within}
+use Rattle.corr_disk.proofs.laws.Counted.{calls_within}
 use Rattle.jrn_file.proofs.Behind.{read-behind, read-gives}
 use Rattle.jrn_file.proofs.loading.read_piece.Goals as goal
 
 pub returns-in_err-count-clause-no_more_calls : goal.returns-in_err-count-clause-no_more_calls
 returns-in_err-count-clause-no_more_calls g c =
-    let left = g.D.Disk.calls_left in
-    calls_within 1 1 (left c.args.disk.now) (left c.read_at.new.self) (one_call (left c.args.disk.now) (left c.read_at.new.self) c.read_at.result c.read_at.ensures.stops) (omega arith)
+    let plan = g.D.Disk.plan in
+    calls_within 1 1 (plan c.args.disk.now) (plan c.read_at.new.self) (c.read_at.ensures.next) (omega arith)
 
 pub returns-clause-no_more_calls : goal.returns-clause-no_more_calls
 returns-clause-no_more_calls g c =
-    let left = g.D.Disk.calls_left in
-    calls_within 1 1 (left c.args.disk.now) (left c.read_at.new.self) (one_call (left c.args.disk.now) (left c.read_at.new.self) c.read_at.result c.read_at.ensures.stops) (omega arith)
+    let plan = g.D.Disk.plan in
+    calls_within 1 1 (plan c.args.disk.now) (plan c.read_at.new.self) (c.read_at.ensures.next) (omega arith)
 
 pub returns-clause-piece : goal.returns-clause-piece
 returns-clause-piece g c =

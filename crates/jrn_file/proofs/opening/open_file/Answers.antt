@@ -28,9 +28,9 @@ returns-in-Ok-clause-damaged g c at told =
 
 pub returns-in-Ok-clause-calls : goal.returns-in-Ok-clause-calls
 returns-in-Ok-clause-calls g c =
-    let left = g.D.Disk.calls_left in
-    subst (λ d. CallsMade (calls_to_open 1048576 c.at.result.end) (left c.args.disk) (left d)) (sym c.at.ensures.disk)
-    (subst (λ n. CallsMade (calls_to_open 1048576 n) (left c.args.disk) (left c.load.new.disk)) (sym c.at.ensures.end) c.in-Ok.ensures.calls)
+    let plan = g.D.Disk.plan in
+    subst (λ d. CallsMade (calls_to_open 1048576 c.at.result.end) (plan c.args.disk) (plan d)) (sym c.at.ensures.disk)
+    (subst (λ n. CallsMade (calls_to_open 1048576 n) (plan c.args.disk) (plan c.load.new.disk)) (sym c.at.ensures.end) c.in-Ok.ensures.calls)
 
 pub returns-in-Err-Refused-clause-cause : goal.returns-in-Err-Refused-clause-cause
 returns-in-Err-Refused-clause-cause g c =
