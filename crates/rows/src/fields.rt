@@ -1,5 +1,7 @@
 //! Fields, as words and as parts of an answer.
 
+ghost use Rattle.std.specs.Prelude.{◌≤◌};
+
 use crate::answer::Answer;
 use crate::stop::Stop;
 use crate::words::Words;
@@ -18,7 +20,10 @@ pub fn read_tag(word: &[u8]) -> Result<(u8, Option<u8>), Stop> {
 }
 
 /// The number of two digits.
-fn two_digits(tens: u8, ones: u8) -> u8 {
+fn two_digits(tens: u8, ones: u8) -> u8
+    requires tens { (48 ≤ tens) × (tens ≤ 57) }
+    requires ones { (48 ≤ ones) × (ones ≤ 57) }
+{
     10 * (tens - b'0') + (ones - b'0')
 }
 

@@ -1,5 +1,8 @@
 //! Calls of fin_contents: what fields say.
 
+ghost use Rattle.std.specs.Prelude.{IfOk};
+ghost use Rattle.fin_contents.specs.Writing.{IsAmount};
+
 use crate::answer::Answer;
 use crate::fields::{put_field, put_lines, read_field, read_tag};
 use crate::party::put_parts;
@@ -168,7 +171,9 @@ fn write_texts(words: &mut Words, answer: &mut Answer) -> Result<(), Stop> {
 }
 
 /// A currency, minor units and decimals.
-fn amount_of(words: &mut Words) -> Result<Amount, Stop> {
+fn amount_of(words: &mut Words) -> Result<Amount, Stop>
+    ensures { IfOk result IsAmount }
+{
     let ccy = Ccy(words.array()?);
     let minor = words.number()?;
     let decimals = words.byte()?;

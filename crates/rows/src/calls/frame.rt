@@ -1,7 +1,5 @@
 //! Calls of fin_frame: a file cut into messages.
 
-ghost use Rattle.std.specs.Prelude.{◌≡◌, ◌≤◌, ◌<◌, ◌^◌, length, sum, map};
-
 use crate::answer::Answer;
 use crate::stop::Stop;
 use crate::words::Words;

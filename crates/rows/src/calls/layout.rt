@@ -1,5 +1,7 @@
 //! Calls of fin_layout: fields at the places of an order.
 
+ghost use Rattle.std.specs.Prelude.{◌≤◌, IfOk, length};
+
 use crate::answer::Answer;
 use crate::calls::lines::fields_in;
 use crate::fields::put_lines;
@@ -78,7 +80,9 @@ fn order(alloc: Global, words: &mut Words) -> Result<Vec<Place>, Stop> {
 }
 
 /// The fields of the next word.
-fn fields(alloc: Global, words: &mut Words) -> Result<List<Field>, Stop> {
+fn fields(alloc: Global, words: &mut Words) -> Result<List<Field>, Stop>
+    ensures { IfOk result (λ fields. length fields ≤ 60000) }
+{
     match fields_in(alloc, words.next()?) {
         Ok(fields) => Ok(fields),
         Err(FieldFault::Memory) => Err(Stop::Memory),

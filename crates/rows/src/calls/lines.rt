@@ -1,10 +1,14 @@
 //! Calls of fin_fields: the lines of block 4.
 
+ghost use Rattle.std.specs.Prelude.{◌≤◌, ◌≢◌, [], All, IfOk, length};
+ghost use Rattle.fin_fields.specs.Writing.{IsField};
+
 use crate::answer::Answer;
+use crate::calls::texts::set;
 use crate::fields::{put_field, read_field};
 use crate::stop::Stop;
 use crate::words::Words;
-use corr_text::{List, Set};
+use corr_text::List;
 use fin_fields::{
     Field, FieldFault, Pattern, cut_fields, is_run_of, letter_of, lines_match, matches, nth_of,
     put_fields, tag_of,
@@ -29,12 +33,20 @@ pub fn call(name: &[u8], words: &mut Words, answer: &mut Answer) -> Result<bool,
     Ok(true)
 }
 
-/// The fields of a short text.
-pub fn fields_in(alloc: Global, text: &[u8]) -> Result<List<Field>, FieldFault> {
+/// The fields of a short text. `Memory`: it is too long.
+#[tactic(auto, using(fin_fields::proofs::laws::Bounds::lines_few))]
+pub fn fields_in(alloc: Global, text: &[u8]) -> Result<List<Field>, FieldFault>
+    ensures fit { IfOk result (λ fields. (fields ≢ []) × All IsField fields) }
+    ensures few { IfOk result (λ fields. length fields ≤ 60000) }
+{
     if text.len() > MOST {
         return Err(FieldFault::Memory);
     }
-    cut_fields(alloc, text)
+    let fields = cut_fields(alloc, text)?;
+    if fields.as_slice().len() > MOST {
+        return Err(FieldFault::Memory);
+    }
+    Ok(fields)
 }
 
 /// Adds the fault of a text.
@@ -74,17 +86,6 @@ fn put(words: &mut Words, answer: &mut Answer) -> Result<(), Stop> {
             Ok(answer.text(text.bytes())?)
         }
         Err(fault) => put_fault(fault, answer),
-    }
-}
-
-/// A set by its letter.
-fn set(words: &mut Words) -> Result<Set, Stop> {
-    match words.next()? {
-        b"X" => Ok(Set::X),
-        b"N" => Ok(Set::N),
-        b"A" => Ok(Set::A),
-        b"C" => Ok(Set::C),
-        _ => Err(Stop::Unreadable),
     }
 }
 

@@ -4,7 +4,8 @@ use crate::answer::Answer;
 use crate::stop::Stop;
 use crate::words::Words;
 use corr_text::{
-    FirstLine, Set, Text, digits, first_line, is_set, is_x, next_brace, plain_line, put_digits,
+    FirstLine, Set, Text, all_digits, digits, first_line, is_all_of, is_set, is_x, next_brace,
+    plain_line, put_digits,
 };
 
 /// Makes a call, and answers whether one of these has that name.
@@ -13,6 +14,8 @@ pub fn call(name: &[u8], words: &mut Words, answer: &mut Answer) -> Result<bool,
         b"digits" => number(words, answer)?,
         b"put_digits" => put_number(words, answer)?,
         b"is_x" => answer.flag(is_x(words.byte()?))?,
+        b"all_digits" => answer.flag(all_digits(words.next()?))?,
+        b"is_all_of" => all_of(words, answer)?,
         b"members" => members(words, answer)?,
         b"first_line" => line(words, answer)?,
         b"plain_line" => line_of_x(words, answer)?,
@@ -39,7 +42,7 @@ fn put_number(words: &mut Words, answer: &mut Answer) -> Result<(), Stop> {
 }
 
 /// A set by its letter.
-fn set(words: &mut Words) -> Result<Set, Stop> {
+pub fn set(words: &mut Words) -> Result<Set, Stop> {
     match words.next()? {
         b"X" => Ok(Set::X),
         b"N" => Ok(Set::N),
@@ -59,6 +62,12 @@ fn members(words: &mut Words, answer: &mut Answer) -> Result<(), Stop> {
         }
     }
     Ok(answer.text(members.bytes())?)
+}
+
+/// `is_all_of SET TEXT`
+fn all_of(words: &mut Words, answer: &mut Answer) -> Result<(), Stop> {
+    let set = set(words)?;
+    Ok(answer.flag(is_all_of(set, words.next()?))?)
 }
 
 fn cut(first: FirstLine, answer: &mut Answer) -> Result<(), Stop> {
