@@ -6,7 +6,7 @@ use Rattle.day_model.specs.declared.pay.Leg.{Leg}
 use Rattle.day_model.specs.Totals.{Pair, plus, Fits64, leg_pair, legs_pair}
 use Rattle.day_model.proofs.laws.Pairs.{plus_nothing}
 use Rattle.acct_locks.specs.Holdings.{Holding, Holds, HoldsOnce, held_totals, held_with, CanSettle}
-use Rattle.acct_locks.proofs.Pairs.{plus_leg, plus_own, plus_other, fits_less}
+use Rattle.day_model.proofs.laws.PairLists.{plus_leg, plus_own, plus_other, fits_less}
 
 -- legs leave the accounts that are held
 holds_before : (legs : List Leg) (held : List Holding) (n : ℕ) → Holds (held_with legs held) n → Holds held n

@@ -8,9 +8,10 @@ use Rattle.atomic_table.proofs.Lists.{at_set, set_here, set_else, set_again, at_
 use Rattle.acct_locks.specs.declared.seats.View.{View}
 use Rattle.acct_locks.specs.declared.seats.View.TheVariants.{Book, Purse, Spent}
 use Rattle.day_model.specs.Totals.{Pair, pair_at}
-use Rattle.acct_locks.specs.Pairs.{with_pair}
+use Rattle.day_model.specs.Pairs.{with_pair}
 use Rattle.acct_locks.specs.Seats.{IsIn, without, IsBook, IsPurse, pairs_in, away_in, handed_out, took_back, KeepsRight, KeptBy, IsKept, Looked}
-use Rattle.acct_locks.proofs.Places.{there_is, get_within, get_snoc, pair_here, pair_else, not_without, without_else}
+use Rattle.day_model.proofs.laws.PairLists.{there_is}
+use Rattle.acct_locks.proofs.Places.{get_within, get_snoc, pair_here, pair_else, not_without, without_else}
 
 -- who has a book's view sees the rule from there
 seen : (s : State ℕ View) → IsKept s → (id : ℕ) (v : View) → IsBook v → get_elem? s.views id ≡ some v → KeptBy s.words s.views id v

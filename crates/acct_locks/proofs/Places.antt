@@ -6,7 +6,7 @@ use Rattle.std.proofs.lemmas.Bool.Decides.{nat_tests}
 use mathlib.Core.Option.{some, some-injective, some-ne-none}
 use lib.ListN.{get_elem?}
 use Rattle.day_model.specs.Totals.{Pair, pair_at}
-use Rattle.acct_locks.specs.Pairs.{with_pair}
+use Rattle.day_model.specs.Pairs.{with_pair}
 use Rattle.acct_locks.specs.Seats.{IsIn, without}
 
 module _ {A : Type 0} where
@@ -34,20 +34,10 @@ module _ {A : Type 0} where
   slice_get_set_else (x ∷ xs) (suc k) zero a n = refl
   slice_get_set_else (x ∷ xs) (suc k) (suc m) a n = slice_get_set_else xs k m a (λ e. n (ap suc e))
 
-  slice_get_within : (l : List A) (k : ℕ) (a : A) → slice_get l k ≡ Some a → k < length l
-  slice_get_within [] k a e = absurd (cc)
-  slice_get_within (x ∷ xs) zero a e = omega arith
-  slice_get_within (x ∷ xs) (suc k) a e = omega (arith, slice_get_within xs k a e)
-
   set_same : (l : List A) (k : ℕ) (a : A) → slice_get l k ≡ Some a → set l k a ≡ l
   set_same [] k a e = refl
   set_same (x ∷ xs) zero a e = cc
   set_same (x ∷ xs) (suc k) a e = ap (λ ys. x ∷ ys) (set_same xs k a e)
-
--- the account n stands in a list of pairs
-pub there_is : (pairs : List Pair) (n : ℕ) (p : Pair) → pair_at pairs n ≡ Some p → (0 < n) × (n ≤ length pairs)
-there_is pairs zero p e = absurd (cc)
-there_is pairs (suc k) p e = (omega arith, omega (arith, slice_get_within pairs k p e))
 
 pub pair_here : (pairs : List Pair) (n : ℕ) (p : Pair) → 0 < n → n ≤ length pairs → pair_at (with_pair pairs n p) n ≡ Some p
 pair_here pairs zero p pos le = absurd (omega arith)

@@ -1,5 +1,5 @@
 -- What a worker holds, and what legs add to it.
-use Rattle.std.specs.Prelude.{◌≡◌, ◌≢◌, ◌==◌, ℕ, ◌<◌, ◌≤◌, ◌⊎◌, List, [], ◌∷◌, All, map, if◌then◌else◌}
+use Rattle.std.specs.Prelude.{◌≡◌, ◌≢◌, ◌==◌, ℕ, ◌+◌, ◌<◌, ◌≤◌, ◌⊎◌, List, [], ◌∷◌, All, map, if◌then◌else◌}
 use Rattle.atomic_table.specs.Seated.{TableId}
 use Rattle.day_model.specs.declared.pay.Leg.{Leg}
 use Rattle.day_model.specs.Totals.{Pair, plus, Fits64, legs_pair}
@@ -16,10 +16,32 @@ pub record Hand : Type 0 where
   pub count : ℕ
   pub held : List Holding
 
--- purses that have no locks yet: of which table, and how many
-pub record LooseHand : Type 0 where
+-- a worker that holds no account: of which table, and how many accounts that has
+pub record EmptyHand : Type 0 where
   pub table : TableId
   pub count : ℕ
+
+-- the same, as one that may hold some
+abbrev pub with_none : EmptyHand → Hand
+with_none hand = record { table = hand.table; count = hand.count; held = [] }
+
+-- purses that have no locks yet: of which table, and the purses
+pub record LooseHand : Type 0 where
+  pub table : TableId
+  pub purses : List Holding
+
+-- the purse of account n of a table, with this pair
+abbrev pub purse_at : TableId → ℕ → Pair → Holding
+purse_at table n p = record { table = table; number = n; pair = p }
+
+-- purses of a table, of which the first is account n's, each with the pair of its account
+abbrev pub purses_from : TableId → ℕ → List Pair → List Holding
+purses_from table n [] = []
+purses_from table n (p ∷ pairs) = purse_at table n p ∷ purses_from table (n + 1) pairs
+
+-- a purse of the table for each account, with the account's pair
+abbrev pub purses_of : TableId → List Pair → List Holding
+purses_of table pairs = purses_from table 1 pairs
 
 -- account n is held
 abbrev pub Holds : List Holding → ℕ → Type 0

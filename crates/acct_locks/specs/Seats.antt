@@ -6,12 +6,14 @@ use Rattle.atomic_table.specs.Table.{State, Me, Step}
 use Rattle.acct_locks.specs.declared.seats.View.{View}
 use Rattle.acct_locks.specs.declared.seats.View.TheVariants.{Book, Purse}
 use Rattle.day_model.specs.Totals.{Pair, pair_at}
-use Rattle.acct_locks.specs.Pairs.{with_pair}
+use Rattle.day_model.specs.Pairs.{with_pair}
 
+-- n is in the list
 abbrev pub IsIn : ℕ → List ℕ → Type 0
 IsIn n [] = ⊥
 IsIn n (x ∷ xs) = (x ≡ n) ⊎ IsIn n xs
 
+-- the list without n
 abbrev pub without : ℕ → List ℕ → List ℕ
 without n [] = []
 without n (x ∷ xs) = if x == n then without n xs else x ∷ without n xs
@@ -31,18 +33,22 @@ abbrev pub KeepsRight : View → Type 0
 KeepsRight (Book pairs away (Some back)) = pair_at pairs back.0 ≡ Some back.1
 KeepsRight v = Unit {0}
 
+-- the view is the book's
 abbrev pub IsBook : View → Type 0
 IsBook (Book pairs away back) = Unit {0}
 IsBook v = ⊥
 
+-- the view is a purse's
 abbrev pub IsPurse : View → Type 0
 IsPurse (Purse n p) = Unit {0}
 IsPurse v = ⊥
 
+-- each account's pair, as the book's view has it
 abbrev pub pairs_in : View → List Pair
 pairs_in (Book pairs away back) = pairs
 pairs_in v = []
 
+-- the accounts that are handed out, as the book's view has it
 abbrev pub away_in : View → List ℕ
 away_in (Book pairs away back) = away
 away_in v = []
@@ -58,6 +64,7 @@ pub record KeptBy (words : List ℕ) (views : List View) (seat : ℕ) (v : View)
   pub agrees : (j n : ℕ) (p : Pair) → get_elem? views j ≡ some (Purse n p) → pair_at (pairs_in v) n ≡ Some p
   pub right : KeepsRight v
 
+-- the state keeps the rule: one seat has the book's view, and all others fit it
 abbrev pub IsKept : State ℕ View → Type 0
 IsKept s = (seat : ℕ) × (v : View) × KeptBy s.words s.views seat v
 

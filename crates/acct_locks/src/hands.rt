@@ -1,7 +1,7 @@
 //! Accounts held in rising order.
 
-ghost use Rattle.std.specs.Prelude.{◌≡◌, ◌<◌, ◌≤◌, [], ◌∷◌};
-ghost use Rattle.acct_locks.specs.Holdings.{Holding, IsAbove, Takes};
+ghost use Rattle.std.specs.Prelude.{◌≡◌, ◌<◌, ◌≤◌, ◌∷◌};
+ghost use Rattle.acct_locks.specs.Holdings.{Holding, IsAbove, Takes, with_none};
 
 use crate::held::{Held, Holder};
 use crate::name::Name;
@@ -18,12 +18,11 @@ pub struct Held0<'a, N: Name> {
 }
 
 impl<'a, N: Name> Model for Held0<'a, N> {
-    ghost use Rattle.std.specs.Prelude.{[]};
-    ghost use Rattle.acct_locks.specs.Holdings.{Hand};
+    ghost use Rattle.acct_locks.specs.Holdings.{EmptyHand};
 
-    ghost Value = { Hand };
+    ghost Value = { EmptyHand };
 
-    ghost view = { λ h. record { table = N.table; count = h.purses.now; held = [] } };
+    ghost view = { λ h. record { table = N.table; count = h.purses.now } };
 }
 
 /// Holds one account more than `H`.
@@ -46,32 +45,35 @@ impl<'a, H: Held, N: Name> Model for More<'a, H, N> {
     ghost invariant = { λ h. H.table h.rest ≡ N.table };
 }
 
+// `Held0` holds no account, so no call of these meets its conditions.
 impl<'a, N: Name> Holder for Held0<'a, N> {
+    ghost use Rattle.std.specs.Prelude.{[]};
+
     ghost table = { λ h. h.table };
 
-    ghost held = { λ h. h.held };
+    ghost count = { λ h. h.count };
+
+    ghost held = { λ h. [] };
 
     fn settle_one(&mut self, sides: &mut BookSides, leg: &Leg) {
-        let _ = &self.purses;
         unreachable!()
     }
 }
 
-// No account is held, so no call meets the conditions.
 impl<'a, N: Name> Held for Held0<'a, N> {
     fn totals(&self, n: AcctNo) -> (u64, u64) {
-        let _ = &self.purses;
         unreachable!()
     }
 
     fn agree(&mut self, sides: &mut BookSides, n: AcctNo) {
-        let _ = &self.purses;
         unreachable!()
     }
 }
 
 impl<'a, H: Held, N: Name> Holder for More<'a, H, N> {
     ghost table = { λ h. h.table };
+
+    ghost count = { λ h. h.count };
 
     ghost held = { λ h. h.held };
 
@@ -116,7 +118,7 @@ pub type Held3<'a, N> = More<'a, Held2<'a, N>, N>;
 impl<N: Name> Purses<N> {
     /// Holds no account yet.
     pub fn hold(&self) -> Held0<'_, N>
-        ensures { result ≡ record { table = N.table; count = self.now; held = [] } }
+        ensures { result ≡ record { table = N.table; count = self.now } }
     {
         Held0 { purses: self }
     }
@@ -140,34 +142,28 @@ impl<'a, N: Name> Held0<'a, N> {
     /// Waits for the lock of an account of the table.
     pub fn take<R: Wait>(self, rt: &R, n: AcctNo) -> Held1<'a, N>
         requires there { (0 < n.0) × (n.0 ≤ self.count) }
-        requires rising { IsAbove n.0 self.held }
-        ensures taken { Takes self.entry n.0 result }
+        ensures taken { Takes (with_none self.entry) n.0 result }
     {
         let purses = self.purses;
         take_more(rt, purses, self, n)
     }
 
-    /// Drops the locks.
+    /// Drops the locks, of which there are none.
     pub fn give_back(self) {
         drop(self);
     }
 }
 
-impl<'a, N: Name> More<'a, Held0<'a, N>, N> {
-    /// Waits for the lock of an account of the table, whose number is greater than the last one held.
-    pub fn take<R: Wait>(self, rt: &R, n: AcctNo) -> Held2<'a, N>
-        requires there { (0 < n.0) × (n.0 ≤ self.count) }
-        requires rising { IsAbove n.0 self.held }
-        ensures taken { Takes self.entry n.0 result }
-    {
-        let purses = self.purses;
-        take_more(rt, purses, self, n)
-    }
-}
+/// Held accounts beside which another may be taken: none, one or two of them. It is public for `take` alone.
+pub trait Room: Held {}
 
-impl<'a, N: Name> More<'a, More<'a, Held0<'a, N>, N>, N> {
+impl<'a, N: Name> Room for Held0<'a, N> {}
+
+impl<'a, N: Name> Room for More<'a, Held0<'a, N>, N> {}
+
+impl<'a, H: Room, N: Name> More<'a, H, N> {
     /// Waits for the lock of an account of the table, whose number is greater than the last one held.
-    pub fn take<R: Wait>(self, rt: &R, n: AcctNo) -> Held3<'a, N>
+    pub fn take<R: Wait>(self, rt: &R, n: AcctNo) -> More<'a, More<'a, H, N>, N>
         requires there { (0 < n.0) × (n.0 ≤ self.count) }
         requires rising { IsAbove n.0 self.held }
         ensures taken { Takes self.entry n.0 result }

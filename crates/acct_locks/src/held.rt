@@ -5,14 +5,17 @@ use day_model::{AcctNo, Leg};
 
 /// What contracts see of a held value, and the settling of one leg. It is public for `Held` alone.
 pub trait Holder {
-    ghost use Rattle.std.specs.Prelude.{◌≡◌, [], ◌∷◌, List};
+    ghost use Rattle.std.specs.Prelude.{◌≡◌, ℕ, [], ◌∷◌, List};
     ghost use Rattle.atomic_table.specs.Seated.{TableId};
     ghost use Rattle.day_model.specs.Totals.{Fits64, leg_pair, plus};
-    ghost use Rattle.acct_locks.specs.Pairs.{pairs_with};
+    ghost use Rattle.day_model.specs.Pairs.{pairs_with};
     ghost use Rattle.acct_locks.specs.Holdings.{Holding, HoldsOnce, held_totals, held_with};
 
     /// The table of the purses.
     ghost table: { Self → TableId };
+
+    /// How many accounts that table has.
+    ghost count: { Self → ℕ };
 
     /// The held purses, the one taken last first.
     ghost held: { Self → List Holding };
@@ -24,6 +27,7 @@ pub trait Holder {
         requires table { sides.old.table ≡ table self.old }
         ensures held { held self.new ≡ held_with (leg.now ∷ []) (held self.old) }
         ensures table { table self.new ≡ table self.old }
+        ensures count { count self.new ≡ count self.old }
         ensures sides { sides.new ≡ record sides.old { pairs = pairs_with (leg.now ∷ []) sides.old.pairs } };
 }
 
@@ -31,7 +35,7 @@ pub trait Holder {
 pub trait Held: Holder {
     ghost use Rattle.std.specs.Prelude.{◌≡◌, Some};
     ghost use Rattle.day_model.specs.Totals.{pair_at};
-    ghost use Rattle.acct_locks.specs.Pairs.{pairs_with};
+    ghost use Rattle.day_model.specs.Pairs.{pairs_with};
     ghost use Rattle.acct_locks.specs.Holdings.{CanSettle, Holds, held_totals, held_with};
 
     /// The credits and the debits of a held account, in minor units.
@@ -46,6 +50,7 @@ pub trait Held: Holder {
         ensures agreed { pair_at sides.old.pairs n.0 ≡ Some (held_totals (Self.held self.old) n.0) }
         ensures held_same { Self.held self.new ≡ Self.held self.old }
         ensures table_same { Self.table self.new ≡ Self.table self.old }
+        ensures count_same { Self.count self.new ≡ Self.count self.old }
         ensures sides_same { sides.new ≡ sides.old };
 
     /// Adds each leg to the totals of its account and to the pair that the sides have for it, and leaves all others.
@@ -55,6 +60,7 @@ pub trait Held: Holder {
         requires table { sides.old.table ≡ Self.table self.old }
         ensures held { Self.held self.new ≡ held_with legs.now (Self.held self.old) }
         ensures table { Self.table self.new ≡ Self.table self.old }
+        ensures count { Self.count self.new ≡ Self.count self.old }
         ensures sides { sides.new ≡ record sides.old { pairs = pairs_with legs.now sides.old.pairs } }
     {
         for leg in legs {

@@ -12,7 +12,6 @@ mod sides;
 mod steps;
 #[cfg(test)]
 mod tests;
-mod totals;
 
 pub use hands::{Held0, Held1, Held2, Held3};
 pub use held::Held;

@@ -4,7 +4,7 @@ ghost use Rattle.std.specs.Prelude.{◌≡◌, ◌<◌, ◌≤◌, ◌^◌, ◌+
 ghost use Rattle.day_model.specs.Legal.{IsLegal};
 ghost use Rattle.day_model.specs.Totals.{HasTotals, pair_at};
 ghost use Rattle.acct_locks.specs.Seats.{IsBook, pairs_in, away_in};
-ghost use Rattle.acct_locks.specs.Holdings.{AwayUpTo};
+ghost use Rattle.acct_locks.specs.Holdings.{AwayUpTo, purse_at, purses_of};
 
 use crate::name::Name;
 use crate::purse::Purse;
@@ -12,16 +12,15 @@ use crate::purses::{Named, Purses};
 use crate::seats::{Ledger, SeatOf};
 use crate::sides::BookSides;
 use crate::steps::{hand_out, open};
-use crate::totals::totals;
 use corr_text::Memory;
-use day_model::{Accounts, History};
+use day_model::{Accounts, History, totals};
 use std::alloc::Global;
 use std::marker::{Model, PhantomData};
 use std::sync::Mutex;
 
 /// The purses of an opening, one for each account, before they have a name and locks.
 ///
-/// Contracts see the table that they are of, and how many there are.
+/// Contracts see the table that they are of, and each purse with its number and its totals.
 #[derive(Drop)]
 pub struct Loose {
     ledger: Ledger,
@@ -34,7 +33,7 @@ impl Model for Loose {
 
     ghost Value = { LooseHand };
 
-    ghost view = { λ l. record { table = l.ledger.shared.table_id; count = length l.purses.items } };
+    ghost view = { λ l. record { table = l.ledger.shared.table_id; purses = l.purses.items } };
 
     ghost invariant = { λ l. (l.ledger.shared.table_id.words ≡ 1) × (length l.purses.items < 2 ^ 32) × All (λ p. p.table ≡ l.ledger.shared.table_id) l.purses.items };
 }
@@ -46,7 +45,7 @@ fn next_purse(ledger: &Ledger, seat: &mut SeatOf, number: u32, pair: (u64, u64))
     requires next { (0 < number) × ((n : ℕ) → n + 1 ≡ number → AwayUpTo n (away_in seat.old.me.0)) }
     requires pair { pair_at (pairs_in seat.old.me.0) number ≡ Some pair }
     ensures book { (seat.new.table_id ≡ seat.old.table_id) × IsBook seat.new.me.0 × (seat.new.me.1 ≡ []) × (pairs_in seat.new.me.0 ≡ pairs_in seat.old.me.0) × AwayUpTo number (away_in seat.new.me.0) }
-    ensures purse { result ≡ record { table = ledger.now.shared.table_id; number = number; pair = pair } }
+    ensures purse { result ≡ purse_at ledger.now.shared.table_id number pair }
 {
     let purse = hand_out(ledger, seat, number, pair);
     Purse {
@@ -64,7 +63,8 @@ impl Loose {
     pub fn new(alloc: Global, a: &Accounts, h: &History) -> Result<(Loose, BookSides), Memory>
         requires legal { IsLegal a.now h.now.entries }
         ensures table { IfOk result (λ r. r.0.table ≡ r.1.table) }
-        ensures purses { IfOk result (λ r. r.0.count ≡ length a.now.accounts) }
+        ensures purses { IfOk result (λ r. r.0.purses ≡ purses_of r.0.table r.1.pairs) }
+        ensures count { IfOk result (λ r. length r.0.purses ≡ length a.now.accounts) }
         ensures sides { IfOk result (λ r. HasTotals r.1.pairs (length a.now.accounts) h.now.entries) }
     {
         let pairs = totals(alloc, a, h)?;
@@ -74,7 +74,10 @@ impl Loose {
     // One purse for each pair.
     fn of_pairs(alloc: Global, pairs: Vec<(u64, u64)>) -> Result<(Loose, BookSides), Memory>
         requires { length pairs.items < 2 ^ 32 }
-        ensures { IfOk result (λ r. (r.0.table ≡ r.1.table) × (r.0.count ≡ length pairs.items) × (r.1.pairs ≡ pairs.items)) }
+        ensures table { IfOk result (λ r. r.0.table ≡ r.1.table) }
+        ensures purses { IfOk result (λ r. r.0.purses ≡ purses_of r.0.table pairs.items) }
+        ensures count { IfOk result (λ r. length r.0.purses ≡ length pairs.items) }
+        ensures sides { IfOk result (λ r. r.1.pairs ≡ pairs.items) }
     {
         let (ledger, mut seat) = open(alloc, &pairs)?;
         let mut purses = Vec::new(alloc);
@@ -92,7 +95,7 @@ impl Loose {
     /// After `Memory` the purses are gone, and no purse agrees with the sides any more.
     pub fn lock<N: Name>(self, alloc: Global) -> Result<Purses<N>, Memory>
         requires named { self.table ≡ N.table }
-        ensures count { IfOk result (λ p. p ≡ self.count) }
+        ensures count { IfOk result (λ p. p ≡ length self.purses) }
     {
         let Loose { ledger, purses } = self;
         let mut locks = Vec::new(alloc);

@@ -11,7 +11,7 @@ pub trait Name {
 }
 
 impl Name for Brand {
-    ghost use Rattle.acct_locks.specs.Pairs.{no_table};
+    ghost use Rattle.acct_locks.specs.Sides.{no_table};
 
     ghost table = { no_table };
 }

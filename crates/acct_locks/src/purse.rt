@@ -2,14 +2,13 @@
 
 ghost use Rattle.std.specs.Prelude.{◌≡◌, ◌<◌, [], ◌∷◌, Some};
 ghost use Rattle.day_model.specs.Totals.{Fits64, leg_pair, pair_at, plus};
-ghost use Rattle.acct_locks.specs.Pairs.{pairs_with, with_pair};
+ghost use Rattle.day_model.specs.Pairs.{pairs_with, with_pair};
 
 use crate::seats::{Ledger, View};
 use crate::sides::BookSides;
 use crate::steps::{hand_out, take_back};
-use crate::totals::with_leg;
 use atomic_table::Badge;
-use day_model::Leg;
+use day_model::{Leg, with_leg};
 use std::marker::Model;
 use std::mem;
 

@@ -14,7 +14,7 @@ pub struct BookSides {
 
 impl Model for BookSides {
     ghost use Rattle.std.specs.Prelude.{◌≡◌, []};
-    ghost use Rattle.acct_locks.specs.Pairs.{Sides};
+    ghost use Rattle.acct_locks.specs.Sides.{Sides};
     ghost use Rattle.acct_locks.specs.Seats.{IsBook, pairs_in};
 
     ghost Value = { Sides };

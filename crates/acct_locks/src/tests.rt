@@ -93,7 +93,7 @@ fn one_entry<R: Abort>(rt: &R, alloc: Global, a: &Accounts) -> Result<History, F
 }
 
 fn opened<R: Abort>(rt: &R, alloc: Global) -> Result<(Loose, BookSides), Fail>
-    ensures { IfOk result (λ r. (r.0.table ≡ r.1.table) × (r.0.count ≡ 3)) }
+    ensures { IfOk result (λ r. (r.0.table ≡ r.1.table) × (length r.0.purses ≡ 3)) }
 {
     let accounts = three_accounts(rt, alloc)?;
     let history = one_entry(rt, alloc, &accounts)?;
@@ -153,7 +153,7 @@ fn in_two_threads<N: Name + Send + Sync, R: Threads + Wait + Abort + Sync>(
     loose: Loose,
     sides: BookSides,
 ) -> Result<(), Fail>
-    requires { (loose.table ≡ N.table) × (sides.table ≡ N.table) × (loose.count ≡ 3) }
+    requires { (loose.table ≡ N.table) × (sides.table ≡ N.table) × (length loose.purses ≡ 3) }
 {
     let purses = loose.lock::<N>(alloc)?;
     let desk = Mutex::new(Desk::<N>::new(sides));
@@ -194,7 +194,7 @@ fn settled<N: Name, R: Wait + Abort>(
     loose: Loose,
     mut sides: BookSides,
 ) -> Result<(), Fail>
-    requires { (loose.table ≡ N.table) × (sides.table ≡ N.table) × (loose.count ≡ 3) }
+    requires { (loose.table ≡ N.table) × (sides.table ≡ N.table) × (length loose.purses ≡ 3) }
 {
     let purses = loose.lock::<N>(alloc)?;
     let mut held = purses.hold().take(rt, AcctNo(1)).take(rt, AcctNo(2));
@@ -214,4 +214,101 @@ fn settled<N: Name, R: Wait + Abort>(
 fn a_debit_and_a_credit_are_settled(rt: HostRuntime) -> Result<(), Fail> {
     let (loose, sides) = opened(&rt, rt.alloc())?;
     settled::<Brand, _>(&rt, rt.alloc(), loose, sides)
+}
+
+// Whether the lock of an account is free. Nobody else holds it, so the first of the tries finds it so.
+fn is_free<N: Name>(purses: &Purses<N>, number: usize) -> bool
+    requires { (0 < number) × (number ≤ purses.now) }
+{
+    for _ in 0..100 {
+        if purses.locks[number - 1].try_lock().is_some() {
+            return true;
+        }
+    }
+    false
+}
+
+// Locks that are given back are free again, and those that are held are not.
+fn given_back<N: Name, R: Wait + Abort>(rt: &R, alloc: Global, loose: Loose) -> Result<(), Fail>
+    requires { (loose.table ≡ N.table) × (length loose.purses ≡ 3) }
+{
+    let purses = loose.lock::<N>(alloc)?;
+    purses.hold().give_back();
+    let one = purses.hold().take(rt, AcctNo(1));
+    assert!(rt; !is_free(&purses, 1) && is_free(&purses, 2));
+    one.give_back();
+    let two = purses.hold().take(rt, AcctNo(1)).take(rt, AcctNo(3));
+    assert!(rt; !is_free(&purses, 1) && !is_free(&purses, 3));
+    two.give_back();
+    let three = purses
+        .hold()
+        .take(rt, AcctNo(1))
+        .take(rt, AcctNo(2))
+        .take(rt, AcctNo(3));
+    three.give_back();
+    assert!(rt; is_free(&purses, 1) && is_free(&purses, 2) && is_free(&purses, 3));
+    Ok(())
+}
+
+#[test]
+fn locks_that_are_given_back_are_free(rt: HostRuntime) -> Result<(), Fail> {
+    let (loose, _) = opened(&rt, rt.alloc())?;
+    given_back::<Brand, _>(&rt, rt.alloc(), loose)
+}
+
+// The first and the last account are taken whatever their totals are, the least and the greatest too.
+fn taken_at_the_ends<N: Name, R: Wait + Abort>(
+    rt: &R,
+    alloc: Global,
+    loose: Loose,
+    mut sides: BookSides,
+) -> Result<(), Fail>
+    requires { (loose.table ≡ N.table) × (sides.table ≡ N.table) × (length loose.purses ≡ 3) }
+{
+    let purses = loose.lock::<N>(alloc)?;
+    let mut held = purses.hold().take(rt, AcctNo(1)).take(rt, AcctNo(3));
+    let before = (held.totals(AcctNo(1)), held.totals(AcctNo(3)));
+    assert!(rt; before.0 == (0, 25_000) && before.1 == (0, 0));
+    let legs = [
+        leg(1, Side::Credit, u64::MAX),
+        leg(3, Side::Debit, u64::MAX),
+    ];
+    held.settle(&mut sides, &legs);
+    held.give_back();
+    let again = purses.hold().take(rt, AcctNo(1)).take(rt, AcctNo(3));
+    let after = (again.totals(AcctNo(1)), again.totals(AcctNo(3)));
+    again.give_back();
+    assert_eq!(rt; after, ((u64::MAX, 25_000), (0, u64::MAX)));
+    Ok(())
+}
+
+#[test]
+fn purses_at_the_ends_of_their_range_are_taken(rt: HostRuntime) -> Result<(), Fail> {
+    let (loose, sides) = opened(&rt, rt.alloc())?;
+    taken_at_the_ends::<Brand, _>(&rt, rt.alloc(), loose, sides)
+}
+
+// After an agreement another account can be taken still.
+fn taken_after_agreeing<N: Name, R: Wait + Abort>(
+    rt: &R,
+    alloc: Global,
+    loose: Loose,
+    mut sides: BookSides,
+) -> Result<(), Fail>
+    requires { (loose.table ≡ N.table) × (sides.table ≡ N.table) × (length loose.purses ≡ 3) }
+{
+    let purses = loose.lock::<N>(alloc)?;
+    let mut one = purses.hold().take(rt, AcctNo(1));
+    one.agree(&mut sides, AcctNo(1));
+    let two = one.take(rt, AcctNo(2));
+    let totals = two.totals(AcctNo(2));
+    two.give_back();
+    assert_eq!(rt; totals, (25_000, 0));
+    Ok(())
+}
+
+#[test]
+fn an_account_is_taken_after_an_agreement(rt: HostRuntime) -> Result<(), Fail> {
+    let (loose, sides) = opened(&rt, rt.alloc())?;
+    taken_after_agreeing::<Brand, _>(&rt, rt.alloc(), loose, sides)
 }

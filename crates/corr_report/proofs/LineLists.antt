@@ -4,11 +4,12 @@ use Rattle.std.specs.List.{flat_map}
 use Rattle.std.proofs.lemmas.Grind.{flat_map-append}
 use Rattle.std.proofs.lemmas.List.{take_more, append-nil, length-take-le}
 use Rattle.day_model.specs.declared.entry.Entry.{Entry}
-use Rattle.day_model.specs.Balance.{credits_of, debits_of}
+use Rattle.day_model.specs.declared.pay.Side.TheVariants.{Debit, Credit}
+use Rattle.day_model.specs.Laws.{turnover}
 use Rattle.day_model.specs.Chart.{Chart}
 use Rattle.corr_report.specs.declared.currency.Currency.{Currency}
 use Rattle.corr_report.specs.Lines.{numbered, spaced}
-use Rattle.corr_report.specs.Totals.{sum_over, total_line, total_of}
+use Rattle.corr_report.specs.Totals.{total_line, total_of}
 
 pub flat_more : {X : Type 0} (f : X → List ℕ) (xs : List X) (i : ℕ) (d : X) → i < length xs → flat_map f (take (i + 1) xs) ≡ flat_map f (take i xs) ++ f (get_or xs i d)
 flat_more f xs i d lt =
@@ -16,8 +17,8 @@ flat_more f xs i d lt =
 
 pub total_more : (chart : Chart) (entries : List Entry) (units : List Currency) (i : ℕ) (d : Currency) (old out new : List ℕ) (debits credits : ℕ) → i < length units
     → out ≡ old ++ flat_map (total_of chart entries) (take i units)
-    → debits ≡ sum_over (debits_of entries) (get_or units i d).ccy 1 chart.accounts
-    → credits ≡ sum_over (credits_of entries) (get_or units i d).ccy 1 chart.accounts
+    → debits ≡ turnover chart (get_or units i d).ccy Debit entries
+    → credits ≡ turnover chart (get_or units i d).ccy Credit entries
     → new ≡ out ++ total_line (get_or units i d) debits credits
     → new ≡ old ++ flat_map (total_of chart entries) (take (i + 1) units)
 total_more chart entries units i d old out new debits credits lt before de ce line =

@@ -18,6 +18,7 @@ use Rattle.corr_report.specs.Report.{balance_words}
 abbrev pub AreInCentury : List Entry → Type 0
 AreInCentury entries = (i : ℕ) (entry : Entry) → slice_get entries i ≡ Some entry → InCentury entry.day
 
+-- the letter of a side
 abbrev pub mark_of : Side → List ℕ
 mark_of Debit = codes "D"
 mark_of Credit = codes "C"
@@ -31,6 +32,7 @@ abbrev pub outcome_words : Chart → List Leg → Outcome → List (List ℕ)
 outcome_words chart legs Booked = codes "BOOKED" ∷ flat_map (leg_words chart) legs
 outcome_words chart legs (Unfunded k balance) = codes "UNFUNDED" ∷ said (slice_get legs (k - 1)) (balance_words chart balance)
 
+-- an entry's line: its place, its day, its reference and its outcome
 abbrev pub booking_line : Chart → ℕ → Entry → List ℕ
 booking_line chart place entry =
     line (padded 8 place) (yymmdd_of entry.day ∷ entry.pay.mir.0 ∷ outcome_words chart entry.pay.legs entry.outcome)

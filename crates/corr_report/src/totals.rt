@@ -5,10 +5,10 @@ ghost use Rattle.day_model.specs.Legal.{IsLegal};
 ghost use Rattle.corr_report.specs.Totals.{total_line, totals_of};
 
 use crate::currency::{Currency, currencies};
-use crate::turnover::{sum_of, turnover_of};
+use crate::turnover::sum_of;
 use crate::words::{put_sum, put_word};
 use corr_text::{Memory, Text};
-use day_model::{Accounts, History};
+use day_model::{Accounts, History, Side, totals};
 use std::alloc::Global;
 
 fn put_line(
@@ -40,11 +40,11 @@ pub(crate) fn put_totals(
     requires { IsLegal a.now h.now.entries }
     ensures { OnOk result (out.new ≡ out.old ++ totals_of a.now h.now.entries) }
 {
-    let sums = turnover_of(alloc, a, h)?;
+    let pairs = totals(alloc, a, h)?;
     let units = currencies(alloc, a)?;
     for unit in units.as_slice() {
-        let debits = sum_of(a, unit.ccy, sums.debits.as_slice());
-        let credits = sum_of(a, unit.ccy, sums.credits.as_slice());
+        let debits = sum_of(a, unit.ccy, Side::Debit, pairs.as_slice());
+        let credits = sum_of(a, unit.ccy, Side::Credit, pairs.as_slice());
         put_line(alloc, *unit, debits, credits, out)?;
     }
     Ok(())

@@ -35,12 +35,9 @@ made [] i a at = absurd (none-some a at)
 made (r ∷ rows) zero a at = record { row = r; there = refl; is = same_Some (opened r) a at }
 made (r ∷ rows) (suc i) a at = let m = made rows i a at in record { row = m.row; there = m.there; is = m.is }
 
--- a BIC that was read is spelled by its head and branch
-spelled : (text : List ℕ) (b : Bic) → bic_of text ≡ Some b → is_bic (b.head ++ b.branch) ≡ true
-spelled text b read =
-    let parts = some_if (is_bic text) _ b read in
-    let again : IsBic b = subst IsBic parts.1 (bic-again text parts.0) in
-    (some_if (is_bic (b.head ++ b.branch)) _ b again).0
+-- a BIC that was read meets its grammar
+spelled : (text : List ℕ) (b : Bic) → bic_of text ≡ Some b → IsBic b
+spelled text b read = let parts = some_if (is_bic text) _ b read in subst IsBic parts.1 (bic-again text parts.0)
 
 small : (z : ℤ) → unsigned_abs z < 10 ^ 14 → IsSmall z
 small (pos n) below = (omega (arith, ints), omega (arith, ints))

@@ -1,6 +1,5 @@
 pub mod KnownParts
 pub mod MessageFiles
-pub mod Lookups
 pub mod Routes
 pub mod Turns
 pub mod Opening

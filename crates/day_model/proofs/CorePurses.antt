@@ -1,16 +1,21 @@
 -- Purses stay at their balances.
-use Rattle.std.proofs.Common.{◌≡◌, ◌≢◌, ℕ, zero, suc, ◌+◌, ◌-◌, ◌<◌, ◌≤◌, Bool, true, false, cond, eqb, List, Option, Some, sym, ap, ◌∙◌, subst, arith, length, take, ℤ, pos, ◌+ℤ◌, ◌-ℤ◌, inl, inr}
-use Rattle.std.specs.Prelude.{slice_get, unwrap_or, if◌then◌else◌}
+use Rattle.std.proofs.Common.{◌≡◌, ◌≢◌, ℕ, zero, suc, ◌+◌, ◌-◌, ◌<◌, ◌≤◌, Bool, true, false, cond, eqb, List, [], ◌∷◌, ◌++◌, Option, Some, get_or, length-append, sym, ap, ◌∙◌, subst, arith, length, take, ℤ, pos, ◌+ℤ◌, ◌-ℤ◌, inl, inr}
+use Rattle.std.specs.Prelude.{slice_get, unwrap_or, option_map, if◌then◌else◌}
 use Rattle.std.proofs.lemmas.Bool.{cases_eq, eq-eqb, ne_eqb}
 use Rattle.std.proofs.lemmas.Int.{ints}
-use Rattle.std.proofs.lemmas.List.{length-set}
+use Rattle.std.proofs.lemmas.List.{length-set, get_or_append_left, take_all}
+use Rattle.std.proofs.Math.Seq.{get_or-append_seam}
+use Rattle.std.proofs.lemmas.Option.{get_or_from_slice_get, same_Some, slice_get-get_or}
+use Rattle.day_model.specs.declared.account.Account.{Account}
 use Rattle.day_model.specs.declared.pay.Side.TheVariants.{Debit, Credit}
 use Rattle.day_model.specs.declared.pay.Leg.{Leg}
 use Rattle.day_model.specs.declared.entry.Entry.{Entry}
-use Rattle.day_model.specs.Chart.{Chart, IsChart, IsSmall}
-use Rattle.day_model.specs.Balance.{balance_of, changed, is_booked, moved_by, opening_of}
+use Rattle.day_model.specs.Chart.{Chart, IsChart, IsListed, IsSmall, account_at}
+use Rattle.day_model.specs.Balance.{balance_of, changed, is_booked, credits_of, debits_of, moved_by, opening_of}
 use Rattle.day_model.specs.Legal.{IsLegal}
 use Rattle.day_model.specs.CoreLedger.{AreAtBalance, CanAdd, CanAddAll, purse_of, with_leg, with_legs}
+use Rattle.day_model.specs.Totals.{Pair, HasTotals, pair_at, totals_of}
+use Rattle.day_model.proofs.laws.PairLists.{pair_read}
 use Rattle.day_model.proofs.laws.Fitting.{Transfer}
 use Rattle.day_model.proofs.laws.Balances.{balance_more, booked_moves, unmoved, credits_moved, debits_moved, small_at}
 use Rattle.day_model.proofs.CoreWorkers.{slice_get-set_same, slice_get-set_other}
@@ -110,7 +115,35 @@ can_add_all chart entries purses i legs sound legal le before t =
     } in
     subst (λ (ls : List Leg). CanAddAll purses ls) (sym t.legs_are) (first, (second, tt))
 
--- the purses of the first accounts hold their openings
-pub record Opened (chart : Chart) (count : ℕ) (purses : List ℤ) : Type 0 where
+-- the purses of the first accounts are at their balances
+pub record Opened (chart : Chart) (entries : List Entry) (count : ℕ) (purses : List ℤ) : Type 0 where
   pub size : length purses ≡ count
-  pub openings : (n : ℕ) → 1 ≤ n → n ≤ count → slice_get purses (n - 1) ≡ Some (opening_of chart n)
+  pub balances : (n : ℕ) → 1 ≤ n → n ≤ count → slice_get purses (n - 1) ≡ Some (balance_of chart entries n)
+
+pub opened_more : (chart : Chart) (entries : List Entry) (count : ℕ) (purses new : List ℤ) (b : ℤ) → new ≡ purses ++ b ∷ [] → b ≡ balance_of chart entries (count + 1) → Opened chart entries count purses → Opened chart entries (count + 1) new
+opened_more chart entries count purses new b is balance before =
+    let many : length (purses ++ b ∷ []) ≡ count + 1 = length-append purses (b ∷ []) ∙ omega (arith, before.size) in
+    let each : (n : ℕ) → 1 ≤ n → n ≤ count + 1 → slice_get (purses ++ b ∷ []) (n - 1) ≡ Some (balance_of chart entries n) = λ n one le.
+    slice_get-get_or (purses ++ b ∷ []) (n - 1) b (omega (arith, many))
+    ∙ ap (λ (z : ℤ). Some z) (elim (cases_eq n (count + 1)) [
+      | inl last ↦
+          let place : n - 1 ≡ length purses = omega (arith, before.size) in
+          ap (λ (k : ℕ). get_or (purses ++ b ∷ []) k b) place ∙ get_or-append_seam purses b [] b ∙ balance ∙ ap (λ (k : ℕ). balance_of chart entries k) (sym last)
+      | inr earlier ↦
+          get_or_append_left purses (b ∷ []) b (n - 1) (omega (arith, before.size))
+          ∙ get_or_from_slice_get purses (n - 1) (balance_of chart entries n) b (before.balances n one (omega arith))
+    ]) in
+    subst (Opened chart entries (count + 1)) (sym is) (record { size = many; balances = each })
+
+-- an account's opening with its totals is its balance
+pub balance_by_pair : (chart : Chart) (entries : List Entry) (pairs : List Pair) (n : ℕ) (p : Pair) (a : Account) → HasTotals pairs (length chart.accounts) entries → IsListed chart n → p ≡ get_or pairs (n - 1) p → account_at chart n ≡ Some a
+    → (a.opening +ℤ pos p.0) -ℤ pos p.1 ≡ balance_of chart entries n
+balance_by_pair chart entries pairs n p a has there is at =
+    let read : pair_at pairs n ≡ Some p = pair_read pairs n p there.0 (omega (arith, there.1, has.size)) is in
+    let totals : p ≡ totals_of n entries = same_Some p (totals_of n entries) (sym read ∙ has.each n there.0 there.1) in
+    let opening : a.opening ≡ opening_of chart n = ap (λ (o : Option Account). unwrap_or (option_map (λ x. x.opening) o) (pos 0)) (sym at) in
+    ap (λ (q : Pair). (a.opening +ℤ pos q.0) -ℤ pos q.1) totals ∙ ap (λ (z : ℤ). (z +ℤ pos (credits_of entries n)) -ℤ pos (debits_of entries n)) opening
+
+pub small_now : (chart : Chart) (entries : List Entry) (n : ℕ) → IsChart chart → IsLegal chart entries → IsListed chart n → IsSmall (balance_of chart entries n)
+small_now chart entries n sound legal there =
+    subst (λ (es : List Entry). IsSmall (balance_of chart es n)) (take_all (length entries) entries (omega arith)) (small_at chart entries n (length entries) sound legal there (omega arith))

@@ -10,6 +10,7 @@ use Rattle.std.proofs.lemmas.Slice.Eq.{bytes_eq-Decides}
 use Rattle.std.specs.Str.{bytes_eq}
 use Rattle.corr_money.specs.declared.amount.Ccy.{Ccy}
 use Rattle.day_model.specs.declared.account.Account.{Account}
+use Rattle.day_model.specs.declared.pay.Side.{Side}
 use Rattle.day_model.specs.declared.pay.Side.TheVariants.{Debit, Credit}
 use Rattle.day_model.specs.declared.pay.Leg.{Leg}
 use Rattle.day_model.specs.declared.entry.Entry.{Entry}
@@ -21,7 +22,7 @@ use Rattle.day_model.specs.Laws.{sum_in, in_ccy, moved_in, entry_in, turnover, B
 use Rattle.day_model.proofs.laws.Fitting.{Transfer, transfer}
 use Rattle.day_model.proofs.laws.Balances.{balance_more, booked_moves, unmoved, credits_moved, debits_moved, credits_small, debits_small}
 
-sum_in-same : (ccy : Ccy) (f g : ℕ → ℤ) (n : ℕ) (accounts : List Account) → ((k : ℕ) → f k ≡ g k) → sum_in ccy f n accounts ≡ sum_in ccy g n accounts
+pub sum_in-same : (ccy : Ccy) (f g : ℕ → ℤ) (n : ℕ) (accounts : List Account) → ((k : ℕ) → f k ≡ g k) → sum_in ccy f n accounts ≡ sum_in ccy g n accounts
 sum_in-same ccy f g n [] same = refl
 sum_in-same ccy f g n (a ∷ accounts) same =
     ap (λ (z : ℤ). (if is_ccy a.ccy ccy then z else pos 0) +ℤ sum_in ccy f (n + 1) accounts) (same n)
@@ -78,10 +79,10 @@ same_in_ccy ccy (Some a) None e = absurd (false≢true e)
 same_in_ccy ccy None b e = absurd (false≢true e)
 
 -- a pay that fits moves as much on the one side as on the other
-even_debit : (chart : Chart) (ccy : Ccy) (legs : List Leg) (t : Transfer chart legs) → sum_by (moved_in chart ccy Debit) legs ≡ cond (in_ccy ccy (account_at chart t.debit.account.0)) t.debit.amount.0 0
+pub even_debit : (chart : Chart) (ccy : Ccy) (legs : List Leg) (t : Transfer chart legs) → sum_by (moved_in chart ccy Debit) legs ≡ cond (in_ccy ccy (account_at chart t.debit.account.0)) t.debit.amount.0 0
 even_debit chart ccy legs t = rw (t.legs_are, t.debit_side, t.credit_side) (omega arith)
 
-even_credit : (chart : Chart) (ccy : Ccy) (legs : List Leg) (t : Transfer chart legs) → sum_by (moved_in chart ccy Credit) legs ≡ cond (in_ccy ccy (account_at chart t.credit.account.0)) t.credit.amount.0 0
+pub even_credit : (chart : Chart) (ccy : Ccy) (legs : List Leg) (t : Transfer chart legs) → sum_by (moved_in chart ccy Credit) legs ≡ cond (in_ccy ccy (account_at chart t.credit.account.0)) t.credit.amount.0 0
 even_credit chart ccy legs t = rw (t.legs_are, t.debit_side, t.credit_side) (omega arith)
 
 even : (chart : Chart) (ccy : Ccy) (legs : List Leg) (t : Transfer chart legs) → cond (in_ccy ccy (account_at chart t.debit.account.0)) t.debit.amount.0 0 ≡ cond (in_ccy ccy (account_at chart t.credit.account.0)) t.credit.amount.0 0
@@ -142,6 +143,10 @@ sum_debits chart ccy e t =
           ∙ sum_in-none ccy 0 0 1 chart.accounts (omega arith)
           ∙ ap (λ (x : ℕ). pos x) (sym (cond-false (is_booked e.outcome) (sum_by (moved_in chart ccy Debit) e.pay.legs) 0 out))
     ]
+
+pub sum_moved : (side : Side) (chart : Chart) (ccy : Ccy) (e : Entry) → Transfer chart e.pay.legs → sum_in ccy (λ k. pos (moved_by side k e)) 1 chart.accounts ≡ pos (entry_in chart ccy side e)
+sum_moved Debit chart ccy e t = sum_debits chart ccy e t
+sum_moved Credit chart ccy e t = sum_credits chart ccy e t
 
 cancel_at : (chart : Chart) (entries : List Entry) (ccy : Ccy) (i : ℕ) → IsChart chart → IsLegal chart entries → i ≤ length entries → sum_in ccy (balance_of chart (take i entries)) 1 chart.accounts ≡ pos 0
 cancel_at chart entries ccy zero sound legal le =

@@ -1,5 +1,5 @@
 -- Rows that pass the test are those of a book.
-use Rattle.std.proofs.Common.{◌≡◌, ◌≢◌, ℕ, zero, suc, ◌+◌, ◌<◌, ◌≤◌, Bool, true, false, List, [], ◌∷◌, ◌++◌, Some, refl, sym, ap, ◌∙◌, subst, arith, leb, eqb, length, ℤ, pos, negsuc, ◌≤ℤ◌, inl, inr}
+use Rattle.std.proofs.Common.{◌≡◌, ◌≢◌, ℕ, zero, suc, ◌+◌, ◌<◌, ◌≤◌, Bool, true, false, List, [], ◌∷◌, ◌++◌, Option, Some, None, refl, sym, ap, ◌∙◌, subst, arith, leb, eqb, length, ℤ, pos, negsuc, ◌≤ℤ◌, inl, inr}
 use Rattle.std.specs.Prelude.{◌&&◌, ◌||◌, not, int_le, slice_get}
 use Rattle.std.specs.Str.{bytes_eq}
 use Rattle.std.specs.List.{list_all}
@@ -9,11 +9,12 @@ use Rattle.std.proofs.lemmas.Int.{ints}
 use Rattle.std.proofs.lemmas.Option.{same_Some, none-some}
 use Rattle.std.proofs.lemmas.Slice.Eq.{bytes_eq-Decides}
 use Rattle.corr_text.specs.Sets.{is_c_byte}
-use Rattle.corr_ids.specs.Bic.{is_bic}
+use Rattle.corr_ids.specs.Bic.{bic_of}
+use Rattle.corr_ids.specs.declared.bic.Bic.{Bic}
 use Rattle.corr_money.specs.declared.amount.Ccy.{Ccy}
 use Rattle.day_model.specs.declared.account.Account.{Account}
 use Rattle.day_model.specs.Chart.{AreRows, IsFormed, IsLimited, IsSameBank, is_ccy, is_kind, customer}
-use Rattle.day_model.specs.Rows.{is_formed, has_limits, is_row, apart, all_apart, rows_fit}
+use Rattle.day_model.specs.RowTests.{is_same_bic, reads_itself, is_formed, has_limits, is_row, apart, all_apart, rows_fit}
 
 -- what all pass, each passes
 all_at : {A : Type 0} (p : A → Bool) (xs : List A) (i : ℕ) (x : A) → list_all p xs ≡ true → slice_get xs i ≡ Some x → p x ≡ true
@@ -28,11 +29,24 @@ apart_at (x ∷ xs) i zero a b all lt ati atj = absurd (omega arith)
 apart_at (x ∷ xs) zero (suc j) a b all lt ati atj = all_at (apart a) xs j b (subst (λ (z : Account). list_all (apart z) xs ≡ true) (same_Some x a ati) (and_parts (list_all (apart x) xs) (all_apart xs) all).0) atj
 apart_at (x ∷ xs) (suc i) (suc j) a b all lt ati atj = apart_at xs i j a b (and_parts (list_all (apart x) xs) (all_apart xs) all).1 (omega arith) ati atj
 
+same_bic : (o : Option Bic) (b : Bic) → is_same_bic o b ≡ true → o ≡ Some b
+same_bic (Some c) b e =
+    let parts = and_parts (bytes_eq c.head b.head) (bytes_eq c.branch b.branch) e in
+    let head : c.head ≡ b.head = (bytes_eq-Decides c.head b.head).0 parts.0 in
+    let branch : c.branch ≡ b.branch = (bytes_eq-Decides c.branch b.branch).0 parts.1 in
+    λ i. Some (record { head = head i; branch = branch i })
+same_bic None b e = absurd (false≢true e)
+
+bic_same : (o : Option Bic) (b : Bic) → o ≡ Some b → is_same_bic o b ≡ true
+bic_same o b e =
+    subst (λ (x : Option Bic). is_same_bic x b ≡ true) (sym e)
+    (and_from (bytes_eq b.head b.head) (bytes_eq b.branch b.branch) ((bytes_eq-Decides b.head b.head).1 refl) ((bytes_eq-Decides b.branch b.branch).1 refl))
+
 formed : (a : Account) → is_formed a ≡ true → IsFormed a
 formed a e =
-    let decimals = and_parts (leb 1 (length a.id) && leb (length a.id) 34 && list_all is_c_byte a.id && is_kind a.kind && is_bic (a.owner.head ++ a.owner.branch) && list_all is_ascii_uppercase a.ccy.0) (leb a.decimals 4) e in
-    let ccy = and_parts (leb 1 (length a.id) && leb (length a.id) 34 && list_all is_c_byte a.id && is_kind a.kind && is_bic (a.owner.head ++ a.owner.branch)) (list_all is_ascii_uppercase a.ccy.0) decimals.0 in
-    let owner = and_parts (leb 1 (length a.id) && leb (length a.id) 34 && list_all is_c_byte a.id && is_kind a.kind) (is_bic (a.owner.head ++ a.owner.branch)) ccy.0 in
+    let decimals = and_parts (leb 1 (length a.id) && leb (length a.id) 34 && list_all is_c_byte a.id && is_kind a.kind && reads_itself a.owner && list_all is_ascii_uppercase a.ccy.0) (leb a.decimals 4) e in
+    let ccy = and_parts (leb 1 (length a.id) && leb (length a.id) 34 && list_all is_c_byte a.id && is_kind a.kind && reads_itself a.owner) (list_all is_ascii_uppercase a.ccy.0) decimals.0 in
+    let owner = and_parts (leb 1 (length a.id) && leb (length a.id) 34 && list_all is_c_byte a.id && is_kind a.kind) (reads_itself a.owner) ccy.0 in
     let kind = and_parts (leb 1 (length a.id) && leb (length a.id) 34 && list_all is_c_byte a.id) (is_kind a.kind) owner.0 in
     let plain = and_parts (leb 1 (length a.id) && leb (length a.id) 34) (list_all is_c_byte a.id) kind.0 in
     let sizes = and_parts (leb 1 (length a.id)) (leb (length a.id) 34) plain.0 in
@@ -41,7 +55,7 @@ formed a e =
       id_short = leb-true _ _ sizes.1;
       id_plain = plain.1;
       kind = kind.1;
-      owner = owner.1;
+      owner = same_bic (bic_of (a.owner.head ++ a.owner.branch)) a.owner owner.1;
       ccy = ccy.1;
       decimals = leb-true _ _ decimals.1;
     }
@@ -140,9 +154,9 @@ formed_passes a f =
     let sizes = and_from (leb 1 (length a.id)) (leb (length a.id) 34) (le-leb _ _ f.id_given) (le-leb _ _ f.id_short) in
     let plain = and_from (leb 1 (length a.id) && leb (length a.id) 34) (list_all is_c_byte a.id) sizes f.id_plain in
     let kind = and_from (leb 1 (length a.id) && leb (length a.id) 34 && list_all is_c_byte a.id) (is_kind a.kind) plain f.kind in
-    let owner = and_from (leb 1 (length a.id) && leb (length a.id) 34 && list_all is_c_byte a.id && is_kind a.kind) (is_bic (a.owner.head ++ a.owner.branch)) kind f.owner in
-    let ccy = and_from (leb 1 (length a.id) && leb (length a.id) 34 && list_all is_c_byte a.id && is_kind a.kind && is_bic (a.owner.head ++ a.owner.branch)) (list_all is_ascii_uppercase a.ccy.0) owner f.ccy in
-    and_from (leb 1 (length a.id) && leb (length a.id) 34 && list_all is_c_byte a.id && is_kind a.kind && is_bic (a.owner.head ++ a.owner.branch) && list_all is_ascii_uppercase a.ccy.0) (leb a.decimals 4) ccy (le-leb _ _ f.decimals)
+    let owner = and_from (leb 1 (length a.id) && leb (length a.id) 34 && list_all is_c_byte a.id && is_kind a.kind) (reads_itself a.owner) kind (bic_same (bic_of (a.owner.head ++ a.owner.branch)) a.owner f.owner) in
+    let ccy = and_from (leb 1 (length a.id) && leb (length a.id) 34 && list_all is_c_byte a.id && is_kind a.kind && reads_itself a.owner) (list_all is_ascii_uppercase a.ccy.0) owner f.ccy in
+    and_from (leb 1 (length a.id) && leb (length a.id) 34 && list_all is_c_byte a.id && is_kind a.kind && reads_itself a.owner && list_all is_ascii_uppercase a.ccy.0) (leb a.decimals 4) ccy (le-leb _ _ f.decimals)
 
 not_above : (x y : ℤ) → x ≤ℤ y → int_le x y ≡ true
 not_above x y e = grind (arith, ints)

@@ -3,3 +3,7 @@ pub mod Fitting
 pub mod Balances
 pub mod Growth
 pub mod Pairs
+pub mod PairLists
+pub mod Histories
+pub mod Turnovers
+pub mod Lookups

@@ -12,6 +12,7 @@ use Rattle.day_model.specs.declared.entry.Outcome.TheVariants.{Booked, Unfunded}
 use Rattle.day_model.specs.Chart.{Chart, account_at}
 use Rattle.day_model.specs.Fit.{is_side}
 
+-- whether an outcome is Booked
 abbrev pub is_booked : Outcome → Bool
 is_booked Booked = true
 is_booked (Unfunded _ _) = false
@@ -28,9 +29,11 @@ moved_by side n entry = if is_booked entry.outcome then sum_by (moved side n) en
 abbrev pub credits_of : List Entry → ℕ → ℕ
 credits_of entries n = sum_by (moved_by Credit n) entries
 
+-- the sum of what entries debit to account n
 abbrev pub debits_of : List Entry → ℕ → ℕ
 debits_of entries n = sum_by (moved_by Debit n) entries
 
+-- an account's opening balance; 0 for a number that no account has
 abbrev pub opening_of : Chart → ℕ → ℤ
 opening_of chart n = unwrap_or (option_map (λ account. account.opening) (account_at chart n)) (pos 0)
 
@@ -43,6 +46,7 @@ abbrev pub changed : Side → ℕ → ℤ → ℤ
 changed Credit amount balance = balance +ℤ pos amount
 changed Debit amount balance = balance -ℤ pos amount
 
+-- the account is there, and the balance lies within its floor and ceiling
 abbrev pub is_within : Option Account → ℤ → Bool
 is_within (Some account) balance = int_le account.floor balance && int_le balance account.ceil
 is_within None balance = false
@@ -53,6 +57,7 @@ leg_test chart entries k leg =
     let balance = balance_of chart entries leg.account.0 in
     unless (is_within (account_at chart leg.account.0) (changed leg.side leg.amount.0 balance)) (Unfunded k balance)
 
+-- the tests of the legs one by one, the first of which is leg k
 abbrev pub leg_tests : Chart → List Entry → ℕ → List Leg → List (Option Outcome)
 leg_tests chart entries k [] = []
 leg_tests chart entries k (leg ∷ legs) = leg_test chart entries k leg ∷ leg_tests chart entries (k + 1) legs

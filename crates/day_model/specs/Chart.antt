@@ -4,11 +4,17 @@ use Rattle.std.specs.Str.{bytes_eq}
 use Rattle.std.specs.List.{position_from, list_all}
 use Rattle.std.specs.Char.{is_ascii_uppercase}
 use Rattle.corr_text.specs.Sets.{is_c_byte}
-use Rattle.corr_ids.specs.Bic.{is_bic}
+use Rattle.corr_ids.specs.Bic.{IsBic}
 use Rattle.corr_ids.specs.declared.bic.Bic.{Bic}
 use Rattle.corr_money.specs.declared.amount.Ccy.{Ccy}
 use Rattle.day_model.specs.declared.account.Account.{Account}
 use Rattle.day_model.specs.declared.account.AcctNo.{AcctNo}
+use Rattle.day_model.specs.declared.kind.Kind.{Kind}
+use Rattle.day_model.specs.declared.kind.Kind.TheVariants.{Customer, Vostro, Nostro}
+
+-- the most accounts that a book has
+abbrev pub most_accounts : ℕ
+most_accounts = 1000
 
 -- what contracts see of `Accounts`: the home BIC, and the accounts in the order of their numbers
 pub record Chart : Type 0 where
@@ -27,9 +33,11 @@ account_at chart n = slice_get chart.accounts (n - 1)
 abbrev pub number_of_first : (Account → Bool) → List Account → Option AcctNo
 number_of_first test accounts = option_map (λ n. record { 0 = n }) (position_from test 1 accounts)
 
+-- an account has this id
 abbrev pub has_id : List ℕ → Account → Bool
 has_id id account = bytes_eq account.id id
 
+-- two currencies are the same
 abbrev pub is_ccy : Ccy → Ccy → Bool
 is_ccy c d = bytes_eq c.0 d.0
 
@@ -38,16 +46,25 @@ abbrev pub is_owned : ℕ → List ℕ → Ccy → ℕ → Account → Bool
 is_owned kind head ccy decimals account =
     (account.kind == kind) && bytes_eq account.owner.head head && is_ccy account.ccy ccy && (account.decimals == decimals)
 
--- kinds: `C` is a customer's account, `V` vostro and `N` nostro
+-- the letter C, of a customer's account
 abbrev pub customer : ℕ
 customer = 67
 
+-- the letter V, of a bank's account with the home bank
 abbrev pub vostro : ℕ
 vostro = 86
 
+-- the letter N, of the home bank's account with a bank
 abbrev pub nostro : ℕ
 nostro = 78
 
+-- the letter of a kind
+abbrev pub letter_of : Kind → ℕ
+letter_of Customer = customer
+letter_of Vostro = vostro
+letter_of Nostro = nostro
+
+-- one of the three letters
 abbrev pub is_kind : ℕ → Bool
 is_kind kind = (kind == customer) || (kind == vostro) || (kind == nostro)
 
@@ -57,7 +74,7 @@ pub record IsFormed (account : Account) : Type 0 where
   pub id_short : length account.id ≤ 34
   pub id_plain : IsTrue (list_all is_c_byte account.id)
   pub kind : IsTrue (is_kind account.kind)
-  pub owner : IsTrue (is_bic (account.owner.head ++ account.owner.branch))
+  pub owner : IsBic account.owner
   pub ccy : IsTrue (list_all is_ascii_uppercase account.ccy.0)
   pub decimals : account.decimals ≤ 4
 
@@ -81,7 +98,7 @@ pub record IsSameBank (a b : Account) : Type 0 where
 
 -- what must hold of the accounts of a book, but for the sums of their openings
 pub record AreRows (accounts : List Account) : Type 0 where
-  pub few : length accounts ≤ 1000
+  pub few : length accounts ≤ most_accounts
   pub formed : (i : ℕ) (a : Account) → slice_get accounts i ≡ Some a → IsFormed a
   pub limited : (i : ℕ) (a : Account) → slice_get accounts i ≡ Some a → IsLimited a
   pub ids : (i j : ℕ) (a b : Account) → slice_get accounts i ≡ Some a → slice_get accounts j ≡ Some b → a.id ≡ b.id → i ≡ j

@@ -7,6 +7,7 @@ use Rattle.day_model.specs.declared.entry.Entry.{Entry}
 use Rattle.day_model.specs.declared.core_job.Mark.{Mark}
 use Rattle.day_model.specs.declared.core_job.Mark.TheVariants.{Entered, Refused}
 use Rattle.day_model.specs.Chart.{Chart, IsChart, IsListed, IsSmall}
+use Rattle.day_model.specs.Log.{most_entries}
 use Rattle.day_model.specs.Balance.{balance_of, changed, is_booked, outcome_of}
 use Rattle.day_model.specs.Next.{entered_at, next_history}
 use Rattle.day_model.specs.Legal.{IsLegal}
@@ -20,6 +21,7 @@ pub record LedgerState : Type 0 where
   pub purses : List ℤ
   pub broken : Bool
 
+-- account n's purse; 0 where there is none
 abbrev pub purse_of : List ℤ → ℕ → ℤ
 purse_of purses n = unwrap_or (slice_get purses (n - 1)) (pos 0)
 
@@ -27,6 +29,7 @@ purse_of purses n = unwrap_or (slice_get purses (n - 1)) (pos 0)
 abbrev pub with_leg : List ℤ → Leg → List ℤ
 with_leg purses leg = slice_set purses (leg.account.0 - 1) (changed leg.side leg.amount.0 (purse_of purses leg.account.0))
 
+-- legs added one after another
 abbrev pub with_legs : List ℤ → List Leg → List ℤ
 with_legs purses [] = purses
 with_legs purses (leg ∷ legs) = with_legs (with_leg purses leg) legs
@@ -38,16 +41,18 @@ pub record CanAdd (purses : List ℤ) (leg : Leg) : Type 0 where
   pub small : IsSmall (purse_of purses leg.account.0)
   pub amount : leg.amount.0 < 100000000000000
 
+-- each leg can be added after those before it
 abbrev pub CanAddAll : List ℤ → List Leg → Type 0
 CanAddAll purses [] = Unit {0}
 CanAddAll purses (leg ∷ legs) = CanAdd purses leg × CanAddAll (with_leg purses leg) legs
 
+-- a pay's reference is in the history
 abbrev pub is_entered : LedgerState → Pay → Bool
 is_entered ledger pay = is_some (entered_at pay.mir ledger.entries)
 
 -- nothing after a fault, and no new reference in a full history
 abbrev pub may_enter : LedgerState → Pay → Bool
-may_enter ledger pay = not ledger.broken && (is_entered ledger pay || nat_lt (length ledger.entries) 100000)
+may_enter ledger pay = not ledger.broken && (is_entered ledger pay || nat_lt (length ledger.entries) most_entries)
 
 -- the legs of a new and booked entry are added
 abbrev pub purses_after : LedgerState → Pay → List ℤ
@@ -55,12 +60,14 @@ purses_after ledger pay =
     if is_entered ledger pay then ledger.purses
     else if is_booked (outcome_of ledger.chart ledger.entries pay) then with_legs ledger.purses pay.legs else ledger.purses
 
+-- the ledger after a Commit of a pay: it is entered if it may be
 abbrev pub ledger_after : LedgerState → Pay → LedgerState
 ledger_after ledger pay =
     if may_enter ledger pay
     then record ledger { entries = next_history ledger.chart ledger.entries pay ledger.day; purses = purses_after ledger pay }
     else ledger
 
+-- what a Commit says of a job: its reference is in the history, or it may not enter
 abbrev pub mark_of : LedgerState → Pay → Mark
 mark_of ledger pay = if may_enter ledger pay then Entered else Refused
 

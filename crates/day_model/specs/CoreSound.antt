@@ -22,6 +22,7 @@ pub record IsFirst (chart : Chart) (entries : List Entry) (workers : ℕ) (s : C
   pub count : length s.workers ≡ workers
   pub idle : AllIdle s.workers
 
+-- a leg of the pay is on account n
 abbrev pub has_account : Pay → ℕ → Bool
 has_account pay n = list_any (λ leg. leg.account.0 == n) pay.legs
 
@@ -34,6 +35,7 @@ pub record HoldsLeast (job : Job) : Type 0 where
 abbrev pub HasHeld : List (Option Job) → ℕ → ℕ → Type 0
 HasHeld workers worker n = (job : Job) × (job_at workers worker ≡ Some job) × (holds job n ≡ true)
 
+-- its pay fits, it holds the least of its accounts, and after a Commit that entered it its reference is in the history
 pub record IsSoundJob (ledger : LedgerState) (job : Job) : Type 0 where
   pub fits : FitsAccounts ledger.chart job.pay
   pub least : HoldsLeast job
@@ -54,11 +56,13 @@ goes_on worker (Commit w) = w == worker
 goes_on worker (GiveBack w) = w == worker
 goes_on worker Fault = false
 
+-- an event of this worker is allowed
 pub record MayGoOn (s : CoreState) (worker : ℕ) : Type 0 where
   pub event : Event
   pub its_own : goes_on worker event ≡ true
   pub allowed : is_allowed s event ≡ true
 
+-- nobody holds the account, or there is none to hold
 abbrev pub is_free : List (Option Job) → Option ℕ → Bool
 is_free workers (Some n) = is_none (holder_of workers n)
 is_free workers None = true
@@ -79,6 +83,7 @@ pub record IsKept (first s : CoreState) : Type 0 where
   pub begins : (more : List Entry) × (s.ledger.entries ≡ first.ledger.entries ++ more)
   pub no_deadlock : NoDeadlock s
 
+-- every list of events leads to a state that keeps what holds
 abbrev pub RunsAreKept : CoreState → Type 0
 RunsAreKept s = (events : List Event) → IsKept s (run_of s events)
 

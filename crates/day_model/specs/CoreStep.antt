@@ -21,9 +21,11 @@ pub record CoreState : Type 0 where
 abbrev pub worker_at : List (Option Job) → ℕ → Option (Option Job)
 worker_at workers n = if nat_lt 0 n then slice_get workers (n - 1) else None
 
+-- the job of worker n, if it has one
 abbrev pub job_at : List (Option Job) → ℕ → Option Job
 job_at workers n = option_and_then (λ job. job) (worker_at workers n)
 
+-- there is such a worker, and it has no job
 abbrev pub is_idle : Option (Option Job) → Bool
 is_idle (Some None) = true
 is_idle (Some (Some job)) = false
@@ -33,6 +35,7 @@ is_idle None = false
 abbrev pub holds : Job → ℕ → Bool
 holds job n = list_any (λ account. account.0 == n) job.held
 
+-- the worker has a job that holds account n
 abbrev pub has_held : ℕ → Option Job → Bool
 has_held n (Some job) = holds job n
 has_held n None = false
@@ -41,6 +44,7 @@ has_held n None = false
 abbrev pub holder_of : List (Option Job) → ℕ → Option ℕ
 holder_of workers n = position_from (has_held n) 1 workers
 
+-- the lesser of a number and another, if there is another
 abbrev pub lesser : ℕ → Option ℕ → ℕ
 lesser n None = n
 lesser n (Some m) = if nat_lt m n then m else n
@@ -55,6 +59,7 @@ least_unheld job (leg ∷ legs) =
 abbrev pub wanted_by : Job → Option ℕ
 wanted_by job = least_unheld job job.pay.legs
 
+-- there is a number, and it is n
 abbrev pub is_number : Option ℕ → ℕ → Bool
 is_number (Some m) n = m == n
 is_number None n = false
@@ -74,6 +79,7 @@ abbrev pub may_give_back : Option Job → Bool
 may_give_back (Some job) = is_some job.mark
 may_give_back None = false
 
+-- whether the phase of the event's worker allows it
 abbrev pub is_allowed : CoreState → Event → Bool
 is_allowed s (Draw worker pay) = is_idle (worker_at s.workers worker) && legs_fit s.ledger.chart pay.legs
 is_allowed s (Take worker account) = may_take s.workers account.0 (job_at s.workers worker)
@@ -81,6 +87,7 @@ is_allowed s (Commit worker) = may_commit (job_at s.workers worker)
 is_allowed s (GiveBack worker) = may_give_back (job_at s.workers worker)
 is_allowed s Fault = true
 
+-- worker n has this job, or none
 abbrev pub with_worker : List (Option Job) → ℕ → Option Job → List (Option Job)
 with_worker workers n job = slice_set workers (n - 1) job
 
@@ -88,9 +95,11 @@ with_worker workers n job = slice_set workers (n - 1) job
 abbrev pub drawn : Pay → Job
 drawn pay = record { pay = pay; held = []; mark = None }
 
+-- the job holds an account more
 abbrev pub also_holding : AcctNo → Job → Job
 also_holding account job = record job { held = job.held ++ account ∷ [] }
 
+-- the job has been committed
 abbrev pub marked : Mark → Job → Job
 marked mark job = record job { mark = Some mark }
 
@@ -98,6 +107,7 @@ marked mark job = record job { mark = Some mark }
 abbrev pub with_job : List (Option Job) → ℕ → (Job → Job) → List (Option Job)
 with_job workers n change = option_map_or (λ job. with_worker workers n (Some (change job))) (job_at workers n) workers
 
+-- a Commit enters the job's pay and marks the job
 abbrev pub after_commit : CoreState → ℕ → Job → CoreState
 after_commit s worker job = record {
   ledger = ledger_after s.ledger job.pay;

@@ -7,15 +7,18 @@ use Rattle.day_model.specs.declared.pay.Leg.{Leg}
 use Rattle.day_model.specs.declared.pay.Pay.{Pay}
 use Rattle.day_model.specs.Chart.{Chart, account_at, is_ccy}
 
+-- two sides are the same
 abbrev pub is_side : Side → Side → Bool
 is_side Debit Debit = true
 is_side Credit Credit = true
 is_side Debit Credit = false
 is_side Credit Debit = false
 
+-- an account has this number
 abbrev pub is_listed : Chart → ℕ → Bool
 is_listed chart n = nat_le 1 n && nat_le n (length chart.accounts)
 
+-- both accounts are there and have one currency
 abbrev pub same_ccy : Option Account → Option Account → Bool
 same_ccy (Some a) (Some b) = is_ccy a.ccy b.ccy
 same_ccy (Some a) None = false
@@ -36,5 +39,6 @@ legs_fit chart (debit ∷ credit ∷ []) =
     is_side Debit debit.side && is_side Credit credit.side && amounts_fit debit.amount.0 credit.amount.0 && accounts_fit chart debit.account.0 credit.account.0
 legs_fit chart _ = false
 
+-- the pay fits the accounts of a book
 abbrev pub FitsAccounts : Chart → Pay → Type 0
 FitsAccounts chart pay = IsTrue (legs_fit chart pay.legs)

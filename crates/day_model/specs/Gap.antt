@@ -39,6 +39,7 @@ pub record IsFirstUnbalanced (accounts : List Account) (gap : Gap) : Type 0 wher
   pub is_gap : IsGapOf accounts account gap
   pub first : (c : Ccy) → is_before c gap.ccy ≡ true → opening_sum c accounts ≡ pos 0
 
+-- what the search for the first gap answers: none where all currencies' openings sum to 0
 abbrev pub FirstGap : List Account → Option Gap → Type 0
 FirstGap accounts None = (c : Ccy) → opening_sum c accounts ≡ pos 0
 FirstGap accounts (Some gap) = IsFirstUnbalanced accounts gap

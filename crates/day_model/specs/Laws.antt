@@ -10,6 +10,7 @@ use Rattle.day_model.specs.declared.pay.Leg.{Leg}
 use Rattle.day_model.specs.declared.pay.Pay.{Pay}
 use Rattle.day_model.specs.declared.entry.Entry.{Entry}
 use Rattle.day_model.specs.Chart.{Chart, account_at, is_ccy}
+use Rattle.day_model.specs.Log.{most_entries}
 use Rattle.day_model.specs.Fit.{FitsAccounts, is_side}
 use Rattle.day_model.specs.Balance.{is_booked, balance_of, credits_of, debits_of}
 use Rattle.day_model.specs.Next.{entered_at, next_history, fold_of}
@@ -24,6 +25,7 @@ sum_in ccy amount n (account ∷ accounts) = (if is_ccy account.ccy ccy then amo
 abbrev pub BalancesCancel : Chart → List Entry → Type 0
 BalancesCancel chart entries = (ccy : Ccy) → sum_in ccy (balance_of chart entries) 1 chart.accounts ≡ pos 0
 
+-- the account is there and has this currency
 abbrev pub in_ccy : Ccy → Option Account → Bool
 in_ccy ccy (Some account) = is_ccy account.ccy ccy
 in_ccy ccy None = false
@@ -32,6 +34,7 @@ in_ccy ccy None = false
 abbrev pub moved_in : Chart → Ccy → Side → Leg → ℕ
 moved_in chart ccy side leg = if is_side side leg.side && in_ccy ccy (account_at chart leg.account.0) then leg.amount.0 else 0
 
+-- what an entry moves there: only a booked one does
 abbrev pub entry_in : Chart → Ccy → Side → Entry → ℕ
 entry_in chart ccy side entry = if is_booked entry.outcome then sum_by (moved_in chart ccy side) entry.pay.legs else 0
 
@@ -39,6 +42,7 @@ entry_in chart ccy side entry = if is_booked entry.outcome then sum_by (moved_in
 abbrev pub turnover : Chart → Ccy → Side → List Entry → ℕ
 turnover chart ccy side entries = sum_by (entry_in chart ccy side) entries
 
+-- in each currency the booked entries debit as much as they credit
 abbrev pub DebitsEqualCredits : Chart → List Entry → Type 0
 DebitsEqualCredits chart entries = (ccy : Ccy) → turnover chart ccy Debit entries ≡ turnover chart ccy Credit entries
 
@@ -50,8 +54,9 @@ TotalsFit entries n = (credits_of entries n < 2 ^ 64) × (debits_of entries n < 
 abbrev pub IsLatest : List Entry → Day → Type 0
 IsLatest entries day = (i : ℕ) (e : Entry) → slice_get entries i ≡ Some e → e.day.0 ≤ℤ day.0
 
+-- with a pay entered on a day that is not before the last, the history is legal still
 abbrev pub StaysLegal : Chart → List Entry → Pay → Type 0
-StaysLegal chart entries pay = (day : Day) → IsLatest entries day → length entries < 100000 → IsLegal chart (next_history chart entries pay day)
+StaysLegal chart entries pay = (day : Day) → IsLatest entries day → length entries < most_entries → IsLegal chart (next_history chart entries pay day)
 
 -- no entry yet is legal
 abbrev pub EmptyIsLegal : Type 0
@@ -62,6 +67,7 @@ abbrev pub FoldBegins : Type 0
 FoldBegins = (chart : Chart) (entries : List Entry) (pays : List Pay) (day : Day) →
     (more : List Entry) × (fold_of chart entries pays day ≡ entries ++ more)
 
+-- two lists of pays one after another are folded as one list
 abbrev pub FoldOfAppend : Type 0
 FoldOfAppend = (chart : Chart) (entries : List Entry) (a b : List Pay) (day : Day) →
     fold_of chart entries (a ++ b) day ≡ fold_of chart (fold_of chart entries a day) b day
@@ -74,7 +80,7 @@ FoldAgain = (chart : Chart) (entries : List Entry) (a b : List Pay) (day : Day) 
 -- a fold of pays that fit is legal
 abbrev pub FoldIsLegal : Type 0
 FoldIsLegal = (chart : Chart) (entries : List Entry) (pays : List Pay) (day : Day) →
-    IsLegal chart entries → ((k : ℕ) (p : Pay) → slice_get pays k ≡ Some p → FitsAccounts chart p) → IsLatest entries day → length entries + length pays ≤ 100000 →
+    IsLegal chart entries → ((k : ℕ) (p : Pay) → slice_get pays k ≡ Some p → FitsAccounts chart p) → IsLatest entries day → length entries + length pays ≤ most_entries →
     IsLegal chart (fold_of chart entries pays day)
 
 -- entries keep their places

@@ -8,8 +8,9 @@ pub mod Next
 pub mod Legal
 pub mod Same
 pub mod Laws
-pub mod Rows
+pub mod RowTests
 pub mod Totals
+pub mod Pairs
 pub mod CoreLedger
 pub mod CoreStep
 pub mod CoreSound

@@ -9,6 +9,7 @@ use Rattle.day_model.specs.declared.entry.Entry.{Entry}
 use Rattle.day_model.specs.Chart.{Chart}
 use Rattle.day_model.specs.Balance.{outcome_of}
 
+-- an entry's pay has this reference
 abbrev pub has_mir : Mir → Entry → Bool
 has_mir mir entry = bytes_eq entry.pay.mir.0 mir.0
 

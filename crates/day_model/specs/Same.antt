@@ -10,12 +10,14 @@ use Rattle.day_model.specs.declared.reply.Reply.{Reply}
 use Rattle.day_model.specs.declared.reply.Reply.TheVariants.{Entered, Conflict}
 use Rattle.day_model.specs.Next.{entered_at}
 
+-- two types of message are the same
 abbrev pub is_mt : Mt → Mt → Bool
 is_mt Transfer Transfer = true
 is_mt Cover Cover = true
 is_mt Transfer Cover = false
 is_mt Cover Transfer = false
 
+-- two UETRs are the same, or both are absent
 abbrev pub is_uetr : Option Uetr → Option Uetr → Bool
 is_uetr (Some u) (Some v) = bytes_eq u.0 v.0
 is_uetr (Some u) None = false
@@ -26,6 +28,7 @@ is_uetr None None = true
 abbrev pub is_same_pay : Pay → Pay → Bool
 is_same_pay p q = bytes_eq p.mir.0 q.mir.0 && is_mt p.mt q.mt && is_uetr p.uetr q.uetr && bytes_eq p.text q.text
 
+-- two pays are the same
 abbrev pub IsSamePay : Pay → Pay → Type 0
 IsSamePay p q = IsTrue (is_same_pay p q)
 

@@ -12,12 +12,15 @@ use Rattle.day_model.specs.Legal.{IsLegal}
 abbrev pub Pair : Type 0
 Pair = ℕ × ℕ
 
+-- two pairs added, side by side
 abbrev pub plus : Pair → Pair → Pair
 plus p q = (p.0 + q.0, p.1 + q.1)
 
+-- both totals fit 64 bits
 abbrev pub Fits64 : Pair → Type 0
 Fits64 p = (p.0 < 2 ^ 64) × (p.1 < 2 ^ 64)
 
+-- an amount on one side
 abbrev pub on_side : Side → ℕ → Pair
 on_side Credit amount = (amount, 0)
 on_side Debit amount = (0, amount)
@@ -56,6 +59,7 @@ HasTotals pairs count entries = HasPairs pairs count (λ n. totals_of n entries)
 abbrev pub balance_with : Chart → ℕ → Pair → ℤ
 balance_with chart n totals = (opening_of chart n +ℤ pos totals.0) -ℤ pos totals.1
 
+-- a balance is the opening, plus the credits and minus the debits of the account's totals
 abbrev pub BalanceIsByTotals : Type 0
 BalanceIsByTotals = (chart : Chart) (entries : List Entry) (n : ℕ) → balance_of chart entries n ≡ balance_with chart n (totals_of n entries)
 
@@ -63,5 +67,6 @@ BalanceIsByTotals = (chart : Chart) (entries : List Entry) (n : ℕ) → balance
 abbrev pub EntryAddsItsLegs : Type 0
 EntryAddsItsLegs = (entries : List Entry) (entry : Entry) (n : ℕ) → totals_of n (entries ++ entry ∷ []) ≡ plus (totals_of n entries) (legs_pair n (booked_legs entry))
 
+-- after a legal history the totals of an account fit 64 bits
 abbrev pub LegalTotalsFit : Type 0
 LegalTotalsFit = (chart : Chart) (entries : List Entry) (n : ℕ) → IsLegal chart entries → Fits64 (totals_of n entries)

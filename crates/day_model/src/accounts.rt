@@ -1,10 +1,10 @@
 //! The accounts of a book.
 
-ghost use Rattle.std.specs.Prelude.{◌≡◌, ◌≤◌, IfOk, IfErr, OnOk, length, pos, ◌++◌, IsTrue};
+ghost use Rattle.std.specs.Prelude.{◌≡◌, ◌≤◌, IfOk, IfErr, OnOk, length, pos};
 ghost use Rattle.std.specs.List.{position_from};
-ghost use Rattle.day_model.specs.Chart.{AreRows, IsChart, IsListed, account_at, has_id, is_owned, number_of_first, opening_sum};
+ghost use Rattle.day_model.specs.Chart.{AreRows, IsChart, IsListed, account_at, has_id, is_owned, most_accounts, number_of_first, opening_sum};
 ghost use Rattle.day_model.specs.Gap.{TellsUnbalanced};
-ghost use Rattle.corr_ids.specs.Bic.{IsBic, is_bic};
+ghost use Rattle.corr_ids.specs.Bic.{IsBic};
 ghost use Rattle.corr_money.specs.declared.amount.Ccy.{Ccy};
 
 use crate::account::{Account, AcctNo};
@@ -14,6 +14,9 @@ use corr_ids::Bic;
 use corr_money::Ccy;
 use corr_text::List;
 use std::marker::Model;
+
+/// How many accounts a book has at most.
+pub(crate) const MOST_ACCOUNTS: usize = 1000;
 
 /// The home bank and its accounts, whose openings sum to 0 in each currency. Accounts are numbered from 1.
 #[derive(Debug, Drop)]
@@ -43,15 +46,6 @@ fn first_owned(
             && account.ccy == ccy
             && account.decimals == decimals
     })
-}
-
-// An owner whose characters are a BIC's is a BIC: its head has eight bytes, and its branch three.
-fn known(owner: &Bic)
-    requires { IsTrue (is_bic (owner.now.head ++ owner.now.branch)) }
-    ensures { IsBic owner.now }
-{
-    let _head: &[u8] = &owner.head;
-    let _branch: &[u8] = &owner.branch;
 }
 
 impl Model for Accounts {
@@ -94,7 +88,7 @@ impl Accounts {
     /// How many accounts there are: at most 1,000.
     pub fn count(&self) -> u32
         ensures count { result ≡ length self.now.accounts }
-        ensures few { result ≤ 1000 }
+        ensures few { result ≤ most_accounts }
         ensures sound { IsChart self.now }
     {
         self.rows.as_slice().len() as u32
@@ -107,9 +101,7 @@ impl Accounts {
         ensures sound { IsChart self.now }
         ensures owner { IsBic result.now.owner }
     {
-        let account = &self.rows.as_slice()[a.0 as usize - 1];
-        known(&account.owner);
-        account
+        &self.rows.as_slice()[a.0 as usize - 1]
     }
 
     /// The number of the account with this id, none where no account has it.

@@ -1,18 +1,20 @@
 //! What the workers of a core enter into.
 
-ghost use Rattle.std.specs.Prelude.{◌≡◌, ◌<◌, [], true, false, length, IfOk, OnOk, OnErr, if◌then◌else◌};
-ghost use Rattle.day_model.specs.Chart.{IsChart};
+ghost use Rattle.std.specs.Prelude.{◌≡◌, ◌<◌, true, false, pos, ◌+ℤ◌, ◌-ℤ◌, length, IfOk, OnOk, OnErr, if◌then◌else◌};
+ghost use Rattle.day_model.specs.Chart.{IsSmall};
 ghost use Rattle.day_model.specs.Fit.{FitsAccounts};
 ghost use Rattle.day_model.specs.Balance.{is_booked};
 ghost use Rattle.day_model.specs.Legal.{IsLegal};
+ghost use Rattle.day_model.specs.Log.{most_entries};
 ghost use Rattle.day_model.specs.CoreLedger.{AreAtBalance, CanAdd, CanAddAll, IsFirstLedger, IsSoundLedger, day_of_last, is_entered, ledger_after, mark_of, with_leg, with_legs};
 
-use crate::account::AcctNo;
+use crate::account::{Account, AcctNo};
+use crate::account_totals::totals;
 use crate::accounts::Accounts;
 use crate::core_job::Mark;
 use crate::entry::{Entry, Outcome};
 use crate::funds::{after_leg, decide};
-use crate::history::History;
+use crate::history::{History, MOST_ENTRIES};
 use crate::pay::{Leg, Pay};
 use corr_ids::Day;
 use corr_text::Memory;
@@ -67,24 +69,24 @@ fn settle(purses: &mut Vec<i64>, outcome: Outcome, legs: &[Leg])
     }
 }
 
-fn openings(alloc: Global, a: &Accounts) -> Result<Vec<i64>, Memory>
-    ensures opened { IfOk result (λ purses. AreAtBalance a.now [] purses.items) }
-    ensures sound { OnOk result (IsChart a.now) }
+// A credit and a debit total may each pass what an `i64` holds, their difference may not.
+fn balance_with(account: &Account, totals: (u64, u64)) -> i64
+    requires { IsSmall ((account.now.opening +ℤ pos totals.0) -ℤ pos totals.1) }
+    ensures { result ≡ (account.now.opening +ℤ pos totals.0) -ℤ pos totals.1 }
 {
-    let mut purses = Vec::new(alloc);
-    for at in 0..a.count() {
-        purses.push(a.get(AcctNo(at + 1)).opening)?;
-    }
-    Ok(purses)
+    (account.opening as i128 + totals.0 as i128 - totals.1 as i128) as i64
 }
 
+/// Each account's balance after a history.
 fn balances(alloc: Global, a: &Accounts, h: &History) -> Result<Vec<i64>, Memory>
     requires { IsLegal a.now h.now.entries }
     ensures { IfOk result (λ purses. AreAtBalance a.now h.now.entries purses.items) }
 {
-    let mut purses = openings(alloc, a)?;
-    for entry in h.entries() {
-        settle(&mut purses, entry.outcome, entry.pay.legs.as_slice());
+    let pairs = totals(alloc, a, h)?;
+    let mut purses = Vec::new(alloc);
+    for at in 0..a.count() {
+        let account = a.get(AcctNo(at + 1));
+        purses.push(balance_with(account, pairs[at as usize]))?;
     }
     Ok(purses)
 }
@@ -146,7 +148,7 @@ impl Ledger {
         requires sound { IsSoundLedger self.old }
         requires fits { FitsAccounts self.old.chart pay.now }
         requires new { is_entered self.old pay.now ≡ false }
-        requires room { length self.old.entries < 100000 }
+        requires room { length self.old.entries < most_entries }
         requires whole { self.old.broken ≡ false }
         ensures ok { OnOk result (self.new ≡ ledger_after self.old pay.now) }
         ensures err { OnErr result (self.new ≡ self.old) }
@@ -176,7 +178,7 @@ impl Ledger {
         if self.history.find(&pay.mir).is_some() {
             return Ok(Mark::Entered);
         }
-        if self.history.len() == 100_000 {
+        if self.history.len() == MOST_ENTRIES {
             return Ok(Mark::Refused);
         }
         self.add(alloc, pay)?;

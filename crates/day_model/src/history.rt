@@ -2,6 +2,7 @@
 
 ghost use Rattle.std.specs.Prelude.{◌≡◌, ◌<◌, ◌≤◌, ◌-◌, ◌++◌, [], ◌∷◌, length, slice_get, OnOk, OnErr, IsOk};
 ghost use Rattle.std.specs.List.{position_from};
+ghost use Rattle.day_model.specs.Log.{most_entries};
 ghost use Rattle.day_model.specs.Next.{entered_at, has_mir};
 
 use crate::entry::Entry;
@@ -9,6 +10,9 @@ use corr_ids::Mir;
 use corr_text::Memory;
 use std::alloc::Global;
 use std::marker::Model;
+
+/// How many entries a history has at most.
+pub(crate) const MOST_ENTRIES: u32 = 100_000;
 
 /// The entries of a journal in their order, at most 100,000. Places are numbered from 1.
 ///
@@ -26,13 +30,13 @@ fn first_of_mir(entries: &[Entry], mir: &Mir) -> Option<usize>
 
 impl Model for History {
     ghost use Rattle.std.specs.Prelude.{◌-◌, ◌≤◌, vec_capacity, length};
-    ghost use Rattle.day_model.specs.Log.{Log};
+    ghost use Rattle.day_model.specs.Log.{Log, most_entries};
 
     ghost Value = { Log };
 
     ghost view = { λ h. record { entries = h.log.items; spare = vec_capacity h.log - length h.log.items } };
 
-    ghost invariant = { λ h. length h.log.items ≤ 100000 };
+    ghost invariant = { λ h. length h.log.items ≤ most_entries };
 }
 
 impl History {
@@ -57,7 +61,7 @@ impl History {
     /// Adds an entry at the end of fewer than 100,000. It needs no memory where there is room; want of memory leaves the
     /// entries as they were.
     pub fn push(&mut self, e: Entry) -> Result<(), Memory>
-        requires { length self.old.entries < 100000 }
+        requires { length self.old.entries < most_entries }
         ensures ok { OnOk result (self.new.entries ≡ self.old.entries ++ e ∷ []) }
         ensures err { OnErr result (self.new.entries ≡ self.old.entries) }
         ensures room { 0 < self.old.spare → IsOk result }
@@ -69,7 +73,7 @@ impl History {
     /// How many entries there are: at most 100,000.
     pub fn len(&self) -> u32
         ensures count { result ≡ length self.now.entries }
-        ensures few { result ≤ 100000 }
+        ensures few { result ≤ most_entries }
     {
         self.log.len() as u32
     }
@@ -77,7 +81,7 @@ impl History {
     /// The entries.
     pub(crate) fn entries(&self) -> &[Entry]
         ensures value { result.now ≡ self.now.entries }
-        ensures few { length self.now.entries ≤ 100000 }
+        ensures few { length self.now.entries ≤ most_entries }
     {
         self.log.as_slice()
     }

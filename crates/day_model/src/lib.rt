@@ -2,6 +2,7 @@
 #![tactic(auto)]
 
 mod account;
+mod account_totals;
 mod accounts;
 mod copy;
 mod core_event;
@@ -15,6 +16,7 @@ mod fit;
 mod funds;
 mod gap;
 mod history;
+mod kind;
 mod law;
 mod pay;
 mod reply;
@@ -22,9 +24,9 @@ mod rows;
 mod same;
 #[cfg(test)]
 mod tests;
-mod totals;
 
 pub use account::{Account, AcctNo};
+pub use account_totals::{totals, with_leg};
 pub use accounts::Accounts;
 pub use core_event::Event;
 pub use core_machine::Core;
@@ -32,8 +34,8 @@ pub use entry::{Entry, Outcome};
 pub use fault::AccountsFault;
 pub use funds::{balance, decide};
 pub use history::History;
-pub use law::fold_laws;
+pub use kind::Kind;
+pub use law::{fold_laws, totals_laws};
 pub use pay::{Leg, Mt, Order, Pay, Quote, Side, Skip};
 pub use reply::Reply;
 pub use rows::rows_hold;
-pub use totals::totals_laws;

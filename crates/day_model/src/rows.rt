@@ -1,14 +1,15 @@
 //! The test of accounts.
 
-ghost use Rattle.std.specs.Prelude.{◌≡◌, ◌++◌, is_some, IsTrue};
+ghost use Rattle.std.specs.Prelude.{◌≡◌, ◌==◌, IsTrue};
 ghost use Rattle.std.specs.List.{list_all};
 ghost use Rattle.std.specs.Char.{is_ascii_uppercase};
 ghost use Rattle.corr_text.specs.Sets.{is_c_byte};
-ghost use Rattle.corr_ids.specs.Bic.{is_bic};
-ghost use Rattle.day_model.specs.Rows.{all_apart, apart, has_limits, is_formed, is_row, rows_fit};
-ghost use Rattle.day_model.specs.Chart.{AreRows};
+ghost use Rattle.day_model.specs.RowTests.{all_apart, apart, has_limits, is_formed, is_row, reads_itself, rows_fit};
+ghost use Rattle.day_model.specs.Chart.{AreRows, customer, is_kind};
 
 use crate::account::Account;
+use crate::accounts::MOST_ACCOUNTS;
+use crate::kind::Kind;
 use corr_ids::{Bic, read_bic, with_branch};
 use corr_text::{Set, is_set};
 
@@ -24,11 +25,25 @@ fn is_code(ccy: &[u8]) -> bool
     ccy.iter().all(|b| b.is_ascii_uppercase())
 }
 
-#[tactic(auto, unfolding(corr_ids::specs::Bic::is_bic))]
 fn is_bank(b: &Bic) -> bool
-    ensures { result ≡ is_bic (b.now.head ++ b.now.branch) }
+    ensures { result ≡ reads_itself b.now }
 {
-    read_bic(&with_branch(b)).is_some()
+    match read_bic(&with_branch(b)) {
+        Some(read) => read.head == b.head && read.branch == b.branch,
+        None => false,
+    }
+}
+
+fn is_customer(kind: u8) -> bool
+    ensures { result ≡ (kind == customer) }
+{
+    kind == Kind::Customer.letter()
+}
+
+fn is_letter(kind: u8) -> bool
+    ensures { result ≡ is_kind kind }
+{
+    is_customer(kind) || kind == Kind::Vostro.letter() || kind == Kind::Nostro.letter()
 }
 
 fn has_form(a: &Account) -> bool
@@ -38,7 +53,7 @@ fn has_form(a: &Account) -> bool
     1 <= id.len()
         && id.len() <= 34
         && is_plain(id)
-        && (a.kind == b'C' || a.kind == b'V' || a.kind == b'N')
+        && is_letter(a.kind)
         && is_bank(&a.owner)
         && is_code(&a.ccy.0)
         && a.decimals <= 4
@@ -62,7 +77,7 @@ fn is_book_row(a: &Account) -> bool
 fn are_apart(a: &Account, b: &Account) -> bool
     ensures { result ≡ apart a.now b.now }
 {
-    let same_bank = a.kind != b'C'
+    let same_bank = !is_customer(a.kind)
         && a.kind == b.kind
         && a.owner.head == b.owner.head
         && a.ccy == b.ccy;
@@ -93,12 +108,11 @@ fn are_rows(rows: &[Account]) -> bool
 fn are_fit(rows: &[Account]) -> bool
     ensures { result ≡ rows_fit rows.now }
 {
-    rows.len() <= 1000 && are_rows(rows) && are_all_apart(rows)
+    rows.len() <= MOST_ACCOUNTS && are_rows(rows) && are_all_apart(rows)
 }
 
 /// Whether these rows may be the accounts of a book, but for the sums of their openings.
 pub fn rows_hold(rows: &[Account]) -> bool
-    ensures value { result ≡ rows_fit rows.now }
     ensures sound { IsTrue result → AreRows rows.now }
     ensures complete { AreRows rows.now → IsTrue result }
 {

@@ -2,7 +2,7 @@ use Rattle.std.proofs.Common.{◌≡◌, ◌∙◌, ◌+◌, [], ◌∷◌, ◌+
 use Rattle.day_model.specs.declared.entry.Entry.{Entry}
 use Rattle.day_model.specs.declared.reply.Reply.TheVariants as reply
 use Rattle.day_model.specs.Same.{reply_to}
-use Rattle.corr_top.proofs.Lookups.{reply_new}
+use Rattle.day_model.proofs.laws.Lookups.{reply_new}
 use Rattle.corr_top.proofs.answers.enter_new.Goals as goal
 
 pub returns-clause-reply : goal.returns-clause-reply

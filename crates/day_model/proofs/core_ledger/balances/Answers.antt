@@ -1,32 +1,31 @@
-use Rattle.std.proofs.Common.{◌+◌, List, ℤ, take, refl, sym, ap, ◌∙◌, subst}
-use Rattle.std.specs.Prelude.{if◌then◌else◌}
-use Rattle.std.proofs.lemmas.Option.{slice_get_read}
-use Rattle.day_model.specs.declared.pay.Leg.{Leg}
-use Rattle.day_model.specs.Balance.{is_booked}
-use Rattle.day_model.specs.Legal.{IsLegal}
-use Rattle.day_model.specs.CoreLedger.{AreAtBalance, CanAddAll, with_legs}
-use Rattle.day_model.proofs.laws.Fitting.{transfer}
-use Rattle.day_model.proofs.CorePurses.{can_add_all, purses_more}
+use Rattle.std.proofs.Common.{◌≡◌, ◌+◌, ◌-◌, ◌≤◌, List, [], ◌∷◌, ◌++◌, w64, ℕ, Some, get_or, pos, ◌+ℤ◌, ◌-ℤ◌, length, sym, ap, ◌∙◌, subst, arith, ℤ}
+use Rattle.std.proofs.lemmas.Int.{to_z-of_z}
+use Rattle.day_model.specs.Balance.{balance_of}
+use Rattle.day_model.specs.Chart.{IsListed, IsSmall}
+use Rattle.day_model.specs.Totals.{Pair}
+use Rattle.day_model.proofs.CorePurses.{balance_by_pair, opened_more, small_now}
 use Rattle.day_model.proofs.core_ledger.balances.Goals as goal
 
-pub settle-requires : goal.settle-requires
-settle-requires c =
-    let items = c.entries-entry-items.result.now in
-    let e = c.entry-item.result in
-    let i = c.loop-entry.entry-index in
-    let legal : IsLegal c.args.a.now items = subst (IsLegal c.args.a.now) (sym c.entries-entry-items.ensures.value) c.requires in
-    let at = slice_get_read items _ i e refl c.loop-entry-test.true c.entry-item.is in
-    subst (λ (ls : List Leg). CanAddAll c.loop-entry.purses.items ls) (sym c.as_slice.ensures)
-    (can_add_all c.args.a.now items c.loop-entry.purses.items i e.pay.legs c.in_ok-purses.ensures.sound legal c.loop-entry.auto.entry-index-end c.loop-entry.invariant (transfer c.args.a.now e.pay.legs (legal.fits i e at)))
+-- the pair of the account that follows
+placed : (pairs : List Pair) (i : ℕ) (p : Pair) → p ≡ get_or pairs i p → p ≡ get_or pairs (i + 1 - 1) p
+placed pairs i p is =
+    let place : i ≡ i + 1 - 1 = omega arith in
+    is ∙ ap (λ (k : ℕ). get_or pairs k p) place
 
-pub loop-entry-preserved : goal.loop-entry-preserved
-loop-entry-preserved c =
-    let items = c.entries-entry-items.result.now in
-    let e = c.entry-item.result in
-    let i = c.loop-entry.entry-index in
-    let legal : IsLegal c.args.a.now items = subst (IsLegal c.args.a.now) (sym c.entries-entry-items.ensures.value) c.requires in
-    let at = slice_get_read items _ i e refl c.loop-entry-test.true c.entry-item.is in
-    let purses = c.loop-entry.purses.items in
-    let settled = c.settle.ensures ∙ ap (λ (ls : List Leg). if is_booked e.outcome then with_legs purses ls else purses) c.as_slice.ensures in
-    subst (λ (ps : List ℤ). AreAtBalance c.args.a.now (take (i + 1) items) ps) (sym settled)
-    (purses_more c.args.a.now items purses i e (is_booked e.outcome) (transfer c.args.a.now e.pay.legs (legal.fits i e at)) at refl c.loop-entry.invariant)
+pub balance_with-requires : goal.balance_with-requires
+balance_with-requires c =
+    let chart = c.args.a.now in
+    let entries = c.args.h.now.entries in
+    let n = c.loop-at.at + 1 in
+    let there : IsListed chart n = (omega arith, omega (arith, c.loop-at-test.true, c.count-at-end.ensures.count)) in
+    let is = balance_by_pair chart entries c.in_ok-pairs.pairs.items n c.index.result.now c.get-account.result.now c.in_ok-pairs.ensures.value there (placed c.in_ok-pairs.pairs.items c.loop-at.at c.index.result.now c.index.ensures) c.get-account.ensures.value in
+    subst IsSmall (sym is) (small_now chart entries n c.count-at-end.ensures.sound c.requires there)
+
+pub loop-at-preserved : goal.loop-at-preserved
+loop-at-preserved c =
+    let chart = c.args.a.now in
+    let entries = c.args.h.now.entries in
+    let n = c.loop-at.at + 1 in
+    let there : IsListed chart n = (omega arith, omega (arith, c.loop-at-test.true, c.count-at-end.ensures.count)) in
+    let is = balance_by_pair chart entries c.in_ok-pairs.pairs.items n c.index.result.now c.get-account.result.now c.in_ok-pairs.ensures.value there (placed c.in_ok-pairs.pairs.items c.loop-at.at c.index.result.now c.index.ensures) c.get-account.ensures.value in
+    opened_more chart entries c.loop-at.at c.loop-at.purses.items c.push.new.self.items c.balance_with.result (c.in_ok-push.ensures.items ∙ ap (λ (z : ℤ). c.loop-at.purses.items ++ z ∷ []) (to_z-of_z w64 c.balance_with.result (record { sfits = c.balance_with.type_inv }))) (c.balance_with.ensures ∙ is) c.loop-at.invariant

@@ -1,9 +1,10 @@
 use Rattle.std.proofs.Common.{◌≡◌, ◌+◌, List, drop, sym, ap, ◌∙◌, subst, arith}
 use Rattle.std.proofs.lemmas.List.{drop_all}
 use Rattle.day_model.specs.declared.pay.Leg.{Leg}
-use Rattle.acct_locks.specs.Pairs.{Sides, pairs_with}
+use Rattle.day_model.specs.Pairs.{pairs_with}
+use Rattle.acct_locks.specs.Sides.{Sides}
 use Rattle.acct_locks.specs.Holdings.{Holding, CanSettle, held_with}
-use Rattle.acct_locks.proofs.Pairs.{left_at, pairs_next, pairs_with-nil}
+use Rattle.day_model.proofs.laws.PairLists.{left_at, pairs_next, pairs_with-nil}
 use Rattle.acct_locks.proofs.Holdings.{next_once, next_fits, next_can, held_next, held_with-nil}
 use Rattle.acct_locks.proofs.held.Held.settle.Goals as goal
 
@@ -38,6 +39,7 @@ loop-leg-preserved g c =
       held = ap (λ (hs : List Holding). held_with rest hs) e.held ∙ held_next (drop at legs) rest leg held left i.can ∙ i.held;
       pairs = ap (λ (s : Sides). pairs_with rest s.pairs) e.sides ∙ pairs_next (drop at legs) rest leg c.loop-leg.sides.pairs left ∙ i.pairs;
       same_table = ap (λ (s : Sides). s.table) e.sides ∙ i.same_table;
+      count = e.count ∙ i.count;
       table = e.table ∙ i.table;
     }
 

@@ -1,5 +1,5 @@
 use Rattle.std.proofs.Common.{◌≡◌, drop}
-use Rattle.acct_locks.specs.Pairs.{pairs_with}
+use Rattle.day_model.specs.Pairs.{pairs_with}
 use Rattle.acct_locks.specs.Holdings.{CanSettle, held_with}
 use Rattle.acct_locks.proofs.held.Held.settle.Given as goal
 
@@ -9,5 +9,6 @@ invariant-loop-leg g l = record {
   held : held_with (drop l.leg-index l.legs) (g.Self.Holder.held l.self) ≡ held_with l.legs (g.Self.Holder.held l.initial.self);
   pairs : pairs_with (drop l.leg-index l.legs) l.sides.pairs ≡ pairs_with l.legs l.initial.sides.pairs;
   same_table : l.sides.table ≡ l.initial.sides.table;
+  count : g.Self.Holder.count l.self ≡ g.Self.Holder.count l.initial.self;
   table : g.Self.Holder.table l.self ≡ g.Self.Holder.table l.initial.self;
 }

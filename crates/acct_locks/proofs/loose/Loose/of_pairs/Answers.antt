@@ -1,7 +1,8 @@
-use Rattle.std.proofs.Common.{◌≡◌, All, subst, rules, arith, ap, sym, ◌∙◌}
+use Rattle.std.proofs.Common.{◌≡◌, ◌+◌, ℕ, List, [], ◌∷◌, ◌++◌, All, take, get_or, subst, rules, arith, ap, sym, ◌∙◌}
 use Rattle.std.proofs.lemmas.List.Elements.{All-push}
-use Rattle.acct_locks.specs.Holdings.{Holding}
+use Rattle.acct_locks.specs.Holdings.{Holding, purse_at, purses_from}
 use Rattle.acct_locks.proofs.Places.{pair_at-next}
+use Rattle.acct_locks.proofs.Opening.{purses_more}
 use Rattle.acct_locks.proofs.loose.Loose.of_pairs.Goals as goal
 
 pub next_purse-purse-requires-clause-pair : goal.next_purse-purse-requires-clause-pair
@@ -13,6 +14,9 @@ pub loop-pair-preserved : goal.loop-pair-preserved
 loop-pair-preserved c =
     let i = c.loop-pair.invariant in
     let e = c.next_purse-purse.ensures in
+    let t = c.in_ok-ledger.ledger.shared.table_id in
+    let at = c.loop-pair.pair-index in
+    let pairs = c.deref-pair-items.result.now in
     record {
       at = omega arith;
       table = e.book.0 ∙ i.table;
@@ -20,6 +24,10 @@ loop-pair-preserved c =
       empty = e.book.2;
       pairs = e.book.3 ∙ i.pairs;
       away = e.book.4;
+      purses = c.in_ok-push.ensures.items
+          ∙ ap (λ (hs : List Holding). hs ++ c.next_purse-purse.result ∷ []) i.purses
+          ∙ ap (λ (h : Holding). purses_from t 1 (take at pairs) ++ h ∷ []) (e.purse ∙ ap (λ (n : ℕ). purse_at t n (get_or pairs at (0, 0))) (let n : c.loop-pair.number + 1 ≡ 1 + at = omega (arith, i.at) in n))
+          ∙ sym (purses_more t 1 at pairs (0, 0) (omega arith));
       many = search rules;
       of_table = subst (All (λ (p : Holding). p.table ≡ c.in_ok-ledger.ledger.shared.table_id)) (sym c.in_ok-push.ensures.items) (All-push (λ (p : Holding). p.table ≡ c.in_ok-ledger.ledger.shared.table_id) c.loop-pair.purses.items c.next_purse-purse.result i.of_table (ap (λ (h : Holding). h.table) e.purse));
     }

@@ -10,8 +10,8 @@ there : (rows accounts : List Account) (n : ℕ) (item : Account) → rows ≡ a
 there rows accounts n item same within is =
     slice_get_read accounts _ (n - 1) item refl (omega (arith, within.0, within.1)) (is ∙ ap (λ xs. get_or xs (n - 1) item) same)
 
-pub known-requires : goal.known-requires
-known-requires c =
+pub returns-clause-owner : goal.returns-clause-owner
+returns-clause-owner c =
     let item = c.index-as_slice-a.result in
     let i = c.args.a.0 - 1 in
     let rows = c.as_slice.ensures ∙ ap (λ (v : Chart). v.accounts) c.self.view_is in

@@ -2,9 +2,9 @@ use Rattle.std.proofs.Common.{◌≡◌, ◌+◌, [], ◌∷◌, List, length, d
 use Rattle.std.proofs.lemmas.List.{drop_all}
 use Rattle.day_model.specs.declared.pay.Leg.{Leg}
 use Rattle.day_model.specs.Totals.{Pair}
-use Rattle.acct_locks.specs.Pairs.{PairsFit, pairs_with}
-use Rattle.acct_locks.proofs.Pairs.{left_at, rest_fits, pairs_next, pairs_with-nil, length-pairs_from}
-use Rattle.acct_locks.proofs.totals.add_legs.Goals as goal
+use Rattle.day_model.specs.Pairs.{PairsFit, pairs_with}
+use Rattle.day_model.proofs.laws.PairLists.{left_at, rest_fits, pairs_next, pairs_with-nil, length-pairs_from}
+use Rattle.day_model.proofs.account_totals.add_legs.Goals as goal
 
 pub loop-leg-preserved : goal.loop-leg-preserved
 loop-leg-preserved c =

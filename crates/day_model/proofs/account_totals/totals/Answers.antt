@@ -4,9 +4,9 @@ use Rattle.day_model.specs.declared.pay.Leg.{Leg}
 use Rattle.day_model.specs.declared.entry.Entry.{Entry}
 use Rattle.day_model.specs.Totals.{Pair, HasTotals, booked_legs}
 use Rattle.day_model.proofs.laws.Pairs.{booked_listed}
-use Rattle.acct_locks.specs.Pairs.{PairsFit, pairs_with}
-use Rattle.acct_locks.proofs.Histories.{entry_fits, has_more}
-use Rattle.acct_locks.proofs.totals.totals.Goals as goal
+use Rattle.day_model.specs.Pairs.{PairsFit, pairs_with}
+use Rattle.day_model.proofs.laws.Histories.{entry_fits, has_more}
+use Rattle.day_model.proofs.account_totals.totals.Goals as goal
 
 -- the entry at a place is the one before it, counted from 0
 placed : (entries : List Entry) (i : ℕ) (e : Entry) → slice_get entries ((i + 1) - 1) ≡ Some e → slice_get entries i ≡ Some e

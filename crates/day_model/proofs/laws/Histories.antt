@@ -8,9 +8,8 @@ use Rattle.day_model.specs.Chart.{Chart}
 use Rattle.day_model.specs.Legal.{IsLegal}
 use Rattle.day_model.specs.Totals.{Pair, plus, Fits64, legs_pair, booked_legs, totals_of, pair_at, HasTotals}
 use Rattle.day_model.proofs.laws.Pairs.{totals_more, totals_so_far, legal_totals_fit, entry_adds_its_legs}
-use Rattle.acct_locks.specs.Pairs.{pairs_with, PairsFit}
-use Rattle.acct_locks.proofs.Places.{there_is}
-use Rattle.acct_locks.proofs.Pairs.{length-pairs_from, pair_with}
+use Rattle.day_model.specs.Pairs.{pairs_with, PairsFit}
+use Rattle.day_model.proofs.laws.PairLists.{length-pairs_from, pair_with, there_is}
 
 -- before any entry
 pair_of_none : (count n : ℕ) → 1 ≤ n → n ≤ count → pair_at (replicate count (0, 0)) n ≡ Some (0, 0)

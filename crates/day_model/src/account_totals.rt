@@ -1,18 +1,22 @@
-//! The totals of a history.
+//! Each account's totals after a history.
 
 ghost use Rattle.std.specs.Prelude.{◌≡◌, ◌≤◌, [], ◌∷◌, length, All, IfOk};
+ghost use Rattle.day_model.specs.Chart.{most_accounts};
 ghost use Rattle.day_model.specs.Legal.{IsLegal};
 ghost use Rattle.day_model.specs.Totals.{Fits64, HasTotals, booked_legs, leg_pair, plus};
-ghost use Rattle.acct_locks.specs.Pairs.{PairsFit, pairs_with};
+ghost use Rattle.day_model.specs.Pairs.{PairsFit, pairs_with};
 
+use crate::accounts::Accounts;
+use crate::entry::{Entry, Outcome};
+use crate::history::History;
+use crate::pay::{Leg, Side};
 use corr_text::Memory;
-use day_model::{Accounts, Entry, History, Leg, Outcome, Side};
 use std::alloc::Global;
 
-/// An account's totals with a leg added.
-pub(crate) fn with_leg(totals: (u64, u64), leg: &Leg) -> (u64, u64)
-    requires { Fits64 (plus totals (leg_pair leg.now)) }
-    ensures { result ≡ plus totals (leg_pair leg.now) }
+/// An account's credits and debits with a leg added.
+pub fn with_leg(totals: (u64, u64), leg: &Leg) -> (u64, u64)
+    requires fits { Fits64 (plus totals (leg_pair leg.now)) }
+    ensures value { result ≡ plus totals (leg_pair leg.now) }
 {
     match leg.side {
         Side::Credit => (totals.0 + leg.amount.0, totals.1),
@@ -48,11 +52,11 @@ fn legs_booked(entry: &Entry) -> &[Leg]
     }
 }
 
-/// Each account's totals after a history.
-pub(crate) fn totals(alloc: Global, a: &Accounts, h: &History) -> Result<Vec<(u64, u64)>, Memory>
+/// Each account's credits and debits over the booked entries of a history, in minor units; account 1's come first.
+pub fn totals(alloc: Global, a: &Accounts, h: &History) -> Result<Vec<(u64, u64)>, Memory>
     requires legal { IsLegal a.now h.now.entries }
-    ensures value { IfOk result (λ v. HasTotals v.items (length a.now.accounts) h.now.entries) }
-    ensures few { IfOk result (λ v. length v.items ≤ 1000) }
+    ensures value { IfOk result (λ pairs. HasTotals pairs.items (length a.now.accounts) h.now.entries) }
+    ensures few { IfOk result (λ pairs. length pairs.items ≤ most_accounts) }
 {
     let mut pairs = vec![in alloc; (0, 0); a.count() as usize]?;
     for at in 0..h.len() {

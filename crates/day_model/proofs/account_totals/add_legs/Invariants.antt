@@ -1,6 +1,6 @@
 use Rattle.std.proofs.Common.{◌≡◌, length, drop}
-use Rattle.acct_locks.specs.Pairs.{PairsFit, pairs_with}
-use Rattle.acct_locks.proofs.totals.add_legs.Given as goal
+use Rattle.day_model.specs.Pairs.{PairsFit, pairs_with}
+use Rattle.day_model.proofs.account_totals.add_legs.Given as goal
 
 abbrev pub invariant-loop-leg : goal.invariant-loop-leg
 invariant-loop-leg l = record {

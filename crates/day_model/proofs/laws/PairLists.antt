@@ -2,11 +2,11 @@
 use Rattle.std.proofs.Common.{◌≡◌, ◌≢◌, ◌+◌, ◌-◌, ◌<◌, ◌≤◌, ℕ, zero, suc, List, [], ◌∷◌, length, drop, get_or, Some, refl, sym, ap, ◌∙◌, subst, arith}
 use Rattle.std.specs.Prelude.{slice_get, slice_set}
 use Rattle.std.proofs.lemmas.List.{drop_more}
-use Rattle.std.proofs.lemmas.Option.{none-some, same_Some, slice_get_read}
+use Rattle.std.proofs.lemmas.Option.{none-some, same_Some, slice_get_read, slice_get_within}
 use Rattle.day_model.specs.declared.pay.Leg.{Leg}
 use Rattle.day_model.specs.Totals.{Pair, plus, Fits64, leg_pair, legs_pair, pair_at}
 use Rattle.day_model.proofs.laws.Pairs.{plus_assoc, plus_nothing, legs_pair-cons, own_leg, other_leg}
-use Rattle.acct_locks.specs.Pairs.{with_pair, pairs_from, pairs_with, PairsFit}
+use Rattle.day_model.specs.Pairs.{with_pair, pairs_from, pairs_with, PairsFit}
 
 -- one leg after another adds what both add
 pub plus_leg : (n : ℕ) (p : Pair) (leg : Leg) (legs : List Leg) → plus p (legs_pair n (leg ∷ legs)) ≡ plus (plus p (legs_pair n (leg ∷ []))) (legs_pair n legs)
@@ -115,6 +115,11 @@ one_at (suc k) leg pairs p is at =
 
 pub one_leg : (leg : Leg) (pairs : List Pair) (p : Pair) → pair_at pairs leg.account.0 ≡ Some p → pairs_with (leg ∷ []) pairs ≡ with_pair pairs leg.account.0 (plus p (leg_pair leg))
 one_leg leg pairs p at = one_at leg.account.0 leg pairs p refl at
+
+-- the account n stands in a list of pairs
+pub there_is : (pairs : List Pair) (n : ℕ) (p : Pair) → pair_at pairs n ≡ Some p → (0 < n) × (n ≤ length pairs)
+there_is pairs zero p e = absurd (cc)
+there_is pairs (suc k) p e = (omega arith, omega (arith, slice_get_within pairs k p e))
 
 -- a pair read and written at the place before the account's number
 pub pair_read : (pairs : List Pair) (n : ℕ) (p : Pair) → 1 ≤ n → n ≤ length pairs → p ≡ get_or pairs (n - 1) p → pair_at pairs n ≡ Some p

@@ -1,0 +1,25 @@
+//! Kinds of accounts.
+
+ghost use Rattle.std.specs.Prelude.{◌≡◌};
+ghost use Rattle.day_model.specs.Chart.{letter_of};
+
+/// Whose account it is: a customer's, a bank's with the home bank (vostro), or the home bank's with a bank (nostro).
+#[derive(Clone, Copy, Debug, PartialEq, Eq)]
+pub enum Kind {
+    Customer,
+    Vostro,
+    Nostro,
+}
+
+impl Kind {
+    /// The letter of the kind, as the field `kind` of an account has it: `C`, `V` or `N`.
+    pub fn letter(self) -> u8
+        ensures { result ≡ letter_of self }
+    {
+        match self {
+            Kind::Customer => b'C',
+            Kind::Vostro => b'V',
+            Kind::Nostro => b'N',
+        }
+    }
+}
