@@ -9,8 +9,6 @@ mod once_disk;
 mod past;
 mod plan;
 mod planned_disk;
-#[cfg(test)]
-mod tests;
 
 pub use corr_text::Failed;
 pub use disk::Disk;

@@ -9,8 +9,6 @@ mod day;
 mod envelope;
 mod form;
 mod mir;
-#[cfg(test)]
-mod tests;
 mod uetr;
 
 pub use address::{LtAddress, read_lt};

@@ -9,8 +9,6 @@ mod sink;
 mod source;
 mod std_sink;
 mod std_source;
-#[cfg(test)]
-mod tests;
 
 pub use corr_text::Failed;
 pub use count::{count_fault, counted};

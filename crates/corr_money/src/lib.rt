@@ -4,8 +4,6 @@
 mod amount;
 mod fault;
 mod reading;
-#[cfg(test)]
-mod tests;
 mod writing;
 
 pub use amount::{Amount, Ccy, Minor};

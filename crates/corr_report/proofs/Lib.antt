@@ -2,4 +2,3 @@ pub mod laws
 pub mod Sums
 pub mod LineLists
 pub mod FailingLeg
-pub mod Empty

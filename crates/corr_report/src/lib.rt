@@ -5,8 +5,6 @@ mod currency;
 mod entries;
 mod outcome;
 mod replies;
-#[cfg(test)]
-mod tests;
 mod totals;
 mod turnover;
 mod words;

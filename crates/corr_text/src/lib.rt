@@ -11,8 +11,6 @@ mod lines;
 mod list;
 mod memory;
 mod set;
-#[cfg(test)]
-mod tests;
 mod text;
 
 pub use brace::next_brace;

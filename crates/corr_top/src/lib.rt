@@ -14,8 +14,6 @@ mod run;
 mod slices;
 mod status;
 mod tables;
-#[cfg(test)]
-mod tests;
 mod words;
 mod writing;
 

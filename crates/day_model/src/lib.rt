@@ -22,8 +22,6 @@ mod pay;
 mod reply;
 mod rows;
 mod same;
-#[cfg(test)]
-mod tests;
 
 pub use account::{Account, AcctNo};
 pub use account_totals::{totals, with_leg};

@@ -9,14 +9,10 @@ mod forms;
 mod groups;
 mod law;
 mod reading;
-#[cfg(test)]
-mod tests;
 mod text;
 mod trailers;
 mod user;
 mod writing;
-#[cfg(test)]
-mod writing_tests;
 
 pub use blocks::{App, Blocks};
 pub use fault::{BlockFault, P01, P02, P03, P04, P05, P06};

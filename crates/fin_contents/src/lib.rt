@@ -11,8 +11,6 @@ mod party;
 mod rate;
 mod reference;
 mod short;
-#[cfg(test)]
-mod tests;
 mod texts;
 mod time;
 mod value;

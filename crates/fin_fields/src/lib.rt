@@ -8,8 +8,6 @@ mod heading;
 mod outside;
 mod pattern;
 mod tag;
-#[cfg(test)]
-mod tests;
 mod writing;
 
 pub use cutting::cut_fields;

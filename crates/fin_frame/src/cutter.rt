@@ -333,6 +333,3 @@ impl Cutter {
         }
     }
 }
-
-#[cfg(test)]
-mod tests;

@@ -11,8 +11,6 @@ mod place;
 mod placing;
 mod reading;
 mod structure;
-#[cfg(test)]
-mod tests;
 
 pub use content::{Content, refusal};
 pub use fault::{MtFault, P22, P23, P24, Refusal};

@@ -12,8 +12,6 @@ mod judging;
 mod laws;
 mod message;
 mod parts;
-#[cfg(test)]
-mod tests;
 mod transfer;
 
 pub use codes::{P07, P08, P09, P10, P11, P12, P13, P20, P21, P90};

@@ -8,8 +8,6 @@ mod numbered;
 mod opening;
 mod party;
 mod reading;
-#[cfg(test)]
-mod tests;
 mod writing;
 
 pub use fault::PartyFault;

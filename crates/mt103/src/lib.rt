@@ -14,8 +14,6 @@ mod order;
 mod parties;
 mod reading;
 mod terms;
-#[cfg(test)]
-mod tests;
 mod verdict;
 mod writing;
 

@@ -12,8 +12,6 @@ mod laws;
 mod levels;
 mod operation;
 mod parties;
-#[cfg(test)]
-mod tests;
 
 pub use codes::{
     C02, C81, D49, D50, D51, D75, E01, E02, E03, E04, E05, E06, E07, E09, E10, E13, E15, E16, E17,

@@ -13,8 +13,6 @@ mod rules;
 mod sequences;
 mod steps;
 mod terms;
-#[cfg(test)]
-mod tests;
 mod verdict;
 mod writing;
 

@@ -8,8 +8,6 @@ mod debit;
 mod laws;
 mod order;
 mod stamp;
-#[cfg(test)]
-mod tests;
 mod writing;
 
 pub use credit::{C06, Mt910, read_mt910};

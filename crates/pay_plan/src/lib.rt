@@ -11,8 +11,6 @@ mod legs;
 mod orders;
 mod planning;
 mod target;
-#[cfg(test)]
-mod tests;
 mod way;
 
 pub use ask::Ask;

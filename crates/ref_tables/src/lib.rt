@@ -11,8 +11,6 @@ mod fault;
 mod keyed;
 mod rows;
 mod tables;
-#[cfg(test)]
-mod tests;
 
 pub use account::AccountRow;
 pub use accounts::read_accounts;

@@ -11,8 +11,6 @@ mod laws;
 mod ledger;
 mod routed;
 mod target;
-#[cfg(test)]
-mod tests;
 
 pub use choice::route;
 pub use codes::{P30, P31, P32, P33, P35, P36, P38};

@@ -7,8 +7,6 @@ mod method;
 mod reading;
 mod row;
 mod ssi;
-#[cfg(test)]
-mod tests;
 
 pub use method::Method;
 pub use row::SsiRow;

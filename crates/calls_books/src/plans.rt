@@ -1,0 +1,109 @@
+//! The pay of a transfer.
+
+ghost use Rattle.std.specs.Prelude.{◌≤◌, IfOk, IsSome, length};
+ghost use Rattle.pay_plan.specs.Readable.{IsTransferRead};
+
+use pay_plan::{Ask, plan, plan_code_law};
+use corr_ids::{Bic, Envelope, Mir};
+use corr_money::Ccy;
+use corr_text::{List, Memory, Text};
+use day_model::{Account, Accounts, Pay, rows_hold};
+use fin_fields::{Field, FieldFault, cut_fields};
+use mt103::{Mt103, read_mt103};
+use ref_tables::{RefTables, read_tables};
+use ssi_versions::Ssi;
+use std::alloc::Global;
+use std::test::Fail;
+
+const HOME: Bic = Bic {
+    head: *b"HOMEUS33",
+    branch: *b"XXX",
+};
+
+const OTHER: Bic = Bic {
+    head: *b"ALPHDEFF",
+    branch: *b"XXX",
+};
+
+fn account(alloc: Global, id: &[u8], kind: u8, owner: Bic) -> Result<Account, Memory> {
+    Ok(Account {
+        id: Text::from_bytes(alloc, id)?,
+        kind,
+        owner,
+        ccy: Ccy(*b"EUR"),
+        decimals: 2,
+        floor: 0,
+        ceil: 9,
+        opening: 0,
+    })
+}
+
+fn book(alloc: Global) -> Result<Accounts, Fail> {
+    let mut rows = List::new(alloc);
+    rows.push(account(alloc, b"V", b'V', OTHER)?)?;
+    rows.push(account(alloc, b"C", b'C', HOME)?)?;
+    if !rows_hold(rows.as_slice()) {
+        return Err("no rows")?;
+    }
+    Ok(Accounts::new(HOME, rows)?)
+}
+
+fn envelope() -> Envelope
+    ensures { IsSome result.mir }
+{
+    Envelope {
+        mir: Some(Mir(*b"240603ALPHDEFFAXXX0001000001")),
+        sender: OTHER,
+        receiver: HOME,
+        uetr: None,
+    }
+}
+
+// Generic, so that a large value is let go as one.
+fn let_go<M: Drop>(_m: M) {}
+
+fn cut(alloc: Global, text: &[u8]) -> Result<List<Field>, FieldFault>
+    ensures { IfOk result (λ fields. length fields ≤ 1000) }
+{
+    if text.len() > 1000 {
+        return Err(FieldFault::Memory);
+    }
+    let fields = cut_fields(alloc, text)?;
+    if fields.as_slice().len() > 1000 {
+        return Err(FieldFault::Memory);
+    }
+    Ok(fields)
+}
+
+fn read(alloc: Global, tables: &RefTables, text: &Text) -> Result<Mt103, Fail>
+    ensures { IfOk result IsTransferRead }
+{
+    let fields = cut(alloc, text.bytes())?;
+    match read_mt103(alloc, fields.as_slice(), tables) {
+        Ok(m) => Ok(m),
+        Err(_) => Err("no transfer")?,
+    }
+}
+
+fn counts(pay: &Pay) -> (usize, usize) {
+    (pay.legs.as_slice().len(), pay.orders.as_slice().len())
+}
+
+#[test]
+fn a_transfer_is_planned(rt: HostRuntime) -> Result<(), Fail> {
+    plan_code_law();
+    let alloc = rt.alloc();
+    let t = read_tables(alloc, b"", b"EUR,2\n", b"")?;
+    let ssi = Ssi::read(alloc, b"", &t)?;
+    let book = book(alloc)?;
+    let text = b":20:R\n:23B:CRED\n:32A:240603EUR1,\n:50K:P\n:59:/C\nQ\n:71A:SHA\n";
+    let text = Text::from_bytes(alloc, text)?;
+    let m = read(alloc, &t, &text)?;
+    let pay = plan(alloc, &envelope(), &text, Ask::Transfer(&m), &ssi, &book);
+    let_go(m);
+    let pay = pay?;
+    let counts = counts(&pay);
+    let_go(pay);
+    assert_eq!(rt; counts, (2, 1));
+    Ok(())
+}

@@ -1,0 +1,79 @@
+//! A route between two accounts.
+
+use routing::{Cover, Routed, Target, route, route_code_law};
+use corr_ids::{Bic, Day};
+use corr_money::{Amount, Ccy, Minor};
+use corr_text::{List, Memory, Text};
+use day_model::{Account, Accounts, AcctNo, rows_hold};
+use ref_tables::read_tables;
+use ssi_versions::Ssi;
+use std::alloc::Global;
+use std::test::Fail;
+
+const HOME: Bic = Bic {
+    head: *b"HOMEUS33",
+    branch: *b"XXX",
+};
+
+const OTHER: Bic = Bic {
+    head: *b"ALPHDEFF",
+    branch: *b"XXX",
+};
+
+const EUR: Ccy = Ccy(*b"EUR");
+
+fn account(alloc: Global, id: &[u8], kind: u8, owner: Bic) -> Result<Account, Memory> {
+    Ok(Account {
+        id: Text::from_bytes(alloc, id)?,
+        kind,
+        owner,
+        ccy: EUR,
+        decimals: 2,
+        floor: 0,
+        ceil: 9,
+        opening: 0,
+    })
+}
+
+fn book(alloc: Global) -> Result<Accounts, Fail> {
+    let mut rows = List::new(alloc);
+    rows.push(account(alloc, b"V", b'V', OTHER)?)?;
+    rows.push(account(alloc, b"C", b'C', HOME)?)?;
+    if !rows_hold(rows.as_slice()) {
+        return Err("no rows")?;
+    }
+    Ok(Accounts::new(HOME, rows)?)
+}
+
+#[test]
+fn a_payment_is_routed(rt: HostRuntime) -> Result<(), Fail> {
+    route_code_law();
+    let t = read_tables(rt.alloc(), b"", b"", b"")?;
+    let ssi = Ssi::read(rt.alloc(), b"", &t)?;
+    let book = book(rt.alloc())?;
+    let amount = Amount {
+        ccy: EUR,
+        minor: Minor(5),
+        decimals: 2,
+    };
+    let target = Target::Customer {
+        account: Some(Text::from_bytes(rt.alloc(), b"C")?),
+    };
+    let got = route(
+        &OTHER,
+        &amount,
+        Day(19877),
+        &Cover::Relation,
+        &target,
+        &ssi,
+        &book,
+    );
+    let want = Routed {
+        debit: AcctNo(1),
+        credit: AcctNo(2),
+        method: None,
+        via: None,
+    };
+    assert_eq!(rt; got, Ok(want));
+    Ok(())
+}
