@@ -1,11 +1,12 @@
 -- The first entry, of the header record.
-use Rattle.std.proofs.Common.{◌≡◌, ◌≢◌, inl, inr, ℕ, ◌^◌, ◌<◌, ◌≤◌, List, [], ◌∷◌, ◌++◌, length, get_or, take, drop, refl, sym, ◌∙◌, ap, subst, arith, append_assoc, take-append-drop}
-use Rattle.std.proofs.lemmas.List.{append-nil}
+use Rattle.std.proofs.Common.{◌≡◌, ◌≢◌, inl, inr, ℕ, ◌+◌, ◌^◌, ◌<◌, ◌≤◌, List, [], ◌∷◌, ◌++◌, length, get_or, take, drop, refl, sym, ◌∙◌, ap, subst, arith, append_assoc, length-append, take-append-drop}
+use Rattle.std.proofs.lemmas.List.{append-nil, drop-drop, drop_all}
 use Rattle.std.proofs.lemmas.Bool.{cases_eq}
 use Rattle.corr_disk.specs.Disk.{written, Torn, Follows, Only}
-use Rattle.jrn_file.specs.Journal.{sized, frame_of, record_in, IsFrame, IsWritten, StandsFor}
-use Rattle.jrn_file.specs.Making.{IsUnmade, IsUnmadeOrMade, IsEntering}
+use Rattle.jrn_file.specs.Journal.{sized, frame_of, record_in, journal_bytes, IsFrame, StandsFor}
+use Rattle.jrn_file.specs.Making.{IsUnmade, IsUnmadeOrMade, IsEntering, made_over}
 use Rattle.jrn_file.proofs.Bytes.{written-behind, written-gate, torn-behind, torn-gate}
+use Rattle.jrn_file.proofs.Records.{length-sized, length-journal_bytes}
 
 stands-first : (gate : ℕ) (head rest image : List ℕ) → gate ≢ 0 → length head < 2 ^ 32 → image ≡ gate ∷ (frame_of head ++ rest) → StandsFor image head []
 stands-first gate head rest image open_gate fits is = record {
@@ -67,9 +68,19 @@ module _ (bytes : List ℕ) (closed : take 1 bytes ≡ 0 ∷ []) (frame : List �
   pub entered-head : (c : List ℕ) → c ≡ written 0 (1 ∷ []) (written 1 frame bytes) → StandsFor c (record_in frame) []
   entered-head c is = stands-first 1 (record_in frame) (drop (length frame) (drop 1 bytes)) c (omega arith) framed.fits (opened c is)
 
-  pub written-head : (c : List ℕ) → c ≡ written 0 (1 ∷ []) (written 1 frame bytes) → IsWritten c (record_in frame) []
-  written-head c is = record {
-    rest = drop (length frame) (drop 1 bytes);
-    is = opened c is
-        ∙ ap (λ (l : List ℕ). 1 ∷ ((l ++ 0 ∷ []) ++ drop (length frame) (drop 1 bytes))) (sym (append-nil (sized (record_in frame))));
-  }
+  pub written-head : (c : List ℕ) → c ≡ written 0 (1 ∷ []) (written 1 frame bytes) → c ≡ made_over (record_in frame) bytes
+  written-head c is =
+      let size : 1 + length frame ≡ length (journal_bytes (record_in frame) []) =
+      omega (arith, ap length framed.is, length-append (sized (record_in frame)) (0 ∷ []), length-sized (record_in frame), length-journal_bytes (record_in frame) []) in
+      opened c is
+      ∙ ap (λ (l : List ℕ). 1 ∷ ((l ++ 0 ∷ []) ++ drop (length frame) (drop 1 bytes))) (sym (append-nil (sized (record_in frame))))
+      ∙ ap (λ (l : List ℕ). journal_bytes (record_in frame) [] ++ l) (drop-drop (length frame) 1 bytes ∙ ap (λ (n : ℕ). drop n bytes) size)
+
+-- over at most one byte as over a closed gate
+pub over-short : (head bytes : List ℕ) → length bytes ≤ 1 → made_over head (0 ∷ []) ≡ made_over head bytes
+over-short head bytes short =
+    let n = length (journal_bytes head []) in
+    let gate : List ℕ = 0 ∷ [] in
+    let past : length gate ≤ n = omega (arith, length-journal_bytes head []) in
+    let past_all : length bytes ≤ n = omega (arith, short, length-journal_bytes head []) in
+    ap (λ (l : List ℕ). journal_bytes head [] ++ l) (drop_all n gate past ∙ sym (drop_all n bytes past_all))

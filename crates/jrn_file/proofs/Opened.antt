@@ -21,11 +21,11 @@ explains-of honest reads (Damaged at) some told = subst (λ b. IsDamagedAt b at)
 explains-of honest reads (DiskFault before after) some told = some
 explains-of honest reads Memory some told = tt
 
-pub cause-of : (old new : ℕ) (honest : Bool) (reads : List ℕ) (fault : OpenFault) → ExplainsLoad honest reads (load.Refused fault) → OpenCause old new honest reads fault
-cause-of old new honest reads NotAJournal some = λ told. explains-of honest reads NotAJournal some told
-cause-of old new honest reads (Damaged at) some = λ told. explains-of honest reads (Damaged at) some told
-cause-of old new honest reads (DiskFault before after) some = absurd some
-cause-of old new honest reads Memory some = tt
+pub cause-of : (old new : ℕ) (honest : Bool) (reads : List ℕ) (fault : OpenFault) → new ≡ old → ExplainsLoad honest reads (load.Refused fault) → OpenCause old new honest reads fault
+cause-of old new honest reads NotAJournal kept some = (kept, λ told. explains-of honest reads NotAJournal some told)
+cause-of old new honest reads (Damaged at) kept some = (kept, λ told. explains-of honest reads (Damaged at) some told)
+cause-of old new honest reads (DiskFault before after) kept some = absurd some
+cause-of old new honest reads Memory kept some = kept
 
 -- the file of a disk that was read
 pub opened : {D : Type 0} (honest : D → Bool) (reads : D → List ℕ) (may_leave : D → List ℕ → Type 0) (file : JFile D) (old disk : D) (end : ℕ) (all : List (List ℕ))

@@ -1,5 +1,5 @@
 -- The causes of faults.
-use Rattle.std.specs.Prelude.{◌≡◌, ℕ, ◌+◌, ◌^◌, ◌<◌, ◌≤◌, Result, IsErrOf}
+use Rattle.std.specs.Prelude.{◌≡◌, ℕ, ◌+◌, ◌^◌, ◌<◌}
 use Rattle.corr_text.specs.Faults.{Rose}
 use Rattle.jrn_file.specs.declared.fault.AppendFault.{AppendFault}
 use Rattle.jrn_file.specs.declared.fault.AppendFault.TheVariants as append
@@ -8,11 +8,11 @@ use Rattle.jrn_file.specs.declared.fault.MakeFault.TheVariants as making
 use Rattle.jrn_file.specs.declared.loading.LoadFault.{LoadFault}
 use Rattle.jrn_file.specs.declared.loading.LoadFault.TheVariants as load
 
--- the counts that a fault of the disk tells: it rose between them, within the call
+-- the counts that a fault of the disk tells: that at entry, and one more, which is that at the return
 pub record Tells (old before after new : ℕ) : Type 0 where
-  pub since : old ≤ before
+  pub before_is : before ≡ old
+  pub after_is : after ≡ new
   pub rose : Rose before after
-  pub until : after ≤ new
 
 -- With so many bytes more behind its closed gate the file would pass its limit. It is as before.
 pub record IsFull (at more end need : ℕ) (untouched : Type 0) : Type 0 where
@@ -26,11 +26,11 @@ abbrev pub AppendCause : ℕ → ℕ → ℕ → ℕ → Type 0 → AppendFault 
 AppendCause old new at more untouched (append.Full end need) = IsFull at more end need untouched
 AppendCause old new at more untouched (append.DiskFault before after) = Tells old before after new
 
--- Exists tells the first byte of what is there.
+-- Exists tells the first byte of what is there. Where the disk didn't fail, its count is as it was.
 abbrev pub MakeCause : ℕ → ℕ → (ℕ → Type 0) → MakeFault → Type 0
-MakeCause old new is_other (making.Exists first) = is_other first
+MakeCause old new is_other (making.Exists first) = (new ≡ old) × is_other first
 MakeCause old new is_other (making.DiskFault before after) = Tells old before after new
-MakeCause old new is_other making.Memory = Unit {0}
+MakeCause old new is_other making.Memory = new ≡ old
 
 -- where this byte is in front of something else, the answer is Exists, unless the disk or memory failed
 abbrev pub IsRefusal : ℕ → MakeFault → Type 0
@@ -38,7 +38,7 @@ IsRefusal front (making.Exists first) = first ≡ front
 IsRefusal front (making.DiskFault before after) = Unit {0}
 IsRefusal front making.Memory = Unit {0}
 
--- the disk failed only where its count rose
-pub record LoadCause {T : Type 0} (before now : ℕ) (result : Result T LoadFault) : Type 0 where
-  pub later : before ≤ now
-  pub failed : IsErrOf result load.Disk → Rose before now
+-- a fault of the disk raised its count by one, and a refusal or want of memory left it
+abbrev pub LoadCause : ℕ → ℕ → LoadFault → Type 0
+LoadCause before now load.Disk = Rose before now
+LoadCause before now (load.Refused fault) = now ≡ before

@@ -41,11 +41,6 @@ pub record StandsFor (image head : List ℕ) (records : List (List ℕ)) : Type 
   pub same : map (λ entry. entry.1) entries ≡ head ∷ records
   pub is : image ≡ behind_gates entries ++ 0 ∷ rest
 
--- The bytes as they are written: they begin with the journal of this header and these records, all of its open gates 1.
-pub record IsWritten (image head : List ℕ) (records : List (List ℕ)) : Type 0 where
-  pub rest : List ℕ
-  pub is : image ≡ journal_bytes head records ++ rest
-
 -- the bytes stand for these records, or for them with one more
 abbrev pub IsBeforeOrAfter : List ℕ → List (List ℕ) → List ℕ → List ℕ → Type 0
 IsBeforeOrAfter head records r image = StandsFor image head records ⊎ StandsFor image head (records ++ r ∷ [])

@@ -1,7 +1,7 @@
 -- What stands on a disk before a journal is made on it.
-use Rattle.std.specs.Prelude.{◌≡◌, ◌≢◌, ◌⊎◌, ℕ, ◌+◌, ◌<◌, ◌≤◌, List, [], ◌∷◌, length, take, if◌then◌else◌, ◌==◌}
+use Rattle.std.specs.Prelude.{◌≡◌, ◌≢◌, ◌⊎◌, ℕ, ◌+◌, ◌<◌, ◌≤◌, List, [], ◌∷◌, ◌++◌, length, take, drop, if◌then◌else◌, ◌==◌}
 use Rattle.corr_disk.specs.Disk.{written, Torn}
-use Rattle.jrn_file.specs.Journal.{StandsFor}
+use Rattle.jrn_file.specs.Journal.{journal_bytes, StandsFor}
 use Rattle.jrn_file.specs.declared.making.Front.{Front}
 use Rattle.jrn_file.specs.declared.making.Front.TheVariants.{Short, Closed, Open}
 
@@ -30,6 +30,10 @@ abbrev pub calls_to_look : Front → ℕ
 calls_to_look Short = 1
 calls_to_look Closed = 2
 calls_to_look (Open first) = 2
+
+-- the bytes of a new journal of this header over these: what stands behind its closed gate stays
+abbrev pub made_over : List ℕ → List ℕ → List ℕ
+made_over head bytes = journal_bytes head [] ++ drop (length (journal_bytes head [])) bytes
 
 -- The calls that make a journal on a disk of these bytes: those that show its front, a write and a sync of a closed gate where there is at most one byte, and the four that enter the header. Where something else stands there, those that show it alone.
 abbrev pub calls_to_make : List ℕ → ℕ

@@ -59,12 +59,12 @@ ExplainsLoad honest reads (load.Refused (Damaged at)) = OfBytes honest reads (λ
 ExplainsLoad honest reads (load.Refused (DiskFault before after)) = ⊥
 ExplainsLoad honest reads (load.Refused Memory) = Unit {0}
 
--- a fault of the disk tells its counts, and the two refusals what the bytes are, where they are told
+-- A fault of the disk tells its counts, and the two refusals what the bytes are, where they are told. Where the disk didn't fail, its count is as it was.
 abbrev pub OpenCause : ℕ → ℕ → Bool → List ℕ → OpenFault → Type 0
-OpenCause old new honest image NotAJournal = IsTrue honest → IsNoJournal image
-OpenCause old new honest image (Damaged at) = IsTrue honest → IsDamagedAt image at
+OpenCause old new honest image NotAJournal = (new ≡ old) × (IsTrue honest → IsNoJournal image)
+OpenCause old new honest image (Damaged at) = (new ≡ old) × (IsTrue honest → IsDamagedAt image at)
 OpenCause old new honest image (DiskFault before after) = Tells old before after new
-OpenCause old new honest image Memory = Unit {0}
+OpenCause old new honest image Memory = new ≡ old
 
 -- the disk or memory failed
 abbrev pub IsFailure : OpenFault → Type 0

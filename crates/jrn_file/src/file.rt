@@ -1,6 +1,6 @@
 //! An open journal.
 
-ghost use Rattle.std.specs.Prelude.{◌≡◌, ◌+◌, ◌^◌, ◌<◌, ◌≤◌, ◌↔◌, ◌∷◌, [], ◌++◌, ℕ, List, length, IsTrue, OnOk, IfErr, IsErrOf};
+ghost use Rattle.std.specs.Prelude.{◌≡◌, ◌+◌, ◌^◌, ◌<◌, ◌↔◌, ◌∷◌, [], ◌++◌, ℕ, List, length, IsTrue, OnOk, OnErr, IfErr, IsErrOf};
 ghost use Rattle.corr_disk.specs.Calls.{CallsMade, AtMostCalls};
 ghost use Rattle.corr_disk.specs.Disk.{written, LeavesOnly};
 ghost use Rattle.jrn_file.specs.Journal.{IsFrame, record_in, IsBeforeOrAfter};
@@ -35,7 +35,8 @@ impl<D: Disk> JFile<D> {
     /// It makes four calls of the disk and takes no memory. At Ok the record is on the disk.
     ///
     /// `Full` comes exactly where the file would pass 2^30 bytes; `need` is the record's length plus 6. Nothing
-    /// is written then. `DiskFault` comes only where the disk's count of faults rose: open the file again.
+    /// is written then. `DiskFault` comes only where the disk's count of faults rose, and tells that count before
+    /// and after: open the file again. The count rises at nothing else.
     pub fn append(&mut self, frame: &[u8]) -> Result<(), AppendFault>
         requires settled { IsOpen D.honest D.reads D.may_leave self.old }
         requires frame { IsFrame frame.now }
@@ -51,13 +52,17 @@ impl<D: Disk> JFile<D> {
             → IsTrue (D.honest (disk_of self.old))
             → LeavesOnly D.moment D.left_since (disk_of self.old) (disk_of self.new) (IsBeforeOrAfter head records (record_in frame.now)) }
 
+        // The closed gate stands behind the record, and after a fault where it stood.
+        ensures moved { OnOk result (end_of self.new ≡ end_of self.old + length frame.now) }
+        ensures place { OnErr result (end_of self.new ≡ end_of self.old) }
+
         // It makes four calls of the disk, and no more where it fails.
         ensures calls { OnOk result (CallsMade 4 (D.plan (disk_of self.old)) (D.plan (disk_of self.new))) }
         ensures no_more_calls { AtMostCalls 4 (D.plan (disk_of self.old)) (D.plan (disk_of self.new)) }
 
         ensures full { IsErrOf result (AppendFault.Full (end_of self.old) (length frame.now + 1)) ↔ (2 ^ 30 < end_of self.old + (length frame.now + 1)) }
         ensures cause { IfErr result (AppendCause (D.faults (disk_of self.old)) (D.faults (disk_of self.new)) (end_of self.old) (length frame.now + 1) (self.new ≡ self.old)) }
-        ensures later { D.faults (disk_of self.old) ≤ D.faults (disk_of self.new) }
+        ensures kept { OnOk result (D.faults (disk_of self.new) ≡ D.faults (disk_of self.old)) }
         ensures honest { D.honest (disk_of self.new) ≡ D.honest (disk_of self.old) }
     {
         let need = frame.len() as u64 + 1;
@@ -78,6 +83,13 @@ impl<D: Disk> JFile<D> {
                 Err(AppendFault::DiskFault { before, after })
             }
         }
+    }
+
+    /// The disk's count of faults. Takes no memory.
+    pub fn faults(&self) -> u64
+        ensures { result ≡ D.faults (disk_of self.now) }
+    {
+        self.disk.faults()
     }
 
     /// The place of the closed gate. Takes no memory.

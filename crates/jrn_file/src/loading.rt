@@ -72,7 +72,8 @@ pub(crate) fn load<D: Disk>(
     ensures durable { OnOk result (Only (D.reads disk.new) (D.may_leave disk.new)) }
     ensures untouched { IsUntouched D.reads D.may_leave D.moment D.left_since disk.old disk.new }
     ensures honest { D.honest disk.new ≡ D.honest disk.old }
-    ensures cause { LoadCause (D.faults disk.old) (D.faults disk.new) result }
+    ensures cause { IfErr result (LoadCause (D.faults disk.old) (D.faults disk.new)) }
+    ensures kept { OnOk result (D.faults disk.new ≡ D.faults disk.old) }
     ensures calls { IfOk result (λ read. CallsMade (calls_to_open piece read.0) (D.plan disk.old) (D.plan disk.new)) }
     ensures no_more_calls { IsTrue (D.honest disk.old) → AtMostCalls (calls_to_open piece (length (D.reads disk.old))) (D.plan disk.old) (D.plan disk.new) }
 {
@@ -109,7 +110,8 @@ fn read_piece<D: Disk>(
     ensures fault { IfErr result (ExplainsLoad (D.honest disk.old) (D.reads disk.old)) }
     ensures untouched { IsUntouched D.reads D.may_leave D.moment D.left_since disk.old disk.new }
     ensures honest { D.honest disk.new ≡ D.honest disk.old }
-    ensures cause { LoadCause (D.faults disk.old) (D.faults disk.new) result }
+    ensures cause { IfErr result (LoadCause (D.faults disk.old) (D.faults disk.new)) }
+    ensures kept { OnOk result (D.faults disk.new ≡ D.faults disk.old) }
     ensures calls { OnOk result (CallsMade 1 (D.plan disk.old) (D.plan disk.new)) }
     ensures no_more_calls { AtMostCalls 1 (D.plan disk.old) (D.plan disk.new) }
 {

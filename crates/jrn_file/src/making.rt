@@ -5,8 +5,8 @@ ghost use Rattle.corr_disk.specs.Calls.{CallsMade, AtMostCalls};
 ghost use Rattle.corr_disk.specs.Disk.{Only, LeavesOnly};
 ghost use Rattle.corr_text.specs.Faults.{HasCause};
 ghost use Rattle.jrn_file.specs.Faults.{MakeCause, IsRefusal};
-ghost use Rattle.jrn_file.specs.Journal.{StandsFor, IsFrame, IsWritten, record_in};
-ghost use Rattle.jrn_file.specs.Making.{IsOther, IsUnmade, IsUnmadeOrMade, IsFront, calls_to_look, calls_to_make};
+ghost use Rattle.jrn_file.specs.Journal.{StandsFor, IsFrame, record_in};
+ghost use Rattle.jrn_file.specs.Making.{IsOther, IsUnmade, IsUnmadeOrMade, IsFront, calls_to_look, calls_to_make, made_over};
 ghost use Rattle.jrn_file.specs.Untouched.{IsUntouched};
 
 use crate::entering::enter;
@@ -31,13 +31,14 @@ enum Front {
 /// 0, and gives the disk back.
 ///
 /// `Exists` comes exactly where the disk has more than one byte and its first byte is not 0: nothing is written
-/// then. `DiskFault` comes only where the disk's count of faults rose. Where the disk stops at any moment, it
+/// then. `DiskFault` comes only where the disk's count of faults rose, which it does at nothing else. Bytes behind
+/// the new journal stay as they are. Where the disk stops at any moment, it
 /// holds the new journal, or `create` may be given again.
 pub fn create<D: Disk>(alloc: Global, disk: D, head: &[u8]) -> Result<D, (D, MakeFault)>
     requires { length head.now ≤ 1048576 }
 
     ensures made { IsTrue (D.honest disk) → IfOk result (λ made. StandsFor (D.reads made) head.now []) }
-    ensures bytes { IsTrue (D.honest disk) → IfOk result (λ made. IsWritten (D.reads made) head.now []) }
+    ensures bytes { IsTrue (D.honest disk) → IfOk result (λ made. D.reads made ≡ made_over head.now (D.reads disk)) }
     ensures durable { IsTrue (D.honest disk) → IfOk result (λ made. Only (D.reads made) (D.may_leave made)) }
 
     // Exists exactly where something else stands there, and then nothing is written, whatever the answer.
@@ -60,7 +61,7 @@ pub fn create<D: Disk>(alloc: Global, disk: D, head: &[u8]) -> Result<D, (D, Mak
     ensures no_more_calls { IsTrue (D.honest disk) → IfErr result (λ e. AtMostCalls (calls_to_make (D.reads disk)) (D.plan disk) (D.plan e.0)) }
 
     ensures honest { MatchResult result (λ made. D.honest made ≡ D.honest disk) (λ e. D.honest e.0 ≡ D.honest disk) }
-    ensures later { MatchResult result (λ made. D.faults disk ≤ D.faults made) (λ e. D.faults disk ≤ D.faults e.0) }
+    ensures kept { IfOk result (λ made. D.faults made ≡ D.faults disk) }
 {
     let mut disk = disk;
     let before = disk.faults();
@@ -85,7 +86,7 @@ fn make<D: Disk>(disk: &mut D, frame: &[u8]) -> Result<Option<u8>, Failed>
     ensures honest { D.honest disk.new ≡ D.honest disk.old }
     ensures cause { HasCause (D.faults disk.old) (D.faults disk.new) result }
     ensures made { IsTrue (D.honest disk.old) → IfOk result (λ other. IfNone other (StandsFor (D.reads disk.new) (record_in frame.now) [])) }
-    ensures bytes { IsTrue (D.honest disk.old) → IfOk result (λ other. IfNone other (IsWritten (D.reads disk.new) (record_in frame.now) [])) }
+    ensures bytes { IsTrue (D.honest disk.old) → IfOk result (λ other. IfNone other (D.reads disk.new ≡ made_over (record_in frame.now) (D.reads disk.old))) }
     ensures durable { IsTrue (D.honest disk.old) → IfOk result (λ other. IfNone other (Only (D.reads disk.new) (D.may_leave disk.new))) }
     ensures other { IsTrue (D.honest disk.old) → IfOk result (λ other. IfSome other (IsOther (D.reads disk.old))) }
     ensures exists { (first : ℕ) → IsTrue (D.honest disk.old) → IsOther (D.reads disk.old) first → IfOk result (λ other. other ≡ Some first) }
@@ -153,7 +154,7 @@ fn enter_head<D: Disk>(disk: &mut D, frame: &[u8]) -> Result<(), Failed>
     ensures honest { D.honest disk.new ≡ D.honest disk.old }
     ensures cause { HasCause (D.faults disk.old) (D.faults disk.new) result }
     ensures made { IsTrue (D.honest disk.old) → OnOk result (StandsFor (D.reads disk.new) (record_in frame.now) []) }
-    ensures bytes { IsTrue (D.honest disk.old) → OnOk result (IsWritten (D.reads disk.new) (record_in frame.now) []) }
+    ensures bytes { IsTrue (D.honest disk.old) → OnOk result (D.reads disk.new ≡ made_over (record_in frame.now) (D.reads disk.old)) }
     ensures durable { OnOk result (Only (D.reads disk.new) (D.may_leave disk.new)) }
     ensures any_moment { IsTrue (D.honest disk.old) → Only (D.reads disk.old) (D.may_leave disk.old)
         → LeavesOnly D.moment D.left_since disk.old disk.new (IsUnmadeOrMade (record_in frame.now)) }

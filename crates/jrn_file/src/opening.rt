@@ -1,6 +1,6 @@
 //! Opening a journal.
 
-ghost use Rattle.std.specs.Prelude.{◌≡◌, ◌≤◌, ◌^◌, ◌∷◌, ℕ, List, length, IsTrue, IfOk, IfErr, MatchResult};
+ghost use Rattle.std.specs.Prelude.{◌≡◌, ◌^◌, ◌∷◌, ℕ, List, length, IsTrue, IfOk, IfErr, MatchResult};
 ghost use Rattle.corr_disk.specs.Calls.{CallsMade, AtMostCalls};
 ghost use Rattle.jrn_file.specs.File.{disk_of, end_of};
 ghost use Rattle.jrn_file.specs.Journal.{StandsFor};
@@ -24,8 +24,8 @@ const PIECE: usize = 1 << 20;
 ///
 /// `NotAJournal` comes exactly where the disk is empty, its first byte is 0 or its first record is not whole:
 /// its length, that many bytes and one byte after them. `Damaged` comes exactly where a later open gate has no
-/// whole record behind it, and tells that gate's place. `DiskFault` comes only where the disk's count of faults
-/// rose.
+/// whole record behind it, and tells that gate's place. `DiskFault` comes exactly where a call of the disk
+/// failed: the count of faults rises at nothing else.
 pub fn open_file<D: Disk>(alloc: Global, disk: D) -> Result<(JFile<D>, Vec<Text>), (D, OpenFault)>
     ensures opened { IfOk result (λ r. IsOpened D.honest D.reads D.may_leave r.0 r.1.items) }
     ensures cause { IfErr result (λ e. OpenCause (D.faults disk) (D.faults e.0) (D.honest disk) (D.reads disk) e.1) }
@@ -49,7 +49,7 @@ pub fn open_file<D: Disk>(alloc: Global, disk: D) -> Result<(JFile<D>, Vec<Text>
     ensures no_more_calls { IsTrue (D.honest disk) → IfErr result (λ e. AtMostCalls (calls_to_open (2 ^ 20) (length (D.reads disk))) (D.plan disk) (D.plan e.0)) }
 
     ensures honest { MatchResult result (λ r. D.honest (disk_of r.0) ≡ D.honest disk) (λ e. D.honest e.0 ≡ D.honest disk) }
-    ensures later { MatchResult result (λ r. D.faults disk ≤ D.faults (disk_of r.0)) (λ e. D.faults disk ≤ D.faults e.0) }
+    ensures kept { IfOk result (λ r. D.faults (disk_of r.0) ≡ D.faults disk) }
 {
     let mut disk = disk;
     let before = disk.faults();

@@ -27,7 +27,7 @@ loop-index-init g c =
           (untouched-start D.reads D.may_leave D.moment D.left_since g.met.D.Disk.only_now old) c.sync.ensures.reads c.sync.ensures.crash c.sync.ensures.time;
       durable = λ b left. c.in_ok-sync.ensures.durable b left ∙ sym c.sync.ensures.reads;
       honest = c.sync.ensures.honest;
-      later = c.sync.ensures.cause.later;
+      kept = c.in_ok-sync.ensures.cause.kept;
       calls = c.sync.ensures.next;
     }
 
@@ -236,7 +236,7 @@ loop-index-preserved g c =
       untouched = untouched;
       durable = untouched-only D.reads D.may_leave D.moment D.left_since g.met.D.Disk.only_now mid new c.read_piece.ensures.untouched c.loop-index.invariant.durable;
       honest = c.read_piece.ensures.honest ∙ c.loop-index.invariant.honest;
-      later = omega (arith, c.loop-index.invariant.later, c.read_piece.ensures.cause.later);
+      kept = c.in_ok-count.ensures.kept ∙ c.loop-index.invariant.kept;
       calls = subst (λ k. CallsMade k (D.plan old) (D.plan new)) (omega arith)
           (calls_in_turn (1 + index) 1 (D.plan old) (D.plan mid) (D.plan new) c.loop-index.invariant.calls c.in_ok-count.ensures.calls);
     }

@@ -1,4 +1,4 @@
-use Rattle.std.proofs.Common.{◌≡◌, ◌+◌, ◌*◌, ◌≤◌}
+use Rattle.std.proofs.Common.{◌≡◌, ◌+◌, ◌*◌}
 use Rattle.corr_disk.specs.Calls.{CallsMade}
 use Rattle.corr_disk.specs.Disk.{Only}
 use Rattle.jrn_file.specs.Opening.{IsNoJournal, IsShut}
@@ -14,6 +14,6 @@ invariant-loop-index g l = record {
   untouched : IsUntouched g.D.Disk.reads g.D.Disk.may_leave g.D.Disk.moment g.D.Disk.left_since l.fn.disk l.disk;
   durable : Only (g.D.Disk.reads l.disk) (g.D.Disk.may_leave l.disk);
   honest : g.D.Disk.honest l.disk ≡ g.D.Disk.honest l.fn.disk;
-  later : g.D.Disk.faults l.fn.disk ≤ g.D.Disk.faults l.disk;
+  kept : g.D.Disk.faults l.disk ≡ g.D.Disk.faults l.fn.disk;
   calls : CallsMade (1 + l.index) (g.D.Disk.plan l.fn.disk) (g.D.Disk.plan l.disk);
 }

@@ -1,4 +1,5 @@
 use Rattle.std.proofs.Common.{subst, sym}
+use Rattle.jrn_file.specs.Faults.{LoadCause}
 use Rattle.corr_disk.specs.Calls.{CallsMade}
 use Rattle.jrn_file.specs.Opening.{ExplainsLoad}
 use Rattle.jrn_file.specs.Pieces.{calls_to_open}
@@ -37,7 +38,8 @@ returns-in-Err-Refused-clause-cause g c =
     let D = g.D.Disk in
     let fault = c.in-Err-Refused.fault in
     let known = subst (λ f. ExplainsLoad (D.honest c.args.disk) (D.reads c.args.disk) f) c.in-Err-Refused.field-0-is c.in-Err-Refused.ensures.fault in
-    cause-of (D.faults c.args.disk) (D.faults c.load.new.disk) (D.honest c.args.disk) (D.reads c.args.disk) fault known
+    let kept = subst (λ f. LoadCause (D.faults c.args.disk) (D.faults c.load.new.disk) f) c.in-Err-Refused.field-0-is c.in-Err-Refused.ensures.cause in
+    cause-of (D.faults c.args.disk) (D.faults c.load.new.disk) (D.honest c.args.disk) (D.reads c.args.disk) fault kept known
 
 pub returns-in-Err-Refused-clause-stands : goal.returns-in-Err-Refused-clause-stands
 returns-in-Err-Refused-clause-stands g c head records told =
