@@ -1,14 +1,19 @@
 -- The blocks of a message, read in their order: the first that is not of its form is the fault.
 use Rattle.std.specs.Prelude.{◌≡◌, ℕ, Bool, true, false, List, [], ◌∷◌, Option, Some, None, Result, Ok, Err, is_some, bytes_eq, codes, if◌then◌else◌}
+use Rattle.corr_text.specs.Codes.{code}
 use Rattle.corr_text.specs.First.{check, or_fault, ◌>>=◌}
 use Rattle.fin_blocks.specs.Groups.{groups_of, next, after}
 use Rattle.fin_blocks.specs.Forms.{inside, basic_of, app_of, mir_in, each_of, trailer_of}
 use Rattle.fin_blocks.specs.User.{subblocks_in}
 use Rattle.fin_blocks.specs.Text.{text_of}
+use Rattle.corr_ids.specs.Address.{bank_of}
+use Rattle.corr_ids.specs.Bic.{IsBic}
+use Rattle.corr_ids.specs.Mir.{IsMir}
+use Rattle.fin_blocks.specs.declared.blocks.App.{App}
+use Rattle.fin_blocks.specs.declared.blocks.App.TheVariants as form
 use Rattle.fin_blocks.specs.declared.blocks.Blocks.{Blocks}
 use Rattle.fin_blocks.specs.declared.fault.BlockFault.{BlockFault}
 use Rattle.fin_blocks.specs.declared.fault.BlockFault.TheVariants as fault
-use Rattle.fin_blocks.specs.declared.fault.TheConstants.{P01, P02, P03, P04, P05, P06}
 
 -- whether the next group is the block that begins so
 abbrev pub has_next : List ℕ → List (List ℕ) → Bool
@@ -41,20 +46,30 @@ are_last _ = false
 unfoldable pub blocks_of : List ℕ → Result Blocks BlockFault
 blocks_of m = do
   let first = groups_of m
-  basic ← or_fault (basic_of (next first)) (fault.Bad P01 None)
-  _ ← check (bytes_eq basic.version (codes "01")) (fault.Bad P02 None)
+  basic ← or_fault (basic_of (next first)) (fault.Bad (code "P01") None)
+  _ ← check (bytes_eq basic.version (codes "01")) (fault.Bad (code "P02") None)
   let second = after first
-  app ← or_fault (app_of (next second)) (fault.Bad P03 None)
+  app ← or_fault (app_of (next second)) (fault.Bad (code "P03") None)
   let third = after second
-  user ← or_fault (user_of third) (fault.Bad P04 (mir_in app))
+  user ← or_fault (user_of third) (fault.Bad (code "P04") (mir_in app))
   let fourth = behind (codes "{3:") third
-  text ← or_fault (text_of (next fourth)) (fault.Bad P05 (mir_in app))
+  text ← or_fault (text_of (next fourth)) (fault.Bad (code "P05") (mir_in app))
   let fifth = after fourth
-  trailers ← or_fault (trailers_of fifth) (fault.Bad P06 (mir_in app))
-  _ ← check (are_last (behind (codes "{5:") fifth)) (fault.Bad P06 (mir_in app))
+  trailers ← or_fault (trailers_of fifth) (fault.Bad (code "P06") (mir_in app))
+  _ ← check (are_last (behind (codes "{5:") fifth)) (fault.Bad (code "P06") (mir_in app))
   Ok (record { own = basic.own; app = app; user = user; text = text; trailers = trailers })
+
+-- what block 2 names meets its grammar: the reference of a received message, the receiver's bank of a sent one
+abbrev pub IsApp : App → Type 0
+IsApp (form.Received mt mir) = IsMir mir
+IsApp (form.Sent mt to) = IsBic (bank_of to)
+
+-- the bank of block 1 and what block 2 names meet their grammar
+pub record AreNamed (b : Blocks) : Type 0 where
+  pub own : IsBic (bank_of b.own)
+  pub app : IsApp b.app
 
 -- an error tells this fault, or want of memory
 abbrev pub Tells : Result Blocks BlockFault → BlockFault → Type 0
-Tells meant (fault.Bad code mir) = meant ≡ Err (fault.Bad code mir)
+Tells meant (fault.Bad refusal mir) = meant ≡ Err (fault.Bad refusal mir)
 Tells meant fault.Memory = Unit {0}

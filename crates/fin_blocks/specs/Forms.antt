@@ -27,6 +27,7 @@ inside start group = between start (codes "}") group
 abbrev pub part : ℕ → ℕ → List ℕ → List ℕ
 part from long bs = take long (drop from bs)
 
+-- a value where a test holds
 abbrev pub when : {A : Type 0} → Bool → Option A → Option A
 when holds o = if holds then o else None
 

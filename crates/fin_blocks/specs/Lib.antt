@@ -4,4 +4,3 @@ pub mod User
 pub mod Text
 pub mod Blocks
 pub mod Sending
-pub mod Constants

@@ -36,6 +36,7 @@ user_text (s ∷ more) = codes "{3:" ++ flat_map subblock_text (s ∷ more) ++ c
 abbrev pub lines_text : List ℕ → List ℕ
 lines_text text = codes "{4:" ++ crlf ++ text ++ codes "-}"
 
+-- a message that is written to send: block 1, block 2, block 3 where there is any subblock, and block 4
 unfoldable pub sent_text : Bic → ℕ → Bic → List (ℕ × List ℕ) → List ℕ → List ℕ
 sent_text home mt to user text = own_text home ++ receiver_text mt to ++ user_text user ++ lines_text text
 

@@ -7,7 +7,6 @@ mod blocks;
 mod fault;
 mod forms;
 mod groups;
-mod law;
 mod reading;
 mod text;
 mod trailers;
@@ -16,6 +15,5 @@ mod writing;
 
 pub use blocks::{App, Blocks};
 pub use fault::{BlockFault, P01, P02, P03, P04, P05, P06};
-pub use law::block_code_law;
 pub use reading::read_blocks;
 pub use writing::put_blocks;

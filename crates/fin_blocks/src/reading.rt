@@ -3,7 +3,7 @@
 ghost use Rattle.std.specs.Prelude.{◌≡◌, ◌≤◌, ◌<◌, ◌*◌, Err, IfErr, IfOk, Ok, length};
 ghost use Rattle.corr_text.specs.Lines.{lines_of};
 ghost use Rattle.fin_blocks.specs.Groups.{IsCut, groups_of};
-ghost use Rattle.fin_blocks.specs.Blocks.{Tells, are_last as are_last_of, behind as behind_of, blocks_of};
+ghost use Rattle.fin_blocks.specs.Blocks.{AreNamed, Tells, are_last as are_last_of, behind as behind_of, blocks_of};
 
 use crate::application::{mir_of, read_app};
 use crate::basic::read_basic;
@@ -49,12 +49,14 @@ fn refuse(code: Code, mir: Option<Mir>) -> Result<Blocks, BlockFault>
 /// The fault is the first block, in order, that is not of its form (docs/messages.md, "Blocks"): P01 block 1, P02 its
 /// version, P03 block 2, P04 block 3, P05 block 4, P06 block 5 or what is left. From P04 on it has the message's
 /// reference, if the message was received. A line of block 4 may end with LF alone; the text has CR LF, and so at most twice
-/// as many bytes as the message.
+/// as many bytes as the message. The banks that blocks 1 and 2 name and a received message's reference meet their grammar
+/// (`names`).
 #[tactic(auto, unfolding(crate::specs::Blocks::blocks_of))]
 pub fn read_blocks(alloc: Global, m: &[u8]) -> Result<Blocks, BlockFault>
     ensures value { IfOk result (λ b. blocks_of m.now ≡ Ok b) }
     ensures lines { IfOk result (λ b. length (lines_of b.text) ≤ length m.now) }
     ensures bytes { IfOk result (λ b. length b.text ≤ 2 * length m.now) }
+    ensures names { IfOk result AreNamed }
     ensures fault { IfErr result (Tells (blocks_of m.now)) }
 {
     let first = next_group(m);

@@ -5,3 +5,4 @@ pub mod Fit
 pub mod Said
 pub mod Back
 pub mod Placed
+pub mod Readable

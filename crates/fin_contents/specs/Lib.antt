@@ -2,4 +2,3 @@ pub mod Plain
 pub mod Money
 pub mod Parties
 pub mod Writing
-pub mod Constants

@@ -1,10 +1,13 @@
 -- Contents written as fields.
-use Rattle.std.specs.Prelude.{◌≡◌, ℕ, ◌<◌, ◌≤◌, ◌^◌, true, List, [], ◌∷◌, ◌++◌, Option, Some, None, IfSome}
+use Rattle.std.specs.Prelude.{◌≡◌, ℕ, ◌<◌, ◌≤◌, ◌^◌, true, List, [], ◌∷◌, ◌++◌, All, IsTrue, Option, Some, None, IfSome, Result, Ok, map, take}
 use Rattle.std.specs.Char.{is_ascii_uppercase}
+use Rattle.corr_text.specs.declared.fault.Fault.{Fault}
 use Rattle.corr_ids.specs.Day.{InCentury, yymmdd_of}
 use Rattle.corr_money.specs.Amounts.{amount_text}
 use Rattle.corr_money.specs.declared.amount.Amount.{Amount}
+use Rattle.ref_tables.specs.Seen.{Tables, few_decimals}
 use Rattle.fin_fields.specs.declared.field.Field.{Field}
+use Rattle.fin_fields.specs.Writing.{IsField}
 use Rattle.fin_contents.specs.declared.value.Value.{Value}
 
 -- a tag and a letter that a text can show
@@ -29,6 +32,7 @@ pub record IsAmount (a : Amount) : Type 0 where
 abbrev pub ccy_amount_text : Amount → List ℕ
 ccy_amount_text a = a.ccy.0 ++ amount_text a.decimals a.minor.0
 
+-- a currency and an amount as a field of one line
 abbrev pub ccy_amount_field : ℕ → Option ℕ → Amount → Field
 ccy_amount_field tag letter a = line_field tag letter (ccy_amount_text a)
 
@@ -50,3 +54,15 @@ lines_fields tag letter (line ∷ lines) = lines_field tag letter (line ∷ line
 abbrev pub some_field : {A : Type 0} → (A → Field) → Option A → List Field
 some_field write None = []
 some_field write (Some x) = write x ∷ []
+
+-- fields behind which those of the first few of a list were written
+abbrev pub IsBegun : {A : Type 0} → (A → Field) → List A → List Field → List Field → Type 0
+IsBegun write xs before after = (n : ℕ) × (after ≡ before ++ map write (take n xs))
+
+-- a message that can be written: a reader gives it of fields of some text, under some tables
+pub record IsReadable {M : Type 0} (read : Tables → List Field → Result M Fault) (m : M) : Type 0 where
+  pub tables : Tables
+  pub few : IsTrue (few_decimals tables.ccys)
+  pub fields : List Field
+  pub fit : All IsField fields
+  pub says : read tables fields ≡ Ok m

@@ -1,7 +1,7 @@
 //! Fields added behind those of a message that stand already. After want of memory some of those to add may stand there.
 
-ghost use Rattle.std.specs.Prelude.{◌≡◌, ◌++◌, All, IfSome, None, OnOk, Some, map};
-ghost use Rattle.fin_contents.specs.Writing.{IsAmount, ccy_amount_field, line_field, lines_fields, some_field};
+ghost use Rattle.std.specs.Prelude.{◌≡◌, ◌++◌, All, IfSome, None, OnErr, OnOk, Some, map};
+ghost use Rattle.fin_contents.specs.Writing.{IsAmount, IsBegun, ccy_amount_field, line_field, lines_fields, some_field};
 ghost use Rattle.fin_parties.specs.Writing.{party_field};
 
 use crate::amount::put_ccy_amount;
@@ -15,9 +15,10 @@ use fin_fields::Field;
 use fin_parties::Party;
 use std::alloc::Global;
 
-/// Adds each time, as field 13C.
+/// Adds each time, as field 13C. `Memory`: there was no room; then the first few may have been added.
 pub fn push_times(alloc: Global, times: &[Text], fields: &mut List<Field>) -> Result<(), Memory>
-    ensures { OnOk result (fields.new ≡ fields.old ++ map (line_field 13 (Some 67)) times.now) }
+    ensures ok { OnOk result (fields.new ≡ fields.old ++ map (line_field 13 (Some 67)) times.now) }
+    ensures err { OnErr result (IsBegun (line_field 13 (Some 67)) times.now fields.old fields.new) }
 {
     for time in times {
         fields.push(put_time(alloc, time)?)?;
@@ -25,9 +26,10 @@ pub fn push_times(alloc: Global, times: &[Text], fields: &mut List<Field>) -> Re
     Ok(())
 }
 
-/// Adds a rate, if there is one, as field 36.
+/// Adds a rate, if there is one, as field 36. `Memory`: there was no room; then nothing was added.
 pub fn push_rate(alloc: Global, rate: &Option<Text>, fields: &mut List<Field>) -> Result<(), Memory>
-    ensures { OnOk result (fields.new ≡ fields.old ++ some_field (line_field 36 None) rate.now) }
+    ensures ok { OnOk result (fields.new ≡ fields.old ++ some_field (line_field 36 None) rate.now) }
+    ensures err { OnErr result (fields.new ≡ fields.old) }
 {
     match rate {
         Some(rate) => fields.push(put_rate(alloc, rate)?),
@@ -35,7 +37,8 @@ pub fn push_rate(alloc: Global, rate: &Option<Text>, fields: &mut List<Field>) -
     }
 }
 
-/// Adds a currency and an amount, if there are any, as a field of this tag and letter.
+/// Adds a currency and an amount, if there are any, as a field of this tag and letter. `Memory`: there was no room; then
+/// nothing was added.
 pub fn push_ccy_amount(
     alloc: Global,
     tag: u8,
@@ -44,7 +47,8 @@ pub fn push_ccy_amount(
     fields: &mut List<Field>,
 ) -> Result<(), Memory>
     requires { IfSome amount.now IsAmount }
-    ensures { OnOk result (fields.new ≡ fields.old ++ some_field (ccy_amount_field tag letter) amount.now) }
+    ensures ok { OnOk result (fields.new ≡ fields.old ++ some_field (ccy_amount_field tag letter) amount.now) }
+    ensures err { OnErr result (fields.new ≡ fields.old) }
 {
     match amount {
         Some(amount) => fields.push(put_ccy_amount(alloc, tag, letter, amount)?),
@@ -52,7 +56,8 @@ pub fn push_ccy_amount(
     }
 }
 
-/// Adds each currency and amount, as fields of this tag and letter.
+/// Adds each currency and amount, as fields of this tag and letter. `Memory`: there was no room; then the first few may have
+/// been added.
 pub fn push_ccy_amounts(
     alloc: Global,
     tag: u8,
@@ -61,7 +66,8 @@ pub fn push_ccy_amounts(
     fields: &mut List<Field>,
 ) -> Result<(), Memory>
     requires { All IsAmount amounts.now }
-    ensures { OnOk result (fields.new ≡ fields.old ++ map (ccy_amount_field tag letter) amounts.now) }
+    ensures ok { OnOk result (fields.new ≡ fields.old ++ map (ccy_amount_field tag letter) amounts.now) }
+    ensures err { OnErr result (IsBegun (ccy_amount_field tag letter) amounts.now fields.old fields.new) }
 {
     for amount in amounts {
         fields.push(put_ccy_amount(alloc, tag, letter, amount)?)?;
@@ -69,14 +75,15 @@ pub fn push_ccy_amounts(
     Ok(())
 }
 
-/// Adds a party, if there is one, as a field of this tag.
+/// Adds a party, if there is one, as a field of this tag. `Memory`: there was no room; then nothing was added.
 pub fn push_party(
     alloc: Global,
     tag: u8,
     party: &Option<Party>,
     fields: &mut List<Field>,
 ) -> Result<(), Memory>
-    ensures { OnOk result (fields.new ≡ fields.old ++ some_field (party_field tag) party.now) }
+    ensures ok { OnOk result (fields.new ≡ fields.old ++ some_field (party_field tag) party.now) }
+    ensures err { OnErr result (fields.new ≡ fields.old) }
 {
     match party {
         Some(party) => fields.push(put_known_party(alloc, tag, party)?),
@@ -84,7 +91,8 @@ pub fn push_party(
     }
 }
 
-/// Adds lines of text, if there are any, as a field of this tag and letter.
+/// Adds lines of text, if there are any, as a field of this tag and letter. `Memory`: there was no room; then nothing was
+/// added.
 pub fn push_texts(
     alloc: Global,
     tag: u8,
@@ -92,7 +100,8 @@ pub fn push_texts(
     lines: &[Text],
     fields: &mut List<Field>,
 ) -> Result<(), Memory>
-    ensures { OnOk result (fields.new ≡ fields.old ++ lines_fields tag letter lines.now) }
+    ensures ok { OnOk result (fields.new ≡ fields.old ++ lines_fields tag letter lines.now) }
+    ensures err { OnErr result (fields.new ≡ fields.old) }
 {
     match lines {
         [] => Ok(()),

@@ -4,7 +4,6 @@
 mod amount;
 mod codes;
 mod fields;
-mod law;
 mod line;
 mod metal;
 mod party;
@@ -15,12 +14,11 @@ mod texts;
 mod time;
 mod value;
 
-pub use amount::{CcyAmount, put_ccy_amount, put_ccy_amount_text};
+pub use amount::{CcyAmount, put_ccy_amount};
 pub use codes::{C03, C08, P25, P26, P27, T26, T40, T43, T50, T52};
 pub use fields::{
     push_ccy_amount, push_ccy_amounts, push_party, push_rate, push_texts, push_times,
 };
-pub use law::content_laws;
 pub use line::{are_in, array_of, line_field, one_line};
 pub use party::{KnownParty, put_known_party};
 pub use rate::{Rate, put_rate};

@@ -9,6 +9,7 @@ use Rattle.fin_fields.specs.declared.fault.FieldFault.TheVariants.{P20, P21, Mem
 use Rattle.corr_text.specs.Lines.{lines_of, begins_with}
 use Rattle.fin_fields.specs.Fields.{heading_of, fields_of}
 
+-- a line without a byte
 abbrev pub is_empty : List ℕ → Bool
 is_empty [] = true
 is_empty (b ∷ bs) = false
@@ -39,6 +40,7 @@ is_like f g = (g.tag == f.tag) && (letter_of g == letter_of f)
 abbrev pub nth_of : List Field → ℕ → ℕ
 nth_of fields at = unwrap_or (option_map (λ f. count_by (is_like f) (take (at + 1) fields)) (slice_get fields at)) 0
 
+-- a line with a byte outside X
 abbrev pub has_other_byte : List ℕ → Bool
 has_other_byte line = list_any (λ b. not (is_x_byte b)) line
 

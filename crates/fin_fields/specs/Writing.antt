@@ -6,6 +6,7 @@ use Rattle.fin_fields.specs.declared.field.Field.{Field}
 use Rattle.corr_text.specs.Lines.{begins_with}
 use Rattle.fin_fields.specs.Faults.{is_empty, has_other_byte}
 
+-- a letter as text, nothing where there is none
 abbrev pub letter_text : Option ℕ → List ℕ
 letter_text None = []
 letter_text (Some letter) = letter ∷ []

@@ -4,3 +4,4 @@ pub mod ReadGroups
 pub mod Fine
 pub mod ReadBack
 pub mod InOrder
+pub mod Passed

@@ -5,4 +5,3 @@ pub mod Contents
 pub mod Tests
 pub mod Segments
 pub mod Places
-pub mod Constants

@@ -24,6 +24,7 @@ abbrev pub Fails : {A : Type 0} → MtFault → Result A Fault → Type 0
 Fails faults.Memory message = Unit {0}
 Fails (faults.Bad fault) message = message ≡ Err fault
 
+-- a message that is read is what its fields say
 abbrev pub Gives : {A : Type 0} → Result A MtFault → Result A Fault → Type 0
 Gives (Ok x) message = message ≡ Ok x
 Gives (Err e) message = Fails e message
@@ -38,6 +39,7 @@ abbrev pub fault_of_field : List Field → ℕ → Refusal → MtFault
 fault_of_field fs i refusals.Memory = faults.Memory
 fault_of_field fs i (refusals.Bad code) = faults.Bad (fault_at fs i code)
 
+-- what a field says, its refusal as a fault of the field
 abbrev pub placed : {A : Type 0} → List Field → ℕ → Result A Refusal → Result A MtFault
 placed fs i (Ok x) = Ok x
 placed fs i (Err e) = Err (fault_of_field fs i e)

@@ -1,22 +1,23 @@
 -- The tests of a message's fields, in their order: structure, then each field's content in the text's order.
 use Rattle.std.specs.Prelude.{ℕ, ◌+◌, ◌==◌, List, [], ◌∷◌, ◌++◌, length, Option, Some, None, option_map, Result, Ok, Err}
+use Rattle.corr_text.specs.Codes.{code}
 use Rattle.corr_text.specs.First.{first_of, unless}
 use Rattle.corr_text.specs.declared.fault.Code.{Code}
 use Rattle.corr_text.specs.declared.fault.Fault.{Fault}
 use Rattle.fin_fields.specs.declared.field.Field.{Field}
 use Rattle.fin_layout.specs.declared.place.Place.{Place}
-use Rattle.fin_layout.specs.declared.fault.TheConstants.{P22}
 use Rattle.fin_layout.specs.Naming.{absent, fault_at}
 use Rattle.fin_layout.specs.Order.{missing_from, places_from}
 
 -- P22: the first field that the order does not allow at its place
 abbrev pub misplaced : List Place → List Field → Option Fault
-misplaced order fs = unless (length (places_from order 0 fs) == length fs) (fault_at fs (length (places_from order 0 fs)) P22)
+misplaced order fs = unless (length (places_from order 0 fs) == length fs) (fault_at fs (length (places_from order 0 fs)) (code "P22"))
 
 -- P23: the first mandatory field that is missing
 abbrev pub lacking : List Place → List Field → Option Fault
 lacking order fs = option_map (absent order) (missing_from 0 order (places_from order 0 fs))
 
+-- P22, then P23
 abbrev pub structure_tests : List Place → List Field → List (Option Fault)
 structure_tests order fs = misplaced order fs ∷ lacking order fs ∷ []
 

@@ -5,7 +5,6 @@
 mod content;
 mod fault;
 mod finding;
-mod law;
 mod naming;
 mod place;
 mod placing;
@@ -15,7 +14,6 @@ mod structure;
 pub use content::{Content, refusal};
 pub use fault::{MtFault, P22, P23, P24, Refusal};
 pub use finding::find;
-pub use law::field_code_law;
 pub use naming::{absent, fault_at};
 pub use place::Place;
 pub use placing::{missing, places};

@@ -7,6 +7,7 @@ use Rattle.std.specs.Option.{option_or}
 use Rattle.std.proofs.lemmas.Bool.{and_parts}
 use Rattle.std.proofs.lemmas.Bool.Decides.{nat_tests}
 use Rattle.std.proofs.lemmas.List.{length-take}
+use Rattle.corr_text.specs.Codes.{code}
 use Rattle.corr_text.specs.First.{check, or_fault, ◌>>=◌}
 use Rattle.corr_text.specs.Lines.{begins_with, lines_of, with_byte as with_line_byte}
 use Rattle.corr_text.proofs.laws.Written.{is_inner, line-again}
@@ -17,7 +18,6 @@ use Rattle.fin_blocks.specs.Groups.{after, depth_after, groups_of, next, pieces_
 use Rattle.fin_blocks.specs.Text.{ended, text_in, text_of}
 use Rattle.fin_blocks.specs.declared.blocks.Blocks.{Blocks}
 use Rattle.fin_blocks.specs.declared.fault.BlockFault.TheVariants as fault
-use Rattle.fin_blocks.specs.declared.fault.TheConstants.{P01, P02, P03, P04, P05, P06}
 
 -- ---- pieces of at most n bytes
 
@@ -220,15 +220,15 @@ blocks-sized m =
     let fourth = behind (codes "{3:") third in
     let fifth = after fourth in
     step-1 (λ (b : Blocks). Sized (length m) b.text)
-    (or_fault (basic_of (next (groups_of m))) (fault.Bad P01 None))
-    (λ basic. check (bytes_eq basic.version (codes "01")) (fault.Bad P02 None))
-    (or_fault (app_of (next (after (groups_of m)))) (fault.Bad P03 None))
-    (λ app. or_fault (user_of third) (fault.Bad P04 (mir_in app)))
-    (λ app. or_fault (text_of (next fourth)) (fault.Bad P05 (mir_in app)))
-    (λ app. or_fault (trailers_of fifth) (fault.Bad P06 (mir_in app)))
-    (λ app. check (are_last (behind (codes "{5:") fifth)) (fault.Bad P06 (mir_in app)))
+    (or_fault (basic_of (next (groups_of m))) (fault.Bad (code "P01") None))
+    (λ basic. check (bytes_eq basic.version (codes "01")) (fault.Bad (code "P02") None))
+    (or_fault (app_of (next (after (groups_of m)))) (fault.Bad (code "P03") None))
+    (λ app. or_fault (user_of third) (fault.Bad (code "P04") (mir_in app)))
+    (λ app. or_fault (text_of (next fourth)) (fault.Bad (code "P05") (mir_in app)))
+    (λ app. or_fault (trailers_of fifth) (fault.Bad (code "P06") (mir_in app)))
+    (λ app. check (are_last (behind (codes "{5:") fifth)) (fault.Bad (code "P06") (mir_in app)))
     (λ basic app user text trailers. record { own = basic.own; app = app; user = user; text = text; trailers = trailers })
-    (λ basic app user text is trailers. sized text (found (text_of (next fourth)) (fault.Bad P05 (mir_in app)) text is))
+    (λ basic app user text is trailers. sized text (found (text_of (next fourth)) (fault.Bad (code "P05") (mir_in app)) text is))
   where
     sized : (text : List ℕ) → text_of (next (behind (codes "{3:") (after (after (groups_of m))))) ≡ Some text → Sized (length m) text
     sized text is =

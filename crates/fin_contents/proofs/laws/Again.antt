@@ -23,7 +23,6 @@ use Rattle.ref_tables.proofs.laws.Decimals.{lookup_few}
 use Rattle.fin_fields.specs.declared.field.Field.{Field}
 use Rattle.fin_fields.specs.declared.pattern.Pattern.TheVariants.{Lines}
 use Rattle.fin_fields.specs.Patterns.{is_run, meets}
-use Rattle.fin_layout.specs.declared.fault.TheConstants.{P24}
 use Rattle.fin_layout.specs.declared.place.Place.{Place}
 use Rattle.fin_layout.specs.Contents.{in_place}
 use Rattle.fin_layout.specs.Order.{field_in}
@@ -32,7 +31,6 @@ use Rattle.fin_parties.specs.Party.{party_of}
 use Rattle.fin_parties.specs.Writing.{party_field}
 use Rattle.fin_parties.specs.declared.party.Party.{Party}
 use Rattle.fin_parties.proofs.laws.Again.{party-again}
-use Rattle.fin_contents.specs.declared.codes.TheConstants.{C08, P25, P26, T26, T40, T43, T50, T52}
 use Rattle.fin_contents.specs.declared.value.Value.{Value}
 use Rattle.fin_contents.specs.Money.{IsPayable, ccy_amount_in, ccy_amount_of, coded, is_ccy_amount, is_dated_amount, is_metal, minor_in, rate_of, value_in, value_of}
 use Rattle.fin_contents.specs.Parties.{is_known, known_party_of}
@@ -46,9 +44,9 @@ use Rattle.fin_contents.proofs.laws.Steps.{checked, is-only, read-then, there}
 pub reference-kept : (f : Field) (x : List ℕ) → reference_of f ≡ Ok x → f.lines ≡ x ∷ []
 unfolding reference_of
 reference-kept f x e =
-    let line = there (one_line f) P24 _ x e in
-    let run = checked (is_run (is_in X) 16 line.0) P24 _ x line.2 in
-    let plain = checked (not (has_stray_slash line.0)) T26 _ x run.1 in
+    let line = there (one_line f) _ _ x e in
+    let run = checked (is_run (is_in X) 16 line.0) _ _ x line.2 in
+    let plain = checked (not (has_stray_slash line.0)) _ _ x run.1 in
     let same : line.0 ≡ x = cc plain.1 in
     is-only f.lines line.0 line.1 ∙ ap (λ (y : List ℕ). y ∷ []) same
 
@@ -59,8 +57,8 @@ reference-again tag letter f x e = ap (λ (ls : List (List ℕ)). reference_of (
 pub time-kept : (f : Field) (x : List ℕ) → time_of f ≡ Ok x → f.lines ≡ x ∷ []
 unfolding time_of
 time-kept f x e =
-    let line = there (one_line f) P24 _ x e in
-    let is = checked (is_time line.0) P24 _ x line.2 in
+    let line = there (one_line f) _ _ x e in
+    let is = checked (is_time line.0) _ _ x line.2 in
     let same : line.0 ≡ x = cc is.1 in
     is-only f.lines line.0 line.1 ∙ ap (λ (y : List ℕ). y ∷ []) same
 
@@ -71,10 +69,10 @@ time-again tag letter f x e = ap (λ (ls : List (List ℕ)). time_of (lines_fiel
 pub rate-kept : (f : Field) (x : List ℕ) → rate_of f ≡ Ok x → f.lines ≡ x ∷ []
 unfolding rate_of
 rate-kept f x e =
-    let line = there (one_line f) P24 _ x e in
-    let some = checked (nat_le 1 (length line.0) && list_all (is_in X) line.0) P24 _ x line.2 in
-    let number = checked (is_comma_number line.0) T40 _ x some.1 in
-    let short = checked (nat_le (length line.0) 12) T43 _ x number.1 in
+    let line = there (one_line f) _ _ x e in
+    let some = checked (nat_le 1 (length line.0) && list_all (is_in X) line.0) _ _ x line.2 in
+    let number = checked (is_comma_number line.0) _ _ x some.1 in
+    let short = checked (nat_le (length line.0) 12) _ _ x number.1 in
     let same : line.0 ≡ x = cc short.1 in
     is-only f.lines line.0 line.1 ∙ ap (λ (y : List ℕ). y ∷ []) same
 
@@ -85,8 +83,8 @@ rate-again tag letter f x e = ap (λ (ls : List (List ℕ)). rate_of (lines_fiel
 pub short_line-kept : (most : ℕ) (f : Field) (x : List ℕ) → short_line_of most f ≡ Ok x → f.lines ≡ x ∷ []
 unfolding short_line_of
 short_line-kept most f x e =
-    let line = there (one_line f) P24 _ x e in
-    let run = checked (is_run (is_in X) most line.0) P24 _ x line.2 in
+    let line = there (one_line f) _ _ x e in
+    let run = checked (is_run (is_in X) most line.0) _ _ x line.2 in
     let same : line.0 ≡ x = cc run.1 in
     is-only f.lines line.0 line.1 ∙ ap (λ (y : List ℕ). y ∷ []) same
 
@@ -96,7 +94,7 @@ short_line-again most tag letter f x e = ap (λ (ls : List (List ℕ)). short_li
 
 pub texts-kept : (most : ℕ) (f : Field) (lines : List (List ℕ)) → texts_of most f ≡ Ok lines → f.lines ≡ lines
 unfolding texts_of
-texts-kept most f lines e = cc (checked (meets (Lines most 35) f.lines) P24 _ lines e).1
+texts-kept most f lines e = cc (checked (meets (Lines most 35) f.lines) _ _ lines e).1
 
 pub texts-again : (most tag : ℕ) (letter : Option ℕ) (f : Field) (lines : List (List ℕ)) → texts_of most f ≡ Ok lines → texts_of most (lines_field tag letter lines) ≡ Ok lines
 unfolding texts_of
@@ -117,7 +115,7 @@ record AmountRead (t : Tables) (line : List ℕ) (a : Amount) : Type 0 where
 amount-read : (t : Tables) (line : List ℕ) (a : Amount) → ccy_amount_in t line ≡ Ok a → AmountRead t line a
 unfolding ccy_amount_in
 amount-read t line a e =
-    let decimals = there (decimals_in t (take 3 line)) T52 _ a e in
+    let decimals = there (decimals_in t (take 3 line)) _ _ a e in
     let minor = read-then (minor_in decimals.0 (drop 3 line)) _ a decimals.2 in
     let same : record { ccy = record { 0 = take 3 line }; minor = minor.0; decimals = decimals.0 } ≡ a = cc minor.2 in
     rw (← same) (record { ccy = refl; known = decimals.1; minor = coded-ok (amount_of decimals.0 (drop 3 line)) minor.0 minor.1 })
@@ -152,8 +150,8 @@ amount-is t line a few e =
 pub ccy_amount-is : (t : Tables) (f : Field) (a : Amount) → IsTrue (few_decimals t.ccys) → ccy_amount_of t f ≡ Ok a → IsAmount a
 unfolding ccy_amount_of
 ccy_amount-is t f a few e =
-    let line = there (one_line f) P24 _ a e in
-    let form = checked (is_ccy_amount line.0) P24 _ a line.2 in
+    let line = there (one_line f) _ _ a e in
+    let form = checked (is_ccy_amount line.0) _ _ a line.2 in
     amount-is t line.0 a few form.1
 
 -- an amount as it is written
@@ -188,8 +186,8 @@ amount-written t line a is form e =
 pub ccy_amount-again : (tag : ℕ) (letter : Option ℕ) (t : Tables) (f : Field) (a : Amount) → IsAmount a → ccy_amount_of t f ≡ Ok a → ccy_amount_of t (ccy_amount_field tag letter a) ≡ Ok a
 unfolding ccy_amount_of
 ccy_amount-again tag letter t f a is e =
-    let line = there (one_line f) P24 _ a e in
-    let form = checked (is_ccy_amount line.0) P24 _ a line.2 in
+    let line = there (one_line f) _ _ a e in
+    let form = checked (is_ccy_amount line.0) _ _ a line.2 in
     let written = amount-written t line.0 a is form.0 form.1 in
     rw (written.form, written.read) refl
 
@@ -209,10 +207,10 @@ not-true false e = refl
 value-read : (t : Tables) (line : List ℕ) (v : Value) → value_in t line ≡ Ok v → ValueRead t line v
 unfolding value_in
 value-read t line v e =
-    let day = there (day_of (take 6 line)) T50 _ v e in
-    let metal = checked (not (is_metal (take 3 (drop 6 line)))) C08 _ v day.2 in
+    let day = there (day_of (take 6 line)) _ _ v e in
+    let metal = checked (not (is_metal (take 3 (drop 6 line)))) _ _ v day.2 in
     let amount = read-then (ccy_amount_in t (drop 6 line)) _ v metal.1 in
-    let some = checked (not (amount.0.minor.0 == 0)) P26 _ v amount.2 in
+    let some = checked (not (amount.0.minor.0 == 0)) _ _ v amount.2 in
     let same : record { day = day.0; amount = amount.0 } ≡ v = cc some.1 in
     rw (← same) (record { day = day.1; metal = not-true (is_metal (take 3 (drop 6 line))) metal.0; amount = amount.1; some = not-true (amount.0.minor.0 == 0) some.0 })
 
@@ -220,15 +218,15 @@ value-read t line v e =
 pub value-day : (t : Tables) (f : Field) (v : Value) → value_of t f ≡ Ok v → InCentury v.day
 unfolding value_of
 value-day t f v e =
-    let line = there (one_line f) P24 _ v e in
-    let form = checked (is_dated_amount line.0) P24 _ v line.2 in
+    let line = there (one_line f) _ _ v e in
+    let form = checked (is_dated_amount line.0) _ _ v line.2 in
     (day-named (take 6 line.0) v.day (value-read t line.0 v form.1).day).0
 
 pub value-is : (t : Tables) (f : Field) (v : Value) → IsTrue (few_decimals t.ccys) → value_of t f ≡ Ok v → IsValue v
 unfolding value_of
 value-is t f v few e =
-    let line = there (one_line f) P24 _ v e in
-    let form = checked (is_dated_amount line.0) P24 _ v line.2 in
+    let line = there (one_line f) _ _ v e in
+    let form = checked (is_dated_amount line.0) _ _ v line.2 in
     let read = value-read t line.0 v form.1 in
     record { day = value-day t f v e; amount = amount-is t (drop 6 line.0) v.amount few read.amount }
 
@@ -239,8 +237,8 @@ positive n e = grind (arith, nat_tests)
 value-payable : (t : Tables) (f : Field) (v : Value) → value_of t f ≡ Ok v → IsPayable v.amount
 unfolding value_of
 value-payable t f v e =
-    let line = there (one_line f) P24 _ v e in
-    let form = checked (is_dated_amount line.0) P24 _ v line.2 in
+    let line = there (one_line f) _ _ v e in
+    let form = checked (is_dated_amount line.0) _ _ v line.2 in
     let read = value-read t line.0 v form.1 in
     let amount = amount-read t (drop 6 line.0) v.amount read.amount in
     record { above = positive v.amount.minor.0 read.some; below = (small-amount v.amount.decimals (drop 3 (drop 6 line.0)) v.amount.minor amount.minor).1 }
@@ -273,8 +271,8 @@ value-written t line date v is spelled six form e =
 pub value-again : (t : Tables) (f : Field) (v : Value) → IsValue v → value_of t f ≡ Ok v → value_of t (value_field v) ≡ Ok v
 unfolding value_of
 value-again t f v is e =
-    let line = there (one_line f) P24 _ v e in
-    let form = checked (is_dated_amount line.0) P24 _ v line.2 in
+    let line = there (one_line f) _ _ v e in
+    let form = checked (is_dated_amount line.0) _ _ v line.2 in
     let written = value-written t line.0 (yymmdd_of v.day) v is (day-named (take 6 line.0) v.day (value-read t line.0 v form.1).day).1 refl form.0 form.1 in
     rw (written.0, written.1) refl
 
@@ -284,8 +282,8 @@ value-again t f v is e =
 pub party-of-known : (t : Tables) (f : Field) (p : Party) → known_party_of t f ≡ Ok p → (party_of f ≡ Some p) × (is_known t p ≡ true)
 unfolding known_party_of
 party-of-known t f p e =
-    let party = there (party_of f) P24 _ p e in
-    let known = checked (is_known t party.0) P25 _ p party.2 in
+    let party = there (party_of f) _ _ p e in
+    let known = checked (is_known t party.0) _ _ p party.2 in
     let same : party.0 ≡ p = cc known.1 in
     rw (← same) (party.1, known.0)
 

@@ -12,7 +12,6 @@ use Rattle.ref_tables.specs.Seen.{Tables}
 use Rattle.fin_fields.specs.declared.field.Field.{Field}
 use Rattle.fin_fields.specs.Faults.{has_other_byte}
 use Rattle.fin_fields.specs.Writing.{IsField}
-use Rattle.fin_layout.specs.declared.fault.TheConstants.{P24}
 use Rattle.fin_contents.specs.declared.value.Value.{Value}
 use Rattle.fin_contents.specs.Money.{ccy_amount_in, ccy_amount_of, is_ccy_amount, is_dated_amount, value_in, value_of}
 use Rattle.fin_contents.specs.Writing.{IsAmount, IsHeading, IsValue, ccy_amount_field, ccy_amount_text, line_field, lines_field, value_field}
@@ -52,7 +51,7 @@ pub ccy_amount-fit : (tag : ℕ) (letter : Option ℕ) (t : Tables) (f : Field) 
 unfolding ccy_amount_of
 ccy_amount-fit tag letter t f a h is e =
     let again = ccy_amount-again tag letter t f a is e in
-    let form = checked (is_ccy_amount (ccy_amount_text a)) P24 (ccy_amount_in t (ccy_amount_text a)) a again in
+    let form = checked (is_ccy_amount (ccy_amount_text a)) _ (ccy_amount_in t (ccy_amount_text a)) a again in
     line-fit tag letter (ccy_amount_text a) h (all-of-x (ccy_amount_text a) (ccy_amount-of-x (ccy_amount_text a) form.0))
 
 pub value-fit : (t : Tables) (f : Field) (v : Value) → IsValue v → value_of t f ≡ Ok v → IsField (value_field v)
@@ -60,5 +59,5 @@ unfolding value_of
 value-fit t f v is e =
     let again = value-again t f v is e in
     let text : List ℕ = yymmdd_of v.day ++ ccy_amount_text v.amount in
-    let form = checked (is_dated_amount text) P24 (value_in t text) v again in
+    let form = checked (is_dated_amount text) _ (value_in t text) v again in
     line-fit 32 (Some 65) text (record { two_digits = omega arith; capital = refl }) (all-of-x text (dated_amount-of-x text form.0))

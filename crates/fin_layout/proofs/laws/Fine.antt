@@ -7,7 +7,6 @@ use Rattle.corr_text.specs.declared.fault.Code.{Code}
 use Rattle.corr_text.specs.declared.fault.Fault.{Fault}
 use Rattle.fin_fields.specs.declared.field.Field.{Field}
 use Rattle.fin_layout.specs.declared.place.Place.{Place}
-use Rattle.fin_layout.specs.declared.fault.TheConstants.{P22}
 use Rattle.fin_layout.specs.Naming.{fault_at, absent}
 use Rattle.fin_layout.specs.Order.{field_in, is_missing, missing_from, places_from}
 use Rattle.fin_layout.specs.Contents.{all_from, in_option, in_place}
@@ -40,7 +39,7 @@ pub record AllHold (order : List Place) (test : ℕ → Field → Option Code) (
 pub all-hold : (order : List Place) (test : ℕ → Field → Option Code) (fs : List Field) → first_of (tests order test fs) ≡ None → AllHold order test fs (places_from order 0 fs)
 all-hold order test fs none =
     let found = places_from order 0 fs in
-    let one = first-none (unless (length found == length fs) (fault_at fs (length found) P22)) _ none in
+    let one = first-none (unless (length found == length fs) (fault_at fs (length found) _)) _ none in
     let two = first-none (option_map (absent order) (missing_from 0 order found)) _ one.1 in
     record {
       whole = eqb-true _ _ (holds-none (length found == length fs) _ one.0);
