@@ -3,7 +3,6 @@ use Rattle.std.proofs.Common.{◌≡◌, ℕ, List, [], ◌∷◌, ◌++◌, get
 use Rattle.std.specs.Prelude.{unwrap_or}
 use Rattle.ref_tables.specs.Seen.{Tables}
 use Rattle.fin_fields.specs.declared.field.Field.{Field}
-use Rattle.fin_layout.specs.declared.fault.TheConstants.{P24}
 use Rattle.fin_layout.specs.declared.place.Place.{Place}
 use Rattle.fin_layout.specs.Contents.{in_option, in_place}
 use Rattle.fin_layout.specs.Segments.{joined, places_of}
@@ -23,15 +22,15 @@ use Rattle.mt9_advice.specs.Writing.{booking_fields, segments_900, segments_910}
 use Rattle.mt9_advice.specs.declared.booking.Booking.{Booking}
 use Rattle.mt9_advice.specs.declared.credit.Mt910.{Mt910}
 use Rattle.mt9_advice.specs.declared.debit.Mt900.{Mt900}
-use Rattle.mt9_advice.specs.declared.order.TheConstants.{ORDER_900, ORDER_910}
+use Rattle.mt9_advice.specs.Order.{order_900, order_910}
 
 -- ---- 13D
 
 pub stamp-kept : (f : Field) (x : List ℕ) → stamp_of f ≡ Ok x → f.lines ≡ x ∷ []
 unfolding stamp_of
 stamp-kept f x e =
-    let line = there (one_line f) P24 _ x e in
-    let is = checked (is_stamp line.0) P24 _ x line.2 in
+    let line = there (one_line f) _ _ x e in
+    let is = checked (is_stamp line.0) _ _ x line.2 in
     let same : line.0 ≡ x = cc is.1 in
     is-only f.lines line.0 line.1 ∙ ap (λ (y : List ℕ). y ∷ []) same
 
@@ -72,7 +71,7 @@ booking_910 m = record { reference = m.reference; related = m.related; account =
 
 -- the fields of an MT900 say so
 pub record Says900 (t : Tables) (fs : List Field) (found : List ℕ) (m : Mt900) : Type 0 where
-  pub booking : SaysBooking ORDER_900 t fs found (booking_900 m)
+  pub booking : SaysBooking order_900 t fs found (booking_900 m)
   pub p52 : in_option fs found 5 (known_party_of t) ≡ Ok m.p52
   pub lines : Option (List (List ℕ))
   pub notes : in_option fs found 6 (texts_of 6) ≡ Ok lines
@@ -81,21 +80,21 @@ pub record Says900 (t : Tables) (fs : List Field) (found : List ℕ) (m : Mt900)
 pub said-900 : (t : Tables) (fs : List Field) (found : List ℕ) (m : Mt900) → contents_900 t fs found ≡ Ok m → Says900 t fs found m
 unfolding contents_900
 said-900 t fs found m e =
-    let one = read-then (booking_of ORDER_900 t fs found) _ m e in
+    let one = read-then (booking_of order_900 t fs found) _ m e in
     let two = read-then (in_option fs found 5 (known_party_of t)) _ m one.2 in
     let three = read-then (in_option fs found 6 (texts_of 6)) _ m two.2 in
     let same : mt900 one.0 two.0 (unwrap_or three.0 []) ≡ m = cc three.2 in
-    rw (← same) (record { booking = booking-said ORDER_900 t fs found one.0 one.1; p52 = two.1; lines = three.0; notes = three.1; same = refl })
+    rw (← same) (record { booking = booking-said order_900 t fs found one.0 one.1; p52 = two.1; lines = three.0; notes = three.1; same = refl })
 
 pub says-900 : (t : Tables) (fs : List Field) (found : List ℕ) (m : Mt900) → Says900 t fs found m → contents_900 t fs found ≡ Ok m
 unfolding contents_900
 says-900 t fs found m s =
-    let booking = booking-says ORDER_900 t fs found (booking_900 m) s.booking in
+    let booking = booking-says order_900 t fs found (booking_900 m) s.booking in
     rw (booking, s.p52, s.notes, s.same) refl
 
 -- the fields of an MT910 say so
 pub record Says910 (t : Tables) (fs : List Field) (found : List ℕ) (m : Mt910) : Type 0 where
-  pub booking : SaysBooking ORDER_910 t fs found (booking_910 m)
+  pub booking : SaysBooking order_910 t fs found (booking_910 m)
   pub payer : in_option fs found 5 (known_party_of t) ≡ Ok m.payer
   pub p52 : in_option fs found 6 (known_party_of t) ≡ Ok m.p52
   pub p56 : in_option fs found 7 (known_party_of t) ≡ Ok m.p56
@@ -106,18 +105,18 @@ pub record Says910 (t : Tables) (fs : List Field) (found : List ℕ) (m : Mt910)
 pub said-910 : (t : Tables) (fs : List Field) (found : List ℕ) (m : Mt910) → contents_910 t fs found ≡ Ok m → Says910 t fs found m
 unfolding contents_910
 said-910 t fs found m e =
-    let one = read-then (booking_of ORDER_910 t fs found) _ m e in
+    let one = read-then (booking_of order_910 t fs found) _ m e in
     let two = read-then (in_option fs found 5 (known_party_of t)) _ m one.2 in
     let three = read-then (in_option fs found 6 (known_party_of t)) _ m two.2 in
     let four = read-then (in_option fs found 7 (known_party_of t)) _ m three.2 in
     let five = read-then (in_option fs found 8 (texts_of 6)) _ m four.2 in
     let same : mt910 one.0 two.0 three.0 four.0 (unwrap_or five.0 []) ≡ m = cc five.2 in
-    rw (← same) (record { booking = booking-said ORDER_910 t fs found one.0 one.1; payer = two.1; p52 = three.1; p56 = four.1; lines = five.0; notes = five.1; same = refl })
+    rw (← same) (record { booking = booking-said order_910 t fs found one.0 one.1; payer = two.1; p52 = three.1; p56 = four.1; lines = five.0; notes = five.1; same = refl })
 
 pub says-910 : (t : Tables) (fs : List Field) (found : List ℕ) (m : Mt910) → Says910 t fs found m → contents_910 t fs found ≡ Ok m
 unfolding contents_910
 says-910 t fs found m s =
-    let booking = booking-says ORDER_910 t fs found (booking_910 m) s.booking in
+    let booking = booking-says order_910 t fs found (booking_910 m) s.booking in
     rw (booking, s.payer, s.p52, s.p56, s.notes, s.same) refl
 
 -- ---- and so do the fields that it is written as
@@ -140,29 +139,29 @@ module _ (order : List Place) (t : Tables) (fs : List Field) (found : List ℕ) 
   party-moved segs k tag d o at seg e =
       option-moved (Stands order (λ _. Unit {0})) fs found h segs k (known_party_of t) (party_field tag) o (some-all _ o (λ p. party-again-at order (λ _. Unit {0}) k tag d at t p)) seg e
 
-pub moved-900 : (t : Tables) (fs : List Field) (found : List ℕ) (d : Place) (m : Mt900) → Holds (Stands ORDER_900 (λ _. Unit {0})) found fs → IsValue (record { day = m.value; amount = m.amount }) → Says900 t fs found m
+pub moved-900 : (t : Tables) (fs : List Field) (found : List ℕ) (d : Place) (m : Mt900) → Holds (Stands order_900 (λ _. Unit {0})) found fs → IsValue (record { day = m.value; amount = m.amount }) → Says900 t fs found m
     → Says900 t (joined (segments_900 m)) (places_of 0 (segments_900 m)) m
 moved-900 t fs found d m h is s =
     let segs = segments_900 m in
-    let notes = lines-moved (Stands ORDER_900 (λ _. Unit {0})) fs found h segs 6 72 None (texts_of 6) s.lines (λ lines f _ e. texts-again 6 72 None f lines e) (rw (s.same) refl) s.notes in
+    let notes = lines-moved (Stands order_900 (λ _. Unit {0})) fs found h segs 6 72 None (texts_of 6) s.lines (λ lines f _ e. texts-again 6 72 None f lines e) (rw (s.same) refl) s.notes in
     record {
-      booking = booking-moved ORDER_900 t fs found h (booking_900 m) (some_field (party_field 52) m.p52 ∷ lines_fields 72 None m.notes ∷ []) is s.booking;
-      p52 = party-moved ORDER_900 t fs found h segs 5 52 d m.p52 refl refl s.p52;
+      booking = booking-moved order_900 t fs found h (booking_900 m) (some_field (party_field 52) m.p52 ∷ lines_fields 72 None m.notes ∷ []) is s.booking;
+      p52 = party-moved order_900 t fs found h segs 5 52 d m.p52 refl refl s.p52;
       lines = notes.0;
       notes = notes.1;
       same = notes.2 ∙ s.same;
     }
 
-pub moved-910 : (t : Tables) (fs : List Field) (found : List ℕ) (d : Place) (m : Mt910) → Holds (Stands ORDER_910 (λ _. Unit {0})) found fs → IsValue (record { day = m.value; amount = m.amount }) → Says910 t fs found m
+pub moved-910 : (t : Tables) (fs : List Field) (found : List ℕ) (d : Place) (m : Mt910) → Holds (Stands order_910 (λ _. Unit {0})) found fs → IsValue (record { day = m.value; amount = m.amount }) → Says910 t fs found m
     → Says910 t (joined (segments_910 m)) (places_of 0 (segments_910 m)) m
 moved-910 t fs found d m h is s =
     let segs = segments_910 m in
-    let notes = lines-moved (Stands ORDER_910 (λ _. Unit {0})) fs found h segs 8 72 None (texts_of 6) s.lines (λ lines f _ e. texts-again 6 72 None f lines e) (rw (s.same) refl) s.notes in
+    let notes = lines-moved (Stands order_910 (λ _. Unit {0})) fs found h segs 8 72 None (texts_of 6) s.lines (λ lines f _ e. texts-again 6 72 None f lines e) (rw (s.same) refl) s.notes in
     record {
-      booking = booking-moved ORDER_910 t fs found h (booking_910 m) (some_field (party_field 50) m.payer ∷ some_field (party_field 52) m.p52 ∷ some_field (party_field 56) m.p56 ∷ lines_fields 72 None m.notes ∷ []) is s.booking;
-      payer = party-moved ORDER_910 t fs found h segs 5 50 d m.payer refl refl s.payer;
-      p52 = party-moved ORDER_910 t fs found h segs 6 52 d m.p52 refl refl s.p52;
-      p56 = party-moved ORDER_910 t fs found h segs 7 56 d m.p56 refl refl s.p56;
+      booking = booking-moved order_910 t fs found h (booking_910 m) (some_field (party_field 50) m.payer ∷ some_field (party_field 52) m.p52 ∷ some_field (party_field 56) m.p56 ∷ lines_fields 72 None m.notes ∷ []) is s.booking;
+      payer = party-moved order_910 t fs found h segs 5 50 d m.payer refl refl s.payer;
+      p52 = party-moved order_910 t fs found h segs 6 52 d m.p52 refl refl s.p52;
+      p56 = party-moved order_910 t fs found h segs 7 56 d m.p56 refl refl s.p56;
       lines = notes.0;
       notes = notes.1;
       same = notes.2 ∙ s.same;

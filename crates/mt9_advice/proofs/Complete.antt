@@ -14,7 +14,7 @@ use Rattle.mt9_advice.specs.Advice.{content_test, contents_900, contents_910, mt
 use Rattle.mt9_advice.specs.declared.booking.Booking.{Booking}
 use Rattle.mt9_advice.specs.declared.credit.Mt910.{Mt910}
 use Rattle.mt9_advice.specs.declared.debit.Mt900.{Mt900}
-use Rattle.mt9_advice.specs.declared.order.TheConstants.{ORDER_900, ORDER_910}
+use Rattle.mt9_advice.specs.Order.{order_900, order_910}
 use Rattle.mt9_advice.proofs.Again.{SaysBooking, says-900, says-910}
 use Rattle.mt9_advice.proofs.Refused.{begun}
 
@@ -29,20 +29,20 @@ booking-fine rest last t fs found hold =
       record { reference = reference.1; related = related.1; account = account.1; at = at.1; value = value.1 },
     )
 
-pub complete_900 : (t : Tables) (fs : List Field) → first_of (tests_900 t fs) ≡ None → (m : Mt900) × (contents_900 t fs (places_from ORDER_900 0 fs) ≡ Ok m)
+pub complete_900 : (t : Tables) (fs : List Field) → first_of (tests_900 t fs) ≡ None → (m : Mt900) × (contents_900 t fs (places_from order_900 0 fs) ≡ Ok m)
 complete_900 t fs none =
-    let found = places_from ORDER_900 0 fs in
-    let hold = all-hold ORDER_900 (content_test 6 t) fs none in
+    let found = places_from order_900 0 fs in
+    let hold = all-hold order_900 (content_test 6 t) fs none in
     let b = booking-fine _ 6 t fs found hold in
     let p52 = may-fine hold 5 (known_party_of t) (λ f. refl) in
     let notes = may-fine hold 6 (texts_of 6) (λ f. refl) in
     let m = mt900 b.0 p52.0 (unwrap_or notes.0 []) in
     (m, says-900 t fs found m (record { booking = b.1; p52 = p52.1; lines = notes.0; notes = notes.1; same = refl }))
 
-pub complete_910 : (t : Tables) (fs : List Field) → first_of (tests_910 t fs) ≡ None → (m : Mt910) × (contents_910 t fs (places_from ORDER_910 0 fs) ≡ Ok m)
+pub complete_910 : (t : Tables) (fs : List Field) → first_of (tests_910 t fs) ≡ None → (m : Mt910) × (contents_910 t fs (places_from order_910 0 fs) ≡ Ok m)
 complete_910 t fs none =
-    let found = places_from ORDER_910 0 fs in
-    let hold = all-hold ORDER_910 (content_test 8 t) fs none in
+    let found = places_from order_910 0 fs in
+    let hold = all-hold order_910 (content_test 8 t) fs none in
     let b = booking-fine _ 8 t fs found hold in
     let payer = may-fine hold 5 (known_party_of t) (λ f. refl) in
     let p52 = may-fine hold 6 (known_party_of t) (λ f. refl) in

@@ -11,11 +11,12 @@ use Rattle.fin_contents.specs.Parties.{known_party_of}
 use Rattle.fin_contents.specs.Plain.{reference_of, short_line_of, texts_of}
 use Rattle.mt9_advice.specs.Advice.{booking_of, content_test, contents_900, contents_910, stamp_of}
 use Rattle.mt9_advice.specs.declared.booking.Booking.{Booking}
-use Rattle.mt9_advice.specs.declared.order.TheConstants.{ACCOUNT, ORDER_900, ORDER_910, REFERENCE, RELATED, STAMP, VALUE}
+use Rattle.mt9_advice.specs.Order.{order_900, order_910}
+use Rattle.mt9_advice.proofs.Rows.{row_13, row_20, row_21, row_25, row_32}
 
 -- an order that begins with 20, 21, 25, 13D and 32A
 abbrev pub begun : List Place → List Place
-begun rest = REFERENCE ∷ RELATED ∷ ACCOUNT ∷ STAMP ∷ VALUE ∷ rest
+begun rest = row_20 ∷ row_21 ∷ row_25 ∷ row_13 ∷ row_32 ∷ rest
 
 module _ (t : Tables) (fs : List Field) (found : List ℕ) (fault : Fault) where
   abbrev Lies : List Place → ℕ → ℕ → Type 0
@@ -30,14 +31,14 @@ module _ (t : Tables) (fs : List Field) (found : List ℕ) (fault : Fault) where
       option-in l3 stamp_of (λ f. refl) refl _ next (λ _ l4.
       one-in l4 (value_of t) (λ f. refl) refl _ refl refl _ next (λ _ l5. on _ l5)))))
 
-  pub refused-900 : LiesFrom ORDER_900 (content_test 6 t) fs found fault 0 → contents_900 t fs found ≡ Err fault
+  pub refused-900 : LiesFrom order_900 (content_test 6 t) fs found fault 0 → contents_900 t fs found ≡ Err fault
   unfolding contents_900
   refused-900 l0 =
       booking-refused _ 6 l0 _ (λ _ l5.
       option-met l5 (known_party_of t) (λ f. refl) refl _ (λ _ l6.
       option-met l6 (texts_of 6) (λ f. refl) refl _ (λ _ l7. none-left l7)))
 
-  pub refused-910 : LiesFrom ORDER_910 (content_test 8 t) fs found fault 0 → contents_910 t fs found ≡ Err fault
+  pub refused-910 : LiesFrom order_910 (content_test 8 t) fs found fault 0 → contents_910 t fs found ≡ Err fault
   unfolding contents_910
   refused-910 l0 =
       booking-refused _ 8 l0 _ (λ _ l5.

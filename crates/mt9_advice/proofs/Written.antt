@@ -2,6 +2,7 @@
 use Rattle.std.proofs.Common.{◌≡◌, ℕ, true, List, [], ◌∷◌, ◌++◌, get_or, Option, Some, None, Result, Ok, Err, refl, sym, ap, ◌∙◌, arith, inl, inr}
 use Rattle.std.specs.Prelude.{IfOk, IfSome, IsTrue, unwrap_or}
 use Rattle.std.specs.List.{All, AllByRecursion}
+use Rattle.corr_text.specs.First.{first_of}
 use Rattle.corr_text.specs.declared.fault.Fault.{Fault}
 use Rattle.ref_tables.specs.Seen.{Tables, few_decimals}
 use Rattle.fin_fields.specs.declared.field.Field.{Field}
@@ -13,13 +14,14 @@ use Rattle.fin_layout.specs.Order.{fits, missing_from, places_from}
 use Rattle.fin_layout.specs.Segments.{Segments, joined, places_of}
 use Rattle.fin_layout.specs.Tests.{passed}
 use Rattle.fin_layout.proofs.laws.FoundField.{grouped-taken}
+use Rattle.fin_layout.proofs.laws.Passed.{passed-none}
 use Rattle.fin_layout.proofs.laws.Grouped.{grouped-places, grouped-structure}
 use Rattle.fin_parties.specs.Writing.{party_field}
 use Rattle.fin_parties.specs.declared.party.Party.{Party}
 use Rattle.fin_contents.specs.Money.{value_of}
 use Rattle.fin_contents.specs.Parties.{known_party_of}
 use Rattle.fin_contents.specs.Plain.{reference_of, short_line_of, texts_of}
-use Rattle.fin_contents.specs.Writing.{IsValue, line_field, lines_fields, some_field, value_field}
+use Rattle.fin_contents.specs.Writing.{IsReadable, IsValue, line_field, lines_fields, some_field, value_field}
 use Rattle.fin_contents.proofs.laws.Again.{reference-kept, short_line-kept, texts-kept, value-is}
 use Rattle.fin_contents.proofs.laws.Back.{some-all, some-weaker}
 use Rattle.fin_contents.proofs.laws.Fit.{kept-fit, value-fit}
@@ -27,11 +29,12 @@ use Rattle.fin_contents.proofs.laws.Placed.{Each, each-joined, first-of-tag, lin
 use Rattle.fin_contents.proofs.laws.Said.{Holds, Stands, said-one, said-option, stand}
 use Rattle.fin_contents.proofs.laws.Steps.{read-then}
 use Rattle.mt9_advice.specs.Advice.{c06, contents_900, contents_910, mt900_of, mt910_of, stamp_of, tests_900, tests_910}
-use Rattle.mt9_advice.specs.Writing.{IsReadable, booking_fields, fields_900, fields_910, segments_900, segments_910}
+use Rattle.mt9_advice.specs.Writing.{booking_fields, fields_900, fields_910, segments_900, segments_910}
 use Rattle.mt9_advice.specs.declared.booking.Booking.{Booking}
 use Rattle.mt9_advice.specs.declared.credit.Mt910.{Mt910}
 use Rattle.mt9_advice.specs.declared.debit.Mt900.{Mt900}
-use Rattle.mt9_advice.specs.declared.order.TheConstants.{ACCOUNT, INTERMEDIARY, NOTES, ORDER_900, ORDER_910, ORDERING, PAYER, REFERENCE, RELATED, STAMP, VALUE}
+use Rattle.mt9_advice.specs.Order.{order_900, order_910}
+use Rattle.mt9_advice.proofs.Rows.{row_13, row_20, row_21, row_25, row_32, row_50, row_52, row_56, row_72}
 use Rattle.mt9_advice.proofs.Again.{SaysBooking, booking_900, booking_910, moved-900, moved-910, said-900, said-910, says-900, says-910, stamp-kept}
 use Rattle.mt9_advice.proofs.Outcome.{as-contents-900, rule-holds}
 use Rattle.mt9_advice.proofs.Refused.{begun}
@@ -44,27 +47,27 @@ written b more = booking_fields b.reference b.related b.account b.at b.value ++ 
 booking-placed : (rest : List Place) (b : Booking) (more : List (List Field)) → Segments (begun rest) 0 5 more → Segments (begun rest) 0 0 (written b more)
 booking-placed rest b more later =
     let order = begun rest in
-    let behind = STAMP ∷ VALUE ∷ rest in (
-      one-segment order 0 0 (line_field 20 None b.reference) (first-of-tag order 0 [] REFERENCE (RELATED ∷ ACCOUNT ∷ behind) (line_field 20 None b.reference) refl refl refl),
+    let behind = row_13 ∷ row_32 ∷ rest in (
+      one-segment order 0 0 (line_field 20 None b.reference) (first-of-tag order 0 [] row_20 (row_21 ∷ row_25 ∷ behind) (line_field 20 None b.reference) refl refl refl),
       (
         0,
         inl (omega arith),
         (
-          one-segment order 0 1 (line_field 21 None b.related) (first-of-tag order 0 (REFERENCE ∷ []) RELATED (ACCOUNT ∷ behind) (line_field 21 None b.related) refl refl refl),
+          one-segment order 0 1 (line_field 21 None b.related) (first-of-tag order 0 (row_20 ∷ []) row_21 (row_25 ∷ behind) (line_field 21 None b.related) refl refl refl),
           (
             0,
             inl (omega arith),
             (
-              one-segment order 0 2 (line_field 25 None b.account) (first-of-tag order 0 (REFERENCE ∷ RELATED ∷ []) ACCOUNT behind (line_field 25 None b.account) refl refl refl),
+              one-segment order 0 2 (line_field 25 None b.account) (first-of-tag order 0 (row_20 ∷ row_21 ∷ []) row_25 behind (line_field 25 None b.account) refl refl refl),
               (
                 0,
                 inl (omega arith),
                 (
-                  some-segment order 0 3 (line_field 13 (Some 68)) b.at (some-all _ b.at (λ x. first-of-tag order 0 (REFERENCE ∷ RELATED ∷ ACCOUNT ∷ []) STAMP (VALUE ∷ rest) (line_field 13 (Some 68) x) refl refl refl)),
+                  some-segment order 0 3 (line_field 13 (Some 68)) b.at (some-all _ b.at (λ x. first-of-tag order 0 (row_20 ∷ row_21 ∷ row_25 ∷ []) row_13 (row_32 ∷ rest) (line_field 13 (Some 68) x) refl refl refl)),
                   (
                     0,
                     inl (omega arith),
-                    (one-segment order 0 4 (value_field b.value) (first-of-tag order 0 (REFERENCE ∷ RELATED ∷ ACCOUNT ∷ STAMP ∷ []) VALUE rest (value_field b.value) refl refl refl), (0, inl (omega arith), later)),
+                    (one-segment order 0 4 (value_field b.value) (first-of-tag order 0 (row_20 ∷ row_21 ∷ row_25 ∷ row_13 ∷ []) row_32 rest (value_field b.value) refl refl refl), (0, inl (omega arith), later)),
                   ),
                 ),
               ),
@@ -82,36 +85,36 @@ booking-there rest b more = rw (grouped-taken (written b more) 0 4 (value_field 
 abbrev Fits : Place → ℕ → Option Party → Type 0
 Fits place tag o = IfSome o (λ p. fits place (party_field tag p) ≡ true)
 
-placed-900 : (m : Mt900) → Fits ORDERING 52 m.p52 → Segments ORDER_900 0 0 (segments_900 m)
+placed-900 : (m : Mt900) → Fits row_52 52 m.p52 → Segments order_900 0 0 (segments_900 m)
 placed-900 m p52 =
-    booking-placed (ORDERING ∷ NOTES ∷ []) (booking_900 m) (some_field (party_field 52) m.p52 ∷ lines_fields 72 None m.notes ∷ []) (
-      some-segment ORDER_900 0 5 (party_field 52) m.p52 (some-weaker _ _ m.p52 p52 (λ p e. first-of-tag ORDER_900 0 (begun []) ORDERING (NOTES ∷ []) (party_field 52 p) refl refl e)),
+    booking-placed (row_52 ∷ row_72 ∷ []) (booking_900 m) (some_field (party_field 52) m.p52 ∷ lines_fields 72 None m.notes ∷ []) (
+      some-segment order_900 0 5 (party_field 52) m.p52 (some-weaker _ _ m.p52 p52 (λ p e. first-of-tag order_900 0 (begun []) row_52 (row_72 ∷ []) (party_field 52 p) refl refl e)),
       (
         0,
         inl (omega arith),
-        (lines-segment ORDER_900 0 6 72 None m.notes refl, (0, inl (omega arith), tt)),
+        (lines-segment order_900 0 6 72 None m.notes refl, (0, inl (omega arith), tt)),
       ),
     )
 
-placed-910 : (m : Mt910) → Fits PAYER 50 m.payer → Fits ORDERING 52 m.p52 → Fits INTERMEDIARY 56 m.p56 → Segments ORDER_910 0 0 (segments_910 m)
+placed-910 : (m : Mt910) → Fits row_50 50 m.payer → Fits row_52 52 m.p52 → Fits row_56 56 m.p56 → Segments order_910 0 0 (segments_910 m)
 placed-910 m payer p52 p56 =
-    booking-placed (PAYER ∷ ORDERING ∷ INTERMEDIARY ∷ NOTES ∷ []) (booking_910 m)
+    booking-placed (row_50 ∷ row_52 ∷ row_56 ∷ row_72 ∷ []) (booking_910 m)
     (some_field (party_field 50) m.payer ∷ some_field (party_field 52) m.p52 ∷ some_field (party_field 56) m.p56 ∷ lines_fields 72 None m.notes ∷ []) (
-      some-segment ORDER_910 0 5 (party_field 50) m.payer (some-weaker _ _ m.payer payer (λ p e. first-of-tag ORDER_910 0 (begun []) PAYER (ORDERING ∷ INTERMEDIARY ∷ NOTES ∷ []) (party_field 50 p) refl refl e)),
+      some-segment order_910 0 5 (party_field 50) m.payer (some-weaker _ _ m.payer payer (λ p e. first-of-tag order_910 0 (begun []) row_50 (row_52 ∷ row_56 ∷ row_72 ∷ []) (party_field 50 p) refl refl e)),
       (
         0,
         inl (omega arith),
         (
-          some-segment ORDER_910 0 6 (party_field 52) m.p52 (some-weaker _ _ m.p52 p52 (λ p e. first-of-tag ORDER_910 0 (begun (PAYER ∷ [])) ORDERING (INTERMEDIARY ∷ NOTES ∷ []) (party_field 52 p) refl refl e)),
+          some-segment order_910 0 6 (party_field 52) m.p52 (some-weaker _ _ m.p52 p52 (λ p e. first-of-tag order_910 0 (begun (row_50 ∷ [])) row_52 (row_56 ∷ row_72 ∷ []) (party_field 52 p) refl refl e)),
           (
             0,
             inl (omega arith),
             (
-              some-segment ORDER_910 0 7 (party_field 56) m.p56 (some-weaker _ _ m.p56 p56 (λ p e. first-of-tag ORDER_910 0 (begun (PAYER ∷ ORDERING ∷ [])) INTERMEDIARY (NOTES ∷ []) (party_field 56 p) refl refl e)),
+              some-segment order_910 0 7 (party_field 56) m.p56 (some-weaker _ _ m.p56 p56 (λ p e. first-of-tag order_910 0 (begun (row_50 ∷ row_52 ∷ [])) row_56 (row_72 ∷ []) (party_field 56 p) refl refl e)),
               (
                 0,
                 inl (omega arith),
-                (lines-segment ORDER_910 0 8 72 None m.notes refl, (0, inl (omega arith), tt)),
+                (lines-segment order_910 0 8 72 None m.notes refl, (0, inl (omega arith), tt)),
               ),
             ),
           ),
@@ -119,13 +122,13 @@ placed-910 m payer p52 p56 =
       ),
     )
 
-there-900 : (m : Mt900) → missing_from 0 ORDER_900 (places_of 0 (segments_900 m)) ≡ None
+there-900 : (m : Mt900) → missing_from 0 order_900 (places_of 0 (segments_900 m)) ≡ None
 unfolding missing_from
-there-900 m = booking-there (ORDERING ∷ NOTES ∷ []) (booking_900 m) (some_field (party_field 52) m.p52 ∷ lines_fields 72 None m.notes ∷ [])
+there-900 m = booking-there (row_52 ∷ row_72 ∷ []) (booking_900 m) (some_field (party_field 52) m.p52 ∷ lines_fields 72 None m.notes ∷ [])
 
-there-910 : (m : Mt910) → missing_from 0 ORDER_910 (places_of 0 (segments_910 m)) ≡ None
+there-910 : (m : Mt910) → missing_from 0 order_910 (places_of 0 (segments_910 m)) ≡ None
 unfolding missing_from
-there-910 m = booking-there (PAYER ∷ ORDERING ∷ INTERMEDIARY ∷ NOTES ∷ []) (booking_910 m) (some_field (party_field 50) m.payer ∷ some_field (party_field 52) m.p52 ∷ some_field (party_field 56) m.p56 ∷ lines_fields 72 None m.notes ∷ [])
+there-910 m = booking-there (row_50 ∷ row_52 ∷ row_56 ∷ row_72 ∷ []) (booking_910 m) (some_field (party_field 50) m.payer ∷ some_field (party_field 52) m.p52 ∷ some_field (party_field 56) m.p56 ∷ lines_fields 72 None m.notes ∷ [])
 
 -- ---- from the fields that were read
 
@@ -140,47 +143,47 @@ stand-any : (order : List Place) (fs : List Field) → Holds (Stands order (λ _
 stand-any order fs = stand order (λ _. Unit {0}) 0 fs (any fs)
 
 -- what an MT900 says and is written as is read again
-again-so-900 : (t : Tables) (fs : List Field) (m : Mt900) → IsValue (record { day = m.value; amount = m.amount }) → contents_900 t fs (places_from ORDER_900 0 fs) ≡ Ok m → mt900_of t (joined (segments_900 m)) ≡ Ok m
+again-so-900 : (t : Tables) (fs : List Field) (m : Mt900) → IsValue (record { day = m.value; amount = m.amount }) → contents_900 t fs (places_from order_900 0 fs) ≡ Ok m → mt900_of t (joined (segments_900 m)) ≡ Ok m
 again-so-900 t fs m is e =
-    let h = stand-any ORDER_900 fs in
-    let s = said-900 t fs (places_from ORDER_900 0 fs) m e in
-    let placed = placed-900 m (party-fits ORDER_900 (λ _. Unit {0}) t fs (places_from ORDER_900 0 fs) 5 52 NOTES m.p52 refl h s.p52) in
-    let sound = grouped-structure ORDER_900 NOTES (segments_900 m) placed (there-900 m) in
-    let places = grouped-places ORDER_900 NOTES 0 0 0 (segments_900 m) (omega arith) (omega arith) placed in
-    let says = says-900 t (joined (segments_900 m)) (places_of 0 (segments_900 m)) m (moved-900 t fs (places_from ORDER_900 0 fs) NOTES m h is s) in
+    let h = stand-any order_900 fs in
+    let s = said-900 t fs (places_from order_900 0 fs) m e in
+    let placed = placed-900 m (party-fits order_900 (λ _. Unit {0}) t fs (places_from order_900 0 fs) 5 52 row_72 m.p52 refl h s.p52) in
+    let sound = grouped-structure order_900 row_72 (segments_900 m) placed (there-900 m) in
+    let places = grouped-places order_900 row_72 0 0 0 (segments_900 m) (omega arith) (omega arith) placed in
+    let says = says-900 t (joined (segments_900 m)) (places_of 0 (segments_900 m)) m (moved-900 t fs (places_from order_900 0 fs) row_72 m h is s) in
     as-contents-900 t (joined (segments_900 m)) sound ∙ rw places says
 
-again-so-910 : (t : Tables) (fs : List Field) (m : Mt910) → IsValue (record { day = m.value; amount = m.amount }) → contents_910 t fs (places_from ORDER_910 0 fs) ≡ Ok m → c06 m ≡ None → mt910_of t (joined (segments_910 m)) ≡ Ok m
+again-so-910 : (t : Tables) (fs : List Field) (m : Mt910) → IsValue (record { day = m.value; amount = m.amount }) → contents_910 t fs (places_from order_910 0 fs) ≡ Ok m → c06 m ≡ None → mt910_of t (joined (segments_910 m)) ≡ Ok m
 again-so-910 t fs m is e rule =
-    let h = stand-any ORDER_910 fs in
-    let s = said-910 t fs (places_from ORDER_910 0 fs) m e in
-    let payer = party-fits ORDER_910 (λ _. Unit {0}) t fs (places_from ORDER_910 0 fs) 5 50 NOTES m.payer refl h s.payer in
-    let p52 = party-fits ORDER_910 (λ _. Unit {0}) t fs (places_from ORDER_910 0 fs) 6 52 NOTES m.p52 refl h s.p52 in
-    let p56 = party-fits ORDER_910 (λ _. Unit {0}) t fs (places_from ORDER_910 0 fs) 7 56 NOTES m.p56 refl h s.p56 in
+    let h = stand-any order_910 fs in
+    let s = said-910 t fs (places_from order_910 0 fs) m e in
+    let payer = party-fits order_910 (λ _. Unit {0}) t fs (places_from order_910 0 fs) 5 50 row_72 m.payer refl h s.payer in
+    let p52 = party-fits order_910 (λ _. Unit {0}) t fs (places_from order_910 0 fs) 6 52 row_72 m.p52 refl h s.p52 in
+    let p56 = party-fits order_910 (λ _. Unit {0}) t fs (places_from order_910 0 fs) 7 56 row_72 m.p56 refl h s.p56 in
     let placed = placed-910 m payer p52 p56 in
-    let sound = grouped-structure ORDER_910 NOTES (segments_910 m) placed (there-910 m) in
-    let places = grouped-places ORDER_910 NOTES 0 0 0 (segments_910 m) (omega arith) (omega arith) placed in
-    let says = says-910 t (joined (segments_910 m)) (places_of 0 (segments_910 m)) m (moved-910 t fs (places_from ORDER_910 0 fs) NOTES m h is s) in
+    let sound = grouped-structure order_910 row_72 (segments_910 m) placed (there-910 m) in
+    let places = grouped-places order_910 row_72 0 0 0 (segments_910 m) (omega arith) (omega arith) placed in
+    let says = says-910 t (joined (segments_910 m)) (places_of 0 (segments_910 m)) m (moved-910 t fs (places_from order_910 0 fs) row_72 m h is s) in
     rule-holds t (joined (segments_910 m)) (places_of 0 (segments_910 m)) sound (sym places) m says rule
 
 -- ---- what was read is what the contents say
 
-pub contents-of-900 : (t : Tables) (fs : List Field) (m : Mt900) → mt900_of t fs ≡ Ok m → contents_900 t fs (places_from ORDER_900 0 fs) ≡ Ok m
+pub contents-of-900 : (t : Tables) (fs : List Field) (m : Mt900) → mt900_of t fs ≡ Ok m → contents_900 t fs (places_from order_900 0 fs) ≡ Ok m
 unfolding mt900_of
 contents-of-900 t fs m e = (read-then (passed (tests_900 t fs)) _ m e).2
 
-passes : (o : Option Fault) (u : Unit {0}) → passed (o ∷ []) ≡ Ok u → o ≡ None
-passes None u e = refl
-passes (Some fault) u e = absurd (cc e)
+passes : (o : Option Fault) → first_of (o ∷ []) ≡ None → o ≡ None
+passes None e = refl
+passes (Some fault) e = absurd (cc e)
 
-pub contents-of-910 : (t : Tables) (fs : List Field) (m : Mt910) → mt910_of t fs ≡ Ok m → (contents_910 t fs (places_from ORDER_910 0 fs) ≡ Ok m) × (c06 m ≡ None)
+pub contents-of-910 : (t : Tables) (fs : List Field) (m : Mt910) → mt910_of t fs ≡ Ok m → (contents_910 t fs (places_from order_910 0 fs) ≡ Ok m) × (c06 m ≡ None)
 unfolding mt910_of
 contents-of-910 t fs m e =
     let one = read-then (passed (tests_910 t fs)) _ m e in
-    let two = read-then (contents_910 t fs (places_from ORDER_910 0 fs)) _ m one.2 in
+    let two = read-then (contents_910 t fs (places_from order_910 0 fs)) _ m one.2 in
     let three = read-then (passed (c06 two.0 ∷ [])) _ m two.2 in
     let same : two.0 ≡ m = cc three.2 in
-    (two.1 ∙ ap Ok same, rw (← same) (passes (c06 two.0) three.0 three.1))
+    (two.1 ∙ ap Ok same, rw (← same) (passes (c06 two.0) (passed-none (c06 two.0 ∷ []) three.0 three.1)))
 
 -- ---- it can be written
 
@@ -190,10 +193,10 @@ booking-value order t fs b few s =
     value-is t v.field b.value few v.says
 
 pub value-900 : (m : Mt900) → IsReadable mt900_of m → IsValue (record { day = m.value; amount = m.amount })
-value-900 m r = booking-value ORDER_900 r.tables r.fields (booking_900 m) r.few (said-900 r.tables r.fields (places_from ORDER_900 0 r.fields) m (contents-of-900 r.tables r.fields m r.says)).booking
+value-900 m r = booking-value order_900 r.tables r.fields (booking_900 m) r.few (said-900 r.tables r.fields (places_from order_900 0 r.fields) m (contents-of-900 r.tables r.fields m r.says)).booking
 
 pub value-910 : (m : Mt910) → IsReadable mt910_of m → IsValue (record { day = m.value; amount = m.amount })
-value-910 m r = booking-value ORDER_910 r.tables r.fields (booking_910 m) r.few (said-910 r.tables r.fields (places_from ORDER_910 0 r.fields) m (contents-of-910 r.tables r.fields m r.says).0).booking
+value-910 m r = booking-value order_910 r.tables r.fields (booking_910 m) r.few (said-910 r.tables r.fields (places_from order_910 0 r.fields) m (contents-of-910 r.tables r.fields m r.says).0).booking
 
 pub again-900 : (t : Tables) (fs : List Field) (m : Mt900) → IsReadable mt900_of m → mt900_of t fs ≡ Ok m → mt900_of t (fields_900 m) ≡ Ok m
 unfolding fields_900
@@ -262,30 +265,30 @@ module _ (order : List Place) (t : Tables) (fs : List Field) (found : List ℕ) 
 pub fit-900 : (m : Mt900) → IsReadable mt900_of m → All IsField (fields_900 m)
 unfolding fields_900
 fit-900 m r =
-    let found = places_from ORDER_900 0 r.fields in
-    let h = stand ORDER_900 IsField 0 r.fields r.fit in
+    let found = places_from order_900 0 r.fields in
+    let h = stand order_900 IsField 0 r.fields r.fit in
     let s = said-900 r.tables r.fields found m (contents-of-900 r.tables r.fields m r.says) in
     each-joined IsField (segments_900 m)
-    (booking-fit ORDER_900 r.tables r.fields found h (booking_900 m) (some_field (party_field 52) m.p52 ∷ lines_fields 72 None m.notes ∷ []) (value-900 m r) s.booking (
-      parties-fit ORDER_900 r.tables r.fields found h 5 52 NOTES m.p52 refl s.p52,
-      (notes-fit ORDER_900 r.tables r.fields found h 6 s.lines m.notes s.same s.notes, tt),
+    (booking-fit order_900 r.tables r.fields found h (booking_900 m) (some_field (party_field 52) m.p52 ∷ lines_fields 72 None m.notes ∷ []) (value-900 m r) s.booking (
+      parties-fit order_900 r.tables r.fields found h 5 52 row_72 m.p52 refl s.p52,
+      (notes-fit order_900 r.tables r.fields found h 6 s.lines m.notes s.same s.notes, tt),
     ))
 
 pub fit-910 : (m : Mt910) → IsReadable mt910_of m → All IsField (fields_910 m)
 unfolding fields_910
 fit-910 m r =
-    let found = places_from ORDER_910 0 r.fields in
-    let h = stand ORDER_910 IsField 0 r.fields r.fit in
+    let found = places_from order_910 0 r.fields in
+    let h = stand order_910 IsField 0 r.fields r.fit in
     let s = said-910 r.tables r.fields found m (contents-of-910 r.tables r.fields m r.says).0 in
     each-joined IsField (segments_910 m)
-    (booking-fit ORDER_910 r.tables r.fields found h (booking_910 m)
+    (booking-fit order_910 r.tables r.fields found h (booking_910 m)
     (some_field (party_field 50) m.payer ∷ some_field (party_field 52) m.p52 ∷ some_field (party_field 56) m.p56 ∷ lines_fields 72 None m.notes ∷ []) (value-910 m r) s.booking (
-      parties-fit ORDER_910 r.tables r.fields found h 5 50 NOTES m.payer refl s.payer,
+      parties-fit order_910 r.tables r.fields found h 5 50 row_72 m.payer refl s.payer,
       (
-        parties-fit ORDER_910 r.tables r.fields found h 6 52 NOTES m.p52 refl s.p52,
+        parties-fit order_910 r.tables r.fields found h 6 52 row_72 m.p52 refl s.p52,
         (
-          parties-fit ORDER_910 r.tables r.fields found h 7 56 NOTES m.p56 refl s.p56,
-          (notes-fit ORDER_910 r.tables r.fields found h 8 s.lines m.notes s.same s.notes, tt),
+          parties-fit order_910 r.tables r.fields found h 7 56 row_72 m.p56 refl s.p56,
+          (notes-fit order_910 r.tables r.fields found h 8 s.lines m.notes s.same s.notes, tt),
         ),
       ),
     ))

@@ -1,6 +1,7 @@
 -- What an MT900 and an MT910 say, or the first test that they fail.
 use Rattle.std.specs.Prelude.{ℕ, ◌==◌, ◌&&◌, ◌||◌, Bool, List, [], ◌∷◌, length, take, drop, Option, Result, Ok, nat_le, codes, is_some, unwrap_or, if◌then◌else◌}
 use Rattle.std.specs.List.{list_all}
+use Rattle.corr_text.specs.Codes.{code}
 use Rattle.corr_text.specs.First.{check, fault_of, or_fault, unless, ◌>>=◌}
 use Rattle.corr_text.specs.Sets.{is_in}
 use Rattle.corr_text.specs.declared.fault.Code.{Code}
@@ -8,7 +9,6 @@ use Rattle.corr_text.specs.declared.fault.Fault.{Fault}
 use Rattle.corr_text.specs.declared.set.Set.TheVariants.{N}
 use Rattle.ref_tables.specs.Seen.{Tables}
 use Rattle.fin_fields.specs.declared.field.Field.{Field}
-use Rattle.fin_layout.specs.declared.fault.TheConstants.{P24}
 use Rattle.fin_layout.specs.declared.place.Place.{Place}
 use Rattle.fin_layout.specs.Contents.{in_option, in_place}
 use Rattle.fin_layout.specs.Order.{places_from}
@@ -19,9 +19,8 @@ use Rattle.fin_contents.specs.Parties.{known_party_of}
 use Rattle.fin_contents.specs.Plain.{is_clock, one_line, reference_of, short_line_of, texts_of}
 use Rattle.mt9_advice.specs.declared.booking.Booking.{Booking}
 use Rattle.mt9_advice.specs.declared.credit.Mt910.{Mt910}
-use Rattle.mt9_advice.specs.declared.credit.TheConstants.{C06}
 use Rattle.mt9_advice.specs.declared.debit.Mt900.{Mt900}
-use Rattle.mt9_advice.specs.declared.order.TheConstants.{ORDER_900, ORDER_910}
+use Rattle.mt9_advice.specs.Order.{order_900, order_910}
 
 -- `10!n`, a sign, `4!n`
 abbrev pub is_stamp : List ℕ → Bool
@@ -30,8 +29,8 @@ is_stamp line = nat_le 6 (length line) && list_all (is_in N) (take 6 line) && is
 -- 13D
 unfoldable pub stamp_of : Field → Result (List ℕ) Code
 stamp_of f = do
-  line ← or_fault (one_line f) P24
-  _ ← check (is_stamp line) P24
+  line ← or_fault (one_line f) (code "P24")
+  _ ← check (is_stamp line) (code "P24")
   Ok line
 
 -- what is wrong with the content of a field at a place, where 72 has the place `last`
@@ -57,36 +56,38 @@ booking_of order t fs found = do
 
 -- ---- MT900
 
+-- an MT900 of its parts
 abbrev pub mt900 : Booking → Option Party → List (List ℕ) → Mt900
 mt900 b p52 notes = record { reference = b.reference; related = b.related; account = b.account; at = b.at; value = b.value.day; amount = b.value.amount; p52 = p52; notes = notes }
 
 -- what fields at these places say
 unfoldable pub contents_900 : Tables → List Field → List ℕ → Result Mt900 Fault
 contents_900 t fs found = do
-  b ← booking_of ORDER_900 t fs found
+  b ← booking_of order_900 t fs found
   p52 ← in_option fs found 5 (known_party_of t)
   notes ← in_option fs found 6 (texts_of 6)
   Ok (mt900 b p52 (unwrap_or notes []))
 
 -- the tests of the fields of an MT900: structure, then contents in the text's order
 abbrev pub tests_900 : Tables → List Field → List (Option Fault)
-tests_900 t fs = tests ORDER_900 (content_test 6 t) fs
+tests_900 t fs = tests order_900 (content_test 6 t) fs
 
 -- what the fields of an MT900 say, or the first test that fails
 unfoldable pub mt900_of : Tables → List Field → Result Mt900 Fault
 mt900_of t fs = do
   _ ← passed (tests_900 t fs)
-  contents_900 t fs (places_from ORDER_900 0 fs)
+  contents_900 t fs (places_from order_900 0 fs)
 
 -- ---- MT910
 
+-- an MT910 of its parts
 abbrev pub mt910 : Booking → Option Party → Option Party → Option Party → List (List ℕ) → Mt910
 mt910 b payer p52 p56 notes = record { reference = b.reference; related = b.related; account = b.account; at = b.at; value = b.value.day; amount = b.value.amount; payer = payer; p52 = p52; p56 = p56; notes = notes }
 
 -- what fields at these places say
 unfoldable pub contents_910 : Tables → List Field → List ℕ → Result Mt910 Fault
 contents_910 t fs found = do
-  b ← booking_of ORDER_910 t fs found
+  b ← booking_of order_910 t fs found
   payer ← in_option fs found 5 (known_party_of t)
   p52 ← in_option fs found 6 (known_party_of t)
   p56 ← in_option fs found 7 (known_party_of t)
@@ -95,16 +96,16 @@ contents_910 t fs found = do
 
 -- the tests of the fields of an MT910: structure, then contents in the text's order
 abbrev pub tests_910 : Tables → List Field → List (Option Fault)
-tests_910 t fs = tests ORDER_910 (content_test 8 t) fs
+tests_910 t fs = tests order_910 (content_test 8 t) fs
 
 -- C06: neither 50a nor 52a is there
 abbrev pub c06 : Mt910 → Option Fault
-c06 m = unless (is_some m.payer || is_some m.p52) (record { code = C06; tag = codes "50 "; nth = 0 })
+c06 m = unless (is_some m.payer || is_some m.p52) (record { code = code "C06"; tag = codes "50 "; nth = 0 })
 
 -- what the fields of an MT910 say, or the first test that fails: structure, contents, and the rule
 unfoldable pub mt910_of : Tables → List Field → Result Mt910 Fault
 mt910_of t fs = do
   _ ← passed (tests_910 t fs)
-  m ← contents_910 t fs (places_from ORDER_910 0 fs)
+  m ← contents_910 t fs (places_from order_910 0 fs)
   _ ← passed (c06 m ∷ [])
   Ok m

@@ -1,3 +1,3 @@
 pub mod Advice
 pub mod Writing
-pub mod Constants
+pub mod Order

@@ -1,9 +1,6 @@
 -- Advices written as fields.
-use Rattle.std.specs.Prelude.{◌≡◌, ℕ, List, [], ◌∷◌, ◌++◌, All, IsTrue, Option, Some, None, Result, Ok}
-use Rattle.corr_text.specs.declared.fault.Fault.{Fault}
-use Rattle.ref_tables.specs.Seen.{Tables, few_decimals}
+use Rattle.std.specs.Prelude.{ℕ, List, [], ◌∷◌, ◌++◌, Option, Some, None}
 use Rattle.fin_fields.specs.declared.field.Field.{Field}
-use Rattle.fin_fields.specs.Writing.{IsField}
 use Rattle.fin_layout.specs.Segments.{joined}
 use Rattle.fin_parties.specs.Writing.{party_field}
 use Rattle.fin_contents.specs.declared.value.Value.{Value}
@@ -46,11 +43,3 @@ segments_910 m =
 -- the fields of an MT910, in the order of their places
 unfoldable pub fields_910 : Mt910 → List Field
 fields_910 m = joined (segments_910 m)
-
--- an advice that fields of a text say under some tables
-pub record IsReadable {M : Type 0} (read : Tables → List Field → Result M Fault) (m : M) : Type 0 where
-  pub tables : Tables
-  pub few : IsTrue (few_decimals tables.ccys)
-  pub fields : List Field
-  pub fit : All IsField fields
-  pub says : read tables fields ≡ Ok m

@@ -1,12 +1,16 @@
 //! MT910, the confirmation of a credit.
 
-ghost use Rattle.std.specs.Prelude.{◌≡◌, ◌≤◌, None, Ok, length};
+ghost use Rattle.std.specs.Prelude.{◌≡◌, ◌≤◌, All, IfOk, IsTrue, None, Ok, length};
 ghost use Rattle.corr_text.specs.First.{first_of};
+ghost use Rattle.fin_contents.specs.Money.{IsPayable};
+ghost use Rattle.fin_contents.specs.Writing.{IsReadable};
+ghost use Rattle.fin_fields.specs.Writing.{IsField};
 ghost use Rattle.fin_layout.specs.Order.{places_from};
 ghost use Rattle.fin_layout.specs.Reading.{Gives};
 ghost use Rattle.mt9_advice.specs.Advice.{c06, contents_910, mt910, mt910_of, tests_910};
 ghost use Rattle.mt9_advice.specs.declared.credit.Mt910.{Mt910 as Mt910Seen};
-ghost use Rattle.mt9_advice.specs.declared.order.TheConstants.{ORDER_910 as order};
+ghost use Rattle.mt9_advice.specs.Order.{order_910};
+ghost use Rattle.ref_tables.specs.Seen.{few_decimals};
 
 use crate::booking::{Booking, read_booking};
 use crate::order::ORDER_910;
@@ -107,13 +111,16 @@ fn c06(m: &Mt910) -> Option<Fault>
 /// `Bad` tells the first test that fails (docs/messages.md, "MT900 and MT910"): P22 and P23 of the order of fields; then each
 /// content in the order of the text, with its field's tag and occurrence; then C06 with the tag 50 and occurrence 0, where
 /// neither 50a nor 52a is there. Where no test of the fields fails they say a confirmation (`complete`), so there is no other
-/// refusal.
+/// refusal. The amount is above zero and below 10^14 minor units (`amount`). `put_mt910` takes what fields of a text say
+/// (`written`).
 #[tactic(auto, using(crate::proofs::Complete::complete_910))]
 pub fn read_mt910(alloc: Global, f: &[Field], t: &RefTables) -> Result<Mt910, MtFault>
     requires few { length f.now ≤ 65535 }
     ensures message { Gives result (mt910_of t.now f.now) }
+    ensures amount { IfOk result (λ m. IsPayable m.amount) }
+    ensures written { IsTrue (few_decimals t.now.ccys) → All IsField f.now → IfOk result (IsReadable mt910_of) }
     ensures complete { first_of (tests_910 t.now f.now) ≡ None
-        → (m : Mt910Seen) × (contents_910 t.now f.now (places_from order 0 f.now) ≡ Ok m) }
+        → (m : Mt910Seen) × (contents_910 t.now f.now (places_from order_910 0 f.now) ≡ Ok m) }
 {
     let found = check_structure(alloc, &ORDER_910, f)?;
     let m = read_contents(alloc, t, f, found.as_slice())?;

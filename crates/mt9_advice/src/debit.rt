@@ -1,12 +1,16 @@
 //! MT900, the confirmation of a debit.
 
-ghost use Rattle.std.specs.Prelude.{◌≡◌, ◌≤◌, None, Ok, length};
+ghost use Rattle.std.specs.Prelude.{◌≡◌, ◌≤◌, All, IfOk, IsTrue, None, Ok, length};
 ghost use Rattle.corr_text.specs.First.{first_of};
+ghost use Rattle.fin_contents.specs.Money.{IsPayable};
+ghost use Rattle.fin_contents.specs.Writing.{IsReadable};
+ghost use Rattle.fin_fields.specs.Writing.{IsField};
 ghost use Rattle.fin_layout.specs.Order.{places_from};
 ghost use Rattle.fin_layout.specs.Reading.{Gives};
 ghost use Rattle.mt9_advice.specs.Advice.{contents_900, mt900, mt900_of, tests_900};
 ghost use Rattle.mt9_advice.specs.declared.debit.Mt900.{Mt900 as Mt900Seen};
-ghost use Rattle.mt9_advice.specs.declared.order.TheConstants.{ORDER_900 as order};
+ghost use Rattle.mt9_advice.specs.Order.{order_900};
+ghost use Rattle.ref_tables.specs.Seen.{few_decimals};
 
 use crate::booking::{Booking, read_booking};
 use crate::order::ORDER_900;
@@ -76,13 +80,16 @@ fn read_contents(
 ///
 /// `Bad` tells the first test that fails (docs/messages.md, "MT900 and MT910"): P22 and P23 of the order of fields; then each
 /// content in the order of the text, with its field's tag and occurrence. Where no test fails the fields say a confirmation
-/// (`complete`), so there is no other refusal.
+/// (`complete`), so there is no other refusal. The amount is above zero and below 10^14 minor units (`amount`). `put_mt900` takes
+/// what fields of a text say (`written`).
 #[tactic(auto, using(crate::proofs::Complete::complete_900))]
 pub fn read_mt900(alloc: Global, f: &[Field], t: &RefTables) -> Result<Mt900, MtFault>
     requires few { length f.now ≤ 65535 }
     ensures message { Gives result (mt900_of t.now f.now) }
+    ensures amount { IfOk result (λ m. IsPayable m.amount) }
+    ensures written { IsTrue (few_decimals t.now.ccys) → All IsField f.now → IfOk result (IsReadable mt900_of) }
     ensures complete { first_of (tests_900 t.now f.now) ≡ None
-        → (m : Mt900Seen) × (contents_900 t.now f.now (places_from order 0 f.now) ≡ Ok m) }
+        → (m : Mt900Seen) × (contents_900 t.now f.now (places_from order_900 0 f.now) ≡ Ok m) }
 {
     let found = check_structure(alloc, &ORDER_900, f)?;
     read_contents(alloc, t, f, found.as_slice())

@@ -5,13 +5,11 @@
 mod booking;
 mod credit;
 mod debit;
-mod laws;
 mod order;
 mod stamp;
 mod writing;
 
 pub use credit::{C06, Mt910, read_mt910};
 pub use debit::{Mt900, read_mt900};
-pub use laws::advice_laws;
 pub use order::{ORDER_900, ORDER_910};
 pub use writing::{put_mt900, put_mt910};

@@ -1,14 +1,14 @@
 //! Advices written as block 4's lines.
 
 ghost use Rattle.std.specs.Prelude.{◌≡◌, ◌++◌, List as Items, IfOk, None, Ok, OnOk, Some};
-ghost use Rattle.fin_contents.specs.Writing.{IsValue, line_field, some_field};
+ghost use Rattle.fin_contents.specs.Writing.{IsReadable, IsValue, line_field, some_field};
 ghost use Rattle.fin_fields.specs.Faults.{field_fault};
 ghost use Rattle.fin_fields.specs.Fields.{fields_of};
 ghost use Rattle.fin_fields.specs.Writing.{fields_text};
 ghost use Rattle.fin_fields.specs.declared.field.Field.{Field as FieldSeen};
 ghost use Rattle.fin_layout.specs.Segments.{joined};
 ghost use Rattle.mt9_advice.specs.Advice.{mt900_of, mt910_of};
-ghost use Rattle.mt9_advice.specs.Writing.{IsReadable, booking_fields, fields_900, fields_910};
+ghost use Rattle.mt9_advice.specs.Writing.{booking_fields, fields_900, fields_910};
 ghost use Rattle.ref_tables.specs.Seen.{Tables};
 
 use crate::credit::Mt910;
@@ -101,8 +101,9 @@ fn fields_910(alloc: Global, m: &Mt910) -> Result<List<Field>, Memory>
 
 /// Writes the confirmation of a debit as block 4's lines: its fields in the order of their places, each line ended by CR LF.
 ///
-/// The confirmation is one that `read_mt900` gives of fields that were cut from a text. The lines are cut into fields without
-/// fault (`sound`), and under all tables under which the confirmation may be read they read as the same one (`again`).
+/// The confirmation is one that `read_mt900` gives of fields that were cut from a text (its clause `written`). The lines are cut
+/// into fields without fault (`sound`), and under all tables under which the confirmation may be read they read as the same
+/// one (`again`).
 pub fn put_mt900(alloc: Global, m: &Mt900) -> Result<Text, Memory>
     requires { IsReadable mt900_of m.now }
     ensures text { IfOk result (λ text. text ≡ fields_text (fields_900 m.now)) }
@@ -115,8 +116,9 @@ pub fn put_mt900(alloc: Global, m: &Mt900) -> Result<Text, Memory>
 
 /// Writes the confirmation of a credit as block 4's lines: its fields in the order of their places, each line ended by CR LF.
 ///
-/// The confirmation is one that `read_mt910` gives of fields that were cut from a text. The lines are cut into fields without
-/// fault (`sound`), and under all tables under which the confirmation may be read they read as the same one (`again`).
+/// The confirmation is one that `read_mt910` gives of fields that were cut from a text (its clause `written`). The lines are cut
+/// into fields without fault (`sound`), and under all tables under which the confirmation may be read they read as the same
+/// one (`again`).
 pub fn put_mt910(alloc: Global, m: &Mt910) -> Result<Text, Memory>
     requires { IsReadable mt910_of m.now }
     ensures text { IfOk result (λ text. text ≡ fields_text (fields_910 m.now)) }
