@@ -13,12 +13,12 @@ use Rattle.mt103.specs.Codes.{charge_of, instr_of, kind_of, operation_of}
 use Rattle.mt103.specs.Message.{content_test, contents_of, details_of, field_tests, message_of, parties_of, terms_of}
 use Rattle.mt103.specs.declared.details.Details.{Details}
 use Rattle.mt103.specs.declared.message.Mt103.{Mt103}
-use Rattle.mt103.specs.declared.order.TheConstants.{ORDER}
+use Rattle.mt103.specs.Order.{order_103}
 use Rattle.mt103.specs.declared.parties.Parties.{Parties}
 use Rattle.mt103.specs.declared.terms.Terms.{Terms}
 use Rattle.mt103.proofs.Says.{details-said, parties-said, terms-said}
 
-module _ (t : Tables) (fs : List Field) (found : List ℕ) (hold : AllHold ORDER (content_test t) fs found) where
+module _ (t : Tables) (fs : List Field) (found : List ℕ) (hold : AllHold order_103 (content_test t) fs found) where
   terms-fine : (x : Terms) × (terms_of t fs found ≡ Ok x)
   terms-fine =
       let x0 = must-fine hold 0 reference_of (λ f. refl) _ refl refl in
@@ -61,5 +61,5 @@ module _ (t : Tables) (fs : List Field) (found : List ℕ) (hold : AllHold ORDER
       let details = details-fine in
       (message_of terms.0 parties.0 details.0, rw (terms.1, parties.1, details.1) refl)
 
-pub complete : (t : Tables) (fs : List Field) → first_of (field_tests t fs) ≡ None → (m : Mt103) × (contents_of t fs (places_from ORDER 0 fs) ≡ Ok m)
-complete t fs none = contents-fine t fs (places_from ORDER 0 fs) (all-hold ORDER (content_test t) fs none)
+pub complete : (t : Tables) (fs : List Field) → first_of (field_tests t fs) ≡ None → (m : Mt103) × (contents_of t fs (places_from order_103 0 fs) ≡ Ok m)
+complete t fs none = contents-fine t fs (places_from order_103 0 fs) (all-hold order_103 (content_test t) fs none)

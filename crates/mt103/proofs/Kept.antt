@@ -9,17 +9,13 @@ use Rattle.corr_text.specs.declared.set.Set.TheVariants.{C, X}
 use Rattle.corr_ids.proofs.laws.Spelling.{some_if}
 use Rattle.fin_fields.specs.declared.field.Field.{Field}
 use Rattle.fin_fields.specs.Patterns.{is_run}
-use Rattle.fin_layout.specs.declared.fault.TheConstants.{P24}
 use Rattle.fin_contents.specs.Plain.{one_line, sized}
 use Rattle.fin_contents.specs.Writing.{line_field, lines_field}
 use Rattle.fin_contents.proofs.laws.Bytes.{and-both}
 use Rattle.fin_contents.proofs.laws.Steps.{checked, is-only, there}
-use Rattle.mt103.specs.Codes.{charge_of, code_in, instr_of, is_instruction, is_listed, kind_of, operation_of, takes_text, text_in}
+use Rattle.mt103.specs.Codes.{charge_of, charges, code_in, instr_of, is_instruction, is_listed, kind_of, operation_of, operations, takes_text, text_in}
 use Rattle.mt103.specs.Writing.{instr_field, text_behind}
-use Rattle.mt103.specs.declared.charge.TheConstants.{CHARGES}
-use Rattle.mt103.specs.declared.codes.TheConstants.{D97, P28, T08, T36}
 use Rattle.mt103.specs.declared.instruction.Instr.{Instr}
-use Rattle.mt103.specs.declared.operation.TheConstants.{OPERATIONS}
 
 sized-is : (n : ℕ) (line code : List ℕ) → sized n line ≡ Some code → line ≡ code
 sized-is n line code e = (some_if (length line == n) line code e).1
@@ -27,9 +23,9 @@ sized-is n line code e = (some_if (length line == n) line code e).1
 pub operation-kept : (f : Field) (op : List ℕ) → operation_of f ≡ Ok op → f.lines ≡ op ∷ []
 unfolding operation_of
 operation-kept f op e =
-    let line = there (one_line f) T36 _ op e in
-    let code = there (sized 4 line.0) T36 _ op line.2 in
-    let listed = checked (is_listed OPERATIONS code.0) T36 _ op code.2 in
+    let line = there (one_line f) _ _ op e in
+    let code = there (sized 4 line.0) _ _ op line.2 in
+    let listed = checked (is_listed operations code.0) _ _ op code.2 in
     let same : code.0 ≡ op = cc listed.1 in
     is-only f.lines line.0 line.1 ∙ ap (λ (x : List ℕ). x ∷ []) (sized-is 4 line.0 code.0 code.1 ∙ same)
 
@@ -40,9 +36,9 @@ operation-again f op e = ap (λ (ls : List (List ℕ)). operation_of (lines_fiel
 pub charge-kept : (f : Field) (charge : List ℕ) → charge_of f ≡ Ok charge → f.lines ≡ charge ∷ []
 unfolding charge_of
 charge-kept f charge e =
-    let line = there (one_line f) T08 _ charge e in
-    let code = there (sized 3 line.0) T08 _ charge line.2 in
-    let listed = checked (is_listed CHARGES code.0) T08 _ charge code.2 in
+    let line = there (one_line f) _ _ charge e in
+    let code = there (sized 3 line.0) _ _ charge line.2 in
+    let listed = checked (is_listed charges code.0) _ _ charge code.2 in
     let same : code.0 ≡ charge = cc listed.1 in
     is-only f.lines line.0 line.1 ∙ ap (λ (x : List ℕ). x ∷ []) (sized-is 3 line.0 code.0 code.1 ∙ same)
 
@@ -53,9 +49,9 @@ charge-again f charge e = ap (λ (ls : List (List ℕ)). charge_of (lines_field 
 pub kind-kept : (f : Field) (kind : List ℕ) → kind_of f ≡ Ok kind → f.lines ≡ kind ∷ []
 unfolding kind_of
 kind-kept f kind e =
-    let line = there (one_line f) P24 _ kind e in
-    let code = there (sized 3 line.0) P24 _ kind line.2 in
-    let form = checked (list_all (is_in C) code.0) P24 _ kind code.2 in
+    let line = there (one_line f) _ _ kind e in
+    let code = there (sized 3 line.0) _ _ kind line.2 in
+    let form = checked (list_all (is_in C) code.0) _ _ kind code.2 in
     let same : code.0 ≡ kind = cc form.1 in
     is-only f.lines line.0 line.1 ∙ ap (λ (x : List ℕ). x ∷ []) (sized-is 3 line.0 code.0 code.1 ∙ same)
 
@@ -78,11 +74,11 @@ two-parts line code text front back = sym (take-append-drop 4 line) ∙ rw (fron
 pub instr-kept : (f : Field) (i : Instr) → instr_of f ≡ Ok i → f.lines ≡ (i.code ++ text_behind i.text) ∷ []
 unfolding instr_of
 instr-kept f i e =
-    let line = there (one_line f) P24 _ i e in
-    let code = there (code_in line.0) P24 _ i line.2 in
-    let text = there (text_in (drop 4 line.0)) P24 _ i code.2 in
-    let known = checked (is_instruction code.0) P28 _ i text.2 in
-    let plain = checked (is_none text.0 || takes_text code.0) D97 _ i known.1 in
+    let line = there (one_line f) _ _ i e in
+    let code = there (code_in line.0) _ _ i line.2 in
+    let text = there (text_in (drop 4 line.0)) _ _ i code.2 in
+    let known = checked (is_instruction code.0) _ _ i text.2 in
+    let plain = checked (is_none text.0 || takes_text code.0) _ _ i known.1 in
     let same : record { code = code.0; text = text.0 } ≡ i = cc plain.1 in
     let front : take 4 line.0 ≡ code.0 = (some_if (nat_le 4 (length line.0) && list_all (is_in C) (take 4 line.0)) (take 4 line.0) code.0 code.1).1 in
     let whole = two-parts line.0 code.0 text.0 front (text-kept (drop 4 line.0) text.0 text.1) in

@@ -15,7 +15,7 @@ use Rattle.mt103.specs.Instructions.{d98, e46}
 use Rattle.mt103.specs.Message.{content_test, contents_of, details_of, mt103_of, parties_of, terms_of}
 use Rattle.mt103.specs.declared.instruction.Instr.{Instr}
 use Rattle.mt103.specs.declared.message.Mt103.{Mt103}
-use Rattle.mt103.specs.declared.order.TheConstants.{ORDER}
+use Rattle.mt103.specs.Order.{order_103}
 use Rattle.mt103.specs.declared.parties.Parties.{Parties}
 use Rattle.mt103.specs.declared.terms.Terms.{Terms}
 use Rattle.mt103.proofs.Refused.{contents-refused}
@@ -31,19 +31,19 @@ abbrev pub finished : Mt103 → Result Mt103 Fault
 finished m = passed (e46 m.instrs ∷ d98 m.instrs ∷ []) >>= λ _. Ok m
 
 abbrev pub said_by : Tables → List Field → Result Mt103 Fault
-said_by t fs = contents_of t fs (places_from ORDER 0 fs)
+said_by t fs = contents_of t fs (places_from order_103 0 fs)
 
 module _ (t : Tables) (fs : List Field) where
-  pub structure-fail : (e : MtFault) → Tells (first_of (structure_tests ORDER fs)) e → Fails e (mt103_of t fs)
+  pub structure-fail : (e : MtFault) → Tells (first_of (structure_tests order_103 fs)) e → Fails e (mt103_of t fs)
   unfolding mt103_of
-  structure-fail e h = structure-fails ORDER (content_test t) fs (said_by t fs >>= finished) e h
+  structure-fail e h = structure-fails order_103 (content_test t) fs (said_by t fs >>= finished) e h
 
-  module _ (sound : first_of (structure_tests ORDER fs) ≡ None) where
+  module _ (sound : first_of (structure_tests order_103 fs) ≡ None) where
     pub as-contents : mt103_of t fs ≡ (said_by t fs >>= finished)
     unfolding mt103_of
-    as-contents = in-turn ORDER (content_test t) fs (said_by t fs >>= finished) sound (λ fault lies. fails-before (said_by t fs) finished fault (contents-refused t fs (places_from ORDER 0 fs) fault lies))
+    as-contents = in-turn order_103 (content_test t) fs (said_by t fs >>= finished) sound (λ fault lies. fails-before (said_by t fs) finished fault (contents-refused t fs (places_from order_103 0 fs) fault lies))
 
-    module _ (found : List ℕ) (places : found ≡ places_from ORDER 0 fs) where
+    module _ (found : List ℕ) (places : found ≡ places_from order_103 0 fs) where
       pub contents-fail : (e : MtFault) → Fails e (contents_of t fs found) → Fails e (mt103_of t fs)
       contents-fail faults.Memory h = tt
       contents-fail (faults.Bad fault) h = as-contents ∙ fails-before (said_by t fs) finished fault (rw places at h)

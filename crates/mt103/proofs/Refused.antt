@@ -11,13 +11,13 @@ use Rattle.fin_contents.specs.Plain.{reference_of, texts_of, time_of}
 use Rattle.mt103.specs.Codes.{charge_of, instr_of, kind_of, operation_of}
 use Rattle.mt103.specs.Message.{content_test, contents_of, details_of, parties_of, terms_of}
 use Rattle.mt103.specs.declared.details.Details.{Details}
-use Rattle.mt103.specs.declared.order.TheConstants.{ORDER}
+use Rattle.mt103.specs.Order.{order_103}
 use Rattle.mt103.specs.declared.parties.Parties.{Parties}
 use Rattle.mt103.specs.declared.terms.Terms.{Terms}
 
 module _ (t : Tables) (fs : List Field) (found : List ℕ) (fault : Fault) where
   abbrev Lies : ℕ → Type 0
-  Lies k = LiesFrom ORDER (content_test t) fs found fault k
+  Lies k = LiesFrom order_103 (content_test t) fs found fault k
 
   terms-refused : {B : Type 0} → Lies 0 → (next : Terms → Result B Fault) → ((x : Terms) → Lies 8 → next x ≡ Err fault) → (terms_of t fs found >>= next) ≡ Err fault
   unfolding terms_of

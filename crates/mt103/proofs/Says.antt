@@ -12,29 +12,29 @@ use Rattle.mt103.specs.Codes.{charge_of, instr_of, kind_of, operation_of}
 use Rattle.mt103.specs.Message.{contents_of, details_of, message_of, parties_of, terms_of}
 use Rattle.mt103.specs.declared.details.Details.{Details}
 use Rattle.mt103.specs.declared.message.Mt103.{Mt103}
-use Rattle.mt103.specs.declared.order.TheConstants.{ORDER}
+use Rattle.mt103.specs.Order.{order_103}
 use Rattle.mt103.specs.declared.parties.Parties.{Parties}
 use Rattle.mt103.specs.declared.terms.Terms.{Terms}
 
 pub record TermsSay (t : Tables) (fs : List Field) (found : List ℕ) (x : Terms) : Type 0 where
-  pub reference : in_place ORDER fs found 0 reference_of ≡ Ok x.reference
+  pub reference : in_place order_103 fs found 0 reference_of ≡ Ok x.reference
   pub times : all_from fs 1 time_of 0 found fs ≡ Ok x.times
-  pub op : in_place ORDER fs found 2 operation_of ≡ Ok x.op
+  pub op : in_place order_103 fs found 2 operation_of ≡ Ok x.op
   pub instrs : all_from fs 3 instr_of 0 found fs ≡ Ok x.instrs
   pub kind : in_option fs found 4 kind_of ≡ Ok x.kind
-  pub value : in_place ORDER fs found 5 (value_of t) ≡ Ok x.value
+  pub value : in_place order_103 fs found 5 (value_of t) ≡ Ok x.value
   pub ordered : in_option fs found 6 (ccy_amount_of t) ≡ Ok x.ordered
   pub rate : in_option fs found 7 rate_of ≡ Ok x.rate
 
 pub record PartiesSay (t : Tables) (fs : List Field) (found : List ℕ) (x : Parties) : Type 0 where
-  pub payer : in_place ORDER fs found 8 (known_party_of t) ≡ Ok x.payer
+  pub payer : in_place order_103 fs found 8 (known_party_of t) ≡ Ok x.payer
   pub p52 : in_option fs found 9 (known_party_of t) ≡ Ok x.p52
   pub p53 : in_option fs found 10 (known_party_of t) ≡ Ok x.p53
   pub p54 : in_option fs found 11 (known_party_of t) ≡ Ok x.p54
   pub p55 : in_option fs found 12 (known_party_of t) ≡ Ok x.p55
   pub p56 : in_option fs found 13 (known_party_of t) ≡ Ok x.p56
   pub p57 : in_option fs found 14 (known_party_of t) ≡ Ok x.p57
-  pub payee : in_place ORDER fs found 15 (known_party_of t) ≡ Ok x.payee
+  pub payee : in_place order_103 fs found 15 (known_party_of t) ≡ Ok x.payee
 
 -- lines that a field may say, none without the field
 pub record LinesSay (fs : List Field) (found : List ℕ) (k most : ℕ) (lines : List (List ℕ)) : Type 0 where
@@ -44,7 +44,7 @@ pub record LinesSay (fs : List Field) (found : List ℕ) (k most : ℕ) (lines :
 
 pub record DetailsSay (t : Tables) (fs : List Field) (found : List ℕ) (x : Details) : Type 0 where
   pub info : LinesSay fs found 16 4 x.info
-  pub charge : in_place ORDER fs found 17 charge_of ≡ Ok x.charge
+  pub charge : in_place order_103 fs found 17 charge_of ≡ Ok x.charge
   pub taken : all_from fs 18 (ccy_amount_of t) 0 found fs ≡ Ok x.taken
   pub given : in_option fs found 19 (ccy_amount_of t) ≡ Ok x.given
   pub notes : LinesSay fs found 20 6 x.notes
@@ -54,12 +54,12 @@ module _ (t : Tables) (fs : List Field) (found : List ℕ) where
   pub terms-say : (x : Terms) → terms_of t fs found ≡ Ok x → TermsSay t fs found x
   unfolding terms_of
   terms-say x e =
-      let a = read-then (in_place ORDER fs found 0 reference_of) _ x e in
+      let a = read-then (in_place order_103 fs found 0 reference_of) _ x e in
       let b = read-then (all_from fs 1 time_of 0 found fs) _ x a.2 in
-      let c = read-then (in_place ORDER fs found 2 operation_of) _ x b.2 in
+      let c = read-then (in_place order_103 fs found 2 operation_of) _ x b.2 in
       let d = read-then (all_from fs 3 instr_of 0 found fs) _ x c.2 in
       let k = read-then (in_option fs found 4 kind_of) _ x d.2 in
-      let v = read-then (in_place ORDER fs found 5 (value_of t)) _ x k.2 in
+      let v = read-then (in_place order_103 fs found 5 (value_of t)) _ x k.2 in
       let o = read-then (in_option fs found 6 (ccy_amount_of t)) _ x v.2 in
       let r = read-then (in_option fs found 7 rate_of) _ x o.2 in
       let same : record { reference = a.0; times = b.0; op = c.0; instrs = d.0; kind = k.0; value = v.0; ordered = o.0; rate = r.0 } ≡ x = told-is _ x r.2 in
@@ -72,14 +72,14 @@ module _ (t : Tables) (fs : List Field) (found : List ℕ) where
   pub parties-say : (x : Parties) → parties_of t fs found ≡ Ok x → PartiesSay t fs found x
   unfolding parties_of
   parties-say x e =
-      let a = read-then (in_place ORDER fs found 8 (known_party_of t)) _ x e in
+      let a = read-then (in_place order_103 fs found 8 (known_party_of t)) _ x e in
       let b = read-then (in_option fs found 9 (known_party_of t)) _ x a.2 in
       let c = read-then (in_option fs found 10 (known_party_of t)) _ x b.2 in
       let d = read-then (in_option fs found 11 (known_party_of t)) _ x c.2 in
       let g = read-then (in_option fs found 12 (known_party_of t)) _ x d.2 in
       let h = read-then (in_option fs found 13 (known_party_of t)) _ x g.2 in
       let i = read-then (in_option fs found 14 (known_party_of t)) _ x h.2 in
-      let j = read-then (in_place ORDER fs found 15 (known_party_of t)) _ x i.2 in
+      let j = read-then (in_place order_103 fs found 15 (known_party_of t)) _ x i.2 in
       let same : record { payer = a.0; p52 = b.0; p53 = c.0; p54 = d.0; p55 = g.0; p56 = h.0; p57 = i.0; payee = j.0 } ≡ x = told-is _ x j.2 in
       rw (← same) (record { payer = a.1; p52 = b.1; p53 = c.1; p54 = d.1; p55 = g.1; p56 = h.1; p57 = i.1; payee = j.1 })
 
@@ -91,7 +91,7 @@ module _ (t : Tables) (fs : List Field) (found : List ℕ) where
   unfolding details_of
   details-say x e =
       let a = read-then (in_option fs found 16 (texts_of 4)) _ x e in
-      let b = read-then (in_place ORDER fs found 17 charge_of) _ x a.2 in
+      let b = read-then (in_place order_103 fs found 17 charge_of) _ x a.2 in
       let c = read-then (all_from fs 18 (ccy_amount_of t) 0 found fs) _ x b.2 in
       let d = read-then (in_option fs found 19 (ccy_amount_of t)) _ x c.2 in
       let n = read-then (in_option fs found 20 (texts_of 6)) _ x d.2 in

@@ -27,7 +27,7 @@ use Rattle.mt103.specs.Message.{message_of}
 use Rattle.mt103.specs.Writing.{AreAmounts, detail_fields, instr_field, money_fields, order_fields, party_fields, segments, text_behind}
 use Rattle.mt103.specs.declared.details.Details.{Details}
 use Rattle.mt103.specs.declared.instruction.Instr.{Instr}
-use Rattle.mt103.specs.declared.order.TheConstants.{ORDER}
+use Rattle.mt103.specs.Order.{order_103}
 use Rattle.mt103.specs.declared.parties.Parties.{Parties}
 use Rattle.mt103.specs.declared.terms.Terms.{Terms}
 use Rattle.mt103.proofs.Kept.{charge-kept, instr-kept, kind-kept, operation-kept}
@@ -40,15 +40,15 @@ bare : (tag : ℕ) → tag ≤ 99 → IsHeading tag None
 bare tag le = record { two_digits = le; capital = tt }
 
 module _ (t : Tables) (few : IsTrue (few_decimals t.ccys)) (fs : List Field) (fit : All IsField fs) (a : Terms) (b : Parties) (c : Details)
-    (r : TermsSay t fs (places_from ORDER 0 fs) a) (s : PartiesSay t fs (places_from ORDER 0 fs) b) (u : DetailsSay t fs (places_from ORDER 0 fs) c) where
+    (r : TermsSay t fs (places_from order_103 0 fs) a) (s : PartiesSay t fs (places_from order_103 0 fs) b) (u : DetailsSay t fs (places_from order_103 0 fs) c) where
   abbrev found : List ℕ
-  found = places_from ORDER 0 fs
+  found = places_from order_103 0 fs
 
   abbrev At : ℕ → Field → Type 0
-  At k f = Stands ORDER IsField k f
+  At k f = Stands order_103 IsField k f
 
   here : Holds At found fs
-  here = stand ORDER IsField 0 fs fit
+  here = stand order_103 IsField 0 fs fit
 
   -- ---- amounts
 
@@ -56,7 +56,7 @@ module _ (t : Tables) (few : IsTrue (few_decimals t.ccys)) (fs : List Field) (fi
   is-amount k x said = ccy_amount-is t said.field x few said.says
 
   is-value : IsValue a.value
-  is-value = let said = said-one At fs 5 (value_of t) ORDER found a.value here r.value in value-is t said.field a.value few said.says
+  is-value = let said = said-one At fs 5 (value_of t) order_103 found a.value here r.value in value-is t said.field a.value few said.says
 
   pub amounts-are : AreAmounts (message_of a b c)
   amounts-are = record {
@@ -76,12 +76,12 @@ module _ (t : Tables) (few : IsTrue (few_decimals t.ccys)) (fs : List Field) (fi
 
   order-fit : Each IsField (order_fields (message_of a b c))
   order-fit = (
-    (kept 0 20 None reference_of plain a.reference (λ f e. reference-kept f a.reference e) (bare 20 (omega arith)) (said-one At fs 0 reference_of ORDER found a.reference here r.reference), tt),
+    (kept 0 20 None reference_of plain a.reference (λ f e. reference-kept f a.reference e) (bare 20 (omega arith)) (said-one At fs 0 reference_of order_103 found a.reference here r.reference), tt),
     (
       all-each IsField (line_field 13 (Some 67)) a.times (each-weaker (Said (At 1) time_of) _ a.times (said-all At fs 1 time_of 0 found fs a.times here r.times)
           (λ (x : List ℕ) said. kept 1 13 (Some 67) time_of plain x (λ f e. time-kept f x e) (record { two_digits = omega arith; capital = refl }) said)),
       (
-        (kept 2 23 (Some 66) operation_of plain a.op (λ f e. operation-kept f a.op e) (record { two_digits = omega arith; capital = refl }) (said-one At fs 2 operation_of ORDER found a.op here r.op), tt),
+        (kept 2 23 (Some 66) operation_of plain a.op (λ f e. operation-kept f a.op e) (record { two_digits = omega arith; capital = refl }) (said-one At fs 2 operation_of order_103 found a.op here r.op), tt),
         (
           all-each IsField instr_field a.instrs (each-weaker (Said (At 3) instr_of) _ a.instrs (said-all At fs 3 instr_of 0 found fs a.instrs here r.instrs)
               (λ (x : Instr) said. kept 3 23 (Some 69) instr_of (λ i. i.code ++ text_behind i.text) x (λ f e. instr-kept f x e) (record { two_digits = omega arith; capital = refl }) said)),
@@ -99,7 +99,7 @@ module _ (t : Tables) (few : IsTrue (few_decimals t.ccys)) (fs : List Field) (fi
   amount-fit k tag letter x head said = ccy_amount-fit tag (Some letter) t said.field x head (is-amount k x said) said.says
 
   value-fits : IsField (value_field a.value)
-  value-fits = let said = said-one At fs 5 (value_of t) ORDER found a.value here r.value in value-fit t said.field a.value is-value said.says
+  value-fits = let said = said-one At fs 5 (value_of t) order_103 found a.value here r.value in value-fit t said.field a.value is-value said.says
 
   money-fit : Each IsField (money_fields (message_of a b c))
   money-fit = (
@@ -115,12 +115,12 @@ module _ (t : Tables) (few : IsTrue (few_decimals t.ccys)) (fs : List Field) (fi
     ),
   )
 
-  party-fits : (k tag : ℕ) → (get_or ORDER k some_place).tag ≡ tag → (p : Party) → Said (At k) (known_party_of t) p → IsField (party_field tag p)
-  party-fits k tag at p said = party-fit-at ORDER IsField k tag some_place at t p (λ f is. is) said
+  party-fits : (k tag : ℕ) → (get_or order_103 k some_place).tag ≡ tag → (p : Party) → Said (At k) (known_party_of t) p → IsField (party_field tag p)
+  party-fits k tag at p said = party-fit-at order_103 IsField k tag some_place at t p (λ f is. is) said
 
   parties-fit : Each IsField (party_fields (message_of a b c))
   parties-fit = (
-    (party-fits 8 50 refl b.payer (said-one At fs 8 (known_party_of t) ORDER found b.payer here s.payer), tt),
+    (party-fits 8 50 refl b.payer (said-one At fs 8 (known_party_of t) order_103 found b.payer here s.payer), tt),
     (
       some-each IsField (party_field 52) b.p52 (some-weaker (Said (At 9) (known_party_of t)) _ b.p52 (said-option At fs 9 (known_party_of t) found b.p52 here s.p52) (party-fits 9 52 refl)),
       (
@@ -134,7 +134,7 @@ module _ (t : Tables) (few : IsTrue (few_decimals t.ccys)) (fs : List Field) (fi
               (
                 some-each IsField (party_field 57) b.p57 (some-weaker (Said (At 14) (known_party_of t)) _ b.p57 (said-option At fs 14 (known_party_of t) found b.p57 here s.p57) (party-fits 14 57 refl)),
                 (
-                  (party-fits 15 59 refl b.payee (said-one At fs 15 (known_party_of t) ORDER found b.payee here s.payee), tt),
+                  (party-fits 15 59 refl b.payee (said-one At fs 15 (known_party_of t) order_103 found b.payee here s.payee), tt),
                   tt,
                 ),
               ),
@@ -158,7 +158,7 @@ module _ (t : Tables) (few : IsTrue (few_decimals t.ccys)) (fs : List Field) (fi
   details-fit = (
     lines-fit 16 4 70 None c.info (bare 70 (omega arith)) u.info,
     (
-      (kept 17 71 (Some 65) charge_of plain c.charge (λ f e. charge-kept f c.charge e) (record { two_digits = omega arith; capital = refl }) (said-one At fs 17 charge_of ORDER found c.charge here u.charge), tt),
+      (kept 17 71 (Some 65) charge_of plain c.charge (λ f e. charge-kept f c.charge e) (record { two_digits = omega arith; capital = refl }) (said-one At fs 17 charge_of order_103 found c.charge here u.charge), tt),
       (
         all-each IsField (ccy_amount_field 71 (Some 70)) c.taken (each-weaker (Said (At 18) (ccy_amount_of t)) _ c.taken (said-all At fs 18 (ccy_amount_of t) 0 found fs c.taken here u.taken)
             (λ (x : Amount) said. amount-fit 18 71 70 x (record { two_digits = omega arith; capital = refl }) said)),
@@ -185,123 +185,123 @@ module _ (t : Tables) (few : IsTrue (few_decimals t.ccys)) (fs : List Field) (fi
 
   -- ---- where the fields stand
 
-  party-place : (k tag : ℕ) → (get_or ORDER k some_place).tag ≡ tag → (p : Party) → Said (At k) (known_party_of t) p → fits (get_or ORDER k some_place) (party_field tag p) ≡ true
-  party-place k tag at p said = party-fits-at ORDER IsField k tag some_place at t p said
+  party-place : (k tag : ℕ) → (get_or order_103 k some_place).tag ≡ tag → (p : Party) → Said (At k) (known_party_of t) p → fits (get_or order_103 k some_place) (party_field tag p) ≡ true
+  party-place k tag at p said = party-fits-at order_103 IsField k tag some_place at t p said
 
-  pub in-order : Segments ORDER 0 0 (segments (message_of a b c))
+  pub in-order : Segments order_103 0 0 (segments (message_of a b c))
   in-order = (
-    one-segment ORDER 0 0 (line_field 20 None a.reference) refl,
+    one-segment order_103 0 0 (line_field 20 None a.reference) refl,
     (
       1,
       inr (omega arith, omega arith),
       (
-        all-segment ORDER 1 1 (line_field 13 (Some 67)) a.times refl (each-all _ a.times (λ (x : List ℕ). refl)),
+        all-segment order_103 1 1 (line_field 13 (Some 67)) a.times refl (each-all _ a.times (λ (x : List ℕ). refl)),
         (
           1,
           inl (omega arith),
           (
-            one-segment ORDER 1 2 (line_field 23 (Some 66) a.op) refl,
+            one-segment order_103 1 2 (line_field 23 (Some 66) a.op) refl,
             (
               3,
               inr (omega arith, omega arith),
               (
-                all-segment ORDER 3 3 instr_field a.instrs refl (each-all _ a.instrs (λ (x : Instr). refl)),
+                all-segment order_103 3 3 instr_field a.instrs refl (each-all _ a.instrs (λ (x : Instr). refl)),
                 (
                   3,
                   inl (omega arith),
                   (
-                    some-segment ORDER 3 4 (line_field 26 (Some 84)) a.kind (some-all _ a.kind (λ (x : List ℕ). refl)),
+                    some-segment order_103 3 4 (line_field 26 (Some 84)) a.kind (some-all _ a.kind (λ (x : List ℕ). refl)),
                     (
                       3,
                       inl (omega arith),
                       (
-                        one-segment ORDER 3 5 (value_field a.value) refl,
+                        one-segment order_103 3 5 (value_field a.value) refl,
                         (
                           6,
                           inr (omega arith, omega arith),
                           (
-                            some-segment ORDER 6 6 (ccy_amount_field 33 (Some 66)) a.ordered (some-all _ a.ordered (λ (x : Amount). refl)),
+                            some-segment order_103 6 6 (ccy_amount_field 33 (Some 66)) a.ordered (some-all _ a.ordered (λ (x : Amount). refl)),
                             (
                               6,
                               inl (omega arith),
                               (
-                                some-segment ORDER 6 7 (line_field 36 None) a.rate (some-all _ a.rate (λ (x : List ℕ). refl)),
+                                some-segment order_103 6 7 (line_field 36 None) a.rate (some-all _ a.rate (λ (x : List ℕ). refl)),
                                 (
                                   6,
                                   inl (omega arith),
                                   (
-                                    one-segment ORDER 6 8 (party_field 50 b.payer) (first-of-tag ORDER 6 (take 2 (drop 6 ORDER)) (get_or ORDER 8 some_place) (drop 9 ORDER) (party_field 50 b.payer) refl refl (party-place 8 50 refl b.payer (said-one At fs 8 (known_party_of t) ORDER found b.payer here s.payer))),
+                                    one-segment order_103 6 8 (party_field 50 b.payer) (first-of-tag order_103 6 (take 2 (drop 6 order_103)) (get_or order_103 8 some_place) (drop 9 order_103) (party_field 50 b.payer) refl refl (party-place 8 50 refl b.payer (said-one At fs 8 (known_party_of t) order_103 found b.payer here s.payer))),
                                     (
                                       9,
                                       inr (omega arith, omega arith),
                                       (
-                                        some-segment ORDER 9 9 (party_field 52) b.p52 (some-weaker (Said (At 9) (known_party_of t)) _ b.p52 (said-option At fs 9 (known_party_of t) found b.p52 here s.p52)
-                                            (λ (p : Party) said. first-of-tag ORDER 9 (take 0 (drop 9 ORDER)) (get_or ORDER 9 some_place) (drop 10 ORDER) (party_field 52 p) refl refl (party-place 9 52 refl p said))),
+                                        some-segment order_103 9 9 (party_field 52) b.p52 (some-weaker (Said (At 9) (known_party_of t)) _ b.p52 (said-option At fs 9 (known_party_of t) found b.p52 here s.p52)
+                                            (λ (p : Party) said. first-of-tag order_103 9 (take 0 (drop 9 order_103)) (get_or order_103 9 some_place) (drop 10 order_103) (party_field 52 p) refl refl (party-place 9 52 refl p said))),
                                         (
                                           9,
                                           inl (omega arith),
                                           (
-                                            some-segment ORDER 9 10 (party_field 53) b.p53 (some-weaker (Said (At 10) (known_party_of t)) _ b.p53 (said-option At fs 10 (known_party_of t) found b.p53 here s.p53)
-                                                (λ (p : Party) said. first-of-tag ORDER 9 (take 1 (drop 9 ORDER)) (get_or ORDER 10 some_place) (drop 11 ORDER) (party_field 53 p) refl refl (party-place 10 53 refl p said))),
+                                            some-segment order_103 9 10 (party_field 53) b.p53 (some-weaker (Said (At 10) (known_party_of t)) _ b.p53 (said-option At fs 10 (known_party_of t) found b.p53 here s.p53)
+                                                (λ (p : Party) said. first-of-tag order_103 9 (take 1 (drop 9 order_103)) (get_or order_103 10 some_place) (drop 11 order_103) (party_field 53 p) refl refl (party-place 10 53 refl p said))),
                                             (
                                               9,
                                               inl (omega arith),
                                               (
-                                                some-segment ORDER 9 11 (party_field 54) b.p54 (some-weaker (Said (At 11) (known_party_of t)) _ b.p54 (said-option At fs 11 (known_party_of t) found b.p54 here s.p54)
-                                                    (λ (p : Party) said. first-of-tag ORDER 9 (take 2 (drop 9 ORDER)) (get_or ORDER 11 some_place) (drop 12 ORDER) (party_field 54 p) refl refl (party-place 11 54 refl p said))),
+                                                some-segment order_103 9 11 (party_field 54) b.p54 (some-weaker (Said (At 11) (known_party_of t)) _ b.p54 (said-option At fs 11 (known_party_of t) found b.p54 here s.p54)
+                                                    (λ (p : Party) said. first-of-tag order_103 9 (take 2 (drop 9 order_103)) (get_or order_103 11 some_place) (drop 12 order_103) (party_field 54 p) refl refl (party-place 11 54 refl p said))),
                                                 (
                                                   9,
                                                   inl (omega arith),
                                                   (
-                                                    some-segment ORDER 9 12 (party_field 55) b.p55 (some-weaker (Said (At 12) (known_party_of t)) _ b.p55 (said-option At fs 12 (known_party_of t) found b.p55 here s.p55)
-                                                        (λ (p : Party) said. first-of-tag ORDER 9 (take 3 (drop 9 ORDER)) (get_or ORDER 12 some_place) (drop 13 ORDER) (party_field 55 p) refl refl (party-place 12 55 refl p said))),
+                                                    some-segment order_103 9 12 (party_field 55) b.p55 (some-weaker (Said (At 12) (known_party_of t)) _ b.p55 (said-option At fs 12 (known_party_of t) found b.p55 here s.p55)
+                                                        (λ (p : Party) said. first-of-tag order_103 9 (take 3 (drop 9 order_103)) (get_or order_103 12 some_place) (drop 13 order_103) (party_field 55 p) refl refl (party-place 12 55 refl p said))),
                                                     (
                                                       9,
                                                       inl (omega arith),
                                                       (
-                                                        some-segment ORDER 9 13 (party_field 56) b.p56 (some-weaker (Said (At 13) (known_party_of t)) _ b.p56 (said-option At fs 13 (known_party_of t) found b.p56 here s.p56)
-                                                            (λ (p : Party) said. first-of-tag ORDER 9 (take 4 (drop 9 ORDER)) (get_or ORDER 13 some_place) (drop 14 ORDER) (party_field 56 p) refl refl (party-place 13 56 refl p said))),
+                                                        some-segment order_103 9 13 (party_field 56) b.p56 (some-weaker (Said (At 13) (known_party_of t)) _ b.p56 (said-option At fs 13 (known_party_of t) found b.p56 here s.p56)
+                                                            (λ (p : Party) said. first-of-tag order_103 9 (take 4 (drop 9 order_103)) (get_or order_103 13 some_place) (drop 14 order_103) (party_field 56 p) refl refl (party-place 13 56 refl p said))),
                                                         (
                                                           9,
                                                           inl (omega arith),
                                                           (
-                                                            some-segment ORDER 9 14 (party_field 57) b.p57 (some-weaker (Said (At 14) (known_party_of t)) _ b.p57 (said-option At fs 14 (known_party_of t) found b.p57 here s.p57)
-                                                                (λ (p : Party) said. first-of-tag ORDER 9 (take 5 (drop 9 ORDER)) (get_or ORDER 14 some_place) (drop 15 ORDER) (party_field 57 p) refl refl (party-place 14 57 refl p said))),
+                                                            some-segment order_103 9 14 (party_field 57) b.p57 (some-weaker (Said (At 14) (known_party_of t)) _ b.p57 (said-option At fs 14 (known_party_of t) found b.p57 here s.p57)
+                                                                (λ (p : Party) said. first-of-tag order_103 9 (take 5 (drop 9 order_103)) (get_or order_103 14 some_place) (drop 15 order_103) (party_field 57 p) refl refl (party-place 14 57 refl p said))),
                                                             (
                                                               9,
                                                               inl (omega arith),
                                                               (
-                                                                one-segment ORDER 9 15 (party_field 59 b.payee) (first-of-tag ORDER 9 (take 6 (drop 9 ORDER)) (get_or ORDER 15 some_place) (drop 16 ORDER) (party_field 59 b.payee) refl refl (party-place 15 59 refl b.payee (said-one At fs 15 (known_party_of t) ORDER found b.payee here s.payee))),
+                                                                one-segment order_103 9 15 (party_field 59 b.payee) (first-of-tag order_103 9 (take 6 (drop 9 order_103)) (get_or order_103 15 some_place) (drop 16 order_103) (party_field 59 b.payee) refl refl (party-place 15 59 refl b.payee (said-one At fs 15 (known_party_of t) order_103 found b.payee here s.payee))),
                                                                 (
                                                                   16,
                                                                   inr (omega arith, omega arith),
                                                                   (
-                                                                    lines-segment ORDER 16 16 70 None c.info refl,
+                                                                    lines-segment order_103 16 16 70 None c.info refl,
                                                                     (
                                                                       16,
                                                                       inl (omega arith),
                                                                       (
-                                                                        one-segment ORDER 16 17 (line_field 71 (Some 65) c.charge) refl,
+                                                                        one-segment order_103 16 17 (line_field 71 (Some 65) c.charge) refl,
                                                                         (
                                                                           18,
                                                                           inr (omega arith, omega arith),
                                                                           (
-                                                                            all-segment ORDER 18 18 (ccy_amount_field 71 (Some 70)) c.taken refl (each-all _ c.taken (λ (x : Amount). refl)),
+                                                                            all-segment order_103 18 18 (ccy_amount_field 71 (Some 70)) c.taken refl (each-all _ c.taken (λ (x : Amount). refl)),
                                                                             (
                                                                               18,
                                                                               inl (omega arith),
                                                                               (
-                                                                                some-segment ORDER 18 19 (ccy_amount_field 71 (Some 71)) c.given (some-all _ c.given (λ (x : Amount). refl)),
+                                                                                some-segment order_103 18 19 (ccy_amount_field 71 (Some 71)) c.given (some-all _ c.given (λ (x : Amount). refl)),
                                                                                 (
                                                                                   18,
                                                                                   inl (omega arith),
                                                                                   (
-                                                                                    lines-segment ORDER 18 20 72 None c.notes refl,
+                                                                                    lines-segment order_103 18 20 72 None c.notes refl,
                                                                                     (
                                                                                       18,
                                                                                       inl (omega arith),
                                                                                       (
-                                                                                        lines-segment ORDER 18 21 77 (Some 66) c.regulatory refl,
+                                                                                        lines-segment order_103 18 21 77 (Some 66) c.regulatory refl,
                                                                                         (18, inl (omega arith), tt),
                                                                                       ),
                                                                                     ),

@@ -2,46 +2,61 @@
 use Rattle.std.specs.Prelude.{ℕ, ◌==◌, ◌&&◌, ◌||◌, Bool, List, [], ◌∷◌, take, drop, length, Option, Some, None, Result, Ok, nat_le, is_none, if◌then◌else◌}
 use Rattle.std.specs.List.{list_all, list_any}
 use Rattle.std.specs.Str.{bytes_eq}
+use Rattle.corr_text.specs.Codes.{code}
 use Rattle.corr_text.specs.First.{check, or_fault, ◌>>=◌}
 use Rattle.corr_text.specs.Sets.{is_in}
 use Rattle.corr_text.specs.declared.fault.Code.{Code}
 use Rattle.corr_text.specs.declared.set.Set.TheVariants.{X, C}
 use Rattle.fin_fields.specs.declared.field.Field.{Field}
 use Rattle.fin_fields.specs.Patterns.{is_run}
-use Rattle.fin_layout.specs.declared.fault.TheConstants.{P24}
 use Rattle.fin_contents.specs.Plain.{one_line, sized}
-use Rattle.mt103.specs.declared.codes.TheConstants.{D97, P28, T08, T36}
-use Rattle.mt103.specs.declared.operation.TheConstants.{OPERATIONS}
-use Rattle.mt103.specs.declared.charge.TheConstants.{CHARGES}
-use Rattle.mt103.specs.declared.instruction.TheConstants.{INSTRUCTIONS, WITH_TEXT}
 use Rattle.mt103.specs.declared.instruction.Instr.{Instr}
 
 -- a code stands in a list
 abbrev pub is_listed : List (List ℕ) → List ℕ → Bool
-is_listed codes code = list_any (λ c. bytes_eq c code) codes
+is_listed words word = list_any (λ w. bytes_eq w word) words
+
+-- the operations of 23B
+abbrev pub operations : List (List ℕ)
+operations = codes "CRED" ∷ codes "CRTS" ∷ codes "SPAY" ∷ codes "SPRI" ∷ codes "SSTD" ∷ []
+
+-- who bears the charges, in 71A
+abbrev pub charges : List (List ℕ)
+charges = codes "OUR" ∷ codes "SHA" ∷ codes "BEN" ∷ []
+
+-- the codes of 23E, in the order in which they may stand
+abbrev pub instructions : List (List ℕ)
+instructions =
+    codes "SDVA" ∷ codes "INTC" ∷ codes "REPA" ∷ codes "CORT" ∷ codes "HOLD" ∷ codes "CHQB"
+    ∷ codes "PHOB" ∷ codes "TELB" ∷ codes "PHON" ∷ codes "TELE" ∷ codes "PHOI" ∷ codes "TELI" ∷ []
+
+-- those of them that may have a text
+abbrev pub with_text : List (List ℕ)
+with_text =
+    codes "PHON" ∷ codes "PHOB" ∷ codes "PHOI" ∷ codes "TELE" ∷ codes "TELB" ∷ codes "TELI" ∷ codes "HOLD" ∷ codes "REPA" ∷ []
 
 -- 23B
 unfoldable pub operation_of : Field → Result (List ℕ) Code
 operation_of f = do
-  line ← or_fault (one_line f) T36
-  op ← or_fault (sized 4 line) T36
-  _ ← check (is_listed OPERATIONS op) T36
+  line ← or_fault (one_line f) (code "T36")
+  op ← or_fault (sized 4 line) (code "T36")
+  _ ← check (is_listed operations op) (code "T36")
   Ok op
 
 -- 71A
 unfoldable pub charge_of : Field → Result (List ℕ) Code
 charge_of f = do
-  line ← or_fault (one_line f) T08
-  charge ← or_fault (sized 3 line) T08
-  _ ← check (is_listed CHARGES charge) T08
+  line ← or_fault (one_line f) (code "T08")
+  charge ← or_fault (sized 3 line) (code "T08")
+  _ ← check (is_listed charges charge) (code "T08")
   Ok charge
 
 -- 26T: `3!c`
 unfoldable pub kind_of : Field → Result (List ℕ) Code
 kind_of f = do
-  line ← or_fault (one_line f) P24
-  kind ← or_fault (sized 3 line) P24
-  _ ← check (list_all (is_in C) kind) P24
+  line ← or_fault (one_line f) (code "P24")
+  kind ← or_fault (sized 3 line) (code "P24")
+  _ ← check (list_all (is_in C) kind) (code "P24")
   Ok kind
 
 -- the code that a line begins with: `4!c`
@@ -55,18 +70,18 @@ text_in (slash ∷ text) = if (slash == 47) && is_run (is_in X) 30 text then Som
 
 -- a code of 23E
 unfoldable pub is_instruction : List ℕ → Bool
-is_instruction code = is_listed INSTRUCTIONS code
+is_instruction word = is_listed instructions word
 
 -- a code that may have a text
 unfoldable pub takes_text : List ℕ → Bool
-takes_text code = is_listed WITH_TEXT code
+takes_text word = is_listed with_text word
 
 -- 23E: `4!c[/30x]`
 unfoldable pub instr_of : Field → Result Instr Code
 instr_of f = do
-  line ← or_fault (one_line f) P24
-  code ← or_fault (code_in line) P24
-  text ← or_fault (text_in (drop 4 line)) P24
-  _ ← check (is_instruction code) P28
-  _ ← check (is_none text || takes_text code) D97
-  Ok (record { code = code; text = text })
+  line ← or_fault (one_line f) (code "P24")
+  word ← or_fault (code_in line) (code "P24")
+  text ← or_fault (text_in (drop 4 line)) (code "P24")
+  _ ← check (is_instruction word) (code "P28")
+  _ ← check (is_none text || takes_text word) (code "D97")
+  Ok (record { code = word; text = text })

@@ -2,17 +2,17 @@
 use Rattle.std.specs.Prelude.{ℕ, ◌+◌, Bool, List, [], ◌∷◌, ◌++◌, length, position, Option, Some, None, option_map, unwrap_or, nat_lt, codes, if◌then◌else◌}
 use Rattle.std.specs.List.{list_any}
 use Rattle.std.specs.Str.{bytes_eq}
+use Rattle.corr_text.specs.Codes.{code}
 use Rattle.corr_text.specs.declared.fault.Code.{Code}
 use Rattle.corr_text.specs.declared.fault.Fault.{Fault}
-use Rattle.mt103.specs.declared.codes.TheConstants.{D98, E46}
-use Rattle.mt103.specs.declared.instruction.TheConstants.{INSTRUCTIONS}
+use Rattle.mt103.specs.Codes.{instructions}
 use Rattle.mt103.specs.declared.instruction.Instr.{Instr}
 use Rattle.mt103.specs.declared.misfit.Misfit.{Misfit}
 use Rattle.mt103.specs.declared.misfit.Misfit.TheVariants.{Repeated, Early}
 
 -- where a code stands in the list of codes, from 0
 abbrev pub rank_of : List ℕ → ℕ
-rank_of code = unwrap_or (position (λ c. bytes_eq c code) INSTRUCTIONS) (length INSTRUCTIONS)
+rank_of word = unwrap_or (position (λ w. bytes_eq w word) instructions) (length instructions)
 
 -- an instruction is of an earlier one's code, or its code stands before the earlier one's in the list
 abbrev pub fits_badly : Misfit → Instr → Instr → Bool
@@ -28,13 +28,14 @@ unfoldable pub first_given : {A : Type 0} → (List A → A → Bool) → List A
 first_given test before [] = None
 first_given test before (x ∷ xs) = if test before x then Some (length before) else first_given test (before ++ x ∷ []) xs
 
+-- a fault of the instruction with this number, from 0
 abbrev pub instr_fault : Code → ℕ → Fault
-instr_fault code i = record { code = code; tag = codes "23E"; nth = i + 1 }
+instr_fault refusal i = record { code = refusal; tag = codes "23E"; nth = i + 1 }
 
 -- E46: the first instruction whose code came before
 abbrev pub e46 : List Instr → Option Fault
-e46 instrs = option_map (instr_fault E46) (first_given (misfits Repeated) [] instrs)
+e46 instrs = option_map (instr_fault (code "E46")) (first_given (misfits Repeated) [] instrs)
 
 -- D98: the first instruction whose code stands before an earlier one's in the list
 abbrev pub d98 : List Instr → Option Fault
-d98 instrs = option_map (instr_fault D98) (first_given (misfits Early) [] instrs)
+d98 instrs = option_map (instr_fault (code "D98")) (first_given (misfits Early) [] instrs)

@@ -2,4 +2,4 @@ pub mod Codes
 pub mod Instructions
 pub mod Message
 pub mod Writing
-pub mod Constants
+pub mod Order

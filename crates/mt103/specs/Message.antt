@@ -17,60 +17,60 @@ use Rattle.mt103.specs.declared.details.Details.{Details}
 use Rattle.mt103.specs.declared.message.Mt103.{Mt103}
 use Rattle.mt103.specs.declared.parties.Parties.{Parties}
 use Rattle.mt103.specs.declared.terms.Terms.{Terms}
-use Rattle.mt103.specs.declared.order.TheConstants.{ORDER}
+use Rattle.mt103.specs.Order.{at_account_bank, at_charge, at_given, at_info, at_instructions, at_intermediary, at_kind, at_notes, at_operation, at_ordered, at_ordering, at_payee, at_payer, at_rate, at_receivers_bank, at_reference, at_regulatory, at_senders_bank, at_taken, at_third_bank, at_times, at_value, order_103}
 
 -- what is wrong with the content of a field at a place of the order
 abbrev pub content_test : Tables → ℕ → Field → Option Code
 content_test t k f =
-    if k == 0 then fault_of (reference_of f)
-    else if k == 1 then fault_of (time_of f)
-    else if k == 2 then fault_of (operation_of f)
-    else if k == 3 then fault_of (instr_of f)
-    else if k == 4 then fault_of (kind_of f)
-    else if k == 5 then fault_of (value_of t f)
-    else if (k == 6) || (k == 18) || (k == 19) then fault_of (ccy_amount_of t f)
-    else if k == 7 then fault_of (rate_of f)
-    else if k == 16 then fault_of (texts_of 4 f)
-    else if k == 17 then fault_of (charge_of f)
-    else if k == 20 then fault_of (texts_of 6 f)
-    else if k == 21 then fault_of (texts_of 3 f)
+    if k == at_reference then fault_of (reference_of f)
+    else if k == at_times then fault_of (time_of f)
+    else if k == at_operation then fault_of (operation_of f)
+    else if k == at_instructions then fault_of (instr_of f)
+    else if k == at_kind then fault_of (kind_of f)
+    else if k == at_value then fault_of (value_of t f)
+    else if (k == at_ordered) || (k == at_taken) || (k == at_given) then fault_of (ccy_amount_of t f)
+    else if k == at_rate then fault_of (rate_of f)
+    else if k == at_info then fault_of (texts_of 4 f)
+    else if k == at_charge then fault_of (charge_of f)
+    else if k == at_notes then fault_of (texts_of 6 f)
+    else if k == at_regulatory then fault_of (texts_of 3 f)
     else fault_of (known_party_of t f)
 
 -- what 20 to 36 say
 unfoldable pub terms_of : Tables → List Field → List ℕ → Result Terms Fault
 terms_of t fs found = do
-  reference ← in_place ORDER fs found 0 reference_of
-  times ← all_from fs 1 time_of 0 found fs
-  op ← in_place ORDER fs found 2 operation_of
-  instrs ← all_from fs 3 instr_of 0 found fs
-  kind ← in_option fs found 4 kind_of
-  value ← in_place ORDER fs found 5 (value_of t)
-  ordered ← in_option fs found 6 (ccy_amount_of t)
-  rate ← in_option fs found 7 rate_of
+  reference ← in_place order_103 fs found at_reference reference_of
+  times ← all_from fs at_times time_of 0 found fs
+  op ← in_place order_103 fs found at_operation operation_of
+  instrs ← all_from fs at_instructions instr_of 0 found fs
+  kind ← in_option fs found at_kind kind_of
+  value ← in_place order_103 fs found at_value (value_of t)
+  ordered ← in_option fs found at_ordered (ccy_amount_of t)
+  rate ← in_option fs found at_rate rate_of
   Ok (record { reference = reference; times = times; op = op; instrs = instrs; kind = kind; value = value; ordered = ordered; rate = rate })
 
 -- what 50a to 59a say
 unfoldable pub parties_of : Tables → List Field → List ℕ → Result Parties Fault
 parties_of t fs found = do
-  payer ← in_place ORDER fs found 8 (known_party_of t)
-  p52 ← in_option fs found 9 (known_party_of t)
-  p53 ← in_option fs found 10 (known_party_of t)
-  p54 ← in_option fs found 11 (known_party_of t)
-  p55 ← in_option fs found 12 (known_party_of t)
-  p56 ← in_option fs found 13 (known_party_of t)
-  p57 ← in_option fs found 14 (known_party_of t)
-  payee ← in_place ORDER fs found 15 (known_party_of t)
+  payer ← in_place order_103 fs found at_payer (known_party_of t)
+  p52 ← in_option fs found at_ordering (known_party_of t)
+  p53 ← in_option fs found at_senders_bank (known_party_of t)
+  p54 ← in_option fs found at_receivers_bank (known_party_of t)
+  p55 ← in_option fs found at_third_bank (known_party_of t)
+  p56 ← in_option fs found at_intermediary (known_party_of t)
+  p57 ← in_option fs found at_account_bank (known_party_of t)
+  payee ← in_place order_103 fs found at_payee (known_party_of t)
   Ok (record { payer = payer; p52 = p52; p53 = p53; p54 = p54; p55 = p55; p56 = p56; p57 = p57; payee = payee })
 
 -- what 70 to 77B say
 unfoldable pub details_of : Tables → List Field → List ℕ → Result Details Fault
 details_of t fs found = do
-  info ← in_option fs found 16 (texts_of 4)
-  charge ← in_place ORDER fs found 17 charge_of
-  taken ← all_from fs 18 (ccy_amount_of t) 0 found fs
-  given ← in_option fs found 19 (ccy_amount_of t)
-  notes ← in_option fs found 20 (texts_of 6)
-  regulatory ← in_option fs found 21 (texts_of 3)
+  info ← in_option fs found at_info (texts_of 4)
+  charge ← in_place order_103 fs found at_charge charge_of
+  taken ← all_from fs at_taken (ccy_amount_of t) 0 found fs
+  given ← in_option fs found at_given (ccy_amount_of t)
+  notes ← in_option fs found at_notes (texts_of 6)
+  regulatory ← in_option fs found at_regulatory (texts_of 3)
   Ok (record { info = unwrap_or info []; charge = charge; taken = taken; given = given; notes = unwrap_or notes []; regulatory = unwrap_or regulatory [] })
 
 -- a message of its parts
@@ -111,12 +111,12 @@ contents_of t fs found = do
 
 -- the tests of the fields of an MT103: structure, then contents in the text's order
 abbrev pub field_tests : Tables → List Field → List (Option Fault)
-field_tests t fs = tests ORDER (content_test t) fs
+field_tests t fs = tests order_103 (content_test t) fs
 
 -- what the fields of an MT103 say, or the first test that fails: structure, contents, and the instructions together
 unfoldable pub mt103_of : Tables → List Field → Result Mt103 Fault
 mt103_of t fs = do
   _ ← passed (field_tests t fs)
-  m ← contents_of t fs (places_from ORDER 0 fs)
+  m ← contents_of t fs (places_from order_103 0 fs)
   _ ← passed (e46 m.instrs ∷ d98 m.instrs ∷ [])
   Ok m

@@ -1,13 +1,10 @@
 -- An MT103 written as fields.
-use Rattle.std.specs.Prelude.{◌≡◌, ℕ, List, [], ◌∷◌, ◌++◌, All, IfSome, IsTrue, map, Option, Some, None, Ok}
-use Rattle.ref_tables.specs.Seen.{Tables, few_decimals}
+use Rattle.std.specs.Prelude.{ℕ, List, [], ◌∷◌, ◌++◌, All, IfSome, map, Option, Some, None}
 use Rattle.fin_fields.specs.declared.field.Field.{Field}
-use Rattle.fin_fields.specs.Writing.{IsField}
 use Rattle.fin_layout.specs.Segments.{joined}
 use Rattle.fin_parties.specs.Writing.{party_field}
 use Rattle.fin_contents.specs.declared.value.Value.{Value}
 use Rattle.fin_contents.specs.Writing.{IsAmount, IsValue, ccy_amount_field, line_field, lines_fields, some_field, value_field}
-use Rattle.mt103.specs.Message.{mt103_of}
 use Rattle.mt103.specs.declared.instruction.Instr.{Instr}
 use Rattle.mt103.specs.declared.message.Mt103.{Mt103}
 
@@ -80,11 +77,3 @@ pub record AreAmounts (m : Mt103) : Type 0 where
   pub ordered : IfSome m.ordered IsAmount
   pub taken : All IsAmount m.taken
   pub given : IfSome m.given IsAmount
-
--- a transfer that fields of a text say under some tables
-pub record IsReadable (m : Mt103) : Type 0 where
-  pub tables : Tables
-  pub few : IsTrue (few_decimals tables.ccys)
-  pub fields : List Field
-  pub fit : All IsField fields
-  pub says : mt103_of tables fields ≡ Ok m

@@ -3,8 +3,7 @@
 ghost use Rattle.std.specs.Prelude.{◌≡◌};
 ghost use Rattle.std.specs.List.{list_any};
 ghost use Rattle.std.specs.Str.{bytes_eq};
-ghost use Rattle.mt103.specs.Codes.{charge_of};
-ghost use Rattle.mt103.specs.declared.charge.TheConstants.{CHARGES as charges};
+ghost use Rattle.mt103.specs.Codes.{charge_of, charges};
 ghost use Rattle.fin_layout.specs.Reading.{Reads};
 
 use crate::codes::T08;

@@ -6,6 +6,7 @@ ghost use Rattle.mt103.specs.Message.{details_of};
 
 use crate::charge::Charge;
 use crate::order::ORDER;
+use crate::places::{CHARGE, GIVEN, INFO, NOTES, REGULATORY, TAKEN};
 use corr_money::Amount;
 use corr_text::{List, Text};
 use fin_contents::{CcyAmount, Texts, or_none};
@@ -38,12 +39,12 @@ pub fn read_details(
     ensures { Gives result (details_of tables.now fields.now found.now) }
 {
     let amount = CcyAmount { tables };
-    let info = read_optional(alloc, &Texts { most: 4 }, fields, found, 16)?;
-    let charge = read_one(alloc, &Charge, &ORDER, fields, found, 17)?;
-    let taken = read_all(alloc, &amount, fields, found, 18)?;
-    let given = read_optional(alloc, &amount, fields, found, 19)?;
-    let notes = read_optional(alloc, &Texts { most: 6 }, fields, found, 20)?;
-    let regulatory = read_optional(alloc, &Texts { most: 3 }, fields, found, 21)?;
+    let info = read_optional(alloc, &Texts { most: 4 }, fields, found, INFO)?;
+    let charge = read_one(alloc, &Charge, &ORDER, fields, found, CHARGE)?;
+    let taken = read_all(alloc, &amount, fields, found, TAKEN)?;
+    let given = read_optional(alloc, &amount, fields, found, GIVEN)?;
+    let notes = read_optional(alloc, &Texts { most: 6 }, fields, found, NOTES)?;
+    let regulatory = read_optional(alloc, &Texts { most: 3 }, fields, found, REGULATORY)?;
     Ok(Details {
         info: or_none(alloc, info),
         charge,

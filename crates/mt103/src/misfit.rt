@@ -2,7 +2,7 @@
 
 ghost use Rattle.std.specs.Prelude.{◌≡◌, ◌≤◌, ◌<◌, IfSome, [], length, option_map, position};
 ghost use Rattle.std.specs.Str.{bytes_eq};
-ghost use Rattle.mt103.specs.declared.instruction.TheConstants.{INSTRUCTIONS as instructions};
+ghost use Rattle.mt103.specs.Codes.{instructions};
 ghost use Rattle.mt103.specs.Instructions.{d98, e46, first_given, fits_badly, instr_fault, misfits, rank_of};
 
 use crate::codes::{D98, E46};

@@ -3,8 +3,7 @@
 ghost use Rattle.std.specs.Prelude.{◌≡◌};
 ghost use Rattle.std.specs.List.{list_any};
 ghost use Rattle.std.specs.Str.{bytes_eq};
-ghost use Rattle.mt103.specs.Codes.{operation_of};
-ghost use Rattle.mt103.specs.declared.operation.TheConstants.{OPERATIONS as operations};
+ghost use Rattle.mt103.specs.Codes.{operation_of, operations};
 ghost use Rattle.fin_layout.specs.Reading.{Reads};
 
 use crate::codes::T36;

@@ -5,6 +5,9 @@ ghost use Rattle.fin_layout.specs.Reading.{Gives};
 ghost use Rattle.mt103.specs.Message.{parties_of};
 
 use crate::order::ORDER;
+use crate::places::{
+    ACCOUNT_BANK, INTERMEDIARY, ORDERING, PAYEE, PAYER, RECEIVERS_BANK, SENDERS_BANK, THIRD_BANK,
+};
 use fin_contents::KnownParty;
 use fin_fields::Field;
 use fin_layout::{MtFault, read_one, read_optional};
@@ -37,14 +40,14 @@ pub fn read_parties(
     ensures { Gives result (parties_of tables.now fields.now found.now) }
 {
     let party = KnownParty { tables };
-    let payer = read_one(alloc, &party, &ORDER, fields, found, 8)?;
-    let p52 = read_optional(alloc, &party, fields, found, 9)?;
-    let p53 = read_optional(alloc, &party, fields, found, 10)?;
-    let p54 = read_optional(alloc, &party, fields, found, 11)?;
-    let p55 = read_optional(alloc, &party, fields, found, 12)?;
-    let p56 = read_optional(alloc, &party, fields, found, 13)?;
-    let p57 = read_optional(alloc, &party, fields, found, 14)?;
-    let payee = read_one(alloc, &party, &ORDER, fields, found, 15)?;
+    let payer = read_one(alloc, &party, &ORDER, fields, found, PAYER)?;
+    let p52 = read_optional(alloc, &party, fields, found, ORDERING)?;
+    let p53 = read_optional(alloc, &party, fields, found, SENDERS_BANK)?;
+    let p54 = read_optional(alloc, &party, fields, found, RECEIVERS_BANK)?;
+    let p55 = read_optional(alloc, &party, fields, found, THIRD_BANK)?;
+    let p56 = read_optional(alloc, &party, fields, found, INTERMEDIARY)?;
+    let p57 = read_optional(alloc, &party, fields, found, ACCOUNT_BANK)?;
+    let payee = read_one(alloc, &party, &ORDER, fields, found, PAYEE)?;
     Ok(Parties {
         payer,
         p52,

@@ -8,6 +8,7 @@ use crate::instruction::{Instr, Instruction};
 use crate::kind::Kind;
 use crate::operation::Operation;
 use crate::order::ORDER;
+use crate::places::{INSTRUCTIONS, KIND, OPERATION, ORDERED, RATE, REFERENCE, TIMES, VALUE};
 use corr_money::Amount;
 use corr_text::{List, Text};
 use fin_contents::{CcyAmount, Rate, Reference, Time, Value, ValueDate};
@@ -43,14 +44,14 @@ pub fn read_terms(
     ensures few { IfOk result (λ m. length m.instrs ≤ length fields.now) }
 {
     let amount = CcyAmount { tables };
-    let reference = read_one(alloc, &Reference, &ORDER, fields, found, 0)?;
-    let times = read_all(alloc, &Time, fields, found, 1)?;
-    let op = read_one(alloc, &Operation, &ORDER, fields, found, 2)?;
-    let instrs = read_all(alloc, &Instruction, fields, found, 3)?;
-    let kind = read_optional(alloc, &Kind, fields, found, 4)?;
-    let value = read_one(alloc, &ValueDate { tables }, &ORDER, fields, found, 5)?;
-    let ordered = read_optional(alloc, &amount, fields, found, 6)?;
-    let rate = read_optional(alloc, &Rate, fields, found, 7)?;
+    let reference = read_one(alloc, &Reference, &ORDER, fields, found, REFERENCE)?;
+    let times = read_all(alloc, &Time, fields, found, TIMES)?;
+    let op = read_one(alloc, &Operation, &ORDER, fields, found, OPERATION)?;
+    let instrs = read_all(alloc, &Instruction, fields, found, INSTRUCTIONS)?;
+    let kind = read_optional(alloc, &Kind, fields, found, KIND)?;
+    let value = read_one(alloc, &ValueDate { tables }, &ORDER, fields, found, VALUE)?;
+    let ordered = read_optional(alloc, &amount, fields, found, ORDERED)?;
+    let rate = read_optional(alloc, &Rate, fields, found, RATE)?;
     Ok(Terms {
         reference,
         times,

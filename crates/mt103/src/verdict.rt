@@ -1,14 +1,17 @@
 //! An MT103 read from its fields.
 
-ghost use Rattle.std.specs.Prelude.{◌≡◌, ◌≤◌, [], ◌∷◌, IfOk, None, Ok, length};
+ghost use Rattle.std.specs.Prelude.{◌≡◌, ◌≤◌, [], ◌∷◌, All, IfOk, IsTrue, None, Ok, length};
 ghost use Rattle.corr_text.specs.First.{first_of};
 ghost use Rattle.fin_contents.specs.Money.{IsPayable};
+ghost use Rattle.fin_contents.specs.Writing.{IsReadable};
+ghost use Rattle.fin_fields.specs.Writing.{IsField};
 ghost use Rattle.fin_layout.specs.Order.{places_from};
 ghost use Rattle.fin_layout.specs.Reading.{Gives};
 ghost use Rattle.mt103.specs.Instructions.{d98, e46};
 ghost use Rattle.mt103.specs.Message.{contents_of, field_tests, mt103_of};
 ghost use Rattle.mt103.specs.declared.message.Mt103.{Mt103 as Mt103Seen};
-ghost use Rattle.mt103.specs.declared.order.TheConstants.{ORDER as order};
+ghost use Rattle.mt103.specs.Order.{order_103};
+ghost use Rattle.ref_tables.specs.Seen.{few_decimals};
 
 use crate::instruction::Instr;
 use crate::message::Mt103;
@@ -37,14 +40,15 @@ fn instructions_fault(instrs: &[Instr]) -> Option<Fault>
 /// in the order of the text, with its field's tag and occurrence; then E46, the first 23E whose code came before; then D98,
 /// the first 23E whose code stands before an earlier one's in the list of codes. Where no test of the fields fails they say
 /// a message (`complete`), so there is no other refusal. The amount of 32A is above zero and below 10^14 minor units
-/// (`amount`). The rules of the transfer are not tested here.
+/// (`amount`). `put_mt103` takes what fields of a text say (`written`). The rules of the transfer are not tested here.
 pub fn read_mt103(alloc: Global, f: &[Field], t: &RefTables) -> Result<Mt103, MtFault>
     requires few { length f.now ≤ 65535 }
     ensures message { Gives result (mt103_of t.now f.now) }
     ensures few { IfOk result (λ m. length m.instrs ≤ length f.now) }
     ensures amount { IfOk result (λ m. IsPayable m.amount) }
+    ensures written { IsTrue (few_decimals t.now.ccys) → All IsField f.now → IfOk result (IsReadable mt103_of) }
     ensures complete { first_of (field_tests t.now f.now) ≡ None
-        → (m : Mt103Seen) × (contents_of t.now f.now (places_from order 0 f.now) ≡ Ok m) }
+        → (m : Mt103Seen) × (contents_of t.now f.now (places_from order_103 0 f.now) ≡ Ok m) }
 {
     let found = check_structure(alloc, &ORDER, f)?;
     let m = read_contents(alloc, t, f, found.as_slice())?;

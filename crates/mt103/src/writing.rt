@@ -1,14 +1,14 @@
 //! An MT103 written as block 4's lines.
 
 ghost use Rattle.std.specs.Prelude.{◌≡◌, ◌++◌, List as Items, IfOk, None, Ok, OnOk, Some, map};
-ghost use Rattle.fin_contents.specs.Writing.{line_field, some_field};
+ghost use Rattle.fin_contents.specs.Writing.{IsReadable, line_field, some_field};
 ghost use Rattle.fin_fields.specs.Faults.{field_fault};
 ghost use Rattle.fin_fields.specs.Fields.{fields_of};
 ghost use Rattle.fin_fields.specs.Writing.{fields_text};
 ghost use Rattle.fin_fields.specs.declared.field.Field.{Field as FieldSeen};
 ghost use Rattle.fin_layout.specs.Segments.{joined};
 ghost use Rattle.mt103.specs.Message.{mt103_of};
-ghost use Rattle.mt103.specs.Writing.{AreAmounts, IsReadable, detail_fields, instr_field, money_fields, mt103_fields, order_fields, party_fields, text_behind};
+ghost use Rattle.mt103.specs.Writing.{AreAmounts, detail_fields, instr_field, money_fields, mt103_fields, order_fields, party_fields, text_behind};
 ghost use Rattle.ref_tables.specs.Seen.{Tables};
 
 use crate::instruction::Instr;
@@ -126,12 +126,12 @@ fn mt103_fields(alloc: Global, m: &Mt103) -> Result<List<Field>, Memory>
 
 /// Writes a transfer as block 4's lines: its fields in the order of their places, each line ended by CR LF.
 ///
-/// The transfer is one that `read_mt103` gives of fields that were cut from a text. The lines are cut into fields without
+/// The transfer is one that `read_mt103` gives of fields that were cut from a text (its clause `written`). The lines are cut into fields without
 /// fault (`sound`), and under all tables under which the transfer may be read they read as the same transfer (`again`).
 ///
 /// Example: 123450 cents of EUR are written `EUR1234,50` whether they were read so or as `EUR1234,5`.
 pub fn put_mt103(alloc: Global, m: &Mt103) -> Result<Text, Memory>
-    requires { IsReadable m.now }
+    requires { IsReadable mt103_of m.now }
     ensures text { IfOk result (λ text. text ≡ fields_text (mt103_fields m.now)) }
     ensures sound { IfOk result (λ text. field_fault text ≡ None) }
     ensures again { IfOk result (λ text. (t : Tables) (fs : Items FieldSeen) → mt103_of t fs ≡ Ok m.now → mt103_of t (fields_of text) ≡ Ok m.now) }

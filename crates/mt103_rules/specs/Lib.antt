@@ -1,4 +1,3 @@
 pub mod Parties
 pub mod Instructions
 pub mod Rules
-pub mod Constants

@@ -8,7 +8,6 @@ mod codes;
 mod first;
 mod institutions;
 mod instructions;
-mod laws;
 mod levels;
 mod operation;
 mod parties;
@@ -18,4 +17,3 @@ pub use codes::{
     E18, E44, E45,
 };
 pub use first::first_rule;
-pub use laws::rule_code_law;

@@ -11,10 +11,10 @@ use Rattle.fin_contents.specs.Parties.{known_party_of}
 use Rattle.fin_contents.specs.Plain.{reference_of, texts_of, time_of}
 use Rattle.mt202cov.specs.Message.{content_test, contents_of, field_tests}
 use Rattle.mt202cov.specs.declared.message.Mt202Cov.{Mt202Cov}
-use Rattle.mt202cov.specs.declared.order.TheConstants.{ORDER}
+use Rattle.mt202cov.specs.Order.{order_202}
 use Rattle.mt202cov.proofs.Readings.{Readings, said-by}
 
-contents-fine : (t : Tables) (fs : List Field) (found : List ℕ) → AllHold ORDER (content_test t) fs found → (m : Mt202Cov) × Readings t fs found m
+contents-fine : (t : Tables) (fs : List Field) (found : List ℕ) → AllHold order_202 (content_test t) fs found → (m : Mt202Cov) × Readings t fs found m
 contents-fine t fs found hold =
     let reference = must-fine hold 0 reference_of (λ f. refl) _ refl refl in
     let related = must-fine hold 1 reference_of (λ f. refl) _ refl refl in
@@ -80,8 +80,8 @@ contents-fine t fs found hold =
       },
     )
 
-pub complete : (t : Tables) (fs : List Field) → first_of (field_tests t fs) ≡ None → (m : Mt202Cov) × (contents_of t fs (places_from ORDER 0 fs) ≡ Ok m)
+pub complete : (t : Tables) (fs : List Field) → first_of (field_tests t fs) ≡ None → (m : Mt202Cov) × (contents_of t fs (places_from order_202 0 fs) ≡ Ok m)
 complete t fs none =
-    let found : List ℕ = places_from ORDER 0 fs in
-    let c = contents-fine t fs found (all-hold ORDER (content_test t) fs none) in
+    let found : List ℕ = places_from order_202 0 fs in
+    let c = contents-fine t fs found (all-hold order_202 (content_test t) fs none) in
     (c.0, said-by t fs found c.0 c.1)

@@ -22,7 +22,7 @@ use Rattle.fin_contents.proofs.laws.Placed.{all-each, each-joined, lines-each, p
 use Rattle.fin_contents.proofs.laws.Said.{Holds, Said, Stands, said-all, said-one, said-option}
 use Rattle.mt202cov.specs.Writing.{AreAmounts, segments, value_in}
 use Rattle.mt202cov.specs.declared.message.Mt202Cov.{Mt202Cov}
-use Rattle.mt202cov.specs.declared.order.TheConstants.{ORDER}
+use Rattle.mt202cov.specs.Order.{order_202}
 use Rattle.mt202cov.proofs.Readings.{LinesRead, Readings}
 use Rattle.mt202cov.proofs.Written.{any}
 
@@ -36,26 +36,26 @@ ordered-fit : (t : Tables) (Q : Field → Type 0) (o : Option Amount) → IfSome
 ordered-fit t Q None is s = tt
 ordered-fit t Q (Some x) is s = (ccy_amount-fit 33 (Some 66) t s.field x (lettered 33 66 (omega arith) refl) is s.says, tt)
 
-module _ (t : Tables) (fs : List Field) (found : List ℕ) (h : Holds (Stands ORDER IsField) found fs) where
-  reference-fit : (k tag : ℕ) → tag ≤ 99 → (x : List ℕ) → in_place ORDER fs found k reference_of ≡ Ok x → IsField (line_field tag None x)
+module _ (t : Tables) (fs : List Field) (found : List ℕ) (h : Holds (Stands order_202 IsField) found fs) where
+  reference-fit : (k tag : ℕ) → tag ≤ 99 → (x : List ℕ) → in_place order_202 fs found k reference_of ≡ Ok x → IsField (line_field tag None x)
   reference-fit k tag le x e =
-      let s = said-one (Stands ORDER IsField) fs k reference_of ORDER found x h e in
+      let s = said-one (Stands order_202 IsField) fs k reference_of order_202 found x h e in
       kept-fit tag None s.field (x ∷ []) (plain tag le) (reference-kept s.field x s.says) s.holds.has
 
-  time-fit : (x : List ℕ) → Said (Stands ORDER IsField 2) time_of x → IsField (line_field 13 (Some 67) x)
+  time-fit : (x : List ℕ) → Said (Stands order_202 IsField 2) time_of x → IsField (line_field 13 (Some 67) x)
   time-fit x s = kept-fit 13 (Some 67) s.field (x ∷ []) (lettered 13 67 (omega arith) refl) (time-kept s.field x s.says) s.holds.has
 
-  module _ (k tag : ℕ) (at : (get_or ORDER k any).tag ≡ tag) where
-    said-fit : (p : Party) → Said (Stands ORDER IsField k) (known_party_of t) p → IsField (party_field tag p)
-    said-fit p s = party-fit-at ORDER IsField k tag any at t p (λ f is. is) s
+  module _ (k tag : ℕ) (at : (get_or order_202 k any).tag ≡ tag) where
+    said-fit : (p : Party) → Said (Stands order_202 IsField k) (known_party_of t) p → IsField (party_field tag p)
+    said-fit p s = party-fit-at order_202 IsField k tag any at t p (λ f is. is) s
 
-    party-fit : (p : Party) → in_place ORDER fs found k (known_party_of t) ≡ Ok p → IsField (party_field tag p)
-    party-fit p e = said-fit p (said-one (Stands ORDER IsField) fs k (known_party_of t) ORDER found p h e)
+    party-fit : (p : Party) → in_place order_202 fs found k (known_party_of t) ≡ Ok p → IsField (party_field tag p)
+    party-fit p e = said-fit p (said-one (Stands order_202 IsField) fs k (known_party_of t) order_202 found p h e)
 
     some-party-fit : (o : Option Party) → in_option fs found k (known_party_of t) ≡ Ok o → AllByRecursion IsField (some_field (party_field tag) o)
     some-party-fit o e =
         some-each IsField (party_field tag) o
-        (some-weaker (Said (Stands ORDER IsField k) (known_party_of t)) (λ p. IsField (party_field tag p)) o (said-option (Stands ORDER IsField) fs k (known_party_of t) found o h e) said-fit)
+        (some-weaker (Said (Stands order_202 IsField k) (known_party_of t)) (λ p. IsField (party_field tag p)) o (said-option (Stands order_202 IsField) fs k (known_party_of t) found o h e) said-fit)
 
   notes-fit : (k most tag : ℕ) → tag ≤ 99 → (lines : List (List ℕ)) → LinesRead fs found k most lines → AllByRecursion IsField (lines_fields tag None lines)
   notes-fit k most tag le lines (o, e, same) = lines-each IsField tag None lines (by o e same)
@@ -63,14 +63,14 @@ module _ (t : Tables) (fs : List Field) (found : List ℕ) (h : Holds (Stands OR
       by : (o : Option (List (List ℕ))) → in_option fs found k (texts_of most) ≡ Ok o → unwrap_or o [] ≡ lines → (lines ≡ []) ⊎ IsField (lines_field tag None lines)
       by None e same = inl (sym same)
       by (Some ls) e same =
-          let s = said-option (Stands ORDER IsField) fs k (texts_of most) found (Some ls) h e in
+          let s = said-option (Stands order_202 IsField) fs k (texts_of most) found (Some ls) h e in
           inr (rw (← same) (kept-fit tag None s.field ls (plain tag le) (texts-kept most s.field ls s.says) s.holds.has))
 
   pub all-fit : (m : Mt202Cov) → Readings t fs found m → AreAmounts m → All IsField (joined (segments m))
   all-fit m r amounts =
-      let value = said-one (Stands ORDER IsField) fs 3 (value_of t) ORDER found (value_in m) h r.value in
-      let times = all-each IsField (line_field 13 (Some 67)) m.times (each-weaker (Said (Stands ORDER IsField 2) time_of) (λ x. IsField (line_field 13 (Some 67) x)) m.times (said-all (Stands ORDER IsField) fs 2 time_of 0 found fs m.times h r.times) time-fit) in
-      let ordered = ordered-fit t (Stands ORDER IsField 18) m.ordered amounts.ordered (said-option (Stands ORDER IsField) fs 18 (ccy_amount_of t) found m.ordered h r.ordered) in
+      let value = said-one (Stands order_202 IsField) fs 3 (value_of t) order_202 found (value_in m) h r.value in
+      let times = all-each IsField (line_field 13 (Some 67)) m.times (each-weaker (Said (Stands order_202 IsField 2) time_of) (λ x. IsField (line_field 13 (Some 67) x)) m.times (said-all (Stands order_202 IsField) fs 2 time_of 0 found fs m.times h r.times) time-fit) in
+      let ordered = ordered-fit t (Stands order_202 IsField 18) m.ordered amounts.ordered (said-option (Stands order_202 IsField) fs 18 (ccy_amount_of t) found m.ordered h r.ordered) in
       each-joined IsField (segments m) (
         (reference-fit 0 20 (omega arith) m.reference r.reference, tt),
         (

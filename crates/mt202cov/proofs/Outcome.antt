@@ -16,7 +16,7 @@ use Rattle.mt202cov.specs.Message.{content_test, contents_of, mt202cov_of}
 use Rattle.mt202cov.specs.Rules.{all_rules}
 use Rattle.mt202cov.specs.Steps.{unless_told}
 use Rattle.mt202cov.specs.declared.message.Mt202Cov.{Mt202Cov}
-use Rattle.mt202cov.specs.declared.order.TheConstants.{ORDER}
+use Rattle.mt202cov.specs.Order.{order_202}
 use Rattle.mt202cov.proofs.Refused.{contents-refused}
 
 abbrev finished : Mt202Cov → Result Mt202Cov Fault
@@ -26,17 +26,17 @@ abbrev behind_structure : Tables → List Field → List ℕ → Result Mt202Cov
 behind_structure t fs found = contents_of t fs found >>= finished
 
 module _ (t : Tables) (fs : List Field) where
-  pub structure-fail : (e : MtFault) → Tells (first_of (structure_tests ORDER fs)) e → Fails e (mt202cov_of t fs)
+  pub structure-fail : (e : MtFault) → Tells (first_of (structure_tests order_202 fs)) e → Fails e (mt202cov_of t fs)
   unfolding mt202cov_of
-  structure-fail e h = structure-fails ORDER (content_test t) fs (behind_structure t fs (places_from ORDER 0 fs)) e h
+  structure-fail e h = structure-fails order_202 (content_test t) fs (behind_structure t fs (places_from order_202 0 fs)) e h
 
-  in-contents : first_of (structure_tests ORDER fs) ≡ None → mt202cov_of t fs ≡ behind_structure t fs (places_from ORDER 0 fs)
+  in-contents : first_of (structure_tests order_202 fs) ≡ None → mt202cov_of t fs ≡ behind_structure t fs (places_from order_202 0 fs)
   unfolding mt202cov_of
   in-contents sound =
-      in-turn ORDER (content_test t) fs (behind_structure t fs (places_from ORDER 0 fs)) sound
-      (λ fault l. fails-before (contents_of t fs (places_from ORDER 0 fs)) finished fault (contents-refused t fs (places_from ORDER 0 fs) fault l))
+      in-turn order_202 (content_test t) fs (behind_structure t fs (places_from order_202 0 fs)) sound
+      (λ fault l. fails-before (contents_of t fs (places_from order_202 0 fs)) finished fault (contents-refused t fs (places_from order_202 0 fs) fault l))
 
-  module _ (found : List ℕ) (placed : found ≡ places_from ORDER 0 fs) (sound : first_of (structure_tests ORDER fs) ≡ None) where
+  module _ (found : List ℕ) (placed : found ≡ places_from order_202 0 fs) (sound : first_of (structure_tests order_202 fs) ≡ None) where
     from-contents : mt202cov_of t fs ≡ behind_structure t fs found
     from-contents = in-contents sound ∙ ap (behind_structure t fs) (sym placed)
 

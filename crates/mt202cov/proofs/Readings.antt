@@ -14,7 +14,7 @@ use Rattle.mt202cov.specs.declared.banks.Banks.{Banks}
 use Rattle.mt202cov.specs.declared.customers.Customers.{Customers}
 use Rattle.mt202cov.specs.declared.details.Details.{Details}
 use Rattle.mt202cov.specs.declared.message.Mt202Cov.{Mt202Cov}
-use Rattle.mt202cov.specs.declared.order.TheConstants.{ORDER}
+use Rattle.mt202cov.specs.Order.{order_202}
 use Rattle.mt202cov.specs.declared.sequences.SequenceA.{SequenceA}
 use Rattle.mt202cov.specs.declared.sequences.SequenceB.{SequenceB}
 use Rattle.mt202cov.specs.declared.terms.Terms.{Terms}
@@ -25,22 +25,22 @@ LinesRead fs found k most lines = (o : Option (List (List ℕ))) × (in_option f
 
 -- what each place says
 pub record Readings (t : Tables) (fs : List Field) (found : List ℕ) (m : Mt202Cov) : Type 0 where
-  pub reference : in_place ORDER fs found 0 reference_of ≡ Ok m.reference
-  pub related : in_place ORDER fs found 1 reference_of ≡ Ok m.related
+  pub reference : in_place order_202 fs found 0 reference_of ≡ Ok m.reference
+  pub related : in_place order_202 fs found 1 reference_of ≡ Ok m.related
   pub times : all_from fs 2 time_of 0 found fs ≡ Ok m.times
-  pub value : in_place ORDER fs found 3 (value_of t) ≡ Ok (value_in m)
+  pub value : in_place order_202 fs found 3 (value_of t) ≡ Ok (value_in m)
   pub a52 : in_option fs found 4 (known_party_of t) ≡ Ok m.a52
   pub a53 : in_option fs found 5 (known_party_of t) ≡ Ok m.a53
   pub a54 : in_option fs found 6 (known_party_of t) ≡ Ok m.a54
   pub a56 : in_option fs found 7 (known_party_of t) ≡ Ok m.a56
   pub a57 : in_option fs found 8 (known_party_of t) ≡ Ok m.a57
-  pub a58 : in_place ORDER fs found 9 (known_party_of t) ≡ Ok m.a58
+  pub a58 : in_place order_202 fs found 9 (known_party_of t) ≡ Ok m.a58
   pub a_notes : LinesRead fs found 10 6 m.a_notes
-  pub payer : in_place ORDER fs found 11 (known_party_of t) ≡ Ok m.payer
+  pub payer : in_place order_202 fs found 11 (known_party_of t) ≡ Ok m.payer
   pub b52 : in_option fs found 12 (known_party_of t) ≡ Ok m.b52
   pub b56 : in_option fs found 13 (known_party_of t) ≡ Ok m.b56
   pub b57 : in_option fs found 14 (known_party_of t) ≡ Ok m.b57
-  pub payee : in_place ORDER fs found 15 (known_party_of t) ≡ Ok m.payee
+  pub payee : in_place order_202 fs found 15 (known_party_of t) ≡ Ok m.payee
   pub info : LinesRead fs found 16 4 m.info
   pub b_notes : LinesRead fs found 17 6 m.b_notes
   pub ordered : in_option fs found 18 (ccy_amount_of t) ≡ Ok m.ordered
@@ -49,18 +49,18 @@ pub record Readings (t : Tables) (fs : List Field) (found : List ℕ) (m : Mt202
 
 module _ (t : Tables) (fs : List Field) (found : List ℕ) where
   terms-read : (x : Terms) → terms_of t fs found ≡ Ok x
-      → (in_place ORDER fs found 0 reference_of ≡ Ok x.reference) × (in_place ORDER fs found 1 reference_of ≡ Ok x.related) × (all_from fs 2 time_of 0 found fs ≡ Ok x.times) × (in_place ORDER fs found 3 (value_of t) ≡ Ok x.value)
+      → (in_place order_202 fs found 0 reference_of ≡ Ok x.reference) × (in_place order_202 fs found 1 reference_of ≡ Ok x.related) × (all_from fs 2 time_of 0 found fs ≡ Ok x.times) × (in_place order_202 fs found 3 (value_of t) ≡ Ok x.value)
   unfolding terms_of
   terms-read x e =
-      let r0 = read-then (in_place ORDER fs found 0 reference_of) _ x e in
-      let r1 = read-then (in_place ORDER fs found 1 reference_of) _ x r0.2 in
+      let r0 = read-then (in_place order_202 fs found 0 reference_of) _ x e in
+      let r1 = read-then (in_place order_202 fs found 1 reference_of) _ x r0.2 in
       let r2 = read-then (all_from fs 2 time_of 0 found fs) _ x r1.2 in
-      let r3 = read-then (in_place ORDER fs found 3 (value_of t)) _ x r2.2 in
+      let r3 = read-then (in_place order_202 fs found 3 (value_of t)) _ x r2.2 in
       let same : record { reference = r0.0; related = r1.0; times = r2.0; value = r3.0 } ≡ x = cc r3.2 in
       rw (← same) (r0.1, r1.1, r2.1, r3.1)
 
   banks-read : (x : Banks) → banks_of t fs found ≡ Ok x
-      → (in_option fs found 4 (known_party_of t) ≡ Ok x.p52) × (in_option fs found 5 (known_party_of t) ≡ Ok x.p53) × (in_option fs found 6 (known_party_of t) ≡ Ok x.p54) × (in_option fs found 7 (known_party_of t) ≡ Ok x.p56) × (in_option fs found 8 (known_party_of t) ≡ Ok x.p57) × (in_place ORDER fs found 9 (known_party_of t) ≡ Ok x.p58)
+      → (in_option fs found 4 (known_party_of t) ≡ Ok x.p52) × (in_option fs found 5 (known_party_of t) ≡ Ok x.p53) × (in_option fs found 6 (known_party_of t) ≡ Ok x.p54) × (in_option fs found 7 (known_party_of t) ≡ Ok x.p56) × (in_option fs found 8 (known_party_of t) ≡ Ok x.p57) × (in_place order_202 fs found 9 (known_party_of t) ≡ Ok x.p58)
   unfolding banks_of
   banks-read x e =
       let r0 = read-then (in_option fs found 4 (known_party_of t)) _ x e in
@@ -68,19 +68,19 @@ module _ (t : Tables) (fs : List Field) (found : List ℕ) where
       let r2 = read-then (in_option fs found 6 (known_party_of t)) _ x r1.2 in
       let r3 = read-then (in_option fs found 7 (known_party_of t)) _ x r2.2 in
       let r4 = read-then (in_option fs found 8 (known_party_of t)) _ x r3.2 in
-      let r5 = read-then (in_place ORDER fs found 9 (known_party_of t)) _ x r4.2 in
+      let r5 = read-then (in_place order_202 fs found 9 (known_party_of t)) _ x r4.2 in
       let same : record { p52 = r0.0; p53 = r1.0; p54 = r2.0; p56 = r3.0; p57 = r4.0; p58 = r5.0 } ≡ x = cc r5.2 in
       rw (← same) (r0.1, r1.1, r2.1, r3.1, r4.1, r5.1)
 
   customers-read : (x : Customers) → customers_of t fs found ≡ Ok x
-      → (in_place ORDER fs found 11 (known_party_of t) ≡ Ok x.payer) × (in_option fs found 12 (known_party_of t) ≡ Ok x.p52) × (in_option fs found 13 (known_party_of t) ≡ Ok x.p56) × (in_option fs found 14 (known_party_of t) ≡ Ok x.p57) × (in_place ORDER fs found 15 (known_party_of t) ≡ Ok x.payee)
+      → (in_place order_202 fs found 11 (known_party_of t) ≡ Ok x.payer) × (in_option fs found 12 (known_party_of t) ≡ Ok x.p52) × (in_option fs found 13 (known_party_of t) ≡ Ok x.p56) × (in_option fs found 14 (known_party_of t) ≡ Ok x.p57) × (in_place order_202 fs found 15 (known_party_of t) ≡ Ok x.payee)
   unfolding customers_of
   customers-read x e =
-      let r0 = read-then (in_place ORDER fs found 11 (known_party_of t)) _ x e in
+      let r0 = read-then (in_place order_202 fs found 11 (known_party_of t)) _ x e in
       let r1 = read-then (in_option fs found 12 (known_party_of t)) _ x r0.2 in
       let r2 = read-then (in_option fs found 13 (known_party_of t)) _ x r1.2 in
       let r3 = read-then (in_option fs found 14 (known_party_of t)) _ x r2.2 in
-      let r4 = read-then (in_place ORDER fs found 15 (known_party_of t)) _ x r3.2 in
+      let r4 = read-then (in_place order_202 fs found 15 (known_party_of t)) _ x r3.2 in
       let same : record { payer = r0.0; p52 = r1.0; p56 = r2.0; p57 = r3.0; payee = r4.0 } ≡ x = cc r4.2 in
       rw (← same) (r0.1, r1.1, r2.1, r3.1, r4.1)
 

@@ -12,14 +12,14 @@ use Rattle.mt202cov.specs.Message.{banks_of, content_test, contents_of, customer
 use Rattle.mt202cov.specs.declared.banks.Banks.{Banks}
 use Rattle.mt202cov.specs.declared.customers.Customers.{Customers}
 use Rattle.mt202cov.specs.declared.details.Details.{Details}
-use Rattle.mt202cov.specs.declared.order.TheConstants.{ORDER}
+use Rattle.mt202cov.specs.Order.{order_202}
 use Rattle.mt202cov.specs.declared.sequences.SequenceA.{SequenceA}
 use Rattle.mt202cov.specs.declared.sequences.SequenceB.{SequenceB}
 use Rattle.mt202cov.specs.declared.terms.Terms.{Terms}
 
 module _ (t : Tables) (fs : List Field) (found : List ℕ) (fault : Fault) where
   abbrev Lies : ℕ → Type 0
-  Lies k = LiesFrom ORDER (content_test t) fs found fault k
+  Lies k = LiesFrom order_202 (content_test t) fs found fault k
 
   terms-refused : {B : Type 0} → Lies 0 → (next : Terms → Result B Fault) → ((x : Terms) → Lies 4 → next x ≡ Err fault) → (terms_of t fs found >>= next) ≡ Err fault
   unfolding terms_of

@@ -2,4 +2,4 @@ pub mod Steps
 pub mod Rules
 pub mod Message
 pub mod Writing
-pub mod Constants
+pub mod Order

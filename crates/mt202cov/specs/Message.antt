@@ -19,55 +19,55 @@ use Rattle.mt202cov.specs.declared.message.Mt202Cov.{Mt202Cov}
 use Rattle.mt202cov.specs.declared.sequences.SequenceA.{SequenceA}
 use Rattle.mt202cov.specs.declared.sequences.SequenceB.{SequenceB}
 use Rattle.mt202cov.specs.declared.terms.Terms.{Terms}
-use Rattle.mt202cov.specs.declared.order.TheConstants.{ORDER}
+use Rattle.mt202cov.specs.Order.{at_a_account_bank, at_a_intermediary, at_a_notes, at_a_ordering, at_a_receivers_bank, at_a_senders_bank, at_b_account_bank, at_b_intermediary, at_b_notes, at_b_ordering, at_beneficiary, at_info, at_ordered, at_payee, at_payer, at_reference, at_related, at_times, at_value, order_202}
 
 -- what is wrong with the content of a field at a place of the order
 abbrev pub content_test : Tables → ℕ → Field → Option Code
 content_test t k f =
-    if (k == 0) || (k == 1) then fault_of (reference_of f)
-    else if k == 2 then fault_of (time_of f)
-    else if k == 3 then fault_of (value_of t f)
-    else if (k == 10) || (k == 17) then fault_of (texts_of 6 f)
-    else if k == 16 then fault_of (texts_of 4 f)
-    else if k == 18 then fault_of (ccy_amount_of t f)
+    if (k == at_reference) || (k == at_related) then fault_of (reference_of f)
+    else if k == at_times then fault_of (time_of f)
+    else if k == at_value then fault_of (value_of t f)
+    else if (k == at_a_notes) || (k == at_b_notes) then fault_of (texts_of 6 f)
+    else if k == at_info then fault_of (texts_of 4 f)
+    else if k == at_ordered then fault_of (ccy_amount_of t f)
     else fault_of (known_party_of t f)
 
 -- what 20 to 32A say
 unfoldable pub terms_of : Tables → List Field → List ℕ → Result Terms Fault
 terms_of t fs found = do
-  reference ← in_place ORDER fs found 0 reference_of
-  related ← in_place ORDER fs found 1 reference_of
-  times ← all_from fs 2 time_of 0 found fs
-  value ← in_place ORDER fs found 3 (value_of t)
+  reference ← in_place order_202 fs found at_reference reference_of
+  related ← in_place order_202 fs found at_related reference_of
+  times ← all_from fs at_times time_of 0 found fs
+  value ← in_place order_202 fs found at_value (value_of t)
   Ok (record { reference = reference; related = related; times = times; value = value })
 
 -- what 52a to 58a of sequence A say
 unfoldable pub banks_of : Tables → List Field → List ℕ → Result Banks Fault
 banks_of t fs found = do
-  p52 ← in_option fs found 4 (known_party_of t)
-  p53 ← in_option fs found 5 (known_party_of t)
-  p54 ← in_option fs found 6 (known_party_of t)
-  p56 ← in_option fs found 7 (known_party_of t)
-  p57 ← in_option fs found 8 (known_party_of t)
-  p58 ← in_place ORDER fs found 9 (known_party_of t)
+  p52 ← in_option fs found at_a_ordering (known_party_of t)
+  p53 ← in_option fs found at_a_senders_bank (known_party_of t)
+  p54 ← in_option fs found at_a_receivers_bank (known_party_of t)
+  p56 ← in_option fs found at_a_intermediary (known_party_of t)
+  p57 ← in_option fs found at_a_account_bank (known_party_of t)
+  p58 ← in_place order_202 fs found at_beneficiary (known_party_of t)
   Ok (record { p52 = p52; p53 = p53; p54 = p54; p56 = p56; p57 = p57; p58 = p58 })
 
 -- what 50a to 59a of sequence B say
 unfoldable pub customers_of : Tables → List Field → List ℕ → Result Customers Fault
 customers_of t fs found = do
-  payer ← in_place ORDER fs found 11 (known_party_of t)
-  p52 ← in_option fs found 12 (known_party_of t)
-  p56 ← in_option fs found 13 (known_party_of t)
-  p57 ← in_option fs found 14 (known_party_of t)
-  payee ← in_place ORDER fs found 15 (known_party_of t)
+  payer ← in_place order_202 fs found at_payer (known_party_of t)
+  p52 ← in_option fs found at_b_ordering (known_party_of t)
+  p56 ← in_option fs found at_b_intermediary (known_party_of t)
+  p57 ← in_option fs found at_b_account_bank (known_party_of t)
+  payee ← in_place order_202 fs found at_payee (known_party_of t)
   Ok (record { payer = payer; p52 = p52; p56 = p56; p57 = p57; payee = payee })
 
 -- what 70, 72 and 33B of sequence B say
 unfoldable pub details_of : Tables → List Field → List ℕ → Result Details Fault
 details_of t fs found = do
-  info ← in_option fs found 16 (texts_of 4)
-  notes ← in_option fs found 17 (texts_of 6)
-  ordered ← in_option fs found 18 (ccy_amount_of t)
+  info ← in_option fs found at_info (texts_of 4)
+  notes ← in_option fs found at_b_notes (texts_of 6)
+  ordered ← in_option fs found at_ordered (ccy_amount_of t)
   Ok (record { info = unwrap_or info []; notes = unwrap_or notes []; ordered = ordered })
 
 -- what sequence A says
@@ -75,7 +75,7 @@ unfoldable pub sequence_a_of : Tables → List Field → List ℕ → Result Seq
 sequence_a_of t fs found = do
   terms ← terms_of t fs found
   banks ← banks_of t fs found
-  notes ← in_option fs found 10 (texts_of 6)
+  notes ← in_option fs found at_a_notes (texts_of 6)
   Ok (record { terms = terms; banks = banks; notes = unwrap_or notes [] })
 
 -- what sequence B says
@@ -119,12 +119,12 @@ contents_of t fs found = do
 
 -- the tests of the fields of an MT202 COV: structure, then contents in the text's order
 abbrev pub field_tests : Tables → List Field → List (Option Fault)
-field_tests t fs = tests ORDER (content_test t) fs
+field_tests t fs = tests order_202 (content_test t) fs
 
 -- what the fields of an MT202 COV say, or the first test that fails: structure, contents, and the rules
 unfoldable pub mt202cov_of : Tables → List Field → Result Mt202Cov Fault
 mt202cov_of t fs = do
   _ ← passed (field_tests t fs)
-  m ← contents_of t fs (places_from ORDER 0 fs)
+  m ← contents_of t fs (places_from order_202 0 fs)
   _ ← passed (all_rules m)
   Ok m

@@ -1,13 +1,10 @@
 -- An MT202 COV written as fields.
-use Rattle.std.specs.Prelude.{◌≡◌, List, [], ◌∷◌, ◌++◌, All, IfSome, IsTrue, map, Some, None, Ok}
-use Rattle.ref_tables.specs.Seen.{Tables, few_decimals}
+use Rattle.std.specs.Prelude.{List, [], ◌∷◌, ◌++◌, IfSome, map, Some, None}
 use Rattle.fin_fields.specs.declared.field.Field.{Field}
-use Rattle.fin_fields.specs.Writing.{IsField}
 use Rattle.fin_layout.specs.Segments.{joined}
 use Rattle.fin_parties.specs.Writing.{party_field}
 use Rattle.fin_contents.specs.declared.value.Value.{Value}
 use Rattle.fin_contents.specs.Writing.{IsAmount, IsValue, ccy_amount_field, line_field, lines_fields, some_field, value_field}
-use Rattle.mt202cov.specs.Message.{mt202cov_of}
 use Rattle.mt202cov.specs.declared.message.Mt202Cov.{Mt202Cov}
 
 -- the value date and the amount
@@ -63,11 +60,3 @@ mt202cov_fields m = joined (segments m)
 pub record AreAmounts (m : Mt202Cov) : Type 0 where
   pub value : IsValue (value_in m)
   pub ordered : IfSome m.ordered IsAmount
-
--- a cover that fields of a text say under some tables
-pub record IsReadable (m : Mt202Cov) : Type 0 where
-  pub tables : Tables
-  pub few : IsTrue (few_decimals tables.ccys)
-  pub fields : List Field
-  pub fit : All IsField fields
-  pub says : mt202cov_of tables fields ≡ Ok m

@@ -5,6 +5,9 @@ ghost use Rattle.fin_layout.specs.Reading.{Gives};
 ghost use Rattle.mt202cov.specs.Message.{banks_of};
 
 use crate::order::ORDER;
+use crate::places::{
+    A_ACCOUNT_BANK, A_INTERMEDIARY, A_ORDERING, A_RECEIVERS_BANK, A_SENDERS_BANK, BENEFICIARY,
+};
 use fin_contents::KnownParty;
 use fin_fields::Field;
 use fin_layout::{MtFault, read_one, read_optional};
@@ -35,12 +38,12 @@ pub fn read_banks(
     ensures { Gives result (banks_of tables.now fields.now found.now) }
 {
     let party = KnownParty { tables };
-    let p52 = read_optional(alloc, &party, fields, found, 4)?;
-    let p53 = read_optional(alloc, &party, fields, found, 5)?;
-    let p54 = read_optional(alloc, &party, fields, found, 6)?;
-    let p56 = read_optional(alloc, &party, fields, found, 7)?;
-    let p57 = read_optional(alloc, &party, fields, found, 8)?;
-    let p58 = read_one(alloc, &party, &ORDER, fields, found, 9)?;
+    let p52 = read_optional(alloc, &party, fields, found, A_ORDERING)?;
+    let p53 = read_optional(alloc, &party, fields, found, A_SENDERS_BANK)?;
+    let p54 = read_optional(alloc, &party, fields, found, A_RECEIVERS_BANK)?;
+    let p56 = read_optional(alloc, &party, fields, found, A_INTERMEDIARY)?;
+    let p57 = read_optional(alloc, &party, fields, found, A_ACCOUNT_BANK)?;
+    let p58 = read_one(alloc, &party, &ORDER, fields, found, BENEFICIARY)?;
     Ok(Banks {
         p52,
         p53,

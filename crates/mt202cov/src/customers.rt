@@ -5,6 +5,7 @@ ghost use Rattle.fin_layout.specs.Reading.{Gives};
 ghost use Rattle.mt202cov.specs.Message.{customers_of};
 
 use crate::order::ORDER;
+use crate::places::{B_ACCOUNT_BANK, B_INTERMEDIARY, B_ORDERING, PAYEE, PAYER};
 use fin_contents::KnownParty;
 use fin_fields::Field;
 use fin_layout::{MtFault, read_one, read_optional};
@@ -34,11 +35,11 @@ pub fn read_customers(
     ensures { Gives result (customers_of tables.now fields.now found.now) }
 {
     let party = KnownParty { tables };
-    let payer = read_one(alloc, &party, &ORDER, fields, found, 11)?;
-    let p52 = read_optional(alloc, &party, fields, found, 12)?;
-    let p56 = read_optional(alloc, &party, fields, found, 13)?;
-    let p57 = read_optional(alloc, &party, fields, found, 14)?;
-    let payee = read_one(alloc, &party, &ORDER, fields, found, 15)?;
+    let payer = read_one(alloc, &party, &ORDER, fields, found, PAYER)?;
+    let p52 = read_optional(alloc, &party, fields, found, B_ORDERING)?;
+    let p56 = read_optional(alloc, &party, fields, found, B_INTERMEDIARY)?;
+    let p57 = read_optional(alloc, &party, fields, found, B_ACCOUNT_BANK)?;
+    let payee = read_one(alloc, &party, &ORDER, fields, found, PAYEE)?;
     Ok(Customers {
         payer,
         p52,

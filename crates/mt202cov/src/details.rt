@@ -4,6 +4,7 @@ ghost use Rattle.std.specs.Prelude.{◌≤◌, length};
 ghost use Rattle.fin_layout.specs.Reading.{Gives};
 ghost use Rattle.mt202cov.specs.Message.{details_of};
 
+use crate::places::{B_NOTES, INFO, ORDERED};
 use corr_money::Amount;
 use corr_text::{List, Text};
 use fin_contents::{CcyAmount, Texts, or_none};
@@ -31,9 +32,9 @@ pub fn read_details(
     requires { length fields.now ≤ 65535 }
     ensures { Gives result (details_of tables.now fields.now found.now) }
 {
-    let info = read_optional(alloc, &Texts { most: 4 }, fields, found, 16)?;
-    let notes = read_optional(alloc, &Texts { most: 6 }, fields, found, 17)?;
-    let ordered = read_optional(alloc, &CcyAmount { tables }, fields, found, 18)?;
+    let info = read_optional(alloc, &Texts { most: 4 }, fields, found, INFO)?;
+    let notes = read_optional(alloc, &Texts { most: 6 }, fields, found, B_NOTES)?;
+    let ordered = read_optional(alloc, &CcyAmount { tables }, fields, found, ORDERED)?;
     Ok(Details {
         info: or_none(alloc, info),
         notes: or_none(alloc, notes),

@@ -5,9 +5,9 @@ mod banks;
 mod codes;
 mod customers;
 mod details;
-mod law;
 mod message;
 mod order;
+mod places;
 mod reading;
 mod rules;
 mod sequences;
@@ -17,7 +17,6 @@ mod verdict;
 mod writing;
 
 pub use codes::{C68, C81};
-pub use law::cover_laws;
 pub use message::Mt202Cov;
 pub use order::ORDER;
 pub use verdict::read_mt202cov;

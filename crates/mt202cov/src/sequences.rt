@@ -7,6 +7,7 @@ ghost use Rattle.mt202cov.specs.Message.{sequence_a_of, sequence_b_of};
 use crate::banks::{Banks, read_banks};
 use crate::customers::{Customers, read_customers};
 use crate::details::{Details, read_details};
+use crate::places::A_NOTES;
 use crate::steps::beside;
 use crate::terms::{Terms, read_terms};
 use corr_text::{List, Text};
@@ -46,7 +47,7 @@ pub fn read_sequence_a(
     let terms = read_terms(alloc, tables, fields, found)?;
     let banks = read_banks(alloc, tables, fields, found);
     let both = beside(terms, banks)?;
-    let notes = read_optional(alloc, &Texts { most: 6 }, fields, found, 10);
+    let notes = read_optional(alloc, &Texts { most: 6 }, fields, found, A_NOTES);
     let ((terms, banks), notes) = beside(both, notes)?;
     Ok(SequenceA {
         terms,

@@ -5,6 +5,7 @@ ghost use Rattle.fin_layout.specs.Reading.{Gives};
 ghost use Rattle.mt202cov.specs.Message.{terms_of};
 
 use crate::order::ORDER;
+use crate::places::{REFERENCE, RELATED, TIMES, VALUE};
 use corr_text::{List, Text};
 use fin_contents::{Reference, Time, Value, ValueDate};
 use fin_fields::Field;
@@ -33,10 +34,10 @@ pub fn read_terms(
     requires each { length found.now ≤ length fields.now }
     ensures { Gives result (terms_of tables.now fields.now found.now) }
 {
-    let reference = read_one(alloc, &Reference, &ORDER, fields, found, 0)?;
-    let related = read_one(alloc, &Reference, &ORDER, fields, found, 1)?;
-    let times = read_all(alloc, &Time, fields, found, 2)?;
-    let value = read_one(alloc, &ValueDate { tables }, &ORDER, fields, found, 3)?;
+    let reference = read_one(alloc, &Reference, &ORDER, fields, found, REFERENCE)?;
+    let related = read_one(alloc, &Reference, &ORDER, fields, found, RELATED)?;
+    let times = read_all(alloc, &Time, fields, found, TIMES)?;
+    let value = read_one(alloc, &ValueDate { tables }, &ORDER, fields, found, VALUE)?;
     Ok(Terms {
         reference,
         related,

@@ -1,13 +1,14 @@
 //! An MT202 COV written as block 4's lines.
 
 ghost use Rattle.std.specs.Prelude.{◌≡◌, ◌++◌, List as Items, IfOk, Ok, OnOk, None};
+ghost use Rattle.fin_contents.specs.Writing.{IsReadable};
 ghost use Rattle.fin_fields.specs.Faults.{field_fault};
 ghost use Rattle.fin_fields.specs.Fields.{fields_of};
 ghost use Rattle.fin_fields.specs.Writing.{fields_text};
 ghost use Rattle.fin_fields.specs.declared.field.Field.{Field as FieldSeen};
 ghost use Rattle.fin_layout.specs.Segments.{joined};
 ghost use Rattle.mt202cov.specs.Message.{mt202cov_of};
-ghost use Rattle.mt202cov.specs.Writing.{AreAmounts, IsReadable, bank_fields, mt202cov_fields, sequence_a_fields, sequence_b_fields, terms_fields};
+ghost use Rattle.mt202cov.specs.Writing.{AreAmounts, bank_fields, mt202cov_fields, sequence_a_fields, sequence_b_fields, terms_fields};
 ghost use Rattle.ref_tables.specs.Seen.{Tables};
 
 use crate::message::Mt202Cov;
@@ -82,12 +83,13 @@ fn mt202cov_fields(alloc: Global, m: &Mt202Cov) -> Result<List<Field>, Memory>
 
 /// Writes a cover as block 4's lines: its fields in the order of their places, each line ended by CR LF.
 ///
-/// The cover is one that `read_mt202cov` gives of fields that were cut from a text. The lines are cut into fields without
-/// fault (`sound`), and under all tables under which the cover may be read they read as the same cover (`again`).
+/// The cover is one that `read_mt202cov` gives of fields that were cut from a text (its clause `written`). The lines are cut
+/// into fields without fault (`sound`), and under all tables under which the cover may be read they read as the same cover
+/// (`again`).
 ///
 /// Example: the fields of sequence B follow `:58A:` and 72 of sequence A, and begin with `:50K:`.
 pub fn put_mt202cov(alloc: Global, m: &Mt202Cov) -> Result<Text, Memory>
-    requires { IsReadable m.now }
+    requires { IsReadable mt202cov_of m.now }
     ensures text { IfOk result (λ text. text ≡ fields_text (mt202cov_fields m.now)) }
     ensures sound { IfOk result (λ text. field_fault text ≡ None) }
     ensures again { IfOk result (λ text. (t : Tables) (fs : Items FieldSeen) → mt202cov_of t fs ≡ Ok m.now → mt202cov_of t (fields_of text) ≡ Ok m.now) }

@@ -18,7 +18,7 @@ use Rattle.mt202cov.specs.Rules.{all_rules}
 use Rattle.mt202cov.specs.Message.{banks_of, contents_of, field_tests, message_of, mt202cov_of, sequence_a_of, sequence_b_of, terms_of}
 use Rattle.mt202cov.specs.declared.banks.Banks.{Banks}
 use Rattle.mt202cov.specs.declared.message.Mt202Cov.{Mt202Cov}
-use Rattle.mt202cov.specs.declared.order.TheConstants.{ORDER}
+use Rattle.mt202cov.specs.Order.{order_202}
 use Rattle.mt202cov.specs.declared.sequences.SequenceA.{SequenceA}
 use Rattle.mt202cov.specs.declared.terms.Terms.{Terms}
 use Rattle.pay_plan.specs.Readable.{IsCoverRead}
@@ -50,14 +50,14 @@ record SequenceForm (x : SequenceA) : Type 0 where
 terms-form : (t : Tables) (fs : List Field) (found : List ℕ) (x : Terms) → terms_of t fs found ≡ Ok x → TermsForm x
 unfolding terms_of
 terms-form t fs found x e =
-    let r0 = read-then (in_place ORDER fs found 0 reference_of) _ x e in
-    let r1 = read-then (in_place ORDER fs found 1 reference_of) _ x r0.2 in
+    let r0 = read-then (in_place order_202 fs found 0 reference_of) _ x e in
+    let r1 = read-then (in_place order_202 fs found 1 reference_of) _ x r0.2 in
     let r2 = read-then (all_from fs 2 time_of 0 found fs) _ x r1.2 in
-    let r3 = read-then (in_place ORDER fs found 3 (value_of t)) _ x r2.2 in
+    let r3 = read-then (in_place order_202 fs found 3 (value_of t)) _ x r2.2 in
     let same : record { reference = r0.0; related = r1.0; times = r2.0; value = r3.0 } ≡ x = ok-is _ x r3.2 in
-    let f = must-ok ORDER fs 0 reference_of (field_in fs found 0) r0.0 r0.1 in
-    let g = must-ok ORDER fs 1 reference_of (field_in fs found 1) r1.0 r1.1 in
-    let h = must-ok ORDER fs 3 (value_of t) (field_in fs found 3) r3.0 r3.1 in
+    let f = must-ok order_202 fs 0 reference_of (field_in fs found 0) r0.0 r0.1 in
+    let g = must-ok order_202 fs 1 reference_of (field_in fs found 1) r1.0 r1.1 in
+    let h = must-ok order_202 fs 3 (value_of t) (field_in fs found 3) r3.0 r3.1 in
     subst TermsForm same (record { reference = reference-form f.0 r0.0 f.1; related = reference-form g.0 r1.0 g.1; value = value-day t h.0 r3.0 h.1 })
 
 banks-form : (t : Tables) (fs : List Field) (found : List ℕ) (x : Banks) → banks_of t fs found ≡ Ok x → BanksForm x
@@ -68,9 +68,9 @@ banks-form t fs found x e =
     let r2 = read-then (in_option fs found 6 (known_party_of t)) _ x r1.2 in
     let r3 = read-then (in_option fs found 7 (known_party_of t)) _ x r2.2 in
     let r4 = read-then (in_option fs found 8 (known_party_of t)) _ x r3.2 in
-    let r5 = read-then (in_place ORDER fs found 9 (known_party_of t)) _ x r4.2 in
+    let r5 = read-then (in_place order_202 fs found 9 (known_party_of t)) _ x r4.2 in
     let same : record { p52 = r0.0; p53 = r1.0; p54 = r2.0; p56 = r3.0; p57 = r4.0; p58 = r5.0 } ≡ x = ok-is _ x r5.2 in
-    let f = must-ok ORDER fs 9 (known_party_of t) (field_in fs found 9) r5.0 r5.1 in
+    let f = must-ok order_202 fs 9 (known_party_of t) (field_in fs found 9) r5.0 r5.1 in
     subst BanksForm same (record { p56 = bank-form t fs found 7 r3.0 r3.1; p57 = bank-form t fs found 8 r4.0 r4.1; p58 = party-bic t f.0 r5.0 f.1 })
 
 sequence-form : (t : Tables) (fs : List Field) (found : List ℕ) (x : SequenceA) → sequence_a_of t fs found ≡ Ok x → SequenceForm x
@@ -102,9 +102,9 @@ message-form : (t : Tables) (fs : List Field) (m : Mt202Cov) → mt202cov_of t f
 unfolding mt202cov_of
 message-form t fs m e =
     let structure = read-then (passed (field_tests t fs)) _ m e in
-    let contents = read-then (contents_of t fs (places_from ORDER 0 fs)) _ m structure.2 in
+    let contents = read-then (contents_of t fs (places_from order_202 0 fs)) _ m structure.2 in
     let more = read-then (passed (all_rules contents.0)) _ m contents.2 in
-    subst CoverForm (ok-is contents.0 m more.2) (contents-form t fs (places_from ORDER 0 fs) contents.0 contents.1)
+    subst CoverForm (ok-is contents.0 m more.2) (contents-form t fs (places_from order_202 0 fs) contents.0 contents.1)
 
 pub cover-form : (m : Mt202Cov) → IsCoverRead m → CoverForm m
 cover-form m is = message-form is.tables is.fields m is.read

@@ -11,7 +11,6 @@ use Rattle.fin_fields.specs.declared.field.Field.{Field}
 use Rattle.fin_layout.proofs.laws.ReadBack.{must-ok}
 use Rattle.fin_layout.specs.Contents.{in_option, located, may_read}
 use Rattle.fin_layout.specs.Order.{field_in}
-use Rattle.fin_layout.specs.declared.fault.TheConstants.{P24}
 use Rattle.fin_parties.specs.declared.form.Form.{Form}
 use Rattle.fin_parties.specs.declared.form.Form.TheVariants.{BankA, BankB, BankC, BankD, CustomerA, CustomerK, PayerF, PayeeF}
 use Rattle.fin_parties.specs.declared.opening.Opening.TheVariants.{PartyLine, AccountLine}
@@ -20,7 +19,6 @@ use Rattle.fin_parties.specs.declared.party.Party.TheVariants as party
 use Rattle.fin_parties.specs.Party.{account_party, are_numbered, bic_party, customer_party, form_of, is_account_line, is_line, is_name, name_party, parts_of, party_in, party_of, payee_party, payer_party, place_party}
 use Rattle.fin_contents.proofs.laws.Steps.{checked, there}
 use Rattle.fin_contents.specs.Parties.{is_known, known_party_of}
-use Rattle.fin_contents.specs.declared.codes.TheConstants.{P25}
 
 pub ok-is : {A F : Type 0} (x y : A) → ◌≡◌ {A = Result A F} (Ok x) (Ok y) → x ≡ y
 ok-is x y e = cc e
@@ -88,8 +86,8 @@ in-form PayeeF lines p e = let c = chained (λ c. payee_party c.first c.rest) (p
 pub party-bic : (t : Tables) (f : Field) (p : Party) → known_party_of t f ≡ Ok p → HasBic p
 unfolding known_party_of party_of
 party-bic t f p e =
-    let found = there (party_of f) P24 _ p e in
-    let known = checked (is_known t found.0) P25 _ p found.2 in
+    let found = there (party_of f) _ _ p e in
+    let known = checked (is_known t found.0) _ _ p found.2 in
     let c = chained (λ form. party_in form f.lines) (form_of f.tag f.letter) found.0 found.1 in
     subst HasBic (ok-is found.0 p known.1) (in-form c.0 f.lines found.0 c.1)
 

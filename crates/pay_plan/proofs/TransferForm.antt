@@ -17,7 +17,7 @@ use Rattle.mt103.specs.Codes.{instr_of, kind_of, operation_of}
 use Rattle.mt103.specs.Instructions.{d98, e46}
 use Rattle.mt103.specs.Message.{contents_of, details_of, field_tests, message_of, mt103_of, parties_of, terms_of}
 use Rattle.mt103.specs.declared.message.Mt103.{Mt103}
-use Rattle.mt103.specs.declared.order.TheConstants.{ORDER}
+use Rattle.mt103.specs.Order.{order_103}
 use Rattle.mt103.specs.declared.parties.Parties.{Parties}
 use Rattle.mt103.specs.declared.terms.Terms.{Terms}
 use Rattle.pay_plan.specs.Readable.{IsTransferRead}
@@ -41,30 +41,30 @@ record PartiesForm (x : Parties) : Type 0 where
 terms-form : (t : Tables) (fs : List Field) (found : List ℕ) (x : Terms) → terms_of t fs found ≡ Ok x → TermsForm x
 unfolding terms_of
 terms-form t fs found x e =
-    let r0 = read-then (in_place ORDER fs found 0 reference_of) _ x e in
+    let r0 = read-then (in_place order_103 fs found 0 reference_of) _ x e in
     let r1 = read-then (all_from fs 1 time_of 0 found fs) _ x r0.2 in
-    let r2 = read-then (in_place ORDER fs found 2 operation_of) _ x r1.2 in
+    let r2 = read-then (in_place order_103 fs found 2 operation_of) _ x r1.2 in
     let r3 = read-then (all_from fs 3 instr_of 0 found fs) _ x r2.2 in
     let r4 = read-then (in_option fs found 4 kind_of) _ x r3.2 in
-    let r5 = read-then (in_place ORDER fs found 5 (value_of t)) _ x r4.2 in
+    let r5 = read-then (in_place order_103 fs found 5 (value_of t)) _ x r4.2 in
     let r6 = read-then (in_option fs found 6 (ccy_amount_of t)) _ x r5.2 in
     let r7 = read-then (in_option fs found 7 rate_of) _ x r6.2 in
     let same : record { reference = r0.0; times = r1.0; op = r2.0; instrs = r3.0; kind = r4.0; value = r5.0; ordered = r6.0; rate = r7.0 } ≡ x = ok-is _ x r7.2 in
-    let f = must-ok ORDER fs 0 reference_of (field_in fs found 0) r0.0 r0.1 in
-    let g = must-ok ORDER fs 5 (value_of t) (field_in fs found 5) r5.0 r5.1 in
+    let f = must-ok order_103 fs 0 reference_of (field_in fs found 0) r0.0 r0.1 in
+    let g = must-ok order_103 fs 5 (value_of t) (field_in fs found 5) r5.0 r5.1 in
     subst TermsForm same (record { reference = reference-form f.0 r0.0 f.1; value = value-day t g.0 r5.0 g.1 })
 
 parties-form : (t : Tables) (fs : List Field) (found : List ℕ) (x : Parties) → parties_of t fs found ≡ Ok x → PartiesForm x
 unfolding parties_of
 parties-form t fs found x e =
-    let r0 = read-then (in_place ORDER fs found 8 (known_party_of t)) _ x e in
+    let r0 = read-then (in_place order_103 fs found 8 (known_party_of t)) _ x e in
     let r1 = read-then (in_option fs found 9 (known_party_of t)) _ x r0.2 in
     let r2 = read-then (in_option fs found 10 (known_party_of t)) _ x r1.2 in
     let r3 = read-then (in_option fs found 11 (known_party_of t)) _ x r2.2 in
     let r4 = read-then (in_option fs found 12 (known_party_of t)) _ x r3.2 in
     let r5 = read-then (in_option fs found 13 (known_party_of t)) _ x r4.2 in
     let r6 = read-then (in_option fs found 14 (known_party_of t)) _ x r5.2 in
-    let r7 = read-then (in_place ORDER fs found 15 (known_party_of t)) _ x r6.2 in
+    let r7 = read-then (in_place order_103 fs found 15 (known_party_of t)) _ x r6.2 in
     let same : record { payer = r0.0; p52 = r1.0; p53 = r2.0; p54 = r3.0; p55 = r4.0; p56 = r5.0; p57 = r6.0; payee = r7.0 } ≡ x = ok-is _ x r7.2 in
     subst PartiesForm same (record { p56 = bank-form t fs found 13 r5.0 r5.1; p57 = bank-form t fs found 14 r6.0 r6.1 })
 
@@ -83,9 +83,9 @@ message-form : (t : Tables) (fs : List Field) (m : Mt103) → mt103_of t fs ≡ 
 unfolding mt103_of
 message-form t fs m e =
     let structure = read-then (passed (field_tests t fs)) _ m e in
-    let contents = read-then (contents_of t fs (places_from ORDER 0 fs)) _ m structure.2 in
+    let contents = read-then (contents_of t fs (places_from order_103 0 fs)) _ m structure.2 in
     let more = read-then (passed (e46 contents.0.instrs ∷ d98 contents.0.instrs ∷ [])) _ m contents.2 in
-    subst TransferForm (ok-is contents.0 m more.2) (contents-form t fs (places_from ORDER 0 fs) contents.0 contents.1)
+    subst TransferForm (ok-is contents.0 m more.2) (contents-form t fs (places_from order_103 0 fs) contents.0 contents.1)
 
 pub transfer-form : (m : Mt103) → IsTransferRead m → TransferForm m
 transfer-form m is = message-form is.tables is.fields m is.read

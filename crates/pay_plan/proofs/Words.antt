@@ -9,10 +9,8 @@ use Rattle.corr_text.specs.declared.set.Set.TheVariants.{X}
 use Rattle.day_model.specs.Shape.{IsReference}
 use Rattle.fin_fields.specs.declared.field.Field.{Field}
 use Rattle.fin_fields.specs.Patterns.{is_run}
-use Rattle.fin_layout.specs.declared.fault.TheConstants.{P24}
 use Rattle.fin_contents.proofs.laws.Steps.{checked, there}
 use Rattle.fin_contents.specs.Plain.{one_line, reference_of}
-use Rattle.fin_contents.specs.declared.codes.TheConstants.{T26}
 use Rattle.pay_plan.proofs.Parties.{ok-is}
 
 three : (a b c : Bool) → (a && b && c) ≡ true → (a ≡ true) × (b ≡ true) × (c ≡ true)
@@ -21,8 +19,8 @@ three a b c e = grind (arith, nat_tests)
 pub reference-form : (f : Field) (text : List ℕ) → reference_of f ≡ Ok text → IsReference text
 unfolding reference_of
 reference-form f text e =
-    let line = there (one_line f) P24 _ text e in
-    let run = checked (is_run (is_in X) 16 line.0) P24 _ text line.2 in
-    let plain = checked (not (has_stray_slash line.0)) T26 _ text run.1 in
+    let line = there (one_line f) _ _ text e in
+    let run = checked (is_run (is_in X) 16 line.0) _ _ text line.2 in
+    let plain = checked (not (has_stray_slash line.0)) _ _ text run.1 in
     let parts = three (leb 1 (length line.0)) (leb (length line.0) 16) (list_all (is_in X) line.0) run.0 in
     subst IsReference (ok-is line.0 text plain.1) (record { given = leb-true _ _ parts.0; short = leb-true _ _ parts.1; plain = parts.2; slashes = plain.0 })

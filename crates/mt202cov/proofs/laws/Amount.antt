@@ -11,14 +11,14 @@ use Rattle.fin_contents.proofs.laws.Again.{place-payable}
 use Rattle.mt202cov.specs.Message.{mt202cov_of}
 use Rattle.mt202cov.specs.Writing.{value_in}
 use Rattle.mt202cov.specs.declared.message.Mt202Cov.{Mt202Cov}
-use Rattle.mt202cov.specs.declared.order.TheConstants.{ORDER}
+use Rattle.mt202cov.specs.Order.{order_202}
 use Rattle.mt202cov.proofs.Readings.{readings}
 use Rattle.mt202cov.proofs.RoundTrip.{accepted}
 
 pub amount-payable : (t : Tables) (fs : List Field) (m : Mt202Cov) → mt202cov_of t fs ≡ Ok m → IsPayable m.amount
 amount-payable t fs m e =
-    let found : List ℕ = places_from ORDER 0 fs in
-    place-payable t ORDER fs found 3 (value_in m) (readings t fs found m (accepted t fs m e).contents).value
+    let found : List ℕ = places_from order_202 0 fs in
+    place-payable t order_202 fs found 3 (value_in m) (readings t fs found m (accepted t fs m e).contents).value
 
 pub given-payable : (t : Tables) (fs : List Field) (r : Result Mt202Cov MtFault) → Gives r (mt202cov_of t fs) → IfOk r (λ m. IsPayable m.amount)
 given-payable t fs (Ok m) is = amount-payable t fs m is

@@ -1,5 +1,7 @@
 use Rattle.std.proofs.Common.{◌∙◌, sym}
 use Rattle.std.proofs.lemmas.Result.{err_from_is_err_and}
+use Rattle.fin_contents.proofs.laws.Readable.{given-readable}
+use Rattle.mt103.specs.Message.{mt103_of}
 use Rattle.mt103.proofs.laws.Amount.{amount-payable}
 use Rattle.mt103.proofs.Complete.{complete}
 use Rattle.mt103.proofs.Outcome.{all-pass, contents-fail, instrs-fail, structure-fail}
@@ -35,10 +37,10 @@ returns-clause-message c =
     c.as_slice-2.result.now c.as_slice-2.ensures (sym c.instructions_fault.ensures ∙ c.in-None.is)
 
 pub returns-clause-amount : goal.returns-clause-amount
-returns-clause-amount c =
-    amount-payable c.args.t.now c.args.f.now c.in_ok-m.m
-    (all-pass c.args.t.now c.args.f.now c.in_ok-found.ensures.sound c.as_slice.result.now (c.as_slice.ensures.value ∙ c.in_ok-found.ensures.places) c.in_ok-m.m c.in_ok-m.ensures.value
-    c.as_slice-2.result.now c.as_slice-2.ensures (sym c.instructions_fault.ensures ∙ c.in-None.is))
+returns-clause-amount c = amount-payable c.args.t.now c.args.f.now c.in_ok-m.m (returns-clause-message c)
+
+pub returns-clause-written : goal.returns-clause-written
+returns-clause-written c = given-readable mt103_of c.args.t.now c.args.f.now _ (returns-clause-message c)
 
 pub returns-clause-complete : goal.returns-clause-complete
 returns-clause-complete c = complete c.args.t.now c.args.f.now

@@ -1,5 +1,7 @@
 use Rattle.std.proofs.Common.{◌∙◌}
 use Rattle.std.proofs.lemmas.Result.{err_from_is_err_and}
+use Rattle.fin_contents.proofs.laws.Readable.{given-readable}
+use Rattle.mt202cov.specs.Message.{mt202cov_of}
 use Rattle.mt202cov.proofs.laws.Amount.{given-payable}
 use Rattle.mt202cov.proofs.Complete.{complete}
 use Rattle.mt202cov.proofs.Outcome.{contents-fail, structure-fail, told}
@@ -27,6 +29,9 @@ returns-clause-message c =
 
 pub returns-clause-amount : goal.returns-clause-amount
 returns-clause-amount c = given-payable c.args.t.now c.args.f.now _ (returns-clause-message c)
+
+pub returns-clause-written : goal.returns-clause-written
+returns-clause-written c = given-readable mt202cov_of c.args.t.now c.args.f.now _ (returns-clause-message c)
 
 pub returns-clause-complete : goal.returns-clause-complete
 returns-clause-complete c = complete c.args.t.now c.args.f.now
