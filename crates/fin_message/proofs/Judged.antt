@@ -1,7 +1,8 @@
 -- What a message has that passes every test.
-use Rattle.std.proofs.Common.{◌≡◌, ℕ, ◌*◌, ◌≤◌, ◌==◌, Bool, true, false, cond, List, [], ◌∷◌, length, Option, Result, Ok, Err, refl, sym, subst, arith, inl, inr, ◌⊎◌}
-use Rattle.std.specs.Prelude.{IfOk, codes}
-use Rattle.corr_text.specs.First.{unless}
+use Rattle.std.proofs.Common.{◌≡◌, ℕ, ◌*◌, ◌≤◌, ◌==◌, Bool, true, false, cond, List, [], ◌∷◌, length, option_map, option_and_then, position, slice_get, Option, Some, None, Result, Ok, Err, refl, sym, subst, arith, inl, inr, ◌⊎◌}
+use Rattle.std.specs.Prelude.{IfOk, IsTrue, codes}
+use Rattle.corr_text.specs.First.{first_of, unless}
+use Rattle.corr_text.specs.Lines.{lines_of}
 use Rattle.corr_text.specs.declared.fault.Fault.{Fault}
 use Rattle.corr_ids.specs.declared.bic.Bic.{Bic}
 use Rattle.corr_ids.specs.declared.address.LtAddress.{LtAddress}
@@ -12,21 +13,32 @@ use Rattle.fin_blocks.specs.declared.blocks.App.TheVariants as form
 use Rattle.fin_blocks.specs.declared.blocks.Blocks.{Blocks}
 use Rattle.fin_blocks.specs.declared.fault.BlockFault.{BlockFault}
 use Rattle.fin_blocks.proofs.laws.Sizes.{text_bytes}
+use Rattle.fin_fields.specs.Faults.{faulty_line, field_fault, is_outside_x, nth_of, outside_x, outside_x_at, tag_of}
 use Rattle.fin_fields.specs.Fields.{fields_of}
+use Rattle.fin_fields.specs.declared.fault.FieldFault.{FieldFault}
+use Rattle.fin_fields.specs.declared.fault.FieldFault.TheVariants.{P20 as line_fault, P21 as byte_fault}
+use Rattle.fin_fields.specs.declared.field.Field.{Field}
+use Rattle.fin_fields.proofs.laws.Cut.{cut-fit}
 use Rattle.fin_layout.specs.Tests.{passed}
+use Rattle.fin_layout.proofs.laws.Passed.{passed-none}
+use Rattle.fin_contents.specs.Writing.{IsReadable}
 use Rattle.mt103.specs.Message.{mt103_of}
+use Rattle.mt103.specs.declared.message.Mt103.{Mt103}
 use Rattle.mt103.proofs.laws.Amount.{amount-payable as transfer-payable}
+use Rattle.mt103.proofs.laws.Passed.{fields-pass as transfer-passes}
 use Rattle.mt103_rules.specs.Rules.{all_rules}
 use Rattle.mt202cov.specs.Message.{mt202cov_of}
 use Rattle.mt202cov.proofs.laws.Amount.{amount-payable as cover-payable}
+use Rattle.mt202cov.proofs.laws.Passed.{fields-pass as cover-passes, rules-pass}
 use Rattle.mt9_advice.specs.Advice.{mt900_of, mt910_of}
-use Rattle.ref_tables.specs.Seen.{Tables}
+use Rattle.mt9_advice.proofs.laws.Amount.{payable-900, payable-910}
+use Rattle.mt9_advice.proofs.laws.Passed.{fields-pass-900, fields-pass-910, rule-passes}
+use Rattle.ref_tables.specs.Seen.{Tables, few_decimals}
 use Rattle.fin_message.specs.Answers.{Answers}
 use Rattle.fin_message.specs.Heading.{at_block, has_form, heading_tests}
 use Rattle.fin_message.specs.Parts.{envelope_of, envelope_with, type_of, uetr_in}
-use Rattle.fin_message.specs.Sound.{Goes, HasAmount, HasEnvelope, IsEnvelope, IsOfForm, IsRead, IsSound, lines_in}
-use Rattle.fin_message.specs.Verdict.{Refused, blocks_in, cover_of, credit_of, debit_of, judged, line_test, message_in, message_of, told_of, transfer_of}
-use Rattle.fin_message.specs.declared.codes.TheConstants.{P07}
+use Rattle.fin_message.specs.Sound.{CanBeWritten, Goes, HasAmount, HasEnvelope, IsEnvelope, IsOfForm, IsRead, IsSaid, IsSound, KeepsRules, lines_in}
+use Rattle.fin_message.specs.Verdict.{Refused, blocks_in, cover_of, credit_of, debit_of, judged, line_test, message_in, message_of, told_of, told_of_fields, transfer_of}
 use Rattle.fin_message.specs.declared.direction.Direction.{Direction}
 use Rattle.fin_message.specs.declared.direction.Direction.TheVariants.{Received, Sent}
 use Rattle.fin_message.specs.declared.fault.MessageFault.{MessageFault}
@@ -46,58 +58,126 @@ first-holds : (holds : Bool) (fault : Fault) (others : List (Option Fault)) (x :
 first-holds true fault others x e = refl
 first-holds false fault others x e = absurd (cc e)
 
--- what a message says that came of blocks
+-- ---- lines without fault
+
+-- P21 is told of every field at fault
+byte-told : (tag : Field → List ℕ) (nth : ℕ) (o : Option Field) → option_and_then told_of_fields (option_map (λ f. byte_fault (tag f) nth) o) ≡ None → option_map (λ f. byte_fault (tag f) nth) o ≡ None
+byte-told tag nth None e = refl
+byte-told tag nth (Some f) e = absurd (cc e)
+
+outside-told : (fs : List Field) (at : Option ℕ) → option_and_then told_of_fields (option_and_then (outside_x_at fs) at) ≡ None → option_and_then (outside_x_at fs) at ≡ None
+outside-told fs None e = refl
+outside-told fs (Some i) e = byte-told tag_of (nth_of fs i) (slice_get fs i) e
+
+-- and P20 of every line
+first-told : (line : Option ℕ) (byte : Option FieldFault) → (option_and_then told_of_fields byte ≡ None → byte ≡ None)
+    → option_and_then told_of_fields (first_of (option_map (λ l. line_fault l) line ∷ byte ∷ [])) ≡ None → first_of (option_map (λ l. line_fault l) line ∷ byte ∷ []) ≡ None
+first-told None None told e = refl
+first-told None (Some fault) told e = told e
+first-told (Some line) byte told e = absurd (cc e)
+
+only-test : (o : Option Fault) → first_of (o ∷ []) ≡ None → o ≡ None
+only-test None e = refl
+only-test (Some fault) e = absurd (cc e)
+
+-- lines that pass their test are cut without fault
+lines-cut : (text : List ℕ) (u : Unit {0}) → passed (line_test text ∷ []) ≡ Ok u → field_fault text ≡ None
+lines-cut text u e =
+    let fs = fields_of text in
+    first-told (faulty_line (lines_of text)) (outside_x fs) (outside-told fs (position is_outside_x fs)) (only-test (line_test text) (passed-none (line_test text ∷ []) u e))
+
+-- what fields of such lines say can be written
+writable : {M : Type 0} (read : Tables → List Field → Result M Fault) (t : Tables) (text : List ℕ) (m : M) → field_fault text ≡ None → read t (fields_of text) ≡ Ok m → IsTrue (few_decimals t.ccys) → IsReadable read m
+writable read t text m cut says few = record { tables = t; few = few; fields = fields_of text; fit = cut-fit text cut; says = says }
+
+-- ---- what a message says that came of blocks
+
 record Says (way : Direction) (t : Tables) (text : List ℕ) (x : Message) : Type 0 where
   goes : Goes way x
   envelope : HasEnvelope x
+  said : IsSaid t x
   read : IsRead t x
+  rules : KeepsRules t x
   amount : HasAmount x
+  written : IsTrue (few_decimals t.ccys) → CanBeWritten x
   lines : (lines_in x ≡ text) ⊎ (lines_in x ≡ [])
 
-transfer-says : (way : Direction) (t : Tables) (b : Blocks) → has_form way b.app ≡ true → IsEnvelope (envelope_of b) → IfOk (transfer_of t b) (Says way t b.text)
-unfolding transfer_of
-transfer-says way t b e f =
-    let P : Message → Type 0 = Says way t b.text in
-    then P (mt103_of t (fields_of b.text)) _ (λ transfer read.
-    then P (passed (all_rules (envelope_of b).sender (envelope_of b).receiver t transfer)) _ (λ _ _.
-    record {
-      goes = envelope-says way b e;
-      envelope = f;
-      read = read;
-      amount = transfer-payable t (fields_of b.text) transfer read;
-      lines = inl refl;
-    }))
+module _ (way : Direction) (t : Tables) (b : Blocks) (e : has_form way b.app ≡ true) (f : IsEnvelope (envelope_of b)) (cut : field_fault b.text ≡ None) where
+  transfer-says : IfOk (transfer_of t b) (Says way t b.text)
+  unfolding transfer_of
+  transfer-says =
+      let P : Message → Type 0 = Says way t b.text in
+      let rules = λ (transfer : Mt103). all_rules (envelope_of b).sender (envelope_of b).receiver t transfer in
+      then P (mt103_of t (fields_of b.text)) _ (λ transfer read.
+      then P (passed (rules transfer)) _ (λ u keeps.
+      record {
+        goes = envelope-says way b e;
+        envelope = f;
+        said = record { cut = cut; tests = transfer-passes t (fields_of b.text) transfer read; says = read };
+        read = read;
+        rules = passed-none (rules transfer) u keeps;
+        amount = transfer-payable t (fields_of b.text) transfer read;
+        written = writable mt103_of t b.text transfer cut read;
+        lines = inl refl;
+      }))
 
-cover-says : (way : Direction) (t : Tables) (b : Blocks) → has_form way b.app ≡ true → IsEnvelope (envelope_of b) → IfOk (cover_of t b) (Says way t b.text)
-unfolding cover_of
-cover-says way t b e f =
-    then (Says way t b.text) (mt202cov_of t (fields_of b.text)) _ (λ cover read.
-    record { goes = envelope-says way b e; envelope = f; read = read; amount = cover-payable t (fields_of b.text) cover read; lines = inl refl })
+  cover-says : IfOk (cover_of t b) (Says way t b.text)
+  unfolding cover_of
+  cover-says =
+      then (Says way t b.text) (mt202cov_of t (fields_of b.text)) _ (λ cover read.
+      record {
+        goes = envelope-says way b e;
+        envelope = f;
+        said = record { cut = cut; tests = cover-passes t (fields_of b.text) cover read; says = read };
+        read = read;
+        rules = rules-pass t (fields_of b.text) cover read;
+        amount = cover-payable t (fields_of b.text) cover read;
+        written = writable mt202cov_of t b.text cover cut read;
+        lines = inl refl;
+      })
 
-debit-says : (way : Direction) (t : Tables) (b : Blocks) → has_form way b.app ≡ true → IsEnvelope (envelope_of b) → IfOk (debit_of t b) (Says way t b.text)
-unfolding debit_of
-debit-says way t b e f =
-    then (Says way t b.text) (mt900_of t (fields_of b.text)) _ (λ advice read.
-    record { goes = envelope-says way b e; envelope = f; read = tt; amount = tt; lines = inr refl })
+  debit-says : IfOk (debit_of t b) (Says way t b.text)
+  unfolding debit_of
+  debit-says =
+      then (Says way t b.text) (mt900_of t (fields_of b.text)) _ (λ advice read.
+      record {
+        goes = envelope-says way b e;
+        envelope = f;
+        said = (b.text, record { cut = cut; tests = fields-pass-900 t (fields_of b.text) advice read; says = read });
+        read = tt;
+        rules = tt;
+        amount = payable-900 t (fields_of b.text) advice read;
+        written = writable mt900_of t b.text advice cut read;
+        lines = inr refl;
+      })
 
-credit-says : (way : Direction) (t : Tables) (b : Blocks) → has_form way b.app ≡ true → IsEnvelope (envelope_of b) → IfOk (credit_of t b) (Says way t b.text)
-unfolding credit_of
-credit-says way t b e f =
-    then (Says way t b.text) (mt910_of t (fields_of b.text)) _ (λ advice read.
-    record { goes = envelope-says way b e; envelope = f; read = tt; amount = tt; lines = inr refl })
+  credit-says : IfOk (credit_of t b) (Says way t b.text)
+  unfolding credit_of
+  credit-says =
+      then (Says way t b.text) (mt910_of t (fields_of b.text)) _ (λ advice read.
+      record {
+        goes = envelope-says way b e;
+        envelope = f;
+        said = (b.text, record { cut = cut; tests = fields-pass-910 t (fields_of b.text) advice read; says = read });
+        read = tt;
+        rules = rule-passes t (fields_of b.text) advice read;
+        amount = payable-910 t (fields_of b.text) advice read;
+        written = writable mt910_of t b.text advice cut read;
+        lines = inr refl;
+      })
 
 either-ok : (P : Message → Type 0) (test : Bool) (r q : Result Message Fault) → IfOk r P → IfOk q P → IfOk (cond test r q) P
 either-ok P true r q p o = p
 either-ok P false r q p o = o
 
-type-says : (way : Direction) (t : Tables) (b : Blocks) → has_form way b.app ≡ true → IsEnvelope (envelope_of b) → IfOk (message_in t b) (Says way t b.text)
-type-says way t b e f =
+type-says : (way : Direction) (t : Tables) (b : Blocks) → has_form way b.app ≡ true → IsEnvelope (envelope_of b) → field_fault b.text ≡ None → IfOk (message_in t b) (Says way t b.text)
+type-says way t b e f cut =
     let P : Message → Type 0 = Says way t b.text in
     let mt = type_of b.app in
-    either-ok P (mt == 103) (transfer_of t b) _ (transfer-says way t b e f)
-    (either-ok P (mt == 202) (cover_of t b) _ (cover-says way t b e f)
-    (either-ok P (mt == 900) (debit_of t b) _ (debit-says way t b e f)
-    (either-ok P (mt == 910) (credit_of t b) _ (credit-says way t b e f) tt)))
+    either-ok P (mt == 103) (transfer_of t b) _ (transfer-says way t b e f cut)
+    (either-ok P (mt == 202) (cover_of t b) _ (cover-says way t b e f cut)
+    (either-ok P (mt == 900) (debit_of t b) _ (debit-says way t b e f cut)
+    (either-ok P (mt == 910) (credit_of t b) _ (credit-says way t b e f cut) tt)))
 
 lines-short : (lines text : List ℕ) (n : ℕ) → (lines ≡ text) ⊎ (lines ≡ []) → length text ≤ n → length lines ≤ n
 lines-short lines text n (inl e) le = subst (λ (l : List ℕ). length l ≤ n) (sym e) le
@@ -108,8 +188,8 @@ unfolding message_of
 message-says way home t b f =
     let P : Message → Type 0 = Says way t b.text in
     then P (passed (heading_tests way home t b)) _ (λ x e.
-    then P (passed (line_test b.text ∷ [])) _ (λ _ _.
-    type-says way t b (first-holds (has_form way b.app) (at_block P07 (codes "B2 ")) _ x e) f))
+    then P (passed (line_test b.text ∷ [])) _ (λ u lines.
+    type-says way t b (first-holds (has_form way b.app) (at_block _ (codes "B2 ")) _ x e) f (lines-cut b.text u lines)))
 
 told-says : (P : Message → Type 0) (b : Blocks) (r : Result Message Fault) → IfOk r P → IfOk (told_of b r) P
 told-says P b (Ok x) p = p
@@ -130,8 +210,11 @@ judged-sound way home t m =
     (λ x says. record {
       goes = says.goes;
       envelope = says.envelope;
+      said = says.said;
       read = says.read;
+      rules = says.rules;
       amount = says.amount;
+      written = says.written;
       short = lines-short (lines_in x) b.text (2 * length m) says.lines (text_bytes m b is);
     })
     (message-says way home t b (envelope-form m b is))))

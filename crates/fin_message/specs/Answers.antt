@@ -1,5 +1,6 @@
 -- What the code answers, against what is meant.
 use Rattle.std.specs.Prelude.{◌≡◌, Result, Ok, Err, codes}
+use Rattle.corr_text.specs.Codes.{code}
 use Rattle.fin_blocks.specs.declared.fault.BlockFault.{BlockFault}
 use Rattle.fin_blocks.specs.declared.fault.BlockFault.TheVariants as block
 use Rattle.fin_fields.specs.declared.fault.FieldFault.{FieldFault}
@@ -8,7 +9,6 @@ use Rattle.fin_layout.specs.declared.fault.MtFault.{MtFault}
 use Rattle.fin_layout.specs.declared.fault.MtFault.TheVariants as mt
 use Rattle.fin_message.specs.Heading.{at_block}
 use Rattle.fin_message.specs.Verdict.{Refused, block_tag}
-use Rattle.fin_message.specs.declared.codes.TheConstants.{P20, P21}
 use Rattle.fin_message.specs.declared.fault.MessageFault.{MessageFault}
 use Rattle.fin_message.specs.declared.fault.MessageFault.TheVariants as message
 
@@ -24,10 +24,11 @@ Answers (Err e) meant = Refuses e meant
 
 -- faults of blocks and of lines, as the code carries them
 abbrev pub fault_of_blocks : BlockFault → MessageFault
-fault_of_blocks (block.Bad code mir) = message.Refused mir (at_block code (block_tag code))
+fault_of_blocks (block.Bad refusal mir) = message.Refused mir (at_block refusal (block_tag refusal))
 fault_of_blocks block.Memory = message.Memory
 
+-- P20 with its line, P21 with its field, or want of memory
 abbrev pub fault_of_fields : FieldFault → MtFault
-fault_of_fields (field.P20 line) = mt.Bad (record { code = P20; tag = codes "B4 "; nth = line })
-fault_of_fields (field.P21 tag nth) = mt.Bad (record { code = P21; tag = tag; nth = nth })
+fault_of_fields (field.P20 line) = mt.Bad (record { code = code "P20"; tag = codes "B4 "; nth = line })
+fault_of_fields (field.P21 tag nth) = mt.Bad (record { code = code "P21"; tag = tag; nth = nth })
 fault_of_fields field.Memory = mt.Memory

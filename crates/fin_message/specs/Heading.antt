@@ -2,6 +2,7 @@
 use Rattle.std.specs.Prelude.{ℕ, ◌==◌, ◌||◌, not, Bool, true, false, List, [], ◌∷◌, codes, Option, is_none, if◌then◌else◌}
 use Rattle.std.specs.Option.{option_map_or}
 use Rattle.std.specs.Str.{bytes_eq}
+use Rattle.corr_text.specs.Codes.{code}
 use Rattle.corr_text.specs.First.{unless}
 use Rattle.corr_text.specs.declared.fault.Code.{Code}
 use Rattle.corr_text.specs.declared.fault.Fault.{Fault}
@@ -11,13 +12,12 @@ use Rattle.fin_blocks.specs.declared.blocks.App.TheVariants as form
 use Rattle.fin_blocks.specs.declared.blocks.Blocks.{Blocks}
 use Rattle.ref_tables.specs.Seen.{Tables, has_head}
 use Rattle.fin_message.specs.Parts.{has_trailer, partner_of, type_of, user_text}
-use Rattle.fin_message.specs.declared.codes.TheConstants.{P07, P08, P09, P10, P11, P12, P13}
 use Rattle.fin_message.specs.declared.direction.Direction.{Direction}
 use Rattle.fin_message.specs.declared.direction.Direction.TheVariants.{Received, Sent}
 
 -- a fault that is told of a block, `B1` to `B5`
 abbrev pub at_block : Code → List ℕ → Fault
-at_block code tag = record { code = code; tag = tag; nth = 0 }
+at_block refusal tag = record { code = refusal; tag = tag; nth = 0 }
 
 -- block 2 is of the form of messages that go this way: output form of received ones, input form of sent ones
 abbrev pub has_form : Direction → App → Bool
@@ -26,6 +26,7 @@ has_form Received (form.Sent mt to) = false
 has_form Sent (form.Received mt mir) = false
 has_form Sent (form.Sent mt to) = true
 
+-- a type that is known
 abbrev pub is_type : ℕ → Bool
 is_type mt = (mt == 103) || (mt == 202) || (mt == 900) || (mt == 910) || (mt == 950)
 
@@ -40,11 +41,11 @@ fits_validation mt flag =
 -- bank of the table in block 2; the validation flag of the type
 abbrev pub heading_tests : Direction → Bic → Tables → Blocks → List (Option Fault)
 heading_tests way home t b =
-    unless (has_form way b.app) (at_block P07 (codes "B2 "))
-    ∷ unless (bytes_eq b.own.head home.head) (at_block P08 (codes "B1 "))
-    ∷ unless (not (has_trailer (codes "TNG") b)) (at_block P09 (codes "B5 "))
-    ∷ unless (not (has_trailer (codes "PDE") b)) (at_block P10 (codes "B5 "))
-    ∷ unless (is_type (type_of b.app)) (at_block P11 (codes "B2 "))
-    ∷ unless (has_head t (partner_of b.app).head) (at_block P12 (codes "B2 "))
-    ∷ unless (fits_validation (type_of b.app) (user_text 119 b.user)) (at_block P13 (codes "B3 "))
+    unless (has_form way b.app) (at_block (code "P07") (codes "B2 "))
+    ∷ unless (bytes_eq b.own.head home.head) (at_block (code "P08") (codes "B1 "))
+    ∷ unless (not (has_trailer (codes "TNG") b)) (at_block (code "P09") (codes "B5 "))
+    ∷ unless (not (has_trailer (codes "PDE") b)) (at_block (code "P10") (codes "B5 "))
+    ∷ unless (is_type (type_of b.app)) (at_block (code "P11") (codes "B2 "))
+    ∷ unless (has_head t (partner_of b.app).head) (at_block (code "P12") (codes "B2 "))
+    ∷ unless (fits_validation (type_of b.app) (user_text 119 b.user)) (at_block (code "P13") (codes "B3 "))
     ∷ []

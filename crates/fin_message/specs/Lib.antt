@@ -3,4 +3,3 @@ pub mod Heading
 pub mod Verdict
 pub mod Answers
 pub mod Sound
-pub mod Constants

@@ -41,5 +41,6 @@ abbrev pub envelope_with : LtAddress → App → Option Uetr → Envelope
 envelope_with own (Received mt mir) uetr = record { mir = Some mir; sender = bank_of (sender_of mir); receiver = bank_of own; uetr = uetr }
 envelope_with own (Sent mt to) uetr = record { mir = None; sender = bank_of own; receiver = bank_of to; uetr = uetr }
 
+-- the envelope of a message of these blocks
 abbrev pub envelope_of : Blocks → Envelope
 envelope_of b = envelope_with b.own b.app (uetr_in b)

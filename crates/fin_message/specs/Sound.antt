@@ -1,14 +1,22 @@
 -- What every valid message has.
-use Rattle.std.specs.Prelude.{◌≡◌, ℕ, ◌≤◌, List, [], length, None, Ok, IfSome, IsSome}
+use Rattle.std.specs.Prelude.{◌≡◌, ℕ, ◌≤◌, List, [], length, Option, None, Result, Ok, IfSome, IsSome, IsTrue}
+use Rattle.corr_text.specs.First.{first_of}
+use Rattle.corr_text.specs.declared.fault.Fault.{Fault}
 use Rattle.corr_ids.specs.Bic.{IsBic}
 use Rattle.corr_ids.specs.Mir.{IsMir}
 use Rattle.corr_ids.specs.Uetr.{IsUetr}
 use Rattle.corr_ids.specs.declared.envelope.Envelope.{Envelope}
 use Rattle.fin_contents.specs.Money.{IsPayable}
+use Rattle.fin_contents.specs.Writing.{IsReadable}
+use Rattle.fin_fields.specs.Faults.{field_fault}
 use Rattle.fin_fields.specs.Fields.{fields_of}
-use Rattle.mt103.specs.Message.{mt103_of}
-use Rattle.mt202cov.specs.Message.{mt202cov_of}
-use Rattle.ref_tables.specs.Seen.{Tables}
+use Rattle.fin_fields.specs.declared.field.Field.{Field}
+use Rattle.mt103.specs.Message.{field_tests as tests_103, mt103_of}
+use Rattle.mt103_rules.specs.Rules.{all_rules as rules_103}
+use Rattle.mt202cov.specs.Message.{field_tests as tests_202, mt202cov_of}
+use Rattle.mt202cov.specs.Rules.{all_rules as rules_202}
+use Rattle.mt9_advice.specs.Advice.{c06, mt900_of, mt910_of, tests_900, tests_910}
+use Rattle.ref_tables.specs.Seen.{Tables, few_decimals}
 use Rattle.fin_message.specs.declared.direction.Direction.{Direction}
 use Rattle.fin_message.specs.declared.direction.Direction.TheVariants.{Received, Sent}
 use Rattle.fin_message.specs.declared.message.Message.{Message}
@@ -19,6 +27,7 @@ abbrev pub IsOfForm : Direction → Envelope → Type 0
 IsOfForm Received envelope = IsSome envelope.mir
 IsOfForm Sent envelope = envelope.mir ≡ None
 
+-- the same of a message's envelope
 abbrev pub Goes : Direction → Message → Type 0
 Goes way (Transfer envelope text transfer) = IsOfForm way envelope
 Goes way (Cover envelope text cover) = IsOfForm way envelope
@@ -32,17 +41,19 @@ pub record IsEnvelope (envelope : Envelope) : Type 0 where
   pub receiver : IsBic envelope.receiver
   pub uetr : IfSome envelope.uetr IsUetr
 
+-- the envelope of a message meets its grammar
 abbrev pub HasEnvelope : Message → Type 0
 HasEnvelope (Transfer envelope text transfer) = IsEnvelope envelope
 HasEnvelope (Cover envelope text cover) = IsEnvelope envelope
 HasEnvelope (Debit envelope advice) = IsEnvelope envelope
 HasEnvelope (Credit envelope advice) = IsEnvelope envelope
 
--- the amount of field 32A of a transfer and of a cover: above zero and below 10^14 minor units
+-- the amount of field 32A: above zero and below 10^14 minor units
 abbrev pub HasAmount : Message → Type 0
 HasAmount (Transfer envelope text transfer) = IsPayable transfer.amount
 HasAmount (Cover envelope text cover) = IsPayable cover.amount
-HasAmount _ = Unit {0}
+HasAmount (Debit envelope advice) = IsPayable advice.amount
+HasAmount (Credit envelope advice) = IsPayable advice.amount
 
 -- the lines of block 4 of a message that is passed on
 abbrev pub lines_in : Message → List ℕ
@@ -50,7 +61,35 @@ lines_in (Transfer envelope text transfer) = text
 lines_in (Cover envelope text cover) = text
 lines_in _ = []
 
--- the lines say what the message has beside its envelope
+-- lines that are cut into fields without fault, whose fields fail none of these tests (their order, then their contents),
+-- and of which a reader gives this
+pub record Say {M : Type 0} (tests : Tables → List Field → List (Option Fault)) (reader : Tables → List Field → Result M Fault) (t : Tables) (text : List ℕ) (m : M) : Type 0 where
+  pub cut : field_fault text ≡ None
+  pub tests : first_of (tests t (fields_of text)) ≡ None
+  pub says : reader t (fields_of text) ≡ Ok m
+
+-- the lines of block 4 say what the message has beside its envelope; those of an advice are not kept
+abbrev pub IsSaid : Tables → Message → Type 0
+IsSaid t (Transfer envelope text transfer) = Say tests_103 mt103_of t text transfer
+IsSaid t (Cover envelope text cover) = Say tests_202 mt202cov_of t text cover
+IsSaid t (Debit envelope advice) = (text : List ℕ) × Say tests_900 mt900_of t text advice
+IsSaid t (Credit envelope advice) = (text : List ℕ) × Say tests_910 mt910_of t text advice
+
+-- it breaks no rule of its type; those of a transfer are between its sender and its receiver
+abbrev pub KeepsRules : Tables → Message → Type 0
+KeepsRules t (Transfer envelope text transfer) = first_of (rules_103 envelope.sender envelope.receiver t transfer) ≡ None
+KeepsRules t (Cover envelope text cover) = first_of (rules_202 cover) ≡ None
+KeepsRules t (Debit envelope advice) = Unit {0}
+KeepsRules t (Credit envelope advice) = c06 advice ≡ None
+
+-- what it says can be written again
+abbrev pub CanBeWritten : Message → Type 0
+CanBeWritten (Transfer envelope text transfer) = IsReadable mt103_of transfer
+CanBeWritten (Cover envelope text cover) = IsReadable mt202cov_of cover
+CanBeWritten (Debit envelope advice) = IsReadable mt900_of advice
+CanBeWritten (Credit envelope advice) = IsReadable mt910_of advice
+
+-- the lines that a message keeps say what it has beside its envelope
 abbrev pub IsRead : Tables → Message → Type 0
 IsRead t (Transfer envelope text transfer) = mt103_of t (fields_of text) ≡ Ok transfer
 IsRead t (Cover envelope text cover) = mt202cov_of t (fields_of text) ≡ Ok cover
@@ -60,6 +99,9 @@ IsRead t _ = Unit {0}
 pub record IsSound (way : Direction) (t : Tables) (most : ℕ) (message : Message) : Type 0 where
   pub goes : Goes way message
   pub envelope : HasEnvelope message
+  pub said : IsSaid t message
   pub read : IsRead t message
+  pub rules : KeepsRules t message
   pub amount : HasAmount message
+  pub written : IsTrue (few_decimals t.ccys) → CanBeWritten message
   pub short : length (lines_in message) ≤ most

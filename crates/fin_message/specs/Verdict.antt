@@ -5,6 +5,7 @@
 --   then, by its type: the order of the fields, their contents, the rules
 use Rattle.std.specs.Prelude.{ℕ, ◌==◌, ◌||◌, List, [], ◌∷◌, codes, Option, Some, None, option_and_then, Result, Ok, Err, if◌then◌else◌}
 use Rattle.std.specs.Str.{bytes_eq}
+use Rattle.corr_text.specs.Codes.{code}
 use Rattle.corr_text.specs.First.{◌>>=◌}
 use Rattle.corr_text.specs.declared.fault.Code.{Code}
 use Rattle.corr_text.specs.declared.fault.Fault.{Fault}
@@ -15,7 +16,6 @@ use Rattle.fin_blocks.specs.Forms.{mir_in}
 use Rattle.fin_blocks.specs.declared.blocks.Blocks.{Blocks}
 use Rattle.fin_blocks.specs.declared.fault.BlockFault.{BlockFault}
 use Rattle.fin_blocks.specs.declared.fault.BlockFault.TheVariants as block
-use Rattle.fin_blocks.specs.declared.fault.TheConstants.{P01, P02, P03, P04, P05}
 use Rattle.fin_fields.specs.Fields.{fields_of}
 use Rattle.fin_fields.specs.Faults.{field_fault}
 use Rattle.fin_fields.specs.declared.fault.FieldFault.{FieldFault}
@@ -28,7 +28,6 @@ use Rattle.mt9_advice.specs.Advice.{mt900_of, mt910_of}
 use Rattle.ref_tables.specs.Seen.{Tables}
 use Rattle.fin_message.specs.Heading.{at_block, heading_tests}
 use Rattle.fin_message.specs.Parts.{envelope_of, type_of}
-use Rattle.fin_message.specs.declared.codes.TheConstants.{P20, P21, P90}
 use Rattle.fin_message.specs.declared.direction.Direction.{Direction}
 use Rattle.fin_message.specs.declared.direction.Direction.TheVariants.{Received, Sent}
 use Rattle.fin_message.specs.declared.message.Message.{Message}
@@ -40,18 +39,19 @@ Refused = Option Mir × Fault
 
 -- the block that P01 to P06 are told of
 abbrev pub block_tag : Code → List ℕ
-block_tag code =
-    if bytes_eq code.0 P01.0 || bytes_eq code.0 P02.0 then codes "B1 "
-    else if bytes_eq code.0 P03.0 then codes "B2 "
-    else if bytes_eq code.0 P04.0 then codes "B3 "
-    else if bytes_eq code.0 P05.0 then codes "B4 "
+block_tag refusal =
+    if bytes_eq refusal.0 (codes "P01") || bytes_eq refusal.0 (codes "P02") then codes "B1 "
+    else if bytes_eq refusal.0 (codes "P03") then codes "B2 "
+    else if bytes_eq refusal.0 (codes "P04") then codes "B3 "
+    else if bytes_eq refusal.0 (codes "P05") then codes "B4 "
     else codes "B5 "
 
 -- P01 to P06, which never are want of memory; the reference is told from P04 on
 abbrev pub refused_block : BlockFault → Refused
-refused_block (block.Bad code mir) = (mir, at_block code (block_tag code))
-refused_block block.Memory = (None, at_block P01 (codes "B1 "))
+refused_block (block.Bad refusal mir) = (mir, at_block refusal (block_tag refusal))
+refused_block block.Memory = (None, at_block (code "P01") (codes "B1 "))
 
+-- the blocks, or the refusal of the first that is not of its form
 abbrev pub blocks_in : Result Blocks BlockFault → Result Blocks Refused
 blocks_in (Ok blocks) = Ok blocks
 blocks_in (Err fault) = Err (refused_block fault)
@@ -63,8 +63,8 @@ told_of b (Err fault) = Err (mir_in b.app, fault)
 
 -- P20 with its line, P21 with its field
 abbrev pub told_of_fields : FieldFault → Option Fault
-told_of_fields (field.P20 line) = Some (record { code = P20; tag = codes "B4 "; nth = line })
-told_of_fields (field.P21 tag nth) = Some (record { code = P21; tag = tag; nth = nth })
+told_of_fields (field.P20 line) = Some (record { code = code "P20"; tag = codes "B4 "; nth = line })
+told_of_fields (field.P21 tag nth) = Some (record { code = code "P21"; tag = tag; nth = nth })
 told_of_fields field.Memory = None
 
 -- the test of block 4's lines, then of their characters
@@ -104,7 +104,7 @@ message_in t b =
     else if type_of b.app == 202 then cover_of t b
     else if type_of b.app == 900 then debit_of t b
     else if type_of b.app == 910 then credit_of t b
-    else Err (at_block P90 (codes "B4 "))
+    else Err (at_block (code "P90") (codes "B4 "))
 
 -- the tests behind those of the blocks, in their order
 unfoldable pub message_of : Direction → Bic → Tables → Blocks → Result Message Fault

@@ -90,6 +90,9 @@ fn judge(
 ///
 /// The message's reference is told with the fault where blocks 1 and 2 are read (none of P01 to P03 holds) and block 2 is
 /// of output form. A message has at most 65,535 bytes.
+///
+/// What is accepted is `sound`: block 4 is cut into fields without fault, no test of their order and contents fails, the
+/// type's reader reads the message of them, it breaks no rule of its type, and it can be written again.
 #[tactic(auto, using(crate::proofs::Judged::sound))]
 pub fn verdict(alloc: Global, m: &[u8], home: &Bic, t: &RefTables) -> Result<Message, MessageFault>
     requires { length m.now ≤ 65535 }
