@@ -41,17 +41,22 @@ knows-fault fed now fault is same =
     subst (λ t. IsShown fault fed t.given × AreWhole fed t.given × HaveBegun fed t.begun) (sym same)
     (is-shown fed fault (sym (ap (λ t. t.failed) same) ∙ is), are-whole fed, have-begun fed)
 
-pub knows : (failed : Option FrameFault) (fed : List ℕ) (now : State) → now.failed ≡ failed → IsAfter failed now (run (at_start []) fed) → Knows failed fed now.given now.begun
+pub knows : (failed : Option FrameFault) (fed : List ℕ) (now : State) → now.failed ≡ failed → IsAfter failed now fed → Knows failed fed now.given now.begun
 knows None fed now is same =
     subst (λ t. IsSound fed × AreWhole fed t.given × HaveBegun fed t.begun) (sym same)
     ((λ messages fault shown. let e : Some fault ≡ None = sym (shown-comes shown) ∙ sym (ap (λ t. t.failed) same) ∙ is in cc), are-whole fed, have-begun fed)
 knows (Some (Stray at)) fed now is same = knows-fault fed now (Stray at) is same
 knows (Some (TooLong at)) fed now is same = knows-fault fed now (TooLong at) is same
 knows (Some (Unbalanced at)) fed now is same = knows-fault fed now (Unbalanced at) is same
-knows (Some Memory) fed now is lags =
-    (((run (at_start []) fed).given, are-whole fed, lags.0), ((run (at_start []) fed).begun, have-begun fed, lags.1))
+knows (Some Memory) fed now is lags = (
+  lags.0,
+  lags.1,
+  (λ messages fault shown. let e : Some fault ≡ None = sym (shown-comes shown) ∙ lags.2.sound in cc),
+  subst (λ g. AreWhole lags.0 g) (sym lags.2.given) (are-whole lags.0),
+  subst (λ n. HaveBegun lags.0 n) (sym lags.2.begun) (have-begun lags.0),
+)
 
-pub was-fed : (c : Cutter) (fed : List ℕ) (given : List (List ℕ)) → (c.failed ≡ None → c.fed ≡ length fed) → IsAfter c.failed (state_of c given) (run (at_start []) fed) → WasFed c fed given
+pub was-fed : (c : Cutter) (fed : List ℕ) (given : List (List ℕ)) → (c.failed ≡ None → c.fed ≡ length fed) → IsAfter c.failed (state_of c given) fed → WasFed c fed given
 was-fed c fed given count stands = record { count = count; stands = stands; knows = knows c.failed fed (state_of c given) refl stands }
 
 -- the end of the input

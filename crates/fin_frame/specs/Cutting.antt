@@ -1,8 +1,8 @@
 -- A cutter, seen as the bytes that it was fed and the messages that it gave.
-use Rattle.std.specs.Prelude.{◌≡◌, ◌≤◌, ℕ, List, [], length, Option, Some, None, Result, Ok, Err}
+use Rattle.std.specs.Prelude.{◌≡◌, ℕ, List, length, Option, Some, None, Result, Ok, Err}
 use Rattle.fin_frame.specs.File.{IsCutInto}
 use Rattle.fin_frame.specs.Shown.{Shows, IsSound, AreWhole, HaveBegun, EndsWithin, Begins}
-use Rattle.fin_frame.specs.Machine.{State, at_start, run, IsAfter}
+use Rattle.fin_frame.specs.Machine.{State, IsAfter}
 use Rattle.fin_frame.specs.declared.cutter.Cutter.{Cutter}
 use Rattle.fin_frame.specs.declared.fault.FrameFault.{FrameFault}
 use Rattle.fin_frame.specs.declared.fault.FrameFault.TheVariants.{Unbalanced, Memory}
@@ -19,16 +19,16 @@ pub record IsShown (fault : FrameFault) (fed : List ℕ) (given : List (List ℕ
   pub only : (messages : List (List ℕ)) (other : FrameFault) → Shows fed messages other → other ≡ fault
 
 -- What is known where a call failed so, or didn't. All messages that the bytes show to be whole are given, and all that
--- begun are counted. Where memory was wanting, some first ones are.
+-- begun are counted. Where memory was wanting, these are those of some first bytes, which show no fault.
 abbrev pub Knows : Option FrameFault → List ℕ → List (List ℕ) → ℕ → Type 0
 Knows None fed given begun = IsSound fed × AreWhole fed given × HaveBegun fed begun
-Knows (Some Memory) fed given begun = ((whole : List (List ℕ)) × AreWhole fed whole × Begins given whole) × ((n : ℕ) × HaveBegun fed n × (begun ≤ n))
+Knows (Some Memory) fed given begun = (front : List ℕ) × Begins front fed × IsSound front × AreWhole front given × HaveBegun front begun
 Knows (Some fault) fed given begun = IsShown fault fed given × AreWhole fed given × HaveBegun fed begun
 
 -- The cutter was fed these bytes since it was made, and gave these messages.
 pub record WasFed (c : Cutter) (fed : List ℕ) (given : List (List ℕ)) : Type 0 where
   pub count : c.failed ≡ None → c.fed ≡ length fed
-  pub stands : IsAfter c.failed (state_of c given) (run (at_start []) fed)
+  pub stands : IsAfter c.failed (state_of c given) fed
   pub knows : Knows c.failed fed given c.begun
 
 -- the answer of a call that leaves a cutter so

@@ -44,6 +44,7 @@ IsMessage message = IsMessageTo 0 message × (length message ≤ most_bytes)
 abbrev pub is_blank : ℕ → Bool
 is_blank b = b == 10 || b == 13 || b == 32
 
+-- a byte of a gap
 abbrev pub is_gap_byte : ℕ → Bool
 is_gap_byte b = is_blank b || b == 36
 

@@ -24,6 +24,7 @@ at_start given = record { stage = Between true; held = None; fed = 0; begun = 0;
 abbrev pub to : Stage → State → State
 to stage s = record s { stage = stage; fed = s.fed + 1 }
 
+-- the same with a fault
 abbrev pub fails : FrameFault → State → State
 fails fault s = record s { failed = Some fault }
 
@@ -74,23 +75,28 @@ abbrev pub moves : Option Stage → State → State
 moves (Some stage) s = to stage s
 moves None s = fails (Stray s.fed) s
 
+-- a byte between messages
 abbrev pub next_between : Bool → State → ℕ → State
 next_between marked s b = moves (stage_between marked b) s
 
+-- the second or third byte of a `{1:` that stands apart
 abbrev pub next_opening : ℕ → State → ℕ → State
 next_opening matched s b =
     if b == get_or lead matched 0 then (if matched == 2 then begins s else to (Opening (matched + 1)) s)
     else fails (Stray (s.fed - matched)) s
 
+-- the byte behind a message that is whole
 abbrev pub next_close : State → ℕ → State
 next_close s b = if is_gap_byte b then to (Between (b == 36)) (gives s) else fails (Stray s.fed) s
 
+-- a byte behind a group of the open message
 abbrev pub next_behind : ℕ → ℕ → State → ℕ → State
 next_behind from matched s b =
     if b == get_or lead matched 0 then (if matched == 2 then begins s else to (Behind from (matched + 1)) s)
     else if matched == 0 then next_close s b
     else within from 1 (resumes from matched s) b
 
+-- a byte at this stage
 abbrev pub next_at : Stage → State → ℕ → State
 next_at (Between marked) s b = next_between marked s b
 next_at (Opening matched) s b = next_opening matched s b
@@ -126,13 +132,19 @@ TookByte (Ok n) old after now = (n ≡ 1) × (now ≡ after)
 TookByte (Err Memory) old after now = (now.given ≡ old.given) × (now.begun ≡ old.begun)
 TookByte (Err fault) old after now = after ≡ fails fault now
 
--- where the machine is after the bytes, or, where memory was wanting, no further
-abbrev pub IsAfter : Option FrameFault → State → State → Type 0
-IsAfter (Some Memory) now all = Begins now.given all.given × (now.begun ≤ all.begun)
-IsAfter failed now all = now ≡ all
+-- as many messages given and begun as in a state without a fault
+pub record HasCome (now there : State) : Type 0 where
+  pub sound : there.failed ≡ None
+  pub given : now.given ≡ there.given
+  pub begun : now.begun ≡ there.begun
+
+-- where the machine is after the bytes, or, where memory was wanting, after some first ones of them
+abbrev pub IsAfter : Option FrameFault → State → List ℕ → Type 0
+IsAfter (Some Memory) now fed = (front : List ℕ) × Begins front fed × HasCome now (run (at_start []) front)
+IsAfter failed now fed = now ≡ run (at_start []) fed
 
 -- what a call that took all these bytes left
 abbrev pub TookAll : Result (Unit {0}) FrameFault → State → List ℕ → State → Type 0
 TookAll (Ok _) old bytes now = now ≡ run old bytes
-TookAll (Err Memory) old bytes now = Begins old.given now.given × IsAfter (Some Memory) now (run old bytes)
+TookAll (Err Memory) old bytes now = (front : List ℕ) × Begins front bytes × HasCome now (run old front)
 TookAll (Err fault) old bytes now = run old bytes ≡ fails fault now

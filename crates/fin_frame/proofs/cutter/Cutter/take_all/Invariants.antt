@@ -1,5 +1,4 @@
-use Rattle.std.proofs.Common.{◌≡◌, ◌+◌, length, None}
-use Rattle.fin_frame.specs.Shown.{Begins}
+use Rattle.std.proofs.Common.{◌≡◌, ◌+◌, ◌++◌, ℕ, List, length, None}
 use Rattle.fin_frame.specs.Machine.{run}
 use Rattle.fin_frame.specs.Cutting.{state_of}
 use Rattle.fin_frame.proofs.cutter.Cutter.take_all.Given as goal
@@ -8,7 +7,7 @@ abbrev pub invariant-loop-rest : goal.invariant-loop-rest
 invariant-loop-rest l = record {
   sound : l.self.failed ≡ None;
   size : l.self.fed + length l.rest ≡ l.fn.self.fed + length l.piece;
-  grown : Begins l.fn.out l.out;
+  come : (taken : List ℕ) × (l.piece ≡ taken ++ l.rest) × (state_of l.self l.out ≡ run (state_of l.fn.self l.fn.out) taken);
   later : run (state_of l.self l.out) l.rest ≡ run (state_of l.fn.self l.fn.out) l.piece;
 }
 
