@@ -31,6 +31,7 @@ is_account_id bs = nat_le 1 (length bs) && nat_le (length bs) 34 && list_all is_
 abbrev pub is_kind : ℕ → Bool
 is_kind b = (b == 67) || (b == 86) || (b == 78)
 
+-- a kind, of one letter
 abbrev pub kind_of : List ℕ → Option ℕ
 kind_of (b ∷ []) = if is_kind b then Some b else None
 kind_of _ = None

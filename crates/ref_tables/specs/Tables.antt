@@ -43,9 +43,11 @@ country_fault earlier row =
 abbrev pub bics_fault : List ℕ → Option (ℕ × Why)
 bics_fault file = first_fault 100000 (against bank_of bank_fault) file
 
+-- the first fault of a table of currencies
 abbrev pub ccys_fault : List ℕ → Option (ℕ × Why)
 ccys_fault file = first_fault 1000 (against ccy_of ccy_fault) file
 
+-- the first fault of a table of countries
 abbrev pub countries_fault : List ℕ → Option (ℕ × Why)
 countries_fault file = first_fault 1000 (against country_of country_fault) file
 

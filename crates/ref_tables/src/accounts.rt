@@ -1,6 +1,6 @@
 //! The table of accounts.
 
-ghost use Rattle.std.specs.Prelude.{◌≡◌, ◌≤◌, ◌<◌, [], IfErr, IfOk, All, MatchResult, None, Some, length, map, position};
+ghost use Rattle.std.specs.Prelude.{◌≡◌, ◌≤◌, ◌<◌, [], IfErr, IfOk, OnOk, All, None, Some, length, map, position};
 ghost use Rattle.csv.specs.Records.{fields_of};
 ghost use Rattle.ref_tables.specs.AccountList.{AreAccounts};
 ghost use Rattle.ref_tables.specs.Accounts.{account_fault, account_of, accounts_fault, clashes, form_fault, is_balance, owner_fits, same_relation, standing_fault, within_limits};
@@ -28,9 +28,10 @@ const BALANCE_LIMIT: u64 = 100000000000000;
 // The account that a row says, whose id is this text; a currency that is not in the table is refused later.
 fn read_columns(t: &RefTables, row: &ByteRecord, id: Text) -> Result<AccountRow, Why>
     requires { id ≡ cell 0 (fields_of row.now) }
-    ensures { MatchResult result
-        (λ a. (form_fault (fields_of row.now) ≡ None) × (a ≡ account_of t.now (fields_of row.now)) × (a.decimals ≤ 4))
-        (λ why. form_fault (fields_of row.now) ≡ Some why) }
+    ensures sound { OnOk result (form_fault (fields_of row.now) ≡ None) }
+    ensures value { IfOk result (λ a. a ≡ account_of t.now (fields_of row.now)) }
+    ensures few { IfOk result (λ a. a.decimals ≤ 4) }
+    ensures bad { IfErr result (λ why. form_fault (fields_of row.now) ≡ Some why) }
 {
     if row.len() != 7 {
         return Err(Why::Columns);
@@ -127,9 +128,10 @@ fn read_row(
 ) -> Result<AccountRow, Why>
     requires id_read { id ≡ cell 0 (fields_of row.now) }
     requires few { length earlier.now < 1000 }
-    ensures { MatchResult result
-        (λ a. (account_fault home.now.head t.now earlier.now (fields_of row.now) ≡ None) × (a ≡ account_of t.now (fields_of row.now)) × (a.decimals ≤ 4))
-        (λ why. account_fault home.now.head t.now earlier.now (fields_of row.now) ≡ Some why) }
+    ensures sound { OnOk result (account_fault home.now.head t.now earlier.now (fields_of row.now) ≡ None) }
+    ensures value { IfOk result (λ a. a ≡ account_of t.now (fields_of row.now)) }
+    ensures few { IfOk result (λ a. a.decimals ≤ 4) }
+    ensures bad { IfErr result (λ why. account_fault home.now.head t.now earlier.now (fields_of row.now) ≡ Some why) }
 {
     let account = read_columns(t, row, id)?;
     match standing(home, t, earlier, &account) {

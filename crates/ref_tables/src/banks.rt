@@ -3,7 +3,7 @@
 ghost use Rattle.ref_tables.specs.Tables.{bank_fault, bank_of};
 
 use crate::fault::Why;
-use crate::keyed::KeyedRow;
+use crate::keyed::{KeyedRow, unseen};
 use crate::rows::cell;
 use corr_ids::read_bic;
 use csv::ByteRecord;
@@ -27,9 +27,7 @@ impl KeyedRow<8, [u8; 3]> for BankRow {
         let Some(bic) = read_bic(cell(row, 0)) else {
             return Err(Why::Value { col: 1 });
         };
-        match seen.get_index_of(&bic.head) {
-            Some(at) => Err(Why::Double { row: at as u32 + 1 }),
-            None => Ok((bic.head, bic.branch)),
-        }
+        unseen(seen, &bic.head)?;
+        Ok((bic.head, bic.branch))
     }
 }

@@ -4,7 +4,7 @@ ghost use Rattle.ref_tables.specs.Tables.{country_fault, country_of};
 
 use crate::columns::{country, yes_or_no};
 use crate::fault::Why;
-use crate::keyed::KeyedRow;
+use crate::keyed::{KeyedRow, unseen};
 use crate::rows::cell;
 use csv::ByteRecord;
 use indexmap::IndexMap;
@@ -27,9 +27,7 @@ impl KeyedRow<2, bool> for CountryRow {
         let Some(listed) = yes_or_no(cell(row, 1)) else {
             return Err(Why::Value { col: 2 });
         };
-        match seen.get_index_of(&country) {
-            Some(at) => Err(Why::Double { row: at as u32 + 1 }),
-            None => Ok((country, listed)),
-        }
+        unseen(seen, &country)?;
+        Ok((country, listed))
     }
 }

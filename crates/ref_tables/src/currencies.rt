@@ -4,7 +4,7 @@ ghost use Rattle.ref_tables.specs.Tables.{ccy_fault, ccy_of};
 
 use crate::columns::{ccy, decimals};
 use crate::fault::Why;
-use crate::keyed::KeyedRow;
+use crate::keyed::{KeyedRow, unseen};
 use crate::rows::cell;
 use csv::ByteRecord;
 use indexmap::IndexMap;
@@ -27,9 +27,7 @@ impl KeyedRow<3, u8> for CurrencyRow {
         let Some(decimals) = decimals(cell(row, 1)) else {
             return Err(Why::Value { col: 2 });
         };
-        match seen.get_index_of(&ccy.0) {
-            Some(at) => Err(Why::Double { row: at as u32 + 1 }),
-            None => Ok((ccy.0, decimals)),
-        }
+        unseen(seen, &ccy.0)?;
+        Ok((ccy.0, decimals))
     }
 }

@@ -1,10 +1,11 @@
 //! Tables whose rows have a key that no two of them share.
 
-ghost use Rattle.std.specs.Prelude.{◌≡◌, ◌<◌, ◌≤◌, ℕ, List, [], IfErr, IfOk, MatchResult, Option, None, Some, length, map};
+ghost use Rattle.std.specs.Prelude.{◌≡◌, ◌<◌, ◌≤◌, ℕ, List, [], IfErr, IfOk, OnOk, Option, None, Some, length, map};
+ghost use Rattle.std.specs.Map.{keys_of};
 ghost use Rattle.std.specs.Str.{bytes_eq};
 ghost use Rattle.indexmap.specs.IndexMap.{get, index_map_len};
 ghost use Rattle.csv.specs.Records.{fields_of};
-ghost use Rattle.ref_tables.specs.Refusals.{Tells, against, first_bad_row, first_fault, named};
+ghost use Rattle.ref_tables.specs.Refusals.{Tells, against, double, first_bad_row, first_fault, named};
 ghost use Rattle.ref_tables.specs.Rows.{Cells, rows_of};
 ghost use Rattle.ref_tables.specs.declared.fault.Why.{Why};
 
@@ -23,9 +24,23 @@ pub trait KeyedRow<const N: usize, V> {
     /// Reads a row, given what the rows before it say.
     fn read(seen: &IndexMap<[u8; N], V>, row: &ByteRecord) -> Result<([u8; N], V), Why>
         requires { index_map_len seen.now < 100000 }
-        ensures { MatchResult result
-            (λ e. (fault seen.now.entries (fields_of row.now) ≡ None) × ((e.0, e.1) ≡ entry (fields_of row.now)) × (get bytes_eq seen.now e.0 ≡ None))
-            (λ why. fault seen.now.entries (fields_of row.now) ≡ Some why) };
+        ensures sound { OnOk result (fault seen.now.entries (fields_of row.now) ≡ None) }
+        ensures value { IfOk result (λ e. (e.0, e.1) ≡ entry (fields_of row.now)) }
+        ensures new { IfOk result (λ e. get bytes_eq seen.now e.0 ≡ None) }
+        ensures bad { IfErr result (λ why. fault seen.now.entries (fields_of row.now) ≡ Some why) };
+}
+
+/// A key that no earlier row has, or the first row that has it.
+pub fn unseen<const N: usize, V>(seen: &IndexMap<[u8; N], V>, key: &[u8; N]) -> Result<(), Why>
+    requires { index_map_len seen.now < 100000 }
+    ensures new { OnOk result (get bytes_eq seen.now key.now ≡ None) }
+    ensures sound { OnOk result (double (bytes_eq key.now) (keys_of seen.now.entries) ≡ None) }
+    ensures bad { IfErr result (λ why. double (bytes_eq key.now) (keys_of seen.now.entries) ≡ Some why) }
+{
+    match seen.get_index_of(key) {
+        Some(at) => Err(Why::Double { row: at as u32 + 1 }),
+        None => Ok(()),
+    }
 }
 
 // What the rows say, by their keys.

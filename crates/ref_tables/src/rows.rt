@@ -2,14 +2,28 @@
 
 ghost use Rattle.std.specs.Prelude.{◌≡◌, IfOk, option_map, map};
 ghost use Rattle.csv.specs.Records.{fields_of};
-ghost use Rattle.ref_tables.specs.Rows.{cell as cell_of, rows_of, rows_within, up_to};
+ghost use Rattle.ref_tables.specs.Rows.{IsReadFault, cell as cell_of, rows_of, rows_within, up_to};
 
 use corr_text::Memory;
-use csv::{ByteRecord, ReaderBuilder};
+use csv::{ByteRecord, ErrorKind, ReaderBuilder};
 use std::alloc::Global;
 
 /// The most bytes of a table file: 8 MiB.
 const MAX_FILE: usize = 8388608;
+
+// Rows may have any number of cells, and cells need not be text, so of the faults of csv only these two are left. A slice
+// is read without a fault, so what comes is want of memory.
+fn want_of_memory(kind: ErrorKind) -> Memory
+    requires { IsReadFault kind }
+{
+    match kind {
+        ErrorKind::Io(_) | ErrorKind::OutOfMemory => Memory,
+        ErrorKind::UnequalLengths { .. }
+        | ErrorKind::Utf8 { .. }
+        | ErrorKind::Serialize(_)
+        | ErrorKind::Deserialize { .. } => unreachable!(),
+    }
+}
 
 // The records of a file, or none where there are more than `most`.
 fn read_records(alloc: Global, file: &[u8], most: usize) -> Result<Option<Vec<ByteRecord>>, Memory>
@@ -21,9 +35,9 @@ fn read_records(alloc: Global, file: &[u8], most: usize) -> Result<Option<Vec<By
         .from_reader(alloc, file);
     let mut rows = Vec::new(alloc);
     for row in reader.into_byte_records() {
-        // a slice is read without a fault, so what is left is want of memory
-        let Ok(row) = row else {
-            return Err(Memory);
+        let row = match row {
+            Ok(row) => row,
+            Err(e) => return Err(want_of_memory(e.into_kind())),
         };
         if rows.len() >= most {
             return Ok(None);

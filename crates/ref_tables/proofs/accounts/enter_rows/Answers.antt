@@ -20,19 +20,19 @@ pub loop-row-preserved : goal.loop-row-preserved
 loop-row-preserved c =
     let row = fields_of c.row-item.result in
     let place = row-at fields_of c.args.rows.now c.loop-row.row-index c.row-item.result c.row-item.is c.loop-row-test.true in
-    let read = rw c.as_slice.ensures.value at c.in-Ok.ensures in
+    let sound = rw c.as_slice.ensures.value at c.in-Ok.ensures.sound in
     let good : is_ok c.push.result ≡ true = search rules in
     let items = rw good at c.push.ensures.items in
-    let added : c.push.new.self.items ≡ c.loop-row.accounts.items ++ account_of c.args.t.now row ∷ [] = items ∙ ap (λ a. c.loop-row.accounts.items ++ a ∷ []) read.1 in
+    let added : c.push.new.self.items ≡ c.loop-row.accounts.items ++ account_of c.args.t.now row ∷ [] = items ∙ ap (λ a. c.loop-row.accounts.items ++ a ∷ []) c.in-Ok.ensures.value in
     record {
-      entered = enters c.loop-row.invariant.entered row place.0 place.1 _ read.0 added;
-      few_decimals = rw items (All-push (λ a. a.decimals ≤ 4) c.loop-row.accounts.items c.in-Ok.account c.loop-row.invariant.few_decimals read.2);
+      entered = enters c.loop-row.invariant.entered row place.0 place.1 _ sound added;
+      few_decimals = rw items (All-push (λ a. a.decimals ≤ 4) c.loop-row.accounts.items c.in-Ok.account c.loop-row.invariant.few_decimals c.in-Ok.ensures.few);
     }
 
 pub returns-in-Err-clause-bad : goal.returns-in-Err-clause-bad
 returns-in-Err-clause-bad c =
     let place = row-at fields_of c.args.rows.now c.loop-row.row-index c.row-item.result c.row-item.is c.loop-row-test.true in
-    let read = rw c.as_slice.ensures.value at c.in-Err.ensures in
+    let read = rw c.as_slice.ensures.value at c.in-Err.ensures.bad in
     let told = refuses c.loop-row.invariant.entered (fields_of c.row-item.result) place.0 place.1 c.in-Err.why read in
     let many : c.len.result ≡ length c.loop-row.accounts.items = c.len.ensures ∙ sym c.as_slice.ensures.len ∙ ap length c.as_slice.ensures.value in
     rw (c.bad.ensures, many, told) refl

@@ -11,14 +11,14 @@ loop-row-preserved g c =
     let row = fields_of c.row-item.result in
     let place = row-at fields_of c.args.rows.now c.loop-row.row-index c.row-item.result c.row-item.is c.loop-row-test.true in
     let read = c.in-Ok.ensures in
-    let fresh = insert_entry-new bytes_eq c.loop-row.seen c.in-Ok.entry.0 c.in-Ok.entry.1 read.2 in
-    let added : c.insert.new.self.entries ≡ c.loop-row.seen.entries ++ g.R.KeyedRow.entry row ∷ [] = c.in_ok-insert-in-Ok.ensures.entries ∙ fresh ∙ ap (λ e. c.loop-row.seen.entries ++ e ∷ []) read.1 in
-    enters c.loop-row.invariant row place.0 place.1 _ read.0 added
+    let fresh = insert_entry-new bytes_eq c.loop-row.seen c.in-Ok.entry.0 c.in-Ok.entry.1 read.new in
+    let added : c.insert.new.self.entries ≡ c.loop-row.seen.entries ++ g.R.KeyedRow.entry row ∷ [] = c.in_ok-insert-in-Ok.ensures.entries ∙ fresh ∙ ap (λ e. c.loop-row.seen.entries ++ e ∷ []) read.value in
+    enters c.loop-row.invariant row place.0 place.1 _ read.sound added
 
 pub returns-in-Err-clause-bad : goal.returns-in-Err-clause-bad
 returns-in-Err-clause-bad g c =
     let place = row-at fields_of c.args.rows.now c.loop-row.row-index c.row-item.result c.row-item.is c.loop-row-test.true in
-    let told = refuses c.loop-row.invariant (fields_of c.row-item.result) place.0 place.1 c.in-Err.why c.in-Err.ensures in
+    let told = refuses c.loop-row.invariant (fields_of c.row-item.result) place.0 place.1 c.in-Err.why c.in-Err.ensures.bad in
     rw (c.bad.ensures, c.len.ensures.len, told) refl
 
 pub returns-clause-ok : goal.returns-clause-ok

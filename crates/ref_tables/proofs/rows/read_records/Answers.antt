@@ -1,12 +1,13 @@
 use Rattle.std.proofs.Common.{Bor, List, ℕ, ◌≡◌, ◌≤◌, ◌∙◌, sym, refl, rules, inl, inr, true, map, Some, ◌∷◌, [], length, arith}
 use Rattle.std.specs.Result.{is_ok}
 use Rattle.std.proofs.lemmas.List.{map-append, length-map}
-use Rattle.csv.specs.Reading.{Reached, default_config, strip_bom}
+use Rattle.csv.specs.Reading.{Reached, default_config, error_kind, strip_bom}
 use Rattle.csv.specs.Records.{fields_of}
 use Rattle.csv.specs.declared.parser.State.TheVariants as st
 use Rattle.csv.proofs.ReadFacts.{rows-end, rows-more}
 use Rattle.ref_tables.specs.Rows.{rows_of}
 use Rattle.ref_tables.proofs.laws.Records.{records-begin, records-end, up_to-more, up_to-all}
+use Rattle.ref_tables.proofs.ReadFaults.{is-read-fault}
 use Rattle.ref_tables.proofs.rows.read_records.Goals as goal
 
 pub loop-row-init : goal.loop-row-init
@@ -27,6 +28,7 @@ loop-row-init c =
       fr.source,
       (sym fr.state, refl),
       omega arith,
+      rw f at fr.flexible,
     )
 
 pub returns-then-len-most : goal.returns-then-len-most
@@ -39,15 +41,22 @@ returns-then-len-most c =
     let full : c.args.most ≤ length (map fields_of c.loop-row.rows.items) = simp length-map (omega arith) in
     sym (up_to-more c.args.most _ (map fields_of c.loop-row.rows.items) (fields_of c.in-Ok.row) b.0 b.1 full)
 
+pub want_of_memory-requires : goal.want_of_memory-requires
+want_of_memory-requires c =
+    let inv = c.loop-row.invariant in
+    let why = rw (c.in-Some.is, c.in-Err.is) at ((c.next.ensures.steps inv.2 inv.0).0 inv.1) in
+    rw c.into_kind.ensures (is-read-fault (λ (s : Bor (List ℕ)). Some s.now) c.loop-row.row-iterator.rdr c.next.new.self.rdr (error_kind c.in-Err.e) inv.8 why)
+
 pub loop-row-preserved : goal.loop-row-preserved
 loop-row-preserved c =
     let inv = c.loop-row.invariant in
+    let flexible = rw (c.in-Some.is, c.in-Ok.is) at (c.next.ensures.steps inv.2 inv.0).3 in
     let s = rw (c.in-Some.is, c.in-Ok.is) at ((c.next.ensures.steps inv.2 inv.0).0 inv.1) in
     let good : is_ok c.push.result ≡ true = search rules in
     let items = rw good at c.push.ensures.items in
     let len = rw good at c.push.ensures.len in
     let m = rows-more (λ (s : Bor (List ℕ)). Some s.now) c.loop-row.row-iterator.rdr c.next.new.self.rdr (fields_of c.in-Ok.row) default_config st.StartRecord (strip_bom c.args.file.now) inv.4 (map fields_of c.loop-row.rows.items) inv.3 inv.5 inv.6 s.0 in
-    (s.0.3 ∙ inv.0, inl s.1, s.2, s.0.2 ∙ inv.3, m.0, m.1, rw (items, map-append fields_of c.loop-row.rows.items (c.in-Ok.row ∷ [])) m.2, omega arith)
+    (s.0.3 ∙ inv.0, inl s.1, s.2, s.0.2 ∙ inv.3, m.0, m.1, rw (items, map-append fields_of c.loop-row.rows.items (c.in-Ok.row ∷ [])) m.2, omega arith, flexible ∙ inv.8)
 
 pub returns : goal.returns
 unfolding rows_of
