@@ -3,7 +3,7 @@
 ghost use Rattle.std.specs.Prelude.{◌≤◌, IfOk, IsSome, length};
 ghost use Rattle.pay_plan.specs.Readable.{IsTransferRead};
 
-use pay_plan::{Ask, plan, plan_code_law};
+use pay_plan::{Ask, plan};
 use corr_ids::{Bic, Envelope, Mir};
 use corr_money::Ccy;
 use corr_text::{List, Memory, Text};
@@ -62,6 +62,7 @@ fn envelope() -> Envelope
 // Generic, so that a large value is let go as one.
 fn let_go<M: Drop>(_m: M) {}
 
+#[tactic(auto, using(fin_fields::proofs::laws::Bounds::lines_few))]
 fn cut(alloc: Global, text: &[u8]) -> Result<List<Field>, FieldFault>
     ensures { IfOk result (λ fields. length fields ≤ 1000) }
 {
@@ -91,7 +92,6 @@ fn counts(pay: &Pay) -> (usize, usize) {
 
 #[test]
 fn a_transfer_is_planned(rt: HostRuntime) -> Result<(), Fail> {
-    plan_code_law();
     let alloc = rt.alloc();
     let t = read_tables(alloc, b"", b"EUR,2\n", b"")?;
     let ssi = Ssi::read(alloc, b"", &t)?;

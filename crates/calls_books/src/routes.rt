@@ -1,6 +1,6 @@
 //! A route between two accounts.
 
-use routing::{Cover, Routed, Target, route, route_code_law};
+use routing::{Cover, Routed, Target, route};
 use corr_ids::{Bic, Day};
 use corr_money::{Amount, Ccy, Minor};
 use corr_text::{List, Memory, Text};
@@ -47,7 +47,6 @@ fn book(alloc: Global) -> Result<Accounts, Fail> {
 
 #[test]
 fn a_payment_is_routed(rt: HostRuntime) -> Result<(), Fail> {
-    route_code_law();
     let t = read_tables(rt.alloc(), b"", b"", b"")?;
     let ssi = Ssi::read(rt.alloc(), b"", &t)?;
     let book = book(rt.alloc())?;

@@ -1,32 +1,15 @@
 //! Advices as messages hold them.
 
-ghost use Rattle.std.specs.Prelude.{◌≤◌, All, IfOk, IsTrue, length};
-ghost use Rattle.fin_fields.specs.Writing.{IsField};
+ghost use Rattle.std.specs.Prelude.{IsTrue};
 ghost use Rattle.ref_tables.specs.Seen.{few_decimals};
 
-use mt9_advice::{advice_laws, put_mt900, put_mt910, read_mt900, read_mt910};
-use corr_text::{List, Text};
-use fin_fields::{Field, FieldFault, cut_fields};
+use crate::cutting::{cut, let_go};
+use mt9_advice::{put_mt900, put_mt910, read_mt900, read_mt910};
+use corr_text::Text;
+use fin_fields::FieldFault;
 use ref_tables::{RefTables, read_tables};
 use std::alloc::Global;
 use std::test::Fail;
-
-fn cut(alloc: Global, text: &[u8]) -> Result<List<Field>, FieldFault>
-    ensures few { IfOk result (λ fields. length fields ≤ 1000) }
-    ensures fit { IfOk result (λ fields. All IsField fields) }
-{
-    if text.len() > 1000 {
-        return Err(FieldFault::Memory);
-    }
-    let fields = cut_fields(alloc, text)?;
-    if fields.as_slice().len() > 1000 {
-        return Err(FieldFault::Memory);
-    }
-    Ok(fields)
-}
-
-// Generic, so that an advice is let go as one value.
-fn let_go<M: Drop>(_m: M) {}
 
 // The confirmation of a text, written; none where the text says none.
 fn debit(alloc: Global, tables: &RefTables, text: &[u8]) -> Result<Option<Text>, FieldFault>
@@ -59,7 +42,6 @@ fn credit(alloc: Global, tables: &RefTables, text: &[u8]) -> Result<Option<Text>
 
 #[test]
 fn a_debit_is_read_and_written(rt: HostRuntime) -> Result<(), Fail> {
-    advice_laws();
     let tables = read_tables(rt.alloc(), b"", b"EUR,2\n", b"")?;
     let text = b":20:R\n:21:S\n:25:A\n:32A:240603EUR1,\n";
     let want = b":20:R\r\n:21:S\r\n:25:A\r\n:32A:240603EUR1,00\r\n";

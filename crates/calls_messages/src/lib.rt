@@ -6,6 +6,8 @@ mod advices;
 #[cfg(test)]
 mod covers;
 #[cfg(test)]
+mod cutting;
+#[cfg(test)]
 mod rules;
 #[cfg(test)]
 mod transfers;

@@ -1,32 +1,15 @@
 //! A transfer as a message holds it.
 
-ghost use Rattle.std.specs.Prelude.{◌≤◌, All, IfOk, IsTrue, length};
-ghost use Rattle.fin_fields.specs.Writing.{IsField};
+ghost use Rattle.std.specs.Prelude.{IsTrue};
 ghost use Rattle.ref_tables.specs.Seen.{few_decimals};
 
-use mt103::{put_mt103, read_mt103, transfer_laws};
-use corr_text::{List, Text};
-use fin_fields::{Field, FieldFault, cut_fields};
+use crate::cutting::{cut, let_go};
+use mt103::{put_mt103, read_mt103};
+use corr_text::Text;
+use fin_fields::FieldFault;
 use ref_tables::{RefTables, read_tables};
 use std::alloc::Global;
 use std::test::Fail;
-
-fn cut(alloc: Global, text: &[u8]) -> Result<List<Field>, FieldFault>
-    ensures few { IfOk result (λ fields. length fields ≤ 1000) }
-    ensures fit { IfOk result (λ fields. All IsField fields) }
-{
-    if text.len() > 1000 {
-        return Err(FieldFault::Memory);
-    }
-    let fields = cut_fields(alloc, text)?;
-    if fields.as_slice().len() > 1000 {
-        return Err(FieldFault::Memory);
-    }
-    Ok(fields)
-}
-
-// Generic, so that a transfer is let go as one value.
-fn let_go<M: Drop>(_m: M) {}
 
 // The transfer of a text, written; none where the text says no transfer.
 fn written(alloc: Global, tables: &RefTables, text: &[u8]) -> Result<Option<Text>, FieldFault>
@@ -45,7 +28,6 @@ fn written(alloc: Global, tables: &RefTables, text: &[u8]) -> Result<Option<Text
 
 #[test]
 fn a_transfer_is_read_and_written(rt: HostRuntime) -> Result<(), Fail> {
-    transfer_laws();
     let tables = read_tables(rt.alloc(), b"", b"EUR,2\n", b"")?;
     let text = b":20:R\n:23B:CRED\n:32A:240603EUR1,\n:50K:P\n:59:Q\n:71A:SHA\n";
     let want =

@@ -1,6 +1,6 @@
 //! Whole messages, received and sent.
 
-use fin_message::{MessageFault, check_sent, message_code_law, verdict};
+use fin_message::{MessageFault, check_sent, verdict};
 use corr_ids::Bic;
 use corr_text::Code;
 use ref_tables::read_tables;
@@ -24,7 +24,6 @@ fn code_of<M: Drop>(read: Result<M, MessageFault>) -> Option<Code> {
 
 #[test]
 fn a_debit_is_received(rt: HostRuntime) -> Result<(), Fail> {
-    message_code_law();
     let t = read_tables(rt.alloc(), b"ALPHDEFF\n", b"EUR,2\n", b"")?;
     let m = b"{1:F01HOMEUS33AXXX0001000007}{2:O9001200240603ALPHDEFFAXXX00010000012406031205N}{4:\n:20:R\n:21:S\n:25:A\n:32A:240603EUR1,\n-}";
     let read = verdict(rt.alloc(), m, &HOME, &t);

@@ -1,0 +1,27 @@
+//! What the tests of message types share.
+
+ghost use Rattle.std.specs.Prelude.{◌≤◌, All, IfOk, length};
+ghost use Rattle.fin_fields.specs.Writing.{IsField};
+
+use corr_text::List;
+use fin_fields::{Field, FieldFault, cut_fields};
+use std::alloc::Global;
+
+/// The fields of a short text.
+#[tactic(auto, using(fin_fields::proofs::laws::Bounds::lines_few))]
+pub fn cut(alloc: Global, text: &[u8]) -> Result<List<Field>, FieldFault>
+    ensures few { IfOk result (λ fields. length fields ≤ 1000) }
+    ensures fit { IfOk result (λ fields. All IsField fields) }
+{
+    if text.len() > 1000 {
+        return Err(FieldFault::Memory);
+    }
+    let fields = cut_fields(alloc, text)?;
+    if fields.as_slice().len() > 1000 {
+        return Err(FieldFault::Memory);
+    }
+    Ok(fields)
+}
+
+/// Lets a value go. Generic, so that it goes as one.
+pub fn let_go<M: Drop>(_m: M) {}
