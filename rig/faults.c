@@ -1,0 +1,228 @@
+/* A library to preload (LD_PRELOAD): it lets calls of a program fail, counted from its `main` on.
+ *
+ *   FAULT_CALL   open, read, write (to any descriptor but 2), tell (a write to descriptor 2) or memory
+ *   FAULT_KIND   refused (EIO; no memory), short (one byte is moved) or interrupted (EINTR); a memory call or an open
+ *                has no short kind
+ *   FAULT_AT     the number of the call, from 1
+ *   FAULT_ON     set: each later one fails too
+ *   FAULT_COUNT  a file that gets the number of calls of each sort, in the order above
+ *
+ * Numbers of calls are those of one thread: the program must have no other. */
+#define _GNU_SOURCE
+#include <errno.h>
+#include <fcntl.h>
+#include <stdarg.h>
+#include <stddef.h>
+#include <stdio.h>
+#include <stdlib.h>
+#include <string.h>
+#include <sys/mman.h>
+#include <sys/syscall.h>
+#include <sys/uio.h>
+#include <unistd.h>
+
+extern void *__libc_malloc(size_t size);
+extern void *__libc_calloc(size_t count, size_t size);
+extern void *__libc_realloc(void *old, size_t size);
+extern void *__libc_memalign(size_t align, size_t size);
+
+enum call { OPEN, READ, WRITE, TELL, MEMORY, CALLS };
+enum kind { PASS, REFUSED, SHORT, INTERRUPTED };
+
+static const char *const names[CALLS] = {"open", "read", "write", "tell", "memory"};
+
+static int armed;
+static long seen[CALLS];
+static enum call chosen = CALLS;
+static enum kind chosen_kind;
+static long first;
+static int later;
+static const char *count_file;
+
+/* What becomes of the next call of a sort. */
+static enum kind next(enum call call)
+{
+    if (!armed)
+        return PASS;
+    long number = ++seen[call];
+    if (call != chosen || number < first || (number > first && !later))
+        return PASS;
+    return chosen_kind;
+}
+
+static int fails(enum kind kind)
+{
+    if (kind == REFUSED)
+        errno = EIO;
+    if (kind == INTERRUPTED)
+        errno = EINTR;
+    return kind == REFUSED || kind == INTERRUPTED;
+}
+
+static size_t moved(enum kind kind, size_t size)
+{
+    return kind == SHORT && size > 1 ? 1 : size;
+}
+
+ssize_t read(int fd, void *buf, size_t size)
+{
+    enum kind kind = next(READ);
+    if (fails(kind))
+        return -1;
+    return syscall(SYS_read, fd, buf, moved(kind, size));
+}
+
+ssize_t write(int fd, const void *buf, size_t size)
+{
+    enum kind kind = next(fd == 2 ? TELL : WRITE);
+    if (fails(kind))
+        return -1;
+    return syscall(SYS_write, fd, buf, moved(kind, size));
+}
+
+ssize_t writev(int fd, const struct iovec *parts, int count)
+{
+    enum kind kind = next(fd == 2 ? TELL : WRITE);
+    if (fails(kind))
+        return -1;
+    if (kind == SHORT && count > 0)
+        return syscall(SYS_write, fd, parts[0].iov_base, moved(kind, parts[0].iov_len));
+    return syscall(SYS_writev, fd, parts, count);
+}
+
+static int open_at(int dir, const char *path, int flags, unsigned mode)
+{
+    if (fails(next(OPEN)))
+        return -1;
+    return syscall(SYS_openat, dir, path, flags, mode);
+}
+
+#define MODE(flags) \
+    unsigned mode = 0; \
+    if (flags & (O_CREAT | __O_TMPFILE)) { \
+        va_list more; \
+        va_start(more, flags); \
+        mode = va_arg(more, unsigned); \
+        va_end(more); \
+    }
+
+int open(const char *path, int flags, ...)
+{
+    MODE(flags)
+    return open_at(AT_FDCWD, path, flags, mode);
+}
+
+int open64(const char *path, int flags, ...)
+{
+    MODE(flags)
+    return open_at(AT_FDCWD, path, flags, mode);
+}
+
+int openat(int dir, const char *path, int flags, ...)
+{
+    MODE(flags)
+    return open_at(dir, path, flags, mode);
+}
+
+int openat64(int dir, const char *path, int flags, ...)
+{
+    MODE(flags)
+    return open_at(dir, path, flags, mode);
+}
+
+static int no_memory(void)
+{
+    if (next(MEMORY) == PASS)
+        return 0;
+    errno = ENOMEM;
+    return 1;
+}
+
+void *malloc(size_t size)
+{
+    return no_memory() ? NULL : __libc_malloc(size);
+}
+
+void *calloc(size_t count, size_t size)
+{
+    return no_memory() ? NULL : __libc_calloc(count, size);
+}
+
+void *realloc(void *old, size_t size)
+{
+    return no_memory() ? NULL : __libc_realloc(old, size);
+}
+
+void *memalign(size_t align, size_t size)
+{
+    return no_memory() ? NULL : __libc_memalign(align, size);
+}
+
+void *aligned_alloc(size_t align, size_t size)
+{
+    return no_memory() ? NULL : __libc_memalign(align, size);
+}
+
+int posix_memalign(void **out, size_t align, size_t size)
+{
+    if (no_memory())
+        return ENOMEM;
+    *out = __libc_memalign(align, size);
+    return *out ? 0 : ENOMEM;
+}
+
+void *mmap(void *at, size_t size, int prot, int flags, int fd, off_t offset)
+{
+    if (no_memory())
+        return MAP_FAILED;
+    return (void *)syscall(SYS_mmap, at, size, prot, flags, fd, offset);
+}
+
+/* Reads what is to fail; before `main`, while nothing is counted. */
+__attribute__((constructor)) static void choose(void)
+{
+    const char *call = getenv("FAULT_CALL"), *kind = getenv("FAULT_KIND"), *at = getenv("FAULT_AT");
+    count_file = getenv("FAULT_COUNT");
+    if (!call || !kind || !at)
+        return;
+    for (int i = 0; i < CALLS; i++)
+        if (!strcmp(call, names[i]))
+            chosen = i;
+    chosen_kind = !strcmp(kind, "short") ? SHORT : !strcmp(kind, "interrupted") ? INTERRUPTED : REFUSED;
+    first = atol(at);
+    later = getenv("FAULT_ON") != NULL;
+}
+
+/* Tells how many calls there were. */
+__attribute__((destructor)) static void tell_counts(void)
+{
+    armed = 0;
+    if (!count_file)
+        return;
+    char line[128];
+    int size = snprintf(line, sizeof line, "%ld %ld %ld %ld %ld\n", seen[OPEN], seen[READ], seen[WRITE], seen[TELL], seen[MEMORY]);
+    int fd = syscall(SYS_openat, AT_FDCWD, count_file, O_WRONLY | O_CREAT | O_TRUNC, 0666);
+    if (fd >= 0) {
+        syscall(SYS_write, fd, line, size);
+        syscall(SYS_close, fd);
+    }
+}
+
+static int (*program)(int, char **, char **);
+
+static int counted(int argc, char **argv, char **envp)
+{
+    armed = 1;
+    int status = program(argc, argv, envp);
+    armed = 0;
+    return status;
+}
+
+int __libc_start_main(int (*start)(int, char **, char **), int argc, char **argv, void (*init)(void), void (*fini)(void), void (*rtld_fini)(void), void *stack_end)
+{
+    typedef int starts(int (*)(int, char **, char **), int, char **, void (*)(void), void (*)(void), void (*)(void), void *);
+    extern void *dlsym(void *, const char *);
+    starts *real = (starts *)dlsym((void *)-1l, "__libc_start_main");
+    program = start;
+    return real(counted, argc, argv, init, fini, rtld_fini, stack_end);
+}
