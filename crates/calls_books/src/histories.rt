@@ -4,10 +4,10 @@ ghost use Rattle.std.specs.Prelude.{IfOk};
 ghost use Rattle.day_model.specs.Fit.{FitsAccounts};
 ghost use Rattle.day_model.specs.Legal.{IsLegal};
 
-use day_model::*;
 use corr_ids::{Bic, Day, Mir};
 use corr_money::{Ccy, Minor};
 use corr_text::{List, Memory, Text};
+use day_model::*;
 use std::alloc::Global;
 use std::test::*;
 

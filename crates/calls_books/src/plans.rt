@@ -3,13 +3,13 @@
 ghost use Rattle.std.specs.Prelude.{◌≤◌, IfOk, IsSome, length};
 ghost use Rattle.pay_plan.specs.Readable.{IsTransferRead};
 
-use pay_plan::{Ask, plan};
 use corr_ids::{Bic, Envelope, Mir};
 use corr_money::Ccy;
 use corr_text::{List, Memory, Text};
 use day_model::{Account, Accounts, Pay, rows_hold};
 use fin_fields::{Field, FieldFault, cut_fields};
 use mt103::{Mt103, read_mt103};
+use pay_plan::{Ask, plan};
 use ref_tables::{RefTables, read_tables};
 use ssi_versions::Ssi;
 use std::alloc::Global;

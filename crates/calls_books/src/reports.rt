@@ -6,9 +6,9 @@ ghost use Rattle.day_model.specs.Fit.{FitsAccounts};
 ghost use Rattle.day_model.specs.Legal.{IsLegal};
 ghost use Rattle.corr_report.specs.Bookings.{AreInCentury};
 
-use corr_report::{bookings, report};
 use corr_ids::{Bic, Day, Mir};
 use corr_money::{Ccy, Minor};
+use corr_report::{bookings, report};
 use corr_text::{List, Memory, Text};
 use day_model::{
     Account, Accounts, AcctNo, Entry, History, Leg, Mt, Pay, Quote, Reply, Side, decide, rows_hold,
@@ -101,7 +101,10 @@ fn a_booked_pay_is_reported(rt: HostRuntime) -> Result<(), Fail> {
         place: 1,
     }];
     let text = report(alloc, &a, &h, &replies)?;
-    assert!(rt; text.bytes().ends_with(b"TOTAL EUR DEBIT 0,03 CREDIT 0,03\n"));
+    assert!(rt;
+        text.bytes()
+            .ends_with(b"TOTAL EUR DEBIT 0,03 CREDIT 0,03\n")
+    );
     let text = bookings(alloc, &a, &h)?;
     assert!(rt; text.bytes().ends_with(b" BOOKED D A 0,03 C B 0,03\n"));
     Ok(())

@@ -1,11 +1,11 @@
 //! A route between two accounts.
 
-use routing::{Cover, Routed, Target, route};
 use corr_ids::{Bic, Day};
 use corr_money::{Amount, Ccy, Minor};
 use corr_text::{List, Memory, Text};
 use day_model::{Account, Accounts, AcctNo, rows_hold};
 use ref_tables::read_tables;
+use routing::{Cover, Routed, Target, route};
 use ssi_versions::Ssi;
 use std::alloc::Global;
 use std::test::Fail;

@@ -1,16 +1,13 @@
 //! A whole run over empty files in memory.
 
-use corr_top::{Room, Tables, corr, status_line};
 use corr_io::{MemSink, MemSource};
 use corr_text::{List, Memory, Text};
+use corr_top::{Room, Tables, corr, status_line};
 use std::alloc::Global;
 use std::test::Fail;
 
 fn nothing(alloc: Global) -> Result<MemSource, Memory> {
-    Ok(MemSource::new(
-        Text::from_bytes(alloc, b"")?,
-        List::new(alloc),
-    ))
+    Ok(MemSource::new(Text::from_bytes(alloc, b"")?, List::new(alloc)))
 }
 
 fn room(alloc: Global) -> Result<Room<MemSource, MemSink>, Memory> {

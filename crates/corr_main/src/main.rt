@@ -6,28 +6,68 @@ ghost use Rattle.corr_top.specs.Status.{HasDecimals};
 
 use corr_io::{StdSink, StdSource};
 use corr_text::{Memory, Text};
-use corr_top::{Room, Status, Tables, corr, status_line};
-use std::env;
+use corr_top::{Room, Status, Tables, corr, put_status_line};
+use std::env::{Env, FillError};
+use std::fs::File;
+use std::io;
 use std::io::Write;
+use std::os::fd::{AsRawFd, IntoRawFd};
 use std::process::ExitCode;
 
 const HELP: &[u8] =
-    b"corr FOLDER run DATE 1\n\nReads bics.csv, ccys.csv, countries.csv, accounts.csv, ssi.csv and messages.fin in\nFOLDER, books the messages on DATE (YYMMDD) and prints the report.\n\ncorr --help     prints this\ncorr --version  prints the version\n";
+    b"corr FOLDER run DATE 1\n\nReads bics.csv, ccys.csv, countries.csv, accounts.csv, ssi.csv and messages.fin in\nFOLDER, books the messages on DATE (YYMMDD) and prints the report.\n\ncorr --help     prints this\ncorr --version  prints the version\n\nStatus 0 done; 1 other words; 2 a table row is refused; 3 a file can't be read; 4 the report can't\nbe written; 6 the openings don't balance; 7 no memory; 9 the message file is too large; 10 it\ncan't be cut. Each but 0 has its line on standard error.\n";
 
 const VERSION: &[u8] = b"corr 0.1.0\n";
 
-/// The words of the command line behind the program's name. `Usage`: one of them is not UTF-8.
+/// The most bytes of a word of the command line.
+const WORD_LIMIT: usize = 4096;
+
+/// The most bytes of the line that tells a status, and of its line end.
+const LINE_LIMIT: usize = 128;
+
+/// The line of `Status::Memory`, which takes no memory.
+const NO_MEMORY: &[u8] = b"corr: no memory\n";
+
+/// Puts the null device in the place of each of standard input, output and error that is closed, so that no file that is
+/// opened later gets its number. It is open for reading alone: what is written there fails, as to what is closed.
+fn fill_standard(rt: &HostRuntime) -> io::Result<()> {
+    for _ in 0..3 {
+        let null = File::open(rt, "/dev/null")?;
+        if null.as_raw_fd() > 2 {
+            break;
+        }
+        null.into_raw_fd();
+    }
+    Ok(())
+}
+
+/// The word at a place of the command line; none behind the last one. `Usage`: it is longer than the limit, or not UTF-8.
+fn word(rt: &HostRuntime, at: usize) -> Result<Option<Text>, Status>
+    ensures { IfErr result HasDecimals }
+{
+    let mut bytes = [0u8; WORD_LIMIT];
+    let len = match rt.arg(at, &mut bytes) {
+        Ok(len) => len,
+        Err(FillError::NotPresent) => return Ok(None),
+        Err(FillError::TooLong) => return Err(Status::Usage),
+    };
+    if str::from_utf8(&bytes[..len]).is_err() {
+        return Err(Status::Usage);
+    }
+    match Text::from_bytes(rt.alloc(), &bytes[..len]) {
+        Ok(word) => Ok(Some(word)),
+        Err(Memory) => Err(Status::Memory),
+    }
+}
+
+/// The words of the command line behind the program's name.
 fn words(rt: &HostRuntime) -> Result<Vec<Text>, Status>
     ensures { IfErr result HasDecimals }
 {
-    let alloc = rt.alloc();
-    let Ok(args) = env::args(rt) else {
-        return Err(Status::Usage);
-    };
-    let mut words = Vec::new(alloc);
-    for arg in args.skip(1) {
-        let Ok(word) = Text::from_bytes(alloc, arg.as_str().as_bytes()) else {
-            return Err(Status::Memory);
+    let mut words = Vec::new(rt.alloc());
+    for at in 1..usize::MAX {
+        let Some(word) = word(rt, at)? else {
+            break;
         };
         if words.push(word).is_err() {
             return Err(Status::Memory);
@@ -105,25 +145,49 @@ fn command(rt: &HostRuntime, words: &[Text]) -> Status
     }
 }
 
-/// Tells a status other than 0 on standard error.
-fn tell(rt: &HostRuntime, status: &Status)
-    requires { HasDecimals status.now }
+/// Does what the command line says. `ReadFault`: the null device is not there.
+fn start(rt: &HostRuntime) -> Status
+    ensures { HasDecimals result }
 {
-    if status.number() == 0 {
-        return;
+    if fill_standard(rt).is_err() {
+        return Status::ReadFault {
+            before: 0,
+            after: 1,
+        };
     }
-    if let Ok(line) = status_line(rt.alloc(), status) {
-        let mut out = rt.stderr();
-        let _ = out.write_all(line.bytes());
-        let _ = out.write_all(b"\n");
+    match words(rt) {
+        Ok(words) => command(rt, words.as_slice()),
+        Err(status) => status,
     }
 }
 
+/// Tells a status other than 0 on standard error, by a line for which `line` has room, and answers its number. Where
+/// memory is refused while the line is made, the status is `Memory`.
+fn tell(rt: &HostRuntime, status: &Status, line: &mut Text) -> u8
+    requires { HasDecimals status.now }
+{
+    if status.number() == 0 {
+        return 0;
+    }
+    let made = put_status_line(rt.alloc(), status, line);
+    if made.is_err() || line.push(b"\n").is_err() {
+        return tell_no_memory(rt);
+    }
+    let _ = rt.stderr().write_all(line.bytes());
+    status.number()
+}
+
+/// Tells that memory was refused.
+fn tell_no_memory(rt: &HostRuntime) -> u8 {
+    let _ = rt.stderr().write_all(NO_MEMORY);
+    Status::Memory.number()
+}
+
 fn main(rt: HostRuntime) -> ExitCode {
-    let status = match words(&rt) {
-        Ok(words) => command(&rt, words.as_slice()),
-        Err(status) => status,
+    // the line's memory is taken first: then a status is told where memory is refused later
+    let number = match Text::with_room(rt.alloc(), b"", LINE_LIMIT) {
+        Ok(mut line) => tell(&rt, &start(&rt), &mut line),
+        Err(Memory) => tell_no_memory(&rt),
     };
-    tell(&rt, &status);
-    ExitCode::from(status.number())
+    ExitCode::from(number)
 }

@@ -3,6 +3,7 @@ pub mod MessageFiles
 pub mod Routes
 pub mod Turns
 pub mod Opening
+pub mod Counting
 pub mod Running
 pub mod AccountRows
 pub mod Complete

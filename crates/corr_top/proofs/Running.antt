@@ -1,17 +1,20 @@
 -- How a run ends, from how its steps end.
 use Rattle.std.proofs.Common.{◌≡◌, ℕ, List, [], ◌∷◌, Option, Some, refl, ap, subst, arith}
-use Rattle.std.specs.Prelude.{slice_get}
+use Rattle.std.specs.Prelude.{All, slice_get}
 use Rattle.std.specs.Io.KnownBytes.{Appends}
 use Rattle.corr_ids.specs.declared.day.Day.{Day}
 use Rattle.corr_top.specs.declared.books.Books.{Books}
 use Rattle.corr_top.specs.declared.status.Status.{Status}
 use Rattle.corr_top.specs.declared.status.Status.TheVariants as status
-use Rattle.corr_top.specs.Answers.{report_over}
+use Rattle.day_model.specs.declared.entry.Entry.{Entry}
+use Rattle.day_model.specs.Chart.{Chart}
+use Rattle.day_model.specs.Legal.{IsLegal}
+use Rattle.corr_top.specs.Answers.{HasPayShape, history_of, report_over}
 use Rattle.corr_top.specs.Ends.{Ends}
 use Rattle.corr_top.specs.MessageFile.{IsMessageFile}
 use Rattle.corr_top.specs.Messages.{StopsAtMessages}
 use Rattle.corr_top.specs.Reading.{IsRead}
-use Rattle.corr_top.specs.Run.{AreFine, AreRead, IsWhole, books_in, fault_in, limits, report_in}
+use Rattle.corr_top.specs.Run.{AreFine, AreRead, IsWhole, books_in, chart_in, fault_in, history_in, limits, report_in}
 use Rattle.corr_top.specs.Told.{Told}
 use Rattle.corr_top.specs.Writing.{AppendsPrefix}
 
@@ -20,9 +23,23 @@ six_fine : (b d e f g m : List ℕ) → AreFine (b ∷ d ∷ e ∷ f ∷ g ∷ [
 unfolding fault_in
 six_fine b d e f g m fine = record { no_fault = fine.no_fault; balanced = λ five. fine.balanced (omega arith) }
 
-pub whole : (before after : List Told) (b d e f g m : List ℕ) (messages : List (List ℕ)) → AreRead limits before after (b ∷ d ∷ e ∷ f ∷ g ∷ m ∷ []) → AreFine (b ∷ d ∷ e ∷ f ∷ g ∷ []) → IsMessageFile m messages
-    → IsWhole before after (b ∷ d ∷ e ∷ f ∷ g ∷ m ∷ []) messages
-whole before after b d e f g m messages read fine are = record { read = read; all = refl; fine = six_fine b d e f g m fine; messages_are = are }
+-- the history that messages make is legal, of pays that can be written down
+pub record IsKept (chart : Chart) (entries : List Entry) : Type 0 where
+  pub legal : IsLegal chart entries
+  pub shapes : All HasPayShape entries
+
+pub whole : (before after : List Told) (day : Day) (b d e f g m : List ℕ) (messages : List (List ℕ)) → AreRead limits before after (b ∷ d ∷ e ∷ f ∷ g ∷ m ∷ []) → AreFine (b ∷ d ∷ e ∷ f ∷ g ∷ []) → IsMessageFile m messages
+    → IsKept (chart_in (b ∷ d ∷ e ∷ f ∷ g ∷ m ∷ [])) (history_in day (b ∷ d ∷ e ∷ f ∷ g ∷ m ∷ []) messages) → IsWhole before after day (b ∷ d ∷ e ∷ f ∷ g ∷ m ∷ []) messages
+whole before after day b d e f g m messages read fine are kept =
+    record { read = read; all = refl; fine = six_fine b d e f g m fine; messages_are = are; legal = kept.legal; shapes = kept.shapes }
+
+-- the history over the books that were opened is the history of the run
+pub same_books : (day : Day) (b d e f g m : List ℕ) (books : Books) → books ≡ books_in day (b ∷ d ∷ e ∷ f ∷ g ∷ []) → (given messages : List (List ℕ)) → given ≡ messages
+    → IsLegal books.accounts (history_of books given) → All HasPayShape (history_of books given)
+    → IsKept (chart_in (b ∷ d ∷ e ∷ f ∷ g ∷ m ∷ [])) (history_in day (b ∷ d ∷ e ∷ f ∷ g ∷ m ∷ []) messages)
+same_books day b d e f g m books are given messages same legal shapes =
+    subst (λ (ms : List (List ℕ)). IsKept (chart_in (b ∷ d ∷ e ∷ f ∷ g ∷ [])) (history_of (books_in day (b ∷ d ∷ e ∷ f ∷ g ∷ [])) ms)) same
+    (subst (λ (x : Books). IsKept x.accounts (history_of x given)) are (record { legal = legal; shapes = shapes }))
 
 -- reading the messages stopped
 pub messages_stop : (before after : List Told) (sink sunk old new : Told) (day : Day) (b d e f g : List ℕ) → AreRead limits before after (b ∷ d ∷ e ∷ f ∷ g ∷ []) → AreFine (b ∷ d ∷ e ∷ f ∷ g ∷ [])

@@ -17,6 +17,7 @@ use Rattle.day_model.specs.Laws.{IsLatest}
 use Rattle.day_model.specs.Legal.{IsLegal}
 use Rattle.day_model.specs.Next.{entered_at, entry_of, next_history, fold_of}
 use Rattle.day_model.specs.Same.{reply_at, reply_to, is_same_pay}
+use Rattle.day_model.specs.Shape.{HasShape}
 use Rattle.day_model.proofs.laws.Growth.{places_stay, stays_legal, next_begins}
 use Rattle.day_model.proofs.laws.Places.{position_from-within}
 use Rattle.corr_top.specs.Message.{pays_in, replies_in, reply_for, reply_in}
@@ -25,6 +26,7 @@ use Rattle.corr_top.specs.declared.message.NoPay.TheVariants as no_pay
 use Rattle.corr_report.specs.Report.{NamesPlace}
 use Rattle.corr_top.specs.declared.books.Books.{Books}
 use Rattle.corr_top.specs.Message.{message_of, readings_of}
+use Rattle.corr_top.specs.Answers.{HasPayShape}
 use Rattle.corr_top.specs.Turn.{history_after, IsFit, Turned}
 
 -- an element keeps its place when others follow
@@ -82,9 +84,9 @@ place_stays entries more (reply.Conflict mir place) (low, high) = (low, omega (a
 place_stays entries more (reply.Refused mir fault) named = tt
 place_stays entries more (reply.Unrouted mir code) named = tt
 
-all_one : (entries : List Entry) (r : Reply) → NamesPlace entries r → All (NamesPlace entries) (r ∷ [])
-all_one entries r named zero d within = named
-all_one entries r named (suc k) d within = absurd (omega arith)
+all_one : {A : Type 0} (P : A → Type 0) (x : A) → P x → All P (x ∷ [])
+all_one P x holds zero d within = holds
+all_one P x holds (suc k) d within = absurd (omega arith)
 
 -- no entry is later after a pay of the same day
 latest_last : (entries : List Entry) (e : Entry) (day : Day) → e.day ≡ day → IsLatest entries day → IsLatest (entries ++ e ∷ []) day
@@ -98,6 +100,14 @@ latest_next chart entries pay day before =
     elim (is_some (entered_at pay.mir entries)) as (λ b. IsLatest (cond b entries (entries ++ entry_of chart entries pay day ∷ [])) day) [
       | true ↦ before
       | false ↦ latest_last entries (entry_of chart entries pay day) day refl before
+    ]
+
+-- a pay that is entered keeps its shape
+shapes_next : (chart : Chart) (entries : List Entry) (pay : Pay) (day : Day) → All HasPayShape entries → HasShape pay → All HasPayShape (next_history chart entries pay day)
+shapes_next chart entries pay day before shape =
+    elim (is_some (entered_at pay.mir entries)) as (λ b. All HasPayShape (cond b entries (entries ++ entry_of chart entries pay day ∷ []))) [
+      | true ↦ before
+      | false ↦ All-append HasPayShape entries (entry_of chart entries pay day ∷ []) before (all_one HasPayShape (entry_of chart entries pay day) shape)
     ]
 
 -- a pay adds at most one entry
@@ -115,6 +125,7 @@ pub record Answered (chart : Chart) (day : Day) (all rest : List (Result Pay NoP
   pub history : fold_of chart [] (pays_in all) day ≡ fold_of chart entries (pays_in rest) day
   pub told : (more : List Entry) → replies_in (entries ++ more) all ≡ replies ++ replies_in (entries ++ more) rest
   pub places : All (NamesPlace entries) replies
+  pub shapes : All HasPayShape entries
 
 pub before_all : (chart : Chart) (day : Day) (all : List (Result Pay NoPay)) → Answered chart day all all [] []
 before_all chart day all = record {
@@ -129,12 +140,13 @@ before_all chart day all = record {
   history = refl;
   told = λ more. refl;
   places = λ k d within. absurd (omega arith);
+  shapes = λ k d within. absurd (omega arith);
 }
 
 one_more : (chart : Chart) (day : Day) (all rest : List (Result Pay NoPay)) (pay : Pay) (entries after : List Entry) (replies : List Reply) (r : Reply)
-    → Answered chart day all (Ok pay ∷ rest) entries replies → length entries < 100000 → FitsAccounts chart pay
+    → Answered chart day all (Ok pay ∷ rest) entries replies → length entries < 100000 → FitsAccounts chart pay → HasShape pay
     → after ≡ next_history chart entries pay day → reply_to pay after ≡ Some r → Answered chart day all rest after (replies ++ r ∷ [])
-one_more chart day all rest pay entries after replies r so_far room fits is told =
+one_more chart day all rest pay entries after replies r so_far room fits shape is told =
     let grown = next_begins chart entries pay day in
     let added = grown.0 in
     let longer : after ≡ entries ++ added = is ∙ grown.1 in
@@ -145,7 +157,8 @@ one_more chart day all rest pay entries after replies r so_far room fits is told
       told = λ more. answered_more added longer more;
       places = All-append (NamesPlace after) replies (r ∷ [])
           (All-weaker (NamesPlace entries) (NamesPlace after) (λ x named. subst (λ es. NamesPlace es x) (sym longer) (place_stays entries added x named)) replies so_far.places)
-          (all_one after r (names_place after (Ok pay) r told));
+          (all_one (NamesPlace after) r (names_place after (Ok pay) r told));
+      shapes = subst (All HasPayShape) (sym is) (shapes_next chart entries pay day so_far.shapes shape);
     }
   where
     answered_more : (added : List Entry) → after ≡ entries ++ added → (more : List Entry) → replies_in (after ++ more) all ≡ (replies ++ r ∷ []) ++ replies_in (after ++ more) rest
@@ -161,7 +174,7 @@ one_more chart day all rest pay entries after replies r so_far room fits is told
 pub next_answered : (chart : Chart) (day : Day) (all rest : List (Result Pay NoPay)) (reading : Result Pay NoPay) (entries after : List Entry) (replies : List Reply) (r : Reply)
     → Answered chart day all (reading ∷ rest) entries replies → length entries < 100000 → IsFit chart reading
     → after ≡ history_after chart day entries reading → reply_in after reading ≡ Some r → Answered chart day all rest after (replies ++ r ∷ [])
-next_answered chart day all rest (Ok pay) entries after replies r so_far room fit is told = one_more chart day all rest pay entries after replies r so_far room fit is told
+next_answered chart day all rest (Ok pay) entries after replies r so_far room fit is told = one_more chart day all rest pay entries after replies r so_far room fit.0 fit.1 is told
 next_answered chart day all rest (Err why) entries after replies r so_far room fit is told =
     let reply_is = same_Some _ r told in
     record {
@@ -169,7 +182,8 @@ next_answered chart day all rest (Err why) entries after replies r so_far room f
       latest = subst (λ es. IsLatest es day) (sym is) so_far.latest;
       history = so_far.history ∙ ap (λ es. fold_of chart es (pays_in rest) day) (sym is);
       told = λ more. subst (λ es. replies_in (es ++ more) all ≡ (replies ++ r ∷ []) ++ replies_in (es ++ more) rest) (sym is) (refused_more reply_is more);
-      places = subst (λ es. All (NamesPlace es) (replies ++ r ∷ [])) (sym is) (All-append (NamesPlace entries) replies (r ∷ []) so_far.places (all_one entries r (names_place entries (Err why) r told)));
+      places = subst (λ es. All (NamesPlace es) (replies ++ r ∷ [])) (sym is) (All-append (NamesPlace entries) replies (r ∷ []) so_far.places (all_one (NamesPlace entries) r (names_place entries (Err why) r told)));
+      shapes = subst (All HasPayShape) (sym is) so_far.shapes;
     }
   where
     refused_more : reply_for why ≡ r → (more : List Entry) → replies_in (entries ++ more) all ≡ (replies ++ r ∷ []) ++ replies_in (entries ++ more) rest

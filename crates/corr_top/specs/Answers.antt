@@ -3,6 +3,7 @@ use Rattle.std.specs.Prelude.{ℕ, List, []}
 use Rattle.day_model.specs.declared.entry.Entry.{Entry}
 use Rattle.day_model.specs.declared.reply.Reply.{Reply}
 use Rattle.day_model.specs.Next.{fold_of}
+use Rattle.day_model.specs.Shape.{HasShape}
 use Rattle.corr_report.specs.Report.{report_of}
 use Rattle.corr_top.specs.declared.books.Books.{Books}
 use Rattle.corr_top.specs.Message.{pays_in, readings_of, replies_in}
@@ -14,6 +15,10 @@ history_of books messages = fold_of books.accounts [] (pays_in (readings_of book
 -- the replies to the messages after that history
 abbrev pub replies_of : Books → List (List ℕ) → List Reply
 replies_of books messages = replies_in (history_of books messages) (readings_of books messages)
+
+-- an entry's pay has the shape of what is written down
+abbrev pub HasPayShape : Entry → Type 0
+HasPayShape e = HasShape e.pay
 
 -- the report over them
 abbrev pub report_over : Books → List (List ℕ) → List ℕ

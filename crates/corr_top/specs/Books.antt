@@ -34,10 +34,10 @@ abbrev pub TellsDecimals : AccountsFault → Type 0
 TellsDecimals (accounts.Unbalanced ccy decimals sum) = decimals ≤ 4
 TellsDecimals accounts.Memory = Unit {0}
 
--- reading one source stopped: its count of faults rose, or memory ran out
+-- reading one source stopped: its count of faults rose by one, or memory ran out and it is as it was
 abbrev pub IsReadStop : ℕ → ℕ → Status → Type 0
 IsReadStop then now (status.ReadFault before after) = (before ≡ then) × (after ≡ now) × Rose then now
-IsReadStop then now status.Memory = Unit {0}
+IsReadStop then now status.Memory = now ≡ then
 IsReadStop then now _ = ⊥
 
 -- the first three files were read, and these are their tables

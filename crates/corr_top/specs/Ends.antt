@@ -11,12 +11,12 @@ use Rattle.corr_top.specs.Writing.{AppendsPrefix}
 
 -- every file was read to its end, the last one was cut into its messages, and the sink received the report of one thread
 pub record RunsAsOneThread (before after : List Told) (sink sunk : Told) (day : Day) (files messages : List (List ℕ)) : Type 0 where
-  pub whole : IsWhole before after files messages
+  pub whole : IsWhole before after day files messages
   pub received : Appends sink.bytes sunk.bytes (report_in day files messages)
 
 -- the sink failed, and received a front part of that report
 pub record StopsAtWrite (before after : List Told) (sink sunk : Told) (day : Day) (then now : ℕ) (files messages : List (List ℕ)) : Type 0 where
-  pub whole : IsWhole before after files messages
+  pub whole : IsWhole before after day files messages
   pub part : AppendsPrefix sink.bytes sunk.bytes (report_in day files messages)
   pub then_is : then ≡ sink.faults
   pub now_is : now ≡ sunk.faults

@@ -14,6 +14,7 @@ pub mod Run
 pub mod Order
 pub mod Ends
 pub mod Books
+pub mod Counts
 pub mod Messages
 pub mod Complete
 pub mod Constants

@@ -11,7 +11,7 @@ pub record IsRead (limit : ℕ) (before after : Option (List ℕ)) (bytes : List
   pub bound : length bytes ≤ limit + 1
   pub ended : length bytes ≤ limit → IsAtEnd after
 
--- reading stopped: the count of faults rose, and these are its two values; or memory ran out
+-- reading stopped: the count of faults rose by one, and these are its two values; or memory ran out, and the count is as it was
 abbrev pub IsStopped : ℕ → ℕ → ReadStop → Type 0
 IsStopped then now (Fault before after) = (before ≡ then) × (after ≡ now) × Rose then now
-IsStopped then now Memory = Unit {0}
+IsStopped then now Memory = now ≡ then

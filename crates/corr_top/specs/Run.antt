@@ -1,5 +1,5 @@
 -- A run: what was read of the files, what they say, and how it ended.
-use Rattle.std.specs.Prelude.{ℕ, ◌≡◌, ◌≤◌, List, [], ◌∷◌, length, map, slice_get, codes, Option, Some, None, unwrap_or, ℤ, pos}
+use Rattle.std.specs.Prelude.{ℕ, ◌≡◌, ◌≤◌, List, [], ◌∷◌, All, length, map, slice_get, codes, Option, Some, None, unwrap_or, ℤ, pos}
 use Rattle.corr_text.specs.Faults.{Rose}
 use Rattle.corr_text.specs.First.{first_of}
 use Rattle.corr_ids.specs.declared.bic.Bic.{Bic}
@@ -9,6 +9,8 @@ use Rattle.day_model.specs.declared.account.Account.{Account}
 use Rattle.day_model.specs.declared.fault.AccountsFault.TheVariants as refused
 use Rattle.day_model.specs.Chart.{Chart, opening_sum}
 use Rattle.day_model.specs.Gap.{TellsUnbalanced}
+use Rattle.day_model.specs.Legal.{IsLegal}
+use Rattle.day_model.specs.declared.entry.Entry.{Entry}
 use Rattle.ref_tables.specs.declared.account.AccountRow.{AccountRow}
 use Rattle.ref_tables.specs.declared.fault.TableName.{TableName}
 use Rattle.ref_tables.specs.declared.fault.TableName.TheVariants as names
@@ -23,7 +25,7 @@ use Rattle.ssi_versions.specs.Rows.{instruction_of, ssi_fault}
 use Rattle.corr_top.specs.declared.books.Books.{Books}
 use Rattle.corr_top.specs.declared.status.Status.{Status}
 use Rattle.corr_top.specs.declared.status.Status.TheVariants as status
-use Rattle.corr_top.specs.Answers.{report_over}
+use Rattle.corr_top.specs.Answers.{HasPayShape, history_of, report_over}
 use Rattle.corr_top.specs.MessageFile.{IsMessageFile, StopsCutting}
 use Rattle.corr_top.specs.Reading.{IsRead}
 use Rattle.corr_top.specs.Told.{Told}
@@ -85,6 +87,10 @@ pub record AreFine (files : List (List ℕ)) : Type 0 where
   pub no_fault : fault_in files ≡ None
   pub balanced : 5 ≤ length files → (ccy : Ccy) → opening_sum ccy (accounts_in files) ≡ pos 0
 
+-- the history of one thread that enters the pays of the messages of the last file
+abbrev pub history_in : Day → List (List ℕ) → List (List ℕ) → List Entry
+history_in day files messages = history_of (books_in day files) messages
+
 -- the report of a day: the history of one thread over the messages of the last file, and the reply to each of them
 unfoldable pub report_in : Day → List (List ℕ) → List (List ℕ) → List ℕ
 report_in day files messages = report_over (books_in day files) messages
@@ -99,12 +105,15 @@ pub record HasFailed (before after : List Told) (n then now : ℕ) : Type 0 wher
   pub now_is : now ≡ new.faults
   pub rose : Rose old.faults new.faults
 
--- all six files were read, nothing is wrong with them, and these are the messages of the last one
-pub record IsWhole (before after : List Told) (files messages : List (List ℕ)) : Type 0 where
+-- all six files were read, nothing is wrong with them, these are the messages of the last one, and the history that they make is
+-- legal (no reference is entered twice, debits equal credits), of pays that can be written down
+pub record IsWhole (before after : List Told) (day : Day) (files messages : List (List ℕ)) : Type 0 where
   pub read : AreRead limits before after files
   pub all : length files ≡ 6
   pub fine : AreFine files
   pub messages_are : IsMessageFile (file_at 5 files) messages
+  pub legal : IsLegal (chart_in files) (history_in day files messages)
+  pub shapes : All HasPayShape (history_in day files messages)
 
 -- the files up to a table with a fault, which is told
 pub record StopsAtTable (before after : List Told) (table : TableName) (row : ℕ) (why : Why) (files : List (List ℕ)) : Type 0 where

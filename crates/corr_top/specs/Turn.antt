@@ -7,6 +7,7 @@ use Rattle.day_model.specs.declared.reply.Reply.{Reply}
 use Rattle.day_model.specs.Chart.{Chart}
 use Rattle.day_model.specs.Fit.{FitsAccounts}
 use Rattle.day_model.specs.Next.{next_history}
+use Rattle.day_model.specs.Shape.{HasShape}
 use Rattle.corr_top.specs.Message.{message_of, reply_in}
 use Rattle.corr_top.specs.declared.books.Books.{Books}
 use Rattle.corr_top.specs.declared.message.NoPay.{NoPay}
@@ -16,9 +17,9 @@ abbrev pub history_after : Chart → Day → List Entry → Result Pay NoPay →
 history_after chart day entries (Ok pay) = next_history chart entries pay day
 history_after chart day entries (Err why) = entries
 
--- a pay fits the accounts
+-- a pay has the shape of what is written down, and fits the accounts
 abbrev pub IsFit : Chart → Result Pay NoPay → Type 0
-IsFit chart (Ok pay) = FitsAccounts chart pay
+IsFit chart (Ok pay) = FitsAccounts chart pay × HasShape pay
 IsFit chart (Err why) = Unit {0}
 
 -- a message was entered, and its reply added

@@ -7,7 +7,7 @@ ghost use Rattle.day_model.specs.Laws.{IsLatest};
 ghost use Rattle.day_model.specs.Legal.{IsLegal};
 ghost use Rattle.day_model.specs.Next.{entered_at, next_history};
 ghost use Rattle.day_model.specs.Same.{reply_to};
-ghost use Rattle.corr_top.specs.Answers.{history_of, replies_of};
+ghost use Rattle.corr_top.specs.Answers.{HasPayShape, history_of, replies_of};
 ghost use Rattle.corr_report.specs.Report.{NamesPlace};
 ghost use Rattle.corr_top.specs.Turn.{Turned};
 
@@ -111,6 +111,7 @@ pub fn answer_all(alloc: Global, books: &Books, messages: &[Text]) -> Result<Ans
     ensures replies { IfOk result (λ a. a.replies.items ≡ replies_of books.now messages.now) }
     ensures legal { IfOk result (λ a. IsLegal books.now.accounts a.history.entries) }
     ensures places { IfOk result (λ a. All (NamesPlace a.history.entries) a.replies.items) }
+    ensures shapes { IfOk result (λ a. All HasPayShape a.history.entries) }
 {
     let mut answers = no_answers(alloc);
     for message in messages {

@@ -2,6 +2,7 @@
 
 ghost use Rattle.std.specs.Prelude.{◌≡◌, ◌⊎◌, ℕ, List, None, IfSome};
 ghost use Rattle.corr_top.specs.Complete.{IsReady};
+ghost use Rattle.corr_top.specs.Counts.{CountsReads, CountsWrites, counts};
 ghost use Rattle.corr_top.specs.Ends.{Ends, IsQuiet};
 ghost use Rattle.corr_top.specs.Order.{ReadsInOrder};
 ghost use Rattle.corr_top.specs.Status.{HasDecimals};
@@ -26,6 +27,10 @@ pub fn corr<S: Source, K: Sink>(alloc: Global, words: &[Text], room: Room<S, K>)
     // each other status by its cause
     ensures run { IfSome (run_day words.now) (λ day. Ends (sources S.left S.faults room) (sources S.left S.faults result.room)
         (told K.held K.faults room.report) (told K.held K.faults result.room.report) day result.status) }
+    // a failed read ends the run with `ReadFault`, and no read fails at any other status
+    ensures reads { CountsReads (counts S.faults room) (counts S.faults result.room) result.status }
+    // a failed write ends it with `WriteFault`, and no write fails at any other status
+    ensures writes { CountsWrites (K.faults room.report) (K.faults result.room.report) result.status }
     // no source is touched before those ahead of it were read and found right
     ensures in_order { ReadsInOrder S.left S.faults room result.room }
     // where nothing is wrong and nothing fails, only memory can be wanting

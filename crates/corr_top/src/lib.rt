@@ -19,6 +19,6 @@ mod writing;
 
 pub use command::corr;
 pub use laws::advice_code_law;
-pub use line::status_line;
+pub use line::{put_status_line, status_line};
 pub use room::{Done, Room, Tables};
 pub use status::Status;

@@ -116,14 +116,24 @@ fn put_status(alloc: Global, s: &Status, out: &mut Text) -> Result<(), Memory>
     }
 }
 
-/// The line that tells a status, as `corr: read fault 0 1`, without a line end (docs/operating.md, "Statuses").
+/// Adds the line that tells a status, as `corr: read fault 0 1`, without a line end (docs/operating.md, "Statuses"). It
+/// takes no memory where `out` has room for it: a line has at most 100 bytes.
 ///
 /// The decimals of an `Unbalanced` are at most 4. `Memory`: there was no room for the line.
+pub fn put_status_line(alloc: Global, s: &Status, out: &mut Text) -> Result<(), Memory>
+    requires { HasDecimals s.now }
+    ensures { OnOk result (out.new ≡ out.old ++ line_of s.now) }
+{
+    out.push(b"corr: ")?;
+    put_status(alloc, s, out)
+}
+
+/// The line of `put_status_line` as a text of its own.
 pub fn status_line(alloc: Global, s: &Status) -> Result<Text, Memory>
     requires { HasDecimals s.now }
     ensures { IfOk result (λ line. line ≡ line_of s.now) }
 {
-    let mut line = Text::from_bytes(alloc, b"corr: ")?;
-    put_status(alloc, s, &mut line)?;
+    let mut line = Text::from_bytes(alloc, b"")?;
+    put_status_line(alloc, s, &mut line)?;
     Ok(line)
 }

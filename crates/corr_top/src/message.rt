@@ -2,10 +2,11 @@
 
 ghost use Rattle.std.specs.Prelude.{◌≡◌, ◌≤◌, IfOk, IsSome, length};
 ghost use Rattle.day_model.specs.Fit.{FitsAccounts};
-ghost use Rattle.fin_message.specs.Sound.{Goes, IsRead as IsReadMessage};
+ghost use Rattle.day_model.specs.Shape.{HasShape};
+ghost use Rattle.fin_message.specs.Sound.{Goes, HasEnvelope, IsRead as IsReadMessage, lines_in};
 ghost use Rattle.fin_message.specs.declared.direction.Direction.TheVariants.{Received};
 ghost use Rattle.pay_plan.specs.Plan.{mir_in, plan_of};
-ghost use Rattle.pay_plan.specs.Readable.{IsRead};
+ghost use Rattle.pay_plan.specs.Readable.{IsRead, IsWritable};
 ghost use Rattle.corr_top.specs.Message.{message_of, pay_in, reply_for, unrouted};
 ghost use Rattle.corr_top.specs.Replies.{ReadsAs};
 
@@ -80,8 +81,10 @@ fn plan_pay(
 ) -> Result<Pay, Stop>
     requires received { IsSome envelope.now.mir }
     requires read { IsRead ask }
+    requires writable { IsWritable envelope.now text.now }
     ensures value { ReadsAs result (unrouted envelope.now (plan_of envelope.now text.now ask.entry books.now.ssi books.now.accounts)) }
     ensures fits { IfOk result (FitsAccounts books.now.accounts) }
+    ensures shape { IfOk result HasShape }
 {
     match plan(alloc, envelope, text, ask, &books.ssi, &books.accounts) {
         Ok(pay) => Ok(pay),
@@ -97,8 +100,11 @@ fn plan_pay(
 fn read_pay(alloc: Global, books: &Books, message: &Message) -> Result<Pay, Stop>
     requires received { Goes Received message.now }
     requires read { IsReadMessage books.now.tables message.now }
+    requires envelope { HasEnvelope message.now }
+    requires short { length (lines_in message.now) ≤ 32768 }
     ensures value { ReadsAs result (pay_in books.now message.now) }
     ensures fits { IfOk result (FitsAccounts books.now.accounts) }
+    ensures shape { IfOk result HasShape }
 {
     match message {
         Message::Transfer(envelope, text, transfer) => {
@@ -122,6 +128,7 @@ pub fn read_message(alloc: Global, books: &Books, b: &[u8]) -> Result<Pay, Stop>
     requires { length b.now ≤ 16384 }
     ensures value { ReadsAs result (message_of books.now b.now) }
     ensures fits { IfOk result (FitsAccounts books.now.accounts) }
+    ensures shape { IfOk result HasShape }
 {
     let message = verdict(alloc, b, books.accounts.home(), &books.tables)?;
     let pay = read_pay(alloc, books, &message);

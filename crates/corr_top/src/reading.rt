@@ -1,6 +1,6 @@
 //! A source, read whole or past a limit.
 
-ghost use Rattle.std.specs.Prelude.{◌≡◌, ◌+◌, ◌≤◌, ◌<◌, ◌^◌, vec_len, IfOk, IfErr};
+ghost use Rattle.std.specs.Prelude.{◌≡◌, ◌+◌, ◌≤◌, ◌<◌, ◌^◌, vec_len, IfOk, IfErr, OnOk};
 ghost use Rattle.corr_top.specs.Reading.{IsRead, IsStopped};
 
 use corr_io::Source;
@@ -10,7 +10,7 @@ use std::alloc::{AllocError, Global};
 /// How many bytes one read asks for at most.
 const CHUNK: usize = 65536;
 
-/// Why a source was not read: its count of faults rose, from `before` to `after`, or memory ran out.
+/// Why a source was not read: its count of faults rose by one, from `before` to `after`, or memory ran out.
 #[derive(Debug, Drop)]
 pub enum ReadStop {
     Fault { before: u64, after: u64 },
@@ -48,7 +48,7 @@ pub fn read_whole<S: Source>(alloc: Global, source: &mut S, limit: usize) -> Res
     requires { limit < 2 ^ 32 }
     ensures read { IfOk result (IsRead limit (S.left source.old) (S.left source.new)) }
     ensures stopped { IfErr result (IsStopped (S.faults source.old) (S.faults source.new)) }
-    ensures later { S.faults source.old ≤ S.faults source.new }
+    ensures kept { OnOk result (S.faults source.new ≡ S.faults source.old) }
 {
     let before = source.faults();
     let mut text = Text::from_bytes(alloc, &[])?;

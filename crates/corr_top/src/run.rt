@@ -2,7 +2,9 @@
 
 ghost use Rattle.std.specs.Prelude.{◌≡◌, ◌≤◌, length, All, OnOk, IfOk, IfErr};
 ghost use Rattle.corr_top.specs.Ends.{Ends, IsQuiet};
-ghost use Rattle.corr_top.specs.Answers.{report_over};
+ghost use Rattle.day_model.specs.Legal.{IsLegal};
+ghost use Rattle.corr_top.specs.Answers.{HasPayShape, history_of, report_over};
+ghost use Rattle.corr_top.specs.Counts.{CountsReads, CountsSource, CountsWrites, counts};
 ghost use Rattle.corr_top.specs.Messages.{HasMessages, StopsAtMessages};
 ghost use Rattle.corr_top.specs.Order.{ReadsInOrder};
 ghost use Rattle.corr_top.specs.Status.{HasDecimals};
@@ -39,6 +41,8 @@ fn read_messages<S: Source>(alloc: Global, source: &mut S) -> Result<List<Text>,
     ensures read { IfOk result (HasMessages (S.left source.old) (S.left source.new)) }
     ensures decimals { IfErr result HasDecimals }
     ensures stopped { IfErr result (StopsAtMessages (S.left source.old) (S.left source.new) (S.faults source.old) (S.faults source.new)) }
+    ensures kept { OnOk result (S.faults source.new ≡ S.faults source.old) }
+    ensures reads { IfErr result (CountsSource (S.faults source.old) (S.faults source.new)) }
 {
     let file = read_file(alloc, source, FILE_LIMIT)?;
     cut_file(alloc, file.bytes())
@@ -48,7 +52,9 @@ fn read_messages<S: Source>(alloc: Global, source: &mut S) -> Result<List<Text>,
 fn make_report(alloc: Global, books: &Books, messages: &[Text]) -> Result<Text, Memory>
     requires few { length messages.now ≤ 50000 }
     requires short { All (λ m. length m ≤ 16384) messages.now }
-    ensures { IfOk result (λ text. text ≡ report_over books.now messages.now) }
+    ensures text { IfOk result (λ text. text ≡ report_over books.now messages.now) }
+    ensures legal { OnOk result (IsLegal books.now.accounts (history_of books.now messages.now)) }
+    ensures shapes { OnOk result (All HasPayShape (history_of books.now messages.now)) }
 {
     let answers = answer_all(alloc, books, messages)?;
     report(
@@ -65,6 +71,10 @@ pub fn run<S: Source, K: Sink>(alloc: Global, day: Day, room: &mut Room<S, K>) -
         (told K.held K.faults room.old.report) (told K.held K.faults room.new.report) day Status.Done) }
     ensures stopped { IfErr result (Ends (sources S.left S.faults room.old) (sources S.left S.faults room.new)
         (told K.held K.faults room.old.report) (told K.held K.faults room.new.report) day) }
+    ensures reads_kept { OnOk result (counts S.faults room.new ≡ counts S.faults room.old) }
+    ensures reads { IfErr result (CountsReads (counts S.faults room.old) (counts S.faults room.new)) }
+    ensures writes_kept { OnOk result (K.faults room.new.report ≡ K.faults room.old.report) }
+    ensures writes { IfErr result (CountsWrites (K.faults room.old.report) (K.faults room.new.report)) }
     ensures in_order { ReadsInOrder S.left S.faults room.old room.new }
     ensures quiet { IfErr result (λ s. IsQuiet s → room.new.report ≡ room.old.report) }
     ensures decimals { IfErr result HasDecimals }

@@ -6,6 +6,7 @@ ghost use Rattle.day_model.specs.Chart.{opening_sum};
 ghost use Rattle.day_model.specs.Gap.{TellsUnbalanced};
 ghost use Rattle.ref_tables.specs.AccountList.{AreAccounts};
 ghost use Rattle.corr_top.specs.Books.{IsReadStop, HasTables, HasBooks, TellsDecimals};
+ghost use Rattle.corr_top.specs.Counts.{CountsReads, counts};
 ghost use Rattle.corr_top.specs.Order.{ReadsInOrder};
 ghost use Rattle.corr_top.specs.Reading.{IsRead};
 ghost use Rattle.corr_top.specs.Run.{Stops, home_bank, home_head, opened};
@@ -95,6 +96,7 @@ pub fn read_file<S: Source>(alloc: Global, source: &mut S, limit: usize) -> Resu
     ensures decimals { IfErr result HasDecimals }
     ensures read { IfOk result (IsRead limit (S.left source.old) (S.left source.new)) }
     ensures stopped { IfErr result (IsReadStop (S.faults source.old) (S.faults source.new)) }
+    ensures kept { OnOk result (S.faults source.new ≡ S.faults source.old) }
 {
     Ok(read_whole(alloc, source, limit)?)
 }
@@ -128,6 +130,8 @@ fn open_accounts(alloc: Global, rows: Vec<AccountRow>) -> Result<List<Account>, 
 fn open_tables<S: Source, K>(alloc: Global, room: &mut Room<S, K>) -> Result<RefTables, Status>
     ensures ok { IfOk result (HasTables (sources S.left S.faults room.old) (sources S.left S.faults room.new)) }
     ensures stopped { IfErr result (Stops (sources S.left S.faults room.old) (sources S.left S.faults room.new)) }
+    ensures kept { OnOk result (counts S.faults room.new ≡ counts S.faults room.old) }
+    ensures reads { IfErr result (CountsReads (counts S.faults room.old) (counts S.faults room.new)) }
     ensures in_order { ReadsInOrder S.left S.faults room.old room.new }
     ensures accounts { room.new.tables.accounts ≡ room.old.tables.accounts }
     ensures ssi { room.new.tables.ssi ≡ room.old.tables.ssi }
@@ -169,6 +173,8 @@ pub fn open_books<S: Source, K>(
 ) -> Result<Books, Status>
     ensures ok { IfOk result (HasBooks (sources S.left S.faults room.old) (sources S.left S.faults room.new) day) }
     ensures stopped { IfErr result (Stops (sources S.left S.faults room.old) (sources S.left S.faults room.new)) }
+    ensures kept { OnOk result (counts S.faults room.new ≡ counts S.faults room.old) }
+    ensures reads { IfErr result (CountsReads (counts S.faults room.old) (counts S.faults room.new)) }
     ensures in_order { ReadsInOrder S.left S.faults room.old room.new }
     ensures messages { room.new.messages ≡ room.old.messages }
     ensures report { room.new.report ≡ room.old.report }

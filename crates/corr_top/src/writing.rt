@@ -21,7 +21,7 @@ pub fn write_whole<K: Sink>(sink: &mut K, text: &[u8]) -> Result<(), WriteStop>
     ensures part { AppendsPrefix (K.held sink.old) (K.held sink.new) text.now }
     ensures stopped { IfErr result (λ e. (e.before ≡ K.faults sink.old)
         × (e.after ≡ K.faults sink.new) × Rose e.before e.after) }
-    ensures later { K.faults sink.old ≤ K.faults sink.new }
+    ensures kept { OnOk result (K.faults sink.new ≡ K.faults sink.old) }
 {
     let before = sink.faults();
     let mut rest = text;

@@ -6,7 +6,7 @@ use Rattle.corr_top.proofs.reading.read_whole.Given as goal
 abbrev pub invariant-loop-text : goal.invariant-loop-text
 invariant-loop-text g l = record {
   counted : l.before ≡ g.S.Source.faults l.fn.source;
-  later : g.S.Source.faults l.fn.source ≤ g.S.Source.faults l.source;
+  kept : g.S.Source.faults l.source ≡ g.S.Source.faults l.fn.source;
   bound : length l.text ≤ l.limit + 1;
   sized : vec_len l.chunk ≡ CHUNK;
   taken : Consumes (g.S.Source.left l.fn.source) (g.S.Source.left l.source) l.text;

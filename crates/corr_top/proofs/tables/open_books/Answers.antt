@@ -1,6 +1,8 @@
-use Rattle.std.proofs.Common.{[], ◌∷◌, refl, sym, subst, arith}
+use Rattle.std.proofs.Common.{[], ◌∷◌, ◌++◌, ◌∙◌, ap, refl, sym, subst, arith}
 use Rattle.std.proofs.lemmas.Result.{err_from_is_err_and}
 use Rattle.corr_top.specs.Reading.{IsRead}
+use Rattle.corr_top.specs.Counts.{counts}
+use Rattle.corr_top.proofs.Counting.{accounts_refused, after_others, one_of, source_stops, table_refused}
 use Rattle.corr_top.proofs.Opening.{AreRows, accounts_fine, accounts_stop, books_opened, one_same, same_read, same_stop, ssi_stop, stop_at, tables_fine, two_same, unbalanced_stop}
 use Rattle.corr_top.proofs.AccountRows.{accounts_decimals, table_decimals}
 use Rattle.corr_top.proofs.tables.open_books.Goals as goal
@@ -185,3 +187,58 @@ returns-clause-in_order g c =
         untouched = one_same c.args.room.now.messages room.messages c.open_tables.ensures.messages;
       },
     )
+
+pub returns-in_err-file-clause-reads : goal.returns-in_err-file-clause-reads
+returns-in_err-file-clause-reads g c =
+    let p = err_from_is_err_and c.from_residual-in_err-file.result c.from_residual-in_err-file.ensures.1 in
+    let faults = g.S.Source.faults in
+    let mid = c.open_tables.new.room in
+    let ahead = faults mid.tables.bics ∷ faults mid.tables.ccys ∷ faults mid.tables.countries ∷ [] in
+    let last = faults mid.messages ∷ [] in
+    rw (p.1, p.2) (after_others (counts faults c.args.room.now) (counts faults mid) (ahead ++ faults c.read_file.new.source ∷ faults mid.tables.ssi ∷ last) c.in_err-file.field-0.0 c.in_ok-tables.ensures.kept
+    (one_of ahead (faults mid.tables.ssi ∷ last) (faults mid.tables.accounts) (faults c.read_file.new.source) c.in_err-file.field-0.0 (source_stops _ _ c.in_err-file.field-0.0 c.in_err-file.ensures.stopped)))
+
+pub returns-in_err-rows-clause-reads : goal.returns-in_err-rows-clause-reads
+returns-in_err-rows-clause-reads g c =
+    let p = err_from_is_err_and c.from_residual-in_err-rows.result c.from_residual-in_err-rows.ensures.1 in
+    let faults = g.S.Source.faults in
+    let mid = c.open_tables.new.room in
+    let ahead = faults mid.tables.bics ∷ faults mid.tables.ccys ∷ faults mid.tables.countries ∷ [] in
+    let last = faults mid.messages ∷ [] in
+    rw (p.1, p.2) (table_refused (counts faults c.args.room.now) (ahead ++ faults c.read_file.new.source ∷ faults mid.tables.ssi ∷ last) c.in_err-rows.field-0.0 (ap (λ n. ahead ++ n ∷ faults mid.tables.ssi ∷ last) c.in_ok-file.ensures.kept ∙ c.in_ok-tables.ensures.kept))
+
+pub returns-in_err-instructions-clause-reads : goal.returns-in_err-instructions-clause-reads
+returns-in_err-instructions-clause-reads g c =
+    let p = err_from_is_err_and c.from_residual-in_err-instructions.result c.from_residual-in_err-instructions.ensures.1 in
+    let faults = g.S.Source.faults in
+    let mid = c.open_tables.new.room in
+    let ahead = faults mid.tables.bics ∷ faults mid.tables.ccys ∷ faults mid.tables.countries ∷ [] in
+    let last = faults mid.messages ∷ [] in
+    rw (p.1, p.2) (after_others (counts faults c.args.room.now) (ahead ++ faults c.read_file.new.source ∷ faults mid.tables.ssi ∷ last) (ahead ++ faults c.read_file.new.source ∷ faults c.read_file-2.new.source ∷ last) c.in_err-instructions.field-0.0 (ap (λ n. ahead ++ n ∷ faults mid.tables.ssi ∷ last) c.in_ok-file.ensures.kept ∙ c.in_ok-tables.ensures.kept)
+    (one_of (ahead ++ faults c.read_file.new.source ∷ []) last (faults mid.tables.ssi) (faults c.read_file-2.new.source) c.in_err-instructions.field-0.0 (source_stops _ _ c.in_err-instructions.field-0.0 c.in_err-instructions.ensures.stopped)))
+
+pub returns-in_err-ssi-clause-reads : goal.returns-in_err-ssi-clause-reads
+returns-in_err-ssi-clause-reads g c =
+    let p = err_from_is_err_and c.from_residual-in_err-ssi.result c.from_residual-in_err-ssi.ensures.1 in
+    let faults = g.S.Source.faults in
+    let mid = c.open_tables.new.room in
+    let ahead = faults mid.tables.bics ∷ faults mid.tables.ccys ∷ faults mid.tables.countries ∷ [] in
+    let last = faults mid.messages ∷ [] in
+    rw (p.1, p.2) (table_refused (counts faults c.args.room.now) (ahead ++ faults c.read_file.new.source ∷ faults c.read_file-2.new.source ∷ last) c.in_err-ssi.field-0.0 (ap (λ n. ahead ++ faults c.read_file.new.source ∷ n ∷ last) c.in_ok-instructions.ensures.kept ∙ ap (λ n. ahead ++ n ∷ faults mid.tables.ssi ∷ last) c.in_ok-file.ensures.kept ∙ c.in_ok-tables.ensures.kept))
+
+pub returns-in_err-accounts-clause-reads : goal.returns-in_err-accounts-clause-reads
+returns-in_err-accounts-clause-reads g c =
+    let p = err_from_is_err_and c.from_residual-in_err-accounts.result c.from_residual-in_err-accounts.ensures.1 in
+    let faults = g.S.Source.faults in
+    let mid = c.open_tables.new.room in
+    let ahead = faults mid.tables.bics ∷ faults mid.tables.ccys ∷ faults mid.tables.countries ∷ [] in
+    let last = faults mid.messages ∷ [] in
+    rw (p.1, p.2) (accounts_refused (counts faults c.args.room.now) (ahead ++ faults c.read_file.new.source ∷ faults c.read_file-2.new.source ∷ last) c.in_err-accounts.field-0.0 (ap (λ n. ahead ++ faults c.read_file.new.source ∷ n ∷ last) c.in_ok-instructions.ensures.kept ∙ ap (λ n. ahead ++ n ∷ faults mid.tables.ssi ∷ last) c.in_ok-file.ensures.kept ∙ c.in_ok-tables.ensures.kept))
+
+pub returns-clause-kept : goal.returns-clause-kept
+returns-clause-kept g c =
+    let faults = g.S.Source.faults in
+    let mid = c.open_tables.new.room in
+    let ahead = faults mid.tables.bics ∷ faults mid.tables.ccys ∷ faults mid.tables.countries ∷ [] in
+    let last = faults mid.messages ∷ [] in
+    (ap (λ n. ahead ++ faults c.read_file.new.source ∷ n ∷ last) c.in_ok-instructions.ensures.kept ∙ ap (λ n. ahead ++ n ∷ faults mid.tables.ssi ∷ last) c.in_ok-file.ensures.kept ∙ c.in_ok-tables.ensures.kept)

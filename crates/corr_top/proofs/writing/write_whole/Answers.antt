@@ -11,7 +11,7 @@ loop-rest-preserved g c =
     let few : count ≤ length rest = c.in-Ok.ensures.bound in
     record {
       counted = c.loop-rest.invariant.counted;
-      later = omega (arith, c.loop-rest.invariant.later, c.in-Ok.ensures.cause.later);
+      kept = c.in-Ok.ensures.cause.kept ∙ c.loop-rest.invariant.kept;
       part = let more = appended-more (held c.args.sink.now) (held c.loop-rest.sink) (held c.write.new.self) c.args.text.now rest part.0 count part.1 part.2 few part.3 c.in-Ok.ensures.bytes in
           (more.0, more.1, c.behind-rest.ensures ∙ more.2, more.3);
     }

@@ -5,7 +5,7 @@ use Rattle.corr_top.proofs.writing.write_whole.Given as goal
 abbrev pub invariant-loop-rest : goal.invariant-loop-rest
 invariant-loop-rest g l = record {
   counted : l.before ≡ g.K.Sink.faults l.fn.sink;
-  later : g.K.Sink.faults l.fn.sink ≤ g.K.Sink.faults l.sink;
+  kept : g.K.Sink.faults l.sink ≡ g.K.Sink.faults l.fn.sink;
   part : (n : ℕ) × (n ≤ length l.text) × (l.rest ≡ drop n l.text) × Appends (g.K.Sink.held l.fn.sink) (g.K.Sink.held l.sink) (take n l.text);
 }
 
