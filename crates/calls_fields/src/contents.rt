@@ -2,15 +2,15 @@
 
 ghost use Rattle.std.specs.Prelude.{◌≡◌};
 
+use corr_ids::Day;
+use corr_money::{Amount, Ccy, Minor};
+use corr_text::{List, Memory, Set, Text};
 use fin_contents::{
     CcyAmount, KnownParty, Rate, Reference, ShortLine, Texts, Time, Value, ValueDate, are_in,
     array_of, is_clock, line_field, one_line, or_none, push_ccy_amount, push_ccy_amounts,
     push_party, push_rate, push_texts, push_times, put_ccy_amount, put_known_party, put_rate,
     put_reference, put_short_line, put_texts, put_time, put_value,
 };
-use corr_ids::Day;
-use corr_money::{Amount, Ccy, Minor};
-use corr_text::{List, Memory, Set, Text};
 use fin_fields::Field;
 use fin_layout::{Content, P24, Refusal};
 use fin_parties::Party;

@@ -3,11 +3,11 @@
 ghost use Rattle.std.specs.Prelude.{◌≢◌, [], All, IfOk};
 ghost use Rattle.fin_fields.specs.Writing.{IsField};
 
+use corr_text::{List, Set};
 use fin_fields::{
     Field, FieldFault, Pattern, cut_fields, is_run_of, letter_of, lines_match, matches, nth_of,
     put_fields, tag_of,
 };
-use corr_text::{List, Set};
 use std::alloc::Global;
 use std::test::Fail;
 

@@ -1,9 +1,9 @@
 //! Each call once; cases stand in rows (crates/rows/data/ssi.rows and limits.rows).
 
-use ssi_versions::{Method, Ssi};
 use corr_ids::{Bic, Day};
 use corr_money::Ccy;
 use ref_tables::{TableFault, read_tables};
+use ssi_versions::{Method, Ssi};
 use std::alloc::Global;
 use std::test::Fail;
 

@@ -4,12 +4,12 @@ ghost use Rattle.std.specs.Prelude.{◌≡◌, ◌∷◌, [], slice_get, length}
 ghost use Rattle.corr_text.specs.First.{or_fault};
 ghost use Rattle.fin_layout.specs.declared.fault.TheConstants.{P24 as WrongFormat};
 
+use corr_text::{List, Memory, Text};
+use fin_fields::Field;
 use fin_layout::{
     Content, P23, P24, Place, Refusal, absent, check_structure, fault_at, find, missing, places,
     read_all, read_one, read_optional, refusal,
 };
-use corr_text::{List, Memory, Text};
-use fin_fields::Field;
 use std::alloc::Global;
 use std::test::Fail;
 

@@ -1,8 +1,8 @@
 //! Each call once; cases stand in rows (crates/rows/data/parties.rows).
 
-use fin_parties::{Party, account_of, put_party, read_party};
 use corr_text::{List, Memory, Text};
 use fin_fields::Field;
+use fin_parties::{Party, account_of, put_party, read_party};
 use std::alloc::Global;
 use std::test::Fail;
 

@@ -1,11 +1,11 @@
 //! Each call once; cases stand in rows (crates/rows/data/tables.rows and limits.rows).
 
+use corr_ids::Bic;
+use corr_money::Ccy;
 use ref_tables::{
     AccountRow, RefTables, TableFault, ccy, cell, is_account_id, read_accounts, read_rows,
     read_tables,
 };
-use corr_ids::Bic;
-use corr_money::Ccy;
 use std::alloc::Global;
 use std::test::Fail;
 

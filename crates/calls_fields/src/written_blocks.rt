@@ -3,9 +3,9 @@
 ghost use Rattle.std.specs.Prelude.{◌≡◌};
 ghost use Rattle.corr_ids.specs.Bic.{IsBic};
 
-use fin_blocks::put_blocks;
 use corr_ids::Bic;
 use corr_text::{Memory, Text};
+use fin_blocks::put_blocks;
 use std::alloc::Global;
 use std::test::Fail;
 

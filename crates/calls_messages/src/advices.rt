@@ -4,9 +4,9 @@ ghost use Rattle.std.specs.Prelude.{IsTrue};
 ghost use Rattle.ref_tables.specs.Seen.{few_decimals};
 
 use crate::cutting::{cut, let_go};
-use mt9_advice::{put_mt900, put_mt910, read_mt900, read_mt910};
 use corr_text::Text;
 use fin_fields::FieldFault;
+use mt9_advice::{put_mt900, put_mt910, read_mt900, read_mt910};
 use ref_tables::{RefTables, read_tables};
 use std::alloc::Global;
 use std::test::Fail;

@@ -4,9 +4,9 @@ ghost use Rattle.std.specs.Prelude.{IsTrue};
 ghost use Rattle.ref_tables.specs.Seen.{few_decimals};
 
 use crate::cutting::{cut, let_go};
-use mt202cov::{put_mt202cov, read_mt202cov};
 use corr_text::Text;
 use fin_fields::FieldFault;
+use mt202cov::{put_mt202cov, read_mt202cov};
 use ref_tables::{RefTables, read_tables};
 use std::alloc::Global;
 use std::test::Fail;

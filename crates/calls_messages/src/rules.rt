@@ -1,11 +1,10 @@
 //! A transfer that breaks a rule.
 
-
 use crate::cutting::{cut, let_go};
-use mt103_rules::{D75, first_rule};
 use corr_ids::Bic;
 use corr_text::Fault;
 use mt103::read_mt103;
+use mt103_rules::{D75, first_rule};
 use ref_tables::{RefTables, read_tables};
 use std::alloc::Global;
 use std::test::Fail;

@@ -4,9 +4,9 @@ ghost use Rattle.std.specs.Prelude.{IsTrue};
 ghost use Rattle.ref_tables.specs.Seen.{few_decimals};
 
 use crate::cutting::{cut, let_go};
-use mt103::{put_mt103, read_mt103};
 use corr_text::Text;
 use fin_fields::FieldFault;
+use mt103::{put_mt103, read_mt103};
 use ref_tables::{RefTables, read_tables};
 use std::alloc::Global;
 use std::test::Fail;
@@ -30,8 +30,7 @@ fn written(alloc: Global, tables: &RefTables, text: &[u8]) -> Result<Option<Text
 fn a_transfer_is_read_and_written(rt: HostRuntime) -> Result<(), Fail> {
     let tables = read_tables(rt.alloc(), b"", b"EUR,2\n", b"")?;
     let text = b":20:R\n:23B:CRED\n:32A:240603EUR1,\n:50K:P\n:59:Q\n:71A:SHA\n";
-    let want =
-        b":20:R\r\n:23B:CRED\r\n:32A:240603EUR1,00\r\n:50K:P\r\n:59:Q\r\n:71A:SHA\r\n";
+    let want = b":20:R\r\n:23B:CRED\r\n:32A:240603EUR1,00\r\n:50K:P\r\n:59:Q\r\n:71A:SHA\r\n";
     match written(rt.alloc(), &tables, text)? {
         Some(got) => assert!(rt; got.bytes() == want.as_slice()),
         None => assert!(rt; false, "a transfer"),
