@@ -39,6 +39,7 @@ via_of Cover bs = option_map (λ b. Some b) (bic_of bs)
 abbrev pub method_in : Cells → Method
 method_in row = unwrap_or (method_of (cell 2 row)) Book
 
+-- the bank between that a row says, as its way to pay wants it; none where the cell is not of that form
 abbrev pub via_in : Cells → Option (Option Bic)
 via_in row = via_of (method_in row) (cell 3 row)
 

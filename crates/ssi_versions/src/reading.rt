@@ -1,6 +1,6 @@
 //! The rows of the table of instructions, each tested against those before it.
 
-ghost use Rattle.std.specs.Prelude.{◌≡◌, ◌≤◌, ◌<◌, [], IfErr, IfOk, MatchResult, None, Some, length, map};
+ghost use Rattle.std.specs.Prelude.{◌≡◌, ◌≤◌, ◌<◌, [], IfErr, IfOk, OnOk, None, Some, length, map};
 ghost use Rattle.csv.specs.Records.{fields_of};
 ghost use Rattle.ref_tables.specs.Refusals.{Tells, against, first_bad_row, named};
 ghost use Rattle.ref_tables.specs.Rows.{cell};
@@ -19,9 +19,9 @@ use std::alloc::Global;
 fn read_columns(row: &ByteRecord, bank: Text, account: Text) -> Result<SsiRow, Why>
     requires bank_read { bank ≡ cell 1 (fields_of row.now) }
     requires account_read { account ≡ cell 4 (fields_of row.now) }
-    ensures { MatchResult result
-        (λ a. (form_fault (fields_of row.now) ≡ None) × (a ≡ instruction_of (fields_of row.now)))
-        (λ why. form_fault (fields_of row.now) ≡ Some why) }
+    ensures sound { OnOk result (form_fault (fields_of row.now) ≡ None) }
+    ensures value { IfOk result (λ a. a ≡ instruction_of (fields_of row.now)) }
+    ensures bad { IfErr result (λ why. form_fault (fields_of row.now) ≡ Some why) }
 {
     if row.len() != 7 {
         return Err(Why::Columns);
@@ -98,9 +98,9 @@ fn read_row(
     requires bank_read { bank ≡ cell 1 (fields_of row.now) }
     requires account_read { account ≡ cell 4 (fields_of row.now) }
     requires few { length earlier.now < 10000 }
-    ensures { MatchResult result
-        (λ a. (instruction_fault t.now earlier.now (fields_of row.now) ≡ None) × (a ≡ instruction_of (fields_of row.now)))
-        (λ why. instruction_fault t.now earlier.now (fields_of row.now) ≡ Some why) }
+    ensures sound { OnOk result (instruction_fault t.now earlier.now (fields_of row.now) ≡ None) }
+    ensures value { IfOk result (λ a. a ≡ instruction_of (fields_of row.now)) }
+    ensures bad { IfErr result (λ why. instruction_fault t.now earlier.now (fields_of row.now) ≡ Some why) }
 {
     let instruction = read_columns(row, bank, account)?;
     match standing(t, earlier, &instruction) {

@@ -17,20 +17,20 @@ read_row-requires-clause-few c =
 pub enter-requires : goal.enter-requires
 enter-requires c =
     let read = c.in-Ok.ensures in
-    rw read.1 (read-in-form c.args.t.now c.loop-row.ssi (fields_of c.row-item.result) read.0)
+    rw read.value (read-in-form c.args.t.now c.loop-row.ssi (fields_of c.row-item.result) read.sound)
 
 pub loop-row-preserved : goal.loop-row-preserved
 loop-row-preserved c =
     let row = fields_of c.row-item.result in
     let place = row-at fields_of c.args.rows.now c.loop-row.row-index c.row-item.result c.row-item.is c.loop-row-test.true in
     let read = c.in-Ok.ensures in
-    let added = c.in_ok-ssi-in-Ok.ensures ∙ ap (λ a. c.loop-row.ssi ++ a ∷ []) read.1 in
-    enters c.loop-row.invariant row place.0 place.1 _ read.0 added
+    let added = c.in_ok-ssi-in-Ok.ensures ∙ ap (λ a. c.loop-row.ssi ++ a ∷ []) read.value in
+    enters c.loop-row.invariant row place.0 place.1 _ read.sound added
 
 pub returns-in-Err-clause-bad : goal.returns-in-Err-clause-bad
 returns-in-Err-clause-bad c =
     let place = row-at fields_of c.args.rows.now c.loop-row.row-index c.row-item.result c.row-item.is c.loop-row-test.true in
-    let told = refuses c.loop-row.invariant (fields_of c.row-item.result) place.0 place.1 c.in-Err.why c.in-Err.ensures in
+    let told = refuses c.loop-row.invariant (fields_of c.row-item.result) place.0 place.1 c.in-Err.why c.in-Err.ensures.bad in
     rw (c.bad.ensures, c.len.ensures, told) refl
 
 pub returns-clause-ok : goal.returns-clause-ok
