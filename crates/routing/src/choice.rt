@@ -36,14 +36,14 @@ pub fn route(
     cover: &Cover,
     target: &Target,
     ssi: &Ssi,
-    a: &Accounts,
+    accounts: &Accounts,
 ) -> Result<Routed, Code>
-    ensures value { result ≡ route_of sender.now amount.now value cover.now target.now ssi.now a.now }
-    ensures accounts { IfOk result (AreBetween a.now amount.now) }
+    ensures value { result ≡ route_of sender.now amount.now value cover.now target.now ssi.now accounts.now }
+    ensures accounts { IfOk result (AreBetween accounts.now amount.now) }
     ensures via { IfOk result (λ routed. IfSome routed.via IsBic) }
 {
-    let debit = debit_side(sender, amount, cover, a)?;
-    let credit = credit_side(amount, value, target, ssi, a)?;
+    let debit = debit_side(sender, amount, cover, accounts)?;
+    let credit = credit_side(amount, value, target, ssi, accounts)?;
     if debit == credit.account {
         return Err(P38);
     }

@@ -6,11 +6,11 @@ ghost use Rattle.routing.specs.Route.{cover_of_bank, debit_of, is_bank, relation
 
 use crate::codes::{P31, P32, P35};
 use crate::cover::Cover;
-use crate::ledger::{NOSTRO, VOSTRO, Wanted, account_with, named};
+use crate::ledger::{Wanted, account_with, named};
 use corr_ids::Bic;
 use corr_money::Amount;
 use corr_text::Code;
-use day_model::{Accounts, AcctNo};
+use day_model::{Accounts, AcctNo, Kind};
 
 fn is_bank(a: &Bic, b: &Bic) -> bool
     ensures { result ≡ is_bank a.now b.now }
@@ -22,10 +22,10 @@ fn relation(sender: &Bic, amount: &Amount, a: &Accounts) -> Result<AcctNo, Code>
     ensures value { result ≡ relation_of sender.now amount.now a.now }
     ensures fits { IfOk result (λ n. IsTrue (fits_at a.now amount.now n)) }
 {
-    if let Some(vostro) = account_with(VOSTRO, sender, amount, a) {
+    if let Some(vostro) = account_with(Kind::Vostro, sender, amount, a) {
         return Ok(vostro);
     }
-    account_with(NOSTRO, sender, amount, a).ok_or(P31)
+    account_with(Kind::Nostro, sender, amount, a).ok_or(P31)
 }
 
 fn over_bank(bank: &Bic, sender: &Bic, amount: &Amount, a: &Accounts) -> Result<AcctNo, Code>
@@ -35,7 +35,7 @@ fn over_bank(bank: &Bic, sender: &Bic, amount: &Amount, a: &Accounts) -> Result<
     if is_bank(bank, sender) || is_bank(bank, a.home()) {
         return relation(sender, amount, a);
     }
-    account_with(NOSTRO, bank, amount, a).ok_or(P32)
+    account_with(Kind::Nostro, bank, amount, a).ok_or(P32)
 }
 
 /// The account to debit, or why there is none: P31, P32 or P35.

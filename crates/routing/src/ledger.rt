@@ -1,21 +1,12 @@
 //! The accounts that a payment may be booked on.
 
 ghost use Rattle.std.specs.Prelude.{◌≡◌, IfSome, IsTrue};
-ghost use Rattle.day_model.specs.Chart.{is_owned};
+ghost use Rattle.day_model.specs.Chart.{is_owned, letter_of};
 ghost use Rattle.routing.specs.Accounts.{account_with, fits, fits_at, named, serves};
 
 use corr_ids::Bic;
 use corr_money::Amount;
-use day_model::{Account, Accounts, AcctNo};
-
-/// Customers' accounts.
-pub const CUSTOMER: u8 = b'C';
-
-/// Accounts that other banks have with us.
-pub const VOSTRO: u8 = b'V';
-
-/// Accounts that we have with other banks.
-pub const NOSTRO: u8 = b'N';
+use day_model::{Account, Accounts, AcctNo, Kind};
 
 /// What an account that is named by its id has to be.
 #[derive(Clone, Copy)]
@@ -36,31 +27,32 @@ fn fits(amount: &Amount, account: &Account) -> bool
     account.ccy == amount.ccy && account.decimals == amount.decimals
 }
 
-fn is_owned(kind: u8, bank: &Bic, amount: &Amount, account: &Account) -> bool
-    ensures { result ≡ is_owned kind bank.now.head amount.now.ccy amount.now.decimals account.now }
+fn is_owned(kind: Kind, bank: &Bic, amount: &Amount, account: &Account) -> bool
+    ensures { result ≡ is_owned (letter_of kind) bank.now.head amount.now.ccy amount.now.decimals account.now }
 {
-    account.kind == kind && account.owner.head == bank.head && fits(amount, account)
+    account.kind == kind.letter() && account.owner.head == bank.head && fits(amount, account)
 }
 
 fn serves(wanted: &Wanted, amount: &Amount, account: &Account) -> bool
     ensures { result ≡ serves wanted.now amount.now account.now }
 {
     match wanted {
-        Wanted::Customer => account.kind == CUSTOMER && fits(amount, account),
+        Wanted::Customer => account.kind == Kind::Customer.letter() && fits(amount, account),
         Wanted::Relation(bank) => {
-            is_owned(VOSTRO, bank, amount, account) || is_owned(NOSTRO, bank, amount, account)
+            is_owned(Kind::Vostro, bank, amount, account)
+                || is_owned(Kind::Nostro, bank, amount, account)
         }
-        Wanted::Vostro(bank) => is_owned(VOSTRO, bank, amount, account),
-        Wanted::Nostro(bank) => is_owned(NOSTRO, bank, amount, account),
+        Wanted::Vostro(bank) => is_owned(Kind::Vostro, bank, amount, account),
+        Wanted::Nostro(bank) => is_owned(Kind::Nostro, bank, amount, account),
     }
 }
 
 /// The account of this kind that a bank owns, in the amount's currency and decimals.
-pub fn account_with(kind: u8, bank: &Bic, amount: &Amount, a: &Accounts) -> Option<AcctNo>
-    ensures value { result ≡ account_with kind bank.now amount.now a.now }
+pub fn account_with(kind: Kind, bank: &Bic, amount: &Amount, a: &Accounts) -> Option<AcctNo>
+    ensures value { result ≡ account_with (letter_of kind) bank.now amount.now a.now }
     ensures fits { IfSome result (λ n. IsTrue (fits_at a.now amount.now n)) }
 {
-    a.owned(kind, &bank.head, amount.ccy, amount.decimals)
+    a.owned(kind.letter(), &bank.head, amount.ccy, amount.decimals)
 }
 
 /// The account with this id, if it fits the amount and is what is wanted.
