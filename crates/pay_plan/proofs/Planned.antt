@@ -1,6 +1,7 @@
 -- A plan step by step.
 use Rattle.std.proofs.Common.{◌≡◌, ℕ, true, false, List, Result, Ok, Err, refl, sym, ap, ◌∙◌, subst}
 use Rattle.std.specs.Prelude.{IsErrAnd}
+use Rattle.corr_text.specs.Codes.{code}
 use Rattle.corr_text.specs.declared.fault.Code.{Code}
 use Rattle.corr_ids.specs.declared.bic.Bic.{Bic}
 use Rattle.corr_ids.specs.declared.envelope.Envelope.{Envelope}
@@ -13,13 +14,12 @@ use Rattle.pay_plan.specs.declared.ask.Ask.{Ask}
 use Rattle.pay_plan.specs.declared.asked.Asked.{Asked}
 use Rattle.pay_plan.specs.declared.fault.PlanFault.{PlanFault}
 use Rattle.pay_plan.specs.declared.fault.PlanFault.TheVariants as fault
-use Rattle.pay_plan.specs.declared.fault.TheConstants.{P34}
 use Rattle.pay_plan.specs.Asked.{asked_of, is_for_home}
 use Rattle.pay_plan.specs.Plan.{Plans, Refuses, pay_of, plan_of}
 
 -- a cover for the home bank has no plan
 pub home-refused : (env : Envelope) (text : List ℕ) (ask : Ask) (rows : List SsiRow) (chart : Chart) (home : Bic) → home ≡ chart.home →
-    is_for_home home ask ≡ true → plan_of env text ask rows chart ≡ Err P34
+    is_for_home home ask ≡ true → plan_of env text ask rows chart ≡ Err (code "P34")
 unfolding plan_of
 home-refused env text ask rows chart home home_is named =
     let at : is_for_home chart.home ask ≡ true = ap (λ (h : Bic). is_for_home h ask) (sym home_is) ∙ named in

@@ -13,6 +13,7 @@ abbrev pub is_for_home : Bic → Ask → Bool
 is_for_home home (Transfer m) = false
 is_for_home home (Cover m) = names_home home m.now.a58
 
+-- what a message asks
 abbrev pub asked_of : Bic → Ask → Asked
 asked_of home (Transfer m) = record {
   mt = mt.Transfer;

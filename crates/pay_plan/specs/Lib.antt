@@ -6,4 +6,3 @@ pub mod Orders
 pub mod Pay
 pub mod Plan
 pub mod Readable
-pub mod Constants

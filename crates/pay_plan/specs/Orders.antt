@@ -24,6 +24,7 @@ skip_of field is_target =
     else if field == 57 then (if is_target then Both else Mid)
     else Both
 
+-- the orders to the next bank
 abbrev pub next_orders : Way → Bic → ℕ → Option Bic → List Order
 next_orders Ends bank field via = []
 next_orders Onward bank field via = order.Transfer (receiver bank via) (skip_of field (is_bank (receiver bank via) bank)) None ∷ []

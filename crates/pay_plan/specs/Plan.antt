@@ -1,6 +1,7 @@
 -- The pay of a message, or the first test that it fails.
 use Rattle.std.specs.Prelude.{◌≡◌, ℕ, not, List, [], Result, Ok, Err, unwrap_or}
 use Rattle.std.specs.Option.{option_map_or}
+use Rattle.corr_text.specs.Codes.{code}
 use Rattle.corr_text.specs.First.{check, ◌>>=◌}
 use Rattle.corr_text.specs.declared.fault.Code.{Code}
 use Rattle.corr_ids.specs.declared.envelope.Envelope.{Envelope}
@@ -16,7 +17,6 @@ use Rattle.pay_plan.specs.declared.ask.Ask.{Ask}
 use Rattle.pay_plan.specs.declared.asked.Asked.{Asked}
 use Rattle.pay_plan.specs.declared.fault.PlanFault.{PlanFault}
 use Rattle.pay_plan.specs.declared.fault.PlanFault.TheVariants as fault
-use Rattle.pay_plan.specs.declared.fault.TheConstants.{P34}
 use Rattle.pay_plan.specs.declared.way.Way.{Way}
 use Rattle.pay_plan.specs.Asked.{asked_of, is_for_home}
 use Rattle.pay_plan.specs.Orders.{orders_of}
@@ -48,7 +48,7 @@ pay_of env text asked routed chart =
 -- a cover for the home bank is refused before its accounts are looked for
 unfoldable pub plan_of : Envelope → List ℕ → Ask → List SsiRow → Chart → Result Pay Code
 plan_of env text ask rows chart = do
-  _ ← check (not (is_for_home chart.home ask)) P34
+  _ ← check (not (is_for_home chart.home ask)) (code "P34")
   routed ← route_of env.sender (asked_of chart.home ask).amount (asked_of chart.home ask).value (asked_of chart.home ask).cover (asked_of chart.home ask).target rows chart
   Ok (pay_of env text (asked_of chart.home ask) routed chart)
 

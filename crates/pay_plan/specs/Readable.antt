@@ -24,6 +24,7 @@ pub record IsCoverRead (m : Mt202Cov) : Type 0 where
   pub fields : List Field
   pub read : mt202cov_of tables fields ≡ Ok m
 
+-- the message is one that its reader gives
 abbrev pub IsRead : Ask → Type 0
 IsRead (Transfer m) = IsTransferRead m.now
 IsRead (Cover m) = IsCoverRead m.now

@@ -32,6 +32,7 @@ payee_account (party.A line bic) = option_map (drop 1) line
 payee_account (party.F line lines) = option_map (drop 1) line
 payee_account _ = None
 
+-- a customer's account
 abbrev pub customer_target : Party → Target
 customer_target payee = Customer (payee_account payee)
 

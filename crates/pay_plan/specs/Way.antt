@@ -21,6 +21,7 @@ abbrev pub cover_way : Target → Option Method → Way
 cover_way (Bank bank field) (Some method.Book) = if field == 58 then Credited else Passed
 cover_way _ _ = Passed
 
+-- how a payment goes on
 abbrev pub way_of : Mt → Target → Option Method → Way
 way_of mt.Transfer target method = transfer_way method
 way_of mt.Cover target method = cover_way target method

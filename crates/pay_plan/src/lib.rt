@@ -6,7 +6,6 @@ mod ask;
 mod asked;
 mod cover;
 mod fault;
-mod laws;
 mod legs;
 mod orders;
 mod planning;
@@ -15,5 +14,4 @@ mod way;
 
 pub use ask::Ask;
 pub use fault::{P34, PlanFault};
-pub use laws::plan_code_law;
 pub use planning::plan;

@@ -6,12 +6,9 @@ ghost use Rattle.pay_plan.specs.Orders.{next_orders, notices_of, orders_by, orde
 use crate::way::Way;
 use corr_ids::Bic;
 use corr_text::{List, Memory};
-use day_model::{Account, Order, Skip};
+use day_model::{Account, Kind, Order, Skip};
 use routing::{Routed, Target};
 use std::alloc::Global;
-
-/// The kind of the accounts that other banks have here.
-const VOSTRO: u8 = b'V';
 
 // Which of 56a and 57a the next bank doesn't need: those up to the field that names it, and the one before that where it
 // isn't the target itself.
@@ -65,7 +62,7 @@ fn push_next(
 fn push_notice(debited: &Account, orders: &mut List<Order>) -> Result<(), Memory>
     ensures { OnOk result (orders.new ≡ orders.old ++ notices_of debited.now) }
 {
-    if debited.kind != VOSTRO {
+    if debited.kind != Kind::Vostro.letter() {
         return Ok(());
     }
     orders.push(Order::Debit {

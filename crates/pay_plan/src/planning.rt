@@ -63,19 +63,19 @@ pub fn plan(
     text: &Text,
     ask: Ask<'_>,
     ssi: &Ssi,
-    a: &Accounts,
+    accounts: &Accounts,
 ) -> Result<Pay, PlanFault>
     requires received { IsSome env.now.mir }
     requires message { IsRead ask }
-    ensures plan { Plans result (plan_of env.now text.now ask.entry ssi.now a.now) }
-    ensures fit { IfOk result (FitsAccounts a.now) }
+    ensures plan { Plans result (plan_of env.now text.now ask.entry ssi.now accounts.now) }
+    ensures fit { IfOk result (FitsAccounts accounts.now) }
     ensures form { IsWritable env.now text.now → IfOk result HasShape }
 {
     let Some(mir) = env.mir else { unreachable!() };
-    if is_for_home(a.home(), ask) {
+    if is_for_home(accounts.home(), ask) {
         return Err(PlanFault::Code(P34));
     }
-    let asked = asked_of(alloc, a.home(), ask)?;
+    let asked = asked_of(alloc, accounts.home(), ask)?;
     let routed = route(
         &env.sender,
         &asked.amount,
@@ -83,7 +83,7 @@ pub fn plan(
         &asked.cover,
         &asked.target,
         ssi,
-        a,
+        accounts,
     )?;
-    Ok(pay_of(alloc, mir, env, text, &asked, &routed, a)?)
+    Ok(pay_of(alloc, mir, env, text, &asked, &routed, accounts)?)
 }
