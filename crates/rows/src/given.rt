@@ -130,5 +130,13 @@ pub fn put_refusal(fault: &MtFault, out: &mut Answer) -> Result<(), Stop> {
     }
 }
 
+/// Adds the lines of a message, or the fault of fields that are none.
+pub fn put_written(written: Result<Text, MtFault>, answer: &mut Answer) -> Result<(), Stop> {
+    match written {
+        Ok(text) => Ok(answer.text(text.bytes())?),
+        Err(fault) => put_refusal(&fault, answer),
+    }
+}
+
 /// Lets a message go. Generic, so that it is one value.
 pub fn let_go<M: Drop>(_m: M) {}

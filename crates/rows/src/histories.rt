@@ -35,6 +35,7 @@ fn enter(a: &Accounts, h: &mut History, p: Pay) -> Result<(), Stop>
 }
 
 /// The history of the pays of these lines.
+#[tactic(auto, using(day_model::proofs::laws::Growth::legal_here))]
 pub fn history_in(alloc: Global, a: &Accounts, lines: &[u8]) -> Result<History, Stop>
     ensures legal { IfOk result (λ h. IsLegal a.now h.entries) }
     ensures days { IfOk result (λ h. AreInCentury h.entries) }

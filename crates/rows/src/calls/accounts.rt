@@ -4,12 +4,15 @@ ghost use Rattle.std.specs.Prelude.{IfOk};
 ghost use Rattle.day_model.specs.Chart.{IsListed};
 
 use crate::answer::Answer;
-use crate::books::{HOME, accounts_in, book_in, ccy, cells, pay, rows_in, small};
+use crate::books::{
+    HOME, TODAY, accounts_in, book_in, ccy, cells, lines_in, mir, pay, rows_in, small,
+};
 use crate::histories::{history_in, put_outcome};
 use crate::stop::Stop;
 use crate::words::Words;
 use corr_text::Memory;
-use day_model::{Accounts, AccountsFault, AcctNo, balance, rows_hold};
+use day_model::{Accounts, AccountsFault, AcctNo, Entry, History, Outcome, balance, rows_hold};
+use std::alloc::Global;
 
 /// Makes a call, and answers whether one of these has that name.
 pub fn call(name: &[u8], words: &mut Words, answer: &mut Answer) -> Result<bool, Stop> {
@@ -21,6 +24,7 @@ pub fn call(name: &[u8], words: &mut Words, answer: &mut Answer) -> Result<bool,
         b"owned" => by_owner(words, answer)?,
         b"fits" => fit(words, answer)?,
         b"is_same" => same(words, answer)?,
+        b"history" => history(words, answer)?,
         b"decide" => outcomes(words, answer)?,
         b"balance" => balances(words, answer)?,
         _ => return Ok(false),
@@ -129,4 +133,40 @@ fn balances(words: &mut Words, answer: &mut Answer) -> Result<(), Stop> {
     let n = listed(&book, words)?;
     let h = history_in(answer.alloc(), &book, words.next()?)?;
     Ok(answer.signed(balance(&book, &h, n))?)
+}
+
+/// The history of the pays of these lines, each booked.
+fn booked(alloc: Global, lines: &[u8]) -> Result<History, Stop> {
+    let mut h = History::new(alloc);
+    for cells in lines_in(alloc, lines)?.as_slice() {
+        if h.len() == 100_000 {
+            return Err(Stop::Unreadable);
+        }
+        let entry = Entry {
+            pay: pay(alloc, &mut Words::new(cells.as_slice()))?,
+            day: TODAY,
+            outcome: Outcome::Booked,
+        };
+        h.reserve()?;
+        h.push(entry)?;
+    }
+    Ok(h)
+}
+
+/// `history REFERENCE PAYS`, a pay a line: how many entries they make, the place of the first with this reference, or `none`, and
+/// the amounts of the last.
+fn history(words: &mut Words, answer: &mut Answer) -> Result<(), Stop> {
+    let reference = mir(answer.alloc(), words.number()?)?;
+    let h = booked(answer.alloc(), words.next()?)?;
+    answer.number(h.len() as u64)?;
+    match h.find(&reference) {
+        Some(place) => answer.number(place as u64)?,
+        None => answer.none()?,
+    }
+    if h.len() >= 1 {
+        for leg in h.get(h.len()).pay.legs.as_slice() {
+            answer.number(leg.amount.0)?;
+        }
+    }
+    Ok(())
 }

@@ -1,7 +1,7 @@
 //! Calls of pay_plan.
 
-ghost use Rattle.std.specs.Prelude.{IsSome};
-ghost use Rattle.pay_plan.specs.Readable.{IsRead};
+ghost use Rattle.std.specs.Prelude.{IfOk, IsSome};
+ghost use Rattle.pay_plan.specs.Readable.{IsCoverRead, IsRead, IsTransferRead};
 
 use crate::answer::Answer;
 use crate::books::{HOME, bic, mir};
@@ -12,9 +12,11 @@ use crate::stop::Stop;
 use crate::words::Words;
 use corr_ids::{Bic, Envelope, Mir};
 use corr_text::Text;
-use mt103::read_mt103;
-use mt202cov::read_mt202cov;
+use mt103::{Mt103, read_mt103};
+use mt202cov::{Mt202Cov, read_mt202cov};
 use pay_plan::{Ask, PlanFault, plan};
+use ref_tables::RefTables;
+use std::alloc::Global;
 
 /// Makes a call, and answers whether one of these has that name.
 pub fn call(name: &[u8], words: &mut Words, answer: &mut Answer) -> Result<bool, Stop> {
@@ -60,21 +62,36 @@ fn put_planned(
     }
 }
 
+fn read_transfer(alloc: Global, tables: &RefTables, text: &Text) -> Result<Mt103, Stop>
+    ensures { IfOk result IsTransferRead }
+{
+    let fields = cut(alloc, text.bytes())?;
+    match read_mt103(alloc, fields.as_slice(), tables) {
+        Ok(m) => Ok(m),
+        Err(_) => Err(Stop::Unreadable),
+    }
+}
+
+fn read_cover(alloc: Global, tables: &RefTables, text: &Text) -> Result<Mt202Cov, Stop>
+    ensures { IfOk result IsCoverRead }
+{
+    let fields = cut(alloc, text.bytes())?;
+    match read_mt202cov(alloc, fields.as_slice(), tables) {
+        Ok(m) => Ok(m),
+        Err(_) => Err(Stop::Unreadable),
+    }
+}
+
 /// `plan_transfer DESK SENDER FIELDS`: the pay of a transfer, or the code.
 fn transfer(words: &mut Words, answer: &mut Answer) -> Result<(), Stop> {
     let alloc = answer.alloc();
     let desk = open_desk(alloc, words.next()?)?;
     let sender = bic(words)?;
     let text = text_in(alloc, words)?;
-    let fields = cut(alloc, text.bytes())?;
-    match read_mt103(alloc, fields.as_slice(), &desk.tables) {
-        Ok(m) => {
-            let put = put_planned(&desk, sender, &text, Ask::Transfer(&m), answer);
-            let_go(m);
-            put
-        }
-        Err(_) => Err(Stop::Unreadable),
-    }
+    let m = read_transfer(alloc, &desk.tables, &text)?;
+    let put = put_planned(&desk, sender, &text, Ask::Transfer(&m), answer);
+    let_go(m);
+    put
 }
 
 /// `plan_cover DESK SENDER FIELDS`: the pay of a cover, or the code.
@@ -83,13 +100,8 @@ fn cover(words: &mut Words, answer: &mut Answer) -> Result<(), Stop> {
     let desk = open_desk(alloc, words.next()?)?;
     let sender = bic(words)?;
     let text = text_in(alloc, words)?;
-    let fields = cut(alloc, text.bytes())?;
-    match read_mt202cov(alloc, fields.as_slice(), &desk.tables) {
-        Ok(m) => {
-            let put = put_planned(&desk, sender, &text, Ask::Cover(&m), answer);
-            let_go(m);
-            put
-        }
-        Err(_) => Err(Stop::Unreadable),
-    }
+    let m = read_cover(alloc, &desk.tables, &text)?;
+    let put = put_planned(&desk, sender, &text, Ask::Cover(&m), answer);
+    let_go(m);
+    put
 }

@@ -1,13 +1,21 @@
 //! Calls of mt103 and mt103_rules.
 
+ghost use Rattle.std.specs.Prelude.{IsTrue};
+ghost use Rattle.ref_tables.specs.Seen.{few_decimals};
+
 use crate::answer::Answer;
-use crate::given::{fields_in, let_go, put_fault, put_refusal, tables_in};
+use crate::given::{
+    cut, fields_in, let_go, put_fault, put_refusal, put_written, tables_in, text_in,
+};
 use crate::stop::Stop;
 use crate::words::Words;
 use corr_ids::{Bic, read_bic};
-use corr_text::Fault;
+use corr_text::{Fault, Text};
+use fin_layout::MtFault;
 use mt103::{put_mt103, read_mt103};
 use mt103_rules::first_rule;
+use ref_tables::RefTables;
+use std::alloc::Global;
 
 /// Makes a call, and answers whether one of these has that name.
 pub fn call(name: &[u8], words: &mut Words, answer: &mut Answer) -> Result<bool, Stop> {
@@ -35,20 +43,27 @@ fn read(words: &mut Words, answer: &mut Answer) -> Result<(), Stop> {
     Ok(())
 }
 
+// The transfer of a text, written.
+fn written(alloc: Global, tables: &RefTables, text: &[u8]) -> Result<Result<Text, MtFault>, Stop>
+    requires { IsTrue (few_decimals tables.now.ccys) }
+{
+    let fields = cut(alloc, text)?;
+    match read_mt103(alloc, fields.as_slice(), tables) {
+        Ok(m) => {
+            let text = put_mt103(alloc, &m);
+            let_go(m);
+            Ok(Ok(text?))
+        }
+        Err(fault) => Ok(Err(fault)),
+    }
+}
+
 /// `put_mt103 TABLES FIELDS`: the lines of the transfer that the fields say.
 fn rewrite(words: &mut Words, answer: &mut Answer) -> Result<(), Stop> {
     let alloc = answer.alloc();
     let tables = tables_in(alloc, words.next()?)?;
-    let fields = fields_in(alloc, words)?;
-    match read_mt103(alloc, fields.as_slice(), &tables) {
-        Ok(m) => {
-            let text = put_mt103(alloc, &m);
-            let_go(m);
-            answer.text(text?.bytes())?;
-        }
-        Err(fault) => put_refusal(&fault, answer)?,
-    }
-    Ok(())
+    let text = text_in(alloc, words)?;
+    put_written(written(alloc, &tables, text.bytes())?, answer)
 }
 
 /// The next word as a BIC.
