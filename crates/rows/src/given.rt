@@ -87,6 +87,7 @@ pub fn text_in(alloc: Global, words: &mut Words) -> Result<Text, Stop> {
 }
 
 /// The fields of a text, which can be cut.
+#[tactic(auto, using(fin_fields::proofs::laws::Bounds::lines_few))]
 pub fn cut(alloc: Global, text: &[u8]) -> Result<List<Field>, Stop>
     ensures few { IfOk result (λ fields. length fields ≤ 65535) }
     ensures fit { IfOk result (λ fields. All IsField fields) }
