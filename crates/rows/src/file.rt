@@ -4,7 +4,7 @@ use crate::calls::answer;
 use crate::head::{Head, read_head};
 use crate::many::read_many;
 use crate::named::{Named, find_text};
-use crate::stop::Stop;
+use row_words::stop::Stop;
 use corr_text::{Memory, Text, put_digits};
 use std::alloc::Global;
 use std::mem;

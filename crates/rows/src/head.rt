@@ -2,7 +2,7 @@
 
 use crate::named::{Named, find_text};
 use crate::step::{Act, At, step};
-use crate::stop::Stop;
+use row_words::stop::Stop;
 use corr_text::{Memory, Text};
 use std::alloc::Global;
 use std::mem;

@@ -1,27 +1,16 @@
 //! Runs rows of cases: a row of a file names a call, its words and its answer (README.md).
 #![tactic(auto)]
 
-mod answer;
-mod books;
 mod calls;
-mod desks;
-mod fields;
 mod file;
-mod given;
 mod head;
-mod histories;
 mod many;
 mod named;
-mod party;
-mod pays;
 mod step;
-mod stop;
-mod tables;
-mod words;
 
 use crate::file::run_file;
-use crate::stop::no_memory;
-use anyhow::{Context, Result};
+use anyhow::{Context, Error, Result, anyhow};
+use corr_text::Memory;
 use std::io::Write;
 use std::{env, fs};
 
@@ -35,4 +24,9 @@ fn main(rt: HostRuntime) -> Result<()> {
         rt.stdout().write_all(report.bytes())?;
     }
     Ok(())
+}
+
+/// The error of a program that found no room.
+fn no_memory(_: Memory) -> Error {
+    anyhow!("no memory")
 }

@@ -2,8 +2,8 @@
 
 use crate::head::read_head;
 use crate::named::Named;
-use crate::stop::Stop;
-use crate::words::Words;
+use row_words::stop::Stop;
+use row_words::words::Words;
 use corr_text::{Memory, Text};
 use std::alloc::Global;
 

@@ -1,0 +1,57 @@
+//! Tables, as words and as parts of an answer.
+
+use row_words::answer::Answer;
+use row_words::stop::Stop;
+use row_words::words::Words;
+use ref_tables::{RefTables, TableFault, TableName, Why, read_tables};
+
+/// The tables of the next three words: the files of banks, of currencies and of countries. `Unreadable`: a row is refused.
+pub fn tables(words: &mut Words, answer: &Answer) -> Result<RefTables, Stop> {
+    let bics = words.next()?;
+    let ccys = words.next()?;
+    match read_tables(answer.alloc(), bics, ccys, words.next()?) {
+        Ok(tables) => Ok(tables),
+        Err(TableFault::Memory) => Err(Stop::Memory),
+        Err(TableFault::Bad { .. }) => Err(Stop::Unreadable),
+    }
+}
+
+fn name(table: TableName) -> &'static [u8] {
+    match table {
+        TableName::Bics => b"bics",
+        TableName::Ccys => b"ccys",
+        TableName::Countries => b"countries",
+        TableName::Accounts => b"accounts",
+        TableName::Ssi => b"ssi",
+    }
+}
+
+/// The name of a reason, and its number where it has one.
+fn reason(why: Why) -> (&'static [u8], Option<u32>) {
+    match why {
+        Why::Columns => (b"columns", None),
+        Why::Value { col } => (b"value", Some(col as u32)),
+        Why::Double { row } => (b"double", Some(row)),
+        Why::Bic => (b"bic", None),
+        Why::Currency => (b"currency", None),
+        Why::Limits => (b"limits", None),
+        Why::Overlap { row } => (b"overlap", Some(row)),
+        Why::Span => (b"span", None),
+        Why::Rows => (b"rows", None),
+    }
+}
+
+/// Adds why a table is refused: its name, the row and the reason.
+pub fn put_table_fault(fault: TableFault, answer: &mut Answer) -> Result<(), Stop> {
+    let TableFault::Bad { table, row, why } = fault else {
+        return Err(Stop::Memory);
+    };
+    answer.word(name(table))?;
+    answer.number(row as u64)?;
+    let (reason, number) = reason(why);
+    answer.word(reason)?;
+    match number {
+        Some(number) => Ok(answer.number(number as u64)?),
+        None => Ok(()),
+    }
+}

@@ -1,0 +1,107 @@
+//! Calls of pay_plan.
+
+ghost use Rattle.std.specs.Prelude.{IfOk, IsSome};
+ghost use Rattle.pay_plan.specs.Readable.{IsCoverRead, IsRead, IsTransferRead};
+
+use row_words::answer::Answer;
+use crate::books::{HOME, bic, mir};
+use crate::desks::{Desk, open_desk};
+use row_messages::given::{cut, let_go, text_in};
+use crate::pays::put_pay;
+use row_words::stop::Stop;
+use row_words::words::Words;
+use corr_ids::{Bic, Envelope, Mir};
+use corr_text::Text;
+use mt103::{Mt103, read_mt103};
+use mt202cov::{Mt202Cov, read_mt202cov};
+use pay_plan::{Ask, PlanFault, plan};
+use ref_tables::RefTables;
+use std::alloc::Global;
+
+/// Makes a call, and answers whether one of these has that name.
+pub fn call(name: &[u8], words: &mut Words, answer: &mut Answer) -> Result<bool, Stop> {
+    match name {
+        b"plan_transfer" => transfer(words, answer)?,
+        b"plan_cover" => cover(words, answer)?,
+        _ => return Ok(false),
+    }
+    Ok(true)
+}
+
+fn envelope(mir: Mir, sender: Bic) -> Envelope
+    ensures { IsSome result.mir }
+{
+    Envelope {
+        mir: Some(mir),
+        sender,
+        receiver: HOME,
+        uetr: None,
+    }
+}
+
+/// Adds the pay of a message, or the code why it has none.
+fn put_planned(
+    desk: &Desk,
+    sender: Bic,
+    text: &Text,
+    ask: Ask<'_>,
+    answer: &mut Answer,
+) -> Result<(), Stop>
+    requires { IsRead ask }
+{
+    let alloc = answer.alloc();
+    let env = envelope(mir(alloc, 1)?, sender);
+    match plan(alloc, &env, text, ask, &desk.ssi, &desk.accounts) {
+        Ok(pay) => {
+            let put = put_pay(&pay, answer);
+            let_go(pay);
+            Ok(put?)
+        }
+        Err(PlanFault::Code(code)) => Ok(answer.word(&code.0)?),
+        Err(PlanFault::Memory) => Err(Stop::Memory),
+    }
+}
+
+fn read_transfer(alloc: Global, tables: &RefTables, text: &Text) -> Result<Mt103, Stop>
+    ensures { IfOk result IsTransferRead }
+{
+    let fields = cut(alloc, text.bytes())?;
+    match read_mt103(alloc, fields.as_slice(), tables) {
+        Ok(m) => Ok(m),
+        Err(_) => Err(Stop::Unreadable),
+    }
+}
+
+fn read_cover(alloc: Global, tables: &RefTables, text: &Text) -> Result<Mt202Cov, Stop>
+    ensures { IfOk result IsCoverRead }
+{
+    let fields = cut(alloc, text.bytes())?;
+    match read_mt202cov(alloc, fields.as_slice(), tables) {
+        Ok(m) => Ok(m),
+        Err(_) => Err(Stop::Unreadable),
+    }
+}
+
+/// `plan_transfer DESK SENDER FIELDS`: the pay of a transfer, or the code.
+fn transfer(words: &mut Words, answer: &mut Answer) -> Result<(), Stop> {
+    let alloc = answer.alloc();
+    let desk = open_desk(alloc, words.next()?)?;
+    let sender = bic(words)?;
+    let text = text_in(alloc, words)?;
+    let m = read_transfer(alloc, &desk.tables, &text)?;
+    let put = put_planned(&desk, sender, &text, Ask::Transfer(&m), answer);
+    let_go(m);
+    put
+}
+
+/// `plan_cover DESK SENDER FIELDS`: the pay of a cover, or the code.
+fn cover(words: &mut Words, answer: &mut Answer) -> Result<(), Stop> {
+    let alloc = answer.alloc();
+    let desk = open_desk(alloc, words.next()?)?;
+    let sender = bic(words)?;
+    let text = text_in(alloc, words)?;
+    let m = read_cover(alloc, &desk.tables, &text)?;
+    let put = put_planned(&desk, sender, &text, Ask::Cover(&m), answer);
+    let_go(m);
+    put
+}
