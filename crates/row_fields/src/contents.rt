@@ -3,12 +3,9 @@
 ghost use Rattle.std.specs.Prelude.{IfOk};
 ghost use Rattle.fin_contents.specs.Writing.{IsAmount};
 
-use row_words::answer::Answer;
 use crate::fields::{put_field, put_lines, read_field, read_tag};
-use crate::party::put_parts;
-use row_words::stop::Stop;
 use crate::named_tables::tables;
-use row_words::words::Words;
+use crate::party::put_parts;
 use corr_ids::Day;
 use corr_money::{Amount, Ccy, Minor};
 use corr_text::{Memory, Text};
@@ -18,6 +15,9 @@ use fin_contents::{
     put_value,
 };
 use fin_layout::{Content, Refusal};
+use row_words::answer::Answer;
+use row_words::stop::Stop;
+use row_words::words::Words;
 
 /// Makes a call, and answers whether one of these has that name.
 pub fn call(name: &[u8], words: &mut Words, answer: &mut Answer) -> Result<bool, Stop> {

@@ -2,11 +2,11 @@
 
 ghost use Rattle.std.specs.Prelude.{◌≤◌};
 
+use corr_text::{List, Memory, Text};
+use fin_fields::{Field, tag_of};
 use row_words::answer::Answer;
 use row_words::stop::Stop;
 use row_words::words::Words;
-use corr_text::{List, Memory, Text};
-use fin_fields::{Field, tag_of};
 
 /// The number and the letter of a tag, as `52A` or `20`.
 pub fn read_tag(word: &[u8]) -> Result<(u8, Option<u8>), Stop> {

@@ -2,17 +2,17 @@
 
 ghost use Rattle.std.specs.Prelude.{◌≤◌, IfOk, length};
 
-use row_words::answer::Answer;
-use crate::lines::fields_in;
 use crate::fields::put_lines;
-use row_words::stop::Stop;
-use row_words::words::Words;
+use crate::lines::fields_in;
 use corr_text::{Fault, List, Memory, Text};
 use fin_contents::Texts;
 use fin_fields::{Field, FieldFault};
 use fin_layout::{
     MtFault, Place, check_structure, find, missing, places, read_all, read_one, read_optional,
 };
+use row_words::answer::Answer;
+use row_words::stop::Stop;
+use row_words::words::Words;
 use std::alloc::Global;
 
 /// Makes a call, and answers whether one of these has that name.

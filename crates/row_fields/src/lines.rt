@@ -3,16 +3,16 @@
 ghost use Rattle.std.specs.Prelude.{◌≤◌, ◌≢◌, [], All, IfOk, length};
 ghost use Rattle.fin_fields.specs.Writing.{IsField};
 
-use row_words::answer::Answer;
-use row_texts::texts::set;
 use crate::fields::{put_field, read_field};
-use row_words::stop::Stop;
-use row_words::words::Words;
 use corr_text::List;
 use fin_fields::{
     Field, FieldFault, Pattern, cut_fields, is_run_of, letter_of, lines_match, matches, nth_of,
     put_fields, tag_of,
 };
+use row_texts::texts::set;
+use row_words::answer::Answer;
+use row_words::stop::Stop;
+use row_words::words::Words;
 use std::alloc::Global;
 
 /// The most bytes of a text.

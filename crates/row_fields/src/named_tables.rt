@@ -1,9 +1,9 @@
 //! Tables, as words and as parts of an answer.
 
+use ref_tables::{RefTables, TableFault, TableName, Why, read_tables};
 use row_words::answer::Answer;
 use row_words::stop::Stop;
 use row_words::words::Words;
-use ref_tables::{RefTables, TableFault, TableName, Why, read_tables};
 
 /// The tables of the next three words: the files of banks, of currencies and of countries. `Unreadable`: a row is refused.
 pub fn tables(words: &mut Words, answer: &Answer) -> Result<RefTables, Stop> {

@@ -1,11 +1,11 @@
 //! Calls of fin_parties: institutions and customers.
 
-use row_words::answer::Answer;
 use crate::fields::{put_field, read_field};
 use crate::party::put_parts;
+use fin_parties::{PartyFault, account_of, put_party, read_party};
+use row_words::answer::Answer;
 use row_words::stop::Stop;
 use row_words::words::Words;
-use fin_parties::{PartyFault, account_of, put_party, read_party};
 
 /// Makes a call, and answers whether one of these has that name.
 pub fn call(name: &[u8], words: &mut Words, answer: &mut Answer) -> Result<bool, Stop> {

@@ -1,9 +1,9 @@
 //! Parties, as parts of an answer.
 
-use row_words::answer::Answer;
 use crate::fields::put_lines;
 use corr_text::{Memory, Text};
 use fin_parties::Party;
+use row_words::answer::Answer;
 
 /// Adds a text, or `none`.
 pub fn put_some(text: &Option<Text>, answer: &mut Answer) -> Result<(), Memory> {

@@ -1,12 +1,12 @@
 //! Calls of ssi_versions: settlement instructions.
 
-use row_words::answer::Answer;
-use row_words::stop::Stop;
 use crate::named_tables::{put_table_fault, tables};
-use row_words::words::Words;
 use corr_ids::{Day, day_from_yymmdd, put_yymmdd, read_bic};
 use corr_money::Ccy;
 use corr_text::Text;
+use row_words::answer::Answer;
+use row_words::stop::Stop;
+use row_words::words::Words;
 use ssi_versions::{Method, Ssi, SsiRow};
 
 /// Makes a call, and answers whether one of these has that name.

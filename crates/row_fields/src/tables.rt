@@ -1,12 +1,12 @@
 //! Calls of ref_tables: banks, currencies, countries, accounts.
 
-use row_words::answer::Answer;
-use row_words::stop::Stop;
 use crate::named_tables::{put_table_fault, tables};
-use row_words::words::Words;
 use corr_ids::read_bic;
 use corr_money::Ccy;
 use ref_tables::{AccountRow, ccy, is_account_id, read_accounts, read_tables};
+use row_words::answer::Answer;
+use row_words::stop::Stop;
+use row_words::words::Words;
 
 /// Makes a call, and answers whether one of these has that name.
 pub fn call(name: &[u8], words: &mut Words, answer: &mut Answer) -> Result<bool, Stop> {

@@ -3,14 +3,14 @@
 ghost use Rattle.std.specs.Prelude.{IsTrue};
 ghost use Rattle.ref_tables.specs.Seen.{few_decimals};
 
-use row_words::answer::Answer;
 use crate::given::{cut, fields_in, let_go, put_refusal, put_written, tables_in, text_in};
-use row_words::stop::Stop;
-use row_words::words::Words;
 use corr_text::Text;
 use fin_layout::MtFault;
 use mt9_advice::{put_mt900, put_mt910, read_mt900, read_mt910};
 use ref_tables::RefTables;
+use row_words::answer::Answer;
+use row_words::stop::Stop;
+use row_words::words::Words;
 use std::alloc::Global;
 
 /// Makes a call, and answers whether one of these has that name.

@@ -4,14 +4,14 @@ ghost use Rattle.std.specs.Prelude.{◌≤◌, All, IfOk, IsTrue, length};
 ghost use Rattle.fin_fields.specs.Writing.{IsField};
 ghost use Rattle.ref_tables.specs.Seen.{few_decimals};
 
-use row_words::answer::Answer;
-use row_words::stop::Stop;
-use row_words::words::Words;
 use corr_text::{Code, Fault, List, Memory, Text};
 use fin_fields::{Field, FieldFault, cut_fields};
 use fin_layout::MtFault;
 use memchr::memmem;
 use ref_tables::{RefTables, TableFault, read_tables};
+use row_words::answer::Answer;
+use row_words::stop::Stop;
+use row_words::words::Words;
 use std::alloc::Global;
 
 /// A text up to its first empty line, and what follows that line.

@@ -2,14 +2,14 @@
 
 ghost use Rattle.std.specs.Prelude.{◌≤◌, IfOk, length};
 
-use row_words::answer::Answer;
 use crate::given::{let_go, put_fault, tables_in};
-use row_words::stop::Stop;
-use row_words::words::Words;
 use corr_ids::{Bic, Envelope, Mir, put_bic};
 use corr_money::Amount;
 use corr_text::{Memory, Text};
 use fin_message::{Message, MessageFault, check_sent, verdict};
+use row_words::answer::Answer;
+use row_words::stop::Stop;
+use row_words::words::Words;
 
 /// Makes a call, and answers whether one of these has that name.
 pub fn call(name: &[u8], words: &mut Words, answer: &mut Answer) -> Result<bool, Stop> {

@@ -3,18 +3,18 @@
 ghost use Rattle.std.specs.Prelude.{IsTrue};
 ghost use Rattle.ref_tables.specs.Seen.{few_decimals};
 
-use row_words::answer::Answer;
 use crate::given::{
     cut, fields_in, let_go, put_fault, put_refusal, put_written, tables_in, text_in,
 };
-use row_words::stop::Stop;
-use row_words::words::Words;
 use corr_ids::{Bic, read_bic};
 use corr_text::{Fault, Text};
 use fin_layout::MtFault;
 use mt103::{put_mt103, read_mt103};
 use mt103_rules::first_rule;
 use ref_tables::RefTables;
+use row_words::answer::Answer;
+use row_words::stop::Stop;
+use row_words::words::Words;
 use std::alloc::Global;
 
 /// Makes a call, and answers whether one of these has that name.

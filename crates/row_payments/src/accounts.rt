@@ -3,15 +3,15 @@
 ghost use Rattle.std.specs.Prelude.{IfOk};
 ghost use Rattle.day_model.specs.Chart.{IsListed};
 
-use row_words::answer::Answer;
 use crate::books::{
     HOME, TODAY, accounts_in, book_in, ccy, cells, lines_in, mir, pay, rows_in, small,
 };
 use crate::histories::{history_in, put_outcome};
-use row_words::stop::Stop;
-use row_words::words::Words;
 use corr_text::Memory;
 use day_model::{Accounts, AccountsFault, AcctNo, Entry, History, Outcome, balance, rows_hold};
+use row_words::answer::Answer;
+use row_words::stop::Stop;
+use row_words::words::Words;
 use std::alloc::Global;
 
 /// Makes a call, and answers whether one of these has that name.

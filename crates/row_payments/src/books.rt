@@ -3,12 +3,12 @@
 ghost use Rattle.std.specs.Prelude.{IfOk};
 ghost use Rattle.day_model.specs.Chart.{AreRows};
 
-use row_words::stop::Stop;
-use row_words::words::Words;
 use corr_ids::{Bic, Day, Mir, read_bic, read_uetr};
 use corr_money::{Ccy, Minor};
 use corr_text::{List, Memory, Text, put_digits};
 use day_model::{Account, Accounts, AccountsFault, AcctNo, Leg, Mt, Pay, Quote, Side, rows_hold};
+use row_words::stop::Stop;
+use row_words::words::Words;
 use std::alloc::Global;
 
 /// The home bank of these rows.

@@ -1,12 +1,12 @@
 //! Calls of day_model: the core of workers.
 
-use row_words::answer::Answer;
 use crate::books::{book_in, lines_in, pay, small};
 use crate::histories::put_outcome;
-use row_words::stop::Stop;
-use row_words::words::Words;
 use corr_text::Memory;
 use day_model::{AcctNo, Core, Event, History};
+use row_words::answer::Answer;
+use row_words::stop::Stop;
+use row_words::words::Words;
 use std::alloc::Global;
 
 /// Makes a call, and answers whether one of these has that name.

@@ -1,10 +1,10 @@
 //! Instructions and accounts that rows give.
 
 use crate::books::book_in;
-use row_messages::given::{section, tables_in};
-use row_words::stop::Stop;
 use day_model::Accounts;
 use ref_tables::{RefTables, TableFault};
+use row_messages::given::{section, tables_in};
+use row_words::stop::Stop;
 use ssi_versions::Ssi;
 use std::alloc::Global;
 

@@ -5,12 +5,12 @@ ghost use Rattle.corr_report.specs.Bookings.{AreInCentury};
 ghost use Rattle.day_model.specs.Laws.{IsLatest};
 ghost use Rattle.day_model.specs.Legal.{IsLegal};
 
-use row_words::answer::Answer;
 use crate::books::{TODAY, lines_in, pay};
-use row_words::stop::Stop;
-use row_words::words::Words;
 use corr_text::Memory;
 use day_model::{Accounts, Entry, History, Outcome, Pay, decide};
+use row_words::answer::Answer;
+use row_words::stop::Stop;
+use row_words::words::Words;
 use std::alloc::Global;
 
 /// Enters a pay with its outcome. `Unreadable`: it doesn't fit, or its reference is entered.

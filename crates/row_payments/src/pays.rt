@@ -1,10 +1,10 @@
 //! A pay as an answer: account and quote of each leg, then the messages that are sent on, as
 //! `1 REF1, 2 K1; TRANSFER BETAFRPP BOTH; DEBIT ALPHDEFF 1`.
 
-use row_words::answer::Answer;
 use corr_ids::{Bic, put_bic};
 use corr_text::{Memory, Text, put_digits};
 use day_model::{Leg, Order, Pay, Quote, Skip};
+use row_words::answer::Answer;
 
 fn skip_word(skip: Skip) -> &'static [u8] {
     match skip {

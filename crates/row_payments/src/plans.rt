@@ -3,19 +3,19 @@
 ghost use Rattle.std.specs.Prelude.{IfOk, IsSome};
 ghost use Rattle.pay_plan.specs.Readable.{IsCoverRead, IsRead, IsTransferRead};
 
-use row_words::answer::Answer;
 use crate::books::{HOME, bic, mir};
 use crate::desks::{Desk, open_desk};
-use row_messages::given::{cut, let_go, text_in};
 use crate::pays::put_pay;
-use row_words::stop::Stop;
-use row_words::words::Words;
 use corr_ids::{Bic, Envelope, Mir};
 use corr_text::Text;
 use mt103::{Mt103, read_mt103};
 use mt202cov::{Mt202Cov, read_mt202cov};
 use pay_plan::{Ask, PlanFault, plan};
 use ref_tables::RefTables;
+use row_messages::given::{cut, let_go, text_in};
+use row_words::answer::Answer;
+use row_words::stop::Stop;
+use row_words::words::Words;
 use std::alloc::Global;
 
 /// Makes a call, and answers whether one of these has that name.

@@ -3,14 +3,14 @@
 ghost use Rattle.std.specs.Prelude.{◌≤◌, All, IfOk, length};
 ghost use Rattle.corr_report.specs.Report.{NamesPlace};
 
-use row_words::answer::Answer;
 use crate::books::{book_in, lines_in, mir, small};
 use crate::histories::history_in;
-use row_words::stop::Stop;
-use row_words::words::Words;
 use corr_report::{bookings, report};
 use corr_text::{Code, Fault, List};
 use day_model::{History, Reply};
+use row_words::answer::Answer;
+use row_words::stop::Stop;
+use row_words::words::Words;
 use std::alloc::Global;
 
 /// Makes a call, and answers whether one of these has that name.

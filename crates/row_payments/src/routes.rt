@@ -1,14 +1,14 @@
 //! Calls of routing.
 
-use row_words::answer::Answer;
 use crate::books::{bic, ccy};
 use crate::desks::open_desk;
-use row_words::stop::Stop;
-use row_words::words::Words;
 use corr_ids::{Bic, day_from_yymmdd, put_bic, read_bic};
 use corr_money::{Amount, Minor};
 use corr_text::{Memory, Text};
 use routing::{Cover, Routed, Target, route};
+use row_words::answer::Answer;
+use row_words::stop::Stop;
+use row_words::words::Words;
 use ssi_versions::Method;
 use std::alloc::Global;
 

@@ -7,13 +7,13 @@ ghost use Rattle.fin_blocks.specs.Sending.{IsText, are_subblocks};
 ghost use Rattle.fin_blocks.specs.Text.{text_in};
 ghost use Rattle.fin_blocks.specs.User.{may_hold};
 
-use row_words::answer::Answer;
 use crate::ids::put_terminal;
-use row_words::stop::Stop;
-use row_words::words::Words;
 use corr_ids::{Bic, read_bic, read_uetr};
 use corr_text::{Memory, Text, first_line};
 use fin_blocks::{App, BlockFault, Blocks, put_blocks, read_blocks};
+use row_words::answer::Answer;
+use row_words::stop::Stop;
+use row_words::words::Words;
 use std::alloc::Global;
 
 /// Makes a call, and answers whether one of these has that name.

@@ -1,10 +1,10 @@
 //! Calls of fin_frame: a file cut into messages.
 
+use corr_text::{List, Memory, Text};
+use fin_frame::{Cutter, FrameFault};
 use row_words::answer::Answer;
 use row_words::stop::Stop;
 use row_words::words::Words;
-use corr_text::{List, Memory, Text};
-use fin_frame::{Cutter, FrameFault};
 use std::alloc::Global;
 
 /// The most bytes of a file.

@@ -1,13 +1,13 @@
 //! Calls of corr_ids: banks, terminals, references, days.
 
-use row_words::answer::Answer;
-use row_words::stop::Stop;
-use row_words::words::Words;
 use corr_ids::{
     Bic, Day, LtAddress, day_from_yymmdd, day_of_year, put_bic, put_yymmdd, read_bic, read_lt,
     read_mir, read_uetr, with_branch,
 };
 use corr_text::Text;
+use row_words::answer::Answer;
+use row_words::stop::Stop;
+use row_words::words::Words;
 
 /// Makes a call, and answers whether one of these has that name.
 pub fn call(name: &[u8], words: &mut Words, answer: &mut Answer) -> Result<bool, Stop> {

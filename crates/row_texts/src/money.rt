@@ -1,10 +1,10 @@
 //! Calls of corr_money: amounts.
 
+use corr_money::{AmountFault, Minor, is_comma_number, put_15d, put_signed, put_total, read_15d};
+use corr_text::Text;
 use row_words::answer::Answer;
 use row_words::stop::Stop;
 use row_words::words::Words;
-use corr_money::{AmountFault, Minor, is_comma_number, put_15d, put_signed, put_total, read_15d};
-use corr_text::Text;
 
 /// Makes a call, and answers whether one of these has that name.
 pub fn call(name: &[u8], words: &mut Words, answer: &mut Answer) -> Result<bool, Stop> {

@@ -1,12 +1,12 @@
 //! Calls of corr_text: digits, sets of characters, lines, braces.
 
-use row_words::answer::Answer;
-use row_words::stop::Stop;
-use row_words::words::Words;
 use corr_text::{
     FirstLine, Set, Text, all_digits, digits, first_line, is_all_of, is_set, is_x, next_brace,
     plain_line, put_digits,
 };
+use row_words::answer::Answer;
+use row_words::stop::Stop;
+use row_words::words::Words;
 
 /// Makes a call, and answers whether one of these has that name.
 pub fn call(name: &[u8], words: &mut Words, answer: &mut Answer) -> Result<bool, Stop> {

@@ -4,8 +4,8 @@ use crate::calls::answer;
 use crate::head::{Head, read_head};
 use crate::many::read_many;
 use crate::named::{Named, find_text};
-use row_words::stop::Stop;
 use corr_text::{Memory, Text, put_digits};
+use row_words::stop::Stop;
 use std::alloc::Global;
 use std::mem;
 

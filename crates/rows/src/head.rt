@@ -2,8 +2,8 @@
 
 use crate::named::{Named, find_text};
 use crate::step::{Act, At, step};
-use row_words::stop::Stop;
 use corr_text::{Memory, Text};
+use row_words::stop::Stop;
 use std::alloc::Global;
 use std::mem;
 

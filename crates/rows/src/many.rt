@@ -2,9 +2,9 @@
 
 use crate::head::read_head;
 use crate::named::Named;
+use corr_text::{Memory, Text};
 use row_words::stop::Stop;
 use row_words::words::Words;
-use corr_text::{Memory, Text};
 use std::alloc::Global;
 
 /// The text that the words `NAME COUNT PIECE` name: the piece so many times, each `%` in it six capital letters that count up.
