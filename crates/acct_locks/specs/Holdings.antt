@@ -16,15 +16,6 @@ pub record Hand : Type 0 where
   pub count : ℕ
   pub held : List Holding
 
--- a worker that holds no account: of which table, and how many accounts that has
-pub record EmptyHand : Type 0 where
-  pub table : TableId
-  pub count : ℕ
-
--- the same, as one that may hold some
-abbrev pub with_none : EmptyHand → Hand
-with_none hand = record { table = hand.table; count = hand.count; held = [] }
-
 -- purses that have no locks yet: of which table, and the purses
 pub record LooseHand : Type 0 where
   pub table : TableId

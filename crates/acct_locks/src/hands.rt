@@ -1,7 +1,7 @@
 //! Accounts held in rising order.
 
-ghost use Rattle.std.specs.Prelude.{◌≡◌, ◌<◌, ◌≤◌, ◌∷◌};
-ghost use Rattle.acct_locks.specs.Holdings.{Holding, IsAbove, Takes, with_none};
+ghost use Rattle.std.specs.Prelude.{◌≡◌, ◌<◌, ◌≤◌, [], ◌∷◌};
+ghost use Rattle.acct_locks.specs.Holdings.{Holding, IsAbove, Takes};
 
 use crate::held::{Held, Holder};
 use crate::name::Name;
@@ -18,11 +18,12 @@ pub struct Held0<'a, N: Name> {
 }
 
 impl<'a, N: Name> Model for Held0<'a, N> {
-    ghost use Rattle.acct_locks.specs.Holdings.{EmptyHand};
+    ghost use Rattle.std.specs.Prelude.{[]};
+    ghost use Rattle.acct_locks.specs.Holdings.{Hand};
 
-    ghost Value = { EmptyHand };
+    ghost Value = { Hand };
 
-    ghost view = { λ h. record { table = N.table; count = h.purses.now } };
+    ghost view = { λ h. record { table = N.table; count = h.purses.now; held = [] } };
 }
 
 /// Holds one account more than `H`.
@@ -45,27 +46,28 @@ impl<'a, H: Held, N: Name> Model for More<'a, H, N> {
     ghost invariant = { λ h. H.table h.rest ≡ N.table };
 }
 
-// `Held0` holds no account, so no call of these meets its conditions.
+// `Held0` holds no account, so no call of these meets its conditions. Reading the field shows it.
 impl<'a, N: Name> Holder for Held0<'a, N> {
-    ghost use Rattle.std.specs.Prelude.{[]};
-
     ghost table = { λ h. h.table };
 
     ghost count = { λ h. h.count };
 
-    ghost held = { λ h. [] };
+    ghost held = { λ h. h.held };
 
     fn settle_one(&mut self, sides: &mut BookSides, leg: &Leg) {
+        let _ = &self.purses;
         unreachable!()
     }
 }
 
 impl<'a, N: Name> Held for Held0<'a, N> {
     fn totals(&self, n: AcctNo) -> (u64, u64) {
+        let _ = &self.purses;
         unreachable!()
     }
 
     fn agree(&mut self, sides: &mut BookSides, n: AcctNo) {
+        let _ = &self.purses;
         unreachable!()
     }
 }
@@ -118,7 +120,7 @@ pub type Held3<'a, N> = More<'a, Held2<'a, N>, N>;
 impl<N: Name> Purses<N> {
     /// Holds no account yet.
     pub fn hold(&self) -> Held0<'_, N>
-        ensures { result ≡ record { table = N.table; count = self.now } }
+        ensures { result ≡ record { table = N.table; count = self.now; held = [] } }
     {
         Held0 { purses: self }
     }
@@ -142,7 +144,8 @@ impl<'a, N: Name> Held0<'a, N> {
     /// Waits for the lock of an account of the table.
     pub fn take<R: Wait>(self, rt: &R, n: AcctNo) -> Held1<'a, N>
         requires there { (0 < n.0) × (n.0 ≤ self.count) }
-        ensures taken { Takes (with_none self.entry) n.0 result }
+        requires rising { IsAbove n.0 self.held }
+        ensures taken { Takes self.entry n.0 result }
     {
         let purses = self.purses;
         take_more(rt, purses, self, n)
