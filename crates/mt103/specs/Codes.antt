@@ -1,5 +1,5 @@
 -- Contents of codes: what a field says, or the code of what is wrong with it, tested in this order.
-use Rattle.std.specs.Prelude.{ℕ, ◌==◌, ◌&&◌, ◌||◌, Bool, List, [], ◌∷◌, take, drop, length, Option, Some, None, Result, Ok, nat_le, is_none, if◌then◌else◌}
+use Rattle.std.specs.Prelude.{ℕ, ◌==◌, ◌&&◌, ◌||◌, Bool, List, [], ◌∷◌, take, drop, length, Option, Some, None, Result, Ok, nat_le, codes, is_none, if◌then◌else◌}
 use Rattle.std.specs.List.{list_all, list_any}
 use Rattle.std.specs.Str.{bytes_eq}
 use Rattle.corr_text.specs.Codes.{code}
