@@ -1,4 +1,4 @@
-use Rattle.std.proofs.Common.{sym, ◌∙◌}
+use Rattle.std.proofs.Common.{Ok, sym, ◌∙◌}
 use Rattle.std.proofs.lemmas.Result.{err_from_is_err_and}
 use Rattle.fin_contents.proofs.laws.Readable.{given-readable}
 use Rattle.mt9_advice.specs.Advice.{mt910_of}
@@ -25,7 +25,7 @@ pub returns-clause-message : goal.returns-clause-message
 returns-clause-message c = rule-holds c.args.t.now c.args.f.now c.as_slice.result.now c.in_ok-found.ensures.sound (c.as_slice.ensures.value ∙ c.in_ok-found.ensures.places) c.in_ok-m.m c.in_ok-m.ensures (sym c.c06.ensures ∙ c.in-None.is)
 
 pub returns-clause-amount : goal.returns-clause-amount
-returns-clause-amount c = given-payable-910 c.args.t.now c.args.f.now _ (returns-clause-message c)
+returns-clause-amount c = given-payable-910 c.args.t.now c.args.f.now (Ok c.in_ok-m.m) (returns-clause-message c)
 
 pub returns-clause-written : goal.returns-clause-written
-returns-clause-written c = given-readable mt910_of c.args.t.now c.args.f.now _ (returns-clause-message c)
+returns-clause-written c = given-readable mt910_of c.args.t.now c.args.f.now (Ok c.in_ok-m.m) (returns-clause-message c)
