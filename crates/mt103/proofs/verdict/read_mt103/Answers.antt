@@ -1,4 +1,4 @@
-use Rattle.std.proofs.Common.{◌∙◌, sym}
+use Rattle.std.proofs.Common.{◌∙◌, Ok, sym}
 use Rattle.std.proofs.lemmas.Result.{err_from_is_err_and}
 use Rattle.fin_contents.proofs.laws.Readable.{given-readable}
 use Rattle.mt103.specs.Message.{mt103_of}
@@ -40,7 +40,7 @@ pub returns-clause-amount : goal.returns-clause-amount
 returns-clause-amount c = amount-payable c.args.t.now c.args.f.now c.in_ok-m.m (returns-clause-message c)
 
 pub returns-clause-written : goal.returns-clause-written
-returns-clause-written c = given-readable mt103_of c.args.t.now c.args.f.now _ (returns-clause-message c)
+returns-clause-written c = given-readable mt103_of c.args.t.now c.args.f.now (Ok c.in_ok-m.m) (returns-clause-message c)
 
 pub returns-clause-complete : goal.returns-clause-complete
 returns-clause-complete c = complete c.args.t.now c.args.f.now
