@@ -1,5 +1,6 @@
 -- Counts of faults over a run, from those of its steps.
 use Rattle.std.proofs.Common.{◌≡◌, ℕ, List, ◌∷◌, ◌++◌, ◌∙◌, Option, refl, ap, subst, sym}
+use Rattle.std.specs.Prelude.{Result, Ok, Err, IfErr}
 use Rattle.corr_text.specs.Faults.{Rose}
 use Rattle.day_model.specs.declared.fault.AccountsFault.{AccountsFault}
 use Rattle.day_model.specs.declared.fault.AccountsFault.TheVariants as accounts
@@ -37,6 +38,10 @@ cutting_stops file then now status.Usage kept why = kept
 cutting_stops file then now (status.Table t r w) kept why = kept
 cutting_stops file then now (status.WriteFault b a) kept why = kept
 cutting_stops file then now (status.Unbalanced c d s) kept why = kept
+
+pub cut_stops : {A : Type 0} (r : Result A Status) (file : List ℕ) (then now : ℕ) → now ≡ then → IfErr r (StopsCutting file) → IfErr r (CountsSource then now)
+cut_stops (Ok a) file then now kept why = tt
+cut_stops (Err s) file then now kept why = cutting_stops file then now s kept why
 
 -- what became of one source, beside others that are as they were
 pub one_of : (front rest : List ℕ) (then now : ℕ) (s : Status) → CountsSource then now s → CountsReads (front ++ then ∷ rest) (front ++ now ∷ rest) s

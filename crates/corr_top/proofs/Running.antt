@@ -1,6 +1,6 @@
 -- How a run ends, from how its steps end.
 use Rattle.std.proofs.Common.{◌≡◌, ℕ, List, [], ◌∷◌, Option, Some, refl, ap, subst, arith}
-use Rattle.std.specs.Prelude.{All, slice_get}
+use Rattle.std.specs.Prelude.{All, Result, Ok, Err, OnOk, slice_get}
 use Rattle.std.specs.Io.KnownBytes.{Appends}
 use Rattle.corr_ids.specs.declared.day.Day.{Day}
 use Rattle.corr_top.specs.declared.books.Books.{Books}
@@ -40,6 +40,11 @@ pub same_books : (day : Day) (b d e f g m : List ℕ) (books : Books) → books 
 same_books day b d e f g m books are given messages same legal shapes =
     subst (λ (ms : List (List ℕ)). IsKept (chart_in (b ∷ d ∷ e ∷ f ∷ g ∷ [])) (history_of (books_in day (b ∷ d ∷ e ∷ f ∷ g ∷ [])) ms)) same
     (subst (λ (x : Books). IsKept x.accounts (history_of x given)) are (record { legal = legal; shapes = shapes }))
+
+-- what holds, holds where a result is a value
+pub where_ok : {A E : Type 0} {P : Type 0} (r : Result A E) → P → OnOk r P
+where_ok (Ok a) p = p
+where_ok (Err e) p = tt
 
 -- reading the messages stopped
 pub messages_stop : (before after : List Told) (sink sunk old new : Told) (day : Day) (b d e f g : List ℕ) → AreRead limits before after (b ∷ d ∷ e ∷ f ∷ g ∷ []) → AreFine (b ∷ d ∷ e ∷ f ∷ g ∷ [])

@@ -13,3 +13,15 @@ returns-clause-complete g c =
 
 pub returns-in_default-clause-in_order : goal.returns-in_default-clause-in_order
 returns-in_default-clause-in_order g c = ([], record { read = tt; fine = nothing_fine; untouched = refl })
+
+pub returns-clause-reads : goal.returns-clause-reads
+returns-clause-reads g c = elim c.match-run.branch [
+  | in-Ok w ↦ rw w.status-is w.in-Ok.ensures.reads_kept
+  | in-Err w ↦ rw w.status-is w.in-Err.ensures.reads
+]
+
+pub returns-clause-writes : goal.returns-clause-writes
+returns-clause-writes g c = elim c.match-run.branch [
+  | in-Ok w ↦ rw w.status-is w.in-Ok.ensures.writes_kept
+  | in-Err w ↦ rw w.status-is w.in-Err.ensures.writes
+]
