@@ -63,9 +63,9 @@ lines_in _ = []
 
 -- lines that are cut into fields without fault, whose fields fail none of these tests (their order, then their contents),
 -- and of which a reader gives this
-pub record Say {M : Type 0} (tests : Tables → List Field → List (Option Fault)) (reader : Tables → List Field → Result M Fault) (t : Tables) (text : List ℕ) (m : M) : Type 0 where
+pub record Say {M : Type 0} (checks : Tables → List Field → List (Option Fault)) (reader : Tables → List Field → Result M Fault) (t : Tables) (text : List ℕ) (m : M) : Type 0 where
   pub cut : field_fault text ≡ None
-  pub tests : first_of (tests t (fields_of text)) ≡ None
+  pub tests : first_of (checks t (fields_of text)) ≡ None
   pub says : reader t (fields_of text) ≡ Ok m
 
 -- the lines of block 4 say what the message has beside its envelope; those of an advice are not kept
