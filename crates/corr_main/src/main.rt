@@ -15,7 +15,7 @@ use std::os::fd::{AsRawFd, IntoRawFd};
 use std::process::ExitCode;
 
 const HELP: &[u8] =
-    b"corr FOLDER run DATE 1\n\nReads bics.csv, ccys.csv, countries.csv, accounts.csv, ssi.csv and messages.fin in\nFOLDER, books the messages on DATE (YYMMDD) and prints the report.\n\ncorr --help     prints this\ncorr --version  prints the version\n\nStatus 0 done; 1 other words; 2 a table row is refused; 3 a file can't be read; 4 the report can't\nbe written; 6 the openings don't balance; 7 no memory; 9 the message file is too large; 10 it\ncan't be cut. Each but 0 has its line on standard error.\n";
+    b"corr FOLDER run DATE 1\n\nReads bics.csv, ccys.csv, countries.csv, accounts.csv, ssi.csv and messages.fin in\nFOLDER, books the messages on DATE (YYMMDD), prints the report and appends the messages that\nleave to out.fin.\n\ncorr --help     prints this\ncorr --version  prints the version\n\nStatus 0 done; 1 other words; 2 a table row is refused; 3 a file can't be read; 4 the report or\nout.fin can't be written; 6 the openings don't balance; 7 no memory; 9 the message file is too large; 10 it\ncan't be cut. Each but 0 has its line on standard error.\n";
 
 const VERSION: &[u8] = b"corr 0.1.0\n";
 
@@ -92,7 +92,7 @@ fn source<'a>(
     Ok(StdSource::new(rt, path(rt, folder, name)?))
 }
 
-/// The files of a folder, and standard output for the report.
+/// The files of a folder, and standard output for the report. What is sent is appended to `out.fin`.
 fn room<'a>(
     rt: &'a HostRuntime,
     folder: &[u8],
@@ -107,6 +107,7 @@ fn room<'a>(
         },
         messages: source(rt, folder, b"messages.fin")?,
         report: StdSink::out(rt),
+        out: StdSink::file(rt, path(rt, folder, b"out.fin")?),
     })
 }
 

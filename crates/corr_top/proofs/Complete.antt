@@ -28,7 +28,8 @@ use Rattle.corr_top.specs.Ends.{Ends, StopsAtWrite}
 use Rattle.corr_top.specs.MessageFile.{StopsCutting}
 use Rattle.corr_top.specs.Reading.{IsRead}
 use Rattle.corr_top.specs.Run.{AreRead, StopsAtFile, StopsAtRead, StopsAtTable, StopsUnbalanced, accounts_in, fault_in, file_at, home_head, limits, tables_in}
-use Rattle.corr_top.specs.Told.{Told}
+use Rattle.corr_top.specs.Told.{Sinks, Told}
+use Rattle.corr_top.specs.Writing.{Fails, FailsWriting}
 use Rattle.corr_top.proofs.MessageFiles.{no-fault}
 
 -- ---- what was read of files that are within their limits
@@ -136,9 +137,9 @@ within (a ∷ b ∷ c ∷ d ∷ e ∷ m ∷ more) f short =
     (small _ _ _ a f.bics, (small _ _ _ b f.ccys, (small _ _ _ c f.countries, (small _ _ _ d f.accounts, (small _ _ _ e f.ssi, (short, tt))))))
 
 -- the first ones of them were read
-got_front : (before after : List Told) (sink sunk : Told) (files messages got : List (List ℕ)) → IsReady before after sink sunk files messages → AreRead limits before after got
+got_front : (before after : List Told) (sinks sunk : Sinks) (files messages got : List (List ℕ)) → IsReady before after sinks sunk files messages → AreRead limits before after got
     → got ≡ take (length got) files
-got_front before after sink sunk files messages got ready read =
+got_front before after sinks sunk files messages got ready read =
     front_of limits before after got files read ready.told (within files (each_fault files ready.fine.no_fault) ready.messages_are.short)
 
 front_fine : (n : ℕ) (files : List (List ℕ)) → length files ≡ 6 → NoFault files → NoFault (take n files)
@@ -149,9 +150,9 @@ front_fine n (a ∷ b ∷ c ∷ []) all f = absurd (omega arith)
 front_fine n (a ∷ b ∷ c ∷ d ∷ []) all f = absurd (omega arith)
 front_fine n (a ∷ b ∷ c ∷ d ∷ e ∷ more) all f = front_fault n a b c d e more f
 
-got_fine : (before after : List Told) (sink sunk : Told) (files messages got : List (List ℕ)) → IsReady before after sink sunk files messages → AreRead limits before after got → fault_in got ≡ None
-got_fine before after sink sunk files messages got ready read =
-    let front = got_front before after sink sunk files messages got ready read in
+got_fine : (before after : List Told) (sinks sunk : Sinks) (files messages got : List (List ℕ)) → IsReady before after sinks sunk files messages → AreRead limits before after got → fault_in got ≡ None
+got_fine before after sinks sunk files messages got ready read =
+    let front = got_front before after sinks sunk files messages got ready read in
     no_fault got (subst NoFault (sym front) (front_fine (length got) files ready.all (each_fault files ready.fine.no_fault)))
 
 front_accounts : (files : List (List ℕ)) → length files ≡ 6 → accounts_in (take 5 files) ≡ accounts_in files
@@ -174,24 +175,24 @@ none_failed (b ∷ before) (a ∷ after) (suc n) old new none was is rose = none
 
 -- ---- each other status contradicts it
 
-no_table : (before after : List Told) (sink sunk : Told) (files messages : List (List ℕ)) (name : TableName) (row : ℕ) (why : Why) (got : List (List ℕ))
-    → IsReady before after sink sunk files messages → StopsAtTable before after name row why got → ⊥
-no_table before after sink sunk files messages name row why got ready stop =
-    none-some _ (sym (got_fine before after sink sunk files messages got ready stop.read) ∙ stop.fault)
+no_table : (before after : List Told) (sinks sunk : Sinks) (files messages : List (List ℕ)) (name : TableName) (row : ℕ) (why : Why) (got : List (List ℕ))
+    → IsReady before after sinks sunk files messages → StopsAtTable before after name row why got → ⊥
+no_table before after sinks sunk files messages name row why got ready stop =
+    none-some _ (sym (got_fine before after sinks sunk files messages got ready stop.read) ∙ stop.fault)
 
-no_gap : (before after : List Told) (sink sunk : Told) (files messages : List (List ℕ)) (ccy : Ccy) (decimals : ℕ) (sum : ℤ) (got : List (List ℕ))
-    → IsReady before after sink sunk files messages → StopsUnbalanced before after ccy decimals sum got → ⊥
-no_gap before after sink sunk files messages ccy decimals sum got ready stop =
-    let front = got_front before after sink sunk files messages got ready stop.read in
+no_gap : (before after : List Told) (sinks sunk : Sinks) (files messages : List (List ℕ)) (ccy : Ccy) (decimals : ℕ) (sum : ℤ) (got : List (List ℕ))
+    → IsReady before after sinks sunk files messages → StopsUnbalanced before after ccy decimals sum got → ⊥
+no_gap before after sinks sunk files messages ccy decimals sum got ready stop =
+    let front = got_front before after sinks sunk files messages got ready stop.read in
     let five : got ≡ take 5 files = subst (λ n. got ≡ take n files) stop.five front in
     let same : accounts_in got ≡ accounts_in files = ap accounts_in five ∙ front_accounts files ready.all in
     let gap = stop.unbalanced.is_gap in
     gap.off (sym gap.sum_is ∙ ap (opening_sum ccy) same ∙ ready.fine.balanced (omega (arith, ready.all)) ccy)
 
-file_stop : (before after : List Told) (sink sunk : Told) (files messages : List (List ℕ)) (stop : Status) (got : List (List ℕ))
-    → IsReady before after sink sunk files messages → StopsAtFile before after stop got → stop ≡ status.Memory
-file_stop before after sink sunk files messages stop got ready stops =
-    let front = got_front before after sink sunk files messages got ready stops.read in
+file_stop : (before after : List Told) (sinks sunk : Sinks) (files messages : List (List ℕ)) (stop : Status) (got : List (List ℕ))
+    → IsReady before after sinks sunk files messages → StopsAtFile before after stop got → stop ≡ status.Memory
+file_stop before after sinks sunk files messages stop got ready stops =
+    let front = got_front before after sinks sunk files messages got ready stops.read in
     let six : got ≡ files = subst (λ n. got ≡ take n files) stops.all front ∙ front_all files ready.all in
     no-fault (file_at 5 files) messages stop ready.messages_are (subst (λ fs. StopsCutting (file_at 5 fs) stop) six stops.stopped)
 
@@ -200,20 +201,28 @@ no_read_fault before after then now files got none stop =
     let f = stop.failed in
     none_failed before after (length got) f.old f.new none f.was f.is f.rose
 
-no_write_fault : (before after : List Told) (sink sunk : Told) (day : Day) (then now : ℕ) (files messages got told : List (List ℕ))
-    → IsReady before after sink sunk files messages → StopsAtWrite before after sink sunk day then now got told → ⊥
-no_write_fault before after sink sunk day then now files messages got told ready stop =
-    ready.sink_sound (subst (λ n. Rose n sunk.faults) stop.then_is (subst (λ n. Rose then n) stop.now_is stop.rose))
+same_rose : (old new : Told) (then now : ℕ) → Fails old new then now → Rose old.faults new.faults
+same_rose old new then now f = subst (λ n. Rose n new.faults) f.then_is (subst (λ n. Rose then n) f.now_is f.rose)
 
--- a run over files with nothing wrong in them, in which neither a source nor the sink failed
-pub done_or_memory : (before after : List Told) (sink sunk : Told) (day : Day) (s : Status) (files messages : List (List ℕ)) → Ends before after sink sunk day s
-    → IsReady before after sink sunk files messages → (s ≡ status.Done) ⊎ (s ≡ status.Memory)
-done_or_memory before after sink sunk day status.Done files messages e ready = inl refl
-done_or_memory before after sink sunk day status.Memory files messages e ready = inr refl
-done_or_memory before after sink sunk day status.Usage files messages e ready = absurd e
-done_or_memory before after sink sunk day (status.Table name row why) files messages e ready = absurd (no_table before after sink sunk files messages name row why e.0 ready e.1)
-done_or_memory before after sink sunk day (status.ReadFault then now) files messages e ready = absurd (no_read_fault before after then now files e.0 ready.sources_sound e.1)
-done_or_memory before after sink sunk day (status.WriteFault then now) files messages e ready = absurd (no_write_fault before after sink sunk day then now files messages e.0 e.1 ready e.2)
-done_or_memory before after sink sunk day (status.Unbalanced ccy decimals sum) files messages e ready = absurd (no_gap before after sink sunk files messages ccy decimals sum e.0 ready e.1)
-done_or_memory before after sink sunk day (status.TooLarge bytes count) files messages e ready = inr (file_stop before after sink sunk files messages (status.TooLarge bytes count) e.0 ready e.1)
-done_or_memory before after sink sunk day (status.Framing at) files messages e ready = inr (file_stop before after sink sunk files messages (status.Framing at) e.0 ready e.1)
+no_failed_write : (sinks sunk : Sinks) (report out : List ℕ) (then now : ℕ) → (Rose sinks.report.faults sunk.report.faults → ⊥) → (Rose sinks.out.faults sunk.out.faults → ⊥)
+    → FailsWriting sinks sunk report out then now → ⊥
+no_failed_write sinks sunk report out then now sound sent (inl f) = sound (same_rose sinks.report sunk.report then now f.failed)
+no_failed_write sinks sunk report out then now sound sent (inr f) = sent (same_rose sinks.out sunk.out then now f.failed)
+
+no_write_fault : (before after : List Told) (sinks sunk : Sinks) (day : Day) (then now : ℕ) (files messages got told : List (List ℕ))
+    → IsReady before after sinks sunk files messages → StopsAtWrite before after sinks sunk day then now got told → ⊥
+no_write_fault before after sinks sunk day then now files messages got told ready stop =
+    no_failed_write sinks sunk _ _ then now ready.report_sound ready.out_sound stop.failed
+
+-- a run over files with nothing wrong in them, in which neither a source nor a sink failed
+pub done_or_memory : (before after : List Told) (sinks sunk : Sinks) (day : Day) (s : Status) (files messages : List (List ℕ)) → Ends before after sinks sunk day s
+    → IsReady before after sinks sunk files messages → (s ≡ status.Done) ⊎ (s ≡ status.Memory)
+done_or_memory before after sinks sunk day status.Done files messages e ready = inl refl
+done_or_memory before after sinks sunk day status.Memory files messages e ready = inr refl
+done_or_memory before after sinks sunk day status.Usage files messages e ready = absurd e
+done_or_memory before after sinks sunk day (status.Table name row why) files messages e ready = absurd (no_table before after sinks sunk files messages name row why e.0 ready e.1)
+done_or_memory before after sinks sunk day (status.ReadFault then now) files messages e ready = absurd (no_read_fault before after then now files e.0 ready.sources_sound e.1)
+done_or_memory before after sinks sunk day (status.WriteFault then now) files messages e ready = absurd (no_write_fault before after sinks sunk day then now files messages e.0 e.1 ready e.2)
+done_or_memory before after sinks sunk day (status.Unbalanced ccy decimals sum) files messages e ready = absurd (no_gap before after sinks sunk files messages ccy decimals sum e.0 ready e.1)
+done_or_memory before after sinks sunk day (status.TooLarge bytes count) files messages e ready = inr (file_stop before after sinks sunk files messages (status.TooLarge bytes count) e.0 ready e.1)
+done_or_memory before after sinks sunk day (status.Framing at) files messages e ready = inr (file_stop before after sinks sunk files messages (status.Framing at) e.0 ready e.1)

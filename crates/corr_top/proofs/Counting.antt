@@ -1,5 +1,5 @@
 -- Counts of faults over a run, from those of its steps.
-use Rattle.std.proofs.Common.{◌≡◌, ℕ, List, ◌∷◌, ◌++◌, ◌∙◌, Option, refl, ap, subst, sym}
+use Rattle.std.proofs.Common.{◌≡◌, ℕ, List, [], ◌∷◌, ◌++◌, ◌∙◌, Option, refl, ap, subst, sym, inl, inr}
 use Rattle.std.specs.Prelude.{Result, Ok, Err, IfErr}
 use Rattle.corr_text.specs.Faults.{Rose}
 use Rattle.day_model.specs.declared.fault.AccountsFault.{AccountsFault}
@@ -13,7 +13,8 @@ use Rattle.corr_top.specs.Counts.{CountsReads, CountsSource, CountsWrites}
 use Rattle.corr_top.specs.MessageFile.{StopsCutting}
 use Rattle.corr_top.specs.Messages.{StopsAtMessages}
 use Rattle.corr_top.specs.Run.{Stops}
-use Rattle.corr_top.specs.Told.{Told}
+use Rattle.corr_top.specs.Told.{Sinks, Told}
+use Rattle.corr_top.specs.Writing.{FailsWriting}
 
 -- reading one source stopped
 pub source_stops : (then now : ℕ) (s : Status) → IsReadStop then now s → CountsSource then now s
@@ -78,8 +79,8 @@ accounts_refused before after accounts.Memory kept = kept
 pub three_kept : (a b d x y z : ℕ) (rest : List ℕ) → x ≡ a → y ≡ b → z ≡ d → (x ∷ y ∷ z ∷ rest) ≡ (a ∷ b ∷ d ∷ rest)
 three_kept a b d x y z rest first second third = rw first (rw second (rw third refl))
 
--- before the report is written its sink is left alone
-pub before_writing : (b a : List Told) (before after : ℕ) (s : Status) → after ≡ before → Stops b a s → CountsWrites before after s
+-- before anything is written the sinks are left alone
+pub before_writing : (b a : List Told) (before after : List ℕ) (s : Status) → after ≡ before → Stops b a s → CountsWrites before after s
 before_writing b a before after (status.ReadFault x y) kept why = kept
 before_writing b a before after status.Memory kept why = kept
 before_writing b a before after status.Done kept why = kept
@@ -90,7 +91,7 @@ before_writing b a before after (status.WriteFault x y) kept why = absurd why
 before_writing b a before after (status.Unbalanced x y z) kept why = kept
 before_writing b a before after (status.TooLarge x y) kept why = kept
 
-pub with_messages : (b a : Option (List ℕ)) (then now before after : ℕ) (s : Status) → after ≡ before → StopsAtMessages b a then now s → CountsWrites before after s
+pub with_messages : (b a : Option (List ℕ)) (then now : ℕ) (before after : List ℕ) (s : Status) → after ≡ before → StopsAtMessages b a then now s → CountsWrites before after s
 with_messages b a then now before after (status.ReadFault x y) kept why = kept
 with_messages b a then now before after status.Memory kept why = kept
 with_messages b a then now before after status.Done kept why = kept
@@ -101,8 +102,24 @@ with_messages b a then now before after (status.WriteFault x y) kept why = absur
 with_messages b a then now before after (status.Unbalanced x y z) kept why = kept
 with_messages b a then now before after (status.TooLarge x y) kept why = kept
 
--- the sink failed that was left alone until then
-pub writing_stops : (before mid after x y : ℕ) → mid ≡ before → x ≡ mid → y ≡ after → Rose x y → CountsWrites before after (status.WriteFault x y)
-writing_stops before mid after x y same then now rose =
-    let first : x ≡ before = then ∙ same in
-    (first, now, subst (λ n. Rose n after) first (subst (λ n. Rose x n) now rose))
+-- two sinks that were left alone
+pub counts_kept : {K : Type 0} (faults : K → ℕ) (report mid out end : K) → mid ≡ report → end ≡ out → (faults mid ∷ faults end ∷ []) ≡ (faults report ∷ faults out ∷ [])
+counts_kept faults report mid out end first second = rw first (rw second refl)
+
+-- a sink failed: its count alone rose
+pub writing_fails : (before after : Sinks) (report out : List ℕ) (then now : ℕ) → FailsWriting before after report out then now
+    → CountsWrites (before.report.faults ∷ before.out.faults ∷ []) (after.report.faults ∷ after.out.faults ∷ []) (status.WriteFault then now)
+writing_fails before after report out then now (inl f) = record {
+  front = [];
+  rest = before.out.faults ∷ [];
+  was = ap (λ n. n ∷ before.out.faults ∷ []) (sym f.failed.then_is);
+  is = ap (λ n. n ∷ after.out.faults ∷ []) (sym f.failed.now_is) ∙ ap (λ (t : Told). now ∷ t.faults ∷ []) f.alone;
+  rose = f.failed.rose;
+}
+writing_fails before after report out then now (inr f) = record {
+  front = before.report.faults ∷ [];
+  rest = [];
+  was = ap (λ n. before.report.faults ∷ n ∷ []) (sym f.failed.then_is);
+  is = ap (λ n. n ∷ after.out.faults ∷ []) f.kept ∙ ap (λ n. before.report.faults ∷ n ∷ []) (sym f.failed.now_is);
+  rose = f.failed.rose;
+}

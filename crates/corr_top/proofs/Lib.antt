@@ -7,3 +7,4 @@ pub mod Counting
 pub mod Running
 pub mod AccountRows
 pub mod Complete
+pub mod Outgoing

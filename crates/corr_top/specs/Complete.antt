@@ -3,7 +3,7 @@ use Rattle.std.specs.Prelude.{ℕ, ◌≡◌, List, [], ◌∷◌, length, Some}
 use Rattle.corr_text.specs.Faults.{Rose}
 use Rattle.corr_top.specs.MessageFile.{IsMessageFile}
 use Rattle.corr_top.specs.Run.{AreFine, file_at}
-use Rattle.corr_top.specs.Told.{Told}
+use Rattle.corr_top.specs.Told.{Sinks, Told}
 
 -- each source tells that it has these bytes left
 abbrev pub AreTold : List Told → List (List ℕ) → Type 0
@@ -17,11 +17,12 @@ NoneRose [] [] = Unit {0}
 NoneRose (before ∷ befores) (after ∷ afters) = (Rose before.faults after.faults → ⊥) × NoneRose befores afters
 NoneRose _ _ = ⊥
 
--- the sources have six files with nothing wrong in them, the last one of these messages, and neither a source nor the sink failed
-pub record IsReady (before after : List Told) (sink sunk : Told) (files messages : List (List ℕ)) : Type 0 where
+-- the sources have six files with nothing wrong in them, the last one of these messages, and neither a source nor a sink failed
+pub record IsReady (before after : List Told) (sinks sunk : Sinks) (files messages : List (List ℕ)) : Type 0 where
   pub told : AreTold before files
   pub all : length files ≡ 6
   pub fine : AreFine files
   pub messages_are : IsMessageFile (file_at 5 files) messages
   pub sources_sound : NoneRose before after
-  pub sink_sound : Rose sink.faults sunk.faults → ⊥
+  pub report_sound : Rose sinks.report.faults sunk.report.faults → ⊥
+  pub out_sound : Rose sinks.out.faults sunk.out.faults → ⊥

@@ -1,5 +1,5 @@
 -- Counts of faults over a run: the first failed read or write ends it.
-use Rattle.std.specs.Prelude.{ℕ, ◌≡◌, List, ◌∷◌, ◌++◌, map}
+use Rattle.std.specs.Prelude.{ℕ, ◌≡◌, List, [], ◌∷◌, ◌++◌, map}
 use Rattle.corr_text.specs.Faults.{Rose}
 use Rattle.corr_top.specs.declared.room.Room.{Room}
 use Rattle.corr_top.specs.declared.status.Status.{Status}
@@ -28,7 +28,11 @@ abbrev pub CountsSource : ℕ → ℕ → Status → Type 0
 CountsSource before after (status.ReadFault then now) = (then ≡ before) × (now ≡ after) × Rose before after
 CountsSource before after _ = after ≡ before
 
+-- the counts of faults of its sinks
+abbrev pub sink_counts : {S K : Type 0} → (K → ℕ) → Room S K → List ℕ
+sink_counts faults room = faults room.report ∷ faults room.out ∷ []
+
 -- one write failed at `WriteFault`, which tells the count of its sink, and none at any other status
-abbrev pub CountsWrites : ℕ → ℕ → Status → Type 0
-CountsWrites before after (status.WriteFault then now) = (then ≡ before) × (now ≡ after) × Rose before after
+abbrev pub CountsWrites : List ℕ → List ℕ → Status → Type 0
+CountsWrites before after (status.WriteFault then now) = RoseOnce before after then now
 CountsWrites before after _ = after ≡ before

@@ -7,6 +7,7 @@ pub mod Status
 pub mod Asks
 pub mod Message
 pub mod Replies
+pub mod Out
 pub mod Answers
 pub mod Turn
 pub mod Told

@@ -25,7 +25,7 @@ use Rattle.ssi_versions.specs.Rows.{instruction_of, ssi_fault}
 use Rattle.corr_top.specs.declared.books.Books.{Books}
 use Rattle.corr_top.specs.declared.status.Status.{Status}
 use Rattle.corr_top.specs.declared.status.Status.TheVariants as status
-use Rattle.corr_top.specs.Answers.{HasPayShape, history_of, report_over}
+use Rattle.corr_top.specs.Answers.{HasPayShape, history_of, out_over, report_over}
 use Rattle.corr_top.specs.MessageFile.{IsMessageFile, StopsCutting}
 use Rattle.corr_top.specs.Reading.{IsRead}
 use Rattle.corr_top.specs.Told.{Told}
@@ -94,6 +94,10 @@ history_in day files messages = history_of (books_in day files) messages
 -- the report of a day: the history of one thread over the messages of the last file, and the reply to each of them
 unfoldable pub report_in : Day → List (List ℕ) → List (List ℕ) → List ℕ
 report_in day files messages = report_over (books_in day files) messages
+
+-- the outgoing messages of its entries, each followed by `$`
+unfoldable pub out_in : Day → List (List ℕ) → List (List ℕ) → List ℕ
+out_in day files messages = out_over (books_in day files) messages
 
 -- the count of faults of the n-th source, from 0, rose, and these are its two values
 pub record HasFailed (before after : List Told) (n then now : ℕ) : Type 0 where

@@ -10,6 +10,17 @@ pub record Told : Type 0 where
 abbrev pub told : {S : Type 0} → (S → Option (List ℕ)) → (S → ℕ) → S → Told
 told bytes faults s = record { bytes = bytes s; faults = faults s }
 
+-- what the two sinks of a room tell: that of the report, and that of the outgoing messages
+pub record Sinks : Type 0 where
+  pub report : Told
+  pub out : Told
+
+abbrev pub both : {K : Type 0} → (K → Option (List ℕ)) → (K → ℕ) → K → K → Sinks
+both held faults report out = record { report = told held faults report; out = told held faults out }
+
+abbrev pub sinks : {S K : Type 0} → (K → Option (List ℕ)) → (K → ℕ) → Room S K → Sinks
+sinks held faults room = both held faults room.report room.out
+
 -- the sources of a room, in the order in which they are read
 abbrev pub sources : {S K : Type 0} → (S → Option (List ℕ)) → (S → ℕ) → Room S K → List Told
 sources left faults room =

@@ -8,6 +8,7 @@ mod cutting;
 mod laws;
 mod line;
 mod message;
+mod outgoing;
 mod reading;
 mod room;
 mod run;

@@ -12,12 +12,13 @@ pub struct Tables<S> {
     pub ssi: S,
 }
 
-/// What a command is handed: the table files, the message file and the sink of its report.
+/// What a command is handed: the table files, the message file, the sink of its report and that of the messages that leave.
 #[derive(Drop)]
 pub struct Room<S, K> {
     pub tables: Tables<S>,
     pub messages: S,
     pub report: K,
+    pub out: K,
 }
 
 /// How a command ended, and the room that it was handed.

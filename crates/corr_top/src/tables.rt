@@ -137,6 +137,7 @@ fn open_tables<S: Source, K>(alloc: Global, room: &mut Room<S, K>) -> Result<Ref
     ensures ssi { room.new.tables.ssi ≡ room.old.tables.ssi }
     ensures messages { room.new.messages ≡ room.old.messages }
     ensures report { room.new.report ≡ room.old.report }
+    ensures out { room.new.out ≡ room.old.out }
     ensures decimals { IfErr result HasDecimals }
 {
     let bics = read_file(alloc, &mut room.tables.bics, TABLE_LIMIT)?;
@@ -178,6 +179,7 @@ pub fn open_books<S: Source, K>(
     ensures in_order { ReadsInOrder S.left S.faults room.old room.new }
     ensures messages { room.new.messages ≡ room.old.messages }
     ensures report { room.new.report ≡ room.old.report }
+    ensures out { room.new.out ≡ room.old.out }
     ensures decimals { IfErr result HasDecimals }
 {
     let tables = open_tables(alloc, room)?;

@@ -3,10 +3,12 @@
 ghost use Rattle.std.specs.Prelude.{◌≡◌, ◌≤◌, OnOk, IfErr};
 ghost use Rattle.std.specs.Io.KnownBytes.{Appends};
 ghost use Rattle.corr_text.specs.Faults.{Rose};
-ghost use Rattle.corr_top.specs.Writing.{AppendsPrefix};
+ghost use Rattle.corr_top.specs.Told.{both};
+ghost use Rattle.corr_top.specs.Writing.{AppendsPrefix, FailsWriting, ReceivesBoth};
 
 use crate::slices::behind;
 use corr_io::Sink;
+use corr_text::Text;
 
 /// The count of faults of a sink before a call and after it.
 #[derive(Clone, Copy, Debug, PartialEq, Eq)]
@@ -37,4 +39,22 @@ pub fn write_whole<K: Sink>(sink: &mut K, text: &[u8]) -> Result<(), WriteStop>
         }
     }
     Ok(())
+}
+
+/// What a command writes: its report, and the messages that leave.
+#[derive(Debug, Drop)]
+pub struct Texts {
+    pub report: Text,
+    pub out: Text,
+}
+
+/// Writes the report, then the messages that leave. After a fault of the first sink the other one was left alone.
+pub fn write_both<K: Sink>(report: &mut K, out: &mut K, texts: &Texts) -> Result<(), WriteStop>
+    ensures done { OnOk result (ReceivesBoth (both K.held K.faults report.old out.old) (both K.held K.faults report.new out.new) texts.now.report texts.now.out) }
+    ensures kept { OnOk result ((K.faults report.new ≡ K.faults report.old) × (K.faults out.new ≡ K.faults out.old)) }
+    ensures stopped { IfErr result (λ e. FailsWriting (both K.held K.faults report.old out.old) (both K.held K.faults report.new out.new)
+        texts.now.report texts.now.out e.before e.after) }
+{
+    write_whole(report, texts.report.bytes())?;
+    write_whole(out, texts.out.bytes())
 }

@@ -1,0 +1,53 @@
+//! The messages that leave, as one text.
+
+ghost use Rattle.std.specs.Prelude.{◌≡◌, ◌++◌, All, IfOk, OnOk};
+ghost use Rattle.corr_top.specs.Answers.{HasPayShape};
+ghost use Rattle.corr_top.specs.Out.{out_of, parted_all, sent_of};
+ghost use Rattle.day_model.specs.Fit.{FitsAccounts};
+ghost use Rattle.day_model.specs.Legal.{IsLegal};
+ghost use Rattle.day_model.specs.Shape.{HasShape};
+
+use advices::orders;
+use corr_text::{Memory, Text};
+use day_model::{Accounts, Entry, History};
+use std::alloc::Global;
+
+/// Appends messages, each followed by `$`.
+fn push_parted(messages: &[Text], out: &mut Text) -> Result<(), Memory>
+    ensures { OnOk result (out.new ≡ out.old ++ parted_all messages.now) }
+{
+    for message in messages {
+        out.push(message.bytes())?;
+        out.push(b"$")?;
+    }
+    Ok(())
+}
+
+/// Appends the outgoing messages of the entry at a place, each followed by `$`.
+fn push_orders(
+    alloc: Global,
+    a: &Accounts,
+    place: u32,
+    entry: &Entry,
+    out: &mut Text,
+) -> Result<(), Memory>
+    requires fits { FitsAccounts a.now entry.now.pay }
+    requires shape { HasShape entry.now.pay }
+    ensures { OnOk result (out.new ≡ out.old ++ sent_of a.now place entry.now) }
+{
+    let messages = orders(alloc, a, entry, place)?;
+    push_parted(messages.as_slice(), out)
+}
+
+/// The outgoing messages of the entries of a history, in its order, each followed by `$`.
+pub fn outgoing(alloc: Global, a: &Accounts, h: &History) -> Result<Text, Memory>
+    requires legal { IsLegal a.now h.now.entries }
+    requires shapes { All HasPayShape h.now.entries }
+    ensures { IfOk result (λ text. text ≡ out_of a.now h.now.entries) }
+{
+    let mut out = Text::from_bytes(alloc, b"")?;
+    for place in 1..h.len() + 1 {
+        push_orders(alloc, a, place, h.get(place), &mut out)?;
+    }
+    Ok(out)
+}
