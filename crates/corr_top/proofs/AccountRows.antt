@@ -19,11 +19,8 @@ use Rattle.day_model.specs.declared.fault.AccountsFault.{AccountsFault}
 use Rattle.day_model.specs.declared.fault.AccountsFault.TheVariants.{Unbalanced, Memory}
 use Rattle.day_model.specs.Gap.{TellsUnbalanced}
 use Rattle.std.specs.Prelude.{Result, Ok, Err, IfErr}
-use Rattle.ref_tables.specs.declared.fault.TableFault.{TableFault}
-use Rattle.ref_tables.specs.declared.fault.TableFault.TheVariants as table
-use Rattle.corr_top.specs.Status.{HasDecimals}
-use Rattle.corr_top.specs.Books.{TellsDecimals, status_of_accounts, status_of_table}
-use Rattle.corr_top.specs.Run.{opened}
+use Rattle.corr_top.specs.Books.{TellsDecimals}
+use Rattle.corr_top.specs.Inputs.{opened}
 
 record Made (rows : List AccountRow) (i : ℕ) (a : Account) : Type 0 where
   pub row : AccountRow
@@ -90,12 +87,3 @@ told_decimals accounts Memory rows first = tt
 pub refusal_decimals : {A : Type 0} (accounts : List Account) (r : Result A AccountsFault) → AreRows accounts → IfErr r (TellsUnbalanced accounts) → IfErr r TellsDecimals
 refusal_decimals accounts (Ok a) rows told = tt
 refusal_decimals accounts (Err fault) rows told = told_decimals accounts fault rows told
-
--- the status of a refusal
-pub accounts_decimals : (fault : AccountsFault) → TellsDecimals fault → HasDecimals (status_of_accounts fault)
-accounts_decimals (Unbalanced ccy decimals sum) few = few
-accounts_decimals Memory few = tt
-
-pub table_decimals : (fault : TableFault) → HasDecimals (status_of_table fault)
-table_decimals (table.Bad name row why) = tt
-table_decimals table.Memory = tt

@@ -3,8 +3,8 @@ pub mod MessageFiles
 pub mod Routes
 pub mod Turns
 pub mod Opening
-pub mod Counting
-pub mod Running
 pub mod AccountRows
-pub mod Complete
-pub mod Outgoing
+pub mod Adding
+pub mod Walking
+pub mod Running
+pub mod Completing

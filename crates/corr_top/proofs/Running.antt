@@ -1,94 +1,160 @@
--- How a run ends, from how its steps end.
-use Rattle.std.proofs.Common.{◌≡◌, ℕ, List, [], ◌∷◌, Option, Some, ◌∙◌, refl, ap, subst, arith}
-use Rattle.std.specs.Prelude.{All, Result, Ok, Err, OnOk, slice_get}
+-- How a command ends, from how its parts end.
+use Rattle.std.proofs.Common.{◌≡◌, ◌∙◌, ℕ, ◌≤◌, List, [], ◌∷◌, Option, inl, inr, refl, sym, ap, subst}
+use Rattle.corr_ids.specs.Bic.{IsBic, is_bic}
+use Rattle.corr_ids.specs.declared.bic.Bic.{Bic}
 use Rattle.corr_ids.specs.declared.day.Day.{Day}
-use Rattle.corr_top.specs.declared.books.Books.{Books}
-use Rattle.corr_top.specs.declared.status.Status.{Status}
-use Rattle.corr_top.specs.declared.status.Status.TheVariants as status
 use Rattle.day_model.specs.declared.entry.Entry.{Entry}
 use Rattle.day_model.specs.Chart.{Chart}
-use Rattle.day_model.specs.Legal.{IsLegal}
-use Rattle.corr_top.specs.Answers.{HasPayShape, history_of, out_over, report_over}
-use Rattle.corr_top.specs.Ends.{Ends}
-use Rattle.corr_top.specs.MessageFile.{IsMessageFile}
-use Rattle.corr_top.specs.Messages.{StopsAtMessages}
-use Rattle.corr_top.specs.Reading.{IsRead}
-use Rattle.corr_top.specs.Run.{AreFine, AreRead, IsWhole, books_in, chart_in, fault_in, history_in, limits, out_in, report_in}
-use Rattle.corr_top.specs.Told.{Sinks, Told, both}
-use Rattle.corr_top.specs.Writing.{FailsWriting, ReceivesBoth}
+use Rattle.corr_top.specs.declared.books.Books.{Books}
+use Rattle.corr_top.specs.declared.room.Room.{Room}
+use Rattle.corr_top.specs.declared.status.Status.{Status}
+use Rattle.corr_top.specs.declared.status.Status.TheVariants as status
+use Rattle.corr_top.specs.declared.words.Command.{Command}
+use Rattle.corr_top.specs.declared.words.Command.TheVariants.{Run}
+use Rattle.corr_top.specs.Answers.{history_of, out_over, report_over}
+use Rattle.corr_top.specs.Commands.{IsKept, Keeps, history_in, out_in, report_in, steps_of}
+use Rattle.corr_top.specs.Ends.{Ends, EndsDone, EndsUnwritten, EndsWriting}
+use Rattle.corr_top.specs.Inputs.{Inputs, books_in, chart_in, home_bank}
+use Rattle.corr_top.specs.Books.{AreUntouched, PassesTable, StopsAtTables, table_steps}
+use Rattle.corr_top.specs.Passing.{HasMessages, IsUntouched, Passes, StopsAt, StopsAtMessages}
+use Rattle.corr_top.specs.Status.{HasDecimals}
+use Rattle.corr_top.specs.Steps.{Halts, Step, Walks}
+use Rattle.corr_top.specs.Writing.{FailsWriting, Received}
+use Rattle.corr_top.proofs.Walking.{halts_back, halts_front, walks_both}
 
--- the message file has no part in what is wrong with the tables
-six_fine : (b d e f g m : List ℕ) → AreFine (b ∷ d ∷ e ∷ f ∷ g ∷ []) → AreFine (b ∷ d ∷ e ∷ f ∷ g ∷ m ∷ [])
-unfolding fault_in
-six_fine b d e f g m fine = record { no_fault = fine.no_fault; balanced = λ five. fine.balanced (omega arith) }
+-- no step stops with this status
+never : {S K : Type 0} (left : S → Option (List ℕ)) (reads : S → ℕ) (old new : Room S K) (i : Inputs) (s : Status) (steps : List Step)
+    → ((step : Step) → StopsAt left reads old new i s step → ⊥) → Halts (Passes left reads old new i) (StopsAt left reads old new i s) (IsUntouched old new) steps → ⊥
+never left reads old new i s [] none halts = halts
+never left reads old new i s (step ∷ steps) none (inl here) = none step here.0
+never left reads old new i s (step ∷ steps) none (inr later) = never left reads old new i s steps none later.1
 
--- the history that messages make is legal, of pays that can be written down
-pub record IsKept (chart : Chart) (entries : List Entry) : Type 0 where
-  pub legal : IsLegal chart entries
-  pub shapes : All HasPayShape entries
+not_done : {S K : Type 0} (left : S → Option (List ℕ)) (reads : S → ℕ) (old new : Room S K) (i : Inputs) (step : Step) → StopsAt left reads old new i status.Done step → ⊥
+not_done left reads old new i (Step.table name) stops = stops
+not_done left reads old new i Step.sums stops = stops
+not_done left reads old new i Step.messages stops = stops
 
-pub whole : (before after : List Told) (day : Day) (b d e f g m : List ℕ) (messages : List (List ℕ)) → AreRead limits before after (b ∷ d ∷ e ∷ f ∷ g ∷ m ∷ []) → AreFine (b ∷ d ∷ e ∷ f ∷ g ∷ []) → IsMessageFile m messages
-    → IsKept (chart_in (b ∷ d ∷ e ∷ f ∷ g ∷ m ∷ [])) (history_in day (b ∷ d ∷ e ∷ f ∷ g ∷ m ∷ []) messages) → IsWhole before after day (b ∷ d ∷ e ∷ f ∷ g ∷ m ∷ []) messages
-whole before after day b d e f g m messages read fine are kept =
-    record { read = read; all = refl; fine = six_fine b d e f g m fine; messages_are = are; legal = kept.legal; shapes = kept.shapes }
+not_written : {S K : Type 0} (left : S → Option (List ℕ)) (reads : S → ℕ) (old new : Room S K) (i : Inputs) (then now : ℕ) (step : Step) → StopsAt left reads old new i (status.WriteFault then now) step → ⊥
+not_written left reads old new i then now (Step.table name) stops = stops
+not_written left reads old new i then now Step.sums stops = stops
+not_written left reads old new i then now Step.messages stops = stops
 
--- the history over the books that were opened is the history of the run
-pub same_books : (day : Day) (b d e f g m : List ℕ) (books : Books) → books ≡ books_in day (b ∷ d ∷ e ∷ f ∷ g ∷ []) → (given messages : List (List ℕ)) → given ≡ messages
-    → IsLegal books.accounts (history_of books given) → All HasPayShape (history_of books given)
-    → IsKept (chart_in (b ∷ d ∷ e ∷ f ∷ g ∷ m ∷ [])) (history_in day (b ∷ d ∷ e ∷ f ∷ g ∷ m ∷ []) messages)
-same_books day b d e f g m books are given messages same legal shapes =
-    subst (λ (ms : List (List ℕ)). IsKept (chart_in (b ∷ d ∷ e ∷ f ∷ g ∷ [])) (history_of (books_in day (b ∷ d ∷ e ∷ f ∷ g ∷ [])) ms)) same
-    (subst (λ (x : Books). IsKept x.accounts (history_of x given)) are (record { legal = legal; shapes = shapes }))
+-- a step stopped, and the sinks are as they were
+pub unwritten : {S K : Type 0} (left : S → Option (List ℕ)) (reads : S → ℕ) (held : K → Option (List ℕ)) (writes : K → ℕ) (command : Command) (old new : Room S K) (i : Inputs) (s : Status)
+    → Halts (Passes left reads old new i) (StopsAt left reads old new i s) (IsUntouched old new) (steps_of command) → new.report ≡ old.report → new.out ≡ old.out → Ends left reads held writes command old new s
+unwritten left reads held writes command old new i status.Done halts report out = absurd (never left reads old new i status.Done (steps_of command) (not_done left reads old new i) halts)
+unwritten left reads held writes command old new i (status.WriteFault then now) halts report out = absurd (never left reads old new i (status.WriteFault then now) (steps_of command) (not_written left reads old new i then now) halts)
+unwritten left reads held writes command old new i status.Usage halts report out = (i, record { stopped = inl halts; report = report; out = out })
+unwritten left reads held writes command old new i (status.Table t r w) halts report out = (i, record { stopped = inl halts; report = report; out = out })
+unwritten left reads held writes command old new i (status.ReadFault b a) halts report out = (i, record { stopped = inl halts; report = report; out = out })
+unwritten left reads held writes command old new i (status.Unbalanced c d n) halts report out = (i, record { stopped = inl halts; report = report; out = out })
+unwritten left reads held writes command old new i status.Memory halts report out = (i, record { stopped = inl halts; report = report; out = out })
+unwritten left reads held writes command old new i (status.TooLarge b m) halts report out = (i, record { stopped = inl halts; report = report; out = out })
+unwritten left reads held writes command old new i (status.Framing at) halts report out = (i, record { stopped = inl halts; report = report; out = out })
 
--- what holds, holds where a result is a value
-pub where_ok : {A E : Type 0} {P : Type 0} (r : Result A E) → P → OnOk r P
-where_ok (Ok a) p = p
-where_ok (Err e) p = tt
+-- the decimals of an `Unbalanced`
+told_few : {S K : Type 0} (left : S → Option (List ℕ)) (reads : S → ℕ) (old new : Room S K) (i : Inputs) (s : Status) (step : Step) → StopsAt left reads old new i s step → HasDecimals s
+told_few left reads old new i status.Done step stops = tt
+told_few left reads old new i status.Usage step stops = tt
+told_few left reads old new i (status.Table t r w) step stops = tt
+told_few left reads old new i (status.ReadFault b a) step stops = tt
+told_few left reads old new i (status.WriteFault b a) step stops = tt
+told_few left reads old new i (status.Unbalanced c d n) (Step.table name) stops = absurd stops
+told_few left reads old new i (status.Unbalanced c d n) Step.sums stops = stops.1
+told_few left reads old new i (status.Unbalanced c d n) Step.messages stops = absurd stops
+told_few left reads old new i status.Memory step stops = tt
+told_few left reads old new i (status.TooLarge b m) step stops = tt
+told_few left reads old new i (status.Framing at) step stops = tt
 
--- reading the messages stopped
-pub messages_stop : (before after : List Told) (sinks sunk : Sinks) (old new : Told) (day : Day) (b d e f g : List ℕ) → AreRead limits before after (b ∷ d ∷ e ∷ f ∷ g ∷ []) → AreFine (b ∷ d ∷ e ∷ f ∷ g ∷ [])
-    → slice_get before 5 ≡ Some old → slice_get after 5 ≡ Some new
-    → ((m : List ℕ) → IsRead 67108864 old.bytes new.bytes m → AreRead limits before after (b ∷ d ∷ e ∷ f ∷ g ∷ m ∷ []))
-    → (s : Status) → StopsAtMessages old.bytes new.bytes old.faults new.faults s → Ends before after sinks sunk day s
-messages_stop before after sinks sunk old new day b d e f g read fine was is more (status.ReadFault then now) why =
-    (b ∷ d ∷ e ∷ f ∷ g ∷ [], record { read = read; fine = fine; failed = record { old = old; new = new; was = was; is = is; then_is = why.0; now_is = why.1; rose = why.2 } })
-messages_stop before after sinks sunk old new day b d e f g read fine was is more (status.TooLarge bytes messages) why =
-    (b ∷ d ∷ e ∷ f ∷ g ∷ why.0 ∷ [], record { read = more why.0 why.1; all = refl; fine = six_fine b d e f g why.0 fine; stopped = why.2 })
-messages_stop before after sinks sunk old new day b d e f g read fine was is more (status.Framing at) why =
-    (b ∷ d ∷ e ∷ f ∷ g ∷ why.0 ∷ [], record { read = more why.0 why.1; all = refl; fine = six_fine b d e f g why.0 fine; stopped = why.2 })
-messages_stop before after sinks sunk old new day b d e f g read fine was is more status.Memory why = tt
-messages_stop before after sinks sunk old new day b d e f g read fine was is more status.Done why = absurd why
-messages_stop before after sinks sunk old new day b d e f g read fine was is more status.Usage why = absurd why
-messages_stop before after sinks sunk old new day b d e f g read fine was is more (status.Table t r w) why = absurd why
-messages_stop before after sinks sunk old new day b d e f g read fine was is more (status.WriteFault x y) why = absurd why
-messages_stop before after sinks sunk old new day b d e f g read fine was is more (status.Unbalanced x y z) why = absurd why
+few_told : {S K : Type 0} (left : S → Option (List ℕ)) (reads : S → ℕ) (old new : Room S K) (i : Inputs) (s : Status) (steps : List Step)
+    → Halts (Passes left reads old new i) (StopsAt left reads old new i s) (IsUntouched old new) steps → HasDecimals s
+few_told left reads old new i s [] halts = absurd halts
+few_told left reads old new i s (step ∷ steps) (inl here) = told_few left reads old new i s step here.0
+few_told left reads old new i s (step ∷ steps) (inr later) = few_told left reads old new i s steps later.1
 
--- the same of a source that was left alone until then
-pub same_messages : {A : Type 0} (left : A → Option (List ℕ)) (faults : A → ℕ) (old mid new : A) → mid ≡ old → (s : Status)
-    → StopsAtMessages (left mid) (left new) (faults mid) (faults new) s → StopsAtMessages (left old) (left new) (faults old) (faults new) s
-same_messages {A} left faults old mid new same s why = let P : A → Type 0 = λ a. StopsAtMessages (left a) (left new) (faults a) (faults new) s in subst P same why
+pub few_decimals : {S K : Type 0} (left : S → Option (List ℕ)) (reads : S → ℕ) (held : K → Option (List ℕ)) (writes : K → ℕ) (command : Command) (old new : Room S K) (s : Status)
+    → Ends left reads held writes command old new s → HasDecimals s
+few_decimals left reads held writes command old new status.Done ends = tt
+few_decimals left reads held writes command old new (status.WriteFault then now) ends = tt
+few_decimals left reads held writes command old new status.Usage ends = tt
+few_decimals left reads held writes command old new (status.Table t r w) ends = tt
+few_decimals left reads held writes command old new (status.ReadFault b a) ends = tt
+few_decimals left reads held writes command old new (status.Unbalanced c d n) ends = elim ends.1.stopped [
+  | inl halts ↦ few_told left reads old new ends.0 (status.Unbalanced c d n) (steps_of command) halts
+  | inr memory ↦ absurd (cc memory.1)
+]
+few_decimals left reads held writes command old new status.Memory ends = tt
+few_decimals left reads held writes command old new (status.TooLarge b m) ends = tt
+few_decimals left reads held writes command old new (status.Framing at) ends = tt
 
--- the texts over the books that were opened are those of the run
-pub same_report : (day : Day) (b d e f g m : List ℕ) (given messages : List (List ℕ)) (books : Books) (text : List ℕ) → books ≡ books_in day (b ∷ d ∷ e ∷ f ∷ g ∷ []) → given ≡ messages
-    → text ≡ report_over books given → text ≡ report_in day (b ∷ d ∷ e ∷ f ∷ g ∷ m ∷ []) messages
+-- the texts over the books that were opened are those of the run, and so is what they keep
+pub same_report : (day : Day) (i : Inputs) (books : Books) (given : List (List ℕ)) (text : List ℕ) → books ≡ books_in day i → given ≡ i.cut → text ≡ report_over books given → text ≡ report_in (Run day) i
 unfolding report_in
-same_report day b d e f g m given messages books text are same is = is ∙ ap (report_over books) same ∙ ap (λ (x : Books). report_over x messages) are
+same_report day i books given text are same is = is ∙ ap (report_over books) same ∙ ap (λ (x : Books). report_over x i.cut) are
 
-pub same_out : (day : Day) (b d e f g m : List ℕ) (given messages : List (List ℕ)) (books : Books) (text : List ℕ) → books ≡ books_in day (b ∷ d ∷ e ∷ f ∷ g ∷ []) → given ≡ messages
-    → text ≡ out_over books given → text ≡ out_in day (b ∷ d ∷ e ∷ f ∷ g ∷ m ∷ []) messages
+pub same_out : (day : Day) (i : Inputs) (books : Books) (given : List (List ℕ)) (text : List ℕ) → books ≡ books_in day i → given ≡ i.cut → text ≡ out_over books given → text ≡ out_in (Run day) i
 unfolding out_in
-same_out day b d e f g m given messages books text are same is = is ∙ ap (out_over books) same ∙ ap (λ (x : Books). out_over x messages) are
+same_out day i books given text are same is = is ∙ ap (out_over books) same ∙ ap (λ (x : Books). out_over x i.cut) are
 
--- sinks that were left alone tell the same
-pub same_both : {K : Type 0} (held : K → Option (List ℕ)) (faults : K → ℕ) (report mid out end : K) → mid ≡ report → end ≡ out → both held faults mid end ≡ both held faults report out
-same_both held faults report mid out end first second = rw first (rw second refl)
+pub same_kept : (day : Day) (i : Inputs) (books : Books) (given : List (List ℕ)) → books ≡ books_in day i → given ≡ i.cut → IsKept books.accounts (history_of books given) → IsKept (chart_in i) (history_in day i)
+same_kept day i books given are same kept =
+    subst (λ (ms : List (List ℕ)). IsKept (chart_in i) (history_of (books_in day i) ms)) same (subst (λ (x : Books). IsKept x.accounts (history_of x given)) are kept)
 
--- what sinks received that were left alone until then
-pub same_received : (before mid after : Sinks) (x y s t : List ℕ) → mid ≡ before → x ≡ y → s ≡ t → ReceivesBoth mid after x s → ReceivesBoth before after y t
-same_received before mid after x y s t same report out got =
-    subst (λ (l : List ℕ). ReceivesBoth before after l t) report (subst (λ (l : List ℕ). ReceivesBoth before after x l) out (subst (λ (b : Sinks). ReceivesBoth b after x s) same got))
+-- the home bank's BIC meets its grammar
+home_is : IsBic home_bank
+unfolding is_bic
+home_is = refl
 
-pub same_failed : (before mid after : Sinks) (x y s t : List ℕ) (then now : ℕ) → mid ≡ before → x ≡ y → s ≡ t → FailsWriting mid after x s then now → FailsWriting before after y t then now
-same_failed before mid after x y s t then now same report out got =
-    subst (λ (l : List ℕ). FailsWriting before after l t then now) report
-    (subst (λ (l : List ℕ). FailsWriting before after x l then now) out (subst (λ (b : Sinks). FailsWriting b after x s then now) same got))
+pub home_of : (day : Day) (i : Inputs) (books : Books) → books ≡ books_in day i → IsBic books.accounts.home
+home_of day i books are = subst (λ (b : Bic). IsBic b) (sym (ap (λ (b : Books). b.accounts.home) are)) home_is
+
+-- ---- the steps of `run`
+
+-- a table or the sums stopped it
+pub opening_stops : {S K : Type 0} (left : S → Option (List ℕ)) (reads : S → ℕ) (held : K → Option (List ℕ)) (writes : K → ℕ) (day : Day) (old new : Room S K) (i : Inputs) (s : Status)
+    → Halts (PassesTable left reads old.tables new.tables i) (StopsAtTables left reads old.tables new.tables i s) (AreUntouched old.tables new.tables) table_steps → new.messages ≡ old.messages
+    → new.report ≡ old.report → new.out ≡ old.out → Ends left reads held writes (Run day) old new s
+opening_stops left reads held writes day old new i s halts same report out =
+    unwritten left reads held writes (Run day) old new i s (halts_front (Passes left reads old new i) (StopsAt left reads old new i s) (IsUntouched old new) table_steps (Step.messages ∷ []) halts (same, tt)) report out
+
+-- the message file stopped it
+pub messages_stop : {S K : Type 0} (left : S → Option (List ℕ)) (reads : S → ℕ) (held : K → Option (List ℕ)) (writes : K → ℕ) (day : Day) (old new : Room S K) (i : Inputs) (s : Status)
+    → Walks (PassesTable left reads old.tables new.tables i) table_steps → StopsAtMessages left reads old.messages new.messages i.messages s
+    → new.report ≡ old.report → new.out ≡ old.out → Ends left reads held writes (Run day) old new s
+messages_stop left reads held writes day old new i s passed stops report out =
+    unwritten left reads held writes (Run day) old new i s (halts_back (Passes left reads old new i) (StopsAt left reads old new i s) (IsUntouched old new) table_steps (Step.messages ∷ []) passed (inl (stops, tt))) report out
+
+-- all of them passed
+all_passed : {S K : Type 0} (left : S → Option (List ℕ)) (reads : S → ℕ) (old new : Room S K) (i : Inputs) (day : Day)
+    → Walks (PassesTable left reads old.tables new.tables i) table_steps → HasMessages left reads old.messages new.messages i.messages i.cut → Walks (Passes left reads old new i) (steps_of (Run day))
+all_passed left reads old new i day passed has = walks_both (Passes left reads old new i) table_steps (Step.messages ∷ []) passed (has, tt)
+
+-- memory ran out after them
+pub texts_stop : {S K : Type 0} (left : S → Option (List ℕ)) (reads : S → ℕ) (day : Day) (old new : Room S K) (i : Inputs)
+    → Walks (PassesTable left reads old.tables new.tables i) table_steps → HasMessages left reads old.messages new.messages i.messages i.cut
+    → new.report ≡ old.report → new.out ≡ old.out → EndsUnwritten left reads (Run day) old new status.Memory i
+texts_stop left reads day old new i passed has report out = record { stopped = inr (all_passed left reads old new i day passed has, refl); report = report; out = out }
+
+-- a sink failed
+pub writing_stops : {S K : Type 0} (left : S → Option (List ℕ)) (reads : S → ℕ) (held : K → Option (List ℕ)) (writes : K → ℕ) (day : Day) (old new : Room S K) (then now : ℕ) (i : Inputs) (report out : List ℕ)
+    → Walks (PassesTable left reads old.tables new.tables i) table_steps → HasMessages left reads old.messages new.messages i.messages i.cut → Keeps (Run day) i
+    → report ≡ report_in (Run day) i → out ≡ out_in (Run day) i → FailsWriting held writes old.report new.report report old.out new.out out then now
+    → EndsWriting left reads held writes (Run day) old new then now i
+writing_stops left reads held writes day old new then now i report out passed has keeps same also failed = record {
+  passed = all_passed left reads old new i day passed has;
+  keeps = keeps;
+  failed = subst (λ (t : List ℕ). FailsWriting held writes old.report new.report t old.out new.out (out_in (Run day) i) then now) same
+      (subst (λ (t : List ℕ). FailsWriting held writes old.report new.report report old.out new.out t then now) also failed);
+}
+
+-- both texts were received
+pub run_done : {S K : Type 0} (left : S → Option (List ℕ)) (reads : S → ℕ) (held : K → Option (List ℕ)) (writes : K → ℕ) (day : Day) (old new : Room S K) (i : Inputs) (report out : List ℕ)
+    → Walks (PassesTable left reads old.tables new.tables i) table_steps → HasMessages left reads old.messages new.messages i.messages i.cut → Keeps (Run day) i
+    → report ≡ report_in (Run day) i → out ≡ out_in (Run day) i → Received held writes old.report new.report report → Received held writes old.out new.out out
+    → EndsDone left reads held writes (Run day) old new i
+run_done left reads held writes day old new i report out passed has keeps same also got sent = record {
+  passed = all_passed left reads old new i day passed has;
+  keeps = keeps;
+  report = subst (λ (t : List ℕ). Received held writes old.report new.report t) same got;
+  out = subst (λ (t : List ℕ). Received held writes old.out new.out t) also sent;
+}

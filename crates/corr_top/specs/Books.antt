@@ -1,20 +1,21 @@
 -- What opening the books of a day gives, and how it stops.
-use Rattle.std.specs.Prelude.{ℕ, ◌≤◌, ◌≡◌, List, [], ◌∷◌, length, None}
-use Rattle.corr_text.specs.Faults.{Rose}
+use Rattle.std.specs.Prelude.{ℕ, ◌≡◌, ◌≤◌, List, [], ◌∷◌, Option}
 use Rattle.corr_ids.specs.declared.day.Day.{Day}
 use Rattle.day_model.specs.declared.fault.AccountsFault.{AccountsFault}
 use Rattle.day_model.specs.declared.fault.AccountsFault.TheVariants as accounts
 use Rattle.ref_tables.specs.declared.fault.TableFault.{TableFault}
 use Rattle.ref_tables.specs.declared.fault.TableFault.TheVariants as table
-use Rattle.ref_tables.specs.Seen.{Tables}
+use Rattle.ref_tables.specs.declared.fault.TableName.{TableName}
+use Rattle.ref_tables.specs.declared.fault.TableName.TheVariants as names
 use Rattle.corr_top.specs.declared.books.Books.{Books}
 use Rattle.corr_top.specs.declared.reading.ReadStop.{ReadStop}
 use Rattle.corr_top.specs.declared.reading.ReadStop.TheVariants as stop
+use Rattle.corr_top.specs.declared.room.Tables.{Tables}
 use Rattle.corr_top.specs.declared.status.Status.{Status}
 use Rattle.corr_top.specs.declared.status.Status.TheVariants as status
-use Rattle.ref_tables.specs.Tables.{tables_fault}
-use Rattle.corr_top.specs.Run.{AreRead, AreFine, books_in, file_at, limits, tables_in}
-use Rattle.corr_top.specs.Told.{Told}
+use Rattle.corr_top.specs.Inputs.{Inputs, books_in}
+use Rattle.corr_top.specs.Passing.{Balances, IsFine, StopsAtSums, StopsAtTable, fault_of, file_of, table_at}
+use Rattle.corr_top.specs.Steps.{Halts, Step, Walks}
 
 -- statuses of what stopped
 abbrev pub status_of_stop : ReadStop → Status
@@ -34,29 +35,32 @@ abbrev pub TellsDecimals : AccountsFault → Type 0
 TellsDecimals (accounts.Unbalanced ccy decimals sum) = decimals ≤ 4
 TellsDecimals accounts.Memory = Unit {0}
 
--- reading one source stopped: its count of faults rose by one, or memory ran out and it is as it was
-abbrev pub IsReadStop : ℕ → ℕ → Status → Type 0
-IsReadStop then now (status.ReadFault before after) = (before ≡ then) × (after ≡ now) × Rose then now
-IsReadStop then now status.Memory = now ≡ then
-IsReadStop then now _ = ⊥
+-- the steps that open the books
+abbrev pub table_steps : List Step
+table_steps = Step.table names.Bics ∷ Step.table names.Ccys ∷ Step.table names.Countries ∷ Step.table names.Accounts ∷ Step.table names.Ssi ∷ Step.sums ∷ []
 
--- the first three files were read, and these are their tables
-pub record ReadTables (before after : List Told) (t : Tables) (files : List (List ℕ)) : Type 0 where
-  pub read : AreRead limits before after files
-  pub three : length files ≡ 3
-  pub sound : tables_fault (file_at 0 files) (file_at 1 files) (file_at 2 files) ≡ None
-  pub tables : t ≡ tables_in files
+-- these steps over the tables alone
+abbrev pub PassesTable : {S : Type 0} → (S → Option (List ℕ)) → (S → ℕ) → Tables S → Tables S → Inputs → Step → Type 0
+PassesTable left reads old new i (Step.table name) = IsFine left reads (table_at name old) (table_at name new) (file_of name i) (fault_of name i)
+PassesTable left reads old new i Step.sums = Balances i
+PassesTable left reads old new i Step.messages = ⊥
 
-abbrev pub HasTables : List Told → List Told → Tables → Type 0
-HasTables before after t = (bics : List ℕ) × (ccys : List ℕ) × (countries : List ℕ) × ReadTables before after t (bics ∷ ccys ∷ countries ∷ [])
+abbrev pub StopsAtTables : {S : Type 0} → (S → Option (List ℕ)) → (S → ℕ) → Tables S → Tables S → Inputs → Status → Step → Type 0
+StopsAtTables left reads old new i stop (Step.table name) = StopsAtTable left reads (table_at name old) (table_at name new) (file_of name i) (fault_of name i) stop
+StopsAtTables left reads old new i stop Step.sums = StopsAtSums i stop
+StopsAtTables left reads old new i stop Step.messages = ⊥
 
--- the table files were read, and these are the books of a day over them
-pub record OpenedBooks (before after : List Told) (day : Day) (books : Books) (files : List (List ℕ)) : Type 0 where
-  pub read : AreRead limits before after files
-  pub five : length files ≡ 5
-  pub fine : AreFine files
-  pub books_are : books ≡ books_in day files
+abbrev pub AreUntouched : {S : Type 0} → Tables S → Tables S → Step → Type 0
+AreUntouched old new (Step.table name) = table_at name new ≡ table_at name old
+AreUntouched old new Step.sums = Unit {0}
+AreUntouched old new Step.messages = Unit {0}
 
-abbrev pub HasBooks : List Told → List Told → Day → Books → Type 0
-HasBooks before after day books =
-    (bics : List ℕ) × (ccys : List ℕ) × (countries : List ℕ) × (accounts : List ℕ) × (ssi : List ℕ) × OpenedBooks before after day books (bics ∷ ccys ∷ countries ∷ accounts ∷ ssi ∷ [])
+-- the tables were read and are fine, and these are the books of a day over them
+pub record HasBooks {S : Type 0} (left : S → Option (List ℕ)) (reads : S → ℕ) (old new : Tables S) (day : Day) (books : Books) : Type 0 where
+  pub inputs : Inputs
+  pub passed : Walks (PassesTable left reads old new inputs) table_steps
+  pub books_are : books ≡ books_in day inputs
+
+-- a step of them stopped
+abbrev pub StopsOpening : {S : Type 0} → (S → Option (List ℕ)) → (S → ℕ) → Tables S → Tables S → Status → Type 0
+StopsOpening left reads old new stop = (i : Inputs) × Halts (PassesTable left reads old new i) (StopsAtTables left reads old new i stop) (AreUntouched old new) table_steps

@@ -1,28 +1,27 @@
--- A run that nothing stops but want of memory.
-use Rattle.std.specs.Prelude.{ℕ, ◌≡◌, List, [], ◌∷◌, length, Some}
+-- A command that nothing stops but want of memory.
+use Rattle.std.specs.Prelude.{ℕ, ◌≡◌, List, Option, Some, None}
 use Rattle.corr_text.specs.Faults.{Rose}
+use Rattle.corr_top.specs.declared.room.Room.{Room}
+use Rattle.corr_top.specs.declared.words.Command.{Command}
+use Rattle.corr_top.specs.Commands.{steps_of}
+use Rattle.corr_top.specs.Inputs.{Inputs}
 use Rattle.corr_top.specs.MessageFile.{IsMessageFile}
-use Rattle.corr_top.specs.Run.{AreFine, file_at}
-use Rattle.corr_top.specs.Told.{Sinks, Told}
+use Rattle.corr_top.specs.Passing.{Balances, fault_of, file_of, table_at}
+use Rattle.corr_top.specs.Steps.{Step, Walks}
 
--- each source tells that it has these bytes left
-abbrev pub AreTold : List Told → List (List ℕ) → Type 0
-AreTold [] [] = Unit {0}
-AreTold (source ∷ sources) (file ∷ files) = (source.bytes ≡ Some file) × AreTold sources files
-AreTold _ _ = ⊥
+-- a source told these bytes, and did not fail
+pub record Told {S : Type 0} (left : S → Option (List ℕ)) (reads : S → ℕ) (old new : S) (file : List ℕ) : Type 0 where
+  pub told : left old ≡ Some file
+  pub sound : Rose (reads old) (reads new) → ⊥
 
--- the count of faults of no source rose
-abbrev pub NoneRose : List Told → List Told → Type 0
-NoneRose [] [] = Unit {0}
-NoneRose (before ∷ befores) (after ∷ afters) = (Rose before.faults after.faults → ⊥) × NoneRose befores afters
-NoneRose _ _ = ⊥
+-- nothing is wrong with what a step reads, and its source did not fail
+abbrev pub IsReady : {S K : Type 0} → (S → Option (List ℕ)) → (S → ℕ) → Room S K → Room S K → Inputs → Step → Type 0
+IsReady left reads old new i (Step.table name) = Told left reads (table_at name old.tables) (table_at name new.tables) (file_of name i) × (fault_of name i ≡ None)
+IsReady left reads old new i Step.sums = Balances i
+IsReady left reads old new i Step.messages = Told left reads old.messages new.messages i.messages × IsMessageFile i.messages i.cut
 
--- the sources have six files with nothing wrong in them, the last one of these messages, and neither a source nor a sink failed
-pub record IsReady (before after : List Told) (sinks sunk : Sinks) (files messages : List (List ℕ)) : Type 0 where
-  pub told : AreTold before files
-  pub all : length files ≡ 6
-  pub fine : AreFine files
-  pub messages_are : IsMessageFile (file_at 5 files) messages
-  pub sources_sound : NoneRose before after
-  pub report_sound : Rose sinks.report.faults sunk.report.faults → ⊥
-  pub out_sound : Rose sinks.out.faults sunk.out.faults → ⊥
+-- nothing is wrong with what a command reads, and neither a source nor a sink failed
+pub record IsSound {S K : Type 0} (left : S → Option (List ℕ)) (reads : S → ℕ) (writes : K → ℕ) (command : Command) (old new : Room S K) (i : Inputs) : Type 0 where
+  pub ready : Walks (IsReady left reads old new i) (steps_of command)
+  pub report : Rose (writes old.report) (writes new.report) → ⊥
+  pub out : Rose (writes old.out) (writes new.out) → ⊥

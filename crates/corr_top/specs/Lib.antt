@@ -1,8 +1,6 @@
 pub mod Reading
-pub mod Writing
 pub mod MessageFile
 pub mod Feeding
-pub mod Words
 pub mod Status
 pub mod Asks
 pub mod Message
@@ -10,12 +8,12 @@ pub mod Replies
 pub mod Out
 pub mod Answers
 pub mod Turn
-pub mod Told
-pub mod Run
-pub mod Order
-pub mod Ends
+pub mod Inputs
+pub mod Steps
+pub mod Passing
+pub mod Writing
+pub mod Commands
 pub mod Books
-pub mod Counts
-pub mod Messages
+pub mod Ends
 pub mod Complete
 pub mod Constants

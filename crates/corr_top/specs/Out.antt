@@ -1,7 +1,7 @@
 -- The messages that leave.
 use Rattle.std.specs.Prelude.{ℕ, List, ◌++◌, codes}
 use Rattle.std.specs.List.{flat_map}
-use Rattle.advices.specs.Orders.{orders_of}
+use Rattle.advices.specs.Messages.{messages_of}
 use Rattle.day_model.specs.declared.entry.Entry.{Entry}
 use Rattle.day_model.specs.Chart.{Chart}
 use Rattle.corr_report.specs.Lines.{numbered}
@@ -15,7 +15,7 @@ parted_all texts = flat_map parted texts
 
 -- the outgoing messages of the entry at a place, each followed by `$`
 abbrev pub sent_of : Chart → ℕ → Entry → List ℕ
-sent_of chart place entry = parted_all (orders_of chart entry place)
+sent_of chart place entry = parted_all (messages_of chart entry place)
 
 -- those of all entries, in their order
 abbrev pub out_of : Chart → List Entry → List ℕ

@@ -11,7 +11,18 @@ pub record IsRead (limit : ℕ) (before after : Option (List ℕ)) (bytes : List
   pub bound : length bytes ≤ limit + 1
   pub ended : length bytes ≤ limit → IsAtEnd after
 
--- reading stopped: the count of faults rose by one, and these are its two values; or memory ran out, and the count is as it was
-abbrev pub IsStopped : ℕ → ℕ → ReadStop → Type 0
-IsStopped then now (Fault before after) = (before ≡ then) × (after ≡ now) × Rose then now
-IsStopped then now Memory = now ≡ then
+-- a source was so read, and did not fail
+pub record Took {S : Type 0} (left : S → Option (List ℕ)) (faults : S → ℕ) (limit : ℕ) (old new : S) (file : List ℕ) : Type 0 where
+  pub read : IsRead limit (left old) (left new) file
+  pub kept : faults new ≡ faults old
+
+-- a source or a sink failed: its count of faults rose by one, from `then` to `now`
+pub record Failed {S : Type 0} (faults : S → ℕ) (old new : S) (then now : ℕ) : Type 0 where
+  pub then_is : then ≡ faults old
+  pub now_is : now ≡ faults new
+  pub rose : Rose then now
+
+-- reading stopped: the source failed; or memory ran out, and its count is as it was
+abbrev pub IsStopped : {S : Type 0} → (S → ℕ) → S → S → ReadStop → Type 0
+IsStopped faults old new (Fault then now) = Failed faults old new then now
+IsStopped faults old new Memory = faults new ≡ faults old

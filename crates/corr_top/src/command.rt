@@ -1,21 +1,33 @@
 //! The top call: the words of a command, and what it is handed.
 
-ghost use Rattle.std.specs.Prelude.{◌≡◌, ◌⊎◌, ℕ, List, None, IfSome};
-ghost use Rattle.corr_top.specs.Complete.{IsReady};
-ghost use Rattle.corr_top.specs.Counts.{CountsReads, CountsWrites, counts, sink_counts};
-ghost use Rattle.corr_top.specs.Ends.{Ends, IsQuiet, IsUnwritten};
-ghost use Rattle.corr_top.specs.Order.{ReadsInOrder};
+ghost use Rattle.std.specs.Prelude.{◌≡◌, ◌⊎◌, None, IfErr, IfSome, OnOk};
+ghost use Rattle.corr_top.specs.Commands.{command_of};
+ghost use Rattle.corr_top.specs.Complete.{IsSound};
+ghost use Rattle.corr_top.specs.Ends.{Ends};
+ghost use Rattle.corr_top.specs.Inputs.{Inputs};
 ghost use Rattle.corr_top.specs.Status.{HasDecimals};
-ghost use Rattle.corr_top.specs.Told.{sinks, sources};
-ghost use Rattle.corr_top.specs.Words.{run_day};
 
 use crate::room::{Done, Room};
 use crate::run::run;
 use crate::status::Status;
-use crate::words::run_day;
+use crate::words::{Command, spelled};
 use corr_io::{Sink, Source};
 use corr_text::Text;
 use std::alloc::Global;
+
+/// Does what a command says.
+fn perform<S: Source, K: Sink>(
+    alloc: Global,
+    command: Command,
+    room: &mut Room<S, K>,
+) -> Result<(), Status>
+    ensures done { OnOk result (Ends S.left S.faults K.held K.faults command room.old room.new Status.Done) }
+    ensures stopped { IfErr result (Ends S.left S.faults K.held K.faults command room.old room.new) }
+{
+    match command {
+        Command::Run { day } => run(alloc, day, room),
+    }
+}
 
 /// Does what the words say over the objects of a room, and hands the room back (docs/operating.md).
 ///
@@ -24,32 +36,23 @@ use std::alloc::Global;
 /// `Usage`. Nothing is written but at `Done`, and a front part of both together at `WriteFault`.
 pub fn corr<S: Source, K: Sink>(alloc: Global, words: &[Text], room: Room<S, K>) -> Done<S, K>
     // words of no command touch nothing
-    ensures usage { run_day words.now ≡ None → (result.status ≡ Status.Usage) × (result.room ≡ room) }
+    ensures usage { command_of words.now ≡ None → (result.status ≡ Status.Usage) × (result.room ≡ room) }
     // each other status by its cause
-    ensures run { IfSome (run_day words.now) (λ day. Ends (sources S.left S.faults room) (sources S.left S.faults result.room)
-        (sinks K.held K.faults room) (sinks K.held K.faults result.room) day result.status) }
-    // a failed read ends the run with `ReadFault`, and no read fails at any other status
-    ensures reads { CountsReads (counts S.faults room) (counts S.faults result.room) result.status }
-    // a failed write ends it with `WriteFault`, and no write fails at any other status
-    ensures writes { CountsWrites (sink_counts K.faults room) (sink_counts K.faults result.room) result.status }
-    // no source is touched before those ahead of it were read and found right
-    ensures in_order { ReadsInOrder S.left S.faults room result.room }
+    ensures ends { IfSome (command_of words.now) (λ command. Ends S.left S.faults K.held K.faults command room result.room result.status) }
     // where nothing is wrong and nothing fails, only memory can be wanting
-    ensures complete { IfSome (run_day words.now) (λ _. (files messages : List (List ℕ)) → IsReady (sources S.left S.faults room) (sources S.left S.faults result.room)
-        (sinks K.held K.faults room) (sinks K.held K.faults result.room) files messages → (result.status ≡ Status.Done) ⊎ (result.status ≡ Status.Memory)) }
-    // nothing is written but at `Done` and `WriteFault`
-    ensures quiet { IsQuiet result.status → IsUnwritten room result.room }
+    ensures complete { IfSome (command_of words.now) (λ command. (i : Inputs) → IsSound S.left S.faults K.faults command room result.room i →
+        (result.status ≡ Status.Done) ⊎ (result.status ≡ Status.Memory)) }
     // the decimals of an `Unbalanced` are those of a currency, as `status_line` needs them
     ensures decimals { HasDecimals result.status }
 {
     let mut room = room;
-    let Some(day) = run_day(words) else {
+    let Some(command) = spelled(words) else {
         return Done {
             status: Status::Usage,
             room,
         };
     };
-    let status = match run(alloc, day, &mut room) {
+    let status = match perform(alloc, command, &mut room) {
         Ok(()) => Status::Done,
         Err(status) => status,
     };

@@ -3,7 +3,6 @@
 ghost use Rattle.std.specs.Prelude.{◌≡◌, ◌+◌, ◌≤◌, ◌<◌, ◌^◌, ℕ, List, ◌++◌, None, IfOk, IfErr, OnOk, length};
 ghost use Rattle.corr_top.specs.Feeding.{HasPassed, StopsFeeding, StopsInPieces};
 ghost use Rattle.corr_top.specs.MessageFile.{IsMessageFile, StopsCutting};
-ghost use Rattle.corr_top.specs.Status.{HasDecimals};
 
 use crate::status::Status;
 use corr_text::{List, Text};
@@ -46,7 +45,6 @@ fn feed_piece(
         HasPassed cutter.new (fed ++ piece.now) messages.new) }
     ensures stopped { IfErr result (λ s. (fed : List ℕ) → HasPassed cutter.old fed messages.old → bytes ≡ length (fed ++ piece.now) →
         StopsFeeding (fed ++ piece.now) s) }
-    ensures decimals { IfErr result HasDecimals }
 {
     let answer = cutter.feed(piece, messages);
     if let Err(FrameFault::Memory) = answer {
@@ -68,7 +66,6 @@ fn cut_in_pieces(alloc: Global, file: &[u8], size: usize) -> Result<List<Text>, 
     requires some { 0 < size }
     ensures ok { IfOk result (IsMessageFile file.now) }
     ensures stopped { IfErr result (StopsInPieces size file.now) }
-    ensures decimals { IfErr result HasDecimals }
 {
     let mut cutter = Cutter::new(alloc);
     let mut messages = List::new(alloc);
@@ -88,7 +85,6 @@ pub fn cut_file(alloc: Global, file: &[u8]) -> Result<List<Text>, Status>
     requires { length file.now ≤ 67108865 }
     ensures ok { IfOk result (IsMessageFile file.now) }
     ensures stopped { IfErr result (StopsCutting file.now) }
-    ensures decimals { IfErr result HasDecimals }
 {
     match cut_in_pieces(alloc, file, PIECE) {
         Ok(messages) => Ok(messages),

@@ -1,8 +1,10 @@
 //! The messages that leave, as one text.
 
 ghost use Rattle.std.specs.Prelude.{◌≡◌, ◌++◌, All, IfOk, OnOk};
+ghost use Rattle.std.specs.Int.{IsInRange};
+ghost use Rattle.corr_ids.specs.Bic.{IsBic};
 ghost use Rattle.corr_top.specs.Answers.{HasPayShape};
-ghost use Rattle.corr_top.specs.Out.{out_of, parted_all, sent_of};
+ghost use Rattle.corr_top.specs.Out.{out_of, parted, parted_all, sent_of};
 ghost use Rattle.day_model.specs.Fit.{FitsAccounts};
 ghost use Rattle.day_model.specs.Legal.{IsLegal};
 ghost use Rattle.day_model.specs.Shape.{HasShape};
@@ -12,13 +14,20 @@ use corr_text::{Memory, Text};
 use day_model::{Accounts, Entry, History};
 use std::alloc::Global;
 
+/// Appends a message, followed by `$`.
+fn push_message(message: &Text, out: &mut Text) -> Result<(), Memory>
+    ensures { OnOk result (out.new ≡ out.old ++ parted message.now) }
+{
+    out.push(message.bytes())?;
+    out.push(b"$")
+}
+
 /// Appends messages, each followed by `$`.
 fn push_parted(messages: &[Text], out: &mut Text) -> Result<(), Memory>
     ensures { OnOk result (out.new ≡ out.old ++ parted_all messages.now) }
 {
     for message in messages {
-        out.push(message.bytes())?;
-        out.push(b"$")?;
+        push_message(message, out)?;
     }
     Ok(())
 }
@@ -31,8 +40,10 @@ fn push_orders(
     entry: &Entry,
     out: &mut Text,
 ) -> Result<(), Memory>
+    requires home { IsBic a.now.home }
     requires fits { FitsAccounts a.now entry.now.pay }
     requires shape { HasShape entry.now.pay }
+    requires place { IsInRange 1 100000 place }
     ensures { OnOk result (out.new ≡ out.old ++ sent_of a.now place entry.now) }
 {
     let messages = orders(alloc, a, entry, place)?;
@@ -41,6 +52,7 @@ fn push_orders(
 
 /// The outgoing messages of the entries of a history, in its order, each followed by `$`.
 pub fn outgoing(alloc: Global, a: &Accounts, h: &History) -> Result<Text, Memory>
+    requires home { IsBic a.now.home }
     requires legal { IsLegal a.now h.now.entries }
     requires shapes { All HasPayShape h.now.entries }
     ensures { IfOk result (λ text. text ≡ out_of a.now h.now.entries) }

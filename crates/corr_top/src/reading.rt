@@ -1,7 +1,7 @@
 //! A source, read whole or past a limit.
 
-ghost use Rattle.std.specs.Prelude.{◌≡◌, ◌+◌, ◌≤◌, ◌<◌, ◌^◌, vec_len, IfOk, IfErr, OnOk};
-ghost use Rattle.corr_top.specs.Reading.{IsRead, IsStopped};
+ghost use Rattle.std.specs.Prelude.{◌≡◌, ◌+◌, ◌≤◌, ◌<◌, ◌^◌, vec_len, IfOk, IfErr};
+ghost use Rattle.corr_top.specs.Reading.{IsStopped, Took};
 
 use corr_io::Source;
 use corr_text::{Memory, Text};
@@ -46,9 +46,8 @@ fn make_chunk(alloc: Global) -> Result<Vec<u8>, AllocError>
 /// The bytes of a source up to its end, or one byte more than `limit` where it has more than that.
 pub fn read_whole<S: Source>(alloc: Global, source: &mut S, limit: usize) -> Result<Text, ReadStop>
     requires { limit < 2 ^ 32 }
-    ensures read { IfOk result (IsRead limit (S.left source.old) (S.left source.new)) }
-    ensures stopped { IfErr result (IsStopped (S.faults source.old) (S.faults source.new)) }
-    ensures kept { OnOk result (S.faults source.new ≡ S.faults source.old) }
+    ensures read { IfOk result (Took S.left S.faults limit source.old source.new) }
+    ensures stopped { IfErr result (IsStopped S.faults source.old source.new) }
 {
     let before = source.faults();
     let mut text = Text::from_bytes(alloc, &[])?;

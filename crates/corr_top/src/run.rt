@@ -1,22 +1,21 @@
-//! The command `run`: every message of a file is answered, and the report written.
+//! The command `run`: every message of a file is answered, the report is written, and the next messages are sent.
 
-ghost use Rattle.std.specs.Prelude.{◌≡◌, ◌≤◌, length, All, OnOk, IfOk, IfErr};
-ghost use Rattle.corr_top.specs.Ends.{Ends, IsQuiet, IsUnwritten};
-ghost use Rattle.day_model.specs.Legal.{IsLegal};
+ghost use Rattle.std.specs.Prelude.{◌≡◌, ◌≤◌, ℕ, List, length, All, OnOk, IfOk, IfErr};
+ghost use Rattle.corr_ids.specs.Bic.{IsBic};
 ghost use Rattle.corr_top.specs.Answers.{HasPayShape, history_of, out_over, report_over};
-ghost use Rattle.corr_top.specs.Counts.{CountsReads, CountsSource, CountsWrites, counts, sink_counts};
-ghost use Rattle.corr_top.specs.Messages.{HasMessages, StopsAtMessages};
-ghost use Rattle.corr_top.specs.Order.{ReadsInOrder};
-ghost use Rattle.corr_top.specs.Status.{HasDecimals};
-ghost use Rattle.corr_top.specs.Told.{sinks, sources};
+ghost use Rattle.corr_top.specs.Commands.{IsKept};
+ghost use Rattle.corr_top.specs.Ends.{Ends};
+ghost use Rattle.corr_top.specs.Passing.{HasMessages, StopsAtMessages};
+ghost use Rattle.corr_top.specs.declared.words.Command.TheVariants.{Run};
 
 use crate::answers::answer_all;
 use crate::books::Books;
 use crate::cutting::{FILE_LIMIT, cut_file};
 use crate::outgoing::outgoing;
+use crate::reading::read_whole;
 use crate::room::Room;
 use crate::status::Status;
-use crate::tables::{open_books, read_file};
+use crate::tables::open_books;
 use crate::writing::{Texts, WriteStop, write_both};
 use corr_ids::Day;
 use corr_io::{Sink, Source};
@@ -39,24 +38,21 @@ impl From<WriteStop> for Status {
 
 /// The messages of the message file, or its first fault.
 fn read_messages<S: Source>(alloc: Global, source: &mut S) -> Result<List<Text>, Status>
-    ensures read { IfOk result (HasMessages (S.left source.old) (S.left source.new)) }
-    ensures decimals { IfErr result HasDecimals }
-    ensures stopped { IfErr result (StopsAtMessages (S.left source.old) (S.left source.new) (S.faults source.old) (S.faults source.new)) }
-    ensures kept { OnOk result (S.faults source.new ≡ S.faults source.old) }
-    ensures reads { IfErr result (CountsSource (S.faults source.old) (S.faults source.new)) }
+    ensures are { IfOk result (λ cut. (file : List ℕ) × HasMessages S.left S.faults source.old source.new file cut) }
+    ensures stopped { IfErr result (λ stop. (file : List ℕ) × StopsAtMessages S.left S.faults source.old source.new file stop) }
 {
-    let file = read_file(alloc, source, FILE_LIMIT)?;
+    let file = read_whole(alloc, source, FILE_LIMIT)?;
     cut_file(alloc, file.bytes())
 }
 
 /// The report of a day over messages, and the outgoing messages of its entries.
 fn make_texts(alloc: Global, books: &Books, messages: &[Text]) -> Result<Texts, Memory>
+    requires home { IsBic books.now.accounts.home }
     requires few { length messages.now ≤ 50000 }
     requires short { All (λ m. length m ≤ 16384) messages.now }
     ensures report { IfOk result (λ texts. texts.report ≡ report_over books.now messages.now) }
     ensures out { IfOk result (λ texts. texts.out ≡ out_over books.now messages.now) }
-    ensures legal { OnOk result (IsLegal books.now.accounts (history_of books.now messages.now)) }
-    ensures shapes { OnOk result (All HasPayShape (history_of books.now messages.now)) }
+    ensures kept { OnOk result (IsKept books.now.accounts (history_of books.now messages.now)) }
 {
     let answers = answer_all(alloc, books, messages)?;
     let report = report(
@@ -71,19 +67,10 @@ fn make_texts(alloc: Global, books: &Books, messages: &[Text]) -> Result<Texts, 
 
 /// Reads the tables and the messages, answers each message, writes the report and sends the next messages.
 pub fn run<S: Source, K: Sink>(alloc: Global, day: Day, room: &mut Room<S, K>) -> Result<(), Status>
-    ensures done { OnOk result (Ends (sources S.left S.faults room.old) (sources S.left S.faults room.new)
-        (sinks K.held K.faults room.old) (sinks K.held K.faults room.new) day Status.Done) }
-    ensures stopped { IfErr result (Ends (sources S.left S.faults room.old) (sources S.left S.faults room.new)
-        (sinks K.held K.faults room.old) (sinks K.held K.faults room.new) day) }
-    ensures reads_kept { OnOk result (counts S.faults room.new ≡ counts S.faults room.old) }
-    ensures reads { IfErr result (CountsReads (counts S.faults room.old) (counts S.faults room.new)) }
-    ensures writes_kept { OnOk result (sink_counts K.faults room.new ≡ sink_counts K.faults room.old) }
-    ensures writes { IfErr result (CountsWrites (sink_counts K.faults room.old) (sink_counts K.faults room.new)) }
-    ensures in_order { ReadsInOrder S.left S.faults room.old room.new }
-    ensures quiet { IfErr result (λ s. IsQuiet s → IsUnwritten room.old room.new) }
-    ensures decimals { IfErr result HasDecimals }
+    ensures done { OnOk result (Ends S.left S.faults K.held K.faults (Run day) room.old room.new Status.Done) }
+    ensures stopped { IfErr result (Ends S.left S.faults K.held K.faults (Run day) room.old room.new) }
 {
-    let books = open_books(alloc, room, day)?;
+    let books = open_books(alloc, &mut room.tables, day)?;
     let messages = read_messages(alloc, &mut room.messages)?;
     let texts = make_texts(alloc, &books, messages.as_slice())?;
     Ok(write_both(&mut room.report, &mut room.out, &texts)?)

@@ -1,21 +1,24 @@
 //! The table files, read and tested in their order.
 
-ghost use Rattle.std.specs.Prelude.{◌≡◌, ◌<◌, ◌^◌, IfOk, IfErr, OnOk, map, pos};
+ghost use Rattle.std.specs.Prelude.{◌≡◌, ℕ, List, Option, None, IfOk, IfErr, OnOk, map, pos};
 ghost use Rattle.corr_money.specs.declared.amount.Ccy.{Ccy};
 ghost use Rattle.day_model.specs.Chart.{opening_sum};
 ghost use Rattle.day_model.specs.Gap.{TellsUnbalanced};
 ghost use Rattle.ref_tables.specs.AccountList.{AreAccounts};
-ghost use Rattle.corr_top.specs.Books.{IsReadStop, HasTables, HasBooks, TellsDecimals};
-ghost use Rattle.corr_top.specs.Counts.{CountsReads, counts};
-ghost use Rattle.corr_top.specs.Order.{ReadsInOrder};
-ghost use Rattle.corr_top.specs.Reading.{IsRead};
-ghost use Rattle.corr_top.specs.Run.{Stops, home_bank, home_head, opened};
-ghost use Rattle.corr_top.specs.Status.{HasDecimals};
-ghost use Rattle.corr_top.specs.Told.{sources};
+ghost use Rattle.ref_tables.specs.Accounts.{account_of, accounts_fault};
+ghost use Rattle.ref_tables.specs.Refusals.{named};
+ghost use Rattle.ref_tables.specs.Rows.{rows_of};
+ghost use Rattle.ref_tables.specs.Tables.{bics_fault, ccys_fault, countries_fault, tables_of};
+ghost use Rattle.ref_tables.specs.declared.fault.TableName.TheVariants as names;
+ghost use Rattle.ssi_versions.specs.Rows.{instruction_of, ssi_fault};
+ghost use Rattle.corr_top.specs.Books.{HasBooks, StopsOpening, TellsDecimals};
+ghost use Rattle.corr_top.specs.Inputs.{home_bank, home_head, opened};
+ghost use Rattle.corr_top.specs.Passing.{Bad, IsFine, StopsAtTable};
+ghost use Rattle.corr_top.specs.Reading.{Took};
 
 use crate::books::Books;
 use crate::reading::{ReadStop, read_whole};
-use crate::room::Room;
+use crate::room::Tables;
 use crate::status::Status;
 use corr_ids::{Bic, Day};
 use corr_io::Source;
@@ -90,15 +93,79 @@ impl From<Memory> for Status {
     }
 }
 
-/// The bytes of a source up to its end, or one more than the limit.
-pub fn read_file<S: Source>(alloc: Global, source: &mut S, limit: usize) -> Result<Text, Status>
-    requires { limit < 2 ^ 32 }
-    ensures decimals { IfErr result HasDecimals }
-    ensures read { IfOk result (IsRead limit (S.left source.old) (S.left source.new)) }
-    ensures stopped { IfErr result (IsReadStop (S.faults source.old) (S.faults source.new)) }
-    ensures kept { OnOk result (S.faults source.new ≡ S.faults source.old) }
+/// The bytes of a table's file up to its end, or one more than the limit.
+fn read_table<S: Source>(alloc: Global, source: &mut S) -> Result<Text, Status>
+    ensures took { IfOk result (Took S.left S.faults 8388608 source.old source.new) }
+    ensures stopped { IfErr result (λ stop. (file : List ℕ) (fault : Option Bad) → StopsAtTable S.left S.faults source.old source.new file fault stop) }
 {
-    Ok(read_whole(alloc, source, limit)?)
+    Ok(read_whole(alloc, source, TABLE_LIMIT)?)
+}
+
+/// The table of banks: its bytes, which have no fault.
+fn read_bics<S: Source>(alloc: Global, source: &mut S) -> Result<Text, Status>
+    ensures fine { IfOk result (λ bics. IsFine S.left S.faults source.old source.new bics (named names.Bics (bics_fault bics))) }
+    ensures stopped { IfErr result (λ stop. (bics : List ℕ) × StopsAtTable S.left S.faults source.old source.new bics (named names.Bics (bics_fault bics)) stop) }
+{
+    let bics = read_table(alloc, source)?;
+    read_tables(alloc, bics.bytes(), &[], &[])?;
+    Ok(bics)
+}
+
+/// The table of currencies after that of banks.
+fn read_ccys<S: Source>(alloc: Global, bics: &Text, source: &mut S) -> Result<Text, Status>
+    requires { named names.Bics (bics_fault bics.now) ≡ None }
+    ensures fine { IfOk result (λ ccys. IsFine S.left S.faults source.old source.new ccys (named names.Ccys (ccys_fault ccys))) }
+    ensures stopped { IfErr result (λ stop. (ccys : List ℕ) × StopsAtTable S.left S.faults source.old source.new ccys (named names.Ccys (ccys_fault ccys)) stop) }
+{
+    let ccys = read_table(alloc, source)?;
+    read_tables(alloc, bics.bytes(), ccys.bytes(), &[])?;
+    Ok(ccys)
+}
+
+/// The table of countries after those two: what the three say.
+fn read_countries<S: Source>(
+    alloc: Global,
+    bics: &Text,
+    ccys: &Text,
+    source: &mut S,
+) -> Result<RefTables, Status>
+    requires bics { named names.Bics (bics_fault bics.now) ≡ None }
+    requires ccys { named names.Ccys (ccys_fault ccys.now) ≡ None }
+    ensures fine { IfOk result (λ known. (countries : List ℕ) × IsFine S.left S.faults source.old source.new countries (named names.Countries (countries_fault countries))
+        × (known ≡ tables_of bics.now ccys.now countries)) }
+    ensures stopped { IfErr result (λ stop. (countries : List ℕ) × StopsAtTable S.left S.faults source.old source.new countries (named names.Countries (countries_fault countries)) stop) }
+{
+    let countries = read_table(alloc, source)?;
+    Ok(read_tables(alloc, bics.bytes(), ccys.bytes(), countries.bytes())?)
+}
+
+/// The rows of the table of accounts.
+fn read_rows<S: Source>(
+    alloc: Global,
+    known: &RefTables,
+    source: &mut S,
+) -> Result<Vec<AccountRow>, Status>
+    ensures fine { IfOk result (λ rows. (file : List ℕ) × IsFine S.left S.faults source.old source.new file (named names.Accounts (accounts_fault home_head known.now file))
+        × (rows.items ≡ map (account_of known.now) (rows_of file))) }
+    ensures accounts { IfOk result (λ rows. AreAccounts home_head known.now rows.items) }
+    ensures stopped { IfErr result (λ stop. (file : List ℕ) × StopsAtTable S.left S.faults source.old source.new file (named names.Accounts (accounts_fault home_head known.now file)) stop) }
+{
+    let file = read_table(alloc, source)?;
+    Ok(read_accounts(alloc, file.bytes(), &HOME_BANK, known)?)
+}
+
+/// The instructions.
+fn read_instructions<S: Source>(
+    alloc: Global,
+    known: &RefTables,
+    source: &mut S,
+) -> Result<Ssi, Status>
+    ensures fine { IfOk result (λ ssi. (file : List ℕ) × IsFine S.left S.faults source.old source.new file (named names.Ssi (ssi_fault known.now file))
+        × (ssi ≡ map instruction_of (rows_of file))) }
+    ensures stopped { IfErr result (λ stop. (file : List ℕ) × StopsAtTable S.left S.faults source.old source.new file (named names.Ssi (ssi_fault known.now file)) stop) }
+{
+    let file = read_table(alloc, source)?;
+    Ok(Ssi::read(alloc, file.bytes(), known)?)
 }
 
 fn open_account(row: AccountRow) -> Account
@@ -126,28 +193,6 @@ fn open_accounts(alloc: Global, rows: Vec<AccountRow>) -> Result<List<Account>, 
     Ok(accounts)
 }
 
-/// The tables of banks, currencies and countries, each read and tested before the next.
-fn open_tables<S: Source, K>(alloc: Global, room: &mut Room<S, K>) -> Result<RefTables, Status>
-    ensures ok { IfOk result (HasTables (sources S.left S.faults room.old) (sources S.left S.faults room.new)) }
-    ensures stopped { IfErr result (Stops (sources S.left S.faults room.old) (sources S.left S.faults room.new)) }
-    ensures kept { OnOk result (counts S.faults room.new ≡ counts S.faults room.old) }
-    ensures reads { IfErr result (CountsReads (counts S.faults room.old) (counts S.faults room.new)) }
-    ensures in_order { ReadsInOrder S.left S.faults room.old room.new }
-    ensures accounts { room.new.tables.accounts ≡ room.old.tables.accounts }
-    ensures ssi { room.new.tables.ssi ≡ room.old.tables.ssi }
-    ensures messages { room.new.messages ≡ room.old.messages }
-    ensures report { room.new.report ≡ room.old.report }
-    ensures out { room.new.out ≡ room.old.out }
-    ensures decimals { IfErr result HasDecimals }
-{
-    let bics = read_file(alloc, &mut room.tables.bics, TABLE_LIMIT)?;
-    read_tables(alloc, bics.bytes(), &[], &[])?;
-    let ccys = read_file(alloc, &mut room.tables.ccys, TABLE_LIMIT)?;
-    read_tables(alloc, bics.bytes(), ccys.bytes(), &[])?;
-    let countries = read_file(alloc, &mut room.tables.countries, TABLE_LIMIT)?;
-    Ok(read_tables(alloc, bics.bytes(), ccys.bytes(), countries.bytes())?)
-}
-
 /// The accounts of a table as those of a book.
 fn make_accounts(
     alloc: Global,
@@ -166,30 +211,23 @@ fn make_accounts(
     }
 }
 
-/// The books of a day over the table files, each read and tested before the next. The openings are summed behind them.
-pub fn open_books<S: Source, K>(
+/// The books of a day over the table files, each read and tested before the next; then the openings are summed.
+pub fn open_books<S: Source>(
     alloc: Global,
-    room: &mut Room<S, K>,
+    tables: &mut Tables<S>,
     day: Day,
 ) -> Result<Books, Status>
-    ensures ok { IfOk result (HasBooks (sources S.left S.faults room.old) (sources S.left S.faults room.new) day) }
-    ensures stopped { IfErr result (Stops (sources S.left S.faults room.old) (sources S.left S.faults room.new)) }
-    ensures kept { OnOk result (counts S.faults room.new ≡ counts S.faults room.old) }
-    ensures reads { IfErr result (CountsReads (counts S.faults room.old) (counts S.faults room.new)) }
-    ensures in_order { ReadsInOrder S.left S.faults room.old room.new }
-    ensures messages { room.new.messages ≡ room.old.messages }
-    ensures report { room.new.report ≡ room.old.report }
-    ensures out { room.new.out ≡ room.old.out }
-    ensures decimals { IfErr result HasDecimals }
+    ensures ok { IfOk result (HasBooks S.left S.faults tables.old tables.new day) }
+    ensures stopped { IfErr result (StopsOpening S.left S.faults tables.old tables.new) }
 {
-    let tables = open_tables(alloc, room)?;
-    let file = read_file(alloc, &mut room.tables.accounts, TABLE_LIMIT)?;
-    let rows = read_accounts(alloc, file.bytes(), &HOME_BANK, &tables)?;
-    let instructions = read_file(alloc, &mut room.tables.ssi, TABLE_LIMIT)?;
-    let ssi = Ssi::read(alloc, instructions.bytes(), &tables)?;
-    let accounts = make_accounts(alloc, &tables, rows)?;
+    let bics = read_bics(alloc, &mut tables.bics)?;
+    let ccys = read_ccys(alloc, &bics, &mut tables.ccys)?;
+    let known = read_countries(alloc, &bics, &ccys, &mut tables.countries)?;
+    let rows = read_rows(alloc, &known, &mut tables.accounts)?;
+    let ssi = read_instructions(alloc, &known, &mut tables.ssi)?;
+    let accounts = make_accounts(alloc, &known, rows)?;
     Ok(Books {
-        tables,
+        tables: known,
         ssi,
         accounts,
         day,

@@ -1,10 +1,7 @@
-//! A text, written whole to a sink.
+//! Texts, written whole to sinks.
 
 ghost use Rattle.std.specs.Prelude.{◌≡◌, ◌≤◌, OnOk, IfErr};
-ghost use Rattle.std.specs.Io.KnownBytes.{Appends};
-ghost use Rattle.corr_text.specs.Faults.{Rose};
-ghost use Rattle.corr_top.specs.Told.{both};
-ghost use Rattle.corr_top.specs.Writing.{AppendsPrefix, FailsWriting, ReceivesBoth};
+ghost use Rattle.corr_top.specs.Writing.{FailedAt, FailsWriting, Received};
 
 use crate::slices::behind;
 use corr_io::Sink;
@@ -19,11 +16,8 @@ pub struct WriteStop {
 
 /// Appends all of `text` to a sink. After a fault some front part of it was appended.
 pub fn write_whole<K: Sink>(sink: &mut K, text: &[u8]) -> Result<(), WriteStop>
-    ensures written { OnOk result (Appends (K.held sink.old) (K.held sink.new) text.now) }
-    ensures part { AppendsPrefix (K.held sink.old) (K.held sink.new) text.now }
-    ensures stopped { IfErr result (λ e. (e.before ≡ K.faults sink.old)
-        × (e.after ≡ K.faults sink.new) × Rose e.before e.after) }
-    ensures kept { OnOk result (K.faults sink.new ≡ K.faults sink.old) }
+    ensures received { OnOk result (Received K.held K.faults sink.old sink.new text.now) }
+    ensures failed { IfErr result (λ e. FailedAt K.held K.faults sink.old sink.new text.now e.before e.after) }
 {
     let before = sink.faults();
     let mut rest = text;
@@ -50,10 +44,10 @@ pub struct Texts {
 
 /// Writes the report, then the messages that leave. After a fault of the first sink the other one was left alone.
 pub fn write_both<K: Sink>(report: &mut K, out: &mut K, texts: &Texts) -> Result<(), WriteStop>
-    ensures done { OnOk result (ReceivesBoth (both K.held K.faults report.old out.old) (both K.held K.faults report.new out.new) texts.now.report texts.now.out) }
-    ensures kept { OnOk result ((K.faults report.new ≡ K.faults report.old) × (K.faults out.new ≡ K.faults out.old)) }
-    ensures stopped { IfErr result (λ e. FailsWriting (both K.held K.faults report.old out.old) (both K.held K.faults report.new out.new)
-        texts.now.report texts.now.out e.before e.after) }
+    ensures report { OnOk result (Received K.held K.faults report.old report.new texts.now.report) }
+    ensures out { OnOk result (Received K.held K.faults out.old out.new texts.now.out) }
+    ensures failed { IfErr result (λ e. FailsWriting K.held K.faults report.old report.new texts.now.report
+        out.old out.new texts.now.out e.before e.after) }
 {
     write_whole(report, texts.report.bytes())?;
     write_whole(out, texts.out.bytes())

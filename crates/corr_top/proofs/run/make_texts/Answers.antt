@@ -5,8 +5,8 @@ use Rattle.day_model.specs.Legal.{IsLegal}
 use Rattle.corr_top.specs.Answers.{HasPayShape}
 use Rattle.corr_top.proofs.run.make_texts.Goals as goal
 
-pub returns-clause-legal : goal.returns-clause-legal
-returns-clause-legal c = subst (IsLegal c.args.books.now.accounts) c.in_ok-answers.ensures.history c.in_ok-answers.ensures.legal
-
-pub returns-clause-shapes : goal.returns-clause-shapes
-returns-clause-shapes c = subst (λ (es : List Entry). All HasPayShape es) c.in_ok-answers.ensures.history c.in_ok-answers.ensures.shapes
+pub returns-clause-kept : goal.returns-clause-kept
+returns-clause-kept c = record {
+  legal = subst (IsLegal c.args.books.now.accounts) c.in_ok-answers.ensures.history c.in_ok-answers.ensures.legal;
+  shapes = subst (λ (es : List Entry). All HasPayShape es) c.in_ok-answers.ensures.history c.in_ok-answers.ensures.shapes;
+}

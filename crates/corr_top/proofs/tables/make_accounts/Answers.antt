@@ -3,8 +3,8 @@ use Rattle.std.proofs.lemmas.List.{length-map}
 use Rattle.day_model.specs.Chart.{AreRows}
 use Rattle.std.specs.Prelude.{IfErr}
 use Rattle.day_model.specs.Gap.{TellsUnbalanced}
-use Rattle.corr_top.specs.Run.{home_head}
-use Rattle.corr_top.specs.Run.{opened}
+use Rattle.corr_top.specs.Inputs.{home_head}
+use Rattle.corr_top.specs.Inputs.{opened}
 use Rattle.corr_top.proofs.AccountRows.{are_rows, refusal_decimals}
 use Rattle.corr_top.proofs.tables.make_accounts.Goals as goal
 

@@ -1,5 +1,5 @@
 use Rattle.std.proofs.Common.{◌≡◌, map}
-use Rattle.corr_top.specs.Run.{opened}
+use Rattle.corr_top.specs.Inputs.{opened}
 use Rattle.corr_top.proofs.tables.open_accounts.Given as goal
 
 abbrev pub invariant-loop-row : goal.invariant-loop-row

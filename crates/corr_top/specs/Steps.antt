@@ -1,0 +1,19 @@
+-- Steps, one after another.
+use Rattle.std.specs.Prelude.{◌⊎◌, List, [], ◌∷◌}
+use Rattle.ref_tables.specs.declared.fault.TableName.{TableName}
+
+-- what a command reads and tests: a table, the sums of the openings, the message file
+pub data Step : Type 0 where
+  table : TableName → Step
+  sums : Step
+  messages : Step
+
+-- each step has it
+abbrev pub Walks : (Step → Type 0) → List Step → Type 0
+Walks has [] = Unit {0}
+Walks has (s ∷ steps) = has s × Walks has steps
+
+-- one step stops; those ahead of it passed, and those behind it are untouched
+abbrev pub Halts : (Step → Type 0) → (Step → Type 0) → (Step → Type 0) → List Step → Type 0
+Halts passes stops untouched [] = ⊥
+Halts passes stops untouched (s ∷ steps) = (stops s × Walks untouched steps) ⊎ (passes s × Halts passes stops untouched steps)
