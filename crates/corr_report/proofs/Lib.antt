@@ -2,3 +2,4 @@ pub mod laws
 pub mod Sums
 pub mod LineLists
 pub mod FailingLeg
+pub mod Currencies

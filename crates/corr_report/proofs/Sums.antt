@@ -1,5 +1,5 @@
 -- The sums of a currency's accounts are its turnover.
-use Rattle.std.proofs.Common.{◌≡◌, ℕ, suc, ◌+◌, ◌^◌, ◌<◌, ◌≤◌, Bool, true, false, List, [], ◌∷◌, Option, Some, refl, ap, ◌∙◌, arith, cond, length, ℤ, pos, ◌+ℤ◌}
+use Rattle.std.proofs.Common.{◌≡◌, ℕ, ◌+◌, ◌^◌, ◌<◌, ◌≤◌, Bool, true, false, List, [], ◌∷◌, Option, refl, ap, ◌∙◌, arith, cond, length, ℤ, pos, ◌+ℤ◌}
 use Rattle.std.specs.Prelude.{sum_by, unwrap_or, if◌then◌else◌}
 use Rattle.std.proofs.lemmas.Int.{ints}
 use Rattle.corr_money.specs.declared.amount.Ccy.{Ccy}

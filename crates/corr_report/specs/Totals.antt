@@ -1,6 +1,7 @@
 -- The currencies of a book, and what its booked entries move in each.
-use Rattle.std.specs.Prelude.{ℕ, ◌+◌, Bool, List, [], ◌∷◌, unwrap_or, codes, if◌then◌else◌}
-use Rattle.std.specs.List.{flat_map, insert, list_any, position_or_len}
+use Rattle.std.specs.Prelude.{◌≡◌, ℕ, ◌+◌, Bool, true, List, [], ◌∷◌, unwrap_or, codes, if◌then◌else◌}
+use Rattle.std.specs.List.{All, Contains, flat_map, insert, list_any, position_or_len}
+use Rattle.std.specs.List.Sorted.{IsStrictlySortedBy}
 use Rattle.std.specs.Ordering.{is_lt, nat_cmp}
 use Rattle.std.specs.Cmp.Lexicographic.{slice_cmp}
 use Rattle.corr_money.specs.Amounts.{amount_text}
@@ -27,7 +28,13 @@ entered new units = if list_any (λ unit. is_ccy unit.ccy new.ccy) units then un
 abbrev pub currency_of : Account → Currency
 currency_of account = record { ccy = account.ccy; decimals = account.decimals }
 
--- the currencies of the accounts, each once, in byte order
+-- The currencies of these accounts: in byte order, each once; each is an account's, with its decimals, and each account's is there.
+pub record AreCurrencies (accounts : List Account) (units : List Currency) : Type 0 where
+  pub rising : IsStrictlySortedBy (λ (c d : Currency). slice_cmp nat_cmp c.ccy.0 d.ccy.0) units
+  pub each : All (λ unit. (a : Account) × Contains accounts a × (currency_of a ≡ unit)) units
+  pub all : All (λ a. list_any (λ unit. is_ccy unit.ccy a.ccy) units ≡ true) accounts
+
+-- the currencies of the accounts as a list: those of an empty list, and then of one account more each time (`AreCurrencies`)
 abbrev pub currencies_of : List Currency → List Account → List Currency
 currencies_of units [] = units
 currencies_of units (account ∷ accounts) = currencies_of (entered (currency_of account) units) accounts

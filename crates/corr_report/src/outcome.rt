@@ -2,6 +2,7 @@
 
 ghost use Rattle.std.specs.Prelude.{◌≡◌, ◌<◌, ◌≤◌, ◌-◌, ◌++◌, OnOk, length, slice_get};
 ghost use Rattle.std.specs.List.{flat_map};
+ghost use Rattle.corr_money.specs.Amounts.{amount_end};
 ghost use Rattle.day_model.specs.Chart.{IsListed, account_at};
 ghost use Rattle.day_model.specs.Fit.{FitsAccounts};
 ghost use Rattle.corr_report.specs.Bookings.{leg_words, mark_of, outcome_words};
@@ -47,7 +48,7 @@ fn put_leg_balance(
 
 fn put_leg_amount(alloc: Global, a: &Accounts, leg: &Leg, out: &mut Text) -> Result<(), Memory>
     requires listed { IsListed a.now leg.now.account.0 }
-    requires bound { leg.now.amount.0 < 100000000000000 }
+    requires bound { leg.now.amount.0 < amount_end }
     ensures { OnOk result (out.new ≡ out.old ++ spaced (amount_words a.now leg.now)) }
 {
     let account = account_of(a, leg);
@@ -94,7 +95,7 @@ fn mark(side: Side) -> &'static [u8]
 
 fn put_leg(alloc: Global, a: &Accounts, leg: &Leg, out: &mut Text) -> Result<(), Memory>
     requires listed { IsListed a.now leg.now.account.0 }
-    requires bound { leg.now.amount.0 < 100000000000000 }
+    requires bound { leg.now.amount.0 < amount_end }
     ensures { OnOk result (out.new ≡ out.old ++ spaced (leg_words a.now leg.now)) }
 {
     let account = account_of(a, leg);

@@ -6,6 +6,7 @@ ghost use Rattle.std.specs.List.{All};
 ghost use Rattle.day_model.specs.Legal.{IsLegal};
 ghost use Rattle.corr_report.specs.Lines.{spaced};
 ghost use Rattle.corr_report.specs.Report.{NamesPlace, count_line, mir_text, reply_line, reply_words, report_of, tag_text};
+ghost use Rattle.corr_report.specs.Totals.{AreCurrencies, currencies_of};
 
 use crate::outcome::put_entry;
 use crate::totals::put_totals;
@@ -106,7 +107,9 @@ fn put_counts(alloc: Global, messages: u64, entries: u64, out: &mut Text) -> Res
 pub fn report(alloc: Global, a: &Accounts, h: &History, replies: &[Reply]) -> Result<Text, Memory>
     requires legal { IsLegal a.now h.now.entries }
     requires places { All (NamesPlace h.now.entries) replies.now }
-    ensures { IfOk result (λ text. text ≡ report_of a.now h.now.entries replies.now) }
+    ensures text { IfOk result (λ text. text ≡ report_of a.now h.now.entries replies.now) }
+    // the currencies of its totals are those of the accounts, each once, in byte order
+    ensures currencies { OnOk result (AreCurrencies a.now.accounts (currencies_of [] a.now.accounts)) }
 {
     let mut out = Text::from_bytes(alloc, b"")?;
     for (at, reply) in replies.iter().enumerate() {

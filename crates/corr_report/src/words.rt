@@ -1,9 +1,9 @@
 //! The words of a line.
 
-ghost use Rattle.std.specs.Prelude.{◌≡◌, ◌<◌, ◌≤◌, ◌^◌, ◌++◌, ◌∷◌, OnOk};
+ghost use Rattle.std.specs.Prelude.{◌≡◌, ◌<◌, ◌≤◌, ◌++◌, ◌∷◌, OnOk};
 ghost use Rattle.std.specs.Fmt.{decimal};
 ghost use Rattle.corr_text.specs.Digits.{padded};
-ghost use Rattle.corr_money.specs.Amounts.{amount_text, signed_text};
+ghost use Rattle.corr_money.specs.Amounts.{amount_end, amount_text, signed_text};
 
 use corr_money::{Minor, put_15d, put_signed, put_total};
 use corr_text::{Memory, Text, put_digits};
@@ -33,7 +33,7 @@ pub(crate) fn put_amount(
     out: &mut Text,
 ) -> Result<(), Memory>
     requires decimals { decimals ≤ 4 }
-    requires bound { m.0 < 10 ^ 14 }
+    requires bound { m.0 < amount_end }
     ensures { OnOk result (out.new ≡ out.old ++ 32 ∷ amount_text decimals m.0) }
 {
     out.push(b" ")?;

@@ -1,5 +1,5 @@
 -- The accounts of a table are the accounts of a book.
-use Rattle.std.proofs.Common.{◌≡◌, ℕ, zero, suc, ◌<◌, ◌≤◌, ◌^◌, true, List, [], ◌∷◌, ◌++◌, Some, refl, sym, ap, ◌∙◌, subst, arith, length, map, eqb, leb}
+use Rattle.std.proofs.Common.{◌≡◌, ℕ, zero, suc, ◌<◌, ◌≤◌, true, List, [], ◌∷◌, ◌++◌, Some, refl, sym, ap, ◌∙◌, subst, arith, length, map, eqb, leb}
 use Rattle.std.specs.Prelude.{◌&&◌, slice_get, ℤ, pos, negsuc, unsigned_abs}
 use Rattle.std.specs.List.{list_all}
 use Rattle.std.specs.Char.{is_ascii_uppercase}
@@ -19,6 +19,7 @@ use Rattle.day_model.specs.declared.fault.AccountsFault.{AccountsFault}
 use Rattle.day_model.specs.declared.fault.AccountsFault.TheVariants.{Unbalanced, Memory}
 use Rattle.day_model.specs.Gap.{TellsUnbalanced}
 use Rattle.std.specs.Prelude.{Result, Ok, Err, IfErr}
+use Rattle.corr_money.specs.Amounts.{amount_end}
 use Rattle.corr_top.specs.Books.{TellsDecimals}
 use Rattle.corr_top.specs.Inputs.{opened}
 
@@ -36,7 +37,7 @@ made (r ∷ rows) (suc i) a at = let m = made rows i a at in record { row = m.ro
 spelled : (text : List ℕ) (b : Bic) → bic_of text ≡ Some b → IsBic b
 spelled text b read = let parts = some_if (is_bic text) _ b read in subst IsBic parts.1 (bic-again text parts.0)
 
-small : (z : ℤ) → unsigned_abs z < 10 ^ 14 → IsSmall z
+small : (z : ℤ) → unsigned_abs z < amount_end → IsSmall z
 small (pos n) below = (omega (arith, ints), omega (arith, ints))
 small (negsuc n) below = (omega (arith, ints), omega (arith, ints))
 

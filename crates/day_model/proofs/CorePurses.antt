@@ -6,6 +6,7 @@ use Rattle.std.proofs.lemmas.Int.{ints}
 use Rattle.std.proofs.lemmas.List.{length-set, get_or_append_left, take_all}
 use Rattle.std.proofs.Math.Seq.{get_or-append_seam}
 use Rattle.std.proofs.lemmas.Option.{get_or_from_slice_get, same_Some, slice_get-get_or}
+use Rattle.corr_money.specs.Amounts.{amount_end}
 use Rattle.day_model.specs.declared.account.Account.{Account}
 use Rattle.day_model.specs.declared.pay.Side.TheVariants.{Debit, Credit}
 use Rattle.day_model.specs.declared.pay.Leg.{Leg}
@@ -111,7 +112,7 @@ can_add_all chart entries purses i legs sound legal le before t =
       from_one = t.credit_listed.0;
       there = omega (arith, t.credit_listed.1, before.one_each);
       small = subst (λ (z : ℤ). IsSmall z) (sym (purse_is (with_leg purses d) c.account.0 (balance_of chart (take i entries) c.account.0) after)) (small_at chart entries c.account.0 i sound legal t.credit_listed le);
-      amount = subst (λ (x : ℕ). x < 100000000000000) t.equal t.below;
+      amount = subst (λ (x : ℕ). x < amount_end) t.equal t.below;
     } in
     subst (λ (ls : List Leg). CanAddAll purses ls) (sym t.legs_are) (first, (second, tt))
 

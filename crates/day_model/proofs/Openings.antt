@@ -9,6 +9,7 @@ use Rattle.std.proofs.lemmas.Slice.Eq.{bytes_eq-Decides}
 use Rattle.std.proofs.lemmas.Cmp.{nat_list_cmp_total, tied_itself}
 use Rattle.std.specs.Ordering.{is_lt, nat_cmp}
 use Rattle.std.specs.Cmp.Lexicographic.{slice_cmp}
+use Rattle.corr_money.specs.Amounts.{amount_end}
 use Rattle.corr_money.specs.declared.amount.Ccy.{Ccy}
 use Rattle.day_model.specs.declared.account.Account.{Account}
 use Rattle.day_model.specs.declared.gap.Gap.{Gap}
@@ -30,8 +31,8 @@ opening_sum_more ccy rows i a at lt =
 
 -- no more than i times 10^14
 pub record IsNear (i : ℕ) (z : ℤ) : Type 0 where
-  pub low : pos 0 ≤ℤ (z +ℤ pos (i * 100000000000000))
-  pub high : z ≤ℤ pos (i * 100000000000000)
+  pub low : pos 0 ≤ℤ (z +ℤ pos (i * amount_end))
+  pub high : z ≤ℤ pos (i * amount_end)
 
 small_opening : (ccy : Ccy) (a : Account) → IsLimited a → IsNear 1 (opening_in ccy a)
 small_opening ccy a limits =

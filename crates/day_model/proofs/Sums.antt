@@ -8,6 +8,7 @@ use Rattle.std.proofs.lemmas.List.Sums.{sum_by_more}
 use Rattle.std.proofs.lemmas.Option.{slice_get_cases}
 use Rattle.std.proofs.lemmas.Slice.Eq.{bytes_eq-Decides}
 use Rattle.std.specs.Str.{bytes_eq}
+use Rattle.corr_money.specs.Amounts.{amount_end}
 use Rattle.corr_money.specs.declared.amount.Ccy.{Ccy}
 use Rattle.day_model.specs.declared.account.Account.{Account}
 use Rattle.day_model.specs.declared.pay.Side.{Side}
@@ -173,13 +174,13 @@ balances_cancel chart entries sound legal ccy =
     subst (λ (es : List Entry). sum_in ccy (balance_of chart es) 1 chart.accounts ≡ pos 0) (take_all (length entries) entries (omega arith)) (cancel_at chart entries ccy (length entries) sound legal (omega arith))
 
 -- one entry moves less than 10^14 on one side of an account
-moved_small : (chart : Chart) (n : ℕ) (e : Entry) → Transfer chart e.pay.legs → (moved_by Credit n e < 100000000000000) × (moved_by Debit n e < 100000000000000)
+moved_small : (chart : Chart) (n : ℕ) (e : Entry) → Transfer chart e.pay.legs → (moved_by Credit n e < amount_end) × (moved_by Debit n e < amount_end)
 moved_small chart n e t = (
-  cond_both (is_booked e.outcome) (sum_by (moved Credit n) e.pay.legs) 0 (λ (x : ℕ). x < 100000000000000) (λ _. credits_small chart e.pay.legs n t) (λ _. omega arith),
-  cond_both (is_booked e.outcome) (sum_by (moved Debit n) e.pay.legs) 0 (λ (x : ℕ). x < 100000000000000) (λ _. debits_small chart e.pay.legs n t) (λ _. omega arith),
+  cond_both (is_booked e.outcome) (sum_by (moved Credit n) e.pay.legs) 0 (λ (x : ℕ). x < amount_end) (λ _. credits_small chart e.pay.legs n t) (λ _. omega arith),
+  cond_both (is_booked e.outcome) (sum_by (moved Debit n) e.pay.legs) 0 (λ (x : ℕ). x < amount_end) (λ _. debits_small chart e.pay.legs n t) (λ _. omega arith),
 )
 
-totals_at : (chart : Chart) (entries : List Entry) (n i : ℕ) → IsLegal chart entries → i ≤ length entries → (credits_of (take i entries) n ≤ i * 100000000000000) × (debits_of (take i entries) n ≤ i * 100000000000000)
+totals_at : (chart : Chart) (entries : List Entry) (n i : ℕ) → IsLegal chart entries → i ≤ length entries → (credits_of (take i entries) n ≤ i * amount_end) × (debits_of (take i entries) n ≤ i * amount_end)
 totals_at chart entries n zero legal le = (omega arith, omega arith)
 totals_at chart entries n (suc i) legal le =
     elim (slice_get_cases entries i).1 [
@@ -202,6 +203,6 @@ totals_fit chart entries n legal =
     let all = take_all (length entries) entries (omega arith) in
     let at = totals_at chart entries n (length entries) legal (omega arith) in
     let short = legal.short in
-    let credits : credits_of entries n ≤ length entries * 100000000000000 = subst (λ (es : List Entry). credits_of es n ≤ length entries * 100000000000000) all at.0 in
-    let debits : debits_of entries n ≤ length entries * 100000000000000 = subst (λ (es : List Entry). debits_of es n ≤ length entries * 100000000000000) all at.1 in
+    let credits : credits_of entries n ≤ length entries * amount_end = subst (λ (es : List Entry). credits_of es n ≤ length entries * amount_end) all at.0 in
+    let debits : debits_of entries n ≤ length entries * amount_end = subst (λ (es : List Entry). debits_of es n ≤ length entries * amount_end) all at.1 in
     (omega arith, omega arith)

@@ -1,11 +1,12 @@
 -- The accounts of a book.
-use Rattle.std.specs.Prelude.{◌≡◌, ◌≢◌, ℕ, ◌-◌, ◌+◌, ◌≤◌, Bool, ◌&&◌, ◌||◌, List, [], ◌∷◌, ◌++◌, length, slice_get, Option, Some, option_map, ℤ, pos, negsuc, ◌+ℤ◌, ◌≤ℤ◌, ◌==◌, if◌then◌else◌, IsTrue}
+use Rattle.std.specs.Prelude.{◌≡◌, ◌≢◌, ℕ, ◌-◌, ◌+◌, ◌≤◌, Bool, ◌&&◌, ◌||◌, List, [], ◌∷◌, ◌++◌, length, slice_get, Option, Some, option_map, ℤ, pos, neg_ℤ, ◌+ℤ◌, ◌≤ℤ◌, ◌==◌, if◌then◌else◌, IsTrue}
 use Rattle.std.specs.Str.{bytes_eq}
 use Rattle.std.specs.List.{position_from, list_all}
 use Rattle.std.specs.Char.{is_ascii_uppercase}
 use Rattle.corr_text.specs.Sets.{is_c_byte}
 use Rattle.corr_ids.specs.Bic.{IsBic}
 use Rattle.corr_ids.specs.declared.bic.Bic.{Bic}
+use Rattle.corr_money.specs.Amounts.{amount_end}
 use Rattle.corr_money.specs.declared.amount.Ccy.{Ccy}
 use Rattle.day_model.specs.declared.account.Account.{Account}
 use Rattle.day_model.specs.declared.account.AcctNo.{AcctNo}
@@ -80,7 +81,7 @@ pub record IsFormed (account : Account) : Type 0 where
 
 -- below 10^14 in size
 abbrev pub IsSmall : ℤ → Type 0
-IsSmall n = (negsuc 99999999999998 ≤ℤ n) × (n ≤ℤ pos 99999999999999)
+IsSmall n = (neg_ℤ (pos (amount_end - 1)) ≤ℤ n) × (n ≤ℤ pos (amount_end - 1))
 
 -- floor ≤ opening ≤ ceiling, each below 10^14 in size
 pub record IsLimited (account : Account) : Type 0 where

@@ -1,6 +1,7 @@
 -- What the workers of a core enter into: the history, and one purse per account.
 use Rattle.std.specs.Prelude.{◌≡◌, ℕ, ◌-◌, ◌<◌, ◌≤◌, ◌&&◌, ◌||◌, Bool, false, not, List, [], ◌∷◌, Some, length, slice_get, slice_set, is_some, unwrap_or, option_map, ℤ, pos, nat_lt, if◌then◌else◌}
 use Rattle.corr_ids.specs.declared.day.Day.{Day}
+use Rattle.corr_money.specs.Amounts.{amount_end}
 use Rattle.day_model.specs.declared.pay.Leg.{Leg}
 use Rattle.day_model.specs.declared.pay.Pay.{Pay}
 use Rattle.day_model.specs.declared.entry.Entry.{Entry}
@@ -39,7 +40,7 @@ pub record CanAdd (purses : List ℤ) (leg : Leg) : Type 0 where
   pub from_one : 1 ≤ leg.account.0
   pub there : leg.account.0 ≤ length purses
   pub small : IsSmall (purse_of purses leg.account.0)
-  pub amount : leg.amount.0 < 100000000000000
+  pub amount : leg.amount.0 < amount_end
 
 -- each leg can be added after those before it
 abbrev pub CanAddAll : List ℤ → List Leg → Type 0

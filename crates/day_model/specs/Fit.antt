@@ -1,5 +1,6 @@
 -- Which pays fit a book's accounts.
 use Rattle.std.specs.Prelude.{ℕ, ◌==◌, ◌&&◌, Bool, true, false, not, List, [], ◌∷◌, length, Option, Some, None, nat_lt, nat_le, IsTrue}
+use Rattle.corr_money.specs.Amounts.{amount_end}
 use Rattle.day_model.specs.declared.account.Account.{Account}
 use Rattle.day_model.specs.declared.pay.Side.{Side}
 use Rattle.day_model.specs.declared.pay.Side.TheVariants.{Debit, Credit}
@@ -26,7 +27,7 @@ same_ccy None b = false
 
 -- equal amounts above 0 and below 10^14
 abbrev pub amounts_fit : ℕ → ℕ → Bool
-amounts_fit debit credit = (debit == credit) && nat_lt 0 debit && nat_lt debit 100000000000000
+amounts_fit debit credit = (debit == credit) && nat_lt 0 debit && nat_lt debit amount_end
 
 -- distinct accounts of the book, of one currency
 abbrev pub accounts_fit : Chart → ℕ → ℕ → Bool

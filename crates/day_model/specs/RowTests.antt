@@ -1,11 +1,12 @@
 -- The test of accounts, as a program makes it.
-use Rattle.std.specs.Prelude.{Option, Some, None, ◌==◌, ◌&&◌, ◌||◌, Bool, true, false, not, List, [], ◌∷◌, ◌++◌, length, nat_le, pos, negsuc, int_le}
+use Rattle.std.specs.Prelude.{Option, Some, None, ◌==◌, ◌&&◌, ◌||◌, Bool, true, false, not, List, [], ◌∷◌, ◌++◌, length, nat_le, pos, neg_ℤ, int_le, ◌-◌}
 use Rattle.std.specs.Str.{bytes_eq}
 use Rattle.std.specs.List.{list_all}
 use Rattle.std.specs.Char.{is_ascii_uppercase}
 use Rattle.corr_text.specs.Sets.{is_c_byte}
 use Rattle.corr_ids.specs.Bic.{bic_of}
 use Rattle.corr_ids.specs.declared.bic.Bic.{Bic}
+use Rattle.corr_money.specs.Amounts.{amount_end}
 use Rattle.day_model.specs.declared.account.Account.{Account}
 use Rattle.day_model.specs.Chart.{is_ccy, is_kind, customer, most_accounts}
 
@@ -27,7 +28,7 @@ is_formed a =
 -- floor, opening and ceiling are in order and small
 abbrev pub has_limits : Account → Bool
 has_limits a =
-    int_le (negsuc 99999999999998) a.floor && int_le a.ceil (pos 99999999999999) && int_le a.floor a.opening && int_le a.opening a.ceil
+    int_le (neg_ℤ (pos (amount_end - 1))) a.floor && int_le a.ceil (pos (amount_end - 1)) && int_le a.floor a.opening && int_le a.opening a.ceil
 
 -- an account alone passes
 abbrev pub is_row : Account → Bool

@@ -8,6 +8,9 @@ use crate::account::AcctNo;
 use crate::accounts::Accounts;
 use crate::pay::{Leg, Pay, Side};
 
+/// Amounts are below this, in minor units.
+const AMOUNT_END: u64 = 100_000_000_000_000;
+
 fn has_side(leg: &Leg, side: Side) -> bool
     ensures { result ≡ is_side side leg.now.side }
 {
@@ -17,7 +20,7 @@ fn has_side(leg: &Leg, side: Side) -> bool
 fn have_amount(debit: u64, credit: u64) -> bool
     ensures { result ≡ amounts_fit debit credit }
 {
-    debit == credit && 0 < debit && debit < 100_000_000_000_000
+    debit == credit && 0 < debit && debit < AMOUNT_END
 }
 
 fn is_numbered(a: &Accounts, n: AcctNo) -> bool

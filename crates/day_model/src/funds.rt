@@ -1,6 +1,7 @@
 //! Balances, and the decision on funds.
 
 ghost use Rattle.std.specs.Prelude.{◌≡◌, ◌+◌, ◌<◌, ◌≤◌, ◌^◌, true, sum_by, pos, ◌+ℤ◌, ◌-ℤ◌};
+ghost use Rattle.corr_money.specs.Amounts.{amount_end};
 ghost use Rattle.day_model.specs.declared.pay.Side.TheVariants.{Debit, Credit};
 ghost use Rattle.day_model.specs.Chart.{IsListed, IsSmall, account_at};
 ghost use Rattle.day_model.specs.Fit.{FitsAccounts};
@@ -43,8 +44,8 @@ fn booked_on(side: Side, n: AcctNo, entry: &Entry) -> u64
 
 fn after_entry(balance: i64, entry: &Entry, n: AcctNo) -> i64
     requires small { IsSmall balance }
-    requires credits { sum_by (moved Credit n.0) entry.now.pay.legs < 100000000000000 }
-    requires debits { sum_by (moved Debit n.0) entry.now.pay.legs < 100000000000000 }
+    requires credits { sum_by (moved Credit n.0) entry.now.pay.legs < amount_end }
+    requires debits { sum_by (moved Debit n.0) entry.now.pay.legs < amount_end }
     ensures { result ≡ (balance +ℤ pos (moved_by Credit n.0 entry.now)) -ℤ pos (moved_by Debit n.0 entry.now) }
 {
     let credit = booked_on(Side::Credit, n, entry) as i64;
@@ -72,7 +73,7 @@ pub fn balance(a: &Accounts, h: &History, n: AcctNo) -> i64
 
 pub(crate) fn after_leg(balance: i64, leg: &Leg) -> i64
     requires small { IsSmall balance }
-    requires amount { leg.now.amount.0 < 100000000000000 }
+    requires amount { leg.now.amount.0 < amount_end }
     ensures { result ≡ changed leg.now.side leg.now.amount.0 balance }
 {
     match leg.side {

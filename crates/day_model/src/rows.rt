@@ -13,6 +13,9 @@ use crate::kind::Kind;
 use corr_ids::{Bic, read_bic, with_branch};
 use corr_text::{Set, is_set};
 
+/// Balances are at most this in size, in minor units.
+const MOST_BALANCE: i64 = 99_999_999_999_999;
+
 fn is_plain(id: &[u8]) -> bool
     ensures { result ≡ list_all is_c_byte id.now }
 {
@@ -62,8 +65,8 @@ fn has_form(a: &Account) -> bool
 fn is_limited(a: &Account) -> bool
     ensures { result ≡ has_limits a.now }
 {
-    -99_999_999_999_999 <= a.floor
-        && a.ceil <= 99_999_999_999_999
+    -MOST_BALANCE <= a.floor
+        && a.ceil <= MOST_BALANCE
         && a.floor <= a.opening
         && a.opening <= a.ceil
 }

@@ -1,5 +1,5 @@
 -- Contents of money: what a field says, or the code of what is wrong with it, tested in this order.
-use Rattle.std.specs.Prelude.{ℕ, ◌<◌, ◌^◌, ◌==◌, ◌&&◌, not, Bool, List, [], ◌∷◌, length, take, drop, Result, Ok, Err, nat_le, bytes_eq, codes}
+use Rattle.std.specs.Prelude.{ℕ, ◌<◌, ◌==◌, ◌&&◌, not, Bool, List, [], ◌∷◌, length, take, drop, Result, Ok, Err, nat_le, bytes_eq, codes}
 use Rattle.std.specs.List.{list_all, list_any}
 use Rattle.corr_text.specs.Codes.{code}
 use Rattle.corr_text.specs.First.{check, or_fault, ◌>>=◌}
@@ -7,7 +7,7 @@ use Rattle.corr_text.specs.Sets.{is_in}
 use Rattle.corr_text.specs.declared.fault.Code.{Code}
 use Rattle.corr_text.specs.declared.set.Set.TheVariants.{X, N, A}
 use Rattle.corr_ids.specs.Day.{day_of}
-use Rattle.corr_money.specs.Amounts.{amount_of, is_comma_number}
+use Rattle.corr_money.specs.Amounts.{amount_end, amount_of, is_comma_number}
 use Rattle.corr_money.specs.declared.amount.Amount.{Amount}
 use Rattle.corr_money.specs.declared.amount.Minor.{Minor}
 use Rattle.corr_money.specs.declared.fault.AmountFault.{AmountFault}
@@ -82,7 +82,7 @@ value_of t f = do
 -- an amount that may be paid: above zero and below 10^14 minor units
 pub record IsPayable (a : Amount) : Type 0 where
   pub above : 0 < a.minor.0
-  pub below : a.minor.0 < 10 ^ 14
+  pub below : a.minor.0 < amount_end
 
 -- 36: `12d`
 unfoldable pub rate_of : Field → Result (List ℕ) Code

@@ -1,5 +1,5 @@
 -- The accounts of a file that has no fault.
-use Rattle.std.proofs.Common.{◌≡◌, ℕ, ◌≤◌, ◌<◌, ◌^◌, Bool, true, false, cond, ◌&&◌, ◌==◌, List, [], ◌∷◌, length, map, get_or, take, Option, Some, None, option_map, unwrap_or, is_some, refl, sym, ap, ◌∙◌, arith, inl, inr, ◌≢◌, ◌≤ℤ◌}
+use Rattle.std.proofs.Common.{◌≡◌, ℕ, ◌≤◌, ◌<◌, Bool, true, false, cond, ◌&&◌, ◌==◌, List, [], ◌∷◌, length, map, get_or, take, Option, Some, None, option_map, unwrap_or, is_some, refl, sym, ap, ◌∙◌, arith, inl, inr, ◌≢◌, ◌≤ℤ◌}
 use Rattle.std.specs.Prelude.{slice_get, unsigned_abs, IfOk, Result, Ok, Err}
 use Rattle.std.specs.Str.{bytes_eq}
 use Rattle.std.proofs.lemmas.Bool.Decides.{nat_tests}
@@ -12,6 +12,7 @@ use Rattle.std.proofs.lemmas.Option.{slice_get-map, slice_get-get_or, slice_get_
 use Rattle.std.proofs.lemmas.Slice.Eq.{bytes_eq-Decides}
 use Rattle.corr_text.specs.First.{first_of, unless}
 use Rattle.corr_ids.specs.Bic.{bic_of, branch_of, is_bic}
+use Rattle.corr_money.specs.Amounts.{amount_end}
 use Rattle.ref_tables.specs.declared.account.AccountRow.{AccountRow}
 use Rattle.ref_tables.specs.declared.fault.Why.{Why}
 use Rattle.ref_tables.specs.declared.fault.Why.TheVariants as why
@@ -81,9 +82,9 @@ and-parts a b e = grind (arith, nat_tests)
 
 -- the sizes and the order of an account's numbers
 record Limited (a : AccountRow) : Type 0 where
-  pub floor_small : unsigned_abs a.floor < 10 ^ 14
-  pub ceil_small : unsigned_abs a.ceil < 10 ^ 14
-  pub opening_small : unsigned_abs a.opening < 10 ^ 14
+  pub floor_small : unsigned_abs a.floor < amount_end
+  pub ceil_small : unsigned_abs a.ceil < amount_end
+  pub opening_small : unsigned_abs a.opening < amount_end
   pub above_floor : a.floor ≤ℤ a.opening
   pub below_ceil : a.opening ≤ℤ a.ceil
 

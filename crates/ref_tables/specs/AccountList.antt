@@ -1,6 +1,7 @@
 -- What holds of the accounts that a table gives.
-use Rattle.std.specs.Prelude.{◌≡◌, ◌≢◌, ◌≤◌, ◌<◌, ◌^◌, ℕ, List, length, slice_get, Some, ◌≤ℤ◌, unsigned_abs, IsTrue}
+use Rattle.std.specs.Prelude.{◌≡◌, ◌≢◌, ◌≤◌, ◌<◌, ℕ, List, length, slice_get, Some, ◌≤ℤ◌, unsigned_abs, IsTrue}
 use Rattle.corr_ids.specs.Bic.{bic_of}
+use Rattle.corr_money.specs.Amounts.{amount_end}
 use Rattle.ref_tables.specs.Columns.{is_account_id, is_ccy, is_kind}
 use Rattle.ref_tables.specs.Seen.{Tables, has_head, decimals_in}
 use Rattle.ref_tables.specs.Accounts.{customer, owner_fits}
@@ -16,9 +17,9 @@ pub record IsAccount (home : List ℕ) (t : Tables) (a : AccountRow) : Type 0 wh
   pub ccy : IsTrue (is_ccy a.ccy.0)
   pub decimals : decimals_in t a.ccy.0 ≡ Some a.decimals
   pub few_decimals : a.decimals ≤ 4
-  pub floor_small : unsigned_abs a.floor < 10 ^ 14
-  pub ceil_small : unsigned_abs a.ceil < 10 ^ 14
-  pub opening_small : unsigned_abs a.opening < 10 ^ 14
+  pub floor_small : unsigned_abs a.floor < amount_end
+  pub ceil_small : unsigned_abs a.ceil < amount_end
+  pub opening_small : unsigned_abs a.opening < amount_end
   pub above_floor : a.floor ≤ℤ a.opening
   pub below_ceil : a.opening ≤ℤ a.ceil
 

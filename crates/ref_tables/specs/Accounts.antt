@@ -4,6 +4,7 @@ use Rattle.std.specs.Option.{option_or}
 use Rattle.std.specs.Str.{bytes_eq}
 use Rattle.corr_text.specs.First.{first_of, unless}
 use Rattle.corr_ids.specs.Bic.{is_bic, branch_of}
+use Rattle.corr_money.specs.Amounts.{amount_end}
 use Rattle.ref_tables.specs.Columns.{is_ccy, is_account_id, kind_of, signed_of}
 use Rattle.ref_tables.specs.Rows.{Cells, cell}
 use Rattle.ref_tables.specs.Refusals.{against, columns, value, double, first_fault}
@@ -56,7 +57,7 @@ owner_fits home a = if a.kind == customer then bytes_eq a.owner.head home else n
 
 -- a balance below 10^14 in size
 abbrev pub is_balance : ℤ → Bool
-is_balance z = nat_lt (unsigned_abs z) 100000000000000
+is_balance z = nat_lt (unsigned_abs z) amount_end
 
 -- floor ≤ opening ≤ ceiling, each a balance
 abbrev pub within_limits : AccountRow → Bool

@@ -6,6 +6,7 @@ use Rattle.std.proofs.lemmas.Int.{ints}
 use Rattle.std.proofs.lemmas.List.Sums.{sum_by_more}
 use Rattle.std.proofs.lemmas.Option.{slice_get_within, get_or_from_slice_get, slice_get_cases}
 use Rattle.corr_text.specs.First.{first_of, unless}
+use Rattle.corr_money.specs.Amounts.{amount_end}
 use Rattle.day_model.specs.declared.account.Account.{Account}
 use Rattle.day_model.specs.declared.pay.Side.{Side}
 use Rattle.day_model.specs.declared.pay.Side.TheVariants.{Debit, Credit}
@@ -55,11 +56,11 @@ both_pass true false u v nu nv e = absurd (false≢true (sym nv ∙ sym (ap is_b
 both_pass false b u v nu nv e = absurd (false≢true (sym nu ∙ sym (ap is_booked e)))
 
 -- each side of it is below 10^14
-pub debits_small : (chart : Chart) (legs : List Leg) (n : ℕ) (t : Transfer chart legs) → sum_by (moved Debit n) legs < 100000000000000
-debits_small chart legs n t = rw (debits_moved chart legs n t) (cond_both (eqb t.debit.account.0 n) t.debit.amount.0 0 (λ x. x < 100000000000000) (λ _. t.below) (λ _. omega arith))
+pub debits_small : (chart : Chart) (legs : List Leg) (n : ℕ) (t : Transfer chart legs) → sum_by (moved Debit n) legs < amount_end
+debits_small chart legs n t = rw (debits_moved chart legs n t) (cond_both (eqb t.debit.account.0 n) t.debit.amount.0 0 (λ x. x < amount_end) (λ _. t.below) (λ _. omega arith))
 
-pub credits_small : (chart : Chart) (legs : List Leg) (n : ℕ) (t : Transfer chart legs) → sum_by (moved Credit n) legs < 100000000000000
-credits_small chart legs n t = rw (credits_moved chart legs n t) (cond_both (eqb t.credit.account.0 n) t.credit.amount.0 0 (λ x. x < 100000000000000) (λ _. subst (λ (x : ℕ). x < 100000000000000) t.equal t.below) (λ _. omega arith))
+pub credits_small : (chart : Chart) (legs : List Leg) (n : ℕ) (t : Transfer chart legs) → sum_by (moved Credit n) legs < amount_end
+credits_small chart legs n t = rw (credits_moved chart legs n t) (cond_both (eqb t.credit.account.0 n) t.credit.amount.0 0 (λ x. x < amount_end) (λ _. subst (λ (x : ℕ). x < amount_end) t.equal t.below) (λ _. omega arith))
 
 pub unmoved : (side : Side) (n : ℕ) (e : Entry) → is_booked e.outcome ≡ false → moved_by side n e ≡ 0
 unmoved side n e out = cond-false (is_booked e.outcome) (sum_by (moved side n) e.pay.legs) 0 out

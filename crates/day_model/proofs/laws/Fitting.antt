@@ -3,6 +3,7 @@ use Rattle.std.proofs.Common.{◌≡◌, ◌≢◌, ℕ, zero, suc, ◌<◌, tru
 use Rattle.std.specs.Prelude.{not, ◌&&◌, length, slice_get}
 use Rattle.std.proofs.lemmas.Bool.{and_parts, leb-true, ltb-true, eqb-true, eqb-false, not-true, false≢true}
 use Rattle.std.proofs.lemmas.Option.{same_Some, none-some}
+use Rattle.corr_money.specs.Amounts.{amount_end}
 use Rattle.day_model.specs.declared.pay.Side.{Side}
 use Rattle.day_model.specs.declared.pay.Side.TheVariants.{Debit, Credit}
 use Rattle.day_model.specs.declared.pay.Leg.{Leg}
@@ -18,7 +19,7 @@ pub record Transfer (chart : Chart) (legs : List Leg) : Type 0 where
   pub credit_side : credit.side ≡ Credit
   pub equal : debit.amount.0 ≡ credit.amount.0
   pub above : 0 < debit.amount.0
-  pub below : debit.amount.0 < 100000000000000
+  pub below : debit.amount.0 < amount_end
   pub debit_listed : IsListed chart debit.account.0
   pub credit_listed : IsListed chart credit.account.0
   pub distinct : debit.account.0 ≢ credit.account.0
@@ -44,7 +45,7 @@ transfer chart (d ∷ c ∷ []) e =
     let accounts = and_parts (is_side Debit d.side && is_side Credit c.side && amounts_fit d.amount.0 c.amount.0) (accounts_fit chart d.account.0 c.account.0) e in
     let amounts = and_parts (is_side Debit d.side && is_side Credit c.side) (amounts_fit d.amount.0 c.amount.0) accounts.0 in
     let sides = and_parts (is_side Debit d.side) (is_side Credit c.side) amounts.0 in
-    let below = and_parts (eqb d.amount.0 c.amount.0 && ltb 0 d.amount.0) (ltb d.amount.0 100000000000000) amounts.1 in
+    let below = and_parts (eqb d.amount.0 c.amount.0 && ltb 0 d.amount.0) (ltb d.amount.0 amount_end) amounts.1 in
     let equal = and_parts (eqb d.amount.0 c.amount.0) (ltb 0 d.amount.0) below.0 in
     let ccy = and_parts (is_listed chart d.account.0 && is_listed chart c.account.0 && not (eqb d.account.0 c.account.0)) (same_ccy (account_at chart d.account.0) (account_at chart c.account.0)) accounts.1 in
     let apart = and_parts (is_listed chart d.account.0 && is_listed chart c.account.0) (not (eqb d.account.0 c.account.0)) ccy.0 in
@@ -68,7 +69,7 @@ transfer chart (d ∷ c ∷ x ∷ legs) e = absurd (false≢true e)
 -- every leg is of a listed account, with an amount below 10^14
 pub record Sound (chart : Chart) (leg : Leg) : Type 0 where
   pub listed : IsListed chart leg.account.0
-  pub below : leg.amount.0 < 100000000000000
+  pub below : leg.amount.0 < amount_end
 
 sound_of_two : (chart : Chart) (d c : Leg) → Sound chart d → Sound chart c → (i : ℕ) (leg : Leg) → slice_get (d ∷ c ∷ []) i ≡ Some leg → Sound chart leg
 sound_of_two chart d c first second zero leg at = subst (Sound chart) (same_Some d leg at) first
@@ -77,7 +78,7 @@ sound_of_two chart d c first second (suc (suc i)) leg at = absurd (none-some leg
 
 pub leg_sound : (chart : Chart) (legs : List Leg) (i : ℕ) (leg : Leg) → Transfer chart legs → slice_get legs i ≡ Some leg → Sound chart leg
 leg_sound chart legs i leg t at =
-    sound_of_two chart t.debit t.credit (record { listed = t.debit_listed; below = t.below }) (record { listed = t.credit_listed; below = subst (λ (x : ℕ). x < 100000000000000) t.equal t.below }) i leg (subst (λ (ls : List Leg). slice_get ls i ≡ Some leg) t.legs_are at)
+    sound_of_two chart t.debit t.credit (record { listed = t.debit_listed; below = t.below }) (record { listed = t.credit_listed; below = subst (λ (x : ℕ). x < amount_end) t.equal t.below }) i leg (subst (λ (ls : List Leg). slice_get ls i ≡ Some leg) t.legs_are at)
 
 pub two_legs : (chart : Chart) (legs : List Leg) → Transfer chart legs → length legs ≡ 2
 two_legs chart legs t = ap length t.legs_are

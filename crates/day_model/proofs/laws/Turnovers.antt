@@ -6,6 +6,7 @@ use Rattle.std.proofs.lemmas.Int.{ints}
 use Rattle.std.proofs.lemmas.List.{take_all}
 use Rattle.std.proofs.lemmas.List.Sums.{sum_by-cons, sum_by_more}
 use Rattle.std.proofs.lemmas.Option.{slice_get_cases}
+use Rattle.corr_money.specs.Amounts.{amount_end}
 use Rattle.corr_money.specs.declared.amount.Ccy.{Ccy}
 use Rattle.day_model.specs.declared.account.Account.{Account}
 use Rattle.day_model.specs.declared.pay.Side.{Side}
@@ -74,17 +75,17 @@ turnover_by_accounts side chart entries ccy legal =
     subst (λ (es : List Entry). moved_over chart ccy side es ≡ pos (turnover chart ccy side es)) (take_all (length entries) entries (omega arith)) (turnover_at side chart entries ccy (length entries) legal (omega arith))
 
 -- each entry moves less than 10^14 on one side of a currency
-entry_small : (side : Side) (chart : Chart) (ccy : Ccy) (e : Entry) → Transfer chart e.pay.legs → entry_in chart ccy side e < 100000000000000
+entry_small : (side : Side) (chart : Chart) (ccy : Ccy) (e : Entry) → Transfer chart e.pay.legs → entry_in chart ccy side e < amount_end
 entry_small Debit chart ccy e t =
-    cond_both (is_booked e.outcome) (sum_by (moved_in chart ccy Debit) e.pay.legs) 0 (λ (x : ℕ). x < 100000000000000)
-    (λ _. rw (even_debit chart ccy e.pay.legs t) (cond_both (in_ccy ccy (account_at chart t.debit.account.0)) t.debit.amount.0 0 (λ (x : ℕ). x < 100000000000000) (λ _. t.below) (λ _. omega arith)))
+    cond_both (is_booked e.outcome) (sum_by (moved_in chart ccy Debit) e.pay.legs) 0 (λ (x : ℕ). x < amount_end)
+    (λ _. rw (even_debit chart ccy e.pay.legs t) (cond_both (in_ccy ccy (account_at chart t.debit.account.0)) t.debit.amount.0 0 (λ (x : ℕ). x < amount_end) (λ _. t.below) (λ _. omega arith)))
     (λ _. omega arith)
 entry_small Credit chart ccy e t =
-    cond_both (is_booked e.outcome) (sum_by (moved_in chart ccy Credit) e.pay.legs) 0 (λ (x : ℕ). x < 100000000000000)
-    (λ _. rw (even_credit chart ccy e.pay.legs t) (cond_both (in_ccy ccy (account_at chart t.credit.account.0)) t.credit.amount.0 0 (λ (x : ℕ). x < 100000000000000) (λ _. subst (λ (x : ℕ). x < 100000000000000) t.equal t.below) (λ _. omega arith)))
+    cond_both (is_booked e.outcome) (sum_by (moved_in chart ccy Credit) e.pay.legs) 0 (λ (x : ℕ). x < amount_end)
+    (λ _. rw (even_credit chart ccy e.pay.legs t) (cond_both (in_ccy ccy (account_at chart t.credit.account.0)) t.credit.amount.0 0 (λ (x : ℕ). x < amount_end) (λ _. subst (λ (x : ℕ). x < amount_end) t.equal t.below) (λ _. omega arith)))
     (λ _. omega arith)
 
-bounded : (f : Entry → ℕ) (xs : List Entry) → ((i : ℕ) (x : Entry) → slice_get xs i ≡ Some x → f x < 100000000000000) → sum_by f xs ≤ length xs * 100000000000000
+bounded : (f : Entry → ℕ) (xs : List Entry) → ((i : ℕ) (x : Entry) → slice_get xs i ≡ Some x → f x < amount_end) → sum_by f xs ≤ length xs * amount_end
 bounded f [] h = omega arith
 bounded f (x ∷ xs) h = omega (arith, sum_by-cons f x xs, h 0 x refl, bounded f xs (λ i y e. h (suc i) y e))
 

@@ -1,5 +1,5 @@
 -- A content that was read is read again from the field that it is written as.
-use Rattle.std.proofs.Common.{◌≡◌, ℕ, ◌+◌, ◌<◌, ◌≤◌, ◌^◌, ◌==◌, ◌&&◌, not, Bool, true, false, List, [], ◌∷◌, ◌++◌, length, take, drop, Option, Some, None, Result, Ok, Err, refl, sym, ap, ◌∙◌, arith, nat_le, nat_lt}
+use Rattle.std.proofs.Common.{◌≡◌, ℕ, ◌+◌, ◌<◌, ◌≤◌, ◌==◌, ◌&&◌, not, Bool, true, false, List, [], ◌∷◌, ◌++◌, length, take, drop, Option, Some, None, Result, Ok, Err, refl, sym, ap, ◌∙◌, arith, nat_le, nat_lt}
 use Rattle.std.specs.Prelude.{IfSome, IsTrue}
 use Rattle.std.specs.List.{list_all}
 use Rattle.std.proofs.lemmas.Bool.{le-leb}
@@ -12,7 +12,7 @@ use Rattle.corr_text.specs.Slashes.{has_stray_slash}
 use Rattle.corr_text.specs.declared.set.Set.TheVariants.{X, N, A}
 use Rattle.corr_ids.specs.Day.{InCentury, day_of, yymmdd_of}
 use Rattle.corr_ids.proofs.laws.DaySpelling.{day-named}
-use Rattle.corr_money.specs.Amounts.{amount_of, amount_text, decimals_of, is_comma_number, minor_of}
+use Rattle.corr_money.specs.Amounts.{amount_end, amount_of, amount_text, decimals_of, is_comma_number, minor_of}
 use Rattle.corr_money.specs.declared.amount.Amount.{Amount}
 use Rattle.corr_money.specs.declared.amount.Minor.{Minor}
 use Rattle.corr_money.specs.declared.fault.AmountFault.{AmountFault}
@@ -120,17 +120,17 @@ amount-read t line a e =
     let same : record { ccy = record { 0 = take 3 line }; minor = minor.0; decimals = decimals.0 } ≡ a = cc minor.2 in
     rw (← same) (record { ccy = refl; known = decimals.1; minor = coded-ok (amount_of decimals.0 (drop 3 line)) minor.0 minor.1 })
 
-below : (n : ℕ) → nat_lt n 100000000000000 ≡ true → n < 10 ^ 14
+below : (n : ℕ) → nat_lt n amount_end ≡ true → n < amount_end
 below n e = grind (arith, nat_tests)
 
 -- an amount that was read is below the end of amounts
-small-amount : (decimals : ℕ) (bs : List ℕ) (m : Minor) → amount_of decimals bs ≡ Ok m → (is_comma_number bs ≡ true) × (m.0 < 10 ^ 14)
+small-amount : (decimals : ℕ) (bs : List ℕ) (m : Minor) → amount_of decimals bs ≡ Ok m → (is_comma_number bs ≡ true) × (m.0 < amount_end)
 unfolding amount_of
 small-amount decimals bs m e =
     let number = checked (is_comma_number bs) NoNumber _ m e in
     let short = checked (nat_le (length bs) 15) TooLong _ m number.1 in
     let few = checked (nat_le (length (decimals_of bs)) decimals) TooFine _ m short.1 in
-    let small = checked (nat_lt (minor_of decimals bs) 100000000000000) TooLarge _ m few.1 in
+    let small = checked (nat_lt (minor_of decimals bs) amount_end) TooLarge _ m few.1 in
     let same : record { 0 = minor_of decimals bs } ≡ m = cc small.1 in
     (number.0, rw (← same) (below (minor_of decimals bs) small.0))
 
