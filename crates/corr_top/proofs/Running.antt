@@ -11,10 +11,10 @@ use Rattle.corr_top.specs.declared.status.Status.{Status}
 use Rattle.corr_top.specs.declared.status.Status.TheVariants as status
 use Rattle.corr_top.specs.declared.words.Command.{Command}
 use Rattle.corr_top.specs.declared.words.Command.TheVariants.{Run}
-use Rattle.corr_top.specs.Answers.{history_of, out_over, report_over}
-use Rattle.corr_top.specs.Commands.{IsKept, Keeps, history_in, out_in, report_in, steps_of}
+use Rattle.corr_top.specs.Answers.{out_over, report_over}
+use Rattle.corr_top.specs.Commands.{IsKept, Keeps, out_in, report_in, steps_of}
 use Rattle.corr_top.specs.Ends.{Ends, EndsDone, EndsUnwritten, EndsWriting}
-use Rattle.corr_top.specs.Inputs.{Inputs, books_in, chart_in, home_bank}
+use Rattle.corr_top.specs.Inputs.{Inputs, books_in, home_bank}
 use Rattle.corr_top.specs.Books.{AreUntouched, PassesTable, StopsAtTables, table_steps}
 use Rattle.corr_top.specs.Passing.{HasMessages, IsUntouched, Passes, StopsAt, StopsAtMessages}
 use Rattle.corr_top.specs.Status.{HasDecimals}
@@ -96,9 +96,9 @@ pub same_out : (day : Day) (i : Inputs) (books : Books) (given : List (List ℕ)
 unfolding out_in
 same_out day i books given text are same is = is ∙ ap (out_over books) same ∙ ap (λ (x : Books). out_over x i.cut) are
 
-pub same_kept : (day : Day) (i : Inputs) (books : Books) (given : List (List ℕ)) → books ≡ books_in day i → given ≡ i.cut → IsKept books.accounts (history_of books given) → IsKept (chart_in i) (history_in day i)
+pub same_kept : (day : Day) (i : Inputs) (books : Books) (given : List (List ℕ)) → books ≡ books_in day i → given ≡ i.cut → IsKept books given → IsKept (books_in day i) i.cut
 same_kept day i books given are same kept =
-    subst (λ (ms : List (List ℕ)). IsKept (chart_in i) (history_of (books_in day i) ms)) same (subst (λ (x : Books). IsKept x.accounts (history_of x given)) are kept)
+    subst (λ (ms : List (List ℕ)). IsKept (books_in day i) ms) same (subst (λ (x : Books). IsKept x given) are kept)
 
 -- the home bank's BIC meets its grammar
 home_is : IsBic home_bank

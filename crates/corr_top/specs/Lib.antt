@@ -16,4 +16,3 @@ pub mod Commands
 pub mod Books
 pub mod Ends
 pub mod Complete
-pub mod Constants

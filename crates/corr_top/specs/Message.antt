@@ -2,6 +2,7 @@
 use Rattle.std.specs.Prelude.{ℕ, List, map, Option, Some, Result, Ok, Err}
 use Rattle.std.specs.List.{filter_map}
 use Rattle.std.specs.Result.{result_ok}
+use Rattle.corr_text.specs.Codes.{code}
 use Rattle.corr_text.specs.First.{◌>>=◌}
 use Rattle.corr_text.specs.declared.fault.Code.{Code}
 use Rattle.corr_ids.specs.declared.envelope.Envelope.{Envelope}
@@ -17,7 +18,6 @@ use Rattle.pay_plan.specs.Plan.{mir_in, plan_of}
 use Rattle.corr_top.specs.declared.books.Books.{Books}
 use Rattle.corr_top.specs.declared.message.NoPay.{NoPay}
 use Rattle.corr_top.specs.declared.message.NoPay.TheVariants.{Refused, Unrouted}
-use Rattle.corr_top.specs.declared.message.TheConstants.{P37}
 use Rattle.corr_top.specs.Asks.{asks_cover, asks_transfer}
 
 -- a message that is not valid
@@ -30,12 +30,12 @@ abbrev pub unrouted : {A : Type 0} → Envelope → Result A Code → Result A N
 unrouted envelope (Ok x) = Ok x
 unrouted envelope (Err code) = Err (Unrouted (mir_in envelope) code)
 
--- the pay of a valid message: a transfer and a cover have a plan, an advice asks for nothing
+-- the pay of a valid message: a transfer and a cover have a plan, an advice asks for nothing, which is P37
 abbrev pub pay_in : Books → Message → Result Pay NoPay
 pay_in books (message.Transfer envelope text transfer) = unrouted envelope (plan_of envelope text (asks_transfer transfer) books.ssi books.accounts)
 pay_in books (message.Cover envelope text cover) = unrouted envelope (plan_of envelope text (asks_cover cover) books.ssi books.accounts)
-pay_in books (message.Debit envelope advice) = unrouted envelope (Err P37)
-pay_in books (message.Credit envelope advice) = unrouted envelope (Err P37)
+pay_in books (message.Debit envelope advice) = unrouted envelope (Err (code "P37"))
+pay_in books (message.Credit envelope advice) = unrouted envelope (Err (code "P37"))
 
 -- the pay that a message asks for, or why it gives none
 unfoldable pub message_of : Books → List ℕ → Result Pay NoPay

@@ -109,6 +109,7 @@ pub fn answer_all(alloc: Global, books: &Books, messages: &[Text]) -> Result<Ans
     requires short { All (λ m. length m ≤ 16384) messages.now }
     ensures history { IfOk result (λ a. a.history.entries ≡ history_of books.now messages.now) }
     ensures replies { IfOk result (λ a. a.replies.items ≡ replies_of books.now messages.now) }
+    ensures each { IfOk result (λ a. length a.replies.items ≡ length messages.now) }
     ensures legal { IfOk result (λ a. IsLegal books.now.accounts a.history.entries) }
     ensures places { IfOk result (λ a. All (NamesPlace a.history.entries) a.replies.items) }
     ensures shapes { IfOk result (λ a. All HasPayShape a.history.entries) }

@@ -5,7 +5,6 @@ mod answers;
 mod books;
 mod command;
 mod cutting;
-mod laws;
 mod line;
 mod message;
 mod outgoing;
@@ -19,7 +18,6 @@ mod words;
 mod writing;
 
 pub use command::corr;
-pub use laws::advice_code_law;
 pub use line::{put_status_line, status_line};
 pub use room::{Done, Room, Tables};
 pub use status::Status;

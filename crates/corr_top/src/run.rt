@@ -2,7 +2,7 @@
 
 ghost use Rattle.std.specs.Prelude.{◌≡◌, ◌≤◌, ℕ, List, length, All, OnOk, IfOk, IfErr};
 ghost use Rattle.corr_ids.specs.Bic.{IsBic};
-ghost use Rattle.corr_top.specs.Answers.{HasPayShape, history_of, out_over, report_over};
+ghost use Rattle.corr_top.specs.Answers.{out_over, report_over};
 ghost use Rattle.corr_top.specs.Commands.{IsKept};
 ghost use Rattle.corr_top.specs.Ends.{Ends};
 ghost use Rattle.corr_top.specs.Passing.{HasMessages, StopsAtMessages};
@@ -52,7 +52,7 @@ fn make_texts(alloc: Global, books: &Books, messages: &[Text]) -> Result<Texts, 
     requires short { All (λ m. length m ≤ 16384) messages.now }
     ensures report { IfOk result (λ texts. texts.report ≡ report_over books.now messages.now) }
     ensures out { IfOk result (λ texts. texts.out ≡ out_over books.now messages.now) }
-    ensures kept { OnOk result (IsKept books.now.accounts (history_of books.now messages.now)) }
+    ensures kept { OnOk result (IsKept books.now messages.now) }
 {
     let answers = answer_all(alloc, books, messages)?;
     let report = report(

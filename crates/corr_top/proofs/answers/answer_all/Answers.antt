@@ -1,4 +1,4 @@
-use Rattle.std.proofs.Common.{◌≡◌, ◌+◌, ◌∷◌, refl, subst, List, ℕ, drop, arith}
+use Rattle.std.proofs.Common.{◌≡◌, ◌+◌, [], ◌∷◌, refl, ap, subst, List, ℕ, drop, length, length-append, arith}
 use Rattle.std.proofs.lemmas.Option.{slice_get_read}
 use Rattle.corr_top.specs.Message.{readings_of}
 use Rattle.corr_top.specs.Turn.{Turned}
@@ -25,6 +25,7 @@ loop-message-preserved c =
     record {
       so_far = message_answered books all c.message-item.result (drop (index + 1) messages) entries after replies more so_far (omega (arith, c.loop-message.invariant.few, c.requires.few, c.loop-message-test.true)) turned;
       few = omega (arith, few, c.loop-message.invariant.few);
+      each = omega (arith, ap length turned.answered.2, length-append replies (turned.answered.0 ∷ []), c.loop-message.invariant.each);
     }
 
 pub returns-clause-replies : goal.returns-clause-replies
