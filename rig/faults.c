@@ -1,6 +1,6 @@
 /* A library to preload (LD_PRELOAD): it lets calls of a program fail, counted from its `main` on.
  *
- *   FAULT_CALL   open, read, write (to any descriptor but 2), tell (a write to descriptor 2) or memory
+ *   FAULT_CALL   open (for reading), make (an open for writing), read, write (to any descriptor but 2), tell (a write to descriptor 2) or memory
  *   FAULT_KIND   refused (EIO; no memory), short (one byte is moved) or interrupted (EINTR); a memory call or an open
  *                has no short kind
  *   FAULT_AT     the number of the call, from 1
@@ -26,10 +26,10 @@ extern void *__libc_calloc(size_t count, size_t size);
 extern void *__libc_realloc(void *old, size_t size);
 extern void *__libc_memalign(size_t align, size_t size);
 
-enum call { OPEN, READ, WRITE, TELL, MEMORY, CALLS };
+enum call { OPEN, MAKE, READ, WRITE, TELL, MEMORY, CALLS };
 enum kind { PASS, REFUSED, SHORT, INTERRUPTED };
 
-static const char *const names[CALLS] = {"open", "read", "write", "tell", "memory"};
+static const char *const names[CALLS] = {"open", "make", "read", "write", "tell", "memory"};
 
 static int armed;
 static long seen[CALLS];
@@ -92,7 +92,7 @@ ssize_t writev(int fd, const struct iovec *parts, int count)
 
 static int open_at(int dir, const char *path, int flags, unsigned mode)
 {
-    if (fails(next(OPEN)))
+    if (fails(next((flags & O_ACCMODE) == O_RDONLY ? OPEN : MAKE)))
         return -1;
     return syscall(SYS_openat, dir, path, flags, mode);
 }
@@ -200,7 +200,7 @@ __attribute__((destructor)) static void tell_counts(void)
     if (!count_file)
         return;
     char line[128];
-    int size = snprintf(line, sizeof line, "%ld %ld %ld %ld %ld\n", seen[OPEN], seen[READ], seen[WRITE], seen[TELL], seen[MEMORY]);
+    int size = snprintf(line, sizeof line, "%ld %ld %ld %ld %ld %ld\n", seen[OPEN], seen[MAKE], seen[READ], seen[WRITE], seen[TELL], seen[MEMORY]);
     int fd = syscall(SYS_openat, AT_FDCWD, count_file, O_WRONLY | O_CREAT | O_TRUNC, 0666);
     if (fd >= 0) {
         syscall(SYS_write, fd, line, size);

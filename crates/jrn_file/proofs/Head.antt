@@ -3,13 +3,15 @@ use Rattle.std.proofs.Common.{◌≡◌, ◌≢◌, inl, inr, ℕ, ◌+◌, ◌^
 use Rattle.std.proofs.lemmas.List.{append-nil, drop-drop, drop_all}
 use Rattle.std.proofs.lemmas.Bool.{cases_eq}
 use Rattle.corr_disk.specs.Disk.{written, Torn, Follows, Only}
-use Rattle.jrn_file.specs.Journal.{sized, frame_of, record_in, journal_bytes, IsFrame, StandsFor}
+use Rattle.jrn_file.specs.Reading.{sized}
+use Rattle.jrn_file.specs.Journal.{frame_of, record_in, journal_bytes, IsFrame, StandsFor}
 use Rattle.jrn_file.specs.Making.{IsUnmade, IsUnmadeOrMade, IsEntering, made_over}
 use Rattle.jrn_file.proofs.Bytes.{written-behind, written-gate, torn-behind, torn-gate}
-use Rattle.jrn_file.proofs.Records.{length-sized, length-journal_bytes}
+use Rattle.jrn_file.proofs.Readings.{spelled-stands}
+use Rattle.jrn_file.proofs.Sizes.{length-sized, length-journal_bytes}
 
 stands-first : (gate : ℕ) (head rest image : List ℕ) → gate ≢ 0 → length head < 2 ^ 32 → image ≡ gate ∷ (frame_of head ++ rest) → StandsFor image head []
-stands-first gate head rest image open_gate fits is = record {
+stands-first gate head rest image open_gate fits is = spelled-stands image head [] (record {
   entries = (gate, head) ∷ [];
   rest = rest;
   gates = (open_gate, fits, tt);
@@ -17,7 +19,7 @@ stands-first gate head rest image open_gate fits is = record {
   is = is
       ∙ ap (λ (l : List ℕ). gate ∷ l) (append_assoc (sized head) (0 ∷ []) rest)
       ∙ ap (λ (l : List ℕ). gate ∷ (l ++ 0 ∷ rest)) (sym (append-nil (sized head)));
-}
+})
 
 -- a torn write of one byte on a disk of at most one
 pub torn-short : (old new : List ℕ → Type 0) (bytes : List ℕ) → length bytes ≤ 1 → Only bytes old → Follows (Torn 0 1) old new → (c : List ℕ) → new c → IsUnmade c

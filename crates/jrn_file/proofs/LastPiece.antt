@@ -3,8 +3,9 @@ use Rattle.std.proofs.Common.{◌≡◌, inl, inr, ℕ, suc, refl, ◌+◌, ◌-
 use Rattle.std.proofs.lemmas.List.{take_at}
 use Rattle.std.proofs.lemmas.Bool.{cases_lt}
 use Rattle.std.proofs.Math.Seq.{take-append-add}
-use Rattle.jrn_file.specs.Journal.{sized, behind_gates, AreOpen}
-use Rattle.jrn_file.specs.Opening.{IsWhole, IsNoJournal, IsShut}
+use Rattle.jrn_file.specs.Reading.{sized}
+use Rattle.jrn_file.specs.Journal.{behind_gates, AreOpen}
+use Rattle.jrn_file.specs.Opening.{IsWhole, HasNoRecord, IsShut}
 use Rattle.jrn_file.specs.Pieces.{IsTaken}
 
 -- a front that is longer than a record has it whole
@@ -26,7 +27,7 @@ whole-in-front r (gate ∷ next) after piece fits is long =
       },
     )
 
-pub in-last-piece : (held piece rest : List ℕ) (more : List (List ℕ)) → IsNoJournal held → (IsShut held → ⊥) → IsTaken (held ++ piece) more rest → IsShut rest
+pub in-last-piece : (held piece rest : List ℕ) (more : List (List ℕ)) → HasNoRecord held → (IsShut held → ⊥) → IsTaken (held ++ piece) more rest → IsShut rest
     → length rest ≤ length piece
 in-last-piece [] piece rest more stopped open_gate taken shut =
     omega (arith, ap length taken.is, length-append (behind_gates taken.entries) rest)

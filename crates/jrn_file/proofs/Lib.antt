@@ -6,9 +6,10 @@ mod EntryImages
 mod Fronts
 mod Head
 mod LastPiece
-mod OneReading
 mod Opened
 mod ReadTo
+mod Readings
 mod Records
+mod Sizes
 mod Taken
 mod Whole

@@ -3,29 +3,32 @@ use Rattle.std.proofs.Common.{◌≡◌, ℕ, ◌+◌, Bool, IsTrue, List, sym, 
 use Rattle.corr_disk.specs.Disk.{Only}
 use Rattle.jrn_file.specs.Journal.{StandsFor}
 use Rattle.jrn_file.specs.File.{disk_of, end_of}
-use Rattle.jrn_file.specs.Opening.{IsNoJournal, IsDamagedAt, IsReadAs, ExplainsLoad, OpenCause, IsOpened}
+use Rattle.jrn_file.specs.Reading.{AreAt, Reading, all_of, whole, opened_of}
+use Rattle.jrn_file.specs.Opening.{IsReadAs, ReadCause, OpenCause, IsOpened}
 use Rattle.jrn_file.specs.Pieces.{OfBytes}
 use Rattle.jrn_file.specs.declared.file.JFile.{JFile}
 use Rattle.jrn_file.specs.declared.fault.OpenFault.{OpenFault}
 use Rattle.jrn_file.specs.declared.fault.OpenFault.TheVariants.{NotAJournal, Damaged, DiskFault, Memory}
-use Rattle.jrn_file.specs.declared.loading.LoadFault.TheVariants as load
-use Rattle.jrn_file.proofs.OneReading.{Explains}
+use Rattle.jrn_file.proofs.laws.Places.{at-places}
 
 -- what holds of the bytes that a disk tells
-pub read-of : (honest : Bool) (reads : List ℕ) (end : ℕ) (all : List (List ℕ)) → OfBytes honest reads (λ bytes. IsReadAs bytes end all) → IsTrue honest → IsReadAs reads end all
-read-of honest reads end all some told = subst (λ b. IsReadAs b end all) (some.2 told) some.1
+pub told-of : (honest : Bool) (reads : List ℕ) (reading : Reading) → OfBytes honest reads (λ bytes. opened_of bytes ≡ reading) → IsTrue honest → opened_of reads ≡ reading
+told-of honest reads reading some told = subst (λ b. opened_of b ≡ reading) (some.2 told) some.1
 
-pub explains-of : (honest : Bool) (reads : List ℕ) (fault : OpenFault) → ExplainsLoad honest reads (load.Refused fault) → IsTrue honest → Explains fault reads
-explains-of honest reads NotAJournal some told = subst IsNoJournal (some.2 told) some.1
-explains-of honest reads (Damaged at) some told = subst (λ b. IsDamagedAt b at) (some.2 told) some.1
-explains-of honest reads (DiskFault before after) some told = some
-explains-of honest reads Memory some told = tt
+pub read-of : (honest : Bool) (reads : List ℕ) (end : ℕ) (all : List (List ℕ)) → OfBytes honest reads (λ bytes. IsReadAs bytes end all) → IsTrue honest → opened_of reads ≡ whole all
+read-of honest reads end all some told =
+    subst (λ b. opened_of b ≡ whole all) (some.2 told) (some.1.stands ∙ ap (λ (rs : List (List ℕ)). whole rs) (sym some.1.all_is))
 
-pub cause-of : (old new : ℕ) (honest : Bool) (reads : List ℕ) (fault : OpenFault) → new ≡ old → ExplainsLoad honest reads (load.Refused fault) → OpenCause old new honest reads fault
-cause-of old new honest reads NotAJournal kept some = (kept, λ told. explains-of honest reads NotAJournal some told)
-cause-of old new honest reads (Damaged at) kept some = (kept, λ told. explains-of honest reads (Damaged at) some told)
-cause-of old new honest reads (DiskFault before after) kept some = absurd some
-cause-of old new honest reads Memory kept some = kept
+-- the records that were read stand at their places
+pub read-places : (reads : List ℕ) (reading : Reading) → opened_of reads ≡ reading → AreAt reads (all_of reading)
+read-places reads reading is = subst (λ (x : Reading). AreAt reads (all_of x)) is (at-places reads)
+
+-- what keeps a disk from being read keeps it from being opened
+pub read-cause : (old new : ℕ) (honest : Bool) (reads : List ℕ) (fault : OpenFault) → ReadCause old new honest reads fault → OpenCause old new honest reads fault
+read-cause old new honest reads NotAJournal cause = cause
+read-cause old new honest reads (Damaged at) cause = absurd cause
+read-cause old new honest reads (DiskFault before after) cause = cause
+read-cause old new honest reads Memory cause = cause
 
 -- the file of a disk that was read
 pub opened : {D : Type 0} (honest : D → Bool) (reads : D → List ℕ) (may_leave : D → List ℕ → Type 0) (file : JFile D) (old disk : D) (end : ℕ) (all : List (List ℕ))

@@ -3,14 +3,11 @@ use Rattle.std.proofs.Common.{◌≡◌, ℕ, ◌+◌, ◌-◌, ◌*◌, ◌/◌
 use Rattle.std.proofs.lemmas.List.{append-nil, drop_all, drop_min, drop-drop, length-take}
 use Rattle.std.proofs.lemmas.Nat.{div-mul-add}
 use Rattle.std.proofs.Math.Nat.{le-div_iff_mul-le}
-use Rattle.jrn_file.specs.Opening.{IsNoJournal, IsShut, IsReadAs, ExplainsLoad}
+use Rattle.jrn_file.specs.Reading.{no_journal, cut, opened_of}
+use Rattle.jrn_file.specs.Opening.{HasNoRecord, IsShut, IsReadAs}
 use Rattle.jrn_file.specs.Journal.{behind_gates}
 use Rattle.jrn_file.specs.Pieces.{IsPiece, IsTaken, OfBytes, calls_to_open}
-use Rattle.jrn_file.specs.declared.fault.OpenFault.{OpenFault}
-use Rattle.jrn_file.specs.declared.fault.OpenFault.TheVariants.{NotAJournal, Damaged, DiskFault, Memory}
-use Rattle.jrn_file.specs.declared.loading.LoadFault.TheVariants as load
-use Rattle.jrn_file.proofs.OneReading.{Explains}
-use Rattle.jrn_file.proofs.Taken.{taken-start, taken-then, taken-end, taken-none, taken-refused}
+use Rattle.jrn_file.proofs.Taken.{taken-start, taken-then, taken-end, taken-none, taken-refused, taken-cut}
 use Rattle.jrn_file.proofs.LastPiece.{in-last-piece}
 
 -- so many bytes were read, those of the disk where it tells them, and these records were taken out of them
@@ -70,12 +67,6 @@ pub short-piece : (honest : Bool) (reads : List ℕ) (at asked n : ℕ) (held mi
 short-piece honest reads at asked n held mid piece short told =
     drop_all (at + n) reads (omega (arith, short, piece.count, ap length (piece.told told), length-take asked (drop at reads), length-drop at reads))
 
-explained : (honest : Bool) (reads bytes : List ℕ) → (IsTrue honest → bytes ≡ reads) → (fault : OpenFault) → Explains fault bytes → ExplainsLoad honest reads (load.Refused fault)
-explained honest reads bytes told NotAJournal explains = (bytes, explains, told)
-explained honest reads bytes told (Damaged at) explains = (bytes, explains, told)
-explained honest reads bytes told (DiskFault before after) explains = explains
-explained honest reads bytes told Memory explains = tt
-
 module _ (honest : Bool) (reads : List ℕ) (place : ℕ) (all : List (List ℕ)) (held : List ℕ) (read : ReadTo honest reads place all held) where
   -- a closed gate behind the records
   pub read-end : IsShut held → 0 < length all → OfBytes honest reads (λ bytes. IsReadAs bytes (place - length held) all)
@@ -86,17 +77,25 @@ module _ (honest : Bool) (reads : List ℕ) (place : ℕ) (all : List (List ℕ)
   )
 
   -- a closed gate and no record
-  pub read-none : IsShut held → length all ≡ 0 → OfBytes honest reads IsNoJournal
+  pub read-none : IsShut held → length all ≡ 0 → OfBytes honest reads (λ bytes. opened_of bytes ≡ no_journal)
   read-none shut none = (read.bytes ++ drop place reads, taken-none read.bytes held all read.taken shut none (drop place reads), read.told)
 
-  -- an open gate, or nothing, and no whole record behind it up to the end
-  pub read-refused : (IsTrue honest → drop place reads ≡ []) → IsNoJournal held → (IsShut held → ⊥) → (fault : OpenFault)
-      → (length all ≡ 0 → fault ≡ NotAJournal) → (0 < length all → fault ≡ Damaged (place - length held)) → ExplainsLoad honest reads (load.Refused fault)
-  read-refused all_read stopped open_gate fault none some =
-      let told : IsTrue honest → read.bytes ≡ reads =
-      λ h. sym (append-nil read.bytes) ∙ ap (λ (l : List ℕ). read.bytes ++ l) (sym (all_read h)) ∙ read.told h in
-      explained honest reads read.bytes told fault
-      (taken-refused read.bytes held all read.taken stopped open_gate fault none (λ lt. some lt ∙ ap (λ (n : ℕ). Damaged (n - length held)) (sym read.size)))
+  -- no more bytes: those that were read are all
+  all-told : (IsTrue honest → drop place reads ≡ []) → IsTrue honest → read.bytes ≡ reads
+  all-told all_read told = sym (append-nil read.bytes) ∙ ap (λ (l : List ℕ). read.bytes ++ l) (sym (all_read told)) ∙ read.told told
+
+  -- an open gate, or nothing, and no whole record behind it up to the end: before the first record
+  pub read-refused : (IsTrue honest → drop place reads ≡ []) → HasNoRecord held → length all ≡ 0 → OfBytes honest reads (λ bytes. opened_of bytes ≡ no_journal)
+  read-refused all_read stopped none = (read.bytes, taken-refused read.bytes held all read.taken stopped none, all-told all_read)
+
+  -- and behind records
+  pub read-cut : (IsTrue honest → drop place reads ≡ []) → HasNoRecord held → (IsShut held → ⊥) → 0 < length all
+      → OfBytes honest reads (λ bytes. opened_of bytes ≡ cut all (place - length held))
+  read-cut all_read stopped open_gate some = (
+    read.bytes,
+    taken-cut read.bytes held all read.taken stopped open_gate some ∙ ap (λ (n : ℕ). cut all (n - length held)) read.size,
+    all-told all_read,
+  )
 
   -- no more is held than was read
   pub held-within : length held ≤ place
@@ -107,7 +106,7 @@ module _ (honest : Bool) (reads : List ℕ) (place : ℕ) (all : List (List ℕ)
   read-within told = omega (arith, ap length (read.told told), length-append read.bytes (drop place reads), length-drop place reads, read.size)
 
 -- the closed gate stands in the last piece
-pub gate-in-piece : (honest : Bool) (reads : List ℕ) (index piece n : ℕ) (more : List (List ℕ)) (held mid rest : List ℕ) → IsNoJournal held → (IsShut held → ⊥)
+pub gate-in-piece : (honest : Bool) (reads : List ℕ) (index piece n : ℕ) (more : List (List ℕ)) (held mid rest : List ℕ) → HasNoRecord held → (IsShut held → ⊥)
     → IsPiece honest reads (index * piece) piece n held mid → IsTaken mid more rest → IsShut rest → (index * piece + n - length rest) / piece ≡ index
 gate-in-piece honest reads index piece n more held mid [] stopped open_gate is_piece taken shut = absurd shut
 gate-in-piece honest reads index piece n more held mid (g ∷ rest) stopped open_gate is_piece taken shut =

@@ -1,54 +1,20 @@
 -- Records behind their gates, and what an entry makes of them.
-use Rattle.std.proofs.Common.{◌≡◌, ◌≢◌, inl, inr, ℕ, ◌+◌, ◌^◌, ◌<◌, List, [], ◌∷◌, ◌++◌, length, map, get_or, drop, refl, sym, ◌∙◌, ap, subst, arith, append_assoc, length-append}
-use Rattle.std.specs.Int.{w32, to_be_bytes}
+use Rattle.std.proofs.Common.{◌≡◌, ◌≢◌, inl, inr, ℕ, ◌+◌, ◌^◌, ◌<◌, List, [], ◌∷◌, ◌++◌, length, map, get_or, drop, sym, ◌∙◌, ap, subst, arith, append_assoc, length-append}
 use Rattle.std.proofs.lemmas.List.{append-nil, map-append}
 use Rattle.std.proofs.lemmas.Bool.{cases_eq}
 use Rattle.corr_disk.specs.Disk.{written, Torn}
-use Rattle.jrn_file.specs.Journal.{sized, frame_of, record_in, IsFrame, behind_gates, journal_bytes, AreOpen, StandsFor, IsBeforeOrAfter}
+use Rattle.jrn_file.specs.Reading.{sized, size_of}
+use Rattle.jrn_file.specs.Journal.{frame_of, record_in, IsFrame, behind_gates, journal_bytes, AreOpen, StandsFor, IsBeforeOrAfter}
 use Rattle.jrn_file.specs.Making.{IsEntering}
+use Rattle.jrn_file.proofs.Readings.{Spelled, spelled-stands}
+use Rattle.jrn_file.proofs.Sizes.{length-sized, length-behind_gates, length-journal_bytes, size_of-append, behind_gates-append, AreOpen-append}
 use Rattle.jrn_file.proofs.Bytes.{length-gate, written-behind, written-gate, torn-behind, torn-gate}
-
--- how many bytes records take behind their gates
-abbrev pub size_of : List (List ℕ) → ℕ
-size_of [] = 0
-size_of (r ∷ records) = 5 + length r + size_of records
-
-pub length-sized : (r : List ℕ) → length (sized r) ≡ 4 + length r
-length-sized r = omega (arith, length-append (to_be_bytes w32 (length r)) r)
-
-pub length-behind_gates : (entries : List (ℕ × List ℕ)) → length (behind_gates entries) ≡ size_of (map (λ e. e.1) entries)
-length-behind_gates [] = refl
-length-behind_gates (e ∷ more) =
-    omega (arith, length-sized e.1, length-append (sized e.1) (behind_gates more), length-behind_gates more)
-
-map-with_gates : (records : List (List ℕ)) → map (λ (e : ℕ × List ℕ). e.1) (map (λ (r : List ℕ). (1, r)) records) ≡ records
-map-with_gates [] = refl
-map-with_gates (r ∷ records) = ap (λ (l : List (List ℕ)). r ∷ l) (map-with_gates records)
-
-pub length-journal_bytes : (head : List ℕ) (records : List (List ℕ)) → length (journal_bytes head records) ≡ size_of (head ∷ records) + 1
-length-journal_bytes head records =
-    let gates : List (ℕ × List ℕ) = map (λ (r : List ℕ). (1, r)) (head ∷ records) in
-    omega (arith, length-append (behind_gates gates) (0 ∷ []), length-behind_gates gates, ap size_of (map-with_gates (head ∷ records)))
-
-pub size_of-append : (xs ys : List (List ℕ)) → size_of (xs ++ ys) ≡ size_of xs + size_of ys
-size_of-append [] ys = omega arith
-size_of-append (x ∷ xs) ys = omega (arith, size_of-append xs ys)
-
-pub behind_gates-append : (xs ys : List (ℕ × List ℕ)) → behind_gates (xs ++ ys) ≡ behind_gates xs ++ behind_gates ys
-behind_gates-append [] ys = refl
-behind_gates-append (x ∷ xs) ys =
-    ap (λ (l : List ℕ). x.0 ∷ (sized x.1 ++ l)) (behind_gates-append xs ys)
-    ∙ ap (λ (l : List ℕ). x.0 ∷ l) (sym (append_assoc (sized x.1) (behind_gates xs) (behind_gates ys)))
-
-pub AreOpen-append : (xs ys : List (ℕ × List ℕ)) → AreOpen xs → AreOpen ys → AreOpen (xs ++ ys)
-AreOpen-append [] ys open_xs open_ys = open_ys
-AreOpen-append (x ∷ xs) ys open_xs open_ys = (open_xs.0, open_xs.1, AreOpen-append xs ys open_xs.2 open_ys)
 
 -- one more open record, and a closed gate
 pub stands-more : (entries : List (ℕ × List ℕ)) (head : List ℕ) (records : List (List ℕ)) (gate : ℕ) (r rest image : List ℕ)
     → AreOpen entries → map (λ e. e.1) entries ≡ head ∷ records → gate ≢ 0 → length r < 2 ^ 32
     → image ≡ behind_gates entries ++ gate ∷ (frame_of r ++ rest) → StandsFor image head (records ++ r ∷ [])
-stands-more entries head records gate r rest image gates same open_gate fits is = record {
+stands-more entries head records gate r rest image gates same open_gate fits is = spelled-stands image head (records ++ r ∷ []) (record {
   entries = entries ++ (gate, r) ∷ [];
   rest = rest;
   gates = AreOpen-append entries ((gate, r) ∷ []) gates (open_gate, fits, tt);
@@ -58,20 +24,20 @@ stands-more entries head records gate r rest image gates same open_gate fits is 
       ∙ ap (λ (l : List ℕ). behind_gates entries ++ gate ∷ (l ++ 0 ∷ rest)) (sym (append-nil (sized r)))
       ∙ sym (append_assoc (behind_gates entries) (gate ∷ (sized r ++ [])) (0 ∷ rest))
       ∙ ap (λ (l : List ℕ). l ++ 0 ∷ rest) (sym (behind_gates-append entries ((gate, r) ∷ [])));
-}
+})
 
 -- what any gate before a whole frame makes of the records
 pub stands-gate : (entries : List (ℕ × List ℕ)) (head : List ℕ) (records : List (List ℕ)) (gate : ℕ) (r rest image : List ℕ)
     → AreOpen entries → map (λ e. e.1) entries ≡ head ∷ records → length r < 2 ^ 32
     → image ≡ behind_gates entries ++ gate ∷ (frame_of r ++ rest) → IsBeforeOrAfter head records r image
 stands-gate entries head records gate r rest image gates same fits is = elim (cases_eq gate 0) [
-  | inl shut ↦ inl (record {
+  | inl shut ↦ inl (spelled-stands image head records (record {
     entries = entries;
     rest = frame_of r ++ rest;
     gates = gates;
     same = same;
     is = is ∙ ap (λ (g : ℕ). behind_gates entries ++ g ∷ (frame_of r ++ rest)) shut;
-  })
+  }))
   | inr open_gate ↦ inr (stands-more entries head records gate r rest image gates same open_gate fits is)
 ]
 
@@ -89,7 +55,7 @@ place-more head records end place frame framed = omega (
   length-sized (record_in frame),
 )
 
-module _ (bytes head : List ℕ) (records : List (List ℕ)) (stands : StandsFor bytes head records) (end : ℕ) (place : end + 1 ≡ length (journal_bytes head records)) where
+module _ (bytes head : List ℕ) (records : List (List ℕ)) (stands : Spelled bytes head records) (end : ℕ) (place : end + 1 ≡ length (journal_bytes head records)) where
   front : end ≡ length (behind_gates stands.entries)
   front = omega (arith, place, length-journal_bytes head records, length-behind_gates stands.entries, ap size_of stands.same)
 
@@ -105,13 +71,13 @@ module _ (bytes head : List ℕ) (records : List (List ℕ)) (stands : StandsFor
 
     -- while the record is entered
     pub entering-stands : (c : List ℕ) → IsEntering end frame bytes c → IsBeforeOrAfter head records (record_in frame) c
-    entering-stands c (inl torn) = inl (record {
+    entering-stands c (inl torn) = inl (spelled-stands c head records (record {
       entries = stands.entries;
       rest = drop (end + 1) c;
       gates = stands.gates;
       same = stands.same;
       is = torn-behind (behind_gates stands.entries) end front 0 (length frame) stands.rest c (subst (λ b. Torn (end + 1) (length frame) b c) stands.is torn);
-    })
+    }))
     entering-stands c (inr torn) =
         stands-gate stands.entries head records (get_or c end 0) (record_in frame) (drop (length frame) stands.rest) c stands.gates stands.same framed.fits
         (torn-gate (behind_gates stands.entries) end front 0 (frame_of (record_in frame) ++ drop (length frame) stands.rest) c (subst (λ b. Torn end 1 b c) between torn))

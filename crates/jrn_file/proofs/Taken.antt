@@ -1,14 +1,15 @@
 -- Records that are taken out of bytes.
-use Rattle.std.proofs.Common.{◌≡◌, ◌≢◌, inl, inr, ℕ, ◌+◌, ◌-◌, ◌<◌, ◌≤◌, List, [], ◌∷◌, ◌++◌, length, map, get_or, drop, refl, sym, ◌∙◌, ap, subst, arith, append_assoc, length-append, length-drop}
+use Rattle.std.proofs.Common.{◌≡◌, ◌≢◌, inl, inr, ℕ, ◌+◌, ◌-◌, ◌<◌, ◌≤◌, false, cond, List, [], ◌∷◌, ◌++◌, length, map, get_or, take, drop, refl, sym, ◌∙◌, ap, subst, arith, append_assoc, length-append, length-drop}
+use Rattle.std.specs.Str.{bytes_eq}
 use Rattle.std.proofs.lemmas.List.{append-nil, map-append, drop_at, drop_more, drop-drop, drop_all}
-use Rattle.std.proofs.lemmas.Bool.{cases_lt}
-use Rattle.jrn_file.specs.Journal.{sized, behind_gates, AreOpen}
-use Rattle.jrn_file.specs.Opening.{BeginsWith, IsWhole, IsNoJournal, IsShut, IsDamagedAt, IsReadAs}
-use Rattle.jrn_file.proofs.OneReading.{Explains}
+use Rattle.std.proofs.lemmas.Bool.{cases_lt, false_from_ne_true}
+use Rattle.std.proofs.lemmas.Slice.Eq.{bytes_eq-Decides}
+use Rattle.jrn_file.specs.Reading.{no_journal, whole, cut, opened_of, reading_of, size_of, sized}
+use Rattle.jrn_file.specs.Journal.{behind_gates}
+use Rattle.jrn_file.specs.Opening.{BeginsWith, IsWhole, HasNoRecord, IsShut, IsReadAs}
 use Rattle.jrn_file.specs.Pieces.{IsTaken}
-use Rattle.jrn_file.specs.declared.fault.OpenFault.{OpenFault}
-use Rattle.jrn_file.specs.declared.fault.OpenFault.TheVariants.{NotAJournal, Damaged}
-use Rattle.jrn_file.proofs.Records.{size_of, length-behind_gates, length-journal_bytes, length-sized, behind_gates-append, AreOpen-append}
+use Rattle.jrn_file.proofs.Readings.{taken-read}
+use Rattle.jrn_file.proofs.Sizes.{length-behind_gates, length-journal_bytes, length-sized, behind_gates-append, AreOpen-append}
 
 pub taken-start : (bytes : List ℕ) → IsTaken bytes [] bytes
 taken-start bytes = record { entries = []; gates = tt; same = refl; is = refl; gate = inl refl }
@@ -47,15 +48,15 @@ record-within bytes at r begins =
     omega (arith, ap length begins.is, length-drop (at + 1) bytes, length-append (sized r) (begins.gate ∷ begins.rest), length-sized r)
 
 -- no record stands here
-pub stops-shut : (bytes : List ℕ) (at : ℕ) → (at < length bytes → get_or bytes at 0 ≡ 0) → IsNoJournal (drop at bytes)
+pub stops-shut : (bytes : List ℕ) (at : ℕ) → (at < length bytes → get_or bytes at 0 ≡ 0) → HasNoRecord (drop at bytes)
 stops-shut bytes at shut =
     elim (cases_lt at (length bytes)) [
-      | inr past ↦ subst IsNoJournal (sym (drop_all at bytes past)) tt
-      | inl within ↦ subst IsNoJournal (sym (drop_more bytes at 0 within)) (inl (shut within))
+      | inr past ↦ subst HasNoRecord (sym (drop_all at bytes past)) tt
+      | inl within ↦ subst HasNoRecord (sym (drop_more bytes at 0 within)) (inl (shut within))
     ]
 
-pub stops-cut : (bytes : List ℕ) (at : ℕ) → at < length bytes → (IsWhole (drop (at + 1) bytes) → ⊥) → IsNoJournal (drop at bytes)
-stops-cut bytes at within cut = subst IsNoJournal (sym (drop_more bytes at 0 within)) (inr cut)
+pub stops-cut : (bytes : List ℕ) (at : ℕ) → at < length bytes → (IsWhole (drop (at + 1) bytes) → ⊥) → HasNoRecord (drop at bytes)
+stops-cut bytes at within none = subst HasNoRecord (sym (drop_more bytes at 0 within)) (inr none)
 
 no-entries : (entries : List (ℕ × List ℕ)) → length (map (λ (e : ℕ × List ℕ). e.1) entries) ≡ 0 → behind_gates entries ≡ []
 no-entries [] none = refl
@@ -87,6 +88,16 @@ taken-then bytes held piece rest all more one two = record {
   ];
 }
 
+-- the same with more bytes behind
+taken-behind : (bytes held : List ℕ) (all : List (List ℕ)) (behind : List ℕ) → IsTaken bytes all held → 0 < length held → IsTaken (bytes ++ behind) all (held ++ behind)
+taken-behind bytes held all behind taken some = record {
+  entries = taken.entries;
+  gates = taken.gates;
+  same = taken.same;
+  is = ap (λ (l : List ℕ). l ++ behind) taken.is ∙ append_assoc (behind_gates taken.entries) held behind;
+  gate = inr (omega (arith, some, length-append held behind));
+}
+
 -- a closed gate behind the records
 pub taken-end : (bytes held : List ℕ) (all : List (List ℕ)) → IsTaken bytes all held → IsShut held → 0 < length all
     → (behind : List ℕ) → IsReadAs (bytes ++ behind) (length bytes - length held) all
@@ -96,15 +107,8 @@ taken-end bytes (gate ∷ after) (head ∷ records) taken shut some behind = rec
   head = head;
   records = records;
   all_is = refl;
-  stands = record {
-    entries = taken.entries;
-    rest = after ++ behind;
-    gates = taken.gates;
-    same = taken.same;
-    is = ap (λ (l : List ℕ). l ++ behind) taken.is
-        ∙ append_assoc (behind_gates taken.entries) (gate ∷ after) behind
-        ∙ ap (λ (g : ℕ). behind_gates taken.entries ++ g ∷ (after ++ behind)) shut;
-  };
+  stands = taken-read (bytes ++ behind) (head ∷ records) (gate ∷ (after ++ behind)) (taken-behind bytes (gate ∷ after) (head ∷ records) behind taken (omega arith)) (inl shut)
+      ∙ ap (λ (g : ℕ). reading_of (head ∷ records) (g ∷ (after ++ behind))) shut;
   place = omega (
     arith,
     ap length taken.is,
@@ -115,43 +119,33 @@ taken-end bytes (gate ∷ after) (head ∷ records) taken shut some behind = rec
   );
 }
 
-only-held : (bytes held : List ℕ) (all : List (List ℕ)) → IsTaken bytes all held → length all ≡ 0 → bytes ≡ held
-only-held bytes held all taken none =
-    taken.is ∙ ap (λ (l : List ℕ). l ++ held) (no-entries taken.entries (ap length taken.same ∙ none))
-
 -- a closed gate and no record
 pub taken-none : (bytes held : List ℕ) (all : List (List ℕ)) → IsTaken bytes all held → IsShut held → length all ≡ 0
-    → (behind : List ℕ) → IsNoJournal (bytes ++ behind)
+    → (behind : List ℕ) → opened_of (bytes ++ behind) ≡ no_journal
 taken-none bytes [] all taken shut none behind = absurd shut
-taken-none bytes (gate ∷ after) all taken shut none behind =
-    let P : List ℕ → Type 0 = λ l. IsNoJournal (l ++ behind) in
-    subst P (sym (only-held bytes (gate ∷ after) all taken none)) (inl shut)
+taken-none bytes (gate ∷ after) [] taken shut none behind =
+    taken-read (bytes ++ behind) [] (gate ∷ (after ++ behind)) (taken-behind bytes (gate ∷ after) [] behind taken (omega arith)) (inl shut)
+taken-none bytes (gate ∷ after) (r ∷ all) taken shut none behind = absurd (omega (arith, none))
 
--- an open gate, or nothing, and no whole record behind it
-pub taken-refused : (bytes held : List ℕ) (all : List (List ℕ)) → IsTaken bytes all held → IsNoJournal held → (IsShut held → ⊥) → (fault : OpenFault)
-    → (length all ≡ 0 → fault ≡ NotAJournal) → (0 < length all → fault ≡ Damaged (length bytes - length held)) → Explains fault bytes
-taken-refused bytes held [] taken stopped open_gate fault none some =
-    subst (λ f. Explains f bytes) (sym (none refl)) (subst IsNoJournal (sym (only-held bytes held [] taken refl)) stopped)
-taken-refused bytes [] (r ∷ all) taken stopped open_gate fault none some =
+-- an open gate, or nothing, and no whole record behind it, before the first record
+pub taken-refused : (bytes held : List ℕ) (all : List (List ℕ)) → IsTaken bytes all held → HasNoRecord held → length all ≡ 0 → opened_of bytes ≡ no_journal
+taken-refused bytes held [] taken stopped none = taken-read bytes [] held taken stopped
+taken-refused bytes held (r ∷ all) taken stopped none = absurd (omega (arith, none))
+
+not-closed : (gate : ℕ) (after : List ℕ) → (gate ≡ 0 → ⊥) → bytes_eq (take 1 (gate ∷ after)) (0 ∷ []) ≡ false
+not-closed gate after open_gate =
+    false_from_ne_true (bytes_eq (take 1 (gate ∷ after)) (0 ∷ []))
+    (λ e. open_gate (ap (λ (l : List ℕ). get_or l 0 0) ((bytes_eq-Decides (take 1 (gate ∷ after)) (0 ∷ [])).0 e)))
+
+-- and behind records
+pub taken-cut : (bytes held : List ℕ) (all : List (List ℕ)) → IsTaken bytes all held → HasNoRecord held → (IsShut held → ⊥) → 0 < length all
+    → opened_of bytes ≡ cut all (length bytes - length held)
+taken-cut bytes held [] taken stopped open_gate some = absurd (omega (arith, some))
+taken-cut bytes [] (r ∷ all) taken stopped open_gate some =
     elim taken.gate [ inl empty ↦ absurd (omega (arith, ap length empty)) | inr lt ↦ absurd (omega (arith, lt)) ]
-taken-refused bytes (gate ∷ after) (r ∷ all) taken (inl shut) open_gate fault none some = absurd (open_gate shut)
-taken-refused bytes (gate ∷ after) (r ∷ all) taken (inr cut) open_gate fault none some =
-    let size : length bytes - length (gate ∷ after) ≡ length (behind_gates taken.entries) =
-    omega (arith, ap length taken.is, length-append (behind_gates taken.entries) (gate ∷ after)) in
-    subst (λ f. Explains f bytes) (sym (some (omega arith))) (damaged taken.entries taken.gates taken.same taken.is size)
-  where
-    damaged : (entries : List (ℕ × List ℕ)) → AreOpen entries → map (λ (e : ℕ × List ℕ). e.1) entries ≡ r ∷ all
-        → bytes ≡ behind_gates entries ++ gate ∷ after → length bytes - length (gate ∷ after) ≡ length (behind_gates entries)
-        → IsDamagedAt bytes (length bytes - length (gate ∷ after))
-    damaged [] gates same is place = absurd (omega (arith, ap length same))
-    damaged (first ∷ more) gates same is place = record {
-      first = first;
-      more = more;
-      gate = gate;
-      after = after;
-      gates = gates;
-      not_closed = open_gate;
-      cut_short = cut;
-      is = is;
-      place = place;
-    }
+taken-cut bytes (gate ∷ after) (r ∷ all) taken stopped open_gate some =
+    let size : size_of (r ∷ all) ≡ length bytes - length (gate ∷ after) =
+    omega (arith, ap length taken.is, length-append (behind_gates taken.entries) (gate ∷ after), length-behind_gates taken.entries, ap size_of taken.same) in
+    taken-read bytes (r ∷ all) (gate ∷ after) taken stopped
+    ∙ ap (λ b. cond b (whole (r ∷ all)) (cut (r ∷ all) (size_of (r ∷ all)))) (not-closed gate after open_gate)
+    ∙ ap (λ (n : ℕ). cut (r ∷ all) n) size

@@ -38,7 +38,9 @@ IsRefusal front (making.Exists first) = first ≡ front
 IsRefusal front (making.DiskFault before after) = Unit {0}
 IsRefusal front making.Memory = Unit {0}
 
--- a fault of the disk raised its count by one, and a refusal or want of memory left it
+-- a fault of the disk raised its count by one, and all else left it
 abbrev pub LoadCause : ℕ → ℕ → LoadFault → Type 0
 LoadCause before now load.Disk = Rose before now
-LoadCause before now (load.Refused fault) = now ≡ before
+LoadCause before now load.NotAJournal = now ≡ before
+LoadCause before now (load.Cut at records) = now ≡ before
+LoadCause before now load.Memory = now ≡ before

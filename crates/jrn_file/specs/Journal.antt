@@ -1,10 +1,6 @@
 -- The bytes of a journal, and what the bytes of a disk stand for.
 use Rattle.std.specs.Prelude.{◌≡◌, ◌≢◌, ◌⊎◌, ℕ, ◌-◌, ◌^◌, ◌<◌, List, [], ◌∷◌, ◌++◌, length, map, take, drop}
-use Rattle.std.specs.Int.{w32, to_be_bytes}
-
--- a record behind the four bytes of its length
-abbrev pub sized : List ℕ → List ℕ
-sized r = to_be_bytes w32 (length r) ++ r
+use Rattle.jrn_file.specs.Reading.{sized, opened_of, whole}
 
 -- a record as it is appended: behind its length, and a closed gate after it
 abbrev pub frame_of : List ℕ → List ℕ
@@ -33,13 +29,9 @@ abbrev pub AreOpen : List (ℕ × List ℕ) → Type 0
 AreOpen [] = Unit {0}
 AreOpen (entry ∷ more) = (entry.0 ≢ 0) × (length entry.1 < 2 ^ 32) × AreOpen more
 
--- The bytes begin with the journal of this header and these records, but for its open gates, which may be any. What follows the closed gate is anything.
-pub record StandsFor (image head : List ℕ) (records : List (List ℕ)) : Type 0 where
-  pub entries : List (ℕ × List ℕ)
-  pub rest : List ℕ
-  pub gates : AreOpen entries
-  pub same : map (λ entry. entry.1) entries ≡ head ∷ records
-  pub is : image ≡ behind_gates entries ++ 0 ∷ rest
+-- The bytes hold the journal of this header and these records: these are the whole records in front, behind which a closed gate stands. What follows it is anything.
+abbrev pub StandsFor : List ℕ → List ℕ → List (List ℕ) → Type 0
+StandsFor image head records = opened_of image ≡ whole (head ∷ records)
 
 -- the bytes stand for these records, or for them with one more
 abbrev pub IsBeforeOrAfter : List ℕ → List (List ℕ) → List ℕ → List ℕ → Type 0

@@ -1,3 +1,4 @@
+pub mod Reading
 pub mod Journal
 pub mod File
 pub mod Faults

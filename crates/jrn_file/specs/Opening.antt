@@ -1,9 +1,13 @@
 -- What opening a journal tells of the bytes of a disk.
-use Rattle.std.specs.Prelude.{◌≡◌, ◌≢◌, ◌⊎◌, ℕ, ◌+◌, ◌^◌, ◌<◌, Bool, IsTrue, List, [], ◌∷◌, ◌++◌, length}
-use Rattle.jrn_file.specs.Journal.{sized, behind_gates, AreOpen, journal_bytes, StandsFor}
+use Rattle.std.specs.Prelude.{◌≡◌, ◌⊎◌, ℕ, ◌+◌, ◌^◌, ◌<◌, Bool, Option, IsTrue, List, [], ◌∷◌, ◌++◌, length}
+use Rattle.corr_disk.specs.Calls.{CallsMade}
+use Rattle.jrn_file.specs.Reading.{Reading, no_journal, whole, cut, sized, opened_of}
+use Rattle.jrn_file.specs.Journal.{journal_bytes, StandsFor}
 use Rattle.jrn_file.specs.File.{IsSettled}
 use Rattle.jrn_file.specs.Faults.{Tells}
-use Rattle.jrn_file.specs.Pieces.{OfBytes}
+use Rattle.jrn_file.specs.Pieces.{OfBytes, calls_to_open}
+use Rattle.jrn_file.specs.declared.file.Ending.{Ending}
+use Rattle.jrn_file.specs.declared.file.Ending.TheVariants as ending
 use Rattle.jrn_file.specs.declared.file.JFile.{JFile}
 use Rattle.jrn_file.specs.declared.fault.OpenFault.{OpenFault}
 use Rattle.jrn_file.specs.declared.fault.OpenFault.TheVariants.{NotAJournal, Damaged, DiskFault, Memory}
@@ -22,26 +26,14 @@ abbrev pub IsWhole : List ℕ → Type 0
 IsWhole after = (r : List ℕ) × BeginsWith after r
 
 -- no record in front: no byte, a closed gate, or an open one with no whole record behind it
-abbrev pub IsNoJournal : List ℕ → Type 0
-IsNoJournal [] = Unit {0}
-IsNoJournal (gate ∷ after) = (gate ≡ 0) ⊎ (IsWhole after → ⊥)
+abbrev pub HasNoRecord : List ℕ → Type 0
+HasNoRecord [] = Unit {0}
+HasNoRecord (gate ∷ after) = (gate ≡ 0) ⊎ (IsWhole after → ⊥)
 
 -- a closed gate in front
 abbrev pub IsShut : List ℕ → Type 0
 IsShut [] = ⊥
 IsShut (gate ∷ after) = gate ≡ 0
-
--- behind whole records, at this place, an open gate with no whole record behind it
-pub record IsDamagedAt (image : List ℕ) (at : ℕ) : Type 0 where
-  pub first : ℕ × List ℕ
-  pub more : List (ℕ × List ℕ)
-  pub gate : ℕ
-  pub after : List ℕ
-  pub gates : AreOpen (first ∷ more)
-  pub not_closed : gate ≢ 0
-  pub cut_short : IsWhole after → ⊥
-  pub is : image ≡ behind_gates (first ∷ more) ++ gate ∷ after
-  pub place : at ≡ length (behind_gates (first ∷ more))
 
 -- the header and the records up to the first closed gate, and its place
 pub record IsReadAs (image : List ℕ) (end : ℕ) (all : List (List ℕ)) : Type 0 where
@@ -51,31 +43,26 @@ pub record IsReadAs (image : List ℕ) (end : ℕ) (all : List (List ℕ)) : Typ
   pub stands : StandsFor image head records
   pub place : end + 1 ≡ length (journal_bytes head records)
 
--- what the bytes of a disk must be where no records could be had
+-- what the bytes of a disk must be where no journal could be read to its closed gate
 abbrev pub ExplainsLoad : Bool → List ℕ → LoadFault → Type 0
 ExplainsLoad honest reads load.Disk = Unit {0}
-ExplainsLoad honest reads (load.Refused NotAJournal) = OfBytes honest reads IsNoJournal
-ExplainsLoad honest reads (load.Refused (Damaged at)) = OfBytes honest reads (λ bytes. IsDamagedAt bytes at)
-ExplainsLoad honest reads (load.Refused (DiskFault before after)) = ⊥
-ExplainsLoad honest reads (load.Refused Memory) = Unit {0}
+ExplainsLoad honest reads load.NotAJournal = OfBytes honest reads (λ bytes. opened_of bytes ≡ no_journal)
+ExplainsLoad honest reads (load.Cut at records) = OfBytes honest reads (λ bytes. opened_of bytes ≡ cut records.items at)
+ExplainsLoad honest reads load.Memory = Unit {0}
 
--- A fault of the disk tells its counts, and the two refusals what the bytes are, where they are told. Where the disk didn't fail, its count is as it was.
+-- A fault of the disk tells its counts, and NotAJournal what the bytes are, where they are told. Where the disk didn't fail, its count is as it was. There is no other fault.
+abbrev pub ReadCause : ℕ → ℕ → Bool → List ℕ → OpenFault → Type 0
+ReadCause old new honest image NotAJournal = (new ≡ old) × (IsTrue honest → opened_of image ≡ no_journal)
+ReadCause old new honest image (Damaged at) = ⊥
+ReadCause old new honest image (DiskFault before after) = Tells old before after new
+ReadCause old new honest image Memory = new ≡ old
+
+-- the same, and Damaged tells the place of damage behind whole records
 abbrev pub OpenCause : ℕ → ℕ → Bool → List ℕ → OpenFault → Type 0
-OpenCause old new honest image NotAJournal = (new ≡ old) × (IsTrue honest → IsNoJournal image)
-OpenCause old new honest image (Damaged at) = (new ≡ old) × (IsTrue honest → IsDamagedAt image at)
+OpenCause old new honest image NotAJournal = (new ≡ old) × (IsTrue honest → opened_of image ≡ no_journal)
+OpenCause old new honest image (Damaged at) = (new ≡ old) × (IsTrue honest → (all : List (List ℕ)) × (opened_of image ≡ cut all at))
 OpenCause old new honest image (DiskFault before after) = Tells old before after new
 OpenCause old new honest image Memory = new ≡ old
-
--- the disk or memory failed
-abbrev pub IsFailure : OpenFault → Type 0
-IsFailure NotAJournal = ⊥
-IsFailure (Damaged at) = ⊥
-IsFailure (DiskFault before after) = Unit {0}
-IsFailure Memory = Unit {0}
-
--- this refusal, unless the disk or memory failed
-abbrev pub IsOrFailure : OpenFault → OpenFault → Type 0
-IsOrFailure refusal fault = (fault ≡ refusal) ⊎ IsFailure fault
 
 -- a file was opened: it holds the first of these as header and the others as records
 pub record IsOpened {D : Type 0} (honest : D → Bool) (reads : D → List ℕ) (may_leave : D → List ℕ → Type 0) (file : JFile D) (all : List (List ℕ)) : Type 0 where
@@ -83,3 +70,23 @@ pub record IsOpened {D : Type 0} (honest : D → Bool) (reads : D → List ℕ) 
   pub records : List (List ℕ)
   pub all_is : all ≡ head ∷ records
   pub settled : IsSettled honest reads may_leave file head records
+
+-- the disk behind an ending
+abbrev pub disk_in : {D : Type 0} → Ending D → D
+disk_in (ending.Open file) = file.disk
+disk_in (ending.Damaged disk at) = disk
+
+-- what the bytes are that end so behind these records
+abbrev pub reading_in : {D : Type 0} → List (List ℕ) → Ending D → Reading
+reading_in all (ending.Open file) = whole all
+reading_in all (ending.Damaged disk at) = cut all at
+
+-- an open file holds the records that were read
+abbrev pub IsOpenEnding : {D : Type 0} → (D → Bool) → (D → List ℕ) → (D → List ℕ → Type 0) → List (List ℕ) → Ending D → Type 0
+IsOpenEnding honest reads may_leave all (ending.Open file) = IsOpened honest reads may_leave file all
+IsOpenEnding honest reads may_leave all (ending.Damaged disk at) = Unit {0}
+
+-- a file was opened by so many calls as show its bytes up to its closed gate
+abbrev pub OpensByCalls : {D : Type 0} → (D → ℕ → Option Bool) → ℕ → D → Ending D → Type 0
+OpensByCalls plan piece old (ending.Open file) = CallsMade (calls_to_open piece file.end) (plan old) (plan file.disk)
+OpensByCalls plan piece old (ending.Damaged disk at) = Unit {0}

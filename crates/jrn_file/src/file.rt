@@ -22,6 +22,15 @@ pub struct JFile<D: Disk> {
     end: u64,
 }
 
+/// How the records of a disk end.
+#[derive(Drop)]
+pub enum Ending<D: Disk> {
+    /// With a closed gate: more records may be appended.
+    Open(JFile<D>),
+    /// With an open gate at this place that has no whole record behind it.
+    Damaged { disk: D, at: u64 },
+}
+
 impl<D: Disk> JFile<D> {
     /// A file whose closed gate stands at this place.
     pub(crate) fn at(disk: D, end: u64) -> JFile<D>

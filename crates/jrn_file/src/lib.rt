@@ -13,6 +13,6 @@ mod reading;
 mod tests;
 
 pub use fault::{AppendFault, MakeFault, OpenFault};
-pub use file::JFile;
+pub use file::{Ending, JFile};
 pub use making::create;
-pub use opening::open_file;
+pub use opening::{open_file, read_file};

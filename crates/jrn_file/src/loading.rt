@@ -8,19 +8,22 @@ ghost use Rattle.jrn_file.specs.Opening.{IsReadAs, ExplainsLoad};
 ghost use Rattle.jrn_file.specs.Pieces.{IsPiece, OfBytes, calls_to_open};
 ghost use Rattle.jrn_file.specs.Untouched.{IsUntouched};
 
-use crate::fault::OpenFault;
 use crate::reading::{is_closed, is_none, refusal, take_records};
 use corr_disk::{Disk, Failed};
 use corr_text::{Memory, Text};
 use std::alloc::{AllocError, Global};
 
-/// Why no records could be had.
+/// Why the records up to a closed gate could not be had.
 #[derive(Drop)]
 pub(crate) enum LoadFault {
     /// A call of the disk failed.
     Disk,
-    /// The bytes are refused, or memory is wanting.
-    Refused(OpenFault),
+    /// No whole record stands in front.
+    NotAJournal,
+    /// Behind these records, at this place, stands an open gate with no whole record behind it.
+    Cut { at: u64, records: Vec<Text> },
+    /// Want of memory.
+    Memory,
 }
 
 impl From<Failed> for LoadFault {
@@ -36,25 +39,23 @@ impl From<Failed> for LoadFault {
 
 impl From<Memory> for LoadFault {
     ghost use Rattle.std.specs.Prelude.{◌≡◌};
-    ghost use Rattle.jrn_file.specs.declared.fault.OpenFault.TheVariants as open_fault;
     ghost use Rattle.jrn_file.specs.declared.loading.LoadFault.TheVariants as load;
 
-    ghost from_gives = { λ _ e. e ≡ load.Refused open_fault.Memory };
+    ghost from_gives = { λ _ e. e ≡ load.Memory };
 
     fn from(_: Memory) -> LoadFault {
-        LoadFault::Refused(OpenFault::Memory)
+        LoadFault::Memory
     }
 }
 
 impl From<AllocError> for LoadFault {
     ghost use Rattle.std.specs.Prelude.{◌≡◌};
-    ghost use Rattle.jrn_file.specs.declared.fault.OpenFault.TheVariants as open_fault;
     ghost use Rattle.jrn_file.specs.declared.loading.LoadFault.TheVariants as load;
 
-    ghost from_gives = { λ _ e. e ≡ load.Refused open_fault.Memory };
+    ghost from_gives = { λ _ e. e ≡ load.Memory };
 
     fn from(_: AllocError) -> LoadFault {
-        LoadFault::Refused(OpenFault::Memory)
+        LoadFault::Memory
     }
 }
 
@@ -87,15 +88,15 @@ pub(crate) fn load<D: Disk>(
         let gate = at + count as u64 - held.len() as u64;
         if is_closed(held.as_slice()) {
             if is_none(records.as_slice()) {
-                return Err(LoadFault::Refused(OpenFault::NotAJournal));
+                return Err(LoadFault::NotAJournal);
             }
             return Ok((gate, records));
         }
         if count < piece {
-            return Err(LoadFault::Refused(refusal(gate, records.as_slice())));
+            return Err(refusal(gate, records));
         }
     }
-    Err(LoadFault::Refused(OpenFault::Memory))
+    Err(LoadFault::Memory)
 }
 
 /// Reads so many bytes from this place of the disk on, or as many as there are, and puts them behind the held ones.

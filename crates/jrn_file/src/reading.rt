@@ -3,12 +3,12 @@
 ghost use Rattle.std.specs.Prelude.{◌≡◌, ◌≢◌, ◌<◌, ◌≤◌, ◌++◌, ℕ, List, length, take, drop, slice_index, IfOk, OnOk, IfSome, IfNone};
 ghost use Rattle.std.specs.Bool.{OnTrue, OnFalse};
 ghost use Rattle.std.specs.Int.{w32, from_be_bytes};
-ghost use Rattle.jrn_file.specs.Opening.{BeginsWith, IsWhole, IsNoJournal, IsShut};
+ghost use Rattle.jrn_file.specs.Opening.{BeginsWith, IsWhole, HasNoRecord, IsShut};
 ghost use Rattle.jrn_file.specs.Pieces.{IsTaken};
 
-use crate::fault::OpenFault;
+use crate::loading::LoadFault;
 use corr_text::{Memory, Text};
-use std::alloc::{AllocError, Global};
+use std::alloc::Global;
 
 /// Takes the whole records in front out of the held bytes.
 pub(crate) fn take_records(
@@ -17,17 +17,17 @@ pub(crate) fn take_records(
     records: &mut Vec<Text>,
 ) -> Result<(), Memory>
     ensures taken { OnOk result ((more : List (List ℕ)) × (records.new.items ≡ records.old.items ++ more) × IsTaken held.old.items more held.new.items) }
-    ensures stopped { OnOk result (IsNoJournal held.new.items) }
+    ensures stopped { OnOk result (HasNoRecord held.new.items) }
 {
     let at = copy_records(alloc, held.as_slice(), records)?;
-    drop_front(held, at)?;
+    drop_front(held, at);
     Ok(())
 }
 
 /// Copies the whole records in front of these bytes, and answers the place behind them.
 fn copy_records(alloc: Global, bytes: &[u8], records: &mut Vec<Text>) -> Result<usize, Memory>
     ensures taken { IfOk result (λ at. (more : List (List ℕ)) × (records.new.items ≡ records.old.items ++ more) × IsTaken bytes.now more (drop at bytes.now)) }
-    ensures stopped { IfOk result (λ at. IsNoJournal (drop at bytes.now)) }
+    ensures stopped { IfOk result (λ at. HasNoRecord (drop at bytes.now)) }
     ensures within { IfOk result (λ at. at ≤ length bytes.now) }
 {
     let mut at = 0;
@@ -44,15 +44,15 @@ fn copy_records(alloc: Global, bytes: &[u8], records: &mut Vec<Text>) -> Result<
 }
 
 /// Drops so many bytes in front. Where there are none to drop, nothing is moved.
-fn drop_front(held: &mut Vec<u8>, count: usize) -> Result<(), AllocError>
+fn drop_front(held: &mut Vec<u8>, count: usize)
     requires { count ≤ length held.old.items }
-    ensures { OnOk result (held.new.items ≡ drop count held.old.items) }
+    ensures { held.new.items ≡ drop count held.old.items }
 {
     if count > 0 {
-        let rest = held.split_off(count)?;
-        *held = rest;
+        let left = held.len() - count;
+        held.copy_within(count.., 0);
+        held.truncate(left);
     }
-    Ok(())
 }
 
 /// Whether an open gate stands at this place.
@@ -72,14 +72,14 @@ pub(crate) fn is_closed(held: &[u8]) -> bool
 }
 
 /// What an open gate at this place tells with no whole record behind it, after these records.
-pub(crate) fn refusal(gate: u64, records: &[Text]) -> OpenFault
-    ensures none { length records.now ≡ 0 → result ≡ OpenFault.NotAJournal }
-    ensures some { 0 < length records.now → result ≡ OpenFault.Damaged gate }
+pub(crate) fn refusal(gate: u64, records: Vec<Text>) -> LoadFault
+    ensures none { length records.items ≡ 0 → result ≡ LoadFault.NotAJournal }
+    ensures some { 0 < length records.items → result ≡ LoadFault.Cut gate records }
 {
-    if is_none(records) {
-        return OpenFault::NotAJournal;
+    if is_none(records.as_slice()) {
+        return LoadFault::NotAJournal;
     }
-    OpenFault::Damaged { at: gate }
+    LoadFault::Cut { at: gate, records }
 }
 
 /// Whether there is no record.

@@ -4,7 +4,7 @@ ghost use Rattle.jrn_file.specs.Journal.{IsFrame};
 
 use crate::frame::framed;
 use crate::loading::{LoadFault, load};
-use crate::{AppendFault, JFile, MakeFault, OpenFault, create, open_file};
+use crate::{AppendFault, Ending, JFile, MakeFault, OpenFault, create, open_file, read_file};
 use corr_disk::{Disk, Failed, FileDisk, FuseDisk, MemDisk};
 use corr_text::{Memory, Text};
 use std::alloc::Global;
@@ -182,6 +182,19 @@ fn what_is_no_journal_is_refused(rt: HostRuntime) -> Result<(), Fail> {
 }
 
 #[test]
+fn the_records_in_front_of_damage_are_read(rt: HostRuntime) -> Result<(), Fail> {
+    let alloc = rt.alloc();
+    let disk = memory(alloc, b"\x01\0\0\0\x01H\x01\0\0\0\x09A\0")?;
+    let (records, ending) = read_file(alloc, disk).map_err(|e| e.1)?;
+    assert_eq!(rt; records.len(), 1);
+    match ending {
+        Ending::Open(_) => assert!(rt; false),
+        Ending::Damaged { at, .. } => assert_eq!(rt; at, 6),
+    }
+    Ok(())
+}
+
+#[test]
 fn a_journal_is_not_made_over_other_bytes(rt: HostRuntime) -> Result<(), Fail> {
     let alloc = rt.alloc();
     let rows: [(&[u8], Option<u8>, &[u8]); 5] = [
@@ -240,8 +253,11 @@ fn records_that_cross_the_edges_of_pieces_are_put_together(rt: HostRuntime) -> R
                         assert_eq!(rt; record.bytes(), text);
                     }
                 }
-                Err(LoadFault::Disk) => assert!(rt; passed < calls),
-                Err(LoadFault::Refused(fault)) => return Err(fault.into()),
+                Err(fault) => match fault {
+                    LoadFault::Disk => assert!(rt; passed < calls),
+                    LoadFault::NotAJournal | LoadFault::Memory => assert!(rt; false),
+                    LoadFault::Cut { .. } => assert!(rt; false),
+                },
             }
         }
     }
@@ -252,21 +268,24 @@ fn records_that_cross_the_edges_of_pieces_are_put_together(rt: HostRuntime) -> R
 fn a_journal_that_is_cut_short_is_refused_whatever_the_pieces(rt: HostRuntime) -> Result<(), Fail> {
     let alloc = rt.alloc();
     for len in 0..37usize {
-        // the open gate with no whole record behind it, behind the header
+        // the open gate with no whole record behind it, and the records before it
         let place = match len {
             0..=6 => None,
-            7..=13 => Some(6),
-            14..=18 => Some(13),
-            _ => Some(18),
+            7..=13 => Some((6, 1)),
+            14..=18 => Some((13, 2)),
+            _ => Some((18, 3)),
         };
         for piece in 1..42usize {
             let mut disk = memory(alloc, &THREE[..len])?;
             match load(alloc, &mut disk, piece) {
-                Err(LoadFault::Refused(OpenFault::NotAJournal)) => assert!(rt; place.is_none()),
-                Err(LoadFault::Refused(OpenFault::Damaged { at })) => {
-                    assert_eq!(rt; Some(at), place)
-                }
-                _ => assert!(rt; false),
+                Ok(_) => assert!(rt; false),
+                Err(fault) => match fault {
+                    LoadFault::NotAJournal => assert!(rt; place.is_none()),
+                    LoadFault::Cut { at, records } => {
+                        assert_eq!(rt; Some((at, records.len())), place)
+                    }
+                    LoadFault::Disk | LoadFault::Memory => assert!(rt; false),
+                },
             }
         }
     }

@@ -2,8 +2,9 @@
 use Rattle.std.proofs.Common.{◌≡◌, ℕ, ◌-◌, List, [], ◌∷◌, ◌++◌, length, take, drop, refl, ◌∙◌, ap, arith, append_assoc, length-append}
 use Rattle.std.specs.Int.{w32, to_be_bytes}
 use Rattle.std.proofs.lemmas.List.{take_at, drop_at}
-use Rattle.jrn_file.specs.Journal.{sized, frame_of, record_in}
-use Rattle.jrn_file.proofs.Records.{length-sized}
+use Rattle.jrn_file.specs.Reading.{sized}
+use Rattle.jrn_file.specs.Journal.{frame_of, record_in}
+use Rattle.jrn_file.proofs.Sizes.{length-sized}
 
 -- it has the record
 pub record_in-frame : (r frame : List ℕ) → frame ≡ frame_of r → record_in frame ≡ r

@@ -1,11 +1,13 @@
-use Rattle.std.proofs.Common.{◌≡◌, ℕ, ◌+◌, ◌-◌, ◌*◌, ◌<◌, length, subst, sym, ◌∙◌, arith}
+use Rattle.std.proofs.Common.{◌≡◌, inl, inr, ℕ, ◌+◌, ◌-◌, ◌*◌, ◌<◌, length, subst, sym, ◌∙◌, arith}
+use Rattle.std.proofs.lemmas.Bool.{cases_lt}
 use Rattle.corr_disk.specs.Calls.{CallsMade}
 use Rattle.corr_disk.proofs.laws.Counted.{calls_in_turn, calls_then, calls_within}
-use Rattle.jrn_file.specs.Opening.{IsNoJournal, IsShut, IsReadAs}
+use Rattle.jrn_file.specs.Reading.{cut, opened_of}
+use Rattle.jrn_file.specs.Opening.{ExplainsLoad, HasNoRecord, IsShut, IsReadAs}
 use Rattle.jrn_file.specs.Pieces.{OfBytes, calls_to_open}
 use Rattle.jrn_file.proofs.Calls.{untouched-start, untouched-call, untouched-then, untouched-only}
-use Rattle.jrn_file.proofs.ReadTo.{ReadTo, read-begun, piece-of, read-on, short-piece, read-end, read-none, read-refused, read-within, held-within, gate-in-piece, calls-within, in-range}
-use Rattle.jrn_file.specs.declared.fault.OpenFault.TheVariants.{NotAJournal, Damaged}
+use Rattle.jrn_file.proofs.ReadTo.{ReadTo, read-begun, piece-of, read-on, short-piece, read-end, read-none, read-refused, read-cut, read-within, held-within, gate-in-piece, calls-within, in-range}
+use Rattle.jrn_file.specs.declared.loading.LoadFault.{LoadFault}
 use Rattle.jrn_file.proofs.loading.load.Goals as goal
 
 pub returns-in_err-sync-clause-no_more_calls : goal.returns-in_err-sync-clause-no_more_calls
@@ -21,7 +23,7 @@ loop-index-init g c =
     let new = c.sync.new.self in
     record {
       read = read-begun (D.honest old) (D.reads old) c.args.piece c.new-records.result.items c.new-held.result.items c.new-records.ensures.items c.new-held.ensures.items;
-      stopped = subst IsNoJournal (sym c.new-held.ensures.items) tt;
+      stopped = subst HasNoRecord (sym c.new-held.ensures.items) tt;
       open_gate = subst (λ l. IsShut l → ⊥) (sym c.new-held.ensures.items) (λ shut. shut);
       untouched = untouched-call D.reads D.may_leave D.moment D.left_since g.met.D.Disk.only_now old old new
           (untouched-start D.reads D.may_leave D.moment D.left_since g.met.D.Disk.only_now old) c.sync.ensures.reads c.sync.ensures.crash c.sync.ensures.time;
@@ -187,13 +189,17 @@ returns-then-count-piece-clause-fault g c =
     let now = read-on (D.honest old) (D.reads old) at c.args.piece n c.loop-index.records.items all c.loop-index.held.items c.read_piece.new.held.items held
     c.loop-index.invariant.read piece c.in_ok-take_records.ensures.taken in
     let open_gate = subst (λ l. IsShut l → ⊥) c.as_slice.ensures.value c.if-is_closed.ensures.open in
-    let records = c.as_slice-then-count-piece.ensures.value in
-    let P : ℕ → Type 0 = λ k. 0 < length all → c.refusal.result ≡ Damaged (at + n - k) in
-    read-refused (D.honest old) (D.reads old) (at + n) all held now
-    (short-piece (D.honest old) (D.reads old) at c.args.piece n c.loop-index.held.items c.read_piece.new.held.items piece c.if-count-piece.true)
-    c.in_ok-take_records.ensures.stopped open_gate c.refusal.result
-    (subst (λ l. length l ≡ 0 → c.refusal.result ≡ NotAJournal) records c.refusal.ensures.none)
-    (subst P (c.len.ensures ∙ c.take_records.new.held.ok.0) (subst (λ l. 0 < length l → c.refusal.result ≡ Damaged (at + n - c.len.result)) records c.refusal.ensures.some))
+    let stopped = c.in_ok-take_records.ensures.stopped in
+    let short = short-piece (D.honest old) (D.reads old) at c.args.piece n c.loop-index.held.items c.read_piece.new.held.items piece c.if-count-piece.true in
+    let P : LoadFault → Type 0 = λ f. ExplainsLoad (D.honest old) (D.reads old) f in
+    let Q : ℕ → Type 0 = λ k. OfBytes (D.honest old) (D.reads old) (λ bytes. opened_of bytes ≡ cut all (at + n - k)) in
+    elim (cases_lt 0 (length all)) [
+      | inl some ↦ subst P (sym (c.refusal.ensures.some some))
+          (subst Q (sym (c.len.ensures ∙ c.take_records.new.held.ok.0)) (read-cut (D.honest old) (D.reads old) (at + n) all held now short stopped open_gate some))
+      | inr none ↦
+          let empty : length all ≡ 0 = omega (arith, none) in
+          subst P (sym (c.refusal.ensures.none empty)) (read-refused (D.honest old) (D.reads old) (at + n) all held now short stopped empty)
+    ]
 
 pub returns-then-count-piece-clause-untouched : goal.returns-then-count-piece-clause-untouched
 returns-then-count-piece-clause-untouched g c =

@@ -1,7 +1,7 @@
 use Rattle.std.proofs.Common.{◌≡◌, ◌+◌, ◌*◌}
 use Rattle.corr_disk.specs.Calls.{CallsMade}
 use Rattle.corr_disk.specs.Disk.{Only}
-use Rattle.jrn_file.specs.Opening.{IsNoJournal, IsShut}
+use Rattle.jrn_file.specs.Opening.{HasNoRecord, IsShut}
 use Rattle.jrn_file.specs.Untouched.{IsUntouched}
 use Rattle.jrn_file.proofs.ReadTo.{ReadTo}
 use Rattle.jrn_file.proofs.loading.load.Given as goal
@@ -9,7 +9,7 @@ use Rattle.jrn_file.proofs.loading.load.Given as goal
 abbrev pub invariant-loop-index : goal.invariant-loop-index
 invariant-loop-index g l = record {
   read : ReadTo (g.D.Disk.honest l.fn.disk) (g.D.Disk.reads l.fn.disk) (l.index * l.piece) l.records.items l.held.items;
-  stopped : IsNoJournal l.held.items;
+  stopped : HasNoRecord l.held.items;
   open_gate : IsShut l.held.items → ⊥;
   untouched : IsUntouched g.D.Disk.reads g.D.Disk.may_leave g.D.Disk.moment g.D.Disk.left_since l.fn.disk l.disk;
   durable : Only (g.D.Disk.reads l.disk) (g.D.Disk.may_leave l.disk);

@@ -1,0 +1,36 @@
+-- Sizes of records behind their gates, and lists of them that are joined.
+use Rattle.std.proofs.Common.{◌≡◌, ℕ, ◌+◌, List, [], ◌∷◌, ◌++◌, length, map, refl, sym, ◌∙◌, ap, arith, append_assoc, length-append}
+use Rattle.std.specs.Int.{w32, to_be_bytes}
+use Rattle.jrn_file.specs.Reading.{sized, size_of}
+use Rattle.jrn_file.specs.Journal.{behind_gates, journal_bytes, AreOpen}
+
+pub length-sized : (r : List ℕ) → length (sized r) ≡ 4 + length r
+length-sized r = omega (arith, length-append (to_be_bytes w32 (length r)) r)
+
+pub length-behind_gates : (entries : List (ℕ × List ℕ)) → length (behind_gates entries) ≡ size_of (map (λ e. e.1) entries)
+length-behind_gates [] = refl
+length-behind_gates (e ∷ more) =
+    omega (arith, length-sized e.1, length-append (sized e.1) (behind_gates more), length-behind_gates more)
+
+map-with_gates : (records : List (List ℕ)) → map (λ (e : ℕ × List ℕ). e.1) (map (λ (r : List ℕ). (1, r)) records) ≡ records
+map-with_gates [] = refl
+map-with_gates (r ∷ records) = ap (λ (l : List (List ℕ)). r ∷ l) (map-with_gates records)
+
+pub length-journal_bytes : (head : List ℕ) (records : List (List ℕ)) → length (journal_bytes head records) ≡ size_of (head ∷ records) + 1
+length-journal_bytes head records =
+    let gates : List (ℕ × List ℕ) = map (λ (r : List ℕ). (1, r)) (head ∷ records) in
+    omega (arith, length-append (behind_gates gates) (0 ∷ []), length-behind_gates gates, ap size_of (map-with_gates (head ∷ records)))
+
+pub size_of-append : (xs ys : List (List ℕ)) → size_of (xs ++ ys) ≡ size_of xs + size_of ys
+size_of-append [] ys = omega arith
+size_of-append (x ∷ xs) ys = omega (arith, size_of-append xs ys)
+
+pub behind_gates-append : (xs ys : List (ℕ × List ℕ)) → behind_gates (xs ++ ys) ≡ behind_gates xs ++ behind_gates ys
+behind_gates-append [] ys = refl
+behind_gates-append (x ∷ xs) ys =
+    ap (λ (l : List ℕ). x.0 ∷ (sized x.1 ++ l)) (behind_gates-append xs ys)
+    ∙ ap (λ (l : List ℕ). x.0 ∷ l) (sym (append_assoc (sized x.1) (behind_gates xs) (behind_gates ys)))
+
+pub AreOpen-append : (xs ys : List (ℕ × List ℕ)) → AreOpen xs → AreOpen ys → AreOpen (xs ++ ys)
+AreOpen-append [] ys open_xs open_ys = open_ys
+AreOpen-append (x ∷ xs) ys open_xs open_ys = (open_xs.0, open_xs.1, AreOpen-append xs ys open_xs.2 open_ys)

@@ -1,0 +1,64 @@
+-- What bytes hold, read as a journal.
+use Rattle.std.specs.Prelude.{ℕ, zero, suc, ◌+◌, ◌^◌, ◌==◌, ◌&&◌, ◌≡◌, Bool, not, List, [], ◌∷◌, ◌++◌, length, take, drop, slice_get, Some, nat_lt, if◌then◌else◌}
+use Rattle.std.specs.Int.{w32, to_be_bytes, from_be_bytes}
+use Rattle.std.specs.Str.{bytes_eq}
+
+-- a record behind the four bytes of its length
+abbrev pub sized : List ℕ → List ℕ
+sized r = to_be_bytes w32 (length r) ++ r
+
+-- the record behind an open gate: as many bytes as the four in front tell
+abbrev pub record_at : List ℕ → List ℕ
+record_at after = take (from_be_bytes w32 (take 4 after)) (drop 4 after)
+
+-- these bytes begin with a record behind its length, and a byte more, which is the next gate
+abbrev pub begins_with : List ℕ → List ℕ → Bool
+begins_with after r = nat_lt (length r) (2 ^ 32) && nat_lt (length (sized r)) (length after) && bytes_eq (take (length (sized r)) after) (sized r)
+
+-- a whole record stands behind the gate
+abbrev pub is_whole : List ℕ → Bool
+is_whole after = begins_with after (record_at after)
+
+-- The whole records in front, each behind an open gate, which any byte but 0 is. They end at a closed gate, at an open one with no whole record behind it, or at the last byte. The first number bounds how many there are.
+abbrev pub records_in : ℕ → List ℕ → List (List ℕ)
+records_in zero bytes = []
+records_in (suc n) [] = []
+records_in (suc n) (gate ∷ after) =
+    if not (gate == 0) && is_whole after then record_at after ∷ records_in n (drop (length (sized (record_at after))) after) else []
+
+-- how many bytes records take behind their gates: the place of the gate after them
+abbrev pub size_of : List (List ℕ) → ℕ
+size_of [] = 0
+size_of (r ∷ records) = 5 + length r + size_of records
+
+-- what bytes are as a journal
+pub data Reading : Type 0 where
+  -- none: no whole record stands in front
+  no_journal : Reading
+  -- a header and records, up to a closed gate
+  whole : (all : List (List ℕ)) → Reading
+  -- a header and records, and then, at this place, an open gate with no whole record behind it
+  cut : (all : List (List ℕ)) (at : ℕ) → Reading
+
+-- what bytes are that have these records in front, and the rest behind them
+abbrev pub reading_of : List (List ℕ) → List ℕ → Reading
+reading_of [] rest = no_journal
+reading_of (head ∷ records) rest = if bytes_eq (take 1 rest) (0 ∷ []) then whole (head ∷ records) else cut (head ∷ records) (size_of (head ∷ records))
+
+-- the whole records in front of bytes
+abbrev pub records_of : List ℕ → List (List ℕ)
+records_of bytes = records_in (length bytes) bytes
+
+-- what bytes hold: no journal, the header and the records up to the first closed gate, or those in front of damage
+unfoldable pub opened_of : List ℕ → Reading
+opened_of bytes = reading_of (records_of bytes) (drop (size_of (records_of bytes)) bytes)
+
+-- the header and the records of a reading
+abbrev pub all_of : Reading → List (List ℕ)
+all_of no_journal = []
+all_of (whole all) = all
+all_of (cut all at) = all
+
+-- each of these records stands in the bytes behind its length and its gate, whose place is the size of those before it
+abbrev pub AreAt : List ℕ → List (List ℕ) → Type 0
+AreAt bytes all = (k : ℕ) (r : List ℕ) → slice_get all k ≡ Some r → take (length (sized r)) (drop (size_of (take k all) + 1) bytes) ≡ sized r
