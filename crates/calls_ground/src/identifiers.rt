@@ -1,4 +1,4 @@
-//! Each call once; cases stand in rows (crates/rows/data/ids.rows).
+//! Each call once; cases stand in rows (ids.rows).
 
 use corr_ids::{
     Bic, Day, LtAddress, Mir, Uetr, day_from_yymmdd, day_of_year, put_bic, put_yymmdd, read_bic,

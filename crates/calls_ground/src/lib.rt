@@ -1,4 +1,4 @@
-//! Each public call of the crates of ground and edge once, on a small value. Tables of cases are rows (crates/rows).
+//! Each public call of the crates of ground and edge once, on a small value. Tables of cases are rows.
 #![tactic(auto)]
 
 #[cfg(test)]

@@ -1,4 +1,4 @@
-//! Each call once; cases stand in rows (crates/rows/data/money.rows).
+//! Each call once; cases stand in rows (money.rows).
 
 use corr_money::{Minor, is_comma_number, put_15d, put_signed, put_total, read_15d};
 use corr_text::Text;

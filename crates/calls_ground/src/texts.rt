@@ -1,4 +1,4 @@
-//! Each call once; cases stand in rows (crates/rows/data/texts.rows).
+//! Each call once; cases stand in rows (texts.rows).
 
 use corr_text::{
     Buf, List, Set, Text, all_digits, copy_texts, digits, first_line, is_all_of, is_set, is_x,
