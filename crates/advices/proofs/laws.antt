@@ -1,0 +1,4 @@
+pub mod Bytes
+pub mod Fit
+pub mod Sendable
+pub mod Orders

@@ -1,0 +1,24 @@
+-- The legs of a pay, with their accounts.
+use Rattle.std.specs.Prelude.{ℕ, ◌-◌, Option, option_map, option_and_then, slice_get}
+use Rattle.corr_money.specs.declared.amount.Amount.{Amount}
+use Rattle.day_model.specs.Chart.{Chart, account_at}
+use Rattle.day_model.specs.declared.account.Account.{Account}
+use Rattle.day_model.specs.declared.pay.Leg.{Leg}
+use Rattle.day_model.specs.declared.pay.Pay.{Pay}
+use Rattle.fin_contents.specs.declared.value.Value.{Value}
+
+-- the account of leg n, from 1
+abbrev pub leg_account : Chart → Pay → ℕ → Option Account
+leg_account chart pay n = option_and_then (λ leg. account_at chart leg.account.0) (slice_get pay.legs (n - 1))
+
+-- a leg's amount in the currency of its account
+abbrev pub amount_on : Leg → Account → Amount
+amount_on leg account = record { ccy = account.ccy; minor = leg.amount; decimals = account.decimals }
+
+-- the amount of leg n
+abbrev pub leg_amount : Chart → Pay → ℕ → Option Amount
+leg_amount chart pay n = option_and_then (λ leg. option_map (amount_on leg) (account_at chart leg.account.0)) (slice_get pay.legs (n - 1))
+
+-- an amount on the value date: what 32A says
+abbrev pub value_of_pay : Pay → Amount → Value
+value_of_pay pay amount = record { day = pay.value; amount = amount }

@@ -1,0 +1,9 @@
+pub mod Fields
+pub mod Received
+pub mod Legs
+pub mod Spelled
+pub mod Transfer
+pub mod Cover
+pub mod Pass
+pub mod Advice
+pub mod Messages

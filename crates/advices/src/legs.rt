@@ -1,0 +1,45 @@
+//! The legs of a pay, with their accounts.
+
+ghost use Rattle.std.specs.Prelude.{◌≡◌, ◌≤◌, ◌-◌, Some, length, slice_get};
+ghost use Rattle.day_model.specs.Chart.{IsChart, IsFormed};
+ghost use Rattle.day_model.specs.Fit.{FitsAccounts};
+ghost use Rattle.day_model.specs.Shape.{IsNumbered};
+ghost use Rattle.advices.specs.Legs.{leg_account, leg_amount};
+ghost use Rattle.advices.specs.Spelled.{IsSpelled};
+
+use corr_money::Amount;
+use day_model::{Account, Accounts, Leg, Pay};
+
+fn leg_at(legs: &[Leg], n: u8) -> &Leg
+    requires { IsNumbered (length legs.now) n }
+    ensures { slice_get legs.now (n - 1) ≡ Some result.now }
+{
+    &legs[n as usize - 1]
+}
+
+/// The account of leg `n`, from 1.
+pub fn leg_account<'a>(a: &'a Accounts, pay: &Pay, n: u8) -> &'a Account
+    requires fits { FitsAccounts a.now pay.now }
+    requires leg { IsNumbered (length pay.now.legs) n }
+    ensures value { leg_account a.now pay.now n ≡ Some result.now }
+    ensures formed { IsFormed result.now }
+    ensures sound { IsChart a.now }
+{
+    a.get(leg_at(pay.legs.as_slice(), n).account)
+}
+
+/// The amount of leg `n`, from 1, in the currency of its account.
+pub fn leg_amount(a: &Accounts, pay: &Pay, n: u8) -> Amount
+    requires fits { FitsAccounts a.now pay.now }
+    requires leg { IsNumbered (length pay.now.legs) n }
+    ensures value { leg_amount a.now pay.now n ≡ Some result }
+    ensures spelled { IsSpelled result }
+    ensures sound { IsChart a.now }
+{
+    let account = leg_account(a, pay, n);
+    Amount {
+        ccy: account.ccy,
+        minor: leg_at(pay.legs.as_slice(), n).amount,
+        decimals: account.decimals,
+    }
+}
