@@ -1,5 +1,5 @@
 -- The messages of one order more.
-use Rattle.std.proofs.Common.{◌≡◌, ℕ, ◌+◌, ◌<◌, List, [], ◌∷◌, ◌++◌, length, get_or, take, refl, sym, ap, ◌∙◌, arith}
+use Rattle.std.proofs.Common.{◌≡◌, ℕ, ◌+◌, ◌<◌, List, [], ◌∷◌, ◌++◌, length, get_or, take, sym, ap, ◌∙◌, arith}
 use Rattle.std.proofs.lemmas.List.{length-take-le, take_more}
 use Rattle.day_model.specs.Chart.{Chart}
 use Rattle.day_model.specs.declared.pay.Order.{Order}
@@ -14,11 +14,15 @@ module _ (chart : Chart) (pay : Pay) (place : ℕ) where
       ap (λ (ms : List (List ℕ)). message_of chart pay place k first ∷ ms) (messages-append (k + 1) n orders order (omega (arith, same)))
 
   -- the messages so far, and that of the next order
-  pub messages-more : (orders : List Order) (i k : ℕ) (order : Order) (before after : List (List ℕ)) → i < length orders → order ≡ get_or orders i order → k ≡ 1 + i
-      → before ≡ messages_from chart pay place 1 (take i orders) → after ≡ before ++ message_of chart pay place k order ∷ []
+  pub messages-more : (d : Order) (orders items : List Order) (i k : ℕ) (text : List ℕ) (before after : List (List ℕ)) → items ≡ orders → i < length items → k ≡ 1 + i
+      → before ≡ messages_from chart pay place 1 (take i orders) → text ≡ message_of chart pay place k (get_or items i d) → after ≡ before ++ text ∷ []
       → after ≡ messages_from chart pay place 1 (take (i + 1) orders)
-  messages-more orders i k order before after lt at number b a =
-      let more : take (i + 1) orders ≡ take i orders ++ order ∷ [] = take_more orders i order lt ∙ ap (λ (o : Order). take i orders ++ o ∷ []) (sym at) in
-      let count : k ≡ 1 + length (take i orders) = omega (arith, number, length-take-le i orders (omega arith)) in
-      a ∙ ap (λ (ms : List (List ℕ)). ms ++ message_of chart pay place k order ∷ []) b
-      ∙ sym (messages-append 1 k (take i orders) order count) ∙ ap (messages_from chart pay place 1) (sym more)
+  messages-more d orders items i k text before after same lt number b t a =
+      let order : Order = get_or items i d in
+      let more : take (i + 1) items ≡ take i items ++ order ∷ [] = take_more items i d lt in
+      let count : k ≡ 1 + length (take i items) = omega (arith, number, length-take-le i items (omega arith)) in
+      let front : before ≡ messages_from chart pay place 1 (take i items) = b ∙ ap (λ (os : List Order). messages_from chart pay place 1 (take i os)) (sym same) in
+      a ∙ ap (λ (m : List ℕ). before ++ m ∷ []) t
+      ∙ ap (λ (ms : List (List ℕ)). ms ++ message_of chart pay place k order ∷ []) front
+      ∙ sym (messages-append 1 k (take i items) order count) ∙ ap (messages_from chart pay place 1) (sym more)
+      ∙ ap (λ (os : List Order). messages_from chart pay place 1 (take (i + 1) os)) same

@@ -14,7 +14,6 @@ use Rattle.day_model.specs.declared.entry.Entry.{Entry}
 use Rattle.day_model.specs.declared.pay.Order.{Order}
 use Rattle.day_model.specs.declared.pay.Order.TheVariants.{Transfer, Cover, Pass, Debit, Credit}
 use Rattle.day_model.specs.declared.pay.Pay.{Pay}
-use Rattle.advices.specs.declared.received.Received.{Received}
 use Rattle.advices.specs.Advice.{credit_fields, debit_fields}
 use Rattle.advices.specs.Cover.{cover_fields}
 use Rattle.advices.specs.Fields.{ours}

@@ -1,5 +1,5 @@
 -- What a received message gives to those that are sent on.
-use Rattle.std.specs.Prelude.{ℕ, ◌+◌, List, [], ◌∷◌, length, take, drop, position, Option, Some, None, Result, Ok, Err, is_some, option_map, option_and_then, unwrap_or, codes, find, if◌then◌else◌, Bool}
+use Rattle.std.specs.Prelude.{ℕ, List, [], ◌∷◌, length, take, drop, position, Option, Some, None, Result, Ok, Err, is_some, option_map, option_and_then, unwrap_or, codes, find, if◌then◌else◌, Bool}
 use Rattle.corr_ids.specs.Address.{bank_of}
 use Rattle.corr_ids.specs.Mir.{sender_of}
 use Rattle.corr_ids.specs.declared.bic.Bic.{Bic}
@@ -12,7 +12,6 @@ use Rattle.fin_fields.specs.Fields.{fields_of}
 use Rattle.fin_fields.specs.declared.field.Field.{Field}
 use Rattle.fin_contents.specs.Money.{is_dated_amount}
 use Rattle.fin_contents.specs.Plain.{one_line}
-use Rattle.fin_contents.specs.Writing.{some_field}
 use Rattle.day_model.specs.declared.pay.Mt.{Mt}
 use Rattle.day_model.specs.declared.pay.Mt.TheVariants.{Transfer, Cover}
 use Rattle.day_model.specs.declared.pay.Pay.{Pay}

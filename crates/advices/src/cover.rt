@@ -43,7 +43,8 @@ fn push_covering(
 {
     push_references(alloc, reference, related, out)?;
     out.push(put_value(alloc, value)?)?;
-    out.push(bank_field(alloc, 58, end)?)
+    out.push(bank_field(alloc, 58, end)?)?;
+    Ok(())
 }
 
 // The second sequence: 50a to 33B, as the transfer has them.

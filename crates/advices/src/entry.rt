@@ -102,24 +102,24 @@ fn message(
     received: &Received,
     place: u32,
     k: u32,
-    order: Order,
+    order: &Order,
 ) -> Result<Text, Memory>
     requires home { IsBic a.now.home }
     requires fits { FitsAccounts a.now pay.now }
     requires shape { HasShape pay.now }
     requires same { received.now ≡ received_of pay.now }
-    requires order { IsOrder (length pay.now.legs) order }
+    requires order { IsOrder (length pay.now.legs) order.now }
     requires place { place ≤ 100000 }
     requires k { k ≤ 255 }
-    ensures { IfOk result (λ text. text ≡ message_of a.now pay.now place k order) }
+    ensures { IfOk result (λ text. text ≡ message_of a.now pay.now place k order.now) }
 {
-    let fields = order_fields(alloc, a, pay, received, place, k, order)?;
-    let user = user_of(alloc, &pay.uetr, order)?;
-    let to = receiver_of(order);
+    let fields = order_fields(alloc, a, pay, received, place, k, *order)?;
+    let user = user_of(alloc, &pay.uetr, *order)?;
+    let to = receiver_of(*order);
     put_message(
         alloc,
         a.home(),
-        type_of(order),
+        type_of(*order),
         &to,
         user.as_slice(),
         fields.as_slice(),
@@ -139,7 +139,7 @@ fn messages(alloc: Global, a: &Accounts, pay: &Pay, place: u32) -> Result<List<T
     let mut k = 0;
     for order in pay.orders.as_slice() {
         k += 1;
-        texts.push(message(alloc, a, pay, &received, place, k, *order)?)?;
+        texts.push(message(alloc, a, pay, &received, place, k, order)?)?;
     }
     Ok(texts)
 }

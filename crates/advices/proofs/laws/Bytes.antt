@@ -1,6 +1,5 @@
 -- What is made new is of set X.
-use Rattle.std.proofs.Common.{◌≡◌, ℕ, ◌+◌, ◌-◌, ◌/◌, ◌%◌, ◌<◌, ◌≤◌, ◌^◌, ◌==◌, ◌&&◌, ◌||◌, Bool, true, false, cond, zero, suc, List, [], ◌∷◌, ◌++◌, length, take, drop, replicate, Option, Some, None, Ok, refl, sym, ap, ◌∙◌, arith, nat_lt, nat_le}
-use Rattle.std.specs.Prelude.{codes}
+use Rattle.std.proofs.Common.{◌≡◌, ℕ, ◌+◌, ◌/◌, ◌%◌, ◌<◌, ◌≤◌, ◌^◌, ◌==◌, ◌||◌, Bool, true, false, List, [], ◌∷◌, ◌++◌, length, take, drop, Some, Ok, refl, sym, ap, ◌∙◌, arith}
 use Rattle.std.specs.Char.{is_ascii_digit, is_ascii_lowercase, is_ascii_uppercase}
 use Rattle.std.specs.Fmt.{decimal}
 use Rattle.std.specs.List.{list_all, list_any}
@@ -12,19 +11,18 @@ use Rattle.corr_text.specs.Digits.{number_of, padded}
 use Rattle.corr_text.specs.Sets.{is_c_byte, is_in, is_x_byte, marks}
 use Rattle.corr_text.specs.declared.set.Set.TheVariants.{X}
 use Rattle.corr_text.proofs.laws.Number.{number_of-decimal, number_of-padded}
-use Rattle.corr_ids.specs.Bic.{IsBic, bic_of, bic_text, is_bic}
+use Rattle.corr_ids.specs.Bic.{IsBic, bic_text, is_bic}
 use Rattle.corr_ids.specs.Day.{InCentury, civil_of, digits_of, yymmdd_of}
 use Rattle.corr_ids.specs.declared.bic.Bic.{Bic}
 use Rattle.corr_ids.specs.declared.day.Day.{Day}
 use Rattle.corr_ids.proofs.laws.Century.{parted}
 use Rattle.corr_ids.proofs.laws.Spelling.{bic-printed, some_if}
-use Rattle.corr_money.specs.Amounts.{amount_end, amount_of, amount_text, decimals_of, is_comma_number}
+use Rattle.corr_money.specs.Amounts.{amount_end, amount_of, amount_text, is_comma_number}
 use Rattle.corr_money.specs.declared.amount.Amount.{Amount}
 use Rattle.corr_money.specs.declared.fault.AmountFault.TheVariants.{T40}
 use Rattle.corr_money.specs.declared.amount.Minor.{Minor}
 use Rattle.corr_money.proofs.laws.Written.{reads_written}
-use Rattle.fin_contents.specs.declared.value.Value.{Value}
-use Rattle.fin_contents.specs.Writing.{IsAmount, IsValue, ccy_amount_text}
+use Rattle.fin_contents.specs.Writing.{ccy_amount_text}
 use Rattle.fin_contents.proofs.laws.Bytes.{and-both, and-three, comma_number-of-x, digits-of-x, letters-of-x}
 use Rattle.fin_contents.proofs.laws.Steps.{checked}
 use Rattle.advices.specs.Fields.{ours}

@@ -1,9 +1,8 @@
 -- The fields of each message may stand in a text.
-use Rattle.std.proofs.Common.{◌≡◌, ℕ, ◌+◌, ◌<◌, ◌≤◌, ◌^◌, Bool, true, false, cond, List, [], ◌∷◌, ◌++◌, Option, Some, None, refl, sym, ap, ◌∙◌, arith}
-use Rattle.std.specs.Prelude.{codes, find, unwrap_or, position, length, take, drop, IfSome}
+use Rattle.std.proofs.Common.{ℕ, ◌≤◌, Bool, true, false, cond, List, [], ◌∷◌, ◌++◌, Option, Some, None, refl, arith}
+use Rattle.std.specs.Prelude.{codes, find, take, drop, IfSome}
 use Rattle.std.specs.List.{All, AllByRecursion, flat_map}
 use Rattle.std.proofs.lemmas.List.{take-append-drop}
-use Rattle.corr_text.specs.Sets.{is_c_byte}
 use Rattle.corr_ids.specs.Bic.{IsBic, bic_text}
 use Rattle.corr_ids.specs.declared.bic.Bic.{Bic}
 use Rattle.corr_money.specs.declared.amount.Amount.{Amount}
@@ -11,7 +10,7 @@ use Rattle.fin_fields.specs.declared.field.Field.{Field}
 use Rattle.fin_fields.specs.Writing.{IsField}
 use Rattle.fin_layout.specs.Segments.{joined}
 use Rattle.fin_contents.specs.declared.value.Value.{Value}
-use Rattle.fin_contents.specs.Writing.{IsHeading, IsValue, ccy_amount_field, ccy_amount_text, line_field, lines_field, some_field, value_field}
+use Rattle.fin_contents.specs.Writing.{IsHeading, ccy_amount_text, line_field, lines_field, some_field, value_field}
 use Rattle.fin_contents.proofs.laws.Bytes.{all-of-x}
 use Rattle.fin_contents.proofs.laws.Fit.{kept-fit, line-fit}
 use Rattle.fin_contents.proofs.laws.Placed.{Each, each-append, each-joined, each-of, all-of}
@@ -25,10 +24,10 @@ use Rattle.advices.specs.Advice.{credit_fields, debit_fields}
 use Rattle.advices.specs.Cover.{cover_fields, covered_fields, covering_fields}
 use Rattle.advices.specs.Fields.{bank_field, copied, copied_all, copied_as, is_named, kept}
 use Rattle.advices.specs.Pass.{pass_fields, passed_fields}
-use Rattle.advices.specs.Received.{fields_for_52, first_fields, is_payer, or_bank, ordering, sequence_a, sequence_b}
-use Rattle.advices.specs.Transfer.{account_bank, detail_fields, instructions, intermediary, is_passed_on, is_there, or_amount, ordered_amount, party_fields, term_fields, transfer_fields}
+use Rattle.advices.specs.Received.{fields_for_52, first_fields, or_bank, ordering, sequence_a, sequence_b}
+use Rattle.advices.specs.Transfer.{account_bank, detail_fields, intermediary, is_passed_on, is_there, or_amount, ordered_amount, party_fields, term_fields, transfer_fields}
 use Rattle.advices.specs.Spelled.{IsCut, IsMoved, IsPlain, IsSpelled}
-use Rattle.advices.proofs.laws.Bytes.{bic-plain, c-plain, ccy_amount-plain, day-plain, joined-plain}
+use Rattle.advices.proofs.laws.Bytes.{bic-plain, ccy_amount-plain, day-plain, joined-plain}
 
 -- ---- fields that are copied
 

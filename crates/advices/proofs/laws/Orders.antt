@@ -1,18 +1,14 @@
 -- The fields of each order of a pay that fits and has its shape may stand in a text.
-use Rattle.std.proofs.Common.{◌≡◌, ◌≢◌, ℕ, zero, suc, ◌+◌, ◌-◌, ◌<◌, ◌≤◌, ◌^◌, ◌&&◌, Bool, true, false, cond, List, [], ◌∷◌, length, take, drop, Option, Some, None, Result, Ok, Err, refl, sym, ap, ◌∙◌, arith, nat_lt, nat_le}
+use Rattle.std.proofs.Common.{◌≡◌, ◌≢◌, ℕ, zero, suc, ◌-◌, ◌<◌, ◌≤◌, ◌^◌, Bool, true, false, cond, List, [], ◌∷◌, length, take, drop, Option, Some, None, Result, Ok, Err, refl, ap, arith, nat_lt, nat_le}
 use Rattle.std.specs.Prelude.{codes, find, is_some, option_and_then, option_map, slice_get, unwrap_or, IfSome}
 use Rattle.std.specs.List.{All, list_all}
-use Rattle.std.proofs.lemmas.Bool.{cases_Bool}
 use Rattle.std.proofs.lemmas.Bool.Decides.{nat_tests}
-use Rattle.std.proofs.lemmas.Option.{slice_get_within}
 use Rattle.corr_text.specs.Sets.{is_in}
 use Rattle.corr_text.specs.declared.set.Set.TheVariants.{X, N, A}
-use Rattle.corr_ids.specs.Bic.{IsBic}
 use Rattle.corr_ids.specs.declared.bic.Bic.{Bic}
-use Rattle.corr_ids.specs.Mir.{sender_of, sender_text}
-use Rattle.corr_ids.specs.Address.{bank_of}
+use Rattle.corr_ids.specs.Mir.{sender_text}
 use Rattle.corr_ids.proofs.laws.Spelling.{lt-bank, mir-form, mir-sender}
-use Rattle.corr_money.specs.Amounts.{amount_end, amount_of, decimals_of, is_comma_number, minor_of}
+use Rattle.corr_money.specs.Amounts.{amount_of, decimals_of, is_comma_number, minor_of}
 use Rattle.corr_money.specs.declared.amount.Amount.{Amount}
 use Rattle.corr_money.specs.declared.amount.Minor.{Minor}
 use Rattle.corr_money.specs.declared.fault.AmountFault.{AmountFault}
@@ -28,11 +24,10 @@ use Rattle.fin_contents.specs.Plain.{one_line}
 use Rattle.fin_contents.specs.declared.value.Value.{Value}
 use Rattle.fin_contents.proofs.laws.Bytes.{and-three}
 use Rattle.fin_contents.proofs.laws.Steps.{checked}
-use Rattle.day_model.specs.Chart.{Chart, IsChart, IsFormed, IsListed, account_at}
+use Rattle.day_model.specs.Chart.{Chart, IsChart, IsFormed}
 use Rattle.day_model.specs.Fit.{FitsAccounts}
 use Rattle.day_model.specs.Shape.{HasShape, IsNumbered, IsOrder}
 use Rattle.day_model.specs.declared.account.Account.{Account}
-use Rattle.day_model.specs.declared.pay.Leg.{Leg}
 use Rattle.day_model.specs.declared.pay.Order.{Order}
 use Rattle.day_model.specs.declared.pay.Order.TheVariants.{Transfer, Cover, Pass, Debit, Credit}
 use Rattle.day_model.specs.declared.pay.Pay.{Pay}
@@ -43,10 +38,10 @@ use Rattle.advices.specs.Advice.{credit_fields, debit_fields}
 use Rattle.advices.specs.Cover.{cover_fields}
 use Rattle.advices.specs.Fields.{is_named, ours}
 use Rattle.advices.specs.Legs.{amount_on, leg_account, leg_amount, value_of_pay}
-use Rattle.advices.specs.Messages.{order_fields, with_account, with_amount}
+use Rattle.advices.specs.Messages.{order_fields}
 use Rattle.advices.specs.Pass.{pass_fields}
-use Rattle.advices.specs.Received.{amount_if, amount_in, fields_in, minor_if, ordered_of, received_of}
-use Rattle.advices.specs.Spelled.{IsCut, IsMoved, IsPlain, IsSpelled}
+use Rattle.advices.specs.Received.{amount_if, amount_in, minor_if, ordered_of, received_of}
+use Rattle.advices.specs.Spelled.{IsCut, IsMoved, IsSpelled}
 use Rattle.advices.specs.Transfer.{transfer_fields}
 use Rattle.advices.proofs.laws.Bytes.{c-plain, ours-plain}
 use Rattle.advices.proofs.laws.Fit.{cover-fit, credit-fit, debit-fit, pass-fit, transfer-fit}

@@ -1,14 +1,14 @@
 -- Fields that may stand in a text are lines of a message to send, and so is what block 3 holds.
-use Rattle.std.proofs.Common.{◌≡◌, ℕ, ◌+◌, ◌-◌, ◌/◌, ◌%◌, ◌≤◌, ◌==◌, ◌&&◌, ◌||◌, not, Bool, true, false, cond, List, [], ◌∷◌, ◌++◌, length, Option, Some, None, refl, sym, ap, ◌∙◌, arith, append_assoc, nat_le}
+use Rattle.std.proofs.Common.{◌≡◌, ℕ, ◌+◌, ◌/◌, ◌%◌, ◌≤◌, ◌==◌, ◌&&◌, ◌||◌, not, Bool, true, false, List, [], ◌∷◌, ◌++◌, length, Option, Some, None, refl, sym, ap, ◌∙◌, arith, append_assoc}
 use Rattle.std.specs.Prelude.{codes, IfSome, IsTrue}
-use Rattle.std.specs.Char.{is_ascii_digit, is_ascii_lowercase, is_ascii_uppercase}
-use Rattle.std.specs.List.{All, AllByRecursion, flat_map, list_all, list_any, zip}
+use Rattle.std.specs.Char.{is_ascii_uppercase}
+use Rattle.std.specs.List.{All, AllByRecursion, flat_map, list_all, zip}
 use Rattle.std.proofs.lemmas.Bool.Decides.{nat_tests}
 use Rattle.std.proofs.lemmas.List.Folds.{list_all-append}
 use Rattle.corr_text.specs.Lines.{lines_of}
 use Rattle.corr_text.specs.Sets.{is_x_byte, marks}
 use Rattle.corr_text.proofs.laws.Written.{is_inner, line-again}
-use Rattle.corr_ids.specs.Uetr.{IsUetr, fits_mark, is_hex, is_uetr, is_variant, uetr_form, uetr_of}
+use Rattle.corr_ids.specs.Uetr.{IsUetr, fits_mark, is_uetr, uetr_form}
 use Rattle.corr_ids.specs.declared.uetr.Uetr.{Uetr}
 use Rattle.corr_ids.proofs.laws.Spelling.{some_if}
 use Rattle.fin_blocks.specs.Forms.{is_plain}
@@ -16,7 +16,7 @@ use Rattle.fin_blocks.specs.Sending.{IsText, are_subblocks}
 use Rattle.fin_blocks.specs.Text.{crlf, text_in}
 use Rattle.fin_blocks.specs.Text.{ended as with_end}
 use Rattle.fin_fields.specs.Faults.{has_other_byte}
-use Rattle.fin_fields.specs.Writing.{ContinueAll, IsField, ended, field_text, fields_text, heading_text, letter_text}
+use Rattle.fin_fields.specs.Writing.{ContinueAll, IsField, ended, fields_text, heading_text, letter_text}
 use Rattle.fin_fields.specs.declared.field.Field.{Field}
 use Rattle.fin_contents.proofs.laws.Bytes.{and-both}
 use Rattle.fin_contents.proofs.laws.Placed.{each-of}
