@@ -1,0 +1,15 @@
+//! The rule of the word.
+
+use crate::view::View;
+use atomic_table::TableRule;
+
+pub struct Law;
+
+impl TableRule<(), View, ()> for Law {
+    ghost use Rattle.front_word.specs.Rule.{Ruled};
+    ghost use Rattle.front_word.specs.Views.{first_view};
+
+    ghost holds = { λ _ s. Ruled s.words s.views };
+
+    ghost first = { λ _. first_view };
+}

@@ -1,0 +1,9 @@
+pub mod Loop
+pub mod Fields
+pub mod Parts
+pub mod Marks
+pub mod Identifiers
+pub mod Legs
+pub mod Orders
+pub mod Entries
+pub mod Heads

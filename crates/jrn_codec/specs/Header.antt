@@ -1,0 +1,42 @@
+-- The header of a journal: the home bank and its accounts.
+use Rattle.std.specs.Prelude.{◌≡◌, ℕ, All, List, [], ◌∷◌, ◌++◌, length, codes}
+use Rattle.std.specs.List.{flat_map}
+use Rattle.std.specs.Int.{w16, w64, to_be_bytes}
+use Rattle.corr_ids.specs.Bic.{IsBic}
+use Rattle.day_model.specs.declared.account.Account.{Account}
+use Rattle.day_model.specs.Chart.{Chart, IsChart}
+use Rattle.jrn_codec.specs.Spelling.{signed_bytes, bic_bytes, short_bytes}
+
+-- the first six bytes
+abbrev pub version : List ℕ
+version = codes "CORRJ1"
+
+-- id, kind, owner, currency, decimals
+abbrev pub column_bytes : Account → List ℕ
+column_bytes a = short_bytes a.id ++ a.kind ∷ [] ++ bic_bytes a.owner ++ a.ccy.0 ++ a.decimals ∷ []
+
+-- floor, ceiling, opening
+abbrev pub balance_bytes : Account → List ℕ
+balance_bytes a = signed_bytes w64 a.floor ++ signed_bytes w64 a.ceil ++ signed_bytes w64 a.opening
+
+-- an account's columns and balances
+unfoldable pub account_bytes : Account → List ℕ
+account_bytes a = column_bytes a ++ balance_bytes a
+
+-- the version, the home bank, how many accounts in two bytes
+unfoldable pub title_bytes : Chart → List ℕ
+title_bytes chart = version ++ bic_bytes chart.home ++ to_be_bytes w16 (length chart.accounts)
+
+-- the title, then each account
+abbrev pub head_bytes : Chart → List ℕ
+head_bytes chart = title_bytes chart ++ flat_map account_bytes chart.accounts
+
+-- a currency is three characters
+abbrev pub HasCode : Account → Type 0
+HasCode a = length a.ccy.0 ≡ 3
+
+-- what has a header: accounts of a book, whose openings sum to 0, and a home bank with a BIC
+pub record IsHead (chart : Chart) : Type 0 where
+  pub home : IsBic chart.home
+  pub book : IsChart chart
+  pub codes : All HasCode chart.accounts

@@ -1,0 +1,55 @@
+-- Reading a header from all of the bytes.
+use Rattle.std.specs.Prelude.{ℕ, ◌==◌, List, length, Option, Some, None, if◌then◌else◌}
+use Rattle.std.specs.Str.{bytes_eq}
+use Rattle.std.specs.Int.{w16, w64}
+use Rattle.corr_ids.specs.Day.{◌>>=◌}
+use Rattle.day_model.specs.declared.account.Account.{Account}
+use Rattle.day_model.specs.Chart.{Chart}
+use Rattle.jrn_codec.specs.declared.header.Limits.{Limits}
+use Rattle.jrn_codec.specs.Header.{version}
+use Rattle.jrn_codec.specs.Reading.{cut, byte_at, number_at, signed_at, bic_at, short_at, items_at}
+
+-- floor, ceiling and opening
+unfoldable pub limits_at : List ℕ → Option (Limits × List ℕ)
+limits_at bytes = do
+  floor ← signed_at w64 bytes
+  ceil ← signed_at w64 floor.1
+  opening ← signed_at w64 ceil.1
+  Some (record { floor = floor.0; ceil = ceil.0; opening = opening.0 }, opening.1)
+
+-- an account, whatever its columns are
+unfoldable pub account_at : List ℕ → Option (Account × List ℕ)
+account_at bytes = do
+  id ← short_at bytes
+  kind ← byte_at id.1
+  owner ← bic_at kind.1
+  ccy ← cut 3 owner.1
+  decimals ← byte_at ccy.1
+  limits ← limits_at decimals.1
+  Some (
+    record {
+      id = id.0;
+      kind = kind.0;
+      owner = owner.0;
+      ccy = record { 0 = ccy.0 };
+      decimals = decimals.0;
+      floor = limits.0.floor;
+      ceil = limits.0.ceil;
+      opening = limits.0.opening;
+    },
+    limits.1,
+  )
+
+-- the home bank and its accounts, behind the version
+unfoldable pub chart_of : List ℕ → Option Chart
+chart_of bytes = do
+  home ← bic_at bytes
+  count ← number_at w16 home.1
+  accounts ← items_at account_at count.0 count.1
+  if length accounts.1 == 0 then Some (record { home = home.0; accounts = accounts.0 }) else None
+
+-- the rows that all of the bytes spell, whether or not they are accounts of a book
+unfoldable pub head_of : List ℕ → Option Chart
+head_of bytes = do
+  mark ← cut 6 bytes
+  if bytes_eq mark.0 version then chart_of mark.1 else None

@@ -1,0 +1,6 @@
+-- What writing into a buffer needs.
+use Rattle.std.specs.Prelude.{ℕ, ◌≤◌, ◌+◌, List, length, Result, IsOk}
+
+-- with room for the bytes it succeeds, and it takes no more room than they need
+abbrev pub HasRoom : {E : Type 0} → List ℕ → ℕ → ℕ → Result (Unit {0}) E → Type 0
+HasRoom bytes spare left result = length bytes ≤ spare → IsOk result × (spare ≤ left + length bytes)

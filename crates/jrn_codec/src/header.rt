@@ -1,0 +1,137 @@
+//! Reading headers.
+
+ghost use Rattle.std.specs.Prelude.{◌≡◌, IfOk, OnOk};
+ghost use Rattle.day_model.specs.Chart.{Chart, IsChart};
+ghost use Rattle.jrn_codec.specs.Answers.{Gives, IsReadAs};
+ghost use Rattle.jrn_codec.specs.Header.{IsHead, head_bytes};
+ghost use Rattle.jrn_codec.specs.HeaderReading.{account_at, chart_of, head_of, limits_at};
+ghost use Rattle.jrn_codec.specs.Reading.{items_at};
+
+use crate::fault::EntryFault;
+use crate::field::{bic_at, byte_at, cut, i64_at, short_at, u16_at};
+use corr_ids::Bic;
+use corr_money::Ccy;
+use corr_text::{List, Text};
+use day_model::{Account, Accounts, AccountsFault, rows_hold};
+use std::alloc::Global;
+
+/// What a balance may be, and what it is before the first entry.
+#[derive(Clone, Copy, Drop)]
+pub struct Limits {
+    pub floor: i64,
+    pub ceil: i64,
+    pub opening: i64,
+}
+
+/// A home bank and rows, which may or may not be the accounts of a book.
+#[derive(Drop)]
+pub struct Rows {
+    pub home: Bic,
+    pub accounts: List<Account>,
+}
+
+#[tactic(auto, unfolding(crate::specs::HeaderReading::limits_at))]
+fn limits_at(bytes: &[u8]) -> Result<(Limits, &[u8]), EntryFault>
+    ensures { Gives (λ x. (x.0, x.1.now)) result (limits_at bytes.now) }
+{
+    let (floor, rest) = i64_at(bytes)?;
+    let (ceil, rest) = i64_at(rest)?;
+    let (opening, rest) = i64_at(rest)?;
+    Ok((
+        Limits {
+            floor,
+            ceil,
+            opening,
+        },
+        rest,
+    ))
+}
+
+#[tactic(auto, unfolding(crate::specs::HeaderReading::account_at))]
+fn account_at(alloc: Global, bytes: &[u8]) -> Result<(Account, &[u8]), EntryFault>
+    ensures { Gives (λ x. (x.0, x.1.now)) result (account_at bytes.now) }
+{
+    let (id, rest) = short_at(bytes)?;
+    let (kind, rest) = byte_at(rest)?;
+    let (owner, rest) = bic_at(rest)?;
+    let (ccy, rest) = cut(rest, 3)?;
+    let (decimals, rest) = byte_at(rest)?;
+    let (limits, rest) = limits_at(rest)?;
+    let account = Account {
+        id: Text::from_bytes(alloc, id)?,
+        kind,
+        owner,
+        ccy: Ccy([ccy[0], ccy[1], ccy[2]]),
+        decimals,
+        floor: limits.floor,
+        ceil: limits.ceil,
+        opening: limits.opening,
+    };
+    Ok((account, rest))
+}
+
+fn accounts_of(
+    alloc: Global,
+    count: u16,
+    bytes: &[u8],
+) -> Result<(List<Account>, &[u8]), EntryFault>
+    ensures { Gives (λ x. (x.0, x.1.now)) result (items_at account_at count bytes.now) }
+{
+    let mut accounts = List::new(alloc);
+    let mut rest = bytes;
+    for _ in 0..count {
+        let (account, after) = account_at(alloc, rest)?;
+        accounts.push(account)?;
+        rest = after;
+    }
+    Ok((accounts, rest))
+}
+
+#[tactic(auto, unfolding(crate::specs::HeaderReading::chart_of))]
+fn rows_of(alloc: Global, bytes: &[u8]) -> Result<Rows, EntryFault>
+    ensures { Gives (λ rows. record { home = rows.home; accounts = rows.accounts }) result (chart_of bytes.now) }
+{
+    let (home, rest) = bic_at(bytes)?;
+    let (count, rest) = u16_at(rest)?;
+    let (accounts, rest) = accounts_of(alloc, count, rest)?;
+    if !rest.is_empty() {
+        return Err(EntryFault::NoEntry);
+    }
+    Ok(Rows { home, accounts })
+}
+
+#[tactic(auto, unfolding(crate::specs::HeaderReading::head_of))]
+fn head_of(alloc: Global, bytes: &[u8]) -> Result<Rows, EntryFault>
+    ensures { Gives (λ rows. record { home = rows.home; accounts = rows.accounts }) result (head_of bytes.now) }
+{
+    let (mark, rest) = cut(bytes, 6)?;
+    if mark != b"CORRJ1".as_slice() {
+        return Err(EntryFault::NoEntry);
+    }
+    rows_of(alloc, rest)
+}
+
+fn accounts_with(rows: Rows) -> Result<Accounts, EntryFault>
+    ensures found { IfOk result (λ a. (a ≡ record { home = rows.home; accounts = rows.accounts }) × IsChart a) }
+    ensures only { IsChart (record { home = rows.home; accounts = rows.accounts }) → IsReadAs (record { home = rows.home; accounts = rows.accounts }) result }
+{
+    if !rows_hold(rows.accounts.as_slice()) {
+        return Err(EntryFault::NoEntry);
+    }
+    match Accounts::new(rows.home, rows.accounts) {
+        Ok(accounts) => Ok(accounts),
+        Err(AccountsFault::Unbalanced { .. }) => Err(EntryFault::NoEntry),
+        Err(AccountsFault::Memory) => Err(EntryFault::Memory),
+    }
+}
+
+/// The home bank and the accounts whose header record these bytes are, all of them.
+///
+/// `NoEntry` comes exactly where they are no header of accounts of a book; `Memory` where there is no room for them.
+pub fn read_head(alloc: Global, b: &[u8]) -> Result<Accounts, EntryFault>
+    ensures found { IfOk result (λ a. IsHead a × (b.now ≡ head_bytes a)) }
+    ensures only { (chart : Chart) → IsHead chart → b.now ≡ head_bytes chart → IsReadAs chart result }
+{
+    let rows = head_of(alloc, b)?;
+    accounts_with(rows)
+}

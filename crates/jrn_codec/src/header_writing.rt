@@ -1,0 +1,76 @@
+//! Writing headers.
+
+ghost use Rattle.std.specs.Prelude.{◌≡◌, ◌++◌, flat_map, OnOk};
+ghost use Rattle.std.specs.Int.{w64};
+ghost use Rattle.day_model.specs.Chart.{IsFormed};
+ghost use Rattle.jrn_codec.specs.Header.{account_bytes, balance_bytes, column_bytes, head_bytes, title_bytes};
+ghost use Rattle.jrn_codec.specs.Spelling.{signed_bytes};
+
+use corr_ids::with_branch;
+use corr_text::{Memory, Text};
+use day_model::{Account, Accounts, AcctNo};
+
+#[tactic(auto, unfolding(crate::specs::Spelling::signed_bytes))]
+fn put_signed(out: &mut Text, n: i64) -> Result<(), Memory>
+    ensures { OnOk result (out.new ≡ out.old ++ signed_bytes w64 n) }
+{
+    out.push(&n.to_be_bytes())
+}
+
+fn put_limits(out: &mut Text, a: &Account) -> Result<(), Memory>
+    ensures { OnOk result (out.new ≡ out.old ++ balance_bytes a.now) }
+{
+    put_signed(out, a.floor)?;
+    put_signed(out, a.ceil)?;
+    put_signed(out, a.opening)
+}
+
+fn put_columns(out: &mut Text, a: &Account) -> Result<(), Memory>
+    requires { IsFormed a.now }
+    ensures { OnOk result (out.new ≡ out.old ++ column_bytes a.now) }
+{
+    let id = a.id.bytes();
+    out.push_all(&[
+        &[id.len() as u8],
+        id,
+        &[a.kind],
+        &with_branch(&a.owner),
+        &a.ccy.0,
+        &[a.decimals],
+    ])
+}
+
+#[tactic(auto, unfolding(crate::specs::Header::account_bytes))]
+fn put_account(out: &mut Text, a: &Account) -> Result<(), Memory>
+    requires { IsFormed a.now }
+    ensures { OnOk result (out.new ≡ out.old ++ account_bytes a.now) }
+{
+    put_columns(out, a)?;
+    put_limits(out, a)
+}
+
+fn put_accounts(out: &mut Text, a: &Accounts) -> Result<(), Memory>
+    ensures { OnOk result (out.new ≡ out.old ++ flat_map account_bytes a.now.accounts) }
+{
+    let count = a.count();
+    for n in 0..count {
+        put_account(out, a.get(AcctNo(n + 1)))?;
+    }
+    Ok(())
+}
+
+#[tactic(auto, unfolding(crate::specs::Header::title_bytes))]
+fn put_title(out: &mut Text, a: &Accounts) -> Result<(), Memory>
+    ensures { OnOk result (out.new ≡ out.old ++ title_bytes a.now) }
+{
+    let count = a.count() as u16;
+    out.push_all(&[b"CORRJ1", &with_branch(a.home()), &count.to_be_bytes()])
+}
+
+/// Adds the header record of a home bank and its accounts. After want of memory the text's bytes mean nothing.
+pub fn put_head(a: &Accounts, out: &mut Text) -> Result<(), Memory>
+    ensures { OnOk result (out.new ≡ out.old ++ head_bytes a.now) }
+{
+    put_title(out, a)?;
+    put_accounts(out, a)
+}

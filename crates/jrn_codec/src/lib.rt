@@ -1,0 +1,20 @@
+//! The bytes of the journal's records: one spelling for each entry and each header.
+#![tactic(auto)]
+
+mod entry;
+mod entry_writing;
+mod fault;
+mod field;
+mod header;
+mod header_writing;
+mod leg;
+mod order;
+#[cfg(test)]
+mod tests;
+mod writing;
+
+pub use entry::read_entry;
+pub use entry_writing::put_entry;
+pub use fault::EntryFault;
+pub use header::read_head;
+pub use header_writing::put_head;
