@@ -4,12 +4,10 @@ use Rattle.std.specs.Option.{option_map_or}
 use Rattle.std.proofs.lemmas.Bool.Decides.{nat_tests}
 use Rattle.std.proofs.lemmas.Option.{none-some}
 use Rattle.corr_text.specs.Faults.{Rose}
-use Rattle.corr_money.specs.declared.amount.Ccy.{Ccy}
 use Rattle.day_model.specs.Chart.{opening_sum}
-use Rattle.day_model.specs.declared.account.Account.{Account}
 use Rattle.ref_tables.specs.Accounts.{account_of, accounts_fault}
 use Rattle.ref_tables.specs.Refusals.{RowTest, first_bad_row, first_fault, named}
-use Rattle.ref_tables.specs.Rows.{Cells, rows_of, rows_within}
+use Rattle.ref_tables.specs.Rows.{Cells, rows_of}
 use Rattle.ref_tables.specs.Seen.{Tables}
 use Rattle.ref_tables.specs.Tables.{bics_fault, ccys_fault, countries_fault, tables_of}
 use Rattle.ref_tables.specs.declared.fault.TableName.{TableName}
@@ -27,7 +25,7 @@ use Rattle.corr_top.specs.Complete.{IsReady, IsSound, Told}
 use Rattle.corr_top.specs.Ends.{Ends}
 use Rattle.corr_top.specs.Inputs.{Inputs, accounts_in, home_head, opened, tables_in}
 use Rattle.corr_top.specs.MessageFile.{StopsCutting}
-use Rattle.corr_top.specs.Passing.{Bad, IsUntouched, Passes, StopsAt, StopsAtMessages, StopsAtTable, fault_of, file_of}
+use Rattle.corr_top.specs.Passing.{Bad, IsUntouched, Passes, StopsAt, StopsAtTable, fault_of, file_of}
 use Rattle.corr_top.specs.Reading.{Failed, IsRead, Took}
 use Rattle.corr_top.specs.Steps.{Halts, Step, Walks}
 use Rattle.corr_top.specs.Writing.{FailsWriting}

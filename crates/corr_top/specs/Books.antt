@@ -5,7 +5,6 @@ use Rattle.day_model.specs.declared.fault.AccountsFault.{AccountsFault}
 use Rattle.day_model.specs.declared.fault.AccountsFault.TheVariants as accounts
 use Rattle.ref_tables.specs.declared.fault.TableFault.{TableFault}
 use Rattle.ref_tables.specs.declared.fault.TableFault.TheVariants as table
-use Rattle.ref_tables.specs.declared.fault.TableName.{TableName}
 use Rattle.ref_tables.specs.declared.fault.TableName.TheVariants as names
 use Rattle.corr_top.specs.declared.books.Books.{Books}
 use Rattle.corr_top.specs.declared.reading.ReadStop.{ReadStop}

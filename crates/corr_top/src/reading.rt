@@ -1,6 +1,6 @@
 //! A source, read whole or past a limit.
 
-ghost use Rattle.std.specs.Prelude.{◌≡◌, ◌+◌, ◌≤◌, ◌<◌, ◌^◌, vec_len, IfOk, IfErr};
+ghost use Rattle.std.specs.Prelude.{◌≡◌, ◌+◌, ◌<◌, ◌^◌, vec_len, IfOk, IfErr};
 ghost use Rattle.corr_top.specs.Reading.{IsStopped, Took};
 
 use corr_io::Source;

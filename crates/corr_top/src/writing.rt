@@ -1,6 +1,6 @@
 //! Texts, written whole to sinks.
 
-ghost use Rattle.std.specs.Prelude.{◌≡◌, ◌≤◌, OnOk, IfErr};
+ghost use Rattle.std.specs.Prelude.{OnOk, IfErr};
 ghost use Rattle.corr_top.specs.Writing.{FailedAt, FailsWriting, Received};
 
 use crate::slices::behind;

@@ -1,8 +1,7 @@
-use Rattle.std.proofs.Common.{rules, ◌≡◌, refl, subst}
+use Rattle.std.proofs.Common.{rules, subst}
 use Rattle.std.specs.Prelude.{IfErr}
 use Rattle.corr_top.specs.Ends.{Ends}
 use Rattle.corr_top.specs.declared.words.Command.{Command}
-use Rattle.corr_top.specs.declared.words.Command.TheVariants.{Run}
 use Rattle.corr_top.proofs.command.perform.Goals as goal
 
 pub returns-clause-stopped : goal.returns-clause-stopped

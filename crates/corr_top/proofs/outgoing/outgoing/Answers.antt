@@ -1,7 +1,7 @@
-use Rattle.std.proofs.Common.{◌≡◌, ◌+◌, ◌-◌, refl, drop, arith}
-use Rattle.corr_report.proofs.laws.Rests.{rest_at, rest_none}
+use Rattle.std.proofs.Common.{◌+◌, ◌-◌, drop, arith}
+use Rattle.corr_report.proofs.laws.Rests.{rest_at}
 use Rattle.corr_top.specs.Out.{sent_of}
-use Rattle.corr_top.proofs.Adding.{numbered_done, numbered_next}
+use Rattle.corr_top.proofs.Adding.{numbered_next}
 use Rattle.corr_top.proofs.outgoing.outgoing.Goals as goal
 
 pub loop-place-preserved : goal.loop-place-preserved

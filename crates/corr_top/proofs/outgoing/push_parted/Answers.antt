@@ -1,4 +1,4 @@
-use Rattle.std.proofs.Common.{◌≡◌, ◌+◌, ◌∷◌, refl, drop}
+use Rattle.std.proofs.Common.{◌+◌, refl, drop}
 use Rattle.std.proofs.lemmas.Option.{slice_get_read}
 use Rattle.corr_report.proofs.laws.Rests.{drop_at}
 use Rattle.corr_top.proofs.Adding.{parted_done, parted_more}

@@ -46,9 +46,12 @@ returns-in_err-write_both-clause-stopped g c =
     let t = books.inputs in
     let i : Inputs = record { bics = t.bics; ccys = t.ccys; countries = t.countries; accounts = t.accounts; ssi = t.ssi; messages = has.0; cut = c.in_ok-messages.messages } in
     let given = c.as_slice.result.now in
-    rw (p.1, p.2) (i, writing_stops _ _ _ _ c.args.day _ _ _ _ i _ _ books.passed has.1 (same_kept c.args.day i c.in_ok-books.books given books.books_are c.as_slice.ensures c.in_ok-texts.ensures.kept)
-    (same_report c.args.day i c.in_ok-books.books given c.in_ok-texts.texts.report books.books_are c.as_slice.ensures c.in_ok-texts.ensures.report)
-    (same_out c.args.day i c.in_ok-books.books given c.in_ok-texts.texts.out books.books_are c.as_slice.ensures c.in_ok-texts.ensures.out) c.in_err-write_both.ensures.failed)
+    rw (p.1, p.2) (
+      i,
+      writing_stops _ _ _ _ c.args.day _ _ _ _ i _ _ books.passed has.1 (same_kept c.args.day i c.in_ok-books.books given books.books_are c.as_slice.ensures c.in_ok-texts.ensures.kept)
+          (same_report c.args.day i c.in_ok-books.books given c.in_ok-texts.texts.report books.books_are c.as_slice.ensures c.in_ok-texts.ensures.report)
+          (same_out c.args.day i c.in_ok-books.books given c.in_ok-texts.texts.out books.books_are c.as_slice.ensures c.in_ok-texts.ensures.out) c.in_err-write_both.ensures.failed,
+    )
 
 pub returns-clause-done : goal.returns-clause-done
 returns-clause-done g c =
@@ -56,7 +59,9 @@ returns-clause-done g c =
     let has = c.in_ok-messages.ensures.are in
     let t = books.inputs in
     let i : Inputs = record { bics = t.bics; ccys = t.ccys; countries = t.countries; accounts = t.accounts; ssi = t.ssi; messages = has.0; cut = c.in_ok-messages.messages } in
-    let given = c.as_slice.result.now in
-    (i, run_done _ _ _ _ c.args.day _ _ i _ _ books.passed has.1 (same_kept c.args.day i c.in_ok-books.books given books.books_are c.as_slice.ensures c.in_ok-texts.ensures.kept)
-    (same_report c.args.day i c.in_ok-books.books given c.in_ok-texts.texts.report books.books_are c.as_slice.ensures c.in_ok-texts.ensures.report)
-    (same_out c.args.day i c.in_ok-books.books given c.in_ok-texts.texts.out books.books_are c.as_slice.ensures c.in_ok-texts.ensures.out) c.in_ok-write_both.ensures.report c.in_ok-write_both.ensures.out)
+    let given = c.as_slice.result.now in (
+      i,
+      run_done _ _ _ _ c.args.day _ _ i _ _ books.passed has.1 (same_kept c.args.day i c.in_ok-books.books given books.books_are c.as_slice.ensures c.in_ok-texts.ensures.kept)
+          (same_report c.args.day i c.in_ok-books.books given c.in_ok-texts.texts.report books.books_are c.as_slice.ensures c.in_ok-texts.ensures.report)
+          (same_out c.args.day i c.in_ok-books.books given c.in_ok-texts.texts.out books.books_are c.as_slice.ensures c.in_ok-texts.ensures.out) c.in_ok-write_both.ensures.report c.in_ok-write_both.ensures.out,
+    )

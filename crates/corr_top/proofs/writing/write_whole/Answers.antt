@@ -1,4 +1,4 @@
-use Rattle.std.proofs.Common.{◌≤◌, length, ◌∙◌, arith}
+use Rattle.std.proofs.Common.{◌≤◌, length, ◌∙◌}
 use Rattle.corr_top.proofs.KnownParts.{appended-more}
 use Rattle.corr_top.proofs.writing.write_whole.Goals as goal
 
