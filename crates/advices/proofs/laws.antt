@@ -2,3 +2,12 @@ pub mod Bytes
 pub mod Fit
 pub mod Sendable
 pub mod Orders
+pub mod Values
+pub mod Finding
+pub mod Made
+pub mod Origin
+pub mod Fitted
+pub mod Copies
+pub mod Banks
+pub mod Debits
+pub mod Credits

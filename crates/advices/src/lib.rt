@@ -6,6 +6,7 @@ mod advice;
 mod copying;
 mod cover;
 mod entry;
+pub mod law;
 mod legs;
 mod ordered;
 mod pass;

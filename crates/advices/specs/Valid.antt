@@ -1,0 +1,89 @@
+-- What is sent of an entry passes the tests of its type, under the tables under which the received message passed its own.
+use Rattle.std.specs.Prelude.{◌≡◌, ℕ, ◌≤◌, true, false, List, Some, None, Ok, length}
+use Rattle.corr_text.specs.First.{first_of}
+use Rattle.corr_ids.specs.Address.{bank_of}
+use Rattle.corr_ids.specs.Mir.{sender_of}
+use Rattle.corr_ids.specs.declared.bic.Bic.{Bic}
+use Rattle.corr_ids.specs.declared.envelope.Envelope.{Envelope}
+use Rattle.corr_money.specs.declared.amount.Amount.{Amount}
+use Rattle.ref_tables.specs.Seen.{Tables, decimals_in, has_head}
+use Rattle.fin_contents.specs.Money.{is_metal}
+use Rattle.fin_message.specs.Sound.{IsSaid, KeepsRules}
+use Rattle.fin_message.specs.declared.message.Message.{Message}
+use Rattle.fin_message.specs.declared.message.Message.TheVariants as message
+use Rattle.mt202cov.specs.declared.message.Mt202Cov.{Mt202Cov}
+use Rattle.mt9_advice.specs.Advice.{mt900_of, mt910_of, tests_900, tests_910}
+use Rattle.mt9_advice.specs.declared.credit.Mt910.{Mt910}
+use Rattle.mt9_advice.specs.declared.debit.Mt900.{Mt900}
+use Rattle.day_model.specs.Chart.{Chart, IsChart}
+use Rattle.day_model.specs.Fit.{FitsAccounts}
+use Rattle.day_model.specs.Shape.{HasShape, IsNumbered}
+use Rattle.day_model.specs.declared.account.Account.{Account}
+use Rattle.day_model.specs.declared.pay.Mt.TheVariants.{Transfer, Cover}
+use Rattle.day_model.specs.declared.pay.Order.TheVariants as order
+use Rattle.day_model.specs.declared.pay.Pay.{Pay}
+use Rattle.advices.specs.Legs.{leg_account}
+use Rattle.advices.specs.Messages.{order_fields}
+
+-- the tables hold an amount's currency with its decimals, and it is no precious metal
+pub record IsTabled (t : Tables) (a : Amount) : Type 0 where
+  pub three : length a.ccy.0 ≡ 3
+  pub known : decimals_in t a.ccy.0 ≡ Some a.decimals
+  pub metal : is_metal a.ccy.0 ≡ false
+
+-- ---- the premises
+
+-- the text of a pay is that of this message, and the pay has its type; of an advice there is no pay
+abbrev pub IsTextOf : Pay → Message → Type 0
+IsTextOf pay (message.Transfer envelope text transfer) = (pay.mt ≡ Transfer) × (text ≡ pay.text)
+IsTextOf pay (message.Cover envelope text cover) = (pay.mt ≡ Cover) × (text ≡ pay.text)
+IsTextOf pay (message.Debit envelope advice) = ⊥
+IsTextOf pay (message.Credit envelope advice) = ⊥
+
+-- the amount of a message's 32A
+abbrev pub amount_of : Message → Amount
+amount_of (message.Transfer envelope text transfer) = transfer.amount
+amount_of (message.Cover envelope text cover) = cover.amount
+amount_of (message.Debit envelope advice) = advice.amount
+amount_of (message.Credit envelope advice) = advice.amount
+
+-- a message that passes the tests of its lines, its fields and its contents under these tables and breaks no rule, and
+-- whose text the pay keeps
+pub record IsReceived (t : Tables) (pay : Pay) (m : Message) : Type 0 where
+  pub said : IsSaid t m
+  pub rules : KeepsRules t m
+  pub kept : IsTextOf pay m
+
+-- an account has the currency of an amount, with its decimals
+pub record IsInMoney (account : Account) (a : Amount) : Type 0 where
+  pub ccy : account.ccy ≡ a.ccy
+  pub decimals : account.decimals ≡ a.decimals
+
+-- a pay that came from a message: it fits the accounts and can be written down; each leg's account has the currency and the
+-- decimals of 32A; and the tables hold the sender's head
+pub record CameFrom (t : Tables) (chart : Chart) (pay : Pay) (m : Message) : Type 0 where
+  pub accounts : IsChart chart
+  pub fits : FitsAccounts chart pay
+  pub shape : HasShape pay
+  pub received : IsReceived t pay m
+  pub money : (n : ℕ) (account : Account) → leg_account chart pay n ≡ Some account → IsInMoney account (amount_of m)
+  pub sender : has_head t (bank_of (sender_of pay.mir)).head ≡ true
+
+-- ---- the laws
+
+-- the notice of a debit: its fields stand in their order and none is missing, each content passes its test, and so an
+-- MT900 is read of them; it has no rules
+abbrev pub DebitPasses : Type 0
+DebitPasses =
+    (t : Tables) (chart : Chart) (pay : Pay) (m : Message) (place k leg : ℕ) (to : Bic) → CameFrom t chart pay m → place ≤ 100000 → k ≤ 255 → IsNumbered (length pay.legs) leg
+    → (first_of (tests_900 t (order_fields chart pay place k (order.Debit to leg))) ≡ None)
+    × ((advice : Mt900) × (mt900_of t (order_fields chart pay place k (order.Debit to leg)) ≡ Ok advice))
+
+-- the notice of a credit, which only a cover asks for: the same of an MT910, and its rule is kept, for it names the ordering
+-- institution
+abbrev pub CreditPasses : Type 0
+CreditPasses =
+    (t : Tables) (chart : Chart) (pay : Pay) (envelope : Envelope) (text : List ℕ) (cover : Mt202Cov) (place k leg : ℕ) (to : Bic) → CameFrom t chart pay (message.Cover envelope text cover)
+    → place ≤ 100000 → k ≤ 255 → IsNumbered (length pay.legs) leg
+    → (first_of (tests_910 t (order_fields chart pay place k (order.Credit to leg))) ≡ None)
+    × ((advice : Mt910) × (mt910_of t (order_fields chart pay place k (order.Credit to leg)) ≡ Ok advice))
