@@ -6,7 +6,7 @@ mod advice;
 mod copying;
 mod cover;
 mod entry;
-pub mod law;
+mod law;
 mod legs;
 mod ordered;
 mod pass;
@@ -16,3 +16,4 @@ mod sending;
 mod transfer;
 
 pub use entry::orders;
+pub use law::sent_messages_pass;
