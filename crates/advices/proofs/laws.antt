@@ -11,3 +11,5 @@ pub mod Copies
 pub mod Banks
 pub mod Debits
 pub mod Credits
+pub mod Seats
+pub mod Transfers

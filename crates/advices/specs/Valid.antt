@@ -1,16 +1,22 @@
 -- What is sent of an entry passes the tests of its type, under the tables under which the received message passed its own.
-use Rattle.std.specs.Prelude.{◌≡◌, ℕ, ◌≤◌, true, false, List, Some, None, Ok, length}
+use Rattle.std.specs.Prelude.{◌≡◌, ℕ, ◌≤◌, true, false, List, Option, Some, None, IfSome, Ok, length}
 use Rattle.corr_text.specs.First.{first_of}
 use Rattle.corr_ids.specs.Address.{bank_of}
 use Rattle.corr_ids.specs.Mir.{sender_of}
+use Rattle.corr_ids.specs.Bic.{IsBic}
 use Rattle.corr_ids.specs.declared.bic.Bic.{Bic}
 use Rattle.corr_ids.specs.declared.envelope.Envelope.{Envelope}
 use Rattle.corr_money.specs.declared.amount.Amount.{Amount}
 use Rattle.ref_tables.specs.Seen.{Tables, decimals_in, has_head}
-use Rattle.fin_contents.specs.Money.{is_metal}
+use Rattle.fin_fields.specs.declared.field.Field.{Field}
+use Rattle.fin_contents.specs.declared.value.Value.{Value}
+use Rattle.fin_contents.specs.Money.{is_metal, value_of}
+use Rattle.fin_contents.specs.Plain.{reference_of}
+use Rattle.fin_contents.specs.Writing.{line_field, value_field}
 use Rattle.fin_message.specs.Sound.{IsSaid, KeepsRules}
 use Rattle.fin_message.specs.declared.message.Message.{Message}
 use Rattle.fin_message.specs.declared.message.Message.TheVariants as message
+use Rattle.mt103.specs.Message.{field_tests as tests_103}
 use Rattle.mt202cov.specs.declared.message.Mt202Cov.{Mt202Cov}
 use Rattle.mt9_advice.specs.Advice.{mt900_of, mt910_of, tests_900, tests_910}
 use Rattle.mt9_advice.specs.declared.credit.Mt910.{Mt910}
@@ -22,8 +28,12 @@ use Rattle.day_model.specs.declared.account.Account.{Account}
 use Rattle.day_model.specs.declared.pay.Mt.TheVariants.{Transfer, Cover}
 use Rattle.day_model.specs.declared.pay.Order.TheVariants as order
 use Rattle.day_model.specs.declared.pay.Pay.{Pay}
+use Rattle.day_model.specs.declared.pay.Skip.{Skip}
+use Rattle.advices.specs.declared.received.Received.{Received}
 use Rattle.advices.specs.Legs.{leg_account}
 use Rattle.advices.specs.Messages.{order_fields}
+use Rattle.advices.specs.Spelled.{IsSpelled}
+use Rattle.advices.specs.Transfer.{transfer_fields}
 
 -- the tables hold an amount's currency with its decimals, and it is no precious metal
 pub record IsTabled (t : Tables) (a : Amount) : Type 0 where
@@ -87,3 +97,12 @@ CreditPasses =
     → place ≤ 100000 → k ≤ 255 → IsNumbered (length pay.legs) leg
     → (first_of (tests_910 t (order_fields chart pay place k (order.Credit to leg))) ≡ None)
     × ((advice : Mt910) × (mt910_of t (order_fields chart pay place k (order.Credit to leg)) ≡ Ok advice))
+
+-- a transfer that is sent: its fields stand in their order, none is missing, and each content passes its test, where what was
+-- ordered is of a currency of the tables
+abbrev pub TransferFieldsPass : Type 0
+TransferFieldsPass =
+    (t : Tables) (r : Received) (fs : List Field) → r.mt ≡ Transfer → r.fields ≡ fs → first_of (tests_103 t fs) ≡ None → IsBic r.sender → has_head t r.sender.head ≡ true
+    → (reference : List ℕ) → reference_of (line_field 20 None reference) ≡ Ok reference → (v : Value) → value_of t (value_field v) ≡ Ok v
+    → (ordered : Amount) → IsSpelled ordered → IsTabled t ordered → (skip : Skip) (via : Option Bic) → IfSome via (λ b. IsBic b × (has_head t b.head ≡ true))
+    → first_of (tests_103 t (transfer_fields r reference v ordered skip via)) ≡ None
