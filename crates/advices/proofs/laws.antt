@@ -13,3 +13,4 @@ pub mod Debits
 pub mod Credits
 pub mod Seats
 pub mod Transfers
+pub mod Covers

@@ -17,6 +17,7 @@ use Rattle.fin_message.specs.Sound.{IsSaid, KeepsRules}
 use Rattle.fin_message.specs.declared.message.Message.{Message}
 use Rattle.fin_message.specs.declared.message.Message.TheVariants as message
 use Rattle.mt103.specs.Message.{field_tests as tests_103}
+use Rattle.mt202cov.specs.Message.{field_tests as tests_202}
 use Rattle.mt202cov.specs.declared.message.Mt202Cov.{Mt202Cov}
 use Rattle.mt9_advice.specs.Advice.{mt900_of, mt910_of, tests_900, tests_910}
 use Rattle.mt9_advice.specs.declared.credit.Mt910.{Mt910}
@@ -30,6 +31,7 @@ use Rattle.day_model.specs.declared.pay.Order.TheVariants as order
 use Rattle.day_model.specs.declared.pay.Pay.{Pay}
 use Rattle.day_model.specs.declared.pay.Skip.{Skip}
 use Rattle.advices.specs.declared.received.Received.{Received}
+use Rattle.advices.specs.Cover.{cover_fields}
 use Rattle.advices.specs.Legs.{leg_account}
 use Rattle.advices.specs.Messages.{order_fields}
 use Rattle.advices.specs.Spelled.{IsSpelled}
@@ -106,3 +108,11 @@ TransferFieldsPass =
     → (reference : List ℕ) → reference_of (line_field 20 None reference) ≡ Ok reference → (v : Value) → value_of t (value_field v) ≡ Ok v
     → (ordered : Amount) → IsSpelled ordered → IsTabled t ordered → (skip : Skip) (via : Option Bic) → IfSome via (λ b. IsBic b × (has_head t b.head ≡ true))
     → first_of (tests_103 t (transfer_fields r reference v ordered skip via)) ≡ None
+
+-- the cover of a transfer: the same, where the tables hold the head of the bank that the cover is for
+abbrev pub CoverFieldsPass : Type 0
+CoverFieldsPass =
+    (t : Tables) (r : Received) (fs : List Field) → r.mt ≡ Transfer → r.fields ≡ fs → first_of (tests_103 t fs) ≡ None → IsBic r.sender → has_head t r.sender.head ≡ true
+    → (reference related : List ℕ) → reference_of (line_field 20 None reference) ≡ Ok reference → reference_of (line_field 21 None related) ≡ Ok related → (v : Value) → value_of t (value_field v) ≡ Ok v
+    → (ordered : Amount) → IsSpelled ordered → IsTabled t ordered → (end : Bic) → IsBic end → has_head t end.head ≡ true → (skip : Skip)
+    → first_of (tests_202 t (cover_fields r reference related v ordered end skip)) ≡ None
