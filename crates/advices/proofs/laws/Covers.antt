@@ -1,7 +1,6 @@
 -- The fields of a cover that is sent for a transfer stand in their order, none is missing, and each content passes its test.
 use Rattle.std.proofs.Common.{◌≡◌, ℕ, ◌≤◌, true, List, [], ◌∷◌, length, Option, Some, None, Ok, refl, arith, inl, inr}
 use Rattle.std.specs.Prelude.{codes, find, IfSome}
-use Rattle.std.specs.List.{AllByRecursion}
 use Rattle.corr_text.specs.First.{first_of}
 use Rattle.corr_ids.specs.Bic.{IsBic}
 use Rattle.corr_ids.specs.declared.bic.Bic.{Bic}
@@ -27,9 +26,8 @@ use Rattle.mt202cov.specs.Message.{content_test, field_tests}
 use Rattle.mt202cov.specs.Order.{order_202}
 use Rattle.day_model.specs.declared.pay.Mt.TheVariants.{Transfer}
 use Rattle.day_model.specs.declared.pay.Skip.{Skip}
-use Rattle.day_model.specs.declared.pay.Skip.TheVariants.{Keep}
 use Rattle.advices.specs.declared.received.Received.{Received}
-use Rattle.advices.specs.Fields.{bank_field, copied, copied_all, is_named}
+use Rattle.advices.specs.Fields.{bank_field, copied, is_named}
 use Rattle.advices.specs.Received.{ordering}
 use Rattle.advices.specs.Cover.{cover_fields}
 use Rattle.advices.specs.Transfer.{account_bank, intermediary, is_there, or_amount, ordered_amount}

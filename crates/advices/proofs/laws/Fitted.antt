@@ -1,6 +1,6 @@
 -- Fields that are sent, place by place, fail no test: each stands first at its place, no place is missing, and each content
 -- passes.
-use Rattle.std.proofs.Common.{◌≡◌, ℕ, zero, suc, ◌+◌, ◌==◌, ◌&&◌, ◌||◌, not, Bool, true, false, cond, List, [], ◌∷◌, ◌++◌, length, drop, position, replicate, slice_get, Option, Some, None, refl, sym, ap, ◌∙◌, arith, eq-eqb, inl, inr}
+use Rattle.std.proofs.Common.{◌≡◌, ℕ, zero, suc, ◌+◌, ◌==◌, ◌&&◌, ◌||◌, not, Bool, true, false, cond, List, [], ◌∷◌, ◌++◌, length, drop, position, replicate, slice_get, Option, Some, None, refl, sym, ap, ◌∙◌, arith, eq-eqb, inr}
 use Rattle.std.specs.List.{AllByRecursion, list_all, list_any}
 use Rattle.std.proofs.lemmas.Bool.{eqb-true}
 use Rattle.corr_text.specs.First.{first_of}

@@ -1,7 +1,6 @@
 -- The fields of a transfer that is sent stand in their order, none is missing, and each content passes its test.
-use Rattle.std.proofs.Common.{◌≡◌, ℕ, ◌||◌, not, Bool, true, List, [], ◌∷◌, ◌++◌, Option, Some, None, Ok, refl, ap, ◌∙◌, arith, inl}
+use Rattle.std.proofs.Common.{◌≡◌, ℕ, ◌||◌, not, Bool, true, List, [], ◌∷◌, Option, Some, None, Ok, refl, arith, inl}
 use Rattle.std.specs.Prelude.{codes, find, IfSome}
-use Rattle.std.specs.List.{AllByRecursion}
 use Rattle.corr_text.specs.First.{first_of}
 use Rattle.corr_ids.specs.Bic.{IsBic}
 use Rattle.corr_ids.specs.declared.bic.Bic.{Bic}
@@ -26,7 +25,6 @@ use Rattle.mt103.specs.Message.{content_test, field_tests}
 use Rattle.mt103.specs.Order.{order_103}
 use Rattle.day_model.specs.declared.pay.Mt.TheVariants.{Transfer}
 use Rattle.day_model.specs.declared.pay.Skip.{Skip}
-use Rattle.day_model.specs.declared.pay.Skip.TheVariants.{Keep}
 use Rattle.advices.specs.declared.received.Received.{Received}
 use Rattle.advices.specs.Fields.{bank_field, copied, copied_all, is_named}
 use Rattle.advices.specs.Received.{ordering}

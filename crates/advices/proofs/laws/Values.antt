@@ -1,19 +1,19 @@
 -- A field 32A that is made new is read as its value, under tables that hold its currency.
-use Rattle.std.proofs.Common.{◌≡◌, ℕ, ◌+◌, ◌<◌, ◌≤◌, ◌^◌, ◌==◌, ◌&&◌, not, Bool, true, false, List, [], ◌∷◌, ◌++◌, length, take, drop, Some, Ok, refl, sym, ap, ◌∙◌, arith, nat_le}
+use Rattle.std.proofs.Common.{◌≡◌, ℕ, ◌+◌, ◌<◌, ◌==◌, true, false, List, ◌++◌, length, take, drop, Some, Ok, refl, ap, ◌∙◌, arith, nat_le}
 use Rattle.std.specs.List.{list_all}
 use Rattle.std.proofs.lemmas.Bool.{le-leb}
 use Rattle.std.proofs.lemmas.Bool.Decides.{nat_tests}
 use Rattle.std.proofs.lemmas.List.{drop_at, length-append, take_at}
 use Rattle.corr_text.specs.Sets.{is_in}
-use Rattle.corr_text.specs.declared.set.Set.TheVariants.{X, N, A}
+use Rattle.corr_text.specs.declared.set.Set.TheVariants.{N, A}
 use Rattle.corr_ids.specs.Day.{day_of, yymmdd_of}
 use Rattle.corr_ids.proofs.laws.DaySpelling.{day-again}
 use Rattle.corr_money.specs.Amounts.{amount_of, amount_text}
 use Rattle.corr_money.specs.declared.amount.Amount.{Amount}
 use Rattle.corr_money.proofs.laws.Written.{reads_written}
-use Rattle.ref_tables.specs.Seen.{Tables, decimals_in}
+use Rattle.ref_tables.specs.Seen.{Tables}
 use Rattle.fin_contents.specs.declared.value.Value.{Value}
-use Rattle.fin_contents.specs.Money.{ccy_amount_in, ccy_amount_of, is_ccy_amount, is_dated_amount, is_metal, value_in, value_of}
+use Rattle.fin_contents.specs.Money.{ccy_amount_in, ccy_amount_of, is_ccy_amount, is_dated_amount, value_in, value_of}
 use Rattle.fin_contents.specs.Writing.{ccy_amount_field, ccy_amount_text, value_field}
 use Rattle.advices.specs.Spelled.{IsMoved, IsSpelled}
 use Rattle.advices.specs.Valid.{IsTabled}
