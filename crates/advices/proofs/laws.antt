@@ -14,3 +14,5 @@ pub mod Credits
 pub mod Seats
 pub mod Transfers
 pub mod Covers
+pub mod Ordered
+pub mod Onward

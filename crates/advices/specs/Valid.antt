@@ -1,5 +1,5 @@
 -- What is sent of an entry passes the tests of its type, under the tables under which the received message passed its own.
-use Rattle.std.specs.Prelude.{◌≡◌, ℕ, ◌≤◌, true, false, List, Option, Some, None, IfSome, Ok, length}
+use Rattle.std.specs.Prelude.{◌≡◌, ℕ, ◌≤◌, true, false, List, Option, Some, None, IfSome, Ok, codes, find, length}
 use Rattle.corr_text.specs.First.{first_of}
 use Rattle.corr_ids.specs.Address.{bank_of}
 use Rattle.corr_ids.specs.Mir.{sender_of}
@@ -17,6 +17,7 @@ use Rattle.fin_message.specs.Sound.{IsSaid, KeepsRules}
 use Rattle.fin_message.specs.declared.message.Message.{Message}
 use Rattle.fin_message.specs.declared.message.Message.TheVariants as message
 use Rattle.mt103.specs.Message.{field_tests as tests_103}
+use Rattle.mt103.specs.declared.message.Mt103.{Mt103}
 use Rattle.mt202cov.specs.Message.{field_tests as tests_202}
 use Rattle.mt202cov.specs.declared.message.Mt202Cov.{Mt202Cov}
 use Rattle.mt9_advice.specs.Advice.{mt900_of, mt910_of, tests_900, tests_910}
@@ -32,8 +33,10 @@ use Rattle.day_model.specs.declared.pay.Pay.{Pay}
 use Rattle.day_model.specs.declared.pay.Skip.{Skip}
 use Rattle.advices.specs.declared.received.Received.{Received}
 use Rattle.advices.specs.Cover.{cover_fields}
+use Rattle.advices.specs.Fields.{is_named}
 use Rattle.advices.specs.Legs.{leg_account}
 use Rattle.advices.specs.Messages.{order_fields}
+use Rattle.advices.specs.Received.{ordered_of}
 use Rattle.advices.specs.Spelled.{IsSpelled}
 use Rattle.advices.specs.Transfer.{transfer_fields}
 
@@ -116,3 +119,22 @@ CoverFieldsPass =
     → (reference related : List ℕ) → reference_of (line_field 20 None reference) ≡ Ok reference → reference_of (line_field 21 None related) ≡ Ok related → (v : Value) → value_of t (value_field v) ≡ Ok v
     → (ordered : Amount) → IsSpelled ordered → IsTabled t ordered → (end : Bic) → IsBic end → has_head t end.head ≡ true → (skip : Skip)
     → first_of (tests_202 t (cover_fields r reference related v ordered end skip)) ≡ None
+
+-- what was ordered is of a currency of the tables, with its decimals, where the first 32A reads as a value and the account has the
+-- decimals of that value
+abbrev pub OrderedIsTabled : Type 0
+OrderedIsTabled =
+    (t : Tables) (r : Received) (own : Amount) (f : Field) (v : Value) → find (is_named 32 (codes "A")) r.fields ≡ Some f → value_of t f ≡ Ok v → own.decimals ≡ v.amount.decimals
+    → IsTabled t own → IsTabled t (ordered_of r own)
+
+-- so the transfer that a pay asks for, which came from a transfer, under the premises of the notices
+abbrev pub TransferStands : Type 0
+TransferStands =
+    (t : Tables) (chart : Chart) (pay : Pay) (envelope : Envelope) (text : List ℕ) (m : Mt103) (place k : ℕ) (to : Bic) (skip : Skip) (via : Option Bic) → CameFrom t chart pay (message.Transfer envelope text m)
+    → place ≤ 100000 → k ≤ 255 → IfSome via (λ b. IsBic b × (has_head t b.head ≡ true)) → first_of (tests_103 t (order_fields chart pay place k (order.Transfer to skip via))) ≡ None
+
+-- and its cover
+abbrev pub CoverStands : Type 0
+CoverStands =
+    (t : Tables) (chart : Chart) (pay : Pay) (envelope : Envelope) (text : List ℕ) (m : Mt103) (place k : ℕ) (to end : Bic) (skip : Skip) → CameFrom t chart pay (message.Transfer envelope text m)
+    → place ≤ 100000 → k ≤ 255 → IsBic end → has_head t end.head ≡ true → first_of (tests_202 t (order_fields chart pay place k (order.Cover to end skip))) ≡ None

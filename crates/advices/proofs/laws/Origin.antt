@@ -1,5 +1,5 @@
 -- What the received message of a pay gives to those that are sent on.
-use Rattle.std.proofs.Common.{◌≡◌, ℕ, ◌≤◌, ◌==◌, not, Bool, true, false, List, [], ◌∷◌, length, take, drop, Some, None, Ok, refl, ap, ◌∙◌, arith, nat_le}
+use Rattle.std.proofs.Common.{◌≡◌, ℕ, ◌≤◌, ◌==◌, not, Bool, true, false, List, [], ◌∷◌, length, take, drop, Some, None, Ok, refl, ap, ◌∙◌, arith, nat_le, Option, Result, Err, option_map}
 use Rattle.std.specs.Prelude.{codes, find, unwrap_or}
 use Rattle.std.specs.List.{list_all}
 use Rattle.std.proofs.lemmas.Bool.Decides.{nat_tests}
@@ -8,14 +8,15 @@ use Rattle.corr_text.specs.Sets.{is_in}
 use Rattle.corr_text.specs.declared.set.Set.TheVariants.{X, N, A}
 use Rattle.corr_ids.specs.Day.{day_of}
 use Rattle.corr_money.specs.declared.amount.Amount.{Amount}
+use Rattle.corr_text.specs.declared.fault.Code.{Code}
+use Rattle.fin_layout.specs.declared.place.Place.{Place}
 use Rattle.ref_tables.specs.Seen.{Tables, decimals_in}
 use Rattle.fin_fields.specs.Faults.{field_fault}
 use Rattle.fin_fields.specs.Fields.{fields_of}
 use Rattle.fin_fields.specs.declared.field.Field.{Field}
-use Rattle.fin_layout.specs.Contents.{all_from, in_option, in_place}
+use Rattle.fin_layout.specs.Contents.{all_from, in_option, in_place, located, must_read}
 use Rattle.fin_layout.specs.Order.{field_in, places_from}
 use Rattle.fin_layout.specs.Tests.{passed}
-use Rattle.fin_layout.proofs.laws.ReadBack.{must-ok}
 use Rattle.fin_contents.specs.declared.value.Value.{Value}
 use Rattle.fin_contents.specs.Money.{ccy_amount_in, ccy_amount_of, is_ccy_amount, is_dated_amount, is_metal, minor_in, rate_of, value_in, value_of}
 use Rattle.fin_contents.specs.Plain.{one_line, reference_of, texts_of, time_of}
@@ -40,7 +41,7 @@ use Rattle.day_model.specs.declared.pay.Pay.{Pay}
 use Rattle.advices.specs.Fields.{is_named}
 use Rattle.advices.specs.Received.{fields_in}
 use Rattle.advices.specs.Valid.{IsReceived, IsTabled, amount_of}
-use Rattle.advices.proofs.laws.Finding.{must-copy}
+use Rattle.advices.proofs.laws.Finding.{copied-at, field_of, must-copy}
 
 -- ---- the currency of 32A
 
@@ -71,7 +72,7 @@ value-tabled t line v form e =
     let same : record { day = day.0; amount = amount.0 } ≡ v = cc some.1 in
     rw (← same) (amount-tabled t (drop 6 line) amount.0 parts.2 (not-true (is_metal (take 3 (drop 6 line))) metal.0) amount.1)
 
-field-tabled : (t : Tables) (f : Field) (v : Value) → value_of t f ≡ Ok v → IsTabled t v.amount
+pub field-tabled : (t : Tables) (f : Field) (v : Value) → value_of t f ≡ Ok v → IsTabled t v.amount
 unfolding value_of
 field-tabled t f v e =
     let line = there (one_line f) _ _ v e in
@@ -153,7 +154,21 @@ pub record Given (t : Tables) (pay : Pay) (a : Amount) : Type 0 where
   pub reference : List ℕ
   pub found : find (is_named 20 (codes " ")) (fields_of pay.text) ≡ Some field
   pub says : reference_of field ≡ Ok reference
+  pub dated : Field
+  pub value : Value
+  pub found_32 : find (is_named 32 (codes "A")) (fields_of pay.text) ≡ Some dated
+  pub says_32 : value_of t dated ≡ Ok value
+  pub same : value.amount ≡ a
   pub tabled : IsTabled t a
+
+located-read : {A : Type 0} (fs : List Field) (i : ℕ) (r : Result A Code) (x : A) → located fs i r ≡ Ok x → r ≡ Ok x
+located-read fs i (Ok y) x e = ap Ok (cc e)
+located-read fs i (Err c) x e = absurd (cc e)
+
+-- the field of a place that was read
+found-read : {A : Type 0} (order : List Place) (fs : List Field) (k : ℕ) (read : Field → Result A Code) (o : Option (ℕ × Field)) (x : A) → must_read order fs k read o ≡ Ok x → (f : Field) × (option_map field_of o ≡ Some f) × (read f ≡ Ok x)
+found-read order fs k read None x e = absurd (cc e)
+found-read order fs k read (Some (n, f)) x e = (f, refl, located-read fs n (read f) x e)
 
 cut-whole : (text : List ℕ) → field_fault text ≡ None → fields_in text ≡ fields_of text
 cut-whole text e = rw e refl
@@ -166,16 +181,42 @@ of-transfer t pay m s =
     let fs = fields_of pay.text in
     let first = must-copy order_103 (content_103 t) fs s.tests 20 (codes " ") 0 refl reference_of _ (λ f. refl) refl refl in
     let value = transfer-value t fs m s.says in
-    let f = must-ok order_103 fs 5 (value_of t) (field_in fs (places_from order_103 0 fs) 5) value.0 value.1 in
-    record { fields = cut-whole pay.text s.cut; field = first.0; reference = first.1; found = first.2; says = first.3; tabled = tabled-by t value.0.amount m.amount value.2 (field-tabled t f.0 value.0 f.1) }
+    let f = found-read order_103 fs 5 (value_of t) (field_in fs (places_from order_103 0 fs) 5) value.0 value.1 in
+    let at = copied-at order_103 (content_103 t) fs s.tests 32 (codes "A") 5 refl in
+    record {
+      fields = cut-whole pay.text s.cut;
+      field = first.0;
+      reference = first.1;
+      found = first.2;
+      says = first.3;
+      dated = f.0;
+      value = value.0;
+      found_32 = at ∙ f.1;
+      says_32 = f.2;
+      same = value.2;
+      tabled = tabled-by t value.0.amount m.amount value.2 (field-tabled t f.0 value.0 f.2);
+    }
 
 of-cover : (t : Tables) (pay : Pay) (m : Mt202Cov) → Say tests_202 mt202cov_of t pay.text m → Given t pay m.amount
 of-cover t pay m s =
     let fs = fields_of pay.text in
     let first = must-copy order_202 (content_202 t) fs s.tests 20 (codes " ") 0 refl reference_of _ (λ f. refl) refl refl in
     let value = cover-value t fs m s.says in
-    let f = must-ok order_202 fs 3 (value_of t) (field_in fs (places_from order_202 0 fs) 3) value.0 value.1 in
-    record { fields = cut-whole pay.text s.cut; field = first.0; reference = first.1; found = first.2; says = first.3; tabled = tabled-by t value.0.amount m.amount value.2 (field-tabled t f.0 value.0 f.1) }
+    let f = found-read order_202 fs 3 (value_of t) (field_in fs (places_from order_202 0 fs) 3) value.0 value.1 in
+    let at = copied-at order_202 (content_202 t) fs s.tests 32 (codes "A") 3 refl in
+    record {
+      fields = cut-whole pay.text s.cut;
+      field = first.0;
+      reference = first.1;
+      found = first.2;
+      says = first.3;
+      dated = f.0;
+      value = value.0;
+      found_32 = at ∙ f.1;
+      says_32 = f.2;
+      same = value.2;
+      tabled = tabled-by t value.0.amount m.amount value.2 (field-tabled t f.0 value.0 f.2);
+    }
 
 pub given : (t : Tables) (pay : Pay) (m : Message) → IsReceived t pay m → Given t pay (amount_of m)
 given t pay (message.Transfer envelope text transfer) r = let same = r.kept.1 in of-transfer t pay transfer (rw (← same) r.said)
