@@ -1,5 +1,5 @@
 -- The transfer and the cover that are sent of a pay stand in their order, and each content passes its test.
-use Rattle.std.proofs.Common.{◌≡◌, ℕ, ◌≤◌, List, length, Some, None, Ok, refl, ap, ◌∙◌, sym, arith}
+use Rattle.std.proofs.Common.{◌≡◌, ℕ, List, length, Some, None, Ok, ap, ◌∙◌, sym, arith}
 use Rattle.std.specs.Prelude.{codes, find}
 use Rattle.corr_money.specs.declared.amount.Amount.{Amount}
 use Rattle.ref_tables.specs.Seen.{Tables}
@@ -22,7 +22,7 @@ use Rattle.advices.specs.Spelled.{IsSpelled}
 use Rattle.advices.specs.Valid.{CameFrom, CoverStands, IsTabled, TransferStands, amount_of}
 use Rattle.advices.proofs.laws.Covers.{cover-fields-pass}
 use Rattle.advices.proofs.laws.Made.{ours-read}
-use Rattle.advices.proofs.laws.Orders.{Moved, moved, ordered-spelled, received-cut}
+use Rattle.advices.proofs.laws.Orders.{moved, ordered-spelled, received-cut}
 use Rattle.advices.proofs.laws.Ordered.{ordered-tabled}
 use Rattle.advices.proofs.laws.Origin.{given, like-tabled}
 use Rattle.advices.proofs.laws.Transfers.{transfer-fields-pass}

@@ -1,6 +1,6 @@
 -- What was ordered is of a currency that the tables hold, where the account has the decimals of 32A.
-use Rattle.std.proofs.Common.{◌≡◌, ℕ, ◌==◌, not, Bool, true, false, cond, List, take, drop, option_map, Option, Some, None, Result, Ok, Err, refl, sym, ap, ◌∙◌}
-use Rattle.std.specs.Prelude.{codes, find, option_and_then, unwrap_or}
+use Rattle.std.proofs.Common.{◌≡◌, ℕ, ◌==◌, not, Bool, true, false, cond, List, take, drop, option_map, Some, None, Result, Ok, Err, sym, ap, ◌∙◌}
+use Rattle.std.specs.Prelude.{codes, find, unwrap_or}
 use Rattle.corr_ids.specs.Day.{day_of}
 use Rattle.corr_money.specs.Amounts.{amount_of}
 use Rattle.corr_money.specs.declared.amount.Amount.{Amount}
@@ -14,7 +14,7 @@ use Rattle.fin_contents.specs.Plain.{one_line}
 use Rattle.fin_contents.proofs.laws.Steps.{checked, read-then, there}
 use Rattle.advices.specs.declared.received.Received.{Received}
 use Rattle.advices.specs.Fields.{is_named}
-use Rattle.advices.specs.Received.{amount_if, minor_if, ordered_of}
+use Rattle.advices.specs.Received.{minor_if, ordered_of}
 use Rattle.advices.specs.Valid.{IsTabled}
 use Rattle.advices.proofs.laws.Origin.{field-tabled}
 
