@@ -2,3 +2,17 @@ pub mod Bytes
 pub mod Fit
 pub mod Sendable
 pub mod Orders
+pub mod Values
+pub mod Finding
+pub mod Made
+pub mod Origin
+pub mod Fitted
+pub mod Copies
+pub mod Banks
+pub mod Debits
+pub mod Credits
+pub mod Seats
+pub mod Transfers
+pub mod Covers
+pub mod Ordered
+pub mod Onward

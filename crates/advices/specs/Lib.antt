@@ -2,6 +2,7 @@ pub mod Fields
 pub mod Received
 pub mod Legs
 pub mod Spelled
+pub mod Valid
 pub mod Transfer
 pub mod Cover
 pub mod Pass

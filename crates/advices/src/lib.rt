@@ -6,6 +6,7 @@ mod advice;
 mod copying;
 mod cover;
 mod entry;
+mod law;
 mod legs;
 mod ordered;
 mod pass;
@@ -15,3 +16,4 @@ mod sending;
 mod transfer;
 
 pub use entry::orders;
+pub use law::{sent_fields_pass, sent_messages_pass, sent_onward_stand};

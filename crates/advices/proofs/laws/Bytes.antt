@@ -42,11 +42,17 @@ digits-again (b ∷ bs) e =
 number-digits : (bs : List ℕ) (n : ℕ) → number_of bs ≡ Some n → all_ascii_digits bs ≡ true
 number-digits bs n e = grind (arith, nat_tests)
 
+pub decimal-digits : (n : ℕ) → n < 10 ^ 19 → list_all is_ascii_digit (decimal n) ≡ true
+decimal-digits n small = digits-again (decimal n) (number-digits (decimal n) n (number_of-decimal n small))
+
+pub padded-digits : (width n : ℕ) → n < 10 ^ 19 → width ≤ 19 → list_all is_ascii_digit (padded width n) ≡ true
+padded-digits width n small narrow = digits-again (padded width n) (number-digits (padded width n) n (number_of-padded width n small narrow))
+
 pub decimal-plain : (n : ℕ) → n < 10 ^ 19 → IsPlain (decimal n)
-decimal-plain n small = digits-of-x (decimal n) (digits-again (decimal n) (number-digits (decimal n) n (number_of-decimal n small)))
+decimal-plain n small = digits-of-x (decimal n) (decimal-digits n small)
 
 pub padded-plain : (width n : ℕ) → n < 10 ^ 19 → width ≤ 19 → IsPlain (padded width n)
-padded-plain width n small narrow = digits-of-x (padded width n) (digits-again (padded width n) (number-digits (padded width n) n (number_of-padded width n small narrow)))
+padded-plain width n small narrow = digits-of-x (padded width n) (padded-digits width n small narrow)
 
 pub ours-plain : (place k : ℕ) → place < 10 ^ 19 → k < 10 ^ 19 → IsPlain (ours place k)
 ours-plain place k small few =
@@ -63,6 +69,24 @@ two-plain n e =
     let ones : n % 10 ≤ 9 = omega arith in
     digits-of-x (digits_of n) (rw (digit-of (n / 10) tens, digit-of (n % 10) ones) refl)
 
+two-digits : (n : ℕ) → n ≤ 99 → list_all is_ascii_digit (digits_of n) ≡ true
+two-digits n e =
+    let tens : n / 10 ≤ 9 = omega arith in
+    let ones : n % 10 ≤ 9 = omega arith in
+    rw (digit-of (n / 10) tens, digit-of (n % 10) ones) refl
+
+joined-digits : (front back : List ℕ) → list_all is_ascii_digit front ≡ true → list_all is_ascii_digit back ≡ true → list_all is_ascii_digit (front ++ back) ≡ true
+joined-digits front back p q = list_all-append is_ascii_digit front back ∙ rw (p, q) refl
+
+-- the six digits of a day
+pub day-digits : (d : Day) → InCentury d → list_all is_ascii_digit (yymmdd_of d) ≡ true
+day-digits d century =
+    let p = parted d century in
+    let c = civil_of d in
+    let year : c.year % 100 ≤ 99 = omega arith in
+    joined-digits (digits_of (c.year % 100)) (digits_of c.month ++ digits_of c.day) (two-digits (c.year % 100) year)
+    (joined-digits (digits_of c.month) (digits_of c.day) (two-digits c.month p.month_in) (two-digits c.day p.day_in))
+
 pub day-plain : (d : Day) → InCentury d → IsPlain (yymmdd_of d)
 day-plain d century =
     let p = parted d century in
@@ -78,6 +102,11 @@ comma-number decimals bs m e = (checked (is_comma_number bs) T40 _ m e).0
 pub amount-plain : (decimals n : ℕ) → decimals ≤ 4 → n < amount_end → IsPlain (amount_text decimals n)
 amount-plain decimals n few small =
     (comma_number-of-x (amount_text decimals n) (comma-number decimals (amount_text decimals n) (record { 0 = n }) (reads_written decimals n few small))).0
+
+-- an amount that can be written has a digit
+pub amount-some : (decimals n : ℕ) → decimals ≤ 4 → n < amount_end → 1 ≤ length (amount_text decimals n)
+amount-some decimals n few small =
+    (comma_number-of-x (amount_text decimals n) (comma-number decimals (amount_text decimals n) (record { 0 = n }) (reads_written decimals n few small))).1
 
 pub ccy_amount-plain : (a : Amount) → IsSpelled a → IsPlain (ccy_amount_text a)
 ccy_amount-plain a is =

@@ -1,5 +1,5 @@
 -- The fields of each order of a pay that fits and has its shape may stand in a text.
-use Rattle.std.proofs.Common.{◌≡◌, ◌≢◌, ℕ, zero, suc, ◌-◌, ◌<◌, ◌≤◌, ◌^◌, Bool, true, false, cond, List, [], ◌∷◌, length, take, drop, Option, Some, None, Result, Ok, Err, refl, ap, arith, nat_lt, nat_le}
+use Rattle.std.proofs.Common.{◌≡◌, ◌≢◌, ℕ, zero, suc, ◌-◌, ◌<◌, ◌≤◌, ◌^◌, Bool, true, false, cond, List, [], ◌∷◌, length, take, drop, Option, Some, None, Result, Ok, Err, refl, ap, arith, nat_lt, nat_le, subst}
 use Rattle.std.specs.Prelude.{codes, find, is_some, option_and_then, option_map, slice_get, unwrap_or, IfSome}
 use Rattle.std.specs.List.{All, list_all}
 use Rattle.std.proofs.lemmas.Bool.Decides.{nat_tests}
@@ -28,11 +28,12 @@ use Rattle.day_model.specs.Chart.{Chart, IsChart, IsFormed}
 use Rattle.day_model.specs.Fit.{FitsAccounts}
 use Rattle.day_model.specs.Shape.{HasShape, IsNumbered, IsOrder}
 use Rattle.day_model.specs.declared.account.Account.{Account}
+use Rattle.day_model.specs.declared.pay.Leg.{Leg}
 use Rattle.day_model.specs.declared.pay.Order.{Order}
 use Rattle.day_model.specs.declared.pay.Order.TheVariants.{Transfer, Cover, Pass, Debit, Credit}
 use Rattle.day_model.specs.declared.pay.Pay.{Pay}
 use Rattle.day_model.specs.declared.pay.Skip.{Skip}
-use Rattle.day_model.proofs.laws.Fitting.{leg_sound, transfer}
+use Rattle.day_model.proofs.laws.Fitting.{leg_sound, transfer, Transfer as LegsFit}
 use Rattle.advices.specs.declared.received.Received.{Received}
 use Rattle.advices.specs.Advice.{credit_fields, debit_fields}
 use Rattle.advices.specs.Cover.{cover_fields}
@@ -113,11 +114,23 @@ pub record Moved (chart : Chart) (pay : Pay) (n : ℕ) : Type 0 where
   pub of_amount : leg_amount chart pay n ≡ Some amount
   pub formed : IsFormed account
   pub spelled : IsSpelled amount
+  pub in_ccy : amount.ccy ≡ account.ccy
+  pub in_decimals : amount.decimals ≡ account.decimals
+  pub above : 0 < amount.minor.0
 
 there : {X : Type 0} (xs : List X) (i : ℕ) → i < length xs → (x : X) × (slice_get xs i ≡ Some x)
 there [] i lt = absurd (omega arith)
 there (x ∷ xs) zero lt = (x, refl)
 there (x ∷ xs) (suc i) lt = there xs i (omega arith)
+
+-- both legs move an amount above 0
+of-two : (d c : Leg) → 0 < d.amount.0 → d.amount.0 ≡ c.amount.0 → (i : ℕ) (leg : Leg) → slice_get (d ∷ c ∷ []) i ≡ Some leg → 0 < leg.amount.0
+of-two d c above equal zero leg at = let same : d ≡ leg = cc at in rw (← same) above
+of-two d c above equal (suc zero) leg at = let same : c ≡ leg = cc at in rw (← same, ← equal) above
+of-two d c above equal (suc (suc i)) leg at = absurd (cc at)
+
+leg-above : (chart : Chart) (legs : List Leg) (i : ℕ) (leg : Leg) → LegsFit chart legs → slice_get legs i ≡ Some leg → 0 < leg.amount.0
+leg-above chart legs i leg t at = of-two t.debit t.credit t.above t.equal i leg (subst (λ (ls : List Leg). slice_get ls i ≡ Some leg) t.legs_are at)
 
 pub moved : (chart : Chart) (pay : Pay) (n : ℕ) → IsChart chart → FitsAccounts chart pay → IsNumbered (length pay.legs) n → Moved chart pay n
 moved chart pay n sound fits numbered =
@@ -132,6 +145,9 @@ moved chart pay n sound fits numbered =
       of_amount = rw (at, own) refl;
       formed = formed;
       spelled = record { amount = record { small = leg_is.below; few = formed.decimals }; letters = formed.ccy };
+      in_ccy = refl;
+      in_decimals = refl;
+      above = leg-above chart pay.legs (n - 1) leg (transfer chart pay.legs fits) at;
     }
 
 -- ---- each order

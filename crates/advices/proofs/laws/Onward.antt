@@ -1,0 +1,82 @@
+-- The transfer and the cover that are sent of a pay stand in their order, and each content passes its test.
+use Rattle.std.proofs.Common.{◌≡◌, ℕ, List, length, Some, None, Ok, ap, ◌∙◌, sym, arith}
+use Rattle.std.specs.Prelude.{codes, find}
+use Rattle.corr_money.specs.declared.amount.Amount.{Amount}
+use Rattle.ref_tables.specs.Seen.{Tables}
+use Rattle.fin_fields.specs.Fields.{fields_of}
+use Rattle.fin_contents.specs.Money.{value_of}
+use Rattle.fin_contents.specs.Writing.{value_field}
+use Rattle.fin_message.specs.Sound.{Say}
+use Rattle.fin_message.specs.declared.message.Message.{Message}
+use Rattle.fin_message.specs.declared.message.Message.TheVariants as message
+use Rattle.mt103.specs.Message.{field_tests as tests_103, mt103_of}
+use Rattle.mt103.specs.declared.message.Mt103.{Mt103}
+use Rattle.corr_text.specs.First.{first_of}
+use Rattle.day_model.specs.Chart.{Chart}
+use Rattle.day_model.specs.declared.pay.Pay.{Pay}
+use Rattle.day_model.proofs.laws.Fitting.{transfer, two_legs}
+use Rattle.advices.specs.Fields.{is_named, ours}
+use Rattle.advices.specs.Legs.{leg_amount, value_of_pay}
+use Rattle.advices.specs.Received.{ordered_of, received_of}
+use Rattle.advices.specs.Spelled.{IsSpelled}
+use Rattle.advices.specs.Valid.{CameFrom, CoverStands, IsTabled, TransferStands, amount_of}
+use Rattle.advices.proofs.laws.Covers.{cover-fields-pass}
+use Rattle.advices.proofs.laws.Made.{ours-read}
+use Rattle.advices.proofs.laws.Orders.{moved, ordered-spelled, received-cut}
+use Rattle.advices.proofs.laws.Ordered.{ordered-tabled}
+use Rattle.advices.proofs.laws.Origin.{given, like-tabled}
+use Rattle.advices.proofs.laws.Transfers.{transfer-fields-pass}
+use Rattle.advices.proofs.laws.Values.{value-made}
+
+-- what the legs give: the value that is sent on, and what was ordered
+record Legs (t : Tables) (chart : Chart) (pay : Pay) : Type 0 where
+  own : Amount
+  sent : Amount
+  of_own : leg_amount chart pay 1 ≡ Some own
+  of_sent : leg_amount chart pay 2 ≡ Some sent
+  value : value_of t (value_field (value_of_pay pay sent)) ≡ Ok (value_of_pay pay sent)
+  spelled : IsSpelled (ordered_of (received_of pay) own)
+  tabled : IsTabled t (ordered_of (received_of pay) own)
+
+legs : (t : Tables) (chart : Chart) (pay : Pay) (m : Message) → CameFrom t chart pay m → Legs t chart pay
+legs t chart pay m came =
+    let g = given t pay m came.received in
+    let two : length pay.legs ≡ 2 = two_legs chart pay.legs (transfer chart pay.legs came.fits) in
+    let first = moved chart pay 1 came.accounts came.fits (omega arith, omega (arith, two)) in
+    let second = moved chart pay 2 came.accounts came.fits (omega arith, omega (arith, two)) in
+    let money = came.money 1 first.account first.on_account in
+    let moneys = came.money 2 second.account second.on_account in
+    let like = like-tabled t (amount_of m) first.amount (first.in_ccy ∙ money.ccy) (first.in_decimals ∙ money.decimals) g.tabled in
+    let likes = like-tabled t (amount_of m) second.amount (second.in_ccy ∙ moneys.ccy) (second.in_decimals ∙ moneys.decimals) g.tabled in
+    let decimals = first.in_decimals ∙ money.decimals ∙ sym (ap (λ (a : Amount). a.decimals) g.same) in
+    let found : find (is_named 32 (codes "A")) (received_of pay).fields ≡ Some g.dated = ap (find (is_named 32 (codes "A"))) g.fields ∙ g.found_32 in
+    record {
+      own = first.amount;
+      sent = second.amount;
+      of_own = first.of_amount;
+      of_sent = second.of_amount;
+      value = value-made t (value_of_pay pay second.amount) (record { day = came.shape.value; amount = second.spelled }) likes second.above;
+      spelled = ordered-spelled (received_of pay) first.amount first.spelled;
+      tabled = ordered-tabled t (received_of pay) first.amount g.dated g.value found g.says_32 decimals like;
+    }
+
+transfer-tests : (t : Tables) (pay : Pay) (m : Mt103) (text : List ℕ) → text ≡ pay.text → Say tests_103 mt103_of t text m → first_of (tests_103 t (fields_of pay.text)) ≡ None
+transfer-tests t pay m text same said = rw (← same) (said.tests)
+
+pub transfer-stands : TransferStands
+transfer-stands t chart pay envelope text m place k to skip via came small few via_is =
+    let l = legs t chart pay (message.Transfer envelope text m) came in
+    let g = given t pay (message.Transfer envelope text m) came.received in
+    let kept = came.received.kept in
+    rw (l.of_own, l.of_sent)
+    (transfer-fields-pass t (received_of pay) (fields_of pay.text) kept.0 g.fields (transfer-tests t pay m text kept.1 came.received.said) (received-cut pay came.shape).sender came.sender
+    (ours place k) (ours-read place k small few 20) (value_of_pay pay l.sent) l.value (ordered_of (received_of pay) l.own) l.spelled l.tabled skip via via_is)
+
+pub cover-stands : CoverStands
+cover-stands t chart pay envelope text m place k to end skip came small few end_is end_known =
+    let l = legs t chart pay (message.Transfer envelope text m) came in
+    let g = given t pay (message.Transfer envelope text m) came.received in
+    let kept = came.received.kept in
+    rw (l.of_own, l.of_sent)
+    (cover-fields-pass t (received_of pay) (fields_of pay.text) kept.0 g.fields (transfer-tests t pay m text kept.1 came.received.said) (received-cut pay came.shape).sender came.sender
+    (ours place k) (ours place 1) (ours-read place k small few 20) (ours-read place 1 small (omega arith) 21) (value_of_pay pay l.sent) l.value (ordered_of (received_of pay) l.own) l.spelled l.tabled end end_is end_known skip)

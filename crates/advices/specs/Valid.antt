@@ -1,0 +1,140 @@
+-- What is sent of an entry passes the tests of its type, under the tables under which the received message passed its own.
+use Rattle.std.specs.Prelude.{◌≡◌, ℕ, ◌≤◌, true, false, List, Option, Some, None, IfSome, Ok, codes, find, length}
+use Rattle.corr_text.specs.First.{first_of}
+use Rattle.corr_ids.specs.Address.{bank_of}
+use Rattle.corr_ids.specs.Mir.{sender_of}
+use Rattle.corr_ids.specs.Bic.{IsBic}
+use Rattle.corr_ids.specs.declared.bic.Bic.{Bic}
+use Rattle.corr_ids.specs.declared.envelope.Envelope.{Envelope}
+use Rattle.corr_money.specs.declared.amount.Amount.{Amount}
+use Rattle.ref_tables.specs.Seen.{Tables, decimals_in, has_head}
+use Rattle.fin_fields.specs.declared.field.Field.{Field}
+use Rattle.fin_contents.specs.declared.value.Value.{Value}
+use Rattle.fin_contents.specs.Money.{is_metal, value_of}
+use Rattle.fin_contents.specs.Plain.{reference_of}
+use Rattle.fin_contents.specs.Writing.{line_field, value_field}
+use Rattle.fin_message.specs.Sound.{IsSaid, KeepsRules}
+use Rattle.fin_message.specs.declared.message.Message.{Message}
+use Rattle.fin_message.specs.declared.message.Message.TheVariants as message
+use Rattle.mt103.specs.Message.{field_tests as tests_103}
+use Rattle.mt103.specs.declared.message.Mt103.{Mt103}
+use Rattle.mt202cov.specs.Message.{field_tests as tests_202}
+use Rattle.mt202cov.specs.declared.message.Mt202Cov.{Mt202Cov}
+use Rattle.mt9_advice.specs.Advice.{mt900_of, mt910_of, tests_900, tests_910}
+use Rattle.mt9_advice.specs.declared.credit.Mt910.{Mt910}
+use Rattle.mt9_advice.specs.declared.debit.Mt900.{Mt900}
+use Rattle.day_model.specs.Chart.{Chart, IsChart}
+use Rattle.day_model.specs.Fit.{FitsAccounts}
+use Rattle.day_model.specs.Shape.{HasShape, IsNumbered}
+use Rattle.day_model.specs.declared.account.Account.{Account}
+use Rattle.day_model.specs.declared.pay.Mt.TheVariants.{Transfer, Cover}
+use Rattle.day_model.specs.declared.pay.Order.TheVariants as order
+use Rattle.day_model.specs.declared.pay.Pay.{Pay}
+use Rattle.day_model.specs.declared.pay.Skip.{Skip}
+use Rattle.advices.specs.declared.received.Received.{Received}
+use Rattle.advices.specs.Cover.{cover_fields}
+use Rattle.advices.specs.Fields.{is_named}
+use Rattle.advices.specs.Legs.{leg_account}
+use Rattle.advices.specs.Messages.{order_fields}
+use Rattle.advices.specs.Received.{ordered_of}
+use Rattle.advices.specs.Spelled.{IsSpelled}
+use Rattle.advices.specs.Transfer.{transfer_fields}
+
+-- the tables hold an amount's currency with its decimals, and it is no precious metal
+pub record IsTabled (t : Tables) (a : Amount) : Type 0 where
+  pub three : length a.ccy.0 ≡ 3
+  pub known : decimals_in t a.ccy.0 ≡ Some a.decimals
+  pub metal : is_metal a.ccy.0 ≡ false
+
+-- ---- the premises
+
+-- the text of a pay is that of this message, and the pay has its type; of an advice there is no pay
+abbrev pub IsTextOf : Pay → Message → Type 0
+IsTextOf pay (message.Transfer envelope text transfer) = (pay.mt ≡ Transfer) × (text ≡ pay.text)
+IsTextOf pay (message.Cover envelope text cover) = (pay.mt ≡ Cover) × (text ≡ pay.text)
+IsTextOf pay (message.Debit envelope advice) = ⊥
+IsTextOf pay (message.Credit envelope advice) = ⊥
+
+-- the amount of a message's 32A
+abbrev pub amount_of : Message → Amount
+amount_of (message.Transfer envelope text transfer) = transfer.amount
+amount_of (message.Cover envelope text cover) = cover.amount
+amount_of (message.Debit envelope advice) = advice.amount
+amount_of (message.Credit envelope advice) = advice.amount
+
+-- a message that passes the tests of its lines, its fields and its contents under these tables and breaks no rule, and
+-- whose text the pay keeps
+pub record IsReceived (t : Tables) (pay : Pay) (m : Message) : Type 0 where
+  pub said : IsSaid t m
+  pub rules : KeepsRules t m
+  pub kept : IsTextOf pay m
+
+-- an account has the currency of an amount, with its decimals
+pub record IsInMoney (account : Account) (a : Amount) : Type 0 where
+  pub ccy : account.ccy ≡ a.ccy
+  pub decimals : account.decimals ≡ a.decimals
+
+-- a pay that came from a message: it fits the accounts and can be written down; each leg's account has the currency and the
+-- decimals of 32A; and the tables hold the sender's head
+pub record CameFrom (t : Tables) (chart : Chart) (pay : Pay) (m : Message) : Type 0 where
+  pub accounts : IsChart chart
+  pub fits : FitsAccounts chart pay
+  pub shape : HasShape pay
+  pub received : IsReceived t pay m
+  pub money : (n : ℕ) (account : Account) → leg_account chart pay n ≡ Some account → IsInMoney account (amount_of m)
+  pub sender : has_head t (bank_of (sender_of pay.mir)).head ≡ true
+
+-- ---- the laws
+
+-- the notice of a debit: its fields stand in their order and none is missing, each content passes its test, and so an
+-- MT900 is read of them; it has no rules
+abbrev pub DebitPasses : Type 0
+DebitPasses =
+    (t : Tables) (chart : Chart) (pay : Pay) (m : Message) (place k leg : ℕ) (to : Bic) → CameFrom t chart pay m → place ≤ 100000 → k ≤ 255 → IsNumbered (length pay.legs) leg
+    → (first_of (tests_900 t (order_fields chart pay place k (order.Debit to leg))) ≡ None)
+    × ((advice : Mt900) × (mt900_of t (order_fields chart pay place k (order.Debit to leg)) ≡ Ok advice))
+
+-- the notice of a credit, which only a cover asks for: the same of an MT910, and its rule is kept, for it names the ordering
+-- institution
+abbrev pub CreditPasses : Type 0
+CreditPasses =
+    (t : Tables) (chart : Chart) (pay : Pay) (envelope : Envelope) (text : List ℕ) (cover : Mt202Cov) (place k leg : ℕ) (to : Bic) → CameFrom t chart pay (message.Cover envelope text cover)
+    → place ≤ 100000 → k ≤ 255 → IsNumbered (length pay.legs) leg
+    → (first_of (tests_910 t (order_fields chart pay place k (order.Credit to leg))) ≡ None)
+    × ((advice : Mt910) × (mt910_of t (order_fields chart pay place k (order.Credit to leg)) ≡ Ok advice))
+
+-- a transfer that is sent: its fields stand in their order, none is missing, and each content passes its test, where what was
+-- ordered is of a currency of the tables
+abbrev pub TransferFieldsPass : Type 0
+TransferFieldsPass =
+    (t : Tables) (r : Received) (fs : List Field) → r.mt ≡ Transfer → r.fields ≡ fs → first_of (tests_103 t fs) ≡ None → IsBic r.sender → has_head t r.sender.head ≡ true
+    → (reference : List ℕ) → reference_of (line_field 20 None reference) ≡ Ok reference → (v : Value) → value_of t (value_field v) ≡ Ok v
+    → (ordered : Amount) → IsSpelled ordered → IsTabled t ordered → (skip : Skip) (via : Option Bic) → IfSome via (λ b. IsBic b × (has_head t b.head ≡ true))
+    → first_of (tests_103 t (transfer_fields r reference v ordered skip via)) ≡ None
+
+-- the cover of a transfer: the same, where the tables hold the head of the bank that the cover is for
+abbrev pub CoverFieldsPass : Type 0
+CoverFieldsPass =
+    (t : Tables) (r : Received) (fs : List Field) → r.mt ≡ Transfer → r.fields ≡ fs → first_of (tests_103 t fs) ≡ None → IsBic r.sender → has_head t r.sender.head ≡ true
+    → (reference related : List ℕ) → reference_of (line_field 20 None reference) ≡ Ok reference → reference_of (line_field 21 None related) ≡ Ok related → (v : Value) → value_of t (value_field v) ≡ Ok v
+    → (ordered : Amount) → IsSpelled ordered → IsTabled t ordered → (end : Bic) → IsBic end → has_head t end.head ≡ true → (skip : Skip)
+    → first_of (tests_202 t (cover_fields r reference related v ordered end skip)) ≡ None
+
+-- what was ordered is of a currency of the tables, with its decimals, where the first 32A reads as a value and the account has the
+-- decimals of that value
+abbrev pub OrderedIsTabled : Type 0
+OrderedIsTabled =
+    (t : Tables) (r : Received) (own : Amount) (f : Field) (v : Value) → find (is_named 32 (codes "A")) r.fields ≡ Some f → value_of t f ≡ Ok v → own.decimals ≡ v.amount.decimals
+    → IsTabled t own → IsTabled t (ordered_of r own)
+
+-- so the transfer that a pay asks for, which came from a transfer, under the premises of the notices
+abbrev pub TransferStands : Type 0
+TransferStands =
+    (t : Tables) (chart : Chart) (pay : Pay) (envelope : Envelope) (text : List ℕ) (m : Mt103) (place k : ℕ) (to : Bic) (skip : Skip) (via : Option Bic) → CameFrom t chart pay (message.Transfer envelope text m)
+    → place ≤ 100000 → k ≤ 255 → IfSome via (λ b. IsBic b × (has_head t b.head ≡ true)) → first_of (tests_103 t (order_fields chart pay place k (order.Transfer to skip via))) ≡ None
+
+-- and its cover
+abbrev pub CoverStands : Type 0
+CoverStands =
+    (t : Tables) (chart : Chart) (pay : Pay) (envelope : Envelope) (text : List ℕ) (m : Mt103) (place k : ℕ) (to end : Bic) (skip : Skip) → CameFrom t chart pay (message.Transfer envelope text m)
+    → place ≤ 100000 → k ≤ 255 → IsBic end → has_head t end.head ≡ true → first_of (tests_202 t (order_fields chart pay place k (order.Cover to end skip))) ≡ None
