@@ -1,0 +1,23 @@
+//! Each call once; cases stand in rows (blocks.rows).
+
+use fin_blocks::{App, BlockFault, Blocks, read_blocks};
+use std::alloc::Global;
+use std::test::Fail;
+
+// Promises nothing, so that the test carries none of what blocks are.
+fn blocks(alloc: Global, message: &[u8]) -> Result<Blocks, BlockFault> {
+    read_blocks(alloc, message)
+}
+
+#[test]
+fn a_sent_message_is_read(rt: HostRuntime) -> Result<(), Fail> {
+    let message =
+        b"{1:F01HOMEUS33AXXX0000000000}{2:I202CORRBEBBXXXXN}{3:{119:COV}}{4:\n:20:A\n-}{5:{PDM:}}";
+    let blocks = blocks(rt.alloc(), message)?;
+    assert_eq!(rt; blocks.own.head, *b"HOMEUS33");
+    assert!(rt; matches!(blocks.app, App::Sent { mt: 202, .. }));
+    assert_eq!(rt; blocks.user.as_slice().len(), 1);
+    assert_eq!(rt; blocks.text.bytes(), b":20:A\r\n".as_slice());
+    assert_eq!(rt; blocks.trailers.as_slice(), [*b"PDM"].as_slice());
+    Ok(())
+}

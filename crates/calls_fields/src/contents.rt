@@ -1,0 +1,195 @@
+//! Each call once; cases stand in rows (contents.rows). Calls go through functions that promise nothing: a test
+//! then carries none of what a call promises.
+
+ghost use Rattle.std.specs.Prelude.{◌≡◌};
+
+use corr_ids::Day;
+use corr_money::{Amount, Ccy, Minor};
+use corr_text::{List, Memory, Set, Text};
+use fin_contents::{
+    CcyAmount, KnownParty, Rate, Reference, ShortLine, Texts, Time, Value, ValueDate, are_in,
+    array_of, is_clock, line_field, one_line, or_none, push_ccy_amount, push_ccy_amounts,
+    push_party, push_rate, push_texts, push_times, put_ccy_amount, put_known_party, put_rate,
+    put_reference, put_short_line, put_texts, put_time, put_value,
+};
+use fin_fields::Field;
+use fin_layout::Content;
+use fin_parties::Party;
+use ref_tables::{RefTables, TableFault, read_tables};
+use std::alloc::Global;
+use std::test::Fail;
+
+const CENTS: Amount = Amount {
+    ccy: Ccy(*b"EUR"),
+    minor: Minor(150),
+    decimals: 2,
+};
+
+fn tables(alloc: Global) -> Result<RefTables, TableFault> {
+    read_tables(alloc, b"HOMEUS33", b"EUR,2", b"")
+}
+
+// Whether a field of one line is read.
+fn is_read<C: Content>(alloc: Global, content: &C, line: &[u8]) -> bool {
+    match line_field(alloc, 20, None, line) {
+        Ok(f) => content.read(alloc, &f).is_ok(),
+        Err(_) => false,
+    }
+}
+
+#[test]
+fn texts_are_read(rt: HostRuntime) {
+    assert!(rt; is_read(rt.alloc(), &Reference, b"A"));
+    assert!(rt; is_read(rt.alloc(), &Time, b"/A/0915+0100"));
+    assert!(rt; is_read(rt.alloc(), &Rate, b"1,5"));
+    assert!(rt; is_read(rt.alloc(), &ShortLine { most: 1 }, b"A"));
+    assert!(rt; is_read(rt.alloc(), &Texts { most: 1 }, b"A"));
+}
+
+#[test]
+fn bytes_have_their_forms(rt: HostRuntime) {
+    assert!(rt; is_clock(b"0915+0100") && are_in(Set::N, b"0915"));
+    assert_eq!(rt; array_of(b"AB"), Some(*b"AB"));
+    assert!(rt; or_none(rt.alloc(), None).as_slice().is_empty());
+}
+
+// Whether a field has this one line.
+fn has_line(f: &Field, line: &[u8]) -> bool {
+    one_line(f) == Some(line)
+}
+
+// Whether the party of a line is written again as it stands.
+fn is_kept(alloc: Global, tables: &RefTables, line: &[u8]) -> Result<bool, Memory> {
+    let bank = line_field(alloc, 52, Some(b'A'), line)?;
+    match (KnownParty { tables }).read(alloc, &bank) {
+        Ok(party) => Ok(has_line(&put_known_party(alloc, 52, &party)?, line)),
+        Err(_) => Ok(false),
+    }
+}
+
+#[test]
+fn contents_under_tables_are_read(rt: HostRuntime) -> Result<(), Fail> {
+    let tables = tables(rt.alloc())?;
+    assert!(rt; is_read(rt.alloc(), &ValueDate { tables: &tables }, b"240603EUR1,5"));
+    assert!(rt; is_read(rt.alloc(), &CcyAmount { tables: &tables }, b"EUR1,5"));
+    assert!(rt; is_kept(rt.alloc(), &tables, b"HOMEUS33")?);
+    Ok(())
+}
+
+// Whether a field was made, with this number.
+fn is_tagged(made: Result<Field, Memory>, tag: u8) -> bool {
+    match made {
+        Ok(f) => f.tag == tag,
+        Err(_) => false,
+    }
+}
+
+fn is_line(made: Result<Field, Memory>, line: &[u8]) -> bool {
+    match made {
+        Ok(f) => has_line(&f, line),
+        Err(_) => false,
+    }
+}
+
+fn amount(alloc: Global) -> Result<Field, Memory> {
+    put_ccy_amount(alloc, 33, Some(b'B'), &CENTS)
+}
+
+fn value(alloc: Global) -> Result<Field, Memory> {
+    let value = Value {
+        day: Day(19877),
+        amount: CENTS,
+    };
+    put_value(alloc, &value)
+}
+
+#[test]
+fn contents_are_written(rt: HostRuntime) -> Result<(), Fail> {
+    let text = Text::from_bytes(rt.alloc(), b"A")?;
+    assert!(rt; is_tagged(put_reference(rt.alloc(), 20, &text), 20));
+    assert!(rt; is_tagged(put_short_line(rt.alloc(), 25, &text), 25));
+    assert!(rt; is_tagged(put_time(rt.alloc(), &text), 13));
+    assert!(rt; is_tagged(put_rate(rt.alloc(), &text), 36));
+    assert!(rt; is_tagged(put_texts(rt.alloc(), 70, None, &[text]), 70));
+    assert!(rt; is_line(amount(rt.alloc()), b"EUR1,50"));
+    assert!(rt; is_line(value(rt.alloc()), b"240603EUR1,50"));
+    Ok(())
+}
+
+// The number of the only field.
+fn only_tag(fields: &List<Field>) -> Option<u8> {
+    match fields.as_slice() {
+        [f] => Some(f.tag),
+        _ => None,
+    }
+}
+
+fn added_times(alloc: Global, times: &[Text]) -> Result<Option<u8>, Memory> {
+    let mut fields = List::new(alloc);
+    push_times(alloc, times, &mut fields)?;
+    Ok(only_tag(&fields))
+}
+
+fn added_rate(alloc: Global, rate: &Option<Text>) -> Result<Option<u8>, Memory> {
+    let mut fields = List::new(alloc);
+    push_rate(alloc, rate, &mut fields)?;
+    Ok(only_tag(&fields))
+}
+
+fn added_party(alloc: Global, party: &Option<Party>) -> Result<Option<u8>, Memory> {
+    let mut fields = List::new(alloc);
+    push_party(alloc, 56, party, &mut fields)?;
+    Ok(only_tag(&fields))
+}
+
+fn added_texts(alloc: Global, texts: &[Text]) -> Result<Option<u8>, Memory> {
+    let mut fields = List::new(alloc);
+    push_texts(alloc, 70, None, texts, &mut fields)?;
+    Ok(only_tag(&fields))
+}
+
+fn added_no_amount(alloc: Global) -> Result<Option<u8>, Memory> {
+    let mut fields = List::new(alloc);
+    push_ccy_amount(alloc, 33, Some(b'B'), &None, &mut fields)?;
+    push_ccy_amounts(alloc, 71, Some(b'F'), &[], &mut fields)?;
+    Ok(only_tag(&fields))
+}
+
+fn added_amount(alloc: Global) -> Result<Option<u8>, Memory> {
+    let mut fields = List::new(alloc);
+    push_ccy_amount(alloc, 33, Some(b'B'), &Some(CENTS), &mut fields)?;
+    Ok(only_tag(&fields))
+}
+
+fn added_amounts(alloc: Global) -> Result<Option<u8>, Memory> {
+    let mut fields = List::new(alloc);
+    push_ccy_amounts(alloc, 71, Some(b'F'), &[CENTS], &mut fields)?;
+    Ok(only_tag(&fields))
+}
+
+#[test]
+fn a_field_is_added_where_there_is_a_content(rt: HostRuntime) -> Result<(), Fail> {
+    let texts = [Text::from_bytes(rt.alloc(), b"A")?];
+    let rate = Some(Text::from_bytes(rt.alloc(), b"1,5")?);
+    let line = Text::from_bytes(rt.alloc(), b"/12")?;
+    assert_eq!(rt; added_times(rt.alloc(), &texts)?, Some(13));
+    assert_eq!(rt; added_rate(rt.alloc(), &rate)?, Some(36));
+    assert_eq!(rt;
+        added_party(rt.alloc(), &Some(Party::C { line }))?,
+        Some(56)
+    );
+    assert_eq!(rt; added_texts(rt.alloc(), &texts)?, Some(70));
+    assert_eq!(rt; added_amount(rt.alloc())?, Some(33));
+    assert_eq!(rt; added_amounts(rt.alloc())?, Some(71));
+    Ok(())
+}
+
+#[test]
+fn no_field_is_added_where_there_is_none(rt: HostRuntime) -> Result<(), Fail> {
+    assert_eq!(rt; added_times(rt.alloc(), &[])?, None);
+    assert_eq!(rt; added_rate(rt.alloc(), &None)?, None);
+    assert_eq!(rt; added_party(rt.alloc(), &None)?, None);
+    assert_eq!(rt; added_texts(rt.alloc(), &[])?, None);
+    assert_eq!(rt; added_no_amount(rt.alloc())?, None);
+    Ok(())
+}

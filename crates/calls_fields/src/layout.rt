@@ -1,0 +1,114 @@
+//! Each call once; cases stand in rows (layout.rows).
+
+ghost use Rattle.std.specs.Prelude.{◌≡◌, ◌∷◌, [], slice_get, length};
+ghost use Rattle.corr_text.specs.First.{or_fault};
+ghost use Rattle.fin_layout.specs.declared.fault.TheConstants.{P24 as WrongFormat};
+
+use corr_text::{List, Memory, Text};
+use fin_fields::Field;
+use fin_layout::{
+    Content, MtFault, P23, P24, Place, Refusal, absent, check_structure, fault_at, find, missing,
+    places, read_all, read_one, read_optional, refusal,
+};
+use std::alloc::Global;
+use std::test::Fail;
+
+// Field 20, which must be there.
+const ORDER: [Place; 1] = [Place {
+    tag: 20,
+    options: *b"    ",
+    many: false,
+    must: true,
+}];
+
+#[derive(Drop)]
+struct FirstLine;
+
+impl Content for FirstLine {
+    type Value = Text;
+
+    ghost meaning = { λ _ f. or_fault (slice_get f.lines 0) WrongFormat };
+
+    fn read(&self, alloc: Global, f: &Field) -> Result<Text, Refusal> {
+        match f.lines.as_slice().first() {
+            Some(line) => Ok(line.copy(alloc)?),
+            None => Err(Refusal::Bad(P24)),
+        }
+    }
+}
+
+fn reference(alloc: Global) -> Result<Field, Memory> {
+    let mut lines = List::new(alloc);
+    lines.push(Text::from_bytes(alloc, b"A")?)?;
+    Ok(Field {
+        tag: 20,
+        letter: None,
+        lines,
+    })
+}
+
+// Calls go through functions that promise nothing: a test then carries none of what a call promises.
+
+fn is_first(places: &[usize]) -> bool {
+    places == [0].as_slice()
+}
+
+fn is_in_place(alloc: Global, fields: &[Field; 1]) -> Result<bool, MtFault> {
+    Ok(is_first(check_structure(alloc, &ORDER, fields)?.as_slice()))
+}
+
+fn takes_its_place(alloc: Global, fields: &[Field; 1]) -> Result<bool, Memory> {
+    Ok(is_first(places(alloc, &ORDER, fields)?.as_slice()))
+}
+
+#[test]
+fn a_field_takes_its_place(rt: HostRuntime) -> Result<(), Fail> {
+    let fields = [reference(rt.alloc())?];
+    assert!(rt; is_in_place(rt.alloc(), &fields)?);
+    assert!(rt; takes_its_place(rt.alloc(), &fields)?);
+    assert!(rt; find(&fields, &[0], 0).is_some());
+    assert_eq!(rt; fault_at(&fields, 0, P24).nth, 1);
+    Ok(())
+}
+
+#[test]
+fn a_missing_field_is_told(rt: HostRuntime) {
+    assert_eq!(rt; missing(&ORDER, &[]), Some(0));
+    assert_eq!(rt; absent(&ORDER, 0).code, P23);
+}
+
+fn one(alloc: Global, fields: &[Field; 1]) -> Result<Text, MtFault> {
+    read_one(alloc, &FirstLine, &ORDER, fields, &[0], 0)
+}
+
+fn second(alloc: Global, fields: &[Field; 1]) -> Result<Option<Text>, MtFault> {
+    read_optional(alloc, &FirstLine, fields, &[0], 1)
+}
+
+fn count(alloc: Global, fields: &[Field; 1]) -> Result<usize, MtFault> {
+    Ok(
+        read_all(alloc, &FirstLine, fields, &[0], 0)?
+            .as_slice()
+            .len(),
+    )
+}
+
+#[test]
+fn a_field_is_read_by_its_place(rt: HostRuntime) -> Result<(), Fail> {
+    let fields = [reference(rt.alloc())?];
+    assert_eq!(rt; one(rt.alloc(), &fields)?.bytes(), b"A".as_slice());
+    assert!(rt; second(rt.alloc(), &fields)?.is_none());
+    assert_eq!(rt; count(rt.alloc(), &fields)?, 1);
+    Ok(())
+}
+
+#[test]
+fn a_field_without_lines_is_refused(rt: HostRuntime) -> Result<(), Fail> {
+    let bare = Field {
+        tag: 20,
+        letter: None,
+        lines: List::new(rt.alloc()),
+    };
+    assert_eq!(rt; refusal(rt.alloc(), &FirstLine, &bare)?, Some(P24));
+    Ok(())
+}

@@ -1,0 +1,54 @@
+//! Each call once; cases stand in rows (tables.rows and limits.rows).
+
+use corr_ids::Bic;
+use corr_money::Ccy;
+use ref_tables::{
+    AccountRow, RefTables, TableFault, ccy, cell, is_account_id, read_accounts, read_rows,
+    read_tables,
+};
+use std::alloc::Global;
+use std::test::Fail;
+
+const HOME: Bic = Bic {
+    head: *b"HOMEUS33",
+    branch: *b"XXX",
+};
+
+fn tables(alloc: Global) -> Result<RefTables, TableFault> {
+    read_tables(alloc, b"HOMEUS33", b"EUR,2", b"DE,Y")
+}
+
+fn accounts(alloc: Global) -> Result<Vec<AccountRow>, TableFault> {
+    read_accounts(alloc, b"A,C,HOMEUS33,EUR,0,9,5", &HOME, &tables(alloc)?)
+}
+
+#[test]
+fn tables_are_read(rt: HostRuntime) -> Result<(), Fail> {
+    let tables = tables(rt.alloc())?;
+    assert!(rt; tables.has_bic(b"HOMEUS33"));
+    assert_eq!(rt; tables.decimals(Ccy(*b"EUR")), Some(2));
+    assert!(rt; tables.listed(b"DE"));
+    Ok(())
+}
+
+#[test]
+fn accounts_are_read(rt: HostRuntime) -> Result<(), Fail> {
+    let accounts = accounts(rt.alloc())?;
+    assert_eq!(rt; accounts.len(), 1);
+    assert_eq!(rt; accounts[0].opening, 5);
+    Ok(())
+}
+
+#[test]
+fn columns_have_their_forms(rt: HostRuntime) -> Result<(), Fail> {
+    assert_eq!(rt; ccy(b"EUR"), Some(Ccy(*b"EUR")));
+    assert!(rt; is_account_id(b"A1"));
+    match read_rows(rt.alloc(), b"A,B", 1)? {
+        Some(rows) => {
+            assert_eq!(rt; rows.len(), 1);
+            assert_eq!(rt; cell(&rows[0], 1), b"B".as_slice());
+        }
+        None => assert!(rt; false, "a row"),
+    }
+    Ok(())
+}
