@@ -7,3 +7,6 @@ pub mod Legs
 pub mod Orders
 pub mod Entries
 pub mod Heads
+pub mod Lengths
+pub mod HeadWriting
+pub mod laws

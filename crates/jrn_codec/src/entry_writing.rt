@@ -236,7 +236,9 @@ fn put_back(out: &mut Buf, e: &Entry) -> Result<(), Memory>
 /// Adds the record of an entry.
 ///
 /// It needs no memory where there is room for the record, and takes no more room than the record's bytes. After want of memory
-/// the buffer's bytes mean nothing. `e` has the shape of a pay, and its day is one of 1980 to 2079.
+/// the buffer's bytes mean nothing. A record has at most 1,048,576 bytes. `e` has the shape of a pay, and its day is one of
+/// 1980 to 2079.
+#[tactic(auto, using(crate::proofs::laws::Records::few_bytes))]
 pub fn put_entry(e: &Entry, out: &mut Buf) -> Result<(), Memory>
     requires shape { HasShape e.now.pay }
     requires day { InCentury e.now.day }
@@ -244,6 +246,7 @@ pub fn put_entry(e: &Entry, out: &mut Buf) -> Result<(), Memory>
     ensures succeeds { length (entry_bytes e.now) ≤ out.old.spare → IsOk result }
     ensures room { length (entry_bytes e.now) ≤ out.old.spare → out.old.spare ≤ out.new.spare + length (entry_bytes e.now) }
     ensures entry { OnOk result (IsEntry e.now) }
+    ensures few { length (entry_bytes e.now) ≤ 1048576 }
 {
     put_front(out, e)?;
     put_back(out, e)

@@ -1,9 +1,10 @@
 //! Writing headers.
 
-ghost use Rattle.std.specs.Prelude.{◌≡◌, ◌++◌, flat_map, OnOk};
+ghost use Rattle.std.specs.Prelude.{◌≡◌, ◌++◌, flat_map, All, OnOk};
 ghost use Rattle.std.specs.Int.{w64};
-ghost use Rattle.day_model.specs.Chart.{IsFormed};
-ghost use Rattle.jrn_codec.specs.Header.{account_bytes, balance_bytes, column_bytes, head_bytes, title_bytes};
+ghost use Rattle.day_model.specs.Chart.{IsChart, IsFormed};
+ghost use Rattle.corr_ids.specs.Bic.{IsBic};
+ghost use Rattle.jrn_codec.specs.Header.{HasCode, IsHead, account_bytes, balance_bytes, column_bytes, head_bytes, title_bytes};
 ghost use Rattle.jrn_codec.specs.Spelling.{signed_bytes};
 
 use corr_ids::with_branch;
@@ -27,7 +28,8 @@ fn put_limits(out: &mut Text, a: &Account) -> Result<(), Memory>
 
 fn put_columns(out: &mut Text, a: &Account) -> Result<(), Memory>
     requires { IsFormed a.now }
-    ensures { OnOk result (out.new ≡ out.old ++ column_bytes a.now) }
+    ensures ok { OnOk result (out.new ≡ out.old ++ column_bytes a.now) }
+    ensures code { HasCode a.now }
 {
     let id = a.id.bytes();
     out.push_all(&[
@@ -43,14 +45,17 @@ fn put_columns(out: &mut Text, a: &Account) -> Result<(), Memory>
 #[tactic(auto, unfolding(crate::specs::Header::account_bytes))]
 fn put_account(out: &mut Text, a: &Account) -> Result<(), Memory>
     requires { IsFormed a.now }
-    ensures { OnOk result (out.new ≡ out.old ++ account_bytes a.now) }
+    ensures ok { OnOk result (out.new ≡ out.old ++ account_bytes a.now) }
+    ensures code { OnOk result (HasCode a.now) }
 {
     put_columns(out, a)?;
     put_limits(out, a)
 }
 
 fn put_accounts(out: &mut Text, a: &Accounts) -> Result<(), Memory>
-    ensures { OnOk result (out.new ≡ out.old ++ flat_map account_bytes a.now.accounts) }
+    ensures ok { OnOk result (out.new ≡ out.old ++ flat_map account_bytes a.now.accounts) }
+    ensures codes { OnOk result (All HasCode a.now.accounts) }
+    ensures book { IsChart a.now }
 {
     let count = a.count();
     for n in 0..count {
@@ -67,9 +72,12 @@ fn put_title(out: &mut Text, a: &Accounts) -> Result<(), Memory>
     out.push_all(&[b"CORRJ1", &with_branch(a.home()), &count.to_be_bytes()])
 }
 
-/// Adds the header record of a home bank and its accounts. After want of memory the text's bytes mean nothing.
+/// Adds the header record of a home bank and its accounts, which `read_head` reads where the home is a BIC. After want of memory
+/// the text's bytes mean nothing.
+#[tactic(auto, using(crate::proofs::HeadWriting::is_written))]
 pub fn put_head(a: &Accounts, out: &mut Text) -> Result<(), Memory>
-    ensures { OnOk result (out.new ≡ out.old ++ head_bytes a.now) }
+    ensures ok { OnOk result (out.new ≡ out.old ++ head_bytes a.now) }
+    ensures head { IsBic a.now.home → OnOk result (IsHead a.now) }
 {
     put_title(out, a)?;
     put_accounts(out, a)

@@ -1,11 +1,12 @@
-use Rattle.std.proofs.Common.{◌≡◌, ℕ, ◌+◌, ◌-◌, List, [], ◌∷◌, ◌++◌, take, Some, sym, ap, subst, ◌∙◌, arith}
+use Rattle.std.proofs.Common.{◌≡◌, ℕ, ◌+◌, ◌-◌, List, [], ◌∷◌, ◌++◌, take, Some, sym, ap, subst, ◌∙◌, arith, inl, inr}
 use Rattle.std.specs.Prelude.{slice_get}
-use Rattle.std.specs.List.{flat_map}
+use Rattle.std.specs.List.{AllWithin, flat_map}
+use Rattle.std.proofs.lemmas.Bool.{cases_lt}
 use Rattle.std.proofs.lemmas.Grind.{take_at_read}
 use Rattle.std.proofs.lemmas.List.{flat_map_more}
 use Rattle.std.proofs.lemmas.Option.{slice_get_within, get_or_from_slice_get}
 use Rattle.day_model.specs.declared.account.Account.{Account}
-use Rattle.jrn_codec.specs.Header.{account_bytes}
+use Rattle.jrn_codec.specs.Header.{HasCode, account_bytes}
 use Rattle.jrn_codec.proofs.header_writing.put_accounts.Goals as goal
 
 one_more : (old out new : List ℕ) (xs : List Account) (n : ℕ) (a : Account) → out ≡ old ++ flat_map account_bytes (take n xs) → slice_get xs (n + 1 - 1) ≡ Some a
@@ -18,5 +19,17 @@ one_more old out new xs n a so_far at added =
 pub put_account-requires : goal.put_account-requires
 put_account-requires c = c.get.ensures.sound.rows.formed _ _ c.get.ensures.value
 
+one_code : (xs : List Account) (n : ℕ) (a : Account) → AllWithin HasCode xs 0 n → slice_get xs (n + 1 - 1) ≡ Some a → HasCode a → AllWithin HasCode xs 0 (n + 1)
+one_code xs n a so_far at code k d low below =
+    elim (cases_lt k n) [
+      | inl lt ↦ so_far k d low lt
+      | inr le ↦
+          let here : slice_get xs k ≡ Some a = subst (λ (j : ℕ). slice_get xs j ≡ Some a) (omega (arith, le, below)) at in
+          subst HasCode (sym (get_or_from_slice_get xs k a d here)) code
+    ]
+
 pub loop-n-preserved : goal.loop-n-preserved
-loop-n-preserved c = one_more c.args.out.now c.loop-n.out c.put_account.new.out c.args.a.now.accounts c.loop-n.n c.get.result.now c.loop-n.invariant c.get.ensures.value c.in_ok-put_account.ensures
+loop-n-preserved c = record {
+  text = one_more c.args.out.now c.loop-n.out c.put_account.new.out c.args.a.now.accounts c.loop-n.n c.get.result.now c.loop-n.invariant.text c.get.ensures.value c.in_ok-put_account.ensures.ok;
+  codes = one_code c.args.a.now.accounts c.loop-n.n c.get.result.now c.loop-n.invariant.codes c.get.ensures.value c.in_ok-put_account.ensures.code;
+}

@@ -1,7 +1,11 @@
 use Rattle.std.proofs.Common.{◌≡◌, ◌++◌, take}
-use Rattle.std.specs.List.{flat_map}
-use Rattle.jrn_codec.specs.Header.{account_bytes}
+use Rattle.std.specs.List.{AllWithin, flat_map}
+use Rattle.jrn_codec.specs.Header.{HasCode, account_bytes}
 use Rattle.jrn_codec.proofs.header_writing.put_accounts.Given as goal
 
 abbrev pub invariant-loop-n : goal.invariant-loop-n
-invariant-loop-n l = l.out ≡ l.fn.out ++ flat_map account_bytes (take l.n l.a.accounts)
+invariant-loop-n l =
+    record {
+      text : l.out ≡ l.fn.out ++ flat_map account_bytes (take l.n l.a.accounts);
+      codes : AllWithin HasCode l.a.accounts 0 l.n;
+    }
