@@ -2,7 +2,8 @@
 use Rattle.std.proofs.Common.{◌≡◌, ℕ, ◌+◌, ◌-◌, ◌<◌, ◌==◌, ◌&&◌, true, not, List, [], ◌∷◌, ◌++◌, refl, sym, ap, ◌∙◌, append_assoc, append-nil, arith}
 use Rattle.std.proofs.lemmas.Bool.{and_parts}
 use Rattle.std.proofs.lemmas.Bool.Decides.{nat_tests}
-use Rattle.fin_blocks.specs.Groups.{depth_after, with_byte, pieces_from, groups_of}
+use Rattle.corr_text.specs.Braces.{depth_after}
+use Rattle.fin_blocks.specs.Groups.{with_byte, pieces_from, groups_of}
 use Rattle.fin_blocks.specs.Forms.{is_plain}
 use Rattle.fin_blocks.proofs.Cutting.{with_bytes, with_bytes-push, with_bytes-group, step, closes}
 

@@ -4,8 +4,8 @@ use Rattle.std.specs.Prelude.{◌==◌}
 use Rattle.std.proofs.lemmas.Bool.{or_parts}
 use Rattle.std.proofs.lemmas.Bool.Decides.{nat_tests}
 use Rattle.std.proofs.lemmas.List.{take_more, drop_more, drop_all}
-use Rattle.corr_text.specs.Braces.{is_brace}
-use Rattle.fin_blocks.specs.Groups.{depth_after, with_byte, pieces_from, groups_of, next, IsCut}
+use Rattle.corr_text.specs.Braces.{is_brace, depth_after}
+use Rattle.fin_blocks.specs.Groups.{with_byte, pieces_from, groups_of, next, IsCut}
 
 -- bytes put before the first piece
 abbrev pub with_bytes : List ℕ → List (List ℕ) → List (List ℕ)

@@ -4,7 +4,8 @@ use Rattle.std.specs.Option.{option_and_then}
 use Rattle.std.proofs.lemmas.List.{append-nil}
 use Rattle.std.proofs.lemmas.Bool.{cases_Bool}
 use Rattle.std.specs.Prelude.{◌==◌}
-use Rattle.fin_blocks.specs.Groups.{depth_after, with_byte, pieces_from, groups_of, next, after, IsCut}
+use Rattle.corr_text.specs.Braces.{depth_after}
+use Rattle.fin_blocks.specs.Groups.{with_byte, pieces_from, groups_of, next, after, IsCut}
 use Rattle.fin_blocks.specs.Forms.{each_of}
 
 -- bytes have a next group

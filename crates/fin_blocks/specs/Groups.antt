@@ -1,9 +1,6 @@
 -- Groups: a `{` up to its matching `}`.
 use Rattle.std.specs.Prelude.{◌≡◌, ℕ, ◌+◌, ◌-◌, ◌==◌, List, [], ◌∷◌, if◌then◌else◌}
-
--- how many groups are open behind a byte
-abbrev pub depth_after : ℕ → ℕ → ℕ
-depth_after depth b = if b == 123 then depth + 1 else if b == 125 then depth - 1 else depth
+use Rattle.corr_text.specs.Braces.{depth_after}
 
 -- a byte put before the first piece; a group that is never closed stays []
 abbrev pub with_byte : ℕ → List (List ℕ) → List (List ℕ)

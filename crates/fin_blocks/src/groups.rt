@@ -1,7 +1,8 @@
 //! Groups: a `{` up to its matching `}`.
 
 ghost use Rattle.std.specs.Prelude.{◌≡◌, ◌≢◌, ◌<◌, ◌+◌, ◌^◌, [], length};
-ghost use Rattle.fin_blocks.specs.Groups.{IsCut, depth_after as depth_of};
+ghost use Rattle.corr_text.specs.Braces.{depth_after as depth_of};
+ghost use Rattle.fin_blocks.specs.Groups.{IsCut};
 
 use corr_text::next_brace;
 

@@ -4,27 +4,27 @@ use Rattle.std.specs.Prelude.{◌==◌}
 use Rattle.std.proofs.lemmas.Bool.{or_parts}
 use Rattle.std.proofs.lemmas.Grind.{common_steps}
 use Rattle.std.proofs.lemmas.List.{take_more}
-use Rattle.corr_text.specs.Braces.{is_brace}
-use Rattle.fin_frame.specs.File.{left_open, nesting}
+use Rattle.corr_text.specs.Braces.{is_brace, depth_after}
+use Rattle.fin_frame.specs.File.{left_open}
 
 -- one more byte within a group
-pub left_open-more : (d : ℕ) (xs : List ℕ) (b e : ℕ) → left_open d xs ≡ Some e → 0 < e → left_open d (xs ++ b ∷ []) ≡ Some (nesting e b)
+pub left_open-more : (d : ℕ) (xs : List ℕ) (b e : ℕ) → left_open d xs ≡ Some e → 0 < e → left_open d (xs ++ b ∷ []) ≡ Some (depth_after e b)
 left_open-more zero [] b e is some = absurd (let same : 0 ≡ e = cc in omega arith)
-left_open-more (suc d) [] b e is some = let same : suc d ≡ e = cc in ap (λ n. Some (nesting n b)) same
+left_open-more (suc d) [] b e is some = let same : suc d ≡ e = cc in ap (λ n. Some (depth_after n b)) same
 left_open-more zero (x ∷ xs) b e is some = cc
-left_open-more (suc d) (x ∷ xs) b e is some = left_open-more (nesting (suc d) x) xs b e is some
+left_open-more (suc d) (x ∷ xs) b e is some = left_open-more (depth_after (suc d) x) xs b e is some
 
 -- the same over the front of a slice
-pub left_open-take : (d : ℕ) (xs : List ℕ) (i e : ℕ) → i < length xs → left_open d (take i xs) ≡ Some e → 0 < e → left_open d (take (i + 1) xs) ≡ Some (nesting e (get_or xs i 0))
+pub left_open-take : (d : ℕ) (xs : List ℕ) (i e : ℕ) → i < length xs → left_open d (take i xs) ≡ Some e → 0 < e → left_open d (take (i + 1) xs) ≡ Some (depth_after e (get_or xs i 0))
 left_open-take d xs i e lt is some = rw (take_more xs i 0 lt) (left_open-more d (take i xs) (get_or xs i 0) e is some)
 
-pub nesting-le : (d b : ℕ) → nesting d b ≤ d + 1
-nesting-le d b = grind (arith, common_steps)
+pub depth_after-le : (d b : ℕ) → depth_after d b ≤ d + 1
+depth_after-le d b = grind (arith, common_steps)
 
 -- ---- bytes that are no brace
 
-nesting-other : (d b : ℕ) → is_brace b ≡ false → nesting d b ≡ d
-nesting-other d b h =
+depth_after-other : (d b : ℕ) → is_brace b ≡ false → depth_after d b ≡ d
+depth_after-other d b h =
     let parts = or_parts (b == 123) (b == 125) h in
     rw (parts.0, parts.1) refl
 
@@ -37,7 +37,7 @@ left_open-others d xs i (suc n) e le is some others =
     let before = left_open-others d xs i n e (omega (arith, le)) is some (λ k low high. others k low (omega (arith, high))) in
     let same : (i + n) + 1 ≡ i + suc n = omega arith in
     subst (λ k. left_open d (take k xs) ≡ Some e) same
-    (left_open-take d xs (i + n) e (omega (arith, le)) before some ∙ ap Some (nesting-other e (get_or xs (i + n) 0) (others (i + n) (omega arith) (omega arith))))
+    (left_open-take d xs (i + n) e (omega (arith, le)) before some ∙ ap Some (depth_after-other e (get_or xs (i + n) 0) (others (i + n) (omega arith) (omega arith))))
 
 -- the front up to the next brace
 pub left_open-to : (d : ℕ) (xs : List ℕ) (i j e : ℕ) → left_open d (take i xs) ≡ Some e → 0 < e → i ≤ j → j ≤ length xs

@@ -2,7 +2,8 @@
 use Rattle.std.proofs.Common.{◌≡◌, ◌≤◌, ◌⊎◌, ℕ, ◌+◌, ◌-◌, ◌==◌, Bool, true, false, cond, nat_le, List, [], ◌∷◌, ◌++◌, length, get_or, Option, Some, None, is_some, refl, ap, sym, ◌∙◌, arith, inl, inr, append_assoc}
 use Rattle.std.proofs.lemmas.List.{append-nil}
 use Rattle.fin_frame.proofs.laws.Running.{run-failed}
-use Rattle.fin_frame.specs.File.{nesting, lead, is_gap_byte, most_bytes}
+use Rattle.corr_text.specs.Braces.{depth_after}
+use Rattle.fin_frame.specs.File.{lead, is_gap_byte, most_bytes}
 use Rattle.fin_frame.specs.Shown.{Begins}
 use Rattle.fin_frame.specs.Machine.{State, to, fails, gives, begins, held_bytes, with_open, grows, within, resumes, moves, stage_between, next_close, next_at, next, run}
 use Rattle.fin_frame.specs.declared.fault.FrameFault.{FrameFault}
@@ -50,7 +51,7 @@ goes-grows : (s : State) (from d b : ℕ) → Goes s (grows from d (b ∷ []) s)
 goes-grows s from d b = record { fed = inl refl; begun = omega arith; given = begins-self s.given }
 
 goes-within : (s : State) (from d b : ℕ) → Goes s (within from d s b)
-goes-within s from d b = choose (Goes s) (nat_le most_bytes (length (held_bytes s))) (fails (TooLong from) s) (grows from (nesting d b) (b ∷ []) s) (goes-fails s _) (goes-grows s from _ b)
+goes-within s from d b = choose (Goes s) (nat_le most_bytes (length (held_bytes s))) (fails (TooLong from) s) (grows from (depth_after d b) (b ∷ []) s) (goes-fails s _) (goes-grows s from _ b)
 
 goes-resumes : (s : State) (from matched b : ℕ) → Goes s (within from 1 (resumes from matched s) b)
 goes-resumes s from matched b =
@@ -125,7 +126,7 @@ after-begins : (front : List (List ℕ)) (s : State) → begins (after front s) 
 after-begins front s = given-is (begins s) _ _ (with_open-after front s.given s.held)
 
 after-within : (front : List (List ℕ)) (s : State) (from d b : ℕ) → within from d (after front s) b ≡ after front (within from d s b)
-after-within front s from d b = after-choice front (nat_le most_bytes (length (held_bytes s))) (fails (TooLong from) s) (grows from (nesting d b) (b ∷ []) s) _ _ refl refl
+after-within front s from d b = after-choice front (nat_le most_bytes (length (held_bytes s))) (fails (TooLong from) s) (grows from (depth_after d b) (b ∷ []) s) _ _ refl refl
 
 after-at : (front : List (List ℕ)) (stage : Stage) (s : State) (b : ℕ) → next_at stage (after front s) b ≡ after front (next_at stage s b)
 after-at front (Between marked) s b = after-moves front s (stage_between marked b)

@@ -2,7 +2,8 @@
 use Rattle.std.proofs.Common.{◌≡◌, ◌≢◌, ◌<◌, ◌≤◌, ◌⊎◌, ℕ, zero, suc, ◌+◌, ◌-◌, ◌==◌, ◌||◌, ◌&&◌, not, Bool, true, false, cond, nat_le, nat_lt, List, [], ◌∷◌, ◌++◌, length, take, get_or, Some, None, refl, ap, sym, ◌∙◌, arith, subst, inl, inr, append_assoc, length-append}
 use Rattle.std.proofs.lemmas.List.{append-nil}
 use Rattle.std.proofs.lemmas.Bool.Decides.{eqb_tells, leb_tells, nat_tests}
-use Rattle.fin_frame.specs.File.{nesting, lead, agrees, is_blank, is_gap_byte, dollars, most_bytes, IsGroupTo, IsMessageTo, IsMessage, IsFileOf}
+use Rattle.corr_text.specs.Braces.{depth_after}
+use Rattle.fin_frame.specs.File.{lead, agrees, is_blank, is_gap_byte, dollars, most_bytes, IsGroupTo, IsMessageTo, IsMessage, IsFileOf}
 use Rattle.fin_frame.specs.File.IsMessageTo.{head as message_head, next as message_next}
 use Rattle.fin_frame.specs.File.IsFileOf.{start as file_start, more as file_more}
 use Rattle.fin_frame.specs.Shown.{no_more, stands_apart, cannot_follow, Shows, ShowWhole, Begins}
@@ -131,7 +132,7 @@ third-tracks file gap messages b front far = by-byte (eqb_tells 58 b)
 -- within a group of the open message
 
 -- the next byte of a message, which leaves so many groups open
-held-tracks : {d : ℕ} (file gap front_of bytes : List ℕ) (messages : List (List ℕ)) (s : State) (b : ℕ) → IsFileOf file messages gap → IsMessageTo d (front_of ++ b ∷ []) → ShowWhole bytes s.given → LastBegun bytes s.begun → bytes ≡ file ++ front_of → held_bytes s ≡ front_of → s.fed ≡ length file + length front_of → s.begun ≡ length messages + 1 → s.failed ≡ None → s.given ≡ messages → (k : ℕ) → nesting k b ≡ d → Tracks (bytes ++ b ∷ []) (within (length file) k s b)
+held-tracks : {d : ℕ} (file gap front_of bytes : List ℕ) (messages : List (List ℕ)) (s : State) (b : ℕ) → IsFileOf file messages gap → IsMessageTo d (front_of ++ b ∷ []) → ShowWhole bytes s.given → LastBegun bytes s.begun → bytes ≡ file ++ front_of → held_bytes s ≡ front_of → s.fed ≡ length file + length front_of → s.begun ≡ length messages + 1 → s.failed ≡ None → s.given ≡ messages → (k : ℕ) → depth_after k b ≡ d → Tracks (bytes ++ b ∷ []) (within (length file) k s b)
 held-tracks {d} file gap front_of bytes messages s b front is whole_given last whole held fed begun sound given k nests = by-room (leb_tells most_bytes (length (held_bytes s)))
   where
     longer : length (front_of ++ b ∷ []) ≡ length front_of + 1
@@ -148,8 +149,8 @@ held-tracks {d} file gap front_of bytes messages s b front is whole_given last w
         let size : length (held_bytes s) ≡ length front_of = ap length held in
         let grown : length (front_of ++ b ∷ []) ≡ length front_of + 1 = length-append front_of (b ∷ []) in
         let same : file ++ (front_of ++ b ∷ []) ≡ bytes ++ b ∷ [] = sym (append_assoc file front_of (b ∷ [])) ∙ ap (λ x. x ++ b ∷ []) (sym whole) in
-        let there : in_message (length file) d (front_of ++ b ∷ []) messages (length file + length (front_of ++ b ∷ [])) ≡ grows (length file) (nesting k b) (b ∷ []) s =
-        state-same (in_message (length file) d (front_of ++ b ∷ []) messages (length file + length (front_of ++ b ∷ []))) (grows (length file) (nesting k b) (b ∷ []) s)
+        let there : in_message (length file) d (front_of ++ b ∷ []) messages (length file + length (front_of ++ b ∷ [])) ≡ grows (length file) (depth_after k b) (b ∷ []) s =
+        state-same (in_message (length file) d (front_of ++ b ∷ []) messages (length file + length (front_of ++ b ∷ []))) (grows (length file) (depth_after k b) (b ∷ []) s)
         (ap (λ e. landed (length file) e) (sym nests)) (ap (λ h. Some (h ++ b ∷ [])) (sym held)) (omega arith) (sym begun) (sym sound) (sym given) in
         moved same (there ∙ sym (within-room (length file) k s b room.1)) (tracks_message file gap (front_of ++ b ∷ []) messages d front is (omega arith))
 
@@ -208,11 +209,11 @@ closed-tracks file gap message messages b front is = by-brace (eqb_tells b 123)
     by-brace (inr other) = by-gap other.0 (is_gap_byte b) refl
 
 -- bytes of `{1:` that don't go on are the open message's
-resumed-tracks : (file gap message pending : List ℕ) (messages : List (List ℕ)) (matched b : ℕ) → IsFileOf file messages gap → IsMessage message → matched ≤ 1 → pending ≡ take (suc matched) lead → length pending ≡ suc matched → IsGroupTo (nesting 1 b) (pending ++ b ∷ []) → agrees lead (pending ++ b ∷ []) ≡ false → next (in_behind (length file) message messages (length file + length message) (suc matched)) b ≡ within (length file) 1 (resumes (length file) (suc matched) (in_behind (length file) message messages (length file + length message) (suc matched))) b → Tracks ((file ++ message ++ take (suc matched) lead) ++ b ∷ []) (next (in_behind (length file) message messages (length file + length message) (suc matched)) b)
+resumed-tracks : (file gap message pending : List ℕ) (messages : List (List ℕ)) (matched b : ℕ) → IsFileOf file messages gap → IsMessage message → matched ≤ 1 → pending ≡ take (suc matched) lead → length pending ≡ suc matched → IsGroupTo (depth_after 1 b) (pending ++ b ∷ []) → agrees lead (pending ++ b ∷ []) ≡ false → next (in_behind (length file) message messages (length file + length message) (suc matched)) b ≡ within (length file) 1 (resumes (length file) (suc matched) (in_behind (length file) message messages (length file + length message) (suc matched))) b → Tracks ((file ++ message ++ take (suc matched) lead) ++ b ∷ []) (next (in_behind (length file) message messages (length file + length message) (suc matched)) b)
 resumed-tracks file gap message pending messages matched b front is le pends size group other there =
     let s = in_behind (length file) message messages (length file + length message) (suc matched) in
     let t = resumes (length file) (suc matched) s in
-    let joined : IsMessageTo (nesting 1 b) ((message ++ pending) ++ b ∷ []) = subst (λ x. IsMessageTo (nesting 1 b) x) (sym (append_assoc message pending (b ∷ []))) (message_next message (pending ++ b ∷ []) is.0 group other) in
+    let joined : IsMessageTo (depth_after 1 b) ((message ++ pending) ++ b ∷ []) = subst (λ x. IsMessageTo (depth_after 1 b) x) (sym (append_assoc message pending (b ∷ []))) (message_next message (pending ++ b ∷ []) is.0 group other) in
     let tracks : Tracks (file ++ message ++ take (suc matched) lead) s = tracks_behind file gap message messages matched front is le in
     let held : message ++ take (suc matched) lead ≡ message ++ pending = ap (λ x. message ++ x) (sym pends) in
     let whole : file ++ message ++ take (suc matched) lead ≡ file ++ (message ++ pending) = append_assoc file message (take (suc matched) lead) ∙ ap (λ x. file ++ x) held in

@@ -1,16 +1,13 @@
 -- Message files: groups, gaps and messages, and how they make up a file.
 use Rattle.std.specs.Prelude.{◌≡◌, ◌≤◌, ℕ, zero, suc, ◌+◌, ◌-◌, ◌==◌, ◌||◌, ◌&&◌, Bool, true, false, IsTrue, List, [], ◌∷◌, ◌++◌, length, take, Option, Some, None, if◌then◌else◌}
 use Rattle.std.specs.List.{list_all}
-
--- how many groups are open behind a byte, within d of them: `{` opens one, `}` closes one
-abbrev pub nesting : ℕ → ℕ → ℕ
-nesting d b = if b == 123 then d + 1 else if b == 125 then d - 1 else d
+use Rattle.corr_text.specs.Braces.{depth_after}
 
 -- how many groups the bytes leave open, from within d of them; none where bytes come behind the end of them all
 abbrev pub left_open : ℕ → List ℕ → Option ℕ
 left_open d [] = Some d
 left_open zero (b ∷ bs) = None
-left_open (suc d) (b ∷ bs) = left_open (nesting (suc d) b) bs
+left_open (suc d) (b ∷ bs) = left_open (depth_after (suc d) b) bs
 
 -- a group as far as it leaves d groups open: `{`, and bytes up to the matching `}` where d is 0
 abbrev pub IsGroupTo : ℕ → List ℕ → Type 0

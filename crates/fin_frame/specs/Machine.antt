@@ -1,6 +1,7 @@
 -- A cutter as a machine that takes one byte at a time.
 use Rattle.std.specs.Prelude.{◌≡◌, ◌<◌, ◌≤◌, Result, Ok, Err, ℕ, zero, suc, ◌+◌, ◌-◌, ◌==◌, Bool, true, nat_le, List, [], ◌∷◌, ◌++◌, length, take, get_or, Option, Some, None, is_some, unwrap_or, if◌then◌else◌}
-use Rattle.fin_frame.specs.File.{nesting, lead, is_blank, is_gap_byte, most_bytes}
+use Rattle.corr_text.specs.Braces.{depth_after}
+use Rattle.fin_frame.specs.File.{lead, is_blank, is_gap_byte, most_bytes}
 use Rattle.fin_frame.specs.Shown.{Begins}
 use Rattle.fin_frame.specs.declared.fault.FrameFault.{FrameFault}
 use Rattle.fin_frame.specs.declared.fault.FrameFault.TheVariants.{Stray, TooLong, Memory}
@@ -56,7 +57,7 @@ grows from d bytes s = record s { stage = landed from d; held = Some (held_bytes
 
 -- a byte within d groups of the open message
 abbrev pub within : ℕ → ℕ → State → ℕ → State
-within from d s b = if nat_le most_bytes (length (held_bytes s)) then fails (TooLong from) s else grows from (nesting d b) (b ∷ []) s
+within from d s b = if nat_le most_bytes (length (held_bytes s)) then fails (TooLong from) s else grows from (depth_after d b) (b ∷ []) s
 
 -- bytes of `{1:` that another byte follows are the open message's own
 abbrev pub resumes : ℕ → ℕ → State → State

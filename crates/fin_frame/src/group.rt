@@ -1,7 +1,8 @@
 //! The end of a group.
 
 ghost use Rattle.std.specs.Prelude.{◌≡◌, ◌⊎◌, ◌+◌, ◌^◌, ◌<◌, ◌≤◌, length, take, Some};
-ghost use Rattle.fin_frame.specs.File.{left_open, nesting};
+ghost use Rattle.corr_text.specs.Braces.{depth_after};
+ghost use Rattle.fin_frame.specs.File.{left_open};
 
 use corr_text::next_brace;
 
@@ -9,7 +10,7 @@ use corr_text::next_brace;
 fn behind(depth: u32, b: u8) -> u32
     requires some { 0 < depth }
     requires few { depth + 1 < 2 ^ 32 }
-    ensures { result ≡ nesting depth b }
+    ensures { result ≡ depth_after depth b }
 {
     match b {
         b'{' => depth + 1,

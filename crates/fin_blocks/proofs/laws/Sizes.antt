@@ -14,7 +14,8 @@ use Rattle.corr_text.proofs.laws.Written.{is_inner, line-again}
 use Rattle.corr_ids.specs.Day.{◌>>=◌ as ◌then◌}
 use Rattle.fin_blocks.specs.Blocks.{are_last, behind, blocks_of, has_next, trailers_of, user_of}
 use Rattle.fin_blocks.specs.Forms.{app_of, basic_of, between, mir_in}
-use Rattle.fin_blocks.specs.Groups.{after, depth_after, groups_of, next, pieces_from, with_byte}
+use Rattle.corr_text.specs.Braces.{depth_after}
+use Rattle.fin_blocks.specs.Groups.{after, groups_of, next, pieces_from, with_byte}
 use Rattle.fin_blocks.specs.Text.{ended, text_in, text_of}
 use Rattle.fin_blocks.specs.declared.blocks.Blocks.{Blocks}
 use Rattle.fin_blocks.specs.declared.fault.BlockFault.TheVariants as fault

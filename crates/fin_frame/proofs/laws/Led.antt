@@ -4,7 +4,8 @@ use Rattle.std.specs.List.{list_all}
 use Rattle.std.proofs.lemmas.List.{take-append-drop}
 use Rattle.std.proofs.lemmas.Bool.{eqb-true}
 use Rattle.std.proofs.lemmas.Bool.Decides.{eqb_tells, leb_tells, nat_tests}
-use Rattle.fin_frame.specs.File.{left_open, nesting, lead, agrees, is_blank, is_gap_byte, dollars, most_bytes, IsGroupTo, IsMessageTo, IsGap, IsFileOf}
+use Rattle.corr_text.specs.Braces.{depth_after}
+use Rattle.fin_frame.specs.File.{left_open, lead, agrees, is_blank, is_gap_byte, dollars, most_bytes, IsGroupTo, IsMessageTo, IsGap, IsFileOf}
 use Rattle.fin_frame.specs.File.IsMessageTo.{head, next as joined}
 use Rattle.fin_frame.specs.File.IsFileOf.{start as file_start, more as file_more}
 use Rattle.fin_frame.specs.Shown.{no_more, stands_apart}
@@ -54,12 +55,12 @@ inner-run : (from d : ℕ) (m xs : List ℕ) (messages : List (List ℕ)) (n : �
 inner-run from d m xs messages n some is room = run-within from 1 d xs (in_message from 1 m messages n) refl refl (omega arith) some is room
 
 -- the first of bytes for which there is no room, where the others come to that
-over-rest : (from d e x k : ℕ) (xs : List ℕ) (s : State) → nesting (suc d) x ≡ k → left_open k xs ≡ Some e → length (held_bytes s) < most_bytes → most_bytes < length (held_bytes s) + length (x ∷ xs) → ((k : ℕ) → nesting (suc d) x ≡ suc k → 0 < length xs → (run (grows from (nesting (suc d) x) (x ∷ []) s) xs).failed ≡ Some (TooLong from)) → (run (grows from (nesting (suc d) x) (x ∷ []) s) xs).failed ≡ Some (TooLong from)
+over-rest : (from d e x k : ℕ) (xs : List ℕ) (s : State) → depth_after (suc d) x ≡ k → left_open k xs ≡ Some e → length (held_bytes s) < most_bytes → most_bytes < length (held_bytes s) + length (x ∷ xs) → ((k : ℕ) → depth_after (suc d) x ≡ suc k → 0 < length xs → (run (grows from (depth_after (suc d) x) (x ∷ []) s) xs).failed ≡ Some (TooLong from)) → (run (grows from (depth_after (suc d) x) (x ∷ []) s) xs).failed ≡ Some (TooLong from)
 over-rest from d e x k [] s nests is room over again = absurd (omega arith)
 over-rest from d e x zero (y ∷ ys) s nests is room over again = cc
 over-rest from d e x (suc k) (y ∷ ys) s nests is room over again = again k nests (omega arith)
 
-over-step : (from d e x : ℕ) (xs : List ℕ) (s : State) → s.failed ≡ None → s.stage ≡ Within from (suc d) → left_open (nesting (suc d) x) xs ≡ Some e → most_bytes < length (held_bytes s) + length (x ∷ xs) → ((k : ℕ) → length (held_bytes s) < most_bytes → nesting (suc d) x ≡ suc k → 0 < length xs → (run (grows from (nesting (suc d) x) (x ∷ []) s) xs).failed ≡ Some (TooLong from)) → (run (next s x) xs).failed ≡ Some (TooLong from)
+over-step : (from d e x : ℕ) (xs : List ℕ) (s : State) → s.failed ≡ None → s.stage ≡ Within from (suc d) → left_open (depth_after (suc d) x) xs ≡ Some e → most_bytes < length (held_bytes s) + length (x ∷ xs) → ((k : ℕ) → length (held_bytes s) < most_bytes → depth_after (suc d) x ≡ suc k → 0 < length xs → (run (grows from (depth_after (suc d) x) (x ∷ []) s) xs).failed ≡ Some (TooLong from)) → (run (next s x) xs).failed ≡ Some (TooLong from)
 over-step from d e x xs s sound stage is over again = by-room (leb_tells most_bytes (length (held_bytes s)))
   where
     here : next s x ≡ within from (suc d) s x
@@ -70,7 +71,7 @@ over-step from d e x xs s sound stage is over again = by-room (leb_tells most_by
         let failed : next s x ≡ fails (TooLong from) s = here ∙ within-full from (suc d) s x full.1 in
         ap (λ t. (run t xs).failed) failed ∙ ap (λ t. t.failed) (run-failed (fails (TooLong from) s) (TooLong from) xs refl)
     by-room (inr room) =
-        ap (λ t. (run t xs).failed) (here ∙ within-room from (suc d) s x room.1) ∙ over-rest from d e x (nesting (suc d) x) xs s refl is room.1 over (λ k nests some. again k room.1 nests some)
+        ap (λ t. (run t xs).failed) (here ∙ within-room from (suc d) s x room.1) ∙ over-rest from d e x (depth_after (suc d) x) xs s refl is room.1 over (λ k nests some. again k room.1 nests some)
 
 -- bytes within the open message, for which there is no room
 pub run-over : (from d e : ℕ) (xs : List ℕ) (s : State) → s.failed ≡ None → s.stage ≡ Within from d → 0 < d → 0 < length xs → left_open d xs ≡ Some e → most_bytes < length (held_bytes s) + length xs → (run s xs).failed ≡ Some (TooLong from)
@@ -79,7 +80,7 @@ run-over from zero e (x ∷ xs) s sound stage deep some is over = absurd (omega 
 run-over from (suc d) e (x ∷ xs) s sound stage deep some is over =
     over-step from d e x xs s sound stage is over (λ k room nests more.
     let grown : length (held_bytes s ++ x ∷ []) ≡ length (held_bytes s) + 1 = length-append (held_bytes s) (x ∷ []) in
-    run-over from (suc k) e xs (grows from (nesting (suc d) x) (x ∷ []) s) sound (ap (λ n. landed from n) nests) (omega arith) more (subst (λ n. left_open n xs ≡ Some e) nests is) (omega arith))
+    run-over from (suc k) e xs (grows from (depth_after (suc d) x) (x ∷ []) s) sound (ap (λ n. landed from n) nests) (omega arith) more (subst (λ n. left_open n xs ≡ Some e) nests is) (omega arith))
 
 -- A group behind the open message that doesn't begin `{1:`: from some byte on it is known to be the message's.
 record Resumed (from : ℕ) (m g : List ℕ) (messages : List (List ℕ)) (n d : ℕ) : Type 0 where

@@ -2,7 +2,8 @@
 use Rattle.std.proofs.Common.{◌≡◌, ◌<◌, ◌≤◌, ◌⊎◌, ℕ, zero, suc, ◌+◌, ◌==◌, true, false, nat_le, nat_lt, ◌&&◌, IsTrue, List, [], ◌∷◌, ◌++◌, length, take, get_or, Option, Some, None, Result, Ok, Err, refl, ap, sym, ◌∙◌, arith, inl, inr, append_assoc, length-append}
 use Rattle.std.proofs.lemmas.List.{append-nil, length-take-le}
 use Rattle.std.proofs.lemmas.Bool.Decides.{nat_tests}
-use Rattle.fin_frame.specs.File.{left_open, nesting, lead, is_gap_byte, most_bytes}
+use Rattle.corr_text.specs.Braces.{depth_after}
+use Rattle.fin_frame.specs.File.{left_open, lead, is_gap_byte, most_bytes}
 use Rattle.fin_frame.specs.Machine.{State, to, fails, gives, begins, held_bytes, landed, grows, within, resumes, next_opening, next_close, next_behind, next_at, next, run, Took, TookByte}
 use Rattle.fin_frame.specs.declared.fault.FrameFault.{FrameFault}
 use Rattle.fin_frame.specs.declared.fault.FrameFault.TheVariants.{Stray, TooLong, Unbalanced, Memory}
@@ -50,10 +51,10 @@ grows-grows from d e xs ys s =
     ∙ ap (λ n. record s { stage = landed from e; held = Some (held_bytes s ++ (xs ++ ys)); fed = n }) fed
 
 -- a byte for which the open message has room
-pub within-room : (from d : ℕ) (s : State) (b : ℕ) → length (held_bytes s) < most_bytes → within from d s b ≡ grows from (nesting d b) (b ∷ []) s
+pub within-room : (from d : ℕ) (s : State) (b : ℕ) → length (held_bytes s) < most_bytes → within from d s b ≡ grows from (depth_after d b) (b ∷ []) s
 within-room from d s b room = rw (gt-test most_bytes (length (held_bytes s)) room) refl
 
--- bytes within groups go on as their nesting says, as far as there is room
+-- bytes within groups go on as their braces say, as far as there is room
 pub run-grows : (from d e : ℕ) (front bytes : List ℕ) (s : State) → s.failed ≡ None → left_open d bytes ≡ Some e → length (held_bytes s) + length front + length bytes ≤ most_bytes → run (grows from d front s) bytes ≡ grows from e (front ++ bytes) s
 run-grows from d e front [] s sound is room =
     let same : d ≡ e = cc in
@@ -63,10 +64,10 @@ run-grows from (suc d) e front (b ∷ bytes) s sound is room =
     let here : next (grows from (suc d) front s) b ≡ within from (suc d) (grows from (suc d) front s) b = rw sound refl in
     let size : length (held_bytes s ++ front) ≡ length (held_bytes s) + length front = length-append _ _ in
     let has : length (held_bytes s ++ front) < most_bytes = omega arith in
-    let step : next (grows from (suc d) front s) b ≡ grows from (nesting (suc d) b) (front ++ b ∷ []) s = here ∙ within-room from (suc d) (grows from (suc d) front s) b has ∙ grows-grows from (suc d) (nesting (suc d) b) front (b ∷ []) s in
+    let step : next (grows from (suc d) front s) b ≡ grows from (depth_after (suc d) b) (front ++ b ∷ []) s = here ∙ within-room from (suc d) (grows from (suc d) front s) b has ∙ grows-grows from (suc d) (depth_after (suc d) b) front (b ∷ []) s in
     let longer : length (front ++ b ∷ []) ≡ length front + 1 = length-append front (b ∷ []) in
     ap (λ t. run t bytes) step
-    ∙ run-grows from (nesting (suc d) b) e (front ++ b ∷ []) bytes s sound is (omega arith)
+    ∙ run-grows from (depth_after (suc d) b) e (front ++ b ∷ []) bytes s sound is (omega arith)
     ∙ ap (λ xs. grows from e xs s) (append_assoc front (b ∷ []) bytes)
 
 -- the same from a state within a group
@@ -76,8 +77,8 @@ run-within from zero e (b ∷ bytes) s sound stage deep some is room = absurd (o
 run-within from (suc d) e (b ∷ bytes) s sound stage deep some is room =
     let here : next s b ≡ within from (suc d) s b = rw (sound, stage) refl in
     let has : length (held_bytes s) < most_bytes = omega arith in
-    let step : next s b ≡ grows from (nesting (suc d) b) (b ∷ []) s = here ∙ within-room from (suc d) s b has in
-    ap (λ t. run t bytes) step ∙ run-grows from (nesting (suc d) b) e (b ∷ []) bytes s sound is (omega arith)
+    let step : next s b ≡ grows from (depth_after (suc d) b) (b ∷ []) s = here ∙ within-room from (suc d) s b has in
+    ap (λ t. run t bytes) step ∙ run-grows from (depth_after (suc d) b) e (b ∷ []) bytes s sound is (omega arith)
 
 -- a message that has no room
 pub within-full : (from d : ℕ) (s : State) (b : ℕ) → most_bytes ≤ length (held_bytes s) → within from d s b ≡ fails (TooLong from) s

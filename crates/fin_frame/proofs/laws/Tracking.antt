@@ -3,7 +3,8 @@ use Rattle.std.proofs.Common.{◌≡◌, ◌<◌, ◌≤◌, ◌⊎◌, ℕ, suc
 use Rattle.std.specs.List.{list_all}
 use Rattle.std.proofs.lemmas.List.Folds.{list_all-append}
 use Rattle.std.proofs.lemmas.Bool.{ltb-true}
-use Rattle.fin_frame.specs.File.{nesting, lead, agrees, is_blank, is_gap_byte, dollars, most_bytes, IsGroupTo, IsMessageTo, IsMessage, IsGap, IsFileOf}
+use Rattle.corr_text.specs.Braces.{depth_after}
+use Rattle.fin_frame.specs.File.{lead, agrees, is_blank, is_gap_byte, dollars, most_bytes, IsGroupTo, IsMessageTo, IsMessage, IsGap, IsFileOf}
 use Rattle.fin_frame.specs.File.IsMessageTo.{head as message_head, next as message_next}
 use Rattle.fin_frame.specs.File.IsFileOf.{start as file_start, more as file_more}
 use Rattle.fin_frame.specs.Shown.{no_more, stands_apart, cannot_follow, Shows, is_over, ShowWhole, Begins, HasBegun}
@@ -103,20 +104,20 @@ dollars-append (x ∷ xs) ys = by-byte (x == 36) (dollars-append xs ys)
     by-byte false e = e
 
 -- one more byte of the open message
-pub message-more : {d : ℕ} {m : List ℕ} (b : ℕ) → IsMessageTo (suc d) m → IsMessageTo (nesting (suc d) b) (m ++ b ∷ [])
+pub message-more : {d : ℕ} {m : List ℕ} (b : ℕ) → IsMessageTo (suc d) m → IsMessageTo (depth_after (suc d) b) (m ++ b ∷ [])
 message-more {d} {m} b (message_head is begin) = message_head (group-more m is) (begins-more-bytes)
   where
-    group-more : (g : List ℕ) → IsGroupTo (suc d) g → IsGroupTo (nesting (suc d) b) (g ++ b ∷ [])
+    group-more : (g : List ℕ) → IsGroupTo (suc d) g → IsGroupTo (depth_after (suc d) b) (g ++ b ∷ [])
     group-more [] is = absurd is
     group-more (x ∷ xs) is = (is.0, left_open-more 1 xs b (suc d) is.1 (omega arith))
 
     begins-more-bytes : take 3 (m ++ b ∷ []) ≡ lead
     begins-more-bytes = subst (λ x. take 3 (x ++ b ∷ []) ≡ lead) (sym (leads m begin)) refl
 message-more {d} b (message_next message group closed is other) =
-    subst (λ x. IsMessageTo (nesting (suc d) b) x) (sym (append_assoc message group (b ∷ [])))
+    subst (λ x. IsMessageTo (depth_after (suc d) b) x) (sym (append_assoc message group (b ∷ [])))
     (message_next message (group ++ b ∷ []) closed (group-more group is) (agrees-other lead group (b ∷ []) other))
   where
-    group-more : (g : List ℕ) → IsGroupTo (suc d) g → IsGroupTo (nesting (suc d) b) (g ++ b ∷ [])
+    group-more : (g : List ℕ) → IsGroupTo (suc d) g → IsGroupTo (depth_after (suc d) b) (g ++ b ∷ [])
     group-more [] is = absurd is
     group-more (x ∷ xs) is = (is.0, left_open-more 1 xs b (suc d) is.1 (omega arith))
 

@@ -1,6 +1,6 @@
 use Rattle.std.proofs.Common.{◌≡◌, ◌<◌, Some, ap, sym, ◌∙◌, length, get_or, take, arith}
 use Rattle.fin_frame.specs.File.{left_open}
-use Rattle.fin_frame.proofs.Groups.{left_open-take, left_open-to, nesting-le}
+use Rattle.fin_frame.proofs.Groups.{left_open-take, left_open-to, depth_after-le}
 use Rattle.fin_frame.proofs.group.within.Goals as goal
 
 pub returns-then-at-bytes-clause-open : goal.returns-then-at-bytes-clause-open
@@ -17,6 +17,6 @@ loop-left-preserved c =
     let lt : at < length c.args.bytes.now = omega (arith, c.next_brace-at.ensures.most) in
     record {
       most = omega (arith, lt);
-      bound = omega (arith, nesting-le c.loop-left.left (get_or c.args.bytes.now at 0), c.behind-left.ensures, c.next_brace-at.ensures.least);
+      bound = omega (arith, depth_after-le c.loop-left.left (get_or c.args.bytes.now at 0), c.behind-left.ensures, c.next_brace-at.ensures.least);
       left = left_open-take c.args.depth c.args.bytes.now at c.loop-left.left lt before (omega arith) ∙ ap Some (sym c.behind-left.ensures);
     }
