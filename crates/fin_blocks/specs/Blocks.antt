@@ -1,5 +1,6 @@
 -- The blocks of a message, read in their order: the first that is not of its form is the fault.
 use Rattle.std.specs.Prelude.{◌≡◌, ℕ, Bool, true, false, List, [], ◌∷◌, Option, Some, None, Result, Ok, Err, is_some, bytes_eq, codes, if◌then◌else◌}
+use Rattle.corr_text.specs.Answers.{Refuses}
 use Rattle.corr_text.specs.Codes.{code}
 use Rattle.corr_text.specs.First.{check, or_fault, ◌>>=◌}
 use Rattle.fin_blocks.specs.Groups.{groups_of, next, after}
@@ -69,7 +70,11 @@ pub record AreNamed (b : Blocks) : Type 0 where
   pub own : IsBic (bank_of b.own)
   pub app : IsApp b.app
 
+-- the fault that an error tells, none where memory is out
+abbrev pub told : BlockFault → Option BlockFault
+told (fault.Bad refusal mir) = Some (fault.Bad refusal mir)
+told fault.Memory = None
+
 -- an error tells this fault, or want of memory
 abbrev pub Tells : Result Blocks BlockFault → BlockFault → Type 0
-Tells meant (fault.Bad refusal mir) = meant ≡ Err (fault.Bad refusal mir)
-Tells meant fault.Memory = Unit {0}
+Tells meant e = Refuses told meant e

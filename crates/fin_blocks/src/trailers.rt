@@ -9,21 +9,15 @@ ghost use Rattle.fin_blocks.specs.Blocks.{optional};
 
 use crate::forms::{inside, read_tagged};
 use crate::groups::next_group;
-use corr_text::{List, Memory};
+use corr_text::{List, Memory, Set, is_all_of};
 use std::alloc::Global;
-
-fn all_capitals(b: &[u8]) -> bool
-    ensures { result ≡ list_all is_ascii_uppercase b.now }
-{
-    b.iter().all(|c| c.is_ascii_uppercase())
-}
 
 #[tactic(auto, unfolding(crate::specs::Forms::trailer_of))]
 fn trailer(group: &[u8]) -> Option<[u8; 3]>
     ensures { result ≡ trailer_of group.now }
 {
     let piece = read_tagged(group)?;
-    if !all_capitals(piece.tag) {
+    if !is_all_of(Set::A, piece.tag) {
         return None;
     }
     let mut code = [0; 3];

@@ -1,6 +1,7 @@
 -- The first fault of a text: its lines, then its bytes.
-use Rattle.std.specs.Prelude.{◌≡◌, ℕ, ◌+◌, ◌/◌, ◌%◌, ◌==◌, ◌&&◌, ◌||◌, not, Bool, true, false, List, [], ◌∷◌, take, position, slice_get, count_by, Option, Some, option_map, option_and_then, unwrap_or, if◌then◌else◌, is_some}
+use Rattle.std.specs.Prelude.{◌≡◌, ℕ, ◌+◌, ◌/◌, ◌%◌, ◌==◌, ◌&&◌, ◌||◌, not, Bool, true, false, List, [], ◌∷◌, take, position, slice_get, count_by, Option, Some, None, option_map, option_and_then, unwrap_or, if◌then◌else◌, is_some}
 use Rattle.std.specs.List.{list_any}
+use Rattle.corr_text.specs.Answers.{Tells}
 use Rattle.corr_text.specs.Sets.{is_x_byte}
 use Rattle.corr_text.specs.First.{first_of}
 use Rattle.fin_fields.specs.declared.field.Field.{Field}
@@ -63,11 +64,15 @@ field_fault text = first_of (
     ∷ outside_x (fields_of text)
     ∷ [])
 
+-- the fault that an error tells, none where memory is out
+abbrev pub told : FieldFault → Option FieldFault
+told Memory = None
+told (P20 line) = Some (P20 line)
+told (P21 tag nth) = Some (P21 tag nth)
+
 -- a fault that is told is the first of the text, or want of memory
 abbrev pub TellsFieldFault : List ℕ → FieldFault → Type 0
-TellsFieldFault text Memory = Unit {0}
-TellsFieldFault text (P20 line) = field_fault text ≡ Some (P20 line)
-TellsFieldFault text (P21 tag nth) = field_fault text ≡ Some (P21 tag nth)
+TellsFieldFault text e = Tells told (field_fault text) e
 
 -- a fault of lines that is told is that of this line, or want of memory
 abbrev pub TellsLineFault : Option ℕ → FieldFault → Type 0

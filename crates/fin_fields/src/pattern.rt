@@ -6,7 +6,7 @@ ghost use Rattle.corr_text.specs.Sets.{is_in};
 ghost use Rattle.fin_fields.specs.Patterns.{is_run, meets};
 
 use crate::field::Field;
-use corr_text::{Set, Text, is_set};
+use corr_text::{Set, Text, is_all_of};
 
 /// A format of lines: `Lines` is `max*len x`, `Fixed` is `len!` of a set, `UpTo` is `len` of a set.
 #[derive(Clone, Copy, Debug, PartialEq, Eq)]
@@ -16,17 +16,11 @@ pub enum Pattern {
     UpTo { set: Set, len: u8 },
 }
 
-fn all_in(set: Set, line: &[u8]) -> bool
-    ensures { result ≡ list_all (is_in set) line.now }
-{
-    line.iter().all(|b| is_set(set, *b))
-}
-
 /// Whether a line is 1 to `len` bytes of the set.
 pub fn is_run_of(set: Set, len: u8, line: &[u8]) -> bool
     ensures { result ≡ is_run (is_in set) len line.now }
 {
-    1 <= line.len() && line.len() <= len as usize && all_in(set, line)
+    1 <= line.len() && line.len() <= len as usize && is_all_of(set, line)
 }
 
 fn all_runs(len: u8, lines: &[Text]) -> bool
@@ -49,7 +43,7 @@ pub fn lines_match(lines: &[Text], p: Pattern) -> bool
         Pattern::Fixed { set, len } => match lines {
             [line] => {
                 let bytes = line.bytes();
-                bytes.len() == len as usize && all_in(set, bytes)
+                bytes.len() == len as usize && is_all_of(set, bytes)
             }
             _ => false,
         },

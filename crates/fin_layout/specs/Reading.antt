@@ -1,5 +1,6 @@
 -- What a reader of the code answers, against what the definitions say.
-use Rattle.std.specs.Prelude.{◌≡◌, List, ℕ, Option, Some, Result, Ok, Err}
+use Rattle.std.specs.Prelude.{◌≡◌, List, ℕ, Option, Some, None, Result, Ok, Err}
+use Rattle.corr_text.specs.Answers as answers
 use Rattle.corr_text.specs.declared.fault.Code.{Code}
 use Rattle.corr_text.specs.declared.fault.Fault.{Fault}
 use Rattle.fin_fields.specs.declared.field.Field.{Field}
@@ -9,30 +10,35 @@ use Rattle.fin_layout.specs.declared.fault.Refusal.{Refusal}
 use Rattle.fin_layout.specs.declared.fault.Refusal.TheVariants as refusals
 use Rattle.fin_layout.specs.Naming.{fault_at}
 
+-- the code that a refusal tells, none where memory is out
+abbrev pub told_code : Refusal → Option Code
+told_code refusals.Memory = None
+told_code (refusals.Bad code) = Some code
+
+-- the fault that a message's fault tells, none where memory is out
+abbrev pub told_fault : MtFault → Option Fault
+told_fault faults.Memory = None
+told_fault (faults.Bad fault) = Some fault
+
 -- a refusal is that of the content, or want of memory
 abbrev pub Refuses : {A : Type 0} → Refusal → Result A Code → Type 0
-Refuses refusals.Memory content = Unit {0}
-Refuses (refusals.Bad code) content = content ≡ Err code
+Refuses e content = answers.Refuses told_code content e
 
 -- a content that is read is what the field says
 abbrev pub Reads : {A : Type 0} → Result A Refusal → Result A Code → Type 0
-Reads (Ok x) content = content ≡ Ok x
-Reads (Err e) content = Refuses e content
+Reads result content = answers.Answers told_code content result
 
 -- the same of a message
 abbrev pub Fails : {A : Type 0} → MtFault → Result A Fault → Type 0
-Fails faults.Memory message = Unit {0}
-Fails (faults.Bad fault) message = message ≡ Err fault
+Fails e message = answers.Refuses told_fault message e
 
 -- a message that is read is what its fields say
 abbrev pub Gives : {A : Type 0} → Result A MtFault → Result A Fault → Type 0
-Gives (Ok x) message = message ≡ Ok x
-Gives (Err e) message = Fails e message
+Gives result message = answers.Answers told_fault message result
 
 -- a fault tells the first test that fails, or want of memory
 abbrev pub Tells : Option Fault → MtFault → Type 0
-Tells first (faults.Bad fault) = first ≡ Some fault
-Tells first faults.Memory = Unit {0}
+Tells first e = answers.Tells told_fault first e
 
 -- the refusal of a content as a fault of its field
 abbrev pub fault_of_field : List Field → ℕ → Refusal → MtFault

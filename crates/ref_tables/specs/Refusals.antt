@@ -1,6 +1,7 @@
 -- The first row of a table that fails, and why.
 use Rattle.std.specs.Prelude.{◌≡◌, ℕ, ◌+◌, ◌==◌, Bool, List, [], ◌∷◌, ◌++◌, length, map, position, Option, Some, None, option_map}
 use Rattle.std.specs.Option.{option_or, option_map_or}
+use Rattle.corr_text.specs.Answers as answers
 use Rattle.corr_text.specs.First.{unless}
 use Rattle.ref_tables.specs.Rows.{Cells, rows_within}
 use Rattle.ref_tables.specs.declared.fault.TableName.{TableName}
@@ -43,7 +44,11 @@ first_fault most test file = option_map_or (first_bad_row test []) (rows_within 
 abbrev pub named : TableName → Option (ℕ × Why) → Option (TableName × ℕ × Why)
 named table fault = option_map (λ f. (table, f.0, f.1)) fault
 
+-- the fault that an error tells, none where memory is out
+abbrev pub told : TableFault → Option (TableName × ℕ × Why)
+told (error.Bad table row reason) = Some (table, row, reason)
+told error.Memory = None
+
 -- an error tells this fault, or want of memory
 abbrev pub Tells : Option (TableName × ℕ × Why) → TableFault → Type 0
-Tells fault (error.Bad table row reason) = fault ≡ Some (table, row, reason)
-Tells fault error.Memory = Unit {0}
+Tells fault e = answers.Tells told fault e

@@ -7,25 +7,13 @@ ghost use Rattle.corr_text.specs.Sets.{is_c_byte};
 ghost use Rattle.ref_tables.specs.Columns.{decimals_of, is_account_id as is_account_id_of, is_ccy, is_country, kind_of, magnitude_of, signed_of, yes_of};
 
 use corr_money::Ccy;
-use corr_text::{Set, digits, is_set};
-
-fn all_capitals(b: &[u8]) -> bool
-    ensures { result ≡ list_all is_ascii_uppercase b.now }
-{
-    b.iter().all(|c| c.is_ascii_uppercase())
-}
-
-fn all_capitals_or_digits(b: &[u8]) -> bool
-    ensures { result ≡ list_all is_c_byte b.now }
-{
-    b.iter().all(|c| is_set(Set::C, *c))
-}
+use corr_text::{Set, digits, is_all_of};
 
 /// A currency code: three capital letters.
 pub fn ccy(b: &[u8]) -> Option<Ccy>
     ensures { result ≡ (if is_ccy b.now then Some (record { 0 = b.now }) else None) }
 {
-    if b.len() != 3 || !all_capitals(b) {
+    if b.len() != 3 || !is_all_of(Set::A, b) {
         return None;
     }
     let mut code = [0; 3];
@@ -37,7 +25,7 @@ pub fn ccy(b: &[u8]) -> Option<Ccy>
 pub fn country(b: &[u8]) -> Option<[u8; 2]>
     ensures { result ≡ (if is_country b.now then Some b.now else None) }
 {
-    if b.len() != 2 || !all_capitals(b) {
+    if b.len() != 2 || !is_all_of(Set::A, b) {
         return None;
     }
     let mut code = [0; 2];
@@ -70,7 +58,7 @@ pub fn yes_or_no(b: &[u8]) -> Option<bool>
 pub fn is_account_id(b: &[u8]) -> bool
     ensures { result ≡ is_account_id_of b.now }
 {
-    1 <= b.len() && b.len() <= 34 && all_capitals_or_digits(b)
+    1 <= b.len() && b.len() <= 34 && is_all_of(Set::C, b)
 }
 
 /// `C`, `V` or `N`.
