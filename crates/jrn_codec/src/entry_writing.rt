@@ -2,10 +2,11 @@
 
 ghost use Rattle.std.specs.Prelude.{◌≡◌, ◌++◌, [], ◌∷◌, ◌≤◌, ◌+◌, length, flat_map, All, IsOk, OnOk};
 ghost use Rattle.corr_ids.specs.Day.{InCentury};
-ghost use Rattle.day_model.specs.Shape.{HasShape, IsLeg, IsQuote};
+ghost use Rattle.day_model.specs.Shape.{HasShape, IsLeg, IsQuote, most_text};
 ghost use Rattle.jrn_codec.specs.Record.{IsEntry, IsOutcome, back_bytes, entry_bytes, fate_bytes, front_bytes, leg_bytes, mt_mark, order_bytes, outcome_bytes, posting_bytes, quote_bytes, side_mark, skip_mark, stamp_bytes};
 ghost use Rattle.jrn_codec.specs.Spelling.{bic_bytes, listed_bytes, long_bytes, optional_bytes};
 ghost use Rattle.jrn_codec.specs.Writing.{HasRoom};
+ghost use Rattle.day_model.specs.Chart.{most_accounts};
 
 use crate::writing::push_all;
 use corr_ids::{Bic, Uetr, with_branch};
@@ -97,7 +98,7 @@ fn put_quote(out: &mut Buf, quote: &Quote) -> Result<(), Memory>
 
 #[tactic(auto, unfolding(crate::specs::Record::posting_bytes))]
 fn put_posting(out: &mut Buf, leg: &Leg) -> Result<(), Memory>
-    requires { leg.now.account.0 ≤ 1000 }
+    requires { leg.now.account.0 ≤ most_accounts }
     ensures ok { OnOk result (out.new.bytes ≡ out.old.bytes ++ posting_bytes leg.now) }
     ensures room { HasRoom (posting_bytes leg.now) out.old.spare out.new.spare result }
 {
@@ -208,7 +209,7 @@ fn put_listed(out: &mut Buf, legs: &[Leg], orders: &[Order]) -> Result<(), Memor
 
 #[tactic(auto, unfolding(crate::specs::Spelling::long_bytes))]
 fn put_text(out: &mut Buf, text: &[u8]) -> Result<(), Memory>
-    requires { length text.now ≤ 32768 }
+    requires { length text.now ≤ most_text }
     ensures ok { OnOk result (out.new.bytes ≡ out.old.bytes ++ long_bytes text.now) }
     ensures room { HasRoom (long_bytes text.now) out.old.spare out.new.spare result }
 {

@@ -3,6 +3,7 @@ use Rattle.std.specs.Prelude.{◌≡◌, ◌≢◌, ◌≤◌, ◌<◌, ℕ, Lis
 use Rattle.corr_ids.specs.Bic.{bic_of}
 use Rattle.corr_money.specs.Amounts.{amount_end}
 use Rattle.ref_tables.specs.Columns.{is_account_id, is_ccy, is_kind}
+use Rattle.ref_tables.specs.Rows.{most_rows}
 use Rattle.ref_tables.specs.Seen.{Tables, has_head, decimals_in}
 use Rattle.ref_tables.specs.Accounts.{customer, owner_fits}
 use Rattle.ref_tables.specs.declared.account.AccountRow.{AccountRow}
@@ -32,7 +33,7 @@ pub record IsSameRelation (a b : AccountRow) : Type 0 where
 
 -- the accounts of a table: at most 1,000, no two with one id or of one relation, and one number of decimals a currency
 pub record AreAccounts (home : List ℕ) (t : Tables) (accounts : List AccountRow) : Type 0 where
-  pub few : length accounts ≤ 1000
+  pub few : length accounts ≤ most_rows
   pub each : (i : ℕ) (a : AccountRow) → slice_get accounts i ≡ Some a → IsAccount home t a
   pub ids : (i j : ℕ) (a b : AccountRow) → slice_get accounts i ≡ Some a → slice_get accounts j ≡ Some b → a.id ≡ b.id → i ≡ j
   pub relations : (i j : ℕ) (a b : AccountRow) → slice_get accounts i ≡ Some a → slice_get accounts j ≡ Some b → IsSameRelation a b → i ≡ j

@@ -6,7 +6,7 @@ use Rattle.corr_text.specs.First.{first_of, unless}
 use Rattle.corr_ids.specs.Bic.{is_bic, branch_of}
 use Rattle.corr_money.specs.Amounts.{amount_end}
 use Rattle.ref_tables.specs.Columns.{is_ccy, is_account_id, kind_of, signed_of}
-use Rattle.ref_tables.specs.Rows.{Cells, cell}
+use Rattle.ref_tables.specs.Rows.{Cells, cell, most_rows}
 use Rattle.ref_tables.specs.Refusals.{against, columns, value, double, first_fault}
 use Rattle.ref_tables.specs.Seen.{Tables, has_head, decimals_in}
 use Rattle.ref_tables.specs.declared.account.AccountRow.{AccountRow}
@@ -78,4 +78,4 @@ account_fault home t earlier row = option_or (form_fault row) (standing_fault ho
 
 -- the first fault of a file, for a home bank with this head
 abbrev pub accounts_fault : List ℕ → Tables → List ℕ → Option (ℕ × Why)
-accounts_fault home t file = first_fault 1000 (against (account_of t) (account_fault home t)) file
+accounts_fault home t file = first_fault most_rows (against (account_of t) (account_fault home t)) file

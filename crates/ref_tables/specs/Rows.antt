@@ -30,6 +30,18 @@ cell k row = unwrap_or (field_at row k) []
 abbrev pub up_to : {A : Type 0} → ℕ → List A → Option (List A)
 up_to most xs = if nat_le (length xs) most then Some xs else None
 
+-- the most bytes of a table's file: 8 MiB
+abbrev pub most_table_bytes : ℕ
+most_table_bytes = 8388608
+
+-- the most rows of a table of banks
+abbrev pub most_banks : ℕ
+most_banks = 100000
+
+-- the most rows of a table of currencies, countries or accounts
+abbrev pub most_rows : ℕ
+most_rows = 1000
+
 -- the rows of a file, unless it has more than 8 MiB or more rows than this
 abbrev pub rows_within : ℕ → List ℕ → Option (List Cells)
-rows_within most file = if nat_le (length file) 8388608 then up_to most (rows_of file) else None
+rows_within most file = if nat_le (length file) most_table_bytes then up_to most (rows_of file) else None

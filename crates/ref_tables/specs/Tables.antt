@@ -5,7 +5,7 @@ use Rattle.std.specs.Str.{bytes_eq}
 use Rattle.corr_text.specs.First.{first_of}
 use Rattle.corr_ids.specs.Bic.{is_bic, branch_of}
 use Rattle.ref_tables.specs.Columns.{is_ccy, is_country, decimals_of, yes_of}
-use Rattle.ref_tables.specs.Rows.{Cells, cell, rows_of}
+use Rattle.ref_tables.specs.Rows.{Cells, cell, most_banks, most_rows, rows_of}
 use Rattle.ref_tables.specs.Refusals.{against, columns, value, double, first_fault, named}
 use Rattle.ref_tables.specs.Seen.{Tables}
 use Rattle.ref_tables.specs.declared.fault.Why.{Why}
@@ -41,15 +41,15 @@ country_fault earlier row =
 
 -- the first fault of each file
 abbrev pub bics_fault : List ℕ → Option (ℕ × Why)
-bics_fault file = first_fault 100000 (against bank_of bank_fault) file
+bics_fault file = first_fault most_banks (against bank_of bank_fault) file
 
 -- the first fault of a table of currencies
 abbrev pub ccys_fault : List ℕ → Option (ℕ × Why)
-ccys_fault file = first_fault 1000 (against ccy_of ccy_fault) file
+ccys_fault file = first_fault most_rows (against ccy_of ccy_fault) file
 
 -- the first fault of a table of countries
 abbrev pub countries_fault : List ℕ → Option (ℕ × Why)
-countries_fault file = first_fault 1000 (against country_of country_fault) file
+countries_fault file = first_fault most_rows (against country_of country_fault) file
 
 -- the first fault of the three files, read in this order
 abbrev pub tables_fault : List ℕ → List ℕ → List ℕ → Option (TableName × ℕ × Why)

@@ -5,7 +5,7 @@ ghost use Rattle.csv.specs.Records.{fields_of};
 ghost use Rattle.ref_tables.specs.AccountList.{AreAccounts};
 ghost use Rattle.ref_tables.specs.Accounts.{account_fault, account_of, accounts_fault, clashes, form_fault, is_balance, owner_fits, same_relation, standing_fault, within_limits};
 ghost use Rattle.ref_tables.specs.Refusals.{Tells, against, first_bad_row, named};
-ghost use Rattle.ref_tables.specs.Rows.{cell, rows_of};
+ghost use Rattle.ref_tables.specs.Rows.{cell, rows_of, most_rows};
 
 use crate::account::AccountRow;
 use crate::columns::{ccy, is_account_id, kind, signed};
@@ -100,7 +100,7 @@ fn first_clash(account: &AccountRow, earlier: &[AccountRow]) -> Option<usize>
 
 // What is wrong with an account, given those of the rows before it.
 fn standing(home: &Bic, t: &RefTables, earlier: &[AccountRow], account: &AccountRow) -> Option<Why>
-    requires { length earlier.now < 1000 }
+    requires { length earlier.now < most_rows }
     ensures { result ≡ standing_fault home.now.head t.now earlier.now account.now }
 {
     if let Some(at) = first_clash(account, earlier) {
@@ -127,7 +127,7 @@ fn read_row(
     id: Text,
 ) -> Result<AccountRow, Why>
     requires id_read { id ≡ cell 0 (fields_of row.now) }
-    requires few { length earlier.now < 1000 }
+    requires few { length earlier.now < most_rows }
     ensures sound { OnOk result (account_fault home.now.head t.now earlier.now (fields_of row.now) ≡ None) }
     ensures value { IfOk result (λ a. a ≡ account_of t.now (fields_of row.now)) }
     ensures few { IfOk result (λ a. a.decimals ≤ 4) }
@@ -147,7 +147,7 @@ fn enter_rows(
     t: &RefTables,
     rows: &[ByteRecord],
 ) -> Result<Vec<AccountRow>, TableFault>
-    requires { length rows.now ≤ 1000 }
+    requires { length rows.now ≤ most_rows }
     ensures ok { IfOk result (λ v.
         (first_bad_row (against (account_of t.now) (account_fault home.now.head t.now)) [] (map fields_of rows.now) ≡ None)
         × (v.items ≡ map (account_of t.now) (map fields_of rows.now))

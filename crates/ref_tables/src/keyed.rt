@@ -6,7 +6,7 @@ ghost use Rattle.std.specs.Str.{bytes_eq};
 ghost use Rattle.indexmap.specs.IndexMap.{get, index_map_len};
 ghost use Rattle.csv.specs.Records.{fields_of};
 ghost use Rattle.ref_tables.specs.Refusals.{Tells, against, double, first_bad_row, first_fault, named};
-ghost use Rattle.ref_tables.specs.Rows.{Cells, rows_of};
+ghost use Rattle.ref_tables.specs.Rows.{Cells, rows_of, most_banks};
 ghost use Rattle.ref_tables.specs.declared.fault.Why.{Why};
 
 use crate::fault::{TableFault, TableName, Why, bad};
@@ -23,7 +23,7 @@ pub trait KeyedRow<const N: usize, V> {
 
     /// Reads a row, given what the rows before it say.
     fn read(seen: &IndexMap<[u8; N], V>, row: &ByteRecord) -> Result<([u8; N], V), Why>
-        requires { index_map_len seen.now < 100000 }
+        requires { index_map_len seen.now < most_banks }
         ensures sound { OnOk result (fault seen.now.entries (fields_of row.now) ≡ None) }
         ensures value { IfOk result (λ e. (e.0, e.1) ≡ entry (fields_of row.now)) }
         ensures new { IfOk result (λ e. get bytes_eq seen.now e.0 ≡ None) }
@@ -32,7 +32,7 @@ pub trait KeyedRow<const N: usize, V> {
 
 /// A key that no earlier row has, or the first row that has it.
 pub fn unseen<const N: usize, V>(seen: &IndexMap<[u8; N], V>, key: &[u8; N]) -> Result<(), Why>
-    requires { index_map_len seen.now < 100000 }
+    requires { index_map_len seen.now < most_banks }
     ensures new { OnOk result (get bytes_eq seen.now key.now ≡ None) }
     ensures sound { OnOk result (double (bytes_eq key.now) (keys_of seen.now.entries) ≡ None) }
     ensures bad { IfErr result (λ why. double (bytes_eq key.now) (keys_of seen.now.entries) ≡ Some why) }
@@ -49,7 +49,7 @@ fn enter_rows<const N: usize, V: Drop, R: KeyedRow<N, V>>(
     table: TableName,
     rows: &[ByteRecord],
 ) -> Result<IndexMap<[u8; N], V>, TableFault>
-    requires { length rows.now ≤ 100000 }
+    requires { length rows.now ≤ most_banks }
     ensures ok { IfOk result (λ m. (first_bad_row (against R.entry R.fault) [] (map fields_of rows.now) ≡ None)
         × (m.entries ≡ map R.entry (map fields_of rows.now))) }
     ensures bad { IfErr result (Tells (named table (first_bad_row (against R.entry R.fault) [] (map fields_of rows.now)))) }
@@ -75,7 +75,7 @@ pub fn read_keyed<const N: usize, V: Drop, R: KeyedRow<N, V>>(
     most: usize,
     file: &[u8],
 ) -> Result<IndexMap<[u8; N], V>, TableFault>
-    requires { most ≤ 100000 }
+    requires { most ≤ most_banks }
     ensures ok { IfOk result (λ m. (first_fault most (against R.entry R.fault) file.now ≡ None)
         × (m.entries ≡ map R.entry (rows_of file.now))) }
     ensures bad { IfErr result (Tells (named table (first_fault most (against R.entry R.fault) file.now))) }
