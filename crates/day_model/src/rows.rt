@@ -2,8 +2,6 @@
 
 ghost use Rattle.std.specs.Prelude.{◌≡◌, ◌==◌, IsTrue};
 ghost use Rattle.std.specs.List.{list_all};
-ghost use Rattle.std.specs.Char.{is_ascii_uppercase};
-ghost use Rattle.corr_text.specs.Sets.{is_c_byte};
 ghost use Rattle.day_model.specs.RowTests.{all_apart, apart, has_limits, is_formed, is_row, reads_itself, rows_fit};
 ghost use Rattle.day_model.specs.Chart.{AreRows, customer, is_kind};
 

@@ -1,5 +1,5 @@
 -- The blocks of a message, read in their order: the first that is not of its form is the fault.
-use Rattle.std.specs.Prelude.{◌≡◌, ℕ, Bool, true, false, List, [], ◌∷◌, Option, Some, None, Result, Ok, Err, is_some, bytes_eq, codes, if◌then◌else◌}
+use Rattle.std.specs.Prelude.{ℕ, Bool, true, false, List, [], ◌∷◌, Option, Some, None, Result, Ok, is_some, bytes_eq, codes, if◌then◌else◌}
 use Rattle.corr_text.specs.Answers.{Refuses}
 use Rattle.corr_text.specs.Codes.{code}
 use Rattle.corr_text.specs.First.{check, or_fault, ◌>>=◌}

@@ -1,8 +1,6 @@
 //! Block 5: trailers.
 
 ghost use Rattle.std.specs.Prelude.{◌≡◌, codes, IfOk};
-ghost use Rattle.std.specs.List.{list_all};
-ghost use Rattle.std.specs.Char.{is_ascii_uppercase};
 ghost use Rattle.fin_blocks.specs.Groups.{groups_of};
 ghost use Rattle.fin_blocks.specs.Forms.{each_of, inside as inside_of, trailer_of};
 ghost use Rattle.fin_blocks.specs.Blocks.{optional};

@@ -1,5 +1,5 @@
 -- What the code answers, against what is meant.
-use Rattle.std.specs.Prelude.{◌≡◌, Option, Some, None, Result, Ok, Err, codes}
+use Rattle.std.specs.Prelude.{Option, Some, None, Result, codes}
 use Rattle.corr_text.specs.Answers as answers
 use Rattle.corr_text.specs.Codes.{code}
 use Rattle.fin_blocks.specs.declared.fault.BlockFault.{BlockFault}

@@ -1,5 +1,5 @@
 -- The pay of a message, or the first test that it fails.
-use Rattle.std.specs.Prelude.{◌≡◌, ℕ, not, List, [], Option, Some, None, Result, Ok, Err, unwrap_or}
+use Rattle.std.specs.Prelude.{ℕ, not, List, [], Option, Some, None, Result, Ok, unwrap_or}
 use Rattle.std.specs.Option.{option_map_or}
 use Rattle.corr_text.specs.Answers as answers
 use Rattle.corr_text.specs.Codes.{code}

@@ -1,5 +1,5 @@
 -- The first row of a table that fails, and why.
-use Rattle.std.specs.Prelude.{◌≡◌, ℕ, ◌+◌, ◌==◌, Bool, List, [], ◌∷◌, ◌++◌, length, map, position, Option, Some, None, option_map}
+use Rattle.std.specs.Prelude.{ℕ, ◌+◌, ◌==◌, Bool, List, [], ◌∷◌, ◌++◌, length, map, position, Option, Some, None, option_map}
 use Rattle.std.specs.Option.{option_or, option_map_or}
 use Rattle.corr_text.specs.Answers as answers
 use Rattle.corr_text.specs.First.{unless}

@@ -1,9 +1,6 @@
 //! The forms of columns (docs/tables.md, "Columns").
 
 ghost use Rattle.std.specs.Prelude.{◌≡◌, None, option_map, pos, Some, if◌then◌else◌};
-ghost use Rattle.std.specs.List.{list_all};
-ghost use Rattle.std.specs.Char.{is_ascii_uppercase};
-ghost use Rattle.corr_text.specs.Sets.{is_c_byte};
 ghost use Rattle.ref_tables.specs.Columns.{decimals_of, is_account_id as is_account_id_of, is_ccy, is_country, kind_of, magnitude_of, signed_of, yes_of};
 
 use corr_money::Ccy;
