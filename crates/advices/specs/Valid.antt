@@ -25,6 +25,7 @@ use Rattle.mt9_advice.specs.declared.credit.Mt910.{Mt910}
 use Rattle.mt9_advice.specs.declared.debit.Mt900.{Mt900}
 use Rattle.day_model.specs.Chart.{Chart, IsChart}
 use Rattle.day_model.specs.Fit.{FitsAccounts}
+use Rattle.day_model.specs.Log.{most_entries}
 use Rattle.day_model.specs.Shape.{HasShape, IsNumbered}
 use Rattle.day_model.specs.declared.account.Account.{Account}
 use Rattle.day_model.specs.declared.pay.Mt.TheVariants.{Transfer, Cover}
@@ -90,7 +91,7 @@ pub record CameFrom (t : Tables) (chart : Chart) (pay : Pay) (m : Message) : Typ
 -- MT900 is read of them; it has no rules
 abbrev pub DebitPasses : Type 0
 DebitPasses =
-    (t : Tables) (chart : Chart) (pay : Pay) (m : Message) (place k leg : ℕ) (to : Bic) → CameFrom t chart pay m → place ≤ 100000 → k ≤ 255 → IsNumbered (length pay.legs) leg
+    (t : Tables) (chart : Chart) (pay : Pay) (m : Message) (place k leg : ℕ) (to : Bic) → CameFrom t chart pay m → place ≤ most_entries → k ≤ 255 → IsNumbered (length pay.legs) leg
     → (first_of (tests_900 t (order_fields chart pay place k (order.Debit to leg))) ≡ None)
     × ((advice : Mt900) × (mt900_of t (order_fields chart pay place k (order.Debit to leg)) ≡ Ok advice))
 
@@ -99,7 +100,7 @@ DebitPasses =
 abbrev pub CreditPasses : Type 0
 CreditPasses =
     (t : Tables) (chart : Chart) (pay : Pay) (envelope : Envelope) (text : List ℕ) (cover : Mt202Cov) (place k leg : ℕ) (to : Bic) → CameFrom t chart pay (message.Cover envelope text cover)
-    → place ≤ 100000 → k ≤ 255 → IsNumbered (length pay.legs) leg
+    → place ≤ most_entries → k ≤ 255 → IsNumbered (length pay.legs) leg
     → (first_of (tests_910 t (order_fields chart pay place k (order.Credit to leg))) ≡ None)
     × ((advice : Mt910) × (mt910_of t (order_fields chart pay place k (order.Credit to leg)) ≡ Ok advice))
 
@@ -131,10 +132,10 @@ OrderedIsTabled =
 abbrev pub TransferStands : Type 0
 TransferStands =
     (t : Tables) (chart : Chart) (pay : Pay) (envelope : Envelope) (text : List ℕ) (m : Mt103) (place k : ℕ) (to : Bic) (skip : Skip) (via : Option Bic) → CameFrom t chart pay (message.Transfer envelope text m)
-    → place ≤ 100000 → k ≤ 255 → IfSome via (λ b. IsBic b × (has_head t b.head ≡ true)) → first_of (tests_103 t (order_fields chart pay place k (order.Transfer to skip via))) ≡ None
+    → place ≤ most_entries → k ≤ 255 → IfSome via (λ b. IsBic b × (has_head t b.head ≡ true)) → first_of (tests_103 t (order_fields chart pay place k (order.Transfer to skip via))) ≡ None
 
 -- and its cover
 abbrev pub CoverStands : Type 0
 CoverStands =
     (t : Tables) (chart : Chart) (pay : Pay) (envelope : Envelope) (text : List ℕ) (m : Mt103) (place k : ℕ) (to end : Bic) (skip : Skip) → CameFrom t chart pay (message.Transfer envelope text m)
-    → place ≤ 100000 → k ≤ 255 → IsBic end → has_head t end.head ≡ true → first_of (tests_202 t (order_fields chart pay place k (order.Cover to end skip))) ≡ None
+    → place ≤ most_entries → k ≤ 255 → IsBic end → has_head t end.head ≡ true → first_of (tests_202 t (order_fields chart pay place k (order.Cover to end skip))) ≡ None

@@ -10,6 +10,7 @@ ghost use Rattle.day_model.specs.Shape.{HasShape, IsOrder};
 ghost use Rattle.fin_fields.specs.Writing.{IsField};
 ghost use Rattle.advices.specs.Messages.{message_of, messages_from, messages_of, order_fields};
 ghost use Rattle.advices.specs.Received.{received_of};
+ghost use Rattle.day_model.specs.Log.{most_entries};
 
 use crate::advice::{credit_fields, debit_fields};
 use crate::cover::cover_fields;
@@ -109,7 +110,7 @@ fn message(
     requires shape { HasShape pay.now }
     requires same { received.now ≡ received_of pay.now }
     requires order { IsOrder (length pay.now.legs) order.now }
-    requires place { place ≤ 100000 }
+    requires place { place ≤ most_entries }
     requires k { k ≤ 255 }
     ensures { IfOk result (λ text. text ≡ message_of a.now pay.now place k order.now) }
 {
@@ -131,7 +132,7 @@ fn messages(alloc: Global, a: &Accounts, pay: &Pay, place: u32) -> Result<List<T
     requires home { IsBic a.now.home }
     requires fits { FitsAccounts a.now pay.now }
     requires shape { HasShape pay.now }
-    requires place { place ≤ 100000 }
+    requires place { place ≤ most_entries }
     ensures { IfOk result (λ texts. texts ≡ messages_from a.now pay.now place 1 pay.now.orders) }
 {
     let received = received_of(alloc, pay)?;
@@ -152,7 +153,7 @@ pub fn orders(alloc: Global, a: &Accounts, e: &Entry, place: u32) -> Result<List
     requires home { IsBic a.now.home }
     requires fits { FitsAccounts a.now e.now.pay }
     requires shape { HasShape e.now.pay }
-    requires place { IsInRange 1 100000 place }
+    requires place { IsInRange 1 most_entries place }
     ensures { IfOk result (λ texts. texts ≡ messages_of a.now e.now place) }
 {
     match e.outcome {

@@ -9,22 +9,22 @@ ghost use Rattle.advices.specs.Spelled.{IsSpelled};
 use crate::copying::first_named;
 use crate::received::Received;
 use corr_money::{Amount, Ccy, Minor, read_15d};
-use corr_text::Set;
-use fin_contents::{are_in, one_line};
+use corr_text::{Set, is_all_of};
+use fin_contents::one_line;
 use fin_fields::Field;
 
 fn is_ccy_amount(line: &[u8]) -> bool
     ensures value { result ≡ is_ccy_amount line.now }
     ensures long { IsTrue result → 4 ≤ length line.now }
 {
-    4 <= line.len() && are_in(Set::A, &line[..3]) && are_in(Set::X, &line[3..])
+    4 <= line.len() && is_all_of(Set::A, &line[..3]) && is_all_of(Set::X, &line[3..])
 }
 
 fn is_dated_amount(line: &[u8]) -> bool
     ensures value { result ≡ is_dated_amount line.now }
     ensures long { IsTrue result → 10 ≤ length line.now }
 {
-    10 <= line.len() && are_in(Set::N, &line[..6]) && is_ccy_amount(&line[6..])
+    10 <= line.len() && is_all_of(Set::N, &line[..6]) && is_ccy_amount(&line[6..])
 }
 
 fn ccy_at(line: &[u8]) -> Ccy

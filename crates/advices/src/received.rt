@@ -7,6 +7,7 @@ ghost use Rattle.fin_fields.specs.Writing.{IsField};
 ghost use Rattle.fin_contents.specs.Writing.{IsAmount};
 ghost use Rattle.advices.specs.Fields.{is_named};
 ghost use Rattle.advices.specs.Received.{amount_if, amount_in, fields_for_52, fields_in, first_fields, is_payer, ordered_of, ordering, received_of, sequence_a, sequence_b};
+ghost use Rattle.day_model.specs.Shape.{most_text};
 
 use crate::copying::{bank_field, copy_field, first_named, is_named};
 use corr_ids::Bic;
@@ -24,7 +25,7 @@ pub struct Received {
 }
 
 fn fields_in(alloc: Global, text: &[u8]) -> Result<List<Field>, Memory>
-    requires { length text.now ≤ 32768 }
+    requires { length text.now ≤ most_text }
     ensures value { IfOk result (λ fields. fields ≡ fields_in text.now) }
     ensures fit { IfOk result (All IsField) }
 {
@@ -38,7 +39,7 @@ fn fields_in(alloc: Global, text: &[u8]) -> Result<List<Field>, Memory>
 /// The message that a pay came from.
 pub fn received_of(alloc: Global, pay: &Pay) -> Result<Received, Memory>
     requires mir { IsMir pay.now.mir }
-    requires text { length pay.now.text ≤ 32768 }
+    requires text { length pay.now.text ≤ most_text }
     ensures value { IfOk result (λ received. received ≡ received_of pay.now) }
     ensures fit { IfOk result (λ received. All IsField received.fields) }
     ensures sender { IfOk result (λ received. IsBic received.sender) }

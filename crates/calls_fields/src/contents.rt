@@ -5,9 +5,9 @@ ghost use Rattle.std.specs.Prelude.{◌≡◌};
 
 use corr_ids::Day;
 use corr_money::{Amount, Ccy, Minor};
-use corr_text::{List, Memory, Set, Text};
+use corr_text::{List, Memory, Set, Text, is_all_of};
 use fin_contents::{
-    CcyAmount, KnownParty, Rate, Reference, ShortLine, Texts, Time, Value, ValueDate, are_in,
+    CcyAmount, KnownParty, Rate, Reference, ShortLine, Texts, Time, Value, ValueDate,
     array_of, is_clock, line_field, one_line, or_none, push_ccy_amount, push_ccy_amounts,
     push_party, push_rate, push_texts, push_times, put_ccy_amount, put_known_party, put_rate,
     put_reference, put_short_line, put_texts, put_time, put_value,
@@ -48,7 +48,7 @@ fn texts_are_read(rt: HostRuntime) {
 
 #[test]
 fn bytes_have_their_forms(rt: HostRuntime) {
-    assert!(rt; is_clock(b"0915+0100") && are_in(Set::N, b"0915"));
+    assert!(rt; is_clock(b"0915+0100") && is_all_of(Set::N, b"0915"));
     assert_eq!(rt; array_of(b"AB"), Some(*b"AB"));
     assert!(rt; or_none(rt.alloc(), None).as_slice().is_empty());
 }

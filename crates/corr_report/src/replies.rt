@@ -3,6 +3,7 @@
 ghost use Rattle.std.specs.Prelude.{◌≡◌, ◌++◌, ◌∷◌, [], codes, IfOk, OnOk};
 ghost use Rattle.std.specs.Fmt.{decimal};
 ghost use Rattle.std.specs.List.{All};
+ghost use Rattle.day_model.specs.Laws.{DebitsEqualCredits};
 ghost use Rattle.day_model.specs.Legal.{IsLegal};
 ghost use Rattle.corr_report.specs.Lines.{spaced};
 ghost use Rattle.corr_report.specs.Report.{NamesPlace, count_line, mir_text, reply_line, reply_words, report_of, tag_text};
@@ -108,6 +109,8 @@ pub fn report(alloc: Global, a: &Accounts, h: &History, replies: &[Reply]) -> Re
     requires legal { IsLegal a.now h.now.entries }
     requires places { All (NamesPlace h.now.entries) replies.now }
     ensures text { IfOk result (λ text. text ≡ report_of a.now h.now.entries replies.now) }
+    // the debits and the credits of each of its totals are equal
+    ensures even { OnOk result (DebitsEqualCredits a.now h.now.entries) }
     // the currencies of its totals are those of the accounts, each once, in byte order
     ensures currencies { OnOk result (AreCurrencies a.now.accounts (currencies_of [] a.now.accounts)) }
 {

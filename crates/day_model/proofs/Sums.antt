@@ -19,7 +19,7 @@ use Rattle.day_model.specs.Chart.{Chart, IsChart, account_at, is_ccy, opening_su
 use Rattle.day_model.specs.Fit.{same_ccy}
 use Rattle.day_model.specs.Balance.{is_booked, moved, moved_by, credits_of, debits_of, balance_of}
 use Rattle.day_model.specs.Legal.{IsLegal}
-use Rattle.day_model.specs.Laws.{sum_in, in_ccy, moved_in, entry_in, turnover, BalancesCancel, DebitsEqualCredits, TotalsFit}
+use Rattle.day_model.specs.Laws.{sum_in, in_ccy, moved_in, entry_in, BalancesCancel, TotalsFit}
 use Rattle.day_model.proofs.laws.Fitting.{Transfer, transfer}
 use Rattle.day_model.proofs.laws.Balances.{balance_more, booked_moves, unmoved, credits_moved, debits_moved, credits_small, debits_small}
 
@@ -91,30 +91,8 @@ even chart ccy legs t =
     ap (λ (b : Bool). cond b t.debit.amount.0 0) (same_in_ccy ccy (account_at chart t.debit.account.0) (account_at chart t.credit.account.0) t.one_ccy)
     ∙ ap (λ (x : ℕ). cond (in_ccy ccy (account_at chart t.credit.account.0)) x 0) t.equal
 
-even_entry : (chart : Chart) (ccy : Ccy) (e : Entry) → Transfer chart e.pay.legs → entry_in chart ccy Debit e ≡ entry_in chart ccy Credit e
+pub even_entry : (chart : Chart) (ccy : Ccy) (e : Entry) → Transfer chart e.pay.legs → entry_in chart ccy Debit e ≡ entry_in chart ccy Credit e
 even_entry chart ccy e t = ap (λ (x : ℕ). cond (is_booked e.outcome) x 0) (even_debit chart ccy e.pay.legs t ∙ even chart ccy e.pay.legs t ∙ sym (even_credit chart ccy e.pay.legs t))
-
-even_at : (chart : Chart) (entries : List Entry) (ccy : Ccy) (i : ℕ) → IsLegal chart entries → i ≤ length entries → turnover chart ccy Debit (take i entries) ≡ turnover chart ccy Credit (take i entries)
-even_at chart entries ccy zero legal le = refl
-even_at chart entries ccy (suc i) legal le =
-    elim (slice_get_cases entries i).1 [
-      | inl found ↦
-          let e : Entry = found.0 in
-          let item : get_or entries i e ≡ e = found.3 in
-          let before = even_at chart entries ccy i legal (omega arith) in
-          let here = even_entry chart ccy e (transfer chart e.pay.legs (legal.fits i e found.2)) in
-          let debits : turnover chart ccy Debit (take (i + 1) entries) ≡ turnover chart ccy Debit (take i entries) + entry_in chart ccy Debit e =
-          sum_by_more (entry_in chart ccy Debit) entries i e found.1 ∙ ap (λ (x : Entry). turnover chart ccy Debit (take i entries) + entry_in chart ccy Debit x) item in
-          let credits : turnover chart ccy Credit (take (i + 1) entries) ≡ turnover chart ccy Credit (take i entries) + entry_in chart ccy Credit e =
-          sum_by_more (entry_in chart ccy Credit) entries i e found.1 ∙ ap (λ (x : Entry). turnover chart ccy Credit (take i entries) + entry_in chart ccy Credit x) item in
-          let next : suc i ≡ i + 1 = omega arith in
-          rw (next, debits, credits, before, here) refl
-      | inr past ↦ absurd (omega (arith, past.0))
-    ]
-
-pub debits_equal_credits : (chart : Chart) (entries : List Entry) → IsLegal chart entries → DebitsEqualCredits chart entries
-debits_equal_credits chart entries legal ccy =
-    subst (λ (es : List Entry). turnover chart ccy Debit es ≡ turnover chart ccy Credit es) (take_all (length entries) entries (omega arith)) (even_at chart entries ccy (length entries) legal (omega arith))
 
 -- what an entry moves over the accounts of a currency
 sum_credits : (chart : Chart) (ccy : Ccy) (e : Entry) → Transfer chart e.pay.legs → sum_in ccy (λ k. pos (moved_by Credit k e)) 1 chart.accounts ≡ pos (entry_in chart ccy Credit e)

@@ -15,6 +15,7 @@ use Rattle.day_model.specs.declared.pay.Pay.{Pay}
 use Rattle.day_model.specs.declared.pay.Quote.{Quote}
 use Rattle.day_model.specs.declared.pay.Quote.TheVariants.{Ours, Theirs}
 use Rattle.day_model.specs.declared.pay.Side.TheVariants.{Credit, Debit}
+use Rattle.day_model.specs.Chart.{most_accounts}
 use Rattle.day_model.specs.Fit.{amounts_fit, is_side}
 
 -- a reference: 1 to 16 of X, without a stray slash
@@ -31,7 +32,7 @@ IsQuote (Ours order) = Unit {0}
 
 -- a leg on one of at most 1,000 accounts
 pub record IsLeg (leg : Leg) : Type 0 where
-  pub account : (1 ≤ leg.account.0) × (leg.account.0 ≤ 1000)
+  pub account : (1 ≤ leg.account.0) × (leg.account.0 ≤ most_accounts)
   pub quote : IsQuote leg.quote
 
 -- a debit and then a credit of one amount above 0 and below 10^14, on distinct accounts
@@ -52,11 +53,15 @@ IsOrder legs (order.Pass to skip) = IsBic to
 IsOrder legs (order.Debit to leg) = IsBic to × IsNumbered legs leg
 IsOrder legs (order.Credit to leg) = IsBic to × IsNumbered legs leg
 
+-- the most bytes of a pay's text
+abbrev pub most_text : ℕ
+most_text = 32768
+
 -- what every pay has that is written down: its parts meet their grammar and their bounds
 pub record HasShape (pay : Pay) : Type 0 where
   pub mir : IsMir pay.mir
   pub uetr : IfSome pay.uetr IsUetr
-  pub text : length pay.text ≤ 32768
+  pub text : length pay.text ≤ most_text
   pub value : InCentury pay.value
   pub legs : IsTrue (are_legs pay.legs)
   pub each_leg : All IsLeg pay.legs

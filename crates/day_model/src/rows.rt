@@ -2,8 +2,6 @@
 
 ghost use Rattle.std.specs.Prelude.{◌≡◌, ◌==◌, IsTrue};
 ghost use Rattle.std.specs.List.{list_all};
-ghost use Rattle.std.specs.Char.{is_ascii_uppercase};
-ghost use Rattle.corr_text.specs.Sets.{is_c_byte};
 ghost use Rattle.day_model.specs.RowTests.{all_apart, apart, has_limits, is_formed, is_row, reads_itself, rows_fit};
 ghost use Rattle.day_model.specs.Chart.{AreRows, customer, is_kind};
 
@@ -11,22 +9,10 @@ use crate::account::Account;
 use crate::accounts::MOST_ACCOUNTS;
 use crate::kind::Kind;
 use corr_ids::{Bic, read_bic, with_branch};
-use corr_text::{Set, is_set};
+use corr_text::{Set, is_all_of};
 
 /// Balances are at most this in size, in minor units.
 const MOST_BALANCE: i64 = 99_999_999_999_999;
-
-fn is_plain(id: &[u8]) -> bool
-    ensures { result ≡ list_all is_c_byte id.now }
-{
-    id.iter().all(|b| is_set(Set::C, *b))
-}
-
-fn is_code(ccy: &[u8]) -> bool
-    ensures { result ≡ list_all is_ascii_uppercase ccy.now }
-{
-    ccy.iter().all(|b| b.is_ascii_uppercase())
-}
 
 fn is_bank(b: &Bic) -> bool
     ensures { result ≡ reads_itself b.now }
@@ -55,10 +41,10 @@ fn has_form(a: &Account) -> bool
     let id = a.id.bytes();
     1 <= id.len()
         && id.len() <= 34
-        && is_plain(id)
+        && is_all_of(Set::C, id)
         && is_letter(a.kind)
         && is_bank(&a.owner)
-        && is_code(&a.ccy.0)
+        && is_all_of(Set::A, &a.ccy.0)
         && a.decimals <= 4
 }
 

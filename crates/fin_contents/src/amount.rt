@@ -9,9 +9,9 @@ ghost use Rattle.fin_layout.specs.Reading.{Reads};
 ghost use Rattle.ref_tables.specs.Seen.{Tables};
 
 use crate::codes::{C03, P27, T40, T43, T52};
-use crate::line::{are_in, line_field, one_line};
+use crate::line::{line_field, one_line};
 use corr_money::{Amount, AmountFault, Ccy, Minor, put_15d, read_15d};
-use corr_text::{Code, Memory, Set, Text};
+use corr_text::{Code, Memory, Set, Text, is_all_of};
 use fin_fields::Field;
 use fin_layout::{Content, P24, Refusal};
 use ref_tables::RefTables;
@@ -30,7 +30,7 @@ pub fn is_ccy_amount(line: &[u8]) -> bool
     ensures value { result ≡ is_ccy_amount line.now }
     ensures long { IsTrue result → 4 ≤ length line.now }
 {
-    4 <= line.len() && are_in(Set::A, &line[..3]) && are_in(Set::X, &line[3..])
+    4 <= line.len() && is_all_of(Set::A, &line[..3]) && is_all_of(Set::X, &line[3..])
 }
 
 fn amount_code(e: AmountFault) -> Code

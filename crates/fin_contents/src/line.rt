@@ -1,13 +1,12 @@
 //! Lines and their parts.
 
 ghost use Rattle.std.specs.Prelude.{◌≡◌, IfOk, option_map};
-ghost use Rattle.std.specs.List.{list_all, position};
-ghost use Rattle.corr_text.specs.Sets.{is_in};
+ghost use Rattle.std.specs.List.{position};
 ghost use Rattle.corr_text.specs.Lines.{begins_with};
 ghost use Rattle.fin_contents.specs.Plain.{is_slash, one_line, sized};
 ghost use Rattle.fin_contents.specs.Writing.{line_field};
 
-use corr_text::{List, Memory, Set, Text, is_set};
+use corr_text::{List, Memory, Text};
 use fin_fields::Field;
 use std::alloc::Global;
 
@@ -31,13 +30,6 @@ pub fn array_of<const N: usize>(b: &[u8]) -> Option<[u8; N]>
     let mut array = [0; N];
     array.copy_from_slice(b);
     Some(array)
-}
-
-/// Whether all bytes are in a set.
-pub fn are_in(set: Set, b: &[u8]) -> bool
-    ensures { result ≡ list_all (is_in set) b.now }
-{
-    b.iter().all(|c| is_set(set, *c))
 }
 
 /// Whether bytes begin with this one.

@@ -8,9 +8,9 @@ ghost use Rattle.fin_fields.specs.declared.field.Field.{Field as FieldSeen};
 ghost use Rattle.fin_layout.specs.Reading.{Reads};
 
 use crate::codes::{T40, T43};
-use crate::line::{are_in, line_field, one_line};
+use crate::line::{line_field, one_line};
 use corr_money::is_comma_number;
-use corr_text::{Memory, Set, Text};
+use corr_text::{Memory, Set, Text, is_all_of};
 use fin_fields::Field;
 use fin_layout::{Content, P24, Refusal};
 use std::alloc::Global;
@@ -30,7 +30,7 @@ fn read_rate(alloc: Global, f: &Field) -> Result<Text, Refusal>
     let Some(line) = one_line(f) else {
         return Err(Refusal::Bad(P24));
     };
-    if line.is_empty() || !are_in(Set::X, line) {
+    if line.is_empty() || !is_all_of(Set::X, line) {
         return Err(Refusal::Bad(P24));
     }
     if !is_comma_number(line) {

@@ -7,8 +7,8 @@ ghost use Rattle.fin_fields.specs.Writing.{IsField};
 ghost use Rattle.fin_fields.specs.declared.field.Field.{Field as FieldSeen};
 ghost use Rattle.fin_layout.specs.Reading.{Reads};
 
-use crate::line::{are_in, begins_with, first_slash, line_field, one_line};
-use corr_text::{Memory, Set, Text};
+use crate::line::{begins_with, first_slash, line_field, one_line};
+use corr_text::{Memory, Set, Text, is_all_of};
 use fin_fields::{Field, is_run_of};
 use fin_layout::{Content, P24, Refusal};
 use std::alloc::Global;
@@ -24,9 +24,9 @@ pub fn is_clock(b: &[u8]) -> bool
     ensures { result ≡ is_clock b.now }
 {
     b.len() == 9
-        && are_in(Set::N, &b[..4])
+        && is_all_of(Set::N, &b[..4])
         && (begins_with(b'+', &b[4..]) || begins_with(b'-', &b[4..]))
-        && are_in(Set::N, &b[5..])
+        && is_all_of(Set::N, &b[5..])
 }
 
 fn is_time(line: &[u8]) -> bool

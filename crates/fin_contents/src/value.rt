@@ -10,11 +10,11 @@ ghost use Rattle.ref_tables.specs.Seen.{Tables};
 
 use crate::amount::{ccy_amount_in, is_ccy_amount, put_ccy_amount_text};
 use crate::codes::{C08, P26, T50};
-use crate::line::{are_in, line_field, one_line};
+use crate::line::{line_field, one_line};
 use crate::metal::is_metal;
 use corr_ids::{Day, day_from_yymmdd, put_yymmdd};
 use corr_money::Amount;
-use corr_text::{Code, Memory, Set, Text};
+use corr_text::{Code, Memory, Set, Text, is_all_of};
 use fin_fields::Field;
 use fin_layout::{Content, P24, Refusal};
 use ref_tables::RefTables;
@@ -41,7 +41,7 @@ fn is_dated_amount(line: &[u8]) -> bool
     ensures value { result ≡ is_dated_amount line.now }
     ensures long { IsTrue result → 10 ≤ length line.now }
 {
-    10 <= line.len() && are_in(Set::N, &line[..6]) && is_ccy_amount(&line[6..])
+    10 <= line.len() && is_all_of(Set::N, &line[..6]) && is_ccy_amount(&line[6..])
 }
 
 #[tactic(auto, unfolding(crate::specs::Money::value_in))]

@@ -21,6 +21,45 @@ pub struct Place {
     pub must: bool,
 }
 
+/// A place that must be taken once: `one!(50, b"AFKK")`.
+#[macro_export]
+macro_rules! one {
+    ($tag:literal, $options:literal) => {
+        $crate::Place {
+            tag: $tag,
+            options: *$options,
+            many: false,
+            must: true,
+        }
+    };
+}
+
+/// A place that may be taken once: `may!(52, b"ADDD")`.
+#[macro_export]
+macro_rules! may {
+    ($tag:literal, $options:literal) => {
+        $crate::Place {
+            tag: $tag,
+            options: *$options,
+            many: false,
+            must: false,
+        }
+    };
+}
+
+/// A place that may be taken more than once: `any!(13, b"CCCC")`.
+#[macro_export]
+macro_rules! any {
+    ($tag:literal, $options:literal) => {
+        $crate::Place {
+            tag: $tag,
+            options: *$options,
+            many: true,
+            must: false,
+        }
+    };
+}
+
 /// Whether a field may stand at a place: it has the place's number and one of its letters.
 pub fn fits(p: &Place, f: &Field) -> bool
     ensures { result ≡ fits p.now f.now }

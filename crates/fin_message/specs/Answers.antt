@@ -1,5 +1,6 @@
 -- What the code answers, against what is meant.
-use Rattle.std.specs.Prelude.{◌≡◌, Result, Ok, Err, codes}
+use Rattle.std.specs.Prelude.{Option, Some, None, Result, codes}
+use Rattle.corr_text.specs.Answers as answers
 use Rattle.corr_text.specs.Codes.{code}
 use Rattle.fin_blocks.specs.declared.fault.BlockFault.{BlockFault}
 use Rattle.fin_blocks.specs.declared.fault.BlockFault.TheVariants as block
@@ -12,15 +13,18 @@ use Rattle.fin_message.specs.Verdict.{Refused, block_tag}
 use Rattle.fin_message.specs.declared.fault.MessageFault.{MessageFault}
 use Rattle.fin_message.specs.declared.fault.MessageFault.TheVariants as message
 
+-- the refusal that an error tells, none where memory is out
+abbrev pub told : MessageFault → Option Refused
+told (message.Refused mir fault) = Some (mir, fault)
+told message.Memory = None
+
 -- an error is the refusal that is meant, or want of memory
 abbrev pub Refuses : {A : Type 0} → MessageFault → Result A Refused → Type 0
-Refuses (message.Refused mir fault) meant = meant ≡ Err (mir, fault)
-Refuses message.Memory meant = Unit {0}
+Refuses e meant = answers.Refuses told meant e
 
 -- an answer is the one that is meant, or want of memory
 abbrev pub Answers : {A : Type 0} → Result A MessageFault → Result A Refused → Type 0
-Answers (Ok x) meant = meant ≡ Ok x
-Answers (Err e) meant = Refuses e meant
+Answers result meant = answers.Answers told meant result
 
 -- faults of blocks and of lines, as the code carries them
 abbrev pub fault_of_blocks : BlockFault → MessageFault

@@ -5,6 +5,7 @@ ghost use mathlib.Core.List.{IsPrefix};
 ghost use Rattle.front_word.specs.declared.view.Act.{Act};
 ghost use Rattle.front_word.specs.Known.{newcomer, HasPlaces};
 ghost use Rattle.front_word.specs.Rule.{IsNumber, OwedPast, Among};
+ghost use Rattle.day_model.specs.Log.{most_entries};
 
 use crate::front::Front;
 use crate::pass::Pass;
@@ -43,7 +44,7 @@ impl Writer {
         requires table { f.now ≡ self.old.table }
         requires clear { self.old.owed ≡ None }
         requires number { IsNumber self.old.made act.by }
-        requires room { length self.old.base + length self.old.acts < 100000 }
+        requires room { length self.old.base + length self.old.acts < most_entries }
         ensures { self.new ≡ record self.old { acts = self.old.acts ++ act ∷ []; owed = Some act.by } }
     {
         self.publish_as::<Brand>(f);
@@ -53,7 +54,7 @@ impl Writer {
         requires table { f.now ≡ self.old.table }
         requires clear { self.old.owed ≡ None }
         requires number { IsNumber self.old.made A.act.by }
-        requires room { length self.old.base + length self.old.acts < 100000 }
+        requires room { length self.old.base + length self.old.acts < most_entries }
         ensures { self.new ≡ record self.old { acts = self.old.acts ++ A.act ∷ []; owed = Some A.act.by } }
     {
         f.table.shared.fetch_add::<Publish<A>>(&mut self.seat, 0, 1);

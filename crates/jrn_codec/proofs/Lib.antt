@@ -8,5 +8,6 @@ pub mod Orders
 pub mod Entries
 pub mod Heads
 pub mod Lengths
+pub mod Fronts
 pub mod HeadWriting
 pub mod laws

@@ -12,6 +12,7 @@ use Rattle.corr_ids.specs.declared.bic.Bic.{Bic}
 use Rattle.corr_ids.specs.declared.day.Day.{Day}
 use Rattle.corr_ids.specs.declared.mir.Mir.{Mir}
 use Rattle.corr_ids.specs.declared.uetr.Uetr.{Uetr}
+use Rattle.day_model.specs.Chart.{most_accounts}
 use Rattle.day_model.specs.declared.pay.Side.{Side}
 use Rattle.day_model.specs.declared.pay.Side.TheVariants.{Debit, Credit}
 use Rattle.day_model.specs.declared.pay.Mt.{Mt}
@@ -26,7 +27,7 @@ use Rattle.day_model.specs.declared.pay.Order.TheVariants as order
 use Rattle.day_model.specs.declared.entry.Outcome.{Outcome}
 use Rattle.day_model.specs.declared.entry.Outcome.TheVariants.{Booked, Unfunded}
 use Rattle.day_model.specs.declared.entry.Entry.{Entry}
-use Rattle.day_model.specs.Shape.{are_legs}
+use Rattle.day_model.specs.Shape.{are_legs, most_text}
 use Rattle.jrn_codec.specs.declared.entry.Stamp.{Stamp}
 use Rattle.jrn_codec.specs.declared.entry.Fate.{Fate}
 use Rattle.jrn_codec.specs.Reading.{byte_at, number_at, signed_at, spelled_at, mark_at, bic_at, optional_at, short_at, long_at, listed_at}
@@ -53,7 +54,7 @@ is_reference text = nat_le 1 (length text) && nat_le (length text) 16 && list_al
 
 -- one of at most 1,000 accounts
 abbrev pub is_account : ℕ → Bool
-is_account n = nat_le 1 n && nat_le n 1000
+is_account n = nat_le 1 n && nat_le n most_accounts
 
 -- one of so many legs
 abbrev pub is_numbered : ℕ → ℕ → Bool
@@ -193,7 +194,7 @@ fate_at bytes = do
 
 -- legs and text are those of a pay, and nothing stands behind
 abbrev pub is_whole : List Leg → List ℕ → List ℕ → Bool
-is_whole legs text rest = are_legs legs && nat_le (length text) 32768 && (length rest == 0)
+is_whole legs text rest = are_legs legs && nat_le (length text) most_text && (length rest == 0)
 
 -- an entry with these parts
 abbrev pub entry_with : Stamp → Fate → List Leg → List Order → List ℕ → Entry

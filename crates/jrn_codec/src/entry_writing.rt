@@ -1,13 +1,14 @@
 //! Writing entries.
 
-ghost use Rattle.std.specs.Prelude.{◌≡◌, ◌++◌, [], ◌∷◌, ◌≤◌, ◌+◌, length, flat_map, All, IsOk, OnOk};
+ghost use Rattle.std.specs.Prelude.{◌≡◌, ◌++◌, [], ◌∷◌, ◌≤◌, ◌+◌, length, flat_map, All, IsOk, OnErr, OnOk};
 ghost use Rattle.corr_ids.specs.Day.{InCentury};
-ghost use Rattle.day_model.specs.Shape.{HasShape, IsLeg, IsQuote};
+ghost use Rattle.day_model.specs.Shape.{HasShape, IsLeg, IsQuote, most_text};
 ghost use Rattle.jrn_codec.specs.Record.{IsEntry, IsOutcome, back_bytes, entry_bytes, fate_bytes, front_bytes, leg_bytes, mt_mark, order_bytes, outcome_bytes, posting_bytes, quote_bytes, side_mark, skip_mark, stamp_bytes};
 ghost use Rattle.jrn_codec.specs.Spelling.{bic_bytes, listed_bytes, long_bytes, optional_bytes};
-ghost use Rattle.jrn_codec.specs.Writing.{HasRoom};
+ghost use Rattle.jrn_codec.specs.Writing.{HasRoom, IsFrontOf};
+ghost use Rattle.day_model.specs.Chart.{most_accounts};
 
-use crate::writing::push_all;
+use crate::writing::{push, push_all};
 use corr_ids::{Bic, Uetr, with_branch};
 use corr_text::{Buf, Memory};
 use day_model::{Entry, Leg, Mt, Order, Outcome, Quote, Side, Skip};
@@ -43,9 +44,10 @@ fn skip_mark(skip: Skip) -> u8
 fn put_uetr(out: &mut Buf, uetr: &Option<Uetr>) -> Result<(), Memory>
     ensures ok { OnOk result (out.new.bytes ≡ out.old.bytes ++ optional_bytes (λ u. u.0) uetr.now) }
     ensures room { HasRoom (optional_bytes (λ u. u.0) uetr.now) out.old.spare out.new.spare result }
+    ensures front { IsFrontOf out.old.bytes out.new.bytes }
 {
     match uetr {
-        None => out.push(&[0]),
+        None => push(out, &[0]),
         Some(uetr) => push_all(out, &[&[1], &uetr.0]),
     }
 }
@@ -54,27 +56,30 @@ fn put_uetr(out: &mut Buf, uetr: &Option<Uetr>) -> Result<(), Memory>
 fn put_outcome(out: &mut Buf, outcome: Outcome) -> Result<(), Memory>
     ensures ok { OnOk result (out.new.bytes ≡ out.old.bytes ++ outcome_bytes outcome) }
     ensures room { HasRoom (outcome_bytes outcome) out.old.spare out.new.spare result }
+    ensures front { IsFrontOf out.old.bytes out.new.bytes }
     ensures fits { OnOk result (IsOutcome outcome) }
 {
     match outcome {
-        Outcome::Booked => out.push(&[0]),
+        Outcome::Booked => push(out, &[0]),
         Outcome::Unfunded { leg, balance } => push_all(out, &[&[1, leg], &balance.to_be_bytes()]),
     }
 }
 
-#[tactic(auto, unfolding(crate::specs::Record::stamp_bytes))]
+#[tactic(auto, using(crate::proofs::Fronts::goes_on), unfolding(crate::specs::Record::stamp_bytes))]
 fn put_stamp(out: &mut Buf, e: &Entry) -> Result<(), Memory>
     ensures ok { OnOk result (out.new.bytes ≡ out.old.bytes ++ stamp_bytes e.now.pay.mir e.now.pay.mt e.now.pay.uetr) }
     ensures room { HasRoom (stamp_bytes e.now.pay.mir e.now.pay.mt e.now.pay.uetr) out.old.spare out.new.spare result }
+    ensures front { IsFrontOf out.old.bytes out.new.bytes }
 {
     push_all(out, &[&e.pay.mir.0, &[mt_mark(e.pay.mt)]])?;
     put_uetr(out, &e.pay.uetr)
 }
 
-#[tactic(auto, unfolding(crate::specs::Record::fate_bytes, crate::specs::Spelling::signed_bytes))]
+#[tactic(auto, using(crate::proofs::Fronts::goes_on), unfolding(crate::specs::Record::fate_bytes, crate::specs::Spelling::signed_bytes))]
 fn put_fate(out: &mut Buf, e: &Entry) -> Result<(), Memory>
     ensures ok { OnOk result (out.new.bytes ≡ out.old.bytes ++ fate_bytes e.now.day e.now.pay.value e.now.outcome) }
     ensures room { HasRoom (fate_bytes e.now.day e.now.pay.value e.now.outcome) out.old.spare out.new.spare result }
+    ensures front { IsFrontOf out.old.bytes out.new.bytes }
     ensures fits { OnOk result (IsOutcome e.now.outcome) }
 {
     push_all(out, &[&e.day.0.to_be_bytes(), &e.pay.value.0.to_be_bytes()])?;
@@ -85,21 +90,23 @@ fn put_quote(out: &mut Buf, quote: &Quote) -> Result<(), Memory>
     requires { IsQuote quote.now }
     ensures ok { OnOk result (out.new.bytes ≡ out.old.bytes ++ quote_bytes quote.now) }
     ensures room { HasRoom (quote_bytes quote.now) out.old.spare out.new.spare result }
+    ensures front { IsFrontOf out.old.bytes out.new.bytes }
 {
     match quote {
         Quote::Theirs(text) => {
             let text = text.bytes();
             push_all(out, &[&[0, text.len() as u8], text])
         }
-        Quote::Ours(k) => out.push(&[1, *k]),
+        Quote::Ours(k) => push(out, &[1, *k]),
     }
 }
 
 #[tactic(auto, unfolding(crate::specs::Record::posting_bytes))]
 fn put_posting(out: &mut Buf, leg: &Leg) -> Result<(), Memory>
-    requires { leg.now.account.0 ≤ 1000 }
+    requires { leg.now.account.0 ≤ most_accounts }
     ensures ok { OnOk result (out.new.bytes ≡ out.old.bytes ++ posting_bytes leg.now) }
     ensures room { HasRoom (posting_bytes leg.now) out.old.spare out.new.spare result }
+    ensures front { IsFrontOf out.old.bytes out.new.bytes }
 {
     let account = leg.account.0 as u16;
     push_all(
@@ -112,20 +119,23 @@ fn put_posting(out: &mut Buf, leg: &Leg) -> Result<(), Memory>
     )
 }
 
-#[tactic(auto, unfolding(crate::specs::Record::leg_bytes))]
+#[tactic(auto, using(crate::proofs::Fronts::goes_on), unfolding(crate::specs::Record::leg_bytes))]
 fn put_leg(out: &mut Buf, leg: &Leg) -> Result<(), Memory>
     requires { IsLeg leg.now }
     ensures ok { OnOk result (out.new.bytes ≡ out.old.bytes ++ leg_bytes leg.now) }
     ensures room { HasRoom (leg_bytes leg.now) out.old.spare out.new.spare result }
+    ensures front { IsFrontOf out.old.bytes out.new.bytes }
 {
     put_posting(out, leg)?;
     put_quote(out, &leg.quote)
 }
 
+#[tactic(auto, using(crate::proofs::Fronts::goes_on))]
 fn put_legs(out: &mut Buf, legs: &[Leg]) -> Result<(), Memory>
     requires { All IsLeg legs.now }
     ensures ok { OnOk result (out.new.bytes ≡ out.old.bytes ++ flat_map leg_bytes legs.now) }
     ensures room { HasRoom (flat_map leg_bytes legs.now) out.old.spare out.new.spare result }
+    ensures front { IsFrontOf out.old.bytes out.new.bytes }
 {
     match legs {
         [] => Ok(()),
@@ -139,16 +149,19 @@ fn put_legs(out: &mut Buf, legs: &[Leg]) -> Result<(), Memory>
 fn put_via(out: &mut Buf, via: &Option<Bic>) -> Result<(), Memory>
     ensures ok { OnOk result (out.new.bytes ≡ out.old.bytes ++ optional_bytes bic_bytes via.now) }
     ensures room { HasRoom (optional_bytes bic_bytes via.now) out.old.spare out.new.spare result }
+    ensures front { IsFrontOf out.old.bytes out.new.bytes }
 {
     match via {
-        None => out.push(&[0]),
+        None => push(out, &[0]),
         Some(via) => push_all(out, &[&[1], &with_branch(via)]),
     }
 }
 
+#[tactic(auto, using(crate::proofs::Fronts::goes_on))]
 fn put_order(out: &mut Buf, order: &Order) -> Result<(), Memory>
     ensures ok { OnOk result (out.new.bytes ≡ out.old.bytes ++ order_bytes order.now) }
     ensures room { HasRoom (order_bytes order.now) out.old.spare out.new.spare result }
+    ensures front { IsFrontOf out.old.bytes out.new.bytes }
 {
     match order {
         Order::Transfer { to, skip, via } => {
@@ -172,9 +185,11 @@ fn put_order(out: &mut Buf, order: &Order) -> Result<(), Memory>
     }
 }
 
+#[tactic(auto, using(crate::proofs::Fronts::goes_on))]
 fn put_orders(out: &mut Buf, orders: &[Order]) -> Result<(), Memory>
     ensures ok { OnOk result (out.new.bytes ≡ out.old.bytes ++ flat_map order_bytes orders.now) }
     ensures room { HasRoom (flat_map order_bytes orders.now) out.old.spare out.new.spare result }
+    ensures front { IsFrontOf out.old.bytes out.new.bytes }
 {
     match orders {
         [] => Ok(()),
@@ -189,16 +204,19 @@ fn put_count(out: &mut Buf, count: usize) -> Result<(), Memory>
     requires { count ≤ 255 }
     ensures ok { OnOk result (out.new.bytes ≡ out.old.bytes ++ count ∷ []) }
     ensures room { HasRoom (count ∷ []) out.old.spare out.new.spare result }
+    ensures front { IsFrontOf out.old.bytes out.new.bytes }
 {
-    out.push(&[count as u8])
+    push(out, &[count as u8])
 }
 
+#[tactic(auto, using(crate::proofs::Fronts::goes_on))]
 fn put_listed(out: &mut Buf, legs: &[Leg], orders: &[Order]) -> Result<(), Memory>
     requires each_leg { All IsLeg legs.now }
     requires few_legs { length legs.now ≤ 255 }
     requires few_orders { length orders.now ≤ 255 }
     ensures ok { OnOk result (out.new.bytes ≡ out.old.bytes ++ listed_bytes leg_bytes legs.now ++ listed_bytes order_bytes orders.now) }
     ensures room { HasRoom (listed_bytes leg_bytes legs.now ++ listed_bytes order_bytes orders.now) out.old.spare out.new.spare result }
+    ensures front { IsFrontOf out.old.bytes out.new.bytes }
 {
     put_count(out, legs.len())?;
     put_legs(out, legs)?;
@@ -208,35 +226,52 @@ fn put_listed(out: &mut Buf, legs: &[Leg], orders: &[Order]) -> Result<(), Memor
 
 #[tactic(auto, unfolding(crate::specs::Spelling::long_bytes))]
 fn put_text(out: &mut Buf, text: &[u8]) -> Result<(), Memory>
-    requires { length text.now ≤ 32768 }
+    requires { length text.now ≤ most_text }
     ensures ok { OnOk result (out.new.bytes ≡ out.old.bytes ++ long_bytes text.now) }
     ensures room { HasRoom (long_bytes text.now) out.old.spare out.new.spare result }
+    ensures front { IsFrontOf out.old.bytes out.new.bytes }
 {
     push_all(out, &[&(text.len() as u32).to_be_bytes(), text])
 }
 
+#[tactic(auto, using(crate::proofs::Fronts::goes_on))]
 fn put_front(out: &mut Buf, e: &Entry) -> Result<(), Memory>
     ensures ok { OnOk result (out.new.bytes ≡ out.old.bytes ++ front_bytes e.now) }
     ensures room { HasRoom (front_bytes e.now) out.old.spare out.new.spare result }
+    ensures front { IsFrontOf out.old.bytes out.new.bytes }
     ensures fits { OnOk result (IsOutcome e.now.outcome) }
 {
     put_stamp(out, e)?;
     put_fate(out, e)
 }
 
+#[tactic(auto, using(crate::proofs::Fronts::goes_on))]
 fn put_back(out: &mut Buf, e: &Entry) -> Result<(), Memory>
     requires { HasShape e.now.pay }
     ensures ok { OnOk result (out.new.bytes ≡ out.old.bytes ++ back_bytes e.now) }
     ensures room { HasRoom (back_bytes e.now) out.old.spare out.new.spare result }
+    ensures front { IsFrontOf out.old.bytes out.new.bytes }
 {
     put_listed(out, e.pay.legs.as_slice(), e.pay.orders.as_slice())?;
     put_text(out, e.pay.text.bytes())
 }
 
+#[tactic(auto, using(crate::proofs::Fronts::goes_on))]
+fn put_parts(out: &mut Buf, e: &Entry) -> Result<(), Memory>
+    requires { HasShape e.now.pay }
+    ensures ok { OnOk result (out.new.bytes ≡ out.old.bytes ++ entry_bytes e.now) }
+    ensures room { HasRoom (entry_bytes e.now) out.old.spare out.new.spare result }
+    ensures front { IsFrontOf out.old.bytes out.new.bytes }
+    ensures fits { OnOk result (IsOutcome e.now.outcome) }
+{
+    put_front(out, e)?;
+    put_back(out, e)
+}
+
 /// Adds the record of an entry.
 ///
 /// It needs no memory where there is room for the record, and takes no more room than the record's bytes. After want of memory
-/// the buffer's bytes mean nothing. A record has at most 1,048,576 bytes. `e` has the shape of a pay, and its day is one of
+/// the buffer's bytes are as before. A record has at most 1,048,576 bytes. `e` has the shape of a pay, and its day is one of
 /// 1980 to 2079.
 #[tactic(auto, using(crate::proofs::laws::Records::few_bytes))]
 pub fn put_entry(e: &Entry, out: &mut Buf) -> Result<(), Memory>
@@ -247,7 +282,12 @@ pub fn put_entry(e: &Entry, out: &mut Buf) -> Result<(), Memory>
     ensures room { length (entry_bytes e.now) ≤ out.old.spare → out.old.spare ≤ out.new.spare + length (entry_bytes e.now) }
     ensures entry { OnOk result (IsEntry e.now) }
     ensures few { length (entry_bytes e.now) ≤ 1048576 }
+    ensures err { OnErr result (out.new.bytes ≡ out.old.bytes) }
 {
-    put_front(out, e)?;
-    put_back(out, e)
+    let before = out.bytes().len();
+    let written = put_parts(out, e);
+    if written.is_err() {
+        out.truncate(before);
+    }
+    written
 }

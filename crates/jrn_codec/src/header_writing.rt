@@ -1,34 +1,40 @@
 //! Writing headers.
 
-ghost use Rattle.std.specs.Prelude.{◌≡◌, ◌++◌, flat_map, All, OnOk};
+ghost use Rattle.std.specs.Prelude.{◌≡◌, ◌++◌, flat_map, All, OnErr, OnOk};
 ghost use Rattle.std.specs.Int.{w64};
 ghost use Rattle.day_model.specs.Chart.{IsChart, IsFormed};
 ghost use Rattle.corr_ids.specs.Bic.{IsBic};
 ghost use Rattle.jrn_codec.specs.Header.{HasCode, IsHead, account_bytes, balance_bytes, column_bytes, head_bytes, title_bytes};
 ghost use Rattle.jrn_codec.specs.Spelling.{signed_bytes};
+ghost use Rattle.jrn_codec.specs.Writing.{IsFrontOf};
 
 use corr_ids::with_branch;
 use corr_text::{Memory, Text};
 use day_model::{Account, Accounts, AcctNo};
 
-#[tactic(auto, unfolding(crate::specs::Spelling::signed_bytes))]
+#[tactic(auto, using(crate::proofs::Fronts::adds, crate::proofs::Fronts::stays), unfolding(crate::specs::Spelling::signed_bytes))]
 fn put_signed(out: &mut Text, n: i64) -> Result<(), Memory>
-    ensures { OnOk result (out.new ≡ out.old ++ signed_bytes w64 n) }
+    ensures ok { OnOk result (out.new ≡ out.old ++ signed_bytes w64 n) }
+    ensures front { IsFrontOf out.old out.new }
 {
     out.push(&n.to_be_bytes())
 }
 
+#[tactic(auto, using(crate::proofs::Fronts::goes_on))]
 fn put_limits(out: &mut Text, a: &Account) -> Result<(), Memory>
-    ensures { OnOk result (out.new ≡ out.old ++ balance_bytes a.now) }
+    ensures ok { OnOk result (out.new ≡ out.old ++ balance_bytes a.now) }
+    ensures front { IsFrontOf out.old out.new }
 {
     put_signed(out, a.floor)?;
     put_signed(out, a.ceil)?;
     put_signed(out, a.opening)
 }
 
+#[tactic(auto, using(crate::proofs::Fronts::adds, crate::proofs::Fronts::stays))]
 fn put_columns(out: &mut Text, a: &Account) -> Result<(), Memory>
     requires { IsFormed a.now }
     ensures ok { OnOk result (out.new ≡ out.old ++ column_bytes a.now) }
+    ensures front { IsFrontOf out.old out.new }
     ensures code { HasCode a.now }
 {
     let id = a.id.bytes();
@@ -42,18 +48,21 @@ fn put_columns(out: &mut Text, a: &Account) -> Result<(), Memory>
     ])
 }
 
-#[tactic(auto, unfolding(crate::specs::Header::account_bytes))]
+#[tactic(auto, using(crate::proofs::Fronts::goes_on), unfolding(crate::specs::Header::account_bytes))]
 fn put_account(out: &mut Text, a: &Account) -> Result<(), Memory>
     requires { IsFormed a.now }
     ensures ok { OnOk result (out.new ≡ out.old ++ account_bytes a.now) }
+    ensures front { IsFrontOf out.old out.new }
     ensures code { OnOk result (HasCode a.now) }
 {
     put_columns(out, a)?;
     put_limits(out, a)
 }
 
+#[tactic(auto, using(crate::proofs::Fronts::goes_on))]
 fn put_accounts(out: &mut Text, a: &Accounts) -> Result<(), Memory>
     ensures ok { OnOk result (out.new ≡ out.old ++ flat_map account_bytes a.now.accounts) }
+    ensures front { IsFrontOf out.old out.new }
     ensures codes { OnOk result (All HasCode a.now.accounts) }
     ensures book { IsChart a.now }
 {
@@ -64,21 +73,38 @@ fn put_accounts(out: &mut Text, a: &Accounts) -> Result<(), Memory>
     Ok(())
 }
 
-#[tactic(auto, unfolding(crate::specs::Header::title_bytes))]
+#[tactic(auto, using(crate::proofs::Fronts::adds, crate::proofs::Fronts::stays), unfolding(crate::specs::Header::title_bytes))]
 fn put_title(out: &mut Text, a: &Accounts) -> Result<(), Memory>
-    ensures { OnOk result (out.new ≡ out.old ++ title_bytes a.now) }
+    ensures ok { OnOk result (out.new ≡ out.old ++ title_bytes a.now) }
+    ensures front { IsFrontOf out.old out.new }
 {
     let count = a.count() as u16;
     out.push_all(&[b"CORRJ1", &with_branch(a.home()), &count.to_be_bytes()])
 }
 
+#[tactic(auto, using(crate::proofs::Fronts::goes_on))]
+fn put_parts(out: &mut Text, a: &Accounts) -> Result<(), Memory>
+    ensures ok { OnOk result (out.new ≡ out.old ++ head_bytes a.now) }
+    ensures front { IsFrontOf out.old out.new }
+    ensures codes { OnOk result (All HasCode a.now.accounts) }
+    ensures book { IsChart a.now }
+{
+    put_title(out, a)?;
+    put_accounts(out, a)
+}
+
 /// Adds the header record of a home bank and its accounts, which `read_head` reads where the home is a BIC. After want of memory
-/// the text's bytes mean nothing.
+/// the text is as before.
 #[tactic(auto, using(crate::proofs::HeadWriting::is_written))]
 pub fn put_head(a: &Accounts, out: &mut Text) -> Result<(), Memory>
     ensures ok { OnOk result (out.new ≡ out.old ++ head_bytes a.now) }
     ensures head { IsBic a.now.home → OnOk result (IsHead a.now) }
+    ensures err { OnErr result (out.new ≡ out.old) }
 {
-    put_title(out, a)?;
-    put_accounts(out, a)
+    let before = out.bytes().len();
+    let written = put_parts(out, a);
+    if written.is_err() {
+        out.truncate(before);
+    }
+    written
 }

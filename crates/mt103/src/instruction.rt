@@ -5,8 +5,8 @@ ghost use Rattle.mt103.specs.Codes.{code_in, instr_of, is_instruction, takes_tex
 ghost use Rattle.fin_layout.specs.Reading.{Reads};
 
 use crate::codes::{D97, P28};
-use corr_text::{Memory, Set, Text};
-use fin_contents::{are_in, array_of, one_line};
+use corr_text::{Memory, Set, Text, is_all_of};
+use fin_contents::{array_of, one_line};
 use fin_fields::{Field, is_run_of};
 use fin_layout::{Content, P24, Refusal};
 use std::alloc::Global;
@@ -54,7 +54,7 @@ fn code_in(line: &[u8]) -> Option<[u8; 4]>
     ensures value { result ≡ code_in line.now }
     ensures long { IfSome result (λ _. 4 ≤ length line.now) }
 {
-    if line.len() < 4 || !are_in(Set::C, &line[..4]) {
+    if line.len() < 4 || !is_all_of(Set::C, &line[..4]) {
         return None;
     }
     array_of::<4>(&line[..4])

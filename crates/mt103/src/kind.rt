@@ -3,8 +3,8 @@
 ghost use Rattle.mt103.specs.Codes.{kind_of};
 ghost use Rattle.fin_layout.specs.Reading.{Reads};
 
-use corr_text::Set;
-use fin_contents::{are_in, array_of, one_line};
+use corr_text::{Set, is_all_of};
+use fin_contents::{array_of, one_line};
 use fin_fields::Field;
 use fin_layout::{Content, P24, Refusal};
 use std::alloc::Global;
@@ -21,7 +21,7 @@ fn read_kind(f: &Field) -> Result<[u8; 3], Refusal>
         return Err(Refusal::Bad(P24));
     };
     match array_of::<3>(line) {
-        Some(kind) if are_in(Set::C, &kind) => Ok(kind),
+        Some(kind) if is_all_of(Set::C, &kind) => Ok(kind),
         _ => Err(Refusal::Bad(P24)),
     }
 }

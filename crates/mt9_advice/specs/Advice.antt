@@ -20,7 +20,7 @@ use Rattle.fin_contents.specs.Plain.{is_clock, one_line, reference_of, short_lin
 use Rattle.mt9_advice.specs.declared.booking.Booking.{Booking}
 use Rattle.mt9_advice.specs.declared.credit.Mt910.{Mt910}
 use Rattle.mt9_advice.specs.declared.debit.Mt900.{Mt900}
-use Rattle.mt9_advice.specs.Order.{order_900, order_910}
+use Rattle.mt9_advice.specs.Order.{at_account, at_intermediary, at_notes_900, at_notes_910, at_ordering_900, at_ordering_910, at_payer, at_reference, at_related, at_stamp, at_value, order_900, order_910}
 
 -- `10!n`, a sign, `4!n`
 abbrev pub is_stamp : List ℕ → Bool
@@ -36,22 +36,22 @@ stamp_of f = do
 -- what is wrong with the content of a field at a place, where 72 has the place `last`
 abbrev pub content_test : ℕ → Tables → ℕ → Field → Option Code
 content_test last t k f =
-    if k == 0 then fault_of (reference_of f)
-    else if k == 1 then fault_of (short_line_of 16 f)
-    else if k == 2 then fault_of (short_line_of 35 f)
-    else if k == 3 then fault_of (stamp_of f)
-    else if k == 4 then fault_of (value_of t f)
+    if k == at_reference then fault_of (reference_of f)
+    else if k == at_related then fault_of (short_line_of 16 f)
+    else if k == at_account then fault_of (short_line_of 35 f)
+    else if k == at_stamp then fault_of (stamp_of f)
+    else if k == at_value then fault_of (value_of t f)
     else if k == last then fault_of (texts_of 6 f)
     else fault_of (known_party_of t f)
 
 -- what both say first: 20, 21, 25, 13D and 32A
 unfoldable pub booking_of : List Place → Tables → List Field → List ℕ → Result Booking Fault
 booking_of order t fs found = do
-  reference ← in_place order fs found 0 reference_of
-  related ← in_place order fs found 1 (short_line_of 16)
-  account ← in_place order fs found 2 (short_line_of 35)
-  at ← in_option fs found 3 stamp_of
-  value ← in_place order fs found 4 (value_of t)
+  reference ← in_place order fs found at_reference reference_of
+  related ← in_place order fs found at_related (short_line_of 16)
+  account ← in_place order fs found at_account (short_line_of 35)
+  at ← in_option fs found at_stamp stamp_of
+  value ← in_place order fs found at_value (value_of t)
   Ok (record { reference = reference; related = related; account = account; at = at; value = value })
 
 -- ---- MT900
@@ -64,13 +64,13 @@ mt900 b p52 notes = record { reference = b.reference; related = b.related; accou
 unfoldable pub contents_900 : Tables → List Field → List ℕ → Result Mt900 Fault
 contents_900 t fs found = do
   b ← booking_of order_900 t fs found
-  p52 ← in_option fs found 5 (known_party_of t)
-  notes ← in_option fs found 6 (texts_of 6)
+  p52 ← in_option fs found at_ordering_900 (known_party_of t)
+  notes ← in_option fs found at_notes_900 (texts_of 6)
   Ok (mt900 b p52 (unwrap_or notes []))
 
 -- the tests of the fields of an MT900: structure, then contents in the text's order
 abbrev pub tests_900 : Tables → List Field → List (Option Fault)
-tests_900 t fs = tests order_900 (content_test 6 t) fs
+tests_900 t fs = tests order_900 (content_test at_notes_900 t) fs
 
 -- what the fields of an MT900 say, or the first test that fails
 unfoldable pub mt900_of : Tables → List Field → Result Mt900 Fault
@@ -88,15 +88,15 @@ mt910 b payer p52 p56 notes = record { reference = b.reference; related = b.rela
 unfoldable pub contents_910 : Tables → List Field → List ℕ → Result Mt910 Fault
 contents_910 t fs found = do
   b ← booking_of order_910 t fs found
-  payer ← in_option fs found 5 (known_party_of t)
-  p52 ← in_option fs found 6 (known_party_of t)
-  p56 ← in_option fs found 7 (known_party_of t)
-  notes ← in_option fs found 8 (texts_of 6)
+  payer ← in_option fs found at_payer (known_party_of t)
+  p52 ← in_option fs found at_ordering_910 (known_party_of t)
+  p56 ← in_option fs found at_intermediary (known_party_of t)
+  notes ← in_option fs found at_notes_910 (texts_of 6)
   Ok (mt910 b payer p52 p56 (unwrap_or notes []))
 
 -- the tests of the fields of an MT910: structure, then contents in the text's order
 abbrev pub tests_910 : Tables → List Field → List (Option Fault)
-tests_910 t fs = tests order_910 (content_test 8 t) fs
+tests_910 t fs = tests order_910 (content_test at_notes_910 t) fs
 
 -- C06: neither 50a nor 52a is there
 abbrev pub c06 : Mt910 → Option Fault

@@ -4,6 +4,7 @@ ghost use Rattle.std.specs.Prelude.{◌≤◌, length};
 ghost use Rattle.fin_layout.specs.Reading.{Gives};
 ghost use Rattle.mt9_advice.specs.Advice.{booking_of};
 
+use crate::places::{ACCOUNT, REFERENCE, RELATED, STAMP, VALUE};
 use crate::stamp::Stamp;
 use corr_text::Text;
 use fin_contents::{Reference, ShortLine, Value, ValueDate};
@@ -35,11 +36,11 @@ pub fn read_booking(
     requires long { 5 ≤ length order.now }
     ensures { Gives result (booking_of order.now tables.now fields.now found.now) }
 {
-    let reference = read_one(alloc, &Reference, order, fields, found, 0)?;
-    let related = read_one(alloc, &ShortLine { most: 16 }, order, fields, found, 1)?;
-    let account = read_one(alloc, &ShortLine { most: 35 }, order, fields, found, 2)?;
-    let at = read_optional(alloc, &Stamp, fields, found, 3)?;
-    let value = read_one(alloc, &ValueDate { tables }, order, fields, found, 4)?;
+    let reference = read_one(alloc, &Reference, order, fields, found, REFERENCE)?;
+    let related = read_one(alloc, &ShortLine { most: 16 }, order, fields, found, RELATED)?;
+    let account = read_one(alloc, &ShortLine { most: 35 }, order, fields, found, ACCOUNT)?;
+    let at = read_optional(alloc, &Stamp, fields, found, STAMP)?;
+    let value = read_one(alloc, &ValueDate { tables }, order, fields, found, VALUE)?;
     Ok(Booking {
         reference,
         related,

@@ -14,6 +14,7 @@ ghost use Rattle.ref_tables.specs.Seen.{few_decimals};
 
 use crate::booking::{Booking, read_booking};
 use crate::order::ORDER_910;
+use crate::places::{INTERMEDIARY, NOTES_910, ORDERING_910, PAYER};
 use corr_ids::Day;
 use corr_money::Amount;
 use corr_text::{Code, Fault, List, Text};
@@ -99,10 +100,10 @@ fn read_contents(
     ensures { Gives result (contents_910 tables.now fields.now found.now) }
 {
     let booking = read_credit(alloc, tables, fields, found)?;
-    let payer = read_optional(alloc, &KnownParty { tables }, fields, found, 5)?;
-    let p52 = read_optional(alloc, &KnownParty { tables }, fields, found, 6)?;
-    let p56 = read_optional(alloc, &KnownParty { tables }, fields, found, 7)?;
-    let notes = read_optional(alloc, &Texts { most: 6 }, fields, found, 8)?;
+    let payer = read_optional(alloc, &KnownParty { tables }, fields, found, PAYER)?;
+    let p52 = read_optional(alloc, &KnownParty { tables }, fields, found, ORDERING_910)?;
+    let p56 = read_optional(alloc, &KnownParty { tables }, fields, found, INTERMEDIARY)?;
+    let notes = read_optional(alloc, &Texts { most: 6 }, fields, found, NOTES_910)?;
     Ok(message(booking, payer, p52, p56, or_none(alloc, notes)))
 }
 

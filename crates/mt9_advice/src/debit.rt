@@ -14,6 +14,7 @@ ghost use Rattle.ref_tables.specs.Seen.{few_decimals};
 
 use crate::booking::{Booking, read_booking};
 use crate::order::ORDER_900;
+use crate::places::{NOTES_900, ORDERING_900};
 use corr_ids::Day;
 use corr_money::Amount;
 use corr_text::{List, Text};
@@ -71,8 +72,8 @@ fn read_contents(
     ensures { Gives result (contents_900 tables.now fields.now found.now) }
 {
     let booking = read_booking(alloc, &ORDER_900, tables, fields, found)?;
-    let p52 = read_optional(alloc, &KnownParty { tables }, fields, found, 5)?;
-    let notes = read_optional(alloc, &Texts { most: 6 }, fields, found, 6)?;
+    let p52 = read_optional(alloc, &KnownParty { tables }, fields, found, ORDERING_900)?;
+    let notes = read_optional(alloc, &Texts { most: 6 }, fields, found, NOTES_900)?;
     Ok(message(booking, p52, or_none(alloc, notes)))
 }
 

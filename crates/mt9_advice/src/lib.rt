@@ -6,6 +6,7 @@ mod booking;
 mod credit;
 mod debit;
 mod order;
+mod places;
 mod stamp;
 mod writing;
 

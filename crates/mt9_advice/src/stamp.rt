@@ -4,8 +4,8 @@ ghost use Rattle.std.specs.Prelude.{◌≡◌};
 ghost use Rattle.fin_layout.specs.Reading.{Reads};
 ghost use Rattle.mt9_advice.specs.Advice.{is_stamp, stamp_of};
 
-use corr_text::{Set, Text};
-use fin_contents::{are_in, is_clock, one_line};
+use corr_text::{Set, Text, is_all_of};
+use fin_contents::{is_clock, one_line};
 use fin_fields::Field;
 use fin_layout::{Content, P24, Refusal};
 use std::alloc::Global;
@@ -20,7 +20,7 @@ pub struct Stamp;
 fn is_stamp(line: &[u8]) -> bool
     ensures { result ≡ is_stamp line.now }
 {
-    6 <= line.len() && are_in(Set::N, &line[..6]) && is_clock(&line[6..])
+    6 <= line.len() && is_all_of(Set::N, &line[..6]) && is_clock(&line[6..])
 }
 
 #[tactic(auto, unfolding(crate::specs::Advice::stamp_of))]

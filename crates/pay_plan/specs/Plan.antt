@@ -1,6 +1,7 @@
 -- The pay of a message, or the first test that it fails.
-use Rattle.std.specs.Prelude.{◌≡◌, ℕ, not, List, [], Result, Ok, Err, unwrap_or}
+use Rattle.std.specs.Prelude.{ℕ, not, List, [], Option, Some, None, Result, Ok, unwrap_or}
 use Rattle.std.specs.Option.{option_map_or}
+use Rattle.corr_text.specs.Answers as answers
 use Rattle.corr_text.specs.Codes.{code}
 use Rattle.corr_text.specs.First.{check, ◌>>=◌}
 use Rattle.corr_text.specs.declared.fault.Code.{Code}
@@ -52,12 +53,15 @@ plan_of env text ask rows chart = do
   routed ← route_of env.sender (asked_of chart.home ask).amount (asked_of chart.home ask).value (asked_of chart.home ask).cover (asked_of chart.home ask).target rows chart
   Ok (pay_of env text (asked_of chart.home ask) routed chart)
 
+-- the code that a refusal tells, none where memory is out
+abbrev pub told : PlanFault → Option Code
+told (fault.Code code) = Some code
+told fault.Memory = None
+
 -- a refusal is the first test that fails, or want of memory
 abbrev pub Refuses : PlanFault → Result Pay Code → Type 0
-Refuses (fault.Code code) plan = plan ≡ Err code
-Refuses fault.Memory plan = Unit {0}
+Refuses e plan = answers.Refuses told plan e
 
 -- what is answered is the plan
 abbrev pub Plans : Result Pay PlanFault → Result Pay Code → Type 0
-Plans (Ok pay) plan = plan ≡ Ok pay
-Plans (Err e) plan = Refuses e plan
+Plans result plan = answers.Answers told plan result

@@ -4,6 +4,7 @@ use Rattle.corr_ids.specs.Mir.{IsMir}
 use Rattle.corr_ids.specs.Uetr.{IsUetr}
 use Rattle.corr_ids.specs.declared.envelope.Envelope.{Envelope}
 use Rattle.ref_tables.specs.Seen.{Tables}
+use Rattle.day_model.specs.Shape.{most_text}
 use Rattle.fin_fields.specs.declared.field.Field.{Field}
 use Rattle.mt103.specs.declared.message.Mt103.{Mt103}
 use Rattle.mt103.specs.Message.{mt103_of}
@@ -33,4 +34,4 @@ IsRead (Cover m) = IsCoverRead m.now
 pub record IsWritable (env : Envelope) (text : List ℕ) : Type 0 where
   pub mir : IfSome env.mir IsMir
   pub uetr : IfSome env.uetr IsUetr
-  pub short : length text ≤ 32768
+  pub short : length text ≤ most_text

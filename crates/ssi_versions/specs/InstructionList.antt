@@ -9,7 +9,7 @@ use Rattle.ref_tables.specs.Seen.{Tables, decimals_in}
 use Rattle.ssi_versions.specs.declared.method.Method.TheVariants.{Book}
 use Rattle.ssi_versions.specs.declared.row.SsiRow.{SsiRow}
 use Rattle.ssi_versions.specs.Instruction.{is_asked}
-use Rattle.ssi_versions.specs.Rows.{is_bank, knows_bank, knows_via}
+use Rattle.ssi_versions.specs.Rows.{is_bank, knows_bank, knows_via, most_instructions}
 
 -- an instruction in the form of its columns: there is a bank between, a BIC, exactly where it doesn't pay by BOOK
 pub record IsInForm (r : SsiRow) : Type 0 where
@@ -29,7 +29,7 @@ pub record IsInstruction (t : Tables) (r : SsiRow) : Type 0 where
 
 -- the instructions of a table: at most 10,000, and on no day two for one currency and one bank text
 pub record AreInstructions (t : Tables) (rows : List SsiRow) : Type 0 where
-  pub few : length rows ≤ 10000
+  pub few : length rows ≤ most_instructions
   pub each : (i : ℕ) (r : SsiRow) → slice_get rows i ≡ Some r → IsInstruction t r
   pub single : (ccy : Ccy) (bank : List ℕ) (day : Day) (i j : ℕ) (a b : SsiRow) → slice_get rows i ≡ Some a → slice_get rows j ≡ Some b
       → IsTrue (is_asked ccy bank day a) → IsTrue (is_asked ccy bank day b) → i ≡ j

@@ -105,6 +105,10 @@ standing_fault t earlier a = first_of (
 abbrev pub instruction_fault : Tables → List SsiRow → Cells → Option Why
 instruction_fault t earlier row = option_or (form_fault row) (standing_fault t earlier (instruction_of row))
 
+-- the most rows of a table of instructions
+abbrev pub most_instructions : ℕ
+most_instructions = 10000
+
 -- the first fault of a file
 abbrev pub ssi_fault : Tables → List ℕ → Option (ℕ × Why)
-ssi_fault t file = first_fault 10000 (against instruction_of (instruction_fault t)) file
+ssi_fault t file = first_fault most_instructions (against instruction_of (instruction_fault t)) file

@@ -4,7 +4,7 @@ ghost use Rattle.std.specs.Prelude.{◌≡◌, ◌≤◌, ◌<◌, [], IfErr, If
 ghost use Rattle.csv.specs.Records.{fields_of};
 ghost use Rattle.ref_tables.specs.Refusals.{Tells, against, first_bad_row, named};
 ghost use Rattle.ref_tables.specs.Rows.{cell};
-ghost use Rattle.ssi_versions.specs.Rows.{form_fault, instruction_fault, instruction_of, knows_bank, knows_via, standing_fault};
+ghost use Rattle.ssi_versions.specs.Rows.{form_fault, instruction_fault, instruction_of, knows_bank, knows_via, standing_fault, most_instructions};
 
 use crate::columns::{is_bank, method, via};
 use crate::row::SsiRow;
@@ -71,7 +71,7 @@ fn knows_via(t: &RefTables, via: Option<Bic>) -> bool
 
 // What is wrong with an instruction, given those of the rows before it.
 fn standing(t: &RefTables, earlier: &Ssi, a: &SsiRow) -> Option<Why>
-    requires { length earlier.now < 10000 }
+    requires { length earlier.now < most_instructions }
     ensures { result ≡ standing_fault t.now earlier.now a.now }
 {
     if !knows_bank(t, a.bank.bytes()) || !knows_via(t, a.via) {
@@ -97,7 +97,7 @@ fn read_row(
 ) -> Result<SsiRow, Why>
     requires bank_read { bank ≡ cell 1 (fields_of row.now) }
     requires account_read { account ≡ cell 4 (fields_of row.now) }
-    requires few { length earlier.now < 10000 }
+    requires few { length earlier.now < most_instructions }
     ensures sound { OnOk result (instruction_fault t.now earlier.now (fields_of row.now) ≡ None) }
     ensures value { IfOk result (λ a. a ≡ instruction_of (fields_of row.now)) }
     ensures bad { IfErr result (λ why. instruction_fault t.now earlier.now (fields_of row.now) ≡ Some why) }
@@ -111,7 +111,7 @@ fn read_row(
 
 /// The table that rows make.
 pub fn enter_rows(alloc: Global, t: &RefTables, rows: &[ByteRecord]) -> Result<Ssi, TableFault>
-    requires { length rows.now ≤ 10000 }
+    requires { length rows.now ≤ most_instructions }
     ensures ok { IfOk result (λ s. (first_bad_row (against instruction_of (instruction_fault t.now)) [] (map fields_of rows.now) ≡ None)
         × (s ≡ map instruction_of (map fields_of rows.now))) }
     ensures bad { IfErr result (Tells (named TableName.Ssi

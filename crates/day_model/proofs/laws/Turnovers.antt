@@ -15,9 +15,9 @@ use Rattle.day_model.specs.declared.entry.Entry.{Entry}
 use Rattle.day_model.specs.Chart.{Chart, account_at, is_ccy}
 use Rattle.day_model.specs.Balance.{is_booked, moved_by}
 use Rattle.day_model.specs.Legal.{IsLegal}
-use Rattle.day_model.specs.Laws.{sum_in, in_ccy, moved_in, entry_in, turnover}
+use Rattle.day_model.specs.Laws.{sum_in, in_ccy, moved_in, entry_in, turnover, DebitsEqualCredits}
 use Rattle.day_model.proofs.laws.Fitting.{Transfer, transfer}
-use Rattle.day_model.proofs.Sums.{sum_in-same, sum_moved, even_debit, even_credit}
+use Rattle.day_model.proofs.Sums.{sum_in-same, sum_moved, even_credit, even_debit, even_entry}
 
 nothing_step : (b : Bool) → (if b then pos 0 else pos 0) +ℤ pos 0 ≡ pos 0
 nothing_step true = refl
@@ -93,3 +93,26 @@ bounded f (x ∷ xs) h = omega (arith, sum_by-cons f x xs, h 0 x refl, bounded f
 pub turnover_fits : (side : Side) (chart : Chart) (entries : List Entry) (ccy : Ccy) → IsLegal chart entries → turnover chart ccy side entries < 2 ^ 64
 turnover_fits side chart entries ccy legal =
     omega (arith, bounded (entry_in chart ccy side) entries (λ i e at. entry_small side chart ccy e (transfer chart e.pay.legs (legal.fits i e at))), legal.short)
+
+even_at : (chart : Chart) (entries : List Entry) (ccy : Ccy) (i : ℕ) → IsLegal chart entries → i ≤ length entries → turnover chart ccy Debit (take i entries) ≡ turnover chart ccy Credit (take i entries)
+even_at chart entries ccy zero legal le = refl
+even_at chart entries ccy (suc i) legal le =
+    elim (slice_get_cases entries i).1 [
+      | inl found ↦
+          let e : Entry = found.0 in
+          let item : get_or entries i e ≡ e = found.3 in
+          let before = even_at chart entries ccy i legal (omega arith) in
+          let here = even_entry chart ccy e (transfer chart e.pay.legs (legal.fits i e found.2)) in
+          let debits : turnover chart ccy Debit (take (i + 1) entries) ≡ turnover chart ccy Debit (take i entries) + entry_in chart ccy Debit e =
+          sum_by_more (entry_in chart ccy Debit) entries i e found.1 ∙ ap (λ (x : Entry). turnover chart ccy Debit (take i entries) + entry_in chart ccy Debit x) item in
+          let credits : turnover chart ccy Credit (take (i + 1) entries) ≡ turnover chart ccy Credit (take i entries) + entry_in chart ccy Credit e =
+          sum_by_more (entry_in chart ccy Credit) entries i e found.1 ∙ ap (λ (x : Entry). turnover chart ccy Credit (take i entries) + entry_in chart ccy Credit x) item in
+          let next : suc i ≡ i + 1 = omega arith in
+          rw (next, debits, credits, before, here) refl
+      | inr past ↦ absurd (omega (arith, past.0))
+    ]
+
+-- what a legal history debits in a currency equals what it credits there
+pub debits_equal_credits : (chart : Chart) (entries : List Entry) → IsLegal chart entries → DebitsEqualCredits chart entries
+debits_equal_credits chart entries legal ccy =
+    subst (λ (es : List Entry). turnover chart ccy Debit es ≡ turnover chart ccy Credit es) (take_all (length entries) entries (omega arith)) (even_at chart entries ccy (length entries) legal (omega arith))

@@ -1,4 +1,5 @@
 use Rattle.std.proofs.Common.{◌+◌, refl}
+use Rattle.day_model.proofs.laws.Turnovers.{debits_equal_credits}
 use Rattle.corr_report.specs.Report.{reply_line}
 use Rattle.corr_report.proofs.Currencies.{currencies_are}
 use Rattle.corr_report.proofs.LineLists.{numbered_more}
@@ -11,3 +12,6 @@ loop-at-preserved c =
 
 pub returns-clause-currencies : goal.returns-clause-currencies
 returns-clause-currencies c = currencies_are c.args.a.now.accounts
+
+pub returns-clause-even : goal.returns-clause-even
+returns-clause-even c = debits_equal_credits c.args.a.now c.args.h.now.entries c.requires.legal

@@ -7,7 +7,8 @@ use Rattle.day_model.specs.Balance.{moved_by}
 use Rattle.day_model.specs.Legal.{IsLegal}
 use Rattle.day_model.proofs.laws.Fitting.{transfer}
 use Rattle.day_model.proofs.laws.Balances.{within_at, small_at, credits_small, debits_small, balance_more}
-use Rattle.day_model.proofs.Sums.{balances_cancel, debits_equal_credits, totals_fit}
+use Rattle.day_model.proofs.laws.Turnovers.{debits_equal_credits}
+use Rattle.day_model.proofs.Sums.{balances_cancel, totals_fit}
 use Rattle.day_model.proofs.funds.balance.Goals as goal
 
 pub after_entry-balance-requires-clause-small : goal.after_entry-balance-requires-clause-small

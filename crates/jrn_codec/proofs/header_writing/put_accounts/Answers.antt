@@ -7,6 +7,7 @@ use Rattle.std.proofs.lemmas.List.{flat_map_more}
 use Rattle.std.proofs.lemmas.Option.{slice_get_within, get_or_from_slice_get}
 use Rattle.day_model.specs.declared.account.Account.{Account}
 use Rattle.jrn_codec.specs.Header.{HasCode, account_bytes}
+use Rattle.jrn_codec.proofs.Fronts.{goes_on}
 use Rattle.jrn_codec.proofs.header_writing.put_accounts.Goals as goal
 
 one_more : (old out new : List ℕ) (xs : List Account) (n : ℕ) (a : Account) → out ≡ old ++ flat_map account_bytes (take n xs) → slice_get xs (n + 1 - 1) ≡ Some a
@@ -31,5 +32,6 @@ one_code xs n a so_far at code k d low below =
 pub loop-n-preserved : goal.loop-n-preserved
 loop-n-preserved c = record {
   text = one_more c.args.out.now c.loop-n.out c.put_account.new.out c.args.a.now.accounts c.loop-n.n c.get.result.now c.loop-n.invariant.text c.get.ensures.value c.in_ok-put_account.ensures.ok;
+  front = goes_on c.args.out.now c.loop-n.out c.put_account.new.out c.loop-n.invariant.front c.put_account.ensures.front;
   codes = one_code c.args.a.now.accounts c.loop-n.n c.get.result.now c.loop-n.invariant.codes c.get.ensures.value c.in_ok-put_account.ensures.code;
 }
