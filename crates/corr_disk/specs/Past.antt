@@ -39,6 +39,7 @@ abbrev pub after_sync : Bool → List Step → List Step
 after_sync true steps = None ∷ steps
 after_sync false steps = steps
 
+-- the steps with this write as the newest
 abbrev pub noted : List Step → Write → List Step
 noted steps write = Some (write.at, write.piece) ∷ after_sync write.after_sync steps
 

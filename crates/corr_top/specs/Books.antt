@@ -21,10 +21,12 @@ abbrev pub status_of_stop : ReadStop → Status
 status_of_stop (stop.Fault before after) = status.ReadFault before after
 status_of_stop stop.Memory = status.Memory
 
+-- the status where a table is refused
 abbrev pub status_of_table : TableFault → Status
 status_of_table (table.Bad name row why) = status.Table name row why
 status_of_table table.Memory = status.Memory
 
+-- the status where the accounts are refused
 abbrev pub status_of_accounts : AccountsFault → Status
 status_of_accounts (accounts.Unbalanced ccy decimals sum) = status.Unbalanced ccy decimals sum
 status_of_accounts accounts.Memory = status.Memory
@@ -44,11 +46,13 @@ PassesTable left reads old new i (Step.table name) = IsFine left reads (table_at
 PassesTable left reads old new i Step.sums = Balances i
 PassesTable left reads old new i Step.messages = ⊥
 
+-- how such a step stops
 abbrev pub StopsAtTables : {S : Type 0} → (S → Option (List ℕ)) → (S → ℕ) → Tables S → Tables S → Inputs → Status → Step → Type 0
 StopsAtTables left reads old new i stop (Step.table name) = StopsAtTable left reads (table_at name old) (table_at name new) (file_of name i) (fault_of name i) stop
 StopsAtTables left reads old new i stop Step.sums = StopsAtSums i stop
 StopsAtTables left reads old new i stop Step.messages = ⊥
 
+-- what such a step reads is as it was
 abbrev pub AreUntouched : {S : Type 0} → Tables S → Tables S → Step → Type 0
 AreUntouched old new (Step.table name) = table_at name new ≡ table_at name old
 AreUntouched old new Step.sums = Unit {0}

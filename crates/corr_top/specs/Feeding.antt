@@ -9,6 +9,7 @@ use Rattle.corr_top.specs.declared.status.Status.{Status}
 use Rattle.corr_top.specs.declared.status.Status.TheVariants as status
 use Rattle.corr_top.specs.MessageFile.{IsAtFault, IsPast, IsTooLarge, IsUncut}
 
+-- the status where a message file can't be cut: the place of its fault
 abbrev pub status_of_frame : FrameFault → Status
 status_of_frame (frame.Stray at) = status.Framing at
 status_of_frame (frame.TooLong at) = status.Framing at

@@ -31,6 +31,7 @@ tables_in i = tables_of i.bics i.ccys i.countries
 abbrev pub home_head : List ℕ
 home_head = codes "HOMEUS33"
 
+-- the home bank
 abbrev pub home_bank : Bic
 home_bank = record { head = home_head; branch = codes "XXX" }
 
@@ -38,6 +39,7 @@ home_bank = record { head = home_head; branch = codes "XXX" }
 abbrev pub opened : AccountRow → Account
 opened row = record { id = row.id; kind = row.kind; owner = row.owner; ccy = row.ccy; decimals = row.decimals; floor = row.floor; ceil = row.ceil; opening = row.opening }
 
+-- the accounts of the book, as the rows of their table say
 abbrev pub accounts_in : Inputs → List Account
 accounts_in i = map opened (map (account_of (tables_in i)) (rows_of i.accounts))
 

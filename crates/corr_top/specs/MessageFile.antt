@@ -61,6 +61,7 @@ pub record EndsOpen (file : List ℕ) (at : ℕ) : Type 0 where
   pub passed : IsPassed file
   pub ends : EndsWithin file at
 
+-- the file can't be cut, and this place is told: some first bytes show a fault there, or it ends within a group of the message there
 abbrev pub IsUncut : List ℕ → ℕ → Type 0
 IsUncut file at = ShowsFault file at ⊎ EndsOpen file at
 

@@ -91,11 +91,13 @@ StopsAtMessages left faults old new file _ = ⊥
 
 -- ---- a step of a command over the objects of a room, as they were and as they are
 
+-- the step passes: what it reads was read and is fine
 abbrev pub Passes : {S K : Type 0} → (S → Option (List ℕ)) → (S → ℕ) → Room S K → Room S K → Inputs → Step → Type 0
 Passes left faults old new i (Step.table name) = IsFine left faults (table_at name old.tables) (table_at name new.tables) (file_of name i) (fault_of name i)
 Passes left faults old new i Step.sums = Balances i
 Passes left faults old new i Step.messages = HasMessages left faults old.messages new.messages i.messages i.cut
 
+-- the step stops with this status, as what it reads is
 abbrev pub StopsAt : {S K : Type 0} → (S → Option (List ℕ)) → (S → ℕ) → Room S K → Room S K → Inputs → Status → Step → Type 0
 StopsAt left faults old new i stop (Step.table name) = StopsAtTable left faults (table_at name old.tables) (table_at name new.tables) (file_of name i) (fault_of name i) stop
 StopsAt left faults old new i stop Step.sums = StopsAtSums i stop

@@ -7,6 +7,7 @@ use Rattle.corr_top.specs.declared.message.NoPay.TheVariants.{Refused}
 use Rattle.corr_top.specs.declared.message.Stop.{Stop}
 use Rattle.corr_top.specs.declared.message.Stop.TheVariants as stop
 
+-- why there is no pay where a message is refused
 abbrev pub stop_of_verdict : MessageFault → Stop
 stop_of_verdict (message.Refused mir fault) = stop.NoPay (Refused mir fault)
 stop_of_verdict message.Memory = stop.Memory

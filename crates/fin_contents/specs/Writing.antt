@@ -1,5 +1,5 @@
 -- Contents written as fields.
-use Rattle.std.specs.Prelude.{◌≡◌, ℕ, ◌<◌, ◌≤◌, true, List, [], ◌∷◌, ◌++◌, All, IsTrue, Option, Some, None, IfSome, Result, Ok, map, take}
+use Rattle.std.specs.Prelude.{◌≡◌, ℕ, ◌<◌, ◌≤◌, true, List, [], ◌∷◌, ◌++◌, All, IsTrue, Option, Some, None, IfSome, Result, Ok}
 use Rattle.std.specs.Char.{is_ascii_uppercase}
 use Rattle.corr_text.specs.declared.fault.Fault.{Fault}
 use Rattle.corr_ids.specs.Day.{InCentury, yymmdd_of}
@@ -54,10 +54,6 @@ lines_fields tag letter (line ∷ lines) = lines_field tag letter (line ∷ line
 abbrev pub some_field : {A : Type 0} → (A → Field) → Option A → List Field
 some_field write None = []
 some_field write (Some x) = write x ∷ []
-
--- fields behind which those of the first few of a list were written
-abbrev pub IsBegun : {A : Type 0} → (A → Field) → List A → List Field → List Field → Type 0
-IsBegun write xs before after = (n : ℕ) × (after ≡ before ++ map write (take n xs))
 
 -- a message that can be written: a reader gives it of fields of some text, under some tables
 pub record IsReadable {M : Type 0} (read : Tables → List Field → Result M Fault) (m : M) : Type 0 where

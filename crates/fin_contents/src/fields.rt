@@ -1,7 +1,7 @@
-//! Fields added behind those of a message that stand already. After want of memory some of those to add may stand there.
+//! Fields added behind those of a message that stand already. After want of memory those alone stand there.
 
 ghost use Rattle.std.specs.Prelude.{◌≡◌, ◌++◌, All, IfSome, None, OnErr, OnOk, Some, map};
-ghost use Rattle.fin_contents.specs.Writing.{IsAmount, IsBegun, ccy_amount_field, line_field, lines_fields, some_field};
+ghost use Rattle.fin_contents.specs.Writing.{IsAmount, ccy_amount_field, line_field, lines_fields, some_field};
 ghost use Rattle.fin_parties.specs.Writing.{party_field};
 
 use crate::amount::put_ccy_amount;
@@ -15,15 +15,16 @@ use fin_fields::Field;
 use fin_parties::Party;
 use std::alloc::Global;
 
-/// Adds each time, as field 13C. `Memory`: there was no room; then the first few may have been added.
+/// Adds each time, as field 13C. `Memory`: there was no room; then nothing was added.
 pub fn push_times(alloc: Global, times: &[Text], fields: &mut List<Field>) -> Result<(), Memory>
     ensures ok { OnOk result (fields.new ≡ fields.old ++ map (line_field 13 (Some 67)) times.now) }
-    ensures err { OnErr result (IsBegun (line_field 13 (Some 67)) times.now fields.old fields.new) }
+    ensures err { OnErr result (fields.new ≡ fields.old) }
 {
+    let mut added = List::new(alloc);
     for time in times {
-        fields.push(put_time(alloc, time)?)?;
+        added.push(put_time(alloc, time)?)?;
     }
-    Ok(())
+    fields.append(added)
 }
 
 /// Adds a rate, if there is one, as field 36. `Memory`: there was no room; then nothing was added.
@@ -56,8 +57,7 @@ pub fn push_ccy_amount(
     }
 }
 
-/// Adds each currency and amount, as fields of this tag and letter. `Memory`: there was no room; then the first few may have
-/// been added.
+/// Adds each currency and amount, as fields of this tag and letter. `Memory`: there was no room; then nothing was added.
 pub fn push_ccy_amounts(
     alloc: Global,
     tag: u8,
@@ -67,12 +67,13 @@ pub fn push_ccy_amounts(
 ) -> Result<(), Memory>
     requires { All IsAmount amounts.now }
     ensures ok { OnOk result (fields.new ≡ fields.old ++ map (ccy_amount_field tag letter) amounts.now) }
-    ensures err { OnErr result (IsBegun (ccy_amount_field tag letter) amounts.now fields.old fields.new) }
+    ensures err { OnErr result (fields.new ≡ fields.old) }
 {
+    let mut added = List::new(alloc);
     for amount in amounts {
-        fields.push(put_ccy_amount(alloc, tag, letter, amount)?)?;
+        added.push(put_ccy_amount(alloc, tag, letter, amount)?)?;
     }
-    Ok(())
+    fields.append(added)
 }
 
 /// Adds a party, if there is one, as a field of this tag. `Memory`: there was no room; then nothing was added.

@@ -14,12 +14,15 @@ Instructions = List SsiRow
 abbrev pub head_of : List ℕ → List ℕ
 head_of bank = if nat_lt (length bank) 8 then replicate 8 0 else take 8 bank
 
+-- the last three bytes of a bank's text of eleven, zeros where it has another length
 abbrev pub tail_of : List ℕ → List ℕ
 tail_of bank = if length bank == 11 then drop 8 bank else replicate 3 0
 
+-- the key of a currency and a bank
 abbrev pub key_of : List ℕ → List ℕ → List ℕ
 key_of ccy bank = ccy ++ (head_of bank ++ tail_of bank)
 
+-- the row is of the currency and the bank of this key, or of a bank whose text shares it
 abbrev pub has_key : List ℕ → SsiRow → Bool
 has_key key r = bytes_eq key (key_of r.ccy.0 r.bank)
 
