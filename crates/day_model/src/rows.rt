@@ -2,6 +2,7 @@
 
 ghost use Rattle.std.specs.Prelude.{◌≡◌, ◌==◌, IsTrue};
 ghost use Rattle.std.specs.List.{list_all};
+ghost use Rattle.std.specs.Char.{is_ascii_uppercase};
 ghost use Rattle.day_model.specs.RowTests.{all_apart, apart, has_limits, is_formed, is_row, reads_itself, rows_fit};
 ghost use Rattle.day_model.specs.Chart.{AreRows, customer, is_kind};
 
@@ -35,6 +36,12 @@ fn is_letter(kind: u8) -> bool
     is_customer(kind) || kind == Kind::Vostro.letter() || kind == Kind::Nostro.letter()
 }
 
+fn is_code(ccy: &[u8]) -> bool
+    ensures { result ≡ list_all is_ascii_uppercase ccy.now }
+{
+    is_all_of(Set::A, ccy)
+}
+
 fn has_form(a: &Account) -> bool
     ensures { result ≡ is_formed a.now }
 {
@@ -44,7 +51,7 @@ fn has_form(a: &Account) -> bool
         && is_all_of(Set::C, id)
         && is_letter(a.kind)
         && is_bank(&a.owner)
-        && is_all_of(Set::A, &a.ccy.0)
+        && is_code(&a.ccy.0)
         && a.decimals <= 4
 }
 
