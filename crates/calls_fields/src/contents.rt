@@ -7,10 +7,10 @@ use corr_ids::Day;
 use corr_money::{Amount, Ccy, Minor};
 use corr_text::{List, Memory, Set, Text, is_all_of};
 use fin_contents::{
-    CcyAmount, KnownParty, Rate, Reference, ShortLine, Texts, Time, Value, ValueDate,
-    array_of, is_clock, line_field, one_line, or_none, push_ccy_amount, push_ccy_amounts,
-    push_party, push_rate, push_texts, push_times, put_ccy_amount, put_known_party, put_rate,
-    put_reference, put_short_line, put_texts, put_time, put_value,
+    CcyAmount, KnownParty, Rate, Reference, ShortLine, Texts, Time, Value, ValueDate, array_of,
+    is_clock, line_field, one_line, or_none, push_ccy_amount, push_ccy_amounts, push_party,
+    push_rate, push_texts, push_times, put_ccy_amount, put_known_party, put_rate, put_reference,
+    put_short_line, put_texts, put_time, put_value,
 };
 use fin_fields::Field;
 use fin_layout::Content;

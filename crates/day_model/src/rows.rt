@@ -3,6 +3,7 @@
 ghost use Rattle.std.specs.Prelude.{◌≡◌, ◌==◌, IsTrue};
 ghost use Rattle.std.specs.List.{list_all};
 ghost use Rattle.std.specs.Char.{is_ascii_uppercase};
+ghost use Rattle.corr_text.specs.Sets.{is_c_byte};
 ghost use Rattle.day_model.specs.RowTests.{all_apart, apart, has_limits, is_formed, is_row, reads_itself, rows_fit};
 ghost use Rattle.day_model.specs.Chart.{AreRows, customer, is_kind};
 
@@ -36,6 +37,12 @@ fn is_letter(kind: u8) -> bool
     is_customer(kind) || kind == Kind::Vostro.letter() || kind == Kind::Nostro.letter()
 }
 
+fn is_plain(id: &[u8]) -> bool
+    ensures { result ≡ list_all is_c_byte id.now }
+{
+    is_all_of(Set::C, id)
+}
+
 fn is_code(ccy: &[u8]) -> bool
     ensures { result ≡ list_all is_ascii_uppercase ccy.now }
 {
@@ -48,7 +55,7 @@ fn has_form(a: &Account) -> bool
     let id = a.id.bytes();
     1 <= id.len()
         && id.len() <= 34
-        && is_all_of(Set::C, id)
+        && is_plain(id)
         && is_letter(a.kind)
         && is_bank(&a.owner)
         && is_code(&a.ccy.0)

@@ -37,8 +37,22 @@ pub fn read_booking(
     ensures { Gives result (booking_of order.now tables.now fields.now found.now) }
 {
     let reference = read_one(alloc, &Reference, order, fields, found, REFERENCE)?;
-    let related = read_one(alloc, &ShortLine { most: 16 }, order, fields, found, RELATED)?;
-    let account = read_one(alloc, &ShortLine { most: 35 }, order, fields, found, ACCOUNT)?;
+    let related = read_one(
+        alloc,
+        &ShortLine { most: 16 },
+        order,
+        fields,
+        found,
+        RELATED,
+    )?;
+    let account = read_one(
+        alloc,
+        &ShortLine { most: 35 },
+        order,
+        fields,
+        found,
+        ACCOUNT,
+    )?;
     let at = read_optional(alloc, &Stamp, fields, found, STAMP)?;
     let value = read_one(alloc, &ValueDate { tables }, order, fields, found, VALUE)?;
     Ok(Booking {

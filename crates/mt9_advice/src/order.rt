@@ -3,13 +3,21 @@
 use fin_layout::{Place, may, one};
 
 const REFERENCE: Place = one!(20, b"    ");
+
 const RELATED: Place = one!(21, b"    ");
+
 const ACCOUNT: Place = one!(25, b"    ");
+
 const STAMP: Place = may!(13, b"DDDD");
+
 const VALUE: Place = one!(32, b"AAAA");
+
 const PAYER: Place = may!(50, b"AFKK");
+
 const ORDERING: Place = may!(52, b"ADDD");
+
 const INTERMEDIARY: Place = may!(56, b"ADDD");
+
 const NOTES: Place = may!(72, b"    ");
 
 /// The places of an MT900's fields, numbered from 0: 20, 21, 25, 13D, 32A, 52a, 72. 20, 21, 25 and 32A must be there.
