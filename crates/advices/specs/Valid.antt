@@ -1,5 +1,6 @@
 -- What is sent of an entry passes the tests of its type, under the tables under which the received message passed its own.
 use Rattle.std.specs.Prelude.{◌≡◌, ℕ, ◌≤◌, true, false, List, Option, Some, None, IfSome, Ok, codes, find, length}
+use Rattle.std.specs.List.{All}
 use Rattle.corr_text.specs.First.{first_of}
 use Rattle.corr_ids.specs.Address.{bank_of}
 use Rattle.corr_ids.specs.Mir.{sender_of}
@@ -14,11 +15,13 @@ use Rattle.fin_contents.specs.Money.{is_metal, value_of}
 use Rattle.fin_contents.specs.Plain.{reference_of}
 use Rattle.fin_contents.specs.Writing.{line_field, value_field}
 use Rattle.fin_message.specs.Sound.{IsSaid, KeepsRules}
+use Rattle.fin_message.specs.Verdict.{sent_verdict_of}
 use Rattle.fin_message.specs.declared.message.Message.{Message}
 use Rattle.fin_message.specs.declared.message.Message.TheVariants as message
-use Rattle.mt103.specs.Message.{field_tests as tests_103}
+use Rattle.mt103.specs.Message.{field_tests as tests_103, mt103_of}
 use Rattle.mt103.specs.declared.message.Mt103.{Mt103}
-use Rattle.mt202cov.specs.Message.{field_tests as tests_202}
+use Rattle.mt103_rules.specs.Rules.{all_rules as rules_103}
+use Rattle.mt202cov.specs.Message.{field_tests as tests_202, mt202cov_of}
 use Rattle.mt202cov.specs.declared.message.Mt202Cov.{Mt202Cov}
 use Rattle.mt9_advice.specs.Advice.{mt900_of, mt910_of, tests_900, tests_910}
 use Rattle.mt9_advice.specs.declared.credit.Mt910.{Mt910}
@@ -28,6 +31,7 @@ use Rattle.day_model.specs.Fit.{FitsAccounts}
 use Rattle.day_model.specs.Shape.{HasShape, IsNumbered}
 use Rattle.day_model.specs.declared.account.Account.{Account}
 use Rattle.day_model.specs.declared.pay.Mt.TheVariants.{Transfer, Cover}
+use Rattle.day_model.specs.declared.pay.Order.{Order}
 use Rattle.day_model.specs.declared.pay.Order.TheVariants as order
 use Rattle.day_model.specs.declared.pay.Pay.{Pay}
 use Rattle.day_model.specs.declared.pay.Skip.{Skip}
@@ -138,3 +142,48 @@ abbrev pub CoverStands : Type 0
 CoverStands =
     (t : Tables) (chart : Chart) (pay : Pay) (envelope : Envelope) (text : List ℕ) (m : Mt103) (place k : ℕ) (to end : Bic) (skip : Skip) → CameFrom t chart pay (message.Transfer envelope text m)
     → place ≤ 100000 → k ≤ 255 → IsBic end → has_head t end.head ≡ true → first_of (tests_202 t (order_fields chart pay place k (order.Cover to end skip))) ≡ None
+
+-- the transfer is read of its fields, and breaks no rule between any two banks
+abbrev pub TransferReads : Type 0
+TransferReads =
+    (t : Tables) (chart : Chart) (pay : Pay) (envelope : Envelope) (text : List ℕ) (m : Mt103) (place k : ℕ) (to : Bic) (skip : Skip) (via : Option Bic) → CameFrom t chart pay (message.Transfer envelope text m)
+    → place ≤ 100000 → k ≤ 255 → IfSome via (λ b. IsBic b × (has_head t b.head ≡ true)) → (sender receiver : Bic)
+    → (sent : Mt103) × (mt103_of t (order_fields chart pay place k (order.Transfer to skip via)) ≡ Ok sent) × (first_of (rules_103 sender receiver t sent) ≡ None)
+
+-- its cover is read of its fields, which asks for its rules too
+abbrev pub CoverReads : Type 0
+CoverReads =
+    (t : Tables) (chart : Chart) (pay : Pay) (envelope : Envelope) (text : List ℕ) (m : Mt103) (place k : ℕ) (to end : Bic) (skip : Skip) → CameFrom t chart pay (message.Transfer envelope text m)
+    → place ≤ 100000 → k ≤ 255 → IsBic end → has_head t end.head ≡ true → (sent : Mt202Cov) × (mt202cov_of t (order_fields chart pay place k (order.Cover to end skip)) ≡ Ok sent)
+
+-- and so is a cover that is passed on, where the pay came from a cover
+abbrev pub PassReads : Type 0
+PassReads =
+    (t : Tables) (chart : Chart) (pay : Pay) (envelope : Envelope) (text : List ℕ) (m : Mt202Cov) (place k : ℕ) (to : Bic) (skip : Skip) → CameFrom t chart pay (message.Cover envelope text m)
+    → place ≤ 100000 → k ≤ 255 → (sent : Mt202Cov) × (mt202cov_of t (order_fields chart pay place k (order.Pass to skip)) ≡ Ok sent)
+
+-- ---- whole messages
+
+-- the tables hold the head of a bank
+abbrev pub IsKnown : Tables → Bic → Type 0
+IsKnown t b = has_head t b.head ≡ true
+
+-- an order that a message may ask for, at banks whose heads the tables hold: a transfer asks for transfers and their covers, a
+-- cover is passed on or told to the bank that it credits, and both are told to the bank that is debited
+abbrev pub Asks : Tables → Message → Order → Type 0
+Asks t (message.Transfer envelope text m) (order.Transfer to skip via) = IsKnown t to × IfSome via (IsKnown t)
+Asks t (message.Transfer envelope text m) (order.Cover to end skip) = IsKnown t to × IsKnown t end
+Asks t (message.Transfer envelope text m) (order.Debit to leg) = IsKnown t to
+Asks t (message.Cover envelope text m) (order.Pass to skip) = IsKnown t to
+Asks t (message.Cover envelope text m) (order.Debit to leg) = IsKnown t to
+Asks t (message.Cover envelope text m) (order.Credit to leg) = IsKnown t to
+Asks t _ _ = ⊥
+
+-- a text that passes the tests of a message which the home bank sends
+abbrev pub IsAccepted : Bic → Tables → List ℕ → Type 0
+IsAccepted home t text = (said : Message) × (sent_verdict_of home t text ≡ Ok said)
+
+-- the messages that are sent of a pay: under tables under which it came from a message that asks for its orders, each is
+-- accepted
+abbrev pub AreAccepted : Chart → Pay → List (List ℕ) → Type 0
+AreAccepted chart pay texts = (t : Tables) (m : Message) → CameFrom t chart pay m → All (Asks t m) pay.orders → All (IsAccepted chart.home t) texts

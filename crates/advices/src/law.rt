@@ -1,6 +1,6 @@
 //! Laws of the messages that are sent, carried by the contracts of functions.
 
-ghost use Rattle.advices.specs.Valid.{CoverFieldsPass, CoverStands, CreditPasses, DebitPasses, OrderedIsTabled, TransferFieldsPass, TransferStands};
+ghost use Rattle.advices.specs.Valid.{CoverFieldsPass, CoverReads, CoverStands, CreditPasses, DebitPasses, OrderedIsTabled, PassReads, TransferFieldsPass, TransferReads, TransferStands};
 
 /// The notice of a debit passes the tests of an MT900, and that of a credit those of an MT910, under the tables under
 /// which the received message passed its own.
@@ -22,4 +22,12 @@ pub fn sent_fields_pass()
 pub fn sent_onward_stand()
     ensures transfer { TransferStands }
     ensures cover { CoverStands }
+{}
+
+/// The transfer that a pay asks for, its cover, and a cover that is passed on are read of their fields and break no rule, under
+/// the tables under which the received message passed its tests.
+pub fn sent_onward_reads()
+    ensures transfer { TransferReads }
+    ensures cover { CoverReads }
+    ensures pass { PassReads }
 {}
