@@ -26,3 +26,4 @@ pub mod Sequences
 pub mod CoverHalves
 pub mod Passes
 pub mod Onward
+pub mod Accepted

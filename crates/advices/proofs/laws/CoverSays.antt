@@ -73,22 +73,34 @@ module _ (t : Tables) (fs : List Field) where
       let same : record { payer = a.0; p52 = b.0; p56 = c.0; p57 = d.0; payee = g.0 } ≡ x = told-is _ x g.2 in
       rw (← same) (c.1, d.1)
 
+  sequence-a-there : (x : SequenceA) → sequence_a_of t fs found ≡ Ok x → (in_option fs found 7 (known_party_of t) ≡ Ok x.banks.p56) × (in_option fs found 8 (known_party_of t) ≡ Ok x.banks.p57)
+  unfolding sequence_a_of
+  sequence-a-there x e =
+      let terms = read-then (terms_of t fs found) _ x e in
+      let banks = read-then (banks_of t fs found) _ x terms.2 in
+      let notes = read-then (in_option fs found 10 (texts_of 6)) _ x banks.2 in
+      let made : SequenceA = record { terms = terms.0; banks = banks.0; notes = unwrap_or notes.0 [] } in
+      let same : made ≡ x = told-is made x notes.2 in
+      subst (λ (y : SequenceA). (in_option fs found 7 (known_party_of t) ≡ Ok y.banks.p56) × (in_option fs found 8 (known_party_of t) ≡ Ok y.banks.p57)) same (banks-there banks.0 banks.1)
+
+  sequence-b-there : (x : SequenceB) → sequence_b_of t fs found ≡ Ok x → (in_option fs found 13 (known_party_of t) ≡ Ok x.customers.p56) × (in_option fs found 14 (known_party_of t) ≡ Ok x.customers.p57)
+  unfolding sequence_b_of
+  sequence-b-there x e =
+      let customers = read-then (customers_of t fs found) _ x e in
+      let details = read-then (details_of t fs found) _ x customers.2 in
+      let made : SequenceB = record { customers = customers.0; details = details.0 } in
+      let same : made ≡ x = told-is made x details.2 in
+      subst (λ (y : SequenceB). (in_option fs found 13 (known_party_of t) ≡ Ok y.customers.p56) × (in_option fs found 14 (known_party_of t) ≡ Ok y.customers.p57)) same (customers-there customers.0 customers.1)
+
   contents-there : (m : Mt202Cov) → contents_of t fs found ≡ Ok m → IsThere t fs m
-  unfolding contents_of sequence_a_of sequence_b_of
+  unfolding contents_of
   contents-there m e =
       let a = read-then (sequence_a_of t fs found) _ m e in
       let b = read-then (sequence_b_of t fs found) _ m a.2 in
-      let made : message_of a.0 b.0 ≡ m = told-is (message_of a.0 b.0) m b.2 in
-      let terms = read-then (terms_of t fs found) _ a.0 a.1 in
-      let banks = read-then (banks_of t fs found) _ a.0 terms.2 in
-      let notes = read-then (in_option fs found 10 (texts_of 6)) _ a.0 banks.2 in
-      let first : record { terms = terms.0; banks = banks.0; notes = unwrap_or notes.0 [] } ≡ a.0 = told-is _ a.0 notes.2 in
-      let customers = read-then (customers_of t fs found) _ b.0 b.1 in
-      let details = read-then (details_of t fs found) _ b.0 customers.2 in
-      let second : record { customers = customers.0; details = details.0 } ≡ b.0 = told-is _ b.0 details.2 in
-      let one = banks-there banks.0 banks.1 in
-      let two = customers-there customers.0 customers.1 in
-      rw (← made, ← first, ← second) (record { a56 = one.0; a57 = one.1; b56 = two.0; b57 = two.1 })
+      let same : message_of a.0 b.0 ≡ m = told-is (message_of a.0 b.0) m b.2 in
+      let one = sequence-a-there a.0 a.1 in
+      let two = sequence-b-there b.0 b.1 in
+      subst (IsThere t fs) same (record { a56 = one.0; a57 = one.1; b56 = two.0; b57 = two.1 })
 
   -- ---- of fields that pass their tests
 

@@ -60,52 +60,49 @@ code-is f x code e =
 pub staying : (has_56 has_57 : Bool) (fs : List Field) → AllByRecursion (SaysNamed 23 (codes "E") instr_of) fs
     → all_said instr_of (copied_all (is_passed_on has_56 has_57) fs) ≡ filter (stays has_56 has_57) (all_said instr_of (copied_all (is_named 23 (codes "E")) fs))
 staying has_56 has_57 [] all = refl
-staying has_56 has_57 (f ∷ fs) all = go (is_named 23 (codes "E") f) refl
+staying has_56 has_57 (f ∷ fs) all = go (is_named 23 (codes "E") f) refl (staying has_56 has_57 fs all.1)
   where
-    more : List Field
-    more = flat_map (kept (is_passed_on has_56 has_57)) fs
+    Later : Type 0
+    Later = all_said instr_of (copied_all (is_passed_on has_56 has_57) fs) ≡ filter (stays has_56 has_57) (all_said instr_of (copied_all (is_named 23 (codes "E")) fs))
 
-    left : List Instr
-    left = all_said instr_of (flat_map (kept (is_named 23 (codes "E"))) fs)
-
-    one : (x : Instr) (b : Bool) → instr_of f ≡ Ok x → all_said instr_of (cond b (f ∷ []) [] ++ flat_map (kept (is_passed_on has_56 has_57)) fs)
+    one : (x : Instr) (b : Bool) → instr_of f ≡ Ok x → Later → all_said instr_of (cond b (f ∷ []) [] ++ flat_map (kept (is_passed_on has_56 has_57)) fs)
         ≡ cond b (x ∷ filter (stays has_56 has_57) (all_said instr_of (flat_map (kept (is_named 23 (codes "E"))) fs))) (filter (stays has_56 has_57) (all_said instr_of (flat_map (kept (is_named 23 (codes "E"))) fs)))
-    one x true e = rw e (ap (λ (xs : List Instr). x ∷ xs) (staying has_56 has_57 fs all.1))
-    one x false e = staying has_56 has_57 fs all.1
+    one x true e later = rw e (ap (λ (xs : List Instr). x ∷ xs) later)
+    one x false e later = later
 
-    go : (b : Bool) → is_named 23 (codes "E") f ≡ b
+    go : (b : Bool) → is_named 23 (codes "E") f ≡ b → Later
         → all_said instr_of (cond (b && (has_56 || not (tells_intermediary f)) && (has_57 || not (tells_account_bank f))) (f ∷ []) [] ++ flat_map (kept (is_passed_on has_56 has_57)) fs)
         ≡ filter (stays has_56 has_57) (all_said instr_of (cond b (f ∷ []) [] ++ flat_map (kept (is_named 23 (codes "E"))) fs))
-    go false e = staying has_56 has_57 fs all.1
-    go true e =
+    go false e later = later
+    go true e later =
         let x = all.0 e in
         let teli = code-is f x.0 (codes "TELI") x.1 in
         let phoi = code-is f x.0 (codes "PHOI") x.1 in
         let tele = code-is f x.0 (codes "TELE") x.1 in
         let phon = code-is f x.0 (codes "PHON") x.1 in
         let same : ((has_56 || not (tells_intermediary f)) && (has_57 || not (tells_account_bank f))) ≡ stays has_56 has_57 x.0 = rw (teli, phoi, tele, phon) refl in
-        rw same (one x.0 (stays has_56 has_57 x.0) x.1 ∙ rw x.1 refl)
+        rw same (one x.0 (stays has_56 has_57 x.0) x.1 later ∙ rw x.1 refl)
 
 -- ---- some of a list
 
 -- none of some passes what none of all passes
 pub any-kept : {X : Type 0} (p q : X → Bool) (xs : List X) → list_any q xs ≡ false → list_any q (filter p xs) ≡ false
 any-kept p q [] e = refl
-any-kept p q (x ∷ xs) e = go (p x) (q x) refl e
+any-kept {X} p q (x ∷ xs) e = go (p x) (q x) (any-kept p q xs) refl e
   where
-    go : (b c : Bool) → q x ≡ c → (c || list_any q xs) ≡ false → list_any q (cond b (x ∷ filter p xs) (filter p xs)) ≡ false
-    go b true h e = absurd (cc e)
-    go true false h e = rw h (any-kept p q xs e)
-    go false false h e = any-kept p q xs e
+    go : (b c : Bool) → (list_any q xs ≡ false → list_any q (filter p xs) ≡ false) → q x ≡ c → (c || list_any q xs) ≡ false → list_any q (cond b (x ∷ filter p xs) (filter p xs)) ≡ false
+    go b true later h e = absurd (cc e)
+    go true false later h e = rw h (later e)
+    go false false later h e = later e
 
 pub none-kept : {X : Type 0} (p q : X → Bool) (xs : List X) → position q xs ≡ None → position q (filter p xs) ≡ None
 none-kept p q [] e = refl
-none-kept p q (x ∷ xs) e = go (p x) (q x) refl
+none-kept p q (x ∷ xs) e = go (p x) (q x) (none-kept p q xs) refl
   where
-    go : (b c : Bool) → q x ≡ c → position q (cond b (x ∷ filter p xs) (filter p xs)) ≡ None
-    go b true h = absurd (cc (sym (position-here q x xs h) ∙ e))
-    go true false h = position-later q x (filter p xs) h ∙ ap (option_map (λ i. i + 1)) (none-kept p q xs (map-none (λ i. i + 1) (position q xs) (sym (position-later q x xs h) ∙ e)))
-    go false false h = none-kept p q xs (map-none (λ i. i + 1) (position q xs) (sym (position-later q x xs h) ∙ e))
+    go : (b c : Bool) → (position q xs ≡ None → position q (filter p xs) ≡ None) → q x ≡ c → position q (cond b (x ∷ filter p xs) (filter p xs)) ≡ None
+    go b true later h = absurd (cc (sym (position-here q x xs h) ∙ e))
+    go true false later h = position-later q x (filter p xs) h ∙ ap (option_map (λ i. i + 1)) (later (map-none (λ i. i + 1) (position q xs) (sym (position-later q x xs h) ∙ e)))
+    go false false later h = later (map-none (λ i. i + 1) (position q xs) (sym (position-later q x xs h) ∙ e))
 
 none-barred : (b : Bool) (n : ℕ) (later : Option ℕ) → cond b (Some n) later ≡ None → (b ≡ false) × (later ≡ None)
 none-barred true n later e = absurd (cc e)
@@ -115,22 +112,16 @@ none-barred false n later e = (refl, e)
 pub given-kept : (misfit : Misfit) (p : Instr → Bool) (before xs : List Instr) → first_given (misfits misfit) before xs ≡ None → first_given (misfits misfit) (filter p before) (filter p xs) ≡ None
 unfolding first_given
 given-kept misfit p before [] e = refl
-given-kept misfit p before (x ∷ xs) e = go (p x) refl
+given-kept misfit p before (x ∷ xs) e =
+    let parts = none-barred (misfits misfit before x) (length before) (first_given (misfits misfit) (before ++ x ∷ []) xs) e in
+    go (p x) refl parts.0 (given-kept misfit p (before ++ x ∷ []) xs parts.1)
   where
-    parts : (misfits misfit before x ≡ false) × (first_given (misfits misfit) (before ++ x ∷ []) xs ≡ None)
-    unfolding first_given
-    parts = none-barred (misfits misfit before x) (length before) (first_given (misfits misfit) (before ++ x ∷ []) xs) e
-
-    later : first_given (misfits misfit) (filter p (before ++ x ∷ [])) (filter p xs) ≡ None
-    later = given-kept misfit p (before ++ x ∷ []) xs parts.1
-
-    go : (b : Bool) → p x ≡ b → first_given (misfits misfit) (filter p before) (cond b (x ∷ filter p xs) (filter p xs)) ≡ None
-    unfolding first_given
-    go true h =
-        let fits : misfits misfit (filter p before) x ≡ false = any-kept p _ before parts.0 in
+    go : (b : Bool) → p x ≡ b → misfits misfit before x ≡ false → first_given (misfits misfit) (filter p (before ++ x ∷ [])) (filter p xs) ≡ None → first_given (misfits misfit) (filter p before) (cond b (x ∷ filter p xs) (filter p xs)) ≡ None
+    go true h fits later =
+        let still : misfits misfit (filter p before) x ≡ false = any-kept p _ before fits in
         let front : filter p (before ++ x ∷ []) ≡ filter p before ++ x ∷ [] = filter-append p before (x ∷ []) ∙ ap (λ (b : Bool). filter p before ++ cond b (x ∷ []) []) h in
-        rw fits (subst (λ (bs : List Instr). first_given (misfits misfit) bs (filter p xs) ≡ None) front later)
-    go false h =
+        rw still (subst (λ (bs : List Instr). first_given (misfits misfit) bs (filter p xs) ≡ None) front later)
+    go false h fits later =
         let front : filter p (before ++ x ∷ []) ≡ filter p before = filter-append p before (x ∷ []) ∙ ap (λ (b : Bool). filter p before ++ cond b (x ∷ []) []) h ∙ append-nil (filter p before) in
         subst (λ (bs : List Instr). first_given (misfits misfit) bs (filter p xs) ≡ None) front later
 
@@ -152,12 +143,12 @@ both-false false = refl
 -- none of those that stay asks for a bank that isn't named
 none-tells : (told : Instr → Bool) (p : Instr → Bool) (xs : List Instr) → ((x : Instr) → told x ≡ true → p x ≡ false) → list_any told (filter p xs) ≡ false
 none-tells told p [] h = refl
-none-tells told p (x ∷ xs) h = go (p x) (told x) refl refl
+none-tells told p (x ∷ xs) h = go (p x) (told x) (none-tells told p xs h) refl refl
   where
-    go : (b c : Bool) → p x ≡ b → told x ≡ c → list_any told (cond b (x ∷ filter p xs) (filter p xs)) ≡ false
-    go true true e s = absurd (cc (sym e ∙ h x s))
-    go true false e s = rw s (none-tells told p xs h)
-    go false c e s = none-tells told p xs h
+    go : (b c : Bool) → list_any told (filter p xs) ≡ false → p x ≡ b → told x ≡ c → list_any told (cond b (x ∷ filter p xs) (filter p xs)) ≡ false
+    go true true later e s = absurd (cc (sym e ∙ h x s))
+    go true false later e s = rw s later
+    go false c later e s = later
 
 second-told : (b rest : Bool) → (not (b || true) && rest) ≡ false
 second-told true rest = refl

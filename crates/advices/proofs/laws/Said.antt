@@ -57,8 +57,8 @@ said read None = None
 said read (Some f) = ok_of (read f)
 
 may-said : {A : Type 0} (fs : List Field) (read : Field → Result A Code) (o : Option (ℕ × Field)) (x : Option A) → may_read fs read o ≡ Ok x → x ≡ said read (option_map field_of o)
-may-said fs read None x e = sym (told-is None x e)
-may-said fs read (Some (n, f)) x e = go (read f) e
+may-said {A} fs read None x e = sym (told-is None x e)
+may-said {A} fs read (Some (n, f)) x e = go (read f) e
   where
     go : (r : Result A Code) → (located fs n r >>= λ y. Ok (Some y)) ≡ Ok x → x ≡ ok_of r
     go (Ok y) e = sym (told-is (Some y) x e)
@@ -68,8 +68,8 @@ pub option-said : {A : Type 0} (fs : List Field) (found : List ℕ) (k : ℕ) (r
 option-said fs found k read x e = may-said fs read (field_in fs found k) x e
 
 may-there : {A : Type 0} (fs : List Field) (read : Field → Result A Code) (o : Option (ℕ × Field)) (x : Option A) → may_read fs read o ≡ Ok x → is_some x ≡ is_some (option_map field_of o)
-may-there fs read None x e = ap (λ (y : Option A). is_some y) (sym (told-is None x e))
-may-there fs read (Some (n, f)) x e = go (read f) e
+may-there {A} fs read None x e = ap (λ (y : Option A). is_some y) (sym (told-is None x e))
+may-there {A} fs read (Some (n, f)) x e = go (read f) e
   where
     go : (r : Result A Code) → (located fs n r >>= λ y. Ok (Some y)) ≡ Ok x → is_some x ≡ true
     go (Ok y) e = ap (λ (z : Option A). is_some z) (sym (told-is (Some y) x e))
@@ -86,7 +86,7 @@ same-option fs gs found held k j read x y e h same = option-said gs held j read 
 
 pub same-place : {A : Type 0} (order other : List Place) (fs gs : List Field) (found held : List ℕ) (k j : ℕ) (read : Field → Result A Code) (x y : A) → in_place order fs found k read ≡ Ok x → in_place other gs held j read ≡ Ok y
     → at_place gs held j ≡ at_place fs found k → y ≡ x
-same-place order other fs gs found held k j read x y e h same =
+same-place {A} order other fs gs found held k j read x y e h same =
     let f = found-read order fs k read (field_in fs found k) x e in
     let g = found-read other gs j read (field_in gs held j) y h in
     let both : Some g.0 ≡ Some f.0 = sym g.1 ∙ same ∙ f.1 in
@@ -111,36 +111,38 @@ abbrev pub Says : {A : Type 0} → (Field → Result A Code) → Field → Type 
 Says {A} read f = (x : A) × (read f ≡ Ok x)
 
 reads-all : {A : Type 0} (read : Field → Result A Code) (fs : List Field) → AllByRecursion (Says read) fs → ReadsAll read fs (all_said read fs)
-reads-all read [] h = tt
-reads-all read (f ∷ fs) h = go (read f) refl h.0
+reads-all {A} read [] h = tt
+reads-all {A} read (f ∷ fs) h = go (read f) refl h.0 (reads-all read fs h.1)
   where
-    go : (r : Result A Code) → read f ≡ r → ((x : A) × (r ≡ Ok x)) → ReadsAll read (f ∷ fs) (some_first (ok_of r) (all_said read fs))
-    go (Ok y) e s = (e, reads-all read fs h.1)
-    go (Err c) e s = absurd (cc s.1)
+    go : (r : Result A Code) → read f ≡ r → ((x : A) × (r ≡ Ok x)) → ReadsAll read fs (all_said read fs) → ReadsAll read (f ∷ fs) (some_first (ok_of r) (all_said read fs))
+    go (Ok y) e s later = (e, later)
+    go (Err c) e s later = absurd (cc s.1)
 
 pub group-said : {A : Type 0} (read : Field → Result A Code) (segs : List (List Field)) (n : ℕ) (s : List Field) (xs : List A) → slice_get segs n ≡ Some s → AllByRecursion (Says read) s
     → all_from (joined segs) n read 0 (places_of 0 segs) (joined segs) ≡ Ok xs → xs ≡ all_said read s
 group-said read segs n s xs at h e =
     told-is xs (all_said read s) (sym e ∙ grouped-all (joined segs) read segs 0 n 0 n s (all_said read s) (omega arith) at (reads-all read s h))
 
+said-first : {A : Type 0} (read : Field → Result A Code) (f : Field) (fs : List Field) (x : A) (xs : List A) → read f ≡ Ok x → xs ≡ all_said read fs → x ∷ xs ≡ some_first (ok_of (read f)) (all_said read fs)
+said-first {A} read f fs x xs reads later = rw reads (ap (λ (ys : List A). x ∷ ys) later)
+
 -- in a message whose fields pass a test just where they stand at the place
 pub chosen-said : {A : Type 0} (whole : List Field) (k : ℕ) (read : Field → Result A Code) (chosen : Field → Bool) (i : ℕ) (found : List ℕ) (fs : List Field) (xs : List A) → Holds (Agrees chosen k) found fs → length found ≡ length fs
     → all_from whole k read i found fs ≡ Ok xs → xs ≡ all_said read (copied_all chosen fs)
 unfolding all_from
-chosen-said whole k read chosen i [] [] xs h long e = sym (told-is [] xs e)
-chosen-said whole k read chosen i [] (f ∷ fs) xs h long e = absurd (omega (arith, long))
-chosen-said whole k read chosen i (q ∷ found) [] xs h long e = absurd (omega (arith, long))
-chosen-said whole k read chosen i (q ∷ found) (f ∷ fs) xs h long e = rw h.0 (go (q == k) e)
+chosen-said {A} whole k read chosen i [] [] xs h long e = sym (told-is [] xs e)
+chosen-said {A} whole k read chosen i [] (f ∷ fs) xs h long e = absurd (omega (arith, long))
+chosen-said {A} whole k read chosen i (q ∷ found) [] xs h long e = absurd (omega (arith, long))
+chosen-said {A} whole k read chosen i (q ∷ found) (f ∷ fs) xs h long e =
+    rw h.0 (go (q == k) (λ ys later. chosen-said whole k read chosen (i + 1) found fs ys h.1 (omega (arith, long)) later) e)
   where
-    later : (ys : List A) → all_from whole k read (i + 1) found fs ≡ Ok ys → ys ≡ all_said read (copied_all chosen fs)
-    later ys e = chosen-said whole k read chosen (i + 1) found fs ys h.1 (omega (arith, long)) e
-
-    go : (b : Bool) → cond b (located whole i (read f) >>= λ x. all_from whole k read (i + 1) found fs >>= λ ys. Ok (x ∷ ys)) (all_from whole k read (i + 1) found fs) ≡ Ok xs
+    go : (b : Bool) → ((ys : List A) → all_from whole k read (i + 1) found fs ≡ Ok ys → ys ≡ all_said read (copied_all chosen fs))
+        → cond b (located whole i (read f) >>= λ x. all_from whole k read (i + 1) found fs >>= λ ys. Ok (x ∷ ys)) (all_from whole k read (i + 1) found fs) ≡ Ok xs
         → xs ≡ all_said read (cond b (f ∷ []) [] ++ flat_map (kept chosen) fs)
-    go true e =
+    go true later e =
         let one = read-then (located whole i (read f)) _ xs e in
         let two = read-then (all_from whole k read (i + 1) found fs) _ xs one.2 in
         let same : one.0 ∷ two.0 ≡ xs = told-is (one.0 ∷ two.0) xs two.2 in
         let reads : read f ≡ Ok one.0 = located-read whole i (read f) one.0 one.1 in
-        sym same ∙ rw reads (ap (λ (ys : List A). one.0 ∷ ys) (later two.0 two.1))
-    go false e = later xs e
+        sym same ∙ said-first read f (copied_all chosen fs) one.0 two.0 reads (later two.0 two.1)
+    go false later e = later xs e

@@ -1,5 +1,5 @@
 -- Fields in two parts: their places are those of the front part, and then those of the back part.
-use Rattle.std.proofs.Common.{◌≡◌, ℕ, ◌+◌, ◌<◌, ◌≤◌, ◌==◌, ◌||◌, Bool, true, false, cond, List, [], ◌∷◌, ◌++◌, length, take, drop, position, replicate, option_map, Option, Some, None, refl, sym, ap, ◌∙◌, arith, subst, inl, inr}
+use Rattle.std.proofs.Common.{◌≡◌, ℕ, zero, suc, ◌+◌, ◌<◌, ◌≤◌, ◌==◌, ◌||◌, Bool, true, false, cond, List, [], ◌∷◌, ◌++◌, length, take, drop, position, replicate, option_map, Option, Some, None, refl, sym, ap, ◌∙◌, arith, subst, inl, inr}
 use Rattle.std.specs.Prelude.{find, unwrap_or}
 use Rattle.std.specs.List.{AllByRecursion, list_any}
 use Rattle.std.proofs.lemmas.Bool.{cases_Bool, eqb-true}
@@ -36,23 +36,25 @@ pub places-append : (order : List Place) (free : ℕ) (xs ys : List Field) → l
     → places_from order free (xs ++ ys) ≡ places_from order free xs ++ places_from order (free_behind order free (places_from order free xs)) ys
 unfolding places_from
 places-append order free [] ys e = refl
-places-append order free (x ∷ xs) ys e = go (place_from order free x) e
+places-append order free (x ∷ xs) ys e = go (λ k h. places-append order (free_after order k) xs ys h) (place_from order free x) e
   where
-    go : (o : Option ℕ) → length (from_place (λ k. places_from order (free_after order k) xs) o) ≡ length (x ∷ xs)
+    go : ((k : ℕ) → length (places_from order (free_after order k) xs) ≡ length xs
+          → places_from order (free_after order k) (xs ++ ys) ≡ places_from order (free_after order k) xs ++ places_from order (free_behind order (free_after order k) (places_from order (free_after order k) xs)) ys)
+        → (o : Option ℕ) → length (from_place (λ k. places_from order (free_after order k) xs) o) ≡ length (x ∷ xs)
         → from_place (λ k. places_from order (free_after order k) (xs ++ ys)) o
         ≡ from_place (λ k. places_from order (free_after order k) xs) o ++ places_from order (free_behind order free (from_place (λ k. places_from order (free_after order k) xs) o)) ys
-    go None e = absurd (omega (arith, e))
-    go (Some k) e = ap (λ (ps : List ℕ). k ∷ ps) (places-append order (free_after order k) xs ys (omega (arith, e)))
+    go later None e = absurd (omega (arith, e))
+    go later (Some k) e = ap (λ (ps : List ℕ). k ∷ ps) (later k (omega (arith, e)))
 
 -- where each field takes a place, so does each of the front part
 pub full-front : (order : List Place) (free : ℕ) (xs ys : List Field) → length (places_from order free (xs ++ ys)) ≡ length (xs ++ ys) → length (places_from order free xs) ≡ length xs
 unfolding places_from
 full-front order free [] ys e = refl
-full-front order free (x ∷ xs) ys e = go (place_from order free x) e
+full-front order free (x ∷ xs) ys e = go (λ k h. full-front order (free_after order k) xs ys h) (place_from order free x) e
   where
-    go : (o : Option ℕ) → length (from_place (λ k. places_from order (free_after order k) (xs ++ ys)) o) ≡ length (x ∷ (xs ++ ys)) → length (from_place (λ k. places_from order (free_after order k) xs) o) ≡ length (x ∷ xs)
-    go None e = absurd (omega (arith, e))
-    go (Some k) e = let later = full-front order (free_after order k) xs ys (omega (arith, e)) in omega (arith, later)
+    go : ((k : ℕ) → length (places_from order (free_after order k) (xs ++ ys)) ≡ length (xs ++ ys) → length (places_from order (free_after order k) xs) ≡ length xs) → (o : Option ℕ) → length (from_place (λ k. places_from order (free_after order k) (xs ++ ys)) o) ≡ length (x ∷ (xs ++ ys)) → length (from_place (λ k. places_from order (free_after order k) xs) o) ≡ length (x ∷ xs)
+    go later None e = absurd (omega (arith, e))
+    go later (Some k) e = let front = later k (omega (arith, e)) in omega (arith, front)
 
 pub each-more : (P Q : ℕ → Type 0) (ks : List ℕ) → ((k : ℕ) → P k → Q k) → AllByRecursion P ks → AllByRecursion Q ks
 each-more P Q [] more h = tt
@@ -66,37 +68,37 @@ place-above free k (Some j) e = let same : free + j ≡ k = cc e in omega (arith
 pub places-above : (order : List Place) (free : ℕ) (xs : List Field) → AllByRecursion (λ k. free ≤ k) (places_from order free xs)
 unfolding places_from
 places-above order free [] = tt
-places-above order free (x ∷ xs) = go (place_from order free x) refl
+places-above order free (x ∷ xs) = go (λ k. places-above order (free_after order k) xs) (place_from order free x) refl
   where
-    go : (o : Option ℕ) → place_from order free x ≡ o → AllByRecursion (λ k. free ≤ k) (from_place (λ k. places_from order (free_after order k) xs) o)
-    go None e = tt
-    go (Some k) e =
+    go : ((k : ℕ) → AllByRecursion (λ q. free_after order k ≤ q) (places_from order (free_after order k) xs)) → (o : Option ℕ) → place_from order free x ≡ o → AllByRecursion (λ k. free ≤ k) (from_place (λ k. places_from order (free_after order k) xs) o)
+    go later None e = tt
+    go later (Some k) e =
         let above : free ≤ k = place-above free k (position (λ p. fits p x) (drop free order)) e in
         let bounds = free_after-bounds order k in
-        (above, each-more (λ q. free_after order k ≤ q) (λ q. free ≤ q) (places_from order (free_after order k) xs) (λ q h. omega (arith, h, bounds.0, above)) (places-above order (free_after order k) xs))
+        (above, each-more (λ q. free_after order k ≤ q) (λ q. free ≤ q) (places_from order (free_after order k) xs) (λ q h. omega (arith, h, bounds.0, above)) (later k))
 
 behind-above : (order : List Place) (free : ℕ) (xs : List Field) → free ≤ free_behind order free (places_from order free xs)
 unfolding places_from
 behind-above order free [] = omega arith
-behind-above order free (x ∷ xs) = go (place_from order free x) refl
+behind-above order free (x ∷ xs) = go (λ k. behind-above order (free_after order k) xs) (place_from order free x) refl
   where
-    go : (o : Option ℕ) → place_from order free x ≡ o → free ≤ free_behind order free (from_place (λ k. places_from order (free_after order k) xs) o)
-    go None e = omega arith
-    go (Some k) e =
+    go : ((k : ℕ) → free_after order k ≤ free_behind order (free_after order k) (places_from order (free_after order k) xs)) → (o : Option ℕ) → place_from order free x ≡ o → free ≤ free_behind order free (from_place (λ k. places_from order (free_after order k) xs) o)
+    go later None e = omega arith
+    go later (Some k) e =
         let above : free ≤ k = place-above free k (position (λ p. fits p x) (drop free order)) e in
         let bounds = free_after-bounds order k in
-        let later = behind-above order (free_after order k) xs in
-        omega (arith, above, bounds.0, later)
+        let behind = later k in
+        omega (arith, above, bounds.0, behind)
 
 -- and what they leave free is behind each of their places
 pub places-behind : (order : List Place) (free : ℕ) (xs : List Field) → AllByRecursion (λ k. free_after order k ≤ free_behind order free (places_from order free xs)) (places_from order free xs)
 unfolding places_from
 places-behind order free [] = tt
-places-behind order free (x ∷ xs) = go (place_from order free x)
+places-behind order free (x ∷ xs) = go (λ k. places-behind order (free_after order k) xs) (place_from order free x)
   where
-    go : (o : Option ℕ) → AllByRecursion (λ k. free_after order k ≤ free_behind order free (from_place (λ k. places_from order (free_after order k) xs) o)) (from_place (λ k. places_from order (free_after order k) xs) o)
-    go None = tt
-    go (Some k) = (behind-above order (free_after order k) xs, places-behind order (free_after order k) xs)
+    go : ((k : ℕ) → AllByRecursion (λ q. free_after order q ≤ free_behind order (free_after order k) (places_from order (free_after order k) xs)) (places_from order (free_after order k) xs)) → (o : Option ℕ) → AllByRecursion (λ k. free_after order k ≤ free_behind order free (from_place (λ k. places_from order (free_after order k) xs) o)) (from_place (λ k. places_from order (free_after order k) xs) o)
+    go later None = tt
+    go later (Some k) = (behind-above order (free_after order k) xs, later k)
 
 -- the places of so many groups
 repeated-below : (j n most : ℕ) (ks : List ℕ) → j < most → AllByRecursion (λ k. k < most) ks → AllByRecursion (λ k. k < most) (replicate n j ++ ks)
@@ -253,14 +255,14 @@ pub record IsSplit (test : Field → Bool) (fs : List Field) (f : Field) : Type 
 
 pub split-at : (test : Field → Bool) (fs : List Field) (f : Field) → find test fs ≡ Some f → IsSplit test fs f
 split-at test [] f e = absurd (cc e)
-split-at test (g ∷ fs) f e = go (test g) refl e
+split-at test (g ∷ fs) f e = go (test g) (split-at test fs f) refl e
   where
-    go : (b : Bool) → test g ≡ b → cond b (Some g) (find test fs) ≡ Some f → IsSplit test (g ∷ fs) f
-    go true h e =
+    go : (b : Bool) → (find test fs ≡ Some f → IsSplit test fs f) → test g ≡ b → cond b (Some g) (find test fs) ≡ Some f → IsSplit test (g ∷ fs) f
+    go true later h e =
         let same : g ≡ f = cc e in
         subst (IsSplit test (g ∷ fs)) same (record { front = []; back = fs; whole = refl; place = 0; at = position-here test g fs h; before = refl; behind = refl })
-    go false h e =
-        let s = split-at test fs f e in
+    go false later h e =
+        let s = later e in
         record {
           front = g ∷ s.front;
           back = s.back;

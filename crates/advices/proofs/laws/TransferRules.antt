@@ -65,6 +65,10 @@ and-false : (b : Bool) → (b && false) ≡ false
 and-false true = refl
 and-false false = refl
 
+both-false : (a b : Bool) → (a && b && false) ≡ false
+both-false true b = and-false b
+both-false false b = refl
+
 if-true : {X : Type 0} (b : Bool) (x : X) → cond b (Some x) None ≡ None → b ≡ false
 if-true true x e = absurd (cc e)
 if-true false x e = refl
@@ -144,7 +148,7 @@ module _ (skip : Skip) (m n : Mt103) (s : IsSentOn skip m n) where
 
   d49-on : (t : Tables) (sender receiver : Bic) → d49 sender receiver t n ≡ None
   unfolding d49
-  d49-on t sender receiver = rw (s.ordered.there, and-false (is_listed_bank t receiver), and-false (is_listed_bank t sender)) refl
+  d49-on t sender receiver = if-false _ _ (rw (s.ordered.there) (both-false (is_listed_bank t sender) (is_listed_bank t receiver)))
 
   -- levels of service
   e01-on : e01 m ≡ None → e01 n ≡ None
