@@ -1,6 +1,6 @@
 -- Each message that is sent of a pay is accepted: its blocks, its lines, its fields and its rules pass the tests of a sent message.
-use Rattle.std.proofs.Common.{◌≡◌, ℕ, ◌+◌, ◌≤◌, ◌==◌, Bool, true, false, List, [], ◌∷◌, length, Option, Some, None, Ok, refl, arith}
-use Rattle.std.specs.Prelude.{codes, IfSome}
+use Rattle.std.proofs.Common.{◌≡◌, ℕ, ◌+◌, ◌≤◌, ◌==◌, Bool, true, false, List, [], ◌∷◌, length, Option, Some, None, Result, Ok, Err, refl, sym, arith, subst}
+use Rattle.std.specs.Prelude.{codes, IfOk, IfSome, OnOk}
 use Rattle.std.specs.List.{All}
 use Rattle.std.specs.Str.{bytes_eq}
 use Rattle.std.proofs.lemmas.List.Elements.{All-cons, All-head, All-tail}
@@ -31,12 +31,12 @@ use Rattle.fin_message.specs.declared.direction.Direction.TheVariants.{Sent}
 use Rattle.fin_message.specs.declared.message.Message.{Message}
 use Rattle.fin_message.specs.declared.message.Message.TheVariants as message
 use Rattle.day_model.specs.Chart.{Chart}
-use Rattle.day_model.specs.Shape.{IsOrder}
+use Rattle.day_model.specs.Shape.{HasShape, IsOrder}
 use Rattle.day_model.specs.declared.pay.Order.{Order}
 use Rattle.day_model.specs.declared.pay.Order.TheVariants as order
 use Rattle.day_model.specs.declared.pay.Pay.{Pay}
 use Rattle.advices.specs.Messages.{AllReadBack, OrderReadsBack, ReadsBack, message_of, messages_from, order_fields, type_of, uetr_block}
-use Rattle.advices.specs.Valid.{Asks, CameFrom, IsAccepted, IsKnown}
+use Rattle.advices.specs.Valid.{AreAccepted, Asks, CameFrom, IsAccepted, IsKnown}
 use Rattle.advices.proofs.laws.Credits.{credit-passes}
 use Rattle.advices.proofs.laws.Debits.{debit-passes}
 use Rattle.advices.proofs.laws.Onward.{cover-onward, pass-onward, transfer-onward}
@@ -148,3 +148,16 @@ module _ (t : Tables) (chart : Chart) (pay : Pay) (place : ℕ) (small : place �
       All-cons (IsAccepted chart.home t) (message_of chart pay place k o) (messages_from chart pay place (k + 1) os)
       (order-accepted m k o came (omega (arith, few)) (All-head (IsOrder (length pay.legs)) o os is) (All-head (Asks t m) o os asks) back.0)
       (orders-accepted m (k + 1) os came (omega (arith, few)) (All-tail (IsOrder (length pay.legs)) o os is) (All-tail (Asks t m) o os asks) back.1)
+
+-- ---- the answers of the code
+
+-- under any tables, what is read back of a pay of this shape is accepted
+pub texts-accepted : {E : Type 0} (chart : Chart) (pay : Pay) (place : ℕ) (r : Result (List (List ℕ)) E) → place ≤ 100000 → HasShape pay → IfOk r (λ texts. texts ≡ messages_from chart pay place 1 pay.orders)
+    → OnOk r (AllReadBack chart pay place 1 pay.orders) → IfOk r (AreAccepted chart pay)
+texts-accepted chart pay place (Ok texts) small shape same back =
+    λ t m came asks. subst (All (IsAccepted chart.home t)) (sym same) (orders-accepted t chart pay place small m 1 pay.orders came (omega (arith, shape.few_orders)) shape.each_order asks back)
+texts-accepted chart pay place (Err e) small shape same back = tt
+
+-- and so is nothing
+pub none-accepted : (chart : Chart) (pay : Pay) (texts : List (List ℕ)) → texts ≡ [] → AreAccepted chart pay texts
+none-accepted chart pay texts none = λ t m came asks. subst (All (IsAccepted chart.home t)) (sym none) (λ i d lt. absurd (omega arith))
