@@ -1,5 +1,5 @@
 -- Each message that is sent of a pay is accepted: its blocks, its lines, its fields and its rules pass the tests of a sent message.
-use Rattle.std.proofs.Common.{◌≡◌, ℕ, ◌+◌, ◌≤◌, ◌==◌, Bool, true, false, List, [], ◌∷◌, length, Option, Some, None, Result, Ok, Err, refl, sym, arith, subst}
+use Rattle.std.proofs.Common.{◌≡◌, ℕ, ◌+◌, ◌≤◌, true, List, [], ◌∷◌, length, Option, Some, None, Result, Ok, Err, refl, sym, arith, subst}
 use Rattle.std.specs.Prelude.{codes, IfOk, IfSome, OnOk}
 use Rattle.std.specs.List.{All}
 use Rattle.std.specs.Str.{bytes_eq}
@@ -26,7 +26,7 @@ use Rattle.mt9_advice.specs.declared.credit.Mt910.{Mt910}
 use Rattle.mt9_advice.specs.declared.debit.Mt900.{Mt900}
 use Rattle.fin_message.specs.Heading.{fits_validation, heading_tests, is_type}
 use Rattle.fin_message.specs.Parts.{envelope_of, user_text}
-use Rattle.fin_message.specs.Verdict.{cover_of, credit_of, debit_of, judged, message_in, message_of as read_of, sent_verdict_of, transfer_of}
+use Rattle.fin_message.specs.Verdict.{cover_of, credit_of, debit_of, judged, message_in, message_of as read_of, transfer_of}
 use Rattle.fin_message.specs.declared.direction.Direction.TheVariants.{Sent}
 use Rattle.fin_message.specs.declared.message.Message.{Message}
 use Rattle.fin_message.specs.declared.message.Message.TheVariants as message
@@ -35,7 +35,7 @@ use Rattle.day_model.specs.Shape.{HasShape, IsOrder}
 use Rattle.day_model.specs.declared.pay.Order.{Order}
 use Rattle.day_model.specs.declared.pay.Order.TheVariants as order
 use Rattle.day_model.specs.declared.pay.Pay.{Pay}
-use Rattle.advices.specs.Messages.{AllReadBack, OrderReadsBack, ReadsBack, message_of, messages_from, order_fields, type_of, uetr_block}
+use Rattle.advices.specs.Messages.{AllReadBack, OrderReadsBack, ReadsBack, message_of, messages_from, order_fields, uetr_block}
 use Rattle.advices.specs.Valid.{AreAccepted, Asks, CameFrom, IsAccepted, IsKnown}
 use Rattle.advices.proofs.laws.Credits.{credit-passes}
 use Rattle.advices.proofs.laws.Debits.{debit-passes}

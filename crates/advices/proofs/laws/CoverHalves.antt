@@ -1,5 +1,5 @@
 -- A cover that passes its tests, in two halves: the fields before 50a stand at the places before its place, and those from it on at the others.
-use Rattle.std.proofs.Common.{◌≡◌, ◌≢◌, ℕ, ◌+◌, ◌<◌, ◌≤◌, ◌==◌, Bool, true, false, List, [], ◌∷◌, ◌++◌, length, get_or, drop, position, option_map, slice_get, Option, Some, None, refl, sym, ap, ◌∙◌, arith, subst, inl, inr}
+use Rattle.std.proofs.Common.{◌≡◌, ◌≢◌, ℕ, ◌+◌, ◌<◌, ◌≤◌, ◌==◌, Bool, true, List, [], ◌∷◌, ◌++◌, length, get_or, drop, position, option_map, slice_get, Option, Some, None, refl, sym, ap, ◌∙◌, arith, subst, inl, inr}
 use Rattle.std.specs.Prelude.{codes, find}
 use Rattle.std.specs.List.{AllByRecursion, list_any}
 use Rattle.std.proofs.lemmas.Bool.{cases_Bool, eqb-true}
@@ -11,7 +11,6 @@ use Rattle.fin_fields.specs.declared.field.Field.{Field}
 use Rattle.fin_layout.specs.declared.place.Place.{Place}
 use Rattle.fin_layout.specs.Order.{fits, free_after, place_from, places_from}
 use Rattle.fin_layout.specs.Places.{any, bare, may, one}
-use Rattle.fin_layout.specs.Segments.{Segments}
 use Rattle.fin_layout.proofs.laws.Fine.{all-hold, present, taken-from}
 use Rattle.fin_layout.proofs.laws.Grouped.{free_after-bounds, grouped-places}
 use Rattle.fin_contents.specs.Writing.{some_field}

@@ -1,11 +1,10 @@
 -- What the fields of a cover say: where they pass their tests and 56a stands with 57a in each sequence, a cover is read of them.
 use Rattle.std.proofs.Common.{◌≡◌, ◌&&◌, not, Bool, true, false, List, [], ◌∷◌, ℕ, Option, Some, None, Ok, refl, sym, ap, ◌∙◌, subst}
 use Rattle.std.specs.Prelude.{is_none, is_some, unwrap_or}
-use Rattle.corr_text.specs.First.{first_of, unless}
-use Rattle.corr_text.specs.declared.fault.Fault.{Fault}
+use Rattle.corr_text.specs.First.{first_of}
 use Rattle.ref_tables.specs.Seen.{Tables}
 use Rattle.fin_fields.specs.declared.field.Field.{Field}
-use Rattle.fin_layout.specs.Contents.{all_from, in_option, in_place}
+use Rattle.fin_layout.specs.Contents.{in_option, in_place}
 use Rattle.fin_layout.specs.Order.{places_from}
 use Rattle.fin_layout.specs.Tests.{passed}
 use Rattle.fin_layout.proofs.laws.Fine.{all-hold, first-none, holds-none, many-fine, may-fine, must-fine}

@@ -1,14 +1,12 @@
 -- The instructions that are passed on are some of those that came, in their order; so what bars some of a list bars none of them.
-use Rattle.std.proofs.Common.{◌≡◌, ℕ, ◌+◌, ◌==◌, ◌&&◌, ◌||◌, not, Bool, true, false, cond, List, [], ◌∷◌, ◌++◌, length, take, drop, nat_le, option_map, position, slice_get, Option, Some, None, Result, Ok, Err, refl, sym, ap, ◌∙◌, subst}
+use Rattle.std.proofs.Common.{◌≡◌, ℕ, ◌+◌, ◌&&◌, ◌||◌, not, Bool, true, false, cond, List, [], ◌∷◌, ◌++◌, length, take, drop, nat_le, option_map, position, Option, Some, None, Ok, refl, sym, ap, ◌∙◌, subst}
 use Rattle.std.specs.Prelude.{codes, is_none, filter}
 use Rattle.std.specs.List.{AllByRecursion, flat_map, list_all, list_any}
-use Rattle.std.specs.Option.{option_map_or}
 use Rattle.std.specs.Str.{bytes_eq}
 use Rattle.std.proofs.lemmas.List.{append-nil}
 use Rattle.std.proofs.lemmas.List.Elements.{filter-append}
 use Rattle.corr_text.specs.First.{first_of}
 use Rattle.corr_text.specs.Sets.{is_in}
-use Rattle.corr_text.specs.declared.fault.Code.{Code}
 use Rattle.corr_text.specs.declared.set.Set.TheVariants.{C}
 use Rattle.fin_fields.specs.declared.field.Field.{Field}
 use Rattle.fin_layout.proofs.laws.Fine.{first-none, map-none}
@@ -16,15 +14,15 @@ use Rattle.fin_contents.specs.Plain.{one_line}
 use Rattle.fin_contents.proofs.laws.Steps.{checked, is-only, there}
 use Rattle.fin_fields.proofs.laws.Positions.{position-here, position-later}
 use Rattle.mt103.specs.Codes.{code_in, instr_of, is_instruction, takes_text, text_in}
-use Rattle.mt103.specs.Instructions.{d98, e46, first_given, instr_fault, misfits}
+use Rattle.mt103.specs.Instructions.{d98, e46, first_given, misfits}
 use Rattle.mt103.specs.declared.instruction.Instr.{Instr}
 use Rattle.mt103.specs.declared.misfit.Misfit.{Misfit}
 use Rattle.mt103.specs.declared.misfit.Misfit.TheVariants.{Repeated, Early}
-use Rattle.mt103_rules.specs.Instructions.{first_barred, has_instr, is_priority}
+use Rattle.mt103_rules.specs.Instructions.{has_instr}
 use Rattle.advices.specs.Fields.{copied_all, is_named, kept}
 use Rattle.advices.specs.Transfer.{has_code, is_passed_on, tells_account_bank, tells_intermediary}
 use Rattle.advices.proofs.laws.Copies.{SaysNamed}
-use Rattle.advices.proofs.laws.Said.{all_said, ok_of, some_first}
+use Rattle.advices.proofs.laws.Said.{all_said}
 
 -- ---- by what they say
 

@@ -1,14 +1,13 @@
 -- A cover that is passed on: its fields stand in their order, none is missing, each content passes, and it is read of them.
-use Rattle.std.proofs.Common.{◌≡◌, ℕ, ◌+◌, ◌<◌, ◌≤◌, ◌==◌, Bool, true, false, List, [], ◌∷◌, ◌++◌, length, slice_get, Option, Some, None, Ok, refl, sym, ap, ◌∙◌, arith, subst, inl}
-use Rattle.std.specs.Prelude.{codes, find, is_none, is_some, unwrap_or}
+use Rattle.std.proofs.Common.{◌≡◌, ℕ, ◌+◌, ◌<◌, ◌≤◌, ◌==◌, true, false, List, [], ◌∷◌, ◌++◌, length, slice_get, Some, None, Ok, refl, sym, ap, ◌∙◌, arith, subst, inl}
+use Rattle.std.specs.Prelude.{codes, find}
 use Rattle.std.specs.List.{list_any}
 use Rattle.std.proofs.lemmas.List.{length-append}
 use Rattle.corr_text.specs.First.{first_of}
 use Rattle.corr_ids.specs.Bic.{IsBic}
 use Rattle.ref_tables.specs.Seen.{Tables, has_head}
 use Rattle.fin_fields.specs.declared.field.Field.{Field}
-use Rattle.fin_layout.specs.Order.{missing_from, place_from, places_from}
-use Rattle.fin_layout.specs.Places.{may, one}
+use Rattle.fin_layout.specs.Order.{missing_from, places_from}
 use Rattle.fin_layout.specs.Segments.{Segments, joined, places_of}
 use Rattle.fin_layout.proofs.laws.FoundField.{grouped-taken}
 use Rattle.fin_layout.proofs.laws.Grouped.{grouped-places, length-places_of}
@@ -26,10 +25,10 @@ use Rattle.day_model.specs.declared.pay.Skip.{Skip}
 use Rattle.advices.specs.declared.received.Received.{Received}
 use Rattle.advices.specs.Fields.{copied, is_named}
 use Rattle.advices.specs.Pass.{pass_fields}
-use Rattle.advices.specs.Received.{first_fields, ordering, sequence_a, sequence_b}
+use Rattle.advices.specs.Received.{ordering, sequence_a, sequence_b}
 use Rattle.advices.specs.Transfer.{account_bank, intermediary}
 use Rattle.advices.proofs.laws.Banks.{ordering-of-cover}
-use Rattle.advices.proofs.laws.CoverHalves.{apart-back, apart-front, at-a, at-b, back-passes, copy-seated-a, long-a, long-b, must-a, must-b, named-a, pa, payer-behind, payer-places, pb, row}
+use Rattle.advices.proofs.laws.CoverHalves.{apart-back, at-a, at-b, back-passes, copy-seated-a, long-b, must-a, must-b, named-a, payer-behind, payer-places, pb, row}
 use Rattle.advices.proofs.laws.CoverSays.{cover-kept, cover-reads, lacks}
 use Rattle.advices.proofs.laws.Finding.{found-passes, must-copy}
 use Rattle.advices.proofs.laws.Fitted.{Fine, all-pass, contents-fine}

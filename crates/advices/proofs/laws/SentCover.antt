@@ -1,5 +1,5 @@
 -- The cover of a transfer that is sent on is read of its fields: its 56a stands with 57a, as that of the transfer did.
-use Rattle.std.proofs.Common.{◌≡◌, ℕ, ◌&&◌, not, Bool, false, List, [], ◌∷◌, Option, Some, None, Ok, refl, sym, ap, ◌∙◌}
+use Rattle.std.proofs.Common.{◌≡◌, ℕ, false, List, [], Option, Some, None, Ok, refl}
 use Rattle.std.specs.Prelude.{codes, find, is_none, is_some}
 use Rattle.corr_text.specs.First.{first_of}
 use Rattle.corr_ids.specs.declared.bic.Bic.{Bic}

@@ -1,8 +1,8 @@
 -- A transfer that is sent on is read of its fields, and breaks no rule.
-use Rattle.std.proofs.Common.{◌≡◌, ℕ, ◌+◌, ◌==◌, Bool, true, false, List, [], ◌∷◌, length, slice_get, Option, Some, None, Result, Ok, refl, sym, ap, ◌∙◌, arith, subst, zero, suc, inl, inr, cond}
+use Rattle.std.proofs.Common.{◌≡◌, ℕ, ◌+◌, Bool, true, false, List, [], ◌∷◌, slice_get, Option, Some, None, Result, Ok, refl, sym, ap, ◌∙◌, arith, subst, zero, suc, inl, inr}
 use Rattle.std.specs.Prelude.{codes, filter, find, is_some, IfSome}
 use Rattle.std.specs.List.{AllByRecursion}
-use Rattle.corr_text.specs.First.{fault_of, first_of}
+use Rattle.corr_text.specs.First.{first_of}
 use Rattle.corr_text.specs.declared.fault.Code.{Code}
 use Rattle.corr_ids.specs.Bic.{IsBic}
 use Rattle.corr_ids.specs.declared.bic.Bic.{Bic}
@@ -14,7 +14,6 @@ use Rattle.fin_layout.specs.declared.place.Place.{Place}
 use Rattle.fin_layout.specs.Contents.{all_from, in_option}
 use Rattle.fin_layout.specs.Order.{field_in, places_from}
 use Rattle.fin_layout.specs.Segments.{joined, places_of}
-use Rattle.fin_layout.specs.Tests.{tests}
 use Rattle.fin_layout.proofs.laws.Fine.{IsTestOf, all-hold, read-none}
 use Rattle.fin_layout.proofs.laws.Grouped.{grouped-places}
 use Rattle.fin_parties.specs.declared.party.Party.{Party}
@@ -26,7 +25,7 @@ use Rattle.fin_contents.specs.declared.value.Value.{Value}
 use Rattle.fin_contents.proofs.laws.Said.{stand}
 use Rattle.mt103.specs.Codes.{charge_of, instr_of, operation_of}
 use Rattle.mt103.specs.Instructions.{d98, e46}
-use Rattle.mt103.specs.Message.{content_test, contents_of, field_tests, mt103_of}
+use Rattle.mt103.specs.Message.{content_test, field_tests, mt103_of}
 use Rattle.mt103.specs.Order.{order_103}
 use Rattle.mt103.specs.declared.instruction.Instr.{Instr}
 use Rattle.mt103.specs.declared.message.Mt103.{Mt103}
@@ -36,7 +35,7 @@ use Rattle.mt103_rules.specs.Rules.{all_rules}
 use Rattle.day_model.specs.declared.pay.Skip.{Skip}
 use Rattle.day_model.specs.declared.pay.Skip.TheVariants.{Keep, Mid, Both}
 use Rattle.advices.specs.Fields.{bank_field, copied, copied_all, is_named}
-use Rattle.advices.specs.Transfer.{account_bank, instructions, intermediary, is_passed_on, is_there, or_amount, ordered_amount}
+use Rattle.advices.specs.Transfer.{account_bank, instructions, intermediary, is_there, or_amount, ordered_amount}
 use Rattle.advices.proofs.laws.Banks.{bank-read}
 use Rattle.advices.proofs.laws.Copies.{each-says}
 use Rattle.advices.proofs.laws.Finding.{agree, any-field, copied-at, tells_from}

@@ -15,7 +15,7 @@ use Rattle.fin_layout.specs.Order.{field_in, fits, free_after, place_from, place
 use Rattle.fin_layout.specs.Segments.{places_of}
 use Rattle.fin_layout.specs.Tests.{contents_from}
 use Rattle.fin_layout.proofs.laws.Fine.{field-nil, first-none, map-none}
-use Rattle.fin_layout.proofs.laws.FoundField.{field-here, field-later, shifted}
+use Rattle.fin_layout.proofs.laws.FoundField.{field-here, field-later}
 use Rattle.fin_layout.proofs.laws.Grouped.{free_after-bounds}
 use Rattle.fin_contents.proofs.laws.Said.{Holds}
 use Rattle.advices.proofs.laws.Finding.{field_of, same-field}

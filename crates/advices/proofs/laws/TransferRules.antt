@@ -1,5 +1,5 @@
 -- The rules of a transfer: one that is sent on breaks none, since the one that came broke none.
-use Rattle.std.proofs.Common.{◌≡◌, ℕ, ◌==◌, ◌&&◌, ◌||◌, ◌⊎◌, not, Bool, true, false, cond, List, [], ◌∷◌, length, option_map, Option, Some, None, refl, sym, ap, ◌∙◌, arith, inl, inr}
+use Rattle.std.proofs.Common.{◌≡◌, ℕ, ◌==◌, ◌&&◌, ◌||◌, ◌⊎◌, not, Bool, true, false, cond, List, [], ◌∷◌, length, option_map, Option, Some, None, refl, arith, inl, inr}
 use Rattle.std.specs.Prelude.{codes, filter, is_none, is_some}
 use Rattle.std.specs.List.{list_any}
 use Rattle.std.specs.Str.{bytes_eq}
@@ -13,11 +13,10 @@ use Rattle.corr_money.specs.declared.amount.Ccy.{Ccy}
 use Rattle.ref_tables.specs.Seen.{Tables}
 use Rattle.fin_layout.proofs.laws.Fine.{first-none, map-none}
 use Rattle.fin_parties.specs.declared.party.Party.{Party}
-use Rattle.mt103.specs.declared.instruction.Instr.{Instr}
 use Rattle.mt103.specs.declared.message.Mt103.{Mt103}
-use Rattle.mt103_rules.specs.Instructions.{first_barred, has_instr, is_priority}
-use Rattle.mt103_rules.specs.Parties.{has_account, is_b, is_bare_b, is_bare_d, is_d, is_not_a, is_uncleared_c}
-use Rattle.mt103_rules.specs.Rules.{all_rules, amount_rules, broken, c02, c81, charge_rules, contact_rules, d49, d50, d51, d75, e01, e02, e03, e04, e05, e06, e07, e09, e10, e13, e15_given, e15_taken, e16, e17, e18, e44, e45, fault_at, has_level, institution_rules, is_charge, is_foreign, is_given, is_listed_bank, is_op, is_standard, level_rules}
+use Rattle.mt103_rules.specs.Instructions.{has_instr, is_priority}
+use Rattle.mt103_rules.specs.Parties.{has_account, is_b, is_bare_b, is_bare_d, is_d, is_uncleared_c}
+use Rattle.mt103_rules.specs.Rules.{all_rules, amount_rules, c02, c81, charge_rules, contact_rules, d49, d50, d51, d75, e01, e02, e03, e04, e05, e06, e07, e09, e10, e13, e15_given, e15_taken, e16, e17, e18, e44, e45, has_level, institution_rules, is_foreign, is_given, is_listed_bank, is_op, is_standard, level_rules}
 use Rattle.day_model.specs.declared.pay.Skip.{Skip}
 use Rattle.day_model.specs.declared.pay.Skip.TheVariants.{Keep, Mid, Both}
 use Rattle.advices.proofs.laws.Instructions.{any-kept, none-kept, none-tells-56, none-tells-57, stays}

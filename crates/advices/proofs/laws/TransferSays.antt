@@ -1,5 +1,5 @@
 -- What the fields of a transfer say, place by place: of one that was read, and of one whose fields pass their tests.
-use Rattle.std.proofs.Common.{◌≡◌, List, [], ◌∷◌, ℕ, Option, None, Ok, refl, ap, ◌∙◌, subst}
+use Rattle.std.proofs.Common.{◌≡◌, List, [], ◌∷◌, ℕ, None, Ok, refl, subst}
 use Rattle.std.specs.Prelude.{unwrap_or}
 use Rattle.corr_text.specs.First.{first_of}
 use Rattle.ref_tables.specs.Seen.{Tables}
