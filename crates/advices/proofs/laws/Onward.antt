@@ -1,4 +1,4 @@
--- The transfer and the cover that are sent of a pay stand in their order, and each content passes its test.
+-- The transfer and the covers that are sent of a pay are read of their fields, and break no rule.
 use Rattle.std.proofs.Common.{◌≡◌, ℕ, List, length, Some, None, Ok, ap, ◌∙◌, sym, arith, subst}
 use Rattle.std.specs.Prelude.{codes, find}
 use Rattle.corr_money.specs.declared.amount.Amount.{Amount}
@@ -23,7 +23,7 @@ use Rattle.advices.specs.Legs.{leg_amount, value_of_pay}
 use Rattle.advices.specs.Received.{ordered_of, received_of}
 use Rattle.advices.specs.Spelled.{IsSpelled}
 use Rattle.advices.specs.Transfer.{transfer_fields}
-use Rattle.advices.specs.Valid.{CameFrom, CoverReads, CoverStands, IsTabled, PassReads, TransferReads, TransferStands, amount_of}
+use Rattle.advices.specs.Valid.{CameFrom, CoverReads, IsTabled, PassReads, TransferReads, amount_of}
 use Rattle.advices.proofs.laws.Covers.{cover-fields-pass, cover-parted}
 use Rattle.advices.proofs.laws.Made.{ours-read}
 use Rattle.advices.proofs.laws.Orders.{moved, ordered-spelled, received-cut}
@@ -84,24 +84,6 @@ cover-tests t pay m text same said = rw (← same) (said.tests)
 
 cover-read : (t : Tables) (pay : Pay) (m : Mt202Cov) (text : List ℕ) → text ≡ pay.text → Say tests_202 mt202cov_of t text m → mt202cov_of t (fields_of pay.text) ≡ Ok m
 cover-read t pay m text same said = subst (λ (bs : List ℕ). mt202cov_of t (fields_of bs) ≡ Ok m) same said.says
-
-pub transfer-stands : TransferStands
-transfer-stands t chart pay envelope text m place k to skip via came small few via_is =
-    let l = legs t chart pay (message.Transfer envelope text m) came in
-    let g = given t pay (message.Transfer envelope text m) came.received in
-    let kept = came.received.kept in
-    rw (l.of_own, l.of_sent)
-    (transfer-fields-pass t (received_of pay) (fields_of pay.text) kept.0 g.fields (transfer-tests t pay m text kept.1 came.received.said) (received-cut pay came.shape).sender came.sender
-    (ours place k) (ours-read place k small few 20) (value_of_pay pay l.sent) l.value (ordered_of (received_of pay) l.own) l.spelled l.tabled skip via via_is)
-
-pub cover-stands : CoverStands
-cover-stands t chart pay envelope text m place k to end skip came small few end_is end_known =
-    let l = legs t chart pay (message.Transfer envelope text m) came in
-    let g = given t pay (message.Transfer envelope text m) came.received in
-    let kept = came.received.kept in
-    rw (l.of_own, l.of_sent)
-    (cover-fields-pass t (received_of pay) (fields_of pay.text) kept.0 g.fields (transfer-tests t pay m text kept.1 came.received.said) (received-cut pay came.shape).sender came.sender
-    (ours place k) (ours place 1) (ours-read place k small few 20) (ours-read place 1 small (omega arith) 21) (value_of_pay pay l.sent) l.value (ordered_of (received_of pay) l.own) l.spelled l.tabled end end_is end_known skip)
 
 -- ---- they are read, and break no rule
 

@@ -39,7 +39,7 @@ places-append order free [] ys e = refl
 places-append order free (x ∷ xs) ys e = go (λ k h. places-append order (free_after order k) xs ys h) (place_from order free x) e
   where
     go : ((k : ℕ) → length (places_from order (free_after order k) xs) ≡ length xs
-          → places_from order (free_after order k) (xs ++ ys) ≡ places_from order (free_after order k) xs ++ places_from order (free_behind order (free_after order k) (places_from order (free_after order k) xs)) ys)
+        → places_from order (free_after order k) (xs ++ ys) ≡ places_from order (free_after order k) xs ++ places_from order (free_behind order (free_after order k) (places_from order (free_after order k) xs)) ys)
         → (o : Option ℕ) → length (from_place (λ k. places_from order (free_after order k) xs) o) ≡ length (x ∷ xs)
         → from_place (λ k. places_from order (free_after order k) (xs ++ ys)) o
         ≡ from_place (λ k. places_from order (free_after order k) xs) o ++ places_from order (free_behind order free (from_place (λ k. places_from order (free_after order k) xs) o)) ys
