@@ -15,4 +15,15 @@ pub mod Seats
 pub mod Transfers
 pub mod Covers
 pub mod Ordered
+pub mod Said
+pub mod Instructions
+pub mod TransferSays
+pub mod TransferRules
+pub mod SentTransfer
+pub mod CoverSays
+pub mod SentCover
+pub mod Sequences
+pub mod CoverHalves
+pub mod Passes
 pub mod Onward
+pub mod Accepted

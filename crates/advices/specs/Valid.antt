@@ -1,5 +1,6 @@
 -- What is sent of an entry passes the tests of its type, under the tables under which the received message passed its own.
-use Rattle.std.specs.Prelude.{◌≡◌, ℕ, ◌≤◌, true, false, List, Option, Some, None, IfSome, Ok, codes, find, length}
+use Rattle.std.specs.Prelude.{◌≡◌, ℕ, ◌≤◌, true, false, List, Option, Some, None, IfSome, Ok, length}
+use Rattle.std.specs.List.{All}
 use Rattle.corr_text.specs.First.{first_of}
 use Rattle.corr_ids.specs.Address.{bank_of}
 use Rattle.corr_ids.specs.Mir.{sender_of}
@@ -8,38 +9,30 @@ use Rattle.corr_ids.specs.declared.bic.Bic.{Bic}
 use Rattle.corr_ids.specs.declared.envelope.Envelope.{Envelope}
 use Rattle.corr_money.specs.declared.amount.Amount.{Amount}
 use Rattle.ref_tables.specs.Seen.{Tables, decimals_in, has_head}
-use Rattle.fin_fields.specs.declared.field.Field.{Field}
-use Rattle.fin_contents.specs.declared.value.Value.{Value}
-use Rattle.fin_contents.specs.Money.{is_metal, value_of}
-use Rattle.fin_contents.specs.Plain.{reference_of}
-use Rattle.fin_contents.specs.Writing.{line_field, value_field}
+use Rattle.fin_contents.specs.Money.{is_metal}
 use Rattle.fin_message.specs.Sound.{IsSaid, KeepsRules}
+use Rattle.fin_message.specs.Verdict.{sent_verdict_of}
 use Rattle.fin_message.specs.declared.message.Message.{Message}
 use Rattle.fin_message.specs.declared.message.Message.TheVariants as message
-use Rattle.mt103.specs.Message.{field_tests as tests_103}
+use Rattle.mt103.specs.Message.{mt103_of}
 use Rattle.mt103.specs.declared.message.Mt103.{Mt103}
-use Rattle.mt202cov.specs.Message.{field_tests as tests_202}
+use Rattle.mt103_rules.specs.Rules.{all_rules as rules_103}
+use Rattle.mt202cov.specs.Message.{mt202cov_of}
 use Rattle.mt202cov.specs.declared.message.Mt202Cov.{Mt202Cov}
 use Rattle.mt9_advice.specs.Advice.{mt900_of, mt910_of, tests_900, tests_910}
 use Rattle.mt9_advice.specs.declared.credit.Mt910.{Mt910}
 use Rattle.mt9_advice.specs.declared.debit.Mt900.{Mt900}
 use Rattle.day_model.specs.Chart.{Chart, IsChart}
 use Rattle.day_model.specs.Fit.{FitsAccounts}
-use Rattle.day_model.specs.Log.{most_entries}
 use Rattle.day_model.specs.Shape.{HasShape, IsNumbered}
 use Rattle.day_model.specs.declared.account.Account.{Account}
 use Rattle.day_model.specs.declared.pay.Mt.TheVariants.{Transfer, Cover}
+use Rattle.day_model.specs.declared.pay.Order.{Order}
 use Rattle.day_model.specs.declared.pay.Order.TheVariants as order
 use Rattle.day_model.specs.declared.pay.Pay.{Pay}
 use Rattle.day_model.specs.declared.pay.Skip.{Skip}
-use Rattle.advices.specs.declared.received.Received.{Received}
-use Rattle.advices.specs.Cover.{cover_fields}
-use Rattle.advices.specs.Fields.{is_named}
 use Rattle.advices.specs.Legs.{leg_account}
 use Rattle.advices.specs.Messages.{order_fields}
-use Rattle.advices.specs.Received.{ordered_of}
-use Rattle.advices.specs.Spelled.{IsSpelled}
-use Rattle.advices.specs.Transfer.{transfer_fields}
 
 -- the tables hold an amount's currency with its decimals, and it is no precious metal
 pub record IsTabled (t : Tables) (a : Amount) : Type 0 where
@@ -91,7 +84,7 @@ pub record CameFrom (t : Tables) (chart : Chart) (pay : Pay) (m : Message) : Typ
 -- MT900 is read of them; it has no rules
 abbrev pub DebitPasses : Type 0
 DebitPasses =
-    (t : Tables) (chart : Chart) (pay : Pay) (m : Message) (place k leg : ℕ) (to : Bic) → CameFrom t chart pay m → place ≤ most_entries → k ≤ 255 → IsNumbered (length pay.legs) leg
+    (t : Tables) (chart : Chart) (pay : Pay) (m : Message) (place k leg : ℕ) (to : Bic) → CameFrom t chart pay m → place ≤ 100000 → k ≤ 255 → IsNumbered (length pay.legs) leg
     → (first_of (tests_900 t (order_fields chart pay place k (order.Debit to leg))) ≡ None)
     × ((advice : Mt900) × (mt900_of t (order_fields chart pay place k (order.Debit to leg)) ≡ Ok advice))
 
@@ -100,42 +93,52 @@ DebitPasses =
 abbrev pub CreditPasses : Type 0
 CreditPasses =
     (t : Tables) (chart : Chart) (pay : Pay) (envelope : Envelope) (text : List ℕ) (cover : Mt202Cov) (place k leg : ℕ) (to : Bic) → CameFrom t chart pay (message.Cover envelope text cover)
-    → place ≤ most_entries → k ≤ 255 → IsNumbered (length pay.legs) leg
+    → place ≤ 100000 → k ≤ 255 → IsNumbered (length pay.legs) leg
     → (first_of (tests_910 t (order_fields chart pay place k (order.Credit to leg))) ≡ None)
     × ((advice : Mt910) × (mt910_of t (order_fields chart pay place k (order.Credit to leg)) ≡ Ok advice))
 
--- a transfer that is sent: its fields stand in their order, none is missing, and each content passes its test, where what was
--- ordered is of a currency of the tables
-abbrev pub TransferFieldsPass : Type 0
-TransferFieldsPass =
-    (t : Tables) (r : Received) (fs : List Field) → r.mt ≡ Transfer → r.fields ≡ fs → first_of (tests_103 t fs) ≡ None → IsBic r.sender → has_head t r.sender.head ≡ true
-    → (reference : List ℕ) → reference_of (line_field 20 None reference) ≡ Ok reference → (v : Value) → value_of t (value_field v) ≡ Ok v
-    → (ordered : Amount) → IsSpelled ordered → IsTabled t ordered → (skip : Skip) (via : Option Bic) → IfSome via (λ b. IsBic b × (has_head t b.head ≡ true))
-    → first_of (tests_103 t (transfer_fields r reference v ordered skip via)) ≡ None
-
--- the cover of a transfer: the same, where the tables hold the head of the bank that the cover is for
-abbrev pub CoverFieldsPass : Type 0
-CoverFieldsPass =
-    (t : Tables) (r : Received) (fs : List Field) → r.mt ≡ Transfer → r.fields ≡ fs → first_of (tests_103 t fs) ≡ None → IsBic r.sender → has_head t r.sender.head ≡ true
-    → (reference related : List ℕ) → reference_of (line_field 20 None reference) ≡ Ok reference → reference_of (line_field 21 None related) ≡ Ok related → (v : Value) → value_of t (value_field v) ≡ Ok v
-    → (ordered : Amount) → IsSpelled ordered → IsTabled t ordered → (end : Bic) → IsBic end → has_head t end.head ≡ true → (skip : Skip)
-    → first_of (tests_202 t (cover_fields r reference related v ordered end skip)) ≡ None
-
--- what was ordered is of a currency of the tables, with its decimals, where the first 32A reads as a value and the account has the
--- decimals of that value
-abbrev pub OrderedIsTabled : Type 0
-OrderedIsTabled =
-    (t : Tables) (r : Received) (own : Amount) (f : Field) (v : Value) → find (is_named 32 (codes "A")) r.fields ≡ Some f → value_of t f ≡ Ok v → own.decimals ≡ v.amount.decimals
-    → IsTabled t own → IsTabled t (ordered_of r own)
-
--- so the transfer that a pay asks for, which came from a transfer, under the premises of the notices
-abbrev pub TransferStands : Type 0
-TransferStands =
+-- the transfer that a pay asks for which came from a transfer: it is read of its fields, whatever is left out, and breaks no rule
+-- between any two banks
+abbrev pub TransferReads : Type 0
+TransferReads =
     (t : Tables) (chart : Chart) (pay : Pay) (envelope : Envelope) (text : List ℕ) (m : Mt103) (place k : ℕ) (to : Bic) (skip : Skip) (via : Option Bic) → CameFrom t chart pay (message.Transfer envelope text m)
-    → place ≤ most_entries → k ≤ 255 → IfSome via (λ b. IsBic b × (has_head t b.head ≡ true)) → first_of (tests_103 t (order_fields chart pay place k (order.Transfer to skip via))) ≡ None
+    → place ≤ 100000 → k ≤ 255 → IfSome via (λ b. IsBic b × (has_head t b.head ≡ true)) → (sender receiver : Bic)
+    → (sent : Mt103) × (mt103_of t (order_fields chart pay place k (order.Transfer to skip via)) ≡ Ok sent) × (first_of (rules_103 sender receiver t sent) ≡ None)
 
--- and its cover
-abbrev pub CoverStands : Type 0
-CoverStands =
+-- its cover is read of its fields, which asks for its rules too
+abbrev pub CoverReads : Type 0
+CoverReads =
     (t : Tables) (chart : Chart) (pay : Pay) (envelope : Envelope) (text : List ℕ) (m : Mt103) (place k : ℕ) (to end : Bic) (skip : Skip) → CameFrom t chart pay (message.Transfer envelope text m)
-    → place ≤ most_entries → k ≤ 255 → IsBic end → has_head t end.head ≡ true → first_of (tests_202 t (order_fields chart pay place k (order.Cover to end skip))) ≡ None
+    → place ≤ 100000 → k ≤ 255 → IsBic end → has_head t end.head ≡ true → (sent : Mt202Cov) × (mt202cov_of t (order_fields chart pay place k (order.Cover to end skip)) ≡ Ok sent)
+
+-- and so is a cover that is passed on, where the pay came from a cover
+abbrev pub PassReads : Type 0
+PassReads =
+    (t : Tables) (chart : Chart) (pay : Pay) (envelope : Envelope) (text : List ℕ) (m : Mt202Cov) (place k : ℕ) (to : Bic) (skip : Skip) → CameFrom t chart pay (message.Cover envelope text m)
+    → place ≤ 100000 → k ≤ 255 → (sent : Mt202Cov) × (mt202cov_of t (order_fields chart pay place k (order.Pass to skip)) ≡ Ok sent)
+
+-- ---- whole messages
+
+-- the tables hold the head of a bank
+abbrev pub IsKnown : Tables → Bic → Type 0
+IsKnown t b = has_head t b.head ≡ true
+
+-- an order that a message may ask for, at banks whose heads the tables hold: a transfer asks for transfers and their covers, a
+-- cover is passed on or told to the bank that it credits, and both are told to the bank that is debited
+abbrev pub Asks : Tables → Message → Order → Type 0
+Asks t (message.Transfer envelope text m) (order.Transfer to skip via) = IsKnown t to × IfSome via (IsKnown t)
+Asks t (message.Transfer envelope text m) (order.Cover to end skip) = IsKnown t to × IsKnown t end
+Asks t (message.Transfer envelope text m) (order.Debit to leg) = IsKnown t to
+Asks t (message.Cover envelope text m) (order.Pass to skip) = IsKnown t to
+Asks t (message.Cover envelope text m) (order.Debit to leg) = IsKnown t to
+Asks t (message.Cover envelope text m) (order.Credit to leg) = IsKnown t to
+Asks t _ _ = ⊥
+
+-- a text that passes the tests of a message which the home bank sends
+abbrev pub IsAccepted : Bic → Tables → List ℕ → Type 0
+IsAccepted home t text = (said : Message) × (sent_verdict_of home t text ≡ Ok said)
+
+-- the messages that are sent of a pay: under tables under which it came from a message that asks for its orders, each is
+-- accepted
+abbrev pub AreAccepted : Chart → Pay → List (List ℕ) → Type 0
+AreAccepted chart pay texts = (t : Tables) (m : Message) → CameFrom t chart pay m → All (Asks t m) pay.orders → All (IsAccepted chart.home t) texts

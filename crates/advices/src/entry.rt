@@ -8,9 +8,9 @@ ghost use Rattle.day_model.specs.Chart.{IsChart};
 ghost use Rattle.day_model.specs.Fit.{FitsAccounts};
 ghost use Rattle.day_model.specs.Shape.{HasShape, IsOrder};
 ghost use Rattle.fin_fields.specs.Writing.{IsField};
-ghost use Rattle.advices.specs.Messages.{message_of, messages_from, messages_of, order_fields};
+ghost use Rattle.advices.specs.Messages.{AllReadBack, OrderReadsBack, message_of, messages_from, messages_of, order_fields};
 ghost use Rattle.advices.specs.Received.{received_of};
-ghost use Rattle.day_model.specs.Log.{most_entries};
+ghost use Rattle.advices.specs.Valid.{AreAccepted};
 
 use crate::advice::{credit_fields, debit_fields};
 use crate::cover::cover_fields;
@@ -110,9 +110,10 @@ fn message(
     requires shape { HasShape pay.now }
     requires same { received.now ≡ received_of pay.now }
     requires order { IsOrder (length pay.now.legs) order.now }
-    requires place { place ≤ most_entries }
+    requires place { place ≤ 100000 }
     requires k { k ≤ 255 }
-    ensures { IfOk result (λ text. text ≡ message_of a.now pay.now place k order.now) }
+    ensures value { IfOk result (λ text. text ≡ message_of a.now pay.now place k order.now) }
+    ensures back { OnOk result (OrderReadsBack a.now pay.now place k order.now) }
 {
     let fields = order_fields(alloc, a, pay, received, place, k, *order)?;
     let user = user_of(alloc, &pay.uetr, *order)?;
@@ -132,8 +133,9 @@ fn messages(alloc: Global, a: &Accounts, pay: &Pay, place: u32) -> Result<List<T
     requires home { IsBic a.now.home }
     requires fits { FitsAccounts a.now pay.now }
     requires shape { HasShape pay.now }
-    requires place { place ≤ most_entries }
-    ensures { IfOk result (λ texts. texts ≡ messages_from a.now pay.now place 1 pay.now.orders) }
+    requires place { place ≤ 100000 }
+    ensures value { IfOk result (λ texts. texts ≡ messages_from a.now pay.now place 1 pay.now.orders) }
+    ensures back { OnOk result (AllReadBack a.now pay.now place 1 pay.now.orders) }
 {
     let received = received_of(alloc, pay)?;
     let mut texts = List::new(alloc);
@@ -148,13 +150,18 @@ fn messages(alloc: Global, a: &Accounts, pay: &Pay, place: u32) -> Result<List<T
 /// The messages that are sent of the entry at a place: those of a booked entry in the order of its orders, none of an
 /// unfunded one (docs/messages.md, "What is sent when"). Want of memory is the only error.
 ///
+/// Each text is `accepted`: under tables under which the pay came from a message that passes its tests, whose 32A has the
+/// currency and decimals of the accounts and which asks for these orders at banks that the tables hold, it passes the tests of
+/// a sent message.
+///
 /// The pay fits the accounts and has the shape of one that can be written down; the home BIC meets its grammar.
 pub fn orders(alloc: Global, a: &Accounts, e: &Entry, place: u32) -> Result<List<Text>, Memory>
     requires home { IsBic a.now.home }
     requires fits { FitsAccounts a.now e.now.pay }
     requires shape { HasShape e.now.pay }
-    requires place { IsInRange 1 most_entries place }
-    ensures { IfOk result (λ texts. texts ≡ messages_of a.now e.now place) }
+    requires place { IsInRange 1 100000 place }
+    ensures value { IfOk result (λ texts. texts ≡ messages_of a.now e.now place) }
+    ensures accepted { IfOk result (λ texts. AreAccepted a.now e.now.pay texts) }
 {
     match e.outcome {
         Outcome::Booked => messages(alloc, a, &e.pay, place),

@@ -16,4 +16,4 @@ mod sending;
 mod transfer;
 
 pub use entry::orders;
-pub use law::{sent_fields_pass, sent_messages_pass, sent_onward_stand};
+pub use law::{sent_messages_pass, sent_onward_reads};

@@ -5,7 +5,7 @@ ghost use Rattle.corr_ids.specs.Bic.{IsBic};
 ghost use Rattle.corr_ids.specs.Uetr.{IsUetr};
 ghost use Rattle.fin_blocks.specs.Sending.{IsText, are_subblocks, sent_text};
 ghost use Rattle.fin_fields.specs.Writing.{IsField, fields_text};
-ghost use Rattle.advices.specs.Messages.{receiver_of, type_of, uetr_block, user_of};
+ghost use Rattle.advices.specs.Messages.{ReadsBack, receiver_of, type_of, uetr_block, user_of};
 ghost use Rattle.day_model.specs.Shape.{IsOrder};
 
 use corr_ids::{Bic, Uetr};
@@ -70,7 +70,7 @@ pub fn user_of(
     Ok(user)
 }
 
-/// A message of these blocks and fields.
+/// A message of these blocks and fields, which is read into them again.
 pub fn put_message(
     alloc: Global,
     home: &Bic,
@@ -85,7 +85,8 @@ pub fn put_message(
     requires user { IsTrue (are_subblocks user.now) }
     requires some { fields.now ≢ [] }
     requires fit { All IsField fields.now }
-    ensures { IfOk result (λ text. text ≡ sent_text home.now mt to.now user.now (fields_text fields.now)) }
+    ensures value { IfOk result (λ text. text ≡ sent_text home.now mt to.now user.now (fields_text fields.now)) }
+    ensures back { OnOk result (ReadsBack home.now mt to.now user.now fields.now) }
 {
     let text = put_fields(alloc, fields)?;
     put_blocks(alloc, home, mt, to, user, text.bytes())

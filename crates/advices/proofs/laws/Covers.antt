@@ -36,12 +36,12 @@ use Rattle.advices.specs.Valid.{IsTabled}
 use Rattle.advices.proofs.laws.Banks.{bank-read, ordering-of-transfer}
 use Rattle.advices.proofs.laws.Copies.{SaysNamed, each-says, found-each}
 use Rattle.advices.proofs.laws.Finding.{must-copy}
-use Rattle.advices.proofs.laws.Fitted.{covers, fitted, Fine}
+use Rattle.advices.proofs.laws.Fitted.{Fine, Parted, covers, parted-pass}
 use Rattle.advices.proofs.laws.Seats.{Seated, copy-seated, none-seated, one-seated, seated-56, seated-57}
 use Rattle.advices.proofs.laws.Values.{ordered-made}
 
 -- a place, where one must be given
-abbrev row : Place
+abbrev pub row : Place
 row = may 72 bare
 
 form-58 : form_of 58 (Some 65) ≡ Some BankA
@@ -65,6 +65,11 @@ long-of tag letters fs f e = rw e (omega arith)
 -- the places up to 50a are behind it
 free-11 : free_after order_202 11 ≡ 12
 free-11 = refl
+
+-- the fields of each place of a cover that is sent for a transfer, with this 52a
+abbrev pub cover_segs : List Field → List ℕ → List ℕ → Value → Amount → Bic → Skip → Field → List (List Field)
+cover_segs fs reference related v ordered end skip f52 =
+    (line_field 20 None reference ∷ []) ∷ (line_field 21 None related ∷ []) ∷ [] ∷ (value_field v ∷ []) ∷ [] ∷ [] ∷ [] ∷ [] ∷ [] ∷ (bank_field 58 end ∷ []) ∷ [] ∷ (copied 50 (codes "AFK") fs) ∷ (f52 ∷ []) ∷ (intermediary skip fs) ∷ (account_bank skip fs) ∷ (copied 59 (codes " AF") fs) ∷ (copied 70 (codes " ") fs) ∷ (copied 72 (codes " ") fs) ∷ (ordered_amount ordered fs) ∷ []
 
 module _ (t : Tables) (r : Received) (fs : List Field) (mt : r.mt ≡ Transfer) (same : r.fields ≡ fs) (none : first_of (tests_103 t fs) ≡ None) (sender : IsBic r.sender) (known : has_head t r.sender.head ≡ true)
     (reference related : List ℕ) (one : reference_of (line_field 20 None reference) ≡ Ok reference) (two : reference_of (line_field 21 None related) ≡ Ok related) (v : Value) (four : value_of t (value_field v) ≡ Ok v)
@@ -117,9 +122,8 @@ module _ (t : Tables) (r : Received) (fs : List Field) (mt : r.mt ≡ Transfer) 
       (found-each (SaysNamed 33 (codes "B") (ccy_amount_of t)) (is_named 33 (codes "B")) fs (each-says order_103 (content_103 t) fs none 33 (codes "B") (6 ∷ []) (ccy_amount_of t) refl ((λ f. refl), tt)))
 
   module _ (f52 : Field) (bank : Party) (is_52 : is_named 52 (codes "AD") f52 ≡ true) (says_52 : known_party_of t f52 ≡ Ok bank) where
-    -- the fields of each place
     abbrev segs : List (List Field)
-    segs = (line_field 20 None reference ∷ []) ∷ (line_field 21 None related ∷ []) ∷ [] ∷ (value_field v ∷ []) ∷ [] ∷ [] ∷ [] ∷ [] ∷ [] ∷ (bank_field 58 end ∷ []) ∷ [] ∷ (copied 50 (codes "AFK") fs) ∷ (f52 ∷ []) ∷ (intermediary skip fs) ∷ (account_bank skip fs) ∷ (copied 59 (codes " AF") fs) ∷ (copied 70 (codes " ") fs) ∷ (copied 72 (codes " ") fs) ∷ (ordered_amount ordered fs) ∷ []
+    segs = cover_segs fs reference related v ordered end skip f52
 
     placed : Segments order_202 0 0 segs
     placed =
@@ -135,15 +139,21 @@ module _ (t : Tables) (r : Received) (fs : List Field) (mt : r.mt ≡ Transfer) 
         let payee = must-copy order_103 (content_103 t) fs none 59 (codes " AF") 15 refl (known_party_of t) _ (λ f. refl) refl refl in
         rw (there-of 50 (codes "AFK") fs payer.0 payer.2, there-of 59 (codes " AF") fs payee.0 payee.2) refl
 
-    segs-pass : first_of (field_tests t (joined segs)) ≡ None
-    segs-pass = fitted order_202 row (content_test t) segs placed whole fine
-
   -- the fields that are sent are these
   sent-fields : (f52 : Field) (bank : Party) (is_52 : is_named 52 (codes "AD") f52 ≡ true) (says_52 : known_party_of t f52 ≡ Ok bank) → ordering r ≡ f52 ∷ [] → cover_fields r reference related v ordered end skip ≡ joined (segs f52 bank is_52 says_52)
   unfolding cover_fields
   sent-fields f52 bank is_52 says_52 e = rw (e, same) refl
 
+  -- place by place
+  pub cover-parted : (f52 : Field) × Parted order_202 (content_test t) (cover_fields r reference related v ordered end skip) (cover_segs fs reference related v ordered end skip f52) × (covers order_202 (cover_segs fs reference related v ordered end skip f52) ≡ true)
+  cover-parted =
+      let b = ordering-of-transfer t r fs mt same none sender known in (
+        b.field,
+        record { same = sent-fields b.field b.bank b.named b.says b.same; placed = placed b.field b.bank b.named b.says; fine = fine b.field b.bank b.named b.says },
+        whole b.field b.bank b.named b.says,
+      )
+
   pub cover-fields-pass : first_of (field_tests t (cover_fields r reference related v ordered end skip)) ≡ None
   cover-fields-pass =
-      let bank = ordering-of-transfer t r fs mt same none sender known in
-      rw (sent-fields bank.field bank.bank bank.named bank.says bank.same) (segs-pass bank.field bank.bank bank.named bank.says)
+      let p = cover-parted in
+      parted-pass order_202 row (content_test t) (cover_fields r reference related v ordered end skip) (cover_segs fs reference related v ordered end skip p.0) p.1 p.2

@@ -76,7 +76,7 @@ apart-named tag letters p f is fit =
         not-true (list_any (λ letter. letter == letter_of f) letters) none
 
 -- a field at a place of the order has the name just where the place is that of the name
-told-at : (tag : ℕ) (letters : List ℕ) (k j q : ℕ) (order : List Place) (f : Field) → tells_from tag letters k j order ≡ true → ((d : Place) → fits (get_or order q d) f ≡ true)
+pub told-at : (tag : ℕ) (letters : List ℕ) (k j q : ℕ) (order : List Place) (f : Field) → tells_from tag letters k j order ≡ true → ((d : Place) → fits (get_or order q d) f ≡ true)
     → is_named tag letters f ≡ (j + q == k)
 told-at tag letters k j q [] f tells fit =
     absurd (cc (and-both (f.tag == f.tag) false (fit (record { tag = f.tag; options = []; many = false; must = false }))).1)
@@ -113,7 +113,7 @@ agree tag letters k order found fs tells h =
 abbrev pub field_of : ℕ × Field → Field
 field_of x = x.1
 
-same-field : (o : Option (ℕ × Field)) → option_map field_of o ≡ option_map field_of (option_map (shifted 1) o)
+pub same-field : (o : Option (ℕ × Field)) → option_map field_of o ≡ option_map field_of (option_map (shifted 1) o)
 same-field None = refl
 same-field (Some x) = refl
 

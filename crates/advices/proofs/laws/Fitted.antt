@@ -39,7 +39,7 @@ unfolding contents_from
 place-fine test whole j i [] rest found all later = later i
 place-fine test whole j i (f ∷ s) rest found all later = rw (all.0) (place-fine test whole j (i + 1) s rest found all.1 later)
 
-contents-fine : (test : ℕ → Field → Option Code) (whole : List Field) (j i : ℕ) (segs : List (List Field)) → Fine test j segs → first_of (contents_from test whole i (places_of j segs) (joined segs)) ≡ None
+pub contents-fine : (test : ℕ → Field → Option Code) (whole : List Field) (j i : ℕ) (segs : List (List Field)) → Fine test j segs → first_of (contents_from test whole i (places_of j segs) (joined segs)) ≡ None
 unfolding contents_from
 contents-fine test whole j i [] h = refl
 contents-fine test whole j i (s ∷ ss) h = place-fine test whole j i s (joined ss) (places_of (j + 1) ss) h.0 (λ n. contents-fine test whole (j + 1) n ss h.1)
@@ -94,6 +94,15 @@ fitted order d test segs placed whole fine =
     all-pass order test (joined segs) (places_of 0 segs) (grouped-places order d 0 0 0 segs (omega arith) (omega arith) placed) (length-places_of 0 segs)
     (none-missing (places_of 0 segs) 0 order segs (λ i f more e. grouped-taken segs 0 i f more e) whole)
     (contents-fine test (joined segs) 0 0 segs fine)
+
+-- fields that are sent, by their places: those of each place stand there, and each content passes
+pub record Parted (order : List Place) (test : ℕ → Field → Option Code) (sent : List Field) (segs : List (List Field)) : Type 0 where
+  pub same : sent ≡ joined segs
+  pub placed : Segments order 0 0 segs
+  pub fine : Fine test 0 segs
+
+pub parted-pass : (order : List Place) (d : Place) (test : ℕ → Field → Option Code) (sent : List Field) (segs : List (List Field)) → Parted order test sent segs → covers order segs ≡ true → first_of (tests order test sent) ≡ None
+parted-pass order d test sent segs p whole = rw (p.same) (fitted order d test segs p.placed whole p.fine)
 
 -- ---- the place of a field by its name
 

@@ -1,5 +1,5 @@
--- The transfer and the cover that are sent of a pay stand in their order, and each content passes its test.
-use Rattle.std.proofs.Common.{◌≡◌, ℕ, List, length, Some, None, Ok, ap, ◌∙◌, sym, arith}
+-- The transfer and the covers that are sent of a pay are read of their fields, and break no rule.
+use Rattle.std.proofs.Common.{◌≡◌, ℕ, List, length, Some, None, Ok, ap, ◌∙◌, sym, arith, subst}
 use Rattle.std.specs.Prelude.{codes, find}
 use Rattle.corr_money.specs.declared.amount.Amount.{Amount}
 use Rattle.ref_tables.specs.Seen.{Tables}
@@ -11,25 +11,32 @@ use Rattle.fin_message.specs.declared.message.Message.{Message}
 use Rattle.fin_message.specs.declared.message.Message.TheVariants as message
 use Rattle.mt103.specs.Message.{field_tests as tests_103, mt103_of}
 use Rattle.mt103.specs.declared.message.Mt103.{Mt103}
+use Rattle.mt202cov.specs.Message.{field_tests as tests_202, mt202cov_of}
+use Rattle.mt202cov.specs.declared.message.Mt202Cov.{Mt202Cov}
 use Rattle.corr_text.specs.First.{first_of}
 use Rattle.day_model.specs.Chart.{Chart}
 use Rattle.day_model.specs.declared.pay.Pay.{Pay}
 use Rattle.day_model.proofs.laws.Fitting.{transfer, two_legs}
+use Rattle.advices.specs.Cover.{cover_fields}
 use Rattle.advices.specs.Fields.{is_named, ours}
 use Rattle.advices.specs.Legs.{leg_amount, value_of_pay}
 use Rattle.advices.specs.Received.{ordered_of, received_of}
 use Rattle.advices.specs.Spelled.{IsSpelled}
-use Rattle.advices.specs.Valid.{CameFrom, CoverStands, IsTabled, TransferStands, amount_of}
-use Rattle.advices.proofs.laws.Covers.{cover-fields-pass}
+use Rattle.advices.specs.Transfer.{transfer_fields}
+use Rattle.advices.specs.Valid.{CameFrom, CoverReads, IsTabled, PassReads, TransferReads, amount_of}
+use Rattle.advices.proofs.laws.Covers.{cover-fields-pass, cover-parted}
 use Rattle.advices.proofs.laws.Made.{ours-read}
 use Rattle.advices.proofs.laws.Orders.{moved, ordered-spelled, received-cut}
-use Rattle.advices.proofs.laws.Ordered.{ordered-tabled}
+use Rattle.advices.proofs.laws.Ordered.{ordered-ccy, ordered-tabled}
 use Rattle.advices.proofs.laws.Origin.{given, like-tabled}
-use Rattle.advices.proofs.laws.Transfers.{transfer-fields-pass}
-use Rattle.advices.proofs.laws.Values.{value-made}
+use Rattle.advices.proofs.laws.Passes.{pass-fields-read}
+use Rattle.advices.proofs.laws.SentCover.{sent-cover-reads}
+use Rattle.advices.proofs.laws.SentTransfer.{transfer-reads}
+use Rattle.advices.proofs.laws.Transfers.{transfer-fields-pass, transfer-parted}
+use Rattle.advices.proofs.laws.Values.{ordered-made, value-made}
 
 -- what the legs give: the value that is sent on, and what was ordered
-record Legs (t : Tables) (chart : Chart) (pay : Pay) : Type 0 where
+record Legs (t : Tables) (chart : Chart) (pay : Pay) (money : Amount) : Type 0 where
   own : Amount
   sent : Amount
   of_own : leg_amount chart pay 1 ≡ Some own
@@ -37,8 +44,10 @@ record Legs (t : Tables) (chart : Chart) (pay : Pay) : Type 0 where
   value : value_of t (value_field (value_of_pay pay sent)) ≡ Ok (value_of_pay pay sent)
   spelled : IsSpelled (ordered_of (received_of pay) own)
   tabled : IsTabled t (ordered_of (received_of pay) own)
+  ccy : sent.ccy ≡ money.ccy
+  ordered_ccy : (ordered_of (received_of pay) own).ccy ≡ money.ccy
 
-legs : (t : Tables) (chart : Chart) (pay : Pay) (m : Message) → CameFrom t chart pay m → Legs t chart pay
+legs : (t : Tables) (chart : Chart) (pay : Pay) (m : Message) → CameFrom t chart pay m → Legs t chart pay (amount_of m)
 legs t chart pay m came =
     let g = given t pay m came.received in
     let two : length pay.legs ≡ 2 = two_legs chart pay.legs (transfer chart pay.legs came.fits) in
@@ -58,25 +67,69 @@ legs t chart pay m came =
       value = value-made t (value_of_pay pay second.amount) (record { day = came.shape.value; amount = second.spelled }) likes second.above;
       spelled = ordered-spelled (received_of pay) first.amount first.spelled;
       tabled = ordered-tabled t (received_of pay) first.amount g.dated g.value found g.says_32 decimals like;
+      ccy = second.in_ccy ∙ moneys.ccy;
+      ordered_ccy =
+          let same : g.value.amount.ccy ≡ (amount_of m).ccy = ap (λ (a : Amount). a.ccy) g.same in
+          ordered-ccy t (received_of pay) first.amount g.dated g.value found g.says_32 (first.in_ccy ∙ money.ccy ∙ sym same) ∙ same;
     }
 
 transfer-tests : (t : Tables) (pay : Pay) (m : Mt103) (text : List ℕ) → text ≡ pay.text → Say tests_103 mt103_of t text m → first_of (tests_103 t (fields_of pay.text)) ≡ None
 transfer-tests t pay m text same said = rw (← same) (said.tests)
 
-pub transfer-stands : TransferStands
-transfer-stands t chart pay envelope text m place k to skip via came small few via_is =
-    let l = legs t chart pay (message.Transfer envelope text m) came in
-    let g = given t pay (message.Transfer envelope text m) came.received in
-    let kept = came.received.kept in
-    rw (l.of_own, l.of_sent)
-    (transfer-fields-pass t (received_of pay) (fields_of pay.text) kept.0 g.fields (transfer-tests t pay m text kept.1 came.received.said) (received-cut pay came.shape).sender came.sender
-    (ours place k) (ours-read place k small few 20) (value_of_pay pay l.sent) l.value (ordered_of (received_of pay) l.own) l.spelled l.tabled skip via via_is)
+transfer-read : (t : Tables) (pay : Pay) (m : Mt103) (text : List ℕ) → text ≡ pay.text → Say tests_103 mt103_of t text m → mt103_of t (fields_of pay.text) ≡ Ok m
+transfer-read t pay m text same said = subst (λ (bs : List ℕ). mt103_of t (fields_of bs) ≡ Ok m) same said.says
 
-pub cover-stands : CoverStands
-cover-stands t chart pay envelope text m place k to end skip came small few end_is end_known =
+cover-tests : (t : Tables) (pay : Pay) (m : Mt202Cov) (text : List ℕ) → text ≡ pay.text → Say tests_202 mt202cov_of t text m → first_of (tests_202 t (fields_of pay.text)) ≡ None
+cover-tests t pay m text same said = rw (← same) (said.tests)
+
+cover-read : (t : Tables) (pay : Pay) (m : Mt202Cov) (text : List ℕ) → text ≡ pay.text → Say tests_202 mt202cov_of t text m → mt202cov_of t (fields_of pay.text) ≡ Ok m
+cover-read t pay m text same said = subst (λ (bs : List ℕ). mt202cov_of t (fields_of bs) ≡ Ok m) same said.says
+
+-- ---- they are read, and break no rule
+
+pub transfer-onward : TransferReads
+transfer-onward t chart pay envelope text m place k to skip via came small few via_is sender receiver =
     let l = legs t chart pay (message.Transfer envelope text m) came in
     let g = given t pay (message.Transfer envelope text m) came.received in
     let kept = came.received.kept in
+    let r = received_of pay in
+    let fs = fields_of pay.text in
+    let none = transfer-tests t pay m text kept.1 came.received.said in
+    let is = (received-cut pay came.shape).sender in
+    let one = ours-read place k small few 20 in
+    let v = value_of_pay pay l.sent in
+    let ordered = ordered_of r l.own in
+    let parted = transfer-parted t r fs kept.0 g.fields none is came.sender (ours place k) one v l.value ordered l.spelled l.tabled skip via via_is in
+    let pass = transfer-fields-pass t r fs kept.0 g.fields none is came.sender (ours place k) one v l.value ordered l.spelled l.tabled skip via via_is in
     rw (l.of_own, l.of_sent)
-    (cover-fields-pass t (received_of pay) (fields_of pay.text) kept.0 g.fields (transfer-tests t pay m text kept.1 came.received.said) (received-cut pay came.shape).sender came.sender
-    (ours place k) (ours place 1) (ours-read place k small few 20) (ours-read place 1 small (omega arith) 21) (value_of_pay pay l.sent) l.value (ordered_of (received_of pay) l.own) l.spelled l.tabled end end_is end_known skip)
+    (transfer-reads t fs (ours place k) v ordered skip via parted.0 (transfer_fields r (ours place k) v ordered skip via) none pass parted.1 l.value (ordered-made t 33 ordered l.spelled l.tabled) via_is
+    m (transfer-read t pay m text kept.1 came.received.said) l.ccy l.ordered_ccy envelope.sender envelope.receiver sender receiver came.received.rules)
+
+pub cover-onward : CoverReads
+cover-onward t chart pay envelope text m place k to end skip came small few end_is end_known =
+    let l = legs t chart pay (message.Transfer envelope text m) came in
+    let g = given t pay (message.Transfer envelope text m) came.received in
+    let kept = came.received.kept in
+    let r = received_of pay in
+    let fs = fields_of pay.text in
+    let none = transfer-tests t pay m text kept.1 came.received.said in
+    let is = (received-cut pay came.shape).sender in
+    let one = ours-read place k small few 20 in
+    let two = ours-read place 1 small (omega arith) 21 in
+    let v = value_of_pay pay l.sent in
+    let ordered = ordered_of r l.own in
+    let parted = cover-parted t r fs kept.0 g.fields none is came.sender (ours place k) (ours place 1) one two v l.value ordered l.spelled l.tabled end end_is end_known skip in
+    let pass = cover-fields-pass t r fs kept.0 g.fields none is came.sender (ours place k) (ours place 1) one two v l.value ordered l.spelled l.tabled end end_is end_known skip in
+    rw (l.of_own, l.of_sent)
+    (sent-cover-reads t fs (ours place k) (ours place 1) v ordered end skip parted.0 (cover_fields r (ours place k) (ours place 1) v ordered end skip) none pass parted.1
+    m (transfer-read t pay m text kept.1 came.received.said) envelope.sender envelope.receiver came.received.rules)
+
+pub pass-onward : PassReads
+pass-onward t chart pay envelope text m place k to skip came small few =
+    let l = legs t chart pay (message.Cover envelope text m) came in
+    let g = given t pay (message.Cover envelope text m) came.received in
+    let kept = came.received.kept in
+    let none = cover-tests t pay m text kept.1 came.received.said in
+    let read = cover-read t pay m text kept.1 came.received.said in
+    rw (l.of_sent)
+    (pass-fields-read t (received_of pay) (fields_of pay.text) m kept.0 g.fields none read (received-cut pay came.shape).sender came.sender (ours place k) (ours-read place k small few 20) (value_of_pay pay l.sent) l.value skip)

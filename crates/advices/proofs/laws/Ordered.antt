@@ -4,6 +4,7 @@ use Rattle.std.specs.Prelude.{codes, find, unwrap_or}
 use Rattle.corr_ids.specs.Day.{day_of}
 use Rattle.corr_money.specs.Amounts.{amount_of}
 use Rattle.corr_money.specs.declared.amount.Amount.{Amount}
+use Rattle.corr_money.specs.declared.amount.Ccy.{Ccy}
 use Rattle.corr_money.specs.declared.amount.Minor.{Minor}
 use Rattle.corr_money.specs.declared.fault.AmountFault.{AmountFault}
 use Rattle.ref_tables.specs.Seen.{Tables, decimals_in}
@@ -57,3 +58,20 @@ pub ordered-tabled : (t : Tables) (r : Received) (own : Amount) (f : Field) (v :
 ordered-tabled t r own f v at says same tabled =
     let line = field-line t f v says in
     rw (at, line.1) (of-line t own v line.0 line.2 same (field-tabled t f v says) tabled (is_dated_amount line.0))
+
+-- ---- its currency
+
+module _ (own : Amount) (v : Value) (line : List ℕ) (ccy : v.amount.ccy.0 ≡ take 3 (drop 6 line)) (same : own.ccy ≡ v.amount.ccy) where
+  minor-ccy : (r : Result Minor AmountFault) → (unwrap_or (option_map (λ (minor : Minor). let a : Amount = record { ccy = record { 0 = take 3 (drop 6 line) }; minor = minor; decimals = own.decimals } in a) (minor_if r)) own).ccy ≡ v.amount.ccy
+  minor-ccy (Err fault) = same
+  minor-ccy (Ok minor) = ap (λ (bs : List ℕ). let c : Ccy = record { 0 = bs } in c) (sym ccy)
+
+  line-ccy : (b : Bool) → (unwrap_or (cond b (option_map (λ (minor : Minor). let a : Amount = record { ccy = record { 0 = take 3 (drop 6 line) }; minor = minor; decimals = own.decimals } in a) (minor_if (amount_of own.decimals (drop 9 line)))) None) own).ccy ≡ v.amount.ccy
+  line-ccy false = same
+  line-ccy true = minor-ccy (amount_of own.decimals (drop 9 line))
+
+-- it is that of the first 32A, where the account has it too
+pub ordered-ccy : (t : Tables) (r : Received) (own : Amount) (f : Field) (v : Value) → find (is_named 32 (codes "A")) r.fields ≡ Some f → value_of t f ≡ Ok v → own.ccy ≡ v.amount.ccy → (ordered_of r own).ccy ≡ v.amount.ccy
+ordered-ccy t r own f v at says same =
+    let line = field-line t f v says in
+    rw (at, line.1) (line-ccy own v line.0 line.2 same (is_dated_amount line.0))

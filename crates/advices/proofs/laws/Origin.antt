@@ -161,12 +161,12 @@ pub record Given (t : Tables) (pay : Pay) (a : Amount) : Type 0 where
   pub same : value.amount ≡ a
   pub tabled : IsTabled t a
 
-located-read : {A : Type 0} (fs : List Field) (i : ℕ) (r : Result A Code) (x : A) → located fs i r ≡ Ok x → r ≡ Ok x
+pub located-read : {A : Type 0} (fs : List Field) (i : ℕ) (r : Result A Code) (x : A) → located fs i r ≡ Ok x → r ≡ Ok x
 located-read fs i (Ok y) x e = ap Ok (cc e)
 located-read fs i (Err c) x e = absurd (cc e)
 
 -- the field of a place that was read
-found-read : {A : Type 0} (order : List Place) (fs : List Field) (k : ℕ) (read : Field → Result A Code) (o : Option (ℕ × Field)) (x : A) → must_read order fs k read o ≡ Ok x → (f : Field) × (option_map field_of o ≡ Some f) × (read f ≡ Ok x)
+pub found-read : {A : Type 0} (order : List Place) (fs : List Field) (k : ℕ) (read : Field → Result A Code) (o : Option (ℕ × Field)) (x : A) → must_read order fs k read o ≡ Ok x → (f : Field) × (option_map field_of o ≡ Some f) × (read f ≡ Ok x)
 found-read order fs k read None x e = absurd (cc e)
 found-read order fs k read (Some (n, f)) x e = (f, refl, located-read fs n (read f) x e)
 

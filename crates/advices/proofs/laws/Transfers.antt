@@ -34,15 +34,15 @@ use Rattle.advices.specs.Valid.{IsTabled}
 use Rattle.advices.proofs.laws.Banks.{bank-read, ordering-of-transfer}
 use Rattle.advices.proofs.laws.Copies.{SaysNamed, each-says, found-each}
 use Rattle.advices.proofs.laws.Finding.{must-copy}
-use Rattle.advices.proofs.laws.Fitted.{covers, fitted, Fine}
+use Rattle.advices.proofs.laws.Fitted.{Fine, Parted, covers, parted-pass}
 use Rattle.advices.proofs.laws.Seats.{Seated, all-seated, copy-seated, none-seated, one-seated, seated-56, seated-57}
 use Rattle.advices.proofs.laws.Values.{ordered-made}
 
 -- a place, where one must be given
-abbrev row : Place
+abbrev pub row : Place
 row = may 72 bare
 
-form-53 : form_of 53 (Some 65) ≡ Some BankA
+pub form-53 : form_of 53 (Some 65) ≡ Some BankA
 unfolding form_of
 form-53 = refl
 
@@ -65,6 +65,11 @@ passed-named has_56 has_57 f e = (and-three (is_named 23 (codes "E") f) (has_56 
 
 there-of : (tag : ℕ) (letters : List ℕ) (fs : List Field) (f : Field) → find (is_named tag letters) fs ≡ Some f → is_there (copied tag letters fs) ≡ true
 there-of tag letters fs f e = rw e refl
+
+-- the fields of each place of a transfer that is sent, with this 52a
+abbrev pub transfer_segs : List Field → List ℕ → Value → Amount → Skip → Option Bic → Field → List (List Field)
+transfer_segs fs reference v ordered skip via f52 =
+    (line_field 20 None reference ∷ []) ∷ [] ∷ (copied 23 (codes "B") fs) ∷ (instructions skip fs) ∷ (copied 26 (codes "T") fs) ∷ (value_field v ∷ []) ∷ (ordered_amount ordered fs) ∷ (copied 36 (codes " ") fs) ∷ (copied 50 (codes "AFK") fs) ∷ (f52 ∷ []) ∷ (some_field (bank_field 53) via) ∷ [] ∷ [] ∷ (intermediary skip fs) ∷ (account_bank skip fs) ∷ (copied 59 (codes " AF") fs) ∷ (copied 70 (codes " ") fs) ∷ (copied 71 (codes "A") fs) ∷ (copied_all (is_named 71 (codes "F")) fs) ∷ (copied 71 (codes "G") fs) ∷ (copied 72 (codes " ") fs) ∷ (copied 77 (codes "B") fs) ∷ []
 
 module _ (t : Tables) (r : Received) (fs : List Field) (mt : r.mt ≡ Transfer) (same : r.fields ≡ fs) (none : first_of (field_tests t fs) ≡ None) (sender : IsBic r.sender) (known : has_head t r.sender.head ≡ true)
     (reference : List ℕ) (one : reference_of (line_field 20 None reference) ≡ Ok reference) (v : Value) (four : value_of t (value_field v) ≡ Ok v)
@@ -142,9 +147,8 @@ module _ (t : Tables) (r : Received) (fs : List Field) (mt : r.mt ≡ Transfer) 
   s9 f52 bank named says = one-seated order_103 (content_test t) 0 9 52 (codes "AD") (known_party_of t) (λ f. refl) refl f52 bank named says
 
   module _ (f52 : Field) (bank : Party) (is_52 : is_named 52 (codes "AD") f52 ≡ true) (says_52 : known_party_of t f52 ≡ Ok bank) where
-    -- the fields of each place
     abbrev segs : List (List Field)
-    segs = (line_field 20 None reference ∷ []) ∷ [] ∷ (copied 23 (codes "B") fs) ∷ (instructions skip fs) ∷ (copied 26 (codes "T") fs) ∷ (value_field v ∷ []) ∷ (ordered_amount ordered fs) ∷ (copied 36 (codes " ") fs) ∷ (copied 50 (codes "AFK") fs) ∷ (f52 ∷ []) ∷ (some_field (bank_field 53) via) ∷ [] ∷ [] ∷ (intermediary skip fs) ∷ (account_bank skip fs) ∷ (copied 59 (codes " AF") fs) ∷ (copied 70 (codes " ") fs) ∷ (copied 71 (codes "A") fs) ∷ (copied_all (is_named 71 (codes "F")) fs) ∷ (copied 71 (codes "G") fs) ∷ (copied 72 (codes " ") fs) ∷ (copied 77 (codes "B") fs) ∷ []
+    segs = transfer_segs fs reference v ordered skip via f52
 
     placed : Segments order_103 0 0 segs
     placed = (s0.placed, (0, inl (omega arith), ((none-seated order_103 (content_test t) 0 1).placed, (0, inl (omega arith), (s2.placed, (0, inl (omega arith), (s3.placed, (0, inl (omega arith), (s4.placed, (0, inl (omega arith), (s5.placed, (0, inl (omega arith), (s6.placed, (0, inl (omega arith), (s7.placed, (0, inl (omega arith), (s8.placed, (0, inl (omega arith), ((s9 f52 bank is_52 says_52).placed, (0, inl (omega arith), ((via-seated t via via_is).placed, (0, inl (omega arith), ((none-seated order_103 (content_test t) 0 11).placed, (0, inl (omega arith), ((none-seated order_103 (content_test t) 0 12).placed, (0, inl (omega arith), (s13.placed, (0, inl (omega arith), (s14.placed, (0, inl (omega arith), (s15.placed, (0, inl (omega arith), (s16.placed, (0, inl (omega arith), (s17.placed, (0, inl (omega arith), (s18.placed, (0, inl (omega arith), (s19.placed, (0, inl (omega arith), (s20.placed, (0, inl (omega arith), (s21.placed, (0, inl (omega arith), tt))))))))))))))))))))))))))))))))))))))))))))
@@ -160,15 +164,21 @@ module _ (t : Tables) (r : Received) (fs : List Field) (mt : r.mt ≡ Transfer) 
         let charge = must-copy order_103 (content_test t) fs none 71 (codes "A") 17 refl charge_of _ (λ f. refl) refl refl in
         rw (there-of 23 (codes "B") fs op.0 op.2, there-of 50 (codes "AFK") fs payer.0 payer.2, there-of 59 (codes " AF") fs payee.0 payee.2, there-of 71 (codes "A") fs charge.0 charge.2) refl
 
-    segs-pass : first_of (field_tests t (joined segs)) ≡ None
-    segs-pass = fitted order_103 row (content_test t) segs placed whole fine
-
   -- the fields that are sent are these
   sent-fields : (f52 : Field) (bank : Party) (is_52 : is_named 52 (codes "AD") f52 ≡ true) (says_52 : known_party_of t f52 ≡ Ok bank) → ordering r ≡ f52 ∷ [] → transfer_fields r reference v ordered skip via ≡ joined (segs f52 bank is_52 says_52)
   unfolding transfer_fields
   sent-fields f52 bank is_52 says_52 e = rw (e, same) refl
 
+  -- place by place
+  pub transfer-parted : (f52 : Field) × Parted order_103 (content_test t) (transfer_fields r reference v ordered skip via) (transfer_segs fs reference v ordered skip via f52) × (covers order_103 (transfer_segs fs reference v ordered skip via f52) ≡ true)
+  transfer-parted =
+      let b = ordering-of-transfer t r fs mt same none sender known in (
+        b.field,
+        record { same = sent-fields b.field b.bank b.named b.says b.same; placed = placed b.field b.bank b.named b.says; fine = fine b.field b.bank b.named b.says },
+        whole b.field b.bank b.named b.says,
+      )
+
   pub transfer-fields-pass : first_of (field_tests t (transfer_fields r reference v ordered skip via)) ≡ None
   transfer-fields-pass =
-      let bank = ordering-of-transfer t r fs mt same none sender known in
-      rw (sent-fields bank.field bank.bank bank.named bank.says bank.same) (segs-pass bank.field bank.bank bank.named bank.says)
+      let p = transfer-parted in
+      parted-pass order_103 row (content_test t) (transfer_fields r reference v ordered skip via) (transfer_segs fs reference v ordered skip via p.0) p.1 p.2

@@ -1,0 +1,217 @@
+-- A transfer that is sent on is read of its fields, and breaks no rule.
+use Rattle.std.proofs.Common.{◌≡◌, ℕ, ◌+◌, Bool, true, false, List, [], ◌∷◌, slice_get, Option, Some, None, Result, Ok, refl, sym, ap, ◌∙◌, arith, subst, zero, suc, inl, inr}
+use Rattle.std.specs.Prelude.{codes, filter, find, is_some, IfSome}
+use Rattle.std.specs.List.{AllByRecursion}
+use Rattle.corr_text.specs.First.{first_of}
+use Rattle.corr_text.specs.declared.fault.Code.{Code}
+use Rattle.corr_ids.specs.Bic.{IsBic}
+use Rattle.corr_ids.specs.declared.bic.Bic.{Bic}
+use Rattle.corr_money.specs.declared.amount.Amount.{Amount}
+use Rattle.corr_money.specs.declared.amount.Ccy.{Ccy}
+use Rattle.ref_tables.specs.Seen.{Tables, has_head}
+use Rattle.fin_fields.specs.declared.field.Field.{Field}
+use Rattle.fin_layout.specs.declared.place.Place.{Place}
+use Rattle.fin_layout.specs.Contents.{all_from, in_option}
+use Rattle.fin_layout.specs.Order.{field_in, places_from}
+use Rattle.fin_layout.specs.Segments.{joined, places_of}
+use Rattle.fin_layout.proofs.laws.Fine.{IsTestOf, all-hold, read-none}
+use Rattle.fin_layout.proofs.laws.Grouped.{grouped-places}
+use Rattle.fin_parties.specs.declared.party.Party.{Party}
+use Rattle.fin_parties.specs.declared.party.Party.TheVariants as party
+use Rattle.fin_contents.specs.Money.{ccy_amount_of, rate_of, value_of}
+use Rattle.fin_contents.specs.Parties.{known_party_of}
+use Rattle.fin_contents.specs.Writing.{ccy_amount_field, some_field, value_field}
+use Rattle.fin_contents.specs.declared.value.Value.{Value}
+use Rattle.fin_contents.proofs.laws.Said.{stand}
+use Rattle.mt103.specs.Codes.{charge_of, instr_of, operation_of}
+use Rattle.mt103.specs.Instructions.{d98, e46}
+use Rattle.mt103.specs.Message.{content_test, field_tests, mt103_of}
+use Rattle.mt103.specs.Order.{order_103}
+use Rattle.mt103.specs.declared.instruction.Instr.{Instr}
+use Rattle.mt103.specs.declared.message.Mt103.{Mt103}
+use Rattle.mt103.proofs.laws.Passed.{instructions-pass}
+use Rattle.mt103_rules.specs.Parties.{is_bare_b, is_d}
+use Rattle.mt103_rules.specs.Rules.{all_rules}
+use Rattle.day_model.specs.declared.pay.Skip.{Skip}
+use Rattle.day_model.specs.declared.pay.Skip.TheVariants.{Keep, Mid, Both}
+use Rattle.advices.specs.Fields.{bank_field, copied, copied_all, is_named}
+use Rattle.advices.specs.Transfer.{account_bank, instructions, intermediary, is_there, or_amount, ordered_amount}
+use Rattle.advices.proofs.laws.Banks.{bank-read}
+use Rattle.advices.proofs.laws.Copies.{each-says}
+use Rattle.advices.proofs.laws.Finding.{agree, any-field, copied-at, tells_from}
+use Rattle.advices.proofs.laws.Fitted.{Fine, Parted}
+use Rattle.advices.proofs.laws.Instructions.{staying, stays, together}
+use Rattle.advices.proofs.laws.Origin.{found-read}
+use Rattle.advices.proofs.laws.Said.{Says, all_said, at-group, at_place, chosen-said, first, first-some, group-said, ok_of, option-said, option-there, said, same-option, same-place}
+use Rattle.advices.proofs.laws.TransferRules.{IsOrdered, IsSentOn, kept_56, kept_57, rules-kept}
+use Rattle.advices.proofs.laws.TransferSays.{TransferSays, contents-fine, contents-say, read-fine, read-says}
+use Rattle.advices.proofs.laws.Transfers.{form-53, row, transfer_segs}
+
+-- ---- what stands at the places of what is sent
+
+fine-at : (test : ℕ → Field → Option Code) (j n : ℕ) (segs : List (List Field)) (s : List Field) → Fine test j segs → slice_get segs n ≡ Some s → AllByRecursion (λ f. test (j + n) f ≡ None) s
+fine-at test j n [] s h e = absurd (cc e)
+fine-at test j zero (x ∷ segs) s h e =
+    let same : x ≡ s = cc e in
+    let here : j ≡ j + 0 = omega arith in
+    subst (λ (m : ℕ). AllByRecursion (λ f. test m f ≡ None) s) here (subst (AllByRecursion (λ f. test j f ≡ None)) same h.0)
+fine-at test j (suc n) (x ∷ segs) s h e =
+    let later : j + 1 + n ≡ j + suc n = omega arith in
+    subst (λ (m : ℕ). AllByRecursion (λ f. test m f ≡ None) s) later (fine-at test (j + 1) n segs s h.1 e)
+
+says-each : {A : Type 0} (test : ℕ → Field → Option Code) (n : ℕ) (read : Field → Result A Code) (of : IsTestOf test n read) (s : List Field) → AllByRecursion (λ f. test (0 + n) f ≡ None) s → AllByRecursion (Says read) s
+says-each test n read of [] h = tt
+says-each test n read of (f ∷ s) h =
+    let same : 0 + n ≡ n = omega arith in
+    (read-none (read f) (sym (of f) ∙ subst (λ (m : ℕ). test m f ≡ None) same h.0), says-each test n read of s h.1)
+
+module _ (order : List Place) (d : Place) (test : ℕ → Field → Option Code) (sent : List Field) (segs : List (List Field)) (p : Parted order test sent segs) where
+  places : places_from order 0 (joined segs) ≡ places_of 0 segs
+  places = grouped-places order d 0 0 0 segs (omega arith) (omega arith) p.placed
+
+  -- the first of the group of each place
+  pub parted-at : (n : ℕ) (s : List Field) → slice_get segs n ≡ Some s → at_place sent (places_from order 0 sent) n ≡ first s
+  parted-at n s e = rw (p.same, places) (at-group segs n s e)
+
+  -- all of it
+  pub parted-said : {A : Type 0} (n : ℕ) (s : List Field) (read : Field → Result A Code) (xs : List A) → IsTestOf test n read → slice_get segs n ≡ Some s → all_from sent n read 0 (places_from order 0 sent) sent ≡ Ok xs → xs ≡ all_said read s
+  parted-said n s read xs of e says =
+      group-said read segs n s xs e (says-each test n read of s (fine-at test 0 n segs s p.fine e))
+      (subst (λ (held : List ℕ). all_from (joined segs) n read 0 held (joined segs) ≡ Ok xs) places (subst (λ (fs : List Field). all_from fs n read 0 (places_from order 0 fs) fs ≡ Ok xs) p.same says))
+
+-- ---- single places
+
+pub first-there : (s : List Field) → is_some (first s) ≡ is_there s
+first-there [] = refl
+first-there (f ∷ s) = refl
+
+-- 56a and 57a by what is passed on
+pub first-56 : (read : Field → Result Party Code) (skip : Skip) (fs : List Field) (o : Option Party) → o ≡ said read (find (is_named 56 (codes "ACD")) fs) → said read (first (intermediary skip fs)) ≡ kept_56 skip o
+first-56 read Keep fs o e = ap (said read) (first-some (find (is_named 56 (codes "ACD")) fs)) ∙ sym e
+first-56 read Mid fs o e = refl
+first-56 read Both fs o e = refl
+
+pub first-57 : (read : Field → Result Party Code) (skip : Skip) (fs : List Field) (o : Option Party) → o ≡ said read (find (is_named 57 (codes "ABCD")) fs) → said read (first (account_bank skip fs)) ≡ kept_57 skip o
+first-57 read Keep fs o e = ap (said read) (first-some (find (is_named 57 (codes "ABCD")) fs)) ∙ sym e
+first-57 read Mid fs o e = ap (said read) (first-some (find (is_named 57 (codes "ABCD")) fs)) ∙ sym e
+first-57 read Both fs o e = refl
+
+-- the bank that covers it is named by its BIC
+via-said : (t : Tables) (via : Option Bic) (x : Option Party) → IfSome via (λ b. IsBic b × (has_head t b.head ≡ true)) → x ≡ said (known_party_of t) (first (some_field (bank_field 53) via)) → (is_d x ≡ false) × (is_bare_b x ≡ false)
+via-said t None x is e = rw e (refl, refl)
+via-said t (Some b) x is e =
+    let same : x ≡ Some (party.A None b) = e ∙ ap (λ (r : Result Party Code). ok_of r) (bank-read t 53 b form-53 is.0 is.1) in
+    rw same (refl, refl)
+
+-- 33B as it came, or what was ordered
+ordered-on : (t : Tables) (a : Amount) (ccy : Ccy) (o : Option Field) (came sent : Option Amount) → a.ccy ≡ ccy → ccy_amount_of t (ccy_amount_field 33 (Some 66) a) ≡ Ok a → came ≡ said (ccy_amount_of t) o → is_some came ≡ is_some o
+    → sent ≡ said (ccy_amount_of t) (first (or_amount a (some_field (λ f. f) o))) → IsOrdered ccy came sent
+ordered-on t a ccy None came sent in_ccy made c some e = record { amount = a; there = e ∙ ap (λ (r : Result Amount Code). ok_of r) made; same = inr (c, in_ccy) }
+ordered-on t a ccy (Some f) came sent in_ccy made c some e = go came refl some
+  where
+    go : (x : Option Amount) → came ≡ x → is_some x ≡ true → IsOrdered ccy came sent
+    go None h is = absurd (cc is)
+    go (Some b) h is = record { amount = b; there = e ∙ sym c ∙ h; same = inl h }
+
+-- ---- the whole
+
+module _ (t : Tables) (fs : List Field) (reference : List ℕ) (v : Value) (ordered : Amount) (skip : Skip) (via : Option Bic) (f52 : Field) (sent : List Field)
+    (none : first_of (field_tests t fs) ≡ None) (pass : first_of (field_tests t sent) ≡ None) (p : Parted order_103 (content_test t) sent (transfer_segs fs reference v ordered skip via f52))
+    (four : value_of t (value_field v) ≡ Ok v) (made : ccy_amount_of t (ccy_amount_field 33 (Some 66) ordered) ≡ Ok ordered) (via_is : IfSome via (λ b. IsBic b × (has_head t b.head ≡ true)))
+    (m : Mt103) (read : mt103_of t fs ≡ Ok m) (ccy : v.amount.ccy ≡ m.amount.ccy) (ordered_ccy : ordered.ccy ≡ m.amount.ccy) where
+  abbrev segs : List (List Field)
+  segs = transfer_segs fs reference v ordered skip via f52
+
+  abbrev found : List ℕ
+  found = places_from order_103 0 fs
+
+  abbrev held : List ℕ
+  held = places_from order_103 0 sent
+
+  here : (k : ℕ) (s : List Field) → slice_get segs k ≡ Some s → at_place sent held k ≡ first s
+  here k s e = parted-at order_103 row (content_test t) sent segs p k s e
+
+  -- the field of a name in the one that came
+  came : (tag : ℕ) (letters : List ℕ) (k : ℕ) → tells_from tag letters k 0 order_103 ≡ true → find (is_named tag letters) fs ≡ at_place fs found k
+  came tag letters k tells = copied-at order_103 (content_test t) fs none tag letters k tells
+
+  -- a field that is taken over stands at its place again
+  again : (tag : ℕ) (letters : List ℕ) (k : ℕ) → slice_get segs k ≡ Some (copied tag letters fs) → tells_from tag letters k 0 order_103 ≡ true → at_place sent held k ≡ at_place fs found k
+  again tag letters k e tells = here k (copied tag letters fs) e ∙ first-some (find (is_named tag letters) fs) ∙ came tag letters k tells
+
+  -- fields that pass a test just where they stand at a place
+  chosen : {A : Type 0} (tag : ℕ) (letters : List ℕ) (k : ℕ) (read : Field → Result A Code) (xs : List A) → tells_from tag letters k 0 order_103 ≡ true → all_from fs k read 0 found fs ≡ Ok xs → xs ≡ all_said read (copied_all (is_named tag letters) fs)
+  chosen tag letters k read xs tells e =
+      let hold = all-hold order_103 (content_test t) fs none in
+      chosen-said fs k read (is_named tag letters) 0 found fs xs (agree tag letters k order_103 found fs tells (stand order_103 (λ _. Unit {0}) 0 fs (any-field fs))) hold.whole e
+
+  module _ (n : Mt103) (c : TransferSays t fs m) (d : TransferSays t sent n) where
+    has_56 : is_there (intermediary skip fs) ≡ is_some n.p56
+    has_56 = sym (first-there (intermediary skip fs)) ∙ sym (ap (λ (o : Option Field). is_some o) (here 13 (intermediary skip fs) refl)) ∙ sym (option-there sent held 13 (known_party_of t) n.p56 d.p56)
+
+    has_57 : is_there (account_bank skip fs) ≡ is_some n.p57
+    has_57 = sym (first-there (account_bank skip fs)) ∙ sym (ap (λ (o : Option Field). is_some o) (here 14 (account_bank skip fs) refl)) ∙ sym (option-there sent held 14 (known_party_of t) n.p57 d.p57)
+
+    instrs-on : n.instrs ≡ filter (stays (is_some n.p56) (is_some n.p57)) m.instrs
+    instrs-on =
+        let left = parted-said order_103 row (content_test t) sent segs p 3 (instructions skip fs) instr_of n.instrs (λ f. refl) refl d.instrs in
+        let all = chosen 23 (codes "E") 3 instr_of m.instrs refl c.instrs in
+        let some = staying (is_there (intermediary skip fs)) (is_there (account_bank skip fs)) fs (each-says order_103 (content_test t) fs none 23 (codes "E") (3 ∷ []) instr_of refl ((λ f. refl), tt)) in
+        left ∙ some ∙ ap (filter (stays (is_there (intermediary skip fs)) (is_there (account_bank skip fs)))) (sym all)
+        ∙ ap (λ (b : Bool). filter (stays b (is_there (account_bank skip fs))) m.instrs) has_56
+        ∙ ap (λ (b : Bool). filter (stays (is_some n.p56) b) m.instrs) has_57
+
+    taken-on : n.taken ≡ m.taken
+    taken-on =
+        parted-said order_103 row (content_test t) sent segs p 18 (copied_all (is_named 71 (codes "F")) fs) (ccy_amount_of t) n.taken (λ f. refl) refl d.taken
+        ∙ sym (chosen 71 (codes "F") 18 (ccy_amount_of t) m.taken refl c.taken)
+
+    -- what 32A says is what was written
+    moved-on : n.amount.ccy ≡ m.amount.ccy
+    moved-on =
+        let f = found-read order_103 sent 5 (value_of t) (field_in sent held 5) d.value d.moved in
+        let at : Some f.0 ≡ Some (value_field v) = sym f.1 ∙ here 5 (value_field v ∷ []) refl in
+        let same : f.0 ≡ value_field v = cc at in
+        let says : ok_of (value_of t (value_field v)) ≡ Some d.value = ap (λ (g : Field). ok_of (value_of t g)) (sym same) ∙ ap (λ (r : Result Value Code). ok_of r) f.2 in
+        let is : Some v ≡ Some d.value = sym (ap (λ (r : Result Value Code). ok_of r) four) ∙ says in
+        let value : v ≡ d.value = cc is in
+        sym (ap (λ (a : Amount). a.ccy) d.amount) ∙ sym (ap (λ (w : Value). w.amount.ccy) value) ∙ ccy
+
+    party-on : (k : ℕ) (s : List Field) (x : Option Party) → slice_get segs k ≡ Some s → in_option sent held k (known_party_of t) ≡ Ok x → x ≡ said (known_party_of t) (first s)
+    party-on k s x e says = option-said sent held k (known_party_of t) x says ∙ ap (said (known_party_of t)) (here k s e)
+
+    sent-on : IsSentOn skip m n
+    sent-on =
+        let o = c.ordered in
+        let banks = via-said t via n.p53 via_is (party-on 10 (some_field (bank_field 53) via) n.p53 refl d.p53) in
+        record {
+          op = same-place order_103 order_103 fs sent found held 2 2 operation_of m.op n.op c.op d.op (again 23 (codes "B") 2 refl refl);
+          instrs = instrs-on;
+          ccy = moved-on;
+          ordered =
+              ordered-on t ordered m.amount.ccy (find (is_named 33 (codes "B")) fs) m.ordered n.ordered ordered_ccy made
+              (option-said fs found 6 (ccy_amount_of t) m.ordered o ∙ ap (said (ccy_amount_of t)) (sym (came 33 (codes "B") 6 refl)))
+              (option-there fs found 6 (ccy_amount_of t) m.ordered o ∙ ap (λ (f : Option Field). is_some f) (sym (came 33 (codes "B") 6 refl)))
+              (option-said sent held 6 (ccy_amount_of t) n.ordered d.ordered ∙ ap (said (ccy_amount_of t)) (here 6 (ordered_amount ordered fs) refl));
+          rate = same-option fs sent found held 7 7 rate_of m.rate n.rate c.rate d.rate (again 36 (codes " ") 7 refl refl);
+          by_name = banks.0;
+          by_place = banks.1;
+          p54 = party-on 11 [] n.p54 refl d.p54;
+          p55 = party-on 12 [] n.p55 refl d.p55;
+          p56 = party-on 13 (intermediary skip fs) n.p56 refl d.p56
+              ∙ first-56 (known_party_of t) skip fs m.p56 (option-said fs found 13 (known_party_of t) m.p56 c.p56 ∙ ap (said (known_party_of t)) (sym (came 56 (codes "ACD") 13 refl)));
+          p57 = party-on 14 (account_bank skip fs) n.p57 refl d.p57
+              ∙ first-57 (known_party_of t) skip fs m.p57 (option-said fs found 14 (known_party_of t) m.p57 c.p57 ∙ ap (said (known_party_of t)) (sym (came 57 (codes "ABCD") 14 refl)));
+          payee = same-place order_103 order_103 fs sent found held 15 15 (known_party_of t) m.payee n.payee c.payee d.payee (again 59 (codes " AF") 15 refl refl);
+          charge = same-place order_103 order_103 fs sent found held 17 17 charge_of m.charge n.charge c.charge d.charge (again 71 (codes "A") 17 refl refl);
+          taken = taken-on;
+          given = same-option fs sent found held 19 19 (ccy_amount_of t) m.given n.given c.given d.given (again 71 (codes "G") 19 refl refl);
+        }
+
+  pub transfer-reads : (sender receiver from to : Bic) → first_of (all_rules sender receiver t m) ≡ None → (n : Mt103) × (mt103_of t sent ≡ Ok n) × (first_of (all_rules from to t n) ≡ None)
+  transfer-reads sender receiver from to rules =
+      let says = contents-fine t sent pass in
+      let on = sent-on says.0 (read-says t fs m read) (contents-say t sent says.0 says.1) in
+      let stand = together (stays (is_some says.0.p56) (is_some says.0.p57)) m.instrs (instructions-pass t fs m read) in
+      let kept : first_of (e46 says.0.instrs ∷ d98 says.0.instrs ∷ []) ≡ None = subst (λ (xs : List Instr). first_of (e46 xs ∷ d98 xs ∷ []) ≡ None) (sym on.instrs) stand in
+      (says.0, read-fine t sent pass says.0 says.1 kept, rules-kept skip m says.0 on t sender receiver from to rules)

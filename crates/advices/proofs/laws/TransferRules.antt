@@ -1,0 +1,294 @@
+-- The rules of a transfer: one that is sent on breaks none, since the one that came broke none.
+use Rattle.std.proofs.Common.{◌≡◌, ℕ, ◌==◌, ◌&&◌, ◌||◌, ◌⊎◌, not, Bool, true, false, cond, List, [], ◌∷◌, length, option_map, Option, Some, None, refl, arith, inl, inr}
+use Rattle.std.specs.Prelude.{codes, filter, is_none, is_some}
+use Rattle.std.specs.List.{list_any}
+use Rattle.std.specs.Str.{bytes_eq}
+use Rattle.std.proofs.lemmas.Bool.{eqb-true}
+use Rattle.std.proofs.lemmas.Slice.Eq.{bytes_eq-Decides}
+use Rattle.corr_text.specs.First.{first_of}
+use Rattle.corr_text.specs.declared.fault.Fault.{Fault}
+use Rattle.corr_ids.specs.declared.bic.Bic.{Bic}
+use Rattle.corr_money.specs.declared.amount.Amount.{Amount}
+use Rattle.corr_money.specs.declared.amount.Ccy.{Ccy}
+use Rattle.ref_tables.specs.Seen.{Tables}
+use Rattle.fin_layout.proofs.laws.Fine.{first-none, map-none}
+use Rattle.fin_parties.specs.declared.party.Party.{Party}
+use Rattle.mt103.specs.declared.message.Mt103.{Mt103}
+use Rattle.mt103_rules.specs.Instructions.{has_instr, is_priority}
+use Rattle.mt103_rules.specs.Parties.{has_account, is_b, is_bare_b, is_bare_d, is_d, is_uncleared_c}
+use Rattle.mt103_rules.specs.Rules.{all_rules, amount_rules, c02, c81, charge_rules, contact_rules, d49, d50, d51, d75, e01, e02, e03, e04, e05, e06, e07, e09, e10, e13, e15_given, e15_taken, e16, e17, e18, e44, e45, has_level, institution_rules, is_foreign, is_given, is_listed_bank, is_op, is_standard, level_rules}
+use Rattle.day_model.specs.declared.pay.Skip.{Skip}
+use Rattle.day_model.specs.declared.pay.Skip.TheVariants.{Keep, Mid, Both}
+use Rattle.advices.proofs.laws.Instructions.{any-kept, none-kept, none-tells-56, none-tells-57, stays}
+
+-- ---- a transfer that is sent on
+
+-- 56a and 57a of what is sent on
+abbrev pub kept_56 : Skip → Option Party → Option Party
+kept_56 Keep p = p
+kept_56 Mid p = None
+kept_56 Both p = None
+
+abbrev pub kept_57 : Skip → Option Party → Option Party
+kept_57 Keep p = p
+kept_57 Mid p = p
+kept_57 Both p = None
+
+-- 33B as it came, or one of 32A's currency in place of none
+pub record IsOrdered (ccy : Ccy) (came sent : Option Amount) : Type 0 where
+  pub amount : Amount
+  pub there : sent ≡ Some amount
+  pub same : (came ≡ Some amount) ⊎ ((came ≡ None) × (amount.ccy ≡ ccy))
+
+-- what the one that is sent, n, has of the one that came, m
+pub record IsSentOn (skip : Skip) (m n : Mt103) : Type 0 where
+  pub op : n.op ≡ m.op
+  pub instrs : n.instrs ≡ filter (stays (is_some n.p56) (is_some n.p57)) m.instrs
+  pub ccy : n.amount.ccy ≡ m.amount.ccy
+  pub ordered : IsOrdered m.amount.ccy m.ordered n.ordered
+  pub rate : n.rate ≡ m.rate
+  pub by_name : is_d n.p53 ≡ false
+  pub by_place : is_bare_b n.p53 ≡ false
+  pub p54 : n.p54 ≡ None
+  pub p55 : n.p55 ≡ None
+  pub p56 : n.p56 ≡ kept_56 skip m.p56
+  pub p57 : n.p57 ≡ kept_57 skip m.p57
+  pub payee : n.payee ≡ m.payee
+  pub charge : n.charge ≡ m.charge
+  pub taken : n.taken ≡ m.taken
+  pub given : n.given ≡ m.given
+
+-- ---- tests
+
+and-false : (b : Bool) → (b && false) ≡ false
+and-false true = refl
+and-false false = refl
+
+both-false : (a b : Bool) → (a && b && false) ≡ false
+both-false true b = and-false b
+both-false false b = refl
+
+if-true : {X : Type 0} (b : Bool) (x : X) → cond b (Some x) None ≡ None → b ≡ false
+if-true true x e = absurd (cc e)
+if-true false x e = refl
+
+if-false : {X : Type 0} (b : Bool) (x : X) → b ≡ false → cond b (Some x) None ≡ None
+if-false b x e = rw e refl
+
+-- no test of a list fails
+abbrev AllNone : List (Option Fault) → Type 0
+AllNone [] = Unit {0}
+AllNone (o ∷ os) = (o ≡ None) × AllNone os
+
+none-all : (os : List (Option Fault)) → first_of os ≡ None → AllNone os
+none-all [] e = tt
+none-all (o ∷ os) e = let both = first-none o os e in (both.0, none-all os both.1)
+
+all-none : (os : List (Option Fault)) → AllNone os → first_of os ≡ None
+all-none [] e = refl
+all-none (o ∷ os) e = rw (e.0) (all-none os e.1)
+
+same-bytes : (bs : List ℕ) → bytes_eq bs bs ≡ true
+same-bytes bs = (bytes_eq-Decides bs bs).1 refl
+
+-- a list of which nothing is given has nothing
+none-given : {X : Type 0} (xs : List X) → is_given xs ≡ false → xs ≡ []
+none-given [] e = refl
+none-given (x ∷ xs) e =
+    let none : (length (x ∷ xs) == 0) ≡ true = not-false (length (x ∷ xs) == 0) e in
+    absurd (omega (arith, eqb-true (length (x ∷ xs)) 0 none))
+  where
+    not-false : (b : Bool) → not b ≡ false → b ≡ true
+    not-false true e = refl
+    not-false false e = absurd (cc e)
+
+-- ---- each rule
+
+-- the one answer or the other, each the fault of a test
+either-none : {X : Type 0} (b one two : Bool) (x y : X) → cond b (cond one (Some x) None) (cond two (Some y) None) ≡ None → cond b one two ≡ false
+either-none true one two x y e = if-true one x e
+either-none false one two x y e = if-true two y e
+
+either-false : {X : Type 0} (b one two : Bool) (x y : X) → cond b one two ≡ false → cond b (cond one (Some x) None) (cond two (Some y) None) ≡ None
+either-false true one two x y e = if-false one x e
+either-false false one two x y e = if-false two y e
+
+-- where this is told of the one place, it is told of the other
+told-on : {X : Type 0} (b : Bool) (told : ℕ → X) (came sent : Option ℕ) → (came ≡ None → sent ≡ None) → cond b (option_map told came) None ≡ None → cond b (option_map told sent) None ≡ None
+told-on true told came sent on e = rw (on (map-none told came e)) refl
+told-on false told came sent on e = refl
+
+and-given : {X : Type 0} (b : Bool) (p : X → Bool) (xs : List X) → (b && is_given xs) ≡ false → (b && is_given (filter p xs)) ≡ false
+and-given false p xs e = refl
+and-given true p xs e = rw (none-given xs e) refl
+
+and-any : {X : Type 0} (b : Bool) (p q : X → Bool) (xs : List X) → (list_any q xs && b) ≡ false → (list_any q (filter p xs) && b) ≡ false
+and-any true p q xs e = go (list_any q xs) refl e
+  where
+    go : (c : Bool) → list_any q xs ≡ c → (c && true) ≡ false → (list_any q (filter p xs) && true) ≡ false
+    go true h e = absurd (cc e)
+    go false h e = rw (any-kept p q xs h) refl
+and-any false p q xs e = and-false (list_any q (filter p xs))
+
+module _ (skip : Skip) (m n : Mt103) (s : IsSentOn skip m n) where
+  -- 36 and 33B
+  rate-fits : cond (is_foreign m m.ordered) (is_none m.rate) (is_some m.rate) ≡ false → cond (is_foreign n n.ordered) (is_none n.rate) (is_some n.rate) ≡ false
+  rate-fits e = go s.ordered.same
+    where
+      go : ((m.ordered ≡ Some s.ordered.amount) ⊎ ((m.ordered ≡ None) × (s.ordered.amount.ccy ≡ m.amount.ccy))) → cond (is_foreign n n.ordered) (is_none n.rate) (is_some n.rate) ≡ false
+      go (inl came) = rw (s.ordered.there, s.ccy, s.rate) (rw came at e)
+      go (inr new) =
+          let no_rate : is_some m.rate ≡ false = rw (new.0) at e in
+          rw (s.ordered.there, new.1, s.ccy, s.rate, same-bytes m.amount.ccy.0) no_rate
+
+  d75-on : d75 m ≡ None → d75 n ≡ None
+  unfolding d75
+  d75-on e = either-false _ _ _ _ _ (rate-fits (either-none _ _ _ _ _ e))
+
+  d49-on : (t : Tables) (sender receiver : Bic) → d49 sender receiver t n ≡ None
+  unfolding d49
+  d49-on t sender receiver = if-false _ _ (rw (s.ordered.there) (both-false (is_listed_bank t sender) (is_listed_bank t receiver)))
+
+  -- levels of service
+  e01-on : e01 m ≡ None → e01 n ≡ None
+  unfolding e01
+  e01-on e = rw (s.op, s.instrs) (told-on _ _ _ _ (none-kept (stays (is_some n.p56) (is_some n.p57)) (λ i. not (is_priority i)) m.instrs) e)
+
+  e02-on : e02 m ≡ None → e02 n ≡ None
+  unfolding e02
+  e02-on e = rw (s.op, s.instrs) (if-false _ _ (and-given _ (stays (is_some n.p56) (is_some n.p57)) m.instrs (if-true _ _ e)))
+
+  e03-on : e03 n ≡ None
+  unfolding e03
+  e03-on = if-false _ _ (rw (s.by_name) (and-false (has_level n)))
+
+  e04-on : e04 n ≡ None
+  unfolding e04
+  e04-on = if-false _ _ (rw (s.by_place) (and-false (has_level n)))
+
+  e05-on : e05 n ≡ None
+  unfolding e05
+  e05-on = if-false _ _ (rw (s.p54) (and-false (has_level n)))
+
+  e07-on : e07 n ≡ None
+  unfolding e07
+  e07-on = if-false _ _ (rw (s.p55) (and-false (has_level n)))
+
+  e10-on : e10 m ≡ None → e10 n ≡ None
+  unfolding e10
+  e10-on e = rw (s.op, s.payee) e
+
+  -- institutions
+  e06-on : e06 n ≡ None
+  unfolding e06
+  e06-on = rw (s.p55) refl
+
+  c81-on : c81 m ≡ None → c81 n ≡ None
+  unfolding c81
+  c81-on e = rw (s.p56, s.p57) (if-false _ _ (go skip (if-true _ _ e)))
+    where
+      go : (skip : Skip) → (is_some m.p56 && is_none m.p57) ≡ false → (is_some (kept_56 skip m.p56) && is_none (kept_57 skip m.p57)) ≡ false
+      go Keep e = e
+      go Mid e = refl
+      go Both e = refl
+
+  -- what no 56a breaks
+  kept-56 : (test : Option Party → Bool) (b : Bool) → test None ≡ false → (b && test m.p56) ≡ false → (b && test n.p56) ≡ false
+  kept-56 test b none e = rw (s.p56) (go skip)
+    where
+      go : (skip : Skip) → (b && test (kept_56 skip m.p56)) ≡ false
+      go Keep = e
+      go Mid = rw none (and-false b)
+      go Both = rw none (and-false b)
+
+  -- and what no 57a
+  kept-57 : (test : Option Party → Bool) (b : Bool) → test None ≡ false → (b && test m.p57) ≡ false → (b && test n.p57) ≡ false
+  kept-57 test b none e = rw (s.p57) (go skip)
+    where
+      go : (skip : Skip) → (b && test (kept_57 skip m.p57)) ≡ false
+      go Keep = e
+      go Mid = e
+      go Both = rw none (and-false b)
+
+  e16-on : e16 m ≡ None → e16 n ≡ None
+  unfolding e16
+  e16-on e = rw (s.op) (if-false _ _ (kept-56 (λ p. is_some p) (is_op m (codes "SPRI")) refl (if-true _ _ e)))
+
+  e17-on : e17 m ≡ None → e17 n ≡ None
+  unfolding e17
+  e17-on e = rw (s.op) (if-false _ _ (kept-56 (λ p. is_d p || is_uncleared_c p) (is_standard m) refl (if-true _ _ e)))
+
+  e09-on : e09 m ≡ None → e09 n ≡ None
+  unfolding e09
+  e09-on e = rw (s.op) (if-false _ _ (kept-57 (λ p. is_b p || is_bare_d p) (has_level m) refl (if-true _ _ e)))
+
+  -- the cheque and charges
+  e18-on : e18 m ≡ None → e18 n ≡ None
+  unfolding e18
+  e18-on e =
+      rw (s.payee, s.instrs) (if-false _ _ (and-any (has_account m.payee) (stays (is_some n.p56) (is_some n.p57)) (λ i. bytes_eq i.code (codes "CHQB")) m.instrs (if-true _ _ e)))
+
+  e13-on : e13 m ≡ None → e13 n ≡ None
+  unfolding e13
+  e13-on e = rw (s.charge, s.taken) e
+
+  d50-on : d50 m ≡ None → d50 n ≡ None
+  unfolding d50
+  d50-on e = rw (s.charge, s.given) e
+
+  e15-taken-on : e15_taken m ≡ None → e15_taken n ≡ None
+  unfolding e15_taken
+  e15-taken-on e = rw (s.charge, s.taken) e
+
+  e15-given-on : e15_given m ≡ None → e15_given n ≡ None
+  unfolding e15_given
+  e15-given-on e = rw (s.charge, s.given) e
+
+  d51-on : d51 n ≡ None
+  unfolding d51
+  d51-on = if-false _ _ (rw (s.ordered.there) (and-false (is_given n.taken || is_some n.given)))
+
+  c02-on : c02 m ≡ None → c02 n ≡ None
+  unfolding c02
+  c02-on e = if-false _ _ (rw (s.given) (go m.given (if-true _ _ e)))
+    where
+      go : (given : Option Amount) → is_foreign m given ≡ false → is_foreign n given ≡ false
+      go None e = refl
+      go (Some a) e = rw (s.ccy) e
+
+  -- whom to tell
+  e44-on : e44 n ≡ None
+  unfolding e44
+  e44-on = if-false _ _ (rw (s.instrs) (go (is_some n.p56) n.p56 refl))
+    where
+      go : (b : Bool) (p : Option Party) → is_some p ≡ b
+          → ((has_instr (codes "TELI") (filter (stays b (is_some n.p57)) m.instrs) || has_instr (codes "PHOI") (filter (stays b (is_some n.p57)) m.instrs)) && is_none p) ≡ false
+      go b (Some x) e = and-false (has_instr (codes "TELI") (filter (stays b (is_some n.p57)) m.instrs) || has_instr (codes "PHOI") (filter (stays b (is_some n.p57)) m.instrs))
+      go true None e = absurd (cc e)
+      go false None e = rw (none-tells-56 (is_some n.p57) m.instrs) refl
+
+  e45-on : e45 n ≡ None
+  unfolding e45
+  e45-on = if-false _ _ (rw (s.instrs) (go (is_some n.p57) n.p57 refl))
+    where
+      go : (b : Bool) (p : Option Party) → is_some p ≡ b
+          → ((has_instr (codes "TELE") (filter (stays (is_some n.p56) b) m.instrs) || has_instr (codes "PHON") (filter (stays (is_some n.p56) b) m.instrs)) && is_none p) ≡ false
+      go b (Some x) e = and-false (has_instr (codes "TELE") (filter (stays (is_some n.p56) b) m.instrs) || has_instr (codes "PHON") (filter (stays (is_some n.p56) b) m.instrs))
+      go true None e = absurd (cc e)
+      go false None e = rw (none-tells-57 (is_some n.p56) m.instrs) refl
+
+  -- ---- all
+
+  pub rules-kept : (t : Tables) (sender receiver : Bic) (from to : Bic) → first_of (all_rules sender receiver t m) ≡ None → first_of (all_rules from to t n) ≡ None
+  unfolding all_rules amount_rules level_rules institution_rules charge_rules contact_rules
+  rules-kept t sender receiver from to e =
+      let (d75, (d49, (e01, (e02, (e03, (e04, (e05, (e07, (e10, (e06, (c81, (e16, (e17, (e09, (e18, (e13, (d50, (e15_taken, (e15_given, (d51, (c02, (e44, (e45, end))))))))))))))))))))))) = none-all (all_rules sender receiver t m) e in
+      all-none (all_rules from to t n)
+      (d75-on d75, (d49-on t from to, (e01-on e01, (e02-on e02, (e03-on, (e04-on, (e05-on, (e07-on, (e10-on e10, (e06-on, (c81-on c81, (e16-on e16, (e17-on e17, (e09-on e09, (e18-on e18, (e13-on e13, (d50-on d50, (e15-taken-on e15_taken, (e15-given-on e15_given, (d51-on, (c02-on c02, (e44-on, (e45-on, tt)))))))))))))))))))))))
+
+-- a transfer that breaks no rule has 57a where it has 56a
+pub c81-of : (t : Tables) (sender receiver : Bic) (m : Mt103) → first_of (all_rules sender receiver t m) ≡ None → (is_some m.p56 && is_none m.p57) ≡ false
+unfolding all_rules amount_rules level_rules institution_rules charge_rules contact_rules c81
+c81-of t sender receiver m e =
+    let (d75, (d49, (e01, (e02, (e03, (e04, (e05, (e07, (e10, (e06, (c81, more))))))))))) = none-all (all_rules sender receiver t m) e in
+    if-true _ _ c81
