@@ -69,6 +69,13 @@ fn add_legs(pairs: &mut Vec<(u64, u64)>, legs: &[Leg])
     }
 }
 
+fn is_no_later(a: Day, b: Day) -> bool
+    ensures before { OnTrue result (a.0 ≤ℤ b.0) }
+    ensures all { a.0 ≤ℤ b.0 → IsTrue result }
+{
+    a.0 <= b.0
+}
+
 /// Whether no entry of a legal history has a later day: the last one has none.
 fn is_latest(a: &Accounts, h: &History, day: Day) -> bool
     requires legal { IsLegal a.now h.now.entries }
@@ -77,7 +84,7 @@ fn is_latest(a: &Accounts, h: &History, day: Day) -> bool
 {
     let _ = a;
     let count = h.len();
-    count == 0 || h.get(count).day.0 <= day.0
+    count == 0 || is_no_later(h.get(count).day, day)
 }
 
 fn is_outcome(a: Outcome, b: Outcome) -> bool
