@@ -92,7 +92,6 @@ impl Room {
     }
 
     /// The entry that the pay becomes, and its record as it is appended. Takes no memory.
-    #[tactic(auto, using(crate::proofs::Sizes::no_longer))]
     pub(crate) fn write(self, day: Day, outcome: Outcome) -> (Entry, Buf)
         requires day { InCentury day }
         ensures entry { result.0 ≡ record { pay = self; day = day; outcome = outcome } }
