@@ -5,4 +5,5 @@ pub mod Resuming
 pub mod Entering
 pub mod Sizes
 pub mod Staying
+pub mod Commits
 pub mod laws

@@ -2,6 +2,7 @@ pub mod Journal
 pub mod Index
 pub mod Book
 pub mod Answers
+pub mod Commits
 pub mod Appending
 pub mod Opening
 pub mod Resuming

@@ -21,6 +21,7 @@ ghost use Rattle.jrn_file.specs.Journal.{IsBeforeOrAfter, IsFrame, frame_of, rec
 ghost use Rattle.jrn_codec.specs.Header.{head_bytes};
 ghost use Rattle.jrn_codec.specs.Record.{IsEntry, entry_bytes};
 ghost use Rattle.jrn_book.specs.Answers.{IsAnswered, Shows, calls_disk, failed_after, history_after, legs_entered};
+ghost use Rattle.jrn_book.specs.Commits.{Commits};
 ghost use Rattle.jrn_book.specs.Appending.{Repeats, ShowsAppend};
 ghost use Rattle.jrn_book.specs.Deciding.{HoldsAll};
 ghost use Rattle.jrn_book.specs.Index.{place_in};
@@ -103,7 +104,7 @@ fn prepare<H: Held>(
 }
 
 /// Puts a new entry into the history and its reference into the index, for both of which there is room.
-fn note(history: &mut History, index: &mut Index, entry: Entry)
+pub(crate) fn note(history: &mut History, index: &mut Index, entry: Entry)
     requires few { length history.old.entries < most_entries }
     requires many { length index.old.references < most_entries }
     requires new { place_in entry.pay.mir.0 index.old.references ≡ None }
@@ -181,6 +182,26 @@ impl<D: Disk> JrnBook<D> {
 
         ensures no_memory { self.old.room ≡ Some p.now → IsAnswered result }
     {
+        self.answer(alloc, held, p, day)
+    }
+
+    /// Answers a pay: what `commit` tells, as one fact.
+    fn answer<H: Held>(
+        &mut self,
+        alloc: Global,
+        held: &mut H,
+        p: &Pay,
+        day: Day,
+    ) -> Result<Committed, CommitFault>
+        requires fits { FitsAccounts self.old.accounts p.now }
+        requires shape { HasShape p.now }
+        requires held { HoldsAll (H.held held.old) p.now.legs }
+        requires table { self.old.table ≡ H.table held.old }
+        requires century { InCentury day }
+        requires latest { IsLatest self.old.history day }
+        ensures commits { Commits D.honest D.reads D.may_leave D.moment D.left_since D.faults D.plan self.old self.new (H.held held.old) (H.held held.new) p.now day result }
+        ensures purses { (H.table held.new ≡ H.table held.old) × (H.count held.new ≡ H.count held.old) }
+    {
         if self.failed.is_some() {
             return Err(CommitFault::Broken {
                 at_open: self.at_open,
@@ -238,6 +259,8 @@ impl<D: Disk> JrnBook<D> {
         ensures no_more_calls { AtMostCalls 4 (D.plan (disk_of self.old.file)) (D.plan (disk_of self.new.file)) }
         ensures honest { D.honest (disk_of self.new.file) ≡ D.honest (disk_of self.old.file) }
         ensures no_memory { IsAnswered result }
+        ensures legal { IsLegal self.new.accounts self.new.history }
+        ensures durable { OnOk result (IsSettled D.honest D.reads D.may_leave self.new.file (head_bytes self.old.accounts) (records_of self.new.history)) }
     {
         let Some(room) = self.room.take() else {
             unreachable!()

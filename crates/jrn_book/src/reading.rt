@@ -14,7 +14,7 @@ ghost use Rattle.jrn_file.specs.Reading.{size_of};
 ghost use Rattle.jrn_book.specs.Journal.{all_records, records_of};
 ghost use Rattle.jrn_book.specs.Reading.{ReadsRecord, RefusesHead, RefusesRecords};
 
-use crate::committing::MOST_ENTRIES;
+use crate::committing::{MOST_ENTRIES, note};
 use crate::deciding::{decide_by, legs_booked};
 use crate::index::Index;
 use corr_ids::Day;
@@ -77,7 +77,7 @@ fn is_no_later(a: Day, b: Day) -> bool
 }
 
 /// Whether no entry of a legal history has a later day: the last one has none.
-fn is_latest(a: &Accounts, h: &History, day: Day) -> bool
+pub(crate) fn is_latest(a: &Accounts, h: &History, day: Day) -> bool
     requires legal { IsLegal a.now h.now.entries }
     ensures latest { OnTrue result (IsLatest h.now.entries day) }
     ensures all { IsLatest h.now.entries day → IsTrue result }
@@ -140,8 +140,7 @@ impl Past {
         self.index.reserve()?;
         self.history.reserve()?;
         add_legs(&mut self.pairs, legs_booked(&e));
-        self.index.push(&e.pay.mir).unwrap();
-        self.history.push(e).unwrap();
+        note(&mut self.history, &mut self.index, e);
         Ok(())
     }
 

@@ -180,3 +180,39 @@ invariant_of-self-2 g c =
       (subst Totals (λ i. (sym sides i, sym now i)) totals)
       (c.note.ensures.index ∙ ap (λ (rs : List (List ℕ)). rs ++ e.pay.mir.0 ∷ []) c.self.invariant.1.references ∙ sym (references_more h e) ∙ ap references_of (sym now)),
     )
+pub returns-in-Err-clause-legal : goal.returns-in-Err-clause-legal
+returns-in-Err-clause-legal g c = c.self.invariant.0.journal.legal
+
+pub returns-clause-legal : goal.returns-clause-legal
+returns-clause-legal g c =
+    let h = c.self.inside.history.entries in
+    let chart = c.self.inside.accounts in
+    let p = c.args.p.now in
+    let day = c.args.day in
+    let e = c.prepare-entry.result.0 in
+    let new : entered_at p.mir h ≡ None = ap (λ (b : Book g.row.D.Denot). entered_at p.mir b.history) c.self.view_is ∙ c.requires.new in
+    let fits : FitsAccounts chart p = subst (λ (b : Book g.row.D.Denot). FitsAccounts b.accounts p) (sym c.self.view_is) c.requires.fits in
+    let latest : IsLatest h day = subst (λ (b : Book g.row.D.Denot). IsLatest b.history day) (sym c.self.view_is) c.requires.latest in
+    let few : length h < 100000 = omega (arith, c.in_default-append.ensures.shows.0, c.len-entries.ensures.count, c.len-entries.ensures.few) in
+    let room : c.in-Some.room ≡ p = same_Some c.in-Some.room p (sym c.in-Some.is ∙ c.take.ensures.value ∙ ap (λ (b : Book g.row.D.Denot). b.room) c.self.view_is ∙ c.requires.room) in
+    let is : e ≡ entry_of chart h p day = c.prepare-entry.ensures.entry ∙ ap (λ (x : Pay). entry_of chart h x day) room in
+    let next : IsLegal chart (h ++ e ∷ []) = subst (λ (x : Entry). IsLegal chart (h ++ x ∷ [])) (sym is) (next_legal chart h p day c.self.invariant.0.journal.legal fits latest few new) in
+    subst (IsLegal chart) (sym c.note.ensures.history) next
+
+pub returns-clause-durable : goal.returns-clause-durable
+returns-clause-durable g c =
+    let h = c.self.inside.history.entries in
+    let chart = c.self.inside.accounts in
+    let p = c.args.p.now in
+    let day = c.args.day in
+    let e = c.prepare-entry.result.0 in
+    let D = g.D.Disk in
+    let file = c.append.new.file in
+    let whole : c.self.inside.failed ≡ None = ap (λ (b : Book g.row.D.Denot). b.failed) c.self.view_is ∙ c.requires.whole in
+    let settled = subst (λ f. StandsOnDisk D.honest D.reads D.may_leave f c.self.inside.file chart h) whole c.self.invariant.0.disk in
+    let r : record_in c.bytes.result.now ≡ entry_bytes e = record_in-frame (entry_bytes e) c.bytes.result.now (c.bytes.ensures ∙ c.prepare-entry.ensures.frame) in
+    let records : records_of h ++ record_in c.bytes.result.now ∷ [] ≡ records_of (h ++ e ∷ []) = ap (λ (x : List ℕ). records_of h ++ x ∷ []) r ∙ sym (records_more h e) in
+    let stands = subst (λ (rs : List (List ℕ)). IsSettled D.honest D.reads D.may_leave file (head_bytes chart) rs) records (c.in_default-append.ensures.ok (head_bytes chart) (records_of h) settled) in
+    let now : records_of (h ++ e ∷ []) ≡ records_of c.note.new.history.entries = ap records_of (sym c.note.ensures.history) in
+    subst (λ (b : Book g.row.D.Denot). IsSettled D.honest D.reads D.may_leave file (head_bytes b.accounts) (records_of c.note.new.history.entries)) c.self.view_is
+    (subst (λ (rs : List (List ℕ)). IsSettled D.honest D.reads D.may_leave file (head_bytes chart) rs) now stands)
