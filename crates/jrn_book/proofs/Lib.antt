@@ -6,4 +6,6 @@ pub mod Entering
 pub mod Sizes
 pub mod Staying
 pub mod Commits
+pub mod Growing
+pub mod Found
 pub mod laws

@@ -11,7 +11,7 @@ ghost use Rattle.day_model.specs.Pairs.{PairsFit, pairs_with};
 ghost use Rattle.jrn_codec.specs.Header.{IsHead, head_bytes};
 ghost use Rattle.jrn_codec.specs.Record.{IsEntry, entry_bytes};
 ghost use Rattle.jrn_file.specs.Reading.{size_of};
-ghost use Rattle.jrn_book.specs.Journal.{all_records, records_of};
+ghost use Rattle.jrn_book.specs.Journal.{IsJournal, all_records, records_of};
 ghost use Rattle.jrn_book.specs.Reading.{ReadsRecord, RefusesHead, RefusesRecords};
 
 use crate::committing::{MOST_ENTRIES, note};
@@ -97,7 +97,8 @@ fn is_outcome(a: Outcome, b: Outcome) -> bool
 impl Past {
     fn new(alloc: Global, accounts: Accounts) -> Result<Past, Memory>
         requires { IsHead accounts }
-        ensures { IfOk result (λ past. past ≡ record { accounts = accounts; history = [] }) }
+        ensures past { IfOk result (λ past. past ≡ record { accounts = accounts; history = [] }) }
+        ensures good { IsJournal accounts [] }
     {
         let pairs = vec![in alloc; (0, 0); accounts.count() as usize]?;
         Ok(Past {
@@ -147,10 +148,10 @@ impl Past {
     /// Reads the next record.
     ///
     /// `NoEntry` comes exactly where it is no record of an entry that may stand next; then all is as before.
-    fn read(&mut self, alloc: Global, record: &[u8]) -> Result<(), EntryFault>
-        ensures { ReadsRecord self.old record.now result self.new }
+    fn read(&mut self, alloc: Global, bytes: &[u8]) -> Result<(), EntryFault>
+        ensures { ReadsRecord self.old bytes.now result self.new }
     {
-        let entry = read_entry(alloc, record)?;
+        let entry = read_entry(alloc, bytes)?;
         if !self.may_follow(&entry) {
             return Err(EntryFault::NoEntry);
         }
@@ -182,18 +183,20 @@ fn read_accounts(alloc: Global, head: &[u8]) -> Result<Accounts, OpenFault>
 fn read_entries(
     alloc: Global,
     past: &mut Past,
-    records: &[Text],
+    entries: &[Text],
     start: u64,
 ) -> Result<(), OpenFault>
+    requires good { IsJournal past.old.accounts past.old.history }
     requires place { start ≡ size_of (all_records past.old.accounts past.old.history) }
     ensures accounts { OnOk result (past.new.accounts ≡ past.old.accounts) }
-    ensures read { OnOk result (records_of past.new.history ≡ records_of past.old.history ++ records.now) }
-    ensures fault { IfErr result (RefusesRecords (all_records past.old.accounts past.old.history ++ records.now)) }
+    ensures read { OnOk result (records_of past.new.history ≡ records_of past.old.history ++ entries.now) }
+    ensures good { OnOk result (IsJournal past.new.accounts past.new.history) }
+    ensures fault { IfErr result (RefusesRecords (all_records past.old.accounts past.old.history ++ entries.now)) }
 {
     let mut at = start;
-    for record in records {
-        match past.read(alloc, record.bytes()) {
-            Ok(()) => at = at.saturating_add(size(record.bytes())),
+    for entry in entries {
+        match past.read(alloc, entry.bytes()) {
+            Ok(()) => at = at.saturating_add(size(entry.bytes())),
             Err(EntryFault::NoEntry) => return Err(OpenFault::Damaged { at }),
             Err(EntryFault::Memory) => return Err(OpenFault::Memory),
         }
@@ -204,6 +207,7 @@ fn read_entries(
 /// The history of a header record and the records behind it, or the first of them that is refused.
 pub(crate) fn read_records(alloc: Global, records: &[Text]) -> Result<Past, OpenFault>
     ensures past { IfOk result (λ past. records.now ≡ all_records past.accounts past.history) }
+    ensures good { IfOk result (λ past. IsJournal past.accounts past.history) }
     ensures fault { IfErr result (RefusesRecords records.now) }
 {
     match records {

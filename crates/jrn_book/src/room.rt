@@ -40,15 +40,15 @@ impl Model for Room {
 }
 
 /// Puts a record into an empty buffer as it is appended: its length in four bytes, the record and a byte 0.
-fn put_frame(frame: &mut Buf, record: &[u8]) -> Result<(), Memory>
+fn put_frame(frame: &mut Buf, body: &[u8]) -> Result<(), Memory>
     requires empty { frame.old.bytes ≡ [] }
-    requires few { length record.now < 2 ^ 32 }
-    requires room { length record.now + 5 ≤ frame.old.spare }
-    ensures frame { frame.new.bytes ≡ frame_of record.now }
+    requires few { length body.now < 2 ^ 32 }
+    requires room { length body.now + 5 ≤ frame.old.spare }
+    ensures frame { frame.new.bytes ≡ frame_of body.now }
     ensures ok { IsOk result }
 {
-    frame.push(&(record.len() as u32).to_be_bytes())?;
-    frame.push(record)?;
+    frame.push(&(body.len() as u32).to_be_bytes())?;
+    frame.push(body)?;
     frame.push(&[0])
 }
 

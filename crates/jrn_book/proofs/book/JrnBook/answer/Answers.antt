@@ -1,4 +1,4 @@
-use Rattle.std.proofs.Common.{◌≡◌, false, List, Option, Some, None, ap, subst, sym}
+use Rattle.std.proofs.Common.{◌≡◌, false, Option, Some, None, rules, subst, sym}
 use Rattle.std.specs.Prelude.{IsOk, IsSome, is_some, Result, Ok, Err}
 use Rattle.day_model.specs.declared.entry.Entry.{Entry}
 use Rattle.jrn_book.specs.Answers.{Answer}
