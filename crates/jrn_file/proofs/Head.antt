@@ -8,7 +8,7 @@ use Rattle.jrn_file.specs.Journal.{frame_of, record_in, journal_bytes, IsFrame, 
 use Rattle.jrn_file.specs.Making.{IsUnmade, IsUnmadeOrMade, IsEntering, made_over}
 use Rattle.jrn_file.proofs.Bytes.{written-behind, written-gate, torn-behind, torn-gate}
 use Rattle.jrn_file.proofs.Readings.{spelled-stands}
-use Rattle.jrn_file.proofs.Sizes.{length-sized, length-journal_bytes}
+use Rattle.jrn_file.proofs.laws.Sizes.{length-sized, length-journal_bytes}
 
 stands-first : (gate : ℕ) (head rest image : List ℕ) → gate ≢ 0 → length head < 2 ^ 32 → image ≡ gate ∷ (frame_of head ++ rest) → StandsFor image head []
 stands-first gate head rest image open_gate fits is = spelled-stands image head [] (record {

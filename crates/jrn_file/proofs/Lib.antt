@@ -10,6 +10,5 @@ mod Opened
 mod ReadTo
 mod Readings
 mod Records
-mod Sizes
 mod Taken
 mod Whole

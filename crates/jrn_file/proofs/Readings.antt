@@ -13,7 +13,7 @@ use Rattle.jrn_file.specs.Reading.{Reading, no_journal, whole, cut, begins_with,
 use Rattle.jrn_file.specs.Journal.{behind_gates, AreOpen, StandsFor}
 use Rattle.jrn_file.specs.Opening.{BeginsWith, HasNoRecord}
 use Rattle.jrn_file.specs.Pieces.{IsTaken}
-use Rattle.jrn_file.proofs.Sizes.{length-sized, length-behind_gates}
+use Rattle.jrn_file.proofs.laws.Sizes.{length-sized, length-behind_gates}
 
 -- a record that was begun is the one that its length tells
 pub record-begun : (after r : List ℕ) → BeginsWith after r → record_at after ≡ r

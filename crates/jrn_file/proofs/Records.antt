@@ -7,7 +7,7 @@ use Rattle.jrn_file.specs.Reading.{sized, size_of}
 use Rattle.jrn_file.specs.Journal.{frame_of, record_in, IsFrame, behind_gates, journal_bytes, AreOpen, StandsFor, IsBeforeOrAfter}
 use Rattle.jrn_file.specs.Making.{IsEntering}
 use Rattle.jrn_file.proofs.Readings.{Spelled, spelled-stands}
-use Rattle.jrn_file.proofs.Sizes.{length-sized, length-behind_gates, length-journal_bytes, size_of-append, behind_gates-append, AreOpen-append}
+use Rattle.jrn_file.proofs.laws.Sizes.{length-sized, length-behind_gates, length-journal_bytes, size_of-append, behind_gates-append, AreOpen-append}
 use Rattle.jrn_file.proofs.Bytes.{length-gate, written-behind, written-gate, torn-behind, torn-gate}
 
 -- one more open record, and a closed gate

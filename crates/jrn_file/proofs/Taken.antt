@@ -9,7 +9,7 @@ use Rattle.jrn_file.specs.Journal.{behind_gates}
 use Rattle.jrn_file.specs.Opening.{BeginsWith, IsWhole, HasNoRecord, IsShut, IsReadAs}
 use Rattle.jrn_file.specs.Pieces.{IsTaken}
 use Rattle.jrn_file.proofs.Readings.{taken-read}
-use Rattle.jrn_file.proofs.Sizes.{length-behind_gates, length-journal_bytes, length-sized, behind_gates-append, AreOpen-append}
+use Rattle.jrn_file.proofs.laws.Sizes.{length-behind_gates, length-journal_bytes, length-sized, behind_gates-append, AreOpen-append}
 
 pub taken-start : (bytes : List ℕ) → IsTaken bytes [] bytes
 taken-start bytes = record { entries = []; gates = tt; same = refl; is = refl; gate = inl refl }

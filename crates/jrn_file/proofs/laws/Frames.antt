@@ -4,7 +4,7 @@ use Rattle.std.specs.Int.{w32, to_be_bytes}
 use Rattle.std.proofs.lemmas.List.{take_at, drop_at}
 use Rattle.jrn_file.specs.Reading.{sized}
 use Rattle.jrn_file.specs.Journal.{frame_of, record_in}
-use Rattle.jrn_file.proofs.Sizes.{length-sized}
+use Rattle.jrn_file.proofs.laws.Sizes.{length-sized}
 
 -- it has the record
 pub record_in-frame : (r frame : List ℕ) → frame ≡ frame_of r → record_in frame ≡ r

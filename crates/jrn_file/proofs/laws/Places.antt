@@ -8,7 +8,7 @@ use Rattle.std.proofs.lemmas.Option.{same_Some, none-some}
 use Rattle.jrn_file.specs.Journal.{behind_gates}
 use Rattle.jrn_file.specs.Reading.{AreAt, Reading, all_of, cut, opened_of, reading_of, records_of, size_of, sized, whole}
 use Rattle.jrn_file.proofs.Readings.{Front, found}
-use Rattle.jrn_file.proofs.Sizes.{length-sized}
+use Rattle.jrn_file.proofs.laws.Sizes.{length-sized}
 
 -- a record behind its gate
 at-entry : (entries : List (ℕ × List ℕ)) (rest : List ℕ) (k : ℕ) (r : List ℕ) → slice_get (map (λ (e : ℕ × List ℕ). e.1) entries) k ≡ Some r

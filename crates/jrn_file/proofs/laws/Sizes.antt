@@ -1,12 +1,15 @@
 -- Sizes of records behind their gates, and lists of them that are joined.
-use Rattle.std.proofs.Common.{◌≡◌, ℕ, ◌+◌, List, [], ◌∷◌, ◌++◌, length, map, refl, sym, ◌∙◌, ap, arith, append_assoc, length-append}
+use Rattle.std.proofs.Common.{◌≡◌, ℕ, ◌+◌, Bool, true, false, cond, List, [], ◌∷◌, ◌++◌, length, map, take, drop, refl, sym, ◌∙◌, ap, arith, append_assoc, length-append}
 use Rattle.std.specs.Int.{w32, to_be_bytes}
-use Rattle.jrn_file.specs.Reading.{sized, size_of}
+use Rattle.std.specs.Str.{bytes_eq}
+use Rattle.jrn_file.specs.Reading.{whole, cut, opened_of, reading_of, records_of, size_of, sized}
 use Rattle.jrn_file.specs.Journal.{behind_gates, journal_bytes, AreOpen}
 
+-- a record behind its length
 pub length-sized : (r : List ℕ) → length (sized r) ≡ 4 + length r
 length-sized r = omega (arith, length-append (to_be_bytes w32 (length r)) r)
 
+-- records behind their gates
 pub length-behind_gates : (entries : List (ℕ × List ℕ)) → length (behind_gates entries) ≡ size_of (map (λ e. e.1) entries)
 length-behind_gates [] = refl
 length-behind_gates (e ∷ more) =
@@ -16,11 +19,13 @@ map-with_gates : (records : List (List ℕ)) → map (λ (e : ℕ × List ℕ). 
 map-with_gates [] = refl
 map-with_gates (r ∷ records) = ap (λ (l : List (List ℕ)). r ∷ l) (map-with_gates records)
 
+-- a journal, which ends with a closed gate
 pub length-journal_bytes : (head : List ℕ) (records : List (List ℕ)) → length (journal_bytes head records) ≡ size_of (head ∷ records) + 1
 length-journal_bytes head records =
     let gates : List (ℕ × List ℕ) = map (λ (r : List ℕ). (1, r)) (head ∷ records) in
     omega (arith, length-append (behind_gates gates) (0 ∷ []), length-behind_gates gates, ap size_of (map-with_gates (head ∷ records)))
 
+-- records that are joined
 pub size_of-append : (xs ys : List (List ℕ)) → size_of (xs ++ ys) ≡ size_of xs + size_of ys
 size_of-append [] ys = omega arith
 size_of-append (x ∷ xs) ys = omega (arith, size_of-append xs ys)
@@ -34,3 +39,19 @@ behind_gates-append (x ∷ xs) ys =
 pub AreOpen-append : (xs ys : List (ℕ × List ℕ)) → AreOpen xs → AreOpen ys → AreOpen (xs ++ ys)
 AreOpen-append [] ys open_xs open_ys = open_ys
 AreOpen-append (x ∷ xs) ys open_xs open_ys = (open_xs.0, open_xs.1, AreOpen-append xs ys open_xs.2 open_ys)
+
+-- damage stands behind the records in front of it
+cut-by : (all : List (List ℕ)) (b : Bool) (found : List (List ℕ)) (at : ℕ) → cond b (whole all) (cut all (size_of all)) ≡ cut found at → at ≡ size_of found
+cut-by all true found at is = absurd (cc)
+cut-by all false found at is =
+    let place : size_of all ≡ at = cc in
+    let same : all ≡ found = cc in
+    sym place ∙ ap size_of same
+
+cut-of : (all : List (List ℕ)) (rest : List ℕ) (found : List (List ℕ)) (at : ℕ) → reading_of all rest ≡ cut found at → at ≡ size_of found
+cut-of [] rest found at is = absurd (cc)
+cut-of (head ∷ records) rest found at is = cut-by (head ∷ records) (bytes_eq (take 1 rest) (0 ∷ [])) found at is
+
+pub cut-place : (bytes : List ℕ) (all : List (List ℕ)) (at : ℕ) → opened_of bytes ≡ cut all at → at ≡ size_of all
+unfolding opened_of
+cut-place bytes all at is = cut-of (records_of bytes) (drop (size_of (records_of bytes)) bytes) all at is

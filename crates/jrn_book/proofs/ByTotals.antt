@@ -1,0 +1,60 @@
+-- What totals tell is what balances tell.
+use Rattle.std.proofs.Common.{◌≡◌, ◌≢◌, ℕ, zero, suc, ◌+◌, ◌-◌, ◌<◌, ◌≤◌, All, List, [], ◌∷◌, length, take, get_or, Some, ℤ, sym, ap, ◌∙◌, subst, arith, inl, inr, ⊎_elim}
+use Rattle.std.specs.Prelude.{IsTrue, slice_get}
+use Rattle.std.proofs.lemmas.List.{take_all}
+use Rattle.std.proofs.lemmas.Option.{same_Some, slice_get-get_or}
+use Rattle.corr_text.specs.First.{unless}
+use Rattle.day_model.specs.declared.pay.Leg.{Leg}
+use Rattle.day_model.specs.declared.entry.Entry.{Entry}
+use Rattle.day_model.specs.declared.entry.Outcome.TheVariants.{Unfunded}
+use Rattle.day_model.specs.Balance.{balance_of, changed, is_within, leg_test}
+use Rattle.day_model.specs.Chart.{Chart, IsChart, IsListed, IsSmall, account_at}
+use Rattle.day_model.specs.Fit.{legs_fit}
+use Rattle.day_model.specs.Legal.{IsLegal}
+use Rattle.day_model.specs.Totals.{Pair, balance_with, pair_at, totals_of}
+use Rattle.day_model.proofs.laws.Fitting.{Sound, leg_sound, transfer, two_legs}
+use Rattle.day_model.proofs.laws.Balances.{small_at}
+use Rattle.day_model.proofs.laws.Pairs.{balance_is_by_totals}
+use Rattle.acct_locks.specs.Holdings.{Holding, Holds, HoldsOnce}
+use Rattle.jrn_book.specs.Deciding.{leg_test_by}
+
+-- each leg of a pay that fits is of a listed account, with an amount below 10^14
+pub sound_legs : (chart : Chart) (legs : List Leg) → IsTrue (legs_fit chart legs) → All (Sound chart) legs
+sound_legs chart legs fits k d lt = leg_sound chart legs k (get_or legs k d) (transfer chart legs fits) (slice_get-get_or legs k d lt)
+
+-- it has two of them
+pub few_legs : (chart : Chart) (legs : List Leg) → IsTrue (legs_fit chart legs) → 1 + length legs ≤ 255
+few_legs chart legs fits = omega (arith, two_legs chart legs (transfer chart legs fits))
+
+module _ (chart : Chart) (entries : List Entry) (n : ℕ) (p : Pair) (is : p ≡ totals_of n entries) where
+  -- the balance is that by the totals
+  pub balance_by : balance_with chart n p ≡ balance_of chart entries n
+  balance_by = ap (balance_with chart n) is ∙ sym (balance_is_by_totals chart entries n)
+
+  -- which is below 10^14 in size
+  pub small_by : IsChart chart → IsLegal chart entries → IsListed chart n → IsSmall (balance_with chart n p)
+  small_by sound legal listed =
+      let all : take (length entries) entries ≡ entries = take_all (length entries) entries (omega arith) in
+      let small = small_at chart entries n (length entries) sound legal listed (omega arith) in
+      subst IsSmall (ap (λ (es : List Entry). balance_of chart es n) all ∙ sym balance_by) small
+
+-- the test of a leg is that by its account's totals
+pub test_by : (chart : Chart) (entries : List Entry) (leg : Leg) (p : Pair) (k : ℕ) → p ≡ totals_of leg.account.0 entries → leg_test_by chart p k leg ≡ leg_test chart entries k leg
+test_by chart entries leg p k is =
+    ap (λ (b : ℤ). unless (is_within (account_at chart leg.account.0) (changed leg.side leg.amount.0 b)) (Unfunded k b)) (balance_by chart entries leg.account.0 p is)
+
+-- the pair that stands at an account's place is the account's
+pub pair_here : (pairs : List Pair) (n : ℕ) (p : Pair) → 1 ≤ n → n ≤ length pairs → pair_at pairs n ≡ Some p → get_or pairs (n - 1) (0, 0) ≡ p
+pair_here pairs zero p low high at = absurd (omega (arith, low))
+pair_here pairs (suc k) p low high at =
+    let less : suc k - 1 ≡ k = omega arith in
+    ap (λ (i : ℕ). get_or pairs i (0, 0)) less ∙ same_Some (get_or pairs k (0, 0)) p (sym (slice_get-get_or pairs k (0, 0) (omega (arith, high))) ∙ at)
+
+-- who is held by one purse alone is held
+pub holds_once : (held : List Holding) (n : ℕ) → HoldsOnce held n → Holds held n
+holds_once [] n it = it
+holds_once (h ∷ held) n it =
+    ⊎_elim
+    (λ (here : (h.number ≡ n) × (Holds held n → ⊥)). inl here.0)
+    (λ (below : (h.number ≢ n) × HoldsOnce held n). inr (holds_once held n below.1))
+    it

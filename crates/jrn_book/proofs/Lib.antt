@@ -1,0 +1,11 @@
+pub mod Places
+pub mod ByTotals
+pub mod Following
+pub mod Resuming
+pub mod Entering
+pub mod Sizes
+pub mod Staying
+pub mod Commits
+pub mod Growing
+pub mod Found
+pub mod laws

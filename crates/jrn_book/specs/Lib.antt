@@ -1,0 +1,11 @@
+pub mod Journal
+pub mod Index
+pub mod Book
+pub mod Answers
+pub mod Commits
+pub mod Appending
+pub mod Opening
+pub mod Resuming
+pub mod Reading
+pub mod Deciding
+pub mod Room

@@ -1,0 +1,128 @@
+//! A book: accounts and their history over a journal on a disk.
+
+ghost use Rattle.std.specs.Prelude.{◌≡◌, ◌≤◌, None, Some, IsOk, OnOk, IsTrue};
+ghost use Rattle.std.specs.Bool.{OnTrue};
+ghost use Rattle.day_model.specs.Chart.{IsChart};
+ghost use Rattle.day_model.specs.Legal.{IsLegal};
+ghost use Rattle.day_model.specs.Next.{entered_at};
+ghost use Rattle.day_model.specs.Shape.{HasShape};
+ghost use Rattle.jrn_file.specs.File.{disk_of};
+ghost use Rattle.jrn_book.specs.Book.{Counts, StandsOnDisk};
+
+use crate::index::Index;
+use crate::room::Room;
+use acct_locks::BookSides;
+use corr_disk::Disk;
+use corr_ids::{Day, Mir};
+use corr_text::Memory;
+use day_model::{Accounts, History, Pay};
+use jrn_file::JFile;
+use std::alloc::Global;
+use std::marker::Model;
+
+/// Accounts and their history, each entry of which is on the disk.
+///
+/// Contracts see the accounts, the history, the table of the purses that belong to it, the open file, the disk's count of
+/// faults at the opening, the day of a commit that failed, if one did, and the pay for which there is room, if any.
+#[derive(Drop)]
+pub struct JrnBook<D: Disk> {
+    pub(crate) accounts: Accounts,
+    pub(crate) history: History,
+    pub(crate) index: Index,
+    pub(crate) sides: BookSides,
+    pub(crate) file: JFile<D>,
+    pub(crate) at_open: u64,
+    pub(crate) failed: Option<Day>,
+    pub(crate) room: Option<Room>,
+}
+
+impl<D: Disk> Model for JrnBook<D> {
+    ghost use Rattle.jrn_book.specs.Book.{Book, IsBacked, IsBook};
+
+    ghost Value = { Book D };
+
+    ghost view = { λ b. record { accounts = b.accounts; history = b.history.entries; table = b.sides.table; file = b.file; at_open = b.at_open; failed = b.failed; room = b.room } };
+
+    ghost invariant = { λ b. IsBook D.honest D.reads D.may_leave D.faults (record { accounts = b.accounts; history = b.history.entries; table = b.sides.table; file = b.file; at_open = b.at_open; failed = b.failed; room = b.room })
+        × IsBacked b.accounts b.history b.index b.sides b.room };
+}
+
+impl<D: Disk> JrnBook<D> {
+    /// The accounts. Takes no memory.
+    pub fn accounts(&self) -> &Accounts
+        ensures value { result.now ≡ self.now.accounts }
+        ensures sound { IsChart self.now.accounts }
+    {
+        &self.accounts
+    }
+
+    /// The history. Takes no memory.
+    pub fn history(&self) -> &History
+        ensures value { result.now.entries ≡ self.now.history }
+        ensures legal { IsLegal self.now.accounts self.now.history }
+    {
+        &self.history
+    }
+
+    /// The place, from 1, of the entry with this reference; none exactly where there is none. Takes no memory.
+    pub fn place_of(&self, mir: &Mir) -> Option<u32>
+        ensures { result ≡ entered_at mir.now self.now.history }
+    {
+        self.index.place(mir)
+    }
+
+    fn has_room_for(&self, p: &Pay) -> bool
+        ensures same { OnTrue result (self.now.room ≡ Some p.now) }
+        ensures all { self.now.room ≡ Some p.now → IsTrue result }
+    {
+        match &self.room {
+            Some(room) => room.is_for(p),
+            None => false,
+        }
+    }
+
+    /// Takes all that one commit of a pay needs: a copy of it, and room for its frame, its entry and its place in the index.
+    ///
+    /// `Memory`: there is none, and no room for any pay.
+    pub fn reserve(&mut self, alloc: Global, p: &Pay) -> Result<(), Memory>
+        requires shape { HasShape p.now }
+        ensures same { self.new ≡ record self.old { room = self.new.room } }
+        ensures room { OnOk result (self.new.room ≡ Some p.now) }
+        ensures again { self.old.room ≡ Some p.now → IsOk result }
+    {
+        if self.has_room_for(p) {
+            return Ok(());
+        }
+        self.room = None;
+        self.history.reserve()?;
+        self.index.reserve()?;
+        let room = Room::new(alloc, p)?;
+        self.room = Some(room);
+        Ok(())
+    }
+
+    /// The accounts, the history and the disk. Takes no memory.
+    ///
+    /// What a crash may leave of the disk stands for the history; where a commit failed, it may also stand for the history
+    /// and one legal entry of that commit's day.
+    pub fn into_parts(self) -> (Accounts, History, D)
+        ensures accounts { result.0 ≡ self.accounts }
+        ensures history { result.1.entries ≡ self.history }
+        ensures disk { result.2 ≡ disk_of self.file }
+        ensures legal { IsLegal self.accounts self.history }
+        ensures stands { StandsOnDisk D.honest D.reads D.may_leave self.failed self.file self.accounts self.history }
+        ensures counts { Counts self.failed self.at_open (D.faults result.2) }
+    {
+        let JrnBook {
+            accounts,
+            history,
+            index: _,
+            sides: _,
+            file,
+            at_open: _,
+            failed: _,
+            room: _,
+        } = self;
+        (accounts, history, file.into_disk())
+    }
+}

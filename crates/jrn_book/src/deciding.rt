@@ -1,0 +1,221 @@
+//! Decisions by the totals of accounts.
+
+ghost use Rattle.std.specs.Prelude.{◌≡◌, ◌+◌, ◌<◌, ◌≤◌, pos, ◌+ℤ◌, ◌-ℤ◌, All, IsTrue, IfNone, Some, length, unwrap_or};
+ghost use Rattle.corr_text.specs.First.{first_of};
+ghost use Rattle.day_model.specs.declared.entry.Outcome.TheVariants.{Booked};
+ghost use Rattle.day_model.specs.Balance.{changed, is_within, leg_test, leg_tests};
+ghost use Rattle.day_model.specs.Chart.{IsChart, IsListed, IsSmall, account_at};
+ghost use Rattle.day_model.specs.Fit.{legs_fit};
+ghost use Rattle.day_model.specs.Legal.{IsLegal};
+ghost use Rattle.day_model.specs.Pairs.{pairs_with};
+ghost use Rattle.day_model.specs.Totals.{HasTotals, balance_with, booked_legs, totals_of};
+ghost use Rattle.day_model.proofs.laws.Fitting.{Sound};
+ghost use Rattle.acct_locks.specs.Holdings.{CanSettle, HoldsOnce, held_totals, held_with};
+ghost use Rattle.jrn_book.specs.Deciding.{HoldsAll, leg_test_by};
+
+use acct_locks::{BookSides, Held};
+use day_model::{Account, Accounts, Entry, History, Leg, Outcome, Side};
+
+// A credit and a debit total may each pass what an `i64` holds, their difference may not.
+fn balance_by(account: &Account, totals: (u64, u64)) -> i64
+    requires { IsSmall ((account.now.opening +ℤ pos totals.0) -ℤ pos totals.1) }
+    ensures { result ≡ (account.now.opening +ℤ pos totals.0) -ℤ pos totals.1 }
+{
+    (account.opening as i128 + totals.0 as i128 - totals.1 as i128) as i64
+}
+
+fn after_leg(balance: i64, leg: &Leg) -> i64
+    requires small { IsSmall balance }
+    requires amount { leg.now.amount.0 < 100000000000000 }
+    ensures { result ≡ changed leg.now.side leg.now.amount.0 balance }
+{
+    match leg.side {
+        Side::Credit => balance + leg.amount.0 as i64,
+        Side::Debit => balance - leg.amount.0 as i64,
+    }
+}
+
+fn may_hold(account: &Account, balance: i64) -> bool
+    ensures { result ≡ is_within (Some account.now) balance }
+{
+    account.floor <= balance && balance <= account.ceil
+}
+
+/// What leg `number` fails with, given the totals of its account.
+pub(crate) fn leg_outcome(
+    a: &Accounts,
+    number: u8,
+    leg: &Leg,
+    totals: (u64, u64),
+) -> Option<Outcome>
+    requires listed { IsListed a.now leg.now.account.0 }
+    requires small { IsSmall (balance_with a.now leg.now.account.0 totals) }
+    requires amount { leg.now.amount.0 < 100000000000000 }
+    ensures value { result ≡ leg_test_by a.now totals number leg.now }
+{
+    let account = a.get(leg.account);
+    let balance = balance_by(account, totals);
+    if may_hold(account, after_leg(balance, leg)) {
+        None
+    } else {
+        Some(Outcome::Unfunded {
+            leg: number,
+            balance,
+        })
+    }
+}
+
+// What a held leg fails with, whose account's totals agree with the sides.
+fn held_outcome<H: Held>(
+    a: &Accounts,
+    h: &History,
+    sides: &mut BookSides,
+    held: &mut H,
+    number: u8,
+    leg: &Leg,
+) -> Option<Outcome>
+    requires chart { IsChart a.now }
+    requires legal { IsLegal a.now h.now.entries }
+    requires totals { HasTotals sides.old.pairs (length a.now.accounts) h.now.entries }
+    requires sound { Sound a.now leg.now }
+    requires held { HoldsOnce (H.held held.old) leg.now.account.0 }
+    requires table { sides.old.table ≡ H.table held.old }
+    ensures value { result ≡ leg_test a.now h.now.entries number leg.now }
+    ensures agreed { held_totals (H.held held.old) leg.now.account.0 ≡ totals_of leg.now.account.0 h.now.entries }
+    ensures held_same { (H.held held.new ≡ H.held held.old) × (H.table held.new ≡ H.table held.old) × (H.count held.new ≡ H.count held.old) }
+    ensures sides_same { sides.new ≡ sides.old }
+{
+    let _ = h;
+    held.agree(sides, leg.account);
+    leg_outcome(a, number, leg, held.totals(leg.account))
+}
+
+fn held_test<H: Held>(
+    a: &Accounts,
+    h: &History,
+    sides: &mut BookSides,
+    held: &mut H,
+    number: u8,
+    legs: &[Leg],
+) -> Option<Outcome>
+    requires chart { IsChart a.now }
+    requires legal { IsLegal a.now h.now.entries }
+    requires totals { HasTotals sides.old.pairs (length a.now.accounts) h.now.entries }
+    requires sound { All (Sound a.now) legs.now }
+    requires few { number + length legs.now ≤ 255 }
+    requires held { HoldsAll (H.held held.old) legs.now }
+    requires table { sides.old.table ≡ H.table held.old }
+    ensures value { result ≡ first_of (leg_tests a.now h.now.entries number legs.now) }
+    ensures agreed { IfNone result (All (λ leg. held_totals (H.held held.old) leg.account.0 ≡ totals_of leg.account.0 h.now.entries) legs.now) }
+    ensures held_same { (H.held held.new ≡ H.held held.old) × (H.table held.new ≡ H.table held.old) × (H.count held.new ≡ H.count held.old) }
+    ensures sides_same { sides.new ≡ sides.old }
+{
+    match legs {
+        [] => None,
+        [leg, others @ ..] => match held_outcome(a, h, sides, held, number, leg) {
+            Some(outcome) => Some(outcome),
+            None => held_test(a, h, sides, held, number + 1, others),
+        },
+    }
+}
+
+/// Decides by the totals of held accounts, each of which agrees with the sides.
+pub(crate) fn decide_held<H: Held>(
+    a: &Accounts,
+    h: &History,
+    sides: &mut BookSides,
+    held: &mut H,
+    legs: &[Leg],
+) -> Outcome
+    requires chart { IsChart a.now }
+    requires legal { IsLegal a.now h.now.entries }
+    requires totals { HasTotals sides.old.pairs (length a.now.accounts) h.now.entries }
+    requires fits { IsTrue (legs_fit a.now legs.now) }
+    requires held { HoldsAll (H.held held.old) legs.now }
+    requires table { sides.old.table ≡ H.table held.old }
+    ensures value { result ≡ unwrap_or (first_of (leg_tests a.now h.now.entries 1 legs.now)) Booked }
+    ensures agreed { result ≡ Booked → All (λ leg. held_totals (H.held held.old) leg.account.0 ≡ totals_of leg.account.0 h.now.entries) legs.now }
+    ensures held_same { (H.held held.new ≡ H.held held.old) × (H.table held.new ≡ H.table held.old) × (H.count held.new ≡ H.count held.old) }
+    ensures sides_same { sides.new ≡ sides.old }
+{
+    match held_test(a, h, sides, held, 1, legs) {
+        Some(outcome) => outcome,
+        None => Outcome::Booked,
+    }
+}
+
+// What a leg fails with, by the pair of its account.
+fn pair_outcome(
+    a: &Accounts,
+    h: &History,
+    pairs: &[(u64, u64)],
+    number: u8,
+    leg: &Leg,
+) -> Option<Outcome>
+    requires chart { IsChart a.now }
+    requires legal { IsLegal a.now h.now.entries }
+    requires totals { HasTotals pairs.now (length a.now.accounts) h.now.entries }
+    requires sound { Sound a.now leg.now }
+    ensures value { result ≡ leg_test a.now h.now.entries number leg.now }
+{
+    let _ = h;
+    leg_outcome(a, number, leg, pairs[leg.account.0 as usize - 1])
+}
+
+fn pairs_test(
+    a: &Accounts,
+    h: &History,
+    pairs: &[(u64, u64)],
+    number: u8,
+    legs: &[Leg],
+) -> Option<Outcome>
+    requires chart { IsChart a.now }
+    requires legal { IsLegal a.now h.now.entries }
+    requires totals { HasTotals pairs.now (length a.now.accounts) h.now.entries }
+    requires sound { All (Sound a.now) legs.now }
+    requires few { number + length legs.now ≤ 255 }
+    ensures value { result ≡ first_of (leg_tests a.now h.now.entries number legs.now) }
+{
+    match legs {
+        [] => None,
+        [leg, others @ ..] => match pair_outcome(a, h, pairs, number, leg) {
+            Some(outcome) => Some(outcome),
+            None => pairs_test(a, h, pairs, number + 1, others),
+        },
+    }
+}
+
+/// Decides by the pairs of all accounts.
+pub(crate) fn decide_by(a: &Accounts, h: &History, pairs: &[(u64, u64)], legs: &[Leg]) -> Outcome
+    requires chart { IsChart a.now }
+    requires legal { IsLegal a.now h.now.entries }
+    requires totals { HasTotals pairs.now (length a.now.accounts) h.now.entries }
+    requires fits { IsTrue (legs_fit a.now legs.now) }
+    ensures value { result ≡ unwrap_or (first_of (leg_tests a.now h.now.entries 1 legs.now)) Booked }
+{
+    match pairs_test(a, h, pairs, 1, legs) {
+        Some(outcome) => outcome,
+        None => Outcome::Booked,
+    }
+}
+
+/// The legs that an entry books: none where it is unfunded.
+pub(crate) fn legs_booked(entry: &Entry) -> &[Leg]
+    ensures { result.now ≡ booked_legs entry.now }
+{
+    match entry.outcome {
+        Outcome::Booked => entry.pay.legs.as_slice(),
+        Outcome::Unfunded { .. } => &[],
+    }
+}
+
+/// Adds what an entry books to the held totals and to the sides.
+pub(crate) fn settle_entry<H: Held>(entry: &Entry, sides: &mut BookSides, held: &mut H)
+    requires can { CanSettle (booked_legs entry.now) (H.held held.old) }
+    requires table { sides.old.table ≡ H.table held.old }
+    ensures held { H.held held.new ≡ held_with (booked_legs entry.now) (H.held held.old) }
+    ensures held_same { (H.table held.new ≡ H.table held.old) × (H.count held.new ≡ H.count held.old) }
+    ensures sides { sides.new ≡ record sides.old { pairs = pairs_with (booked_legs entry.now) sides.old.pairs } }
+{
+    held.settle(sides, legs_booked(entry));
+}

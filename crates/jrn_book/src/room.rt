@@ -1,0 +1,112 @@
+//! Room for one commit.
+
+ghost use Rattle.std.specs.Prelude.{◌≡◌, ◌+◌, ◌<◌, ◌≤◌, ◌^◌, [], length, IfOk, IsOk, IsTrue};
+ghost use Rattle.std.specs.Bool.{OnTrue};
+ghost use Rattle.corr_ids.specs.Day.{InCentury};
+ghost use Rattle.day_model.specs.Shape.{HasShape};
+ghost use Rattle.jrn_file.specs.Journal.{frame_of};
+ghost use Rattle.jrn_codec.specs.Record.{IsEntry, entry_bytes};
+ghost use Rattle.jrn_book.specs.Room.{longest_record};
+
+use crate::same::is_pay;
+use corr_ids::Day;
+use corr_text::{Buf, Memory};
+use day_model::{Entry, Leg, Outcome, Pay};
+use jrn_codec::put_entry;
+use std::alloc::Global;
+use std::marker::Model;
+
+/// What one commit of a pay takes: a copy of it, and room for its record and for the record's frame.
+///
+/// Contracts see the pay.
+#[derive(Drop)]
+pub(crate) struct Room {
+    pay: Pay,
+    record: Buf,
+    frame: Buf,
+}
+
+impl Model for Room {
+    ghost use Rattle.std.specs.Prelude.{◌≡◌, ◌+◌, ◌≤◌, []};
+    ghost use Rattle.day_model.specs.declared.pay.Pay.{Pay as ThePay};
+    ghost use Rattle.day_model.specs.Shape.{HasShape};
+    ghost use Rattle.jrn_book.specs.Room.{longest_record};
+
+    ghost Value = { ThePay };
+
+    ghost view = { λ r. r.pay };
+
+    ghost invariant = { λ r. HasShape r.pay × (r.record.bytes ≡ []) × (r.frame.bytes ≡ []) × (longest_record r.pay ≤ r.record.spare) × (longest_record r.pay + 5 ≤ r.frame.spare) };
+}
+
+/// Puts a record into an empty buffer as it is appended: its length in four bytes, the record and a byte 0.
+fn put_frame(frame: &mut Buf, body: &[u8]) -> Result<(), Memory>
+    requires empty { frame.old.bytes ≡ [] }
+    requires few { length body.now < 2 ^ 32 }
+    requires room { length body.now + 5 ≤ frame.old.spare }
+    ensures frame { frame.new.bytes ≡ frame_of body.now }
+    ensures ok { IsOk result }
+{
+    frame.push(&(body.len() as u32).to_be_bytes())?;
+    frame.push(body)?;
+    frame.push(&[0])
+}
+
+impl Room {
+    /// Room for a commit of this pay: as much as its longest record takes.
+    pub(crate) fn new(alloc: Global, p: &Pay) -> Result<Room, Memory>
+        requires shape { HasShape p.now }
+        ensures pay { IfOk result (λ room. room ≡ p.now) }
+    {
+        let entry = Entry {
+            pay: p.copy(alloc)?,
+            day: Day(3652),
+            outcome: Outcome::Unfunded { leg: 1, balance: 0 },
+        };
+        let mut record = Buf::new(alloc);
+        put_entry(&entry, &mut record)?;
+        let longest = record.bytes().len() as u64;
+        record.clear();
+        let mut frame = Buf::new(alloc);
+        frame.reserve(longest + 5)?;
+        Ok(Room {
+            pay: entry.pay,
+            record,
+            frame,
+        })
+    }
+
+    /// The legs of its pay.
+    pub(crate) fn legs(&self) -> &[Leg]
+        ensures { result.now ≡ self.now.legs }
+    {
+        self.pay.legs.as_slice()
+    }
+
+    /// Whether it is for this pay.
+    pub(crate) fn is_for(&self, p: &Pay) -> bool
+        ensures same { OnTrue result (self.now ≡ p.now) }
+        ensures all { self.now ≡ p.now → IsTrue result }
+    {
+        is_pay(&self.pay, p)
+    }
+
+    /// The entry that the pay becomes, and its record as it is appended. Takes no memory.
+    pub(crate) fn write(self, day: Day, outcome: Outcome) -> (Entry, Buf)
+        requires day { InCentury day }
+        ensures entry { result.0 ≡ record { pay = self; day = day; outcome = outcome } }
+        ensures written { IsEntry result.0 }
+        ensures frame { result.1.bytes ≡ frame_of (entry_bytes result.0) }
+        ensures few { length (entry_bytes result.0) ≤ 1048576 }
+    {
+        let Room {
+            pay,
+            mut record,
+            mut frame,
+        } = self;
+        let entry = Entry { pay, day, outcome };
+        put_entry(&entry, &mut record).unwrap();
+        put_frame(&mut frame, record.bytes()).unwrap();
+        (entry, frame)
+    }
+}

@@ -1,0 +1,7 @@
+use super::*;
+use std::test::Fail;
+
+#[test]
+fn nothing_yet(_rt: HostRuntime) -> Result<(), Fail> {
+    Ok(())
+}
