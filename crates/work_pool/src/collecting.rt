@@ -22,8 +22,8 @@ pub fn collect<P, J: Drop, R: Drop>(seats: &mut [Seat<P, J, R>], count: usize, r
     }
 }
 
-/// The passes of seats, in their order.
-pub fn rise<P: Drop, J: Drop, R: Drop>(seats: Vec<Seat<P, J, R>>, passes: &mut Vec<P>)
+/// The passes of seats that nobody needs any more, in their order.
+pub fn vacate<P: Drop, J: Drop, R: Drop>(seats: Vec<Seat<P, J, R>>, passes: &mut Vec<P>)
     requires empty { passes.old.items ≡ [] }
     requires room { vec_len seats ≤ vec_capacity passes.old }
     ensures { passes.new.items ≡ map (λ seat. seat.pass) seats.items }

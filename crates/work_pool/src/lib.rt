@@ -6,12 +6,15 @@ mod dealing;
 mod desk;
 mod gate;
 mod hand;
+mod room;
 mod run;
 mod seat;
+mod worked;
 
 pub use desk::Desk;
 pub use gate::{Gate, OpenGate};
-pub use run::{Worked, run_jobs};
+pub use run::run_jobs;
+pub use worked::Worked;
 
 #[cfg(test)]
 mod tests;

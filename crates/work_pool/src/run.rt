@@ -1,57 +1,21 @@
 //! Runs workers over jobs.
 
-ghost use Rattle.std.specs.Prelude.{◌≡◌, ◌<◌, ◌≤◌, [], length, map, IfOk, OnErr, vec_len, vec_capacity};
+ghost use Rattle.std.specs.Prelude.{◌≡◌, ◌<◌, ◌≤◌, length, map, IfOk, OnErr, vec_len};
 ghost use Rattle.work_pool.specs.Served.{AllTaken, AreServed};
-ghost use Rattle.work_pool.specs.Tasks.{AreInHands, ServedHand, ServedSeats};
+ghost use Rattle.work_pool.specs.Tasks.{ServedHand, ServedSeats};
 
-use crate::collecting::{collect, rise};
-use crate::dealing::{deal, seat_all};
+use crate::collecting::{collect, vacate};
+use crate::dealing::seat_all;
 use crate::desk::Desk;
 use crate::gate::Gate;
-use crate::hand::{Hand, serve_hand};
+use crate::hand::serve_hand;
+use crate::room::{Room, make_room};
 use crate::seat::Seat;
-use corr_text::Memory;
+use crate::worked::Worked;
 use std::alloc::Global;
 use std::sync::Wait;
 use std::thread;
 use std::thread::Threads;
-
-/// What became of passes and jobs.
-#[derive(Drop)]
-pub struct Worked<K: Desk> {
-    /// The passes in their order, as the serves left them.
-    pub passes: Vec<K::Pass>,
-
-    /// One reply a job, in the order of the jobs; or no job was served.
-    pub replies: Result<Vec<K::Reply>, Memory>,
-}
-
-/// All the memory that a run takes.
-struct Room<P, J, R> {
-    hands: Vec<Hand<J, R>>,
-    seats: Vec<Seat<P, J, R>>,
-    passes: Vec<P>,
-    replies: Vec<R>,
-}
-
-fn make_room<P: Drop, J: Drop, R: Drop>(
-    alloc: Global,
-    workers: usize,
-    jobs: Vec<J>,
-) -> Result<Room<P, J, R>, Memory>
-    requires { 0 < workers }
-    ensures hands { IfOk result (λ room. AreInHands workers jobs.items room.hands.items) }
-    ensures seats { IfOk result (λ room. (room.seats.items ≡ []) × (workers ≤ vec_capacity room.seats)) }
-    ensures passes { IfOk result (λ room. (room.passes.items ≡ []) × (workers ≤ vec_capacity room.passes)) }
-    ensures replies { IfOk result (λ room. (room.replies.items ≡ []) × (vec_len jobs ≤ vec_capacity room.replies)) }
-{
-    Ok(Room {
-        seats: Vec::with_capacity(alloc, workers)?,
-        passes: Vec::with_capacity(alloc, workers)?,
-        replies: Vec::with_capacity(alloc, jobs.len())?,
-        hands: deal(alloc, workers, jobs)?,
-    })
-}
 
 // The hand of each seat is served, by a thread of its own.
 fn serve_seats<K: Desk + Sync, G: Gate + Sync, R: Wait + Threads + Sync>(
@@ -74,7 +38,10 @@ fn serve_seats<K: Desk + Sync, G: Gate + Sync, R: Wait + Threads + Sync>(
     thread::for_each_mut(rt, seats, threads, &one);
 }
 
-/// Serves each job once, job i by worker (i - 1) mod n + 1 of the n workers, one a pass.
+/// Serves each job once. Each pass has a worker with the number of its place, from 1, and a thread of its own where one can be
+/// made; job n goes to worker (n - 1) mod workers + 1. Returns once all jobs were served.
+///
+/// There are 1 to 16 passes, all of which the desk takes, before and after. `Memory` comes before any job is served.
 pub fn run_jobs<K: Desk + Sync, G: Gate + Sync, R: Wait + Threads + Sync>(
     rt: &R,
     alloc: Global,
@@ -108,7 +75,7 @@ pub fn run_jobs<K: Desk + Sync, G: Gate + Sync, R: Wait + Threads + Sync>(
     seat_all(&mut seats, passes, hands);
     serve_seats(rt, desk, gate, seats.as_mut_slice());
     collect(seats.as_mut_slice(), count, &mut replies);
-    rise(seats, &mut back);
+    vacate(seats, &mut back);
     Worked {
         passes: back,
         replies: Ok(replies),
