@@ -1,5 +1,5 @@
 -- An element at a place of a list.
-use Rattle.std.proofs.Common.{◌≡◌, ◌≢◌, ◌<◌, ℕ, zero, suc, List, [], ◌∷◌, ◌++◌, length, take, Some, refl, ap, ◌∙◌, arith}
+use Rattle.std.proofs.Common.{◌≡◌, ◌≢◌, ◌<◌, ℕ, zero, suc, List, [], ◌∷◌, ◌++◌, length, take, drop, Some, refl, ap, ◌∙◌, arith}
 use Rattle.std.proofs.Math.Seq.{take-append_seam}
 use Rattle.std.proofs.Math.ListN.{set}
 use Rattle.std.specs.List.{slice_get}
@@ -37,5 +37,5 @@ module _ {A : Type 0} where
   there_is (x ∷ xs) (suc i) within = there_is xs i (omega arith)
 
   -- the elements of a vector that were lent and are back
-  pub given_back : (n : ℕ) (xs spare : List A) → n ≡ length xs → take n (xs ++ spare) ≡ xs
-  given_back n xs spare long = ap (λ (m : ℕ). take m (xs ++ spare)) long ∙ take-append_seam xs spare
+  pub given_back : (n : ℕ) (xs old : List A) → n ≡ length xs → take n (xs ++ drop (length xs) old) ≡ xs
+  given_back n xs old long = ap (λ (m : ℕ). take m (xs ++ drop (length xs) old)) long ∙ take-append_seam xs (drop (length xs) old)

@@ -1,5 +1,5 @@
 -- One reply more is taken.
-use Rattle.std.proofs.Common.{◌≡◌, ◌≢◌, ◌<◌, ◌≤◌, ◌+◌, ◌/◌, ◌%◌, ℕ, List, [], ◌∷◌, ◌++◌, length, length-append, ◌*◌, map, get_or, Option, Some, ap, sym, ◌∙◌, arith, ⊎_elim}
+use Rattle.std.proofs.Common.{◌≡◌, ◌≢◌, ◌<◌, ◌≤◌, ◌+◌, ◌/◌, ◌%◌, ℕ, List, [], ◌∷◌, ◌++◌, length, length-append, ◌*◌, map, get_or, Option, Some, refl, ap, sym, ◌∙◌, arith, ⊎_elim}
 use Rattle.std.specs.List.{slice_get}
 use Rattle.std.specs.Option.{IsSome, option_and_then}
 use Rattle.std.proofs.Math.ListN.{set, length-set}
@@ -39,14 +39,14 @@ module _ {Pass Job Reply : Type 0} where
     pub taken : (j : ℕ) → j < at → slice_get replies j ≡ reply_in first (j % length first) (j / length first)
     pub replies_count : length replies ≡ at
 
-  pub one_more_taken : (first seats : List (Seat Pass Job Reply)) (count at : ℕ) (replies after : List Reply) (new d : Seat Pass Job Reply) (reply : Reply) → 0 < length first → at < count
+  pub one_more_taken : (first seats : List (Seat Pass Job Reply)) (count at : ℕ) (replies after : List Reply) (d : Seat Pass Job Reply) (hand : List (Task Job Reply)) (reply : Reply) → 0 < length first → at < count
       → AreTaken first seats count at replies
-      → new.pass ≡ (get_or seats (at % length seats) d).pass
-      → ((i : ℕ) → i ≢ at / length seats → reply_of new.hand i ≡ reply_of (get_or seats (at % length seats) d).hand i)
+      → ((i : ℕ) → i ≢ at / length seats → reply_of hand i ≡ reply_of (get_or seats (at % length seats) d).hand i)
       → Some reply ≡ reply_of (get_or seats (at % length seats) d).hand (at / length seats)
       → after ≡ replies ++ reply ∷ []
-      → AreTaken first (set seats (at % length seats) new) count (at + 1) after
-  one_more_taken first seats count at replies after new d reply some more t pass others is grown =
+      → AreTaken first (set seats (at % length seats) record { worker = (get_or seats (at % length seats) d).worker; pass = (get_or seats (at % length seats) d).pass; hand = hand }) count (at + 1) after
+  one_more_taken first seats count at replies after d hand reply some more t others is grown =
+      let new : Seat Pass Job Reply = record { worker = (get_or seats (at % length seats) d).worker; pass = (get_or seats (at % length seats) d).pass; hand = hand } in
       let n = length first in
       let k = at % length seats in
       let r = at / length seats in
@@ -57,7 +57,7 @@ module _ {Pass Job Reply : Type 0} where
       let here : Some reply ≡ reply_in first (at % n) (at / n) = is ∙ sym (reply_at seats k r d below) ∙ ap (λ (x : ℕ × ℕ). reply_in seats x.0 x.1) (λ i. (column i, row i)) ∙ t.left at (omega arith) more in
       record {
         seats_count = length-set seats k new ∙ same;
-        passes = map-set_same (λ (seat : Seat Pass Job Reply). seat.pass) seats k new d pass ∙ t.passes;
+        passes = map-set_same (λ (seat : Seat Pass Job Reply). seat.pass) seats k new d refl ∙ t.passes;
         left = λ j past within.
             let apart : j % n ≡ k → j / n ≢ r = λ e f.
             let one : j ≡ at = sym (place_of j n) ∙ ap (λ (x : ℕ × ℕ). x.0 * n + x.1) (λ i. ((f ∙ row) i, (e ∙ column) i)) ∙ place_of at n in

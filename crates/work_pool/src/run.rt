@@ -73,8 +73,9 @@ pub fn run_jobs<K: Desk + Sync, G: Gate + Sync, R: Wait + Threads + Sync>(
         }
     };
     seat_all(&mut seats, passes, hands);
-    serve_seats(rt, desk, gate, seats.as_mut_slice());
-    collect(seats.as_mut_slice(), count, &mut replies);
+    let all = seats.as_mut_slice();
+    serve_seats(rt, desk, gate, all);
+    collect(all, count, &mut replies);
     vacate(seats, &mut back);
     Worked {
         passes: back,
