@@ -38,10 +38,14 @@ all_taken {Pass} {Job} {Reply} takes olds news even each k pass is =
     let same : t.0.pass ≡ pass = same_Some t.0.pass pass (sym (mapped (λ seat. seat.pass) news k t.0 t.1) ∙ is) in
     subst takes (ap (λ (seat : Seat Pass Job Reply). seat.pass) here ∙ same) e.2
 
--- what was served is told of equal seats
-pub served_at : {Pass Job Reply : Type 0} (serves : Pass → Job → Pass → Reply → Type 0) (argument before result after : Seat Pass Job Reply) → argument ≡ before → result ≡ after
+-- what was served of a seat is told of the one at its place
+pub served_at : {Pass Job Reply : Type 0} (serves : Pass → Job → Pass → Reply → Type 0) (olds news : List (Seat Pass Job Reply)) (k : ℕ) (before after argument result : Seat Pass Job Reply)
+    → slice_get olds k ≡ Some before → slice_get news k ≡ Some after → argument ≡ get_or olds k before → result ≡ get_or news k before
     → ServedHand serves argument.pass argument.hand result.pass result.hand → ServedHand serves before.pass before.hand after.pass after.hand
-served_at {Pass} {Job} {Reply} serves argument before result after old new h = subst (λ (x : Seat Pass Job Reply × Seat Pass Job Reply). ServedHand serves x.0.pass x.0.hand x.1.pass x.1.hand) (λ i. (old i, new i)) h
+served_at {Pass} {Job} {Reply} serves olds news k before after argument result at_old at_new is left h =
+    let old : argument ≡ before = is ∙ get_or_from_slice_get olds k before before at_old in
+    let new : result ≡ after = left ∙ get_or_from_slice_get news k after before at_new in
+    subst (λ (x : Seat Pass Job Reply × Seat Pass Job Reply). ServedHand serves x.0.pass x.0.hand x.1.pass x.1.hand) (λ i. (old i, new i)) h
 
 module _ {Pass Job Reply : Type 0} (serves : Pass → Job → Pass → Reply → Type 0) where
   -- each task of a hand that was served has a reply

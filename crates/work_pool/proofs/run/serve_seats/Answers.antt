@@ -1,7 +1,6 @@
-use Rattle.std.proofs.Common.{◌≡◌, List, map, Some, refl, ap, sym, ◌∙◌, subst, rules}
-use Rattle.std.specs.List.{slice_get}
+use Rattle.std.proofs.Common.{rules}
 use Rattle.std.specs.Fork.{ChangesAt}
-use Rattle.std.proofs.lemmas.Option.{slice_get_within, get_or_from_slice_get}
+use Rattle.std.proofs.lemmas.Option.{slice_get_within}
 use Rattle.work_pool.proofs.Whole.{all_taken, served_at, taken_at}
 use Rattle.work_pool.proofs.run.serve_seats.Goals as goal
 
@@ -17,8 +16,5 @@ returns-clause-served g c = record {
   count = search rules;
   served = λ k before after at_old at_new.
       let e = (c.for_each_mut.ensures k before (slice_get_within c.args.seats.now k before at_old)).1 in
-      served_at (g.K.Desk.serves c.args.desk.now) e.argument.now before e.after_call.now after
-      (e.argument_is ∙ get_or_from_slice_get c.args.seats.now k before before at_old)
-      (e.left ∙ get_or_from_slice_get c.for_each_mut.new.s k after before at_new)
-      e.call.1;
+      served_at (g.K.Desk.serves c.args.desk.now) c.args.seats.now c.for_each_mut.new.s k before after e.argument.now e.after_call.now at_old at_new e.argument_is e.left e.call.1;
 }
