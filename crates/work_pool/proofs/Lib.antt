@@ -1,0 +1,7 @@
+mod Places
+mod Turns
+mod Deals
+mod Serving
+mod Replies
+mod Lists
+mod Whole

@@ -1,0 +1,60 @@
+//! Jobs are dealt out, and workers seated.
+
+ghost use Rattle.std.specs.Prelude.{◌≡◌, ◌<◌, ◌≤◌, ◌-◌, [], length, IfOk, vec_len, vec_capacity};
+ghost use Rattle.work_pool.specs.Tasks.{AreInHands, AreSeated};
+
+use crate::hand::Hand;
+use crate::seat::Seat;
+use corr_text::Memory;
+use std::alloc::Global;
+
+/// Deals the jobs out in turn to so many hands, the first job to the first hand.
+pub fn deal<J: Drop, R: Drop>(
+    alloc: Global,
+    count: usize,
+    jobs: Vec<J>,
+) -> Result<Vec<Hand<J, R>>, Memory>
+    requires { 0 < count }
+    ensures { IfOk result (λ hands. AreInHands count jobs.items hands.items) }
+{
+    let mut hands = empty_hands(alloc, count)?;
+    let mut dealt = 0;
+    for job in jobs {
+        hands[dealt % count].add(job)?;
+        dealt += 1;
+    }
+    Ok(hands)
+}
+
+// So many hands without a job.
+fn empty_hands<J: Drop, R: Drop>(alloc: Global, count: usize) -> Result<Vec<Hand<J, R>>, Memory>
+    ensures { IfOk result (λ hands. AreInHands count [] hands.items) }
+{
+    let mut hands = Vec::with_capacity(alloc, count)?;
+    for _ in 0..count {
+        hands.push_reserved(Hand::new(alloc));
+    }
+    Ok(hands)
+}
+
+/// Seats a worker with each pass and the hand at the same place.
+pub fn seat_all<P: Drop, J: Drop, R: Drop>(
+    seats: &mut Vec<Seat<P, J, R>>,
+    passes: Vec<P>,
+    hands: Vec<Hand<J, R>>,
+)
+    requires empty { seats.old.items ≡ [] }
+    requires room { vec_len passes ≤ vec_capacity seats.old }
+    requires hands { vec_len hands ≡ vec_len passes }
+    requires few { vec_len passes ≤ 16 }
+    ensures { AreSeated passes.items hands.items seats.new.items }
+{
+    let mut hands = hands.into_iter();
+    for pass in passes {
+        let worker = seats.len() as u32 + 1;
+        let Some(hand) = hands.next() else {
+            unreachable!()
+        };
+        seats.push_reserved(Seat { worker, pass, hand });
+    }
+}
