@@ -1,10 +1,11 @@
 //! Calls go through functions that promise nothing: a test then carries none of what sources and sinks promise.
 
-use corr_io::{Failed, MemSink, MemSource, Sink, Source, StdSink, StdSource};
+use corr_io::{Failed, MemSink, MemSource, Sink, Source, StdSink, StdSource, write_some};
 use corr_text::{List, Memory, Text};
 use std::alloc::Global;
-use std::fs;
+use std::io::{ErrorKind, Write};
 use std::test::Fail;
+use std::{fs, io};
 
 // A list of call numbers.
 fn calls(alloc: Global, numbers: &[u64]) -> Result<List<u64>, Memory> {
@@ -147,6 +148,39 @@ fn the_read_of_a_folder_fails(rt: HostRuntime) -> Result<(), Fail> {
 fn a_full_device_fails_each_write(rt: HostRuntime) -> Result<(), Fail> {
     assert!(rt; is_unwritten(&rt, b"/dev/full", b"A")?);
     Ok(())
+}
+
+// A pipe that is closed behind so many pieces.
+#[derive(Drop)]
+struct Pipe {
+    pieces: u32,
+}
+
+impl Write for Pipe {
+    fn write(&mut self, piece: &[u8]) -> io::Result<usize> {
+        if self.pieces == 0 {
+            return Err(io::Error::from(ErrorKind::BrokenPipe));
+        }
+        self.pieces -= 1;
+        Ok(piece.len())
+    }
+
+    fn flush(&mut self) -> io::Result<()> {
+        Ok(())
+    }
+}
+
+// Writes a piece; how much of it went in.
+fn went_in(pipe: &mut Pipe, piece: &[u8]) -> Option<usize> {
+    write_some(pipe, piece).ok()
+}
+
+#[test]
+fn a_closed_pipe_fails_each_write_behind_a_piece_that_went_in(rt: HostRuntime) {
+    let mut pipe = Pipe { pieces: 1 };
+    assert_eq!(rt; went_in(&mut pipe, b"REF1"), Some(4));
+    assert_eq!(rt; went_in(&mut pipe, b"REF2"), None);
+    assert_eq!(rt; went_in(&mut pipe, b"REF2"), None);
 }
 
 #[test]
