@@ -19,6 +19,7 @@ pub mod Said
 pub mod Instructions
 pub mod TransferSays
 pub mod TransferRules
+pub mod Parted
 pub mod SentTransfer
 pub mod CoverSays
 pub mod SentCover

@@ -2,9 +2,7 @@
 use Rattle.std.proofs.Common.{◌≡◌, ℕ, ◌+◌, ◌≤◌, true, List, [], ◌∷◌, length, Option, Some, None, Result, Ok, Err, refl, sym, arith, subst}
 use Rattle.std.specs.Prelude.{codes, IfOk, IfSome, OnOk}
 use Rattle.std.specs.List.{All}
-use Rattle.std.specs.Str.{bytes_eq}
 use Rattle.std.proofs.lemmas.List.Elements.{All-cons, All-head, All-tail}
-use Rattle.std.proofs.lemmas.Slice.Eq.{bytes_eq-Decides}
 use Rattle.corr_text.specs.First.{first_of}
 use Rattle.corr_ids.specs.Bic.{IsBic}
 use Rattle.corr_ids.specs.declared.bic.Bic.{Bic}
@@ -40,11 +38,9 @@ use Rattle.advices.specs.Valid.{AreAccepted, Asks, CameFrom, IsAccepted, IsKnown
 use Rattle.advices.proofs.laws.Credits.{credit-passes}
 use Rattle.advices.proofs.laws.Debits.{debit-passes}
 use Rattle.advices.proofs.laws.Onward.{cover-onward, pass-onward, transfer-onward}
+use Rattle.advices.proofs.laws.TransferRules.{same-bytes}
 
 -- ---- the verdict
-
-same-bytes : (bs : List ℕ) → bytes_eq bs bs ≡ true
-same-bytes bs = (bytes_eq-Decides bs bs).1 refl
 
 -- blocks that pass their tests, lines that are cut without fault, and what they say
 blocks-accepted : (home : Bic) (t : Tables) (b : Blocks) (x : Message) → first_of (heading_tests Sent home t b) ≡ None → field_fault b.text ≡ None → message_in t b ≡ Ok x → read_of Sent home t b ≡ Ok x

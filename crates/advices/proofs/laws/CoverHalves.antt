@@ -20,14 +20,10 @@ use Rattle.mt202cov.specs.Message.{content_test, field_tests}
 use Rattle.mt202cov.specs.Order.{order_202}
 use Rattle.advices.specs.Fields.{copied, is_named}
 use Rattle.advices.proofs.laws.Finding.{Agrees, any-field, field_of, find-at, tells_from, told-at}
-use Rattle.advices.proofs.laws.Fitted.{first_for, one-named}
+use Rattle.advices.proofs.laws.Fitted.{first_for, one-named, row}
 use Rattle.advices.proofs.laws.Said.{at_place}
 use Rattle.advices.proofs.laws.Seats.{Seated, none-seated}
 use Rattle.advices.proofs.laws.Sequences.{Apart, Passing, above-apart, at-back, at-front, below-apart, contents-hold, each-more, free_behind, from_place, full-front, hold-at, holds-parts, place-above, places-above, places-append, places-behind, taken-in-back, taken-in-front}
-
--- a place, where one must be given
-abbrev pub row : Place
-row = may 72 bare
 
 -- the places before 50a, and the others
 abbrev pub order_a : List Place

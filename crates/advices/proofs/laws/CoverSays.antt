@@ -1,5 +1,5 @@
 -- What the fields of a cover say: where they pass their tests and 56a stands with 57a in each sequence, a cover is read of them.
-use Rattle.std.proofs.Common.{◌≡◌, ◌&&◌, not, Bool, true, false, List, [], ◌∷◌, ℕ, Option, Some, None, Ok, refl, sym, ap, ◌∙◌, subst}
+use Rattle.std.proofs.Common.{◌≡◌, ◌&&◌, not, Bool, false, List, [], ◌∷◌, ℕ, Option, Some, None, Ok, refl, sym, ap, ◌∙◌, subst}
 use Rattle.std.specs.Prelude.{is_none, is_some, unwrap_or}
 use Rattle.corr_text.specs.First.{first_of}
 use Rattle.ref_tables.specs.Seen.{Tables}
@@ -25,6 +25,7 @@ use Rattle.mt202cov.specs.declared.sequences.SequenceB.{SequenceB}
 use Rattle.mt202cov.specs.declared.terms.Terms.{Terms}
 use Rattle.mt202cov.proofs.laws.Passed.{fields-pass, rules-pass}
 use Rattle.advices.proofs.laws.Said.{at_place, option-there}
+use Rattle.advices.proofs.laws.Finding.{not-true}
 
 -- a field is there and another isn't
 abbrev pub lacks : Option Field → Option Field → Bool
@@ -36,10 +37,6 @@ record IsThere (t : Tables) (fs : List Field) (m : Mt202Cov) : Type 0 where
   a57 : in_option fs (places_from order_202 0 fs) 8 (known_party_of t) ≡ Ok m.a57
   b56 : in_option fs (places_from order_202 0 fs) 13 (known_party_of t) ≡ Ok m.b56
   b57 : in_option fs (places_from order_202 0 fs) 14 (known_party_of t) ≡ Ok m.b57
-
-not-of : (b : Bool) → not b ≡ true → b ≡ false
-not-of true e = absurd (cc e)
-not-of false e = refl
 
 none-of : {A : Type 0} (o : Option A) → is_none o ≡ not (is_some o)
 none-of None = refl
@@ -192,6 +189,6 @@ module _ (t : Tables) (fs : List Field) where
       let s = subst (IsThere t fs) same (contents-there two.0 two.1) in
       let first = first-none (c81 m) (c68 m ∷ []) rules in
       let second = first-none (c68 m) [] first.1 in
-      let a = not-of (is_some m.a56 && is_none m.a57) (holds-none (not (is_some m.a56 && is_none m.a57)) _ first.0) in
-      let b = not-of (is_some m.b56 && is_none m.b57) (holds-none (not (is_some m.b56 && is_none m.b57)) _ second.0) in
+      let a = not-true (is_some m.a56 && is_none m.a57) (holds-none (not (is_some m.a56 && is_none m.a57)) _ first.0) in
+      let b = not-true (is_some m.b56 && is_none m.b57) (holds-none (not (is_some m.b56 && is_none m.b57)) _ second.0) in
       (rw (← told none m 7 m.a56 s.a56, ← none-told none m 8 m.a57 s.a57) a, rw (← told none m 13 m.b56 s.b56, ← none-told none m 14 m.b57 s.b57) b)

@@ -8,9 +8,7 @@ use Rattle.corr_money.specs.declared.amount.Amount.{Amount}
 use Rattle.ref_tables.specs.Seen.{Tables, has_head}
 use Rattle.fin_fields.specs.declared.field.Field.{Field}
 use Rattle.fin_layout.specs.Order.{free_after}
-use Rattle.fin_layout.specs.Places.{bare, may}
 use Rattle.fin_layout.specs.Segments.{Segments, joined}
-use Rattle.fin_layout.specs.declared.place.Place.{Place}
 use Rattle.fin_parties.specs.Party.{form_of}
 use Rattle.fin_parties.specs.declared.form.Form.TheVariants.{BankA}
 use Rattle.fin_parties.specs.declared.party.Party.{Party}
@@ -36,13 +34,9 @@ use Rattle.advices.specs.Valid.{IsTabled}
 use Rattle.advices.proofs.laws.Banks.{bank-read, ordering-of-transfer}
 use Rattle.advices.proofs.laws.Copies.{SaysNamed, each-says, found-each}
 use Rattle.advices.proofs.laws.Finding.{must-copy}
-use Rattle.advices.proofs.laws.Fitted.{Fine, Parted, covers, parted-pass}
+use Rattle.advices.proofs.laws.Fitted.{covers, Fine, Parted, parted-pass, row}
 use Rattle.advices.proofs.laws.Seats.{Seated, copy-seated, none-seated, one-seated, seated-56, seated-57}
 use Rattle.advices.proofs.laws.Values.{ordered-made}
-
--- a place, where one must be given
-abbrev pub row : Place
-row = may 72 bare
 
 form-58 : form_of 58 (Some 65) ≡ Some BankA
 unfolding form_of

@@ -5,9 +5,7 @@ use Rattle.corr_text.specs.First.{first_of}
 use Rattle.ref_tables.specs.Seen.{Tables}
 use Rattle.fin_fields.specs.Fields.{fields_of}
 use Rattle.fin_fields.specs.declared.field.Field.{Field}
-use Rattle.fin_layout.specs.declared.place.Place.{Place}
 use Rattle.fin_layout.specs.Order.{places_from}
-use Rattle.fin_layout.specs.Places.{bare, may}
 use Rattle.fin_layout.specs.Segments.{Segments, joined}
 use Rattle.fin_layout.proofs.laws.Grouped.{grouped-places}
 use Rattle.fin_parties.specs.declared.party.Party.{Party}
@@ -34,15 +32,11 @@ use Rattle.advices.specs.Valid.{CreditPasses}
 use Rattle.advices.proofs.laws.Banks.{ordering-of-cover}
 use Rattle.advices.proofs.laws.Bytes.{c-plain}
 use Rattle.advices.proofs.laws.Finding.{found-passes, must-copy}
-use Rattle.advices.proofs.laws.Fitted.{Fine, fitted, no-field, one-named}
+use Rattle.advices.proofs.laws.Fitted.{Fine, fitted, no-field, one-named, row}
 use Rattle.advices.proofs.laws.Made.{line-read, ours-read, reference-line}
 use Rattle.advices.proofs.laws.Orders.{moved, received-cut}
 use Rattle.advices.proofs.laws.Origin.{given, like-tabled}
 use Rattle.advices.proofs.laws.Values.{value-made}
-
--- a place, where one must be given
-abbrev row : Place
-row = may 72 bare
 
 -- what the fields say
 abbrev booked : List ℕ → List ℕ → List ℕ → Value → Booking

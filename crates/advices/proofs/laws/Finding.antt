@@ -58,7 +58,7 @@ named-for tag letters p f is fit =
     let some : list_any (λ letter. letter == letter_of f) letters ≡ true = picked (λ o. list_any (λ letter. letter == o) letters) (letter_of f) p.options place.1 field.1 in
     rw (same, some) refl
 
-not-true : (b : Bool) → not b ≡ true → b ≡ false
+pub not-true : (b : Bool) → not b ≡ true → b ≡ false
 not-true true e = absurd (cc e)
 not-true false e = refl
 

@@ -10,6 +10,7 @@ use Rattle.fin_fields.specs.declared.field.Field.{Field}
 use Rattle.fin_fields.proofs.laws.Positions.{position-here, position-later}
 use Rattle.fin_layout.specs.declared.place.Place.{Place}
 use Rattle.fin_layout.specs.Order.{fits, missing_from, places_from}
+use Rattle.fin_layout.specs.Places.{bare, may}
 use Rattle.fin_layout.specs.Segments.{IsFirst, Segment, Segments, joined, places_of}
 use Rattle.fin_layout.specs.Tests.{contents_from, tests}
 use Rattle.fin_layout.proofs.laws.FoundField.{grouped-taken}
@@ -17,7 +18,7 @@ use Rattle.fin_layout.proofs.laws.Grouped.{grouped-places, length-places_of}
 use Rattle.fin_contents.proofs.laws.Bytes.{and-both}
 use Rattle.advices.specs.Fields.{is_named}
 use Rattle.advices.specs.Transfer.{is_there}
-use Rattle.advices.proofs.laws.Finding.{has_letters, is_apart, picked}
+use Rattle.advices.proofs.laws.Finding.{has_letters, is_apart, not-true, picked}
 
 -- ---- tests that all hold
 
@@ -95,6 +96,10 @@ fitted order d test segs placed whole fine =
     (none-missing (places_of 0 segs) 0 order segs (λ i f more e. grouped-taken segs 0 i f more e) whole)
     (contents-fine test (joined segs) 0 0 segs fine)
 
+-- a place, where one must be given
+abbrev pub row : Place
+row = may 72 bare
+
 -- fields that are sent, by their places: those of each place stand there, and each content passes
 pub record Parted (order : List Place) (test : ℕ → Field → Option Code) (sent : List Field) (segs : List (List Field)) : Type 0 where
   pub same : sent ≡ joined segs
@@ -105,10 +110,6 @@ pub parted-pass : (order : List Place) (d : Place) (test : ℕ → Field → Opt
 parted-pass order d test sent segs p whole = rw (p.same) (fitted order d test segs p.placed whole p.fine)
 
 -- ---- the place of a field by its name
-
-not-true : (b : Bool) → not b ≡ true → b ≡ false
-not-true true e = absurd (cc e)
-not-true false e = refl
 
 -- a field of this name may stand at a place of this tag that has all these letters
 named-fits : (tag : ℕ) (letters : List ℕ) (p : Place) (f : Field) → (p.tag == tag) ≡ true → has_letters p.options letters ≡ true → is_named tag letters f ≡ true → fits p f ≡ true

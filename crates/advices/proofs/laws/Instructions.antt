@@ -134,9 +134,9 @@ together p xs e =
 
 -- ---- whom to tell
 
-both-false : (b : Bool) → (b && false) ≡ false
-both-false true = refl
-both-false false = refl
+pub and-false : (b : Bool) → (b && false) ≡ false
+and-false true = refl
+and-false false = refl
 
 -- none of those that stay asks for a bank that isn't named
 none-tells : (told : Instr → Bool) (p : Instr → Bool) (xs : List Instr) → ((x : Instr) → told x ≡ true → p x ≡ false) → list_any told (filter p xs) ≡ false
@@ -153,11 +153,11 @@ second-told true rest = refl
 second-told false rest = refl
 
 first-barred : (a b : Bool) → (a && not (true || b)) ≡ false
-first-barred a b = both-false a
+first-barred a b = and-false a
 
 second-barred : (a b : Bool) → (a && not (b || true)) ≡ false
-second-barred a true = both-false a
-second-barred a false = both-false a
+second-barred a true = and-false a
+second-barred a false = and-false a
 
 -- so the codes that ask for 56a are gone without it
 pub none-tells-56 : (has_57 : Bool) (xs : List Instr) → (has_instr (codes "TELI") (filter (stays false has_57) xs) || has_instr (codes "PHOI") (filter (stays false has_57) xs)) ≡ false

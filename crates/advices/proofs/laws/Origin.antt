@@ -1,5 +1,5 @@
 -- What the received message of a pay gives to those that are sent on.
-use Rattle.std.proofs.Common.{◌≡◌, ℕ, ◌≤◌, ◌==◌, not, Bool, true, false, List, [], ◌∷◌, length, take, drop, Some, None, Ok, refl, ap, ◌∙◌, arith, nat_le, Option, Result, Err, option_map}
+use Rattle.std.proofs.Common.{◌≡◌, ℕ, ◌≤◌, ◌==◌, not, true, false, List, [], ◌∷◌, length, take, drop, Some, None, Ok, refl, ap, ◌∙◌, arith, nat_le, Option, Result, Err, option_map}
 use Rattle.std.specs.Prelude.{codes, find, unwrap_or}
 use Rattle.std.specs.List.{list_all}
 use Rattle.std.proofs.lemmas.Bool.Decides.{nat_tests}
@@ -41,16 +41,12 @@ use Rattle.day_model.specs.declared.pay.Pay.{Pay}
 use Rattle.advices.specs.Fields.{is_named}
 use Rattle.advices.specs.Received.{fields_in}
 use Rattle.advices.specs.Valid.{IsReceived, IsTabled, amount_of}
-use Rattle.advices.proofs.laws.Finding.{copied-at, field_of, must-copy}
+use Rattle.advices.proofs.laws.Finding.{copied-at, field_of, must-copy, not-true}
 
 -- ---- the currency of 32A
 
 three-of : (n : ℕ) → nat_le 4 n ≡ true → 3 ≤ n
 three-of n e = grind (arith, nat_tests)
-
-not-true : (b : Bool) → not b ≡ true → b ≡ false
-not-true true e = absurd (cc e)
-not-true false e = refl
 
 amount-tabled : (t : Tables) (line : List ℕ) (a : Amount) → is_ccy_amount line ≡ true → is_metal (take 3 line) ≡ false → ccy_amount_in t line ≡ Ok a → IsTabled t a
 unfolding ccy_amount_in

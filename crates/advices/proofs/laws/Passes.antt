@@ -28,10 +28,10 @@ use Rattle.advices.specs.Pass.{pass_fields}
 use Rattle.advices.specs.Received.{ordering, sequence_a, sequence_b}
 use Rattle.advices.specs.Transfer.{account_bank, intermediary}
 use Rattle.advices.proofs.laws.Banks.{ordering-of-cover}
-use Rattle.advices.proofs.laws.CoverHalves.{apart-back, at-a, at-b, back-passes, copy-seated-a, long-b, must-a, must-b, named-a, payer-behind, payer-places, pb, row}
+use Rattle.advices.proofs.laws.CoverHalves.{apart-back, at-a, at-b, back-passes, copy-seated-a, long-b, must-a, must-b, named-a, payer-behind, payer-places, pb}
 use Rattle.advices.proofs.laws.CoverSays.{cover-kept, cover-reads, lacks}
 use Rattle.advices.proofs.laws.Finding.{found-passes, must-copy}
-use Rattle.advices.proofs.laws.Fitted.{Fine, all-pass, contents-fine}
+use Rattle.advices.proofs.laws.Fitted.{all-pass, contents-fine, Fine, row}
 use Rattle.advices.proofs.laws.Said.{at-group, at_place, first}
 use Rattle.advices.proofs.laws.Seats.{Seated, none-seated, one-seated, seated-56, seated-57}
 use Rattle.advices.proofs.laws.SentCover.{lacks-passed}

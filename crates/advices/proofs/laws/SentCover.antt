@@ -21,11 +21,11 @@ use Rattle.day_model.specs.declared.pay.Skip.TheVariants.{Keep, Mid, Both}
 use Rattle.advices.specs.Fields.{is_named}
 use Rattle.advices.specs.Transfer.{account_bank, intermediary}
 use Rattle.advices.proofs.laws.CoverSays.{cover-reads, lacks}
-use Rattle.advices.proofs.laws.Covers.{cover_segs, row}
+use Rattle.advices.proofs.laws.Covers.{cover_segs}
 use Rattle.advices.proofs.laws.Finding.{copied-at}
-use Rattle.advices.proofs.laws.Fitted.{Parted}
+use Rattle.advices.proofs.laws.Fitted.{Parted, row}
 use Rattle.advices.proofs.laws.Said.{at_place, first, first-some, option-there}
-use Rattle.advices.proofs.laws.SentTransfer.{parted-at}
+use Rattle.advices.proofs.laws.Parted.{parted-at}
 use Rattle.advices.proofs.laws.TransferRules.{c81-of}
 use Rattle.advices.proofs.laws.TransferSays.{read-says}
 

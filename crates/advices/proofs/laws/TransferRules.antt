@@ -19,7 +19,7 @@ use Rattle.mt103_rules.specs.Parties.{has_account, is_b, is_bare_b, is_bare_d, i
 use Rattle.mt103_rules.specs.Rules.{all_rules, amount_rules, c02, c81, charge_rules, contact_rules, d49, d50, d51, d75, e01, e02, e03, e04, e05, e06, e07, e09, e10, e13, e15_given, e15_taken, e16, e17, e18, e44, e45, has_level, institution_rules, is_foreign, is_given, is_listed_bank, is_op, is_standard, level_rules}
 use Rattle.day_model.specs.declared.pay.Skip.{Skip}
 use Rattle.day_model.specs.declared.pay.Skip.TheVariants.{Keep, Mid, Both}
-use Rattle.advices.proofs.laws.Instructions.{any-kept, none-kept, none-tells-56, none-tells-57, stays}
+use Rattle.advices.proofs.laws.Instructions.{and-false, any-kept, none-kept, none-tells-56, none-tells-57, stays}
 
 -- ---- a transfer that is sent on
 
@@ -60,10 +60,6 @@ pub record IsSentOn (skip : Skip) (m n : Mt103) : Type 0 where
 
 -- ---- tests
 
-and-false : (b : Bool) → (b && false) ≡ false
-and-false true = refl
-and-false false = refl
-
 both-false : (a b : Bool) → (a && b && false) ≡ false
 both-false true b = and-false b
 both-false false b = refl
@@ -88,7 +84,7 @@ all-none : (os : List (Option Fault)) → AllNone os → first_of os ≡ None
 all-none [] e = refl
 all-none (o ∷ os) e = rw (e.0) (all-none os e.1)
 
-same-bytes : (bs : List ℕ) → bytes_eq bs bs ≡ true
+pub same-bytes : (bs : List ℕ) → bytes_eq bs bs ≡ true
 same-bytes bs = (bytes_eq-Decides bs bs).1 refl
 
 -- a list of which nothing is given has nothing
