@@ -1,5 +1,5 @@
 -- Jobs on their way from the list of jobs over the workers' hands to the list of replies.
-use Rattle.std.specs.Prelude.{◌≡◌, ℕ, ◌+◌, ◌*◌, ◌/◌, ◌%◌, ◌<◌, List, [], ◌∷◌, Option, None, Some, length, slice_get, option_map, option_and_then, map}
+use Rattle.std.specs.Prelude.{◌≡◌, ℕ, ◌+◌, ◌*◌, List, [], ◌∷◌, Option, None, Some, length, slice_get, option_map, option_and_then, map}
 use Rattle.work_pool.specs.declared.hand.Task.{Task}
 use Rattle.work_pool.specs.declared.seat.Seat.{Seat}
 

@@ -1,4 +1,3 @@
-use Rattle.std.proofs.Common.{◌≡◌}
 use Rattle.work_pool.proofs.Deals.{dealt_next}
 use Rattle.work_pool.proofs.dealing.deal.Goals as goal
 

@@ -1,4 +1,4 @@
-use Rattle.std.proofs.Common.{◌≡◌, ◌<◌, ◌≤◌, ℕ, List, ◌++◌, length}
+use Rattle.std.proofs.Common.{◌≡◌, List, ◌++◌, length}
 use Rattle.work_pool.specs.Tasks.{AreInHands}
 use Rattle.work_pool.proofs.dealing.deal.Given as goal
 

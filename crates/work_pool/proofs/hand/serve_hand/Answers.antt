@@ -1,4 +1,4 @@
-use Rattle.std.proofs.Common.{◌∙◌, arith}
+use Rattle.std.proofs.Common.{arith}
 use Rattle.std.proofs.lemmas.List.{length-set}
 use Rattle.work_pool.proofs.Serving.{next_served}
 use Rattle.work_pool.proofs.hand.serve_hand.Goals as goal

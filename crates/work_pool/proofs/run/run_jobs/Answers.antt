@@ -1,5 +1,4 @@
 use Rattle.std.proofs.Common.{◌≡◌, length, map, ap, sym, ◌∙◌, subst, arith}
-use Rattle.work_pool.specs.declared.seat.Seat.{Seat}
 use Rattle.work_pool.specs.Served.{AllTaken}
 use Rattle.work_pool.specs.Tasks.{AreSeated}
 use Rattle.work_pool.proofs.Places.{given_back}

@@ -1,5 +1,4 @@
 use Rattle.std.proofs.Common.{rules}
-use Rattle.std.specs.Fork.{ChangesAt}
 use Rattle.std.proofs.lemmas.Option.{slice_get_within}
 use Rattle.work_pool.proofs.Whole.{all_taken, served_at, taken_at}
 use Rattle.work_pool.proofs.run.serve_seats.Goals as goal
