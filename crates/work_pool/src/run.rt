@@ -38,8 +38,8 @@ fn serve_seats<K: Desk + Sync, G: Gate + Sync, R: Wait + Threads + Sync>(
     thread::for_each_mut(rt, seats, threads, &one);
 }
 
-/// Serves each job once. Each pass has a worker with the number of its place, from 1, and a thread of its own where one can be
-/// made; job n goes to worker (n - 1) mod workers + 1. Returns once all jobs were served.
+/// Serves each job once. Each pass has a worker, and a thread of its own where one can be made; job n goes to the pass at place
+/// (n - 1) mod passes + 1. Returns once all jobs were served.
 ///
 /// There are 1 to 16 passes, all of which the desk takes, before and after. `Memory` comes before any job is served.
 pub fn run_jobs<K: Desk + Sync, G: Gate + Sync, R: Wait + Threads + Sync>(
