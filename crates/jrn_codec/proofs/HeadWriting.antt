@@ -6,6 +6,6 @@ use Rattle.day_model.specs.Chart.{Chart, IsChart}
 use Rattle.jrn_codec.specs.Header.{HasCode, IsHead}
 
 -- what was written is a header, where the home is a BIC
-pub is_written : {E : Type 0} (chart : Chart) (r : Result (Unit {0}) E) → IsBic chart.home → IsChart chart → OnOk r (All HasCode chart.accounts) → OnOk r (IsHead chart)
+pub is_written : {E : Type 0} (chart : Chart) (r : Result (Unit {0}) E) → IsBic chart.home → OnOk r (IsChart chart) → OnOk r (All HasCode chart.accounts) → OnOk r (IsHead chart)
 is_written chart (Ok done) home book codes = record { home = home; book = book; codes = codes }
 is_written chart (Err e) home book codes = tt

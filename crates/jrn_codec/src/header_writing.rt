@@ -21,12 +21,20 @@ fn put_signed(out: &mut Text, n: i64) -> Result<(), Memory>
 }
 
 #[tactic(auto, using(crate::proofs::Fronts::goes_on))]
+fn put_bounds(out: &mut Text, a: &Account) -> Result<(), Memory>
+    ensures ok { OnOk result (out.new ≡ out.old ++ signed_bytes w64 a.now.floor ++ signed_bytes w64 a.now.ceil) }
+    ensures front { IsFrontOf out.old out.new }
+{
+    put_signed(out, a.floor)?;
+    put_signed(out, a.ceil)
+}
+
+#[tactic(auto, using(crate::proofs::Fronts::goes_on))]
 fn put_limits(out: &mut Text, a: &Account) -> Result<(), Memory>
     ensures ok { OnOk result (out.new ≡ out.old ++ balance_bytes a.now) }
     ensures front { IsFrontOf out.old out.new }
 {
-    put_signed(out, a.floor)?;
-    put_signed(out, a.ceil)?;
+    put_bounds(out, a)?;
     put_signed(out, a.opening)
 }
 
@@ -87,7 +95,7 @@ fn put_parts(out: &mut Text, a: &Accounts) -> Result<(), Memory>
     ensures ok { OnOk result (out.new ≡ out.old ++ head_bytes a.now) }
     ensures front { IsFrontOf out.old out.new }
     ensures codes { OnOk result (All HasCode a.now.accounts) }
-    ensures book { IsChart a.now }
+    ensures book { OnOk result (IsChart a.now) }
 {
     put_title(out, a)?;
     put_accounts(out, a)
