@@ -20,6 +20,7 @@ use Rattle.day_model.specs.Legal.{IsLegal}
 use Rattle.day_model.specs.Log.{most_entries}
 use Rattle.day_model.specs.Next.{entered_at, entry_of, has_mir}
 use Rattle.day_model.proofs.laws.Growth.{one_more}
+use Rattle.jrn_book.specs.Following.{Follows}
 
 -- an element stays where others are added, and the added one stands at the end
 get_stays : {A : Type 0} (xs ys : List A) (k : ℕ) (x : A) → slice_get xs k ≡ Some x → slice_get (xs ++ ys) k ≡ Some x
@@ -27,7 +28,7 @@ get_stays [] ys k x at = absurd (none-some x at)
 get_stays (y ∷ xs) ys zero x at = at
 get_stays (y ∷ xs) ys (suc k) x at = get_stays xs ys k x at
 
-get_last : {A : Type 0} (xs : List A) (y : A) → slice_get (xs ++ y ∷ []) (length xs) ≡ Some y
+pub get_last : {A : Type 0} (xs : List A) (y : A) → slice_get (xs ++ y ∷ []) (length xs) ≡ Some y
 get_last [] y = refl
 get_last (x ∷ xs) y = get_last xs y
 
@@ -52,15 +53,7 @@ none_found t i (x ∷ xs) each =
 one_mir : (a b : Mir) → a.0 ≡ b.0 → a ≡ b
 one_mir a b same = λ i. record { 0 = same i }
 
--- what an entry meets that may stand next
-pub record Follows (chart : Chart) (history : List Entry) (e : Entry) : Type 0 where
-  pub few : length history < most_entries
-  pub fits : FitsAccounts chart e.pay
-  pub new : entered_at e.pay.mir history ≡ None
-  pub latest : IsLatest history e.day
-  pub decided : e.outcome ≡ outcome_of chart history e.pay
-
--- then the history is legal with it
+-- an entry may stand next
 pub next_is_legal : (chart : Chart) (history : List Entry) (e : Entry) → IsLegal chart history → Follows chart history e → IsLegal chart (history ++ e ∷ [])
 next_is_legal chart history e legal follows =
     let is : entry_of chart history e.pay e.day ≡ e = λ i. record { pay = e.pay; day = e.day; outcome = (sym follows.decided) i } in
