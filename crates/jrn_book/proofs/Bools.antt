@@ -9,5 +9,5 @@ on_true false P Q f p = p
 
 -- the fact, where it passed
 pub of_true : (b : Bool) (P : Type 0) → b ≡ true → OnTrue b P → P
-of_true true P yes p = p
-of_true false P yes p = absurd (cc)
+of_true true P passed p = p
+of_true false P passed p = absurd (cc)

@@ -63,10 +63,10 @@ pub fn open_book<D: Disk>(
     ensures kept { IfOk result (λ r. D.faults (disk_of r.0.file) ≡ D.faults disk) }
 {
     match read_file(alloc, disk) {
-        Ok((records, Ending::Open(file))) => open_whole(alloc, records.as_slice(), file),
-        Ok((records, Ending::Damaged { disk, at })) => {
-            Err((disk, refusal(alloc, records.as_slice(), at)))
-        }
+        Ok((records, ending)) => match ending {
+            Ending::Open(file) => open_whole(alloc, records.as_slice(), file),
+            Ending::Damaged { disk, at } => Err((disk, refusal(alloc, records.as_slice(), at))),
+        },
         Err(refused) => Err(refused),
     }
 }
@@ -84,6 +84,8 @@ fn open_whole<D: Disk>(
     ensures told { IfSome (finding_in result) (IsFound (whole records.now)) }
     ensures disk { IfErr result (λ e. (e.0 ≡ disk_of file) × IsOfBytes e.1) }
 {
+    // The closed gate stands behind the records, so their sizes fit 64 bits together.
+    let _ = file.end();
     match read_records(alloc, records) {
         Ok(past) => give(alloc, past, file),
         Err(fault) => Err((file.into_disk(), fault)),
