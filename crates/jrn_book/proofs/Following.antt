@@ -38,8 +38,8 @@ legal_front chart entries more legal = record {
   short = omega (arith, legal.short, length-append entries more);
   fits = λ i e at. legal.fits i e (get_stays entries more i e at);
   decided = λ i e at.
-    let lt = slice_get_within entries i e at in
-    legal.decided i e (get_stays entries more i e at) ∙ ap (λ (es : List Entry). outcome_of chart es e.pay) (take-append-le i entries more (omega (arith, lt)));
+      let lt = slice_get_within entries i e at in
+      legal.decided i e (get_stays entries more i e at) ∙ ap (λ (es : List Entry). outcome_of chart es e.pay) (take-append-le i entries more (omega (arith, lt)));
   single = λ i j d e ati atj same. legal.single i j d e (get_stays entries more i d ati) (get_stays entries more j e atj) same;
   days = λ i j d e lt ati atj. legal.days i j d e lt (get_stays entries more i d ati) (get_stays entries more j e atj);
 }

@@ -34,10 +34,7 @@ use std::alloc::Global;
 /// the legal next one (a new reference, a day not before the last, accounts of the header, the outcome that the entries
 /// before it give), and tells the first such gate's place. `DiskFault` comes only where a call of the disk failed, with its
 /// count of faults before and after.
-pub fn open_book<D: Disk>(
-    alloc: Global,
-    disk: D,
-) -> Result<(JrnBook<D>, Loose), (D, OpenFault)>
+pub fn open_book<D: Disk>(alloc: Global, disk: D) -> Result<(JrnBook<D>, Loose), (D, OpenFault)>
     ensures opened { IfOk result (λ r. IsNewBook D.honest D.reads D.may_leave D.faults r.0) }
     ensures purses { IfOk result (λ r. HasPurses r.0 r.1) }
 

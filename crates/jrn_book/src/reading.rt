@@ -145,7 +145,10 @@ impl Past {
     {
         let legs = e.pay.legs.as_slice();
         let pairs = self.pairs.as_slice();
-        is_outcome(decide_by(&self.accounts, &self.history, pairs, legs), e.outcome)
+        is_outcome(
+            decide_by(&self.accounts, &self.history, pairs, legs),
+            e.outcome,
+        )
     }
 
     /// Adds an entry that may stand next.

@@ -17,7 +17,8 @@ use std::sync::Wait;
 use std::test::Fail;
 
 // HOMEUS33 with a vostro account of ALPHDEFF and a nostro account with CORRBEBB: EUR 60,000.00 and as much less.
-const HEAD: &[u8] = b"CORRJ1HOMEUS33XXX\0\x02\x08VALPHEURVALPHDEFFXXXEUR\x02\xff\xff\xff\xff\xffgi\x80\0\0\0\x14\xf4k\x04\0\0\0\0\0\0[\x8d\x80\x08NCORREURNCORRBEBBXXXEUR\x02\xff\xff\xff\xeb\x0b\x94\xfc\0\0\0\0\x14\xf4k\x04\0\xff\xff\xff\xff\xff\xa4r\x80";
+const HEAD: &[u8] =
+    b"CORRJ1HOMEUS33XXX\0\x02\x08VALPHEURVALPHDEFFXXXEUR\x02\xff\xff\xff\xff\xffgi\x80\0\0\0\x14\xf4k\x04\0\0\0\0\0\0[\x8d\x80\x08NCORREURNCORRBEBBXXXEUR\x02\xff\xff\xff\xeb\x0b\x94\xfc\0\0\0\0\x14\xf4k\x04\0\xff\xff\xff\xff\xff\xa4r\x80";
 
 // An MT103 of EUR 1,234.56 that was booked from account 1 to account 2, with an advice of the debit.
 const ENTRY: &[u8] =
@@ -102,13 +103,14 @@ fn enter<N: Name, D: Disk, R: Wait>(
 }
 
 // What a pay answers when it is given twice, and the disk.
+#[derive(Drop)]
 struct Twice<D: Disk> {
     first: Option<Result<Committed, CommitFault>>,
     second: Option<Result<Committed, CommitFault>>,
     disk: D,
 }
 
-fn give_twice<N: Name, D: Disk, R: Wait>(
+fn give_twice<N: Name, D: Disk + Drop, R: Wait>(
     rt: &R,
     alloc: Global,
     book: JrnBook<D>,
@@ -127,7 +129,11 @@ fn give_twice<N: Name, D: Disk, R: Wait>(
     let first = enter(rt, alloc, &mut book, &purses, e);
     let second = enter(rt, alloc, &mut book, &purses, e);
     let (_, _, disk) = book.into_parts();
-    Ok(Twice { first, second, disk })
+    Ok(Twice {
+        first,
+        second,
+        disk,
+    })
 }
 
 fn open<D: Disk + Drop>(alloc: Global, disk: D) -> Result<(JrnBook<D>, Loose), OpenFault>
@@ -237,10 +243,22 @@ fn records_that_may_not_stand_next_are_refused(rt: HostRuntime) -> Result<(), Fa
     let first = 5 + HEAD.len() as u64;
     let second = first + 5 + ENTRY.len() as u64;
     assert!(rt; is_no_journal(alloc, journal(alloc, &[ENTRY])?));
-    assert_eq!(rt; damaged_at(alloc, journal(alloc, &[HEAD, HEAD])?), Some(first));
-    assert_eq!(rt; damaged_at(alloc, journal(alloc, &[HEAD, UNFUNDED])?), Some(first));
-    assert_eq!(rt; damaged_at(alloc, journal(alloc, &[HEAD, ENTRY, OTHER])?), Some(second));
-    assert_eq!(rt; damaged_at(alloc, journal(alloc, &[HEAD, ENTRY, EARLIER])?), Some(second));
+    assert_eq!(rt;
+        damaged_at(alloc, journal(alloc, &[HEAD, HEAD])?),
+        Some(first)
+    );
+    assert_eq!(rt;
+        damaged_at(alloc, journal(alloc, &[HEAD, UNFUNDED])?),
+        Some(first)
+    );
+    assert_eq!(rt;
+        damaged_at(alloc, journal(alloc, &[HEAD, ENTRY, OTHER])?),
+        Some(second)
+    );
+    assert_eq!(rt;
+        damaged_at(alloc, journal(alloc, &[HEAD, ENTRY, EARLIER])?),
+        Some(second)
+    );
     assert_eq!(rt; damaged_at(alloc, journal(alloc, &[HEAD, ENTRY])?), None);
     Ok(())
 }

@@ -52,8 +52,7 @@ invariant_of-self-2 c =
     let legal : IsLegal chart (h ++ e ∷ []) = subst (λ (r : Read). IsLegal r.accounts (r.history ++ e ∷ [])) (sym c.self.view_is) c.requires.legal in
     let now : c.note.new.history.entries ≡ h ++ e ∷ [] = c.note.ensures.history ∙ ap (λ (es : List Entry). es ++ e ∷ []) c.reserve-2.ensures.same in
     let is : c.add_legs.new.pairs.items ≡ pairs_with (booked_legs e) pairs = c.add_legs.ensures ∙ ap (λ (ls : List Leg). pairs_with ls pairs) c.legs_booked.ensures in
-    let Totals : List Pair × List Entry → Type 0 = λ x. HasTotals x.0 count x.1 in
-    (
+    let Totals : List Pair × List Entry → Type 0 = λ x. HasTotals x.0 count x.1 in (
       subst (IsJournal chart) (sym now) (journal_more chart h e c.self.invariant.0 c.requires.written legal),
       subst Totals (λ i. (sym is i, sym now i)) (has_entry h e count pairs c.self.invariant.1),
       c.note.ensures.index ∙ ap (λ (rs : List (List ℕ)). rs ++ e.pay.mir.0 ∷ []) (c.reserve.ensures.same ∙ c.self.invariant.2) ∙ sym (references_more h e) ∙ ap references_of (sym now),

@@ -35,13 +35,13 @@ returns-clause-legal c =
     let latest : IsLatest h e.day = subst (λ (r : Read). IsLatest r.history e.day) c.self.view_is (of_true c.is_latest.result _ timely c.is_latest.ensures.latest) in
     on_true c.decides.result (e.outcome ≡ outcome_of chart h e.pay) _
     (λ decided.
-      next_is_legal chart h e legal (record {
-        few = of_true c.has_place_for.result (length h < most_entries) placed c.has_place_for.ensures.few;
-        fits = of_true c.has_place_for.result (FitsAccounts chart e.pay) placed c.has_place_for.ensures.fits;
-        new = of_true c.has_place_for.result (entered_at e.pay.mir h ≡ None) placed c.has_place_for.ensures.new;
-        latest = latest;
-        decided = decided;
-      }))
+    next_is_legal chart h e legal (record {
+      few = of_true c.has_place_for.result (length h < most_entries) placed c.has_place_for.ensures.few;
+      fits = of_true c.has_place_for.result (FitsAccounts chart e.pay) placed c.has_place_for.ensures.fits;
+      new = of_true c.has_place_for.result (entered_at e.pay.mir h ≡ None) placed c.has_place_for.ensures.new;
+      latest = latest;
+      decided = decided;
+    }))
     c.decides.ensures.same
 
 pub returns-clause-only : goal.returns-clause-only

@@ -12,8 +12,7 @@ invariant_of-result c =
     let accounts = c.args.accounts in
     let count = length accounts.accounts in
     let items : c.in_ok-pairs.pairs.items ≡ replicate count (0, 0) = search rules in
-    let Totals : List Pair × List Entry → Type 0 = λ x. HasTotals x.0 count x.1 in
-    (
+    let Totals : List Pair × List Entry → Type 0 = λ x. HasTotals x.0 count x.1 in (
       subst (IsJournal accounts) (sym c.new.ensures) (empty_journal accounts c.requires),
       subst Totals (λ i. (sym items i, sym c.new.ensures i)) (has_none count),
       c.new-2.ensures ∙ ap references_of (sym c.new.ensures),
