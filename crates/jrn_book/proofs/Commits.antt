@@ -48,8 +48,8 @@ module _ {D : Type 0} (honest : D → Bool) (reads : D → List ℕ) (may_leave 
   rests b pay day file told = record {
     later = omega arith;
     each = λ c left.
-      let is : c ≡ reads (disk_of b.file) = file.durable told c (only_now (disk_of b.file) c left) in
-      inl (subst (λ (image : List ℕ). StandsForBook image b.accounts b.history) (sym is) (file.stands told));
+        let is : c ≡ reads (disk_of b.file) = file.durable told c (only_now (disk_of b.file) c left) in
+        inl (subst (λ (image : List ℕ). StandsForBook image b.accounts b.history) (sym is) (file.stands told));
     before = λ t c le left. inl left;
   }
 

@@ -20,6 +20,7 @@ use Rattle.day_model.specs.Legal.{IsLegal}
 use Rattle.day_model.specs.Log.{most_entries}
 use Rattle.day_model.specs.Next.{entered_at, entry_of, has_mir}
 use Rattle.day_model.proofs.laws.Growth.{one_more}
+use Rattle.jrn_book.specs.Following.{Follows}
 
 -- an element stays where others are added, and the added one stands at the end
 get_stays : {A : Type 0} (xs ys : List A) (k : ℕ) (x : A) → slice_get xs k ≡ Some x → slice_get (xs ++ ys) k ≡ Some x
@@ -27,7 +28,7 @@ get_stays [] ys k x at = absurd (none-some x at)
 get_stays (y ∷ xs) ys zero x at = at
 get_stays (y ∷ xs) ys (suc k) x at = get_stays xs ys k x at
 
-get_last : {A : Type 0} (xs : List A) (y : A) → slice_get (xs ++ y ∷ []) (length xs) ≡ Some y
+pub get_last : {A : Type 0} (xs : List A) (y : A) → slice_get (xs ++ y ∷ []) (length xs) ≡ Some y
 get_last [] y = refl
 get_last (x ∷ xs) y = get_last xs y
 
@@ -37,8 +38,8 @@ legal_front chart entries more legal = record {
   short = omega (arith, legal.short, length-append entries more);
   fits = λ i e at. legal.fits i e (get_stays entries more i e at);
   decided = λ i e at.
-    let lt = slice_get_within entries i e at in
-    legal.decided i e (get_stays entries more i e at) ∙ ap (λ (es : List Entry). outcome_of chart es e.pay) (take-append-le i entries more (omega (arith, lt)));
+      let lt = slice_get_within entries i e at in
+      legal.decided i e (get_stays entries more i e at) ∙ ap (λ (es : List Entry). outcome_of chart es e.pay) (take-append-le i entries more (omega (arith, lt)));
   single = λ i j d e ati atj same. legal.single i j d e (get_stays entries more i d ati) (get_stays entries more j e atj) same;
   days = λ i j d e lt ati atj. legal.days i j d e lt (get_stays entries more i d ati) (get_stays entries more j e atj);
 }
@@ -52,15 +53,7 @@ none_found t i (x ∷ xs) each =
 one_mir : (a b : Mir) → a.0 ≡ b.0 → a ≡ b
 one_mir a b same = λ i. record { 0 = same i }
 
--- what an entry meets that may stand next
-pub record Follows (chart : Chart) (history : List Entry) (e : Entry) : Type 0 where
-  pub few : length history < most_entries
-  pub fits : FitsAccounts chart e.pay
-  pub new : entered_at e.pay.mir history ≡ None
-  pub latest : IsLatest history e.day
-  pub decided : e.outcome ≡ outcome_of chart history e.pay
-
--- then the history is legal with it
+-- an entry may stand next
 pub next_is_legal : (chart : Chart) (history : List Entry) (e : Entry) → IsLegal chart history → Follows chart history e → IsLegal chart (history ++ e ∷ [])
 next_is_legal chart history e legal follows =
     let is : entry_of chart history e.pay e.day ≡ e = λ i. record { pay = e.pay; day = e.day; outcome = (sym follows.decided) i } in

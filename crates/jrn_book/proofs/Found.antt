@@ -2,12 +2,14 @@
 use Rattle.std.proofs.Common.{◌≡◌, ℕ, ◌+◌, ◌<◌, ◌^◌, Bool, List, [], ◌∷◌, ◌++◌, length, Option, Some, None, refl, sym, ap, ◌∙◌, subst, arith, inl, inr}
 use Rattle.std.specs.Prelude.{IfSome, IsTrue}
 use Rattle.jrn_file.specs.Faults.{Tells}
+use Rattle.jrn_file.specs.Journal.{journal_bytes}
 use Rattle.jrn_file.specs.Opening.{ReadCause}
 use Rattle.jrn_file.specs.Reading.{Reading, no_journal, whole, cut, opened_of, size_of}
 use Rattle.jrn_file.specs.declared.fault.OpenFault.{OpenFault}
 use Rattle.jrn_file.specs.declared.fault.OpenFault.TheVariants.{NotAJournal, Damaged, DiskFault, Memory}
 use Rattle.jrn_book.specs.Opening.{Finding, IsFaultyAt, IsFound, IsNoBook, OpenCause, found_by}
 use Rattle.jrn_book.specs.Reading.{IsOfBytes, RefusesRecords}
+use Rattle.jrn_file.proofs.laws.Sizes.{length-journal_bytes}
 use Rattle.jrn_book.proofs.laws.Findings.{one_finding}
 
 -- where no record was read
@@ -57,3 +59,7 @@ refused_by_bytes all NotAJournal it = tt
 refused_by_bytes all (Damaged at) it = tt
 refused_by_bytes all (DiskFault before after) it = it
 refused_by_bytes all Memory it = tt
+
+-- the records of an open file are short enough
+pub few_bytes : (head : List ℕ) (records all : List (List ℕ)) (end : ℕ) → all ≡ head ∷ records → end + 1 ≡ length (journal_bytes head records) → end < 2 ^ 64 → size_of all < 2 ^ 64
+few_bytes head records all end is place small = omega (arith, place, small, length-journal_bytes head records, ap size_of is)

@@ -43,9 +43,9 @@ module _ (first : Read) (rest : List (List ℕ)) (count at : ℕ) (old : Read) (
         read = records ∙ ap (λ (rs : List (List ℕ)). rs ++ r ∷ []) so_far.read ∙ append_assoc (records_of first.history) (take count rest) (r ∷ []) ∙ ap (λ (rs : List (List ℕ)). records_of first.history ++ rs) (sym taken);
         good = journal_more old.accounts old.history e so_far.good added.next.0 added.next.1;
         place = λ small.
-          let before : size_of (all_records old.accounts old.history) < 2 ^ 64 = omega (arith, small, size) in
-          let here = so_far.place before in
-          omega (arith, small, size, here, sum);
+            let before : size_of (all_records old.accounts old.history) < 2 ^ 64 = omega (arith, small, size) in
+            let here = so_far.place before in
+            omega (arith, small, size, here, sum);
       })
 
   -- where the next record is refused

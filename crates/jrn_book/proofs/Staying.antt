@@ -49,9 +49,9 @@ module _ {D : Type 0} (honest : D → Bool) (reads : D → List ℕ) (may_leave 
     written = written;
     legal = legal;
     images = λ told image left.
-      let all = leaves (subst IsTrue same told) in
-      subst (λ (rs : List (List ℕ)). StandsFor image (head_bytes chart) (records_of history) ⊎ StandsFor image (head_bytes chart) rs) (sym (records_more history e))
-      (all.each image (counts_now (disk_of new) (moment (disk_of old)) image all.later left));
+        let all = leaves (subst IsTrue same told) in
+        subst (λ (rs : List (List ℕ)). StandsFor image (head_bytes chart) (records_of history) ⊎ StandsFor image (head_bytes chart) rs) (sym (records_more history e))
+        (all.each image (counts_now (disk_of new) (moment (disk_of old)) image all.later left));
   }
 
   -- what stands on the disk after a fault

@@ -4,6 +4,7 @@ pub mod Book
 pub mod Answers
 pub mod Commits
 pub mod Appending
+pub mod Following
 pub mod Opening
 pub mod Resuming
 pub mod Reading

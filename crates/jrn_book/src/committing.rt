@@ -122,7 +122,8 @@ fn failed_by(fault: CommitFault, day: Day) -> Option<Day>
 {
     match fault {
         CommitFault::DiskFault { .. } => Some(day),
-        CommitFault::Conflict { .. } | CommitFault::Full { .. } | CommitFault::Broken { .. } => None,
+        CommitFault::Conflict { .. } | CommitFault::Full { .. } | CommitFault::Broken { .. } =>
+            None,
         CommitFault::Memory => None,
     }
 }
@@ -232,12 +233,7 @@ impl<D: Disk> JrnBook<D> {
     }
 
     /// Enters a pay for which there is room, and whose reference is new.
-    fn enter<H: Held>(
-        &mut self,
-        held: &mut H,
-        p: &Pay,
-        day: Day,
-    ) -> Result<Committed, CommitFault>
+    fn enter<H: Held>(&mut self, held: &mut H, p: &Pay, day: Day) -> Result<Committed, CommitFault>
         requires whole { self.old.failed ≡ None }
         requires room { self.old.room ≡ Some p.now }
         requires new { entered_at p.now.mir self.old.history ≡ None }
@@ -265,7 +261,14 @@ impl<D: Disk> JrnBook<D> {
         let Some(room) = self.room.take() else {
             unreachable!()
         };
-        let (entry, frame) = prepare(&self.accounts, &self.history, &mut self.sides, held, room, day);
+        let (entry, frame) = prepare(
+            &self.accounts,
+            &self.history,
+            &mut self.sides,
+            held,
+            room,
+            day,
+        );
         let entries = self.history.len();
         if let Err(fault) = append(&mut self.file, entries, frame.bytes()) {
             self.failed = failed_by(fault, day);

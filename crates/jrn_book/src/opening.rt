@@ -34,10 +34,7 @@ use std::alloc::Global;
 /// the legal next one (a new reference, a day not before the last, accounts of the header, the outcome that the entries
 /// before it give), and tells the first such gate's place. `DiskFault` comes only where a call of the disk failed, with its
 /// count of faults before and after.
-pub fn open_book<D: Disk>(
-    alloc: Global,
-    disk: D,
-) -> Result<(JrnBook<D>, Loose), (D, OpenFault)>
+pub fn open_book<D: Disk>(alloc: Global, disk: D) -> Result<(JrnBook<D>, Loose), (D, OpenFault)>
     ensures opened { IfOk result (λ r. IsNewBook D.honest D.reads D.may_leave D.faults r.0) }
     ensures purses { IfOk result (λ r. HasPurses r.0 r.1) }
 
@@ -63,10 +60,10 @@ pub fn open_book<D: Disk>(
     ensures kept { IfOk result (λ r. D.faults (disk_of r.0.file) ≡ D.faults disk) }
 {
     match read_file(alloc, disk) {
-        Ok((records, Ending::Open(file))) => open_whole(alloc, records.as_slice(), file),
-        Ok((records, Ending::Damaged { disk, at })) => {
-            Err((disk, refusal(alloc, records.as_slice(), at)))
-        }
+        Ok((records, ending)) => match ending {
+            Ending::Open(file) => open_whole(alloc, records.as_slice(), file),
+            Ending::Damaged { disk, at } => Err((disk, refusal(alloc, records.as_slice(), at))),
+        },
         Err(refused) => Err(refused),
     }
 }
@@ -84,6 +81,8 @@ fn open_whole<D: Disk>(
     ensures told { IfSome (finding_in result) (IsFound (whole records.now)) }
     ensures disk { IfErr result (λ e. (e.0 ≡ disk_of file) × IsOfBytes e.1) }
 {
+    // The closed gate stands behind the records, so their sizes fit 64 bits together.
+    let _ = file.end();
     match read_records(alloc, records) {
         Ok(past) => give(alloc, past, file),
         Err(fault) => Err((file.into_disk(), fault)),

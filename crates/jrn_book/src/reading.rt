@@ -1,17 +1,19 @@
 //! The records of a journal as a history.
 
-ghost use Rattle.std.specs.Prelude.{◌≡◌, ◌+◌, ◌<◌, ◌≤◌, ◌≤ℤ◌, ◌^◌, ◌++◌, ◌∷◌, [], All, length, IfErr, IfOk, IsTrue, OnErr, OnOk};
+ghost use Rattle.std.specs.Prelude.{◌≡◌, ◌+◌, ◌<◌, ◌≤◌, ◌≤ℤ◌, ◌^◌, ◌++◌, ◌∷◌, [], All, None, length, IfErr, IfOk, IsTrue, OnErr, OnOk};
 ghost use Rattle.std.specs.Bool.{OnTrue};
 ghost use Rattle.day_model.specs.Balance.{outcome_of};
 ghost use Rattle.day_model.specs.Fit.{FitsAccounts};
 ghost use Rattle.day_model.specs.Laws.{IsLatest};
 ghost use Rattle.day_model.specs.Legal.{IsLegal};
 ghost use Rattle.day_model.specs.Log.{most_entries};
+ghost use Rattle.day_model.specs.Next.{entered_at};
 ghost use Rattle.day_model.specs.Pairs.{PairsFit, pairs_with};
 ghost use Rattle.jrn_codec.specs.Header.{IsHead, head_bytes};
 ghost use Rattle.jrn_codec.specs.Record.{IsEntry, entry_bytes};
 ghost use Rattle.jrn_file.specs.Reading.{size_of};
 ghost use Rattle.jrn_book.specs.Journal.{IsJournal, all_records, records_of};
+ghost use Rattle.jrn_book.specs.Following.{Follows};
 ghost use Rattle.jrn_book.specs.Reading.{ReadsRecord, RefusesHead, RefusesRecords};
 
 use crate::committing::{MOST_ENTRIES, note};
@@ -109,16 +111,30 @@ impl Past {
         })
     }
 
+    /// Whether there is a place for an entry: there are fewer than 100,000, its pay fits, and its reference is new.
+    fn has_place_for(&self, e: &Entry) -> bool
+        ensures few { OnTrue result (length self.now.history < most_entries) }
+        ensures fits { OnTrue result (FitsAccounts self.now.accounts e.now.pay) }
+        ensures new { OnTrue result (entered_at e.now.pay.mir self.now.history ≡ None) }
+        ensures all { Follows self.now.accounts self.now.history e.now → IsTrue result }
+    {
+        self.history.len() < MOST_ENTRIES
+            && self.accounts.fits(&e.pay)
+            && self.index.place(&e.pay.mir).is_none()
+    }
+
     /// Whether an entry may stand next.
     fn may_follow(&self, e: &Entry) -> bool
         ensures legal { OnTrue result (IsLegal self.now.accounts (self.now.history ++ e.now ∷ [])) }
         ensures only { IsLegal self.now.accounts (self.now.history ++ e.now ∷ []) → IsTrue result }
     {
-        self.history.len() < MOST_ENTRIES
-            && self.accounts.fits(&e.pay)
-            && self.index.place(&e.pay.mir).is_none()
-            && is_latest(&self.accounts, &self.history, e.day)
-            && self.decides(e)
+        if !self.has_place_for(e) {
+            return false;
+        }
+        if !is_latest(&self.accounts, &self.history, e.day) {
+            return false;
+        }
+        self.decides(e)
     }
 
     /// Whether an entry has the outcome that the entries before it give.
@@ -129,7 +145,10 @@ impl Past {
     {
         let legs = e.pay.legs.as_slice();
         let pairs = self.pairs.as_slice();
-        is_outcome(decide_by(&self.accounts, &self.history, pairs, legs), e.outcome)
+        is_outcome(
+            decide_by(&self.accounts, &self.history, pairs, legs),
+            e.outcome,
+        )
     }
 
     /// Adds an entry that may stand next.

@@ -148,12 +148,12 @@ classes (cut all end) (faulty at) it =
 pub one_finding : (reading : Reading) (a b : Finding) → IsFound reading a → IsFound reading b → a ≡ b
 one_finding reading a b fa fb =
     elim (classes reading a fa) [
-      | inl no ↦ elim (classes reading b fb) [
-        | inl none ↦ no.0 ∙ sym none.0
-        | inr y ↦ absurd (has_head (all_of reading) y.chart y.history y.rest y.read no.1)
+      | inl bare ↦ elim (classes reading b fb) [
+        | inl too ↦ bare.0 ∙ sym too.0
+        | inr y ↦ absurd (has_head (all_of reading) y.chart y.history y.rest y.read bare.1)
       ]
       | inr x ↦ elim (classes reading b fb) [
-        | inl none ↦ absurd (has_head (all_of reading) x.chart x.history x.rest x.read none.1)
+        | inl bare ↦ absurd (has_head (all_of reading) x.chart x.history x.rest x.read bare.1)
         | inr y ↦
             let one = one_end (all_of reading) x.chart y.chart x.history y.history x.rest y.rest x.read y.read in
             let same : finding_of reading x.chart x.history x.rest ≡ finding_of reading y.chart y.history y.rest = λ k. finding_of reading (one.0 k) (one.1 k) (one.2 k) in

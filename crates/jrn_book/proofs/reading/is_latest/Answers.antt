@@ -1,12 +1,8 @@
-use Rattle.std.proofs.Common.{◌≡◌, ◌≤ℤ◌, Bool, true, false}
-use Rattle.std.specs.Bool.{OnTrue}
+use Rattle.std.proofs.Common.{◌≤ℤ◌}
 use Rattle.day_model.specs.Laws.{IsLatest}
+use Rattle.jrn_book.proofs.Bools.{on_true}
 use Rattle.jrn_book.proofs.Following.{latest_by_last}
 use Rattle.jrn_book.proofs.reading.is_latest.Goals as goal
-
-on_true : (b : Bool) (P Q : Type 0) → (P → Q) → OnTrue b P → OnTrue b Q
-on_true true P Q f p = f p
-on_true false P Q f p = p
 
 pub returns-else-count-eq0-clause-latest : goal.returns-else-count-eq0-clause-latest
 returns-else-count-eq0-clause-latest c =

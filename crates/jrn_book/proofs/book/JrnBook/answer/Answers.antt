@@ -47,7 +47,7 @@ returns-in_err-reserve-clause-commits g c =
     let answer : c.from_residual.result ≡ Err Memory = search rules in
     subst (λ (a : Answer). Commits D.honest D.reads D.may_leave D.moment D.left_since D.faults D.plan old c.reserve.new.self held held p c.args.day a) (sym answer)
     (wanting D.honest D.reads D.may_leave D.moment D.left_since D.faults D.plan g.met.D.Disk.only_now old is held p c.args.day c.reserve.new.self whole c.reserve.ensures.same
-      (λ room. not_ok c.reserve.result _ c.in_err-reserve.was (c.reserve.ensures.again room)))
+    (λ room. not_ok c.reserve.result _ c.in_err-reserve.was (c.reserve.ensures.again room)))
 
 pub returns-in-Some-clause-commits : goal.returns-in-Some-clause-commits
 returns-in-Some-clause-commits g c =

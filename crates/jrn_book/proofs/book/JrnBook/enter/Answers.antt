@@ -53,7 +53,7 @@ returns-in-Err-clause-any_moment g c =
     let r : record_in c.bytes.result.now ≡ entry_bytes e = record_in-frame (entry_bytes e) c.bytes.result.now (c.bytes.ensures ∙ c.prepare-entry.ensures.frame) in
     subst (λ (b : Book g.row.D.Denot). IsTrue (D.honest (disk_of b.file)) → LeavesOnly D.moment D.left_since (disk_of b.file) (disk_of c.append.new.file) (IsBeforeOrNext b.accounts b.history p day)) c.self.view_is
     (λ honest. moments D.moment D.left_since (disk_of c.self.inside.file) (disk_of c.append.new.file) chart h p day (records_of h ++ record_in c.bytes.result.now ∷ []) (records_next chart h p day e (record_in c.bytes.result.now) new is r)
-      (c.append.ensures.any_moment (head_bytes chart) (records_of h) settled honest))
+    (c.append.ensures.any_moment (head_bytes chart) (records_of h) settled honest))
 
 pub returns-clause-any_moment : goal.returns-clause-any_moment
 returns-clause-any_moment g c =
@@ -71,7 +71,7 @@ returns-clause-any_moment g c =
     let r : record_in c.bytes.result.now ≡ entry_bytes e = record_in-frame (entry_bytes e) c.bytes.result.now (c.bytes.ensures ∙ c.prepare-entry.ensures.frame) in
     subst (λ (b : Book g.row.D.Denot). IsTrue (D.honest (disk_of b.file)) → LeavesOnly D.moment D.left_since (disk_of b.file) (disk_of c.append.new.file) (IsBeforeOrNext b.accounts b.history p day)) c.self.view_is
     (λ honest. moments D.moment D.left_since (disk_of c.self.inside.file) (disk_of c.append.new.file) chart h p day (records_of h ++ record_in c.bytes.result.now ∷ []) (records_next chart h p day e (record_in c.bytes.result.now) new is r)
-      (c.append.ensures.any_moment (head_bytes chart) (records_of h) settled honest))
+    (c.append.ensures.any_moment (head_bytes chart) (records_of h) settled honest))
 
 pub note-requires-clause-new : goal.note-requires-clause-new
 note-requires-clause-new g c =
@@ -130,15 +130,14 @@ invariant_of-self g c =
     subst (IsLeftBy (D.honest (disk_of file)) (D.may_leave (disk_of file)) chart h) (ap (λ (x : Entry). x.day) is)
     (left_by D.honest D.reads D.may_leave D.moment D.left_since g.met.D.Disk.counts_now chart h e old file c.prepare-entry.ensures.written next c.append.ensures.honest leaves) in
     let failed = c.failed_by-self-inside.ensures in
-    let disk = disk_after D.honest D.reads D.may_leave D.moment D.left_since g.met.D.Disk.counts_now chart h day old file _ _ _ _ _ c.in-Err.fault c.in-Err.ensures.shows c.in-Err.ensures.same settled left in
-    (
+    let disk = disk_after D.honest D.reads D.may_leave D.moment D.left_since g.met.D.Disk.counts_now chart h day old file _ _ _ _ _ c.in-Err.fault c.in-Err.ensures.shows c.in-Err.ensures.same settled left in (
       record {
         journal = c.self.invariant.0.journal;
         disk = subst (λ f. StandsOnDisk D.honest D.reads D.may_leave f file chart h) (sym failed) disk;
         counts = subst (λ f. Counts f c.self.inside.at_open (D.faults (disk_of file))) (sym failed) (counts_after day c.self.inside.at_open _ _ _ _ _ c.in-Err.fault counts c.in-Err.ensures.shows);
       },
       backed chart c.self.inside.history c.self.inside.index c.prepare-entry.new.sides c.take.new.self c.take.ensures.after
-      (subst (λ (s : Sides). HasTotals s.pairs (length chart.accounts) h) (sym c.prepare-entry.ensures.sides_same) c.self.invariant.1.totals) c.self.invariant.1.references,
+          (subst (λ (s : Sides). HasTotals s.pairs (length chart.accounts) h) (sym c.prepare-entry.ensures.sides_same) c.self.invariant.1.totals) c.self.invariant.1.references,
     )
 
 pub invariant_of-self-2 : goal.invariant_of-self-2
@@ -169,17 +168,17 @@ invariant_of-self-2 g c =
     let sides : c.settle_entry.new.sides.pairs ≡ pairs_with (booked_legs e) c.self.inside.sides.pairs =
     ap (λ (s : Sides). s.pairs) c.settle_entry.ensures.sides ∙ ap (λ (s : Sides). pairs_with (booked_legs e) s.pairs) c.prepare-entry.ensures.sides_same in
     let totals = has_entry h e count c.self.inside.sides.pairs c.self.invariant.1.totals in
-    let Totals : List Pair × List Entry → Type 0 = λ x. HasTotals x.0 count x.1 in
-    (
+    let Totals : List Pair × List Entry → Type 0 = λ x. HasTotals x.0 count x.1 in (
       record {
         journal = subst (IsJournal chart) (sym now) (journal_more chart h e c.self.invariant.0.journal c.prepare-entry.ensures.written next);
         disk = subst (λ (x : Option Day × List Entry). StandsOnDisk D.honest D.reads D.may_leave x.0 file chart x.1) (λ i. (sym whole i, sym now i)) stands;
         counts = subst (λ f. Counts f c.self.inside.at_open (D.faults (disk_of file))) (sym whole) (omega (arith, counts, c.in_default-append.ensures.shows.2));
       },
       backed chart c.note.new.history c.note.new.index c.settle_entry.new.sides c.take.new.self c.take.ensures.after
-      (subst Totals (λ i. (sym sides i, sym now i)) totals)
-      (c.note.ensures.index ∙ ap (λ (rs : List (List ℕ)). rs ++ e.pay.mir.0 ∷ []) c.self.invariant.1.references ∙ sym (references_more h e) ∙ ap references_of (sym now)),
+          (subst Totals (λ i. (sym sides i, sym now i)) totals)
+          (c.note.ensures.index ∙ ap (λ (rs : List (List ℕ)). rs ++ e.pay.mir.0 ∷ []) c.self.invariant.1.references ∙ sym (references_more h e) ∙ ap references_of (sym now)),
     )
+
 pub returns-in-Err-clause-legal : goal.returns-in-Err-clause-legal
 returns-in-Err-clause-legal g c = c.self.invariant.0.journal.legal
 
