@@ -11,8 +11,6 @@ mod opening;
 mod reading;
 mod room;
 mod same;
-#[cfg(test)]
-mod tests;
 
 pub use answer::{CommitFault, Committed};
 pub use book::JrnBook;
