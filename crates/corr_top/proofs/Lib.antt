@@ -9,6 +9,7 @@ pub mod Adding
 pub mod Journals
 pub mod Asking
 pub mod RunEnds
+pub mod DayParts
 pub mod Turning
 pub mod Locking
 pub mod Ending
