@@ -34,6 +34,7 @@ pub struct JrnBook<D: Disk> {
     pub(crate) at_open: u64,
     pub(crate) failed: Option<Day>,
     pub(crate) room: Option<Room>,
+    pub(crate) alloc: Global,
 }
 
 impl<D: Disk> Model for JrnBook<D> {
@@ -84,7 +85,7 @@ impl<D: Disk> JrnBook<D> {
     /// Takes all that one commit of a pay needs: a copy of it, and room for its frame, its entry and its place in the index.
     ///
     /// `Memory`: there is none, and no room for any pay.
-    pub fn reserve(&mut self, alloc: Global, p: &Pay) -> Result<(), Memory>
+    pub fn reserve(&mut self, p: &Pay) -> Result<(), Memory>
         requires shape { HasShape p.now }
         ensures same { self.new ≡ record self.old { room = self.new.room } }
         ensures room { OnOk result (self.new.room ≡ Some p.now) }
@@ -96,7 +97,7 @@ impl<D: Disk> JrnBook<D> {
         self.room = None;
         self.history.reserve()?;
         self.index.reserve()?;
-        let room = Room::new(alloc, p)?;
+        let room = Room::new(self.alloc, p)?;
         self.room = Some(room);
         Ok(())
     }
@@ -122,6 +123,7 @@ impl<D: Disk> JrnBook<D> {
             at_open: _,
             failed: _,
             room: _,
+            alloc: _,
         } = self;
         (accounts, history, file.into_disk())
     }
