@@ -9,9 +9,8 @@ pub mod Adding
 pub mod Journals
 pub mod Asking
 pub mod RunEnds
-pub mod DayParts
 pub mod Turning
-pub mod Locking
+pub mod Entering
 pub mod Ending
 pub mod Initial
 pub mod Dates

@@ -1,5 +1,5 @@
-use Rattle.std.proofs.Common.{◌≡◌, ◌+◌, ◌-◌, ◌<◌, ◌≤◌, Some, drop, take, length, arith}
-use Rattle.std.specs.Prelude.{min, slice_get}
+use Rattle.std.proofs.Common.{◌+◌, ◌-◌, ◌<◌, ◌≤◌, drop, take, length, arith}
+use Rattle.std.specs.Prelude.{min}
 use Rattle.corr_report.proofs.laws.Rests.{rest_at}
 use Rattle.corr_top.specs.Out.{sent_of}
 use Rattle.corr_top.proofs.Adding.{in_front, none_behind, numbered_done, numbered_next}
