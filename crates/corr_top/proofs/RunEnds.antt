@@ -13,6 +13,7 @@ use Rattle.day_model.specs.Chart.{Chart}
 use Rattle.day_model.specs.Legal.{IsLegal}
 use Rattle.day_model.specs.Next.{fold_of}
 use Rattle.jrn_book.specs.Book.{Book, IsLeftBy, StandsOnDisk}
+use Rattle.jrn_book.specs.Journal.{IsJournal}
 use Rattle.jrn_file.specs.File.{disk_of}
 use Rattle.jrn_file.specs.declared.fault.OpenFault.{OpenFault}
 use Rattle.corr_top.specs.declared.answers.BookStop.{BookStop}
@@ -68,7 +69,7 @@ module _ {S K D : Type 0} (source : sources.Ghosts S) (d : disks.Ghosts D) (day 
         (inl (inr (p.0, inr (p.1.0, inr (p.1.1.0, inr (p.1.1.1.0, inl ((fault, refl, stops), (tt, (messages, (stops.untouched, tt))))))))))
 
     module _ (from to : Book D) (loose : LooseHand) (opened : HasOpened d old.disk from loose) (closed : new.disk ≡ disk_of to.file)
-        (stands : StandsOnDisk d.honest d.reads d.may_leave to.failed to.file to.accounts to.history) where
+        (stands : StandsOnDisk d.honest d.reads d.may_leave to.failed to.file to.accounts to.history) (journal : IsJournal to.accounts to.history) where
       -- the inputs of a run that opened its journal
       abbrev i_of : List ℕ → List (List ℕ) → Inputs
       i_of bytes cut = record has.inputs { day = day; messages = bytes; cut = cut; chart = from.accounts; history = from.history }
@@ -144,6 +145,7 @@ module _ {S K D : Type 0} (source : sources.Ghosts S) (d : disks.Ghosts D) (day 
                 sure = ap d.faults closed ∙ not_failed a.grown.failed a.whole ∙ opened.sure;
                 entered = subst (λ (chart : Chart). IsOnDisk d new.disk chart (new_in i)) a.grown.accounts
                     (subst (λ es. IsOnDisk d new.disk to.accounts es) history (left_whole d to.file to.accounts to.history new.disk to.failed closed a.whole stands));
+                journal = subst (λ es. IsJournal from.accounts es) history (subst (λ (chart : Chart). IsJournal chart to.history) a.grown.accounts journal);
               };
             },
             history,
@@ -185,7 +187,7 @@ module _ {S K D : Type 0} (source : sources.Ghosts S) (d : disks.Ghosts D) (day 
           let booked : StopsBooking d old.disk new.disk i stops.stop = record {
             added = grown.added;
             each = subst (λ ps. All (IsAdded day ps) grown.added) (sym pays) grown.each;
-            legal = subst (λ es. IsLegal from.accounts es) grown.history (subst (λ (chart : Chart). IsLegal chart to.history) grown.accounts grown.legal);
+            journal = subst (λ es. IsJournal from.accounts es) grown.history (subst (λ (chart : Chart). IsJournal chart to.history) grown.accounts journal);
             left = subst (λ es. IsLeft d old.disk new.disk from.accounts es day) grown.history (is_left grown.failed grown.accounts);
             cause = subst (λ es. BookCause d old.disk new.disk i es stops.stop) grown.history (cause_of stops.bytes stops.cut stops.stop stops.stopped.cause pays);
           } in

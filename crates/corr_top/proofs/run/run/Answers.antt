@@ -26,7 +26,7 @@ returns-clause-texts g c =
     let opened = c.in-Ok-open_journal.opened in
     let new = record c.args.room { tables = c.read_directory.new.files; messages = c.book_day-texts.new.messages; disk = c.close_journal.result } in
     day_ends g.S.Source g.D.Disk c.args.day c.args.room new (record { accounts = has.accounts; received = refl; disk2 = refl; report = refl; out = refl }) c.in-Ok.directory has opened.0 c.book_day-texts.new.book opened.1
-    c.in-Ok-open_journal.ensures.opened c.close_journal.ensures.disk c.close_journal.ensures.stands c.book_day-texts.result c.book_day-texts.ensures
+    c.in-Ok-open_journal.ensures.opened c.close_journal.ensures.disk c.close_journal.ensures.stands c.close_journal.ensures.journal c.book_day-texts.result c.book_day-texts.ensures
 
 pub returns-clause-honest : goal.returns-clause-honest
 returns-clause-honest g c =
