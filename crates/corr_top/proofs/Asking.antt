@@ -4,7 +4,6 @@ use Rattle.corr_disk.specs.declared.disk.Disk as disks
 use Rattle.corr_io.specs.declared.source.Source as sources
 use Rattle.corr_top.specs.declared.room.Room.{Room}
 use Rattle.corr_top.specs.declared.status.Status.{Status}
-use Rattle.corr_top.specs.declared.status.Status.TheVariants as status
 use Rattle.corr_top.specs.declared.words.Command.TheVariants.{Plain}
 use Rattle.corr_top.specs.declared.words.Plain.TheVariants as plain
 use Rattle.corr_top.specs.declared.words.Query.{Query}

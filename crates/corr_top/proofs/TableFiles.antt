@@ -22,7 +22,6 @@ use Rattle.day_model.specs.declared.fault.AccountsFault.TheVariants as accounts
 use Rattle.day_model.specs.Chart.{Chart, opening_sum}
 use Rattle.day_model.specs.Gap.{TellsUnbalanced}
 use Rattle.ssi_versions.specs.declared.row.SsiRow.{SsiRow}
-use Rattle.corr_top.specs.declared.cutting.FileStop.TheVariants as file_stop
 use Rattle.corr_top.specs.declared.directory.Directory.{Directory}
 use Rattle.corr_top.specs.declared.reading.ReadStop.{ReadStop}
 use Rattle.corr_top.specs.declared.reading.ReadStop.TheVariants as stop
