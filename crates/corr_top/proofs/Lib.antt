@@ -12,6 +12,7 @@ pub mod Origins
 pub mod Journals
 pub mod Asking
 pub mod RunEnds
+pub mod DayParts
 pub mod Turning
 pub mod Locking
 pub mod Ending

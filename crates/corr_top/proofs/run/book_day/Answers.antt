@@ -4,6 +4,8 @@ use Rattle.std.proofs.lemmas.Result.{err_from_is_err_and}
 use Rattle.day_model.specs.declared.entry.Entry.{Entry}
 use Rattle.day_model.specs.Laws.{IsLatest}
 use Rattle.corr_top.specs.Booking.{IsBack}
+use Rattle.corr_top.proofs.DayParts.{day_done, no_fewer, pays_stop, shapes_after, stopped_none, texts_stop}
+use Rattle.corr_top.proofs.MessageFiles.{all-short}
 use Rattle.corr_top.proofs.run.book_day.Goals as goal
 
 pub returns-in_err-check_day : goal.returns-in_err-check_day
@@ -29,3 +31,8 @@ returns-in_err-messages g c =
       stops = q.1;
       book_same = refl;
     })))
+
+pub answer_all-requires-clause-short : goal.answer_all-requires-clause-short
+answer_all-requires-clause-short g c =
+    let has = c.in_ok-messages.ensures.are in
+    subst (λ (ms : List (List ℕ)). All (λ m. length m ≤ 16384) ms) (sym c.as_slice.ensures) (all-short has.0 c.in_ok-messages.messages has.1.are)
