@@ -8,11 +8,12 @@ use Rattle.corr_report.specs.Report.{report_of}
 use Rattle.day_model.specs.declared.entry.Entry.{Entry}
 use Rattle.day_model.specs.declared.pay.Pay.{Pay}
 use Rattle.day_model.specs.declared.reply.Reply.{Reply}
-use Rattle.day_model.specs.Chart.{Chart}
+use Rattle.day_model.specs.Chart.{Chart, IsChart}
 use Rattle.day_model.specs.Legal.{IsLegal}
 use Rattle.jrn_book.specs.Book.{Book}
 use Rattle.jrn_codec.specs.Record.{IsEntry}
 use Rattle.jrn_file.specs.File.{disk_of}
+use Rattle.ssi_versions.specs.InstructionList.{AreInstructions}
 use Rattle.corr_top.specs.declared.answers.BookStop.{BookStop}
 use Rattle.corr_top.specs.declared.answers.BookStop.TheVariants as booking
 use Rattle.corr_top.specs.declared.directory.Directory.{Directory}
@@ -23,10 +24,12 @@ use Rattle.corr_top.specs.declared.writing.Texts.{Texts}
 use Rattle.corr_top.specs.Booking.{IsAdded}
 use Rattle.corr_top.specs.Days.{GivesDay, HasDay, HasFile}
 use Rattle.corr_top.specs.Message.{pays_in, readings_of}
+use Rattle.corr_top.specs.Origin.{AreSentValid, SendsAccepted}
 use Rattle.corr_top.specs.Out.{sent_from}
 use Rattle.corr_top.specs.Stops.{status_of_booking}
 use Rattle.corr_top.specs.Turns.{HasAnswered, HasGrown, HasPayShape, HasStopped}
 use Rattle.corr_top.proofs.Asking.{all_shapes}
+use Rattle.corr_top.proofs.Origins.{sent-valid}
 
 module _ {D : Type 0} (d : disks.Ghosts D) (day : Day) (book : Book D) where
   -- a book in which none of these pays was entered yet
@@ -81,10 +84,17 @@ module _ {S D : Type 0} (source : sources.Ghosts S) (d : disks.Ghosts D) (direct
     pub texts_stop : GivesDay source d directory day from to old new (Err status.Memory)
     texts_stop = inr (inr (inr (record { bytes = bytes; cut = cut; replies = replies; status_is = refl; had = had })))
 
+    -- what they send is valid
+    day_valid : AreInstructions directory.tables directory.ssi → IsChart old.accounts → SendsAccepted old.accounts (length old.history + 1) new.history → AreSentValid directory.tables old.accounts (length old.history + 1) new.history
+    day_valid are sound sends =
+        let grown = had.answered.grown in
+        sent-valid directory old.accounts day cut old.history grown.added new.history are sound grown.history grown.each grown.shapes (subst (λ (c : Chart). IsLegal c new.history) grown.accounts grown.legal) sends
+
     -- they were made
     pub day_done : (a : Chart) (h : List Entry) (count : ℕ) (told : List Reply) (texts : Texts) → a ≡ new.accounts → h ≡ new.history → count ≡ length old.history → told ≡ replies
-        → texts.report ≡ report_of a h told → texts.out ≡ sent_from a (count + 1) h → GivesDay source d directory day from to old new (Ok texts)
-    day_done a h count told texts accounts history counted told_is report out =
+        → texts.report ≡ report_of a h told → texts.out ≡ sent_from a (count + 1) h → AreInstructions directory.tables directory.ssi → IsChart old.accounts → SendsAccepted a (count + 1) h
+        → GivesDay source d directory day from to old new (Ok texts)
+    day_done a h count told texts accounts history counted told_is report out are sound sends =
         let chart : a ≡ old.accounts = accounts ∙ answered.grown.accounts in (
           bytes,
           cut,
@@ -92,6 +102,9 @@ module _ {S D : Type 0} (source : sources.Ghosts S) (d : disks.Ghosts D) (direct
           had,
           report ∙ ap (λ (c : Chart). report_of c h told) chart ∙ ap (λ (es : List Entry). report_of old.accounts es told) history ∙ ap (report_of old.accounts new.history) told_is,
           out ∙ ap (λ (c : Chart). sent_from c (count + 1) h) chart ∙ ap (λ (n : ℕ). sent_from old.accounts (n + 1) h) counted ∙ ap (sent_from old.accounts (length old.history + 1)) history,
+          day_valid are sound
+          (subst (λ (es : List Entry). SendsAccepted old.accounts (length old.history + 1) es) history
+          (subst (λ (n : ℕ). SendsAccepted old.accounts (n + 1) h) counted (subst (λ (c : Chart). SendsAccepted c (count + 1) h) chart sends))),
         )
 
 -- whether the disk tells its bytes stays
