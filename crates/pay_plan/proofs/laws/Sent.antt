@@ -1,6 +1,6 @@
 -- The pay of a message, under the tables by which that was read: its accounts fit the amount, and its orders go to banks that the
 -- tables hold.
-use Rattle.std.proofs.Common.{◌≡◌, ℕ, zero, suc, ◌==◌, not, Bool, true, false, cond, IfSome, List, [], ◌∷◌, Option, Some, None, Ok, refl, sym, ap, ◌∙◌, subst, eqb}
+use Rattle.std.proofs.Common.{◌≡◌, ℕ, zero, suc, ◌==◌, not, true, false, cond, IfSome, List, [], ◌∷◌, Option, Some, None, Ok, refl, sym, subst}
 use Rattle.std.specs.Prelude.{All, slice_get}
 use Rattle.std.specs.Option.{option_map_or}
 use Rattle.std.proofs.lemmas.Bool.{eqb-true}
@@ -33,7 +33,7 @@ use Rattle.routing.proofs.laws.Routes.{IsRouted, KnowsVia, route-is}
 use Rattle.pay_plan.specs.declared.ask.Ask.{Ask}
 use Rattle.pay_plan.specs.declared.asked.Asked.{Asked}
 use Rattle.pay_plan.specs.declared.way.Way.{Way}
-use Rattle.pay_plan.specs.declared.way.Way.TheVariants.{Covered, Credited, Ends, Onward, Passed}
+use Rattle.pay_plan.specs.declared.way.Way.TheVariants.{Credited, Onward, Passed}
 use Rattle.pay_plan.specs.Asked.{asked_of, is_for_home}
 use Rattle.pay_plan.specs.Orders.{next_orders, notices_of, orders_by, orders_of, receiver, skip_of}
 use Rattle.pay_plan.specs.Pay.{legs_of, quote_of}

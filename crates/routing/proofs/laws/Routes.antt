@@ -1,31 +1,30 @@
 -- What a route rests on: its accounts fit the amount, a vostro account that is debited is the sender's, and the bank between
 -- stands in the table of banks where those of the instructions do.
-use Rattle.std.proofs.Common.{◌≡◌, ℕ, ◌-◌, Bool, true, false, List, [], ◌∷◌, suc, zero, IfSome, IsTrue, Option, Some, None, Result, Ok, Err, refl, sym, ap, ◌∙◌, subst, eqb, arith}
-use Rattle.std.specs.Prelude.{◌&&◌, ◌||◌, ◌==◌, ◌++◌, cond, filter, find, not, slice_get}
+use Rattle.std.proofs.Common.{◌≡◌, ℕ, Bool, true, false, List, [], ◌∷◌, IfSome, IsTrue, Option, Some, None, Result, Ok, Err, refl, sym, ap, ◌∙◌, subst, eqb}
+use Rattle.std.specs.Prelude.{◌&&◌, ◌||◌, ◌==◌, ◌++◌, cond, filter, find, not}
 use Rattle.std.specs.List.{All}
 use Rattle.std.specs.Option.{option_or}
 use Rattle.std.specs.Str.{bytes_eq}
 use Rattle.std.proofs.lemmas.Bool.{and_parts}
-use Rattle.std.proofs.lemmas.List.Elements.{All-cons, All-filter, All-head, All-nil, All-tail}
+use Rattle.std.proofs.lemmas.List.Elements.{All-filter, All-head, All-tail}
 use Rattle.std.proofs.lemmas.Option.{same_Some}
 use Rattle.std.proofs.lemmas.Slice.Eq.{bytes_eq-Decides}
 use Rattle.corr_text.specs.Codes.{code}
 use Rattle.corr_text.specs.First.{check, first_of, or_fault, ◌>>=◌}
-use Rattle.corr_text.specs.declared.fault.Code.{Code}
 use Rattle.corr_ids.specs.declared.bic.Bic.{Bic}
 use Rattle.corr_ids.specs.declared.day.Day.{Day}
 use Rattle.corr_money.specs.declared.amount.Amount.{Amount}
 use Rattle.ref_tables.specs.Seen.{Tables, has_head}
 use Rattle.day_model.specs.declared.account.Account.{Account}
 use Rattle.day_model.specs.declared.account.AcctNo.{AcctNo}
-use Rattle.day_model.specs.Chart.{Chart, account_at, customer, has_id, is_ccy, is_owned, nostro, number_of_first, vostro}
+use Rattle.day_model.specs.Chart.{Chart, account_at, has_id, is_ccy, is_owned, nostro, number_of_first, vostro}
 use Rattle.ssi_versions.specs.declared.method.Method.{Method}
 use Rattle.ssi_versions.specs.declared.method.Method.TheVariants as method
 use Rattle.ssi_versions.specs.declared.row.SsiRow.{SsiRow}
 use Rattle.ssi_versions.specs.Instruction.{instruction_at, is_in_force, naming}
 use Rattle.ssi_versions.specs.Rows.{any_bank, knows_via}
 use Rattle.routing.specs.Accounts.{account_with, fits, named, serves}
-use Rattle.routing.specs.Route.{bank_credit, booked_credit, carried_credit, cover_of_bank, credit_by, credit_of, customer_credit, debit_of, is_bank, relation_of, route_of}
+use Rattle.routing.specs.Route.{booked_credit, carried_credit, credit_by, credit_of, customer_credit, debit_of, is_bank, relation_of, route_of}
 use Rattle.routing.specs.declared.cover.Cover.{Cover}
 use Rattle.routing.specs.declared.cover.Cover.TheVariants as cover
 use Rattle.routing.specs.declared.credit.Credit.{Credit}
