@@ -103,8 +103,8 @@ module _ {S D : Type 0} (source : sources.Ghosts S) (d : disks.Ghosts D) (direct
           report ∙ ap (λ (c : Chart). report_of c h told) chart ∙ ap (λ (es : List Entry). report_of old.accounts es told) history ∙ ap (report_of old.accounts new.history) told_is,
           out ∙ ap (λ (c : Chart). sent_from c (count + 1) h) chart ∙ ap (λ (n : ℕ). sent_from old.accounts (n + 1) h) counted ∙ ap (sent_from old.accounts (length old.history + 1)) history,
           day_valid are sound
-          (subst (λ (es : List Entry). SendsAccepted old.accounts (length old.history + 1) es) history
-          (subst (λ (n : ℕ). SendsAccepted old.accounts (n + 1) h) counted (subst (λ (c : Chart). SendsAccepted c (count + 1) h) chart sends))),
+              (subst (λ (es : List Entry). SendsAccepted old.accounts (length old.history + 1) es) history
+              (subst (λ (n : ℕ). SendsAccepted old.accounts (n + 1) h) counted (subst (λ (c : Chart). SendsAccepted c (count + 1) h) chart sends))),
         )
 
 -- whether the disk tells its bytes stays

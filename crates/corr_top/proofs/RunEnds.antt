@@ -170,7 +170,7 @@ module _ {S K D : Type 0} (source : sources.Ghosts S) (d : disks.Ghosts D) (day 
             gives.4 ∙ ap (λ es. report_of from.accounts es gives.2) done.1 ∙ ap (report_of from.accounts (new_in i)) done.2,
             gives.5 ∙ ap (sent_from from.accounts (length from.history + 1)) done.1,
             subst (λ es. AreSentValid (tables_in i) from.accounts (length from.history + 1) es) done.1
-            (subst (λ (x : Directory). AreSentValid x.tables from.accounts (length from.history + 1) to.history) has.directory_is gives.6),
+                (subst (λ (x : Directory). AreSentValid x.tables from.accounts (length from.history + 1) to.history) has.directory_is gives.6),
           )
       day_ends (Err s) (inl stops) =
           let p = has.passed in
