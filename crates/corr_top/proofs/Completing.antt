@@ -29,7 +29,7 @@ use Rattle.jrn_file.specs.declared.fault.OpenFault.{OpenFault}
 use Rattle.jrn_file.specs.declared.fault.OpenFault.TheVariants as opening
 use Rattle.ref_tables.specs.Accounts.{account_of, accounts_fault}
 use Rattle.ref_tables.specs.Refusals.{RowTest, first_bad_row, first_fault, named}
-use Rattle.ref_tables.specs.Rows.{Cells, rows_of}
+use Rattle.ref_tables.specs.Rows.{Cells, rows_of, up_to}
 use Rattle.ref_tables.specs.Seen.{Tables}
 use Rattle.ref_tables.specs.Tables.{bics_fault, ccys_fault, countries_fault, tables_of}
 use Rattle.ref_tables.specs.declared.fault.TableName.{TableName}
@@ -87,7 +87,7 @@ small_if false name test rows e = absurd (cc e)
 
 small : (name : TableName) (most : ℕ) (test : RowTest) (file : List ℕ) → named name (first_fault most test file) ≡ None → length file ≤ 8388608
 small name most test file e =
-    let b : nat_le (length file) 8388608 ≡ true = small_if (nat_le (length file) 8388608) name (first_bad_row test []) _ e in
+    let b : nat_le (length file) 8388608 ≡ true = small_if (nat_le (length file) 8388608) name (first_bad_row test []) (up_to most (rows_of file)) e in
     grind (arith, nat_tests)
 
 small_table : (name : TableName) (i : Inputs) → fault_of name i ≡ None → length (file_of name i) ≤ 8388608
@@ -284,19 +284,19 @@ module _ {S K D : Type 0} (source : sources.Ghosts S) (d : disks.Ghosts D) (old 
 
 -- ---- the commands
 
-three_of : (rest : List Step) → HasThree (Step.table names.Countries ∷ Step.table names.Ccys ∷ Step.table names.Bics ∷ [])
-three_of rest = record { bics = inr (inr (inl refl)); ccys = inr (inl refl); countries = inl refl }
+three_read : HasThree (Step.table names.Countries ∷ Step.table names.Ccys ∷ Step.table names.Bics ∷ [])
+three_read = record { bics = inr (inr (inl refl)); ccys = inr (inl refl); countries = inl refl }
 
 later : (s : Step) (done : List Step) → HasThree done → HasThree (s ∷ done)
 later s done three = record { bics = inr three.bics; ccys = inr three.ccys; countries = inr three.countries }
 
 ordered : (command : Command) → AreOrdered [] (steps_of command)
 ordered (Run day) =
-    let three = three_of [] in
+    let three = three_read in
     let five = later Step.messages _ (later Step.day _ (later Step.open_journal _ (later (Step.table names.Ssi) _ three))) in
     (tt, (tt, (tt, (three, (tt, (inl refl, (tt, (record { three = five; ssi = inr (inr (inr (inl refl))); journal = inr (inr (inl refl)); messages = inl refl }, tt))))))))
 ordered (Plain (Init home)) =
-    let three = three_of [] in
+    let three = three_read in
     (tt, (tt, (tt, (three, ((later (Step.table names.Accounts) _ three, inl refl), (tt, tt))))))
 ordered (Plain (Query asked)) = (tt, tt)
 
@@ -309,11 +309,11 @@ no_write_fault sink old new report from to out then now sound sent (inr f) = sen
 stopped_memory : {S K D : Type 0} (source : sources.Ghosts S) (d : disks.Ghosts D) (sink : sinks.Ghosts K) (command : Command) (old new : Room S K D) (j i : Inputs) (s : Status) → IsFor command j → IsSound source sink d command old new i
     → HasStopped source d command old new s j → s ≡ status.Memory
 stopped_memory source d sink (Run day) old new j i s is sound (inl halts) =
-    halts_memory source d old new (record j { home = i.home }) i refl (is ∙ sym sound.are_for) s [] (steps_of (Run day)) (ordered (Run day)) tt sound.ready halts
+    halts_memory source d old new j (record i { home = j.home }) refl (is ∙ sym sound.are_for) s [] (steps_of (Run day)) (ordered (Run day)) tt sound.ready halts
 stopped_memory source d sink (Plain (Init home)) old new j i s is sound (inl halts) =
-    halts_memory source d old new (record j { day = i.day }) i (is ∙ sym sound.are_for) refl s [] (steps_of (Plain (Init home))) (ordered (Plain (Init home))) tt sound.ready halts
+    halts_memory source d old new j (record i { day = j.day }) (is ∙ sym sound.are_for) refl s [] (steps_of (Plain (Init home))) (ordered (Plain (Init home))) tt sound.ready halts
 stopped_memory source d sink (Plain (Query asked)) old new j i s is sound (inl halts) =
-    halts_memory source d old new (record j { home = i.home; day = i.day }) i refl refl s [] (steps_of (Plain (Query asked))) (ordered (Plain (Query asked))) tt sound.ready halts
+    halts_memory source d old new j (record i { home = j.home; day = j.day }) refl refl s [] (steps_of (Plain (Query asked))) (ordered (Plain (Query asked))) tt sound.ready halts
 stopped_memory source d sink command old new j i s is sound (inr memory) = memory.1
 
 pub done_or_memory : {S K D : Type 0} (source : sources.Ghosts S) (d : disks.Ghosts D) (sink : sinks.Ghosts K) (command : Command) (old new : Room S K D) (s : Status) (i : Inputs) → Ends source d command old new sink s

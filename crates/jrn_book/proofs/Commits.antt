@@ -78,6 +78,7 @@ module _ {D : Type 0} (honest : D → Bool) (reads : D → List ℕ) (may_leave 
       calls = λ yes. absurd (cc (calls, yes));
       no_more_calls = (0, omega arith, λ k. ap (plan (disk_of old.file)) (let e : k ≡ 0 + k = omega arith in e));
       told = refl;
+      later = omega arith;
       no_memory = answered;
     }
 
@@ -126,5 +127,6 @@ module _ {D : Type 0} (honest : D → Bool) (reads : D → List ℕ) (may_leave 
         calls = here.calls;
         no_more_calls = here.no_more_calls;
         told = here.told;
+        later = here.later;
         no_memory = λ room. answered;
       }

@@ -1,24 +1,17 @@
 -- Which entries may stand next in a legal history.
-use Rattle.std.proofs.Common.{◌≡◌, ℕ, zero, suc, ◌+◌, ◌-◌, ◌<◌, ◌≤◌, Bool, true, false, cond, List, [], ◌∷◌, ◌++◌, length, take, Option, Some, None, refl, sym, ap, ◌∙◌, subst, arith, length-append, ◌≤ℤ◌, inl, inr}
+use Rattle.std.proofs.Common.{◌≡◌, ℕ, zero, suc, ◌+◌, ◌-◌, Bool, true, false, cond, List, [], ◌∷◌, ◌++◌, length, Some, None, refl, sym, ap, ◌∙◌, subst, arith, length-append}
 use Rattle.std.specs.Prelude.{slice_get, is_some}
 use Rattle.std.specs.List.{position_from}
 use Rattle.std.proofs.Math.Seq.{take-append_seam}
 use Rattle.std.proofs.lemmas.List.{take-append-le}
-use Rattle.std.proofs.lemmas.Bool.{cases_lt}
-use Rattle.std.proofs.lemmas.Int.{ints}
-use Rattle.std.proofs.lemmas.Option.{slice_get_within, same_Some, none-some}
+use Rattle.std.proofs.lemmas.Option.{slice_get_within, none-some}
 use Rattle.std.proofs.lemmas.Slice.Eq.{bytes_eq-Decides}
-use Rattle.corr_ids.specs.declared.day.Day.{Day}
 use Rattle.corr_ids.specs.declared.mir.Mir.{Mir}
 use Rattle.day_model.specs.declared.entry.Entry.{Entry}
-use Rattle.day_model.specs.declared.entry.Outcome.{Outcome}
 use Rattle.day_model.specs.Balance.{outcome_of}
 use Rattle.day_model.specs.Chart.{Chart}
-use Rattle.day_model.specs.Fit.{FitsAccounts}
-use Rattle.day_model.specs.Laws.{IsLatest}
 use Rattle.day_model.specs.Legal.{IsLegal}
-use Rattle.day_model.specs.Log.{most_entries}
-use Rattle.day_model.specs.Next.{entered_at, entry_of, has_mir}
+use Rattle.day_model.specs.Next.{entry_of, has_mir}
 use Rattle.day_model.proofs.laws.Growth.{one_more}
 use Rattle.jrn_book.specs.Following.{Follows}
 
@@ -80,18 +73,3 @@ module _ (chart : Chart) (history : List Entry) (e : Entry) (legal : IsLegal cha
     latest = λ i x at. legal.days i (length history) x e (slice_get_within history i x at) (get_stays history (e ∷ []) i x at) there;
     decided = legal.decided (length history) e there ∙ ap (λ (es : List Entry). outcome_of chart es e.pay) (take-append_seam history (e ∷ []));
   }
-
--- no entry is later than the last
-pub latest_by_last : (chart : Chart) (entries : List Entry) (count : ℕ) (last : Entry) (day : Day) → IsLegal chart entries → count ≡ length entries → slice_get entries (count - 1) ≡ Some last
-    → last.day.0 ≤ℤ day.0 → IsLatest entries day
-latest_by_last chart entries count last day legal is here before = λ i e at.
-    let within = slice_get_within entries i e at in
-    elim (cases_lt i (count - 1)) [
-      | inl less ↦
-          let earlier = legal.days i (count - 1) e last less at here in
-          omega (arith, ints, earlier, before)
-      | inr more ↦
-          let same : i ≡ count - 1 = omega (arith, within, is, more) in
-          let one : e ≡ last = same_Some e last (sym at ∙ ap (slice_get entries) same ∙ here) in
-          subst (λ (x : Entry). x.day.0 ≤ℤ day.0) (sym one) before
-    ]

@@ -4,7 +4,6 @@ pub mod ByTotals
 pub mod Following
 pub mod Resuming
 pub mod Entering
-pub mod Sizes
 pub mod Staying
 pub mod Commits
 pub mod Growing

@@ -1,5 +1,5 @@
 -- All that a commit tells, of a disk with these members.
-use Rattle.std.specs.Prelude.{◌≡◌, ℕ, ◌+◌, Bool, true, false, IsTrue, List, length, Option, Some, None, OnOk}
+use Rattle.std.specs.Prelude.{◌≡◌, ℕ, ◌+◌, ◌≤◌, Bool, true, false, IsTrue, List, length, Option, Some, None, OnOk}
 use Rattle.corr_disk.specs.Calls.{AtMostCalls, CallsMade}
 use Rattle.corr_disk.specs.Disk.{LeavesOnly}
 use Rattle.corr_ids.specs.declared.day.Day.{Day}
@@ -28,4 +28,5 @@ pub record Commits {D : Type 0} (honest : D → Bool) (reads : D → List ℕ) (
   pub calls : calls_disk answer ≡ true → OnOk answer (CallsMade 4 (plan (disk_of old.file)) (plan (disk_of new.file)))
   pub no_more_calls : AtMostCalls 4 (plan (disk_of old.file)) (plan (disk_of new.file))
   pub told : honest (disk_of new.file) ≡ honest (disk_of old.file)
+  pub later : faults (disk_of old.file) ≤ faults (disk_of new.file)
   pub no_memory : old.room ≡ Some pay → IsAnswered answer

@@ -8,6 +8,7 @@ ghost use Rattle.day_model.specs.Next.{entered_at};
 ghost use Rattle.day_model.specs.Shape.{HasShape};
 ghost use Rattle.jrn_file.specs.File.{disk_of};
 ghost use Rattle.jrn_book.specs.Book.{Counts, StandsOnDisk};
+ghost use Rattle.jrn_book.specs.Journal.{IsJournal};
 
 use crate::index::Index;
 use crate::room::Room;
@@ -34,6 +35,7 @@ pub struct JrnBook<D: Disk> {
     pub(crate) at_open: u64,
     pub(crate) failed: Option<Day>,
     pub(crate) room: Option<Room>,
+    pub(crate) alloc: Global,
 }
 
 impl<D: Disk> Model for JrnBook<D> {
@@ -52,6 +54,7 @@ impl<D: Disk> JrnBook<D> {
     pub fn accounts(&self) -> &Accounts
         ensures value { result.now ≡ self.now.accounts }
         ensures sound { IsChart self.now.accounts }
+        ensures journal { IsJournal self.now.accounts self.now.history }
     {
         &self.accounts
     }
@@ -60,6 +63,7 @@ impl<D: Disk> JrnBook<D> {
     pub fn history(&self) -> &History
         ensures value { result.now.entries ≡ self.now.history }
         ensures legal { IsLegal self.now.accounts self.now.history }
+        ensures journal { IsJournal self.now.accounts self.now.history }
     {
         &self.history
     }
@@ -81,10 +85,14 @@ impl<D: Disk> JrnBook<D> {
         }
     }
 
-    /// Takes all that one commit of a pay needs: a copy of it, and room for its frame, its entry and its place in the index.
+    /// Takes the memory that one commit of this pay needs: a copy of the pay, the bytes of its longest record (that of an entry
+    /// that isn't funded), as many and 5 more for the frame that is appended, one entry more in the history and one reference
+    /// more in the index. Where there is room for this pay already, it takes none. The disk isn't called.
     ///
-    /// `Memory`: there is none, and no room for any pay.
-    pub fn reserve(&mut self, alloc: Global, p: &Pay) -> Result<(), Memory>
+    /// The room is for this pay alone: a `reserve` of another pay takes its place, and the next `commit` may use it up.
+    ///
+    /// `Memory`: there is none. Then there is room for no pay, and all else of the book is as it was.
+    pub fn reserve(&mut self, p: &Pay) -> Result<(), Memory>
         requires shape { HasShape p.now }
         ensures same { self.new ≡ record self.old { room = self.new.room } }
         ensures room { OnOk result (self.new.room ≡ Some p.now) }
@@ -96,7 +104,7 @@ impl<D: Disk> JrnBook<D> {
         self.room = None;
         self.history.reserve()?;
         self.index.reserve()?;
-        let room = Room::new(alloc, p)?;
+        let room = Room::new(self.alloc, p)?;
         self.room = Some(room);
         Ok(())
     }
@@ -110,6 +118,7 @@ impl<D: Disk> JrnBook<D> {
         ensures history { result.1.entries ≡ self.history }
         ensures disk { result.2 ≡ disk_of self.file }
         ensures legal { IsLegal self.accounts self.history }
+        ensures journal { IsJournal self.accounts self.history }
         ensures stands { StandsOnDisk D.honest D.reads D.may_leave self.failed self.file self.accounts self.history }
         ensures counts { Counts self.failed self.at_open (D.faults result.2) }
     {
@@ -122,6 +131,7 @@ impl<D: Disk> JrnBook<D> {
             at_open: _,
             failed: _,
             room: _,
+            alloc: _,
         } = self;
         (accounts, history, file.into_disk())
     }

@@ -21,11 +21,12 @@ ghost use Rattle.jrn_file.specs.Journal.{IsBeforeOrAfter, IsFrame, frame_of, rec
 ghost use Rattle.jrn_codec.specs.Header.{head_bytes};
 ghost use Rattle.jrn_codec.specs.Record.{IsEntry, entry_bytes};
 ghost use Rattle.jrn_book.specs.Answers.{IsAnswered, Shows, calls_disk, failed_after, history_after, legs_entered};
+ghost use Rattle.jrn_book.specs.Book.{Counts};
 ghost use Rattle.jrn_book.specs.Commits.{Commits};
 ghost use Rattle.jrn_book.specs.Appending.{Repeats, ShowsAppend};
 ghost use Rattle.jrn_book.specs.Deciding.{HoldsAll};
 ghost use Rattle.jrn_book.specs.Index.{place_in};
-ghost use Rattle.jrn_book.specs.Journal.{IsBeforeOrNext, file_of, records_of};
+ghost use Rattle.jrn_book.specs.Journal.{IsBeforeOrNext, IsJournal, file_of, records_of};
 ghost use Rattle.jrn_book.specs.Resuming.{IsResumable};
 
 use crate::answer::{CommitFault, Committed};
@@ -39,7 +40,6 @@ use corr_ids::Day;
 use corr_text::Buf;
 use day_model::{Accounts, Entry, History, Pay};
 use jrn_file::{AppendFault, JFile};
-use std::alloc::Global;
 
 /// How many entries a history has at most.
 pub(crate) const MOST_ENTRIES: u32 = 100_000;
@@ -58,6 +58,7 @@ fn append<D: Disk>(file: &mut JFile<D>, entries: u32, frame: &[u8]) -> Result<()
     ensures calls { OnOk result (CallsMade 4 (D.plan (disk_of file.old)) (D.plan (disk_of file.new))) }
     ensures no_more_calls { AtMostCalls 4 (D.plan (disk_of file.old)) (D.plan (disk_of file.new)) }
     ensures honest { D.honest (disk_of file.new) ≡ D.honest (disk_of file.old) }
+    ensures later { D.faults (disk_of file.old) ≤ D.faults (disk_of file.new) }
 {
     if entries == MOST_ENTRIES {
         return Err(CommitFault::Full {
@@ -141,7 +142,6 @@ impl<D: Disk> JrnBook<D> {
     /// rose. At New the entry is on the disk. After a fault history and purses are as before.
     pub fn commit<H: Held>(
         &mut self,
-        alloc: Global,
         held: &mut H,
         p: &Pay,
         day: Day,
@@ -163,6 +163,11 @@ impl<D: Disk> JrnBook<D> {
         ensures same { self.new ≡ record self.old { history = self.new.history; file = self.new.file; failed = self.new.failed; room = self.new.room } }
         ensures failed { self.new.failed ≡ failed_after self.old.failed day result }
         ensures legal { IsLegal self.new.accounts self.new.history }
+        ensures journal { IsJournal self.new.accounts self.new.history }
+
+        // The disk's count of faults never falls, and has risen since the opening where a commit failed.
+        ensures later { D.faults (disk_of self.old.file) ≤ D.faults (disk_of self.new.file) }
+        ensures counts { Counts self.new.failed self.new.at_open (D.faults (disk_of self.new.file)) }
 
         // A crash at any moment of the call leaves the history from before it or the next one; after Ok the next one alone.
         ensures any_moment { self.old.failed ≡ None → IsTrue (D.honest (disk_of self.old.file))
@@ -183,13 +188,15 @@ impl<D: Disk> JrnBook<D> {
 
         ensures no_memory { self.old.room ≡ Some p.now → IsAnswered result }
     {
-        self.answer(alloc, held, p, day)
+        let answer = self.answer(held, p, day);
+        // What always holds of a book holds of the new one.
+        let _file = &self.file;
+        answer
     }
 
     /// Answers a pay: what `commit` tells, as one fact.
     fn answer<H: Held>(
         &mut self,
-        alloc: Global,
         held: &mut H,
         p: &Pay,
         day: Day,
@@ -209,7 +216,7 @@ impl<D: Disk> JrnBook<D> {
                 now: self.file.faults(),
             });
         }
-        self.reserve(alloc, p)?;
+        self.reserve(p)?;
         match self.place_of(&p.mir) {
             Some(place) => self.repeated(p, place),
             None => self.enter(held, p, day),
@@ -254,6 +261,7 @@ impl<D: Disk> JrnBook<D> {
         ensures calls { OnOk result (CallsMade 4 (D.plan (disk_of self.old.file)) (D.plan (disk_of self.new.file))) }
         ensures no_more_calls { AtMostCalls 4 (D.plan (disk_of self.old.file)) (D.plan (disk_of self.new.file)) }
         ensures honest { D.honest (disk_of self.new.file) ≡ D.honest (disk_of self.old.file) }
+        ensures later { D.faults (disk_of self.old.file) ≤ D.faults (disk_of self.new.file) }
         ensures no_memory { IsAnswered result }
         ensures legal { IsLegal self.new.accounts self.new.history }
         ensures durable { OnOk result (IsSettled D.honest D.reads D.may_leave self.new.file (head_bytes self.old.accounts) (records_of self.new.history)) }

@@ -25,15 +25,20 @@ use corr_text::{Memory, Text};
 use jrn_file::{Ending, JFile, OpenFault, read_file};
 use std::alloc::Global;
 
-/// Opens the book of a journal that a stop at any moment may have left: its accounts and its history up to the first closed
-/// gate, and a purse for each account with its totals after the history. It syncs the disk first, reads it once in rising
-/// order and writes nothing. Each entry is decided by running totals.
+/// Opens the book of a journal that a stop at any moment may have left: its accounts, its history up to the first closed gate,
+/// and a purse for each account with its totals after the history, in minor units. Each entry is decided by running totals.
+///
+/// It takes the disk, syncs it first, reads it once in rising order, 2^20 bytes a call, and writes nothing. It takes memory for
+/// the records as they are read, the accounts, the entries, an index of their references, and the purses.
 ///
 /// `NotAJournal` comes exactly where the disk is empty, its first byte is 0, its first record isn't whole, or that isn't a
 /// header. `Damaged` comes exactly where a later open gate has no whole record behind it, or one that isn't an entry or isn't
 /// the legal next one (a new reference, a day not before the last, accounts of the header, the outcome that the entries
-/// before it give), and tells the first such gate's place. `DiskFault` comes only where a call of the disk failed, with its
-/// count of faults before and after.
+/// before it give), and tells the first such gate's place, in bytes from the start. `DiskFault` comes only where a call of the
+/// disk failed, with its count of faults before and after. `Memory`: there is none.
+///
+/// With each refusal the disk comes back, with nothing written; its count of faults has risen by one at `DiskFault`, and is as
+/// it was at every other answer.
 pub fn open_book<D: Disk>(alloc: Global, disk: D) -> Result<(JrnBook<D>, Loose), (D, OpenFault)>
     ensures opened { IfOk result (λ r. IsNewBook D.honest D.reads D.may_leave D.faults r.0) }
     ensures purses { IfOk result (λ r. HasPurses r.0 r.1) }
@@ -132,6 +137,7 @@ fn give<D: Disk>(
         at_open,
         failed: None,
         room: None,
+        alloc,
     };
     Ok((book, loose))
 }

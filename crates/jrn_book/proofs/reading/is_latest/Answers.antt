@@ -1,7 +1,7 @@
 use Rattle.std.proofs.Common.{◌≤ℤ◌}
 use Rattle.day_model.specs.Laws.{IsLatest}
 use Rattle.jrn_book.proofs.Bools.{on_true}
-use Rattle.jrn_book.proofs.Following.{latest_by_last}
+use Rattle.jrn_book.proofs.laws.Days.{latest_by_last}
 use Rattle.jrn_book.proofs.reading.is_latest.Goals as goal
 
 pub returns-else-count-eq0-clause-latest : goal.returns-else-count-eq0-clause-latest

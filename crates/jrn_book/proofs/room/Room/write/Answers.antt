@@ -2,7 +2,7 @@ use Rattle.std.proofs.Common.{◌≡◌, ◌+◌, ◌≤◌, [], ◌++◌, lengt
 use Rattle.std.specs.Prelude.{IsOk, OnOk, Result, Ok, Err}
 use Rattle.day_model.specs.declared.entry.Entry.{Entry}
 use Rattle.jrn_codec.specs.Record.{entry_bytes}
-use Rattle.jrn_book.proofs.Sizes.{no_longer}
+use Rattle.jrn_book.proofs.laws.Sizes.{no_longer}
 use Rattle.jrn_book.proofs.room.Room.write.Goals as goal
 
 on_ok : {X E : Type 0} (r : Result X E) (P : Type 0) → IsOk r → OnOk r P → P
