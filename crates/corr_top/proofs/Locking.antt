@@ -34,6 +34,7 @@ rising_of chart legs debit credit low high fits are order = cases order
   where
     t : Transfer chart legs
     t = transfer chart legs fits
+
     is = are t
 
     pair : (a b : ℕ) → (t.debit.account.0 ≡ a) ⊎ (t.debit.account.0 ≡ b) → (t.credit.account.0 ≡ a) ⊎ (t.credit.account.0 ≡ b) → All (λ leg. (leg.account.0 ≡ a) ⊎ (leg.account.0 ≡ b)) legs
