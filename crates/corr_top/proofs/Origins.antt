@@ -1,5 +1,5 @@
 -- Each pay that is entered came from a message that is accepted, so what is sent of it is accepted.
-use Rattle.std.proofs.Common.{◌≡◌, ℕ, ◌+◌, ◌-◌, ◌≤◌, zero, suc, true, List, [], ◌∷◌, ◌++◌, Option, Some, None, Result, Ok, Err, length, refl, sym, ap, ◌∙◌, subst, eqb, arith, inl, inr, ◌⊎◌}
+use Rattle.std.proofs.Common.{◌≡◌, ℕ, ◌+◌, ◌-◌, ◌≤◌, zero, suc, true, List, [], ◌∷◌, ◌++◌, Option, Some, None, Result, Ok, Err, length, refl, sym, ap, subst, eqb, arith, inl, inr, ◌⊎◌}
 use Rattle.std.specs.Prelude.{All, option_and_then, slice_get}
 use Rattle.std.specs.List.{cons_option}
 use Rattle.std.specs.Result.{result_ok}
@@ -39,20 +39,18 @@ use Rattle.mt202cov.specs.declared.message.Mt202Cov.{Mt202Cov}
 use Rattle.routing.specs.Accounts.{fits}
 use Rattle.routing.proofs.laws.Routes.{KnowsVia}
 use Rattle.pay_plan.specs.Asked.{asked_of}
-use Rattle.pay_plan.specs.Plan.{mir_in, plan_of}
+use Rattle.pay_plan.specs.Plan.{plan_of}
 use Rattle.pay_plan.specs.Sends.{Follows, IsPayOf}
 use Rattle.pay_plan.specs.declared.asked.Asked.{Asked}
 use Rattle.pay_plan.proofs.laws.Sent.{plan-is}
-use Rattle.advices.specs.Legs.{leg_account}
 use Rattle.advices.specs.Valid.{Asks, CameFrom, IsInMoney, IsTextOf, amount_of}
 use Rattle.corr_top.specs.declared.directory.Directory.{Directory}
-use Rattle.corr_top.specs.declared.message.NoPay.{NoPay}
 use Rattle.corr_top.specs.Asks.{asks_cover, asks_transfer}
 use Rattle.corr_top.specs.Booking.{IsAdded}
 use Rattle.corr_top.specs.Message.{message_of, pay_in, pays_in, readings_of, refused, unrouted}
 use Rattle.corr_top.specs.Origin.{AreSentValid, SendsAccepted}
 use Rattle.corr_top.specs.Turns.{HasPayShape}
-use Rattle.corr_top.proofs.Senders.{AsksWell, HasSender, IsGood, verdict-good}
+use Rattle.corr_top.proofs.Senders.{AsksWell, IsGood, verdict-good}
 
 -- ---- lists
 

@@ -34,7 +34,7 @@ use Rattle.mt9_advice.specs.Advice.{mt900_of, mt910_of}
 use Rattle.fin_message.specs.Heading.{at_block, has_form, heading_tests, is_type}
 use Rattle.fin_message.specs.Parts.{envelope_of, envelope_with, has_trailer, partner_of, type_of, uetr_in}
 use Rattle.fin_message.specs.Sound.{IsSaid, KeepsRules}
-use Rattle.fin_message.specs.Verdict.{Refused, blocks_in, cover_of, credit_of, debit_of, judged, line_test, message_in, message_of, told_of, told_of_fields, transfer_of, verdict_of}
+use Rattle.fin_message.specs.Verdict.{blocks_in, cover_of, credit_of, debit_of, judged, line_test, message_in, message_of, told_of, told_of_fields, transfer_of, verdict_of}
 use Rattle.fin_message.specs.declared.direction.Direction.TheVariants.{Received}
 use Rattle.fin_message.specs.declared.message.Message.{Message}
 use Rattle.fin_message.specs.declared.message.Message.TheVariants as message

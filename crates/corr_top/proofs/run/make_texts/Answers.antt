@@ -1,4 +1,4 @@
-use Rattle.std.proofs.Common.{◌≡◌, ◌+◌, ◌≤◌, List, length, take, subst, arith}
+use Rattle.std.proofs.Common.{◌+◌, List, subst, arith}
 use Rattle.std.proofs.lemmas.List.{take_all}
 use Rattle.day_model.specs.declared.entry.Entry.{Entry}
 use Rattle.corr_top.specs.Origin.{SendsAccepted}
