@@ -1,6 +1,6 @@
 -- Where nothing is wrong, a command is done or wants memory.
 use Rattle.std.proofs.Common.{◌≡◌, ℕ, ◌+◌, ◌-◌, ◌<◌, ◌≤◌, ◌^◌, ◌⊎◌, inl, inr, Bool, true, false, cond, List, [], ◌∷◌, ◌++◌, length, map, Option, Some, None, refl, sym, ap, ◌∙◌, subst, arith, append-nil, nat_le, length-append}
-use Rattle.std.specs.Prelude.{IsTrue, slice_get}
+use Rattle.std.specs.Prelude.{IfSome, IsTrue, slice_get}
 use Rattle.std.specs.Option.{option_map_or}
 use Rattle.std.proofs.lemmas.Bool.Decides.{nat_tests}
 use Rattle.std.proofs.lemmas.Int.{ints}
@@ -325,3 +325,10 @@ done_or_memory source d sink command old new s i e sound = elim e.ends [
     | inr stopped ↦ inr (stopped_memory source d sink command old new e.inputs i s e.are_for sound stopped.stopped)
   ]
 ]
+
+-- the same of a command that words may spell
+pub complete_if : {S K D C : Type 0} (source : sources.Ghosts S) (d : disks.Ghosts D) (sink : sinks.Ghosts K) (of : C → Command) (spelled : Option C) (old new : Room S K D) (s : Status)
+    → IfSome spelled (λ command. Ends source d (of command) old new sink s)
+    → IfSome spelled (λ command. (i : Inputs) → IsSound source sink d (of command) old new i → (s ≡ status.Done) ⊎ (s ≡ status.Memory))
+complete_if source d sink of None old new s ends = ends
+complete_if source d sink of (Some command) old new s ends = λ i sound. done_or_memory source d sink (of command) old new s i ends sound

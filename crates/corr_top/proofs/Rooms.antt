@@ -10,16 +10,13 @@ use Rattle.day_model.specs.Chart.{Chart}
 use Rattle.day_model.specs.Next.{entered_at, entry_of, fold_of, next_history}
 use Rattle.jrn_book.specs.Journal.{file_of, records_of}
 use Rattle.jrn_book.specs.Room.{longest_record}
+use Rattle.jrn_book.proofs.laws.Sizes.{no_longer}
 use Rattle.jrn_codec.specs.Header.{head_bytes}
 use Rattle.jrn_codec.specs.Record.{entry_bytes}
 use Rattle.jrn_file.specs.Reading.{size_of}
 use Rattle.jrn_file.proofs.laws.Sizes.{length-journal_bytes, size_of-append}
 use Rattle.corr_top.specs.Booking.{LacksRoom}
 use Rattle.corr_top.specs.Complete.{HasRoomForAll}
-
--- TEMP
-no_longer : (e : Entry) → length (entry_bytes e) ≤ longest_record e.pay
-no_longer e = ?
 
 -- ---- sums of lengths
 
