@@ -1,6 +1,6 @@
 -- Where nothing is wrong, a command is done or wants memory.
-use Rattle.std.proofs.Common.{◌≡◌, ℕ, ◌+◌, ◌-◌, ◌<◌, ◌≤◌, ◌^◌, ◌⊎◌, inl, inr, Bool, true, false, cond, List, [], ◌∷◌, ◌++◌, length, map, Option, Some, None, refl, sym, ap, ◌∙◌, subst, arith, append-nil, nat_le, length-append}
-use Rattle.std.specs.Prelude.{IfSome, IsTrue, slice_get}
+use Rattle.std.proofs.Common.{◌≡◌, ℕ, ◌+◌, ◌≤◌, ◌⊎◌, inl, inr, Bool, true, false, cond, List, [], ◌∷◌, ◌++◌, length, map, Option, Some, None, refl, sym, ap, ◌∙◌, subst, arith, append-nil, nat_le, length-append}
+use Rattle.std.specs.Prelude.{IfSome, slice_get}
 use Rattle.std.specs.Option.{option_map_or}
 use Rattle.std.proofs.lemmas.Bool.Decides.{nat_tests}
 use Rattle.std.proofs.lemmas.Int.{ints}
@@ -51,7 +51,7 @@ use Rattle.corr_top.specs.declared.tables.TableStop.TheVariants as table
 use Rattle.corr_top.specs.declared.words.Command.{Command}
 use Rattle.corr_top.specs.declared.words.Command.TheVariants.{Run, Plain}
 use Rattle.corr_top.specs.declared.words.Plain.TheVariants.{Init, Query}
-use Rattle.corr_top.specs.Booking.{IsBack, LacksRoom, StopsBooking}
+use Rattle.corr_top.specs.Booking.{IsBack, StopsBooking}
 use Rattle.corr_top.specs.Commands.{IsFor, steps_of}
 use Rattle.corr_top.specs.Complete.{HasRoomForAll, IsReady, IsSound, IsSure, Told}
 use Rattle.corr_top.specs.Ends.{Ends, HasStopped}

@@ -1,5 +1,5 @@
 -- A journal that is made for the accounts of the tables.
-use Rattle.std.proofs.Common.{◌≡◌, ◌⊎◌, inl, inr, ℕ, List, [], ◌∷◌, Option, Some, None, Result, Ok, Err, refl, sym, ap, ◌∙◌, subst}
+use Rattle.std.proofs.Common.{◌≡◌, inl, inr, ℕ, List, [], ◌∷◌, Result, Ok, Err, refl, sym, ap, ◌∙◌, subst}
 use Rattle.std.specs.Prelude.{IsTrue, MatchResult}
 use Rattle.corr_disk.specs.declared.disk.Disk as disks
 use Rattle.corr_disk.specs.Disk.{LeavesOnly, Only}
@@ -18,7 +18,6 @@ use Rattle.corr_top.specs.declared.words.Plain.TheVariants.{Init}
 use Rattle.corr_top.specs.declared.writing.Texts.{Texts}
 use Rattle.corr_top.specs.Commands.{out_in, report_in}
 use Rattle.corr_top.specs.Ends.{HasTexts}
-use Rattle.corr_top.specs.Inputs.{chart_in}
 use Rattle.corr_top.specs.OnDisk.{HasNotFailed, IsFree, IsOnDisk, IsUnwritten, StopsMaking}
 use Rattle.corr_top.specs.Passing.{IsUntouched, Passes, StopsAt}
 use Rattle.corr_top.specs.Steps.{Step}

@@ -1,5 +1,5 @@
 -- How a run ends before anything is written, from how its parts end.
-use Rattle.std.proofs.Common.{◌≡◌, ◌⊎◌, ◌+◌, inl, inr, ℕ, All, List, [], ◌∷◌, ◌++◌, Option, Some, None, Result, Ok, Err, refl, sym, ap, ◌∙◌, subst, length, map}
+use Rattle.std.proofs.Common.{◌≡◌, ◌+◌, inl, inr, ℕ, All, List, [], ◌∷◌, Option, None, Result, Ok, Err, refl, sym, ap, ◌∙◌, subst, length}
 use Rattle.std.proofs.lemmas.List.{length-map}
 use Rattle.std.proofs.lemmas.Option.{none-some}
 use Rattle.acct_locks.specs.Holdings.{LooseHand}
@@ -8,7 +8,6 @@ use Rattle.corr_io.specs.declared.source.Source as sources
 use Rattle.corr_text.specs.Faults.{Rose}
 use Rattle.corr_ids.specs.declared.day.Day.{Day}
 use Rattle.corr_report.specs.Report.{report_of}
-use Rattle.day_model.specs.declared.entry.Entry.{Entry}
 use Rattle.day_model.specs.declared.reply.Reply.{Reply}
 use Rattle.day_model.specs.Chart.{Chart}
 use Rattle.day_model.specs.Legal.{IsLegal}
@@ -21,14 +20,13 @@ use Rattle.corr_top.specs.declared.answers.BookStop.TheVariants as booking
 use Rattle.corr_top.specs.declared.directory.Directory.{Directory}
 use Rattle.corr_top.specs.declared.room.Room.{Room}
 use Rattle.corr_top.specs.declared.status.Status.{Status}
-use Rattle.corr_top.specs.declared.status.Status.TheVariants as status
 use Rattle.corr_top.specs.declared.tables.TableStop.{TableStop}
 use Rattle.corr_top.specs.declared.words.Command.TheVariants.{Run}
 use Rattle.corr_top.specs.declared.writing.Texts.{Texts}
-use Rattle.corr_top.specs.Booking.{AreAnswered, BookCause, IsAdded, LacksRoom, StopsBooking}
+use Rattle.corr_top.specs.Booking.{BookCause, IsAdded, LacksRoom, StopsBooking}
 use Rattle.corr_top.specs.Commands.{out_in, report_in}
-use Rattle.corr_top.specs.Days.{GivesDay, HasDay, StopsAtDay, StopsAtFile, StopsAtPays, StopsAtTexts}
-use Rattle.corr_top.specs.Ends.{Gives, HasPassed, HasStopped, HasTexts}
+use Rattle.corr_top.specs.Days.{GivesDay, HasDay}
+use Rattle.corr_top.specs.Ends.{Gives, HasPassed, HasTexts}
 use Rattle.corr_top.specs.Inputs.{Inputs, new_in, pays_of, replies_of, tables_in}
 use Rattle.corr_top.specs.Message.{pays_in, readings_of, replies_in}
 use Rattle.corr_top.specs.OnDisk.{HasOpened, IsLeft, IsOnDisk, IsUnwritten, StopsOpening}
@@ -38,7 +36,7 @@ use Rattle.corr_top.specs.Passing.{IsUntouched, Passes, StopsAt}
 use Rattle.corr_top.specs.Steps.{Step}
 use Rattle.corr_top.specs.Stops.{status_of_opening, status_of_table}
 use Rattle.corr_top.specs.Tables.{HasDirectory, StopsDirectory, directory_steps}
-use Rattle.corr_top.specs.Turns.{HasAnswered, HasFailed, HasStopped as HasStoppedPays, StopCause}
+use Rattle.corr_top.specs.Turns.{HasFailed, StopCause}
 use Rattle.corr_top.proofs.Journals.{left_whole}
 use Rattle.corr_top.proofs.Walking.{halts_front}
 
@@ -199,3 +197,12 @@ module _ {S K D : Type 0} (source : sources.Ghosts S) (d : disks.Ghosts D) (day 
       day_ends (Err s) (inr (inr (inr stops))) =
           let done = has_passed stops.bytes stops.cut stops.replies stops.had in
           gives_run (Err s) (i_of stops.bytes stops.cut) refl (inr (done.0, stops.status_is))
+
+-- whether the disk tells its bytes stays
+pub day_honest : {S D : Type 0} (source : sources.Ghosts S) (d : disks.Ghosts D) (directory : Directory) (day : Day) (from to : S) (old new : Book D) (r : Result Texts Status) → GivesDay source d directory day from to old new r
+    → d.honest (disk_of new.file) ≡ d.honest (disk_of old.file)
+day_honest source d directory day from to old new (Ok texts) gives = gives.3.answered.grown.honest
+day_honest {S} {D} source d directory day from to old new (Err s) (inl stops) = ap (λ (b : Book D). d.honest (disk_of b.file)) stops.book_same
+day_honest {S} {D} source d directory day from to old new (Err s) (inr (inl stops)) = ap (λ (b : Book D). d.honest (disk_of b.file)) stops.book_same
+day_honest source d directory day from to old new (Err s) (inr (inr (inl stops))) = stops.stopped.grown.honest
+day_honest source d directory day from to old new (Err s) (inr (inr (inr stops))) = stops.had.answered.grown.honest

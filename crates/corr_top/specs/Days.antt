@@ -1,5 +1,5 @@
 -- The part of a run between the opening of the journal and its closing.
-use Rattle.std.specs.Prelude.{◌≡◌, ◌⊎◌, ◌+◌, ℕ, List, [], ◌∷◌, length, Result, Ok, Err}
+use Rattle.std.specs.Prelude.{◌≡◌, ◌⊎◌, ◌+◌, ℕ, List, length, Result, Ok, Err}
 use Rattle.corr_disk.specs.declared.disk.Disk as disks
 use Rattle.corr_io.specs.declared.source.Source as sources
 use Rattle.corr_ids.specs.declared.day.Day.{Day}

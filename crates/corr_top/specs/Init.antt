@@ -1,5 +1,5 @@
 -- The command `init`: the journal of a home bank and its accounts is made.
-use Rattle.std.specs.Prelude.{ℕ, List, [], ◌∷◌}
+use Rattle.std.specs.Prelude.{List, [], ◌∷◌}
 use Rattle.corr_disk.specs.declared.disk.Disk as disks
 use Rattle.ref_tables.specs.declared.fault.TableName.TheVariants as names
 use Rattle.corr_top.specs.Inputs.{Inputs, chart_in}

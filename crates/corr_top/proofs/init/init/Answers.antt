@@ -1,13 +1,11 @@
-use Rattle.std.proofs.Common.{◌≡◌, ◌≤◌, ℕ, List, Result, Ok, Err, length, refl, subst, sym}
+use Rattle.std.proofs.Common.{◌≤◌, ℕ, List, Result, Ok, Err, length, refl, subst, sym}
 use Rattle.std.specs.Prelude.{MatchResult}
 use Rattle.jrn_codec.proofs.laws.Records.{few_in_head}
 use Rattle.jrn_file.specs.declared.fault.MakeFault.{MakeFault}
 use Rattle.corr_top.specs.Ends.{HasTexts}
 use Rattle.corr_top.specs.Stops.{status_of_making}
-use Rattle.corr_top.specs.declared.status.Status.{Status}
 use Rattle.corr_top.specs.declared.words.Command.TheVariants.{Plain as PlainCommand}
 use Rattle.corr_top.specs.declared.words.Plain.TheVariants.{Init}
-use Rattle.corr_top.specs.declared.writing.Texts.{Texts}
 use Rattle.corr_top.proofs.Initial.{accounts_stop, init_texts}
 use Rattle.corr_top.proofs.init.init.Goals as goal
 

@@ -1,10 +1,10 @@
-use Rattle.std.proofs.Common.{◌≡◌, ◌≤◌, ◌∙◌, [], ℕ, List, inl, inr, refl, ap, sym, subst, length, arith}
+use Rattle.std.proofs.Common.{◌≡◌, ◌≤◌, ℕ, List, inl, inr, refl, ap, arith, sym, subst, length}
 use Rattle.std.specs.Prelude.{All}
 use Rattle.std.proofs.lemmas.Result.{err_from_is_err_and}
 use Rattle.day_model.specs.declared.entry.Entry.{Entry}
 use Rattle.day_model.specs.Laws.{IsLatest}
 use Rattle.corr_top.specs.Booking.{IsBack}
-use Rattle.corr_top.proofs.DayParts.{day_done, no_fewer, pays_stop, shapes_after, stopped_none, texts_stop}
+use Rattle.corr_top.proofs.DayDone.{day_done}
 use Rattle.corr_top.proofs.MessageFiles.{all-short}
 use Rattle.corr_top.proofs.run.book_day.Goals as goal
 

@@ -1,10 +1,9 @@
-use Rattle.std.proofs.Common.{◌≡◌, ◌∙◌, Err, Result, ap, refl, subst, sym}
+use Rattle.std.proofs.Common.{◌∙◌, Err, ap, refl, subst, sym}
 use Rattle.corr_top.specs.Ends.{HasTexts}
 use Rattle.corr_top.specs.declared.status.Status.{Status}
 use Rattle.corr_top.specs.declared.words.Command.TheVariants.{Run}
-use Rattle.corr_top.proofs.DayParts.{day_honest}
 use Rattle.corr_top.proofs.Journals.{same_unwritten}
-use Rattle.corr_top.proofs.RunEnds.{day_ends, opening_stops, tables_stop}
+use Rattle.corr_top.proofs.RunEnds.{day_ends, day_honest, opening_stops, tables_stop}
 use Rattle.corr_top.proofs.run.run.Goals as goal
 
 pub returns-in-Err-clause-texts : goal.returns-in-Err-clause-texts

@@ -1,41 +1,21 @@
--- The two accounts of a pay, held in rising order.
-use Rattle.std.proofs.Common.{◌≡◌, ◌≢◌, ◌⊎◌, inl, inr, ℕ, zero, suc, ◌+◌, ◌<◌, ◌≤◌, All, List, [], ◌∷◌, length, refl, sym, ap, ◌∙◌, subst, arith}
-use Rattle.std.specs.Prelude.{OnOk, None, Ok, Err, false, true}
+-- A pay that is entered, from what its commit tells.
+use Rattle.std.proofs.Common.{◌≡◌, ◌+◌, List, length, refl, sym, ap, ◌∙◌}
+use Rattle.std.specs.Prelude.{OnOk, None, Ok, Err, false}
 use Rattle.std.proofs.lemmas.Option.{none-some}
 use Rattle.jrn_book.specs.declared.answer.CommitFault.TheVariants as fault
-use Rattle.std.proofs.lemmas.List.Elements.{All-cons, All-nil, All-weaker}
-use Rattle.acct_locks.specs.Holdings.{Hand, Holding, Holds, HoldsOnce, Takes}
 use Rattle.corr_disk.specs.declared.disk.Disk as disks
 use Rattle.corr_ids.specs.declared.day.Day.{Day}
 use Rattle.day_model.specs.declared.entry.Entry.{Entry}
 use Rattle.day_model.specs.declared.pay.Leg.{Leg}
 use Rattle.day_model.specs.declared.pay.Pay.{Pay}
 use Rattle.day_model.specs.Chart.{Chart}
-use Rattle.day_model.specs.Fit.{legs_fit}
 use Rattle.day_model.specs.Legal.{IsLegal}
-use Rattle.day_model.proofs.laws.Fitting.{Transfer, transfer}
 use Rattle.jrn_book.specs.Answers.{Answer, Shows, calls_disk, failed_after, history_after}
 use Rattle.jrn_book.specs.Book.{Book}
-use Rattle.jrn_book.specs.Deciding.{HoldsAll}
 use Rattle.jrn_book.specs.Journal.{file_of, records_of}
 use Rattle.jrn_codec.specs.Header.{head_bytes}
 use Rattle.jrn_file.specs.File.{IsSettled, disk_of, end_of}
-use Rattle.corr_top.specs.Pairs.{AreTwoOf}
 use Rattle.corr_top.specs.Turns.{Enters, HasPlace}
-
--- two purses hold both accounts, each once
-once : (low high : ℕ) (first second : Holding) → first.number ≡ low → second.number ≡ high → low < high → (leg : Leg) → (leg.account.0 ≡ low) ⊎ (leg.account.0 ≡ high) → HoldsOnce (second ∷ first ∷ []) leg.account.0
-once low high first second one two less leg (inl is) =
-    inr ((λ same. absurd (omega (arith, same, two, is, less))), inl (one ∙ sym is, λ none. none))
-once low high first second one two less leg (inr is) =
-    inl (two ∙ sym is, λ (held : (first.number ≡ leg.account.0) ⊎ ⊥). elim held [ inl same ↦ absurd (omega (arith, same, one, is, less)) | inr none ↦ none ])
-
-pub holds_all : (chart : Chart) (legs : List Leg) (low high : ℕ) (none one two : Hand) → AreTwoOf chart legs low high → none.held ≡ [] → Takes none low one → Takes one high two → HoldsAll two.held legs
-holds_all chart legs low high none one two are empty first second =
-    let held : two.held ≡ second.0 ∷ first.0 ∷ [] = ap (λ (h : Hand). h.held) second.2 ∙ ap (λ (l : List Holding). second.0 ∷ l) (ap (λ (h : Hand). h.held) first.2 ∙ ap (λ (l : List Holding). first.0 ∷ l) empty) in
-    subst (λ (l : List Holding). HoldsAll l legs) (sym held)
-    (All-weaker (λ leg. (leg.account.0 ≡ low) ⊎ (leg.account.0 ≡ high)) (λ leg. HoldsOnce (second.0 ∷ first.0 ∷ []) leg.account.0)
-    (λ leg is. once low high first.0 second.0 first.1 second.1 are.rising leg is) legs are.are)
 
 -- what a commit tells, of a book and its next
 pub enters_of : {D : Type 0} (d : disks.Ghosts D) (day : Day) (old new : Book D) (pay : Pay) (answer : Answer)
