@@ -126,6 +126,7 @@ module _ {S K D : Type 0} (source : sources.Ghosts S) (disk : disks.Ghosts D) (s
         ends = inl (record {
           status_is = done.0;
           passed = record { passed = p.passed; leaves = p.leaves };
+          valid = has.gives.3;
           report = as_before old.report room.report report texts.report (report_in command has.inputs) has.report has.gives.1 done.1;
           out = as_before old.out room.out out texts.out (out_in command has.inputs) has.out has.gives.2 done.2;
         });
@@ -141,6 +142,7 @@ module _ {S K D : Type 0} (source : sources.Ghosts S) (disk : disks.Ghosts D) (s
           now = failed.1;
           status_is = failed.2;
           passed = record { passed = p.passed; leaves = p.leaves };
+          valid = has.gives.3;
           failed = fails_before old.report report old.out out texts.report texts.out (report_in command has.inputs) (out_in command has.inputs) failed.0 failed.1 has.report has.out has.gives.1 has.gives.2 failed.3;
         }));
         rest = rest_again report out has.rest;

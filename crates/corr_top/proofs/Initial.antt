@@ -94,6 +94,7 @@ module _ {S K D : Type 0} (source : sources.Ghosts S) (d : disks.Ghosts D) (home
           },
           report,
           out,
+          tt,
         );
         rest = (has.ssi, ap (λ (r : Room S K D). r.messages) rest, ap (λ (r : Room S K D). r.received) rest, ap (λ (r : Room S K D). r.disk2) rest);
         report = ap (λ (r : Room S K D). r.report) rest;

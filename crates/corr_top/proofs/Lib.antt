@@ -6,6 +6,10 @@ pub mod AccountRows
 pub mod Walking
 pub mod Outcomes
 pub mod Adding
+pub mod Sending
+pub mod Senders
+pub mod Origins
+pub mod DayDone
 pub mod Journals
 pub mod Asking
 pub mod RunEnds

@@ -28,9 +28,10 @@ use Rattle.corr_top.specs.Booking.{BookCause, IsAdded, LacksRoom, StopsBooking}
 use Rattle.corr_top.specs.Commands.{out_in, report_in}
 use Rattle.corr_top.specs.Days.{GivesDay, HasDay}
 use Rattle.corr_top.specs.Ends.{Gives, HasPassed, HasTexts}
-use Rattle.corr_top.specs.Inputs.{Inputs, new_in, pays_of, replies_of}
+use Rattle.corr_top.specs.Inputs.{Inputs, new_in, pays_of, replies_of, tables_in}
 use Rattle.corr_top.specs.Message.{pays_in, readings_of, replies_in}
 use Rattle.corr_top.specs.OnDisk.{HasOpened, IsLeft, IsOnDisk, IsUnwritten, StopsOpening}
+use Rattle.corr_top.specs.Origin.{AreSentValid}
 use Rattle.corr_top.specs.Out.{sent_from}
 use Rattle.corr_top.specs.Passing.{IsUntouched, Passes, StopsAt}
 use Rattle.corr_top.specs.Steps.{Step}
@@ -168,6 +169,8 @@ module _ {S K D : Type 0} (source : sources.Ghosts S) (d : disks.Ghosts D) (day 
             done.0,
             gives.4 ∙ ap (λ es. report_of from.accounts es gives.2) done.1 ∙ ap (report_of from.accounts (new_in i)) done.2,
             gives.5 ∙ ap (sent_from from.accounts (length from.history + 1)) done.1,
+            subst (λ es. AreSentValid (tables_in i) from.accounts (length from.history + 1) es) done.1
+                (subst (λ (x : Directory). AreSentValid x.tables from.accounts (length from.history + 1) to.history) has.directory_is gives.6),
           )
       day_ends (Err s) (inl stops) =
           let p = has.passed in
