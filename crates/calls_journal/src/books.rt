@@ -11,7 +11,7 @@ ghost use Rattle.jrn_book.specs.Opening.{HasPurses};
 use acct_locks::{Held2, Loose, Name, Purses};
 use corr_disk::{Disk, FuseDisk, MemDisk, OnceDisk};
 use corr_ids::Day;
-use corr_text::{Memory, Text};
+use corr_text::{Memory, Text, put_digits};
 use day_model::{Accounts, AcctNo, Entry, History, Leg, Outcome};
 use jrn_book::{CommitFault, Committed, JrnBook, open_book};
 use jrn_codec::read_entry;
@@ -40,6 +40,10 @@ const UNFUNDED: &[u8] =
 // A later message that was entered the day before.
 const EARLIER: &[u8] =
     b"240603ALPHDEFFAXXX0001000002\x01\0\0\0\x4d\xa4\0\0\x4d\xa5\0\x02\0\x01\0\0\0\0\0\0\x01\xe2\x40\0\x04REF1\0\x02\x01\0\0\0\0\0\x01\xe2\x40\x01\x01\x01\x04ALPHDEFFXXX\x01\0\0\0\x02\r\n";
+
+// What follows the reference in the record of a cent that was booked from account 1 to account 2.
+const CENT: &[u8] =
+    b"\x01\0\0\0\x4d\xa5\0\0\x4d\xa5\0\x02\0\x01\0\0\0\0\0\0\0\0\x01\0\x04REF1\0\x02\x01\0\0\0\0\0\0\0\x01\x01\x01\x01\x04ALPHDEFFXXX\x01\0\0\0\x02\r\n";
 
 // Adds a record of fewer than 256 bytes behind an open gate.
 fn add_record(bytes: &mut Text, record: &[u8]) -> Result<(), Memory> {
@@ -307,5 +311,57 @@ fn records_that_may_not_stand_next_are_refused(rt: HostRuntime) -> Result<(), Fa
     assert_eq!(rt; day, Some(217));
     let whole = damaged_at(alloc, &[HEAD, ENTRY])?;
     assert_eq!(rt; whole, None);
+    Ok(())
+}
+
+// The record of a cent of the message with this number.
+fn cent(alloc: Global, number: u64) -> Result<Text, Memory> {
+    let mut record = Text::from_bytes(alloc, b"240603ALPHDEFFAXXX0001")?;
+    put_digits(alloc, number, 6, &mut record)?;
+    record.push(CENT)?;
+    Ok(record)
+}
+
+// A journal of as many entries as there may be: the cents of 100,000 messages.
+fn full(alloc: Global) -> Result<Text, Memory> {
+    let mut bytes = Text::from_bytes(alloc, b"")?;
+    add_record(&mut bytes, HEAD)?;
+    for number in 1..100_001u64 {
+        let record = cent(alloc, number)?;
+        add_record(&mut bytes, record.bytes())?;
+    }
+    bytes.push(&[0])?;
+    Ok(bytes)
+}
+
+fn is_last(answer: &Option<Result<Committed, CommitFault>>) -> bool {
+    let kept = Committed::Kept {
+        place: 100_000,
+        outcome: Outcome::Booked,
+    };
+    *answer == Some(Ok(kept))
+}
+
+// The records behind the header take 95 bytes each, with gate and length, and one more takes another gate too.
+fn is_full(answer: &Option<Result<Committed, CommitFault>>) -> bool {
+    let fault = CommitFault::Full {
+        entries: 100_000,
+        end: 9_500_122,
+        need: 96,
+    };
+    *answer == Some(Err(fault))
+}
+
+#[test]
+fn a_full_journal_finds_its_entries_and_takes_no_other(rt: HostRuntime) -> Result<(), Fail> {
+    let alloc = rt.alloc();
+    let last = cent(alloc, 100_000)?;
+    let run = enter_twice(&rt, alloc, MemDisk::new(alloc, full(alloc)?), last.bytes())?;
+    assert!(rt; is_last(&run.first) && is_last(&run.second));
+    assert_eq!(rt; run.place, Some(100_000));
+    let next = cent(alloc, 100_001)?;
+    let run = enter_twice(&rt, alloc, run.disk, next.bytes())?;
+    assert!(rt; is_full(&run.first) && is_full(&run.second));
+    assert_eq!(rt; run.place, None);
     Ok(())
 }
