@@ -1,0 +1,29 @@
+-- A history of one entry.
+use Rattle.std.proofs.Common.{◌≡◌, ℕ, zero, suc, List, [], ◌∷◌, Some, refl, sym, subst, arith}
+use Rattle.std.specs.Prelude.{slice_get}
+use Rattle.std.proofs.lemmas.Option.{same_Some, none-some}
+use Rattle.corr_ids.specs.declared.day.Day.{Day}
+use Rattle.corr_ids.specs.Day.{InCentury}
+use Rattle.day_model.specs.declared.pay.Pay.{Pay}
+use Rattle.day_model.specs.declared.entry.Entry.{Entry}
+use Rattle.day_model.specs.Chart.{Chart}
+use Rattle.day_model.specs.Fit.{FitsAccounts}
+use Rattle.day_model.specs.Next.{entry_of}
+use Rattle.day_model.specs.Legal.{IsLegal}
+use Rattle.day_model.proofs.laws.Growth.{empty_is_legal, one_more}
+use Rattle.corr_report.specs.Bookings.{AreInCentury}
+
+-- it is legal where the pay fits
+pub only_legal : (chart : Chart) (entries : List Entry) (pay : Pay) (day : Day) → FitsAccounts chart pay → entries ≡ entry_of chart [] pay day ∷ [] → IsLegal chart entries
+only_legal chart entries pay day fit is =
+    subst (IsLegal chart) (sym is) (one_more chart [] pay day (empty_is_legal chart) fit (λ i e at. absurd (none-some e at)) (omega arith) refl)
+
+-- the day of the only entry
+day_of_only : (only : Entry) (i : ℕ) (e : Entry) → InCentury only.day → slice_get (only ∷ []) i ≡ Some e → InCentury e.day
+day_of_only only zero e day at = subst (λ (x : Entry). InCentury x.day) (same_Some only e at) day
+day_of_only only (suc i) e day at = absurd (none-some e at)
+
+-- its day is that of the pay's entry
+pub only_day : (chart : Chart) (entries : List Entry) (pay : Pay) (day : Day) → InCentury day → entries ≡ entry_of chart [] pay day ∷ [] → AreInCentury entries
+only_day chart entries pay day within is =
+    subst AreInCentury (sym is) (λ i e at. day_of_only (entry_of chart [] pay day) i e within at)
