@@ -1,0 +1,7 @@
+use Rattle.std.proofs.Common.{ints}
+use Rattle.jrn_book.proofs.laws.Days.{latest_by_last}
+use Rattle.calls_journal.proofs.books.is_latest.Goals as goal
+
+pub returns : goal.returns
+returns c =
+    latest_by_last c.args.a.now c.args.h.now.entries c.len-count.result c.get-last.result.now c.args.day c.requires c.len-count.ensures.count c.get-last.ensures ?
