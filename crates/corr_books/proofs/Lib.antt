@@ -1,0 +1,8 @@
+pub mod Histories
+pub mod Locking
+pub mod Booking
+pub mod Counting
+pub mod Taken
+pub mod Closes
+pub mod Made
+pub mod Acknowledged
