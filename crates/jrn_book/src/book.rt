@@ -35,6 +35,7 @@ pub struct JrnBook<D: Disk> {
     pub(crate) at_open: u64,
     pub(crate) failed: Option<Day>,
     pub(crate) room: Option<Room>,
+    pub(crate) alloc: Global,
 }
 
 impl<D: Disk> Model for JrnBook<D> {
@@ -91,7 +92,7 @@ impl<D: Disk> JrnBook<D> {
     /// The room is for this pay alone: a `reserve` of another pay takes its place, and the next `commit` may use it up.
     ///
     /// `Memory`: there is none. Then there is room for no pay, and all else of the book is as it was.
-    pub fn reserve(&mut self, alloc: Global, p: &Pay) -> Result<(), Memory>
+    pub fn reserve(&mut self, p: &Pay) -> Result<(), Memory>
         requires shape { HasShape p.now }
         ensures same { self.new ≡ record self.old { room = self.new.room } }
         ensures room { OnOk result (self.new.room ≡ Some p.now) }
@@ -103,7 +104,7 @@ impl<D: Disk> JrnBook<D> {
         self.room = None;
         self.history.reserve()?;
         self.index.reserve()?;
-        let room = Room::new(alloc, p)?;
+        let room = Room::new(self.alloc, p)?;
         self.room = Some(room);
         Ok(())
     }
@@ -130,6 +131,7 @@ impl<D: Disk> JrnBook<D> {
             at_open: _,
             failed: _,
             room: _,
+            alloc: _,
         } = self;
         (accounts, history, file.into_disk())
     }

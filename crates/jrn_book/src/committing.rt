@@ -40,7 +40,6 @@ use corr_ids::Day;
 use corr_text::Buf;
 use day_model::{Accounts, Entry, History, Pay};
 use jrn_file::{AppendFault, JFile};
-use std::alloc::Global;
 
 /// How many entries a history has at most.
 pub(crate) const MOST_ENTRIES: u32 = 100_000;
@@ -143,7 +142,6 @@ impl<D: Disk> JrnBook<D> {
     /// rose. At New the entry is on the disk. After a fault history and purses are as before.
     pub fn commit<H: Held>(
         &mut self,
-        alloc: Global,
         held: &mut H,
         p: &Pay,
         day: Day,
@@ -190,7 +188,7 @@ impl<D: Disk> JrnBook<D> {
 
         ensures no_memory { self.old.room ≡ Some p.now → IsAnswered result }
     {
-        let answer = self.answer(alloc, held, p, day);
+        let answer = self.answer(held, p, day);
         // What always holds of a book holds of the new one.
         let _file = &self.file;
         answer
@@ -199,7 +197,6 @@ impl<D: Disk> JrnBook<D> {
     /// Answers a pay: what `commit` tells, as one fact.
     fn answer<H: Held>(
         &mut self,
-        alloc: Global,
         held: &mut H,
         p: &Pay,
         day: Day,
@@ -219,7 +216,7 @@ impl<D: Disk> JrnBook<D> {
                 now: self.file.faults(),
             });
         }
-        self.reserve(alloc, p)?;
+        self.reserve(p)?;
         match self.place_of(&p.mir) {
             Some(place) => self.repeated(p, place),
             None => self.enter(held, p, day),

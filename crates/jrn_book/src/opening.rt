@@ -137,6 +137,7 @@ fn give<D: Disk>(
         at_open,
         failed: None,
         room: None,
+        alloc,
     };
     Ok((book, loose))
 }
