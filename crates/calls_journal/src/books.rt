@@ -108,7 +108,6 @@ fn is_latest(a: &Accounts, h: &History, day: Day) -> bool
 // Enters the pay of an entry on its day; none where it may not be entered.
 fn enter<N: Name, D: Disk, R: Wait>(
     rt: &R,
-    alloc: Global,
     book: &mut JrnBook<D>,
     purses: &Purses<N>,
     e: &Entry,
@@ -125,7 +124,7 @@ fn enter<N: Name, D: Disk, R: Wait>(
         return None;
     }
     let mut held = hold(rt, purses);
-    let answer = book.commit(alloc, &mut held, &e.pay, e.day);
+    let answer = book.commit(&mut held, &e.pay, e.day);
     held.give_back();
     Some(answer)
 }
@@ -155,9 +154,9 @@ fn give_twice<N: Name, D: Disk + Drop, R: Wait>(
         return Err("other accounts".into());
     }
     let purses = loose.lock::<N>(alloc)?;
-    book.reserve(alloc, &e.pay)?;
-    let first = enter(rt, alloc, &mut book, &purses, e);
-    let second = enter(rt, alloc, &mut book, &purses, e);
+    book.reserve(&e.pay)?;
+    let first = enter(rt, &mut book, &purses, e);
+    let second = enter(rt, &mut book, &purses, e);
     let place = book.place_of(&e.pay.mir);
     let (_, _, disk) = book.into_parts();
     Ok(Run {
@@ -237,7 +236,9 @@ fn a_pay_is_entered_once_and_stands_after_a_restart(rt: HostRuntime) -> Result<(
 }
 
 // Whether a disk that stops after so many calls of the first commit answers so, and then opens with the history or the next.
-fn resumes<R: Wait>(rt: &R, alloc: Global, calls: u64, torn: u64) -> Result<bool, Fail> {
+fn resumes<R: Wait>(rt: &R, alloc: Global, calls: u64, torn: u64) -> Result<bool, Fail>
+    requires { calls < 5 }
+{
     let disk = FuseDisk::new(alloc, journal(alloc, &[HEAD])?, calls + 2, torn);
     let run = enter_twice(rt, alloc, disk, ENTRY)?;
     let answers = if calls == 4 {

@@ -1,3 +1,4 @@
+pub mod Opens
 pub mod Histories
 pub mod Locking
 pub mod Booking

@@ -15,7 +15,6 @@ use corr_disk::Disk;
 use day_model::{Accounts, AcctNo, Pay};
 use front_word::{Front, Pass};
 use jrn_book::{CommitFault, Committed};
-use std::alloc::Global;
 use std::sync::{Mutex, Wait};
 use work_pool::Gate;
 
@@ -70,7 +69,6 @@ impl<N: BooksName, D: Disk> Books<N, D> {
     pub fn book<R: Wait, G: Gate>(
         &self,
         rt: &R,
-        alloc: Global,
         pass: &mut Pass,
         worker: u32,
         p: &Pay,
@@ -88,7 +86,7 @@ impl<N: BooksName, D: Disk> Books<N, D> {
         let answer = self
             .stand
             .lock(rt)
-            .book(alloc, &self.front, &mut held, pass, p);
+            .book(&self.front, &mut held, pass, p);
         held.give_back();
         answer
     }

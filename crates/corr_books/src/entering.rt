@@ -13,11 +13,9 @@ use corr_disk::Disk;
 use corr_ids::Day;
 use day_model::Pay;
 use jrn_book::{CommitFault, Committed, JrnBook};
-use std::alloc::Global;
 
 /// Commits a pay whose accounts are held, and passes on what books use of it.
 pub(crate) fn enter<H: Held, D: Disk>(
-    alloc: Global,
     book: &mut JrnBook<D>,
     held: &mut H,
     p: &Pay,
@@ -31,5 +29,5 @@ pub(crate) fn enter<H: Held, D: Disk>(
     requires latest { IsLatest book.old.history day }
     ensures enters { Enters D.Disk day book.old book.new p.now result }
 {
-    book.commit(alloc, held, p, day)
+    book.commit(held, p, day)
 }

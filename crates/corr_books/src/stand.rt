@@ -18,7 +18,6 @@ use corr_ids::Day;
 use day_model::{Outcome, Pay};
 use front_word::{Front, Pass, Writer};
 use jrn_book::{CommitFault, Committed, JrnBook};
-use std::alloc::Global;
 use std::marker::{Brand, Model, PhantomData};
 
 /// The book of one opening, the writer that has published its entries, and the day that they get.
@@ -44,7 +43,6 @@ impl<N: BooksName, D: Disk> Stand<N, D> {
     /// Enters a pay whose accounts are held, and lets the pass know.
     pub(crate) fn book<H: Held>(
         &mut self,
-        alloc: Global,
         f: &Front,
         held: &mut H,
         pass: &mut Pass,
@@ -62,7 +60,7 @@ impl<N: BooksName, D: Disk> Stand<N, D> {
         if pass.reserve().is_err() {
             return Err(CommitFault::Memory);
         }
-        let answer = enter(alloc, &mut self.book, held, p, self.day);
+        let answer = enter(&mut self.book, held, p, self.day);
         tell(&mut self.writer, f, pass, p, self.day, &answer);
         answer
     }

@@ -175,7 +175,6 @@ struct Both<D: Disk> {
 
 fn book_as<N: BooksName, D: Disk, R: Wait, G: Gate>(
     rt: &R,
-    alloc: Global,
     books: &Books<N, D>,
     mut pass: Pass,
     worker: u32,
@@ -188,7 +187,7 @@ fn book_as<N: BooksName, D: Disk, R: Wait, G: Gate>(
     ensures belongs { Belongs N.opening result.0 }
     ensures told { Told N.opening p.now pass result.1 result.0 }
 {
-    let answer = books.book(rt, alloc, &mut pass, worker, p, gate);
+    let answer = books.book(rt, &mut pass, worker, p, gate);
     (pass, answer)
 }
 
@@ -230,7 +229,7 @@ fn book_both_as<
             requires fits { FitsAccounts N.opening.accounts first.now }
             requires shape { HasShape first.now }
             ensures belongs { Belongs N.opening result.0 }
-        { book_as(rt, alloc, &books, front, 1, first, gate) },
+        { book_as(rt, &books, front, 1, first, gate) },
         || -> (Pass, Answer, bool)
             requires pass { Belongs N.opening last }
             requires fits { FitsAccounts N.opening.accounts second.now }
@@ -238,7 +237,7 @@ fn book_both_as<
             ensures belongs { Belongs N.opening result.0 }
         {
             let in_time = is_raised(start);
-            let (last, two) = book_as(rt, alloc, &books, last, 2, second, gate);
+            let (last, two) = book_as(rt, &books, last, 2, second, gate);
             answered.store(true, SeqCst);
             (last, two, in_time)
         },
@@ -370,8 +369,8 @@ fn book_turn_as<N: BooksName, D: Disk + Drop, R: Wait>(
     let Some(pass) = passes.pop() else {
         return Err("a pass".into());
     };
-    let (pass, first) = book_as(rt, alloc, &books, pass, 1, first, &OpenGate);
-    let (pass, second) = book_as(rt, alloc, &books, pass, 1, second, &OpenGate);
+    let (pass, first) = book_as(rt, &books, pass, 1, first, &OpenGate);
+    let (pass, second) = book_as(rt, &books, pass, 1, second, &OpenGate);
     let mine = pass.mine().len() as u64;
     let Err(
         CloseFault {
