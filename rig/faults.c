@@ -1,8 +1,9 @@
 /* A library to preload (LD_PRELOAD): it lets calls of a program fail, counted from its `main` on.
  *
- *   FAULT_CALL   open (for reading), make (an open for writing), read, write (to any descriptor but 2), tell (a write to descriptor 2) or memory
- *   FAULT_KIND   refused (EIO; no memory), short (one byte is moved) or interrupted (EINTR); a memory call or an open
- *                has no short kind
+ *   FAULT_CALL   open (for reading), make (an open for writing), read, write (to any descriptor but 2), tell (a write to descriptor 2),
+ *                journal (an open, a seek, a read, a write or a sync of a file journal.bin, which is none of the others) or memory
+ *   FAULT_KIND   refused (EIO; no memory), short (one byte is moved) or interrupted (EINTR); a call that moves no bytes has
+ *                no short kind, and a seek is not interrupted
  *   FAULT_AT     the number of the call, from 1
  *   FAULT_ON     set: each later one fails too
  *   FAULT_COUNT  a file that gets the number of calls of each sort, in the order above
@@ -26,10 +27,10 @@ extern void *__libc_calloc(size_t count, size_t size);
 extern void *__libc_realloc(void *old, size_t size);
 extern void *__libc_memalign(size_t align, size_t size);
 
-enum call { OPEN, MAKE, READ, WRITE, TELL, MEMORY, CALLS };
+enum call { OPEN, MAKE, READ, WRITE, TELL, JOURNAL, MEMORY, CALLS };
 enum kind { PASS, REFUSED, SHORT, INTERRUPTED };
 
-static const char *const names[CALLS] = {"open", "make", "read", "write", "tell", "memory"};
+static const char *const names[CALLS] = {"open", "make", "read", "write", "tell", "journal", "memory"};
 
 static int armed;
 static long seen[CALLS];
@@ -38,6 +39,7 @@ static enum kind chosen_kind;
 static long first;
 static int later;
 static const char *count_file;
+static int journal = -1;
 
 /* What becomes of the next call of a sort. */
 static enum kind next(enum call call)
@@ -66,15 +68,20 @@ static size_t moved(enum kind kind, size_t size)
 
 ssize_t read(int fd, void *buf, size_t size)
 {
-    enum kind kind = next(READ);
+    enum kind kind = next(fd == journal ? JOURNAL : READ);
     if (fails(kind))
         return -1;
     return syscall(SYS_read, fd, buf, moved(kind, size));
 }
 
+static enum call writing(int fd)
+{
+    return fd == journal ? JOURNAL : fd == 2 ? TELL : WRITE;
+}
+
 ssize_t write(int fd, const void *buf, size_t size)
 {
-    enum kind kind = next(fd == 2 ? TELL : WRITE);
+    enum kind kind = next(writing(fd));
     if (fails(kind))
         return -1;
     return syscall(SYS_write, fd, buf, moved(kind, size));
@@ -82,7 +89,7 @@ ssize_t write(int fd, const void *buf, size_t size)
 
 ssize_t writev(int fd, const struct iovec *parts, int count)
 {
-    enum kind kind = next(fd == 2 ? TELL : WRITE);
+    enum kind kind = next(writing(fd));
     if (fails(kind))
         return -1;
     if (kind == SHORT && count > 0)
@@ -90,11 +97,55 @@ ssize_t writev(int fd, const struct iovec *parts, int count)
     return syscall(SYS_writev, fd, parts, count);
 }
 
+int fsync(int fd)
+{
+    if (fd == journal && fails(next(JOURNAL)))
+        return -1;
+    return syscall(SYS_fsync, fd);
+}
+
+int fdatasync(int fd)
+{
+    if (fd == journal && fails(next(JOURNAL)))
+        return -1;
+    return syscall(SYS_fdatasync, fd);
+}
+
+/* A seek is never interrupted. */
+off_t lseek(int fd, off_t offset, int from)
+{
+    if (fd == journal && chosen_kind != INTERRUPTED && fails(next(JOURNAL)))
+        return -1;
+    return syscall(SYS_lseek, fd, offset, from);
+}
+
+off64_t lseek64(int fd, off64_t offset, int from)
+{
+    return lseek(fd, offset, from);
+}
+
+int close(int fd)
+{
+    if (fd == journal)
+        journal = -1;
+    return syscall(SYS_close, fd);
+}
+
+static int is_journal(const char *path)
+{
+    const char *name = strrchr(path, '/');
+    return !strcmp(name ? name + 1 : path, "journal.bin");
+}
+
 static int open_at(int dir, const char *path, int flags, unsigned mode)
 {
-    if (fails(next((flags & O_ACCMODE) == O_RDONLY ? OPEN : MAKE)))
+    int own = is_journal(path);
+    if (fails(next(own ? JOURNAL : (flags & O_ACCMODE) == O_RDONLY ? OPEN : MAKE)))
         return -1;
-    return syscall(SYS_openat, dir, path, flags, mode);
+    int fd = syscall(SYS_openat, dir, path, flags, mode);
+    if (own && fd >= 0)
+        journal = fd;
+    return fd;
 }
 
 #define MODE(flags) \
@@ -199,8 +250,10 @@ __attribute__((destructor)) static void tell_counts(void)
     armed = 0;
     if (!count_file)
         return;
-    char line[128];
-    int size = snprintf(line, sizeof line, "%ld %ld %ld %ld %ld %ld\n", seen[OPEN], seen[MAKE], seen[READ], seen[WRITE], seen[TELL], seen[MEMORY]);
+    char line[256];
+    int size = 0;
+    for (int i = 0; i < CALLS; i++)
+        size += snprintf(line + size, sizeof line - size, "%ld\n", seen[i]);
     int fd = syscall(SYS_openat, AT_FDCWD, count_file, O_WRONLY | O_CREAT | O_TRUNC, 0666);
     if (fd >= 0) {
         syscall(SYS_write, fd, line, size);

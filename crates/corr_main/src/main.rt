@@ -2,8 +2,9 @@
 #![tactic(auto)]
 
 ghost use Rattle.std.specs.Prelude.{IfErr};
-ghost use Rattle.corr_top.specs.Status.{HasDecimals};
+ghost use Rattle.corr_top.specs.Status.{HasLine};
 
+use corr_disk::FileDisk;
 use corr_io::{StdSink, StdSource};
 use corr_text::{Memory, Text};
 use corr_top::{Room, Status, Tables, corr, put_status_line};
@@ -13,9 +14,10 @@ use std::io;
 use std::io::Write;
 use std::os::fd::{AsRawFd, IntoRawFd};
 use std::process::ExitCode;
+use std::sync::Wait;
 
 const HELP: &[u8] =
-    b"corr FOLDER run DATE 1\n\nReads bics.csv, ccys.csv, countries.csv, accounts.csv, ssi.csv and messages.fin in\nFOLDER, books the messages on DATE (YYMMDD), prints the report and appends the messages that\nleave to out.fin.\n\ncorr --help     prints this\ncorr --version  prints the version\n\nStatus 0 done; 1 other words; 2 a table row is refused; 3 a file can't be read; 4 the report or\nout.fin can't be written; 6 the openings don't balance; 7 no memory; 9 the message file is too large; 10 it\ncan't be cut. Each but 0 has its line on standard error.\n";
+    b"corr FOLDER init HOME       makes journal.bin for the home bank HOME, a BIC, with the accounts of\n                            accounts.csv\ncorr FOLDER run DATE 1      books the messages of messages.fin on DATE (YYMMDD), prints the report and\n                            appends the messages that leave to out.fin\ncorr FOLDER send FROM UNTIL appends to out.fin once more what leaves for the entries at these places\ncorr FOLDER bookings        prints the entries\n\nA folder has bics.csv, ccys.csv, countries.csv, accounts.csv, ssi.csv and messages.fin.\n\ncorr --help     prints this\ncorr --version  prints the version\n\nStatus 0 done; 1 other words; 2 a table row is refused; 3 a file can't be read; 4 the report or\nout.fin can't be written; 5 journal.bin can't be read or written; 6 there is no journal, it is\ndamaged, or it is there already, or the openings don't balance; 7 no memory; 8 DATE is before the\nlast entry's day; 9 the message file is too large; 10 it can't be cut; 11 the journal is full. Each\nbut 0 has its line on standard error.\n";
 
 const VERSION: &[u8] = b"corr 0.1.0\n";
 
@@ -43,7 +45,7 @@ fn fill_standard(rt: &HostRuntime) -> io::Result<()> {
 
 /// The word at a place of the command line; none behind the last one. `Usage`: it is longer than the limit, or not UTF-8.
 fn word(rt: &HostRuntime, at: usize) -> Result<Option<Text>, Status>
-    ensures { IfErr result HasDecimals }
+    ensures { IfErr result HasLine }
 {
     let mut bytes = [0u8; WORD_LIMIT];
     let len = match rt.arg(at, &mut bytes) {
@@ -62,7 +64,7 @@ fn word(rt: &HostRuntime, at: usize) -> Result<Option<Text>, Status>
 
 /// The words of the command line behind the program's name.
 fn words(rt: &HostRuntime) -> Result<Vec<Text>, Status>
-    ensures { IfErr result HasDecimals }
+    ensures { IfErr result HasLine }
 {
     let mut words = Vec::new(rt.alloc());
     for at in 1..usize::MAX {
@@ -92,11 +94,15 @@ fn source<'a>(
     Ok(StdSource::new(rt, path(rt, folder, name)?))
 }
 
+/// What a command is handed: files, and standard output.
+type Files<'a> = Room<
+    StdSource<'a, HostRuntime>,
+    StdSink<'a, HostRuntime>,
+    FileDisk<'a, HostRuntime>,
+>;
+
 /// The files of a folder, and standard output for the report. What is sent is appended to `out.fin`.
-fn room<'a>(
-    rt: &'a HostRuntime,
-    folder: &[u8],
-) -> Result<Room<StdSource<'a, HostRuntime>, StdSink<'a, HostRuntime>>, Memory> {
+fn room<'a>(rt: &'a HostRuntime, folder: &[u8]) -> Result<Files<'a>, Memory> {
     Ok(Room {
         tables: Tables {
             bics: source(rt, folder, b"bics.csv")?,
@@ -106,23 +112,26 @@ fn room<'a>(
             ssi: source(rt, folder, b"ssi.csv")?,
         },
         messages: source(rt, folder, b"messages.fin")?,
+        received: source(rt, folder, b"received.fin")?,
         report: StdSink::out(rt),
         out: StdSink::file(rt, path(rt, folder, b"out.fin")?),
+        disk: FileDisk::new(rt, path(rt, folder, b"journal.bin")?),
+        disk2: None,
     })
 }
 
-/// Does what the words behind the folder say.
-fn run(rt: &HostRuntime, folder: &[u8], words: &[Text]) -> Status
-    ensures { HasDecimals result }
+/// Does what the words behind the folder say. `waiter` is the handle by which a run waits for the locks of accounts.
+fn run(rt: &HostRuntime, waiter: &impl Wait, folder: &[u8], words: &[Text]) -> Status
+    ensures { HasLine result }
 {
     match room(rt, folder) {
-        Ok(room) => corr(rt.alloc(), words, room).status,
+        Ok(room) => corr(waiter, rt.alloc(), words, room).status,
         Err(Memory) => Status::Memory,
     }
 }
 
 fn print(rt: &HostRuntime, text: &[u8]) -> Status
-    ensures { HasDecimals result }
+    ensures { HasLine result }
 {
     match rt.stdout().write_all(text) {
         Ok(()) => Status::Done,
@@ -134,21 +143,21 @@ fn print(rt: &HostRuntime, text: &[u8]) -> Status
 }
 
 /// Without a folder, or with an empty one, no file is touched.
-fn command(rt: &HostRuntime, words: &[Text]) -> Status
-    ensures { HasDecimals result }
+fn command(rt: &HostRuntime, waiter: &impl Wait, words: &[Text]) -> Status
+    ensures { HasLine result }
 {
     match words {
         [] => Status::Usage,
         [folder, ..] if folder.bytes().is_empty() => Status::Usage,
         [word] if word.bytes() == b"--help".as_slice() => print(rt, HELP),
         [word] if word.bytes() == b"--version".as_slice() => print(rt, VERSION),
-        [folder, words @ ..] => run(rt, folder.bytes(), words),
+        [folder, words @ ..] => run(rt, waiter, folder.bytes(), words),
     }
 }
 
 /// Does what the command line says. `ReadFault`: the null device is not there.
-fn start(rt: &HostRuntime) -> Status
-    ensures { HasDecimals result }
+fn start(rt: &HostRuntime, waiter: &impl Wait) -> Status
+    ensures { HasLine result }
 {
     if fill_standard(rt).is_err() {
         return Status::ReadFault {
@@ -157,7 +166,7 @@ fn start(rt: &HostRuntime) -> Status
         };
     }
     match words(rt) {
-        Ok(words) => command(rt, words.as_slice()),
+        Ok(words) => command(rt, waiter, words.as_slice()),
         Err(status) => status,
     }
 }
@@ -165,7 +174,7 @@ fn start(rt: &HostRuntime) -> Status
 /// Tells a status other than 0 on standard error, by a line for which `line` has room, and answers its number. Where
 /// memory is refused while the line is made, the status is `Memory`.
 fn tell(rt: &HostRuntime, status: &Status, line: &mut Text) -> u8
-    requires { HasDecimals status.now }
+    requires { HasLine status.now }
 {
     if status.number() == 0 {
         return 0;
@@ -187,7 +196,7 @@ fn tell_no_memory(rt: &HostRuntime) -> u8 {
 fn main(rt: HostRuntime) -> ExitCode {
     // the line's memory is taken first: then a status is told where memory is refused later
     let number = match Text::with_room(rt.alloc(), b"", LINE_LIMIT) {
-        Ok(mut line) => tell(&rt, &start(&rt), &mut line),
+        Ok(mut line) => tell(&rt, &start(&rt, &rt), &mut line),
         Err(Memory) => tell_no_memory(&rt),
     };
     ExitCode::from(number)

@@ -1,5 +1,8 @@
 -- Texts that are added one after another.
-use Rattle.std.proofs.Common.{◌≡◌, ℕ, ◌+◌, List, [], ◌∷◌, ◌++◌, sym, ap, ◌∙◌, append_assoc, append-nil}
+use Rattle.std.proofs.Common.{◌≡◌, ℕ, zero, suc, ◌+◌, ◌-◌, ◌<◌, ◌≤◌, List, [], ◌∷◌, ◌++◌, Some, sym, ap, ◌∙◌, arith, append_assoc, append-nil, drop, length, take}
+use Rattle.std.specs.Prelude.{min, slice_get}
+use Rattle.std.proofs.lemmas.List.{drop_all, length-take}
+use Rattle.std.proofs.lemmas.Option.{none-some}
 use Rattle.corr_report.specs.Lines.{numbered}
 use Rattle.corr_top.specs.Out.{parted, parted_all}
 
@@ -22,3 +25,14 @@ parted_done all out left none so_far = sym (so_far ∙ ap (λ (l : List (List �
 
 pub numbered_done : {A : Type 0} (line_of : ℕ → A → List ℕ) (n : ℕ) (all out : List ℕ) (left : List A) → left ≡ [] → all ≡ out ++ numbered line_of n left → out ≡ all
 numbered_done {A} line_of n all out left none so_far = sym (so_far ∙ ap (λ (l : List A). out ++ numbered line_of n l) none ∙ append-nil out)
+
+-- an element of a front part is one of the whole
+pub in_front : {A : Type 0} (n : ℕ) (xs : List A) (k : ℕ) (x : A) → k < n → slice_get xs k ≡ Some x → slice_get (take n xs) k ≡ Some x
+in_front n [] k x less at = absurd (none-some x at)
+in_front zero (y ∷ xs) k x less at = absurd (omega (arith, less))
+in_front (suc n) (y ∷ xs) zero x less at = at
+in_front (suc n) (y ∷ xs) (suc k) x less at = in_front n xs k x (omega (arith, less)) at
+
+-- nothing is left behind the end of a front part
+pub none_behind : {A : Type 0} (n : ℕ) (xs : List A) (place : ℕ) → min n (length xs) + 1 ≤ place → drop (place - 1) (take n xs) ≡ []
+none_behind {A} n xs place past = drop_all (place - 1) (take n xs) (omega (arith, length-take n xs, past))

@@ -1,35 +1,71 @@
 -- Where nothing is wrong, a command is done or wants memory.
-use Rattle.std.proofs.Common.{◌≡◌, ℕ, ◌+◌, ◌≤◌, ◌⊎◌, inl, inr, Bool, true, false, cond, List, [], ◌∷◌, ◌++◌, length, map, Option, Some, None, refl, sym, ap, ◌∙◌, subst, arith, append-nil, nat_le, length-append}
+use Rattle.std.proofs.Common.{◌≡◌, ℕ, ◌+◌, ◌-◌, ◌<◌, ◌≤◌, ◌^◌, ◌⊎◌, inl, inr, Bool, true, false, cond, List, [], ◌∷◌, ◌++◌, length, map, Option, Some, None, refl, sym, ap, ◌∙◌, subst, arith, append-nil, nat_le, length-append}
+use Rattle.std.specs.Prelude.{IsTrue, slice_get}
 use Rattle.std.specs.Option.{option_map_or}
 use Rattle.std.proofs.lemmas.Bool.Decides.{nat_tests}
+use Rattle.std.proofs.lemmas.Int.{ints}
 use Rattle.std.proofs.lemmas.Option.{none-some}
+use Rattle.corr_disk.specs.declared.disk.Disk as disks
+use Rattle.corr_io.specs.declared.sink.Sink as sinks
+use Rattle.corr_io.specs.declared.source.Source as sources
 use Rattle.corr_text.specs.Faults.{Rose}
-use Rattle.day_model.specs.Chart.{opening_sum}
+use Rattle.corr_ids.specs.declared.bic.Bic.{Bic}
+use Rattle.corr_ids.specs.declared.day.Day.{Day}
+use Rattle.day_model.specs.declared.entry.Entry.{Entry}
+use Rattle.day_model.specs.declared.fault.AccountsFault.{AccountsFault}
+use Rattle.day_model.specs.declared.fault.AccountsFault.TheVariants as accounts
+use Rattle.day_model.specs.declared.pay.Pay.{Pay}
+use Rattle.day_model.specs.Chart.{Chart, opening_sum}
+use Rattle.day_model.specs.Laws.{IsLatest}
+use Rattle.fin_frame.specs.Machine.{at_start, run, with_open}
+use Rattle.fin_frame.proofs.laws.Showing.{cut-comes}
+use Rattle.jrn_book.specs.Opening.{Finding, IsFound, book, faulty, no_book}
+use Rattle.jrn_book.proofs.laws.Findings.{one_finding}
+use Rattle.jrn_file.specs.Faults.{Tells}
+use Rattle.jrn_file.specs.Reading.{Reading, opened_of}
+use Rattle.jrn_file.specs.declared.fault.MakeFault.{MakeFault}
+use Rattle.jrn_file.specs.declared.fault.MakeFault.TheVariants as making
+use Rattle.jrn_file.specs.declared.fault.OpenFault.{OpenFault}
+use Rattle.jrn_file.specs.declared.fault.OpenFault.TheVariants as opening
 use Rattle.ref_tables.specs.Accounts.{account_of, accounts_fault}
 use Rattle.ref_tables.specs.Refusals.{RowTest, first_bad_row, first_fault, named}
-use Rattle.ref_tables.specs.Rows.{Cells, rows_of}
+use Rattle.ref_tables.specs.Rows.{Cells, rows_of, up_to}
 use Rattle.ref_tables.specs.Seen.{Tables}
 use Rattle.ref_tables.specs.Tables.{bics_fault, ccys_fault, countries_fault, tables_of}
 use Rattle.ref_tables.specs.declared.fault.TableName.{TableName}
 use Rattle.ref_tables.specs.declared.fault.TableName.TheVariants as names
 use Rattle.ref_tables.specs.declared.fault.Why.{Why}
 use Rattle.ref_tables.specs.declared.fault.Why.TheVariants.{Rows}
-use Rattle.ssi_versions.specs.Rows.{ssi_fault}
+use Rattle.ssi_versions.specs.Rows.{instruction_of, ssi_fault}
+use Rattle.corr_top.specs.declared.directory.Directory.{Directory}
+use Rattle.corr_top.specs.declared.answers.BookStop.{BookStop}
+use Rattle.corr_top.specs.declared.answers.BookStop.TheVariants as booking
+use Rattle.corr_top.specs.declared.cutting.FileStop.{FileStop}
+use Rattle.corr_top.specs.declared.cutting.FileStop.TheVariants as file
 use Rattle.corr_top.specs.declared.room.Room.{Room}
+use Rattle.corr_top.specs.declared.run.DateBack.{DateBack}
 use Rattle.corr_top.specs.declared.status.Status.{Status}
 use Rattle.corr_top.specs.declared.status.Status.TheVariants as status
+use Rattle.corr_top.specs.declared.tables.TableStop.{TableStop}
+use Rattle.corr_top.specs.declared.tables.TableStop.TheVariants as table
 use Rattle.corr_top.specs.declared.words.Command.{Command}
-use Rattle.corr_top.specs.declared.words.Command.TheVariants.{Run}
-use Rattle.corr_top.specs.Commands.{steps_of}
-use Rattle.corr_top.specs.Complete.{IsReady, IsSound, Told}
-use Rattle.corr_top.specs.Ends.{Ends}
-use Rattle.corr_top.specs.Inputs.{Inputs, accounts_in, home_head, opened, tables_in}
-use Rattle.corr_top.specs.MessageFile.{StopsCutting}
-use Rattle.corr_top.specs.Passing.{Bad, IsUntouched, Passes, StopsAt, StopsAtTable, fault_of, file_of}
+use Rattle.corr_top.specs.declared.words.Command.TheVariants.{Run, Plain}
+use Rattle.corr_top.specs.declared.words.Plain.TheVariants.{Init, Query}
+use Rattle.corr_top.specs.Booking.{IsBack, LacksRoom, StopsBooking}
+use Rattle.corr_top.specs.Commands.{IsFor, steps_of}
+use Rattle.corr_top.specs.Complete.{HasRoomForAll, IsReady, IsSound, IsSure, Told}
+use Rattle.corr_top.specs.Ends.{Ends, HasStopped}
+use Rattle.corr_top.specs.Inputs.{Inputs, accounts_in, directory_in, instructions_in, opened, pays_of, tables_in}
+use Rattle.corr_top.specs.Message.{pays_in, readings_of}
+use Rattle.corr_top.specs.MessageFile.{IsMessageFile, StopsCutting}
+use Rattle.corr_top.specs.OnDisk.{HoldsJournal, IsFree, StopsMaking, StopsOpening}
+use Rattle.corr_top.specs.Passing.{Bad, Balances, IsUntouched, Passes, StopsAt, StopsAtMessages, StopsAtSums, StopsAtTable, fault_of, file_of}
 use Rattle.corr_top.specs.Reading.{Failed, IsRead, Took}
 use Rattle.corr_top.specs.Steps.{Halts, Step, Walks}
+use Rattle.corr_top.specs.Stops.{status_of_booking, status_of_file, status_of_making, status_of_opening, status_of_sums, status_of_table}
 use Rattle.corr_top.specs.Writing.{FailsWriting}
 use Rattle.corr_top.proofs.MessageFiles.{no-fault}
+use Rattle.corr_top.proofs.Rooms.{has_room}
 
 -- ---- files that are told whole
 
@@ -51,7 +87,7 @@ small_if false name test rows e = absurd (cc e)
 
 small : (name : TableName) (most : ℕ) (test : RowTest) (file : List ℕ) → named name (first_fault most test file) ≡ None → length file ≤ 8388608
 small name most test file e =
-    let b : nat_le (length file) 8388608 ≡ true = small_if (nat_le (length file) 8388608) name (first_bad_row test []) _ e in
+    let b : nat_le (length file) 8388608 ≡ true = small_if (nat_le (length file) 8388608) name (first_bad_row test []) (up_to most (rows_of file)) e in
     grind (arith, nat_tests)
 
 small_table : (name : TableName) (i : Inputs) → fault_of name i ≡ None → length (file_of name i) ≤ 8388608
@@ -63,10 +99,15 @@ small_table names.Ssi i none = small _ _ _ i.ssi none
 
 -- ---- what was read up to a step is what was told
 
+record SameJournal (j i : Inputs) : Type 0 where
+  pub chart : j.chart ≡ i.chart
+  pub history : j.history ≡ i.history
+
 abbrev Agrees : Inputs → Inputs → Step → Type 0
 Agrees j i (Step.table name) = file_of name j ≡ file_of name i
-Agrees j i Step.sums = Unit {0}
-Agrees j i Step.messages = Unit {0}
+Agrees j i Step.open_journal = SameJournal j i
+Agrees j i Step.messages = j.cut ≡ i.cut
+Agrees j i _ = Unit {0}
 
 abbrev Has : List Step → Step → Type 0
 Has [] s = ⊥
@@ -84,6 +125,12 @@ record HasThree (done : List Step) : Type 0 where
   pub countries : Has done (Step.table names.Countries)
 
 -- what a step needs is behind us
+record HasBooked (done : List Step) : Type 0 where
+  pub three : HasThree done
+  pub ssi : Has done (Step.table names.Ssi)
+  pub journal : Has done Step.open_journal
+  pub messages : Has done Step.messages
+
 abbrev IsAfter : List Step → Step → Type 0
 IsAfter done (Step.table names.Bics) = Unit {0}
 IsAfter done (Step.table names.Ccys) = Unit {0}
@@ -91,7 +138,11 @@ IsAfter done (Step.table names.Countries) = Unit {0}
 IsAfter done (Step.table names.Accounts) = HasThree done
 IsAfter done (Step.table names.Ssi) = HasThree done
 IsAfter done Step.sums = HasThree done × Has done (Step.table names.Accounts)
+IsAfter done Step.make = Unit {0}
+IsAfter done Step.open_journal = Unit {0}
+IsAfter done Step.day = Has done Step.open_journal
 IsAfter done Step.messages = Unit {0}
+IsAfter done Step.book = HasBooked done
 
 abbrev AreOrdered : List Step → List Step → Type 0
 AreOrdered done [] = Unit {0}
@@ -103,14 +154,15 @@ same_tables j i done has all =
     ∙ ap (λ (f : List ℕ). tables_of i.bics f j.countries) (agreed j i done (Step.table names.Ccys) all has.ccys)
     ∙ ap (λ (f : List ℕ). tables_of i.bics i.ccys f) (agreed j i done (Step.table names.Countries) all has.countries)
 
-same_fault : (j i : Inputs) (done : List Step) (name : TableName) → IsAfter done (Step.table name) → Walks (Agrees j i) done → file_of name j ≡ file_of name i → fault_of name j ≡ fault_of name i
-same_fault j i done names.Bics after all own = ap (λ (f : List ℕ). named names.Bics (bics_fault f)) own
-same_fault j i done names.Ccys after all own = ap (λ (f : List ℕ). named names.Ccys (ccys_fault f)) own
-same_fault j i done names.Countries after all own = ap (λ (f : List ℕ). named names.Countries (countries_fault f)) own
-same_fault j i done names.Accounts after all own =
-    ap (λ (t : Tables). named names.Accounts (accounts_fault home_head t j.accounts)) (same_tables j i done after all)
-    ∙ ap (λ (f : List ℕ). named names.Accounts (accounts_fault home_head (tables_in i) f)) own
-same_fault j i done names.Ssi after all own =
+same_fault : (j i : Inputs) (done : List Step) (name : TableName) → j.home ≡ i.home → IsAfter done (Step.table name) → Walks (Agrees j i) done → file_of name j ≡ file_of name i → fault_of name j ≡ fault_of name i
+same_fault j i done names.Bics home after all own = ap (λ (f : List ℕ). named names.Bics (bics_fault f)) own
+same_fault j i done names.Ccys home after all own = ap (λ (f : List ℕ). named names.Ccys (ccys_fault f)) own
+same_fault j i done names.Countries home after all own = ap (λ (f : List ℕ). named names.Countries (countries_fault f)) own
+same_fault j i done names.Accounts home after all own =
+    ap (λ (b : Bic). named names.Accounts (accounts_fault b.head (tables_in j) j.accounts)) home
+    ∙ ap (λ (t : Tables). named names.Accounts (accounts_fault i.home.head t j.accounts)) (same_tables j i done after all)
+    ∙ ap (λ (f : List ℕ). named names.Accounts (accounts_fault i.home.head (tables_in i) f)) own
+same_fault j i done names.Ssi home after all own =
     ap (λ (t : Tables). named names.Ssi (ssi_fault t j.ssi)) (same_tables j i done after all) ∙ ap (λ (f : List ℕ). named names.Ssi (ssi_fault (tables_in i) f)) own
 
 same_accounts : (j i : Inputs) (done : List Step) → HasThree done → Has done (Step.table names.Accounts) → Walks (Agrees j i) done → accounts_in j ≡ accounts_in i
@@ -118,102 +170,158 @@ same_accounts j i done three has all =
     ap (λ (t : Tables). map opened (map (account_of t) (rows_of j.accounts))) (same_tables j i done three all)
     ∙ ap (λ (f : List ℕ). map opened (map (account_of (tables_in i)) (rows_of f))) (agreed j i done (Step.table names.Accounts) all has)
 
+same_directory : (j i : Inputs) (done : List Step) → HasBooked done → Walks (Agrees j i) done → directory_in j ≡ directory_in i
+same_directory j i done has all =
+    ap (λ (t : Tables). record { tables = t; ssi = instructions_in j }) (same_tables j i done has.three all)
+    ∙ ap (λ (f : List ℕ). record { tables = tables_in i; ssi = map instruction_of (rows_of f) }) (agreed j i done (Step.table names.Ssi) all has.ssi)
+
+same_pays : (j i : Inputs) (done : List Step) → HasBooked done → Walks (Agrees j i) done → pays_of j ≡ pays_of i
+same_pays j i done has all =
+    ap (λ (x : Directory). pays_in (readings_of x j.chart j.cut)) (same_directory j i done has all)
+    ∙ ap (λ (c : Chart). pays_in (readings_of (directory_in i) c j.cut)) (agreed j i done Step.open_journal all has.journal).chart
+    ∙ ap (λ (ms : List (List ℕ)). pays_in (readings_of (directory_in i) i.chart ms)) (agreed j i done Step.messages all has.messages)
+
 -- ---- a step that stops wants memory
 
 same_rose : {A : Type 0} (faults : A → ℕ) (old new : A) (then now : ℕ) → Failed faults old new then now → Rose (faults old) (faults new)
 same_rose faults old new then now f = subst (λ n. Rose n (faults new)) f.then_is (subst (λ n. Rose then n) f.now_is f.rose)
 
-table_memory : {S : Type 0} (left : S → Option (List ℕ)) (reads : S → ℕ) (old new : S) (bytes file : List ℕ) (fault meant : Option Bad) (s : Status) → Told left reads old new file → meant ≡ None → length file ≤ 8388608
-    → (bytes ≡ file → fault ≡ meant) → StopsAtTable left reads old new bytes fault s → s ≡ status.Memory
-table_memory left reads old new bytes file fault meant (status.ReadFault b a) told none short same stops = absurd (told.sound (same_rose reads old new b a stops))
-table_memory left reads old new bytes file fault meant (status.Table t r w) told none short same stops =
-    absurd (none-some _ (sym (same (took_whole left reads 8388608 old new bytes file told.told short stops.0) ∙ none) ∙ stops.1))
-table_memory left reads old new bytes file fault meant status.Memory told none short same stops = refl
-table_memory left reads old new bytes file fault meant status.Done told none short same stops = absurd stops
-table_memory left reads old new bytes file fault meant status.Usage told none short same stops = absurd stops
-table_memory left reads old new bytes file fault meant (status.WriteFault b a) told none short same stops = absurd stops
-table_memory left reads old new bytes file fault meant (status.Unbalanced c d n) told none short same stops = absurd stops
-table_memory left reads old new bytes file fault meant (status.TooLarge b m) told none short same stops = absurd stops
-table_memory left reads old new bytes file fault meant (status.Framing at) told none short same stops = absurd stops
+tells_rose : (old before after new : ℕ) → Tells old before after new → Rose old new
+tells_rose old before after new t = subst (λ n. Rose n new) t.before_is (subst (λ n. Rose before n) t.after_is t.rose)
 
-sums_memory : {S K : Type 0} (left : S → Option (List ℕ)) (reads : S → ℕ) (old new : Room S K) (j i : Inputs) (s : Status) → accounts_in j ≡ accounts_in i → IsReady left reads old new i Step.sums
-    → StopsAt left reads old new j s Step.sums → s ≡ status.Memory
-sums_memory left reads old new j i (status.Unbalanced ccy d n) same balanced stops =
-    let gap = stops.0.is_gap in
-    absurd (gap.off (sym gap.sum_is ∙ ap (opening_sum ccy) same ∙ balanced ccy))
-sums_memory left reads old new j i status.Memory same balanced stops = refl
-sums_memory left reads old new j i status.Done same balanced stops = absurd stops
-sums_memory left reads old new j i status.Usage same balanced stops = absurd stops
-sums_memory left reads old new j i (status.Table t r w) same balanced stops = absurd stops
-sums_memory left reads old new j i (status.ReadFault b a) same balanced stops = absurd stops
-sums_memory left reads old new j i (status.WriteFault b a) same balanced stops = absurd stops
-sums_memory left reads old new j i (status.TooLarge b m) same balanced stops = absurd stops
-sums_memory left reads old new j i (status.Framing at) same balanced stops = absurd stops
+table_memory : {S : Type 0} (source : sources.Ghosts S) (old new : S) (bytes meant_bytes : List ℕ) (fault meant : Option Bad) (stop : TableStop) → Told source old new meant_bytes → meant ≡ None → length meant_bytes ≤ 8388608
+    → (bytes ≡ meant_bytes → fault ≡ meant) → StopsAtTable source old new bytes fault stop → status_of_table stop ≡ status.Memory
+table_memory source old new bytes meant_bytes fault meant (table.Fault b a) told none short same stops = absurd (told.sound (same_rose source.faults old new b a stops))
+table_memory source old new bytes meant_bytes fault meant (table.Bad t r w) told none short same stops =
+    absurd (none-some _ (sym (same (took_whole source.left source.faults 8388608 old new bytes meant_bytes told.told short stops.0) ∙ none) ∙ stops.1))
+table_memory source old new bytes meant_bytes fault meant table.Memory told none short same stops = refl
 
-messages_memory : {S K : Type 0} (left : S → Option (List ℕ)) (reads : S → ℕ) (old new : Room S K) (j i : Inputs) (s : Status) → IsReady left reads old new i Step.messages
-    → StopsAt left reads old new j s Step.messages → s ≡ status.Memory
-messages_memory left reads old new j i (status.ReadFault b a) ready stops = absurd (ready.0.sound (same_rose reads old.messages new.messages b a stops))
-messages_memory left reads old new j i (status.TooLarge b m) ready stops =
-    let same = took_whole left reads 67108864 old.messages new.messages j.messages i.messages ready.0.told ready.1.short stops.0 in
-    no-fault i.messages i.cut (status.TooLarge b m) ready.1 (subst (λ f. StopsCutting f (status.TooLarge b m)) same stops.1)
-messages_memory left reads old new j i (status.Framing at) ready stops =
-    let same = took_whole left reads 67108864 old.messages new.messages j.messages i.messages ready.0.told ready.1.short stops.0 in
-    no-fault i.messages i.cut (status.Framing at) ready.1 (subst (λ f. StopsCutting f (status.Framing at)) same stops.1)
-messages_memory left reads old new j i status.Memory ready stops = refl
-messages_memory left reads old new j i status.Done ready stops = absurd stops
-messages_memory left reads old new j i status.Usage ready stops = absurd stops
-messages_memory left reads old new j i (status.Table t r w) ready stops = absurd stops
-messages_memory left reads old new j i (status.WriteFault b a) ready stops = absurd stops
-messages_memory left reads old new j i (status.Unbalanced c d n) ready stops = absurd stops
+sums_memory : (j i : Inputs) (stop : AccountsFault) → accounts_in j ≡ accounts_in i → Balances i → StopsAtSums j stop → status_of_sums stop ≡ status.Memory
+sums_memory j i (accounts.Unbalanced ccy d n) same balanced stops = let gap = stops.0.is_gap in absurd (gap.off (sym gap.sum_is ∙ ap (opening_sum ccy) same ∙ balanced ccy))
+sums_memory j i accounts.Memory same balanced stops = refl
 
-step_memory : {S K : Type 0} (left : S → Option (List ℕ)) (reads : S → ℕ) (old new : Room S K) (j i : Inputs) (s : Status) (done : List Step) (step : Step) → IsAfter done step → Walks (Agrees j i) done
-    → IsReady left reads old new i step → StopsAt left reads old new j s step → s ≡ status.Memory
-step_memory left reads old new j i s done (Step.table name) after all ready stops =
-    table_memory left reads _ _ (file_of name j) (file_of name i) (fault_of name j) (fault_of name i) s ready.0 ready.1 (small_table name i ready.1) (same_fault j i done name after all) stops
-step_memory left reads old new j i s done Step.sums after all ready stops = sums_memory left reads old new j i s (same_accounts j i done after.0 after.1 all) ready stops
-step_memory left reads old new j i s done Step.messages after all ready stops = messages_memory left reads old new j i s ready stops
+making_memory : {D : Type 0} (d : disks.Ghosts D) (old new : D) (chart : Chart) (stop : MakeFault) → IsSure d old new → IsFree d old → StopsMaking d old new chart stop → status_of_making stop ≡ status.Memory
+making_memory d old new chart (making.Exists first) sure free stops = absurd (free sure.told first (stops.cause.1 sure.told))
+making_memory d old new chart (making.DiskFault b a) sure free stops = absurd (sure.sound (tells_rose (d.faults old) b a (d.faults new) stops.cause))
+making_memory d old new chart making.Memory sure free stops = refl
 
-step_agrees : {S K : Type 0} (left : S → Option (List ℕ)) (reads : S → ℕ) (old new : Room S K) (j i : Inputs) (step : Step) → IsReady left reads old new i step → Passes left reads old new j step → Agrees j i step
-step_agrees left reads old new j i (Step.table name) ready passes = took_whole left reads 8388608 _ _ (file_of name j) (file_of name i) ready.0.told (small_table name i ready.1) passes.took
-step_agrees left reads old new j i Step.sums ready passes = tt
-step_agrees left reads old new j i Step.messages ready passes = tt
+-- a journal is no damage, and not nothing
+other_finding : (reading : Reading) (chart : Chart) (history : List Entry) (f : Finding) → IsFound reading (book chart history) → IsFound reading f → (book chart history ≡ f → ⊥) → ⊥
+other_finding reading chart history f is also differs = differs (one_finding reading (book chart history) f is also)
 
-halts_memory : {S K : Type 0} (left : S → Option (List ℕ)) (reads : S → ℕ) (old new : Room S K) (j i : Inputs) (s : Status) (done steps : List Step) → AreOrdered done steps → Walks (Agrees j i) done
-    → Walks (IsReady left reads old new i) steps → Halts (Passes left reads old new j) (StopsAt left reads old new j s) (IsUntouched old new) steps → s ≡ status.Memory
-halts_memory left reads old new j i s done [] ordered all ready halts = absurd halts
-halts_memory left reads old new j i s done (step ∷ steps) ordered all ready (inl here) = step_memory left reads old new j i s done step ordered.0 all ready.0 here.0
-halts_memory left reads old new j i s done (step ∷ steps) ordered all ready (inr later) =
-    halts_memory left reads old new j i s (step ∷ done) steps ordered.1 (step_agrees left reads old new j i step ready.0 later.0, all) ready.1 later.1
+opening_memory : {D : Type 0} (d : disks.Ghosts D) (old new : D) (chart : Chart) (history : List Entry) (stop : OpenFault) → IsSure d old new → HoldsJournal d old chart history → StopsOpening d old new stop
+    → status_of_opening stop ≡ status.Memory
+opening_memory d old new chart history opening.NotAJournal sure holds stops =
+    absurd (other_finding (opened_of (d.reads old)) chart history no_book (holds.journal, holds.stands sure.told) (stops.told sure.told) (λ same. cc))
+opening_memory d old new chart history (opening.Damaged at) sure holds stops =
+    absurd (other_finding (opened_of (d.reads old)) chart history (faulty at) (holds.journal, holds.stands sure.told) (stops.told sure.told) (λ same. cc))
+opening_memory d old new chart history (opening.DiskFault b a) sure holds stops = absurd (sure.sound (tells_rose (d.faults old) b a (d.faults new) stops.cause))
+opening_memory d old new chart history opening.Memory sure holds stops = refl
+
+day_memory : (history meant : List Entry) (day : Day) (stop : DateBack) → history ≡ meant → IsLatest meant day → IsBack history day stop → ⊥
+day_memory history meant day stop same latest back =
+    let at : slice_get meant (length back.front) ≡ Some back.last = ap (λ (es : List Entry). slice_get es (length back.front)) (sym (sym back.history_is ∙ same)) ∙ at_end back.front back.last in
+    let le = latest (length back.front) back.last at in
+    let less = back.after in
+    omega (arith, ints, le, less)
+  where
+    at_end : (front : List Entry) (last : Entry) → slice_get (front ++ last ∷ []) (length front) ≡ Some last
+    at_end [] last = refl
+    at_end (x ∷ front) last = at_end front last
+
+messages_memory : {S : Type 0} (source : sources.Ghosts S) (old new : S) (bytes meant : List ℕ) (cut : List (List ℕ)) (stop : FileStop) → Told source old new meant → IsMessageFile meant cut → StopsAtMessages source old new bytes stop
+    → status_of_file stop ≡ status.Memory
+messages_memory source old new bytes meant cut (file.Fault b a) told is stops = absurd (told.sound (same_rose source.faults old new b a stops))
+messages_memory source old new bytes meant cut (file.TooLarge b m) told is stops =
+    let same = took_whole source.left source.faults 67108864 old new bytes meant told.told is.short stops.0 in
+    ap status_of_file (no-fault meant cut (file.TooLarge b m) is (subst (λ f. StopsCutting f (file.TooLarge b m)) same stops.1))
+messages_memory source old new bytes meant cut (file.Framing at) told is stops =
+    let same = took_whole source.left source.faults 67108864 old new bytes meant told.told is.short stops.0 in
+    ap status_of_file (no-fault meant cut (file.Framing at) is (subst (λ f. StopsCutting f (file.Framing at)) same stops.1))
+messages_memory source old new bytes meant cut file.Memory told is stops = refl
+
+booking_memory : {D : Type 0} (d : disks.Ghosts D) (old new : D) (j i : Inputs) (stop : BookStop) → IsSure d old new → HasRoomForAll i.chart i.history (pays_of i) → j.chart ≡ i.chart → j.history ≡ i.history → pays_of j ≡ pays_of i
+    → StopsBooking d old new j stop → status_of_booking stop ≡ status.Memory
+booking_memory d old new j i (booking.DiskFault b a) sure room chart history pays stops = absurd (sure.sound (tells_rose (d.faults old) b a (d.faults new) stops.cause))
+booking_memory d old new j i (booking.Full entries end need) sure room chart history pays stops =
+    absurd (has_room j.chart j.history (pays_of j) j.day (j.history ++ stops.added) entries end need
+    (subst (λ (c : Chart). HasRoomForAll c j.history (pays_of j)) (sym chart) (subst (λ (h : List Entry). HasRoomForAll i.chart h (pays_of j)) (sym history) (subst (λ (ps : List Pay). HasRoomForAll i.chart i.history ps) (sym pays) room)))
+    stops.cause.1)
+booking_memory d old new j i booking.Memory sure room chart history pays stops = refl
+
+module _ {S K D : Type 0} (source : sources.Ghosts S) (d : disks.Ghosts D) (old new : Room S K D) (j i : Inputs) (home : j.home ≡ i.home) (day : j.day ≡ i.day) where
+  step_memory : (s : Status) (done : List Step) (step : Step) → IsAfter done step → Walks (Agrees j i) done → IsReady source d old new i step → StopsAt source d old new j s step → s ≡ status.Memory
+  step_memory s done (Step.table name) after all ready stops =
+      stops.1 ∙ table_memory source _ _ (file_of name j) (file_of name i) (fault_of name j) (fault_of name i) stops.0 ready.0 ready.1 (small_table name i ready.1) (same_fault j i done name home after all) stops.2
+  step_memory s done Step.sums after all ready stops = stops.1 ∙ sums_memory j i stops.0 (same_accounts j i done after.0 after.1 all) ready stops.2
+  step_memory s done Step.make after all ready stops = stops.1 ∙ making_memory d old.disk new.disk _ stops.0 ready.0 ready.1 stops.2
+  step_memory s done Step.open_journal after all ready stops = stops.1 ∙ opening_memory d old.disk new.disk i.chart i.history stops.0 ready.0 ready.1 stops.2
+  step_memory s done Step.day after all ready stops =
+      absurd (day_memory j.history i.history i.day stops.0 (agreed j i done Step.open_journal all after).history ready (subst (λ (x : Day). IsBack j.history x stops.0) day stops.2))
+  step_memory s done Step.messages after all ready stops = stops.1 ∙ messages_memory source old.messages new.messages j.messages i.messages i.cut stops.0 ready.0 ready.1 stops.2
+  step_memory s done Step.book after all ready stops =
+      let journal = agreed j i done Step.open_journal all after.journal in
+      stops.1 ∙ booking_memory d old.disk new.disk j i stops.0 ready.0 ready.1 journal.chart journal.history (same_pays j i done after all) stops.2
+
+  step_agrees : (step : Step) → IsReady source d old new i step → Passes source d old new j step → Agrees j i step
+  step_agrees (Step.table name) ready passes = took_whole source.left source.faults 8388608 _ _ (file_of name j) (file_of name i) ready.0.told (small_table name i ready.1) passes.took
+  step_agrees Step.sums ready passes = tt
+  step_agrees Step.make ready passes = tt
+  step_agrees Step.open_journal ready passes =
+      let same = one_finding (opened_of (d.reads old.disk)) (book j.chart j.history) (book i.chart i.history) (passes.journal, passes.stands ready.0.told) (ready.1.journal, ready.1.stands ready.0.told) in
+      record { chart = cc; history = cc }
+  step_agrees Step.day ready passes = tt
+  step_agrees Step.messages ready passes =
+      let same = took_whole source.left source.faults 67108864 old.messages new.messages j.messages i.messages ready.0.told ready.1.short passes.took in
+      sym (cut-comes passes.are.cut).all ∙ ap (λ (f : List ℕ). with_open (run (at_start []) f).given (run (at_start []) f).held) same ∙ (cut-comes ready.1.cut).all
+  step_agrees Step.book ready passes = tt
+
+  halts_memory : (s : Status) (done steps : List Step) → AreOrdered done steps → Walks (Agrees j i) done → Walks (IsReady source d old new i) steps
+      → Halts (Passes source d old new j) (StopsAt source d old new j s) (IsUntouched d old new) steps → s ≡ status.Memory
+  halts_memory s done [] ordered all ready halts = absurd halts
+  halts_memory s done (step ∷ steps) ordered all ready (inl here) = step_memory s done step ordered.0 all ready.0 here.0
+  halts_memory s done (step ∷ steps) ordered all ready (inr later) = halts_memory s (step ∷ done) steps ordered.1 (step_agrees step ready.0 later.0, all) ready.1 later.1
 
 -- ---- the commands
 
+three_read : HasThree (Step.table names.Countries ∷ Step.table names.Ccys ∷ Step.table names.Bics ∷ [])
+three_read = record { bics = inr (inr (inl refl)); ccys = inr (inl refl); countries = inl refl }
+
+later : (s : Step) (done : List Step) → HasThree done → HasThree (s ∷ done)
+later s done three = record { bics = inr three.bics; ccys = inr three.ccys; countries = inr three.countries }
+
 ordered : (command : Command) → AreOrdered [] (steps_of command)
 ordered (Run day) =
-    let three : HasThree (Step.table names.Countries ∷ Step.table names.Ccys ∷ Step.table names.Bics ∷ []) = record { bics = inr (inr (inl refl)); ccys = inr (inl refl); countries = inl refl } in
-    let four : HasThree (Step.table names.Accounts ∷ Step.table names.Countries ∷ Step.table names.Ccys ∷ Step.table names.Bics ∷ []) = record { bics = inr three.bics; ccys = inr three.ccys; countries = inr three.countries } in
-    let five : HasThree (Step.table names.Ssi ∷ Step.table names.Accounts ∷ Step.table names.Countries ∷ Step.table names.Ccys ∷ Step.table names.Bics ∷ []) = record { bics = inr four.bics; ccys = inr four.ccys; countries = inr four.countries } in
-    (tt, (tt, (tt, (three, (four, ((five, inr (inl refl)), (tt, tt)))))))
+    let three = three_read in
+    let five = later Step.messages _ (later Step.day _ (later Step.open_journal _ (later (Step.table names.Ssi) _ three))) in
+    (tt, (tt, (tt, (three, (tt, (inl refl, (tt, (record { three = five; ssi = inr (inr (inr (inl refl))); journal = inr (inr (inl refl)); messages = inl refl }, tt))))))))
+ordered (Plain (Init home)) =
+    let three = three_read in
+    (tt, (tt, (tt, (three, ((later (Step.table names.Accounts) _ three, inl refl), (tt, tt))))))
+ordered (Plain (Query asked)) = (tt, tt)
 
-no_write_fault : {K : Type 0} (held : K → Option (List ℕ)) (writes : K → ℕ) (old new : K) (report : List ℕ) (sink sunk : K) (out : List ℕ) (then now : ℕ) → (Rose (writes old) (writes new) → ⊥) → (Rose (writes sink) (writes sunk) → ⊥)
-    → FailsWriting held writes old new report sink sunk out then now → ⊥
-no_write_fault held writes old new report sink sunk out then now sound sent (inl f) = sound (same_rose writes old new then now f.0.failed)
-no_write_fault held writes old new report sink sunk out then now sound sent (inr f) = sent (same_rose writes sink sunk then now f.1.failed)
+no_write_fault : {K : Type 0} (sink : sinks.Ghosts K) (old new : K) (report : List ℕ) (from to : K) (out : List ℕ) (then now : ℕ) → (Rose (sink.faults old) (sink.faults new) → ⊥) → (Rose (sink.faults from) (sink.faults to) → ⊥)
+    → FailsWriting sink.held sink.faults old new report from to out then now → ⊥
+no_write_fault sink old new report from to out then now sound sent (inl f) = sound (same_rose sink.faults old new then now f.0.failed)
+no_write_fault sink old new report from to out then now sound sent (inr f) = sent (same_rose sink.faults from to then now f.1.failed)
 
 -- a command that stopped wants memory
-unwritten_memory : {S K : Type 0} (left : S → Option (List ℕ)) (reads : S → ℕ) (writes : K → ℕ) (command : Command) (old new : Room S K) (j i : Inputs) (s : Status) → IsSound left reads writes command old new i
-    → Halts (Passes left reads old new j) (StopsAt left reads old new j s) (IsUntouched old new) (steps_of command) ⊎ (Walks (Passes left reads old new j) (steps_of command) × (s ≡ status.Memory)) → s ≡ status.Memory
-unwritten_memory left reads writes command old new j i s sound (inl halts) = halts_memory left reads old new j i s [] (steps_of command) (ordered command) tt sound.ready halts
-unwritten_memory left reads writes command old new j i s sound (inr memory) = memory.1
+stopped_memory : {S K D : Type 0} (source : sources.Ghosts S) (d : disks.Ghosts D) (sink : sinks.Ghosts K) (command : Command) (old new : Room S K D) (j i : Inputs) (s : Status) → IsFor command j → IsSound source sink d command old new i
+    → HasStopped source d command old new s j → s ≡ status.Memory
+stopped_memory source d sink (Run day) old new j i s is sound (inl halts) =
+    halts_memory source d old new j (record i { home = j.home }) refl (is ∙ sym sound.are_for) s [] (steps_of (Run day)) (ordered (Run day)) tt sound.ready halts
+stopped_memory source d sink (Plain (Init home)) old new j i s is sound (inl halts) =
+    halts_memory source d old new j (record i { day = j.day }) (is ∙ sym sound.are_for) refl s [] (steps_of (Plain (Init home))) (ordered (Plain (Init home))) tt sound.ready halts
+stopped_memory source d sink (Plain (Query asked)) old new j i s is sound (inl halts) =
+    halts_memory source d old new j (record i { home = j.home; day = j.day }) refl refl s [] (steps_of (Plain (Query asked))) (ordered (Plain (Query asked))) tt sound.ready halts
+stopped_memory source d sink command old new j i s is sound (inr memory) = memory.1
 
-pub done_or_memory : {S K : Type 0} (left : S → Option (List ℕ)) (reads : S → ℕ) (held : K → Option (List ℕ)) (writes : K → ℕ) (command : Command) (old new : Room S K) (s : Status) (i : Inputs)
-    → Ends left reads held writes command old new s → IsSound left reads writes command old new i → (s ≡ status.Done) ⊎ (s ≡ status.Memory)
-done_or_memory left reads held writes command old new status.Done i ends sound = inl refl
-done_or_memory left reads held writes command old new (status.WriteFault then now) i ends sound =
-    absurd (no_write_fault held writes old.report new.report _ old.out new.out _ then now sound.report sound.out ends.1.failed)
-done_or_memory left reads held writes command old new status.Usage i ends sound = inr (unwritten_memory left reads writes command old new ends.0 i status.Usage sound ends.1.stopped)
-done_or_memory left reads held writes command old new (status.Table t r w) i ends sound = inr (unwritten_memory left reads writes command old new ends.0 i (status.Table t r w) sound ends.1.stopped)
-done_or_memory left reads held writes command old new (status.ReadFault b a) i ends sound = inr (unwritten_memory left reads writes command old new ends.0 i (status.ReadFault b a) sound ends.1.stopped)
-done_or_memory left reads held writes command old new (status.Unbalanced c d n) i ends sound = inr (unwritten_memory left reads writes command old new ends.0 i (status.Unbalanced c d n) sound ends.1.stopped)
-done_or_memory left reads held writes command old new status.Memory i ends sound = inr refl
-done_or_memory left reads held writes command old new (status.TooLarge b m) i ends sound = inr (unwritten_memory left reads writes command old new ends.0 i (status.TooLarge b m) sound ends.1.stopped)
-done_or_memory left reads held writes command old new (status.Framing at) i ends sound = inr (unwritten_memory left reads writes command old new ends.0 i (status.Framing at) sound ends.1.stopped)
+pub done_or_memory : {S K D : Type 0} (source : sources.Ghosts S) (d : disks.Ghosts D) (sink : sinks.Ghosts K) (command : Command) (old new : Room S K D) (s : Status) (i : Inputs) → Ends source d command old new sink s
+    → IsSound source sink d command old new i → (s ≡ status.Done) ⊎ (s ≡ status.Memory)
+done_or_memory source d sink command old new s i e sound = elim e.ends [
+  | inl done ↦ inl done.status_is
+  | inr rest ↦ elim rest [
+    | inl writing ↦ absurd (no_write_fault sink old.report new.report _ old.out new.out _ writing.then writing.now sound.report sound.out writing.failed)
+    | inr stopped ↦ inr (stopped_memory source d sink command old new e.inputs i s e.are_for sound stopped.stopped)
+  ]
+]

@@ -18,8 +18,8 @@ use Rattle.fin_frame.proofs.laws.Led.Rests.{rests_apart, rests_behind}
 use Rattle.fin_frame.proofs.laws.Running.{run-append, run-failed}
 use Rattle.fin_frame.proofs.laws.Showing.{begun-comes, cut-comes, ends-come, shown-comes}
 use Rattle.fin_frame.proofs.laws.Tracking.{begun-more}
-use Rattle.corr_top.specs.declared.status.Status.{Status}
-use Rattle.corr_top.specs.declared.status.Status.TheVariants as status
+use Rattle.corr_top.specs.declared.cutting.FileStop.{FileStop}
+use Rattle.corr_top.specs.declared.cutting.FileStop.TheVariants as stop_of
 use Rattle.corr_top.specs.Feeding.{HasPassed, StopsFeeding, StopsInPieces}
 use Rattle.corr_top.specs.MessageFile.{IsMessageFile, IsPassed, IsPast, IsTooLarge, IsUncut, StopsCutting}
 
@@ -49,7 +49,7 @@ counted fed piece behind rest file parts whole =
 is-passed : (c : Cutter) (fed : List ℕ) (given : List (List ℕ)) → HasPassed c fed given → IsPassed fed
 is-passed c fed given so_far = record { sound = (subst (λ o. Knows o fed given c.begun) so_far.sound so_far.was.knows).0; within = so_far.within }
 
-large-here : (c : Cutter) (file fed rest : List ℕ) (given : List (List ℕ)) (bytes messages : ℕ) → HasPassed c fed given → fed ++ rest ≡ file → 0 < length rest → StopsFeeding (fed ++ take 1 rest) (status.TooLarge bytes messages) → IsTooLarge file bytes messages
+large-here : (c : Cutter) (file fed rest : List ℕ) (given : List (List ℕ)) (bytes messages : ℕ) → HasPassed c fed given → fed ++ rest ≡ file → 0 < length rest → StopsFeeding (fed ++ take 1 rest) (stop_of.TooLarge bytes messages) → IsTooLarge file bytes messages
 large-here c file fed [] given bytes messages so_far whole some stop = absurd (omega arith)
 large-here c file fed (b ∷ rest) given bytes messages so_far whole some stop = record {
   passed = fed;
@@ -62,21 +62,16 @@ large-here c file fed (b ∷ rest) given bytes messages so_far whole some stop =
   begun = stop.2;
 }
 
-pub stops-here : (c : Cutter) (size : ℕ) (file fed rest : List ℕ) (n : ℕ) (given : List (List ℕ)) (s : Status) → HasPassed c fed given → fed ++ rest ≡ file → 0 < length rest → (size ≡ 1 → n ≡ 1)
+pub stops-here : (c : Cutter) (size : ℕ) (file fed rest : List ℕ) (n : ℕ) (given : List (List ℕ)) (s : FileStop) → HasPassed c fed given → fed ++ rest ≡ file → 0 < length rest → (size ≡ 1 → n ≡ 1)
     → StopsFeeding (fed ++ take n rest) s → StopsInPieces size file s
-stops-here c size file fed rest n given (status.TooLarge bytes messages) so_far whole some one stop =
-    λ is. large-here c file fed rest given bytes messages so_far whole some (subst (λ k. StopsFeeding (fed ++ take k rest) (status.TooLarge bytes messages)) (one is) stop)
-stops-here c size file fed rest n given (status.Framing at) so_far whole some one stop = inl (record { front = fed ++ take n rest; rest = drop n rest; file_is = parts; fault = stop })
+stops-here c size file fed rest n given (stop_of.TooLarge bytes messages) so_far whole some one stop =
+    λ is. large-here c file fed rest given bytes messages so_far whole some (subst (λ k. StopsFeeding (fed ++ take k rest) (stop_of.TooLarge bytes messages)) (one is) stop)
+stops-here c size file fed rest n given (stop_of.Framing at) so_far whole some one stop = inl (record { front = fed ++ take n rest; rest = drop n rest; file_is = parts; fault = stop })
   where
     parts : file ≡ (fed ++ take n rest) ++ drop n rest
     parts = sym whole ∙ ap (λ l. fed ++ l) (sym (take-append-drop n rest)) ∙ sym (append_assoc fed (take n rest) (drop n rest))
-stops-here c size file fed rest n given status.Memory so_far whole some one stop = tt
-stops-here c size file fed rest n given status.Done so_far whole some one stop = stop
-stops-here c size file fed rest n given status.Usage so_far whole some one stop = stop
-stops-here c size file fed rest n given (status.Table t r w) so_far whole some one stop = stop
-stops-here c size file fed rest n given (status.ReadFault x y) so_far whole some one stop = stop
-stops-here c size file fed rest n given (status.WriteFault x y) so_far whole some one stop = stop
-stops-here c size file fed rest n given (status.Unbalanced x y z) so_far whole some one stop = stop
+stops-here c size file fed rest n given stop_of.Memory so_far whole some one stop = tt
+stops-here c size file fed rest n given (stop_of.Fault x y) so_far whole some one stop = stop
 
 -- ---- the end of the file
 
@@ -151,14 +146,9 @@ not-uncut file messages at cut (inl shows) =
 not-uncut file messages at cut (inr ends) =
     none-some at (sym (cut-comes cut).balanced ∙ ends-come ends.ends (cut-comes cut).sound)
 
-pub no-fault : (file : List ℕ) (messages : List (List ℕ)) (s : Status) → IsMessageFile file messages → StopsCutting file s → s ≡ status.Memory
-no-fault file messages (status.TooLarge bytes n) is large =
+pub no-fault : (file : List ℕ) (messages : List (List ℕ)) (s : FileStop) → IsMessageFile file messages → StopsCutting file s → s ≡ stop_of.Memory
+no-fault file messages (stop_of.TooLarge bytes n) is large =
     absurd (not-large file messages is (subst IsPast (append_assoc large.passed (large.byte ∷ []) large.rest ∙ sym large.file_is) (past-more (large.passed ++ large.byte ∷ []) large.rest large.past)))
-no-fault file messages (status.Framing at) is uncut = absurd (not-uncut file messages at is.cut uncut)
-no-fault file messages status.Memory is stop = refl
-no-fault file messages status.Done is stop = absurd stop
-no-fault file messages status.Usage is stop = absurd stop
-no-fault file messages (status.Table t r w) is stop = absurd stop
-no-fault file messages (status.ReadFault x y) is stop = absurd stop
-no-fault file messages (status.WriteFault x y) is stop = absurd stop
-no-fault file messages (status.Unbalanced x y z) is stop = absurd stop
+no-fault file messages (stop_of.Framing at) is uncut = absurd (not-uncut file messages at is.cut uncut)
+no-fault file messages stop_of.Memory is stop = refl
+no-fault file messages (stop_of.Fault x y) is stop = absurd stop

@@ -12,15 +12,15 @@ use Rattle.mt202cov.specs.declared.message.Mt202Cov.{Mt202Cov}
 use Rattle.pay_plan.specs.declared.ask.Ask.TheVariants.{Cover, Transfer}
 use Rattle.pay_plan.specs.Plan.{plan_of}
 use Rattle.ssi_versions.specs.declared.row.SsiRow.{SsiRow}
-use Rattle.corr_top.specs.declared.books.Books.{Books}
+use Rattle.corr_top.specs.declared.directory.Directory.{Directory}
 use Rattle.corr_top.specs.declared.message.Stop.{Stop}
 use Rattle.corr_top.specs.Asks.{asks_cover, asks_transfer}
 use Rattle.corr_top.specs.Message.{pay_in, refused}
 use Rattle.corr_top.specs.Replies.{ReadsAs}
 
-pub read_on : (books : Books) (judged : Result Message Refused) (message : Message) (r : Result Pay Stop) → judged ≡ Ok message → ReadsAs r (pay_in books message)
-    → ReadsAs r (refused judged >>= λ valid. pay_in books valid)
-read_on books judged message r is reads = subst (λ (v : Result Message Refused). ReadsAs r (refused v >>= λ valid. pay_in books valid)) (sym is) reads
+pub read_on : (directory : Directory) (chart : Chart) (judged : Result Message Refused) (message : Message) (r : Result Pay Stop) → judged ≡ Ok message → ReadsAs r (pay_in directory chart message)
+    → ReadsAs r (refused judged >>= λ valid. pay_in directory chart valid)
+read_on directory chart judged message r is reads = subst (λ (v : Result Message Refused). ReadsAs r (refused v >>= λ valid. pay_in directory chart valid)) (sym is) reads
 
 -- where a message is kept plays no part in its plan
 pub kept_transfer : (envelope : Envelope) (text : List ℕ) (m : Bor Mt103) (rows : List SsiRow) (chart : Chart) → plan_of envelope text (Transfer m) rows chart ≡ plan_of envelope text (asks_transfer m.now) rows chart

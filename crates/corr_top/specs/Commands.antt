@@ -1,46 +1,99 @@
--- The commands: which words spell them, what each reads, and what it writes.
-use Rattle.std.specs.Prelude.{ℕ, ◌≡◌, ◌&&◌, List, [], ◌∷◌, All, length, Option, None, codes, if◌then◌else◌}
+-- The commands: which words spell them, what each reads, what it writes, and what it leaves on the disk.
+use Rattle.std.specs.Prelude.{ℕ, ◌≡◌, ◌≤◌, ◌&&◌, nat_le, List, [], ◌∷◌, Option, Some, None, codes, option_and_then, if◌then◌else◌}
 use Rattle.std.specs.Option.{option_map}
 use Rattle.std.specs.Str.{bytes_eq}
+use Rattle.corr_disk.specs.declared.disk.Disk as disks
+use Rattle.corr_text.specs.Digits.{number_of}
+use Rattle.corr_ids.specs.Bic.{IsBic, bic_of}
 use Rattle.corr_ids.specs.Day.{InCentury, day_of}
-use Rattle.day_model.specs.Legal.{IsLegal}
-use Rattle.ref_tables.specs.declared.fault.TableName.TheVariants as names
-use Rattle.corr_top.specs.declared.books.Books.{Books}
+use Rattle.corr_top.specs.declared.room.Room.{Room}
 use Rattle.corr_top.specs.declared.words.Command.{Command}
-use Rattle.corr_top.specs.declared.words.Command.TheVariants.{Run}
-use Rattle.corr_top.specs.Answers.{HasPayShape, history_of, out_over, replies_of, report_over}
-use Rattle.corr_top.specs.Inputs.{Inputs, books_in}
+use Rattle.corr_top.specs.declared.words.Command.TheVariants.{Run, Plain}
+use Rattle.corr_top.specs.declared.words.Plain.{Plain as PlainCommand}
+use Rattle.corr_top.specs.declared.words.Plain.TheVariants.{Init, Query}
+use Rattle.corr_top.specs.declared.words.Query.TheVariants.{Send, Bookings}
+use Rattle.corr_top.specs.Init.{InitLeaves, init_steps}
+use Rattle.corr_top.specs.Inputs.{Inputs}
+use Rattle.corr_top.specs.Query.{QueryLeaves, query_out, query_report, query_steps}
+use Rattle.corr_top.specs.Run.{RunLeaves, run_out, run_report, run_steps}
 use Rattle.corr_top.specs.Steps.{Step}
 
--- `run DATE 1` with a day of the calendar; other words are no command
+-- two places of a journal, the second not before the first
+abbrev pub places_of : List ℕ → List ℕ → Option (ℕ × ℕ)
+places_of from until =
+    option_and_then (λ first. option_and_then (λ last. if nat_le 1 first && nat_le first last && nat_le last 100000 then Some (first, last) else None) (number_of until)) (number_of from)
+
+-- `run DATE 1` with a day of the calendar
+abbrev pub run_of : List ℕ → List ℕ → Option Command
+run_of date workers = if bytes_eq workers (codes "1") then option_map Run (day_of date) else None
+
+-- `init HOME` with a BIC
+abbrev pub init_of : List ℕ → Option PlainCommand
+init_of home = option_map Init (bic_of home)
+
+-- `send FROM UNTIL` with two places
+abbrev pub send_of : List ℕ → List ℕ → Option PlainCommand
+send_of from until = option_map (λ places. Query (Send places.0 places.1)) (places_of from until)
+
+-- the words of a command; other words are none
 abbrev pub command_of : List (List ℕ) → Option Command
-command_of (command ∷ date ∷ workers ∷ []) = if bytes_eq command (codes "run") && bytes_eq workers (codes "1") then option_map Run (day_of date) else None
-command_of _ = None
+command_of [] = None
+command_of (word ∷ []) = if bytes_eq word (codes "bookings") then Some (Plain (Query Bookings)) else None
+command_of (word ∷ home ∷ []) = if bytes_eq word (codes "init") then option_map Plain (init_of home) else None
+command_of (word ∷ one ∷ two ∷ []) =
+    if bytes_eq word (codes "send") then option_map Plain (send_of one two)
+    else if bytes_eq word (codes "run") then run_of one two
+    else None
+command_of (word ∷ one ∷ two ∷ three ∷ more) = None
 
--- a command's day lies in 1980 to 2079
-abbrev pub HasDay : Command → Type 0
-HasDay (Run day) = InCentury day
+-- a command that waits for nobody
+abbrev pub plain_in : Command → Option PlainCommand
+plain_in (Run day) = None
+plain_in (Plain command) = Some command
 
--- what a command reads and tests, in this order
+-- the words of such a command
+abbrev pub plain_of : List (List ℕ) → Option PlainCommand
+plain_of words = option_and_then plain_in (command_of words)
+
+-- what the words name is in its range: a day of 1980 to 2079, a BIC, two places
+abbrev pub IsSpelled : Command → Type 0
+IsSpelled (Run day) = InCentury day
+IsSpelled (Plain (Init home)) = IsBic home
+IsSpelled (Plain (Query (Send from until))) = (1 ≤ from) × (from ≤ until) × (until ≤ 100000)
+IsSpelled (Plain (Query Bookings)) = Unit {0}
+
+-- what was read for a command names what its words name
+abbrev pub IsFor : Command → Inputs → Type 0
+IsFor (Run day) i = i.day ≡ day
+IsFor (Plain (Init home)) i = i.home ≡ home
+IsFor (Plain (Query asked)) i = Unit {0}
+
+-- what a command reads, tests and does before it writes, in this order
 abbrev pub steps_of : Command → List Step
-steps_of (Run day) =
-    Step.table names.Bics ∷ Step.table names.Ccys ∷ Step.table names.Countries ∷ Step.table names.Accounts ∷ Step.table names.Ssi ∷ Step.sums ∷ Step.messages ∷ []
+steps_of (Run day) = run_steps
+steps_of (Plain (Init home)) = init_steps
+steps_of (Plain (Query asked)) = query_steps
 
--- its report: that of the history of one thread that enters the pays of the messages, and of the reply to each message
+-- its report
 unfoldable pub report_in : Command → Inputs → List ℕ
-report_in (Run day) i = report_over (books_in day i) i.cut
+report_in (Run day) i = run_report i
+report_in (Plain (Init home)) i = []
+report_in (Plain (Query asked)) i = query_report asked i.chart i.history
 
--- what it sends: the outgoing messages of the entries of that history, each followed by `$`
+-- what it sends
 unfoldable pub out_in : Command → Inputs → List ℕ
-out_in (Run day) i = out_over (books_in day i) i.cut
+out_in (Run day) i = run_out i
+out_in (Plain (Init home)) i = []
+out_in (Plain (Query asked)) i = query_out asked i.chart i.history
 
--- each message has a reply, and the history that they make is legal (no reference is entered twice, debits equal credits), of pays
--- that can be written down
-pub record IsKept (books : Books) (messages : List (List ℕ)) : Type 0 where
-  pub each : length (replies_of books messages) ≡ length messages
-  pub legal : IsLegal books.accounts (history_of books messages)
-  pub shapes : All HasPayShape (history_of books messages)
+-- what it leaves on the disk where it comes to its end
+abbrev pub Leaves : {D : Type 0} → disks.Ghosts D → Command → D → D → Inputs → Type 0
+Leaves disk (Run day) old new i = RunLeaves disk old new i
+Leaves disk (Plain (Init home)) old new i = InitLeaves disk old new i
+Leaves disk (Plain (Query asked)) old new i = QueryLeaves disk old new
 
--- what a command makes of what it reads
-abbrev pub Keeps : Command → Inputs → Type 0
-Keeps (Run day) i = IsKept (books_in day i) i.cut
+-- the sources that it doesn't read are as they were, and so is the second disk
+abbrev pub KeepsRest : {S K D : Type 0} → Command → Room S K D → Room S K D → Type 0
+KeepsRest (Run day) old new = (new.tables.accounts ≡ old.tables.accounts) × (new.received ≡ old.received) × (new.disk2 ≡ old.disk2)
+KeepsRest (Plain (Init home)) old new = (new.tables.ssi ≡ old.tables.ssi) × (new.messages ≡ old.messages) × (new.received ≡ old.received) × (new.disk2 ≡ old.disk2)
+KeepsRest (Plain (Query asked)) old new = (new.tables ≡ old.tables) × (new.messages ≡ old.messages) × (new.received ≡ old.received) × (new.disk2 ≡ old.disk2)

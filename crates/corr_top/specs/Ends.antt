@@ -1,38 +1,68 @@
 -- How a command ends.
-use Rattle.std.specs.Prelude.{ℕ, ◌≡◌, ◌⊎◌, List, Option}
+use Rattle.std.specs.Prelude.{ℕ, ◌≡◌, ◌⊎◌, List, Option, Result, Ok, Err}
+use Rattle.corr_disk.specs.declared.disk.Disk as disks
+use Rattle.corr_io.specs.declared.sink.Sink as sinks
+use Rattle.corr_io.specs.declared.source.Source as sources
 use Rattle.corr_top.specs.declared.room.Room.{Room}
 use Rattle.corr_top.specs.declared.status.Status.{Status}
 use Rattle.corr_top.specs.declared.status.Status.TheVariants as status
 use Rattle.corr_top.specs.declared.words.Command.{Command}
-use Rattle.corr_top.specs.Commands.{Keeps, out_in, report_in, steps_of}
+use Rattle.corr_top.specs.declared.writing.Texts.{Texts}
+use Rattle.corr_top.specs.Commands.{IsFor, KeepsRest, Leaves, out_in, report_in, steps_of}
 use Rattle.corr_top.specs.Inputs.{Inputs}
 use Rattle.corr_top.specs.Passing.{IsUntouched, Passes, StopsAt}
 use Rattle.corr_top.specs.Steps.{Halts, Walks}
 use Rattle.corr_top.specs.Writing.{FailsWriting, Received}
 
--- all was read and found right, and both texts were received whole
-pub record EndsDone {S K : Type 0} (left : S → Option (List ℕ)) (reads : S → ℕ) (held : K → Option (List ℕ)) (writes : K → ℕ) (command : Command) (old new : Room S K) (i : Inputs) : Type 0 where
-  pub passed : Walks (Passes left reads old new i) (steps_of command)
-  pub keeps : Keeps command i
-  pub report : Received held writes old.report new.report (report_in command i)
-  pub out : Received held writes old.out new.out (out_in command i)
+module _ {S K D : Type 0} (source : sources.Ghosts S) (disk : disks.Ghosts D) (command : Command) (old new : Room S K D) where
+  -- each step passed, and the disk is as the command leaves it
+  pub record HasPassed (i : Inputs) : Type 0 where
+    pub passed : Walks (Passes source disk old new i) (steps_of command)
+    pub leaves : Leaves disk command old.disk new.disk i
 
--- all was read and found right, and a sink failed: the report was received in part and nothing was sent, or the report whole and the
--- outgoing messages in part
-pub record EndsWriting {S K : Type 0} (left : S → Option (List ℕ)) (reads : S → ℕ) (held : K → Option (List ℕ)) (writes : K → ℕ) (command : Command) (old new : Room S K) (then now : ℕ) (i : Inputs) : Type 0 where
-  pub passed : Walks (Passes left reads old new i) (steps_of command)
-  pub keeps : Keeps command i
-  pub failed : FailsWriting held writes old.report new.report (report_in command i) old.out new.out (out_in command i) then now
+  -- the first step that didn't pass stopped it, or memory ran out after the last one
+  abbrev pub HasStopped : Status → Inputs → Type 0
+  HasStopped stop i =
+      Halts (Passes source disk old new i) (StopsAt source disk old new i stop) (IsUntouched disk old new) (steps_of command)
+      ⊎ (HasPassed i × (stop ≡ status.Memory))
 
--- the first step that didn't pass stopped it, or memory ran out after the last one; the sinks are as they were
-pub record EndsUnwritten {S K : Type 0} (left : S → Option (List ℕ)) (reads : S → ℕ) (command : Command) (old new : Room S K) (stop : Status) (i : Inputs) : Type 0 where
-  pub stopped : Halts (Passes left reads old new i) (StopsAt left reads old new i stop) (IsUntouched old new) (steps_of command)
-      ⊎ (Walks (Passes left reads old new i) (steps_of command) × (stop ≡ status.Memory))
-  pub report : new.report ≡ old.report
-  pub out : new.out ≡ old.out
+  -- before anything is written: the texts of a command that passed, or the status of one that stopped; the sinks are as they were
+  abbrev pub Gives : Result Texts Status → Inputs → Type 0
+  Gives (Ok texts) i = HasPassed i × (texts.report ≡ report_in command i) × (texts.out ≡ out_in command i)
+  Gives (Err stop) i = HasStopped stop i
 
--- each status by its cause
-abbrev pub Ends : {S K : Type 0} → (S → Option (List ℕ)) → (S → ℕ) → (K → Option (List ℕ)) → (K → ℕ) → Command → Room S K → Room S K → Status → Type 0
-Ends left reads held writes command old new status.Done = (i : Inputs) × EndsDone left reads held writes command old new i
-Ends left reads held writes command old new (status.WriteFault then now) = (i : Inputs) × EndsWriting left reads held writes command old new then now i
-Ends left reads held writes command old new stop = (i : Inputs) × EndsUnwritten left reads command old new stop i
+  pub record HasTexts (texts : Result Texts Status) : Type 0 where
+    pub inputs : Inputs
+    pub are_for : IsFor command inputs
+    pub gives : Gives texts inputs
+    pub rest : KeepsRest command old new
+    pub report : new.report ≡ old.report
+    pub out : new.out ≡ old.out
+
+  -- Done: all was read and found right, and both texts were received whole
+  pub record EndsDone (sink : sinks.Ghosts K) (s : Status) (i : Inputs) : Type 0 where
+    pub status_is : s ≡ status.Done
+    pub passed : HasPassed i
+    pub report : Received sink.held sink.faults old.report new.report (report_in command i)
+    pub out : Received sink.held sink.faults old.out new.out (out_in command i)
+
+  -- WriteFault: all was read and found right, and a sink failed: the report was received in part and nothing was sent, or the report whole and the outgoing messages in part
+  pub record EndsWriting (sink : sinks.Ghosts K) (s : Status) (i : Inputs) : Type 0 where
+    pub then : ℕ
+    pub now : ℕ
+    pub status_is : s ≡ status.WriteFault then now
+    pub passed : HasPassed i
+    pub failed : FailsWriting sink.held sink.faults old.report new.report (report_in command i) old.out new.out (out_in command i) then now
+
+  -- else: it stopped, and the sinks are as they were
+  pub record EndsStopped (s : Status) (i : Inputs) : Type 0 where
+    pub stopped : HasStopped s i
+    pub report : new.report ≡ old.report
+    pub out : new.out ≡ old.out
+
+  -- each status by its cause, over what was read
+  pub record Ends (sink : sinks.Ghosts K) (s : Status) : Type 0 where
+    pub inputs : Inputs
+    pub are_for : IsFor command inputs
+    pub ends : EndsDone sink s inputs ⊎ (EndsWriting sink s inputs ⊎ EndsStopped s inputs)
+    pub rest : KeepsRest command old new

@@ -3,18 +3,9 @@ use Rattle.std.specs.Prelude.{ℕ, ◌≡◌, List, length, None}
 use Rattle.fin_frame.specs.Cutting.{WasFed}
 use Rattle.fin_frame.specs.Shown.{HaveBegun}
 use Rattle.fin_frame.specs.declared.cutter.Cutter.{Cutter}
-use Rattle.fin_frame.specs.declared.fault.FrameFault.{FrameFault}
-use Rattle.fin_frame.specs.declared.fault.FrameFault.TheVariants as frame
-use Rattle.corr_top.specs.declared.status.Status.{Status}
-use Rattle.corr_top.specs.declared.status.Status.TheVariants as status
+use Rattle.corr_top.specs.declared.cutting.FileStop.{FileStop}
+use Rattle.corr_top.specs.declared.cutting.FileStop.TheVariants as file
 use Rattle.corr_top.specs.MessageFile.{IsAtFault, IsPast, IsTooLarge, IsUncut}
-
--- the status where a message file can't be cut: the place of its fault
-abbrev pub status_of_frame : FrameFault → Status
-status_of_frame (frame.Stray at) = status.Framing at
-status_of_frame (frame.TooLong at) = status.Framing at
-status_of_frame (frame.Unbalanced at) = status.Framing at
-status_of_frame frame.Memory = status.Memory
 
 -- the cutter was fed these bytes, which show no fault and pass no limit, and gave these messages
 pub record HasPassed (c : Cutter) (fed : List ℕ) (given : List (List ℕ)) : Type 0 where
@@ -23,15 +14,15 @@ pub record HasPassed (c : Cutter) (fed : List ℕ) (given : List (List ℕ)) : T
   pub within : IsPast fed → ⊥
 
 -- how feeding stops with a piece up to which the bytes are these
-abbrev pub StopsFeeding : List ℕ → Status → Type 0
-StopsFeeding fed (status.TooLarge bytes messages) = (bytes ≡ length fed) × IsPast fed × HaveBegun fed messages
-StopsFeeding fed (status.Framing at) = IsAtFault fed at
-StopsFeeding fed status.Memory = Unit {0}
-StopsFeeding fed _ = ⊥
+abbrev pub StopsFeeding : List ℕ → FileStop → Type 0
+StopsFeeding fed (file.TooLarge bytes messages) = (bytes ≡ length fed) × IsPast fed × HaveBegun fed messages
+StopsFeeding fed (file.Framing at) = IsAtFault fed at
+StopsFeeding fed (file.Fault before after) = ⊥
+StopsFeeding fed file.Memory = Unit {0}
 
 -- how cutting in pieces of some size stops: pieces of one byte find the byte that passes a limit
-abbrev pub StopsInPieces : ℕ → List ℕ → Status → Type 0
-StopsInPieces size file (status.TooLarge bytes messages) = size ≡ 1 → IsTooLarge file bytes messages
-StopsInPieces size file (status.Framing at) = IsUncut file at
-StopsInPieces size file status.Memory = Unit {0}
-StopsInPieces size file _ = ⊥
+abbrev pub StopsInPieces : ℕ → List ℕ → FileStop → Type 0
+StopsInPieces size bytes (file.TooLarge count messages) = size ≡ 1 → IsTooLarge bytes count messages
+StopsInPieces size bytes (file.Framing at) = IsUncut bytes at
+StopsInPieces size bytes (file.Fault before after) = ⊥
+StopsInPieces size bytes file.Memory = Unit {0}

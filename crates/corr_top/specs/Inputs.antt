@@ -1,9 +1,13 @@
 -- What a command reads, and what it says.
-use Rattle.std.specs.Prelude.{ℕ, List, map, codes}
+use Rattle.std.specs.Prelude.{ℕ, List, map}
 use Rattle.corr_ids.specs.declared.bic.Bic.{Bic}
 use Rattle.corr_ids.specs.declared.day.Day.{Day}
 use Rattle.day_model.specs.declared.account.Account.{Account}
+use Rattle.day_model.specs.declared.entry.Entry.{Entry}
+use Rattle.day_model.specs.declared.pay.Pay.{Pay}
+use Rattle.day_model.specs.declared.reply.Reply.{Reply}
 use Rattle.day_model.specs.Chart.{Chart}
+use Rattle.day_model.specs.Next.{fold_of}
 use Rattle.ref_tables.specs.declared.account.AccountRow.{AccountRow}
 use Rattle.ref_tables.specs.Accounts.{account_of}
 use Rattle.ref_tables.specs.Rows.{rows_of}
@@ -11,10 +15,14 @@ use Rattle.ref_tables.specs.Seen.{Tables}
 use Rattle.ref_tables.specs.Tables.{tables_of}
 use Rattle.ssi_versions.specs.declared.row.SsiRow.{SsiRow}
 use Rattle.ssi_versions.specs.Rows.{instruction_of}
-use Rattle.corr_top.specs.declared.books.Books.{Books}
+use Rattle.corr_top.specs.declared.directory.Directory.{Directory}
+use Rattle.corr_top.specs.declared.message.NoPay.{NoPay}
+use Rattle.corr_top.specs.Message.{pays_in, readings_of, replies_in}
 
--- the bytes that were read of each file, and the messages of the message file; what was not reached has none
+-- The home bank and the day that the words name; the bytes that were read of each file, and the messages of the message file; and the accounts and the history of the journal as it was opened. What was not reached has none.
 pub record Inputs : Type 0 where
+  pub home : Bic
+  pub day : Day
   pub bics : List ℕ
   pub ccys : List ℕ
   pub countries : List ℕ
@@ -22,35 +30,41 @@ pub record Inputs : Type 0 where
   pub ssi : List ℕ
   pub messages : List ℕ
   pub cut : List (List ℕ)
+  pub chart : Chart
+  pub history : List Entry
 
 -- the tables of banks, currencies and countries
 abbrev pub tables_in : Inputs → Tables
 tables_in i = tables_of i.bics i.ccys i.countries
 
--- the head of the home bank
-abbrev pub home_head : List ℕ
-home_head = codes "HOMEUS33"
-
--- the home bank
-abbrev pub home_bank : Bic
-home_bank = record { head = home_head; branch = codes "XXX" }
-
 -- a row of the table of accounts as an account of the book
 abbrev pub opened : AccountRow → Account
 opened row = record { id = row.id; kind = row.kind; owner = row.owner; ccy = row.ccy; decimals = row.decimals; floor = row.floor; ceil = row.ceil; opening = row.opening }
 
--- the accounts of the book, as the rows of their table say
+-- the accounts of the table of accounts
 abbrev pub accounts_in : Inputs → List Account
 accounts_in i = map opened (map (account_of (tables_in i)) (rows_of i.accounts))
 
--- the home bank and its accounts
+-- the home bank that the words name, and these accounts
 abbrev pub chart_in : Inputs → Chart
-chart_in i = record { home = home_bank; accounts = accounts_in i }
+chart_in i = record { home = i.home; accounts = accounts_in i }
 
 -- the instructions
 abbrev pub instructions_in : Inputs → List SsiRow
 instructions_in i = map instruction_of (rows_of i.ssi)
 
--- the books of a day over the table files
-abbrev pub books_in : Day → Inputs → Books
-books_in day i = record { tables = tables_in i; ssi = instructions_in i; accounts = chart_in i; day = day }
+-- what messages are judged and routed by
+abbrev pub directory_in : Inputs → Directory
+directory_in i = record { tables = tables_in i; ssi = instructions_in i }
+
+-- the pays that the messages ask for, in their order
+abbrev pub pays_of : Inputs → List Pay
+pays_of i = pays_in (readings_of (directory_in i) i.chart i.cut)
+
+-- the history that one thread makes of the journal's and these pays
+abbrev pub new_in : Inputs → List Entry
+new_in i = fold_of i.chart i.history (pays_of i) i.day
+
+-- the reply to each message after that history
+abbrev pub replies_of : Inputs → List Reply
+replies_of i = replies_in (new_in i) (readings_of (directory_in i) i.chart i.cut)

@@ -10,12 +10,13 @@ use Rattle.day_model.specs.declared.entry.Entry.{Entry}
 use Rattle.day_model.specs.declared.pay.Pay.{Pay}
 use Rattle.day_model.specs.declared.reply.Reply.{Reply}
 use Rattle.day_model.specs.declared.reply.Reply.TheVariants as reply
+use Rattle.day_model.specs.Chart.{Chart}
 use Rattle.day_model.specs.Same.{reply_to}
 use Rattle.fin_message.specs.declared.message.Message.{Message}
 use Rattle.fin_message.specs.declared.message.Message.TheVariants as message
 use Rattle.fin_message.specs.Verdict.{Refused as Refusal, verdict_of}
 use Rattle.pay_plan.specs.Plan.{mir_in, plan_of}
-use Rattle.corr_top.specs.declared.books.Books.{Books}
+use Rattle.corr_top.specs.declared.directory.Directory.{Directory}
 use Rattle.corr_top.specs.declared.message.NoPay.{NoPay}
 use Rattle.corr_top.specs.declared.message.NoPay.TheVariants.{Refused, Unrouted}
 use Rattle.corr_top.specs.Asks.{asks_cover, asks_transfer}
@@ -31,21 +32,21 @@ unrouted envelope (Ok x) = Ok x
 unrouted envelope (Err code) = Err (Unrouted (mir_in envelope) code)
 
 -- the pay of a valid message: a transfer and a cover have a plan, an advice asks for nothing, which is P37
-abbrev pub pay_in : Books → Message → Result Pay NoPay
-pay_in books (message.Transfer envelope text transfer) = unrouted envelope (plan_of envelope text (asks_transfer transfer) books.ssi books.accounts)
-pay_in books (message.Cover envelope text cover) = unrouted envelope (plan_of envelope text (asks_cover cover) books.ssi books.accounts)
-pay_in books (message.Debit envelope advice) = unrouted envelope (Err (code "P37"))
-pay_in books (message.Credit envelope advice) = unrouted envelope (Err (code "P37"))
+abbrev pub pay_in : Directory → Chart → Message → Result Pay NoPay
+pay_in directory chart (message.Transfer envelope text transfer) = unrouted envelope (plan_of envelope text (asks_transfer transfer) directory.ssi chart)
+pay_in directory chart (message.Cover envelope text cover) = unrouted envelope (plan_of envelope text (asks_cover cover) directory.ssi chart)
+pay_in directory chart (message.Debit envelope advice) = unrouted envelope (Err (code "P37"))
+pay_in directory chart (message.Credit envelope advice) = unrouted envelope (Err (code "P37"))
 
 -- the pay that a message asks for, or why it gives none
-unfoldable pub message_of : Books → List ℕ → Result Pay NoPay
-message_of books bs = do
-  valid ← refused (verdict_of books.accounts.home books.tables bs)
-  pay_in books valid
+unfoldable pub message_of : Directory → Chart → List ℕ → Result Pay NoPay
+message_of directory chart bs = do
+  valid ← refused (verdict_of chart.home directory.tables bs)
+  pay_in directory chart valid
 
 -- each message of a list of them
-abbrev pub readings_of : Books → List (List ℕ) → List (Result Pay NoPay)
-readings_of books messages = map (message_of books) messages
+abbrev pub readings_of : Directory → Chart → List (List ℕ) → List (Result Pay NoPay)
+readings_of directory chart messages = map (message_of directory chart) messages
 
 -- the pays among them, in their order
 abbrev pub pays_in : List (Result Pay NoPay) → List Pay

@@ -4,8 +4,8 @@ use Rattle.fin_frame.specs.File.{IsCutInto}
 use Rattle.fin_frame.specs.Shown.{EndsWithin, HasBegun, HaveBegun, IsSound, Shows}
 use Rattle.fin_frame.specs.declared.fault.FrameFault.{FrameFault}
 use Rattle.fin_frame.specs.declared.fault.FrameFault.TheVariants as frame
-use Rattle.corr_top.specs.declared.status.Status.{Status}
-use Rattle.corr_top.specs.declared.status.Status.TheVariants as status
+use Rattle.corr_top.specs.declared.cutting.FileStop.{FileStop}
+use Rattle.corr_top.specs.declared.cutting.FileStop.TheVariants as file
 
 -- the bytes pass a limit of the file: they are more than 64 MiB, or a message past the 50,000th has begun in them
 abbrev pub IsPast : List ℕ → Type 0
@@ -66,8 +66,8 @@ abbrev pub IsUncut : List ℕ → ℕ → Type 0
 IsUncut file at = ShowsFault file at ⊎ EndsOpen file at
 
 -- how cutting a file stops
-abbrev pub StopsCutting : List ℕ → Status → Type 0
-StopsCutting file (status.TooLarge bytes messages) = IsTooLarge file bytes messages
-StopsCutting file (status.Framing at) = IsUncut file at
-StopsCutting file status.Memory = Unit {0}
-StopsCutting file _ = ⊥
+abbrev pub StopsCutting : List ℕ → FileStop → Type 0
+StopsCutting bytes (file.TooLarge count messages) = IsTooLarge bytes count messages
+StopsCutting bytes (file.Framing at) = IsUncut bytes at
+StopsCutting bytes (file.Fault before after) = ⊥
+StopsCutting bytes file.Memory = Unit {0}

@@ -1,5 +1,5 @@
 -- The messages that leave.
-use Rattle.std.specs.Prelude.{ℕ, List, ◌++◌, codes}
+use Rattle.std.specs.Prelude.{ℕ, ◌-◌, List, ◌++◌, codes, drop}
 use Rattle.std.specs.List.{flat_map}
 use Rattle.advices.specs.Messages.{messages_of}
 use Rattle.day_model.specs.declared.entry.Entry.{Entry}
@@ -18,6 +18,6 @@ parted_all texts = flat_map parted texts
 abbrev pub sent_of : Chart → ℕ → Entry → List ℕ
 sent_of chart place entry = parted_all (messages_of chart entry place)
 
--- those of all entries, in their order
-abbrev pub out_of : Chart → List Entry → List ℕ
-out_of chart entries = numbered (sent_of chart) 1 entries
+-- those of all entries from a place on, in their order
+abbrev pub sent_from : Chart → ℕ → List Entry → List ℕ
+sent_from chart from entries = numbered (sent_of chart) from (drop (from - 1) entries)

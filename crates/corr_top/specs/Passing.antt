@@ -1,9 +1,15 @@
 -- What passing a step of a command means, and how it stops there.
 use Rattle.std.specs.Prelude.{ℕ, ◌≡◌, ◌≤◌, List, Option, Some, None, pos}
+use Rattle.corr_disk.specs.declared.disk.Disk as disks
+use Rattle.corr_io.specs.declared.source.Source as sources
 use Rattle.corr_money.specs.declared.amount.Ccy.{Ccy}
+use Rattle.day_model.specs.declared.fault.AccountsFault.{AccountsFault}
 use Rattle.day_model.specs.declared.fault.AccountsFault.TheVariants as refused
 use Rattle.day_model.specs.Chart.{opening_sum}
 use Rattle.day_model.specs.Gap.{TellsUnbalanced}
+use Rattle.day_model.specs.Laws.{IsLatest}
+use Rattle.jrn_file.specs.declared.fault.MakeFault.{MakeFault}
+use Rattle.jrn_file.specs.declared.fault.OpenFault.{OpenFault}
 use Rattle.ref_tables.specs.declared.fault.TableName.{TableName}
 use Rattle.ref_tables.specs.declared.fault.TableName.TheVariants as names
 use Rattle.ref_tables.specs.declared.fault.Why.{Why}
@@ -11,14 +17,22 @@ use Rattle.ref_tables.specs.Accounts.{accounts_fault}
 use Rattle.ref_tables.specs.Refusals.{named}
 use Rattle.ref_tables.specs.Tables.{bics_fault, ccys_fault, countries_fault}
 use Rattle.ssi_versions.specs.Rows.{ssi_fault}
+use Rattle.corr_top.specs.declared.answers.BookStop.{BookStop}
+use Rattle.corr_top.specs.declared.cutting.FileStop.{FileStop}
+use Rattle.corr_top.specs.declared.cutting.FileStop.TheVariants as file
 use Rattle.corr_top.specs.declared.room.Room.{Room}
 use Rattle.corr_top.specs.declared.room.Tables.{Tables}
+use Rattle.corr_top.specs.declared.run.DateBack.{DateBack}
 use Rattle.corr_top.specs.declared.status.Status.{Status}
-use Rattle.corr_top.specs.declared.status.Status.TheVariants as status
-use Rattle.corr_top.specs.Inputs.{Inputs, accounts_in, home_head, tables_in}
+use Rattle.corr_top.specs.declared.tables.TableStop.{TableStop}
+use Rattle.corr_top.specs.declared.tables.TableStop.TheVariants as table
+use Rattle.corr_top.specs.Booking.{AreAnswered, IsBack, StopsBooking}
+use Rattle.corr_top.specs.Inputs.{Inputs, accounts_in, chart_in, tables_in}
 use Rattle.corr_top.specs.MessageFile.{IsMessageFile, StopsCutting}
+use Rattle.corr_top.specs.OnDisk.{HasNotFailed, HoldsJournal, IsFree, IsUnwritten, StopsMaking, StopsOpening}
 use Rattle.corr_top.specs.Reading.{Failed, Took}
 use Rattle.corr_top.specs.Steps.{Step}
+use Rattle.corr_top.specs.Stops.{status_of_booking, status_of_day, status_of_file, status_of_making, status_of_opening, status_of_sums, status_of_table}
 
 -- ---- a table
 
@@ -47,20 +61,19 @@ abbrev pub fault_of : TableName → Inputs → Option Bad
 fault_of names.Bics i = named names.Bics (bics_fault i.bics)
 fault_of names.Ccys i = named names.Ccys (ccys_fault i.ccys)
 fault_of names.Countries i = named names.Countries (countries_fault i.countries)
-fault_of names.Accounts i = named names.Accounts (accounts_fault home_head (tables_in i) i.accounts)
+fault_of names.Accounts i = named names.Accounts (accounts_fault i.home.head (tables_in i) i.accounts)
 fault_of names.Ssi i = named names.Ssi (ssi_fault (tables_in i) i.ssi)
 
 -- a table was read, of at most 8 MiB, and has no fault
-pub record IsFine {S : Type 0} (left : S → Option (List ℕ)) (faults : S → ℕ) (old new : S) (file : List ℕ) (fault : Option Bad) : Type 0 where
-  pub took : Took left faults 8388608 old new file
+pub record IsFine {S : Type 0} (source : sources.Ghosts S) (old new : S) (bytes : List ℕ) (fault : Option Bad) : Type 0 where
+  pub took : Took source.left source.faults 8388608 old new bytes
   pub no_fault : fault ≡ None
 
 -- how reading and testing it stops: its source fails, it has this fault, or memory runs out
-abbrev pub StopsAtTable : {S : Type 0} → (S → Option (List ℕ)) → (S → ℕ) → S → S → List ℕ → Option Bad → Status → Type 0
-StopsAtTable left faults old new file fault (status.ReadFault then now) = Failed faults old new then now
-StopsAtTable left faults old new file fault (status.Table name row why) = Took left faults 8388608 old new file × (fault ≡ Some (name, row, why))
-StopsAtTable left faults old new file fault status.Memory = faults new ≡ faults old
-StopsAtTable left faults old new file fault _ = ⊥
+abbrev pub StopsAtTable : {S : Type 0} → sources.Ghosts S → S → S → List ℕ → Option Bad → TableStop → Type 0
+StopsAtTable source old new bytes fault (table.Fault then now) = Failed source.faults old new then now
+StopsAtTable source old new bytes fault (table.Bad name row why) = Took source.left source.faults 8388608 old new bytes × (fault ≡ Some (name, row, why))
+StopsAtTable source old new bytes fault table.Memory = source.faults new ≡ source.faults old
 
 -- ---- the sums of the openings
 
@@ -68,43 +81,58 @@ StopsAtTable left faults old new file fault _ = ⊥
 abbrev pub Balances : Inputs → Type 0
 Balances i = (ccy : Ccy) → opening_sum ccy (accounts_in i) ≡ pos 0
 
+-- the decimals that a refusal of accounts tells are at most 4
+abbrev pub TellsDecimals : AccountsFault → Type 0
+TellsDecimals (refused.Unbalanced ccy decimals sum) = decimals ≤ 4
+TellsDecimals refused.Memory = Unit {0}
+
 -- a currency's openings don't; its decimals are at most 4
-abbrev pub StopsAtSums : Inputs → Status → Type 0
-StopsAtSums i (status.Unbalanced ccy decimals sum) = TellsUnbalanced (accounts_in i) (refused.Unbalanced ccy decimals sum) × (decimals ≤ 4)
-StopsAtSums i status.Memory = Unit {0}
-StopsAtSums i _ = ⊥
+abbrev pub StopsAtSums : Inputs → AccountsFault → Type 0
+StopsAtSums i (refused.Unbalanced ccy decimals sum) = TellsUnbalanced (accounts_in i) (refused.Unbalanced ccy decimals sum) × (decimals ≤ 4)
+StopsAtSums i refused.Memory = Unit {0}
 
 -- ---- the message file
 
 -- it was read, and is these messages
-pub record HasMessages {S : Type 0} (left : S → Option (List ℕ)) (faults : S → ℕ) (old new : S) (file : List ℕ) (cut : List (List ℕ)) : Type 0 where
-  pub took : Took left faults 67108864 old new file
-  pub are : IsMessageFile file cut
+pub record HasMessages {S : Type 0} (source : sources.Ghosts S) (old new : S) (bytes : List ℕ) (cut : List (List ℕ)) : Type 0 where
+  pub took : Took source.left source.faults 67108864 old new bytes
+  pub are : IsMessageFile bytes cut
 
 -- how reading it stops: its source fails, it passes a limit, it can't be cut, or memory runs out
-abbrev pub StopsAtMessages : {S : Type 0} → (S → Option (List ℕ)) → (S → ℕ) → S → S → List ℕ → Status → Type 0
-StopsAtMessages left faults old new file (status.ReadFault then now) = Failed faults old new then now
-StopsAtMessages left faults old new file (status.TooLarge bytes messages) = Took left faults 67108864 old new file × StopsCutting file (status.TooLarge bytes messages)
-StopsAtMessages left faults old new file (status.Framing at) = Took left faults 67108864 old new file × StopsCutting file (status.Framing at)
-StopsAtMessages left faults old new file status.Memory = faults new ≡ faults old
-StopsAtMessages left faults old new file _ = ⊥
+abbrev pub StopsAtMessages : {S : Type 0} → sources.Ghosts S → S → S → List ℕ → FileStop → Type 0
+StopsAtMessages source old new bytes (file.Fault then now) = Failed source.faults old new then now
+StopsAtMessages source old new bytes (file.TooLarge count messages) = Took source.left source.faults 67108864 old new bytes × StopsCutting bytes (file.TooLarge count messages)
+StopsAtMessages source old new bytes (file.Framing at) = Took source.left source.faults 67108864 old new bytes × StopsCutting bytes (file.Framing at)
+StopsAtMessages source old new bytes file.Memory = source.faults new ≡ source.faults old
 
 -- ---- a step of a command over the objects of a room, as they were and as they are
 
--- the step passes: what it reads was read and is fine
-abbrev pub Passes : {S K : Type 0} → (S → Option (List ℕ)) → (S → ℕ) → Room S K → Room S K → Inputs → Step → Type 0
-Passes left faults old new i (Step.table name) = IsFine left faults (table_at name old.tables) (table_at name new.tables) (file_of name i) (fault_of name i)
-Passes left faults old new i Step.sums = Balances i
-Passes left faults old new i Step.messages = HasMessages left faults old.messages new.messages i.messages i.cut
+abbrev pub Passes : {S K D : Type 0} → sources.Ghosts S → disks.Ghosts D → Room S K D → Room S K D → Inputs → Step → Type 0
+Passes source disk old new i (Step.table name) = IsFine source (table_at name old.tables) (table_at name new.tables) (file_of name i) (fault_of name i)
+Passes source disk old new i Step.sums = Balances i
+Passes source disk old new i Step.make = IsFree disk old.disk
+Passes source disk old new i Step.open_journal = HoldsJournal disk old.disk i.chart i.history
+Passes source disk old new i Step.day = IsLatest i.history i.day
+Passes source disk old new i Step.messages = HasMessages source old.messages new.messages i.messages i.cut
+Passes source disk old new i Step.book = AreAnswered i
 
--- the step stops with this status, as what it reads is
-abbrev pub StopsAt : {S K : Type 0} → (S → Option (List ℕ)) → (S → ℕ) → Room S K → Room S K → Inputs → Status → Step → Type 0
-StopsAt left faults old new i stop (Step.table name) = StopsAtTable left faults (table_at name old.tables) (table_at name new.tables) (file_of name i) (fault_of name i) stop
-StopsAt left faults old new i stop Step.sums = StopsAtSums i stop
-StopsAt left faults old new i stop Step.messages = StopsAtMessages left faults old.messages new.messages i.messages stop
+-- how a command stops there with this status: for a reason that the status tells, by its cause
+abbrev pub StopsAt : {S K D : Type 0} → sources.Ghosts S → disks.Ghosts D → Room S K D → Room S K D → Inputs → Status → Step → Type 0
+StopsAt source disk old new i s (Step.table name) =
+    (stop : TableStop) × (s ≡ status_of_table stop) × StopsAtTable source (table_at name old.tables) (table_at name new.tables) (file_of name i) (fault_of name i) stop
+StopsAt source disk old new i s Step.sums = (stop : AccountsFault) × (s ≡ status_of_sums stop) × StopsAtSums i stop
+StopsAt source disk old new i s Step.make = (stop : MakeFault) × (s ≡ status_of_making stop) × StopsMaking disk old.disk new.disk (chart_in i) stop
+StopsAt source disk old new i s Step.open_journal = (stop : OpenFault) × (s ≡ status_of_opening stop) × StopsOpening disk old.disk new.disk stop
+StopsAt source disk old new i s Step.day = (stop : DateBack) × (s ≡ status_of_day stop) × IsBack i.history i.day stop × HasNotFailed disk old.disk new.disk
+StopsAt source disk old new i s Step.messages = (stop : FileStop) × (s ≡ status_of_file stop) × StopsAtMessages source old.messages new.messages i.messages stop × HasNotFailed disk old.disk new.disk
+StopsAt source disk old new i s Step.book = (stop : BookStop) × (s ≡ status_of_booking stop) × StopsBooking disk old.disk new.disk i stop
 
--- what a step reads is as it was
-abbrev pub IsUntouched : {S K : Type 0} → Room S K → Room S K → Step → Type 0
-IsUntouched old new (Step.table name) = table_at name new.tables ≡ table_at name old.tables
-IsUntouched old new Step.sums = Unit {0}
-IsUntouched old new Step.messages = new.messages ≡ old.messages
+-- what a step reads or does is as it was
+abbrev pub IsUntouched : {S K D : Type 0} → disks.Ghosts D → Room S K D → Room S K D → Step → Type 0
+IsUntouched disk old new (Step.table name) = table_at name new.tables ≡ table_at name old.tables
+IsUntouched disk old new Step.sums = Unit {0}
+IsUntouched disk old new Step.make = new.disk ≡ old.disk
+IsUntouched disk old new Step.open_journal = new.disk ≡ old.disk
+IsUntouched disk old new Step.day = Unit {0}
+IsUntouched disk old new Step.messages = new.messages ≡ old.messages
+IsUntouched disk old new Step.book = IsUnwritten disk old.disk new.disk

@@ -1,18 +1,20 @@
 -- Statuses, as numbers and as lines.
 use Rattle.std.specs.Prelude.{ℕ, ◌≤◌, List, ◌++◌, codes}
 use Rattle.corr_text.specs.Digits.{padded}
+use Rattle.corr_ids.specs.Day.{InCentury, yymmdd_of}
 use Rattle.corr_money.specs.Amounts.{signed_text}
 use Rattle.ref_tables.specs.declared.fault.TableName.{TableName}
 use Rattle.ref_tables.specs.declared.fault.TableName.TheVariants as table
 use Rattle.ref_tables.specs.declared.fault.Why.{Why}
 use Rattle.ref_tables.specs.declared.fault.Why.TheVariants as why
 use Rattle.corr_top.specs.declared.status.Status.{Status}
-use Rattle.corr_top.specs.declared.status.Status.TheVariants.{Done, Usage, Table, ReadFault, WriteFault, Unbalanced, Memory, TooLarge, Framing}
+use Rattle.corr_top.specs.declared.status.Status.TheVariants.{Done, Usage, Table, ReadFault, WriteFault, DiskFault, NotAJournal, Damaged, Unbalanced, Exists, Memory, DateBack, TooLarge, Framing, Full}
 
--- the decimals of an `Unbalanced` are at most 4
-abbrev pub HasDecimals : Status → Type 0
-HasDecimals (Unbalanced ccy decimals sum) = decimals ≤ 4
-HasDecimals _ = Unit {0}
+-- a line can tell it: the decimals of an `Unbalanced` are at most 4, and the day of a `DateBack` is of 1980 to 2079
+abbrev pub HasLine : Status → Type 0
+HasLine (Unbalanced ccy decimals sum) = decimals ≤ 4
+HasLine (DateBack last) = InCentury last
+HasLine _ = Unit {0}
 
 -- the exit status
 abbrev pub number_of : Status → ℕ
@@ -21,10 +23,16 @@ number_of Usage = 1
 number_of (Table name row reason) = 2
 number_of (ReadFault before after) = 3
 number_of (WriteFault before after) = 4
+number_of (DiskFault before after) = 5
+number_of NotAJournal = 6
+number_of (Damaged at) = 6
 number_of (Unbalanced ccy decimals sum) = 6
+number_of (Exists first) = 6
 number_of Memory = 7
+number_of (DateBack last) = 8
 number_of (TooLarge bytes messages) = 9
 number_of (Framing at) = 10
+number_of (Full entries end need) = 11
 
 -- a number behind a space
 unfoldable pub spaced : ℕ → List ℕ
@@ -57,10 +65,16 @@ status_text Usage = codes "usage"
 status_text (Table name row reason) = codes "table " ++ name_text name ++ spaced row ++ why_text reason
 status_text (ReadFault before after) = codes "read fault" ++ spaced before ++ spaced after
 status_text (WriteFault before after) = codes "write fault" ++ spaced before ++ spaced after
+status_text (DiskFault before after) = codes "disk fault" ++ spaced before ++ spaced after
+status_text NotAJournal = codes "not a journal"
+status_text (Damaged at) = codes "damaged" ++ spaced at
 status_text (Unbalanced ccy decimals sum) = codes "unbalanced " ++ ccy.0 ++ codes " " ++ signed_text decimals sum
+status_text (Exists first) = codes "exists" ++ spaced first
 status_text Memory = codes "no memory"
+status_text (DateBack last) = codes "date back " ++ yymmdd_of last
 status_text (TooLarge bytes messages) = codes "too large" ++ spaced bytes ++ spaced messages
 status_text (Framing at) = codes "framing" ++ spaced at
+status_text (Full entries end need) = codes "full" ++ spaced entries ++ spaced end ++ spaced need
 
 -- its line, without a line end
 abbrev pub line_of : Status → List ℕ

@@ -2,11 +2,15 @@
 use Rattle.std.specs.Prelude.{◌⊎◌, List, [], ◌∷◌}
 use Rattle.ref_tables.specs.declared.fault.TableName.{TableName}
 
--- what a command reads and tests: a table, the sums of the openings, the message file
+-- What a command reads, tests and does before it writes: a table, the sums of the openings, the making of a journal, the journal as it is opened, the day against that of its last entry, the message file, and the entering of its pays.
 pub data Step : Type 0 where
   table : TableName → Step
   sums : Step
+  make : Step
+  open_journal : Step
+  day : Step
   messages : Step
+  book : Step
 
 -- each step has it
 abbrev pub Walks : (Step → Type 0) → List Step → Type 0

@@ -1,60 +1,133 @@
-//! The top call: the words of a command, and what it is handed.
+//! The top calls: the words of a command, and what it is handed.
 
-ghost use Rattle.std.specs.Prelude.{◌≡◌, ◌⊎◌, None, IfErr, IfSome, OnOk};
-ghost use Rattle.corr_top.specs.Commands.{command_of};
+ghost use Rattle.std.specs.Prelude.{◌≡◌, ◌⊎◌, None, IfSome};
+ghost use Rattle.corr_top.specs.Commands.{IsSpelled, command_of, plain_of};
 ghost use Rattle.corr_top.specs.Complete.{IsSound};
-ghost use Rattle.corr_top.specs.Ends.{Ends};
+ghost use Rattle.corr_top.specs.Ends.{Ends, HasTexts};
 ghost use Rattle.corr_top.specs.Inputs.{Inputs};
-ghost use Rattle.corr_top.specs.Status.{HasDecimals};
+ghost use Rattle.corr_top.specs.Status.{HasLine};
+ghost use Rattle.corr_top.specs.declared.words.Command.{Command as TheCommand};
+ghost use Rattle.corr_top.specs.declared.words.Command.TheVariants.{Plain as PlainCommand};
 
+use crate::init::init;
+use crate::query::query;
 use crate::room::{Done, Room};
 use crate::run::run;
 use crate::status::Status;
-use crate::words::{Command, spelled};
+use crate::words::{Command, Plain, spelled};
+use crate::writing::{Texts, write_texts};
+use corr_disk::Disk;
 use corr_io::{Sink, Source};
 use corr_text::Text;
 use std::alloc::Global;
+use std::sync::Wait;
 
-/// Does what a command says.
-fn perform<S: Source, K: Sink>(
+/// Words of no command touch nothing.
+fn refuse<S: Source, K: Sink, D: Disk>(room: Room<S, K, D>) -> Done<S, K, D>
+    ensures { (result.status ≡ Status.Usage) × (result.room ≡ room) }
+{
+    Done {
+        status: Status::Usage,
+        room,
+    }
+}
+
+/// Writes the texts of a command that came to its end, and tells how it ended.
+fn end<S: Source, K: Sink, D: Disk>(
+    room: Room<S, K, D>,
+    texts: Result<Texts, Status>,
+) -> Done<S, K, D>
+    ensures ends { (command : TheCommand) (old : Room S K D) → HasTexts S.Source D.Disk command old room texts → Ends S.Source D.Disk command old result.room K.Sink result.status }
+    ensures disk { result.room.disk ≡ room.disk }
+{
+    let mut room = room;
+    match texts {
+        Ok(texts) => {
+            let status = write_texts(&mut room.report, &mut room.out, &texts);
+            Done { status, room }
+        }
+        Err(status) => Done { status, room },
+    }
+}
+
+/// Does what a command says that waits for nobody.
+fn perform<S: Source, K: Sink, D: Disk>(
     alloc: Global,
-    command: Command,
-    room: &mut Room<S, K>,
-) -> Result<(), Status>
-    ensures done { OnOk result (Ends S.left S.faults K.held K.faults command room.old room.new Status.Done) }
-    ensures stopped { IfErr result (Ends S.left S.faults K.held K.faults command room.old room.new) }
+    command: Plain,
+    room: Room<S, K, D>,
+) -> Done<S, K, D>
+    requires { IsSpelled (PlainCommand command) }
+    ensures ends { Ends S.Source D.Disk (PlainCommand command) room result.room K.Sink result.status }
+    ensures honest { D.honest result.room.disk ≡ D.honest room.disk }
 {
     match command {
-        Command::Run { day } => run(alloc, day, room),
+        Plain::Init { home } => {
+            let (room, texts) = init(alloc, home, room);
+            end(room, texts)
+        }
+        Plain::Query(asked) => {
+            let (room, texts) = query(alloc, asked, room);
+            end(room, texts)
+        }
+    }
+}
+
+/// Does what the words say, for the commands that wait for nobody, and hands the room back: all but `run`, which is `Usage`
+/// to it (docs/operating.md).
+pub fn plain<S: Source, K: Sink, D: Disk>(
+    alloc: Global,
+    words: &[Text],
+    room: Room<S, K, D>,
+) -> Done<S, K, D>
+    // words of no such command touch nothing
+    ensures usage { plain_of words.now ≡ None → (result.status ≡ Status.Usage) × (result.room ≡ room) }
+    // each other status by its cause
+    ensures ends { IfSome (plain_of words.now) (λ command. Ends S.Source D.Disk (PlainCommand command) room result.room K.Sink result.status) }
+    // where nothing is wrong and nothing fails, only memory can be wanting
+    ensures complete { IfSome (plain_of words.now) (λ command. (i : Inputs) → IsSound S.Source K.Sink D.Disk (PlainCommand command) room result.room i →
+        (result.status ≡ Status.Done) ⊎ (result.status ≡ Status.Memory)) }
+    // a line can tell the status
+    ensures line { HasLine result.status }
+    ensures honest { D.honest result.room.disk ≡ D.honest room.disk }
+{
+    match spelled(words) {
+        Some(Command::Plain(command)) => perform(alloc, command, room),
+        Some(Command::Run { .. }) => refuse(room),
+        None => refuse(room),
     }
 }
 
 /// Does what the words say over the objects of a room, and hands the room back (docs/operating.md).
 ///
-/// `run DATE 1`, with `DATE` as YYMMDD, reads the table files and the message file, answers each message on that day,
-/// writes the report, and then to `out` the outgoing messages of the entries, each followed by `$`. Other words are
-/// `Usage`. Nothing is written but at `Done`, and a front part of both together at `WriteFault`.
-pub fn corr<S: Source, K: Sink>(alloc: Global, words: &[Text], room: Room<S, K>) -> Done<S, K>
+/// `run DATE 1`, with `DATE` as YYMMDD, reads the tables, opens the journal, enters the pays of the message file's messages on
+/// that day, writes the report, and then to `out` the outgoing messages of the entries that it added, each followed by `$`.
+/// `init HOME` makes the journal of the home bank HOME with the accounts of the tables. `send FROM UNTIL` writes the outgoing
+/// messages of the entries at these places, `bookings` a line for each entry. Other words are `Usage`. Nothing is written
+/// but at `Done`, and a front part of both together at `WriteFault`.
+pub fn corr<R: Wait, S: Source, K: Sink, D: Disk>(
+    rt: &R,
+    alloc: Global,
+    words: &[Text],
+    room: Room<S, K, D>,
+) -> Done<S, K, D>
     // words of no command touch nothing
     ensures usage { command_of words.now ≡ None → (result.status ≡ Status.Usage) × (result.room ≡ room) }
     // each other status by its cause
-    ensures ends { IfSome (command_of words.now) (λ command. Ends S.left S.faults K.held K.faults command room result.room result.status) }
+    ensures ends { IfSome (command_of words.now) (λ command. Ends S.Source D.Disk command room result.room K.Sink result.status) }
     // where nothing is wrong and nothing fails, only memory can be wanting
-    ensures complete { IfSome (command_of words.now) (λ command. (i : Inputs) → IsSound S.left S.faults K.faults command room result.room i →
+    ensures complete { IfSome (command_of words.now) (λ command. (i : Inputs) → IsSound S.Source K.Sink D.Disk command room result.room i →
         (result.status ≡ Status.Done) ⊎ (result.status ≡ Status.Memory)) }
-    // the decimals of an `Unbalanced` are those of a currency, as `status_line` needs them
-    ensures decimals { HasDecimals result.status }
+    // a line can tell the status
+    ensures line { HasLine result.status }
+    // whether the disk tells its bytes stays
+    ensures honest { D.honest result.room.disk ≡ D.honest room.disk }
 {
-    let mut room = room;
-    let Some(command) = spelled(words) else {
-        return Done {
-            status: Status::Usage,
-            room,
-        };
-    };
-    let status = match perform(alloc, command, &mut room) {
-        Ok(()) => Status::Done,
-        Err(status) => status,
-    };
-    Done { status, room }
+    match spelled(words) {
+        Some(Command::Plain(command)) => perform(alloc, command, room),
+        Some(Command::Run { day }) => {
+            let (room, texts) = run(rt, alloc, day, room);
+            end(room, texts)
+        }
+        None => refuse(room),
+    }
 }

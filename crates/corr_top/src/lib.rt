@@ -1,13 +1,18 @@
 //! The commands of the bank's payment engine: what each reads, answers and writes.
 #![tactic(auto)]
 
+mod accounts;
 mod answers;
-mod books;
+mod booking;
 mod command;
 mod cutting;
+mod directory;
+mod init;
 mod line;
 mod message;
+mod opening;
 mod outgoing;
+mod query;
 mod reading;
 mod room;
 mod run;
@@ -17,7 +22,7 @@ mod tables;
 mod words;
 mod writing;
 
-pub use command::corr;
+pub use command::{corr, plain};
 pub use line::{put_status_line, status_line};
 pub use room::{Done, Room, Tables};
 pub use status::Status;

@@ -1,10 +1,12 @@
 //! The line that tells how a command ended.
 
 ghost use Rattle.std.specs.Prelude.{◌≡◌, ◌≤◌, ◌++◌, OnOk, IfOk, codes};
+ghost use Rattle.corr_ids.specs.Day.{InCentury, yymmdd_of};
 ghost use Rattle.corr_money.specs.Amounts.{signed_text};
-ghost use Rattle.corr_top.specs.Status.{HasDecimals, line_of, name_text, spaced, status_text, why_text};
+ghost use Rattle.corr_top.specs.Status.{HasLine, line_of, name_text, spaced, status_text, why_text};
 
 use crate::status::Status;
+use corr_ids::{Day, put_yymmdd};
 use corr_money::{Ccy, put_signed};
 use corr_text::{Memory, Text, put_digits};
 use ref_tables::{TableName, Why};
@@ -55,6 +57,23 @@ fn put_why(alloc: Global, why: Why, out: &mut Text) -> Result<(), Memory>
     }
 }
 
+/// Words and a number.
+fn put_one(alloc: Global, words: &[u8], number: u64, out: &mut Text) -> Result<(), Memory>
+    ensures { OnOk result (out.new ≡ out.old ++ words.now ++ spaced number) }
+{
+    out.push(words)?;
+    put_number(alloc, number, out)
+}
+
+/// Words and a day.
+fn put_date(words: &[u8], day: Day, out: &mut Text) -> Result<(), Memory>
+    requires { InCentury day }
+    ensures { OnOk result (out.new ≡ out.old ++ words.now ++ yymmdd_of day) }
+{
+    out.push(words)?;
+    put_yymmdd(day, out)
+}
+
 /// Words and two numbers.
 fn put_two(
     alloc: Global,
@@ -81,7 +100,7 @@ fn put_sum(alloc: Global, ccy: Ccy, decimals: u8, sum: i64, out: &mut Text) -> R
 }
 
 fn put_status(alloc: Global, s: &Status, out: &mut Text) -> Result<(), Memory>
-    requires { HasDecimals s.now }
+    requires { HasLine s.now }
     ensures { OnOk result (out.new ≡ out.old ++ status_text s.now) }
 {
     match s {
@@ -101,17 +120,23 @@ fn put_status(alloc: Global, s: &Status, out: &mut Text) -> Result<(), Memory>
             *after,
             out,
         ),
+        Status::DiskFault { before, after } => put_two(alloc, b"disk fault", *before, *after, out),
+        Status::NotAJournal => out.push(b"not a journal"),
+        Status::Damaged { at } => put_one(alloc, b"damaged", *at, out),
         Status::Unbalanced { ccy, decimals, sum } => {
             out.push(b"unbalanced ")?;
             put_sum(alloc, *ccy, *decimals, *sum, out)
         }
+        Status::Exists { first } => put_one(alloc, b"exists", *first as u64, out),
         Status::Memory => out.push(b"no memory"),
+        Status::DateBack { last } => put_date(b"date back ", *last, out),
         Status::TooLarge { bytes, messages } => {
             put_two(alloc, b"too large", *bytes, *messages as u64, out)
         }
-        Status::Framing { at } => {
-            out.push(b"framing")?;
-            put_number(alloc, *at, out)
+        Status::Framing { at } => put_one(alloc, b"framing", *at, out),
+        Status::Full { entries, end, need } => {
+            put_two(alloc, b"full", *entries as u64, *end, out)?;
+            put_number(alloc, *need, out)
         }
     }
 }
@@ -121,7 +146,7 @@ fn put_status(alloc: Global, s: &Status, out: &mut Text) -> Result<(), Memory>
 ///
 /// The decimals of an `Unbalanced` are at most 4. `Memory`: there was no room for the line.
 pub fn put_status_line(alloc: Global, s: &Status, out: &mut Text) -> Result<(), Memory>
-    requires { HasDecimals s.now }
+    requires { HasLine s.now }
     ensures { OnOk result (out.new ≡ out.old ++ line_of s.now) }
 {
     out.push(b"corr: ")?;
@@ -130,7 +155,7 @@ pub fn put_status_line(alloc: Global, s: &Status, out: &mut Text) -> Result<(), 
 
 /// The line of `put_status_line` as a text of its own.
 pub fn status_line(alloc: Global, s: &Status) -> Result<Text, Memory>
-    requires { HasDecimals s.now }
+    requires { HasLine s.now }
     ensures { IfOk result (λ line. line ≡ line_of s.now) }
 {
     let mut line = Text::from_bytes(alloc, b"")?;

@@ -10,10 +10,10 @@ ghost use Rattle.pay_plan.specs.Readable.{IsRead, IsWritable};
 ghost use Rattle.corr_top.specs.Message.{message_of, pay_in, reply_for, unrouted};
 ghost use Rattle.corr_top.specs.Replies.{ReadsAs};
 
-use crate::books::Books;
+use crate::directory::Directory;
 use corr_ids::{Envelope, Mir};
 use corr_text::{Code, Fault, Text};
-use day_model::{Pay, Reply};
+use day_model::{Accounts, Pay, Reply};
 use fin_message::{Message, MessageFault, verdict};
 use pay_plan::{Ask, PlanFault, plan};
 use std::alloc::Global;
@@ -74,7 +74,8 @@ fn reference(envelope: &Envelope) -> Mir
 /// The pay that a message asks for, or the code by which it has none.
 fn plan_pay(
     alloc: Global,
-    books: &Books,
+    directory: &Directory,
+    accounts: &Accounts,
     envelope: &Envelope,
     text: &Text,
     ask: Ask<'_>,
@@ -82,11 +83,11 @@ fn plan_pay(
     requires received { IsSome envelope.now.mir }
     requires read { IsRead ask }
     requires writable { IsWritable envelope.now text.now }
-    ensures value { ReadsAs result (unrouted envelope.now (plan_of envelope.now text.now ask.entry books.now.ssi books.now.accounts)) }
-    ensures fits { IfOk result (FitsAccounts books.now.accounts) }
+    ensures value { ReadsAs result (unrouted envelope.now (plan_of envelope.now text.now ask.entry directory.now.ssi accounts.now)) }
+    ensures fits { IfOk result (FitsAccounts accounts.now) }
     ensures shape { IfOk result HasShape }
 {
-    match plan(alloc, envelope, text, ask, &books.ssi, &books.accounts) {
+    match plan(alloc, envelope, text, ask, &directory.ssi, accounts) {
         Ok(pay) => Ok(pay),
         Err(PlanFault::Code(code)) => Err(Stop::NoPay(NoPay::Unrouted {
             mir: reference(envelope),
@@ -97,21 +98,40 @@ fn plan_pay(
 }
 
 /// The pay of a valid message, or why it has none. An advice asks for none.
-fn read_pay(alloc: Global, books: &Books, message: &Message) -> Result<Pay, Stop>
+fn read_pay(
+    alloc: Global,
+    directory: &Directory,
+    accounts: &Accounts,
+    message: &Message,
+) -> Result<Pay, Stop>
     requires received { Goes Received message.now }
-    requires read { IsReadMessage books.now.tables message.now }
+    requires read { IsReadMessage directory.now.tables message.now }
     requires envelope { HasEnvelope message.now }
     requires short { length (lines_in message.now) ≤ 32768 }
-    ensures value { ReadsAs result (pay_in books.now message.now) }
-    ensures fits { IfOk result (FitsAccounts books.now.accounts) }
+    ensures value { ReadsAs result (pay_in directory.now accounts.now message.now) }
+    ensures fits { IfOk result (FitsAccounts accounts.now) }
     ensures shape { IfOk result HasShape }
 {
     match message {
         Message::Transfer(envelope, text, transfer) => {
-            plan_pay(alloc, books, envelope, text, Ask::Transfer(transfer))
+            plan_pay(
+                alloc,
+                directory,
+                accounts,
+                envelope,
+                text,
+                Ask::Transfer(transfer),
+            )
         }
         Message::Cover(envelope, text, cover) => {
-            plan_pay(alloc, books, envelope, text, Ask::Cover(cover))
+            plan_pay(
+                alloc,
+                directory,
+                accounts,
+                envelope,
+                text,
+                Ask::Cover(cover),
+            )
         }
         Message::Debit(envelope, _) | Message::Credit(envelope, _) => {
             Err(Stop::NoPay(NoPay::Unrouted {
@@ -124,14 +144,19 @@ fn read_pay(alloc: Global, books: &Books, message: &Message) -> Result<Pay, Stop
 
 /// The pay that a message of at most 16,384 bytes asks for, or why it gives none.
 #[tactic(auto, unfolding(crate::specs::Message::message_of))]
-pub fn read_message(alloc: Global, books: &Books, b: &[u8]) -> Result<Pay, Stop>
+pub fn read_message(
+    alloc: Global,
+    directory: &Directory,
+    accounts: &Accounts,
+    b: &[u8],
+) -> Result<Pay, Stop>
     requires { length b.now ≤ 16384 }
-    ensures value { ReadsAs result (message_of books.now b.now) }
-    ensures fits { IfOk result (FitsAccounts books.now.accounts) }
+    ensures value { ReadsAs result (message_of directory.now accounts.now b.now) }
+    ensures fits { IfOk result (FitsAccounts accounts.now) }
     ensures shape { IfOk result HasShape }
 {
-    let message = verdict(alloc, b, books.accounts.home(), &books.tables)?;
-    let pay = read_pay(alloc, books, &message);
+    let message = verdict(alloc, b, accounts.home(), &directory.tables)?;
+    let pay = read_pay(alloc, directory, accounts, &message);
     // as one step: the checker counts each part of a value that ends with the function
     drop(message);
     pay

@@ -1,10 +1,10 @@
 //! The messages that leave, as one text.
 
-ghost use Rattle.std.specs.Prelude.{◌≡◌, ◌++◌, All, IfOk, OnOk};
+ghost use Rattle.std.specs.Prelude.{◌≡◌, ◌≤◌, ◌++◌, All, IfOk, OnOk, take};
 ghost use Rattle.std.specs.Int.{IsInRange};
 ghost use Rattle.corr_ids.specs.Bic.{IsBic};
-ghost use Rattle.corr_top.specs.Answers.{HasPayShape};
-ghost use Rattle.corr_top.specs.Out.{out_of, parted, parted_all, sent_of};
+ghost use Rattle.corr_top.specs.Turns.{HasPayShape};
+ghost use Rattle.corr_top.specs.Out.{parted, parted_all, sent_from, sent_of};
 ghost use Rattle.day_model.specs.Fit.{FitsAccounts};
 ghost use Rattle.day_model.specs.Legal.{IsLegal};
 ghost use Rattle.day_model.specs.Shape.{HasShape};
@@ -50,15 +50,23 @@ fn push_orders(
     push_parted(messages.as_slice(), out)
 }
 
-/// The outgoing messages of the entries of a history, in its order, each followed by `$`.
-pub fn outgoing(alloc: Global, a: &Accounts, h: &History) -> Result<Text, Memory>
+/// The outgoing messages of the entries of a history from one place to another, as far as there are any, in their order, each
+/// followed by `$`.
+pub fn outgoing(
+    alloc: Global,
+    a: &Accounts,
+    h: &History,
+    from: u32,
+    until: u32,
+) -> Result<Text, Memory>
     requires home { IsBic a.now.home }
     requires legal { IsLegal a.now h.now.entries }
     requires shapes { All HasPayShape h.now.entries }
-    ensures { IfOk result (λ text. text ≡ out_of a.now h.now.entries) }
+    requires from { 1 ≤ from }
+    ensures { IfOk result (λ text. text ≡ sent_from a.now from (take until h.now.entries)) }
 {
     let mut out = Text::from_bytes(alloc, b"")?;
-    for place in 1..h.len() + 1 {
+    for place in from..until.min(h.len()) + 1 {
         push_orders(alloc, a, place, h.get(place), &mut out)?;
     }
     Ok(out)

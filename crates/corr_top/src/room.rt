@@ -12,18 +12,23 @@ pub struct Tables<S> {
     pub ssi: S,
 }
 
-/// What a command is handed: the table files, the message file, the sink of its report and that of the messages that leave.
+/// What a command is handed: the table files, the message file, the file of received statements, the sink of its report,
+/// that of the messages that leave, the disk of the journal, and a second disk. The received statements and the second disk
+/// are handed back as they are: no command uses them yet.
 #[derive(Drop)]
-pub struct Room<S, K> {
+pub struct Room<S, K, D> {
     pub tables: Tables<S>,
     pub messages: S,
+    pub received: S,
     pub report: K,
     pub out: K,
+    pub disk: D,
+    pub disk2: Option<D>,
 }
 
 /// How a command ended, and the room that it was handed.
 #[derive(Drop)]
-pub struct Done<S, K> {
+pub struct Done<S, K, D> {
     pub status: Status,
-    pub room: Room<S, K>,
+    pub room: Room<S, K, D>,
 }

@@ -3,7 +3,9 @@
 ghost use Rattle.std.specs.Prelude.{◌≡◌};
 ghost use Rattle.corr_top.specs.Status.{number_of};
 
+use corr_ids::Day;
 use corr_money::Ccy;
+use corr_text::Memory;
 use ref_tables::{TableName, Why};
 
 /// How a command ended (docs/operating.md, "Statuses").
@@ -29,14 +31,33 @@ pub enum Status {
         before: u64,
         after: u64,
     },
+    /// A call of the journal's disk failed: its count of faults before this call and after it.
+    DiskFault {
+        before: u64,
+        after: u64,
+    },
+    /// The disk holds no journal.
+    NotAJournal,
+    /// The journal is damaged: the place, in bytes from 0, of the first open gate that no whole and legal record follows.
+    Damaged {
+        at: u64,
+    },
     /// The openings of a currency's accounts sum to this many minor units, and not to 0.
     Unbalanced {
         ccy: Ccy,
         decimals: u8,
         sum: i64,
     },
+    /// The disk holds something else than an unmade journal: its first byte.
+    Exists {
+        first: u8,
+    },
     /// There was no memory for what was to be made.
     Memory,
+    /// The journal's last entry has this day, which is after the day of the run.
+    DateBack {
+        last: Day,
+    },
     /// The message file passes a limit: how many bytes there are up to and with the first that passes one, and how many
     /// messages begin in them.
     TooLarge {
@@ -46,6 +67,13 @@ pub enum Status {
     /// The message file can't be cut: the place of the fault, in bytes from 0.
     Framing {
         at: u64,
+    },
+    /// A pay found no room in the journal: how many entries there were, the place of the closed gate, and how many bytes the
+    /// pay needed behind it.
+    Full {
+        entries: u32,
+        end: u64,
+        need: u64,
     },
 }
 
@@ -60,10 +88,26 @@ impl Status {
             Status::Table { .. } => 2,
             Status::ReadFault { .. } => 3,
             Status::WriteFault { .. } => 4,
+            Status::DiskFault { .. } => 5,
+            Status::NotAJournal => 6,
+            Status::Damaged { .. } => 6,
             Status::Unbalanced { .. } => 6,
+            Status::Exists { .. } => 6,
             Status::Memory => 7,
+            Status::DateBack { .. } => 8,
             Status::TooLarge { .. } => 9,
             Status::Framing { .. } => 10,
+            Status::Full { .. } => 11,
         }
+    }
+}
+
+impl From<Memory> for Status {
+    ghost use Rattle.corr_top.specs.declared.status.Status.TheVariants.{Memory as NoMemory};
+
+    ghost from_gives = { λ _ status. status ≡ NoMemory };
+
+    fn from(_e: Memory) -> Status {
+        Status::Memory
     }
 }

@@ -1,18 +1,43 @@
 //! The words of a command.
 
-ghost use Rattle.std.specs.Prelude.{◌≡◌, IfSome};
+ghost use Rattle.std.specs.Prelude.{◌≡◌, ◌≤◌, IfSome};
+ghost use Rattle.std.specs.Option.{option_map};
 ghost use Rattle.std.specs.Str.{bytes_eq};
-ghost use Rattle.corr_top.specs.Commands.{HasDay, command_of};
+ghost use Rattle.corr_top.specs.Commands.{IsSpelled, command_of, init_of, places_of, run_of, send_of};
+ghost use Rattle.corr_top.specs.declared.words.Command.TheVariants.{Plain as CommandPlain};
 
-use corr_ids::{Day, day_from_yymmdd};
-use corr_text::Text;
+use corr_ids::{Bic, Day, day_from_yymmdd, read_bic};
+use corr_text::{Text, digits};
 
 /// What the words say.
 #[derive(Clone, Copy, Debug, PartialEq, Eq)]
 pub enum Command {
     /// `run DATE 1`: answers the messages of the message file on a day.
     Run { day: Day },
+    /// A command that waits for nobody.
+    Plain(Plain),
 }
+
+/// The commands that wait for nobody.
+#[derive(Clone, Copy, Debug, PartialEq, Eq)]
+pub enum Plain {
+    /// `init HOME`: makes the journal of a home bank.
+    Init { home: Bic },
+    /// A command that reads the journal and prints.
+    Query(Query),
+}
+
+/// The commands that read the journal and print what it says.
+#[derive(Clone, Copy, Debug, PartialEq, Eq)]
+pub enum Query {
+    /// `send FROM UNTIL`: the outgoing messages of the entries between two places.
+    Send { from: u32, until: u32 },
+    /// `bookings`: a line for each entry.
+    Bookings,
+}
+
+/// The last place of a journal that is full.
+const LAST_PLACE: u64 = 100_000;
 
 /// Whether bytes are this word.
 fn is_word(b: &[u8], word: &[u8]) -> bool
@@ -21,17 +46,64 @@ fn is_word(b: &[u8], word: &[u8]) -> bool
     b == word
 }
 
+/// Two places of a journal, the second not before the first.
+fn places(from: &[u8], until: &[u8]) -> Option<(u32, u32)>
+    ensures value { result ≡ places_of from.now until.now }
+    ensures sound { IfSome result (λ places. (1 ≤ places.0) × (places.0 ≤ places.1) × (places.1 ≤ 100000)) }
+{
+    let from = digits(from)?;
+    let until = digits(until)?;
+    if from < 1 || until < from || until > LAST_PLACE {
+        return None;
+    }
+    Some((from as u32, until as u32))
+}
+
+/// `init HOME` with a BIC.
+fn init(home: &[u8]) -> Option<Command>
+    ensures value { result ≡ option_map CommandPlain (init_of home.now) }
+    ensures sound { IfSome result IsSpelled }
+{
+    let home = read_bic(home)?;
+    Some(Command::Plain(Plain::Init { home }))
+}
+
+/// `send FROM UNTIL` with two places of a journal.
+fn send(from: &[u8], until: &[u8]) -> Option<Command>
+    ensures value { result ≡ option_map CommandPlain (send_of from.now until.now) }
+    ensures sound { IfSome result IsSpelled }
+{
+    let (from, until) = places(from, until)?;
+    Some(Command::Plain(Plain::Query(Query::Send { from, until })))
+}
+
+/// `run DATE 1` with a day of the calendar.
+fn run(date: &[u8], workers: &[u8]) -> Option<Command>
+    ensures value { result ≡ run_of date.now workers.now }
+    ensures sound { IfSome result IsSpelled }
+{
+    if !is_word(workers, b"1") {
+        return None;
+    }
+    let day = day_from_yymmdd(date)?;
+    Some(Command::Run { day })
+}
+
 /// The command that the words spell, none where they are no command.
 pub fn spelled(words: &[Text]) -> Option<Command>
     ensures value { result ≡ command_of words.now }
-    ensures day { IfSome result HasDay }
+    ensures sound { IfSome result IsSpelled }
 {
-    let [command, date, workers] = words else {
-        return None;
-    };
-    if !is_word(command.bytes(), b"run") || !is_word(workers.bytes(), b"1") {
-        return None;
+    match words {
+        [word] if is_word(word.bytes(), b"bookings") => {
+            Some(Command::Plain(Plain::Query(Query::Bookings)))
+        }
+        [word, home] if is_word(word.bytes(), b"init") => init(home.bytes()),
+        [word, from, until] if is_word(word.bytes(), b"send") => send(from.bytes(), until.bytes()),
+        [word, date, workers] if is_word(word.bytes(), b"run") => run(
+            date.bytes(),
+            workers.bytes(),
+        ),
+        _ => None,
     }
-    let day = day_from_yymmdd(date.bytes())?;
-    Some(Command::Run { day })
 }

@@ -1,11 +1,13 @@
 //! Texts, written whole to sinks.
 
-ghost use Rattle.std.specs.Prelude.{OnOk, IfErr};
-ghost use Rattle.corr_top.specs.Writing.{FailedAt, FailsWriting, Received};
+ghost use Rattle.std.specs.Prelude.{◌≡◌, [], OnOk, IfErr, IfOk};
+ghost use Rattle.corr_top.specs.Writing.{FailedAt, FailsWriting, IsWritten, Received};
 
 use crate::slices::behind;
+use crate::status::Status;
 use corr_io::Sink;
-use corr_text::Text;
+use corr_text::{Memory, Text};
+use std::alloc::Global;
 
 /// The count of faults of a sink before a call and after it.
 #[derive(Clone, Copy, Debug, PartialEq, Eq)]
@@ -42,8 +44,20 @@ pub struct Texts {
     pub out: Text,
 }
 
+impl Texts {
+    /// Nothing to write.
+    pub fn none(alloc: Global) -> Result<Texts, Memory>
+        ensures { IfOk result (λ texts. (texts.report ≡ []) × (texts.out ≡ [])) }
+    {
+        Ok(Texts {
+            report: Text::from_bytes(alloc, b"")?,
+            out: Text::from_bytes(alloc, b"")?,
+        })
+    }
+}
+
 /// Writes the report, then the messages that leave. After a fault of the first sink the other one was left alone.
-pub fn write_both<K: Sink>(report: &mut K, out: &mut K, texts: &Texts) -> Result<(), WriteStop>
+fn write_both<K: Sink>(report: &mut K, out: &mut K, texts: &Texts) -> Result<(), WriteStop>
     ensures report { OnOk result (Received K.held K.faults report.old report.new texts.now.report) }
     ensures out { OnOk result (Received K.held K.faults out.old out.new texts.now.out) }
     ensures failed { IfErr result (λ e. FailsWriting K.held K.faults report.old report.new texts.now.report
@@ -51,4 +65,14 @@ pub fn write_both<K: Sink>(report: &mut K, out: &mut K, texts: &Texts) -> Result
 {
     write_whole(report, texts.report.bytes())?;
     write_whole(out, texts.out.bytes())
+}
+
+/// Writes the report, then the messages that leave, and tells how that ended.
+pub fn write_texts<K: Sink>(report: &mut K, out: &mut K, texts: &Texts) -> Status
+    ensures { IsWritten K.Sink report.old report.new texts.now.report out.old out.new texts.now.out result }
+{
+    match write_both(report, out, texts) {
+        Ok(()) => Status::Done,
+        Err(WriteStop { before, after }) => Status::WriteFault { before, after },
+    }
 }

@@ -1,4 +1,4 @@
--- The form of a cover that was read: its references, its value date, and the BICs of 56a, 57a and 58a.
+-- The form of a cover that was read: its references, its value date, and the banks of 56a, 57a and 58a.
 use Rattle.std.proofs.Common.{◌≡◌, ℕ, IfSome, List, [], Ok, subst}
 use Rattle.std.specs.Prelude.{unwrap_or}
 use Rattle.corr_ids.specs.Day.{InCentury}
@@ -22,30 +22,30 @@ use Rattle.mt202cov.specs.Order.{order_202}
 use Rattle.mt202cov.specs.declared.sequences.SequenceA.{SequenceA}
 use Rattle.mt202cov.specs.declared.terms.Terms.{Terms}
 use Rattle.pay_plan.specs.Readable.{IsCoverRead}
-use Rattle.pay_plan.proofs.Parties.{HasBic, bank-form, ok-is, party-bic}
+use Rattle.pay_plan.proofs.Parties.{HasBank, bank-form, ok-is, party-bank}
 use Rattle.pay_plan.proofs.Words.{reference-form}
 
-pub record CoverForm (m : Mt202Cov) : Type 0 where
+pub record CoverForm (t : Tables) (m : Mt202Cov) : Type 0 where
   pub reference : IsReference m.reference
   pub related : IsReference m.related
   pub value : InCentury m.value
-  pub a56 : IfSome m.a56 HasBic
-  pub a57 : IfSome m.a57 HasBic
-  pub a58 : HasBic m.a58
+  pub a56 : IfSome m.a56 (HasBank t)
+  pub a57 : IfSome m.a57 (HasBank t)
+  pub a58 : HasBank t m.a58
 
 record TermsForm (x : Terms) : Type 0 where
   reference : IsReference x.reference
   related : IsReference x.related
   value : InCentury x.value.day
 
-record BanksForm (x : Banks) : Type 0 where
-  p56 : IfSome x.p56 HasBic
-  p57 : IfSome x.p57 HasBic
-  p58 : HasBic x.p58
+record BanksForm (t : Tables) (x : Banks) : Type 0 where
+  p56 : IfSome x.p56 (HasBank t)
+  p57 : IfSome x.p57 (HasBank t)
+  p58 : HasBank t x.p58
 
-record SequenceForm (x : SequenceA) : Type 0 where
+record SequenceForm (t : Tables) (x : SequenceA) : Type 0 where
   terms : TermsForm x.terms
-  banks : BanksForm x.banks
+  banks : BanksForm t x.banks
 
 terms-form : (t : Tables) (fs : List Field) (found : List ℕ) (x : Terms) → terms_of t fs found ≡ Ok x → TermsForm x
 unfolding terms_of
@@ -60,7 +60,7 @@ terms-form t fs found x e =
     let h = must-ok order_202 fs 3 (value_of t) (field_in fs found 3) r3.0 r3.1 in
     subst TermsForm same (record { reference = reference-form f.0 r0.0 f.1; related = reference-form g.0 r1.0 g.1; value = value-day t h.0 r3.0 h.1 })
 
-banks-form : (t : Tables) (fs : List Field) (found : List ℕ) (x : Banks) → banks_of t fs found ≡ Ok x → BanksForm x
+banks-form : (t : Tables) (fs : List Field) (found : List ℕ) (x : Banks) → banks_of t fs found ≡ Ok x → BanksForm t x
 unfolding banks_of
 banks-form t fs found x e =
     let r0 = read-then (in_option fs found 4 (known_party_of t)) _ x e in
@@ -71,25 +71,25 @@ banks-form t fs found x e =
     let r5 = read-then (in_place order_202 fs found 9 (known_party_of t)) _ x r4.2 in
     let same : record { p52 = r0.0; p53 = r1.0; p54 = r2.0; p56 = r3.0; p57 = r4.0; p58 = r5.0 } ≡ x = ok-is _ x r5.2 in
     let f = must-ok order_202 fs 9 (known_party_of t) (field_in fs found 9) r5.0 r5.1 in
-    subst BanksForm same (record { p56 = bank-form t fs found 7 r3.0 r3.1; p57 = bank-form t fs found 8 r4.0 r4.1; p58 = party-bic t f.0 r5.0 f.1 })
+    subst (BanksForm t) same (record { p56 = bank-form t fs found 7 r3.0 r3.1; p57 = bank-form t fs found 8 r4.0 r4.1; p58 = party-bank t f.0 r5.0 f.1 })
 
-sequence-form : (t : Tables) (fs : List Field) (found : List ℕ) (x : SequenceA) → sequence_a_of t fs found ≡ Ok x → SequenceForm x
+sequence-form : (t : Tables) (fs : List Field) (found : List ℕ) (x : SequenceA) → sequence_a_of t fs found ≡ Ok x → SequenceForm t x
 unfolding sequence_a_of
 sequence-form t fs found x e =
     let terms = read-then (terms_of t fs found) _ x e in
     let banks = read-then (banks_of t fs found) _ x terms.2 in
     let notes = read-then (in_option fs found 10 (texts_of 6)) _ x banks.2 in
     let same : record { terms = terms.0; banks = banks.0; notes = unwrap_or notes.0 [] } ≡ x = ok-is _ x notes.2 in
-    subst SequenceForm same (record { terms = terms-form t fs found terms.0 terms.1; banks = banks-form t fs found banks.0 banks.1 })
+    subst (SequenceForm t) same (record { terms = terms-form t fs found terms.0 terms.1; banks = banks-form t fs found banks.0 banks.1 })
 
-contents-form : (t : Tables) (fs : List Field) (found : List ℕ) (m : Mt202Cov) → contents_of t fs found ≡ Ok m → CoverForm m
+contents-form : (t : Tables) (fs : List Field) (found : List ℕ) (m : Mt202Cov) → contents_of t fs found ≡ Ok m → CoverForm t m
 unfolding contents_of
 contents-form t fs found m e =
     let a = read-then (sequence_a_of t fs found) _ m e in
     let b = read-then (sequence_b_of t fs found) _ m a.2 in
     let same : message_of a.0 b.0 ≡ m = ok-is _ m b.2 in
     let s = sequence-form t fs found a.0 a.1 in
-    subst CoverForm same (record {
+    subst (CoverForm t) same (record {
       reference = s.terms.reference;
       related = s.terms.related;
       value = s.terms.value;
@@ -98,13 +98,13 @@ contents-form t fs found m e =
       a58 = s.banks.p58;
     })
 
-message-form : (t : Tables) (fs : List Field) (m : Mt202Cov) → mt202cov_of t fs ≡ Ok m → CoverForm m
+message-form : (t : Tables) (fs : List Field) (m : Mt202Cov) → mt202cov_of t fs ≡ Ok m → CoverForm t m
 unfolding mt202cov_of
 message-form t fs m e =
     let structure = read-then (passed (field_tests t fs)) _ m e in
     let contents = read-then (contents_of t fs (places_from order_202 0 fs)) _ m structure.2 in
     let more = read-then (passed (all_rules contents.0)) _ m contents.2 in
-    subst CoverForm (ok-is contents.0 m more.2) (contents-form t fs (places_from order_202 0 fs) contents.0 contents.1)
+    subst (CoverForm t) (ok-is contents.0 m more.2) (contents-form t fs (places_from order_202 0 fs) contents.0 contents.1)
 
-pub cover-form : (m : Mt202Cov) → IsCoverRead m → CoverForm m
-cover-form m is = message-form is.tables is.fields m is.read
+pub cover-form : (t : Tables) (m : Mt202Cov) → IsCoverRead t m → CoverForm t m
+cover-form t m is = message-form t is.fields m is.read

@@ -1,3 +1,4 @@
+pub mod laws
 pub mod Readable
 pub mod Planned
 pub mod Fitting

@@ -1,12 +1,12 @@
--- The BIC of a party that was read meets its grammar.
-use Rattle.std.proofs.Common.{◌≡◌, ℕ, IfSome, List, [], ◌∷◌, Option, Some, None, Result, Ok, Err, drop, option_map, option_and_then, refl, ap, subst, take}
+-- The BIC of a party that was read meets its grammar, and the tables hold its head.
+use Rattle.std.proofs.Common.{◌≡◌, ℕ, true, IfSome, List, [], ◌∷◌, Option, Some, None, Result, Ok, Err, drop, option_map, option_and_then, refl, ap, subst, take}
 use Rattle.corr_ids.specs.Bic.{IsBic, bic_of, branch_of, is_bic}
 use Rattle.corr_ids.specs.declared.bic.Bic.{Bic}
 use Rattle.corr_ids.proofs.laws.Spelling.{bic-again, some_if}
 use Rattle.corr_text.specs.First.{◌>>=◌}
 use Rattle.corr_text.specs.declared.fault.Code.{Code}
 use Rattle.corr_text.specs.declared.fault.Fault.{Fault}
-use Rattle.ref_tables.specs.Seen.{Tables}
+use Rattle.ref_tables.specs.Seen.{Tables, has_head}
 use Rattle.fin_fields.specs.declared.field.Field.{Field}
 use Rattle.fin_layout.proofs.laws.ReadBack.{must-ok}
 use Rattle.fin_layout.specs.Contents.{in_option, located, may_read}
@@ -24,9 +24,22 @@ pub ok-is : {A F : Type 0} (x y : A) → ◌≡◌ {A = Result A F} (Ok x) (Ok y
 ok-is x y e = cc e
 
 -- its BIC, where it is named by one, meets its grammar
-abbrev pub HasBic : Party → Type 0
+abbrev HasBic : Party → Type 0
 HasBic (party.A line bic) = IsBic bic
 HasBic _ = Unit {0}
+
+-- and the tables hold its head
+abbrev pub HasBank : Tables → Party → Type 0
+HasBank t (party.A line bic) = IsBic bic × (has_head t bic.head ≡ true)
+HasBank t _ = Unit {0}
+
+both-known : (t : Tables) (p : Party) → HasBic p → is_known t p ≡ true → HasBank t p
+both-known t (party.A line bic) h known = (h, known)
+both-known t (party.B line place) h known = tt
+both-known t (party.C line) h known = tt
+both-known t (party.D line lines) h known = tt
+both-known t (party.K account lines) h known = tt
+both-known t (party.F line lines) h known = tt
 
 chained : {A B : Type 0} (f : A → Option B) (o : Option A) (y : B) → option_and_then f o ≡ Some y → (x : A) × (f x ≡ Some y)
 chained f None y e = absurd (cc e)
@@ -83,13 +96,13 @@ in-form CustomerK lines p e = let c = chained (λ c. customer_party c.first c.re
 in-form PayerF lines p e = payers lines p e
 in-form PayeeF lines p e = let c = chained (λ c. payee_party c.first c.rest) (parts_of AccountLine lines) p e in payees c.0.first c.0.rest p c.1
 
-pub party-bic : (t : Tables) (f : Field) (p : Party) → known_party_of t f ≡ Ok p → HasBic p
+pub party-bank : (t : Tables) (f : Field) (p : Party) → known_party_of t f ≡ Ok p → HasBank t p
 unfolding known_party_of party_of
-party-bic t f p e =
+party-bank t f p e =
     let found = there (party_of f) _ _ p e in
     let known = checked (is_known t found.0) _ _ p found.2 in
     let c = chained (λ form. party_in form f.lines) (form_of f.tag f.letter) found.0 found.1 in
-    subst HasBic (ok-is found.0 p known.1) (in-form c.0 f.lines found.0 c.1)
+    subst (HasBank t) (ok-is found.0 p known.1) (both-known t found.0 (in-form c.0 f.lines found.0 c.1) known.0)
 
 within : {A : Type 0} {x : A} (r : Result A Fault) → (r >>= λ y. Ok (Some y)) ≡ Ok (Some x) → r ≡ Ok x
 within (Ok y) e = ap Ok (cc e)
@@ -101,6 +114,6 @@ may-ok fs read None x e = absurd (cc e)
 may-ok fs read (Some (i, f)) x e = must-ok [] fs 0 read (Some (i, f)) x (within (located fs i (read f)) e)
 
 -- the same of a field that may be there
-pub bank-form : (t : Tables) (fs : List Field) (found : List ℕ) (k : ℕ) (o : Option Party) → in_option fs found k (known_party_of t) ≡ Ok o → IfSome o HasBic
+pub bank-form : (t : Tables) (fs : List Field) (found : List ℕ) (k : ℕ) (o : Option Party) → in_option fs found k (known_party_of t) ≡ Ok o → IfSome o (HasBank t)
 bank-form t fs found k None e = tt
-bank-form t fs found k (Some p) e = let f = may-ok fs (known_party_of t) (field_in fs found k) p e in party-bic t f.0 p f.1
+bank-form t fs found k (Some p) e = let f = may-ok fs (known_party_of t) (field_in fs found k) p e in party-bank t f.0 p f.1

@@ -21,6 +21,7 @@ use Rattle.day_model.specs.declared.pay.Order.{Order}
 use Rattle.day_model.specs.declared.pay.Order.TheVariants as order
 use Rattle.day_model.specs.declared.pay.Quote.TheVariants.{Theirs}
 use Rattle.day_model.specs.declared.pay.Side.TheVariants.{Credit, Debit}
+use Rattle.ref_tables.specs.Seen.{Tables}
 use Rattle.fin_parties.specs.declared.party.Party.{Party}
 use Rattle.fin_parties.specs.declared.party.Party.TheVariants as party
 use Rattle.routing.specs.Accounts.{AreBetween, fits}
@@ -37,77 +38,78 @@ use Rattle.pay_plan.specs.Asked.{asked_of}
 use Rattle.pay_plan.specs.Orders.{next_orders, notices_of, orders_by, orders_of, receiver, skip_of}
 use Rattle.pay_plan.specs.Pay.{legs_of, quote_of}
 use Rattle.pay_plan.specs.Plan.{pay_of}
-use Rattle.pay_plan.specs.Readable.{IsRead, IsWritable}
+use Rattle.pay_plan.specs.Readable.{IsReadBy, IsWritable}
+use Rattle.pay_plan.specs.Sends.{IsKnown}
 use Rattle.pay_plan.specs.Target.{aimed, bank_target, customer_target, names_home}
 use Rattle.pay_plan.specs.Way.{way_of}
 use Rattle.pay_plan.proofs.CoverForm.{cover-form}
-use Rattle.pay_plan.proofs.Parties.{HasBic}
+use Rattle.pay_plan.proofs.Parties.{HasBank}
 use Rattle.pay_plan.proofs.TransferForm.{transfer-form}
 
 -- ---- what is asked
 
--- the BIC of a target that has one meets its grammar
-abbrev pub TargetForm : Target → Type 0
-TargetForm (Bank bic field) = IsBic bic
-TargetForm _ = Unit {0}
+-- the BIC of a target that has one meets its grammar, and the tables hold its head
+abbrev pub TargetForm : Tables → Target → Type 0
+TargetForm t (Bank bic field) = IsBic bic × IsKnown t bic
+TargetForm t _ = Unit {0}
 
-pub record AskedForm (asked : Asked) : Type 0 where
+pub record AskedForm (t : Tables) (asked : Asked) : Type 0 where
   pub reference : IsReference asked.reference
   pub last_reference : IsReference asked.last_reference
   pub value : InCentury asked.value
-  pub target : TargetForm asked.target
+  pub target : TargetForm t asked.target
 
-bank-target : (field : ℕ) (p : Party) → HasBic p → TargetForm (bank_target field p)
-bank-target field (party.A line bic) h = h
-bank-target field (party.B line place) h = tt
-bank-target field (party.C line) h = tt
-bank-target field (party.D line lines) h = tt
-bank-target field (party.K account lines) h = tt
-bank-target field (party.F line lines) h = tt
+bank-target : (t : Tables) (field : ℕ) (p : Party) → HasBank t p → TargetForm t (bank_target field p)
+bank-target t field (party.A line bic) h = h
+bank-target t field (party.B line place) h = tt
+bank-target t field (party.C line) h = tt
+bank-target t field (party.D line lines) h = tt
+bank-target t field (party.K account lines) h = tt
+bank-target t field (party.F line lines) h = tt
 
-unless-home : (home : Bool) (target : Target) → TargetForm target → IfSome (cond home None (Some target)) TargetForm
-unless-home true target h = tt
-unless-home false target h = h
+unless-home : (t : Tables) (home : Bool) (target : Target) → TargetForm t target → IfSome (cond home None (Some target)) (TargetForm t)
+unless-home t true target h = tt
+unless-home t false target h = h
 
-aimed-form : (home : Bic) (field : ℕ) (o : Option Party) → IfSome o HasBic → IfSome (aimed home field o) TargetForm
-aimed-form home field None h = tt
-aimed-form home field (Some p) h = unless-home (names_home home p) (bank_target field p) (bank-target field p h)
+aimed-form : (t : Tables) (home : Bic) (field : ℕ) (o : Option Party) → IfSome o (HasBank t) → IfSome (aimed home field o) (TargetForm t)
+aimed-form t home field None h = tt
+aimed-form t home field (Some p) h = unless-home t (names_home home p) (bank_target field p) (bank-target t field p h)
 
-first-form : (a b : Option Target) (last : Target) → IfSome a TargetForm → IfSome b TargetForm → TargetForm last → TargetForm (unwrap_or (first_of (a ∷ b ∷ [])) last)
-first-form (Some x) b last f g h = f
-first-form None (Some y) last f g h = g
-first-form None None last f g h = h
+first-form : (t : Tables) (a b : Option Target) (last : Target) → IfSome a (TargetForm t) → IfSome b (TargetForm t) → TargetForm t last → TargetForm t (unwrap_or (first_of (a ∷ b ∷ [])) last)
+first-form t (Some x) b last f g h = f
+first-form t None (Some y) last f g h = g
+first-form t None None last f g h = h
 
-pub asked-form : (home : Bic) (ask : Ask) → IsRead ask → AskedForm (asked_of home ask)
-asked-form home (Transfer m) is =
-    let x = transfer-form m.now is in
-    let first = aimed-form home 56 m.now.p56 x.p56 in
-    let second = aimed-form home 57 m.now.p57 x.p57 in
+pub asked-form : (t : Tables) (home : Bic) (ask : Ask) → IsReadBy t ask → AskedForm t (asked_of home ask)
+asked-form t home (Transfer m) is =
+    let x = transfer-form t m.now is in
+    let first = aimed-form t home 56 m.now.p56 x.p56 in
+    let second = aimed-form t home 57 m.now.p57 x.p57 in
     record {
       reference = x.reference;
       last_reference = x.reference;
       value = x.value;
-      target = first-form (aimed home 56 m.now.p56) (aimed home 57 m.now.p57) (customer_target m.now.payee) first second tt;
+      target = first-form t (aimed home 56 m.now.p56) (aimed home 57 m.now.p57) (customer_target m.now.payee) first second tt;
     }
-asked-form home (Cover m) is =
-    let x = cover-form m.now is in
-    let first = aimed-form home 56 m.now.a56 x.a56 in
-    let second = aimed-form home 57 m.now.a57 x.a57 in
+asked-form t home (Cover m) is =
+    let x = cover-form t m.now is in
+    let first = aimed-form t home 56 m.now.a56 x.a56 in
+    let second = aimed-form t home 57 m.now.a57 x.a57 in
     record {
       reference = x.reference;
       last_reference = x.related;
       value = x.value;
-      target = first-form (aimed home 56 m.now.a56) (aimed home 57 m.now.a57) (bank_target 58 m.now.a58) first second (bank-target 58 m.now.a58 x.a58);
+      target = first-form t (aimed home 56 m.now.a56) (aimed home 57 m.now.a57) (bank_target 58 m.now.a58) first second (bank-target t 58 m.now.a58 x.a58);
     }
 
 -- ---- the legs
 
-quote-form : (way : Way) (asked : Asked) → AskedForm asked → IsQuote (quote_of way asked)
-quote-form Ends asked h = h.last_reference
-quote-form Onward asked h = tt
-quote-form Covered asked h = tt
-quote-form Credited asked h = h.last_reference
-quote-form Passed asked h = tt
+quote-form : (t : Tables) (way : Way) (asked : Asked) → AskedForm t asked → IsQuote (quote_of way asked)
+quote-form t Ends asked h = h.last_reference
+quote-form t Onward asked h = tt
+quote-form t Covered asked h = tt
+quote-form t Credited asked h = h.last_reference
+quote-form t Passed asked h = tt
 
 number-form : (chart : Chart) (n : ℕ) (more : Bool) → IsChart chart → (is_listed chart n && more) ≡ true → (1 ≤ n) × (n ≤ 1000)
 number-form chart n more sound e =
@@ -120,13 +122,13 @@ number-form chart n more sound e =
 two : (x y : Leg) → IsLeg x → IsLeg y → All IsLeg (x ∷ y ∷ [])
 two x y h k = All-cons IsLeg x (y ∷ []) h (All-cons IsLeg y [] k (All-nil IsLeg))
 
-each-leg : (chart : Chart) (way : Way) (asked : Asked) (routed : Routed) → IsChart chart → AskedForm asked → AreBetween chart asked.amount routed → All IsLeg (legs_of way asked routed)
-each-leg chart way asked routed sound h between =
+each-leg : (t : Tables) (chart : Chart) (way : Way) (asked : Asked) (routed : Routed) → IsChart chart → AskedForm t asked → AreBetween chart asked.amount routed → All IsLeg (legs_of way asked routed)
+each-leg t chart way asked routed sound h between =
     let debit = number-form chart routed.debit.0 (option_map_or (fits asked.amount) (account_at chart routed.debit.0) false) sound between.debit in
     let credit = number-form chart routed.credit.0 (option_map_or (fits asked.amount) (account_at chart routed.credit.0) false) sound between.credit in
     let first : Leg = record { account = routed.debit; side = Debit; amount = asked.amount.minor; quote = Theirs asked.reference } in
     let second : Leg = record { account = routed.credit; side = Credit; amount = asked.amount.minor; quote = quote_of way asked } in
-    two first second (record { account = debit; quote = h.reference }) (record { account = credit; quote = quote-form way asked h })
+    two first second (record { account = debit; quote = h.reference }) (record { account = credit; quote = quote-form t way asked h })
 
 both : (a b : Bool) → a ≡ true → b ≡ true → (a && b) ≡ true
 both a b e f = rw (e, f) refl
@@ -170,10 +172,10 @@ next-form Passed bank field via h v =
     let x = order.Pass (receiver bank via) (skip_of field (is_bank (receiver bank via) bank)) in
     record { each = one x (receiver-form bank via h v); few = omega arith }
 
-target-form : (way : Way) (target : Target) (via : Option Bic) → TargetForm target → IfSome via IsBic → AreOrders 2 (orders_by way target via)
-target-form way (Bank bank field) via h v = next-form way bank field via h v
-target-form way (Customer account) via h v = none
-target-form way NoBic via h v = none
+target-form : (t : Tables) (way : Way) (target : Target) (via : Option Bic) → TargetForm t target → IfSome via IsBic → AreOrders 2 (orders_by way target via)
+target-form t way (Bank bank field) via h v = next-form way bank field via h.0 v
+target-form t way (Customer account) via h v = none
+target-form t way NoBic via h v = none
 
 if-vostro : (is : Bool) (owner : Bic) → IsBic owner → AreOrders 1 (cond is (order.Debit owner 1 ∷ []) [])
 if-vostro true owner h = record { each = one (order.Debit owner 1) (h, (omega arith, omega arith)); few = omega arith }
@@ -182,19 +184,19 @@ if-vostro false owner h = record { each = All-nil (IsOrder 2); few = omega arith
 notice-form : (a : Account) → IsBic a.owner → AreOrders 1 (notices_of a)
 notice-form a h = if-vostro (a.kind == vostro) a.owner h
 
-both-form : (way : Way) (target : Target) (via : Option Bic) (a : Account) → TargetForm target → IfSome via IsBic → IsBic a.owner → AreOrders 3 (orders_of way target via a)
-both-form way target via a h v o =
-    let first = target-form way target via h v in
+both-form : (t : Tables) (way : Way) (target : Target) (via : Option Bic) (a : Account) → TargetForm t target → IfSome via IsBic → IsBic a.owner → AreOrders 3 (orders_of way target via a)
+both-form t way target via a h v o =
+    let first = target-form t way target via h v in
     let last = notice-form a o in
     record {
       each = All-append (IsOrder 2) (orders_by way target via) (notices_of a) first.each last.each;
       few = omega (arith, first.few, last.few, length-append (orders_by way target via) (notices_of a));
     }
 
-there-form : (way : Way) (target : Target) (via : Option Bic) (o : Option Account) → TargetForm target → IfSome via IsBic → ((a : Account) → o ≡ Some a → IsBic a.owner)
+there-form : (t : Tables) (way : Way) (target : Target) (via : Option Bic) (o : Option Account) → TargetForm t target → IfSome via IsBic → ((a : Account) → o ≡ Some a → IsBic a.owner)
     → AreOrders 3 (option_map_or (orders_of way target via) o [])
-there-form way target via None h v owner = record { each = All-nil (IsOrder 2); few = omega arith }
-there-form way target via (Some a) h v owner = both-form way target via a h v (owner a refl)
+there-form t way target via None h v owner = record { each = All-nil (IsOrder 2); few = omega arith }
+there-form t way target via (Some a) h v owner = both-form t way target via a h v (owner a refl)
 
 -- ---- the pay
 
@@ -202,19 +204,19 @@ given : (o : Option Mir) (d : Mir) → IsSome o → IfSome o IsMir → IsMir (un
 given (Some m) d some h = h
 given None d some h = absurd (cc some)
 
-pub shaped : (env : Envelope) (text : List ℕ) (asked : Asked) (routed : Routed) (chart : Chart) → IsSome env.mir → IsWritable env text
-    → AskedForm asked → AreBetween chart asked.amount routed → IfSome routed.via IsBic → legs_fit chart (legs_of (way_of asked.mt asked.target routed.method) asked routed) ≡ true
+pub shaped : (t : Tables) (env : Envelope) (text : List ℕ) (asked : Asked) (routed : Routed) (chart : Chart) → IsSome env.mir → IsWritable env text
+    → AskedForm t asked → AreBetween chart asked.amount routed → IfSome routed.via IsBic → legs_fit chart (legs_of (way_of asked.mt asked.target routed.method) asked routed) ≡ true
     → IsChart chart → ((a : Account) → account_at chart routed.debit.0 ≡ Some a → IsBic a.owner) → HasShape (pay_of env text asked routed chart)
-shaped env text asked routed chart received writable form between via fits sound owner =
+shaped t env text asked routed chart received writable form between via fits sound owner =
     let way = way_of asked.mt asked.target routed.method in
-    let orders = there-form way asked.target routed.via (account_at chart routed.debit.0) form.target via owner in
+    let orders = there-form t way asked.target routed.via (account_at chart routed.debit.0) form.target via owner in
     record {
       mir = given env.mir (record { 0 = [] }) received writable.mir;
       uetr = writable.uetr;
       text = writable.short;
       value = form.value;
       legs = legs-form chart way asked routed fits between.distinct;
-      each_leg = each-leg chart way asked routed sound form between;
+      each_leg = each-leg t chart way asked routed sound form between;
       few_orders = omega (arith, orders.few);
       each_order = orders.each;
     }

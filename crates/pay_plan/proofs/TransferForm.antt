@@ -1,4 +1,4 @@
--- The form of a transfer that was read: its reference, its value date, and the BICs of 56a and 57a.
+-- The form of a transfer that was read: its reference, its value date, and the banks of 56a and 57a.
 use Rattle.std.proofs.Common.{◌≡◌, ℕ, IfSome, List, [], ◌∷◌, Ok, subst}
 use Rattle.corr_ids.specs.Day.{InCentury}
 use Rattle.day_model.specs.Shape.{IsReference}
@@ -21,22 +21,22 @@ use Rattle.mt103.specs.Order.{order_103}
 use Rattle.mt103.specs.declared.parties.Parties.{Parties}
 use Rattle.mt103.specs.declared.terms.Terms.{Terms}
 use Rattle.pay_plan.specs.Readable.{IsTransferRead}
-use Rattle.pay_plan.proofs.Parties.{HasBic, bank-form, ok-is}
+use Rattle.pay_plan.proofs.Parties.{HasBank, bank-form, ok-is}
 use Rattle.pay_plan.proofs.Words.{reference-form}
 
-pub record TransferForm (m : Mt103) : Type 0 where
+pub record TransferForm (t : Tables) (m : Mt103) : Type 0 where
   pub reference : IsReference m.reference
   pub value : InCentury m.value
-  pub p56 : IfSome m.p56 HasBic
-  pub p57 : IfSome m.p57 HasBic
+  pub p56 : IfSome m.p56 (HasBank t)
+  pub p57 : IfSome m.p57 (HasBank t)
 
 record TermsForm (x : Terms) : Type 0 where
   reference : IsReference x.reference
   value : InCentury x.value.day
 
-record PartiesForm (x : Parties) : Type 0 where
-  p56 : IfSome x.p56 HasBic
-  p57 : IfSome x.p57 HasBic
+record PartiesForm (t : Tables) (x : Parties) : Type 0 where
+  p56 : IfSome x.p56 (HasBank t)
+  p57 : IfSome x.p57 (HasBank t)
 
 terms-form : (t : Tables) (fs : List Field) (found : List ℕ) (x : Terms) → terms_of t fs found ≡ Ok x → TermsForm x
 unfolding terms_of
@@ -54,7 +54,7 @@ terms-form t fs found x e =
     let g = must-ok order_103 fs 5 (value_of t) (field_in fs found 5) r5.0 r5.1 in
     subst TermsForm same (record { reference = reference-form f.0 r0.0 f.1; value = value-day t g.0 r5.0 g.1 })
 
-parties-form : (t : Tables) (fs : List Field) (found : List ℕ) (x : Parties) → parties_of t fs found ≡ Ok x → PartiesForm x
+parties-form : (t : Tables) (fs : List Field) (found : List ℕ) (x : Parties) → parties_of t fs found ≡ Ok x → PartiesForm t x
 unfolding parties_of
 parties-form t fs found x e =
     let r0 = read-then (in_place order_103 fs found 8 (known_party_of t)) _ x e in
@@ -66,9 +66,9 @@ parties-form t fs found x e =
     let r6 = read-then (in_option fs found 14 (known_party_of t)) _ x r5.2 in
     let r7 = read-then (in_place order_103 fs found 15 (known_party_of t)) _ x r6.2 in
     let same : record { payer = r0.0; p52 = r1.0; p53 = r2.0; p54 = r3.0; p55 = r4.0; p56 = r5.0; p57 = r6.0; payee = r7.0 } ≡ x = ok-is _ x r7.2 in
-    subst PartiesForm same (record { p56 = bank-form t fs found 13 r5.0 r5.1; p57 = bank-form t fs found 14 r6.0 r6.1 })
+    subst (PartiesForm t) same (record { p56 = bank-form t fs found 13 r5.0 r5.1; p57 = bank-form t fs found 14 r6.0 r6.1 })
 
-contents-form : (t : Tables) (fs : List Field) (found : List ℕ) (m : Mt103) → contents_of t fs found ≡ Ok m → TransferForm m
+contents-form : (t : Tables) (fs : List Field) (found : List ℕ) (m : Mt103) → contents_of t fs found ≡ Ok m → TransferForm t m
 unfolding contents_of
 contents-form t fs found m e =
     let terms = read-then (terms_of t fs found) _ m e in
@@ -77,15 +77,15 @@ contents-form t fs found m e =
     let same : message_of terms.0 parties.0 details.0 ≡ m = ok-is _ m details.2 in
     let first = terms-form t fs found terms.0 terms.1 in
     let second = parties-form t fs found parties.0 parties.1 in
-    subst TransferForm same (record { reference = first.reference; value = first.value; p56 = second.p56; p57 = second.p57 })
+    subst (TransferForm t) same (record { reference = first.reference; value = first.value; p56 = second.p56; p57 = second.p57 })
 
-message-form : (t : Tables) (fs : List Field) (m : Mt103) → mt103_of t fs ≡ Ok m → TransferForm m
+message-form : (t : Tables) (fs : List Field) (m : Mt103) → mt103_of t fs ≡ Ok m → TransferForm t m
 unfolding mt103_of
 message-form t fs m e =
     let structure = read-then (passed (field_tests t fs)) _ m e in
     let contents = read-then (contents_of t fs (places_from order_103 0 fs)) _ m structure.2 in
     let more = read-then (passed (e46 contents.0.instrs ∷ d98 contents.0.instrs ∷ [])) _ m contents.2 in
-    subst TransferForm (ok-is contents.0 m more.2) (contents-form t fs (places_from order_103 0 fs) contents.0 contents.1)
+    subst (TransferForm t) (ok-is contents.0 m more.2) (contents-form t fs (places_from order_103 0 fs) contents.0 contents.1)
 
-pub transfer-form : (m : Mt103) → IsTransferRead m → TransferForm m
-transfer-form m is = message-form is.tables is.fields m is.read
+pub transfer-form : (t : Tables) (m : Mt103) → IsTransferRead t m → TransferForm t m
+transfer-form t m is = message-form t is.fields m is.read

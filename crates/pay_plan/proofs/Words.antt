@@ -1,5 +1,5 @@
 -- References and value dates that were read.
-use Rattle.std.proofs.Common.{◌≡◌, ℕ, ◌&&◌, ◌-◌, Bool, true, List, Ok, subst, arith, length, not, leb}
+use Rattle.std.proofs.Common.{◌≡◌, ℕ, ◌&&◌, Bool, true, List, Ok, subst, arith, length, not, leb}
 use Rattle.std.specs.List.{list_all}
 use Rattle.std.proofs.lemmas.Bool.{leb-true}
 use Rattle.std.proofs.lemmas.Bool.Decides.{nat_tests}

@@ -6,3 +6,4 @@ pub mod Orders
 pub mod Pay
 pub mod Plan
 pub mod Readable
+pub mod Sends

@@ -13,22 +13,24 @@ use Rattle.mt202cov.specs.Message.{mt202cov_of}
 use Rattle.pay_plan.specs.declared.ask.Ask.{Ask}
 use Rattle.pay_plan.specs.declared.ask.Ask.TheVariants.{Transfer, Cover}
 
--- a transfer is one that its reader gives of some fields under some tables
-pub record IsTransferRead (m : Mt103) : Type 0 where
-  pub tables : Tables
+-- a transfer is one that its reader gives of some fields under these tables
+pub record IsTransferRead (t : Tables) (m : Mt103) : Type 0 where
   pub fields : List Field
-  pub read : mt103_of tables fields ≡ Ok m
+  pub read : mt103_of t fields ≡ Ok m
 
 -- the same of a cover
-pub record IsCoverRead (m : Mt202Cov) : Type 0 where
-  pub tables : Tables
+pub record IsCoverRead (t : Tables) (m : Mt202Cov) : Type 0 where
   pub fields : List Field
-  pub read : mt202cov_of tables fields ≡ Ok m
+  pub read : mt202cov_of t fields ≡ Ok m
 
--- the message is one that its reader gives
+-- the message is one that its reader gives under these tables
+abbrev pub IsReadBy : Tables → Ask → Type 0
+IsReadBy t (Transfer m) = IsTransferRead t m.now
+IsReadBy t (Cover m) = IsCoverRead t m.now
+
+-- under some tables
 abbrev pub IsRead : Ask → Type 0
-IsRead (Transfer m) = IsTransferRead m.now
-IsRead (Cover m) = IsCoverRead m.now
+IsRead ask = (t : Tables) × IsReadBy t ask
 
 -- an envelope and a text whose pay can be written down: the reference and the UETR meet their grammar, and the text is short
 pub record IsWritable (env : Envelope) (text : List ℕ) : Type 0 where

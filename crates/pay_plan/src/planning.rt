@@ -70,6 +70,7 @@ pub fn plan(
     ensures plan { Plans result (plan_of env.now text.now ask.entry ssi.now accounts.now) }
     ensures fit { IfOk result (FitsAccounts accounts.now) }
     ensures form { IsWritable env.now text.now → IfOk result HasShape }
+    ensures sound { OnOk result (IsChart accounts.now) }
 {
     let Some(mir) = env.mir else { unreachable!() };
     if is_for_home(accounts.home(), ask) {

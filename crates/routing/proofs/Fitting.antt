@@ -27,7 +27,7 @@ place-of t accounts n e =
 pub listed : (t : Account → Bool) (chart : Chart) (n : AcctNo) → number_of_first t chart.accounts ≡ Some n → IsListed chart n.0
 listed t chart n e = let w = position_from-within t 1 n.0 chart.accounts (place-of t chart.accounts n e) in (omega arith, omega arith)
 
-stands : (t : Account → Bool) (chart : Chart) (n : AcctNo) → number_of_first t chart.accounts ≡ Some n → StandsAt t chart.accounts (n.0 - 1)
+pub stands : (t : Account → Bool) (chart : Chart) (n : AcctNo) → number_of_first t chart.accounts ≡ Some n → StandsAt t chart.accounts (n.0 - 1)
 stands t chart n e =
     let l : IsListed chart n.0 = listed t chart n e in
     found t 1 (n.0 - 1) n.0 chart.accounts (place-of t chart.accounts n e) (omega arith)
@@ -46,14 +46,14 @@ last-two true true c d e = e
 last-two true false c d e = cc
 last-two false b c d e = cc
 
-owned-fits : (kind : ℕ) (head : List ℕ) (amount : Amount) (x : Account) → is_owned kind head amount.ccy amount.decimals x ≡ true → fits amount x ≡ true
+pub owned-fits : (kind : ℕ) (head : List ℕ) (amount : Amount) (x : Account) → is_owned kind head amount.ccy amount.decimals x ≡ true → fits amount x ≡ true
 owned-fits kind head amount x e = last-two (eqb x.kind kind) (bytes_eq x.owner.head head) (is_ccy x.ccy amount.ccy) (eqb x.decimals amount.decimals) e
 
 either : (a b c : Bool) → (a ≡ true → c ≡ true) → (b ≡ true → c ≡ true) → a || b ≡ true → c ≡ true
 either true b c f g e = f refl
 either false b c f g e = g e
 
-serves-fits : (w : Wanted) (amount : Amount) (x : Account) → serves w amount x ≡ true → fits amount x ≡ true
+pub serves-fits : (w : Wanted) (amount : Amount) (x : Account) → serves w amount x ≡ true → fits amount x ≡ true
 serves-fits Customer amount x e = (and_parts (eqb x.kind customer) (fits amount x) e).1
 serves-fits (Relation bank) amount x e =
     either (is_owned vostro bank.head amount.ccy amount.decimals x) (is_owned nostro bank.head amount.ccy amount.decimals x) (fits amount x)

@@ -1,11 +1,9 @@
-use Rattle.std.proofs.Common.{◌≡◌, ◌≤◌, drop, length}
+use Rattle.std.proofs.Common.{drop}
 use Rattle.corr_top.specs.Message.{readings_of}
-use Rattle.corr_top.proofs.Turns.{Answered}
+use Rattle.corr_top.proofs.Turning.{Going}
 use Rattle.corr_top.proofs.answers.answer_all.Given as goal
 
+-- the messages before this one were answered
 abbrev pub invariant-loop-message : goal.invariant-loop-message
-invariant-loop-message l = record {
-  so_far : Answered l.books.accounts l.books.day (readings_of l.books l.fn.messages) (readings_of l.books (drop l.message-index l.fn.messages)) l.answers.history.entries l.answers.replies.items;
-  few : length l.answers.history.entries ≤ l.message-index;
-  each : length l.answers.replies.items ≡ l.message-index;
-}
+invariant-loop-message g l =
+    Going g.D.Disk l.desk.day l.fn.book (readings_of l.desk.directory l.fn.book.accounts l.fn.messages) (readings_of l.desk.directory l.fn.book.accounts (drop l.message-index l.fn.messages)) l.book l.answers

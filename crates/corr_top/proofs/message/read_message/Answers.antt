@@ -8,6 +8,7 @@ use Rattle.corr_top.proofs.message.read_message.Goals as goal
 pub returns-clause-value : goal.returns-clause-value
 unfolding message_of
 returns-clause-value c =
-    let books = c.args.books.now in
-    let judged = subst (λ (bank : Bic). verdict_of bank books.tables c.args.b.now ≡ Ok c.in_ok-message.message) c.home.ensures c.in_ok-message.ensures.value in
-    read_on books (verdict_of books.accounts.home books.tables c.args.b.now) c.in_ok-message.message c.read_pay-pay.result judged c.read_pay-pay.ensures.value
+    let directory = c.args.directory.now in
+    let chart = c.args.accounts.now in
+    let judged = subst (λ (bank : Bic). verdict_of bank directory.tables c.args.b.now ≡ Ok c.in_ok-message.message) c.home.ensures c.in_ok-message.ensures.value in
+    read_on directory chart (verdict_of chart.home directory.tables c.args.b.now) c.in_ok-message.message c.read_pay-pay.result judged c.read_pay-pay.ensures.value

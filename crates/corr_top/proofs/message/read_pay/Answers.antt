@@ -9,14 +9,16 @@ use Rattle.corr_top.proofs.message.read_pay.Goals as goal
 
 pub returns-in-Transfer-clause-value : goal.returns-in-Transfer-clause-value
 returns-in-Transfer-clause-value c =
-    let books = c.args.books.now in
+    let directory = c.args.directory.now in
+    let chart = c.args.accounts.now in
     let envelope = c.in-Transfer.envelope in
-    let reads = subst (λ (plan : Result Pay Code). ReadsAs c.plan_pay.result (unrouted envelope plan)) (kept_transfer envelope c.in-Transfer.text _ books.ssi books.accounts) c.plan_pay.ensures.value in
-    subst (λ (m : Message). ReadsAs c.plan_pay.result (pay_in books m)) (sym c.in-Transfer.is) reads
+    let reads = subst (λ (plan : Result Pay Code). ReadsAs c.plan_pay.result (unrouted envelope plan)) (kept_transfer envelope c.in-Transfer.text _ directory.ssi chart) c.plan_pay.ensures.value in
+    subst (λ (m : Message). ReadsAs c.plan_pay.result (pay_in directory chart m)) (sym c.in-Transfer.is) reads
 
 pub returns-in-Cover-clause-value : goal.returns-in-Cover-clause-value
 returns-in-Cover-clause-value c =
-    let books = c.args.books.now in
+    let directory = c.args.directory.now in
+    let chart = c.args.accounts.now in
     let envelope = c.in-Cover.envelope in
-    let reads = subst (λ (plan : Result Pay Code). ReadsAs c.plan_pay-in-Cover.result (unrouted envelope plan)) (kept_cover envelope c.in-Cover.text _ books.ssi books.accounts) c.plan_pay-in-Cover.ensures.value in
-    subst (λ (m : Message). ReadsAs c.plan_pay-in-Cover.result (pay_in books m)) (sym c.in-Cover.is) reads
+    let reads = subst (λ (plan : Result Pay Code). ReadsAs c.plan_pay-in-Cover.result (unrouted envelope plan)) (kept_cover envelope c.in-Cover.text _ directory.ssi chart) c.plan_pay-in-Cover.ensures.value in
+    subst (λ (m : Message). ReadsAs c.plan_pay-in-Cover.result (pay_in directory chart m)) (sym c.in-Cover.is) reads

@@ -1,8 +1,8 @@
 use Rattle.std.proofs.Common.{◌+◌, refl, drop}
+use Rattle.std.proofs.lemmas.List.{drop_all}
 use Rattle.std.proofs.lemmas.Option.{slice_get_read}
 use Rattle.corr_report.proofs.laws.Rests.{drop_at}
 use Rattle.corr_top.proofs.Adding.{parted_done, parted_more}
-use Rattle.corr_top.proofs.Turns.{none_left}
 use Rattle.corr_top.proofs.outgoing.push_parted.Goals as goal
 
 pub loop-message-preserved : goal.loop-message-preserved
@@ -15,4 +15,4 @@ loop-message-preserved c =
 pub returns : goal.returns
 returns c =
     let messages = c.args.messages.now in
-    parted_done _ c.loop-message.out _ (none_left messages c.loop-message.message-index c.loop-message-test.false) c.loop-message.invariant
+    parted_done _ c.loop-message.out _ (drop_all c.loop-message.message-index messages c.loop-message-test.false) c.loop-message.invariant

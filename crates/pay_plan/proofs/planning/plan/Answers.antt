@@ -36,18 +36,19 @@ returns-clause-fit c =
     let P : Pay → Type 0 = λ p. FitsAccounts c.args.accounts.now p in
     let Q : Asked → Type 0 = λ q. IsPayable q.amount in
     let asked = c.in_ok-asked.asked in
-    let amount : IsPayable asked.amount = subst Q (sym c.in_ok-asked.ensures) (asked-amount c.home-2.result.now c.args.ask c.requires.message) in
+    let amount : IsPayable asked.amount = subst Q (sym c.in_ok-asked.ensures) (asked-amount c.requires.message.0 c.home-2.result.now c.args.ask c.requires.message.1) in
     subst P (sym c.in_ok-pay_of.ensures.value)
     (legs-fit c.args.accounts.now (way_of asked.mt asked.target c.in_ok-routed.routed.method) asked c.in_ok-routed.routed c.in_ok-routed.ensures.accounts.fit amount)
 
 pub returns-clause-form : goal.returns-clause-form
 returns-clause-form c = λ writable.
     let asked = c.in_ok-asked.asked in
-    let form : AskedForm asked = subst AskedForm (sym c.in_ok-asked.ensures) (asked-form c.home-2.result.now c.args.ask c.requires.message) in
+    let t = c.requires.message.0 in
+    let form : AskedForm t asked = subst (AskedForm t) (sym c.in_ok-asked.ensures) (asked-form t c.home-2.result.now c.args.ask c.requires.message.1) in
     let Q : Asked → Type 0 = λ q. IsPayable q.amount in
-    let amount : IsPayable asked.amount = subst Q (sym c.in_ok-asked.ensures) (asked-amount c.home-2.result.now c.args.ask c.requires.message) in
+    let amount : IsPayable asked.amount = subst Q (sym c.in_ok-asked.ensures) (asked-amount c.requires.message.0 c.home-2.result.now c.args.ask c.requires.message.1) in
     let routed = c.in_ok-routed.ensures in
     let booked = c.in_ok-pay_of.ensures in
     let fits = legs-fit c.args.accounts.now (way_of asked.mt asked.target c.in_ok-routed.routed.method) asked c.in_ok-routed.routed routed.accounts.fit amount in
     subst HasShape (sym booked.value)
-    (shaped c.args.env.now c.args.text.now asked c.in_ok-routed.routed c.args.accounts.now c.requires.received writable form routed.accounts routed.via fits booked.sound booked.owner)
+    (shaped t c.args.env.now c.args.text.now asked c.in_ok-routed.routed c.args.accounts.now c.requires.received writable form routed.accounts routed.via fits booked.sound booked.owner)

@@ -1,0 +1,95 @@
+-- A journal that is made for the accounts of the tables.
+use Rattle.std.proofs.Common.{◌≡◌, ◌⊎◌, inl, inr, ℕ, List, [], ◌∷◌, Option, Some, None, Result, Ok, Err, refl, sym, ap, ◌∙◌, subst}
+use Rattle.std.specs.Prelude.{IsTrue, MatchResult}
+use Rattle.corr_disk.specs.declared.disk.Disk as disks
+use Rattle.corr_disk.specs.Disk.{LeavesOnly, Only}
+use Rattle.corr_io.specs.declared.source.Source as sources
+use Rattle.corr_ids.specs.declared.bic.Bic.{Bic}
+use Rattle.day_model.specs.Chart.{Chart}
+use Rattle.jrn_codec.specs.Header.{head_bytes}
+use Rattle.jrn_file.specs.Faults.{MakeCause}
+use Rattle.jrn_file.specs.Journal.{StandsFor}
+use Rattle.jrn_file.specs.Making.{IsOther, IsUnmade, IsUnmadeOrMade}
+use Rattle.jrn_file.specs.declared.fault.MakeFault.{MakeFault}
+use Rattle.corr_top.specs.declared.room.Room.{Room}
+use Rattle.corr_top.specs.declared.status.Status.{Status}
+use Rattle.corr_top.specs.declared.words.Command.TheVariants.{Plain}
+use Rattle.corr_top.specs.declared.words.Plain.TheVariants.{Init}
+use Rattle.corr_top.specs.declared.writing.Texts.{Texts}
+use Rattle.corr_top.specs.Commands.{out_in, report_in}
+use Rattle.corr_top.specs.Ends.{HasTexts}
+use Rattle.corr_top.specs.Inputs.{chart_in}
+use Rattle.corr_top.specs.OnDisk.{HasNotFailed, IsFree, IsOnDisk, IsUnwritten, StopsMaking}
+use Rattle.corr_top.specs.Passing.{IsUntouched, Passes, StopsAt}
+use Rattle.corr_top.specs.Steps.{Step}
+use Rattle.corr_top.specs.Stops.{status_of_making}
+use Rattle.corr_top.specs.Tables.{HasAccounts, StopsAccounts, account_steps}
+use Rattle.corr_top.proofs.Walking.{halts_front}
+
+module _ {D : Type 0} (d : disks.Ghosts D) (old new : D) (head bytes : List ℕ) (chart : Chart) (given : bytes ≡ head) (is : head ≡ head_bytes chart) where
+  -- a journal of this header was made
+  pub made : d.honest new ≡ d.honest old → (IsTrue (d.honest old) → StandsFor (d.reads new) bytes []) → (IsTrue (d.honest old) → Only (d.reads new) (d.may_leave new)) → d.faults new ≡ d.faults old → IsFree d old
+      → IsFree d old × IsOnDisk d new chart [] × HasNotFailed d old new
+  made honest stands durable kept free = (
+    free,
+    record { stands = λ h. subst (λ (b : List ℕ). StandsFor (d.reads new) b []) (given ∙ is) (stands (sym honest ∙ h)); durable = λ h. durable (sym honest ∙ h) },
+    kept,
+  )
+
+  -- it was not
+  pub unmade : (fault : MakeFault) → MakeCause (d.faults old) (d.faults new) (λ first. IsTrue (d.honest old) → IsOther (d.reads old) first) fault
+      → ((first : ℕ) → IsTrue (d.honest old) → IsOther (d.reads old) first → IsUnwritten d old new)
+      → (IsTrue (d.honest old) → Only (d.reads old) (d.may_leave old) → IsUnmade (d.reads old) → LeavesOnly d.moment d.left_since old new (IsUnmadeOrMade bytes)) → StopsMaking d old new chart fault
+  unmade fault cause untouched any_moment = record {
+    cause = cause;
+    untouched = untouched;
+    any_moment = λ h only free. subst (λ (b : List ℕ). LeavesOnly d.moment d.left_since old new (IsUnmadeOrMade b)) (given ∙ is) (any_moment h only free);
+  }
+
+module _ {S K D : Type 0} (source : sources.Ghosts S) (d : disks.Ghosts D) (home : Bic) (old new : Room S K D) where
+  -- the accounts were not read, or their openings don't sum to 0
+  pub accounts_stop : (s : Status) → StopsAccounts source old.tables new.tables home s → new ≡ record old { tables = new.tables } → HasTexts source d (Plain (Init home)) old new (Err s)
+  accounts_stop s stops rest = record {
+    inputs = stops.inputs;
+    are_for = stops.home_is;
+    gives = inl (halts_front (Passes source d old new stops.inputs) (StopsAt source d old new stops.inputs s) (IsUntouched d old new) account_steps (Step.make ∷ []) stops.halted (ap (λ (r : Room S K D). r.disk) rest, tt));
+    rest = (stops.ssi, ap (λ (r : Room S K D). r.messages) rest, ap (λ (r : Room S K D). r.received) rest, ap (λ (r : Room S K D). r.disk2) rest);
+    report = ap (λ (r : Room S K D). r.report) rest;
+    out = ap (λ (r : Room S K D). r.out) rest;
+  }
+
+  -- they were, and the journal was made or it wasn't
+  pub init_texts : (chart : Chart) (head : List ℕ) (making : Result (Unit {0}) MakeFault) (texts : Texts) → HasAccounts source old.tables new.tables home chart → head ≡ head_bytes chart → new ≡ record old { tables = new.tables; disk = new.disk }
+      → MatchResult making (λ _. (c : Chart) → head ≡ head_bytes c → IsFree d old.disk × IsOnDisk d new.disk c [] × HasNotFailed d old.disk new.disk) (λ fault. (c : Chart) → head ≡ head_bytes c → StopsMaking d old.disk new.disk c fault)
+      → texts.report ≡ [] → texts.out ≡ []
+      → MatchResult making (λ _. HasTexts source d (Plain (Init home)) old new (Ok texts)) (λ fault. HasTexts source d (Plain (Init home)) old new (Err (status_of_making fault)))
+  unfolding report_in out_in
+  init_texts chart head (Ok done) texts has is rest making report out =
+      let p = has.passed in
+      let outcome = making chart is in
+      record {
+        inputs = has.inputs;
+        are_for = has.home_is;
+        gives = (
+          record {
+            passed = (p.0, (p.1.0, (p.1.1.0, (p.1.1.1.0, (p.1.1.1.1.0, (outcome.0, tt))))));
+            leaves = record { sure = outcome.2; made = subst (λ (c : Chart). IsOnDisk d new.disk c []) has.chart_is outcome.1 };
+          },
+          report,
+          out,
+        );
+        rest = (has.ssi, ap (λ (r : Room S K D). r.messages) rest, ap (λ (r : Room S K D). r.received) rest, ap (λ (r : Room S K D). r.disk2) rest);
+        report = ap (λ (r : Room S K D). r.report) rest;
+        out = ap (λ (r : Room S K D). r.out) rest;
+      }
+  init_texts chart head (Err fault) texts has is rest making report out =
+      let p = has.passed in
+      let outcome = making chart is in
+      record {
+        inputs = has.inputs;
+        are_for = has.home_is;
+        gives = inl (inr (p.0, inr (p.1.0, inr (p.1.1.0, inr (p.1.1.1.0, inr (p.1.1.1.1.0, inl ((fault, refl, subst (λ (c : Chart). StopsMaking d old.disk new.disk c fault) has.chart_is outcome), tt)))))));
+        rest = (has.ssi, ap (λ (r : Room S K D). r.messages) rest, ap (λ (r : Room S K D). r.received) rest, ap (λ (r : Room S K D). r.disk2) rest);
+        report = ap (λ (r : Room S K D). r.report) rest;
+        out = ap (λ (r : Room S K D). r.out) rest;
+      }

@@ -1,0 +1,59 @@
+-- A journal that is opened, made, or left by a run.
+use Rattle.std.proofs.Common.{◌≡◌, ◌⊎◌, inl, inr, ℕ, Bool, List, [], ◌∷◌, ◌++◌, Option, Some, None, Result, Ok, Err, refl, sym, ap, ◌∙◌, subst, arith}
+use Rattle.std.specs.Prelude.{IfErr, IfOk, IfSome, IsErr, IsTrue, MatchResult}
+use Rattle.corr_disk.specs.declared.disk.Disk as disks
+use Rattle.corr_disk.specs.Disk.{LeavesOnly, NoMore, Only}
+use Rattle.corr_ids.specs.declared.day.Day.{Day}
+use Rattle.day_model.specs.declared.entry.Entry.{Entry}
+use Rattle.day_model.specs.Chart.{Chart}
+use Rattle.jrn_codec.specs.Header.{head_bytes}
+use Rattle.jrn_file.specs.declared.file.JFile.{JFile}
+use Rattle.jrn_file.specs.File.{IsSettled, disk_of}
+use Rattle.jrn_file.specs.Making.{IsUnmade, IsUnmadeOrMade}
+use Rattle.jrn_file.specs.Reading.{opened_of}
+use Rattle.jrn_file.specs.Journal.{StandsFor}
+use Rattle.jrn_file.specs.declared.fault.OpenFault.{OpenFault}
+use Rattle.jrn_book.specs.Book.{Book, StandsOnDisk}
+use Rattle.jrn_book.specs.Journal.{records_of}
+use Rattle.jrn_book.specs.Opening.{HasPurses, IsFound, IsNewBook, OpenCause, Opened, finding_in}
+use Rattle.corr_top.specs.OnDisk.{HasNotFailed, HasOpened, HoldsJournal, IsLeft, IsOnDisk, IsUnwritten, StopsOpening}
+
+module _ {D : Type 0} (d : disks.Ghosts D) where
+  -- a disk that nothing was done to is unwritten: since this moment there is no other
+  pub same_unwritten : ((disk : D) (c : List ℕ) → d.left_since disk (d.moment disk) c → d.may_leave disk c) → (old new : D) → new ≡ old → IsUnwritten d old new
+  same_unwritten only_now old new same = subst (λ (x : D). IsUnwritten d old x) (sym same) (record {
+    same = refl;
+    no_more = λ c left. left;
+    any_moment = record { later = omega arith; each = λ c left. only_now old c left; before = λ t c le left. inl left };
+  })
+
+  module _ (disk : D) where
+    -- what opening a book tells of a disk
+    pub opened : (r : Opened D) → IfOk r (λ o. IsNewBook d.honest d.reads d.may_leave d.faults o.0) → IfOk r (λ o. HasPurses o.0 o.1)
+        → (IsTrue (d.honest disk) → IfSome (finding_in r) (IsFound (opened_of (d.reads disk))))
+        → MatchResult r (λ o. IsUnwritten d disk (disk_of o.0.file)) (λ e. IsUnwritten d disk e.0) → IfOk r (λ o. d.faults (disk_of o.0.file) ≡ d.faults disk)
+        → IfOk r (λ o. HasOpened d disk o.0 o.1)
+    opened (Ok o) new purses told unwritten kept = record {
+      holds = record { journal = new.journal; stands = λ honest. (told honest).1 };
+      whole = new.whole;
+      settled = new.settled;
+      table = purses.table;
+      count = purses.count;
+      untouched = unwritten;
+      sure = kept;
+    }
+    opened (Err e) new purses told unwritten kept = tt
+
+    pub unopened : (r : Opened D) → IfErr r (λ e. OpenCause (d.faults disk) (d.faults e.0) e.1)
+        → (IsTrue (d.honest disk) → IfSome (finding_in r) (IsFound (opened_of (d.reads disk))))
+        → MatchResult r (λ o. IsUnwritten d disk (disk_of o.0.file)) (λ e. IsUnwritten d disk e.0) → IfErr r (λ e. StopsOpening d disk e.0 e.1)
+    unopened (Ok o) cause told unwritten = tt
+    unopened (Err e) cause told unwritten = record { cause = cause; told = told; untouched = unwritten }
+
+  -- what a book whose commits all succeeded leaves on its disk
+  pub left_whole : (file : JFile D) (chart : Chart) (history : List Entry) (new : D) (failed : Option Day) → new ≡ disk_of file → failed ≡ None
+      → StandsOnDisk d.honest d.reads d.may_leave failed file chart history → IsOnDisk d new chart history
+  left_whole file chart history new failed is whole stands =
+      let settled : IsSettled d.honest d.reads d.may_leave file (head_bytes chart) (records_of history) =
+      subst (λ (o : Option Day). StandsOnDisk d.honest d.reads d.may_leave o file chart history) whole stands in
+      subst (λ (x : D). IsOnDisk d x chart history) (sym is) (record { stands = settled.stands; durable = settled.durable })

@@ -1,0 +1,191 @@
+-- Tables that are read one after another, and how that stops.
+use Rattle.std.proofs.Common.{◌≡◌, inl, inr, ℕ, List, [], ◌∷◌, Option, Some, None, refl, sym, ap, ◌∙◌, subst}
+use Rattle.std.specs.Prelude.{Result, Ok, Err, IfOk, IfErr, map, pos}
+use Rattle.csv.specs.Machine.{next_record}
+use Rattle.csv.specs.Reading.{records_from, strip_bom}
+use Rattle.corr_text.specs.First.{first_of}
+use Rattle.ref_tables.specs.declared.fault.TableFault.{TableFault}
+use Rattle.ref_tables.specs.declared.fault.TableFault.TheVariants as table
+use Rattle.ref_tables.specs.declared.fault.TableName.TheVariants as names
+use Rattle.ref_tables.specs.Refusals.{Tells, first_bad_row, named}
+use Rattle.ref_tables.specs.Rows.{rows_of}
+use Rattle.ref_tables.specs.Tables.{bics_fault, ccys_fault, countries_fault, tables_fault}
+use Rattle.ref_tables.specs.declared.account.AccountRow.{AccountRow}
+use Rattle.ref_tables.specs.Accounts.{account_of}
+use Rattle.ref_tables.specs.Seen.{Tables}
+use Rattle.corr_io.specs.declared.source.Source as sources
+use Rattle.corr_ids.specs.declared.bic.Bic.{Bic}
+use Rattle.corr_money.specs.declared.amount.Ccy.{Ccy}
+use Rattle.day_model.specs.declared.account.Account.{Account}
+use Rattle.day_model.specs.declared.fault.AccountsFault.{AccountsFault}
+use Rattle.day_model.specs.declared.fault.AccountsFault.TheVariants as accounts
+use Rattle.day_model.specs.Chart.{Chart, opening_sum}
+use Rattle.day_model.specs.Gap.{TellsUnbalanced}
+use Rattle.ssi_versions.specs.declared.row.SsiRow.{SsiRow}
+use Rattle.corr_top.specs.declared.cutting.FileStop.{FileStop}
+use Rattle.corr_top.specs.declared.cutting.FileStop.TheVariants as file_stop
+use Rattle.corr_top.specs.declared.directory.Directory.{Directory}
+use Rattle.corr_top.specs.declared.reading.ReadStop.{ReadStop}
+use Rattle.corr_top.specs.declared.reading.ReadStop.TheVariants as stop
+use Rattle.corr_top.specs.declared.tables.TableStop.{TableStop}
+use Rattle.corr_top.specs.Inputs.{Inputs, accounts_in, directory_in, instructions_in, opened, tables_in}
+use Rattle.corr_top.specs.MessageFile.{IsMessageFile, StopsCutting}
+use Rattle.corr_top.specs.Passing.{Bad, Balances, HasMessages, IsFine, StopsAtMessages, StopsAtSums, StopsAtTable, TellsDecimals}
+use Rattle.corr_top.specs.Reading.{IsStopped, Took}
+use Rattle.corr_top.specs.Steps.{Step}
+use Rattle.corr_top.specs.Tables.{AreUntouched, HasAccounts, PassesTables, StopsAccounts, StopsAtTables, StopsDirectory, StopsKnown, known_steps}
+use Rattle.corr_top.proofs.Walking.{halts_front}
+use Rattle.corr_top.specs.declared.room.Tables.{Tables as Files}
+use Rattle.corr_top.specs.declared.status.Status.TheVariants as no_memory
+use Rattle.corr_top.specs.Stops.{file_stop_of_read, status_of_table, table_stop_of_fault, table_stop_of_read}
+
+-- a file with no bytes has no fault
+no_ccys : ccys_fault [] ≡ None
+unfolding first_bad_row rows_of records_from next_record strip_bom
+no_ccys = refl
+
+no_countries : countries_fault [] ≡ None
+unfolding first_bad_row rows_of records_from next_record strip_bom
+no_countries = refl
+
+only_first : {F : Type 0} (p q r : Option F) → q ≡ None → r ≡ None → first_of (p ∷ q ∷ r ∷ []) ≡ p
+only_first None q r none also = rw none (rw also refl)
+only_first (Some x) q r none also = refl
+
+only_second : {F : Type 0} (p q r : Option F) → p ≡ None → r ≡ None → first_of (p ∷ q ∷ r ∷ []) ≡ q
+only_second p None r none also = rw none (rw also refl)
+only_second p (Some x) r none also = rw none refl
+
+only_third : {F : Type 0} (p q r : Option F) → p ≡ None → q ≡ None → first_of (p ∷ q ∷ r ∷ []) ≡ r
+only_third p q None none also = rw none (rw also refl)
+only_third p q (Some x) none also = rw none (rw also refl)
+
+-- the fault of the tables that were read so far is that of the last one
+pub bics_alone : (bics : List ℕ) → tables_fault bics [] [] ≡ named names.Bics (bics_fault bics)
+bics_alone bics = only_first _ _ _ (ap (named names.Ccys) no_ccys) (ap (named names.Countries) no_countries)
+
+pub ccys_next : (bics ccys : List ℕ) → named names.Bics (bics_fault bics) ≡ None → tables_fault bics ccys [] ≡ named names.Ccys (ccys_fault ccys)
+ccys_next bics ccys fine = only_second _ _ _ fine (ap (named names.Countries) no_countries)
+
+pub countries_next : (bics ccys countries : List ℕ) → named names.Bics (bics_fault bics) ≡ None → named names.Ccys (ccys_fault ccys) ≡ None
+    → tables_fault bics ccys countries ≡ named names.Countries (countries_fault countries)
+countries_next bics ccys countries fine also = only_third _ _ _ fine also
+
+module _ {S : Type 0} (source : sources.Ghosts S) (old new : S) where
+  -- a table that was read has this fault, or memory ran out
+  pub table_stopped : (file : List ℕ) (fault : Option Bad) (e : TableFault) → Took source.left source.faults 8388608 old new file → Tells fault e → StopsAtTable source old new file fault (table_stop_of_fault e)
+  table_stopped file fault (table.Bad name row why) took is = (took, is)
+  table_stopped file fault table.Memory took is = took.kept
+
+  -- it was not read
+  pub read_stopped : (file : List ℕ) (fault : Option Bad) (s : ReadStop) → IsStopped source.faults old new s → StopsAtTable source old new file fault (table_stop_of_read s)
+  read_stopped file fault (stop.Fault then now) why = why
+  read_stopped file fault stop.Memory why = why
+
+  -- a fault under tables that are equal
+  pub stops_under : (file : List ℕ) (s : TableStop) (fault : Tables → Option Bad) (t u : Tables) → t ≡ u → StopsAtTable source old new file (fault t) s → StopsAtTable source old new file (fault u) s
+  stops_under file s fault t u same stops = subst (λ (x : Tables). StopsAtTable source old new file (fault x) s) same stops
+
+  pub fine_under : (file : List ℕ) (fault : Tables → Option Bad) (t u : Tables) → t ≡ u → IsFine source old new file (fault t) → IsFine source old new file (fault u)
+  fine_under file fault t u same fine = subst (λ (x : Tables). IsFine source old new file (fault x)) same fine
+
+  -- from a source that is the same
+  pub fine_from : (start : S) (file : List ℕ) (fault : Option Bad) → old ≡ start → IsFine source old new file fault → IsFine source start new file fault
+  fine_from start file fault same fine = subst (λ (x : S). IsFine source x new file fault) same fine
+
+  pub stops_from : (start : S) (file : List ℕ) (fault : Option Bad) (s : TableStop) → old ≡ start → StopsAtTable source old new file fault s → StopsAtTable source start new file fault s
+  stops_from start file fault s same stops = subst (λ (x : S). StopsAtTable source x new file fault s) same stops
+
+  -- the message file was not read, or not cut
+  pub messages_unread : (file : List ℕ) (s : ReadStop) → IsStopped source.faults old new s → StopsAtMessages source old new file (file_stop_of_read s)
+  messages_unread file (stop.Fault then now) why = why
+  messages_unread file stop.Memory why = why
+
+  cut_stopped : (file : List ℕ) (s : FileStop) → Took source.left source.faults 67108864 old new file → StopsCutting file s → StopsAtMessages source old new file s
+  cut_stopped file (file_stop.TooLarge b m) took why = (took, why)
+  cut_stopped file (file_stop.Framing at) took why = (took, why)
+  cut_stopped file file_stop.Memory took why = took.kept
+  cut_stopped file (file_stop.Fault b a) took why = absurd why
+
+  pub cut_is : (file : List ℕ) (r : Result (List (List ℕ)) FileStop) → Took source.left source.faults 67108864 old new file → IfOk r (IsMessageFile file) → IfOk r (λ cut. (f : List ℕ) × HasMessages source old new f cut)
+  cut_is file (Ok cut) took are = (file, record { took = took; are = are })
+  cut_is file (Err s) took are = tt
+
+  pub cut_stops : (file : List ℕ) (r : Result (List (List ℕ)) FileStop) → Took source.left source.faults 67108864 old new file → IfErr r (StopsCutting file) → IfErr r (λ s. (f : List ℕ) × StopsAtMessages source old new f s)
+  cut_stops file (Ok cut) took why = tt
+  cut_stops file (Err s) took why = (file, cut_stopped file s took why)
+
+  -- a source was read, up to what its bytes are called
+  pub took_as : (limit : ℕ) (file text : List ℕ) → text ≡ file → Took source.left source.faults limit old new file → Took source.left source.faults limit old new text
+  took_as limit file text same took = subst (λ (f : List ℕ). Took source.left source.faults limit old new f) (sym same) took
+
+-- the same, with a fault that is equal
+pub told_of : (a b : Option Bad) (e : TableFault) → a ≡ b → Tells a e → Tells b e
+told_of a b e same told = subst (λ (f : Option Bad). Tells f e) same told
+
+-- the rows of the accounts under the tables that were read
+pub same_rows : (i : Inputs) (t : Tables) (rows : List AccountRow) → t ≡ tables_in i → rows ≡ map (account_of t) (rows_of i.accounts) → map opened rows ≡ accounts_in i
+same_rows i t rows same are = ap (map opened) (are ∙ ap (λ (x : Tables). map (account_of x) (rows_of i.accounts)) same)
+
+-- openings that don't add up
+pub sums_stopped : (i : Inputs) (list : List Account) (fault : AccountsFault) → list ≡ accounts_in i → TellsUnbalanced list fault → TellsDecimals fault → StopsAtSums i fault
+sums_stopped i list (accounts.Unbalanced ccy decimals sum) same told few = (subst (λ (l : List Account). TellsUnbalanced l (accounts.Unbalanced ccy decimals sum)) same told, few)
+sums_stopped i list accounts.Memory same told few = tt
+
+-- openings that do
+pub sums_balance : (i : Inputs) (list : List Account) → list ≡ accounts_in i → ((ccy : Ccy) → opening_sum ccy list ≡ pos 0) → Balances i
+sums_balance i list same balanced = λ ccy. ap (opening_sum ccy) (sym same) ∙ balanced ccy
+
+-- the directory over them
+pub same_directory : (i : Inputs) (t : Tables) (ssi : List SsiRow) → t ≡ tables_in i → ssi ≡ instructions_in i → (record { tables = t; ssi = ssi }) ≡ directory_in i
+same_directory i t ssi tables instructions =
+    let with : Tables → List SsiRow → Directory = λ x rows. record { tables = x; ssi = rows } in
+    ap (λ (x : Tables). with x ssi) tables ∙ ap (λ (rows : List SsiRow). with (tables_in i) rows) instructions
+
+-- nothing was read
+abbrev pub no_inputs : Inputs
+no_inputs = record {
+  home = record { head = []; branch = [] };
+  day = record { 0 = pos 0 };
+  bics = [];
+  ccys = [];
+  countries = [];
+  accounts = [];
+  ssi = [];
+  messages = [];
+  cut = [];
+  chart = record { home = record { head = []; branch = [] }; accounts = [] };
+  history = [];
+}
+
+module _ {S : Type 0} (source : sources.Ghosts S) (old new : Files S) where
+  -- one of the first three stopped the directory, or the accounts
+  pub directory_after : (stop : TableStop) → StopsKnown source old new stop → StopsDirectory source old new stop
+  directory_after stop q = record {
+    at = record {
+      inputs = q.at.inputs;
+      halted = halts_front (PassesTables source old new q.at.inputs) (StopsAtTables source old new q.at.inputs (status_of_table stop)) (AreUntouched source old new) known_steps (Step.table names.Ssi ∷ []) q.at.halted (q.ssi, tt);
+    };
+    accounts = q.accounts;
+  }
+
+  pub accounts_after : (home : Bic) (stop : TableStop) → StopsKnown source old new stop → StopsAccounts source old new home (status_of_table stop)
+  accounts_after home stop q =
+      let i : Inputs = record q.at.inputs { home = home } in
+      record {
+        inputs = i;
+        home_is = refl;
+        halted = halts_front (PassesTables source old new i) (StopsAtTables source old new i (status_of_table stop)) (AreUntouched source old new) known_steps (Step.table names.Accounts ∷ Step.sums ∷ []) q.at.halted (q.accounts, (tt, tt));
+        ssi = q.ssi;
+      }
+
+  -- memory ran out after the accounts were read
+  pub memory_after : (home : Bic) (chart : Chart) → HasAccounts source old new home chart → StopsAccounts source old new home no_memory.Memory
+  memory_after home chart has =
+      let p = has.passed in
+      record {
+        inputs = has.inputs;
+        home_is = has.home_is;
+        halted = inr (p.0, inr (p.1.0, inr (p.1.1.0, inr (p.1.1.1.0, inl ((accounts.Memory, refl, tt), tt)))));
+        ssi = has.ssi;
+      }

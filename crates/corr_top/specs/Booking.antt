@@ -1,0 +1,66 @@
+-- Pays that are entered one after another, and how that stops.
+use Rattle.std.specs.Prelude.{◌≡◌, ℕ, ◌+◌, ◌<ℤ◌, All, List, [], ◌∷◌, ◌++◌, length, slice_get, Some, None}
+use Rattle.corr_disk.specs.declared.disk.Disk as outside
+use Rattle.corr_ids.specs.Day.{InCentury}
+use Rattle.corr_ids.specs.declared.day.Day.{Day}
+use Rattle.day_model.specs.declared.entry.Entry.{Entry}
+use Rattle.day_model.specs.declared.pay.Pay.{Pay}
+use Rattle.day_model.specs.Chart.{Chart}
+use Rattle.day_model.specs.Legal.{IsLegal}
+use Rattle.day_model.specs.Next.{entered_at, fold_of}
+use Rattle.jrn_book.specs.Answers.{IsFull, need_of}
+use Rattle.jrn_book.specs.Journal.{file_of}
+use Rattle.jrn_file.specs.Faults.{Tells}
+use Rattle.corr_top.specs.declared.answers.BookStop.{BookStop}
+use Rattle.corr_top.specs.declared.answers.BookStop.TheVariants as booking
+use Rattle.corr_top.specs.declared.run.DateBack.{DateBack}
+use Rattle.corr_top.specs.Inputs.{Inputs, new_in, pays_of, replies_of}
+use Rattle.corr_top.specs.OnDisk.{HasNotFailed, IsLeft}
+
+-- the last entry of a history has this day, and it is after the day of a run
+pub record IsBack (history : List Entry) (day : Day) (back : DateBack) : Type 0 where
+  pub front : List Entry
+  pub last : Entry
+  pub history_is : history ≡ front ++ last ∷ []
+  pub day_is : back.last ≡ last.day
+  pub after : day.0 <ℤ last.day.0
+  pub century : InCentury back.last
+
+-- each message has a reply, and the history that its pays make is legal: no reference is entered twice, each outcome is that of the entries before it, so debits equal credits
+pub record AreAnswered (i : Inputs) : Type 0 where
+  pub each : length (replies_of i) ≡ length i.cut
+  pub legal : IsLegal i.chart (new_in i)
+
+-- an entry that a run added: of its day, and of a pay of its file
+pub record IsAdded (day : Day) (pays : List Pay) (e : Entry) : Type 0 where
+  pub day_is : e.day ≡ day
+  pub place : ℕ
+  pub pay_is : slice_get pays place ≡ Some e.pay
+
+-- The first pay that found no room. Those ahead of it were entered as one thread does, and the numbers are those of the history that they made: how many entries, the place of the closed gate, and the bytes that this pay needed.
+pub record LacksRoom (chart : Chart) (history : List Entry) (pays : List Pay) (day : Day) (left : List Entry) (entries end need : ℕ) : Type 0 where
+  pub front : List Pay
+  pub pay : Pay
+  pub rest : List Pay
+  pub pays_are : pays ≡ front ++ pay ∷ rest
+  pub later : List Entry
+  pub left_is : left ≡ fold_of chart history front day ++ later
+  pub new : entered_at pay.mir (fold_of chart history front day) ≡ None
+  pub entries_are : entries ≡ length (fold_of chart history front day)
+  pub end_is : end + 1 ≡ length (file_of chart (fold_of chart history front day))
+  pub need_is : need ≡ need_of chart (fold_of chart history front day) pay day
+  pub full : IsFull (fold_of chart history front day) end need
+
+-- the cause: a call of the disk failed, or the first pay without room, and no call failed; want of memory tells nothing
+abbrev pub BookCause : {D : Type 0} → outside.Ghosts D → D → D → Inputs → List Entry → BookStop → Type 0
+BookCause d old new i left (booking.DiskFault before after) = Tells (d.faults old) before after (d.faults new)
+BookCause d old new i left (booking.Full entries end need) = HasNotFailed d old new × LacksRoom i.chart i.history (pays_of i) i.day left entries end need
+BookCause d old new i left booking.Memory = Unit {0}
+
+-- How the entering of the pays stops: by its cause. What is left is the journal's history and further entries of the day, each of a pay of the file.
+pub record StopsBooking {D : Type 0} (d : outside.Ghosts D) (old new : D) (i : Inputs) (stop : BookStop) : Type 0 where
+  pub added : List Entry
+  pub each : All (IsAdded i.day (pays_of i)) added
+  pub legal : IsLegal i.chart (i.history ++ added)
+  pub left : IsLeft d old new i.chart (i.history ++ added) i.day
+  pub cause : BookCause d old new i (i.history ++ added) stop

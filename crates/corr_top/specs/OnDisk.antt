@@ -1,0 +1,70 @@
+-- What stands on the journal's disk, and what was done to it.
+use Rattle.std.specs.Prelude.{◌≡◌, ◌⊎◌, ℕ, IsTrue, IfSome, None, List, [], ◌++◌, length}
+use Rattle.acct_locks.specs.Holdings.{LooseHand}
+use Rattle.corr_disk.specs.declared.disk.Disk as outside
+use Rattle.corr_disk.specs.Disk.{LeavesOnly, Only}
+use Rattle.corr_text.specs.Faults.{Rose}
+use Rattle.corr_ids.specs.declared.day.Day.{Day}
+use Rattle.day_model.specs.declared.entry.Entry.{Entry}
+use Rattle.day_model.specs.Chart.{Chart}
+use Rattle.jrn_codec.specs.Header.{head_bytes}
+use Rattle.jrn_file.specs.Faults.{MakeCause}
+use Rattle.jrn_file.specs.File.{IsSettled, disk_of}
+use Rattle.jrn_file.specs.Making.{IsOther, IsUnmade, IsUnmadeOrMade}
+use Rattle.jrn_file.specs.Reading.{opened_of}
+use Rattle.jrn_file.specs.Untouched.{IsUntouched}
+use Rattle.jrn_file.specs.declared.fault.MakeFault.{MakeFault}
+use Rattle.jrn_file.specs.declared.fault.OpenFault.{OpenFault}
+use Rattle.jrn_book.specs.Book.{Book, IsLeftBy}
+use Rattle.jrn_book.specs.Journal.{IsJournal, StandsForBook, records_of}
+use Rattle.jrn_book.specs.Opening.{IsFound, OpenCause, found_by}
+
+module _ {D : Type 0} (d : outside.Ghosts D) where
+  -- a disk holds the journal of these accounts and this history, and a crash leaves nothing else
+  pub record IsOnDisk (disk : D) (chart : Chart) (history : List Entry) : Type 0 where
+    pub stands : IsTrue (d.honest disk) → StandsForBook (d.reads disk) chart history
+    pub durable : IsTrue (d.honest disk) → Only (d.reads disk) (d.may_leave disk)
+
+  -- it holds their journal, which may be opened: each has a record, and the history is legal
+  pub record HoldsJournal (disk : D) (chart : Chart) (history : List Entry) : Type 0 where
+    pub journal : IsJournal chart history
+    pub stands : IsTrue (d.honest disk) → StandsForBook (d.reads disk) chart history
+
+  -- nothing was written to it
+  abbrev pub IsUnwritten : D → D → Type 0
+  IsUnwritten old new = IsUntouched d.reads d.may_leave d.moment d.left_since old new
+
+  -- no call of it failed
+  abbrev pub HasNotFailed : D → D → Type 0
+  HasNotFailed old new = d.faults new ≡ d.faults old
+
+  -- nothing stands on it but what a journal may be made over
+  abbrev pub IsFree : D → Type 0
+  IsFree disk = IsTrue (d.honest disk) → (first : ℕ) → IsOther (d.reads disk) first → ⊥
+
+  -- How the making of these accounts' journal stops: by its cause. Where something else stands nothing is written, and a crash at any moment leaves a disk on which nothing is made yet, or the new journal.
+  pub record StopsMaking (old new : D) (chart : Chart) (fault : MakeFault) : Type 0 where
+    pub cause : MakeCause (d.faults old) (d.faults new) (λ first. IsTrue (d.honest old) → IsOther (d.reads old) first) fault
+    pub untouched : (first : ℕ) → IsTrue (d.honest old) → IsOther (d.reads old) first → IsUnwritten old new
+    pub any_moment : IsTrue (d.honest old) → Only (d.reads old) (d.may_leave old) → IsUnmade (d.reads old) → LeavesOnly d.moment d.left_since old new (IsUnmadeOrMade (head_bytes chart))
+
+  -- how its opening stops: by its cause, and what that says of the bytes; nothing is written
+  pub record StopsOpening (old new : D) (fault : OpenFault) : Type 0 where
+    pub cause : OpenCause (d.faults old) (d.faults new) fault
+    pub told : IsTrue (d.honest old) → IfSome (found_by fault) (IsFound (opened_of (d.reads old)))
+    pub untouched : IsUnwritten old new
+
+  -- a disk's journal was opened: this book, in which no commit has failed, and its purses; nothing was written
+  pub record HasOpened (disk : D) (book : Book D) (loose : LooseHand) : Type 0 where
+    pub holds : HoldsJournal disk book.accounts book.history
+    pub whole : book.failed ≡ None
+    pub settled : IsSettled d.honest d.reads d.may_leave book.file (head_bytes book.accounts) (records_of book.history)
+    pub table : loose.table ≡ book.table
+    pub count : length loose.purses ≡ length book.accounts.accounts
+    pub untouched : IsUnwritten disk (disk_of book.file)
+    pub sure : HasNotFailed disk (disk_of book.file)
+
+  -- What the entering of pays of a day left, whether it came to its end or not: this history alone, or, where a call failed, it or it and one legal entry more of that day.
+  abbrev pub IsLeft : D → D → Chart → List Entry → Day → Type 0
+  IsLeft old new chart history day =
+      (HasNotFailed old new × IsOnDisk new chart history) ⊎ (Rose (d.faults old) (d.faults new) × IsLeftBy (d.honest new) (d.may_leave new) chart history day)

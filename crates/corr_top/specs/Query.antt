@@ -1,0 +1,49 @@
+-- The commands that read the journal and print what it says.
+use Rattle.std.specs.Prelude.{◌≡◌, ◌⊎◌, ℕ, List, [], ◌∷◌, take, Result, Ok, Err}
+use Rattle.corr_disk.specs.declared.disk.Disk as disks
+use Rattle.corr_report.specs.Bookings.{bookings_of}
+use Rattle.day_model.specs.declared.entry.Entry.{Entry}
+use Rattle.day_model.specs.Chart.{Chart}
+use Rattle.jrn_file.specs.declared.fault.OpenFault.{OpenFault}
+use Rattle.corr_top.specs.declared.words.Query.{Query}
+use Rattle.corr_top.specs.declared.words.Query.TheVariants as query
+use Rattle.corr_top.specs.declared.status.Status.{Status}
+use Rattle.corr_top.specs.declared.status.Status.TheVariants as status
+use Rattle.corr_top.specs.declared.writing.Texts.{Texts}
+use Rattle.corr_top.specs.OnDisk.{HasNotFailed, HoldsJournal, IsUnwritten, StopsOpening}
+use Rattle.corr_top.specs.Out.{sent_from}
+use Rattle.corr_top.specs.Steps.{Step}
+use Rattle.corr_top.specs.Stops.{status_of_opening}
+
+-- the journal alone
+abbrev pub query_steps : List Step
+query_steps = Step.open_journal ∷ []
+
+-- `bookings` reports a line for each entry
+abbrev pub query_report : Query → Chart → List Entry → List ℕ
+query_report (query.Send from until) chart history = []
+query_report query.Bookings chart history = bookings_of chart history
+
+-- `send` sends the outgoing messages of the entries at these places, as far as there are any, each followed by `$`
+abbrev pub query_out : Query → Chart → List Entry → List ℕ
+query_out (query.Send from until) chart history = sent_from chart from (take until history)
+query_out query.Bookings chart history = []
+
+module _ {D : Type 0} (disk : disks.Ghosts D) (old new : D) where
+  -- nothing is written to the disk, and no call of it failed
+  pub record QueryLeaves : Type 0 where
+    pub sure : HasNotFailed disk old new
+    pub unwritten : IsUnwritten disk old new
+
+  -- the journal was opened, and nothing was written
+  pub record WasRead (chart : Chart) (history : List Entry) : Type 0 where
+    pub holds : HoldsJournal disk old chart history
+    pub leaves : QueryLeaves
+
+  -- what asking a disk gives: the texts over its journal, or why it wasn't opened, or want of memory
+  abbrev pub GivesAsked : Query → Result Texts Status → Type 0
+  GivesAsked asked (Ok texts) =
+      (chart : Chart) × (history : List Entry) × WasRead chart history × (texts.report ≡ query_report asked chart history) × (texts.out ≡ query_out asked chart history)
+  GivesAsked asked (Err s) =
+      ((stop : OpenFault) × (s ≡ status_of_opening stop) × StopsOpening disk old new stop)
+      ⊎ ((chart : Chart) × (history : List Entry) × WasRead chart history × (s ≡ status.Memory))

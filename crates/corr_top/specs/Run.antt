@@ -1,0 +1,27 @@
+-- The command `run`: the messages of a file are answered on a day.
+use Rattle.std.specs.Prelude.{ℕ, ◌+◌, List, [], ◌∷◌, length}
+use Rattle.corr_disk.specs.declared.disk.Disk as disks
+use Rattle.corr_report.specs.Report.{report_of}
+use Rattle.ref_tables.specs.declared.fault.TableName.TheVariants as names
+use Rattle.corr_top.specs.Inputs.{Inputs, new_in, replies_of}
+use Rattle.corr_top.specs.OnDisk.{HasNotFailed, IsOnDisk}
+use Rattle.corr_top.specs.Out.{sent_from}
+use Rattle.corr_top.specs.Steps.{Step}
+
+-- the tables of banks, currencies, countries and instructions, the journal, the day, the message file, and the entering of its pays
+abbrev pub run_steps : List Step
+run_steps =
+    Step.table names.Bics ∷ Step.table names.Ccys ∷ Step.table names.Countries ∷ Step.table names.Ssi ∷ Step.open_journal ∷ Step.day ∷ Step.messages ∷ Step.book ∷ []
+
+-- its report: of the history that one thread makes of the journal's and the messages' pays, and of the reply to each message
+abbrev pub run_report : Inputs → List ℕ
+run_report i = report_of i.chart (new_in i) (replies_of i)
+
+-- what it sends: the outgoing messages of the entries that were added, each followed by `$`
+abbrev pub run_out : Inputs → List ℕ
+run_out i = sent_from i.chart (length i.history + 1) (new_in i)
+
+-- what it leaves: that history, and nothing else
+pub record RunLeaves {D : Type 0} (disk : disks.Ghosts D) (old new : D) (i : Inputs) : Type 0 where
+  pub sure : HasNotFailed disk old new
+  pub entered : IsOnDisk disk new i.chart (new_in i)

@@ -1,0 +1,77 @@
+-- Why a step of a command stopped, as the status that tells it.
+use Rattle.day_model.specs.declared.fault.AccountsFault.{AccountsFault}
+use Rattle.day_model.specs.declared.fault.AccountsFault.TheVariants as accounts
+use Rattle.fin_frame.specs.declared.fault.FrameFault.{FrameFault}
+use Rattle.fin_frame.specs.declared.fault.FrameFault.TheVariants as frame
+use Rattle.jrn_file.specs.declared.fault.MakeFault.{MakeFault}
+use Rattle.jrn_file.specs.declared.fault.MakeFault.TheVariants as making
+use Rattle.jrn_file.specs.declared.fault.OpenFault.{OpenFault}
+use Rattle.jrn_file.specs.declared.fault.OpenFault.TheVariants as opening
+use Rattle.ref_tables.specs.declared.fault.TableFault.{TableFault}
+use Rattle.ref_tables.specs.declared.fault.TableFault.TheVariants as refused
+use Rattle.corr_top.specs.declared.answers.BookStop.{BookStop}
+use Rattle.corr_top.specs.declared.answers.BookStop.TheVariants as booking
+use Rattle.corr_top.specs.declared.cutting.FileStop.{FileStop}
+use Rattle.corr_top.specs.declared.cutting.FileStop.TheVariants as file
+use Rattle.corr_top.specs.declared.reading.ReadStop.{ReadStop}
+use Rattle.corr_top.specs.declared.reading.ReadStop.TheVariants as reading
+use Rattle.corr_top.specs.declared.run.DateBack.{DateBack}
+use Rattle.corr_top.specs.declared.status.Status.{Status}
+use Rattle.corr_top.specs.declared.status.Status.TheVariants as status
+use Rattle.corr_top.specs.declared.tables.TableStop.{TableStop}
+use Rattle.corr_top.specs.declared.tables.TableStop.TheVariants as table
+
+-- a table was not read, or was refused
+abbrev pub table_stop_of_read : ReadStop → TableStop
+table_stop_of_read (reading.Fault before after) = table.Fault before after
+table_stop_of_read reading.Memory = table.Memory
+
+abbrev pub table_stop_of_fault : TableFault → TableStop
+table_stop_of_fault (refused.Bad name row why) = table.Bad name row why
+table_stop_of_fault refused.Memory = table.Memory
+
+-- the message file was not read, or can't be cut
+abbrev pub file_stop_of_read : ReadStop → FileStop
+file_stop_of_read (reading.Fault before after) = file.Fault before after
+file_stop_of_read reading.Memory = file.Memory
+
+abbrev pub file_stop_of_frame : FrameFault → FileStop
+file_stop_of_frame (frame.Stray at) = file.Framing at
+file_stop_of_frame (frame.TooLong at) = file.Framing at
+file_stop_of_frame (frame.Unbalanced at) = file.Framing at
+file_stop_of_frame frame.Memory = file.Memory
+
+-- the statuses
+abbrev pub status_of_table : TableStop → Status
+status_of_table (table.Fault before after) = status.ReadFault before after
+status_of_table (table.Bad name row why) = status.Table name row why
+status_of_table table.Memory = status.Memory
+
+abbrev pub status_of_sums : AccountsFault → Status
+status_of_sums (accounts.Unbalanced ccy decimals sum) = status.Unbalanced ccy decimals sum
+status_of_sums accounts.Memory = status.Memory
+
+abbrev pub status_of_making : MakeFault → Status
+status_of_making (making.Exists first) = status.Exists first
+status_of_making (making.DiskFault before after) = status.DiskFault before after
+status_of_making making.Memory = status.Memory
+
+abbrev pub status_of_opening : OpenFault → Status
+status_of_opening opening.NotAJournal = status.NotAJournal
+status_of_opening (opening.Damaged at) = status.Damaged at
+status_of_opening (opening.DiskFault before after) = status.DiskFault before after
+status_of_opening opening.Memory = status.Memory
+
+abbrev pub status_of_day : DateBack → Status
+status_of_day back = status.DateBack back.last
+
+abbrev pub status_of_file : FileStop → Status
+status_of_file (file.Fault before after) = status.ReadFault before after
+status_of_file (file.TooLarge bytes messages) = status.TooLarge bytes messages
+status_of_file (file.Framing at) = status.Framing at
+status_of_file file.Memory = status.Memory
+
+abbrev pub status_of_booking : BookStop → Status
+status_of_booking (booking.DiskFault before after) = status.DiskFault before after
+status_of_booking (booking.Full entries end need) = status.Full entries end need
+status_of_booking booking.Memory = status.Memory

@@ -1,0 +1,89 @@
+-- The table files, read and tested one after another.
+use Rattle.std.specs.Prelude.{ℕ, ◌≡◌, List, [], ◌∷◌, Option}
+use Rattle.corr_io.specs.declared.source.Source as sources
+use Rattle.corr_ids.specs.declared.bic.Bic.{Bic}
+use Rattle.day_model.specs.declared.fault.AccountsFault.{AccountsFault}
+use Rattle.day_model.specs.Chart.{Chart}
+use Rattle.ref_tables.specs.declared.fault.TableName.TheVariants as names
+use Rattle.ref_tables.specs.Seen.{Tables as Known}
+use Rattle.corr_top.specs.declared.directory.Directory.{Directory}
+use Rattle.corr_top.specs.declared.room.Tables.{Tables}
+use Rattle.corr_top.specs.declared.status.Status.{Status}
+use Rattle.corr_top.specs.declared.tables.TableStop.{TableStop}
+use Rattle.corr_top.specs.Inputs.{Inputs, chart_in, directory_in, tables_in}
+use Rattle.corr_top.specs.Passing.{Balances, IsFine, StopsAtSums, StopsAtTable, fault_of, file_of, table_at}
+use Rattle.corr_top.specs.Steps.{Halts, Step, Walks}
+use Rattle.corr_top.specs.Stops.{status_of_sums, status_of_table}
+
+-- the tables of banks, currencies and countries
+abbrev pub known_steps : List Step
+known_steps = Step.table names.Bics ∷ Step.table names.Ccys ∷ Step.table names.Countries ∷ []
+
+-- with the instructions
+abbrev pub directory_steps : List Step
+directory_steps = Step.table names.Bics ∷ Step.table names.Ccys ∷ Step.table names.Countries ∷ Step.table names.Ssi ∷ []
+
+-- with the accounts, and the sums of their openings
+abbrev pub account_steps : List Step
+account_steps = Step.table names.Bics ∷ Step.table names.Ccys ∷ Step.table names.Countries ∷ Step.table names.Accounts ∷ Step.sums ∷ []
+
+module _ {S : Type 0} (source : sources.Ghosts S) (old new : Tables S) where
+  -- these steps over the tables alone
+  abbrev pub PassesTables : Inputs → Step → Type 0
+  PassesTables i (Step.table name) = IsFine source (table_at name old) (table_at name new) (file_of name i) (fault_of name i)
+  PassesTables i Step.sums = Balances i
+  PassesTables i _ = ⊥
+
+  abbrev pub StopsAtTables : Inputs → Status → Step → Type 0
+  StopsAtTables i s (Step.table name) =
+      (stop : TableStop) × (s ≡ status_of_table stop) × StopsAtTable source (table_at name old) (table_at name new) (file_of name i) (fault_of name i) stop
+  StopsAtTables i s Step.sums = (stop : AccountsFault) × (s ≡ status_of_sums stop) × StopsAtSums i stop
+  StopsAtTables i s _ = ⊥
+
+  abbrev pub AreUntouched : Step → Type 0
+  AreUntouched (Step.table name) = table_at name new ≡ table_at name old
+  AreUntouched _ = Unit {0}
+
+  -- the tables of banks, currencies and countries were read and are fine, and this is what they say
+  pub record HasKnown (known : Known) : Type 0 where
+    pub inputs : Inputs
+    pub passed : Walks (PassesTables inputs) known_steps
+    pub known_is : known ≡ tables_in inputs
+    pub accounts : new.accounts ≡ old.accounts
+    pub ssi : new.ssi ≡ old.ssi
+
+  -- the instructions too
+  pub record HasDirectory (directory : Directory) : Type 0 where
+    pub inputs : Inputs
+    pub passed : Walks (PassesTables inputs) directory_steps
+    pub directory_is : directory ≡ directory_in inputs
+    pub accounts : new.accounts ≡ old.accounts
+
+  -- the accounts too, those of this home bank, and their openings sum to 0
+  pub record HasAccounts (home : Bic) (chart : Chart) : Type 0 where
+    pub inputs : Inputs
+    pub home_is : inputs.home ≡ home
+    pub passed : Walks (PassesTables inputs) account_steps
+    pub chart_is : chart ≡ chart_in inputs
+    pub ssi : new.ssi ≡ old.ssi
+
+  -- one of these steps stopped
+  pub record StopsIn (steps : List Step) (s : Status) : Type 0 where
+    pub inputs : Inputs
+    pub halted : Halts (PassesTables inputs) (StopsAtTables inputs s) AreUntouched steps
+
+  -- reading the three tables, the directory, or the accounts of a home bank stops
+  pub record StopsKnown (stop : TableStop) : Type 0 where
+    pub at : StopsIn known_steps (status_of_table stop)
+    pub accounts : new.accounts ≡ old.accounts
+    pub ssi : new.ssi ≡ old.ssi
+
+  pub record StopsDirectory (stop : TableStop) : Type 0 where
+    pub at : StopsIn directory_steps (status_of_table stop)
+    pub accounts : new.accounts ≡ old.accounts
+
+  pub record StopsAccounts (home : Bic) (s : Status) : Type 0 where
+    pub inputs : Inputs
+    pub home_is : inputs.home ≡ home
+    pub halted : Halts (PassesTables inputs) (StopsAtTables inputs s) AreUntouched account_steps
+    pub ssi : new.ssi ≡ old.ssi

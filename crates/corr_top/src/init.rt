@@ -1,0 +1,96 @@
+//! The command `init`: the journal of a home bank and its accounts is made.
+
+ghost use Rattle.std.specs.Prelude.{◌≡◌, ◌≤◌, [], length, IfErr, IfOk, MatchResult};
+ghost use Rattle.corr_ids.specs.Bic.{IsBic};
+ghost use Rattle.day_model.specs.Chart.{Chart};
+ghost use Rattle.jrn_codec.specs.Header.{IsHead, head_bytes};
+ghost use Rattle.corr_top.specs.Ends.{HasTexts};
+ghost use Rattle.corr_top.specs.OnDisk.{HasNotFailed, IsFree, IsOnDisk, StopsMaking};
+ghost use Rattle.corr_top.specs.Tables.{HasAccounts, StopsAccounts};
+ghost use Rattle.corr_top.specs.declared.words.Command.TheVariants.{Plain as PlainCommand};
+ghost use Rattle.corr_top.specs.declared.words.Plain.TheVariants.{Init};
+
+use crate::accounts::open_accounts;
+use crate::room::{Room, Tables};
+use crate::status::Status;
+use crate::writing::Texts;
+use corr_disk::Disk;
+use corr_ids::Bic;
+use corr_io::{Sink, Source};
+use corr_text::{Memory, Text};
+use jrn_codec::put_head;
+use jrn_file::{MakeFault, create};
+use std::alloc::Global;
+
+impl From<MakeFault> for Status {
+    ghost use Rattle.corr_top.specs.Stops.{status_of_making};
+
+    ghost from_gives = { λ fault status. status ≡ status_of_making fault };
+
+    fn from(fault: MakeFault) -> Status {
+        match fault {
+            MakeFault::Exists { first } => Status::Exists { first },
+            MakeFault::DiskFault { before, after } => Status::DiskFault { before, after },
+            MakeFault::Memory => Status::Memory,
+        }
+    }
+}
+
+/// What is prepared before the disk is touched: the header of the journal, and the texts, which are empty.
+#[derive(Drop)]
+struct Prepared {
+    head: Text,
+    texts: Texts,
+}
+
+/// Reads the tables, sums the openings, and writes the header of the journal.
+fn prepare<S: Source>(alloc: Global, home: Bic, tables: &mut Tables<S>) -> Result<Prepared, Status>
+    requires { IsBic home }
+    ensures fine { IfOk result (λ prepared. (chart : Chart) × HasAccounts S.Source tables.old tables.new home chart
+        × IsHead chart × (prepared.head ≡ head_bytes chart) × (prepared.texts.report ≡ []) × (prepared.texts.out ≡ [])) }
+    ensures stopped { IfErr result (StopsAccounts S.Source tables.old tables.new home) }
+{
+    let accounts = open_accounts(alloc, home, tables)?;
+    let mut head = Text::from_bytes(alloc, b"")?;
+    put_head(&accounts, &mut head)?;
+    let texts = Texts::none(alloc)?;
+    Ok(Prepared { head, texts })
+}
+
+/// Makes the journal of this header on a disk, and hands the disk back.
+fn make<D: Disk>(alloc: Global, disk: D, head: &Text) -> (D, Result<(), MakeFault>)
+    requires { length head.now ≤ 1048576 }
+    ensures made { MatchResult result.1
+        (λ _. (chart : Chart) → head.now ≡ head_bytes chart → IsFree D.Disk disk × IsOnDisk D.Disk result.0 chart [] × HasNotFailed D.Disk disk result.0)
+        (λ fault. (chart : Chart) → head.now ≡ head_bytes chart → StopsMaking D.Disk disk result.0 chart fault) }
+    ensures honest { D.honest result.0 ≡ D.honest disk }
+{
+    match create(alloc, disk, head.bytes()) {
+        Ok(disk) => (disk, Ok(())),
+        Err((disk, fault)) => (disk, Err(fault)),
+    }
+}
+
+/// Reads the tables of banks, currencies, countries and accounts, and makes the journal of the home bank and its accounts.
+/// Its texts are empty.
+pub fn init<S: Source, K: Sink, D: Disk>(
+    alloc: Global,
+    home: Bic,
+    room: Room<S, K, D>,
+) -> (Room<S, K, D>, Result<Texts, Status>)
+    requires { IsBic home }
+    ensures texts { HasTexts S.Source D.Disk (PlainCommand (Init home)) room result.0 result.1 }
+    ensures honest { D.honest result.0.disk ≡ D.honest room.disk }
+{
+    let mut room = room;
+    let Prepared { head, texts } = match prepare(alloc, home, &mut room.tables) {
+        Ok(prepared) => prepared,
+        Err(status) => return (room, Err(status)),
+    };
+    let (disk, made) = make(alloc, room.disk, &head);
+    room.disk = disk;
+    match made {
+        Ok(()) => (room, Ok(texts)),
+        Err(fault) => (room, Err(Status::from(fault))),
+    }
+}
