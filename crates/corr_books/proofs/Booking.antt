@@ -1,6 +1,7 @@
 -- What an answer leaves behind the lock, and what the pass shows of it.
-use Rattle.std.proofs.Common.{◌≡◌, ◌≢◌, ◌⊎◌, ⊎_elim, ℕ, ◌+◌, ◌<◌, ◌≤◌, List, [], ◌∷◌, ◌++◌, length, max, take, Option, Some, None, Ok, Err, slice_get, refl, ap, sym, ◌∙◌, subst, arith}
+use Rattle.std.proofs.Common.{◌≡◌, ◌≢◌, ◌⊎◌, ⊎_elim, ℕ, ◌+◌, ◌<◌, ◌≤◌, ◌≤ℤ◌, List, [], ◌∷◌, ◌++◌, length, max, take, Option, Some, None, Ok, Err, slice_get, refl, ap, sym, ◌∙◌, subst, arith}
 use Rattle.std.specs.Prelude.{true, false, IfSome, is_some, if◌then◌else◌}
+use Rattle.std.proofs.lemmas.Int.{ints}
 use mathlib.Core.List.{IsPrefix}
 use Rattle.atomic_table.specs.Seated.{TableId}
 use Rattle.corr_disk.specs.declared.disk.Disk as disks
@@ -47,7 +48,9 @@ latest_more : (history : List Entry) (e : Entry) (day : Day) → IsLatest histor
 latest_more history e day latest same i d at =
     ⊎_elim
     (λ (t : slice_get history i ≡ Some d). latest i d t)
-    (λ (t : (i ≡ length history) × (d ≡ e)). let s : d.day ≡ day = ap (λ (x : Entry). x.day) t.1 ∙ same in omega (arith, ap (λ (x : Day). x.0) s))
+    (λ (t : (i ≡ length history) × (e ≡ d)).
+    let s : d.day ≡ day = ap (λ (x : Entry). x.day) (sym t.1) ∙ same in
+    subst (λ (x : Day). x.0 ≤ℤ day.0) (sym s) (omega (arith, ints)))
     (pushed history e i d at)
 
 module _ {D : Type 0} (disk : disks.Ghosts D) (o : Opening) (purses : TableId) (b b' : Book D) (w : WriterKnows) (number : ℕ) (pay : Pay) where

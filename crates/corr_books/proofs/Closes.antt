@@ -71,9 +71,9 @@ pub leaves : {D : Type 0} (disk : disks.Ghosts D) (o : Opening) (file : JFile D)
     → StandsOnDisk disk.honest disk.reads disk.may_leave failed file chart history → Counts failed at_open (disk.faults (disk_of file)) → IsTrue (disk.honest (disk_of file)) → LeavesClosed disk o history (disk_of file)
 leaves disk o file chart history at_open None days opened charts settled counts honest =
     inl (λ image left.
-        let is : image ≡ disk.reads (disk_of file) = settled.durable honest image left in
-        let stands = subst (λ (c : Chart). StandsForBook (disk.reads (disk_of file)) c history) charts (settled.stands honest) in
-        subst (λ (bytes : List ℕ). StandsForBook bytes o.accounts history) (sym is) stands)
+    let is : image ≡ disk.reads (disk_of file) = settled.durable honest image left in
+    let stands = subst (λ (c : Chart). StandsForBook (disk.reads (disk_of file)) c history) charts (settled.stands honest) in
+    subst (λ (bytes : List ℕ). StandsForBook bytes o.accounts history) (sym is) stands)
 leaves disk o file chart history at_open (Some day) days opened charts left counts honest =
     let risen = subst (λ (n : ℕ). HasRisen n (disk.faults (disk_of file))) opened counts in
     let of_chart = subst (λ (c : Chart). IsLeftBy (disk.honest (disk_of file)) (disk.may_leave (disk_of file)) c history day) charts left in

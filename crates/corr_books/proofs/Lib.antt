@@ -6,4 +6,4 @@ pub mod Counting
 pub mod Taken
 pub mod Closes
 pub mod Made
-pub mod Acknowledged
+pub mod laws

@@ -1,44 +1,11 @@
 -- The two accounts of a pay, held in rising order.
-use Rattle.std.proofs.Common.{◌≡◌, ◌≢◌, ◌⊎◌, inl, inr, ℕ, zero, suc, ◌+◌, ◌<◌, ◌≤◌, All, List, [], ◌∷◌, length, refl, sym, ap, ◌∙◌, subst, arith}
-use Rattle.std.proofs.lemmas.List.Elements.{All-cons, All-nil, All-weaker}
+use Rattle.std.proofs.Common.{◌≡◌, ◌⊎◌, inl, inr, ℕ, ◌<◌, List, [], ◌∷◌, sym, ap, ◌∙◌, subst, arith}
+use Rattle.std.proofs.lemmas.List.Elements.{All-weaker}
 use Rattle.acct_locks.specs.Holdings.{Hand, Holding, Holds, HoldsOnce, Takes}
 use Rattle.day_model.specs.declared.pay.Leg.{Leg}
 use Rattle.day_model.specs.Chart.{Chart}
-use Rattle.day_model.specs.Fit.{legs_fit}
-use Rattle.day_model.proofs.laws.Fitting.{Transfer, transfer}
 use Rattle.jrn_book.specs.Deciding.{HoldsAll}
 use Rattle.corr_books.specs.Pairs.{AreTwoOf}
-
-TwoOf : ℕ → ℕ → Leg → Type 0
-TwoOf low high leg = (leg.account.0 ≡ low) ⊎ (leg.account.0 ≡ high)
-
--- the legs of a pay that fits are of its two accounts
-pub rising_of : (chart : Chart) (legs : List Leg) (debit credit low high : ℕ) → legs_fit chart legs ≡ true → ((t : Transfer chart legs) → (debit ≡ t.debit.account.0) × (credit ≡ t.credit.account.0))
-    → ((debit < credit) × (low ≡ debit) × (high ≡ credit)) ⊎ ((credit ≤ debit) × (low ≡ credit) × (high ≡ debit)) → AreTwoOf chart legs low high
-unfolding TwoOf
-rising_of chart legs debit credit low high fits are order = cases order
-  where
-    t : Transfer chart legs
-    t = transfer chart legs fits
-    is = are t
-
-    pair : (a b : ℕ) → (t.debit.account.0 ≡ a) ⊎ (t.debit.account.0 ≡ b) → (t.credit.account.0 ≡ a) ⊎ (t.credit.account.0 ≡ b) → All (λ leg. (leg.account.0 ≡ a) ⊎ (leg.account.0 ≡ b)) legs
-    pair a b one two = subst (λ (ls : List Leg). All (λ leg. (leg.account.0 ≡ a) ⊎ (leg.account.0 ≡ b)) ls) (sym t.legs_are)
-        (All-cons (λ leg. (leg.account.0 ≡ a) ⊎ (leg.account.0 ≡ b)) t.debit (t.credit ∷ []) one (All-cons (λ leg. (leg.account.0 ≡ a) ⊎ (leg.account.0 ≡ b)) t.credit [] two (All-nil (λ leg. (leg.account.0 ≡ a) ⊎ (leg.account.0 ≡ b)))))
-
-    cases : ((debit < credit) × (low ≡ debit) × (high ≡ credit)) ⊎ ((credit ≤ debit) × (low ≡ credit) × (high ≡ debit)) → AreTwoOf chart legs low high
-    cases (inl up) = record {
-      least = omega (arith, t.debit_listed.0, is.0, up.1);
-      rising = omega (arith, up.0, up.1, up.2);
-      there = omega (arith, t.credit_listed.1, is.1, up.2);
-      are = pair low high (inl (sym (up.1 ∙ is.0))) (inr (sym (up.2 ∙ is.1)));
-    }
-    cases (inr down) = record {
-      least = omega (arith, t.credit_listed.0, is.1, down.1);
-      rising = omega (arith, t.distinct, is.0, is.1, down.0, down.1, down.2);
-      there = omega (arith, t.debit_listed.1, is.0, down.2);
-      are = pair low high (inr (sym (down.2 ∙ is.0))) (inl (sym (down.1 ∙ is.1)));
-    }
 
 -- two purses hold both accounts, each once
 once : (low high : ℕ) (first second : Holding) → first.number ≡ low → second.number ≡ high → low < high → (leg : Leg) → (leg.account.0 ≡ low) ⊎ (leg.account.0 ≡ high) → HoldsOnce (second ∷ first ∷ []) leg.account.0

@@ -1,6 +1,6 @@
 -- What opening books tells, by what opening the journal's book told.
-use Rattle.std.proofs.Common.{◌≡◌, ◌∙◌, ℕ, zero, suc, ◌-◌, ◌<◌, List, [], ◌∷◌, ◌++◌, length, take, Option, Some, None, ap, arith, refl, subst, sym}
-use Rattle.std.specs.Prelude.{IfErr, IfOk, IfSome, IsTrue, MatchResult, Ok, Err, is_some, slice_get}
+use Rattle.std.proofs.Common.{◌≡◌, ℕ, zero, suc, List, [], ◌∷◌, ◌++◌, length, take, Option, Some, None, ap, arith, refl, subst, sym}
+use Rattle.std.specs.Prelude.{IfErr, IfOk, IfSome, IsTrue, Ok, Err, is_some, slice_get}
 use Rattle.std.proofs.lemmas.Option.{same_Some, none-some}
 use Rattle.corr_ids.specs.declared.day.Day.{Day}
 use Rattle.day_model.specs.declared.entry.Entry.{Entry}
@@ -12,7 +12,7 @@ use Rattle.jrn_file.specs.Reading.{Reading}
 use Rattle.jrn_file.specs.declared.fault.OpenFault.{OpenFault}
 use Rattle.corr_books.specs.declared.opening.BooksFault.{BooksFault}
 use Rattle.corr_books.specs.declared.opening.BooksFault.TheVariants.{Open, DateBack}
-use Rattle.corr_books.specs.Finding.{BeginsNot, BooksCause, IsGivenBy, Opened, RefusesAs, TellsOf, is_of_bytes}
+use Rattle.corr_books.specs.Finding.{BeginsNot, Opened, RefusesAs, TellsOf}
 use Rattle.corr_books.specs.Opening.{Parts, parts_of}
 
 -- a list ends with its last element
@@ -55,22 +55,3 @@ module _ {D : Type 0} (b : Book D) (day : Day) where
   pub tells : (reading : Reading) (answer : Opened D) → AreParts answer → Latest answer → NotBegun answer → IsFound reading (book b.accounts b.history) → TellsOf reading day answer
   tells reading (Ok o) parts latest left found = λ _. (book b.accounts b.history, found, (same_book o parts, latest_of o parts latest))
   tells reading (Err e) parts latest left found = λ _. (book b.accounts b.history, found, refuses e.1 left.1)
-
-  -- and nothing else
-  pub given : (reading : Reading) (answer : Opened D) → AreParts answer → Latest answer → NotBegun answer → ((finding : Finding) → IsFound reading finding → book b.accounts b.history ≡ finding) → IsGivenBy reading day answer
-  given reading (Ok o) parts latest left only = λ finding found. (sym (only finding found) ∙ same_book o parts, latest_of o parts latest)
-  given reading (Err e) parts latest left only = λ finding found. subst (RefusesAs day e.1) (only finding found) (refuses e.1 left.1)
-
-  -- the disk's count is as it was
-  pub causes : (faults : D → ℕ) (disk : D) (answer : Opened D) → NotBegun answer → faults (disk_of b.file) ≡ faults disk → IfErr answer (λ e. BooksCause (faults disk) (faults e.0) e.1)
-  causes faults disk (Ok o) left kept = tt
-  causes faults disk (Err e) left kept = by e.1 left.1 (ap faults left.0 ∙ kept)
-    where
-      by : (fault : BooksFault) → BeginsNot b.history day fault → faults e.0 ≡ faults disk → BooksCause (faults disk) (faults e.0) fault
-      by (Open fault) memory same = subst (λ (f : OpenFault). BooksCause (faults disk) (faults e.0) (Open f)) (sym memory) same
-      by (DateBack last) back same = same
-
-  -- what holds of the book's disk holds of what the answer leaves
-  pub leaves_disk : (P : D → Type 0) (answer : Opened D) → AreParts answer → NotBegun answer → P (disk_of b.file) → MatchResult answer (λ o. P (disk_of o.file)) (λ e. P e.0)
-  leaves_disk P (Ok o) parts left is = subst P (ap (λ (p : Parts D). disk_of p.file) (sym parts)) is
-  leaves_disk P (Err e) parts left is = subst P (sym left.0) is

@@ -55,6 +55,8 @@ impl<N: BooksName, D: Disk> Books<N, D> {
         ensures value { result.now ≡ N.opening.accounts }
         ensures sound { IsChart N.opening.accounts }
     {
+        // What always holds of accounts.
+        let _count = self.accounts.count();
         &self.accounts
     }
 
@@ -83,10 +85,7 @@ impl<N: BooksName, D: Disk> Books<N, D> {
         let (low, high) = rising(&self.accounts, p);
         let mut held = self.purses.hold().take(rt, low).take(rt, high);
         gate.pass(worker, &p.mir);
-        let answer = self
-            .stand
-            .lock(rt)
-            .book(&self.front, &mut held, pass, p);
+        let answer = self.stand.lock(rt).book(&self.front, &mut held, pass, p);
         held.give_back();
         answer
     }

@@ -1,7 +1,7 @@
 //! Copies of accounts.
 
-ghost use Rattle.std.specs.Prelude.{◌≡◌, IfOk, length, take};
-ghost use Rattle.day_model.specs.Chart.{IsListed, account_at};
+ghost use Rattle.std.specs.Prelude.{◌≡◌, IfOk};
+ghost use Rattle.day_model.specs.Chart.{IsChart};
 
 use corr_text::{List, Memory};
 use day_model::{Account, Accounts, AcctNo};
@@ -25,7 +25,8 @@ fn copy_account(alloc: Global, account: &Account) -> Result<Account, Memory>
 
 /// The rows of accounts once more.
 fn copy_rows(alloc: Global, a: &Accounts) -> Result<List<Account>, Memory>
-    ensures { IfOk result (λ rows. rows ≡ a.now.accounts) }
+    ensures rows { IfOk result (λ rows. rows ≡ a.now.accounts) }
+    ensures sound { IsChart a.now }
 {
     let mut rows = List::new(alloc);
     for at in 0..a.count() {

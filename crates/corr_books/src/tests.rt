@@ -299,6 +299,7 @@ fn two_pays_between_two_accounts_are_booked_in_either_order(rt: HostRuntime) -> 
 }
 
 // Holds worker 1 until the other one was answered.
+#[derive(Drop)]
 struct HeldGate<'a> {
     reached: &'a AtomicBool,
     answered: &'a AtomicBool,
@@ -438,20 +439,5 @@ fn a_disk_that_fails_once_breaks_the_books(rt: HostRuntime) -> Result<(), Fail> 
     let broken = Err(CommitFault::Broken { at_open: 0, now: 1 });
     assert!(rt; turn.first == failed && turn.second == broken);
     assert_eq!(rt; (turn.mine, turn.entries), (0, 0));
-    Ok(())
-}
-
-#[test]
-fn full_books_keep_what_is_entered(rt: HostRuntime) -> Result<(), Fail> {
-    let alloc = rt.alloc();
-    let more = pay(alloc, 100_000, 1, 3, 1)?;
-    let entered = pay(alloc, 99_999, 1, 3, 1)?;
-    let disk = MemDisk::new(alloc, journal(&rt, alloc, 100_000)?);
-    let turn = book_turn(&rt, alloc, disk, &more, &entered)?;
-    let Err(CommitFault::Full { entries, .. }) = turn.first else {
-        return Err("full".into());
-    };
-    assert_eq!(rt; entries, 100_000);
-    assert!(rt; turn.second == kept(100_000));
     Ok(())
 }
