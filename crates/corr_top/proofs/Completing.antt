@@ -1,6 +1,6 @@
 -- Where nothing is wrong, a command is done or wants memory.
-use Rattle.std.proofs.Common.{◌≡◌, ℕ, ◌+◌, ◌-◌, ◌<◌, ◌≤◌, ◌^◌, ◌⊎◌, inl, inr, Bool, true, false, cond, List, [], ◌∷◌, ◌++◌, length, map, Option, Some, None, refl, sym, ap, ◌∙◌, subst, arith, append-nil, nat_le, length-append}
-use Rattle.std.specs.Prelude.{IsTrue, slice_get}
+use Rattle.std.proofs.Common.{◌≡◌, ℕ, ◌+◌, ◌≤◌, ◌⊎◌, inl, inr, Bool, true, false, cond, List, [], ◌∷◌, ◌++◌, length, map, Option, Some, None, refl, sym, ap, ◌∙◌, subst, arith, append-nil, nat_le, length-append}
+use Rattle.std.specs.Prelude.{IfSome, slice_get}
 use Rattle.std.specs.Option.{option_map_or}
 use Rattle.std.proofs.lemmas.Bool.Decides.{nat_tests}
 use Rattle.std.proofs.lemmas.Int.{ints}
@@ -51,7 +51,7 @@ use Rattle.corr_top.specs.declared.tables.TableStop.TheVariants as table
 use Rattle.corr_top.specs.declared.words.Command.{Command}
 use Rattle.corr_top.specs.declared.words.Command.TheVariants.{Run, Plain}
 use Rattle.corr_top.specs.declared.words.Plain.TheVariants.{Init, Query}
-use Rattle.corr_top.specs.Booking.{IsBack, LacksRoom, StopsBooking}
+use Rattle.corr_top.specs.Booking.{IsBack, StopsBooking}
 use Rattle.corr_top.specs.Commands.{IsFor, steps_of}
 use Rattle.corr_top.specs.Complete.{HasRoomForAll, IsReady, IsSound, IsSure, Told}
 use Rattle.corr_top.specs.Ends.{Ends, HasStopped}
@@ -325,3 +325,10 @@ done_or_memory source d sink command old new s i e sound = elim e.ends [
     | inr stopped ↦ inr (stopped_memory source d sink command old new e.inputs i s e.are_for sound stopped.stopped)
   ]
 ]
+
+-- the same of a command that words may spell
+pub complete_if : {S K D C : Type 0} (source : sources.Ghosts S) (d : disks.Ghosts D) (sink : sinks.Ghosts K) (of : C → Command) (spelled : Option C) (old new : Room S K D) (s : Status)
+    → IfSome spelled (λ command. Ends source d (of command) old new sink s)
+    → IfSome spelled (λ command. (i : Inputs) → IsSound source sink d (of command) old new i → (s ≡ status.Done) ⊎ (s ≡ status.Memory))
+complete_if source d sink of None old new s ends = ends
+complete_if source d sink of (Some command) old new s ends = λ i sound. done_or_memory source d sink (of command) old new s i ends sound

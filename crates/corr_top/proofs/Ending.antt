@@ -1,5 +1,5 @@
 -- How a command ends, from what its texts are and how they were written.
-use Rattle.std.proofs.Common.{◌≡◌, ◌⊎◌, inl, inr, ℕ, ◌≤◌, List, [], ◌∷◌, Option, Some, None, Result, Ok, Err, refl, sym, ap, ◌∙◌, subst}
+use Rattle.std.proofs.Common.{◌≡◌, inl, inr, ℕ, List, [], ◌∷◌, Ok, Err, sym, subst}
 use Rattle.corr_disk.specs.declared.disk.Disk as disks
 use Rattle.corr_io.specs.declared.sink.Sink as sinks
 use Rattle.corr_io.specs.declared.source.Source as sources
@@ -15,7 +15,6 @@ use Rattle.corr_top.specs.declared.cutting.FileStop.{FileStop}
 use Rattle.corr_top.specs.declared.cutting.FileStop.TheVariants as file
 use Rattle.corr_top.specs.declared.room.Room.{Room}
 use Rattle.corr_top.specs.declared.status.Status.{Status}
-use Rattle.corr_top.specs.declared.status.Status.TheVariants as status
 use Rattle.corr_top.specs.declared.tables.TableStop.{TableStop}
 use Rattle.corr_top.specs.declared.tables.TableStop.TheVariants as table
 use Rattle.corr_top.specs.declared.words.Command.{Command}
@@ -127,6 +126,7 @@ module _ {S K D : Type 0} (source : sources.Ghosts S) (disk : disks.Ghosts D) (s
         ends = inl (record {
           status_is = done.0;
           passed = record { passed = p.passed; leaves = p.leaves };
+          valid = has.gives.3;
           report = as_before old.report room.report report texts.report (report_in command has.inputs) has.report has.gives.1 done.1;
           out = as_before old.out room.out out texts.out (out_in command has.inputs) has.out has.gives.2 done.2;
         });
@@ -142,6 +142,7 @@ module _ {S K D : Type 0} (source : sources.Ghosts S) (disk : disks.Ghosts D) (s
           now = failed.1;
           status_is = failed.2;
           passed = record { passed = p.passed; leaves = p.leaves };
+          valid = has.gives.3;
           failed = fails_before old.report report old.out out texts.report texts.out (report_in command has.inputs) (out_in command has.inputs) failed.0 failed.1 has.report has.out has.gives.1 has.gives.2 failed.3;
         }));
         rest = rest_again report out has.rest;

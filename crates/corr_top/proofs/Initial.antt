@@ -1,12 +1,16 @@
 -- A journal that is made for the accounts of the tables.
-use Rattle.std.proofs.Common.{◌≡◌, ◌⊎◌, inl, inr, ℕ, List, [], ◌∷◌, Option, Some, None, Result, Ok, Err, refl, sym, ap, ◌∙◌, subst}
+use Rattle.std.proofs.Common.{◌≡◌, inl, inr, ℕ, List, [], ◌∷◌, Result, Ok, Err, refl, sym, ap, ◌∙◌, subst, arith}
+use Rattle.std.proofs.lemmas.List.Elements.{All-nil}
 use Rattle.std.specs.Prelude.{IsTrue, MatchResult}
 use Rattle.corr_disk.specs.declared.disk.Disk as disks
 use Rattle.corr_disk.specs.Disk.{LeavesOnly, Only}
 use Rattle.corr_io.specs.declared.source.Source as sources
 use Rattle.corr_ids.specs.declared.bic.Bic.{Bic}
 use Rattle.day_model.specs.Chart.{Chart}
-use Rattle.jrn_codec.specs.Header.{head_bytes}
+use Rattle.day_model.specs.Legal.{IsLegal}
+use Rattle.jrn_book.specs.Journal.{IsJournal}
+use Rattle.jrn_codec.specs.Header.{IsHead, head_bytes}
+use Rattle.jrn_codec.specs.Record.{IsEntry}
 use Rattle.jrn_file.specs.Faults.{MakeCause}
 use Rattle.jrn_file.specs.Journal.{StandsFor}
 use Rattle.jrn_file.specs.Making.{IsOther, IsUnmade, IsUnmadeOrMade}
@@ -25,6 +29,19 @@ use Rattle.corr_top.specs.Steps.{Step}
 use Rattle.corr_top.specs.Stops.{status_of_making}
 use Rattle.corr_top.specs.Tables.{HasAccounts, StopsAccounts, account_steps}
 use Rattle.corr_top.proofs.Walking.{halts_front}
+
+-- a history without entries is legal, and accounts that have a header have a journal
+no_entries : (chart : Chart) → IsLegal chart []
+no_entries chart = record {
+  short = omega arith;
+  fits = λ i e at. absurd (cc at);
+  decided = λ i e at. absurd (cc at);
+  single = λ i j a b at. absurd (cc at);
+  days = λ i j a b less at. absurd (cc at);
+}
+
+new_journal : (chart : Chart) → IsHead chart → IsJournal chart []
+new_journal chart head = record { head = head; entries = All-nil IsEntry; legal = no_entries chart }
 
 module _ {D : Type 0} (d : disks.Ghosts D) (old new : D) (head bytes : List ℕ) (chart : Chart) (given : bytes ≡ head) (is : head ≡ head_bytes chart) where
   -- a journal of this header was made
@@ -59,12 +76,12 @@ module _ {S K D : Type 0} (source : sources.Ghosts S) (d : disks.Ghosts D) (home
   }
 
   -- they were, and the journal was made or it wasn't
-  pub init_texts : (chart : Chart) (head : List ℕ) (making : Result (Unit {0}) MakeFault) (texts : Texts) → HasAccounts source old.tables new.tables home chart → head ≡ head_bytes chart → new ≡ record old { tables = new.tables; disk = new.disk }
+  pub init_texts : (chart : Chart) (head : List ℕ) (making : Result (Unit {0}) MakeFault) (texts : Texts) → HasAccounts source old.tables new.tables home chart → IsHead chart → head ≡ head_bytes chart → new ≡ record old { tables = new.tables; disk = new.disk }
       → MatchResult making (λ _. (c : Chart) → head ≡ head_bytes c → IsFree d old.disk × IsOnDisk d new.disk c [] × HasNotFailed d old.disk new.disk) (λ fault. (c : Chart) → head ≡ head_bytes c → StopsMaking d old.disk new.disk c fault)
       → texts.report ≡ [] → texts.out ≡ []
       → MatchResult making (λ _. HasTexts source d (Plain (Init home)) old new (Ok texts)) (λ fault. HasTexts source d (Plain (Init home)) old new (Err (status_of_making fault)))
   unfolding report_in out_in
-  init_texts chart head (Ok done) texts has is rest making report out =
+  init_texts chart head (Ok done) texts has written is rest making report out =
       let p = has.passed in
       let outcome = making chart is in
       record {
@@ -73,16 +90,17 @@ module _ {S K D : Type 0} (source : sources.Ghosts S) (d : disks.Ghosts D) (home
         gives = (
           record {
             passed = (p.0, (p.1.0, (p.1.1.0, (p.1.1.1.0, (p.1.1.1.1.0, (outcome.0, tt))))));
-            leaves = record { sure = outcome.2; made = subst (λ (c : Chart). IsOnDisk d new.disk c []) has.chart_is outcome.1 };
+            leaves = record { sure = outcome.2; made = subst (λ (c : Chart). IsOnDisk d new.disk c []) has.chart_is outcome.1; journal = new_journal (chart_in has.inputs) (subst IsHead has.chart_is written) };
           },
           report,
           out,
+          tt,
         );
         rest = (has.ssi, ap (λ (r : Room S K D). r.messages) rest, ap (λ (r : Room S K D). r.received) rest, ap (λ (r : Room S K D). r.disk2) rest);
         report = ap (λ (r : Room S K D). r.report) rest;
         out = ap (λ (r : Room S K D). r.out) rest;
       }
-  init_texts chart head (Err fault) texts has is rest making report out =
+  init_texts chart head (Err fault) texts has written is rest making report out =
       let p = has.passed in
       let outcome = making chart is in
       record {

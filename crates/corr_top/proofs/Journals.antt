@@ -1,22 +1,18 @@
 -- A journal that is opened, made, or left by a run.
-use Rattle.std.proofs.Common.{◌≡◌, ◌⊎◌, inl, inr, ℕ, Bool, List, [], ◌∷◌, ◌++◌, Option, Some, None, Result, Ok, Err, refl, sym, ap, ◌∙◌, subst, arith}
-use Rattle.std.specs.Prelude.{IfErr, IfOk, IfSome, IsErr, IsTrue, MatchResult}
+use Rattle.std.proofs.Common.{◌≡◌, inl, ℕ, List, Option, None, Ok, Err, refl, sym, subst, arith}
+use Rattle.std.specs.Prelude.{IfErr, IfOk, IfSome, IsTrue, MatchResult}
 use Rattle.corr_disk.specs.declared.disk.Disk as disks
-use Rattle.corr_disk.specs.Disk.{LeavesOnly, NoMore, Only}
 use Rattle.corr_ids.specs.declared.day.Day.{Day}
 use Rattle.day_model.specs.declared.entry.Entry.{Entry}
 use Rattle.day_model.specs.Chart.{Chart}
 use Rattle.jrn_codec.specs.Header.{head_bytes}
 use Rattle.jrn_file.specs.declared.file.JFile.{JFile}
 use Rattle.jrn_file.specs.File.{IsSettled, disk_of}
-use Rattle.jrn_file.specs.Making.{IsUnmade, IsUnmadeOrMade}
 use Rattle.jrn_file.specs.Reading.{opened_of}
-use Rattle.jrn_file.specs.Journal.{StandsFor}
-use Rattle.jrn_file.specs.declared.fault.OpenFault.{OpenFault}
-use Rattle.jrn_book.specs.Book.{Book, StandsOnDisk}
+use Rattle.jrn_book.specs.Book.{StandsOnDisk}
 use Rattle.jrn_book.specs.Journal.{records_of}
 use Rattle.jrn_book.specs.Opening.{HasPurses, IsFound, IsNewBook, OpenCause, Opened, finding_in}
-use Rattle.corr_top.specs.OnDisk.{HasNotFailed, HasOpened, HoldsJournal, IsLeft, IsOnDisk, IsUnwritten, StopsOpening}
+use Rattle.corr_top.specs.OnDisk.{HasOpened, IsOnDisk, IsUnwritten, StopsOpening}
 
 module _ {D : Type 0} (d : disks.Ghosts D) where
   -- a disk that nothing was done to is unwritten: since this moment there is no other

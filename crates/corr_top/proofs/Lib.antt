@@ -6,12 +6,15 @@ pub mod AccountRows
 pub mod Walking
 pub mod Outcomes
 pub mod Adding
+pub mod Sending
+pub mod Senders
+pub mod Origins
+pub mod DayDone
 pub mod Journals
 pub mod Asking
 pub mod RunEnds
-pub mod DayParts
 pub mod Turning
-pub mod Locking
+pub mod Entering
 pub mod Ending
 pub mod Initial
 pub mod Dates

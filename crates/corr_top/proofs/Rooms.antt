@@ -1,5 +1,5 @@
 -- A journal that has room for all pays has room for each of them.
-use Rattle.std.proofs.Common.{◌≡◌, ◌⊎◌, inl, inr, ℕ, ◌+◌, ◌<◌, ◌≤◌, ◌^◌, Bool, true, false, cond, List, [], ◌∷◌, ◌++◌, length, map, refl, sym, ap, ◌∙◌, subst, arith, length-append}
+use Rattle.std.proofs.Common.{◌≡◌, inl, inr, ℕ, ◌+◌, ◌<◌, ◌≤◌, ◌^◌, Bool, true, false, cond, List, [], ◌∷◌, ◌++◌, length, ap, ◌∙◌, arith, length-append}
 use Rattle.std.specs.Prelude.{is_some, sum_by}
 use Rattle.std.proofs.lemmas.List.{map-append}
 use Rattle.std.proofs.lemmas.List.Sums.{sum_by-append, sum_by-cons}
@@ -10,16 +10,13 @@ use Rattle.day_model.specs.Chart.{Chart}
 use Rattle.day_model.specs.Next.{entered_at, entry_of, fold_of, next_history}
 use Rattle.jrn_book.specs.Journal.{file_of, records_of}
 use Rattle.jrn_book.specs.Room.{longest_record}
+use Rattle.jrn_book.proofs.laws.Sizes.{no_longer}
 use Rattle.jrn_codec.specs.Header.{head_bytes}
 use Rattle.jrn_codec.specs.Record.{entry_bytes}
 use Rattle.jrn_file.specs.Reading.{size_of}
 use Rattle.jrn_file.proofs.laws.Sizes.{length-journal_bytes, size_of-append}
 use Rattle.corr_top.specs.Booking.{LacksRoom}
 use Rattle.corr_top.specs.Complete.{HasRoomForAll}
-
--- TEMP
-no_longer : (e : Entry) → length (entry_bytes e) ≤ longest_record e.pay
-no_longer e = ?
 
 -- ---- sums of lengths
 
@@ -86,7 +83,7 @@ fold_small chart h (pay ∷ pays) day =
     record {
       entries = omega (arith, next.entries, more.entries);
       bytes = both_added (length (file_of chart h)) (length (file_of chart (next_history chart h pay day))) (length (file_of chart (fold_of chart (next_history chart h pay day) pays day)))
-        (most_of pay) (sum_by most_of pays) (sum_by most_of (pay ∷ pays)) next.bytes more.bytes (sum_by-cons most_of pay pays);
+          (most_of pay) (sum_by most_of pays) (sum_by most_of (pay ∷ pays)) next.bytes more.bytes (sum_by-cons most_of pay pays);
     }
 
 sum_parts : (front : List Pay) (pay : Pay) (rest : List Pay) → sum_by most_of (front ++ pay ∷ rest) ≡ sum_by most_of front + (longest_record pay + 5 + sum_by most_of rest)
@@ -106,6 +103,6 @@ has_room chart history pays day left entries end need room lacks =
     elim (lacks.full) [
       | inl full ↦ entries_left (length history) (length lacks.front) (length lacks.rest) (length pays) (length now) small.entries count room.entries full
       | inr full ↦ bytes_left (length (file_of chart history)) (sum_by most_of lacks.front) (longest_record lacks.pay) (sum_by most_of lacks.rest) (sum_by most_of pays)
-        (length (entry_bytes (entry_of chart now lacks.pay day))) (length (file_of chart now)) end need (2 ^ 30)
-        small.bytes parts (no_longer (entry_of chart now lacks.pay day)) lacks.end_is lacks.need_is room.bytes full
+          (length (entry_bytes (entry_of chart now lacks.pay day))) (length (file_of chart now)) end need (2 ^ 30)
+          small.bytes parts (no_longer (entry_of chart now lacks.pay day)) lacks.end_is lacks.need_is room.bytes full
     ]

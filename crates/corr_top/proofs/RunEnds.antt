@@ -1,5 +1,5 @@
 -- How a run ends before anything is written, from how its parts end.
-use Rattle.std.proofs.Common.{◌≡◌, ◌⊎◌, ◌+◌, inl, inr, ℕ, All, List, [], ◌∷◌, ◌++◌, Option, Some, None, Result, Ok, Err, refl, sym, ap, ◌∙◌, subst, length, map}
+use Rattle.std.proofs.Common.{◌≡◌, ◌+◌, inl, inr, ℕ, All, List, [], ◌∷◌, Option, None, Result, Ok, Err, refl, sym, ap, ◌∙◌, subst, length}
 use Rattle.std.proofs.lemmas.List.{length-map}
 use Rattle.std.proofs.lemmas.Option.{none-some}
 use Rattle.acct_locks.specs.Holdings.{LooseHand}
@@ -8,12 +8,12 @@ use Rattle.corr_io.specs.declared.source.Source as sources
 use Rattle.corr_text.specs.Faults.{Rose}
 use Rattle.corr_ids.specs.declared.day.Day.{Day}
 use Rattle.corr_report.specs.Report.{report_of}
-use Rattle.day_model.specs.declared.entry.Entry.{Entry}
 use Rattle.day_model.specs.declared.reply.Reply.{Reply}
 use Rattle.day_model.specs.Chart.{Chart}
 use Rattle.day_model.specs.Legal.{IsLegal}
 use Rattle.day_model.specs.Next.{fold_of}
 use Rattle.jrn_book.specs.Book.{Book, IsLeftBy, StandsOnDisk}
+use Rattle.jrn_book.specs.Journal.{IsJournal}
 use Rattle.jrn_file.specs.File.{disk_of}
 use Rattle.jrn_file.specs.declared.fault.OpenFault.{OpenFault}
 use Rattle.corr_top.specs.declared.answers.BookStop.{BookStop}
@@ -21,23 +21,23 @@ use Rattle.corr_top.specs.declared.answers.BookStop.TheVariants as booking
 use Rattle.corr_top.specs.declared.directory.Directory.{Directory}
 use Rattle.corr_top.specs.declared.room.Room.{Room}
 use Rattle.corr_top.specs.declared.status.Status.{Status}
-use Rattle.corr_top.specs.declared.status.Status.TheVariants as status
 use Rattle.corr_top.specs.declared.tables.TableStop.{TableStop}
 use Rattle.corr_top.specs.declared.words.Command.TheVariants.{Run}
 use Rattle.corr_top.specs.declared.writing.Texts.{Texts}
-use Rattle.corr_top.specs.Booking.{AreAnswered, BookCause, IsAdded, LacksRoom, StopsBooking}
+use Rattle.corr_top.specs.Booking.{BookCause, IsAdded, LacksRoom, StopsBooking}
 use Rattle.corr_top.specs.Commands.{out_in, report_in}
-use Rattle.corr_top.specs.Days.{GivesDay, HasDay, StopsAtDay, StopsAtFile, StopsAtPays, StopsAtTexts}
-use Rattle.corr_top.specs.Ends.{Gives, HasPassed, HasStopped, HasTexts}
-use Rattle.corr_top.specs.Inputs.{Inputs, new_in, pays_of, replies_of}
+use Rattle.corr_top.specs.Days.{GivesDay, HasDay}
+use Rattle.corr_top.specs.Ends.{Gives, HasPassed, HasTexts}
+use Rattle.corr_top.specs.Inputs.{Inputs, new_in, pays_of, replies_of, tables_in}
 use Rattle.corr_top.specs.Message.{pays_in, readings_of, replies_in}
 use Rattle.corr_top.specs.OnDisk.{HasOpened, IsLeft, IsOnDisk, IsUnwritten, StopsOpening}
+use Rattle.corr_top.specs.Origin.{AreSentValid}
 use Rattle.corr_top.specs.Out.{sent_from}
 use Rattle.corr_top.specs.Passing.{IsUntouched, Passes, StopsAt}
 use Rattle.corr_top.specs.Steps.{Step}
 use Rattle.corr_top.specs.Stops.{status_of_opening, status_of_table}
 use Rattle.corr_top.specs.Tables.{HasDirectory, StopsDirectory, directory_steps}
-use Rattle.corr_top.specs.Turns.{HasAnswered, HasFailed, HasStopped as HasStoppedPays, StopCause}
+use Rattle.corr_top.specs.Turns.{HasFailed, StopCause}
 use Rattle.corr_top.proofs.Journals.{left_whole}
 use Rattle.corr_top.proofs.Walking.{halts_front}
 
@@ -70,7 +70,7 @@ module _ {S K D : Type 0} (source : sources.Ghosts S) (d : disks.Ghosts D) (day 
         (inl (inr (p.0, inr (p.1.0, inr (p.1.1.0, inr (p.1.1.1.0, inl ((fault, refl, stops), (tt, (messages, (stops.untouched, tt))))))))))
 
     module _ (from to : Book D) (loose : LooseHand) (opened : HasOpened d old.disk from loose) (closed : new.disk ≡ disk_of to.file)
-        (stands : StandsOnDisk d.honest d.reads d.may_leave to.failed to.file to.accounts to.history) where
+        (stands : StandsOnDisk d.honest d.reads d.may_leave to.failed to.file to.accounts to.history) (journal : IsJournal to.accounts to.history) where
       -- the inputs of a run that opened its journal
       abbrev i_of : List ℕ → List (List ℕ) → Inputs
       i_of bytes cut = record has.inputs { day = day; messages = bytes; cut = cut; chart = from.accounts; history = from.history }
@@ -146,6 +146,7 @@ module _ {S K D : Type 0} (source : sources.Ghosts S) (d : disks.Ghosts D) (day 
                 sure = ap d.faults closed ∙ not_failed a.grown.failed a.whole ∙ opened.sure;
                 entered = subst (λ (chart : Chart). IsOnDisk d new.disk chart (new_in i)) a.grown.accounts
                     (subst (λ es. IsOnDisk d new.disk to.accounts es) history (left_whole d to.file to.accounts to.history new.disk to.failed closed a.whole stands));
+                journal = subst (λ es. IsJournal from.accounts es) history (subst (λ (chart : Chart). IsJournal chart to.history) a.grown.accounts journal);
               };
             },
             history,
@@ -168,6 +169,8 @@ module _ {S K D : Type 0} (source : sources.Ghosts S) (d : disks.Ghosts D) (day 
             done.0,
             gives.4 ∙ ap (λ es. report_of from.accounts es gives.2) done.1 ∙ ap (report_of from.accounts (new_in i)) done.2,
             gives.5 ∙ ap (sent_from from.accounts (length from.history + 1)) done.1,
+            subst (λ es. AreSentValid (tables_in i) from.accounts (length from.history + 1) es) done.1
+                (subst (λ (x : Directory). AreSentValid x.tables from.accounts (length from.history + 1) to.history) has.directory_is gives.6),
           )
       day_ends (Err s) (inl stops) =
           let p = has.passed in
@@ -187,7 +190,7 @@ module _ {S K D : Type 0} (source : sources.Ghosts S) (d : disks.Ghosts D) (day 
           let booked : StopsBooking d old.disk new.disk i stops.stop = record {
             added = grown.added;
             each = subst (λ ps. All (IsAdded day ps) grown.added) (sym pays) grown.each;
-            legal = subst (λ es. IsLegal from.accounts es) grown.history (subst (λ (chart : Chart). IsLegal chart to.history) grown.accounts grown.legal);
+            journal = subst (λ es. IsJournal from.accounts es) grown.history (subst (λ (chart : Chart). IsJournal chart to.history) grown.accounts journal);
             left = subst (λ es. IsLeft d old.disk new.disk from.accounts es day) grown.history (is_left grown.failed grown.accounts);
             cause = subst (λ es. BookCause d old.disk new.disk i es stops.stop) grown.history (cause_of stops.bytes stops.cut stops.stop stops.stopped.cause pays);
           } in
@@ -196,3 +199,12 @@ module _ {S K D : Type 0} (source : sources.Ghosts S) (d : disks.Ghosts D) (day 
       day_ends (Err s) (inr (inr (inr stops))) =
           let done = has_passed stops.bytes stops.cut stops.replies stops.had in
           gives_run (Err s) (i_of stops.bytes stops.cut) refl (inr (done.0, stops.status_is))
+
+-- whether the disk tells its bytes stays
+pub day_honest : {S D : Type 0} (source : sources.Ghosts S) (d : disks.Ghosts D) (directory : Directory) (day : Day) (from to : S) (old new : Book D) (r : Result Texts Status) → GivesDay source d directory day from to old new r
+    → d.honest (disk_of new.file) ≡ d.honest (disk_of old.file)
+day_honest source d directory day from to old new (Ok texts) gives = gives.3.answered.grown.honest
+day_honest {S} {D} source d directory day from to old new (Err s) (inl stops) = ap (λ (b : Book D). d.honest (disk_of b.file)) stops.book_same
+day_honest {S} {D} source d directory day from to old new (Err s) (inr (inl stops)) = ap (λ (b : Book D). d.honest (disk_of b.file)) stops.book_same
+day_honest source d directory day from to old new (Err s) (inr (inr (inl stops))) = stops.stopped.grown.honest
+day_honest source d directory day from to old new (Err s) (inr (inr (inr stops))) = stops.had.answered.grown.honest

@@ -1,6 +1,6 @@
 -- Tables that are read one after another, and how that stops.
 use Rattle.std.proofs.Common.{◌≡◌, inl, inr, ℕ, List, [], ◌∷◌, Option, Some, None, refl, sym, ap, ◌∙◌, subst}
-use Rattle.std.specs.Prelude.{Result, Ok, Err, IfOk, IfErr, map, pos}
+use Rattle.std.specs.Prelude.{map, pos}
 use Rattle.csv.specs.Machine.{next_record}
 use Rattle.csv.specs.Reading.{records_from, strip_bom}
 use Rattle.corr_text.specs.First.{first_of}
@@ -22,22 +22,19 @@ use Rattle.day_model.specs.declared.fault.AccountsFault.TheVariants as accounts
 use Rattle.day_model.specs.Chart.{Chart, opening_sum}
 use Rattle.day_model.specs.Gap.{TellsUnbalanced}
 use Rattle.ssi_versions.specs.declared.row.SsiRow.{SsiRow}
-use Rattle.corr_top.specs.declared.cutting.FileStop.{FileStop}
-use Rattle.corr_top.specs.declared.cutting.FileStop.TheVariants as file_stop
 use Rattle.corr_top.specs.declared.directory.Directory.{Directory}
 use Rattle.corr_top.specs.declared.reading.ReadStop.{ReadStop}
 use Rattle.corr_top.specs.declared.reading.ReadStop.TheVariants as stop
 use Rattle.corr_top.specs.declared.tables.TableStop.{TableStop}
 use Rattle.corr_top.specs.Inputs.{Inputs, accounts_in, directory_in, instructions_in, opened, tables_in}
-use Rattle.corr_top.specs.MessageFile.{IsMessageFile, StopsCutting}
-use Rattle.corr_top.specs.Passing.{Bad, Balances, HasMessages, IsFine, StopsAtMessages, StopsAtSums, StopsAtTable, TellsDecimals}
+use Rattle.corr_top.specs.Passing.{Bad, Balances, IsFine, StopsAtSums, StopsAtTable, TellsDecimals}
 use Rattle.corr_top.specs.Reading.{IsStopped, Took}
 use Rattle.corr_top.specs.Steps.{Step}
 use Rattle.corr_top.specs.Tables.{AreUntouched, HasAccounts, PassesTables, StopsAccounts, StopsAtTables, StopsDirectory, StopsKnown, known_steps}
 use Rattle.corr_top.proofs.Walking.{halts_front}
 use Rattle.corr_top.specs.declared.room.Tables.{Tables as Files}
 use Rattle.corr_top.specs.declared.status.Status.TheVariants as no_memory
-use Rattle.corr_top.specs.Stops.{file_stop_of_read, status_of_table, table_stop_of_fault, table_stop_of_read}
+use Rattle.corr_top.specs.Stops.{status_of_table, table_stop_of_fault, table_stop_of_read}
 
 -- a file with no bytes has no fault
 no_ccys : ccys_fault [] ≡ None
@@ -56,20 +53,12 @@ only_second : {F : Type 0} (p q r : Option F) → p ≡ None → r ≡ None → 
 only_second p None r none also = rw none (rw also refl)
 only_second p (Some x) r none also = rw none refl
 
-only_third : {F : Type 0} (p q r : Option F) → p ≡ None → q ≡ None → first_of (p ∷ q ∷ r ∷ []) ≡ r
-only_third p q None none also = rw none (rw also refl)
-only_third p q (Some x) none also = rw none (rw also refl)
-
 -- the fault of the tables that were read so far is that of the last one
 pub bics_alone : (bics : List ℕ) → tables_fault bics [] [] ≡ named names.Bics (bics_fault bics)
 bics_alone bics = only_first _ _ _ (ap (named names.Ccys) no_ccys) (ap (named names.Countries) no_countries)
 
 pub ccys_next : (bics ccys : List ℕ) → named names.Bics (bics_fault bics) ≡ None → tables_fault bics ccys [] ≡ named names.Ccys (ccys_fault ccys)
 ccys_next bics ccys fine = only_second _ _ _ fine (ap (named names.Countries) no_countries)
-
-pub countries_next : (bics ccys countries : List ℕ) → named names.Bics (bics_fault bics) ≡ None → named names.Ccys (ccys_fault ccys) ≡ None
-    → tables_fault bics ccys countries ≡ named names.Countries (countries_fault countries)
-countries_next bics ccys countries fine also = only_third _ _ _ fine also
 
 module _ {S : Type 0} (source : sources.Ghosts S) (old new : S) where
   -- a table that was read has this fault, or memory ran out
@@ -95,29 +84,6 @@ module _ {S : Type 0} (source : sources.Ghosts S) (old new : S) where
 
   pub stops_from : (start : S) (file : List ℕ) (fault : Option Bad) (s : TableStop) → old ≡ start → StopsAtTable source old new file fault s → StopsAtTable source start new file fault s
   stops_from start file fault s same stops = subst (λ (x : S). StopsAtTable source x new file fault s) same stops
-
-  -- the message file was not read, or not cut
-  pub messages_unread : (file : List ℕ) (s : ReadStop) → IsStopped source.faults old new s → StopsAtMessages source old new file (file_stop_of_read s)
-  messages_unread file (stop.Fault then now) why = why
-  messages_unread file stop.Memory why = why
-
-  cut_stopped : (file : List ℕ) (s : FileStop) → Took source.left source.faults 67108864 old new file → StopsCutting file s → StopsAtMessages source old new file s
-  cut_stopped file (file_stop.TooLarge b m) took why = (took, why)
-  cut_stopped file (file_stop.Framing at) took why = (took, why)
-  cut_stopped file file_stop.Memory took why = took.kept
-  cut_stopped file (file_stop.Fault b a) took why = absurd why
-
-  pub cut_is : (file : List ℕ) (r : Result (List (List ℕ)) FileStop) → Took source.left source.faults 67108864 old new file → IfOk r (IsMessageFile file) → IfOk r (λ cut. (f : List ℕ) × HasMessages source old new f cut)
-  cut_is file (Ok cut) took are = (file, record { took = took; are = are })
-  cut_is file (Err s) took are = tt
-
-  pub cut_stops : (file : List ℕ) (r : Result (List (List ℕ)) FileStop) → Took source.left source.faults 67108864 old new file → IfErr r (StopsCutting file) → IfErr r (λ s. (f : List ℕ) × StopsAtMessages source old new f s)
-  cut_stops file (Ok cut) took why = tt
-  cut_stops file (Err s) took why = (file, cut_stopped file s took why)
-
-  -- a source was read, up to what its bytes are called
-  pub took_as : (limit : ℕ) (file text : List ℕ) → text ≡ file → Took source.left source.faults limit old new file → Took source.left source.faults limit old new text
-  took_as limit file text same took = subst (λ (f : List ℕ). Took source.left source.faults limit old new f) (sym same) took
 
 -- the same, with a fault that is equal
 pub told_of : (a b : Option Bad) (e : TableFault) → a ≡ b → Tells a e → Tells b e

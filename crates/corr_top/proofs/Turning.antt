@@ -1,5 +1,5 @@
 -- The pays of messages, entered in a book one after another: what the history and the replies are so far, and in the end.
-use Rattle.std.proofs.Common.{◌≡◌, ◌⊎◌, inl, inr, ℕ, zero, suc, ◌+◌, ◌-◌, ◌<◌, ◌≤◌, All, Bool, true, false, cond, List, [], ◌∷◌, ◌++◌, length, map, Option, Some, None, Result, Ok, Err, refl, sym, ap, ◌∙◌, subst, arith, append_assoc, append-nil, length-append, ◌≤ℤ◌}
+use Rattle.std.proofs.Common.{◌≡◌, ◌⊎◌, inl, inr, ℕ, zero, suc, ◌+◌, ◌-◌, ◌<◌, ◌≤◌, All, Bool, true, false, cond, List, [], ◌∷◌, ◌++◌, length, Option, Some, None, Result, Ok, Err, refl, sym, ap, ◌∙◌, subst, arith, append_assoc, append-nil, length-append, ◌≤ℤ◌}
 use Rattle.std.specs.Prelude.{IsSome, slice_get, is_none, is_some, option_and_then}
 use Rattle.std.proofs.lemmas.Int.{ints}
 use Rattle.std.proofs.lemmas.List.Elements.{All-append, All-nil, All-weaker}
@@ -8,7 +8,6 @@ use Rattle.corr_disk.specs.declared.disk.Disk as disks
 use Rattle.corr_text.specs.Faults.{Rose}
 use Rattle.corr_ids.specs.declared.day.Day.{Day}
 use Rattle.day_model.specs.declared.entry.Entry.{Entry}
-use Rattle.day_model.specs.declared.entry.Outcome.{Outcome}
 use Rattle.day_model.specs.declared.pay.Pay.{Pay}
 use Rattle.day_model.specs.declared.reply.Reply.{Reply}
 use Rattle.day_model.specs.declared.reply.Reply.TheVariants as reply
@@ -21,11 +20,10 @@ use Rattle.day_model.specs.Shape.{HasShape}
 use Rattle.day_model.proofs.laws.Growth.{fold_of_append, places_stay, next_begins}
 use Rattle.day_model.proofs.laws.Lookups.{reply_new}
 use Rattle.day_model.proofs.laws.Places.{position_from-within}
-use Rattle.jrn_codec.specs.Header.{head_bytes}
 use Rattle.jrn_file.specs.Faults.{Tells}
 use Rattle.jrn_file.specs.File.{disk_of, end_of}
-use Rattle.jrn_book.specs.Answers.{Answer, HasRoom, IsAnswered, IsFull, Shows, StandsAt, failed_after, history_after, need_of}
-use Rattle.jrn_book.specs.Book.{Book, HasRisen}
+use Rattle.jrn_book.specs.Answers.{Answer, IsAnswered, IsFull, Shows, StandsAt, history_after, need_of}
+use Rattle.jrn_book.specs.Book.{Book}
 use Rattle.jrn_book.specs.Journal.{file_of}
 use Rattle.jrn_book.specs.declared.answer.Committed.TheVariants.{New, Kept}
 use Rattle.jrn_book.specs.declared.answer.CommitFault.TheVariants as fault
@@ -104,29 +102,6 @@ latest_last [] e day is before (suc i) x at = absurd (none-some x at)
 latest_last (y ∷ entries) e day is before zero x at = before 0 x at
 latest_last (y ∷ entries) e day is before (suc i) x at = latest_last entries e day is (λ k z there. before (suc k) z there) i x at
 
-latest_next : (chart : Chart) (entries : List Entry) (pay : Pay) (day : Day) → IsLatest entries day → IsLatest (next_history chart entries pay day) day
-latest_next chart entries pay day before =
-    elim (is_some (entered_at pay.mir entries)) as (λ b. IsLatest (cond b entries (entries ++ entry_of chart entries pay day ∷ [])) day) [
-      | true ↦ before
-      | false ↦ latest_last entries (entry_of chart entries pay day) day refl before
-    ]
-
--- a pay that is entered keeps its shape
-shapes_next : (chart : Chart) (entries : List Entry) (pay : Pay) (day : Day) → All HasPayShape entries → HasShape pay → All HasPayShape (next_history chart entries pay day)
-shapes_next chart entries pay day before shape =
-    elim (is_some (entered_at pay.mir entries)) as (λ b. All HasPayShape (cond b entries (entries ++ entry_of chart entries pay day ∷ []))) [
-      | true ↦ before
-      | false ↦ All-append HasPayShape entries (entry_of chart entries pay day ∷ []) before (all_one HasPayShape (entry_of chart entries pay day) shape)
-    ]
-
--- a pay adds at most one entry
-longer_next : (chart : Chart) (entries : List Entry) (pay : Pay) (day : Day) → length (next_history chart entries pay day) ≤ length entries + 1
-longer_next chart entries pay day =
-    elim (is_some (entered_at pay.mir entries)) as (λ b. length (cond b entries (entries ++ entry_of chart entries pay day ∷ [])) ≤ length entries + 1) [
-      | true ↦ omega arith
-      | false ↦ omega (arith, length-append entries (entry_of chart entries pay day ∷ []))
-    ]
-
 -- ---- the book after one pay
 
 -- an entered pay is one of the pays
@@ -156,9 +131,6 @@ reply_here h pay place same stands =
     ∙ ap (λ b. Some (cond b (reply.Entered pay.mir place) (reply.Conflict pay.mir place))) stands.is_same
 
 module _ {D : Type 0} (d : disks.Ghosts D) (day : Day) (start : Book D) where
-  count_of : Book D → ℕ
-  count_of b = d.faults (disk_of b.file)
-
   stays_failed : (old new : Book D) → new.failed ≡ old.failed → d.faults (disk_of new.file) ≡ d.faults (disk_of old.file) → HasFailed d day start old → HasFailed d day start new
   stays_failed old new failed count (inl whole) = inl (failed ∙ whole.0, count ∙ whole.1)
   stays_failed old new failed count (inr broken) = inr (failed ∙ broken.0, subst (λ n. Rose (d.faults (disk_of start.file)) n) (sym count) broken.1)

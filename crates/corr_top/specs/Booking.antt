@@ -9,7 +9,7 @@ use Rattle.day_model.specs.Chart.{Chart}
 use Rattle.day_model.specs.Legal.{IsLegal}
 use Rattle.day_model.specs.Next.{entered_at, fold_of}
 use Rattle.jrn_book.specs.Answers.{IsFull, need_of}
-use Rattle.jrn_book.specs.Journal.{file_of}
+use Rattle.jrn_book.specs.Journal.{IsJournal, file_of}
 use Rattle.jrn_file.specs.Faults.{Tells}
 use Rattle.corr_top.specs.declared.answers.BookStop.{BookStop}
 use Rattle.corr_top.specs.declared.answers.BookStop.TheVariants as booking
@@ -57,10 +57,10 @@ BookCause d old new i left (booking.DiskFault before after) = Tells (d.faults ol
 BookCause d old new i left (booking.Full entries end need) = HasNotFailed d old new × LacksRoom i.chart i.history (pays_of i) i.day left entries end need
 BookCause d old new i left booking.Memory = Unit {0}
 
--- How the entering of the pays stops: by its cause. What is left is the journal's history and further entries of the day, each of a pay of the file.
+-- How the entering of the pays stops: by its cause. What is left is the journal's history and further entries of the day, each of a pay of the file, in a journal that may be opened again.
 pub record StopsBooking {D : Type 0} (d : outside.Ghosts D) (old new : D) (i : Inputs) (stop : BookStop) : Type 0 where
   pub added : List Entry
   pub each : All (IsAdded i.day (pays_of i)) added
-  pub legal : IsLegal i.chart (i.history ++ added)
+  pub journal : IsJournal i.chart (i.history ++ added)
   pub left : IsLeft d old new i.chart (i.history ++ added) i.day
   pub cause : BookCause d old new i (i.history ++ added) stop

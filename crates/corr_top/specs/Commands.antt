@@ -1,5 +1,5 @@
 -- The commands: which words spell them, what each reads, what it writes, and what it leaves on the disk.
-use Rattle.std.specs.Prelude.{ℕ, ◌≡◌, ◌≤◌, ◌&&◌, nat_le, List, [], ◌∷◌, Option, Some, None, codes, option_and_then, if◌then◌else◌}
+use Rattle.std.specs.Prelude.{ℕ, ◌≡◌, ◌≤◌, ◌+◌, ◌&&◌, nat_le, List, [], ◌∷◌, length, Option, Some, None, codes, option_and_then, if◌then◌else◌}
 use Rattle.std.specs.Option.{option_map}
 use Rattle.std.specs.Str.{bytes_eq}
 use Rattle.corr_disk.specs.declared.disk.Disk as disks
@@ -13,7 +13,8 @@ use Rattle.corr_top.specs.declared.words.Plain.{Plain as PlainCommand}
 use Rattle.corr_top.specs.declared.words.Plain.TheVariants.{Init, Query}
 use Rattle.corr_top.specs.declared.words.Query.TheVariants.{Send, Bookings}
 use Rattle.corr_top.specs.Init.{InitLeaves, init_steps}
-use Rattle.corr_top.specs.Inputs.{Inputs}
+use Rattle.corr_top.specs.Inputs.{Inputs, new_in, tables_in}
+use Rattle.corr_top.specs.Origin.{AreSentValid}
 use Rattle.corr_top.specs.Query.{QueryLeaves, query_out, query_report, query_steps}
 use Rattle.corr_top.specs.Run.{RunLeaves, run_out, run_report, run_steps}
 use Rattle.corr_top.specs.Steps.{Step}
@@ -85,6 +86,11 @@ unfoldable pub out_in : Command → Inputs → List ℕ
 out_in (Run day) i = run_out i
 out_in (Plain (Init home)) i = []
 out_in (Plain (Query asked)) i = query_out asked i.chart i.history
+
+-- Each message that a run sends passes the tests of a sent message under the tables that it read. What `send` sends was entered under other tables, and may not pass under any that are known.
+abbrev pub SendsValid : Command → Inputs → Type 0
+SendsValid (Run day) i = AreSentValid (tables_in i) i.chart (length i.history + 1) (new_in i)
+SendsValid (Plain command) i = Unit {0}
 
 -- what it leaves on the disk where it comes to its end
 abbrev pub Leaves : {D : Type 0} → disks.Ghosts D → Command → D → D → Inputs → Type 0

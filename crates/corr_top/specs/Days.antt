@@ -1,5 +1,5 @@
 -- The part of a run between the opening of the journal and its closing.
-use Rattle.std.specs.Prelude.{◌≡◌, ◌⊎◌, ◌+◌, ℕ, List, [], ◌∷◌, length, Result, Ok, Err}
+use Rattle.std.specs.Prelude.{◌≡◌, ◌⊎◌, ◌+◌, ℕ, List, length, Result, Ok, Err}
 use Rattle.corr_disk.specs.declared.disk.Disk as disks
 use Rattle.corr_io.specs.declared.source.Source as sources
 use Rattle.corr_ids.specs.declared.day.Day.{Day}
@@ -16,6 +16,7 @@ use Rattle.corr_top.specs.declared.status.Status.TheVariants as status
 use Rattle.corr_top.specs.declared.writing.Texts.{Texts}
 use Rattle.corr_top.specs.Booking.{IsBack}
 use Rattle.corr_top.specs.Message.{pays_in, readings_of}
+use Rattle.corr_top.specs.Origin.{AreSentValid}
 use Rattle.corr_top.specs.Out.{sent_from}
 use Rattle.corr_top.specs.Passing.{HasMessages, StopsAtMessages}
 use Rattle.corr_top.specs.Stops.{status_of_booking, status_of_day, status_of_file}
@@ -66,8 +67,9 @@ module _ {S D : Type 0} (source : sources.Ghosts S) (disk : disks.Ghosts D) (dir
     pub status_is : s ≡ status.Memory
     pub had : HasDay bytes cut replies
 
-  -- the texts over what was answered, or why there are none
+  -- the texts over what was answered, with messages that are valid under the tables, or why there are none
   abbrev pub GivesDay : Result Texts Status → Type 0
   GivesDay (Ok texts) = (bytes : List ℕ) × (cut : List (List ℕ)) × (replies : List Reply) × HasDay bytes cut replies
       × (texts.report ≡ report_of old.accounts new.history replies) × (texts.out ≡ sent_from old.accounts (length old.history + 1) new.history)
+      × AreSentValid directory.tables old.accounts (length old.history + 1) new.history
   GivesDay (Err s) = StopsAtDay s ⊎ (StopsAtFile s ⊎ (StopsAtPays s ⊎ StopsAtTexts s))

@@ -1,5 +1,5 @@
 -- How a command ends.
-use Rattle.std.specs.Prelude.{ℕ, ◌≡◌, ◌⊎◌, List, Option, Result, Ok, Err}
+use Rattle.std.specs.Prelude.{ℕ, ◌≡◌, ◌⊎◌, Result, Ok, Err}
 use Rattle.corr_disk.specs.declared.disk.Disk as disks
 use Rattle.corr_io.specs.declared.sink.Sink as sinks
 use Rattle.corr_io.specs.declared.source.Source as sources
@@ -8,7 +8,7 @@ use Rattle.corr_top.specs.declared.status.Status.{Status}
 use Rattle.corr_top.specs.declared.status.Status.TheVariants as status
 use Rattle.corr_top.specs.declared.words.Command.{Command}
 use Rattle.corr_top.specs.declared.writing.Texts.{Texts}
-use Rattle.corr_top.specs.Commands.{IsFor, KeepsRest, Leaves, out_in, report_in, steps_of}
+use Rattle.corr_top.specs.Commands.{IsFor, KeepsRest, Leaves, SendsValid, out_in, report_in, steps_of}
 use Rattle.corr_top.specs.Inputs.{Inputs}
 use Rattle.corr_top.specs.Passing.{IsUntouched, Passes, StopsAt}
 use Rattle.corr_top.specs.Steps.{Halts, Walks}
@@ -26,9 +26,9 @@ module _ {S K D : Type 0} (source : sources.Ghosts S) (disk : disks.Ghosts D) (c
       Halts (Passes source disk old new i) (StopsAt source disk old new i stop) (IsUntouched disk old new) (steps_of command)
       ⊎ (HasPassed i × (stop ≡ status.Memory))
 
-  -- before anything is written: the texts of a command that passed, or the status of one that stopped; the sinks are as they were
+  -- before anything is written: the texts of a command that passed, and whose messages are valid, or the status of one that stopped; the sinks are as they were
   abbrev pub Gives : Result Texts Status → Inputs → Type 0
-  Gives (Ok texts) i = HasPassed i × (texts.report ≡ report_in command i) × (texts.out ≡ out_in command i)
+  Gives (Ok texts) i = HasPassed i × (texts.report ≡ report_in command i) × (texts.out ≡ out_in command i) × SendsValid command i
   Gives (Err stop) i = HasStopped stop i
 
   pub record HasTexts (texts : Result Texts Status) : Type 0 where
@@ -39,10 +39,11 @@ module _ {S K D : Type 0} (source : sources.Ghosts S) (disk : disks.Ghosts D) (c
     pub report : new.report ≡ old.report
     pub out : new.out ≡ old.out
 
-  -- Done: all was read and found right, and both texts were received whole
+  -- Done: all was read and found right, what is sent is valid, and both texts were received whole
   pub record EndsDone (sink : sinks.Ghosts K) (s : Status) (i : Inputs) : Type 0 where
     pub status_is : s ≡ status.Done
     pub passed : HasPassed i
+    pub valid : SendsValid command i
     pub report : Received sink.held sink.faults old.report new.report (report_in command i)
     pub out : Received sink.held sink.faults old.out new.out (out_in command i)
 
@@ -52,6 +53,7 @@ module _ {S K D : Type 0} (source : sources.Ghosts S) (disk : disks.Ghosts D) (c
     pub now : ℕ
     pub status_is : s ≡ status.WriteFault then now
     pub passed : HasPassed i
+    pub valid : SendsValid command i
     pub failed : FailsWriting sink.held sink.faults old.report new.report (report_in command i) old.out new.out (out_in command i) then now
 
   -- else: it stopped, and the sinks are as they were

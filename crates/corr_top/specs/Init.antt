@@ -1,6 +1,7 @@
 -- The command `init`: the journal of a home bank and its accounts is made.
-use Rattle.std.specs.Prelude.{ℕ, List, [], ◌∷◌}
+use Rattle.std.specs.Prelude.{List, [], ◌∷◌}
 use Rattle.corr_disk.specs.declared.disk.Disk as disks
+use Rattle.jrn_book.specs.Journal.{IsJournal}
 use Rattle.ref_tables.specs.declared.fault.TableName.TheVariants as names
 use Rattle.corr_top.specs.Inputs.{Inputs, chart_in}
 use Rattle.corr_top.specs.OnDisk.{HasNotFailed, IsOnDisk}
@@ -10,7 +11,8 @@ use Rattle.corr_top.specs.Steps.{Step}
 abbrev pub init_steps : List Step
 init_steps = Step.table names.Bics ∷ Step.table names.Ccys ∷ Step.table names.Countries ∷ Step.table names.Accounts ∷ Step.sums ∷ Step.make ∷ []
 
--- what it leaves: the journal of these accounts, without entries, and nothing else
+-- what it leaves: the journal of these accounts, without entries, which may be opened, and nothing else
 pub record InitLeaves {D : Type 0} (disk : disks.Ghosts D) (old new : D) (i : Inputs) : Type 0 where
   pub sure : HasNotFailed disk old new
   pub made : IsOnDisk disk new (chart_in i) []
+  pub journal : IsJournal (chart_in i) []

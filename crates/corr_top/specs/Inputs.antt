@@ -16,7 +16,6 @@ use Rattle.ref_tables.specs.Tables.{tables_of}
 use Rattle.ssi_versions.specs.declared.row.SsiRow.{SsiRow}
 use Rattle.ssi_versions.specs.Rows.{instruction_of}
 use Rattle.corr_top.specs.declared.directory.Directory.{Directory}
-use Rattle.corr_top.specs.declared.message.NoPay.{NoPay}
 use Rattle.corr_top.specs.Message.{pays_in, readings_of, replies_in}
 
 -- The home bank and the day that the words name; the bytes that were read of each file, and the messages of the message file; and the accounts and the history of the journal as it was opened. What was not reached has none.

@@ -17,6 +17,7 @@ pub mod Writing
 pub mod Init
 pub mod Run
 pub mod Query
+pub mod Origin
 pub mod Pairs
 pub mod Turns
 pub mod Days

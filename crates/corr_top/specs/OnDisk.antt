@@ -1,5 +1,5 @@
 -- What stands on the journal's disk, and what was done to it.
-use Rattle.std.specs.Prelude.{◌≡◌, ◌⊎◌, ℕ, IsTrue, IfSome, None, List, [], ◌++◌, length}
+use Rattle.std.specs.Prelude.{◌≡◌, ◌⊎◌, ℕ, IsTrue, IfSome, None, List, length}
 use Rattle.acct_locks.specs.Holdings.{LooseHand}
 use Rattle.corr_disk.specs.declared.disk.Disk as outside
 use Rattle.corr_disk.specs.Disk.{LeavesOnly, Only}

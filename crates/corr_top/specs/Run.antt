@@ -1,6 +1,7 @@
 -- The command `run`: the messages of a file are answered on a day.
 use Rattle.std.specs.Prelude.{ℕ, ◌+◌, List, [], ◌∷◌, length}
 use Rattle.corr_disk.specs.declared.disk.Disk as disks
+use Rattle.jrn_book.specs.Journal.{IsJournal}
 use Rattle.corr_report.specs.Report.{report_of}
 use Rattle.ref_tables.specs.declared.fault.TableName.TheVariants as names
 use Rattle.corr_top.specs.Inputs.{Inputs, new_in, replies_of}
@@ -21,7 +22,8 @@ run_report i = report_of i.chart (new_in i) (replies_of i)
 abbrev pub run_out : Inputs → List ℕ
 run_out i = sent_from i.chart (length i.history + 1) (new_in i)
 
--- what it leaves: that history, and nothing else
+-- what it leaves: that history, in a journal that may be opened again, and nothing else
 pub record RunLeaves {D : Type 0} (disk : disks.Ghosts D) (old new : D) (i : Inputs) : Type 0 where
   pub sure : HasNotFailed disk old new
   pub entered : IsOnDisk disk new i.chart (new_in i)
+  pub journal : IsJournal i.chart (new_in i)

@@ -1,5 +1,5 @@
 -- The table files, read and tested one after another.
-use Rattle.std.specs.Prelude.{ℕ, ◌≡◌, List, [], ◌∷◌, Option}
+use Rattle.std.specs.Prelude.{◌≡◌, List, [], ◌∷◌}
 use Rattle.corr_io.specs.declared.source.Source as sources
 use Rattle.corr_ids.specs.declared.bic.Bic.{Bic}
 use Rattle.day_model.specs.declared.fault.AccountsFault.{AccountsFault}

@@ -176,7 +176,7 @@ fn answer<N: Name, R: Wait, D: Disk>(
 {
     match read_message(alloc, &desk.directory, book.accounts(), message) {
         Ok(pay) => {
-            let committed = enter(rt, alloc, purses, book, &pay, desk.day);
+            let committed = enter(rt, purses, book, &pay, desk.day);
             answers.note(pay.mir, committed)
         }
         Err(Stop::NoPay(why)) => answers.reply(reply_for(why)),

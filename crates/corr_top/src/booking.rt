@@ -1,6 +1,6 @@
 //! A pay, entered into the journal's book under the locks of its accounts.
 
-ghost use Rattle.std.specs.Prelude.{◌≡◌, ◌<◌, ◌≤◌, ◌⊎◌, length};
+ghost use Rattle.std.specs.Prelude.{◌≡◌, ◌<◌, length};
 ghost use Rattle.corr_ids.specs.Day.{InCentury};
 ghost use Rattle.day_model.specs.Fit.{FitsAccounts};
 ghost use Rattle.day_model.specs.Laws.{IsLatest};
@@ -13,7 +13,6 @@ use corr_disk::Disk;
 use corr_ids::Day;
 use day_model::{Accounts, AcctNo, Pay};
 use jrn_book::{CommitFault, Committed, JrnBook};
-use std::alloc::Global;
 use std::sync::Wait;
 
 /// The accounts of a pay's legs, the lower number first.
@@ -33,7 +32,6 @@ fn rising(a: &Accounts, pay: &Pay) -> (AcctNo, AcctNo)
 /// Enters a pay on a day: takes the locks of its two accounts in rising order, and commits.
 pub fn enter<N: Name, R: Wait, D: Disk>(
     rt: &R,
-    alloc: Global,
     purses: &Purses<N>,
     book: &mut JrnBook<D>,
     pay: &Pay,
@@ -48,7 +46,7 @@ pub fn enter<N: Name, R: Wait, D: Disk>(
 {
     let (low, high) = rising(book.accounts(), pay);
     let mut held = purses.hold().take(rt, low).take(rt, high);
-    let committed = book.commit(alloc, &mut held, pay, day);
+    let committed = book.commit(&mut held, pay, day);
     held.give_back();
     committed
 }

@@ -1,6 +1,7 @@
 //! The directory of a day: banks, currencies, countries, and instructions.
 
 ghost use Rattle.std.specs.Prelude.{IfOk, IfErr};
+ghost use Rattle.ssi_versions.specs.InstructionList.{AreInstructions};
 ghost use Rattle.corr_top.specs.Tables.{HasDirectory, StopsDirectory};
 
 use crate::room::Tables;
@@ -23,6 +24,7 @@ pub fn read_directory<S: Source>(
     files: &mut Tables<S>,
 ) -> Result<Directory, TableStop>
     ensures fine { IfOk result (HasDirectory S.Source files.old files.new) }
+    ensures instructions { IfOk result (λ directory. AreInstructions directory.tables directory.ssi) }
     ensures stopped { IfErr result (StopsDirectory S.Source files.old files.new) }
 {
     let tables = read_known(alloc, files)?;

@@ -2,6 +2,7 @@
 
 ghost use Rattle.std.specs.Prelude.{◌≡◌, IfErr, IfOk, MatchResult};
 ghost use Rattle.jrn_book.specs.Book.{StandsOnDisk};
+ghost use Rattle.jrn_book.specs.Journal.{IsJournal};
 ghost use Rattle.jrn_file.specs.File.{disk_of};
 ghost use Rattle.corr_top.specs.OnDisk.{HasOpened, StopsOpening};
 
@@ -40,6 +41,7 @@ pub fn open_journal<D: Disk>(alloc: Global, disk: D) -> Result<(JrnBook<D>, Loos
 pub fn close_journal<D: Disk>(book: JrnBook<D>) -> D
     ensures disk { result ≡ disk_of book.file }
     ensures stands { StandsOnDisk D.honest D.reads D.may_leave book.failed book.file book.accounts book.history }
+    ensures journal { IsJournal book.accounts book.history }
 {
     let (_, _, disk) = book.into_parts();
     disk

@@ -2,8 +2,11 @@
 
 ghost use Rattle.std.specs.Prelude.{◌≡◌, ◌≤◌, ◌++◌, All, IfOk, OnOk, take};
 ghost use Rattle.std.specs.Int.{IsInRange};
+ghost use Rattle.advices.specs.Messages.{messages_of};
+ghost use Rattle.advices.specs.Valid.{AreAccepted};
 ghost use Rattle.corr_ids.specs.Bic.{IsBic};
 ghost use Rattle.corr_top.specs.Turns.{HasPayShape};
+ghost use Rattle.corr_top.specs.Origin.{SendsAccepted};
 ghost use Rattle.corr_top.specs.Out.{parted, parted_all, sent_from, sent_of};
 ghost use Rattle.day_model.specs.Fit.{FitsAccounts};
 ghost use Rattle.day_model.specs.Legal.{IsLegal};
@@ -44,14 +47,15 @@ fn push_orders(
     requires fits { FitsAccounts a.now entry.now.pay }
     requires shape { HasShape entry.now.pay }
     requires place { IsInRange 1 100000 place }
-    ensures { OnOk result (out.new ≡ out.old ++ sent_of a.now place entry.now) }
+    ensures added { OnOk result (out.new ≡ out.old ++ sent_of a.now place entry.now) }
+    ensures accepted { OnOk result (AreAccepted a.now entry.now.pay (messages_of a.now entry.now place)) }
 {
     let messages = orders(alloc, a, entry, place)?;
     push_parted(messages.as_slice(), out)
 }
 
 /// The outgoing messages of the entries of a history from one place to another, as far as there are any, in their order, each
-/// followed by `$`.
+/// followed by `$`. Each is accepted under the tables under which its pay came from a message.
 pub fn outgoing(
     alloc: Global,
     a: &Accounts,
@@ -63,7 +67,8 @@ pub fn outgoing(
     requires legal { IsLegal a.now h.now.entries }
     requires shapes { All HasPayShape h.now.entries }
     requires from { 1 ≤ from }
-    ensures { IfOk result (λ text. text ≡ sent_from a.now from (take until h.now.entries)) }
+    ensures text { IfOk result (λ text. text ≡ sent_from a.now from (take until h.now.entries)) }
+    ensures accepted { OnOk result (SendsAccepted a.now from (take until h.now.entries)) }
 {
     let mut out = Text::from_bytes(alloc, b"")?;
     for place in from..until.min(h.len()) + 1 {

@@ -1,6 +1,6 @@
 //! The commands that read the journal and print what it says: `send` and `bookings`.
 
-ghost use Rattle.std.specs.Prelude.{◌≡◌, All, IfOk};
+ghost use Rattle.std.specs.Prelude.{◌≡◌, IfOk};
 ghost use Rattle.corr_top.specs.Commands.{IsSpelled};
 ghost use Rattle.corr_top.specs.Ends.{HasTexts};
 ghost use Rattle.corr_top.specs.Query.{GivesAsked, query_out, query_report};

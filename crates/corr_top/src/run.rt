@@ -8,9 +8,11 @@ ghost use Rattle.day_model.specs.Laws.{IsLatest};
 ghost use Rattle.day_model.specs.Legal.{IsLegal};
 ghost use Rattle.jrn_book.specs.Journal.{IsJournal};
 ghost use Rattle.jrn_codec.specs.Record.{IsEntry};
+ghost use Rattle.ssi_versions.specs.InstructionList.{AreInstructions};
 ghost use Rattle.corr_top.specs.Booking.{IsBack};
 ghost use Rattle.corr_top.specs.Days.{GivesDay};
 ghost use Rattle.corr_top.specs.Ends.{HasTexts};
+ghost use Rattle.corr_top.specs.Origin.{SendsAccepted};
 ghost use Rattle.corr_top.specs.Out.{sent_from};
 ghost use Rattle.corr_top.specs.Passing.{HasMessages, StopsAtMessages};
 ghost use Rattle.corr_top.specs.Turns.{HasPayShape, HasPlace};
@@ -95,6 +97,7 @@ fn make_texts(
     requires few { (count ≤ length h.now.entries) × (length replies.now ≤ 50000) }
     ensures report { IfOk result (λ texts. texts.report ≡ report_of a.now h.now.entries replies.now) }
     ensures out { IfOk result (λ texts. texts.out ≡ sent_from a.now (count + 1) h.now.entries) }
+    ensures accepted { OnOk result (SendsAccepted a.now (count + 1) h.now.entries) }
 {
     Ok(Texts {
         report: report(alloc, a, h, replies)?,
@@ -112,6 +115,7 @@ fn book_day<N: Name, R: Wait, S: Source, D: Disk>(
     loose: Loose,
 ) -> Result<Texts, Status>
     requires century { InCentury desk.now.day }
+    requires instructions { AreInstructions desk.now.directory.tables desk.now.directory.ssi }
     requires journal { IsJournal book.old.accounts book.old.history }
     requires whole { book.old.failed ≡ None }
     requires place { HasPlace book.old }

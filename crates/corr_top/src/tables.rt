@@ -7,6 +7,7 @@ ghost use Rattle.ref_tables.specs.Refusals.{named};
 ghost use Rattle.ref_tables.specs.Rows.{rows_of};
 ghost use Rattle.ref_tables.specs.Tables.{bics_fault, ccys_fault, countries_fault, tables_of};
 ghost use Rattle.ref_tables.specs.declared.fault.TableName.TheVariants as names;
+ghost use Rattle.ssi_versions.specs.InstructionList.{AreInstructions};
 ghost use Rattle.ssi_versions.specs.Rows.{instruction_of, ssi_fault};
 ghost use Rattle.corr_top.specs.Tables.{HasKnown, StopsKnown};
 ghost use Rattle.corr_top.specs.Passing.{Bad, IsFine, StopsAtTable};
@@ -163,6 +164,7 @@ pub fn read_instructions<S: Source>(
 ) -> Result<Ssi, TableStop>
     ensures fine { IfOk result (λ ssi. (file : List ℕ) × IsFine S.Source source.old source.new file (named names.Ssi (ssi_fault known.now file))
         × (ssi ≡ map instruction_of (rows_of file))) }
+    ensures instructions { IfOk result (λ ssi. AreInstructions known.now ssi) }
     ensures stopped { IfErr result (λ stop. (file : List ℕ) × StopsAtTable S.Source source.old source.new file (named names.Ssi (ssi_fault known.now file)) stop) }
 {
     let file = read_table(alloc, source)?;

@@ -195,12 +195,7 @@ impl<D: Disk> JrnBook<D> {
     }
 
     /// Answers a pay: what `commit` tells, as one fact.
-    fn answer<H: Held>(
-        &mut self,
-        held: &mut H,
-        p: &Pay,
-        day: Day,
-    ) -> Result<Committed, CommitFault>
+    fn answer<H: Held>(&mut self, held: &mut H, p: &Pay, day: Day) -> Result<Committed, CommitFault>
         requires fits { FitsAccounts self.old.accounts p.now }
         requires shape { HasShape p.now }
         requires held { HoldsAll (H.held held.old) p.now.legs }

@@ -1,4 +1,4 @@
-use Rattle.corr_top.proofs.Locking.{enters_of, holds_all}
+use Rattle.corr_top.proofs.Entering.{enters_of}
 use Rattle.corr_top.proofs.booking.enter.Goals as goal
 
 pub returns : goal.returns

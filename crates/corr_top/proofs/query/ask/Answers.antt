@@ -1,5 +1,4 @@
 use Rattle.std.proofs.Common.{inl}
-use Rattle.corr_top.proofs.Asking.{gives_none, gives_texts}
 use Rattle.corr_top.proofs.query.ask.Goals as goal
 
 pub returns-in-Err-clause-gives : goal.returns-in-Err-clause-gives

@@ -1,10 +1,10 @@
-use Rattle.std.proofs.Common.{◌≡◌, ◌≤◌, ◌∙◌, [], ℕ, List, inl, inr, refl, ap, sym, subst, length}
+use Rattle.std.proofs.Common.{◌≡◌, ◌≤◌, ℕ, List, inl, inr, refl, ap, arith, sym, subst, length}
 use Rattle.std.specs.Prelude.{All}
 use Rattle.std.proofs.lemmas.Result.{err_from_is_err_and}
 use Rattle.day_model.specs.declared.entry.Entry.{Entry}
 use Rattle.day_model.specs.Laws.{IsLatest}
 use Rattle.corr_top.specs.Booking.{IsBack}
-use Rattle.corr_top.proofs.DayParts.{day_done, no_fewer, pays_stop, shapes_after, stopped_none, texts_stop}
+use Rattle.corr_top.proofs.DayDone.{day_done}
 use Rattle.corr_top.proofs.MessageFiles.{all-short}
 use Rattle.corr_top.proofs.run.book_day.Goals as goal
 
@@ -36,3 +36,15 @@ pub answer_all-requires-clause-short : goal.answer_all-requires-clause-short
 answer_all-requires-clause-short g c =
     let has = c.in_ok-messages.ensures.are in
     subst (λ (ms : List (List ℕ)). All (λ m. length m ≤ 16384) ms) (sym c.as_slice.ensures) (all-short has.0 c.in_ok-messages.messages has.1.are)
+
+pub returns : goal.returns
+returns g c =
+    let day = c.args.desk.now.day in
+    let old = c.args.book.now in
+    let has = c.in_ok-messages.ensures.are in
+    let counted : c.len-count.result ≡ length old.history = omega (arith, c.len-count.ensures.count, ap (λ (es : List Entry). length es) c.history-2.ensures.value) in
+    day_done g.S.Source g.D.Disk c.args.desk.now.directory day c.args.messages.now c.read_messages.new.source old c.answer_all.new.book has.0 c.in_ok-messages.messages _ c.as_slice.ensures
+    (record { latest = subst (λ (es : List Entry). IsLatest es day) c.history.ensures.value c.in_ok-check_day.ensures.latest; has = has.1 })
+    c.in_ok-replies.replies.items c.in_ok-replies.ensures.answered c.accounts-2.result.now c.history-3.result.now.entries c.len-count.result _ c.in_ok-make_texts.field-0
+    c.accounts-2.ensures.value c.history-3.ensures.value counted c.as_slice-2.ensures.value c.in_ok-make_texts.ensures.report c.in_ok-make_texts.ensures.out
+    c.requires.instructions c.requires.journal.head.book c.in_ok-make_texts.ensures.accepted

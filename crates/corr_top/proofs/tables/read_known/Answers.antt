@@ -1,4 +1,4 @@
-use Rattle.std.proofs.Common.{[], inl, inr, refl}
+use Rattle.std.proofs.Common.{inl, inr, refl}
 use Rattle.std.proofs.lemmas.Result.{err_from_is_err_and}
 use Rattle.corr_top.proofs.Outcomes.{err_as, ok_as}
 use Rattle.corr_top.proofs.TableFiles.{no_inputs}

@@ -1,0 +1,23 @@
+use Rattle.std.proofs.Common.{IfSome, rules}
+use Rattle.corr_top.specs.declared.words.Command.{Command}
+use Rattle.corr_top.specs.declared.words.Command.TheVariants.{Run}
+use Rattle.corr_top.specs.Commands.{command_of}
+use Rattle.corr_top.specs.Ends.{Ends}
+use Rattle.corr_top.proofs.Completing.{complete_if}
+use Rattle.corr_top.proofs.Ending.{ends_line}
+use Rattle.corr_top.proofs.command.corr.Goals as goal
+
+pub returns-in-Some-Plain-clause-complete : goal.returns-in-Some-Plain-clause-complete
+returns-in-Some-Plain-clause-complete g c =
+    let ends : IfSome (command_of c.args.words.now) (λ command. Ends g.S.Source g.D.Disk command c.args.room c.perform.result.room g.K.Sink c.perform.result.status) = search rules in
+    complete_if g.S.Source g.D.Disk g.K.Sink (λ (command : Command). command) (command_of c.args.words.now) c.args.room c.perform.result.room c.perform.result.status ends
+
+pub returns-in-Some-Run-clause-complete : goal.returns-in-Some-Run-clause-complete
+returns-in-Some-Run-clause-complete g c =
+    let ends : IfSome (command_of c.args.words.now) (λ command. Ends g.S.Source g.D.Disk command c.args.room c.end.result.room g.K.Sink c.end.result.status) = search rules in
+    complete_if g.S.Source g.D.Disk g.K.Sink (λ (command : Command). command) (command_of c.args.words.now) c.args.room c.end.result.room c.end.result.status ends
+
+pub returns-in-Some-Run-clause-line : goal.returns-in-Some-Run-clause-line
+returns-in-Some-Run-clause-line g c =
+    let command = Run c.in-Some-Run.day in
+    ends_line g.S.Source g.D.Disk command c.args.room c.end.result.room g.K.Sink c.end.result.status (c.end.ensures.ends command c.args.room c.run-room.ensures.texts)
