@@ -2,9 +2,9 @@
 use Rattle.std.proofs.Common.{◌≡◌, ◌⊎◌, ⊎_elim, ℕ, ◌+◌, List, [], ◌∷◌, ◌++◌, length, Some, slice_get, refl, ap, sym, ◌∙◌, subst, arith, length-append}
 use Rattle.std.proofs.lemmas.Option.{none-some}
 use Rattle.front_word.specs.Known.{WriterKnows, PassKnows, beginner, newcomer}
-use Rattle.front_word.proofs.laws.Prefixes.{get_below, get_snoc, prefix_get}
+use Rattle.front_word.proofs.laws.Prefixes.{get_below, get_snoc}
 use Rattle.corr_books.specs.Opening.{Opening}
-use Rattle.corr_books.specs.Passes.{AllBelong, AreNew}
+use Rattle.corr_books.specs.Passes.{AreNew}
 use Rattle.corr_books.specs.Taking.{AreMade}
 
 -- passes that a writer made that has just begun are new ones of the books
@@ -23,10 +23,6 @@ are_new o w passes is m = record {
         mine = ap (λ q. q.mine) e;
       };
 }
-
--- all but the last one belong to the books
-pub all_but_last : (o : Opening) (passes rest : List PassKnows) (last : PassKnows) → AreNew o passes → passes ≡ rest ++ last ∷ [] → AllBelong o rest
-all_but_last o passes rest last n is k p at = (n.each k p (prefix_get rest passes k p (last ∷ [], sym is) at)).belongs
 
 -- no pass was made yet
 pub none_made : (w : WriterKnows) → AreMade w 0 []

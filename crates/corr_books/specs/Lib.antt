@@ -8,3 +8,4 @@ pub mod Telling
 pub mod Meeting
 pub mod Taking
 pub mod Closing
+pub mod Laws

@@ -6,15 +6,15 @@ mod books;
 mod closing;
 mod copying;
 mod entering;
+mod law;
 mod naming;
 mod opening;
 mod seating;
 mod stand;
 mod taking;
-#[cfg(test)]
-mod tests;
 
 pub use books::Books;
 pub use closing::{CloseFault, Closed};
+pub use law::told_stands;
 pub use naming::BooksName;
 pub use opening::{BooksFault, Opened, open_books};

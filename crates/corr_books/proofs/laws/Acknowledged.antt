@@ -1,16 +1,18 @@
 -- What was acknowledged stands in the history at the end.
-use Rattle.std.proofs.Common.{◌≡◌, ℕ, zero, suc, ◌+◌, List, [], ◌∷◌, ◌++◌, length, Some, slice_get, ap, sym, ◌∙◌, subst, arith}
+use Rattle.std.proofs.Common.{◌≡◌, ℕ, zero, suc, ◌+◌, ◌-◌, List, [], ◌∷◌, ◌++◌, length, Some, slice_get, refl, ap, sym, ◌∙◌, subst, arith}
 use mathlib.Core.List.{IsPrefix}
 use Rattle.day_model.specs.declared.entry.Entry.{Entry}
 use Rattle.day_model.specs.declared.entry.Outcome.{Outcome}
 use Rattle.day_model.specs.declared.pay.Pay.{Pay}
 use Rattle.front_word.specs.declared.view.Act.{Act}
 use Rattle.front_word.specs.Known.{PassKnows}
-use Rattle.front_word.proofs.laws.Prefixes.{prefix_get}
+use Rattle.front_word.proofs.laws.Prefixes.{prefix_get, prefix_trans}
 use Rattle.corr_books.specs.Closing.{Closes}
+use Rattle.corr_books.specs.Laws.{BaseStands, ClosedWith, HasAt, HasSame, KeptStands, NewStands, PlacesStay}
 use Rattle.corr_books.specs.Opening.{Opening}
 use Rattle.corr_books.specs.Stand.{entries_of, history_of}
-use Rattle.corr_books.specs.Telling.{IsAdded, entry_on}
+use Rattle.corr_books.specs.Telling.{IsAdded, entry_on, known_to}
+use Rattle.corr_books.proofs.Histories.{history_prefix}
 
 get_behind : (xs ys : List Entry) (i : ℕ) → slice_get (xs ++ ys) (length xs + i) ≡ slice_get ys i
 get_behind [] ys i = ap (slice_get ys) (omega arith)
@@ -25,17 +27,37 @@ entries_of-get (x ∷ xs) (suc i) a e = entries_of-get xs i a e
 added_there : (o : Opening) (pay : Pay) (old new : PassKnows) (place : ℕ) (outcome : Outcome) (log : List Act) → (a : IsAdded o pay old new place outcome) → IsPrefix new.known log
     → slice_get (history_of o.base log) (length o.base + a.at) ≡ Some (entry_on o pay outcome)
 added_there o pay old new place outcome log a p =
-    let at = prefix_get new.known log a.at record { by = old.number; entry = entry_on o pay outcome } p a.there in
-    get_behind o.base (entries_of log) a.at ∙ entries_of-get log a.at record { by = old.number; entry = entry_on o pay outcome } at
+    let act : Act = record { by = old.number; entry = entry_on o pay outcome } in
+    get_behind o.base (entries_of log) a.at ∙ entries_of-get log a.at act (prefix_get new.known log a.at act p a.there)
 
--- so it does in the history at the end, where the pass was given back
-pub acknowledged : (o : Opening) (pay : Pay) (old new : PassKnows) (place : ℕ) (outcome : Outcome) (history : List Entry) (faults : ℕ) (passes : List PassKnows) (k : ℕ)
-    → (a : IsAdded o pay old new place outcome) → Closes o history faults passes → slice_get passes k ≡ Some new
-    → slice_get history (length o.base + a.at) ≡ Some (entry_on o pay outcome)
-acknowledged o pay old new place outcome history faults passes k a c at =
-    subst (λ (h : List Entry). slice_get h (length o.base + a.at) ≡ Some (entry_on o pay outcome)) (sym c.is)
-    (added_there o pay old new place outcome c.log a (c.parts k new at).known)
+-- what the pass knew begins the list of the closed books
+known_in : (o : Opening) (history : List Entry) (known : List Act) → (c : ClosedWith o history known) → IsPrefix known c.closes.log
+known_in o history known c = prefix_trans known c.pass.known c.closes.log c.knows (c.closes.parts c.at c.pass c.there).known
 
--- the history at the end begins with that at the opening
-pub begins_with : (o : Opening) (history : List Entry) (faults : ℕ) (passes : List PassKnows) → Closes o history faults passes → IsPrefix o.base history
-begins_with o history faults passes c = (entries_of c.log, sym c.is)
+pub new_stands : NewStands
+new_stands o pay old new place outcome history told closed =
+    let added = told.says in
+    let log = closed.closes.log in
+    let there = added_there o pay old new place outcome log added (known_in o history new.known closed) in
+    let at : length o.base + added.at ≡ place - 1 = omega (arith, added.place_is) in
+    subst (λ (h : List Entry). HasAt h place (entry_on o pay outcome)) (sym closed.closes.is)
+    (subst (λ (n : ℕ). slice_get (history_of o.base log) n ≡ Some (entry_on o pay outcome)) at there)
+
+pub kept_stands : KeptStands
+kept_stands o pay old new place outcome history told closed =
+    let stands = told.says.0.0 in
+    let log = closed.closes.log in
+    let begins = history_prefix o.base new.known log (known_in o history new.known closed) in
+    record {
+      entry = stands.entry;
+      there = subst (λ (h : List Entry). HasAt h place stands.entry) (sym closed.closes.is) (prefix_get (known_to o new) (history_of o.base log) (place - 1) stands.entry begins stands.there);
+      same = stands.is_same;
+      outcome_is = told.says.0.1;
+    }
+
+pub base_stands : BaseStands
+base_stands o history faults passes place entry closes at =
+    subst (λ (h : List Entry). HasAt h place entry) (sym closes.is) (prefix_get o.base (history_of o.base closes.log) (place - 1) entry (entries_of closes.log, refl) at)
+
+pub places_stay : PlacesStay
+places_stay history more place entry at = prefix_get history (history ++ more ∷ []) (place - 1) entry (more ∷ [], refl) at

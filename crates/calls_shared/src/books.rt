@@ -5,7 +5,7 @@ ghost use Rattle.corr_books.specs.Opening.{IsNamed};
 ghost use Rattle.corr_books.specs.Passes.{Belongs};
 ghost use Rattle.corr_books.specs.Telling.{Told};
 
-use super::*;
+use corr_books::{Books, BooksName, CloseFault, Closed, Opened, open_books};
 use corr_disk::{Disk, MemDisk, OnceDisk};
 use corr_ids::{Bic, Day, Mir};
 use corr_money::Ccy;
@@ -114,9 +114,10 @@ fn pay(alloc: Global, number: u32, debit: u8, credit: u8, amount: u64) -> Result
     }
 }
 
+// Adds a record of fewer than 65,536 bytes behind an open gate.
 fn add_record(bytes: &mut Text, record: &[u8]) -> Result<(), Memory> {
-    bytes.push(&[1])?;
-    bytes.push(&(record.len() as u32).to_be_bytes())?;
+    let length = record.len();
+    bytes.push(&[1, 0, 0, (length / 256 % 256) as u8, (length % 256) as u8])?;
     bytes.push(record)
 }
 
@@ -286,13 +287,13 @@ fn two_pays_between_two_accounts_are_booked_in_either_order(rt: HostRuntime) -> 
     let answered = AtomicBool::new(false);
     let disk = MemDisk::new(alloc, journal(&rt, alloc, 0)?);
     let both = book_both(&rt, alloc, disk, &first, &second, &OpenGate, &up, &answered)?;
-    let ends = (both.one, both.two);
-    assert!(rt; ends == (new(1), new(2)) || ends == (new(2), new(1)));
+    let Both {
+        one, two, closed, ..
+    } = both;
+    assert!(rt; (one == new(1) && two == new(2)) || (one == new(2) && two == new(1)));
     let Closed {
-        accounts,
-        history,
-        ..
-    } = both.closed;
+        accounts, history, ..
+    } = closed;
     assert_eq!(rt; balance(&accounts, &history, AcctNo(1)), 5_001_000);
     assert_eq!(rt; balance(&accounts, &history, AcctNo(2)), 999_000);
     Ok(())

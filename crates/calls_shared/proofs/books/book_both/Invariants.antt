@@ -1,5 +1,5 @@
 use Rattle.corr_books.specs.Opening.{opening_of}
-use Rattle.corr_books.proofs.tests.book_both.Given as goal
+use Rattle.calls_shared.proofs.books.book_both.Given as goal
 
 -- these very parts
 abbrev pub ghosts-book_both_as-N-BooksName : goal.ghosts-book_both_as-N-BooksName
