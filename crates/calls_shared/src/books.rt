@@ -288,11 +288,16 @@ fn two_pays_between_two_accounts_are_booked_in_either_order(rt: HostRuntime) -> 
     let disk = MemDisk::new(alloc, journal(&rt, alloc, 0)?);
     let both = book_both(&rt, alloc, disk, &first, &second, &OpenGate, &up, &answered)?;
     let Both {
-        one, two, closed, ..
+        one,
+        two,
+        closed,
+        ..
     } = both;
     assert!(rt; (one == new(1) && two == new(2)) || (one == new(2) && two == new(1)));
     let Closed {
-        accounts, history, ..
+        accounts,
+        history,
+        ..
     } = closed;
     assert_eq!(rt; balance(&accounts, &history, AcctNo(1)), 5_001_000);
     assert_eq!(rt; balance(&accounts, &history, AcctNo(2)), 999_000);

@@ -1,5 +1,5 @@
 -- What an answer leaves behind the lock, and what the pass shows of it.
-use Rattle.std.proofs.Common.{◌≡◌, ◌≢◌, ◌⊎◌, ⊎_elim, ℕ, ◌+◌, ◌<◌, ◌≤◌, ◌≤ℤ◌, List, [], ◌∷◌, ◌++◌, length, max, take, Option, Some, None, Ok, Err, slice_get, refl, ap, sym, ◌∙◌, subst, arith}
+use Rattle.std.proofs.Common.{◌≡◌, ⊎_elim, ℕ, ◌≤◌, ◌≤ℤ◌, List, [], ◌∷◌, ◌++◌, length, max, take, Option, Some, None, Ok, Err, slice_get, refl, ap, sym, ◌∙◌, subst, arith}
 use Rattle.std.specs.Prelude.{true, false, IfSome, is_some, if◌then◌else◌}
 use Rattle.std.proofs.lemmas.Int.{ints}
 use mathlib.Core.List.{IsPrefix}
@@ -20,17 +20,16 @@ use Rattle.front_word.specs.declared.view.Act.{Act}
 use Rattle.front_word.specs.Known.{WriterKnows, PassKnows}
 use Rattle.front_word.specs.Rule.{OwedPast, IsNumber}
 use Rattle.front_word.proofs.laws.Prefixes.{prefix_self, prefix_trans, prefix_length, get_snoc, get_last}
-use Rattle.jrn_book.specs.Answers.{Answer, IsAnswered, IsFull, Shows, StandsAt, failed_after, history_after, need_of}
+use Rattle.jrn_book.specs.Answers.{Answer, StandsAt, failed_after}
 use Rattle.jrn_book.specs.Book.{Book, Counts, HasRisen}
-use Rattle.jrn_book.specs.Journal.{file_of}
 use Rattle.jrn_book.specs.declared.answer.Committed.TheVariants.{New, Kept}
 use Rattle.jrn_book.specs.declared.answer.CommitFault.TheVariants.{Conflict, Full, DiskFault, Broken, Memory}
-use Rattle.jrn_file.specs.File.{disk_of, end_of}
+use Rattle.jrn_file.specs.File.{disk_of}
 use Rattle.corr_books.specs.Entering.{Enters}
 use Rattle.corr_books.specs.Meeting.{HasMet, IsNext, MeetsAfter, writer_after}
 use Rattle.corr_books.specs.Opening.{Opening}
-use Rattle.corr_books.specs.Stand.{IsStand, StandKnows, entries_of, history_of}
-use Rattle.corr_books.specs.Telling.{Grows, IsAdded, NothingAdded, Says, ShowsFull, Told, entry_on, known_to, place_of}
+use Rattle.corr_books.specs.Stand.{IsStand, history_of}
+use Rattle.corr_books.specs.Telling.{Grows, IsAdded, NothingAdded, Says, ShowsFull, Told, entry_on, known_to}
 use Rattle.corr_books.proofs.Histories.{history_of-push, length-history_of, tags_more, take_front}
 
 -- the history after an answer other than New is as before; the reference is entered where the answer is Kept

@@ -1,7 +1,7 @@
 -- The two accounts of a pay, held in rising order.
 use Rattle.std.proofs.Common.{◌≡◌, ◌⊎◌, inl, inr, ℕ, ◌<◌, List, [], ◌∷◌, sym, ap, ◌∙◌, subst, arith}
 use Rattle.std.proofs.lemmas.List.Elements.{All-weaker}
-use Rattle.acct_locks.specs.Holdings.{Hand, Holding, Holds, HoldsOnce, Takes}
+use Rattle.acct_locks.specs.Holdings.{Hand, Holding, HoldsOnce, Takes}
 use Rattle.day_model.specs.declared.pay.Leg.{Leg}
 use Rattle.day_model.specs.Chart.{Chart}
 use Rattle.jrn_book.specs.Deciding.{HoldsAll}

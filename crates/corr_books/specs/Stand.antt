@@ -1,5 +1,5 @@
 -- What stands behind the journal's lock, and what holds of it wherever the lock is free.
-use Rattle.std.specs.Prelude.{◌≡◌, ℕ, ◌≤◌, List, [], ◌++◌, map, None, IfSome}
+use Rattle.std.specs.Prelude.{◌≡◌, ◌≤◌, List, [], ◌++◌, map, None, IfSome}
 use Rattle.atomic_table.specs.Seated.{TableId}
 use Rattle.corr_disk.specs.declared.disk.Disk as disks
 use Rattle.corr_ids.specs.Day.{InCentury}

@@ -1,5 +1,5 @@
 -- What a pass knows after a call of `book`, and what the answer says by it.
-use Rattle.std.specs.Prelude.{◌≡◌, ℕ, ◌+◌, ◌≤◌, true, false, List, [], ◌∷◌, ◌++◌, length, take, slice_get, Option, Some, None, Ok, Err}
+use Rattle.std.specs.Prelude.{◌≡◌, ℕ, ◌+◌, ◌≤◌, true, false, List, length, take, slice_get, Option, Some, None, Ok, Err}
 use mathlib.Core.List.{IsPrefix}
 use Rattle.corr_text.specs.Faults.{Rose}
 use Rattle.day_model.specs.declared.entry.Entry.{Entry}

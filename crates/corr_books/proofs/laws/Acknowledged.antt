@@ -7,8 +7,7 @@ use Rattle.day_model.specs.declared.pay.Pay.{Pay}
 use Rattle.front_word.specs.declared.view.Act.{Act}
 use Rattle.front_word.specs.Known.{PassKnows}
 use Rattle.front_word.proofs.laws.Prefixes.{prefix_get, prefix_trans}
-use Rattle.corr_books.specs.Closing.{Closes}
-use Rattle.corr_books.specs.Laws.{BaseStands, ClosedWith, HasAt, HasSame, KeptStands, NewStands, PlacesStay}
+use Rattle.corr_books.specs.Laws.{BaseStands, ClosedWith, HasAt, KeptStands, NewStands, PlacesStay}
 use Rattle.corr_books.specs.Opening.{Opening}
 use Rattle.corr_books.specs.Stand.{entries_of, history_of}
 use Rattle.corr_books.specs.Telling.{IsAdded, entry_on, known_to}

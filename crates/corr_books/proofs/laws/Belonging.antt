@@ -1,5 +1,5 @@
 -- Passes that belong to books, where one is taken off a list or put back.
-use Rattle.std.proofs.Common.{◌≡◌, ◌⊎◌, ⊎_elim, List, [], ◌∷◌, ◌++◌, length, Some, slice_get, sym, subst}
+use Rattle.std.proofs.Common.{◌≡◌, ⊎_elim, List, [], ◌∷◌, ◌++◌, length, Some, slice_get, sym, subst}
 use Rattle.front_word.specs.Known.{PassKnows}
 use Rattle.front_word.proofs.laws.Prefixes.{get_last, get_snoc, prefix_get}
 use Rattle.corr_books.specs.Opening.{Opening}

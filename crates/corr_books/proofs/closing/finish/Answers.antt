@@ -1,4 +1,4 @@
-use Rattle.std.proofs.Common.{◌≡◌, ◌∙◌, List, length, ap, arith, subst, sym}
+use Rattle.std.proofs.Common.{◌≡◌, List, length, ap, arith, subst, sym}
 use Rattle.std.specs.Prelude.{IsTrue}
 use Rattle.day_model.specs.declared.entry.Entry.{Entry}
 use Rattle.corr_books.specs.Closing.{LeavesClosed}

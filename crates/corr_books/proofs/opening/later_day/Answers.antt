@@ -1,4 +1,4 @@
-use Rattle.std.proofs.Common.{◌-◌, ◌<ℤ◌, ◌≤ℤ◌, arith, refl, take}
+use Rattle.std.proofs.Common.{◌-◌, arith, refl, take}
 use Rattle.std.proofs.lemmas.Int.{ints}
 use Rattle.jrn_book.proofs.laws.Days.{latest_by_last}
 use Rattle.corr_books.proofs.Opens.{ends_at}

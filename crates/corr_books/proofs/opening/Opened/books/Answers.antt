@@ -1,6 +1,4 @@
-use Rattle.std.proofs.Common.{◌≡◌, ◌∙◌, ℕ, ap, subst, sym}
-use Rattle.atomic_table.specs.Seated.{TableId}
-use Rattle.day_model.specs.declared.entry.Entry.{Entry}
+use Rattle.std.proofs.Common.{◌∙◌, ℕ, ap, subst, sym}
 use Rattle.front_word.specs.Known.{beginner}
 use Rattle.corr_books.specs.Opening.{Opening, Parts}
 use Rattle.corr_books.specs.Taking.{AreMade}
