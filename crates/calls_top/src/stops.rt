@@ -80,11 +80,16 @@ fn run<R: Wait, D: Disk + Drop>(rt: &R, alloc: Global, disk: D) -> Result<Ended<
     call(rt, alloc, &[b"run", b"240603", b"1"], disk)
 }
 
+// What the disk of a command holds at its end.
+fn left(ended: Ended<FuseDisk>) -> Text {
+    ended.room.disk.left()
+}
+
 // The bytes of a new journal.
 fn journal<R: Wait>(rt: &R, alloc: Global) -> Result<Text, Memory> {
     let disk = FuseDisk::new(alloc, Text::from_bytes(alloc, b"")?, 100, 0);
     let made = call(rt, alloc, &[b"init", b"HOMEUS33"], disk)?;
-    Ok(made.room.disk.left())
+    Ok(left(made))
 }
 
 fn wrote<D: Disk + Drop>(ended: &Ended<D>, report: &[u8], out: &[u8]) -> bool {
@@ -130,7 +135,7 @@ fn is_made_good<R: Wait>(
     } else {
         is_done(&stopped, SENT)
     };
-    let again = run(rt, alloc, MemDisk::new(alloc, stopped.room.disk.left()))?;
+    let again = run(rt, alloc, MemDisk::new(alloc, left(stopped)))?;
     Ok(told && (is_done(&again, SENT) || is_done(&again, b"")))
 }
 

@@ -94,6 +94,20 @@ fn source<'a>(
     Ok(StdSource::new(rt, path(rt, folder, name)?))
 }
 
+/// The table files of a folder.
+fn tables<'a>(
+    rt: &'a HostRuntime,
+    folder: &[u8],
+) -> Result<Tables<StdSource<'a, HostRuntime>>, Memory> {
+    Ok(Tables {
+        bics: source(rt, folder, b"bics.csv")?,
+        ccys: source(rt, folder, b"ccys.csv")?,
+        countries: source(rt, folder, b"countries.csv")?,
+        accounts: source(rt, folder, b"accounts.csv")?,
+        ssi: source(rt, folder, b"ssi.csv")?,
+    })
+}
+
 /// What a command is handed: files, and standard output.
 type Files<'a> = Room<
     StdSource<'a, HostRuntime>,
@@ -103,19 +117,15 @@ type Files<'a> = Room<
 
 /// The files of a folder, and standard output for the report. What is sent is appended to `out.fin`.
 fn room<'a>(rt: &'a HostRuntime, folder: &[u8]) -> Result<Files<'a>, Memory> {
+    let out = path(rt, folder, b"out.fin")?;
+    let journal = path(rt, folder, b"journal.bin")?;
     Ok(Room {
-        tables: Tables {
-            bics: source(rt, folder, b"bics.csv")?,
-            ccys: source(rt, folder, b"ccys.csv")?,
-            countries: source(rt, folder, b"countries.csv")?,
-            accounts: source(rt, folder, b"accounts.csv")?,
-            ssi: source(rt, folder, b"ssi.csv")?,
-        },
         messages: source(rt, folder, b"messages.fin")?,
         received: source(rt, folder, b"received.fin")?,
+        tables: tables(rt, folder)?,
         report: StdSink::out(rt),
-        out: StdSink::file(rt, path(rt, folder, b"out.fin")?),
-        disk: FileDisk::new(rt, path(rt, folder, b"journal.bin")?),
+        out: StdSink::file(rt, out),
+        disk: FileDisk::new(rt, journal),
         disk2: None,
     })
 }
@@ -124,10 +134,15 @@ fn room<'a>(rt: &'a HostRuntime, folder: &[u8]) -> Result<Files<'a>, Memory> {
 fn run(rt: &HostRuntime, waiter: &impl Wait, folder: &[u8], words: &[Text]) -> Status
     ensures { HasLine result }
 {
-    match room(rt, folder) {
-        Ok(room) => corr(waiter, rt.alloc(), words, room).status,
-        Err(Memory) => Status::Memory,
-    }
+    let room = match room(rt, folder) {
+        Ok(room) => room,
+        Err(Memory) => return Status::Memory,
+    };
+    let done = corr(waiter, rt.alloc(), words, room);
+    let status = done.status;
+    // as one step: the checker counts each part of a value that ends with the function
+    drop(done);
+    status
 }
 
 fn print(rt: &HostRuntime, text: &[u8]) -> Status
