@@ -16,7 +16,7 @@ pub struct WriteStop {
     pub after: u64,
 }
 
-/// Appends all of `text` to a sink. After a fault some front part of it was appended.
+/// Appends all of `text` to a sink; an empty text makes no call on it. After a fault some front part of it was appended.
 pub fn write_whole<K: Sink>(sink: &mut K, text: &[u8]) -> Result<(), WriteStop>
     ensures received { OnOk result (Received K.held K.faults sink.old sink.new text.now) }
     ensures failed { IfErr result (λ e. FailedAt K.held K.faults sink.old sink.new text.now e.before e.after) }
