@@ -48,7 +48,7 @@ last_record : (r : List ℕ) → size_of (r ∷ []) ≡ 5 + length r
 last_record r = omega arith
 
 -- a file with an entry more
-file_more : (chart : Chart) (h : List Entry) (e : Entry) → length (file_of chart (h ++ e ∷ [])) ≡ length (file_of chart h) + (5 + length (entry_bytes e))
+pub file_more : (chart : Chart) (h : List Entry) (e : Entry) → length (file_of chart (h ++ e ∷ [])) ≡ length (file_of chart h) + (5 + length (entry_bytes e))
 file_more chart h e =
     let records : size_of (records_of (h ++ e ∷ [])) ≡ size_of (records_of h) + (5 + length (entry_bytes e)) =
     ap size_of (map-append entry_bytes h (e ∷ [])) ∙ size_of-append (records_of h) (entry_bytes e ∷ []) ∙ ap (λ (n : ℕ). size_of (records_of h) + n) (last_record (entry_bytes e)) in

@@ -24,7 +24,7 @@ use Rattle.corr_top.specs.declared.status.Status.{Status}
 use Rattle.corr_top.specs.declared.tables.TableStop.{TableStop}
 use Rattle.corr_top.specs.declared.words.Command.TheVariants.{Run}
 use Rattle.corr_top.specs.declared.writing.Texts.{Texts}
-use Rattle.corr_top.specs.Booking.{BookCause, IsAdded, LacksRoom, StopsBooking}
+use Rattle.corr_top.specs.Booking.{BookCause, EntersFront, IsAdded, LacksRoom, StopsBooking}
 use Rattle.corr_top.specs.Commands.{out_in, report_in}
 use Rattle.corr_top.specs.Days.{GivesDay, HasDay}
 use Rattle.corr_top.specs.Ends.{Gives, HasPassed, HasTexts}
@@ -190,6 +190,8 @@ module _ {S K D : Type 0} (source : sources.Ghosts S) (d : disks.Ghosts D) (day 
           let booked : StopsBooking d old.disk new.disk i stops.stop = record {
             added = grown.added;
             each = subst (λ ps. All (IsAdded day ps) grown.added) (sym pays) grown.each;
+            front = subst (λ es. EntersFront from.accounts from.history (pays_of i) day es stops.stop) grown.history
+                (subst (λ ps. EntersFront from.accounts from.history ps day to.history stops.stop) (sym pays) stops.stopped.front);
             journal = subst (λ es. IsJournal from.accounts es) grown.history (subst (λ (chart : Chart). IsJournal chart to.history) grown.accounts journal);
             left = subst (λ es. IsLeft d old.disk new.disk from.accounts es day) grown.history (is_left grown.failed grown.accounts);
             cause = subst (λ es. BookCause d old.disk new.disk i es stops.stop) grown.history (cause_of stops.bytes stops.cut stops.stop stops.stopped.cause pays);

@@ -1,6 +1,7 @@
 -- The pays of messages, entered in a book one after another: what the history and the replies are so far, and in the end.
-use Rattle.std.proofs.Common.{◌≡◌, ◌⊎◌, inl, inr, ℕ, zero, suc, ◌+◌, ◌-◌, ◌<◌, ◌≤◌, All, Bool, true, false, cond, List, [], ◌∷◌, ◌++◌, length, Option, Some, None, Result, Ok, Err, refl, sym, ap, ◌∙◌, subst, arith, append_assoc, append-nil, length-append, ◌≤ℤ◌}
-use Rattle.std.specs.Prelude.{IsSome, slice_get, is_none, is_some, option_and_then}
+use Rattle.std.proofs.Common.{◌≡◌, ◌⊎◌, inl, inr, ℕ, zero, suc, ◌+◌, ◌-◌, ◌<◌, ◌≤◌, ◌^◌, All, Bool, true, false, cond, List, [], ◌∷◌, ◌++◌, length, Option, Some, None, Result, Ok, Err, refl, sym, ap, ◌∙◌, subst, arith, append_assoc, append-nil, length-append, ◌≤ℤ◌}
+use Rattle.std.specs.Prelude.{IsSome, nat_le, slice_get, is_none, is_some, option_and_then}
+use Rattle.std.proofs.lemmas.Bool.{cond-false, cond-true, le-leb, lt-leb, or_from, or_left, or_right}
 use Rattle.std.proofs.lemmas.Int.{ints}
 use Rattle.std.proofs.lemmas.List.Elements.{All-append, All-nil, All-weaker}
 use Rattle.std.proofs.lemmas.Option.{same_Some, none-some}
@@ -14,6 +15,7 @@ use Rattle.day_model.specs.declared.reply.Reply.TheVariants as reply
 use Rattle.day_model.specs.Chart.{Chart}
 use Rattle.day_model.specs.Laws.{IsLatest}
 use Rattle.day_model.specs.Legal.{IsLegal}
+use Rattle.day_model.specs.Log.{most_entries}
 use Rattle.day_model.specs.Next.{entered_at, entry_of, next_history, fold_of}
 use Rattle.day_model.specs.Same.{reply_at, reply_to, is_same_pay}
 use Rattle.day_model.specs.Shape.{HasShape}
@@ -22,9 +24,10 @@ use Rattle.day_model.proofs.laws.Lookups.{reply_new}
 use Rattle.day_model.proofs.laws.Places.{position_from-within}
 use Rattle.jrn_file.specs.Faults.{Tells}
 use Rattle.jrn_file.specs.File.{disk_of, end_of}
-use Rattle.jrn_book.specs.Answers.{Answer, IsAnswered, IsFull, Shows, StandsAt, history_after, need_of}
+use Rattle.jrn_book.specs.Answers.{Answer, HasRoom, IsAnswered, IsFull, Shows, StandsAt, failed_after, history_after, need_of}
 use Rattle.jrn_book.specs.Book.{Book}
 use Rattle.jrn_book.specs.Journal.{file_of}
+use Rattle.jrn_codec.specs.Record.{entry_bytes}
 use Rattle.jrn_book.specs.declared.answer.Committed.TheVariants.{New, Kept}
 use Rattle.jrn_book.specs.declared.answer.CommitFault.TheVariants as fault
 use Rattle.corr_report.specs.Report.{NamesPlace}
@@ -32,9 +35,10 @@ use Rattle.corr_top.specs.declared.answers.BookStop.{BookStop}
 use Rattle.corr_top.specs.declared.answers.BookStop.TheVariants as booking
 use Rattle.corr_top.specs.declared.message.NoPay.{NoPay}
 use Rattle.corr_top.specs.declared.message.NoPay.TheVariants as no_pay
-use Rattle.corr_top.specs.Booking.{IsAdded, LacksRoom}
+use Rattle.corr_top.specs.Booking.{BeginsNew, EntersFront, IsAdded, LacksRoom, StopsBefore, entered_of, history_with, lacks_room}
 use Rattle.corr_top.specs.Message.{pays_in, replies_in, reply_for, reply_in}
 use Rattle.corr_top.specs.Turns.{Enters, HasAnswered, HasFailed, HasGrown, HasPayShape, HasStopped, StopCause, HasPlace, Told, Turned, TurnedBack, noted, replied}
+use Rattle.corr_top.proofs.Rooms.{file_more}
 
 -- an element keeps its place when others follow
 get_stays : {A : Type 0} (xs ys : List A) (k : ℕ) (x : A) → slice_get xs k ≡ Some x → slice_get (xs ++ ys) k ≡ Some x
@@ -130,6 +134,60 @@ reply_here h pay place same stands =
     ∙ ap (reply_at pay place) stands.there
     ∙ ap (λ b. Some (cond b (reply.Entered pay.mir place) (reply.Conflict pay.mir place))) stands.is_same
 
+-- ---- a pay that has room, or has none
+
+-- one pay more
+entered_last : (chart : Chart) (h : List Entry) (pays : List Pay) (pay : Pay) (day : Day) → entered_of chart h (pays ++ pay ∷ []) day ≡ history_with chart (entered_of chart h pays day) pay day
+entered_last chart h [] pay day = refl
+entered_last chart h (p ∷ pays) pay day = entered_last chart (history_with chart h p day) pays pay day
+
+-- the bytes of a file with an entry more, by the place of its closed gate
+past_file : (file own end need most next : ℕ) → next ≡ file + (5 + own) → end + 1 ≡ file → need ≡ own + 6 → most < end + need → most + 1 ≤ next
+past_file file own end need most next is place needs full = omega arith
+
+within_file : (file own end need most next : ℕ) → next ≡ file + (5 + own) → end + 1 ≡ file → need ≡ own + 6 → end + need ≤ most → next < most + 1
+within_file file own end need most next is place needs room = omega arith
+
+no_room : (chart : Chart) (h : List Entry) (pay : Pay) (day : Day) (end : ℕ) → end + 1 ≡ length (file_of chart h) → IsFull h end (need_of chart h pay day) → lacks_room chart h pay day ≡ true
+no_room chart h pay day end place (inl full) =
+    or_left (nat_le most_entries (length h)) (nat_le (2 ^ 30 + 1) (length (file_of chart (h ++ entry_of chart h pay day ∷ [])))) (le-leb most_entries (length h) (omega (arith, full)))
+no_room chart h pay day end place (inr full) =
+    let e = entry_of chart h pay day in
+    or_right (nat_le most_entries (length h)) (nat_le (2 ^ 30 + 1) (length (file_of chart (h ++ e ∷ []))))
+    (le-leb (2 ^ 30 + 1) (length (file_of chart (h ++ e ∷ [])))
+    (past_file (length (file_of chart h)) (length (entry_bytes e)) end (need_of chart h pay day) (2 ^ 30) (length (file_of chart (h ++ e ∷ []))) (file_more chart h e) place refl full))
+
+some_room : (chart : Chart) (h : List Entry) (pay : Pay) (day : Day) (end : ℕ) → end + 1 ≡ length (file_of chart h) → HasRoom h end (need_of chart h pay day) → lacks_room chart h pay day ≡ false
+some_room chart h pay day end place room =
+    let e = entry_of chart h pay day in
+    or_from (nat_le most_entries (length h)) (nat_le (2 ^ 30 + 1) (length (file_of chart (h ++ e ∷ [])))) (lt-leb most_entries (length h) room.entries)
+    (lt-leb (2 ^ 30 + 1) (length (file_of chart (h ++ e ∷ [])))
+    (within_file (length (file_of chart h)) (length (entry_bytes e)) end (need_of chart h pay day) (2 ^ 30) (length (file_of chart (h ++ e ∷ []))) (file_more chart h e) place refl room.bytes))
+
+same_both : {A : Type 0} (b : Bool) (x y : A) → y ≡ x → cond b x y ≡ x
+same_both true x y is = refl
+same_both false x y is = is
+
+-- a reference that is entered adds nothing, with room or without
+with_known : (chart : Chart) (h : List Entry) (pay : Pay) (day : Day) (place : ℕ) → entered_at pay.mir h ≡ Some place → history_with chart h pay day ≡ h
+with_known chart h pay day place is =
+    same_both (lacks_room chart h pay day) h (next_history chart h pay day) (ap (λ (o : Option ℕ). cond (is_some o) h (h ++ entry_of chart h pay day ∷ [])) is)
+
+-- what an answer that is no want of memory leaves, where no commit failed before or at it
+shown_with : (chart : Chart) (h : List Entry) (pay : Pay) (day : Day) (end : ℕ) (failed : Option Day) (at_open old new : ℕ) (answer : Answer) → IsAnswered answer → end + 1 ≡ length (file_of chart h) → failed ≡ None
+    → failed_after failed day answer ≡ None → Shows chart h pay day end failed at_open old new answer → history_after chart h pay day answer ≡ history_with chart h pay day
+shown_with chart h pay day end failed at_open old new (Ok (New place outcome)) answered is whole after shows =
+    sym (cond-false (lacks_room chart h pay day) h (next_history chart h pay day) (some_room chart h pay day end is shows.2))
+shown_with chart h pay day end failed at_open old new (Ok (Kept place outcome)) answered is whole after shows =
+    ap (λ (o : Option ℕ). cond (is_some o) h (h ++ entry_of chart h pay day ∷ [])) shows.1.first ∙ sym (with_known chart h pay day place shows.1.first)
+shown_with chart h pay day end failed at_open old new (Err (fault.Conflict place)) answered is whole after shows = sym (with_known chart h pay day place shows.1.first)
+shown_with chart h pay day end failed at_open old new (Err (fault.Full entries at need)) answered is whole after shows =
+    sym (cond-true (lacks_room chart h pay day) h (next_history chart h pay day)
+    (no_room chart h pay day end is (subst (λ (n : ℕ). IsFull h n (need_of chart h pay day)) shows.3 (subst (λ (n : ℕ). IsFull h at n) shows.4 shows.5))))
+shown_with chart h pay day end failed at_open old new (Err (fault.DiskFault before now)) answered is whole after shows = absurd (none-some day (sym after))
+shown_with chart h pay day end failed at_open old new (Err (fault.Broken from now)) answered is whole after shows = absurd (none_is (sym whole) shows.0)
+shown_with chart h pay day end failed at_open old new (Err fault.Memory) answered is whole after shows = absurd answered
+
 module _ {D : Type 0} (d : disks.Ghosts D) (day : Day) (start : Book D) where
   stays_failed : (old new : Book D) → new.failed ≡ old.failed → d.faults (disk_of new.file) ≡ d.faults (disk_of old.file) → HasFailed d day start old → HasFailed d day start new
   stays_failed old new failed count (inl whole) = inl (failed ∙ whole.0, count ∙ whole.1)
@@ -224,11 +282,20 @@ module _ {D : Type 0} (d : disks.Ghosts D) (day : Day) (start : Book D) where
     pub failed : book.failed ≡ Some day
     pub tells : Tells (d.faults (disk_of start.file)) before after (d.faults (disk_of book.file))
 
+  -- What these pays made, but those without room: all of them, or those in front of the one at which the disk failed.
+  pub record Made (pays : List Pay) (book : Book D) : Type 0 where
+    pub front : List Pay
+    pub rest : List Pay
+    pub pays_are : pays ≡ front ++ rest
+    pub history : book.history ≡ entered_of start.accounts start.history front day
+    pub ends : ((book.failed ≡ None) × (rest ≡ []) × HasPlace book) ⊎ ((book.failed ≡ Some day) × BeginsNew book.history rest)
+
   -- the readings of all messages but the rest were answered
   pub record Going (all rest : List (Result Pay NoPay)) (book : Book D) (t : Told) : Type 0 where
     pub pays : List Pay
     pub pays_are : pays_in all ≡ pays ++ pays_in rest
     pub grown : HasGrown d day start book pays
+    pub made : Made pays book
     pub latest : IsLatest book.history day
     pub tally : Clear all rest pays book t ⊎ (Short all book t ⊎ Broke book t)
 
@@ -249,6 +316,7 @@ module _ {D : Type 0} (d : disks.Ghosts D) (day : Day) (start : Book D) where
       failed = inl (whole, refl);
       honest = refl;
     };
+    made = record { front = []; rest = []; pays_are = refl; history = refl; ends = inl (whole, refl, place) };
     latest = latest;
     tally = inl (record {
       full = ap (λ (x : Told). x.full) none;
@@ -261,6 +329,98 @@ module _ {D : Type 0} (d : disks.Ghosts D) (day : Day) (start : Book D) where
       each = omega (arith, ap (λ (x : Told). length x.replies) none);
     });
   }
+
+  -- ---- one pay more
+
+  -- a pay that is not come to
+  begins_more : (left : List Entry) (rest more : List Pay) → BeginsNew left rest → BeginsNew left (rest ++ more)
+  begins_more left rest more b = record { pay = b.pay; more = b.more ++ more; pays_are = ap (λ (ps : List Pay). ps ++ more) b.pays_are; new = b.new }
+
+  -- all so far, and so it stands after one more
+  made_now : (old new : Book D) (pays : List Pay) (pay : Pay) (m : Made pays old) → m.rest ≡ [] → old.accounts ≡ start.accounts → new.history ≡ history_with old.accounts old.history pay day → new.failed ≡ None → HasPlace new → Made (pays ++ pay ∷ []) new
+  made_now old new pays pay m none accounts history whole place =
+      let all : pays ≡ m.front = m.pays_are ∙ ap (λ (ps : List Pay). m.front ++ ps) none ∙ append-nil m.front in
+      record {
+        front = pays ++ pay ∷ [];
+        rest = [];
+        pays_are = sym (append-nil (pays ++ pay ∷ []));
+        history = history ∙ ap (λ (chart : Chart). history_with chart old.history pay day) accounts ∙ ap (λ (es : List Entry). history_with start.accounts es pay day) m.history
+            ∙ ap (λ (ps : List Pay). history_with start.accounts (entered_of start.accounts start.history ps day) pay day) (sym all) ∙ sym (entered_last start.accounts start.history pays pay day);
+        ends = inl (whole, refl, place);
+      }
+
+  -- the disk failed at one
+  made_failed : (old new : Book D) (pays : List Pay) (pay : Pay) (m : Made pays old) → m.rest ≡ [] → new.history ≡ old.history → new.failed ≡ Some day → entered_at pay.mir old.history ≡ None → Made (pays ++ pay ∷ []) new
+  made_failed old new pays pay m none history failed is_new = record {
+    front = m.front;
+    rest = m.rest ++ pay ∷ [];
+    pays_are = ap (λ (ps : List Pay). ps ++ pay ∷ []) m.pays_are ∙ append_assoc m.front m.rest (pay ∷ []);
+    history = history ∙ m.history;
+    ends = inr (failed, record { pay = pay; more = []; pays_are = ap (λ (ps : List Pay). ps ++ pay ∷ []) none; new = ap (entered_at pay.mir) history ∙ is_new });
+  }
+
+  -- it had failed before
+  made_broken : (old new : Book D) (pays : List Pay) (pay : Pay) (m : Made pays old) → new.history ≡ old.history → new.failed ≡ Some day → BeginsNew old.history m.rest → Made (pays ++ pay ∷ []) new
+  made_broken old new pays pay m history failed begins = record {
+    front = m.front;
+    rest = m.rest ++ pay ∷ [];
+    pays_are = ap (λ (ps : List Pay). ps ++ pay ∷ []) m.pays_are ∙ append_assoc m.front m.rest (pay ∷ []);
+    history = history ∙ m.history;
+    ends = inr (failed, begins_more new.history m.rest (pay ∷ []) (subst (λ es. BeginsNew es m.rest) (sym history) begins));
+  }
+
+  -- a pay more, with an answer
+  made_next : (old new : Book D) (pays : List Pay) (pay : Pay) (answer : Answer) → IsAnswered answer → old.accounts ≡ start.accounts → Enters d day old new pay answer → Made pays old → Made (pays ++ pay ∷ []) new
+  made_next old new pays pay answer answered accounts e m = cases answer answered e m.ends
+    where
+      now : (a : Answer) → IsAnswered a → Enters d day old new pay a → old.failed ≡ None → m.rest ≡ [] → HasPlace old → failed_after old.failed day a ≡ None → Made (pays ++ pay ∷ []) new
+      now a answered e whole none place after =
+          made_now old new pays pay m none accounts
+          (e.history ∙ shown_with old.accounts old.history pay day (end_of old.file) old.failed old.at_open _ _ a answered place whole after e.shows)
+          (e.failed ∙ after) (e.place place (e.failed ∙ after))
+
+      cases : (a : Answer) → IsAnswered a → Enters d day old new pay a → ((old.failed ≡ None) × (m.rest ≡ []) × HasPlace old) ⊎ ((old.failed ≡ Some day) × BeginsNew old.history m.rest) → Made (pays ++ pay ∷ []) new
+      cases (Ok (New place outcome)) answered e (inl c) = now (Ok (New place outcome)) answered e c.0 c.1 c.2 c.0
+      cases (Ok (Kept place outcome)) answered e (inl c) = now (Ok (Kept place outcome)) answered e c.0 c.1 c.2 c.0
+      cases (Err (fault.Conflict place)) answered e (inl c) = now (Err (fault.Conflict place)) answered e c.0 c.1 c.2 c.0
+      cases (Err (fault.Full entries at need)) answered e (inl c) = now (Err (fault.Full entries at need)) answered e c.0 c.1 c.2 c.0
+      cases (Err (fault.DiskFault before after)) answered e (inl c) = made_failed old new pays pay m c.1 e.history e.failed e.shows.1
+      cases (Err (fault.Broken at_open now)) answered e (inl c) = absurd (none_is (sym c.0) e.shows.0)
+      cases (Err fault.Memory) answered e s = absurd answered
+      cases (Ok (New place outcome)) answered e (inr b) = absurd (none-some day (sym e.shows.0 ∙ b.0))
+      cases (Ok (Kept place outcome)) answered e (inr b) = absurd (none-some day (sym e.shows.0 ∙ b.0))
+      cases (Err (fault.Conflict place)) answered e (inr b) = absurd (none-some day (sym e.shows.0 ∙ b.0))
+      cases (Err (fault.Full entries at need)) answered e (inr b) = absurd (none-some day (sym e.shows.0 ∙ b.0))
+      cases (Err (fault.DiskFault before after)) answered e (inr b) = absurd (none-some day (sym e.shows.0 ∙ b.0))
+      cases (Err (fault.Broken at_open now)) answered e (inr b) = made_broken old new pays pay m e.history (e.failed ∙ b.0) b.1
+
+  -- a front part of the pays so far is one of all
+  front_of : (book : Book D) (pays more all : List Pay) (stop : BookStop) → all ≡ pays ++ more → (m : Made pays book) → StopsBefore book.history stop (m.rest ++ more) → EntersFront start.accounts start.history all day book.history stop
+  front_of book pays more all stop is m stops = record {
+    front = m.front;
+    rest = m.rest ++ more;
+    pays_are = is ∙ ap (λ (ps : List Pay). ps ++ more) m.pays_are ∙ append_assoc m.front m.rest more;
+    left_is = m.history;
+    stops = stops;
+  }
+
+  -- memory ran out at a pay
+  front_back : (old new : Book D) (pays more all : List Pay) (pay : Pay) (answer : Answer) → all ≡ pays ++ pay ∷ more → old.accounts ≡ start.accounts → Enters d day old new pay answer → Made pays old
+      → EntersFront start.accounts start.history all day new.history booking.Memory
+  front_back old new pays more all pay answer is accounts e m = cases answer e
+    where
+      entered : (a : Answer) → IsAnswered a → Enters d day old new pay a → EntersFront start.accounts start.history all day new.history booking.Memory
+      entered a answered e = front_of new (pays ++ pay ∷ []) more all booking.Memory (is ∙ sym (append_assoc pays (pay ∷ []) more)) (made_next old new pays pay a answered accounts e m) tt
+
+      cases : (a : Answer) → Enters d day old new pay a → EntersFront start.accounts start.history all day new.history booking.Memory
+      cases (Ok (New place outcome)) e = entered (Ok (New place outcome)) tt e
+      cases (Ok (Kept place outcome)) e = entered (Ok (Kept place outcome)) tt e
+      cases (Err (fault.Conflict place)) e = entered (Err (fault.Conflict place)) tt e
+      cases (Err (fault.Full entries at need)) e = entered (Err (fault.Full entries at need)) tt e
+      cases (Err (fault.DiskFault before after)) e = entered (Err (fault.DiskFault before after)) tt e
+      cases (Err (fault.Broken at_open now)) e = entered (Err (fault.Broken at_open now)) tt e
+      cases (Err fault.Memory) e =
+          subst (λ es. EntersFront start.accounts start.history all day es booking.Memory) (sym e.history) (front_of old pays (pay ∷ more) all booking.Memory is m tt)
 
   -- ---- one message more
 
@@ -279,7 +439,7 @@ module _ {D : Type 0} (d : disks.Ghosts D) (day : Day) (start : Book D) where
 
   -- one that gives no pay
   pub next_none : (all rest : List (Result Pay NoPay)) (why : NoPay) (book : Book D) (t : Told) → Going all (Err why ∷ rest) book t → Going all rest book (replied t (reply_for why))
-  next_none all rest why book t g = record { pays = g.pays; pays_are = g.pays_are; grown = g.grown; latest = g.latest; tally = cases g.tally }
+  next_none all rest why book t g = record { pays = g.pays; pays_are = g.pays_are; grown = g.grown; made = g.made; latest = g.latest; tally = cases g.tally }
     where
       cases : Clear all (Err why ∷ rest) g.pays book t ⊎ (Short all book t ⊎ Broke book t) → Clear all rest g.pays book (replied t (reply_for why)) ⊎ (Short all book (replied t (reply_for why)) ⊎ Broke book (replied t (reply_for why)))
       cases (inl c) = inl (record {
@@ -383,6 +543,7 @@ module _ {D : Type 0} (d : disks.Ghosts D) (day : Day) (start : Book D) where
       pays = g.pays ++ pay ∷ [];
       pays_are = g.pays_are ∙ sym (append_assoc g.pays (pay ∷ []) (pays_in rest));
       grown = grown_next old new g.pays pay answer g.grown e shape;
+      made = made_next old new g.pays pay answer answered g.grown.accounts e g.made;
       latest = latest_after old new pay answer e g.latest;
       tally = cases answer answered e g.tally;
     }
@@ -462,11 +623,19 @@ module _ {D : Type 0} (d : disks.Ghosts D) (day : Day) (start : Book D) where
 
   -- memory ran out at a message
   pub stops_back : (all rest : List (Result Pay NoPay)) (reading : Result Pay NoPay) (old new : Book D) (t : Told) → TurnedBack d day reading old new → Going all (reading ∷ rest) old t → HasStopped d day start new (pays_in all) booking.Memory
-  stops_back all rest reading old new t (inl same) g = record { grown = more_pays new g.pays (pays_in (reading ∷ rest)) (pays_in all) g.pays_are (subst (λ (b : Book D). HasGrown d day start b g.pays) (sym same) g.grown); cause = tt }
+  stops_back all rest reading old new t (inl same) g = record {
+    grown = more_pays new g.pays (pays_in (reading ∷ rest)) (pays_in all) g.pays_are (subst (λ (b : Book D). HasGrown d day start b g.pays) (sym same) g.grown);
+    front = subst (λ (b : Book D). EntersFront start.accounts start.history (pays_in all) day b.history booking.Memory) (sym same) (front_of old g.pays (pays_in (reading ∷ rest)) (pays_in all) booking.Memory g.pays_are g.made tt);
+    cause = tt;
+  }
   stops_back all rest reading old new t (inr entered) g =
       let pay = entered.0 in
       let is : pays_in all ≡ (g.pays ++ pay ∷ []) ++ pays_in rest = g.pays_are ∙ ap (λ (r : Result Pay NoPay). g.pays ++ pays_in (r ∷ rest)) entered.1 ∙ sym (append_assoc g.pays (pay ∷ []) (pays_in rest)) in
-      record { grown = more_pays new (g.pays ++ pay ∷ []) (pays_in rest) (pays_in all) is (grown_next old new g.pays pay entered.2 g.grown entered.3 entered.4); cause = tt }
+      record {
+        grown = more_pays new (g.pays ++ pay ∷ []) (pays_in rest) (pays_in all) is (grown_next old new g.pays pay entered.2 g.grown entered.3 entered.4);
+        front = front_back old new g.pays (pays_in rest) (pays_in all) pay entered.2 (g.pays_are ∙ ap (λ (r : Result Pay NoPay). g.pays ++ pays_in (r ∷ rest)) entered.1) g.grown.accounts entered.3 g.made;
+        cause = tt;
+      }
 
   -- all were answered
   pub all_answered : (all : List (Result Pay NoPay)) (book : Book D) (t : Told) (replies : List Reply) → Going all [] book t → t.full ≡ None → t.fault ≡ None → replies ≡ t.replies → HasAnswered d day start book all replies
@@ -489,11 +658,29 @@ module _ {D : Type 0} (d : disks.Ghosts D) (day : Day) (start : Book D) where
 
   -- or not all
   pub not_all : (all : List (Result Pay NoPay)) (book : Book D) (t : Told) (stop : BookStop) → Going all [] book t → (t.fault ≡ Some stop) ⊎ ((t.fault ≡ None) × (t.full ≡ Some stop)) → HasStopped d day start book (pays_in all) stop
-  not_all all book t stop g why = record { grown = more_pays book g.pays [] (pays_in all) g.pays_are g.grown; cause = cases g.tally why }
+  not_all all book t stop g why = record { grown = more_pays book g.pays [] (pays_in all) g.pays_are g.grown; front = front_of book g.pays [] (pays_in all) stop g.pays_are g.made (before g.tally why); cause = cases g.tally why }
     where
       not_failed : HasFailed d day start book → book.failed ≡ None → d.faults (disk_of book.file) ≡ d.faults (disk_of start.file)
       not_failed (inl whole) none = whole.1
       not_failed (inr failed) none = absurd (none-some day (sym none ∙ failed.0))
+
+      nothing_more : book.failed ≡ None → ((book.failed ≡ None) × (g.made.rest ≡ []) × HasPlace book) ⊎ ((book.failed ≡ Some day) × BeginsNew book.history g.made.rest) → g.made.rest ++ [] ≡ []
+      nothing_more whole (inl c) = append-nil g.made.rest ∙ c.1
+      nothing_more whole (inr b) = absurd (none-some day (sym whole ∙ b.0))
+
+      one_more : book.failed ≡ Some day → ((book.failed ≡ None) × (g.made.rest ≡ []) × HasPlace book) ⊎ ((book.failed ≡ Some day) × BeginsNew book.history g.made.rest) → BeginsNew book.history (g.made.rest ++ [])
+      one_more failed (inl c) = absurd (none-some day (sym c.0 ∙ failed))
+      one_more failed (inr b) = begins_more book.history g.made.rest [] b.1
+
+      before : Clear all [] g.pays book t ⊎ (Short all book t ⊎ Broke book t) → (t.fault ≡ Some stop) ⊎ ((t.fault ≡ None) × (t.full ≡ Some stop)) → StopsBefore book.history stop (g.made.rest ++ [])
+      before (inl c) (inl is) = absurd (none-some stop (sym c.fault ∙ is))
+      before (inl c) (inr is) = absurd (none-some stop (sym c.full ∙ is.1))
+      before (inr (inl s)) (inl is) = absurd (none-some stop (sym s.fault ∙ is))
+      before (inr (inl s)) (inr is) =
+          subst (λ (x : BookStop). StopsBefore book.history x (g.made.rest ++ [])) (same_Some (booking.Full s.entries s.end s.need) stop (sym s.full ∙ is.1)) (nothing_more s.whole g.made.ends)
+      before (inr (inr b)) (inl is) =
+          subst (λ (x : BookStop). StopsBefore book.history x (g.made.rest ++ [])) (same_Some (booking.DiskFault b.before b.after) stop (sym b.fault ∙ is)) (one_more b.failed g.made.ends)
+      before (inr (inr b)) (inr is) = absurd (none-some _ (sym is.0 ∙ b.fault))
 
       cases : Clear all [] g.pays book t ⊎ (Short all book t ⊎ Broke book t) → (t.fault ≡ Some stop) ⊎ ((t.fault ≡ None) × (t.full ≡ Some stop)) → StopCause d day start book (pays_in all) stop
       cases (inl c) (inl is) = absurd (none-some stop (sym c.fault ∙ is))

@@ -1,5 +1,5 @@
 -- Pays that are entered one after another, and how that stops.
-use Rattle.std.specs.Prelude.{◌≡◌, ℕ, ◌+◌, ◌<ℤ◌, All, List, [], ◌∷◌, ◌++◌, length, slice_get, Some, None}
+use Rattle.std.specs.Prelude.{◌≡◌, ℕ, ◌+◌, ◌^◌, ◌<ℤ◌, ◌||◌, Bool, nat_le, All, List, [], ◌∷◌, ◌++◌, length, slice_get, Some, None, if◌then◌else◌}
 use Rattle.corr_disk.specs.declared.disk.Disk as outside
 use Rattle.corr_ids.specs.Day.{InCentury}
 use Rattle.corr_ids.specs.declared.day.Day.{Day}
@@ -7,7 +7,8 @@ use Rattle.day_model.specs.declared.entry.Entry.{Entry}
 use Rattle.day_model.specs.declared.pay.Pay.{Pay}
 use Rattle.day_model.specs.Chart.{Chart}
 use Rattle.day_model.specs.Legal.{IsLegal}
-use Rattle.day_model.specs.Next.{entered_at, fold_of}
+use Rattle.day_model.specs.Log.{most_entries}
+use Rattle.day_model.specs.Next.{entered_at, entry_of, fold_of, next_history}
 use Rattle.jrn_book.specs.Answers.{IsFull, need_of}
 use Rattle.jrn_book.specs.Journal.{IsJournal, file_of}
 use Rattle.jrn_file.specs.Faults.{Tells}
@@ -57,10 +58,46 @@ BookCause d old new i left (booking.DiskFault before after) = Tells (d.faults ol
 BookCause d old new i left (booking.Full entries end need) = HasNotFailed d old new × LacksRoom i.chart i.history (pays_of i) i.day left entries end need
 BookCause d old new i left booking.Memory = Unit {0}
 
--- How the entering of the pays stops: by its cause. What is left is the journal's history and further entries of the day, each of a pay of the file, in a journal that may be opened again.
+-- there is no room for what a pay becomes: the history has the most entries that it may have, or the file would have more than 2^30 bytes
+abbrev pub lacks_room : Chart → List Entry → Pay → Day → Bool
+lacks_room chart history pay day =
+    nat_le most_entries (length history) || nat_le (2 ^ 30 + 1) (length (file_of chart (history ++ entry_of chart history pay day ∷ [])))
+
+-- a pay without room adds nothing; another does as on one thread
+abbrev pub history_with : Chart → List Entry → Pay → Day → List Entry
+history_with chart history pay day = if lacks_room chart history pay day then history else next_history chart history pay day
+
+-- what one thread makes of pays, one after another, where it passes over those without room
+abbrev pub entered_of : Chart → List Entry → List Pay → Day → List Entry
+entered_of chart history [] day = history
+entered_of chart history (pay ∷ pays) day = entered_of chart (history_with chart history pay day) pays day
+
+-- the first of these pays is not entered
+pub record BeginsNew (left : List Entry) (pays : List Pay) : Type 0 where
+  pub pay : Pay
+  pub more : List Pay
+  pub pays_are : pays ≡ pay ∷ more
+  pub new : entered_at pay.mir left ≡ None
+
+-- what was not come to: nothing where room was wanting; a failed disk stops at a pay that is new; memory may run out at any
+abbrev pub StopsBefore : List Entry → BookStop → List Pay → Type 0
+StopsBefore left (booking.DiskFault before after) rest = BeginsNew left rest
+StopsBefore left (booking.Full entries end need) rest = rest ≡ []
+StopsBefore left booking.Memory rest = Unit {0}
+
+-- which pays were entered: those of a front part, one after another, but those without room
+pub record EntersFront (chart : Chart) (history : List Entry) (pays : List Pay) (day : Day) (left : List Entry) (stop : BookStop) : Type 0 where
+  pub front : List Pay
+  pub rest : List Pay
+  pub pays_are : pays ≡ front ++ rest
+  pub left_is : left ≡ entered_of chart history front day
+  pub stops : StopsBefore left stop rest
+
+-- How the entering of the pays stops: by its cause. What is left is the journal's history and further entries of the day, those that one thread makes of a front part of the file's pays, in a journal that may be opened again.
 pub record StopsBooking {D : Type 0} (d : outside.Ghosts D) (old new : D) (i : Inputs) (stop : BookStop) : Type 0 where
   pub added : List Entry
   pub each : All (IsAdded i.day (pays_of i)) added
+  pub front : EntersFront i.chart i.history (pays_of i) i.day (i.history ++ added) stop
   pub journal : IsJournal i.chart (i.history ++ added)
   pub left : IsLeft d old new i.chart (i.history ++ added) i.day
   pub cause : BookCause d old new i (i.history ++ added) stop

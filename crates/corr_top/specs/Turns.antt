@@ -23,7 +23,7 @@ use Rattle.jrn_file.specs.File.{disk_of, end_of}
 use Rattle.corr_top.specs.declared.answers.BookStop.{BookStop}
 use Rattle.corr_top.specs.declared.answers.BookStop.TheVariants as booking
 use Rattle.corr_top.specs.declared.message.NoPay.{NoPay}
-use Rattle.corr_top.specs.Booking.{IsAdded, LacksRoom}
+use Rattle.corr_top.specs.Booking.{EntersFront, IsAdded, LacksRoom}
 use Rattle.corr_top.specs.Message.{pays_in, replies_in, reply_for}
 
 -- an entry's pay has the shape of what is written down
@@ -123,4 +123,5 @@ module _ {D : Type 0} (disk : disks.Ghosts D) (day : Day) where
 
   pub record HasStopped (old new : Book D) (pays : List Pay) (stop : BookStop) : Type 0 where
     pub grown : HasGrown old new pays
+    pub front : EntersFront old.accounts old.history pays day new.history stop
     pub cause : StopCause old new pays stop

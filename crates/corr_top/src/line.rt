@@ -1,6 +1,6 @@
 //! The line that tells how a command ended.
 
-ghost use Rattle.std.specs.Prelude.{◌≡◌, ◌≤◌, ◌++◌, OnOk, IfOk, codes};
+ghost use Rattle.std.specs.Prelude.{◌≡◌, ◌≤◌, ◌++◌, [], OnOk, OnErr, IfOk, codes};
 ghost use Rattle.corr_ids.specs.Day.{InCentury, yymmdd_of};
 ghost use Rattle.corr_money.specs.Amounts.{signed_text};
 ghost use Rattle.corr_top.specs.Status.{HasLine, line_of, name_text, spaced, status_text, why_text};
@@ -141,16 +141,30 @@ fn put_status(alloc: Global, s: &Status, out: &mut Text) -> Result<(), Memory>
     }
 }
 
-/// Adds the line that tells a status, as `corr: read fault 0 1`, without a line end (docs/operating.md, "Statuses"). It
-/// takes no memory where `out` has room for it: a line has at most 100 bytes.
-///
-/// The decimals of an `Unbalanced` are at most 4. `Memory`: there was no room for the line.
-pub fn put_status_line(alloc: Global, s: &Status, out: &mut Text) -> Result<(), Memory>
+/// Adds the line of a status.
+fn put_line(alloc: Global, s: &Status, out: &mut Text) -> Result<(), Memory>
     requires { HasLine s.now }
     ensures { OnOk result (out.new ≡ out.old ++ line_of s.now) }
 {
     out.push(b"corr: ")?;
     put_status(alloc, s, out)
+}
+
+/// Makes `out` the line that tells a status, as `corr: read fault 0 1`, without a line end (docs/operating.md, "Statuses"),
+/// in place of what it held.
+///
+/// The decimals of an `Unbalanced` are at most 4. `Memory`: there was no room for the line; then `out` is empty.
+pub fn put_status_line(alloc: Global, s: &Status, out: &mut Text) -> Result<(), Memory>
+    requires { HasLine s.now }
+    ensures ok { OnOk result (out.new ≡ line_of s.now) }
+    ensures err { OnErr result (out.new ≡ []) }
+{
+    out.truncate(0);
+    let put = put_line(alloc, s, out);
+    if put.is_err() {
+        out.truncate(0);
+    }
+    put
 }
 
 /// The line of `put_status_line` as a text of its own.
