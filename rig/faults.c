@@ -1,9 +1,9 @@
 /* A library to preload (LD_PRELOAD): it lets calls of a program fail, counted from its `main` on.
  *
  *   FAULT_CALL   open (for reading), make (an open for writing), read, write (to any descriptor but 2), tell (a write to descriptor 2),
- *                journal (an open, a seek, a read, a write or a sync of a file journal.bin, which is none of the others) or memory
+ *                journal (an open, a read, a write or a sync of a file journal.bin, which is none of the others) or memory
  *   FAULT_KIND   refused (EIO; no memory), short (one byte is moved) or interrupted (EINTR); a call that moves no bytes has
- *                no short kind, and a seek is not interrupted
+ *                no short kind
  *   FAULT_AT     the number of the call, from 1
  *   FAULT_ON     set: each later one fails too
  *   FAULT_COUNT  a file that gets the number of calls of each sort, in the order above
@@ -111,17 +111,30 @@ int fdatasync(int fd)
     return syscall(SYS_fdatasync, fd);
 }
 
-/* A seek is never interrupted. */
-off_t lseek(int fd, off_t offset, int from)
+ssize_t pread(int fd, void *buf, size_t size, off_t offset)
 {
-    if (fd == journal && chosen_kind != INTERRUPTED && fails(next(JOURNAL)))
+    enum kind kind = next(fd == journal ? JOURNAL : READ);
+    if (fails(kind))
         return -1;
-    return syscall(SYS_lseek, fd, offset, from);
+    return syscall(SYS_pread64, fd, buf, moved(kind, size), offset);
 }
 
-off64_t lseek64(int fd, off64_t offset, int from)
+ssize_t pread64(int fd, void *buf, size_t size, off64_t offset)
 {
-    return lseek(fd, offset, from);
+    return pread(fd, buf, size, offset);
+}
+
+ssize_t pwrite(int fd, const void *buf, size_t size, off_t offset)
+{
+    enum kind kind = next(writing(fd));
+    if (fails(kind))
+        return -1;
+    return syscall(SYS_pwrite64, fd, buf, moved(kind, size), offset);
+}
+
+ssize_t pwrite64(int fd, const void *buf, size_t size, off64_t offset)
+{
+    return pwrite(fd, buf, size, offset);
 }
 
 int close(int fd)

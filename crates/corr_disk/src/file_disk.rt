@@ -6,10 +6,10 @@ ghost use Rattle.std.specs.Str.{is_utf8};
 ghost use Rattle.corr_disk.specs.Laws.{not_told};
 
 use crate::{Disk, Failed};
-use corr_io::{counted, open_at, read_some, write_some};
+use corr_io::{counted, open_at, read_some_at};
 use corr_text::Text;
 use std::fs::{OpenFile, OpenOptions};
-use std::io::{Read, Seek, SeekFrom, Write};
+use std::os::unix::fs::FileExt;
 use std::rt::Files;
 
 /// A real file, which is opened or made at the first call. It tells neither its bytes nor its images: what a
@@ -26,7 +26,10 @@ pub struct FileDisk<'a, R: Files> {
     ghost opened: { ForSome file (λ _. IsTrue (is_utf8 path)) },
 }
 
-impl<'a, R: Files> FileDisk<'a, R> {
+impl<'a, R: Files> FileDisk<'a, R>
+where
+    R::File: FileExt,
+{
     /// The file at this path, not yet opened.
     pub fn new(rt: &'a R, path: Text) -> FileDisk<'a, R>
         ensures faults { ⟦<FileDisk<'a, R> as Disk>⟧.faults result ≡ 0 }
@@ -70,7 +73,7 @@ impl<'a, R: Files> FileDisk<'a, R> {
         ensures within { IfOk result (λ n. n ≤ length buf.old) }
     {
         self.open()?;
-        match &mut self.file {
+        match &self.file {
             Some(file) => fill(file, at, buf),
             None => Err(Failed),
         }
@@ -82,7 +85,7 @@ impl<'a, R: Files> FileDisk<'a, R> {
         ensures open { OnOk result (IsTrue (is_utf8 self.old.path)) }
     {
         self.open()?;
-        match &mut self.file {
+        match &self.file {
             Some(file) => put(file, at, bytes),
             None => Err(Failed),
         }
@@ -101,7 +104,10 @@ impl<'a, R: Files> FileDisk<'a, R> {
     }
 }
 
-impl<'a, R: Files> Disk for FileDisk<'a, R> {
+impl<'a, R: Files> Disk for FileDisk<'a, R>
+where
+    R::File: FileExt,
+{
     ghost honest = { λ _. false };
 
     ghost reads = { λ _. [] };
@@ -162,16 +168,15 @@ fn open_regular<R: Files>(rt: &R, path: &Text) -> Result<R::File, Failed>
 }
 
 /// Reads from a place on, until the buffer is full or the file ends.
-fn fill<F: Read + Seek>(file: &mut F, at: u64, buf: &mut [u8]) -> Result<usize, Failed>
+fn fill<F: FileExt>(file: &F, at: u64, buf: &mut [u8]) -> Result<usize, Failed>
     ensures { IfOk result (λ n. n ≤ length buf.old) }
 {
-    file.seek(SeekFrom::Start(at)).map_err(|_| Failed)?;
     let mut count = 0;
     for _ in 0..u64::MAX {
         if count == buf.len() {
             break;
         }
-        match read_some(file, &mut buf[count..])? {
+        match read_some_at(file, at.wrapping_add(count as u64), &mut buf[count..])? {
             0 => break,
             more => count += more,
         }
@@ -179,13 +184,7 @@ fn fill<F: Read + Seek>(file: &mut F, at: u64, buf: &mut [u8]) -> Result<usize, 
     Ok(count)
 }
 
-/// Writes all of these bytes from a place on.
-fn put<F: Write + Seek>(file: &mut F, at: u64, bytes: &[u8]) -> Result<(), Failed> {
-    file.seek(SeekFrom::Start(at)).map_err(|_| Failed)?;
-    let mut rest = bytes;
-    while !rest.is_empty() {
-        let taken = write_some(file, rest)?;
-        rest = &rest[taken..];
-    }
-    Ok(())
+/// Writes all of these bytes from a place on, and again what a signal kept from being written, a bounded number of times.
+fn put<F: FileExt>(file: &F, at: u64, bytes: &[u8]) -> Result<(), Failed> {
+    file.write_all_at(bytes, at).map_err(|_| Failed)
 }

@@ -7,6 +7,7 @@ ghost use Rattle.std.specs.Str.{is_utf8};
 use corr_text::{Failed, Text};
 use std::fs::OpenOptions;
 use std::io::{ErrorKind, Read, Write};
+use std::os::unix::fs::FileExt;
 use std::rt::Files;
 
 /// How often a read or a write is made that a signal interrupts each time.
@@ -29,6 +30,20 @@ pub fn read_some<F: Read>(file: &mut F, buf: &mut [u8]) -> Result<usize, Failed>
 {
     for _ in 0..TRIES {
         match file.read(buf) {
+            Ok(count) => return Ok(count),
+            Err(error) if error.kind() == ErrorKind::Interrupted => {}
+            Err(_) => return Err(Failed),
+        }
+    }
+    Err(Failed)
+}
+
+/// Reads once at a place, as `read_some` does from where the file stands.
+pub fn read_some_at<F: FileExt>(file: &F, at: u64, buf: &mut [u8]) -> Result<usize, Failed>
+    ensures { ReadsAtMost result buf.new }
+{
+    for _ in 0..TRIES {
+        match file.read_at(buf, at) {
             Ok(count) => return Ok(count),
             Err(error) if error.kind() == ErrorKind::Interrupted => {}
             Err(_) => return Err(Failed),

@@ -12,7 +12,7 @@ mod std_source;
 
 pub use corr_text::Failed;
 pub use count::{count_fault, counted};
-pub use files::{open_at, read_some, write_some};
+pub use files::{open_at, read_some, read_some_at, write_some};
 pub use mem_sink::MemSink;
 pub use mem_source::MemSource;
 pub use sink::Sink;

@@ -16,7 +16,10 @@ use row_words::words::Words;
 use std::alloc::Global;
 
 /// The most bytes of a text.
-const MOST: usize = 60_000;
+const MOST_BYTES: usize = 65_000;
+
+/// The most fields.
+const MOST_FIELDS: usize = 65_535;
 
 /// Makes a call, and answers whether one of these has that name.
 pub fn call(name: &[u8], words: &mut Words, answer: &mut Answer) -> Result<bool, Stop> {
@@ -37,13 +40,13 @@ pub fn call(name: &[u8], words: &mut Words, answer: &mut Answer) -> Result<bool,
 #[tactic(auto, using(fin_fields::proofs::laws::Bounds::lines_few))]
 pub fn fields_in(alloc: Global, text: &[u8]) -> Result<List<Field>, FieldFault>
     ensures fit { IfOk result (λ fields. (fields ≢ []) × All IsField fields) }
-    ensures few { IfOk result (λ fields. length fields ≤ 60000) }
+    ensures few { IfOk result (λ fields. length fields ≤ 65535) }
 {
-    if text.len() > MOST {
+    if text.len() > MOST_BYTES {
         return Err(FieldFault::Memory);
     }
     let fields = cut_fields(alloc, text)?;
-    if fields.as_slice().len() > MOST {
+    if fields.as_slice().len() > MOST_FIELDS {
         return Err(FieldFault::Memory);
     }
     Ok(fields)

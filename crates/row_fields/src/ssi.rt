@@ -79,11 +79,20 @@ struct Asked {
     day: Day,
 }
 
+/// The next word as a BIC. Promises nothing; likewise the next.
+fn bank(words: &mut Words) -> Result<Bic, Stop> {
+    read_bic(words.next()?).ok_or(Stop::Unreadable)
+}
+
+fn day(words: &mut Words) -> Result<Day, Stop> {
+    day_from_yymmdd(words.next()?).ok_or(Stop::Unreadable)
+}
+
 fn read_asked(words: &mut Words) -> Result<Asked, Stop> {
     Ok(Asked {
         ccy: Ccy(words.array()?),
-        bank: read_bic(words.next()?).ok_or(Stop::Unreadable)?,
-        day: day_from_yymmdd(words.next()?).ok_or(Stop::Unreadable)?,
+        bank: bank(words)?,
+        day: day(words)?,
     })
 }
 
