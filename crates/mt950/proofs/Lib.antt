@@ -1,0 +1,17 @@
+pub mod Steps
+pub mod First
+pub mod PageNumbers
+pub mod BalanceFields
+pub mod Amount
+pub mod Slashes
+pub mod LineParts
+pub mod LineFields
+pub mod Rows
+pub mod Says
+pub mod Refused
+pub mod Outcome
+pub mod Complete
+pub mod Written
+pub mod Read
+pub mod Fit
+pub mod Joins
