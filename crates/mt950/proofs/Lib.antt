@@ -15,3 +15,4 @@ pub mod Written
 pub mod Read
 pub mod Fit
 pub mod Joins
+pub mod laws
