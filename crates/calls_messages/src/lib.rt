@@ -10,6 +10,8 @@ mod cutting;
 #[cfg(test)]
 mod rules;
 #[cfg(test)]
+mod statements;
+#[cfg(test)]
 mod transfers;
 #[cfg(test)]
 mod verdicts;

@@ -1,0 +1,69 @@
+//! Pages of statements as messages hold them.
+
+ghost use Rattle.std.specs.Prelude.{IsTrue};
+ghost use Rattle.ref_tables.specs.Seen.{few_decimals};
+
+use crate::cutting::{cut, let_go, tables};
+use corr_text::Text;
+use fin_fields::FieldFault;
+use mt950::{PageFault, join_pages, put_mt950, read_mt950};
+use ref_tables::RefTables;
+use std::alloc::Global;
+use std::test::Fail;
+
+// The page of a text, written; none where the text says none.
+fn page(alloc: Global, tables: &RefTables, text: &[u8]) -> Result<Option<Text>, FieldFault>
+    requires { IsTrue (few_decimals tables.now.ccys) }
+{
+    let fields = cut(alloc, text)?;
+    match read_mt950(alloc, fields.as_slice(), tables) {
+        Ok(p) => {
+            let text = put_mt950(alloc, &p);
+            let_go(p);
+            Ok(Some(text?))
+        }
+        Err(_) => Ok(None),
+    }
+}
+
+// What a statement of the page of a text closes at; none where the text says none, or its page is no statement.
+fn closing(alloc: Global, tables: &RefTables, text: &[u8]) -> Result<Option<i64>, FieldFault>
+    requires { IsTrue (few_decimals tables.now.ccys) }
+{
+    let fields = cut(alloc, text)?;
+    match read_mt950(alloc, fields.as_slice(), tables) {
+        Ok(p) => {
+            let pages = [p];
+            match join_pages(alloc, &pages) {
+                Ok(statement) => {
+                    let closing = statement.closing;
+                    let_go(statement);
+                    Ok(Some(closing))
+                }
+                Err(_) => Ok(None),
+            }
+        }
+        Err(_) => Ok(None),
+    }
+}
+
+const TEXT: &[u8] = b":20:R\n:25:A\n:28C:5/1\n:60F:C240602EUR1,\n:61:240603C1,S103R//P\n:62F:C240603EUR2,\n";
+
+#[test]
+fn a_page_is_read_and_written(rt: HostRuntime) -> Result<(), Fail> {
+    let tables = tables(rt.alloc())?;
+    let want = b":20:R\r\n:25:A\r\n:28C:5/1\r\n:60F:C240602EUR1,00\r\n:61:240603C1,00S103R//P\r\n:62F:C240603EUR2,00\r\n";
+    match page(rt.alloc(), &tables, TEXT)? {
+        Some(got) => assert!(rt; got.bytes() == want.as_slice()),
+        None => assert!(rt; false, "a page"),
+    }
+    Ok(())
+}
+
+#[test]
+fn a_page_is_a_statement(rt: HostRuntime) -> Result<(), Fail> {
+    let tables = tables(rt.alloc())?;
+    assert!(rt; closing(rt.alloc(), &tables, TEXT)? == Some(200));
+    assert!(rt; join_pages(rt.alloc(), &[]).err() == Some(PageFault::Gap { page: 1 }));
+    Ok(())
+}

@@ -1,0 +1,151 @@
+-- Pages joined one after the other.
+use Rattle.std.proofs.Common.{◌≡◌, ℕ, suc, ◌+◌, ◌-◌, ◌<◌, ◌≤◌, Bool, true, false, List, [], ◌∷◌, ◌++◌, length, get_or, drop, Option, Some, None, Result, Ok, Err, refl, sym, ap, ◌∙◌, arith, pos, ◌+ℤ◌, ◌≤ℤ◌, neg_ℤ, ℤ, option_map}
+use Rattle.std.proofs.lemmas.Int.{ints}
+use Rattle.std.specs.Prelude.{flat_map}
+use Rattle.std.specs.List.{All, AllByRecursion}
+use Rattle.std.specs.Ordering.{int_eq}
+use Rattle.std.proofs.lemmas.List.{drop_all, drop_more}
+use Rattle.std.proofs.lemmas.List.Elements.{All-append, All-head, All-tail}
+use Rattle.corr_text.specs.Answers.{Refuses}
+use Rattle.corr_text.specs.First.{first_of, unless, ◌>>=◌}
+use Rattle.corr_ids.specs.declared.day.Day.{Day}
+use Rattle.corr_money.specs.Amounts.{amount_end}
+use Rattle.fin_contents.specs.Writing.{IsReadable}
+use Rattle.fin_contents.proofs.laws.Back.{each-weaker}
+use Rattle.fin_contents.proofs.laws.Placed.{all-of, each-of}
+use Rattle.mt950.specs.Entry.{effect_of, marked}
+use Rattle.mt950.specs.declared.entry.Mark.{Mark}
+use Rattle.mt950.specs.declared.entry.Mark.TheVariants.{C, D, RC, RD}
+use Rattle.mt950.specs.declared.joining.Statement.{Statement}
+use Rattle.mt950.specs.Joining.{IsSmall, carried_tests, effects_of, first_gap, first_uncarried, follows, gap_tests, joined_with, last_of, lines_of_pages, sum_test, told, without}
+use Rattle.mt950.specs.Page.{mt950_of}
+use Rattle.mt950.specs.Writing.{IsEntry}
+use Rattle.mt950.specs.declared.entry.Line61.{Line61}
+use Rattle.mt950.specs.declared.joining.PageFault.{PageFault}
+use Rattle.mt950.specs.declared.joining.PageFault.TheVariants.{DoesNotAdd, Gap, Memory, NotCarried}
+use Rattle.mt950.specs.declared.page.Page950.{Page950}
+use Rattle.mt950.proofs.Read.{readable-is}
+
+goes-on : {F : Type 0} (b : Bool) (fault : F) (more : List (Option F)) → b ≡ true → first_of (unless b fault ∷ more) ≡ first_of more
+goes-on b fault more e = rw e refl
+
+stops : {F : Type 0} (b : Bool) (fault : F) (more : List (Option F)) → b ≡ false → first_of (unless b fault ∷ more) ≡ Some fault
+stops b fault more e = rw e refl
+
+module _ (first : Page950) (count : ℕ) (pages : List Page950) (at : ℕ) where
+  pub gap-more : (page : Page950) → page ≡ get_or pages at page → at < length pages → follows first count at page ≡ true → first_gap first count at (drop at pages) ≡ first_gap first count (at + 1) (drop (at + 1) pages)
+  gap-more page is lt holds = rw (drop_more pages at page lt, ← is) (goes-on (follows first count at page) (at + 1) (gap_tests first count (at + 1) (drop (at + 1) pages)) holds)
+
+  pub gap-here : (page : Page950) → page ≡ get_or pages at page → at < length pages → follows first count at page ≡ false → first_gap first count at (drop at pages) ≡ Some (at + 1)
+  gap-here page is lt fails = rw (drop_more pages at page lt, ← is) (stops (follows first count at page) (at + 1) (gap_tests first count (at + 1) (drop (at + 1) pages)) fails)
+
+  pub gap-end : length pages ≤ at → first_gap first count at (drop at pages) ≡ None
+  gap-end le = rw (drop_all at pages le) refl
+
+module _ (closing : ℤ) (pages : List Page950) (at : ℕ) where
+  pub carried-more : (page : Page950) → page ≡ get_or pages at page → at < length pages → int_eq page.opening.signed closing ≡ true
+      → first_of (carried_tests (at + 1) closing (drop at pages)) ≡ first_of (carried_tests (at + 1 + 1) page.closing.signed (drop (at + 1) pages))
+  carried-more page is lt holds =
+      rw (drop_more pages at page lt, ← is) (goes-on (int_eq page.opening.signed closing) (NotCarried (at + 1) closing page.opening.signed) (carried_tests (at + 1 + 1) page.closing.signed (drop (at + 1) pages)) holds)
+
+  pub carried-here : (page : Page950) → page ≡ get_or pages at page → at < length pages → int_eq page.opening.signed closing ≡ false
+      → first_of (carried_tests (at + 1) closing (drop at pages)) ≡ Some (NotCarried (at + 1) closing page.opening.signed)
+  carried-here page is lt fails =
+      rw (drop_more pages at page lt, ← is) (stops (int_eq page.opening.signed closing) (NotCarried (at + 1) closing page.opening.signed) (carried_tests (at + 1 + 1) page.closing.signed (drop (at + 1) pages)) fails)
+
+  pub carried-end : length pages ≤ at → first_of (carried_tests (at + 1) closing (drop at pages)) ≡ None
+  carried-end le = rw (drop_all at pages le) refl
+
+-- one line more
+pub effects-more : (lines : List Line61) (i : ℕ) (line : Line61) → line ≡ get_or lines i line → i < length lines → effects_of (drop i lines) ≡ effect_of line +ℤ effects_of (drop (i + 1) lines)
+effects-more lines i line is lt = rw (drop_more lines i line lt, ← is) refl
+
+pub effects-end : (lines : List Line61) (i : ℕ) → length lines ≤ i → effects_of (drop i lines) ≡ pos 0
+effects-end lines i le = rw (drop_all i lines le) refl
+
+-- a line adds less than an amount's end, and takes less away
+marked-within : (mark : Mark) (n : ℕ) → n < amount_end → (neg_ℤ (pos amount_end) ≤ℤ marked mark n) × (marked mark n ≤ℤ pos amount_end)
+marked-within C n lt = (omega (arith, ints), omega (arith, ints))
+marked-within RD n lt = (omega (arith, ints), omega (arith, ints))
+marked-within D n lt = (omega (arith, ints), omega (arith, ints))
+marked-within RC n lt = (omega (arith, ints), omega (arith, ints))
+
+pub effect-within : (line : Line61) → IsSmall line → (neg_ℤ (pos amount_end) ≤ℤ effect_of line) × (effect_of line ≤ℤ pos amount_end)
+effect-within line small = marked-within line.mark line.amount.0 small
+
+-- ---- the tests in their order
+
+-- a fault that a test tells is refused with it
+told-refuses : (meant : Result Statement PageFault) (e : PageFault) → meant ≡ Err e → Refuses told meant e
+told-refuses meant (Gap k) h = h
+told-refuses meant (NotCarried k closing opening) h = h
+told-refuses meant (DoesNotAdd opening sum closing) h = h
+told-refuses meant Memory h = tt
+
+stops-at : {A : Type 0} (r : Result (Unit {0}) PageFault) (next : Result A PageFault) (fault : PageFault) → r ≡ Err fault → (r >>= λ _. next) ≡ Err fault
+stops-at r next fault e = rw e refl
+
+goes-past : {A : Type 0} (r : Result (Unit {0}) PageFault) (next : Result A PageFault) (u : Unit {0}) → r ≡ Ok u → (r >>= λ _. next) ≡ next
+goes-past r next u e = rw e refl
+
+-- the last page
+pub last-is : (first : Page950) (pages : List Page950) (x : Page950) → 1 ≤ length pages → x ≡ get_or pages (length pages - 1) x → last_of first pages ≡ x
+last-is first [] x some is = absurd (omega (arith, some))
+last-is first (p ∷ []) x some is = sym is
+last-is first (p ∷ q ∷ pages) x some is =
+    let place : length (p ∷ q ∷ pages) - 1 ≡ suc (length (q ∷ pages) - 1) = omega arith in
+    last-is p (q ∷ pages) x (omega arith) (rw place at is)
+
+module _ (first : Page950) (pages : List Page950) where
+  abbrev statement_of : List Line61 → Page950 → Statement
+  statement_of lines last = record { account = first.account; ccy = first.ccy; decimals = first.decimals; opening = first.opening.signed; lines = lines; closing = last.closing.signed; day = last.closing.day }
+
+  -- what is told behind the gaps
+  abbrev behind_gaps : Result Statement PageFault
+  behind_gaps =
+      without (first_uncarried first pages) >>= λ _.
+      sum_test first.opening.signed (lines_of_pages pages) (last_of first pages).closing.signed >>= λ _.
+      Ok (statement_of (lines_of_pages pages) (last_of first pages))
+
+  abbrev behind_balances : Result Statement PageFault
+  behind_balances =
+      sum_test first.opening.signed (lines_of_pages pages) (last_of first pages).closing.signed >>= λ _.
+      Ok (statement_of (lines_of_pages pages) (last_of first pages))
+
+  abbrev gaps : Result (Unit {0}) PageFault
+  gaps = without (option_map Gap (first_gap first (length pages) 0 pages))
+
+  abbrev balances : Result (Unit {0}) PageFault
+  balances = without (first_uncarried first pages)
+
+  pub gap-told : (fault : PageFault) → gaps ≡ Err fault → Refuses told (joined_with first pages) fault
+  gap-told fault e = told-refuses (joined_with first pages) fault (stops-at gaps behind_gaps fault e)
+
+  module _ (u : Unit {0}) (none : gaps ≡ Ok u) where
+    no-gap : joined_with first pages ≡ behind_gaps
+    no-gap = goes-past gaps behind_gaps u none
+
+    pub carried-told : (fault : PageFault) → balances ≡ Err fault → Refuses told (joined_with first pages) fault
+    carried-told fault e = told-refuses (joined_with first pages) fault (no-gap ∙ stops-at balances behind_balances fault e)
+
+    module _ (v : Unit {0}) (carried : balances ≡ Ok v) (lines : List Line61) (all : lines ≡ lines_of_pages pages) (last : Page950) (is : last_of first pages ≡ last) where
+      to-sum : joined_with first pages ≡ (sum_test first.opening.signed lines last.closing.signed >>= λ _. Ok (statement_of lines last))
+      to-sum = no-gap ∙ (goes-past balances behind_balances v carried ∙ rw (is, ← all) refl)
+
+      pub sum-told : (fault : PageFault) → sum_test first.opening.signed lines last.closing.signed ≡ Err fault → Refuses told (joined_with first pages) fault
+      sum-told fault e = told-refuses (joined_with first pages) fault (to-sum ∙ stops-at (sum_test first.opening.signed lines last.closing.signed) (Ok (statement_of lines last)) fault e)
+
+      pub joined-so : (w : Unit {0}) → sum_test first.opening.signed lines last.closing.signed ≡ Ok w → joined_with first pages ≡ Ok (statement_of lines last)
+      joined-so w e = to-sum ∙ goes-past (sum_test first.opening.signed lines last.closing.signed) (Ok (statement_of lines last)) w e
+
+-- ---- the lines of pages that were read are small
+
+page-small : (p : Page950) → IsReadable mt950_of p → All IsSmall p.lines
+page-small p r = all-of IsSmall p.lines (each-weaker (IsEntry p.decimals) IsSmall p.lines (each-of (IsEntry p.decimals) p.lines (readable-is p r).lines) (λ (line : Line61) is. is.small))
+
+pub pages-small : (pages : List Page950) → All (IsReadable mt950_of) pages → All IsSmall (lines_of_pages pages)
+pages-small [] given = λ k d lt. absurd (omega arith)
+pages-small (p ∷ pages) given =
+    All-append IsSmall p.lines (lines_of_pages pages) (page-small p (All-head (IsReadable mt950_of) p pages given)) (pages-small pages (All-tail (IsReadable mt950_of) p pages given))
+
+pub ruleset small_pages = (arith, pages-small)

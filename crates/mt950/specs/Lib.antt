@@ -1,0 +1,9 @@
+pub mod Number
+pub mod Balances
+pub mod Parts
+pub mod Entry
+pub mod Rules
+pub mod Page
+pub mod Writing
+pub mod Joining
+pub mod Order
