@@ -1,0 +1,300 @@
+-- What an answer leaves behind the lock, and what the pass shows of it.
+use Rattle.std.proofs.Common.{◌≡◌, ◌≢◌, ◌⊎◌, ⊎_elim, ℕ, ◌+◌, ◌<◌, ◌≤◌, ◌≤ℤ◌, List, [], ◌∷◌, ◌++◌, length, max, take, Option, Some, None, Ok, Err, slice_get, refl, ap, sym, ◌∙◌, subst, arith}
+use Rattle.std.specs.Prelude.{true, false, IfSome, is_some, if◌then◌else◌}
+use Rattle.std.proofs.lemmas.Int.{ints}
+use mathlib.Core.List.{IsPrefix}
+use Rattle.atomic_table.specs.Seated.{TableId}
+use Rattle.corr_disk.specs.declared.disk.Disk as disks
+use Rattle.corr_text.specs.Faults.{Rose}
+use Rattle.corr_ids.specs.declared.day.Day.{Day}
+use Rattle.day_model.specs.declared.entry.Entry.{Entry}
+use Rattle.day_model.specs.declared.entry.Outcome.{Outcome}
+use Rattle.day_model.specs.declared.pay.Pay.{Pay}
+use Rattle.day_model.specs.Chart.{Chart}
+use Rattle.day_model.specs.Balance.{outcome_of}
+use Rattle.day_model.specs.Laws.{IsLatest}
+use Rattle.day_model.specs.Legal.{IsLegal}
+use Rattle.day_model.specs.Next.{entered_at, entry_of, next_history}
+use Rattle.day_model.proofs.laws.Growth.{pushed}
+use Rattle.front_word.specs.declared.view.Act.{Act}
+use Rattle.front_word.specs.Known.{WriterKnows, PassKnows}
+use Rattle.front_word.specs.Rule.{OwedPast, IsNumber}
+use Rattle.front_word.proofs.laws.Prefixes.{prefix_self, prefix_trans, prefix_length, get_snoc, get_last}
+use Rattle.jrn_book.specs.Answers.{Answer, IsAnswered, IsFull, Shows, StandsAt, failed_after, history_after, need_of}
+use Rattle.jrn_book.specs.Book.{Book, Counts, HasRisen}
+use Rattle.jrn_book.specs.Journal.{file_of}
+use Rattle.jrn_book.specs.declared.answer.Committed.TheVariants.{New, Kept}
+use Rattle.jrn_book.specs.declared.answer.CommitFault.TheVariants.{Conflict, Full, DiskFault, Broken, Memory}
+use Rattle.jrn_file.specs.File.{disk_of, end_of}
+use Rattle.corr_books.specs.Entering.{Enters}
+use Rattle.corr_books.specs.Meeting.{HasMet, IsNext, MeetsAfter, writer_after}
+use Rattle.corr_books.specs.Opening.{Opening}
+use Rattle.corr_books.specs.Stand.{IsStand, StandKnows, entries_of, history_of}
+use Rattle.corr_books.specs.Telling.{Grows, IsAdded, NothingAdded, Says, ShowsFull, Told, entry_on, known_to, place_of}
+use Rattle.corr_books.proofs.Histories.{history_of-push, length-history_of, tags_more, take_front}
+
+-- the history after an answer other than New is as before; the reference is entered where the answer is Kept
+kept_history : (chart : Chart) (history : List Entry) (pay : Pay) (day : Day) (place : ℕ) → entered_at pay.mir history ≡ Some place → next_history chart history pay day ≡ history
+kept_history chart history pay day place at =
+    ap (λ (found : Option ℕ). if is_some found then history else history ++ entry_of chart history pay day ∷ []) at
+
+-- and it has one entry more where the reference is new
+new_history : (chart : Chart) (history : List Entry) (pay : Pay) (day : Day) → entered_at pay.mir history ≡ None → next_history chart history pay day ≡ history ++ entry_of chart history pay day ∷ []
+new_history chart history pay day none =
+    ap (λ (found : Option ℕ). if is_some found then history else history ++ entry_of chart history pay day ∷ []) none
+
+-- no entry has a later day, with one more of this day
+latest_more : (history : List Entry) (e : Entry) (day : Day) → IsLatest history day → e.day ≡ day → IsLatest (history ++ e ∷ []) day
+latest_more history e day latest same i d at =
+    ⊎_elim
+    (λ (t : slice_get history i ≡ Some d). latest i d t)
+    (λ (t : (i ≡ length history) × (e ≡ d)).
+    let s : d.day ≡ day = ap (λ (x : Entry). x.day) (sym t.1) ∙ same in
+    subst (λ (x : Day). x.0 ≤ℤ day.0) (sym s) (omega (arith, ints)))
+    (pushed history e i d at)
+
+module _ {D : Type 0} (disk : disks.Ghosts D) (o : Opening) (purses : TableId) (b b' : Book D) (w : WriterKnows) (number : ℕ) (pay : Pay) where
+  -- what stands behind the lock, before and after
+  abbrev Before : Type 0
+  Before = IsStand disk o purses record { book = b; writer = w; day = o.day }
+
+  abbrev After : Answer → Type 0
+  After answer = IsStand disk o purses record { book = b'; writer = writer_after w number pay o.day answer; day = o.day }
+
+  abbrev Entered : Answer → Type 0
+  Entered answer = Enters disk o.day b b' pay answer
+
+  -- nothing was entered: the mark is no more than the disk's count
+  still : (answer : Answer) (mark : ℕ) → Before → Entered answer → b'.history ≡ b.history → mark ≤ disk.faults (disk_of b'.file)
+      → IfSome b'.failed (λ day. day ≡ o.day) → Counts b'.failed b'.at_open (disk.faults (disk_of b'.file))
+      → IsStand disk o purses record { book = b'; writer = record w { mark = mark }; day = o.day }
+  still answer mark s e same le failed counts = record {
+    accounts = e.accounts ∙ s.accounts;
+    purses_are = e.table ∙ s.purses_are;
+    at_open = e.at_open ∙ s.at_open;
+    honest = e.honest ∙ s.honest;
+    day = refl;
+    word = s.word;
+    base = s.base;
+    made = s.made;
+    owed = s.owed;
+    back = s.back;
+    history = same ∙ s.history;
+    tags = s.tags;
+    century = s.century;
+    latest = subst (λ (h : List Entry). IsLatest h o.day) (sym same) s.latest;
+    failed = failed;
+    counts = counts;
+    mark = le;
+  }
+
+  -- where the disk was not called, or didn't fail: what is known of failures and counts is as before
+  failed_still : (answer : Answer) → Before → Entered answer → failed_after b.failed o.day answer ≡ b.failed → IfSome b'.failed (λ day. day ≡ o.day)
+  failed_still answer s e same = subst (λ (f : Option Day). IfSome f (λ day. day ≡ o.day)) (sym (e.failed ∙ same)) s.failed
+
+  counts_still : (answer : Answer) → Before → Entered answer → failed_after b.failed o.day answer ≡ b.failed → disk.faults (disk_of b'.file) ≡ disk.faults (disk_of b.file)
+      → Counts b'.failed b'.at_open (disk.faults (disk_of b'.file))
+  counts_still answer s e same count =
+      subst (λ (x : Option Day × (ℕ × ℕ)). Counts x.0 x.1.0 x.1.1) (λ i. (sym (e.failed ∙ same) i, (sym e.at_open i, sym count i))) s.counts
+
+  -- an answer that entered nothing and left the disk's count
+  quiet : (answer : Answer) → Before → Entered answer → b'.history ≡ b.history → failed_after b.failed o.day answer ≡ b.failed → disk.faults (disk_of b'.file) ≡ disk.faults (disk_of b.file)
+      → IsStand disk o purses record { book = b'; writer = w; day = o.day }
+  quiet answer s e same failed count =
+      still answer w.mark s e same (let m = s.mark in omega (arith, count)) (failed_still answer s e failed) (counts_still answer s e failed count)
+
+  -- what holds wherever the lock is free holds again
+  pub stand_after : (answer : Answer) → Before → Entered answer → IsNumber o.made number → After answer
+  stand_after (Ok (New place outcome)) s e by =
+      let shows = e.shows in
+      let entry = entry_of b.accounts b.history pay o.day in
+      let act : Act = record { by = number; entry = record { pay = pay; day = o.day; outcome = outcome } } in
+      let is : act.entry ≡ entry = ap (λ (x : Outcome). record { pay = pay; day = o.day; outcome = x }) shows.4 in
+      let grown : b'.history ≡ b.history ++ act.entry ∷ [] =
+      e.history ∙ new_history b.accounts b.history pay o.day shows.1 ∙ ap (λ (x : Entry). b.history ++ x ∷ []) (sym is) in
+      record {
+        accounts = e.accounts ∙ s.accounts;
+        purses_are = e.table ∙ s.purses_are;
+        at_open = e.at_open ∙ s.at_open;
+        honest = e.honest ∙ s.honest;
+        day = refl;
+        word = s.word;
+        base = s.base;
+        made = s.made;
+        owed = s.owed;
+        back = s.back;
+        history = grown ∙ ap (λ (h : List Entry). h ++ act.entry ∷ []) s.history ∙ sym (history_of-push o.base w.acts act);
+        tags = tags_more o.made w.acts act s.tags by;
+        century = s.century;
+        latest = subst (λ (h : List Entry). IsLatest h o.day) (sym grown) (latest_more b.history act.entry o.day s.latest refl);
+        failed = failed_still (Ok (New place outcome)) s e refl;
+        counts = counts_still (Ok (New place outcome)) s e refl shows.5;
+        mark = let m = s.mark in omega (arith, e.later);
+      }
+  stand_after (Ok (Kept place outcome)) s e by =
+      quiet (Ok (Kept place outcome)) s e (e.history ∙ kept_history b.accounts b.history pay o.day place e.shows.1.first) refl e.shows.3
+  stand_after (Err (Conflict place)) s e by = quiet (Err (Conflict place)) s e e.history refl e.shows.2
+  stand_after (Err (Full entries end need)) s e by = quiet (Err (Full entries end need)) s e e.history refl e.shows.6
+  stand_after (Err (DiskFault before after)) s e by =
+      let shows = e.shows in
+      let at_open : b.at_open ≤ disk.faults (disk_of b.file) = subst (λ (f : Option Day). Counts f b.at_open (disk.faults (disk_of b.file))) shows.0 s.counts in
+      let risen : HasRisen b'.at_open (disk.faults (disk_of b'.file)) = record {
+        before = before;
+        later = omega (arith, e.at_open, shows.3, at_open);
+        rose = subst (Rose before) shows.4 shows.5;
+      } in
+      still (Err (DiskFault before after)) (max w.mark after) s e e.history (let m = s.mark in omega (arith, shows.4, e.later))
+      (subst (λ (f : Option Day). IfSome f (λ day. day ≡ o.day)) (sym e.failed) refl)
+      (subst (λ (f : Option Day). Counts f b'.at_open (disk.faults (disk_of b'.file))) (sym e.failed) risen)
+  stand_after (Err (Broken from now)) s e by =
+      let shows = e.shows in
+      still (Err (Broken from now)) (max w.mark now) s e e.history (let m = s.mark in omega (arith, shows.2, e.later))
+      (failed_still (Err (Broken from now)) s e refl)
+      (counts_still (Err (Broken from now)) s e refl shows.4)
+  stand_after (Err Memory) s e by = quiet (Err Memory) s e e.history refl e.shows.1
+
+  -- a new place is the next one of the writer's
+  pub next_place : (answer : Answer) → Before → Entered answer → IsNext w.base w.acts answer
+  next_place (Ok (New place outcome)) s e =
+      let n = ap length s.history ∙ length-history_of o.base w.acts in
+      let base = ap length s.base in
+      let p = e.shows.3 in
+      let r = e.shows.2.entries in
+      (omega arith, omega arith)
+  next_place (Ok (Kept place outcome)) s e = tt
+  next_place (Err fault) s e = tt
+
+  none_past : (old new : PassKnows) (log : List Act) → OwedPast log (length old.known) old.number None → new.known ≡ log → NothingAdded old new
+  none_past old new log owed known i a at past tag =
+      let x = owed i a (subst (λ (l : List Act). slice_get l i ≡ Some a) known at) past tag in absurd (cc (x.0))
+
+  grows_after : (answer : Answer) (place : Option ℕ) (old new : PassKnows) → After answer → Entered answer
+      → HasMet w (writer_after w number pay o.day answer) place old new → IsPrefix w.acts (writer_after w number pay o.day answer).acts
+      → Grows o old new
+  grows_after answer place old new s e m more = record {
+    number = m.number;
+    known = subst (IsPrefix old.known) (sym m.known) (prefix_trans old.known w.acts (writer_after w number pay o.day answer).acts m.before more);
+    seen = subst (λ (l : List Act). old.seen ≤ length l) (sym m.known) (let x = m.seen in let y = prefix_length w.acts (writer_after w number pay o.day answer).acts more in omega arith);
+    legal = subst (λ (x : Chart × List Entry). IsLegal x.0 x.1) (λ i. (s.accounts i, (s.history ∙ ap (history_of o.base) (sym m.known)) i)) e.legal;
+  }
+
+  -- the history, as the pass knows it
+  as_known : (old new : PassKnows) (place : Option ℕ) (answer : Answer) → Before → HasMet w (writer_after w number pay o.day answer) place old new
+      → (writer_after w number pay o.day answer).acts ≡ w.acts → b.history ≡ known_to o new
+  as_known old new place answer s m same = s.history ∙ ap (history_of o.base) (sym (m.known ∙ same))
+
+  -- what New says
+  added : (place : ℕ) (outcome : Outcome) (old new : PassKnows) → old.number ≡ number → Before → Entered (Ok (New place outcome))
+      → HasMet w (writer_after w number pay o.day (Ok (New place outcome))) (Some place) old new → IsAdded o pay old new place outcome
+  added place outcome old new num s e m =
+      let act : Act = record { by = number; entry = entry_on o pay outcome } in
+      let front : take (length w.acts) new.known ≡ w.acts = ap (take (length w.acts)) m.known ∙ take_front w.acts act in
+      record {
+        at = length w.acts;
+        place_is = let n = ap length s.history ∙ length-history_of o.base w.acts in let p = e.shows.3 in omega arith;
+        past = prefix_length old.known w.acts m.before;
+        there = subst (λ (l : List Act). slice_get l (length w.acts) ≡ Some record { by = old.number; entry = entry_on o pay outcome }) (sym m.known)
+            (get_last w.acts act ∙ ap (λ (n : ℕ). Some record { by = n; entry = entry_on o pay outcome }) (sym num));
+        decided = e.shows.4 ∙ (λ i. outcome_of (s.accounts i) ((s.history ∙ ap (history_of o.base) (sym front)) i) pay);
+        alone = λ i a at past tag. ⊎_elim
+            (λ (t : slice_get w.acts i ≡ Some a). let x = m.owed i a t past tag in absurd (cc (x.0)))
+            (λ (t : (i ≡ length w.acts) × (act ≡ a)). t.0)
+            (get_snoc w.acts act a i (subst (λ (l : List Act). slice_get l i ≡ Some a) m.known at));
+      }
+
+  -- what Full says
+  full : (entries end need : ℕ) (old new : PassKnows) → Before → Entered (Err (Full entries end need)) → HasMet w w None old new → ShowsFull o pay (known_to o new) entries end need
+  full entries end need old new s e m =
+      let shows = e.shows in
+      let is : b.history ≡ known_to o new = as_known old new None (Err (Full entries end need)) s m refl in
+      subst (λ (x : Chart × List Entry). ShowsFull (record o { accounts = x.0 }) pay x.1 entries end need) (λ i. (s.accounts i, is i))
+      record {
+        missing = shows.1;
+        entries_are = shows.2;
+        end_is = let p = e.place shows.0 in omega (arith, shows.3, p);
+        need_is = shows.4;
+        full = shows.5;
+      }
+
+  says_after : (answer : Answer) (old new : PassKnows) → old.number ≡ number → Before → Entered answer → MeetsAfter w (writer_after w number pay o.day answer) answer old new → Says o pay old new answer
+  says_after (Ok (New place outcome)) old new num s e m = added place outcome old new num s e m
+  says_after (Ok (Kept place outcome)) old new num s e m = (
+    subst (λ (h : List Entry). (stands : StandsAt h pay place true) × (stands.entry.outcome ≡ outcome)) (as_known old new (Some place) (Ok (Kept place outcome)) s m refl) (e.shows.1, e.shows.2),
+    none_past old new w.acts m.owed m.known,
+  )
+  says_after (Err (Conflict place)) old new num s e m = (
+    subst (λ (h : List Entry). StandsAt h pay place false) (as_known old new None (Err (Conflict place)) s m refl) e.shows.1,
+    none_past old new w.acts m.owed m.known,
+  )
+  says_after (Err (Full entries end need)) old new num s e m = (full entries end need old new s e m, none_past old new w.acts m.owed m.known)
+  says_after (Err (DiskFault before after)) old new num s e m =
+      let shows = e.shows in
+      let at_open : b.at_open ≤ disk.faults (disk_of b.file) = subst (λ (f : Option Day). Counts f b.at_open (disk.faults (disk_of b.file))) shows.0 s.counts in
+      (omega (arith, s.at_open, shows.3, at_open), shows.5, (let k = m.mark in omega arith), none_past old new w.acts m.owed m.known)
+  says_after (Err (Broken from now)) old new num s e m =
+      let shows = e.shows in (shows.1 ∙ s.at_open, shows.3, (let k = m.mark in omega arith), none_past old new w.acts m.owed m.known)
+  says_after (Err Memory) old new num s e m = tt
+
+  -- what a pass is told
+  pub told_after : (answer : Answer) (old new : PassKnows) → old.number ≡ number → Before → After answer → Entered answer
+      → MeetsAfter w (writer_after w number pay o.day answer) answer old new → Told o pay old answer new
+  told_after (Ok (New place outcome)) old new num s s' e m = record {
+    grows = λ _. grows_after (Ok (New place outcome)) (Some place) old new s' e m (record { by = number; entry = entry_on o pay outcome } ∷ [], refl);
+    says = says_after (Ok (New place outcome)) old new num s e m;
+    mine = m.mine;
+    memory = λ same. absurd (cc (same));
+  }
+  told_after (Ok (Kept place outcome)) old new num s s' e m = record {
+    grows = λ _. grows_after (Ok (Kept place outcome)) (Some place) old new s' e m (prefix_self w.acts);
+    says = says_after (Ok (Kept place outcome)) old new num s e m;
+    mine = m.mine;
+    memory = λ same. absurd (cc (same));
+  }
+  told_after (Err (Conflict place)) old new num s s' e m = record {
+    grows = λ _. grows_after (Err (Conflict place)) None old new s' e m (prefix_self w.acts);
+    says = says_after (Err (Conflict place)) old new num s e m;
+    mine = m.mine;
+    memory = λ same. absurd (cc (same));
+  }
+  told_after (Err (Full entries end need)) old new num s s' e m = record {
+    grows = λ _. grows_after (Err (Full entries end need)) None old new s' e m (prefix_self w.acts);
+    says = says_after (Err (Full entries end need)) old new num s e m;
+    mine = m.mine;
+    memory = λ same. absurd (cc (same));
+  }
+  told_after (Err (DiskFault before after)) old new num s s' e m = record {
+    grows = λ _. grows_after (Err (DiskFault before after)) None old new s' e m (prefix_self w.acts);
+    says = says_after (Err (DiskFault before after)) old new num s e m;
+    mine = m.mine;
+    memory = λ same. absurd (cc (same));
+  }
+  told_after (Err (Broken from now)) old new num s s' e m = record {
+    grows = λ _. grows_after (Err (Broken from now)) None old new s' e m (prefix_self w.acts);
+    says = says_after (Err (Broken from now)) old new num s e m;
+    mine = m.mine;
+    memory = λ same. absurd (cc (same));
+  }
+  told_after (Err Memory) old new num s s' e m = record {
+    grows = λ (none : ⊥). absurd none;
+    says = tt;
+    mine = ap (λ (p : PassKnows). p.mine) m;
+    memory = λ _. m ∙ ap (λ (p : PassKnows). record old { spare = p.spare }) (sym m);
+  }
+
+-- room alone doesn't matter
+pub told_spare : (o : Opening) (pay : Pay) (old new : PassKnows) (spare : ℕ) (answer : Answer) → Told o pay (record old { spare = spare }) answer new → Told o pay old answer new
+told_spare o pay old new spare answer t = record {
+  grows = λ answered. let x = t.grows answered in record { number = x.number; known = x.known; seen = x.seen; legal = x.legal };
+  says = says_spare answer t.says;
+  mine = t.mine;
+  memory = t.memory;
+}
+  where
+    says_spare : (answer : Answer) → Says o pay (record old { spare = spare }) new answer → Says o pay old new answer
+    says_spare (Ok (New place outcome)) x = record { at = x.at; place_is = x.place_is; past = x.past; there = x.there; decided = x.decided; alone = x.alone }
+    says_spare (Ok (Kept place outcome)) x = x
+    says_spare (Err (Conflict place)) x = x
+    says_spare (Err (Full entries end need)) x = x
+    says_spare (Err (DiskFault before after)) x = x
+    says_spare (Err (Broken from now)) x = x
+    says_spare (Err Memory) x = x

@@ -1,0 +1,9 @@
+pub mod Opens
+pub mod Histories
+pub mod Locking
+pub mod Booking
+pub mod Counting
+pub mod Taken
+pub mod Closes
+pub mod Made
+pub mod laws

@@ -1,0 +1,17 @@
+use Rattle.std.proofs.Common.{◌≡◌, ◌∙◌, ℕ, ap, subst, sym}
+use Rattle.atomic_table.specs.Seated.{TableId}
+use Rattle.day_model.specs.declared.entry.Entry.{Entry}
+use Rattle.front_word.specs.Known.{beginner}
+use Rattle.corr_books.specs.Opening.{Opening, Parts}
+use Rattle.corr_books.specs.Taking.{AreMade}
+use Rattle.corr_books.proofs.Made.{are_new}
+use Rattle.corr_books.proofs.opening.Opened.books.Goals as goal
+
+pub returns-clause-passes : goal.returns-clause-passes
+returns-clause-passes g c =
+    let o = g.N.BooksName.opening in
+    let is = c.requires.named.opening_is in
+    let word = ap (λ (x : Opening). x.word) is ∙ sym (ap (λ (x : Parts g.row.D.Denot). x.word) c.self.view_is) in
+    let base = ap (λ (x : Opening). x.base) is ∙ sym (ap (λ (x : Parts g.row.D.Denot). x.base) c.self.view_is) in
+    are_new o c.self.inside.writer c.in-Ok.parts.passes.items (c.self.invariant.2 ∙ (λ i. beginner (sym word i) (sym base i)))
+    (subst (λ (k : ℕ). AreMade c.self.inside.writer k c.in-Ok.parts.passes.items) (sym (ap (λ (x : Opening). x.made) is)) c.in-Ok.ensures.passes)

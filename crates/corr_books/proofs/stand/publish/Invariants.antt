@@ -1,0 +1,6 @@
+use Rattle.corr_books.specs.Meeting.{act_of}
+use Rattle.corr_books.proofs.stand.publish.Given as goal
+
+-- the entry that is published
+abbrev pub ghosts-publish_as : goal.ghosts-publish_as
+ghosts-publish_as a = record { act = act_of a.pass.now.number a.p.now a.day a.outcome }

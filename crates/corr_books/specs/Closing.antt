@@ -1,0 +1,45 @@
+-- What all passes know together at the end, and what a crash leaves then.
+use Rattle.std.specs.Prelude.{◌≡◌, ◌⊎◌, ℕ, ◌+◌, ◌≤◌, List, Some, length, slice_get}
+use mathlib.Core.List.{IsPrefix}
+use Rattle.corr_disk.specs.declared.disk.Disk as disks
+use Rattle.day_model.specs.declared.entry.Entry.{Entry}
+use Rattle.day_model.specs.Legal.{IsLegal}
+use Rattle.front_word.specs.declared.view.Act.{Act}
+use Rattle.front_word.specs.Known.{PassKnows}
+use Rattle.front_word.specs.Rule.{Among}
+use Rattle.jrn_book.specs.Book.{HasRisen, IsLeftBy}
+use Rattle.jrn_book.specs.Journal.{StandsForBook}
+use Rattle.corr_books.specs.Opening.{Opening}
+use Rattle.corr_books.specs.Stand.{history_of}
+
+-- what the pass knows is a beginning of this list, and has all of its own entries in it
+pub record IsPart (log : List Act) (p : PassKnows) : Type 0 where
+  pub known : IsPrefix p.known log
+  pub own : (i : ℕ) (a : Act) → slice_get log i ≡ Some a → a.by ≡ p.number → slice_get p.known i ≡ Some a
+
+-- the entry at this place of the list is tagged with one of the passes, among whose own places it is
+pub record IsOwned (o : Opening) (passes : List PassKnows) (i : ℕ) (a : Act) : Type 0 where
+  pub at : ℕ
+  pub pass : PassKnows
+  pub there : slice_get passes at ≡ Some pass
+  pub tagged : a.by ≡ pass.number
+  pub place : Among (length o.base + i + 1) pass.mine
+
+-- The history at the end is that at the opening followed by one list. Each pass knows a beginning of it that has all entries of its own; each entry is a pass's, and stands among its places; the history is legal, and each pass's mark is at most the disk's count of faults.
+pub record Closes (o : Opening) (history : List Entry) (faults : ℕ) (passes : List PassKnows) : Type 0 where
+  pub log : List Act
+  pub is : history ≡ history_of o.base log
+  pub legal : IsLegal o.accounts history
+  pub parts : (k : ℕ) (p : PassKnows) → slice_get passes k ≡ Some p → IsPart log p
+  pub owned : (i : ℕ) (a : Act) → slice_get log i ≡ Some a → IsOwned o passes i a
+  pub marks : (k : ℕ) (p : PassKnows) → slice_get passes k ≡ Some p → p.mark ≤ faults
+
+-- every image stands for the closed history
+abbrev pub StandsAlone : {D : Type 0} → disks.Ghosts D → Opening → List Entry → D → Type 0
+StandsAlone disk o history d = (image : List ℕ) → disk.may_leave d image → StandsForBook image o.accounts history
+
+-- Every image stands for the closed history; or, where the disk's count of faults has risen since the opening, for it or for it and one legal entry of the books' day.
+abbrev pub LeavesClosed : {D : Type 0} → disks.Ghosts D → Opening → List Entry → D → Type 0
+LeavesClosed disk o history d =
+    StandsAlone disk o history d
+    ⊎ (HasRisen o.at_open (disk.faults d) × IsLeftBy (disk.honest d) (disk.may_leave d) o.accounts history o.day)

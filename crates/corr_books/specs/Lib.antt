@@ -1,0 +1,10 @@
+pub mod Opening
+pub mod Finding
+pub mod Passes
+pub mod Pairs
+pub mod Entering
+pub mod Stand
+pub mod Telling
+pub mod Meeting
+pub mod Taking
+pub mod Closing

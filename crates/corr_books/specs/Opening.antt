@@ -1,0 +1,73 @@
+-- One opening of books: what its name names.
+use Rattle.std.specs.Prelude.{◌≡◌, ℕ, Bool, false, List, [], pos}
+use Rattle.atomic_table.specs.Seated.{TableId}
+use Rattle.acct_locks.specs.Sides.{no_table}
+use Rattle.corr_disk.specs.declared.disk.Disk as disks
+use Rattle.corr_ids.specs.declared.day.Day.{Day}
+use Rattle.day_model.specs.declared.entry.Entry.{Entry}
+use Rattle.day_model.specs.Chart.{Chart}
+use Rattle.jrn_book.specs.Book.{Book}
+use Rattle.jrn_file.specs.declared.file.JFile.{JFile}
+use Rattle.jrn_file.specs.File.{disk_of}
+
+-- The accounts, the history at the opening, the day that entries get, the disk's count of faults at the opening and whether it tells its bytes, how many passes there are, and the table of the word. None of them changes while the books are open.
+pub record Opening : Type 0 where
+  pub accounts : Chart
+  pub base : List Entry
+  pub day : Day
+  pub at_open : ℕ
+  pub honest : Bool
+  pub made : ℕ
+  pub word : TableId
+
+-- what a name of an opening is where no call has picked one
+abbrev pub no_opening : Opening
+no_opening = record {
+  accounts = record { home = record { head = []; branch = [] }; accounts = [] };
+  base = [];
+  day = record { 0 = pos 0 };
+  at_open = 0;
+  honest = false;
+  made = 0;
+  word = no_table;
+}
+
+-- The parts of an opening that have no name yet: its accounts and history, the day, the disk's count of faults then, the open file, and the tables of the word and of the purses.
+pub record Parts (D : Type 0) : Type 0 where
+  pub accounts : Chart
+  pub base : List Entry
+  pub day : Day
+  pub at_open : ℕ
+  pub file : JFile D
+  pub word : TableId
+  pub purses : TableId
+
+-- those of a book that was just opened, for a day, with a word of this table
+abbrev pub parts_of : {D : Type 0} → Book D → Day → TableId → Parts D
+parts_of book day word = record {
+  accounts = book.accounts;
+  base = book.history;
+  day = day;
+  at_open = book.at_open;
+  file = book.file;
+  word = word;
+  purses = book.table;
+}
+
+module _ {D : Type 0} (disk : disks.Ghosts D) where
+  -- the opening of these parts, with so many passes
+  abbrev pub opening_of : Parts D → ℕ → Opening
+  opening_of parts made = record {
+    accounts = parts.accounts;
+    base = parts.base;
+    day = parts.day;
+    at_open = parts.at_open;
+    honest = disk.honest (disk_of parts.file);
+    made = made;
+    word = parts.word;
+  }
+
+  -- these parts, with so many passes, are what the name names
+  pub record IsNamed (opening : Opening) (purses : TableId) (parts : Parts D) (made : ℕ) : Type 0 where
+    pub opening_is : opening ≡ opening_of parts made
+    pub purses_are : purses ≡ parts.purses

@@ -1,0 +1,79 @@
+-- What a pass knows after a call of `book`, and what the answer says by it.
+use Rattle.std.specs.Prelude.{◌≡◌, ℕ, ◌+◌, ◌≤◌, true, false, List, [], ◌∷◌, ◌++◌, length, take, slice_get, Option, Some, None, Ok, Err}
+use mathlib.Core.List.{IsPrefix}
+use Rattle.corr_text.specs.Faults.{Rose}
+use Rattle.day_model.specs.declared.entry.Entry.{Entry}
+use Rattle.day_model.specs.declared.entry.Outcome.{Outcome}
+use Rattle.day_model.specs.declared.pay.Pay.{Pay}
+use Rattle.day_model.specs.Balance.{outcome_of}
+use Rattle.day_model.specs.Legal.{IsLegal}
+use Rattle.day_model.specs.Next.{entered_at}
+use Rattle.front_word.specs.declared.view.Act.{Act}
+use Rattle.front_word.specs.Known.{PassKnows, with_place}
+use Rattle.jrn_book.specs.Answers.{Answer, IsAnswered, IsFull, StandsAt, need_of}
+use Rattle.jrn_book.specs.Book.{HasRisen}
+use Rattle.jrn_book.specs.Journal.{file_of}
+use Rattle.jrn_book.specs.declared.answer.Committed.TheVariants.{New, Kept}
+use Rattle.jrn_book.specs.declared.answer.CommitFault.TheVariants.{Conflict, Full, DiskFault, Broken, Memory}
+use Rattle.corr_books.specs.Opening.{Opening}
+use Rattle.corr_books.specs.Stand.{history_of}
+
+-- the history as a pass knows it: that at the opening, and the entries that it knows
+abbrev pub known_to : Opening → PassKnows → List Entry
+known_to o p = history_of o.base p.known
+
+-- the entry that a pay became on the day of the books
+abbrev pub entry_on : Opening → Pay → Outcome → Entry
+entry_on o pay outcome = record { pay = pay; day = o.day; outcome = outcome }
+
+-- A pass knows no less than before, and no fewer entries than it had seen, and the history that it knows is legal.
+pub record Grows (o : Opening) (old new : PassKnows) : Type 0 where
+  pub number : new.number ≡ old.number
+  pub known : IsPrefix old.known new.known
+  pub seen : old.seen ≤ length new.known
+  pub legal : IsLegal o.accounts (known_to o new)
+
+-- no entry past those that the pass knew is tagged with it
+abbrev pub NothingAdded : PassKnows → PassKnows → Type 0
+NothingAdded old new = (i : ℕ) (a : Act) → slice_get new.known i ≡ Some a → length old.known ≤ i → a.by ≡ old.number → ⊥
+
+-- The place is past all that the pass knew. There stands the pay with the day of the books and the outcome that the entries before it give, tagged with this pass; no other such entry was added.
+pub record IsAdded (o : Opening) (pay : Pay) (old new : PassKnows) (place : ℕ) (outcome : Outcome) : Type 0 where
+  pub at : ℕ
+  pub place_is : place ≡ length o.base + at + 1
+  pub past : length old.known ≤ at
+  pub there : slice_get new.known at ≡ Some record { by = old.number; entry = entry_on o pay outcome }
+  pub decided : outcome ≡ outcome_of o.accounts (history_of o.base (take at new.known)) pay
+  pub alone : (i : ℕ) (a : Act) → slice_get new.known i ≡ Some a → length old.known ≤ i → a.by ≡ old.number → i ≡ at
+
+-- The history that the pass knows lacks the reference and has no room for the pay: its number of entries, the place of the closed gate of its file, and the bytes that the pay's record needs behind it.
+pub record ShowsFull (o : Opening) (pay : Pay) (history : List Entry) (entries end need : ℕ) : Type 0 where
+  pub missing : entered_at pay.mir history ≡ None
+  pub entries_are : entries ≡ length history
+  pub end_is : end + 1 ≡ length (file_of o.accounts history)
+  pub need_is : need ≡ need_of o.accounts history pay o.day
+  pub full : IsFull history end need
+
+-- What each answer says, shown by what the pass knows then: New, the entry that was added; Kept, the same pay at the place, with the outcome; Conflict, another pay with its reference; Full, that there is no room; DiskFault and Broken, that the disk's count of faults has risen since the opening, up to the pass's mark. Nothing tagged with the pass was added but by New.
+abbrev pub Says : Opening → Pay → PassKnows → PassKnows → Answer → Type 0
+Says o pay old new (Ok (New place outcome)) = IsAdded o pay old new place outcome
+Says o pay old new (Ok (Kept place outcome)) =
+    ((stands : StandsAt (known_to o new) pay place true) × (stands.entry.outcome ≡ outcome)) × NothingAdded old new
+Says o pay old new (Err (Conflict place)) = StandsAt (known_to o new) pay place false × NothingAdded old new
+Says o pay old new (Err (Full entries end need)) = ShowsFull o pay (known_to o new) entries end need × NothingAdded old new
+Says o pay old new (Err (DiskFault before after)) = (o.at_open ≤ before) × Rose before after × (after ≤ new.mark) × NothingAdded old new
+Says o pay old new (Err (Broken from now)) = (from ≡ o.at_open) × HasRisen from now × (now ≤ new.mark) × NothingAdded old new
+Says o pay old new (Err Memory) = Unit {0}
+
+-- the place that an answer adds to the pass's own
+abbrev pub place_of : Answer → Option ℕ
+place_of (Ok (New place outcome)) = Some place
+place_of (Ok (Kept place outcome)) = Some place
+place_of (Err fault) = None
+
+-- Of `book` with this pay: what the pass knows after the answer, what the answer says, which place became the pass's own; and after want of memory the pass is as before.
+pub record Told (o : Opening) (pay : Pay) (old : PassKnows) (answer : Answer) (new : PassKnows) : Type 0 where
+  pub grows : IsAnswered answer → Grows o old new
+  pub says : Says o pay old new answer
+  pub mine : new.mine ≡ with_place old.mine (place_of answer)
+  pub memory : answer ≡ Err Memory → new ≡ record old { spare = new.spare }

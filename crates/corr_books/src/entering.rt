@@ -1,0 +1,33 @@
+//! A pay, entered into the journal's book.
+
+ghost use Rattle.std.specs.Prelude.{◌≡◌};
+ghost use Rattle.corr_ids.specs.Day.{InCentury};
+ghost use Rattle.day_model.specs.Fit.{FitsAccounts};
+ghost use Rattle.day_model.specs.Laws.{IsLatest};
+ghost use Rattle.day_model.specs.Shape.{HasShape};
+ghost use Rattle.jrn_book.specs.Deciding.{HoldsAll};
+ghost use Rattle.corr_books.specs.Entering.{Enters};
+
+use acct_locks::Held;
+use corr_disk::Disk;
+use corr_ids::Day;
+use day_model::Pay;
+use jrn_book::{CommitFault, Committed, JrnBook};
+
+/// Commits a pay whose accounts are held, and passes on what books use of it.
+pub(crate) fn enter<H: Held, D: Disk>(
+    book: &mut JrnBook<D>,
+    held: &mut H,
+    p: &Pay,
+    day: Day,
+) -> Result<Committed, CommitFault>
+    requires fits { FitsAccounts book.old.accounts p.now }
+    requires shape { HasShape p.now }
+    requires held { HoldsAll (H.held held.old) p.now.legs }
+    requires table { book.old.table ≡ H.table held.old }
+    requires century { InCentury day }
+    requires latest { IsLatest book.old.history day }
+    ensures enters { Enters D.Disk day book.old book.new p.now result }
+{
+    book.commit(held, p, day)
+}

@@ -1,0 +1,443 @@
+ghost use Rattle.std.specs.Prelude.{◌≡◌, IfOk};
+ghost use Rattle.day_model.specs.Fit.{FitsAccounts};
+ghost use Rattle.day_model.specs.Shape.{HasShape};
+ghost use Rattle.corr_books.specs.Opening.{IsNamed};
+ghost use Rattle.corr_books.specs.Passes.{Belongs};
+ghost use Rattle.corr_books.specs.Telling.{Told};
+
+use super::*;
+use corr_disk::{Disk, MemDisk, OnceDisk};
+use corr_ids::{Bic, Day, Mir};
+use corr_money::Ccy;
+use corr_text::{List, Memory, Text, put_digits};
+use day_model::{Account, Accounts, AcctNo, Outcome, Pay, balance, rows_hold};
+use front_word::Pass;
+use jrn_book::{CommitFault, Committed};
+use jrn_codec::{put_head, read_entry};
+use std::alloc::Global;
+use std::marker::Brand;
+use std::process::Abort;
+use std::sync::Wait;
+use std::sync::atomic::AtomicBool;
+use std::sync::atomic::Ordering::SeqCst;
+use std::test::*;
+use std::thread::{Threads, join, yield_now};
+use work_pool::{Gate, OpenGate};
+
+type Answer = Result<Committed, CommitFault>;
+
+const DAY: Day = Day(19_877);
+
+// ---- the accounts, and a journal of them
+
+fn account(
+    alloc: Global,
+    id: &[u8],
+    kind: u8,
+    owner: [u8; 8],
+    ccy: [u8; 3],
+    floor: i64,
+    opening: i64,
+) -> Result<Account, Memory> {
+    Ok(Account {
+        id: Text::from_bytes(alloc, id)?,
+        kind,
+        owner: Bic {
+            head: owner,
+            branch: *b"XXX",
+        },
+        ccy: Ccy(ccy),
+        decimals: if ccy[0] == b'J' { 0 } else { 2 },
+        floor,
+        ceil: 90_000_000_000,
+        opening,
+    })
+}
+
+fn sample_accounts<R: Abort>(rt: &R, alloc: Global) -> Result<Accounts, Fail> {
+    let low = -90_000_000_000;
+    let (euro, yen) = (*b"EUR", *b"JPY");
+    let mut rows = List::new(alloc);
+    rows.push(account(
+        alloc,
+        b"VALPHEUR",
+        b'V',
+        *b"ALPHDEFF",
+        euro,
+        -10_000_000,
+        5_000_000,
+    )?)?;
+    rows.push(account(alloc, b"VBETAEUR", b'V', *b"BETAFRPP", euro, 0, 1_000_000)?)?;
+    rows.push(account(alloc, b"CUST1", b'C', *b"HOMEUS33", euro, 0, 0)?)?;
+    rows.push(account(
+        alloc,
+        b"NCORREUR",
+        b'N',
+        *b"CORRBEBB",
+        euro,
+        low,
+        -6_000_000,
+    )?)?;
+    rows.push(account(alloc, b"VDELTJPY", b'V', *b"DELTJPJT", yen, 0, 9_000_000)?)?;
+    rows.push(account(alloc, b"NCORRJPY", b'N', *b"CORRBEBB", yen, low, -9_000_000)?)?;
+    rows.push(account(alloc, b"CUST2", b'C', *b"HOMEUS33", yen, 0, 0)?)?;
+    assert!(rt; rows_hold(rows.as_slice()));
+    let home = Bic {
+        head: *b"HOMEUS33",
+        branch: *b"XXX",
+    };
+    Ok(Accounts::new(home, rows)?)
+}
+
+// The record of an entry: amount in minor units from one account to another, booked. The number is that of its reference.
+fn record(alloc: Global, number: u32, debit: u8, credit: u8, amount: u64) -> Result<Text, Memory> {
+    let amount = amount.to_be_bytes();
+    let mut bytes = Text::from_bytes(alloc, b"240603ALPHDEFFAXXX0001")?;
+    put_digits(alloc, u64::from(number), 6, &mut bytes)?;
+    bytes.push(b"\x01\0\0\0\x4d\xa5\0\0\x4d\xa5\0\x02")?;
+    bytes.push(&[0, debit, 0])?;
+    bytes.push(&amount)?;
+    bytes.push(b"\0\x04REF1")?;
+    bytes.push(&[0, credit, 1])?;
+    bytes.push(&amount)?;
+    bytes.push(b"\x01\x01\x01\x04ALPHDEFFXXX\x01\0\0\0\x02\r\n")?;
+    Ok(bytes)
+}
+
+fn pay(alloc: Global, number: u32, debit: u8, credit: u8, amount: u64) -> Result<Pay, Fail>
+    ensures { IfOk result HasShape }
+{
+    let bytes = record(alloc, number, debit, credit, amount)?;
+    match read_entry(alloc, bytes.bytes()) {
+        Ok(entry) => Ok(entry.pay),
+        Err(_) => Err("no entry".into()),
+    }
+}
+
+fn add_record(bytes: &mut Text, record: &[u8]) -> Result<(), Memory> {
+    bytes.push(&[1])?;
+    bytes.push(&(record.len() as u32).to_be_bytes())?;
+    bytes.push(record)
+}
+
+// The journal of these accounts with so many entries, each of 0.01 from account 1 to account 3.
+fn journal<R: Abort>(rt: &R, alloc: Global, entries: u32) -> Result<Text, Fail> {
+    let accounts = sample_accounts(rt, alloc)?;
+    let mut head = Text::from_bytes(alloc, b"")?;
+    put_head(&accounts, &mut head)?;
+    let mut bytes = Text::from_bytes(alloc, b"")?;
+    add_record(&mut bytes, head.bytes())?;
+    for number in 0..entries {
+        let entry = record(alloc, number, 1, 3, 1)?;
+        add_record(&mut bytes, entry.bytes())?;
+    }
+    bytes.push(&[0])?;
+    Ok(bytes)
+}
+
+// ---- answers
+
+fn new(place: u32) -> Answer {
+    Ok(Committed::New {
+        place,
+        outcome: Outcome::Booked,
+    })
+}
+
+fn kept(place: u32) -> Answer {
+    Ok(Committed::Kept {
+        place,
+        outcome: Outcome::Booked,
+    })
+}
+
+// ---- two threads
+
+// Waits for at most 1,000,000 turns, each of which yields; whether the flag is up then.
+fn is_raised(flag: &AtomicBool) -> bool {
+    for _ in 0..1_000_000 {
+        if flag.load(SeqCst) {
+            return true;
+        }
+        yield_now();
+    }
+    false
+}
+
+// What two calls answered, and what is left.
+#[derive(Drop)]
+struct Both<D: Disk> {
+    one: Answer,
+    two: Answer,
+    in_time: bool,
+    closed: Closed<D>,
+}
+
+fn book_as<N: BooksName, D: Disk, R: Wait, G: Gate>(
+    rt: &R,
+    books: &Books<N, D>,
+    mut pass: Pass,
+    worker: u32,
+    p: &Pay,
+    gate: &G,
+) -> (Pass, Answer)
+    requires pass { Belongs N.opening pass }
+    requires fits { FitsAccounts N.opening.accounts p.now }
+    requires shape { HasShape p.now }
+    ensures belongs { Belongs N.opening result.0 }
+    ensures told { Told N.opening p.now pass result.1 result.0 }
+{
+    let answer = books.book(rt, &mut pass, worker, p, gate);
+    (pass, answer)
+}
+
+// A thread for each of two pays. The second one calls once a flag is up, and raises another when it was answered.
+fn book_both_as<
+    N: BooksName + Send + Sync,
+    D: Disk + Drop + Send,
+    R: Threads + Wait + Sync,
+    G: Gate + Sync,
+>(
+    rt: &R,
+    alloc: Global,
+    opened: Opened<D>,
+    made: u32,
+    first: &Pay,
+    second: &Pay,
+    gate: &G,
+    start: &AtomicBool,
+    answered: &AtomicBool,
+) -> Result<Both<D>, Fail>
+    requires named { IsNamed D.Disk N.opening N.table opened made }
+    requires two { made ≡ 2 }
+    requires fit { (FitsAccounts opened.accounts first.now) × (FitsAccounts opened.accounts second.now) }
+    requires shape { (HasShape first.now) × (HasShape second.now) }
+{
+    let Ok((books, mut passes)) = opened.books::<N>(alloc, made) else {
+        return Err("no memory".into());
+    };
+    let Some(last) = passes.pop() else {
+        return Err("a pass".into());
+    };
+    let Some(front) = passes.pop() else {
+        return Err("another pass".into());
+    };
+    let ((front, one), (last, two, in_time)) = join(
+        rt,
+        || -> (Pass, Answer)
+            requires pass { Belongs N.opening front }
+            requires fits { FitsAccounts N.opening.accounts first.now }
+            requires shape { HasShape first.now }
+            ensures belongs { Belongs N.opening result.0 }
+        { book_as(rt, &books, front, 1, first, gate) },
+        || -> (Pass, Answer, bool)
+            requires pass { Belongs N.opening last }
+            requires fits { FitsAccounts N.opening.accounts second.now }
+            requires shape { HasShape second.now }
+            ensures belongs { Belongs N.opening result.0 }
+        {
+            let in_time = is_raised(start);
+            let (last, two) = book_as(rt, &books, last, 2, second, gate);
+            answered.store(true, SeqCst);
+            (last, two, in_time)
+        },
+    );
+    passes.push(front)?;
+    passes.push(last)?;
+    let Ok(closed) = books.close(passes) else {
+        return Err("two passes".into());
+    };
+    Ok(Both {
+        one,
+        two,
+        in_time,
+        closed,
+    })
+}
+
+// Two threads book on a journal of this disk.
+fn book_both<D: Disk + Drop + Send, R: Threads + Wait + Sync, G: Gate + Sync>(
+    rt: &R,
+    alloc: Global,
+    disk: D,
+    first: &Pay,
+    second: &Pay,
+    gate: &G,
+    start: &AtomicBool,
+    answered: &AtomicBool,
+) -> Result<Both<D>, Fail>
+    requires shape { (HasShape first.now) × (HasShape second.now) }
+{
+    let Ok(opened) = open_books(alloc, disk, DAY) else {
+        return Err("not opened".into());
+    };
+    if !opened.accounts().fits(first) || !opened.accounts().fits(second) {
+        return Err("other accounts".into());
+    }
+    book_both_as::<Brand, D, R, G>(rt, alloc, opened, 2, first, second, gate, start, answered)
+}
+
+#[test]
+fn two_pays_between_two_accounts_are_booked_in_either_order(rt: HostRuntime) -> Result<(), Fail> {
+    let alloc = rt.alloc();
+    let first = pay(alloc, 1, 1, 2, 1_000)?;
+    let second = pay(alloc, 2, 2, 1, 2_000)?;
+    let up = AtomicBool::new(true);
+    let answered = AtomicBool::new(false);
+    let disk = MemDisk::new(alloc, journal(&rt, alloc, 0)?);
+    let both = book_both(&rt, alloc, disk, &first, &second, &OpenGate, &up, &answered)?;
+    let ends = (both.one, both.two);
+    assert!(rt; ends == (new(1), new(2)) || ends == (new(2), new(1)));
+    let Closed {
+        accounts,
+        history,
+        ..
+    } = both.closed;
+    assert_eq!(rt; balance(&accounts, &history, AcctNo(1)), 5_001_000);
+    assert_eq!(rt; balance(&accounts, &history, AcctNo(2)), 999_000);
+    Ok(())
+}
+
+// Holds worker 1 until the other one was answered.
+#[derive(Drop)]
+struct HeldGate<'a> {
+    reached: &'a AtomicBool,
+    answered: &'a AtomicBool,
+    late: &'a AtomicBool,
+}
+
+impl<'a> Gate for HeldGate<'a> {
+    fn pass(&self, worker: u32, _mir: &Mir) {
+        if worker == 1 {
+            self.reached.store(true, SeqCst);
+            if !is_raised(self.answered) {
+                self.late.store(true, SeqCst);
+            }
+        }
+    }
+}
+
+#[test]
+fn a_held_pay_holds_no_pay_of_other_accounts(rt: HostRuntime) -> Result<(), Fail> {
+    let alloc = rt.alloc();
+    let first = pay(alloc, 1, 1, 3, 1_000)?;
+    let second = pay(alloc, 2, 5, 7, 2_000)?;
+    let reached = AtomicBool::new(false);
+    let answered = AtomicBool::new(false);
+    let late = AtomicBool::new(false);
+    let gate = HeldGate {
+        reached: &reached,
+        answered: &answered,
+        late: &late,
+    };
+    let disk = MemDisk::new(alloc, journal(&rt, alloc, 0)?);
+    let both = book_both(
+        &rt, alloc, disk, &first, &second, &gate, &reached, &answered,
+    )?;
+    assert!(rt; both.in_time && !late.load(SeqCst));
+    assert!(rt; both.two == new(1) && both.one == new(2));
+    Ok(())
+}
+
+// ---- one thread
+
+// What a pay and then another answer with one of two passes, what a close with the other pass alone tells, and whether all close.
+#[derive(Drop)]
+struct Turn {
+    first: Answer,
+    second: Answer,
+    mine: u64,
+    made: u32,
+    entries: u32,
+}
+
+fn book_turn_as<N: BooksName, D: Disk + Drop, R: Wait>(
+    rt: &R,
+    alloc: Global,
+    opened: Opened<D>,
+    made: u32,
+    first: &Pay,
+    second: &Pay,
+) -> Result<Turn, Fail>
+    requires named { IsNamed D.Disk N.opening N.table opened made }
+    requires two { made ≡ 2 }
+    requires fit { (FitsAccounts opened.accounts first.now) × (FitsAccounts opened.accounts second.now) }
+    requires shape { (HasShape first.now) × (HasShape second.now) }
+{
+    let Ok((books, mut passes)) = opened.books::<N>(alloc, made) else {
+        return Err("no memory".into());
+    };
+    let Some(pass) = passes.pop() else {
+        return Err("a pass".into());
+    };
+    let (pass, first) = book_as(rt, &books, pass, 1, first, &OpenGate);
+    let (pass, second) = book_as(rt, &books, pass, 1, second, &OpenGate);
+    let mine = pass.mine().len() as u64;
+    let Err(
+        CloseFault {
+            books,
+            mut passes,
+            made,
+        },
+    ) = books.close(passes)
+    else {
+        return Err("one of two passes".into());
+    };
+    passes.push(pass)?;
+    let Ok(closed) = books.close(passes) else {
+        return Err("two passes".into());
+    };
+    Ok(Turn {
+        first,
+        second,
+        mine,
+        made,
+        entries: closed.history.len(),
+    })
+}
+
+fn book_turn<D: Disk + Drop, R: Wait>(
+    rt: &R,
+    alloc: Global,
+    disk: D,
+    first: &Pay,
+    second: &Pay,
+) -> Result<Turn, Fail>
+    requires shape { (HasShape first.now) × (HasShape second.now) }
+{
+    let Ok(opened) = open_books(alloc, disk, DAY) else {
+        return Err("not opened".into());
+    };
+    if !opened.accounts().fits(first) || !opened.accounts().fits(second) {
+        return Err("other accounts".into());
+    }
+    book_turn_as::<Brand, D, R>(rt, alloc, opened, 2, first, second)
+}
+
+#[test]
+fn books_close_with_all_their_passes_alone(rt: HostRuntime) -> Result<(), Fail> {
+    let alloc = rt.alloc();
+    let first = pay(alloc, 1, 1, 3, 123_450)?;
+    let disk = MemDisk::new(alloc, journal(&rt, alloc, 0)?);
+    let turn = book_turn(&rt, alloc, disk, &first, &first)?;
+    assert!(rt; turn.first == new(1) && turn.second == kept(1));
+    assert_eq!(rt; (turn.mine, turn.made, turn.entries), (2, 2, 1));
+    Ok(())
+}
+
+// The second sync of the first append fails: it is the sixth call.
+#[test]
+fn a_disk_that_fails_once_breaks_the_books(rt: HostRuntime) -> Result<(), Fail> {
+    let alloc = rt.alloc();
+    let first = pay(alloc, 1, 1, 3, 123_450)?;
+    let disk = OnceDisk::new(alloc, journal(&rt, alloc, 0)?, 6);
+    let turn = book_turn(&rt, alloc, disk, &first, &first)?;
+    let failed = Err(CommitFault::DiskFault {
+        before: 0,
+        after: 1,
+    });
+    let broken = Err(CommitFault::Broken { at_open: 0, now: 1 });
+    assert!(rt; turn.first == failed && turn.second == broken);
+    assert_eq!(rt; (turn.mine, turn.entries), (0, 0));
+    Ok(())
+}
