@@ -1,5 +1,5 @@
 -- Pays that are entered one after another, and how that stops.
-use Rattle.std.specs.Prelude.{◌≡◌, ℕ, ◌+◌, ◌<ℤ◌, All, List, [], ◌∷◌, ◌++◌, length, slice_get, Some, None}
+use Rattle.std.specs.Prelude.{◌≡◌, ℕ, ◌+◌, ◌<ℤ◌, All, List, [], ◌∷◌, ◌++◌, IsSome, length, map, slice_get, Some, None}
 use Rattle.corr_disk.specs.declared.disk.Disk as outside
 use Rattle.corr_ids.specs.Day.{InCentury}
 use Rattle.corr_ids.specs.declared.day.Day.{Day}
@@ -9,27 +9,21 @@ use Rattle.day_model.specs.Chart.{Chart}
 use Rattle.day_model.specs.Legal.{IsLegal}
 use Rattle.day_model.specs.Next.{entered_at, fold_of}
 use Rattle.jrn_book.specs.Answers.{IsFull, need_of}
+use Rattle.jrn_book.specs.Book.{HasRisen}
 use Rattle.jrn_book.specs.Journal.{IsJournal, file_of}
-use Rattle.jrn_file.specs.Faults.{Tells}
 use Rattle.corr_top.specs.declared.answers.BookStop.{BookStop}
 use Rattle.corr_top.specs.declared.answers.BookStop.TheVariants as booking
-use Rattle.corr_top.specs.declared.run.DateBack.{DateBack}
 use Rattle.corr_top.specs.Inputs.{Inputs, new_in, pays_of, replies_of}
 use Rattle.corr_top.specs.OnDisk.{HasNotFailed, IsLeft}
 
 -- the last entry of a history has this day, and it is after the day of a run
-pub record IsBack (history : List Entry) (day : Day) (back : DateBack) : Type 0 where
+pub record IsBack (history : List Entry) (day back : Day) : Type 0 where
   pub front : List Entry
   pub last : Entry
   pub history_is : history ≡ front ++ last ∷ []
-  pub day_is : back.last ≡ last.day
+  pub day_is : back ≡ last.day
   pub after : day.0 <ℤ last.day.0
-  pub century : InCentury back.last
-
--- each message has a reply, and the history that its pays make is legal: no reference is entered twice, each outcome is that of the entries before it, so debits equal credits
-pub record AreAnswered (i : Inputs) : Type 0 where
-  pub each : length (replies_of i) ≡ length i.cut
-  pub legal : IsLegal i.chart (new_in i)
+  pub century : InCentury back
 
 -- an entry that a run added: of its day, and of a pay of its file
 pub record IsAdded (day : Day) (pays : List Pay) (e : Entry) : Type 0 where
@@ -37,7 +31,32 @@ pub record IsAdded (day : Day) (pays : List Pay) (e : Entry) : Type 0 where
   pub place : ℕ
   pub pay_is : slice_get pays place ≡ Some e.pay
 
--- The first pay that found no room. Those ahead of it were entered as one thread does, and the numbers are those of the history that they made: how many entries, the place of the closed gate, and the bytes that this pay needed.
+-- Each message has a reply, and the history is legal: no reference is entered twice, each outcome is that of the entries before it, so debits equal credits. The entries that were added are those of the entered pays in their order, each of the day and of a pay of the file; and each pay of the file is entered. One worker enters them in the order of the file.
+pub record AreAnswered (i : Inputs) : Type 0 where
+  pub each : length (replies_of i) ≡ length i.cut
+  pub legal : IsLegal i.chart (new_in i)
+  pub added : List Entry
+  pub is : new_in i ≡ i.history ++ added
+  pub pays : map (λ e. e.pay) added ≡ i.entered
+  pub of_file : All (IsAdded i.day (pays_of i)) added
+  pub entered : (k : ℕ) (pay : Pay) → slice_get (pays_of i) k ≡ Some pay → IsSome (entered_at pay.mir (new_in i))
+  pub alone : i.workers ≡ 1 → new_in i ≡ fold_of i.chart i.history (pays_of i) i.day
+
+-- A pay of the file that found no room in what was entered then: a beginning of what is left, which has all of the journal as it was opened. The numbers are those of that history: how many entries, the place of the closed gate, and the bytes that this pay needed.
+pub record LacksRoomThen (chart : Chart) (history : List Entry) (pays : List Pay) (day : Day) (left : List Entry) (entries end need : ℕ) : Type 0 where
+  pub place : ℕ
+  pub pay : Pay
+  pub pay_is : slice_get pays place ≡ Some pay
+  pub front : List Entry
+  pub later : List Entry
+  pub left_is : left ≡ (history ++ front) ++ later
+  pub new : entered_at pay.mir (history ++ front) ≡ None
+  pub entries_are : entries ≡ length (history ++ front)
+  pub end_is : end + 1 ≡ length (file_of chart (history ++ front))
+  pub need_is : need ≡ need_of chart (history ++ front) pay day
+  pub full : IsFull (history ++ front) end need
+
+-- Of one worker: the first pay that found no room. Those ahead of it were entered as one thread does, and the numbers are those of the history that they made: how many entries, the place of the closed gate, and the bytes that this pay needed.
 pub record LacksRoom (chart : Chart) (history : List Entry) (pays : List Pay) (day : Day) (left : List Entry) (entries end need : ℕ) : Type 0 where
   pub front : List Pay
   pub pay : Pay
@@ -51,10 +70,11 @@ pub record LacksRoom (chart : Chart) (history : List Entry) (pays : List Pay) (d
   pub need_is : need ≡ need_of chart (fold_of chart history front day) pay day
   pub full : IsFull (fold_of chart history front day) end need
 
--- the cause: a call of the disk failed, or the first pay without room, and no call failed; want of memory tells nothing
+-- the cause: a call of the disk failed, and these are its counts of faults at entry and at the return; or a pay found no room, of one worker the first in the order of the file, and no call failed; want of memory tells nothing
 abbrev pub BookCause : {D : Type 0} → outside.Ghosts D → D → D → Inputs → List Entry → BookStop → Type 0
-BookCause d old new i left (booking.DiskFault before after) = Tells (d.faults old) before after (d.faults new)
-BookCause d old new i left (booking.Full entries end need) = HasNotFailed d old new × LacksRoom i.chart i.history (pays_of i) i.day left entries end need
+BookCause d old new i left (booking.DiskFault before after) = (before ≡ d.faults old) × (after ≡ d.faults new) × HasRisen before after
+BookCause d old new i left (booking.Full entries end need) = HasNotFailed d old new × LacksRoomThen i.chart i.history (pays_of i) i.day left entries end need
+    × (i.workers ≡ 1 → LacksRoom i.chart i.history (pays_of i) i.day left entries end need)
 BookCause d old new i left booking.Memory = Unit {0}
 
 -- How the entering of the pays stops: by its cause. What is left is the journal's history and further entries of the day, each of a pay of the file, in a journal that may be opened again.

@@ -2,7 +2,8 @@
 
 ghost use Rattle.std.specs.Prelude.{◌≡◌, ◌++◌, ◌∷◌, [], IfErr, IfOk, IsFalse, IsTrue, OnOk, Some, if◌then◌else◌, is_none};
 ghost use Rattle.jrn_book.specs.Book.{HasRisen};
-ghost use Rattle.corr_top.specs.Collecting.{StopsAsServed, are_replies};
+ghost use Rattle.corr_top.specs.Collecting.{StopsAsServed};
+ghost use Rattle.corr_top.specs.Serving.{are_replies};
 
 use crate::desk::Served;
 use crate::status::Status;
