@@ -26,12 +26,13 @@ known_to o p = history_of o.base p.known
 abbrev pub entry_on : Opening → Pay → Outcome → Entry
 entry_on o pay outcome = record { pay = pay; day = o.day; outcome = outcome }
 
--- A pass knows no less than before, and no fewer entries than it had seen, and the history that it knows is legal.
+-- A pass knows no less than before, and no fewer entries than it had seen, the history that it knows is legal, and its mark doesn't fall.
 pub record Grows (o : Opening) (old new : PassKnows) : Type 0 where
   pub number : new.number ≡ old.number
   pub known : IsPrefix old.known new.known
   pub seen : old.seen ≤ length new.known
   pub legal : IsLegal o.accounts (known_to o new)
+  pub mark : old.mark ≤ new.mark
 
 -- no entry past those that the pass knew is tagged with it
 abbrev pub NothingAdded : PassKnows → PassKnows → Type 0

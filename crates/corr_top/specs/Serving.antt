@@ -1,5 +1,5 @@
 -- What workers make of messages over books, and what of it stands when the books are closed.
-use Rattle.std.specs.Prelude.{◌≡◌, ◌⊎◌, ℕ, ◌+◌, ◌<◌, All, List, ◌++◌, length, Some, Result, Ok, Err, slice_get, map, take}
+use Rattle.std.specs.Prelude.{◌≡◌, ◌⊎◌, ℕ, ◌≤◌, All, List, ◌++◌, length, Some, Result, Ok, Err, slice_get, map, take}
 use mathlib.Core.List.{IsPrefix}
 use Rattle.corr_disk.specs.declared.disk.Disk as disks
 use Rattle.corr_ids.specs.declared.mir.Mir.{Mir}
@@ -58,11 +58,11 @@ pub record IsShort (o : Opening) (history : List Entry) (reading : Result Pay No
   pub begins : IsPrefix front history
   pub shows : ShowsFull o pay front entries end need
 
--- What was made of a message, by the history at the end and the disk's count of faults then. A reply is the one after that history; DiskFailed says that the count has risen since the opening; want of memory tells nothing.
+-- What was made of a message, by the history at the end and the disk's count of faults then. A reply is the one after that history; DiskFailed tells a count, no greater than that, which has risen since the opening; want of memory tells nothing.
 abbrev pub IsTold : Opening → List Entry → ℕ → Result Pay NoPay → Served → Type 0
 IsTold o history faults reading (served.Reply told) = reply_in history reading ≡ Some told
 IsTold o history faults reading (served.Full entries end need) = IsShort o history reading entries end need
-IsTold o history faults reading served.DiskFailed = HasRisen o.at_open faults
+IsTold o history faults reading served.DiskFailed = (now : ℕ) × HasRisen o.at_open now × (now ≤ faults)
 IsTold o history faults reading served.Memory = Unit {0}
 
 -- each message was served, in the order of the messages

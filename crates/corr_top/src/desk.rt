@@ -58,7 +58,7 @@ pub fn jobs_of(alloc: Global, messages: &[Text]) -> Result<Vec<Job<'_>>, Memory>
 }
 
 /// What the answer to the pay of a reference makes of its message.
-fn served(mir: Mir, answer: Result<Committed, CommitFault>) -> Served
+fn as_served(mir: Mir, answer: Result<Committed, CommitFault>) -> Served
     ensures { result ≡ served_of mir answer }
 {
     match answer {
@@ -98,7 +98,7 @@ impl<'a, N: BooksName + Send + Sync, D: Disk + Drop + Send> Desk for RunDesk<'a,
     ) -> Served {
         let accounts = self.books.accounts();
         match read_message(self.alloc, self.directory, accounts, job.text.bytes()) {
-            Ok(pay) => served(pay.mir, self.books.book(rt, pass, worker, &pay, gate)),
+            Ok(pay) => as_served(pay.mir, self.books.book(rt, pass, worker, &pay, gate)),
             Err(Stop::NoPay(why)) => Served::Reply(reply_for(why)),
             Err(Stop::Memory) => Served::Memory,
         }
