@@ -31,7 +31,7 @@ use Rattle.corr_books.specs.Meeting.{HasMet, IsNext, MeetsAfter, writer_after}
 use Rattle.corr_books.specs.Opening.{Opening}
 use Rattle.corr_books.specs.Stand.{IsStand, StandKnows, entries_of, history_of}
 use Rattle.corr_books.specs.Telling.{Grows, IsAdded, NothingAdded, Says, ShowsFull, Told, entry_on, known_to, place_of}
-use Rattle.corr_books.proofs.Histories.{history_of-push, length-history_of, tags_more, take_front}
+use Rattle.corr_books.proofs.laws.Histories.{history_of-push, length-history_of, tags_more, take_front}
 
 -- the history after an answer other than New is as before; the reference is entered where the answer is Kept
 kept_history : (chart : Chart) (history : List Entry) (pay : Pay) (day : Day) (place : ℕ) → entered_at pay.mir history ≡ Some place → next_history chart history pay day ≡ history
