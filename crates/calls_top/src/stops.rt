@@ -78,7 +78,11 @@ fn call<R: Wait + Threads + Sync, D: Disk + Drop + Send>(
     Ok(corr(rt, alloc, texts.as_slice(), room, &OpenGate))
 }
 
-fn run<R: Wait + Threads + Sync, D: Disk + Drop + Send>(rt: &R, alloc: Global, disk: D) -> Result<Ended<D>, Memory> {
+fn run<R: Wait + Threads + Sync, D: Disk + Drop + Send>(
+    rt: &R,
+    alloc: Global,
+    disk: D,
+) -> Result<Ended<D>, Memory> {
     call(rt, alloc, &[b"run", b"240603", b"1"], disk)
 }
 

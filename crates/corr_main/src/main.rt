@@ -133,7 +133,12 @@ fn room<'a>(rt: &'a HostRuntime, folder: &[u8]) -> Result<Files<'a>, Memory> {
 }
 
 /// Does what the words behind the folder say. `waiter` is the handle by which a run starts its workers, and waits for locks.
-fn run(rt: &HostRuntime, waiter: &(impl Wait + Threads + Sync), folder: &[u8], words: &[Text]) -> Status
+fn run(
+    rt: &HostRuntime,
+    waiter: &(impl Wait + Threads + Sync),
+    folder: &[u8],
+    words: &[Text],
+) -> Status
     ensures { HasLine result }
 {
     let room = match room(rt, folder) {

@@ -13,8 +13,13 @@ pub mod DayDone
 pub mod Journals
 pub mod Asking
 pub mod RunEnds
-pub mod Turning
-pub mod Entering
+pub mod Replying
+pub mod Serves
+pub mod Chains
+pub mod InTurn
+pub mod Workers
+pub mod Folding
+pub mod Fronts
 pub mod Ending
 pub mod Initial
 pub mod Dates

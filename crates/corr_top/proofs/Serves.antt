@@ -1,6 +1,6 @@
 -- One serve: what it does to a pass, and what of it stands when the books are closed.
 use Rattle.std.proofs.Common.{◌≡◌, ◌⊎◌, inl, inr, ℕ, zero, suc, ◌+◌, ◌-◌, ◌<◌, ◌≤◌, Bool, true, false, cond, List, [], ◌∷◌, ◌++◌, length, Option, Some, None, Result, Ok, Err, refl, sym, ap, ◌∙◌, subst, arith, append_assoc}
-use Rattle.std.specs.Prelude.{slice_get}
+use Rattle.std.specs.Prelude.{is_some, slice_get}
 use Rattle.std.specs.List.{position_from}
 use Rattle.std.proofs.lemmas.Option.{same_Some, none-some}
 use Rattle.std.proofs.lemmas.Slice.Eq.{bytes_eq-Decides}
@@ -16,6 +16,7 @@ use Rattle.day_model.specs.Legal.{IsLegal}
 use Rattle.day_model.specs.Next.{entered_at, has_mir}
 use Rattle.day_model.specs.Same.{reply_to}
 use Rattle.day_model.specs.Shape.{HasShape}
+use Rattle.day_model.proofs.laws.Growth.{none_passes}
 use Rattle.day_model.proofs.laws.Lookups.{reply_new}
 use Rattle.day_model.proofs.laws.Places.{position_from-within}
 use Rattle.front_word.specs.declared.view.Act.{Act}
@@ -82,6 +83,12 @@ none_if chart front e more legal (Some k) is =
 
 pub new_before : (chart : Chart) (front : List Entry) (e : Entry) (more : List Entry) → IsLegal chart (front ++ e ∷ more) → entered_at e.pay.mir front ≡ None
 new_before chart front e more legal = none_if chart front e more legal (entered_at e.pay.mir front) refl
+
+-- a reference that an entry has is entered
+pub entered_mir : (entries : List Entry) (mir : Mir) (i : ℕ) (e : Entry) → slice_get entries i ≡ Some e → e.pay.mir ≡ mir → entered_at mir entries ≡ None → ⊥
+entered_mir entries mir i e at same none =
+    let fails : has_mir mir e ≡ false = none_passes (has_mir mir) 1 i entries e (ap is_some none) at in
+    let passes : has_mir mir e ≡ true = (bytes_eq-Decides e.pay.mir.0 mir.0).1 (ap (λ (m : Mir). m.0) same) in absurd (cc (sym fails ∙ passes))
 
 module _ (o : Opening) where
   -- ---- what it does to the pass

@@ -107,13 +107,7 @@ pub fn plain<S: Source, K: Sink, D: Disk>(
 /// `init HOME` makes the journal of the home bank HOME with the accounts of the tables. `send FROM UNTIL` writes the outgoing
 /// messages of the entries at these places, `bookings` a line for each entry. Other words are `Usage`. Nothing is written
 /// but at `Done`, and a front part of both together at `WriteFault`.
-pub fn corr<
-    R: Wait + Threads + Sync,
-    S: Source,
-    K: Sink,
-    D: Disk + Drop + Send,
-    G: Gate + Sync,
->(
+pub fn corr<R: Wait + Threads + Sync, S: Source, K: Sink, D: Disk + Drop + Send, G: Gate + Sync>(
     rt: &R,
     alloc: Global,
     words: &[Text],

@@ -128,13 +128,7 @@ fn run_day<R: Wait + Threads + Sync, S: Source, D: Disk + Drop + Send, G: Gate +
 
 /// Reads the tables of banks, currencies, countries and instructions, opens the journal, and lets the workers enter the pays of
 /// the message file's messages on a day. The texts are the report, and the outgoing messages of the entries that were added.
-pub fn run<
-    R: Wait + Threads + Sync,
-    S: Source,
-    K: Sink,
-    D: Disk + Drop + Send,
-    G: Gate + Sync,
->(
+pub fn run<R: Wait + Threads + Sync, S: Source, K: Sink, D: Disk + Drop + Send, G: Gate + Sync>(
     rt: &R,
     alloc: Global,
     day: Day,
