@@ -19,6 +19,7 @@ pub mod Chains
 pub mod InTurn
 pub mod Workers
 pub mod Folding
+pub mod Answering
 pub mod Fronts
 pub mod Ending
 pub mod Initial

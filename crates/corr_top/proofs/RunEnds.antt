@@ -1,6 +1,6 @@
 -- How a run ends before anything is written, from how its parts end.
-use Rattle.std.proofs.Common.{◌≡◌, ◌+◌, ◌<ℤ◌, inl, inr, ℕ, All, List, [], ◌∷◌, Option, None, Some, Result, Ok, Err, refl, sym, ap, ◌∙◌, subst, length, map}
-use Rattle.std.specs.Prelude.{IfSome, IsTrue, is_some, slice_get}
+use Rattle.std.proofs.Common.{◌≡◌, ◌+◌, ◌<ℤ◌, inl, inr, ℕ, All, List, [], ◌∷◌, Option, None, Some, Result, Ok, Err, refl, sym, ap, arith, ◌∙◌, subst, length, map}
+use Rattle.std.specs.Prelude.{◌≤◌, IfSome, IsSome, IsTrue, is_some, slice_get}
 use Rattle.std.proofs.lemmas.List.{length-map}
 use Rattle.corr_books.specs.declared.opening.BooksFault.{BooksFault}
 use Rattle.corr_books.specs.declared.opening.BooksFault.TheVariants.{Open, DateBack}
@@ -18,7 +18,7 @@ use Rattle.day_model.specs.declared.reply.Reply.{Reply}
 use Rattle.day_model.specs.Chart.{Chart}
 use Rattle.day_model.specs.Laws.{IsLatest}
 use Rattle.day_model.specs.Legal.{IsLegal}
-use Rattle.day_model.specs.Next.{fold_of}
+use Rattle.day_model.specs.Next.{entered_at, fold_of}
 use Rattle.jrn_book.specs.Book.{HasRisen, IsLeftBy}
 use Rattle.jrn_book.specs.Journal.{IsJournal}
 use Rattle.jrn_book.specs.Opening.{Finding, IsFound, book, found_by}
@@ -35,6 +35,7 @@ use Rattle.corr_top.specs.declared.tables.TableStop.{TableStop}
 use Rattle.corr_top.specs.declared.words.Command.TheVariants.{Run}
 use Rattle.corr_top.specs.declared.writing.Texts.{Texts}
 use Rattle.corr_top.specs.Booking.{AreAnswered, BookCause, IsAdded, IsBack, LacksRoom, LacksRoomThen, StopsBooking}
+use Rattle.corr_top.specs.Collecting.{IsCalm}
 use Rattle.corr_top.specs.Commands.{out_in, report_in}
 use Rattle.corr_top.specs.Days.{GivesDay, HasDay, StopCause, StopsAtFile, StopsAtPays}
 use Rattle.corr_top.specs.Ends.{Gives, HasPassed, HasTexts}
@@ -178,3 +179,73 @@ module _ {S K D : Type 0} (source : sources.Ghosts S) (d : disks.Ghosts D) (day 
           } in
           gives_run (Err s) i refl refl
           (inl (inr (p.0, inr (p.1.0, inr (p.1.1.0, inr (p.1.1.1.0, inr (holds, inr (latest, inr (stops.file, inl ((stops.stop, stops.status_is, booked), tt))))))))))
+
+      -- the pays that were entered, in the order of the journal
+      abbrev entered_of : List Entry → List Pay
+      entered_of added = map (λ e. e.pay) added
+
+      -- each message was answered
+      has_passed : (bytes : List ℕ) (cut : List (List ℕ)) (history : List Entry) (replies : List Reply) → (had : HasDay source d directory workers old.messages new.messages opened new.disk bytes cut history replies)
+          → HasPassed source d (Run day workers) old new (i_of bytes cut (entered_of had.served.added)) × (history ≡ new_in (i_of bytes cut (entered_of had.served.added))) × (replies ≡ replies_of (i_of bytes cut (entered_of had.served.added)))
+      has_passed bytes cut history replies had =
+          let p = has.passed in
+          let served = had.served in
+          let a = had.answered in
+          let i = i_of bytes cut (entered_of served.added) in
+          let pays = same_pays bytes cut (entered_of served.added) in
+          let legal = subst (IsLegal opened.accounts) served.is served.journal.legal in
+          let days : (k : ℕ) (e : Entry) → slice_get served.added k ≡ Some e → e.day ≡ day = λ k e at. (get_all (IsAdded opened.day _) served.added k e served.each at).day_is ∙ of_day in
+          let history_is : history ≡ new_in i = served.is ∙ legal_fold opened.accounts opened.base served.added day legal days in
+          let told : replies ≡ replies_of i =
+          a.replies_are ∙ ap (λ es. replies_in es (readings_of directory opened.accounts cut)) history_is ∙ ap (λ (x : Directory). replies_in (new_in i) (readings_of x opened.accounts cut)) has.directory_is in
+          let answered : AreAnswered i = record {
+            each = ap length (sym told) ∙ a.each ∙ length-map cut _;
+            legal = subst (IsLegal opened.accounts) history_is served.journal.legal;
+            added = served.added;
+            is = sym history_is ∙ served.is;
+            pays = refl;
+            of_file = subst (λ (x : List Pay × Day). All (IsAdded x.1 x.0) served.added) (λ k. (sym pays k, of_day k)) served.each;
+            entered = λ k pay at. subst (λ (es : List Entry). IsSome (entered_at pay.mir es)) history_is (a.entered k pay (ap (λ (ps : List Pay). slice_get ps k) (sym pays) ∙ at));
+            alone = λ one. sym history_is ∙ a.alone one ∙ (λ k. fold_of opened.accounts opened.base (sym pays k) (of_day k));
+          } in
+          let count : d.faults new.disk ≡ opened.at_open = even_count opened.at_open (d.faults new.disk) had.calm (later_count history served.disk) in (
+            record {
+              passed = (p.0, (p.1.0, (p.1.1.0, (p.1.1.1.0, (holds, (latest, (had.file, (answered, tt))))))));
+              leaves = record {
+                sure = count ∙ at_open;
+                entered = subst (λ es. IsOnDisk d new.disk opened.accounts es) history_is (alone_on history had.calm served.disk);
+                journal = subst (λ es. IsJournal opened.accounts es) history_is served.journal;
+              };
+            },
+            history_is,
+            told,
+          )
+        where
+          even_count : (before after : ℕ) → IsCalm before after → before ≤ after → after ≡ before
+          even_count before after calm le = let m = calm.no_more in omega (arith, m)
+
+          later_count : (h : List Entry) → LeavesClosed d books h new.disk → opened.at_open ≤ d.faults new.disk
+          later_count h (inl alone) = alone.later
+          later_count h (inr failed) = absurd (had.calm.calm failed.0)
+
+          alone_on : (h : List Entry) → IsCalm opened.at_open (d.faults new.disk) → LeavesClosed d books h new.disk → IsOnDisk d new.disk opened.accounts h
+          alone_on h calm (inl alone) = record { stands = alone.stands; durable = alone.durable }
+          alone_on h calm (inr failed) = absurd (calm.calm failed.0)
+
+      -- the part of a run behind the opening of the books
+      pub day_ends : (r : Result Texts Status) → GivesDay source d directory workers old.messages new.messages opened new.disk r → HasTexts source d (Run day workers) old new r
+      unfolding report_in out_in
+      day_ends (Ok texts) gives =
+          let history = gives.2 in
+          let had = gives.4 in
+          let i = i_of gives.0 gives.1 (entered_of had.served.added) in
+          let done = has_passed gives.0 gives.1 history gives.3 had in
+          gives_run (Ok texts) i refl refl (
+            done.0,
+            gives.5 ∙ ap (λ es. report_of opened.accounts es gives.3) done.1 ∙ ap (report_of opened.accounts (new_in i)) done.2,
+            gives.6 ∙ ap (sent_from opened.accounts (length opened.base + 1)) done.1,
+            subst (λ es. AreSentValid (tables_in i) opened.accounts (length opened.base + 1) es) done.1
+                (subst (λ (x : Directory). AreSentValid x.tables opened.accounts (length opened.base + 1) history) has.directory_is gives.7),
+          )
+      day_ends (Err s) (inl stops) = file_stops s stops
+      day_ends (Err s) (inr stops) = pays_stop s stops

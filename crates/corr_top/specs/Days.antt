@@ -20,7 +20,7 @@ use Rattle.corr_top.specs.declared.message.NoPay.{NoPay}
 use Rattle.corr_top.specs.declared.status.Status.{Status}
 use Rattle.corr_top.specs.declared.writing.Texts.{Texts}
 use Rattle.corr_top.specs.Booking.{LacksRoom, LacksRoomThen}
-use Rattle.corr_top.specs.Collecting.{StopsAsServed}
+use Rattle.corr_top.specs.Collecting.{IsCalm, StopsAsServed}
 use Rattle.corr_top.specs.Message.{pays_in, readings_of, replies_in}
 use Rattle.corr_top.specs.Origin.{AreSentValid, SendsAccepted}
 use Rattle.corr_top.specs.Out.{sent_from}
@@ -30,7 +30,7 @@ use Rattle.corr_top.specs.Stops.{status_of_booking, status_of_file}
 
 -- the texts over accounts, a history and replies, one for each message; or why there are none
 abbrev pub GivesTexts : Chart → List Entry → List Served → ℕ → ℕ → ℕ → Result Texts Status → Type 0
-GivesTexts chart history made before after count (Ok texts) = (replies : List Reply) × (made ≡ are_replies replies) × (HasRisen before after → ⊥)
+GivesTexts chart history made before after count (Ok texts) = (replies : List Reply) × (made ≡ are_replies replies) × IsCalm before after
     × (texts.report ≡ report_of chart history replies) × (texts.out ≡ sent_from chart (count + 1) history) × SendsAccepted chart (count + 1) history
 GivesTexts chart history made before after count (Err s) = (stop : BookStop) × (s ≡ status_of_booking stop) × StopsAsServed before after made stop
 
@@ -59,7 +59,7 @@ module _ {S D : Type 0} (source : sources.Ghosts S) (disk : disks.Ghosts D) (dir
   pub record HasDay (bytes : List ℕ) (cut : List (List ℕ)) (history : List Entry) (replies : List Reply) : Type 0 where
     pub file : HasMessages source from to bytes cut
     pub served : HasServed disk (opening_of disk old workers) (readings_in cut) old.accounts history new
-    pub sure : disk.faults new ≡ old.at_open
+    pub calm : IsCalm old.at_open (disk.faults new)
     pub answered : HasAnswered (opening_of disk old workers) (readings_in cut) history replies
 
   -- the message file was not taken, or there was no memory for its workers: the disk is as it was

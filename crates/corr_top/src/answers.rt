@@ -2,7 +2,7 @@
 
 ghost use Rattle.std.specs.Prelude.{◌≡◌, ◌++◌, ◌∷◌, [], IfErr, IfOk, IsFalse, IsTrue, OnOk, Some, if◌then◌else◌, is_none};
 ghost use Rattle.jrn_book.specs.Book.{HasRisen};
-ghost use Rattle.corr_top.specs.Collecting.{StopsAsServed};
+ghost use Rattle.corr_top.specs.Collecting.{IsCalm, StopsAsServed};
 ghost use Rattle.corr_top.specs.Serving.{are_replies};
 
 use crate::desk::Served;
@@ -49,7 +49,7 @@ impl From<Memory> for BookStop {
 /// Whether a count of faults has risen. One that stands at its last value may have.
 fn has_risen(before: u64, after: u64) -> bool
     ensures yes { IsTrue result → HasRisen before after }
-    ensures no { IsFalse result → HasRisen before after → ⊥ }
+    ensures no { IsFalse result → IsCalm before after }
 {
     after > before || after == u64::MAX
 }
@@ -81,7 +81,7 @@ pub fn all_replies(
     served: Vec<Served>,
 ) -> Result<Vec<Reply>, BookStop>
     ensures answered { IfOk result (λ replies. served.items ≡ are_replies replies.items) }
-    ensures sure { IfOk result (λ _. HasRisen before after → ⊥) }
+    ensures calm { IfOk result (λ _. IsCalm before after) }
     ensures stopped { IfErr result (StopsAsServed before after served.items) }
 {
     let fault = BookStop::DiskFault { before, after };
