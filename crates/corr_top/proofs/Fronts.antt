@@ -29,3 +29,8 @@ pub All-front : (P : Entry → Type 0) (front more : List Entry) → All P (fron
 All-front P [] more all k d within = absurd (omega arith)
 All-front P (e ∷ front) more all zero d within = all zero d (omega arith)
 All-front P (e ∷ front) more all (suc k) d within = All-front P front more (λ j x less. all (suc j) x (omega arith)) k d (omega arith)
+
+-- and so has the part behind it
+pub All-behind : (P : Entry → Type 0) (front more : List Entry) → All P (front ++ more) → All P more
+All-behind P [] more all = all
+All-behind P (e ∷ front) more all = All-behind P front more (λ k d within. all (suc k) d (omega arith))

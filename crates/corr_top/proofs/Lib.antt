@@ -23,6 +23,5 @@ pub mod Answering
 pub mod Fronts
 pub mod Ending
 pub mod Initial
-pub mod Dates
 pub mod Rooms
 pub mod Completing

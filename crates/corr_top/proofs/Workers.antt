@@ -29,7 +29,7 @@ use Rattle.corr_top.proofs.Serves.{IsFrom}
 
 -- ---- lists
 
-get_there : {A : Type 0} (xs : List A) (k : ℕ) → k < length xs → (x : A) × (slice_get xs k ≡ Some x)
+pub get_there : {A : Type 0} (xs : List A) (k : ℕ) → k < length xs → (x : A) × (slice_get xs k ≡ Some x)
 get_there [] k within = absurd (omega arith)
 get_there (x ∷ xs) zero within = (x, refl)
 get_there (x ∷ xs) (suc k) within = get_there xs k (omega arith)

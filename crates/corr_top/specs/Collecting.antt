@@ -18,6 +18,6 @@ pub record IsCalm (before after : ℕ) : Type 0 where
 
 -- Why not each message has a reply: the disk's count of faults has risen, or a message says so; or the count hasn't, and this is the first that found no room; or memory ran out.
 abbrev pub StopsAsServed : ℕ → ℕ → List Served → BookStop → Type 0
-StopsAsServed before after made (booking.DiskFault then now) = (then ≡ before) × (now ≡ after) × (HasRisen before after ⊎ SaysFailed made)
+StopsAsServed before after made (booking.DiskFault then now) = (then ≡ before) × (now ≡ after) × (after ≤ 18446744073709551615) × (HasRisen before after ⊎ SaysFailed made)
 StopsAsServed before after made (booking.Full entries end need) = IsCalm before after × IsFirstFull made entries end need
 StopsAsServed before after made booking.Memory = Unit {0}

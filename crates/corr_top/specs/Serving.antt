@@ -1,5 +1,5 @@
 -- What workers make of messages over books, and what of it stands when the books are closed.
-use Rattle.std.specs.Prelude.{◌≡◌, ◌⊎◌, ℕ, ◌≤◌, All, List, ◌++◌, length, Some, Result, Ok, Err, slice_get, map, take}
+use Rattle.std.specs.Prelude.{◌≡◌, ◌⊎◌, ℕ, ◌≤◌, All, IfOk, List, ◌++◌, length, Some, Result, Ok, Err, slice_get, map, take}
 use mathlib.Core.List.{IsPrefix}
 use Rattle.corr_disk.specs.declared.disk.Disk as disks
 use Rattle.corr_ids.specs.declared.mir.Mir.{Mir}
@@ -22,6 +22,7 @@ use Rattle.jrn_book.specs.declared.answer.CommitFault.TheVariants as fault
 use Rattle.corr_top.specs.declared.desk.Served.{Served}
 use Rattle.corr_top.specs.declared.desk.Served.TheVariants as served
 use Rattle.corr_top.specs.declared.message.NoPay.{NoPay}
+use Rattle.corr_top.specs.declared.serving.ServedDay.{ServedDay}
 use Rattle.corr_top.specs.Booking.{IsAdded, LacksRoom}
 use Rattle.corr_top.specs.Message.{pays_in, reply_for, reply_in}
 
@@ -97,3 +98,9 @@ pub record HasServed {D : Type 0} (disk : disks.Ghosts D) (o : Opening) (reading
   pub journal : IsJournal o.accounts history
   pub disk : LeavesClosed disk o history left
   pub honest : disk.honest left ≡ o.honest
+
+-- Messages were served over books, and the books were closed: what is left, and what was made of each message, unless there was no memory to serve any.
+pub record AllServed {D : Type 0} (disk : disks.Ghosts D) (o : Opening) (readings : List (Result Pay NoPay)) (day : ServedDay D) : Type 0 where
+  pub left : HasServed disk o readings day.closed.accounts day.closed.history.entries day.closed.disk
+  pub told : IfOk day.served (λ made. AreTold o day.closed.history.entries (disk.faults day.closed.disk) readings made.items)
+  pub turn : IfOk day.served (λ made. o.made ≡ 1 → AreInTurn o day.closed.history.entries readings made.items)

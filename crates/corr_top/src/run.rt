@@ -1,19 +1,20 @@
 //! The command `run`: every message of a file is answered, the report is made, and the next messages are made.
 
-ghost use Rattle.std.specs.Prelude.{◌≡◌, ◌≤◌, ◌+◌, ℕ, All, List, IfErr, IfOk, OnOk, length};
+ghost use Rattle.std.specs.Prelude.{◌≡◌, ◌≤◌, ◌+◌, ℕ, All, List, IfErr, IfOk, OnOk, length, vec_len};
 ghost use Rattle.corr_ids.specs.Bic.{IsBic};
 ghost use Rattle.corr_ids.specs.Day.{InCentury};
 ghost use Rattle.corr_report.specs.Report.{NamesPlace, report_of};
 ghost use Rattle.day_model.specs.Legal.{IsLegal};
-ghost use Rattle.jrn_file.specs.File.{disk_of};
+ghost use Rattle.jrn_book.specs.Journal.{IsJournal};
 ghost use Rattle.ssi_versions.specs.InstructionList.{AreInstructions};
 ghost use Rattle.corr_top.specs.Days.{GivesDay, GivesTexts};
 ghost use Rattle.corr_top.specs.Ends.{HasTexts};
 ghost use Rattle.corr_top.specs.Origin.{SendsAccepted};
 ghost use Rattle.corr_top.specs.Out.{sent_from};
 ghost use Rattle.corr_top.specs.Passing.{HasMessages, StopsAtMessages};
-ghost use Rattle.corr_top.specs.Serving.{HasPayShape};
+ghost use Rattle.corr_top.specs.Serving.{HasPayShape, are_replies};
 ghost use Rattle.corr_top.specs.declared.words.Command.TheVariants.{Run};
+ghost use Rattle.day_model.specs.declared.reply.Reply.{Reply as TheReply};
 
 use crate::answers::all_replies;
 use crate::cutting::{FILE_LIMIT, FileStop, cut_file};
@@ -79,7 +80,10 @@ fn texts_of<D: Disk + Drop>(
     before: u64,
     count: u32,
 ) -> Result<Texts, Status>
-    ensures { GivesTexts D.Disk day.now served.items before count result }
+    requires journal { IsJournal day.now.accounts day.now.history.entries }
+    requires places { (replies : List TheReply) → served.items ≡ are_replies replies → All (NamesPlace day.now.history.entries) replies }
+    requires few { (count ≤ length day.now.history.entries) × (vec_len served ≤ 50000) }
+    ensures { GivesTexts day.now.accounts day.now.history.entries served.items before (D.faults day.now.disk) count result }
 {
     let replies = all_replies(alloc, before, day.disk.faults(), served)?;
     Ok(make_texts(
@@ -105,7 +109,8 @@ fn run_day<R: Wait + Threads + Sync, S: Source, D: Disk + Drop + Send, G: Gate +
 ) -> (D, Result<Texts, Status>)
     requires instructions { AreInstructions directory.now.tables directory.now.ssi }
     requires workers { (1 ≤ workers) × (workers ≤ 16) }
-    requires count { before ≡ D.faults (disk_of opened.file) }
+    requires journal { IsJournal opened.accounts opened.base }
+    requires count { before ≡ opened.at_open }
     ensures { GivesDay S.Source D.Disk directory.now workers source.old source.new opened result.0 result.1 }
 {
     let messages = match read_messages(alloc, source) {
