@@ -98,12 +98,12 @@ module _ {S D : Type 0} (source : sources.Ghosts S) (d : disks.Ghosts D) (direct
   abbrev books : Opening
   books = opening_of d old workers
 
-  later : LeavesClosed d books history new → old.at_open ≤ d.faults new
-  later (inl alone) = alone.later
-  later (inr failed) = let a = failed.0.later in let b = failed.0.rose in risen_le old.at_open (d.faults new) failed.0
-    where
-      risen_le : (from now : ℕ) → HasRisen from now → from ≤ now
-      risen_le from now risen = let a = risen.later in let b = risen.rose in omega (arith, a, b)
+  risen_le : (start now : ℕ) → start ≤ 18446744073709551615 → HasRisen start now → start ≤ now
+  risen_le start now most risen = let a = risen.later in let b = risen.rose in omega (arith, a, b, most)
+
+  later : old.at_open ≤ 18446744073709551615 → LeavesClosed d books history new → old.at_open ≤ d.faults new
+  later most (inl alone) = alone.later
+  later most (inr failed) = risen_le old.at_open (d.faults new) most failed.0
 
   -- its texts were made
   pub day_done : (count before : ℕ) (texts : Texts) → before ≡ old.at_open → count ≡ length old.base → AreInstructions directory.tables directory.ssi → IsChart old.accounts
@@ -128,8 +128,8 @@ module _ {S D : Type 0} (source : sources.Ghosts S) (d : disks.Ghosts D) (direct
       )
 
   -- or not
-  pub day_stops : (count before : ℕ) (s : Status) → before ≡ old.at_open → GivesTexts old.accounts history made before (d.faults new) count (Err s) → GivesDay source d directory workers from to old new (Err s)
-  day_stops count before s was gives = inr (record {
+  pub day_stops : (count before : ℕ) (s : Status) → before ≡ old.at_open → before ≤ 18446744073709551615 → GivesTexts old.accounts history made before (d.faults new) count (Err s) → GivesDay source d directory workers from to old new (Err s)
+  day_stops count before s was most gives = inr (record {
     stop = gives.0;
     bytes = bytes;
     cut = cut;
@@ -137,5 +137,5 @@ module _ {S D : Type 0} (source : sources.Ghosts S) (d : disks.Ghosts D) (direct
     status_is = gives.1;
     file = file;
     served = left;
-    cause = cause_of books (readings_of directory old.accounts cut) history (d.faults new) made told turn before (d.faults new) gives.0 was refl (later left.disk) gives.2;
+    cause = cause_of books (readings_of directory old.accounts cut) history (d.faults new) made told turn before (d.faults new) gives.0 was refl (later (subst (λ (n : ℕ). n ≤ 18446744073709551615) was most) left.disk) gives.2;
   })

@@ -74,7 +74,7 @@ module _ (o : Opening) where
   abbrev pub GoesOn : Pay → PassKnows → PassKnows → Type 0
   GoesOn pay old new = known_to o new ≡ next_history o.accounts (known_to o old) pay o.day
 
-  abbrev AllTagged : PassKnows → ℕ → Type 0
+  abbrev pub AllTagged : PassKnows → ℕ → Type 0
   AllTagged p number = (i : ℕ) (a : Act) → slice_get p.known i ≡ Some a → a.by ≡ number
 
   entered_next : (history : List Entry) (pay : Pay) (place : ℕ) → entered_at pay.mir history ≡ Some place → next_history o.accounts history pay o.day ≡ history
@@ -103,7 +103,7 @@ module _ (o : Opening) where
       history ∙ ap (λ (x : Entry). known_to o old ++ x ∷ []) is ∙ sym (new_next (known_to o old) pay none)
 
   -- an answer that adds nothing
-  same_known : (pay : Pay) (old new : PassKnows) (answer : Answer) → Told o pay old answer new → IsPrefix old.known new.known → NothingAdded old new → AllTagged new old.number → known_to o new ≡ known_to o old
+  pub same_known : (pay : Pay) (old new : PassKnows) (answer : Answer) → Told o pay old answer new → IsPrefix old.known new.known → NothingAdded old new → AllTagged new old.number → known_to o new ≡ known_to o old
   same_known pay old new answer t g nothing tags = ap (history_of o.base) (none_more old.known g.0 new.known old.number g.1 tags nothing)
 
   -- a message that has a reply goes on as one thread does

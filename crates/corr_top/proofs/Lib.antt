@@ -17,6 +17,7 @@ pub mod Replying
 pub mod Serves
 pub mod Chains
 pub mod InTurn
+pub mod OneWorker
 pub mod Workers
 pub mod Folding
 pub mod Answering
