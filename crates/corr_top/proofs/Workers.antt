@@ -1,5 +1,5 @@
 -- All workers together: what stands when their passes are back and the books are closed.
-use Rattle.std.proofs.Common.{◌≡◌, ℕ, zero, suc, ◌+◌, ◌-◌, ◌<◌, ◌≤◌, All, List, [], ◌∷◌, ◌++◌, length, map, Option, Some, None, Result, Ok, Err, refl, sym, ap, ◌∙◌, subst, arith}
+use Rattle.std.proofs.Common.{◌≡◌, ℕ, zero, suc, ◌+◌, ◌-◌, ◌<◌, ◌≤◌, All, List, [], ◌∷◌, ◌++◌, length, map, Option, Some, None, Result, Ok, Err, refl, sym, ap, ◌∙◌, subst, arith, append-nil}
 use Rattle.std.specs.Prelude.{slice_get}
 use Rattle.std.specs.Option.{option_map}
 use Rattle.std.proofs.lemmas.List.{length-map}
@@ -16,7 +16,7 @@ use Rattle.work_pool.specs.Served.{AreServed, StandsIn}
 use Rattle.corr_books.specs.Closing.{Closes}
 use Rattle.corr_books.specs.Opening.{Opening}
 use Rattle.corr_books.specs.Passes.{AreNew}
-use Rattle.corr_books.specs.Stand.{entries_of}
+use Rattle.corr_books.specs.Stand.{entries_of, history_of}
 use Rattle.corr_books.specs.Telling.{entry_on}
 use Rattle.corr_top.specs.declared.desk.Served.{Served}
 use Rattle.corr_top.specs.declared.message.NoPay.{NoPay}
@@ -25,7 +25,8 @@ use Rattle.corr_top.specs.Message.{pays_in}
 use Rattle.corr_top.specs.Serving.{AreTold, IsTold, Serves}
 use Rattle.corr_top.proofs.Chains.{Chain, IsServed, each_stands, grew, of_jobs}
 use Rattle.corr_top.proofs.Replying.{all_one}
-use Rattle.corr_top.proofs.Serves.{IsFrom}
+use Rattle.corr_top.proofs.OneWorker.{IsAlone, in_order}
+use Rattle.corr_top.proofs.Serves.{IsFrom, begins, get_at}
 
 -- ---- lists
 
@@ -128,3 +129,51 @@ module _ {Job : Type 0} (o : Opening) (reading : Job → Result Pay NoPay) (jobs
 
   pub all_none_added : after ≡ before → All (IsAdded o.day (pays_in readings)) (entries_of closes.log)
   all_none_added same = all_entries (IsAdded o.day (pays_in readings)) closes.log (none_added same)
+
+-- one pass, made by books that make one: its serves are those of all jobs in their order, and all entries are its own
+pub alone : {Job : Type 0} (o : Opening) (reading : Job → Result Pay NoPay) (jobs : List Job) (made : List Served) (q p : PassKnows) (history : List Entry) (faults : ℕ) → o.made ≡ 1 → AreNew o (q ∷ []) → (closes : Closes o history faults (p ∷ []))
+    → AreServed (λ (old : PassKnows) (job : Job) (next : PassKnows) (one : Served). Serves o (reading job) old next one) (q ∷ []) jobs (p ∷ []) made → (numbers : List ℕ) × IsAlone o reading jobs made numbers q p history
+alone o reading jobs made q p history faults one new closes served =
+    let lists = get_there served.lists 0 (let e = served.dealt.one_each in omega (arith, e)) in
+    let numbers = lists.0 in
+    let chain = served.served 0 numbers q p lists.1 refl refl in
+    let g = grew o reading jobs made numbers q p chain in
+    let first = new.each 0 q refl in
+    let part = closes.parts 0 p refl in
+    let own : (i : ℕ) (a : Act) → slice_get closes.log i ≡ Some a → a.by ≡ p.number = λ i a at. owned_by (closes.owned i a at).at (closes.owned i a at).pass (closes.owned i a at).there (closes.owned i a at).tagged in
+    let log : closes.log ≡ p.known = prefix_back closes.log p.known part.known (λ i a at. part.own i a at (own i a at)) in (
+      numbers,
+      record {
+        chain = chain;
+        order = in_order 1 (length jobs + 1) numbers (omega arith) (served.dealt.rising 0 numbers lists.1)
+            (λ i n at. let w = served.dealt.jobs_only 0 n (numbers, lists.1, i, at) in (w.0, omega (arith, w.1)))
+            (λ n low high. every numbers lists.1 n (served.dealt.every_job n low (omega arith)));
+        none = first.known;
+        tags = λ i a at. own i a (subst (λ (l : List Act). slice_get l i ≡ Some a) (sym log) at) ∙ g.number;
+        begins = λ known pre. begins o closes.log history faults closes.is closes.legal known (subst (IsPrefix known) (sym log) pre);
+        whole = closes.is ∙ ap (λ (l : List Act). history_of o.base l) log;
+        replies = served.replies_count;
+      },
+    )
+  where
+    owned_by : {a : ℕ} (at : ℕ) (pass : PassKnows) → slice_get (p ∷ []) at ≡ Some pass → a ≡ pass.number → a ≡ p.number
+    owned_by zero pass there tagged = tagged ∙ ap (λ (x : PassKnows). x.number) (sym (same_Some p pass there))
+    owned_by (suc at) pass there tagged = absurd (none-some pass there)
+
+    -- a beginning in which everything stands is the whole
+    prefix_back : (log known : List Act) → IsPrefix known log → ((i : ℕ) (a : Act) → slice_get log i ≡ Some a → slice_get known i ≡ Some a) → log ≡ known
+    prefix_back log known pre all = whole_of known pre.0 log pre.1 all
+
+    whole_of : (known more log : List Act) → known ++ more ≡ log → ((i : ℕ) (a : Act) → slice_get log i ≡ Some a → slice_get known i ≡ Some a) → log ≡ known
+    whole_of known [] log is all = sym is ∙ append-nil known
+    whole_of known (x ∷ more) log is all =
+        let here = all (length known) x (subst (λ (l : List Act). slice_get l (length known) ≡ Some x) is (get_at known x more)) in
+        let below = get_below known (length known) x here in absurd (omega (arith, below))
+
+    -- the one list has each number
+    every : (numbers : List ℕ) → slice_get served.lists 0 ≡ Some numbers → (n : ℕ) → (k : ℕ) × StandsIn served.lists k n → (i : ℕ) × (slice_get numbers i ≡ Some n)
+    every numbers at n (k, stands) =
+        let below = get_below served.lists k stands.0 stands.1 in
+        let zero_is : k ≡ 0 = (let e = served.dealt.one_each in omega (arith, below, e)) in
+        let same : numbers ≡ stands.0 = same_Some numbers stands.0 (sym at ∙ ap (slice_get served.lists) (sym zero_is) ∙ stands.1) in
+        (stands.2, subst (λ (l : List ℕ). slice_get l stands.2 ≡ Some n) (sym same) stands.3)
