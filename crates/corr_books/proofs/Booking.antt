@@ -30,7 +30,7 @@ use Rattle.corr_books.specs.Meeting.{HasMet, IsNext, MeetsAfter, writer_after}
 use Rattle.corr_books.specs.Opening.{Opening}
 use Rattle.corr_books.specs.Stand.{IsStand, history_of}
 use Rattle.corr_books.specs.Telling.{Grows, IsAdded, NothingAdded, Says, ShowsFull, Told, entry_on, known_to}
-use Rattle.corr_books.proofs.Histories.{history_of-push, length-history_of, tags_more, take_front}
+use Rattle.corr_books.proofs.laws.Histories.{history_of-push, length-history_of, tags_more, take_front}
 
 -- the history after an answer other than New is as before; the reference is entered where the answer is Kept
 kept_history : (chart : Chart) (history : List Entry) (pay : Pay) (day : Day) (place : ℕ) → entered_at pay.mir history ≡ Some place → next_history chart history pay day ≡ history
@@ -167,6 +167,16 @@ module _ {D : Type 0} (disk : disks.Ghosts D) (o : Opening) (purses : TableId) (
   none_past old new log owed known i a at past tag =
       let x = owed i a (subst (λ (l : List Act). slice_get l i ≡ Some a) known at) past tag in absurd (cc (x.0))
 
+  -- the writer's mark doesn't fall
+  mark_after : (answer : Answer) → w.mark ≤ (writer_after w number pay o.day answer).mark
+  mark_after (Ok (New place outcome)) = omega arith
+  mark_after (Ok (Kept place outcome)) = omega arith
+  mark_after (Err (Conflict place)) = omega arith
+  mark_after (Err (Full entries end need)) = omega arith
+  mark_after (Err (DiskFault before after)) = omega arith
+  mark_after (Err (Broken from now)) = omega arith
+  mark_after (Err Memory) = omega arith
+
   grows_after : (answer : Answer) (place : Option ℕ) (old new : PassKnows) → After answer → Entered answer
       → HasMet w (writer_after w number pay o.day answer) place old new → IsPrefix w.acts (writer_after w number pay o.day answer).acts
       → Grows o old new
@@ -175,6 +185,7 @@ module _ {D : Type 0} (disk : disks.Ghosts D) (o : Opening) (purses : TableId) (
     known = subst (IsPrefix old.known) (sym m.known) (prefix_trans old.known w.acts (writer_after w number pay o.day answer).acts m.before more);
     seen = subst (λ (l : List Act). old.seen ≤ length l) (sym m.known) (let x = m.seen in let y = prefix_length w.acts (writer_after w number pay o.day answer).acts more in omega arith);
     legal = subst (λ (x : Chart × List Entry). IsLegal x.0 x.1) (λ i. (s.accounts i, (s.history ∙ ap (history_of o.base) (sym m.known)) i)) e.legal;
+    mark = let a = m.marked in let b = mark_after answer in let k = m.mark in omega arith;
   }
 
   -- the history, as the pass knows it
@@ -283,7 +294,7 @@ module _ {D : Type 0} (disk : disks.Ghosts D) (o : Opening) (purses : TableId) (
 -- room alone doesn't matter
 pub told_spare : (o : Opening) (pay : Pay) (old new : PassKnows) (spare : ℕ) (answer : Answer) → Told o pay (record old { spare = spare }) answer new → Told o pay old answer new
 told_spare o pay old new spare answer t = record {
-  grows = λ answered. let x = t.grows answered in record { number = x.number; known = x.known; seen = x.seen; legal = x.legal };
+  grows = λ answered. let x = t.grows answered in record { number = x.number; known = x.known; seen = x.seen; legal = x.legal; mark = x.mark };
   says = says_spare answer t.says;
   mine = t.mine;
   memory = t.memory;

@@ -1,6 +1,6 @@
 -- All passes were taken back, and know the whole list together.
-use Rattle.std.proofs.Common.{◌≡◌, inl, inr, ℕ, ◌+◌, List, [], length, Option, Some, None, slice_get, sym, ◌∙◌, subst, arith}
-use Rattle.std.specs.Prelude.{IfSome, IsTrue}
+use Rattle.std.proofs.Common.{◌≡◌, inl, inr, ℕ, ◌+◌, ◌≤◌, List, [], length, Option, Some, None, slice_get, sym, ◌∙◌, subst, arith}
+use Rattle.std.specs.Prelude.{IfSome}
 use mathlib.Core.Logic.{dite}
 use native.Mathlib.Decide.{dec_lt}
 use Rattle.corr_disk.specs.declared.disk.Disk as disks
@@ -67,13 +67,14 @@ module _ {D : Type 0} (disk : disks.Ghosts D) (o : Opening) (purses : TableId) (
 
 -- what a crash leaves of the closed books' disk
 pub leaves : {D : Type 0} (disk : disks.Ghosts D) (o : Opening) (file : JFile D) (chart : Chart) (history : List Entry) (at_open : ℕ) (failed : Option Day) → IfSome failed (λ day. day ≡ o.day) → at_open ≡ o.at_open → chart ≡ o.accounts
-    → StandsOnDisk disk.honest disk.reads disk.may_leave failed file chart history → Counts failed at_open (disk.faults (disk_of file)) → IsTrue (disk.honest (disk_of file)) → LeavesClosed disk o history (disk_of file)
-leaves disk o file chart history at_open None days opened charts settled counts honest =
-    inl (λ image left.
-    let is : image ≡ disk.reads (disk_of file) = settled.durable honest image left in
-    let stands = subst (λ (c : Chart). StandsForBook (disk.reads (disk_of file)) c history) charts (settled.stands honest) in
-    subst (λ (bytes : List ℕ). StandsForBook bytes o.accounts history) (sym is) stands)
-leaves disk o file chart history at_open (Some day) days opened charts left counts honest =
+    → StandsOnDisk disk.honest disk.reads disk.may_leave failed file chart history → Counts failed at_open (disk.faults (disk_of file)) → LeavesClosed disk o history (disk_of file)
+leaves disk o file chart history at_open None days opened charts settled counts =
+    inl (record {
+      stands = λ honest. subst (λ (c : Chart). StandsForBook (disk.reads (disk_of file)) c history) charts (settled.stands honest);
+      durable = settled.durable;
+      later = subst (λ (n : ℕ). n ≤ disk.faults (disk_of file)) opened counts;
+    })
+leaves disk o file chart history at_open (Some day) days opened charts left counts =
     let risen = subst (λ (n : ℕ). HasRisen n (disk.faults (disk_of file))) opened counts in
     let of_chart = subst (λ (c : Chart). IsLeftBy (disk.honest (disk_of file)) (disk.may_leave (disk_of file)) c history day) charts left in
     inr (risen, subst (IsLeftBy (disk.honest (disk_of file)) (disk.may_leave (disk_of file)) o.accounts history) days of_chart)

@@ -1,5 +1,4 @@
 pub mod Opens
-pub mod Histories
 pub mod Locking
 pub mod Booking
 pub mod Counting

@@ -1,18 +1,19 @@
 -- What opening books tells, by what opening the journal's book told.
-use Rattle.std.proofs.Common.{◌≡◌, ℕ, zero, suc, List, [], ◌∷◌, ◌++◌, length, take, Option, Some, None, ap, arith, refl, subst, sym}
+use Rattle.std.proofs.Common.{◌≡◌, ℕ, zero, suc, Bool, List, [], ◌∷◌, ◌++◌, length, take, Option, Some, None, ap, arith, refl, subst, sym}
 use Rattle.std.specs.Prelude.{IfErr, IfOk, IfSome, IsTrue, Ok, Err, is_some, slice_get}
 use Rattle.std.proofs.lemmas.Option.{same_Some, none-some}
 use Rattle.corr_ids.specs.declared.day.Day.{Day}
 use Rattle.day_model.specs.declared.entry.Entry.{Entry}
 use Rattle.day_model.specs.Laws.{IsLatest}
 use Rattle.jrn_book.specs.Book.{Book}
+use Rattle.jrn_book.specs.Journal.{IsJournal}
 use Rattle.jrn_book.specs.Opening.{Finding, book, IsFound, found_by}
 use Rattle.jrn_file.specs.File.{disk_of}
 use Rattle.jrn_file.specs.Reading.{Reading}
 use Rattle.jrn_file.specs.declared.fault.OpenFault.{OpenFault}
 use Rattle.corr_books.specs.declared.opening.BooksFault.{BooksFault}
 use Rattle.corr_books.specs.declared.opening.BooksFault.TheVariants.{Open, DateBack}
-use Rattle.corr_books.specs.Finding.{BeginsNot, Opened, RefusesAs, TellsOf}
+use Rattle.corr_books.specs.Finding.{BeginsNot, Opened, RefusesAs, ShowsBack, TellsOf}
 use Rattle.corr_books.specs.Opening.{Parts, parts_of}
 
 -- a list ends with its last element
@@ -55,3 +56,22 @@ module _ {D : Type 0} (b : Book D) (day : Day) where
   pub tells : (reading : Reading) (answer : Opened D) → AreParts answer → Latest answer → NotBegun answer → IsFound reading (book b.accounts b.history) → TellsOf reading day answer
   tells reading (Ok o) parts latest left found = λ _. (book b.accounts b.history, found, (same_book o parts, latest_of o parts latest))
   tells reading (Err e) parts latest left found = λ _. (book b.accounts b.history, found, refuses e.1 left.1)
+
+  -- no entry of the parts is later
+  pub latest_in : (answer : Opened D) → AreParts answer → Latest answer → IfOk answer (λ o. IsLatest o.base day)
+  latest_in (Ok o) parts latest = latest_of o parts latest
+  latest_in (Err e) parts latest = tt
+
+  -- the parts are those of a journal
+  pub journal_in : (answer : Opened D) → AreParts answer → IsJournal b.accounts b.history → IfOk answer (λ o. IsJournal o.accounts o.base)
+  journal_in (Ok o) parts journal = subst (λ (p : Parts D). IsJournal p.accounts p.base) (sym parts) journal
+  journal_in (Err e) parts journal = tt
+
+  back_of : (reading : Reading) (honest : Bool) (fault : BooksFault) → BeginsNot b.history day fault → IsJournal b.accounts b.history → (IsTrue honest → IsFound reading (book b.accounts b.history)) → ShowsBack reading honest day fault
+  back_of reading honest (Open fault) begins journal found = tt
+  back_of reading honest (DateBack last) begins journal found = record { accounts = b.accounts; history = b.history; journal = journal; found = found; back = begins }
+
+  -- a day that is before that of the last entry is refused for the journal that was opened
+  pub shows_back : (reading : Reading) (honest : Bool) (answer : Opened D) → NotBegun answer → IsJournal b.accounts b.history → (IsTrue honest → IsFound reading (book b.accounts b.history)) → IfErr answer (λ e. ShowsBack reading honest day e.1)
+  shows_back reading honest (Ok o) left journal found = tt
+  shows_back reading honest (Err e) left journal found = back_of reading honest e.1 left.1 journal found

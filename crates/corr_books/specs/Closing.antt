@@ -1,7 +1,8 @@
 -- What all passes know together at the end, and what a crash leaves then.
-use Rattle.std.specs.Prelude.{◌≡◌, ◌⊎◌, ℕ, ◌+◌, ◌≤◌, List, Some, length, slice_get}
+use Rattle.std.specs.Prelude.{◌≡◌, ◌⊎◌, ℕ, ◌+◌, ◌≤◌, IsTrue, List, Some, length, slice_get}
 use mathlib.Core.List.{IsPrefix}
 use Rattle.corr_disk.specs.declared.disk.Disk as disks
+use Rattle.corr_disk.specs.Disk.{Only}
 use Rattle.day_model.specs.declared.entry.Entry.{Entry}
 use Rattle.day_model.specs.Legal.{IsLegal}
 use Rattle.front_word.specs.declared.view.Act.{Act}
@@ -34,11 +35,13 @@ pub record Closes (o : Opening) (history : List Entry) (faults : ℕ) (passes : 
   pub owned : (i : ℕ) (a : Act) → slice_get log i ≡ Some a → IsOwned o passes i a
   pub marks : (k : ℕ) (p : PassKnows) → slice_get passes k ≡ Some p → p.mark ≤ faults
 
--- every image stands for the closed history
-abbrev pub StandsAlone : {D : Type 0} → disks.Ghosts D → Opening → List Entry → D → Type 0
-StandsAlone disk o history d = (image : List ℕ) → disk.may_leave d image → StandsForBook image o.accounts history
+-- the bytes of the disk stand for the closed history, a crash leaves nothing else, and the disk's count of faults is no less than at the opening
+pub record StandsAlone {D : Type 0} (disk : disks.Ghosts D) (o : Opening) (history : List Entry) (d : D) : Type 0 where
+  pub stands : IsTrue (disk.honest d) → StandsForBook (disk.reads d) o.accounts history
+  pub durable : IsTrue (disk.honest d) → Only (disk.reads d) (disk.may_leave d)
+  pub later : o.at_open ≤ disk.faults d
 
--- Every image stands for the closed history; or, where the disk's count of faults has risen since the opening, for it or for it and one legal entry of the books' day.
+-- The disk stands for the closed history alone; or, where its count of faults has risen since the opening, every image stands for it or for it and one legal entry of the books' day. Of a disk that doesn't tell its bytes nothing is said but the count.
 abbrev pub LeavesClosed : {D : Type 0} → disks.Ghosts D → Opening → List Entry → D → Type 0
 LeavesClosed disk o history d =
     StandsAlone disk o history d

@@ -2,7 +2,9 @@
 use Rattle.std.specs.Prelude.{◌≡◌, ℕ, ◌<ℤ◌, Bool, true, IsTrue, List, [], ◌∷◌, ◌++◌, IfSome, is_some, Result, Ok, Err}
 use Rattle.corr_ids.specs.declared.day.Day.{Day}
 use Rattle.day_model.specs.declared.entry.Entry.{Entry}
+use Rattle.day_model.specs.Chart.{Chart}
 use Rattle.day_model.specs.Laws.{IsLatest}
+use Rattle.jrn_book.specs.Journal.{IsJournal}
 use Rattle.jrn_book.specs.Opening.{Finding, book, no_book, faulty, IsFound, OpenCause, found_by}
 use Rattle.jrn_file.specs.Reading.{Reading}
 use Rattle.jrn_file.specs.declared.fault.OpenFault.TheVariants as open_fault
@@ -55,6 +57,19 @@ TellsOf reading day answer = IsTrue (tells_bytes answer) → (finding : Finding)
 -- whatever the bytes give is the answer, unless the disk or memory failed
 abbrev pub IsGivenBy : {D : Type 0} → Reading → Day → Opened D → Type 0
 IsGivenBy reading day answer = (finding : Finding) → IsFound reading finding → OpensAs day answer finding
+
+-- the journal that was opened, whose last entry has this day, which is after the day of the books
+pub record OpensBack (reading : Reading) (honest : Bool) (day last : Day) : Type 0 where
+  pub accounts : Chart
+  pub history : List Entry
+  pub journal : IsJournal accounts history
+  pub found : IsTrue honest → IsFound reading (book accounts history)
+  pub back : IsDateBack history day last
+
+-- where books are refused for the day of the last entry, there is such a journal
+abbrev pub ShowsBack : Reading → Bool → Day → BooksFault → Type 0
+ShowsBack reading honest day (Open fault) = Unit {0}
+ShowsBack reading honest day (DateBack last) = OpensBack reading honest day last
 
 -- a fault of the disk tells its counts; where the disk didn't fail, its count is as it was
 abbrev pub BooksCause : ℕ → ℕ → BooksFault → Type 0

@@ -10,7 +10,7 @@ use Rattle.day_model.specs.Legal.{IsLegal}
 use Rattle.day_model.specs.Next.{entered_at}
 use Rattle.front_word.specs.declared.view.Act.{Act}
 use Rattle.front_word.specs.Known.{PassKnows, with_place}
-use Rattle.jrn_book.specs.Answers.{Answer, IsAnswered, IsFull, StandsAt, need_of}
+use Rattle.jrn_book.specs.Answers.{Answer, HasRoom, IsAnswered, IsFull, StandsAt, need_of}
 use Rattle.jrn_book.specs.Book.{HasRisen}
 use Rattle.jrn_book.specs.Journal.{file_of}
 use Rattle.jrn_book.specs.declared.answer.Committed.TheVariants.{New, Kept}
@@ -26,24 +26,32 @@ known_to o p = history_of o.base p.known
 abbrev pub entry_on : Opening → Pay → Outcome → Entry
 entry_on o pay outcome = record { pay = pay; day = o.day; outcome = outcome }
 
--- A pass knows no less than before, and no fewer entries than it had seen, and the history that it knows is legal.
+-- A pass knows no less than before, and no fewer entries than it had seen, the history that it knows is legal, and its mark doesn't fall.
 pub record Grows (o : Opening) (old new : PassKnows) : Type 0 where
   pub number : new.number ≡ old.number
   pub known : IsPrefix old.known new.known
   pub seen : old.seen ≤ length new.known
   pub legal : IsLegal o.accounts (known_to o new)
+  pub mark : old.mark ≤ new.mark
 
 -- no entry past those that the pass knew is tagged with it
 abbrev pub NothingAdded : PassKnows → PassKnows → Type 0
 NothingAdded old new = (i : ℕ) (a : Act) → slice_get new.known i ≡ Some a → length old.known ≤ i → a.by ≡ old.number → ⊥
 
--- The place is past all that the pass knew. There stands the pay with the day of the books and the outcome that the entries before it give, tagged with this pass; no other such entry was added.
+-- there is room for the pay behind this history, whose file has its closed gate at this place
+pub record ShowsRoom (o : Opening) (pay : Pay) (history : List Entry) : Type 0 where
+  pub end : ℕ
+  pub end_is : end + 1 ≡ length (file_of o.accounts history)
+  pub room : HasRoom history end (need_of o.accounts history pay o.day)
+
+-- The place is past all that the pass knew. There stands the pay with the day of the books and the outcome that the entries before it give, tagged with this pass; no other such entry was added. There was room for it behind the entries before it.
 pub record IsAdded (o : Opening) (pay : Pay) (old new : PassKnows) (place : ℕ) (outcome : Outcome) : Type 0 where
   pub at : ℕ
   pub place_is : place ≡ length o.base + at + 1
   pub past : length old.known ≤ at
   pub there : slice_get new.known at ≡ Some record { by = old.number; entry = entry_on o pay outcome }
   pub decided : outcome ≡ outcome_of o.accounts (history_of o.base (take at new.known)) pay
+  pub room : ShowsRoom o pay (history_of o.base (take at new.known))
   pub alone : (i : ℕ) (a : Act) → slice_get new.known i ≡ Some a → length old.known ≤ i → a.by ≡ old.number → i ≡ at
 
 -- The history that the pass knows lacks the reference and has no room for the pay: its number of entries, the place of the closed gate of its file, and the bytes that the pay's record needs behind it.

@@ -1,6 +1,7 @@
 //! Closing books.
 
-ghost use Rattle.std.specs.Prelude.{◌≡◌, ◌≢◌, IfErr, IfOk, IsTrue, vec_len};
+ghost use Rattle.std.specs.Prelude.{◌≡◌, ◌≢◌, IfErr, IfOk, vec_len};
+ghost use Rattle.jrn_book.specs.Journal.{IsJournal};
 ghost use Rattle.corr_books.specs.Closing.{Closes, LeavesClosed};
 ghost use Rattle.corr_books.specs.Passes.{AllBelong};
 
@@ -40,8 +41,11 @@ impl<N: BooksName, D: Disk> Books<N, D> {
         ensures closes { IfOk result (λ c. Closes N.opening c.history.entries (D.faults c.disk) passes.items) }
         ensures accounts { IfOk result (λ c. c.accounts ≡ N.opening.accounts) }
 
+        // The history may be opened again from this disk.
+        ensures journal { IfOk result (λ c. IsJournal c.accounts c.history.entries) }
+
         // A crash leaves this history, or, where the disk failed since the opening, it and one legal entry more.
-        ensures disk { IfOk result (λ c. IsTrue (D.honest c.disk) → LeavesClosed D.Disk N.opening c.history.entries c.disk) }
+        ensures disk { IfOk result (λ c. LeavesClosed D.Disk N.opening c.history.entries c.disk) }
         ensures honest { IfOk result (λ c. D.honest c.disk ≡ N.opening.honest) }
 
         ensures all { IfOk result (λ _. vec_len passes ≡ N.opening.made) }
@@ -68,7 +72,8 @@ fn finish<N: BooksName, D: Disk>(stand: Stand<N, D>, f: &Front, passes: Vec<Pass
     requires count { vec_len passes ≡ N.opening.made }
     ensures closes { Closes N.opening result.history.entries (D.faults result.disk) passes.items }
     ensures accounts { result.accounts ≡ N.opening.accounts }
-    ensures disk { IsTrue (D.honest result.disk) → LeavesClosed D.Disk N.opening result.history.entries result.disk }
+    ensures journal { IsJournal result.accounts result.history.entries }
+    ensures disk { LeavesClosed D.Disk N.opening result.history.entries result.disk }
     ensures honest { D.honest result.disk ≡ N.opening.honest }
 {
     let Stand {

@@ -5,11 +5,12 @@ ghost use Rattle.corr_ids.specs.Day.{InCentury};
 ghost use Rattle.day_model.specs.Laws.{IsLatest};
 ghost use Rattle.day_model.specs.Legal.{IsLegal};
 ghost use Rattle.front_word.specs.Known.{beginner};
+ghost use Rattle.jrn_book.specs.Journal.{IsJournal};
 ghost use Rattle.jrn_book.specs.Opening.{HasPurses, IsNewBook};
 ghost use Rattle.jrn_file.specs.File.{disk_of};
 ghost use Rattle.jrn_file.specs.Reading.{opened_of};
 ghost use Rattle.jrn_file.specs.Untouched.{IsUntouched};
-ghost use Rattle.corr_books.specs.Finding.{BeginsNot, BooksCause, IsDateBack, IsGivenBy, TellsOf};
+ghost use Rattle.corr_books.specs.Finding.{BeginsNot, BooksCause, IsDateBack, IsGivenBy, ShowsBack, TellsOf};
 ghost use Rattle.corr_books.specs.Opening.{parts_of};
 
 use crate::naming::Beginning;
@@ -76,6 +77,12 @@ pub fn open_books<D: Disk>(alloc: Global, disk: D, day: Day) -> Result<Opened<D>
     ensures cause { IfErr result (λ e. BooksCause (D.faults disk) (D.faults e.0) e.1) }
 
     ensures opened { IfOk result (λ o. (o.day ≡ day) × (o.at_open ≡ D.faults disk)) }
+    ensures latest { IfOk result (λ o. IsLatest o.base day) }
+
+    // What was opened, also where the disk doesn't tell its bytes.
+    ensures journal { IfOk result (λ o. IsJournal o.accounts o.base) }
+    ensures back { IfErr result (λ e. ShowsBack (opened_of (D.reads disk)) (D.honest disk) day e.1) }
+
     ensures kept { IfOk result (λ o. D.faults (disk_of o.file) ≡ D.faults disk) }
 
     // Nothing is written, whatever the answer.

@@ -42,6 +42,14 @@ impl<D: Disk> Opened<D> {
         self.book.history()
     }
 
+    /// The disk, as it was at the opening. Takes no memory.
+    pub fn into_disk(self) -> D
+        ensures { result ≡ disk_of self.file }
+    {
+        let (_, _, disk) = self.book.into_parts();
+        disk
+    }
+
     /// Makes the passes with the numbers 1 to `made`, gives the parts their name, and puts them behind their locks. These are
     /// all passes that the books ever make.
     ///

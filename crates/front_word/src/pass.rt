@@ -82,6 +82,7 @@ impl Pass {
         ensures pass { self.new ≡ having_met self.old w.old place self.new.seen self.new.spare }
         ensures known { IsPrefix self.old.known w.old.acts }
         ensures seen { self.old.seen ≤ length w.old.acts }
+        ensures mark { self.old.mark ≤ w.old.mark }
         ensures later { length w.old.acts ≤ self.new.seen }
         ensures spare { self.old.spare ≤ self.new.spare + places_in place }
         ensures owed { OwedPast w.old.acts (length self.old.known) self.old.number w.old.owed }

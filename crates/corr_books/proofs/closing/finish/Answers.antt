@@ -1,6 +1,7 @@
 use Rattle.std.proofs.Common.{◌≡◌, List, length, ap, arith, subst, sym}
-use Rattle.std.specs.Prelude.{IsTrue}
 use Rattle.day_model.specs.declared.entry.Entry.{Entry}
+use Rattle.day_model.specs.Chart.{Chart}
+use Rattle.jrn_book.specs.Journal.{IsJournal}
 use Rattle.corr_books.specs.Closing.{LeavesClosed}
 use Rattle.corr_books.proofs.Closes.{closes, leaves}
 use Rattle.corr_books.proofs.closing.finish.Goals as goal
@@ -13,11 +14,16 @@ returns-clause-closes g c =
     closes g.D.Disk o g.N.Name.table record { book = c.stand.inside.book; writer = c.stand.inside.writer; day = c.stand.inside.day } c.take_all.new.writer c.args.passes.items
     c.into_parts-accounts.result.1.entries (g.D.Disk.faults c.into_parts-accounts.result.2) c.stand.invariant c.take_all.ensures c.requires.passes count parts.history parts.legal (ap g.D.Disk.faults parts.disk)
 
+pub returns-clause-journal : goal.returns-clause-journal
+returns-clause-journal g c =
+    let parts = c.into_parts-accounts.ensures in
+    subst (λ (x : Chart × List Entry). IsJournal x.0 x.1) (λ i. (sym parts.accounts i, sym parts.history i)) parts.journal
+
 pub returns-clause-disk : goal.returns-clause-disk
 returns-clause-disk g c =
     let o = g.N.BooksName.opening in
     let D = g.D.Disk in
     let book = c.stand.inside.book in
     let parts = c.into_parts-accounts.ensures in
-    subst (λ (x : List Entry × g.row.D.Denot). IsTrue (D.honest x.1) → LeavesClosed D o x.0 x.1) (λ i. (sym parts.history i, sym parts.disk i))
+    subst (λ (x : List Entry × g.row.D.Denot). LeavesClosed D o x.0 x.1) (λ i. (sym parts.history i, sym parts.disk i))
     (leaves D o book.file book.accounts book.history book.at_open book.failed c.stand.invariant.failed c.stand.invariant.at_open c.stand.invariant.accounts parts.stands c.stand.invariant.counts)

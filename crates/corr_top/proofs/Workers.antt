@@ -1,0 +1,179 @@
+-- All workers together: what stands when their passes are back and the books are closed.
+use Rattle.std.proofs.Common.{◌≡◌, ℕ, zero, suc, ◌+◌, ◌-◌, ◌<◌, ◌≤◌, All, List, [], ◌∷◌, ◌++◌, length, map, Option, Some, None, Result, Ok, Err, refl, sym, ap, ◌∙◌, subst, arith, append-nil}
+use Rattle.std.specs.Prelude.{slice_get}
+use Rattle.std.specs.Option.{option_map}
+use Rattle.std.proofs.lemmas.List.{length-map}
+use Rattle.std.proofs.lemmas.List.Elements.{All-append, All-nil}
+use Rattle.std.proofs.lemmas.Option.{same_Some, none-some, slice_get-map}
+use mathlib.Core.List.{IsPrefix}
+use Rattle.corr_ids.specs.declared.day.Day.{Day}
+use Rattle.day_model.specs.declared.entry.Entry.{Entry}
+use Rattle.day_model.specs.declared.pay.Pay.{Pay}
+use Rattle.front_word.specs.declared.view.Act.{Act}
+use Rattle.front_word.specs.Known.{PassKnows}
+use Rattle.front_word.proofs.laws.Prefixes.{get_below}
+use Rattle.work_pool.specs.Served.{AreServed, StandsIn}
+use Rattle.corr_books.specs.Closing.{Closes}
+use Rattle.corr_books.specs.Opening.{Opening}
+use Rattle.corr_books.specs.Passes.{AreNew}
+use Rattle.corr_books.specs.Stand.{entries_of, history_of}
+use Rattle.corr_books.specs.Telling.{entry_on}
+use Rattle.corr_top.specs.declared.desk.Served.{Served}
+use Rattle.corr_top.specs.declared.message.NoPay.{NoPay}
+use Rattle.corr_top.specs.Booking.{IsAdded}
+use Rattle.corr_top.specs.Message.{pays_in}
+use Rattle.corr_top.specs.Serving.{AreTold, IsTold, Serves}
+use Rattle.corr_top.proofs.Chains.{Chain, IsServed, each_stands, grew, of_jobs}
+use Rattle.corr_top.proofs.Replying.{all_one}
+use Rattle.corr_top.proofs.OneWorker.{IsAlone, in_order}
+use Rattle.corr_top.proofs.Serves.{IsFrom, begins, get_at}
+
+-- ---- lists
+
+pub get_there : {A : Type 0} (xs : List A) (k : ℕ) → k < length xs → (x : A) × (slice_get xs k ≡ Some x)
+get_there [] k within = absurd (omega arith)
+get_there (x ∷ xs) zero within = (x, refl)
+get_there (x ∷ xs) (suc k) within = get_there xs k (omega arith)
+
+get_mapped : {A B : Type 0} (f : A → B) (xs : List A) (i : ℕ) (x : A) → slice_get xs i ≡ Some x → slice_get (map f xs) i ≡ Some (f x)
+get_mapped f xs i x at = slice_get-map f xs i ∙ ap (option_map f) at
+
+-- the pay of a message stands among the pays
+pub in_pays : (readings : List (Result Pay NoPay)) (n : ℕ) (pay : Pay) → slice_get readings n ≡ Some (Ok pay) → (k : ℕ) × (slice_get (pays_in readings) k ≡ Some pay)
+in_pays [] n pay at = absurd (none-some (Ok pay) at)
+in_pays (Ok p ∷ readings) zero pay at = (zero, (let s : p ≡ pay = cc (at) in ap (λ (x : Pay). Some x) s))
+in_pays (Ok p ∷ readings) (suc n) pay at = let r = in_pays readings n pay at in (suc r.0, r.1)
+in_pays (Err why ∷ readings) zero pay at = absurd (cc (at))
+in_pays (Err why ∷ readings) (suc n) pay at = in_pays readings n pay at
+
+all_entries : (P : Entry → Type 0) (log : List Act) → ((i : ℕ) (a : Act) → slice_get log i ≡ Some a → P a.entry) → All P (entries_of log)
+all_entries P [] each = All-nil P
+all_entries P (a ∷ log) each = All-append P (a.entry ∷ []) (entries_of log) (all_one P a.entry (each 0 a refl)) (all_entries P log (λ i b at. each (suc i) b at))
+
+module _ {Job : Type 0} (o : Opening) (reading : Job → Result Pay NoPay) (jobs : List Job) (before after : List PassKnows) (history : List Entry) (faults : ℕ) (new : AreNew o before) (closes : Closes o history faults after) where
+  abbrev Serving : PassKnows → Job → PassKnows → Served → Type 0
+  Serving old job next one = Serves o (reading job) old next one
+
+  -- what the messages ask for
+  abbrev pub readings : List (Result Pay NoPay)
+  readings = map reading jobs
+
+  added_here : (e : Entry) (k : ℕ) (job : Job) → slice_get jobs k ≡ Some job → IsFrom o (reading job) e → IsAdded o.day (pays_in readings) e
+  added_here e k job at from =
+      let pay = from.0 in
+      let asks : slice_get readings k ≡ Some (Ok pay) = get_mapped reading jobs k job at ∙ ap (λ (r : Result Pay NoPay). Some r) from.1 in
+      let there = in_pays readings k pay asks in
+      record {
+        day_is = ap (λ (x : Entry). x.day) from.4;
+        place = there.0;
+        pay_is = there.1 ∙ ap (λ (x : Entry). Some x.pay) (sym from.4);
+      }
+
+  module _ (made : List Served) (served : AreServed Serving before jobs after made) where
+    -- the serves of the pass at a place
+    chain_at : (k : ℕ) (p : PassKnows) → slice_get after k ≡ Some p → (numbers : List ℕ) × (q : PassKnows) × (slice_get served.lists k ≡ Some numbers) × (slice_get before k ≡ Some q) × Chain o reading jobs made numbers q p
+    chain_at k p at =
+        let below = get_below after k p at in
+        let q = get_there before k (omega (arith, below, served.passes)) in
+        let l = get_there served.lists k (omega (arith, below, served.passes, served.dealt.one_each)) in
+        (l.0, q.0, l.1, q.1, served.served k l.0 q.0 p l.1 q.1 at)
+
+    -- each entry that was added is of the day, and of a pay of the messages
+    added_at : (i : ℕ) (a : Act) → slice_get closes.log i ≡ Some a → IsAdded o.day (pays_in readings) a.entry
+    added_at i a at =
+        let own = closes.owned i a at in
+        let known = (closes.parts own.at own.pass own.there).own i a at own.tagged in
+        let c = chain_at own.at own.pass own.there in
+        let first = new.each own.at c.1 c.3 in
+        let g = grew o reading jobs made c.0 c.1 own.pass c.4 in
+        let none : length c.1.known ≡ 0 = ap length first.known in
+        let from = of_jobs o reading jobs made c.0 c.1 own.pass c.4 i a known (omega (arith, none)) (own.tagged ∙ g.number) in
+        added_here a.entry from.0 from.1 from.2 from.3
+
+    pub all_added : All (IsAdded o.day (pays_in readings)) (entries_of closes.log)
+    all_added = all_entries (IsAdded o.day (pays_in readings)) closes.log added_at
+
+    -- what was made of the job with a number stands
+    job_stands : (n : ℕ) → 1 ≤ n → n ≤ length jobs → IsServed o reading jobs made closes.log history faults closes.is closes.legal n
+    job_stands n low high =
+        let there = served.dealt.every_job n low high in
+        let k = there.0 in
+        let numbers = there.1.0 in
+        let below = get_below served.lists k numbers there.1.1 in
+        let p = get_there after k (omega (arith, below, served.passes, served.dealt.one_each)) in
+        let q = get_there before k (omega (arith, below, served.dealt.one_each)) in
+        let chain = served.served k numbers q.0 p.0 there.1.1 q.1 p.1 in
+        each_stands o reading jobs made closes.log history faults closes.is closes.legal numbers q.0 p.0 chain (closes.parts k p.0 p.1).known (closes.marks k p.0 p.1) there.1.2 n there.1.3
+
+    pub are_told : AreTold o history faults readings made
+    are_told = record {
+      each = served.replies_count ∙ sym (length-map jobs reading);
+      told = λ n r one at_reading at_made.
+          let below = get_below made n one at_made in
+          let s = job_stands (n + 1) (omega arith) (omega (arith, below, served.replies_count)) in
+          let number : n + 1 - 1 ≡ n = omega arith in
+          let job : slice_get jobs n ≡ Some s.job = subst (λ (k : ℕ). slice_get jobs k ≡ Some s.job) number s.job_is in
+          let here : slice_get made n ≡ Some s.one = subst (λ (k : ℕ). slice_get made k ≡ Some s.one) number s.one_is in
+          let same_reading : reading s.job ≡ r = same_Some (reading s.job) r (sym (get_mapped reading jobs n s.job job) ∙ at_reading) in
+          let same_one : s.one ≡ one = same_Some s.one one (sym here ∙ at_made) in
+          subst (λ (x : Result Pay NoPay × Served). IsTold o history faults x.0 x.1) (λ i. (same_reading i, same_one i)) s.told;
+    }
+
+  -- where no job was served, nothing was added
+  pub none_added : after ≡ before → (i : ℕ) (a : Act) → slice_get closes.log i ≡ Some a → IsAdded o.day (pays_in readings) a.entry
+  none_added same i a at =
+      let own = closes.owned i a at in
+      let known = (closes.parts own.at own.pass own.there).own i a at own.tagged in
+      let first = new.each own.at own.pass (subst (λ (ps : List PassKnows). slice_get ps own.at ≡ Some own.pass) same own.there) in
+      absurd (none-some a (subst (λ (l : List Act). slice_get l i ≡ Some a) first.known known))
+
+  pub all_none_added : after ≡ before → All (IsAdded o.day (pays_in readings)) (entries_of closes.log)
+  all_none_added same = all_entries (IsAdded o.day (pays_in readings)) closes.log (none_added same)
+
+-- one pass, made by books that make one: its serves are those of all jobs in their order, and all entries are its own
+pub alone : {Job : Type 0} (o : Opening) (reading : Job → Result Pay NoPay) (jobs : List Job) (made : List Served) (q p : PassKnows) (history : List Entry) (faults : ℕ) → o.made ≡ 1 → AreNew o (q ∷ []) → (closes : Closes o history faults (p ∷ []))
+    → AreServed (λ (old : PassKnows) (job : Job) (next : PassKnows) (one : Served). Serves o (reading job) old next one) (q ∷ []) jobs (p ∷ []) made → (numbers : List ℕ) × IsAlone o reading jobs made numbers q p history
+alone o reading jobs made q p history faults one new closes served =
+    let lists = get_there served.lists 0 (let e = served.dealt.one_each in omega (arith, e)) in
+    let numbers = lists.0 in
+    let chain = served.served 0 numbers q p lists.1 refl refl in
+    let g = grew o reading jobs made numbers q p chain in
+    let first = new.each 0 q refl in
+    let part = closes.parts 0 p refl in
+    let own : (i : ℕ) (a : Act) → slice_get closes.log i ≡ Some a → a.by ≡ p.number = λ i a at. owned_by (closes.owned i a at).at (closes.owned i a at).pass (closes.owned i a at).there (closes.owned i a at).tagged in
+    let log : closes.log ≡ p.known = prefix_back closes.log p.known part.known (λ i a at. part.own i a at (own i a at)) in (
+      numbers,
+      record {
+        chain = chain;
+        order = in_order 1 (length jobs + 1) numbers (omega arith) (served.dealt.rising 0 numbers lists.1)
+            (λ i n at. let w = served.dealt.jobs_only 0 n (numbers, lists.1, i, at) in (w.0, omega (arith, w.1)))
+            (λ n low high. every numbers lists.1 n (served.dealt.every_job n low (omega arith)));
+        none = first.known;
+        tags = λ i a at. own i a (subst (λ (l : List Act). slice_get l i ≡ Some a) (sym log) at) ∙ g.number;
+        begins = λ known pre. begins o closes.log history faults closes.is closes.legal known (subst (IsPrefix known) (sym log) pre);
+        whole = closes.is ∙ ap (λ (l : List Act). history_of o.base l) log;
+        replies = served.replies_count;
+      },
+    )
+  where
+    owned_by : {a : ℕ} (at : ℕ) (pass : PassKnows) → slice_get (p ∷ []) at ≡ Some pass → a ≡ pass.number → a ≡ p.number
+    owned_by zero pass there tagged = tagged ∙ ap (λ (x : PassKnows). x.number) (sym (same_Some p pass there))
+    owned_by (suc at) pass there tagged = absurd (none-some pass there)
+
+    -- a beginning in which everything stands is the whole
+    prefix_back : (log known : List Act) → IsPrefix known log → ((i : ℕ) (a : Act) → slice_get log i ≡ Some a → slice_get known i ≡ Some a) → log ≡ known
+    prefix_back log known pre all = whole_of known pre.0 log pre.1 all
+
+    whole_of : (known more log : List Act) → known ++ more ≡ log → ((i : ℕ) (a : Act) → slice_get log i ≡ Some a → slice_get known i ≡ Some a) → log ≡ known
+    whole_of known [] log is all = sym is ∙ append-nil known
+    whole_of known (x ∷ more) log is all =
+        let here = all (length known) x (subst (λ (l : List Act). slice_get l (length known) ≡ Some x) is (get_at known x more)) in
+        let below = get_below known (length known) x here in absurd (omega (arith, below))
+
+    -- the one list has each number
+    every : (numbers : List ℕ) → slice_get served.lists 0 ≡ Some numbers → (n : ℕ) → (k : ℕ) × StandsIn served.lists k n → (i : ℕ) × (slice_get numbers i ≡ Some n)
+    every numbers at n (k, stands) =
+        let below = get_below served.lists k stands.0 stands.1 in
+        let zero_is : k ≡ 0 = (let e = served.dealt.one_each in omega (arith, below, e)) in
+        let same : numbers ≡ stands.0 = same_Some numbers stands.0 (sym at ∙ ap (slice_get served.lists) (sym zero_is) ∙ stands.1) in
+        (stands.2, subst (λ (l : List ℕ). slice_get l stands.2 ≡ Some n) (sym same) stands.3)
