@@ -107,26 +107,33 @@ EachTried chart history pays day left (booking.Full entries end need) =
     (k : ℕ) (pay : Pay) → slice_get pays k ≡ Some pay → IsSome (entered_at pay.mir left) ⊎ HadNoRoom chart history day left pay
 EachTried chart history pays day left booking.Memory = Unit {0}
 
--- these pays are some of the others, in their order
-abbrev pub AreSome : List Pay → List Pay → Type 0
-AreSome [] pays = Unit {0}
-AreSome (pay ∷ some) [] = ⊥
-AreSome (pay ∷ some) (p ∷ pays) = ((pay ≡ p) × AreSome some pays) ⊎ AreSome (pay ∷ some) pays
+-- the first of these pays is not entered
+pub record BeginsNew (left : List Entry) (pays : List Pay) : Type 0 where
+  pub pay : Pay
+  pub more : List Pay
+  pub pays_are : pays ≡ pay ∷ more
+  pub new : entered_at pay.mir left ≡ None
 
--- where room was wanting, these are all of them
-abbrev pub AreAllAt : BookStop → List Pay → List Pay → Type 0
-AreAllAt (booking.DiskFault before after) tried pays = Unit {0}
-AreAllAt (booking.Full entries end need) tried pays = tried ≡ pays
-AreAllAt booking.Memory tried pays = Unit {0}
+-- A front part of the pays was entered, one after another, but those without room. The first behind it, if there is one, is not entered.
+pub record EntersFront (chart : Chart) (history : List Entry) (pays : List Pay) (day : Day) (left : List Entry) : Type 0 where
+  pub front : List Pay
+  pub rest : List Pay
+  pub pays_are : pays ≡ front ++ rest
+  pub left_is : left ≡ entered_of chart history front day
+  pub next : (rest ≡ []) ⊎ BeginsNew left rest
 
--- Of one worker: which pays were tried, in the order of the file. They were entered one after another, but those without room.
+-- where room was wanting, none of these pays was left
+abbrev pub IsRestAt : BookStop → List Pay → Type 0
+IsRestAt (booking.DiskFault before after) rest = Unit {0}
+IsRestAt (booking.Full entries end need) rest = rest ≡ []
+IsRestAt booking.Memory rest = Unit {0}
+
+-- Of one worker: which pays were entered, in the order of the file; where room was wanting all were tried.
 pub record EntersInOrder (chart : Chart) (history : List Entry) (pays : List Pay) (day : Day) (left : List Entry) (stop : BookStop) : Type 0 where
-  pub tried : List Pay
-  pub some : AreSome tried pays
-  pub left_is : left ≡ entered_of chart history tried day
-  pub all : AreAllAt stop tried pays
+  pub entered : EntersFront chart history pays day left
+  pub all : IsRestAt stop entered.rest
 
--- How the entering of the pays stops: by its cause. What is left is the journal's history and further entries of the day, each of a pay of the file, in a journal that may be opened again; where room was wanting each pay of the file was tried, and one worker tried pays in their order.
+-- How the entering of the pays stops: by its cause. What is left is the journal's history and further entries of the day, each of a pay of the file, in a journal that may be opened again; where room was wanting each pay of the file was tried, and one worker entered a front part of the pays.
 pub record StopsBooking {D : Type 0} (d : outside.Ghosts D) (old new : D) (i : Inputs) (stop : BookStop) : Type 0 where
   pub added : List Entry
   pub each : All (IsAdded i.day (pays_of i)) added

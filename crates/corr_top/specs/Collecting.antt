@@ -3,13 +3,14 @@ use Rattle.std.specs.Prelude.{◌≡◌, ◌⊎◌, ℕ, ◌≤◌, All, List, S
 use Rattle.jrn_book.specs.Book.{HasRisen}
 use Rattle.corr_top.specs.declared.answers.BookStop.{BookStop}
 use Rattle.corr_top.specs.declared.answers.BookStop.TheVariants as booking
+use Rattle.corr_top.specs.declared.desk.Halt.TheVariants as halt
 use Rattle.corr_top.specs.declared.desk.Served.{Served}
 use Rattle.corr_top.specs.declared.desk.Served.TheVariants as served
 use Rattle.corr_top.specs.Serving.{IsFirstFull, IsTried}
 
 -- one of them says that the disk failed
 abbrev pub SaysFailed : List Served → Type 0
-SaysFailed made = (at : ℕ) × (slice_get made at ≡ Some served.DiskFailed)
+SaysFailed made = (at : ℕ) × (slice_get made at ≡ Some (served.Stopped halt.Disk))
 
 -- a count that was this is no greater now, and has not risen
 pub record IsCalm (before after : ℕ) : Type 0 where

@@ -1,5 +1,5 @@
 -- What workers make of messages over books, and what of it stands when the books are closed.
-use Rattle.std.specs.Prelude.{◌≡◌, ◌⊎◌, ℕ, ◌≤◌, All, IfErr, IfOk, List, ◌++◌, length, Some, Result, Ok, Err, slice_get, map, take}
+use Rattle.std.specs.Prelude.{◌≡◌, ◌⊎◌, ℕ, ◌≤◌, All, IfErr, IfOk, List, [], ◌++◌, length, Option, None, Some, Result, Ok, Err, slice_get, map, take}
 use mathlib.Core.List.{IsPrefix}
 use Rattle.corr_disk.specs.declared.disk.Disk as disks
 use Rattle.corr_ids.specs.declared.mir.Mir.{Mir}
@@ -19,11 +19,14 @@ use Rattle.jrn_book.specs.Book.{HasRisen}
 use Rattle.jrn_book.specs.Journal.{IsJournal}
 use Rattle.jrn_book.specs.declared.answer.Committed.TheVariants.{New, Kept}
 use Rattle.jrn_book.specs.declared.answer.CommitFault.TheVariants as fault
+use Rattle.corr_top.specs.declared.desk.Halt.{Halt}
+use Rattle.corr_top.specs.declared.desk.Halt.TheVariants as halt
 use Rattle.corr_top.specs.declared.desk.Served.{Served}
 use Rattle.corr_top.specs.declared.desk.Served.TheVariants as served
+use Rattle.corr_top.specs.declared.desk.Worker.{Worker}
 use Rattle.corr_top.specs.declared.message.NoPay.{NoPay}
 use Rattle.corr_top.specs.declared.serving.ServedDay.{ServedDay}
-use Rattle.corr_top.specs.Booking.{AreSome, IsAdded, LacksRoom, entered_of}
+use Rattle.corr_top.specs.Booking.{EntersFront, IsAdded, LacksRoom}
 use Rattle.corr_top.specs.Message.{pays_in, reply_for, reply_in}
 
 -- an entry's pay has the shape of what is written down
@@ -38,15 +41,31 @@ served_of mir (Ok (New place outcome)) = served.Reply (reply.Entered mir place)
 served_of mir (Ok (Kept place outcome)) = served.Reply (reply.Entered mir place)
 served_of mir (Err (fault.Conflict place)) = served.Reply (reply.Conflict mir place)
 served_of mir (Err (fault.Full entries end need)) = served.Full entries end need
-served_of mir (Err (fault.DiskFault before after)) = served.DiskFailed
-served_of mir (Err (fault.Broken at_open now)) = served.DiskFailed
-served_of mir (Err fault.Memory) = served.Memory
+served_of mir (Err (fault.DiskFault before after)) = served.Stopped halt.Disk
+served_of mir (Err (fault.Broken at_open now)) = served.Stopped halt.Disk
+served_of mir (Err fault.Memory) = served.Stopped halt.Memory
 
--- What a worker made of a message that asks for a pay, or gives none, and of its pass: the pay was booked with the pass, and the answer tells what became of the message; or it has the reply of a message without a pay. Where memory ran out before that, the pass is as it was; so it is where there is no pay.
-abbrev pub Serves : Opening → Result Pay NoPay → PassKnows → PassKnows → Served → Type 0
-Serves o (Ok pay) old new made =
-    ((new ≡ old) × (made ≡ served.Memory)) ⊎ ((answer : Answer) × Told o pay old answer new × HasShape pay × (made ≡ served_of pay.mir answer))
-Serves o (Err why) old new made = (new ≡ old) × ((made ≡ served.Memory) ⊎ (made ≡ served.Reply (reply_for why)))
+-- why the worker of a message serves no more
+abbrev pub halt_of : Served → Option Halt
+halt_of (served.Reply told) = None
+halt_of (served.Full entries end need) = None
+halt_of (served.Stopped why) = Some why
+
+-- What became of a message that asks for a pay, or gives none, and of a pass: the pay was booked with the pass, and the answer tells what became of the message; or it has the reply of a message without a pay. Where memory ran out before that, the pass is as it was; so it is where there is no pay.
+abbrev pub Answers : Opening → Result Pay NoPay → PassKnows → PassKnows → Served → Type 0
+Answers o (Ok pay) old new made =
+    ((new ≡ old) × (made ≡ served.Stopped halt.Memory)) ⊎ ((answer : Answer) × Told o pay old answer new × HasShape pay × (made ≡ served_of pay.mir answer))
+Answers o (Err why) old new made = (new ≡ old) × ((made ≡ served.Stopped halt.Memory) ⊎ (made ≡ served.Reply (reply_for why)))
+
+-- What a worker makes of a message: it answers it, and goes on unless that stops it; one that has stopped serves no more.
+abbrev pub Serves : Opening → Result Pay NoPay → Worker → Worker → Served → Type 0
+Serves o reading old new made =
+    ((old.halted ≡ None) × Answers o reading old.pass new.pass made × (new.halted ≡ halt_of made))
+    ⊎ ((why : Halt) × (old.halted ≡ Some why) × (new ≡ old) × (made ≡ served.Stopped why))
+
+-- a worker that has not served yet
+abbrev pub starting : PassKnows → Worker
+starting pass = record { pass = pass; halted = None }
 
 -- ---- a message, when the books are closed
 
@@ -59,12 +78,12 @@ pub record IsShort (o : Opening) (history : List Entry) (reading : Result Pay No
   pub begins : IsPrefix front history
   pub shows : ShowsFull o pay front entries end need
 
--- What was made of a message, by the history at the end and the disk's count of faults then. A reply is the one after that history; DiskFailed tells a count, no greater than that, which has risen since the opening; want of memory tells nothing.
+-- What was made of a message, by the history at the end and the disk's count of faults then. A reply is the one after that history; a failed disk tells a count, no greater than that, which has risen since the opening; want of memory tells nothing.
 abbrev pub IsTold : Opening → List Entry → ℕ → Result Pay NoPay → Served → Type 0
 IsTold o history faults reading (served.Reply told) = reply_in history reading ≡ Some told
 IsTold o history faults reading (served.Full entries end need) = IsShort o history reading entries end need
-IsTold o history faults reading served.DiskFailed = (now : ℕ) × HasRisen o.at_open now × (now ≤ faults)
-IsTold o history faults reading served.Memory = Unit {0}
+IsTold o history faults reading (served.Stopped halt.Disk) = (now : ℕ) × HasRisen o.at_open now × (now ≤ faults)
+IsTold o history faults reading (served.Stopped halt.Memory) = Unit {0}
 
 -- each message was served, in the order of the messages
 pub record AreTold (o : Opening) (history : List Entry) (faults : ℕ) (readings : List (Result Pay NoPay)) (made : List Served) : Type 0 where
@@ -86,17 +105,14 @@ pub record IsFirstFull (made : List Served) (entries end need : ℕ) : Type 0 wh
 abbrev pub IsTried : Served → Type 0
 IsTried (served.Reply told) = Unit {0}
 IsTried (served.Full entries end need) = Unit {0}
-IsTried served.DiskFailed = ⊥
-IsTried served.Memory = ⊥
+IsTried (served.Stopped why) = ⊥
 
--- The history is what one thread makes of some of these pays in their order, passing over those without room: of all of them, where each message was answered or found no room.
+-- A front part of these pays was entered, but those without room: all of them were tried where each message was answered or found no room.
 pub record AreEntered (o : Opening) (history : List Entry) (pays : List Pay) (made : List Served) : Type 0 where
-  pub tried : List Pay
-  pub some : AreSome tried pays
-  pub is : history ≡ entered_of o.accounts o.base tried o.day
-  pub all : All IsTried made → tried ≡ pays
+  pub entered : EntersFront o.accounts o.base pays o.day history
+  pub all : All IsTried made → entered.rest ≡ []
 
--- One worker served the messages in their order: where each has a reply, it made the fold of their pays; the first that found no room found none in the fold of the pays ahead of it; and whatever became of them, the pays were entered in their order.
+-- One worker served the messages in their order: where each has a reply, it made the fold of their pays; the first that found no room found none in the fold of the pays ahead of it; and whatever became of them, a front part of the pays was entered.
 pub record AreInTurn (o : Opening) (history : List Entry) (readings : List (Result Pay NoPay)) (made : List Served) : Type 0 where
   pub all : (replies : List Reply) → made ≡ are_replies replies → history ≡ fold_of o.accounts o.base (pays_in readings) o.day
   pub short : (entries end need : ℕ) → IsFirstFull made entries end need → LacksRoom o.accounts o.base (pays_in readings) o.day history entries end need

@@ -5,7 +5,7 @@ ghost use Rattle.jrn_book.specs.Book.{HasRisen};
 ghost use Rattle.corr_top.specs.Collecting.{IsCalm, StopsAsServed};
 ghost use Rattle.corr_top.specs.Serving.{are_replies};
 
-use crate::desk::Served;
+use crate::desk::{Halt, Served};
 use crate::status::Status;
 use corr_text::Memory;
 use day_model::Reply;
@@ -96,8 +96,8 @@ pub fn all_replies(
             Served::Full { entries, end, need } => {
                 full = first_full(full, BookStop::Full { entries, end, need });
             }
-            Served::DiskFailed => return Err(fault),
-            Served::Memory => return Err(BookStop::Memory),
+            Served::Stopped(Halt::Disk) => return Err(fault),
+            Served::Stopped(Halt::Memory) => return Err(BookStop::Memory),
         }
     }
     match full {
