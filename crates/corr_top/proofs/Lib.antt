@@ -14,6 +14,7 @@ pub mod Journals
 pub mod Asking
 pub mod RunEnds
 pub mod Replying
+pub mod Gathering
 pub mod Serves
 pub mod Rooms
 pub mod NoRoom

@@ -1,6 +1,6 @@
 -- All workers together: what stands when their passes are back and the books are closed.
 use Rattle.std.proofs.Common.{◌≡◌, ℕ, zero, suc, ◌+◌, ◌-◌, ◌<◌, ◌≤◌, All, List, [], ◌∷◌, ◌++◌, length, map, Option, Some, None, Result, Ok, Err, refl, sym, ap, ◌∙◌, subst, arith, append-nil}
-use Rattle.std.specs.Prelude.{slice_get}
+use Rattle.std.specs.Prelude.{IfErr, IfOk, OnErr, slice_get}
 use Rattle.std.specs.Option.{option_map}
 use Rattle.std.proofs.lemmas.List.{length-map}
 use Rattle.std.proofs.lemmas.List.Elements.{All-append, All-nil}
@@ -52,7 +52,7 @@ all_entries P [] each = All-nil P
 all_entries P (a ∷ log) each = All-append P (a.entry ∷ []) (entries_of log) (all_one P a.entry (each 0 a refl)) (all_entries P log (λ i b at. each (suc i) b at))
 
 -- and back: what a place of the mapped list has
-unmapped : {A B : Type 0} (f : A → B) (xs : List A) (i : ℕ) (y : B) → slice_get (map f xs) i ≡ Some y → (x : A) × (slice_get xs i ≡ Some x) × (f x ≡ y)
+pub unmapped : {A B : Type 0} (f : A → B) (xs : List A) (i : ℕ) (y : B) → slice_get (map f xs) i ≡ Some y → (x : A) × (slice_get xs i ≡ Some x) × (f x ≡ y)
 unmapped f [] i y at = absurd (none-some y at)
 unmapped f (x ∷ xs) zero y at = (x, refl, same_Some (f x) y at)
 unmapped f (x ∷ xs) (suc i) y at = unmapped f xs i y at
@@ -147,19 +147,16 @@ module _ {Job : Type 0} (o : Opening) (reading : Job → Result Pay NoPay) (jobs
     }
 
   -- where no job was served, nothing was added
-  module _ (news : List PassKnows) (history : List Entry) (faults : ℕ) (new : AreNew o news) (closes : Closes o history faults (passes_of (map starting news))) where
-    none_added : closes.log ≡ []
+  module _ (news passes : List PassKnows) (history : List Entry) (faults : ℕ) (new : AreNew o news) (closes : Closes o history faults passes) (same : passes ≡ news) where
+    pub none_added : closes.log ≡ []
     none_added = nothing closes.log no_act
       where
         no_act : (i : ℕ) (a : Act) → slice_get closes.log i ≡ Some a → ⊥
         no_act i a at =
             let own = closes.owned i a at in
-            let worker = unmapped (λ (w : Worker). w.pass) (map starting news) own.at own.pass own.there in
-            let pass = unmapped starting news own.at worker.0 worker.1 in
-            let same : pass.0 ≡ own.pass = ap (λ (w : Worker). w.pass) pass.2 ∙ worker.2 in
+            let there : slice_get news own.at ≡ Some own.pass = ap (λ (ps : List PassKnows). slice_get ps own.at) (sym same) ∙ own.there in
             let known = (closes.parts own.at own.pass own.there).own i a at own.tagged in
-            let first = new.each own.at pass.0 pass.1 in
-            absurd (none-some a (subst (λ (l : List Act). slice_get l i ≡ Some a) (ap (λ (p : PassKnows). p.known) (sym same) ∙ first.known) known))
+            absurd (none-some a (subst (λ (l : List Act). slice_get l i ≡ Some a) (new.each own.at own.pass there).known known))
 
     pub nothing_added : history ≡ o.base
     nothing_added = closes.is ∙ ap (λ (l : List Act). history_of o.base l) none_added ∙ append-nil o.base
@@ -218,3 +215,45 @@ module _ {Job : Type 0} (o : Opening) (reading : Job → Result Pay NoPay) (jobs
       let p = single_of after count in
       alone q.0 p.0 history faults (subst (AreNew o) q.1 new) (subst (λ (ws : List Worker). Closes o history faults (passes_of ws)) p.1 closes) made
       (subst (λ (x : List PassKnows × List Worker). AreServed Serving (map starting x.0) jobs x.1 made) (λ i. (q.1 i, p.1 i)) served)
+
+  -- ---- whether the jobs were served or not
+
+  passes_back : (news : List PassKnows) → passes_of (map starting news) ≡ news
+  passes_back [] = refl
+  passes_back (p ∷ news) = ap (λ (l : List PassKnows). p ∷ l) (passes_back news)
+
+  same_passes : (news : List PassKnows) (before after : List Worker) → before ≡ map starting news → after ≡ before → passes_of after ≡ news
+  same_passes news before after seated none = ap passes_of (none ∙ seated) ∙ passes_back news
+
+  from_seats : (news : List PassKnows) (before after : List Worker) (made : List Served) → before ≡ map starting news → AreServed Serving before jobs after made → AreServed Serving (map starting news) jobs after made
+  from_seats news before after made seated done = subst (λ (ws : List Worker). AreServed Serving ws jobs after made) seated done
+
+  module _ {R E : Type 0} (items : R → List Served) (news : List PassKnows) (before after : List Worker) (seated : before ≡ map starting news) where
+    abbrev pub IsDone : Result R E → Type 0
+    IsDone r = IfOk r (λ rs. AreServed Serving before jobs after (items rs))
+
+    abbrev pub IsNone : Result R E → Type 0
+    IsNone r = OnErr r (after ≡ before)
+
+    -- each worker comes back
+    pub all_back : (r : Result R E) → IsDone r → IsNone r → length after ≡ length news
+    all_back (Ok rs) done none = done.passes ∙ ap length seated ∙ length-map news starting
+    all_back (Err e) done none = ap length (none ∙ seated) ∙ length-map news starting
+
+    module _ (history : List Entry) (faults : ℕ) (new : AreNew o news) (closes : Closes o history faults (passes_of after)) where
+      pub added_of : (r : Result R E) → IsDone r → IsNone r → All (IsAdded o.day (pays_in readings)) (entries_of closes.log)
+      added_of (Ok rs) done none = all_added news after history faults new closes (items rs) (from_seats news before after (items rs) seated done)
+      added_of (Err e) done none =
+          subst (λ (l : List Act). All (IsAdded o.day (pays_in readings)) (entries_of l)) (sym (none_added news (passes_of after) history faults new closes (same_passes news before after seated none))) (All-nil (IsAdded o.day (pays_in readings)))
+
+      pub told_of : (r : Result R E) → IsDone r → IfOk r (λ rs. AreTold o history readings (items rs))
+      told_of (Ok rs) done = are_told news after history faults new closes (items rs) (from_seats news before after (items rs) seated done)
+      told_of (Err e) done = tt
+
+      pub turn_of : (r : Result R E) → IsDone r → IfOk r (λ rs. o.made ≡ 1 → AreInTurn o history readings (items rs))
+      turn_of (Ok rs) done = turn news after history faults new closes (items rs) (from_seats news before after (items rs) seated done)
+      turn_of (Err e) done = tt
+
+      pub none_of : (r : Result R E) → IsNone r → IfErr r (λ _. history ≡ o.base)
+      none_of (Ok rs) none = tt
+      none_of (Err e) none = nothing_added news (passes_of after) history faults new closes (same_passes news before after seated none)

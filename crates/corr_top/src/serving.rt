@@ -66,7 +66,6 @@ pub fn serve_all<
 ) -> Result<ServedDay<D>, (D, Memory)>
     requires named { IsNamed D.Disk N.opening N.table opened workers }
     requires count { (1 ≤ workers) × (workers ≤ 16) }
-    requires few { length messages.now ≤ 50000 }
     requires short { All (λ m. length m ≤ 16384) messages.now }
     ensures served { IfOk result (λ day. AllServed D.Disk (opening_of D.Disk opened workers) (readings_of directory.now opened.accounts messages.now) day) }
     ensures disk { IfErr result (λ e. e.0 ≡ disk_of opened.file) }
