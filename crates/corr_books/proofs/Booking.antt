@@ -24,12 +24,12 @@ use Rattle.jrn_book.specs.Answers.{Answer, StandsAt, failed_after}
 use Rattle.jrn_book.specs.Book.{Book, Counts, HasRisen}
 use Rattle.jrn_book.specs.declared.answer.Committed.TheVariants.{New, Kept}
 use Rattle.jrn_book.specs.declared.answer.CommitFault.TheVariants.{Conflict, Full, DiskFault, Broken, Memory}
-use Rattle.jrn_file.specs.File.{disk_of}
+use Rattle.jrn_file.specs.File.{disk_of, end_of}
 use Rattle.corr_books.specs.Entering.{Enters}
 use Rattle.corr_books.specs.Meeting.{HasMet, IsNext, MeetsAfter, writer_after}
 use Rattle.corr_books.specs.Opening.{Opening}
 use Rattle.corr_books.specs.Stand.{IsStand, history_of}
-use Rattle.corr_books.specs.Telling.{Grows, IsAdded, NothingAdded, Says, ShowsFull, Told, entry_on, known_to}
+use Rattle.corr_books.specs.Telling.{Grows, IsAdded, NothingAdded, Says, ShowsFull, ShowsRoom, Told, entry_on, known_to}
 use Rattle.corr_books.proofs.laws.Histories.{history_of-push, length-history_of, tags_more, take_front}
 
 -- the history after an answer other than New is as before; the reference is entered where the answer is Kept
@@ -199,13 +199,16 @@ module _ {D : Type 0} (disk : disks.Ghosts D) (o : Opening) (purses : TableId) (
   added place outcome old new num s e m =
       let act : Act = record { by = number; entry = entry_on o pay outcome } in
       let front : take (length w.acts) new.known ≡ w.acts = ap (take (length w.acts)) m.known ∙ take_front w.acts act in
+      let is : b.history ≡ history_of o.base (take (length w.acts) new.known) = s.history ∙ ap (history_of o.base) (sym front) in
       record {
         at = length w.acts;
         place_is = let n = ap length s.history ∙ length-history_of o.base w.acts in let p = e.shows.3 in omega arith;
         past = prefix_length old.known w.acts m.before;
         there = subst (λ (l : List Act). slice_get l (length w.acts) ≡ Some record { by = old.number; entry = entry_on o pay outcome }) (sym m.known)
             (get_last w.acts act ∙ ap (λ (n : ℕ). Some record { by = n; entry = entry_on o pay outcome }) (sym num));
-        decided = e.shows.4 ∙ (λ i. outcome_of (s.accounts i) ((s.history ∙ ap (history_of o.base) (sym front)) i) pay);
+        decided = e.shows.4 ∙ (λ i. outcome_of (s.accounts i) (is i) pay);
+        room = subst (λ (x : Chart × List Entry). ShowsRoom (record o { accounts = x.0 }) pay x.1) (λ i. (s.accounts i, is i))
+            record { end = end_of b.file; end_is = e.place e.shows.0; room = e.shows.2 };
         alone = λ i a at past tag. ⊎_elim
             (λ (t : slice_get w.acts i ≡ Some a). let x = m.owed i a t past tag in absurd (cc (x.0)))
             (λ (t : (i ≡ length w.acts) × (act ≡ a)). t.0)
@@ -301,7 +304,7 @@ told_spare o pay old new spare answer t = record {
 }
   where
     says_spare : (answer : Answer) → Says o pay (record old { spare = spare }) new answer → Says o pay old new answer
-    says_spare (Ok (New place outcome)) x = record { at = x.at; place_is = x.place_is; past = x.past; there = x.there; decided = x.decided; alone = x.alone }
+    says_spare (Ok (New place outcome)) x = record { at = x.at; place_is = x.place_is; past = x.past; there = x.there; decided = x.decided; room = x.room; alone = x.alone }
     says_spare (Ok (Kept place outcome)) x = x
     says_spare (Err (Conflict place)) x = x
     says_spare (Err (Full entries end need)) x = x
