@@ -1,5 +1,5 @@
 -- All passes were taken back, and know the whole list together.
-use Rattle.std.proofs.Common.{◌≡◌, inl, inr, ℕ, ◌+◌, ◌≤◌, List, [], length, Option, Some, None, slice_get, sym, ◌∙◌, subst, arith}
+use Rattle.std.proofs.Common.{◌≡◌, inl, inr, ℕ, ◌+◌, List, [], length, Option, Some, None, slice_get, sym, ◌∙◌, subst, arith}
 use Rattle.std.specs.Prelude.{IfSome}
 use mathlib.Core.Logic.{dite}
 use native.Mathlib.Decide.{dec_lt}
