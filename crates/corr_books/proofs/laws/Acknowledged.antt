@@ -11,7 +11,7 @@ use Rattle.corr_books.specs.Laws.{BaseStands, ClosedWith, HasAt, KeptStands, New
 use Rattle.corr_books.specs.Opening.{Opening}
 use Rattle.corr_books.specs.Stand.{entries_of, history_of}
 use Rattle.corr_books.specs.Telling.{IsAdded, entry_on, known_to}
-use Rattle.corr_books.proofs.Histories.{history_prefix}
+use Rattle.corr_books.proofs.laws.Histories.{history_prefix}
 
 get_behind : (xs ys : List Entry) (i : ℕ) → slice_get (xs ++ ys) (length xs + i) ≡ slice_get ys i
 get_behind [] ys i = ap (slice_get ys) (omega arith)
