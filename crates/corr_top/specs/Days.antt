@@ -3,13 +3,13 @@ use Rattle.std.specs.Prelude.{◌≡◌, ◌⊎◌, ◌+◌, ℕ, All, List, IsS
 use Rattle.corr_books.specs.Opening.{Opening, Parts, opening_of}
 use Rattle.corr_disk.specs.declared.disk.Disk as disks
 use Rattle.corr_io.specs.declared.source.Source as sources
+use Rattle.corr_text.specs.Faults.{Rose}
 use Rattle.corr_report.specs.Report.{NamesPlace, report_of}
 use Rattle.day_model.specs.declared.entry.Entry.{Entry}
 use Rattle.day_model.specs.declared.pay.Pay.{Pay}
 use Rattle.day_model.specs.declared.reply.Reply.{Reply}
 use Rattle.day_model.specs.Chart.{Chart}
 use Rattle.day_model.specs.Next.{entered_at, fold_of}
-use Rattle.jrn_book.specs.Book.{HasRisen}
 use Rattle.jrn_file.specs.File.{disk_of}
 use Rattle.corr_top.specs.declared.answers.BookStop.{BookStop}
 use Rattle.corr_top.specs.declared.answers.BookStop.TheVariants as booking
@@ -44,7 +44,7 @@ pub record HasAnswered (o : Opening) (readings : List (Result Pay NoPay)) (histo
 
 -- why not each pay was entered: the disk failed; one found no room, and the disk didn't fail; or memory ran out
 abbrev pub StopCause : Opening → List Pay → List Entry → ℕ → BookStop → Type 0
-StopCause o pays history faults (booking.DiskFault before after) = (before ≡ o.at_open) × (after ≡ faults) × HasRisen before after
+StopCause o pays history faults (booking.DiskFault before after) = (before ≡ o.at_open) × (after ≡ faults) × Rose before after
 StopCause o pays history faults (booking.Full entries end need) =
     (faults ≡ o.at_open) × LacksRoomThen o.accounts o.base pays o.day history entries end need
     × (o.made ≡ 1 → LacksRoom o.accounts o.base pays o.day history entries end need)
