@@ -17,6 +17,7 @@ pub mod Replying
 pub mod Serves
 pub mod Rooms
 pub mod NoRoom
+pub mod FrontPart
 pub mod Chains
 pub mod InTurn
 pub mod OneWorker

@@ -23,7 +23,6 @@ use Rattle.front_word.specs.declared.view.Act.{Act}
 use Rattle.front_word.specs.Known.{PassKnows}
 use Rattle.front_word.proofs.laws.Prefixes.{get_below, prefix_self}
 use Rattle.jrn_book.specs.Answers.{Answer, StandsAt}
-use Rattle.jrn_book.specs.Book.{HasRisen}
 use Rattle.jrn_book.specs.declared.answer.Committed.TheVariants.{New, Kept}
 use Rattle.jrn_book.specs.declared.answer.CommitFault.TheVariants as fault
 use Rattle.corr_books.specs.Opening.{Opening}
@@ -31,9 +30,11 @@ use Rattle.corr_books.specs.Stand.{entries_of, history_of}
 use Rattle.corr_books.specs.Telling.{Grows, IsAdded, Told, entry_on, known_to}
 use Rattle.corr_books.proofs.laws.Histories.{entries_of-append, history_prefix, length-history_of}
 use Rattle.corr_top.specs.declared.desk.Served.{Served}
+use Rattle.corr_top.specs.declared.desk.Halt.TheVariants as halt
 use Rattle.corr_top.specs.declared.desk.Served.TheVariants as served
+use Rattle.corr_top.specs.declared.desk.Worker.{Worker}
 use Rattle.corr_top.specs.declared.message.NoPay.{NoPay}
-use Rattle.corr_top.specs.Serving.{IsShort, IsTold, Serves, served_of}
+use Rattle.corr_top.specs.Serving.{Answers, IsTold, Serves, served_of}
 use Rattle.corr_top.proofs.Replying.{get_stays, reply_here, reply_stays}
 
 -- ---- lists
@@ -101,23 +102,22 @@ module _ (o : Opening) where
   pub record Goes (reading : Result Pay NoPay) (old new : PassKnows) : Type 0 where
     pub number : new.number ≡ old.number
     pub known : IsPrefix old.known new.known
-    pub mark : old.mark ≤ new.mark
     pub own : (i : ℕ) (a : Act) → slice_get new.known i ≡ Some a → length old.known ≤ i → a.by ≡ old.number → IsFrom reading a.entry
 
   goes_here : (reading : Result Pay NoPay) (old : PassKnows) → Goes reading old old
-  goes_here reading old = record { number = refl; known = prefix_self old.known; mark = omega arith; own = λ i a at past tag. let b = get_below old.known i a at in absurd (omega (arith, b, past)) }
+  goes_here reading old = record { number = refl; known = prefix_self old.known; own = λ i a at past tag. let b = get_below old.known i a at in absurd (omega (arith, b, past)) }
 
   goes_same : (reading : Result Pay NoPay) (old new : PassKnows) → new ≡ old → Goes reading old new
   goes_same reading old new same = subst (Goes reading old) (sym same) (goes_here reading old)
 
   goes_spare : (reading : Result Pay NoPay) (old new : PassKnows) → new ≡ record old { spare = new.spare } → Goes reading old new
   goes_spare reading old new same =
-      let here : Goes reading old (record old { spare = new.spare }) = (let h = goes_here reading old in record { number = h.number; known = h.known; mark = h.mark; own = h.own }) in
+      let here : Goes reading old (record old { spare = new.spare }) = (let h = goes_here reading old in record { number = h.number; known = h.known; own = h.own }) in
       subst (Goes reading old) (sym same) here
 
   grown : (reading : Result Pay NoPay) (old new : PassKnows) → Grows o old new
       → ((i : ℕ) (a : Act) → slice_get new.known i ≡ Some a → length old.known ≤ i → a.by ≡ old.number → IsFrom reading a.entry) → Goes reading old new
-  grown reading old new g own = record { number = g.number; known = g.known; mark = g.mark; own = own }
+  grown reading old new g own = record { number = g.number; known = g.known; own = own }
 
   goes_told : (reading : Result Pay NoPay) (pay : Pay) → reading ≡ Ok pay → HasShape pay → (old new : PassKnows) (answer : Answer) → Told o pay old answer new → Goes reading old new
   goes_told reading pay asks shape old new (Ok (New place outcome)) t =
@@ -130,14 +130,18 @@ module _ (o : Opening) where
   goes_told reading pay asks shape old new (Ok (Kept place outcome)) t = grown reading old new (t.grows tt) (λ i a at past tag. absurd (t.says.1 i a at past tag))
   goes_told reading pay asks shape old new (Err (fault.Conflict place)) t = grown reading old new (t.grows tt) (λ i a at past tag. absurd (t.says.1 i a at past tag))
   goes_told reading pay asks shape old new (Err (fault.Full entries end need)) t = grown reading old new (t.grows tt) (λ i a at past tag. absurd (t.says.1 i a at past tag))
-  goes_told reading pay asks shape old new (Err (fault.DiskFault before after)) t = grown reading old new (t.grows tt) (λ i a at past tag. absurd (t.says.3 i a at past tag))
+  goes_told reading pay asks shape old new (Err (fault.DiskFault before after)) t = grown reading old new (t.grows tt) (λ i a at past tag. absurd (t.says.4 i a at past tag))
   goes_told reading pay asks shape old new (Err (fault.Broken at_open now)) t = grown reading old new (t.grows tt) (λ i a at past tag. absurd (t.says.3 i a at past tag))
   goes_told reading pay asks shape old new (Err fault.Memory) t = goes_spare reading old new (t.memory refl)
 
-  pub goes : (reading : Result Pay NoPay) (old new : PassKnows) (made : Served) → Serves o reading old new made → Goes reading old new
-  goes (Ok pay) old new made (inl none) = goes_same (Ok pay) old new none.0
-  goes (Ok pay) old new made (inr s) = goes_told (Ok pay) pay refl s.2 old new s.0 s.1
-  goes (Err why) old new made s = goes_same (Err why) old new s.0
+  goes_answered : (reading : Result Pay NoPay) (old new : PassKnows) (made : Served) → Answers o reading old new made → Goes reading old new
+  goes_answered (Ok pay) old new made (inl none) = goes_same (Ok pay) old new none.0
+  goes_answered (Ok pay) old new made (inr s) = goes_told (Ok pay) pay refl s.2 old new s.0 s.1
+  goes_answered (Err why) old new made s = goes_same (Err why) old new s.0
+
+  pub goes : (reading : Result Pay NoPay) (old new : Worker) (made : Served) → Serves o reading old new made → Goes reading old.pass new.pass
+  goes reading old new made (inl s) = goes_answered reading old.pass new.pass made s.1
+  goes reading old new made (inr s) = goes_same reading old.pass new.pass (ap (λ (w : Worker). w.pass) s.2)
 
   -- ---- what stands of it at the end
 
@@ -153,7 +157,7 @@ module _ (o : Opening) where
         s.len,
       )
 
-  module _ (log : List Act) (history : List Entry) (faults : ℕ) (is : history ≡ history_of o.base log) (legal : IsLegal o.accounts history) where
+  module _ (log : List Act) (history : List Entry) (is : history ≡ history_of o.base log) (legal : IsLegal o.accounts history) where
     -- what a pass knows begins the history
     pub begins : (known : List Act) → IsPrefix known log → IsPrefix (history_of o.base known) history
     begins known p = let q = history_prefix o.base known log p in (q.0, q.1 ∙ sym is)
@@ -178,18 +182,22 @@ module _ (o : Opening) where
         let r = cond same (reply.Entered pay.mir place) (reply.Conflict pay.mir place) in
         subst (λ (h : List Entry). reply_to pay h ≡ Some r) q.1 (reply_stays pay (known_to o new) q.0 r (reply_here (known_to o new) pay place same stands))
 
-    stands_told : (pay : Pay) (old new : PassKnows) (answer : Answer) → Told o pay old answer new → IsPrefix new.known log → new.mark ≤ faults → IsTold o history faults (Ok pay) (served_of pay.mir answer)
-    stands_told pay old new (Ok (New place outcome)) t p mark = stands_new pay old new place outcome t.says p
-    stands_told pay old new (Ok (Kept place outcome)) t p mark = stands_there pay new place true t.says.0.0 p
-    stands_told pay old new (Err (fault.Conflict place)) t p mark = stands_there pay new place false t.says.0 p
-    stands_told pay old new (Err (fault.Full entries end need)) t p mark =
+    stands_told : (pay : Pay) (old new : PassKnows) (answer : Answer) → Told o pay old answer new → IsPrefix new.known log → IsTold o history (Ok pay) (served_of pay.mir answer)
+    stands_told pay old new (Ok (New place outcome)) t p = stands_new pay old new place outcome t.says p
+    stands_told pay old new (Ok (Kept place outcome)) t p = stands_there pay new place true t.says.0.0 p
+    stands_told pay old new (Err (fault.Conflict place)) t p = stands_there pay new place false t.says.0 p
+    stands_told pay old new (Err (fault.Full entries end need)) t p =
         record { pay = pay; asks = refl; front = known_to o new; from = (entries_of new.known, refl); begins = begins new.known p; shows = t.says.0 }
-    stands_told pay old new (Err (fault.DiskFault before after)) t p mark = (after, record { before = before; later = t.says.0; rose = t.says.1 }, omega (arith, t.says.2, mark))
-    stands_told pay old new (Err (fault.Broken at_open now)) t p mark = (now, subst (λ (n : ℕ). HasRisen n now) t.says.0 t.says.1, omega (arith, t.says.2, mark))
-    stands_told pay old new (Err fault.Memory) t p mark = tt
+    stands_told pay old new (Err (fault.DiskFault before after)) t p = tt
+    stands_told pay old new (Err (fault.Broken at_open now)) t p = tt
+    stands_told pay old new (Err fault.Memory) t p = tt
 
-    pub stands : (reading : Result Pay NoPay) (old new : PassKnows) (made : Served) → Serves o reading old new made → IsPrefix new.known log → new.mark ≤ faults → IsTold o history faults reading made
-    stands (Ok pay) old new made (inl none) p mark = subst (IsTold o history faults (Ok pay)) (sym none.1) tt
-    stands (Ok pay) old new made (inr s) p mark = subst (IsTold o history faults (Ok pay)) (sym s.3) (stands_told pay old new s.0 s.1 p mark)
-    stands (Err why) old new made (same, inl none) p mark = subst (IsTold o history faults (Err why)) (sym none) tt
-    stands (Err why) old new made (same, inr told) p mark = subst (IsTold o history faults (Err why)) (sym told) refl
+    stands_answered : (reading : Result Pay NoPay) (old new : PassKnows) (made : Served) → Answers o reading old new made → IsPrefix new.known log → IsTold o history reading made
+    stands_answered (Ok pay) old new made (inl none) p = subst (IsTold o history (Ok pay)) (sym none.1) tt
+    stands_answered (Ok pay) old new made (inr s) p = subst (IsTold o history (Ok pay)) (sym s.3) (stands_told pay old new s.0 s.1 p)
+    stands_answered (Err why) old new made (same, inl none) p = subst (IsTold o history (Err why)) (sym none) tt
+    stands_answered (Err why) old new made (same, inr told) p = subst (IsTold o history (Err why)) (sym told) refl
+
+    pub stands : (reading : Result Pay NoPay) (old new : Worker) (made : Served) → Serves o reading old new made → IsPrefix new.pass.known log → IsTold o history reading made
+    stands reading old new made (inl s) p = stands_answered reading old.pass new.pass made s.1 p
+    stands reading old new made (inr s) p = subst (IsTold o history reading) (sym s.3) tt

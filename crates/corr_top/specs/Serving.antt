@@ -1,5 +1,5 @@
 -- What workers make of messages over books, and what of it stands when the books are closed.
-use Rattle.std.specs.Prelude.{◌≡◌, ◌⊎◌, ℕ, ◌≤◌, All, IfErr, IfOk, List, [], ◌++◌, length, Option, None, Some, Result, Ok, Err, slice_get, map, take}
+use Rattle.std.specs.Prelude.{◌≡◌, ◌⊎◌, ℕ, All, IfErr, IfOk, List, [], ◌++◌, length, Option, None, Some, Result, Ok, Err, slice_get, map, take}
 use mathlib.Core.List.{IsPrefix}
 use Rattle.corr_disk.specs.declared.disk.Disk as disks
 use Rattle.corr_ids.specs.declared.mir.Mir.{Mir}
@@ -15,7 +15,6 @@ use Rattle.day_model.specs.Next.{fold_of}
 use Rattle.day_model.specs.Shape.{HasShape}
 use Rattle.front_word.specs.Known.{PassKnows}
 use Rattle.jrn_book.specs.Answers.{Answer}
-use Rattle.jrn_book.specs.Book.{HasRisen}
 use Rattle.jrn_book.specs.Journal.{IsJournal}
 use Rattle.jrn_book.specs.declared.answer.Committed.TheVariants.{New, Kept}
 use Rattle.jrn_book.specs.declared.answer.CommitFault.TheVariants as fault
@@ -26,7 +25,7 @@ use Rattle.corr_top.specs.declared.desk.Served.TheVariants as served
 use Rattle.corr_top.specs.declared.desk.Worker.{Worker}
 use Rattle.corr_top.specs.declared.message.NoPay.{NoPay}
 use Rattle.corr_top.specs.declared.serving.ServedDay.{ServedDay}
-use Rattle.corr_top.specs.Booking.{EntersFront, IsAdded, LacksRoom}
+use Rattle.corr_top.specs.Booking.{BeginsNew, EntersFront, IsAdded, LacksRoom}
 use Rattle.corr_top.specs.Message.{pays_in, reply_for, reply_in}
 
 -- an entry's pay has the shape of what is written down
@@ -42,7 +41,7 @@ served_of mir (Ok (Kept place outcome)) = served.Reply (reply.Entered mir place)
 served_of mir (Err (fault.Conflict place)) = served.Reply (reply.Conflict mir place)
 served_of mir (Err (fault.Full entries end need)) = served.Full entries end need
 served_of mir (Err (fault.DiskFault before after)) = served.Stopped halt.Disk
-served_of mir (Err (fault.Broken at_open now)) = served.Stopped halt.Disk
+served_of mir (Err (fault.Broken at_open now)) = served.Stopped halt.Broken
 served_of mir (Err fault.Memory) = served.Stopped halt.Memory
 
 -- why the worker of a message serves no more
@@ -78,17 +77,16 @@ pub record IsShort (o : Opening) (history : List Entry) (reading : Result Pay No
   pub begins : IsPrefix front history
   pub shows : ShowsFull o pay front entries end need
 
--- What was made of a message, by the history at the end and the disk's count of faults then. A reply is the one after that history; a failed disk tells a count, no greater than that, which has risen since the opening; want of memory tells nothing.
-abbrev pub IsTold : Opening → List Entry → ℕ → Result Pay NoPay → Served → Type 0
-IsTold o history faults reading (served.Reply told) = reply_in history reading ≡ Some told
-IsTold o history faults reading (served.Full entries end need) = IsShort o history reading entries end need
-IsTold o history faults reading (served.Stopped halt.Disk) = (now : ℕ) × HasRisen o.at_open now × (now ≤ faults)
-IsTold o history faults reading (served.Stopped halt.Memory) = Unit {0}
+-- What was made of a message, by the history at the end. A reply is the one after that history; a worker that stopped tells nothing.
+abbrev pub IsTold : Opening → List Entry → Result Pay NoPay → Served → Type 0
+IsTold o history reading (served.Reply told) = reply_in history reading ≡ Some told
+IsTold o history reading (served.Full entries end need) = IsShort o history reading entries end need
+IsTold o history reading (served.Stopped why) = Unit {0}
 
 -- each message was served, in the order of the messages
-pub record AreTold (o : Opening) (history : List Entry) (faults : ℕ) (readings : List (Result Pay NoPay)) (made : List Served) : Type 0 where
+pub record AreTold (o : Opening) (history : List Entry) (readings : List (Result Pay NoPay)) (made : List Served) : Type 0 where
   pub each : length made ≡ length readings
-  pub told : (n : ℕ) (reading : Result Pay NoPay) (one : Served) → slice_get readings n ≡ Some reading → slice_get made n ≡ Some one → IsTold o history faults reading one
+  pub told : (n : ℕ) (reading : Result Pay NoPay) (one : Served) → slice_get readings n ≡ Some reading → slice_get made n ≡ Some one → IsTold o history reading one
 
 -- these messages have these replies
 abbrev pub are_replies : List Reply → List Served
@@ -107,10 +105,15 @@ IsTried (served.Reply told) = Unit {0}
 IsTried (served.Full entries end need) = Unit {0}
 IsTried (served.Stopped why) = ⊥
 
--- A front part of these pays was entered, but those without room: all of them were tried where each message was answered or found no room.
+-- one of them says that the disk failed over its pay
+abbrev pub SaysFailed : List Served → Type 0
+SaysFailed made = (at : ℕ) × (slice_get made at ≡ Some (served.Stopped halt.Disk))
+
+-- A front part of these pays was entered, but those without room: all of them were tried where each message was answered or found no room; where the disk failed over a pay, it is the first behind them, and is not entered.
 pub record AreEntered (o : Opening) (history : List Entry) (pays : List Pay) (made : List Served) : Type 0 where
   pub entered : EntersFront o.accounts o.base pays o.day history
   pub all : All IsTried made → entered.rest ≡ []
+  pub failed : SaysFailed made → BeginsNew history entered.rest
 
 -- One worker served the messages in their order: where each has a reply, it made the fold of their pays; the first that found no room found none in the fold of the pays ahead of it; and whatever became of them, a front part of the pays was entered.
 pub record AreInTurn (o : Opening) (history : List Entry) (readings : List (Result Pay NoPay)) (made : List Served) : Type 0 where
@@ -133,6 +136,6 @@ pub record HasServed {D : Type 0} (disk : disks.Ghosts D) (o : Opening) (reading
 -- Messages were served over books, and the books were closed: what is left, and what was made of each message; or there was no memory to serve any, and nothing was entered.
 pub record AllServed {D : Type 0} (disk : disks.Ghosts D) (o : Opening) (readings : List (Result Pay NoPay)) (day : ServedDay D) : Type 0 where
   pub left : HasServed disk o readings day.closed.accounts day.closed.history.entries day.closed.disk
-  pub told : IfOk day.served (λ made. AreTold o day.closed.history.entries (disk.faults day.closed.disk) readings made.items)
+  pub told : IfOk day.served (λ made. AreTold o day.closed.history.entries readings made.items)
   pub turn : IfOk day.served (λ made. o.made ≡ 1 → AreInTurn o day.closed.history.entries readings made.items)
   pub none : IfErr day.served (λ _. day.closed.history.entries ≡ o.base)

@@ -1,9 +1,9 @@
 //! The replies to messages, put together from what the workers made of them.
 
 ghost use Rattle.std.specs.Prelude.{◌≡◌, ◌++◌, ◌∷◌, [], IfErr, IfOk, IsFalse, IsTrue, OnOk, Some, if◌then◌else◌, is_none};
-ghost use Rattle.jrn_book.specs.Book.{HasRisen};
+ghost use Rattle.corr_text.specs.Faults.{Rose};
 ghost use Rattle.corr_top.specs.Collecting.{IsCalm, StopsAsServed};
-ghost use Rattle.corr_top.specs.Serving.{are_replies};
+ghost use Rattle.corr_top.specs.Serving.{SaysFailed, are_replies};
 
 use crate::desk::{Halt, Served};
 use crate::status::Status;
@@ -46,12 +46,33 @@ impl From<Memory> for BookStop {
     }
 }
 
-/// Whether a count of faults has risen. One that stands at its last value may have.
+/// Whether a count of faults has risen by one. One that stands at its last value may have.
 fn has_risen(before: u64, after: u64) -> bool
-    ensures yes { IsTrue result → HasRisen before after }
+    ensures yes { IsTrue result → Rose before after }
     ensures no { IsFalse result → IsCalm before after }
 {
-    after > before || after == u64::MAX
+    after == before.saturating_add(1)
+}
+
+/// Whether a message says that the disk failed over its pay.
+fn says_failed(served: &[Served]) -> bool
+    ensures { IsTrue result → SaysFailed served.now }
+{
+    served
+        .iter()
+        .any(|one| matches!(one, Served::Stopped(Halt::Disk)))
+}
+
+/// Why pays were not entered, where the count has risen.
+fn failed_stop(before: u64, after: u64, served: &[Served]) -> BookStop
+    requires { Rose before after }
+    ensures { StopsAsServed before after served.now result }
+{
+    if says_failed(served) {
+        BookStop::DiskFault { before, after }
+    } else {
+        BookStop::Memory
+    }
 }
 
 /// The first of two.
@@ -74,6 +95,8 @@ fn add(replies: &mut Vec<Reply>, reply: Reply) -> Result<(), Memory>
 
 /// The replies of messages of which each has one, in the order of the messages; or why one has none: the disk failed, whose
 /// count of faults was `before` at the opening and is `after`, memory ran out, or its pay, the first such, found no room.
+///
+/// A count that rose without a message that says so is told as want of memory, which tells nothing.
 pub fn all_replies(
     alloc: Global,
     before: u64,
@@ -84,9 +107,8 @@ pub fn all_replies(
     ensures calm { IfOk result (λ _. IsCalm before after) }
     ensures stopped { IfErr result (StopsAsServed before after served.items) }
 {
-    let fault = BookStop::DiskFault { before, after };
     if has_risen(before, after) {
-        return Err(fault);
+        return Err(failed_stop(before, after, served.as_slice()));
     }
     let mut replies = Vec::new(alloc);
     let mut full = None;
@@ -96,8 +118,7 @@ pub fn all_replies(
             Served::Full { entries, end, need } => {
                 full = first_full(full, BookStop::Full { entries, end, need });
             }
-            Served::Stopped(Halt::Disk) => return Err(fault),
-            Served::Stopped(Halt::Memory) => return Err(BookStop::Memory),
+            Served::Stopped(_) => return Err(BookStop::Memory),
         }
     }
     match full {

@@ -28,9 +28,11 @@ pub struct Job<'a> {
 /// Why a worker serves no more.
 #[derive(Clone, Copy, Debug, PartialEq, Eq)]
 pub enum Halt {
-    /// The disk failed, at the worker's last pay or before it.
+    /// The disk failed over a pay of the worker's.
     Disk,
-    /// There was no memory for a message.
+    /// The disk had failed over an earlier pay.
+    Broken,
+    /// There was no memory.
     Memory,
 }
 
@@ -105,7 +107,7 @@ fn as_served(mir: Mir, answer: Result<Committed, CommitFault>) -> Served
         Err(CommitFault::Conflict { place }) => Served::Reply(Reply::Conflict { mir, place }),
         Err(CommitFault::Full { entries, end, need }) => Served::Full { entries, end, need },
         Err(CommitFault::DiskFault { .. }) => Served::Stopped(Halt::Disk),
-        Err(CommitFault::Broken { .. }) => Served::Stopped(Halt::Disk),
+        Err(CommitFault::Broken { .. }) => Served::Stopped(Halt::Broken),
         Err(CommitFault::Memory) => Served::Stopped(Halt::Memory),
     }
 }

@@ -26,6 +26,7 @@ pub struct ServedDay<D: Disk> {
 }
 
 /// The memory that serving takes: a job for each message, and room for the workers and for their passes at the end.
+#[derive(Drop)]
 struct Places<'a> {
     jobs: Vec<Job<'a>>,
     workers: Vec<Worker>,
