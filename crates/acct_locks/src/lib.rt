@@ -10,8 +10,6 @@ mod purses;
 mod seats;
 mod sides;
 mod steps;
-#[cfg(test)]
-mod tests;
 
 pub use hands::{Held0, Held1, Held2, Held3};
 pub use held::Held;

@@ -8,6 +8,7 @@ ghost use Rattle.day_model.specs.Legal.{IsLegal};
 ghost use Rattle.jrn_codec.specs.Record.{IsEntry};
 ghost use Rattle.jrn_book.specs.Opening.{HasPurses};
 
+use crate::records::ENTRY;
 use acct_locks::{Held2, Loose, Name, Purses};
 use corr_disk::{Disk, FuseDisk, MemDisk, OnceDisk};
 use corr_ids::Day;
@@ -25,15 +26,11 @@ use std::test::Fail;
 const HEAD: &[u8] =
     b"CORRJ1HOMEUS33XXX\0\x02\x08VALPHEURVALPHDEFFXXXEUR\x02\xff\xff\xff\xff\xffgi\x80\0\0\0\x14\xf4k\x04\0\0\0\0\0\0[\x8d\x80\x08NCORREURNCORRBEBBXXXEUR\x02\xff\xff\xff\xeb\x0b\x94\xfc\0\0\0\0\x14\xf4k\x04\0\xff\xff\xff\xff\xff\xa4r\x80";
 
-// An MT103 of EUR 1,234.56 that was booked from account 1 to account 2, with an advice of the debit.
-const ENTRY: &[u8] =
-    b"240603ALPHDEFFAXXX0001000001\x01\0\0\0\x4d\xa5\0\0\x4d\xa5\0\x02\0\x01\0\0\0\0\0\0\x01\xe2\x40\0\x04REF1\0\x02\x01\0\0\0\0\0\x01\xe2\x40\x01\x01\x01\x04ALPHDEFFXXX\x01\0\0\0\x02\r\n";
-
-// The same message with another text.
+// The entry of `records`, with another text.
 const OTHER: &[u8] =
     b"240603ALPHDEFFAXXX0001000001\x01\0\0\0\x4d\xa5\0\0\x4d\xa5\0\x02\0\x01\0\0\0\0\0\0\x01\xe2\x40\0\x04REF1\0\x02\x01\0\0\0\0\0\x01\xe2\x40\x01\x01\x01\x04ALPHDEFFXXX\x01\0\0\0\x02--";
 
-// The first of them as one that account 1 could not take.
+// That entry as one that account 1 could not take.
 const UNFUNDED: &[u8] =
     b"240603ALPHDEFFAXXX0001000001\x01\0\0\0\x4d\xa5\0\0\x4d\xa5\x01\x01\0\0\0\0\0\x5b\x8d\x80\x02\0\x01\0\0\0\0\0\0\x01\xe2\x40\0\x04REF1\0\x02\x01\0\0\0\0\0\x01\xe2\x40\x01\x01\x01\x04ALPHDEFFXXX\x01\0\0\0\x02\r\n";
 

@@ -1,5 +1,11 @@
-//! The public calls of the book of a journal, over disks in memory: opened, given pays, stopped, and opened again.
+//! The public calls of the journal and its book, over disks in memory and a real file, and of the locks of its accounts.
 #![tactic(auto)]
 
 #[cfg(test)]
 mod books;
+#[cfg(test)]
+mod files;
+#[cfg(test)]
+mod locks;
+#[cfg(test)]
+mod records;

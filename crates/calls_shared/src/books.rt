@@ -421,6 +421,21 @@ fn books_close_with_all_their_passes_alone(rt: HostRuntime) -> Result<(), Fail> 
     Ok(())
 }
 
+// How many entries there are when books that were opened give their disk back, and it is opened again.
+fn opened_again(alloc: Global, disk: MemDisk) -> Option<u32> {
+    let opened = open_books(alloc, disk, DAY).ok()?;
+    let again = open_books(alloc, opened.into_disk(), DAY).ok()?;
+    Some(again.history().len())
+}
+
+#[test]
+fn books_that_are_not_begun_give_their_disk_back(rt: HostRuntime) -> Result<(), Fail> {
+    let alloc = rt.alloc();
+    let disk = MemDisk::new(alloc, journal(&rt, alloc, 1)?);
+    assert_eq!(rt; opened_again(alloc, disk), Some(1));
+    Ok(())
+}
+
 // The second sync of the first append fails: it is the sixth call.
 #[test]
 fn a_disk_that_fails_once_breaks_the_books(rt: HostRuntime) -> Result<(), Fail> {

@@ -1,5 +1,9 @@
-//! The public calls of books that threads share, over disks in memory.
+//! The public calls of what threads share: books over disks in memory, the word of what was acknowledged, and workers.
 #![tactic(auto)]
 
 #[cfg(test)]
 mod books;
+#[cfg(test)]
+mod fronts;
+#[cfg(test)]
+mod workers;

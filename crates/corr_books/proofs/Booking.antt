@@ -21,15 +21,15 @@ use Rattle.front_word.specs.Known.{WriterKnows, PassKnows}
 use Rattle.front_word.specs.Rule.{OwedPast, IsNumber}
 use Rattle.front_word.proofs.laws.Prefixes.{prefix_self, prefix_trans, prefix_length, get_snoc, get_last}
 use Rattle.jrn_book.specs.Answers.{Answer, StandsAt, failed_after}
-use Rattle.jrn_book.specs.Book.{Book, Counts, HasRisen}
+use Rattle.jrn_book.specs.Book.{Book}
 use Rattle.jrn_book.specs.declared.answer.Committed.TheVariants.{New, Kept}
 use Rattle.jrn_book.specs.declared.answer.CommitFault.TheVariants.{Conflict, Full, DiskFault, Broken, Memory}
-use Rattle.jrn_file.specs.File.{disk_of}
+use Rattle.jrn_file.specs.File.{disk_of, end_of}
 use Rattle.corr_books.specs.Entering.{Enters}
 use Rattle.corr_books.specs.Meeting.{HasMet, IsNext, MeetsAfter, writer_after}
 use Rattle.corr_books.specs.Opening.{Opening}
-use Rattle.corr_books.specs.Stand.{IsStand, history_of}
-use Rattle.corr_books.specs.Telling.{Grows, IsAdded, NothingAdded, Says, ShowsFull, Told, entry_on, known_to}
+use Rattle.corr_books.specs.Stand.{AreCounts, IsStand, history_of}
+use Rattle.corr_books.specs.Telling.{Grows, IsAdded, NothingAdded, Says, ShowsFull, ShowsRoom, Told, entry_on, known_to}
 use Rattle.corr_books.proofs.laws.Histories.{history_of-push, length-history_of, tags_more, take_front}
 
 -- the history after an answer other than New is as before; the reference is entered where the answer is Kept
@@ -65,7 +65,7 @@ module _ {D : Type 0} (disk : disks.Ghosts D) (o : Opening) (purses : TableId) (
 
   -- nothing was entered: the mark is no more than the disk's count
   still : (answer : Answer) (mark : ℕ) → Before → Entered answer → b'.history ≡ b.history → mark ≤ disk.faults (disk_of b'.file)
-      → IfSome b'.failed (λ day. day ≡ o.day) → Counts b'.failed b'.at_open (disk.faults (disk_of b'.file))
+      → IfSome b'.failed (λ day. day ≡ o.day) → AreCounts b'.failed b'.at_open (disk.faults (disk_of b'.file))
       → IsStand disk o purses record { book = b'; writer = record w { mark = mark }; day = o.day }
   still answer mark s e same le failed counts = record {
     accounts = e.accounts ∙ s.accounts;
@@ -92,9 +92,9 @@ module _ {D : Type 0} (disk : disks.Ghosts D) (o : Opening) (purses : TableId) (
   failed_still answer s e same = subst (λ (f : Option Day). IfSome f (λ day. day ≡ o.day)) (sym (e.failed ∙ same)) s.failed
 
   counts_still : (answer : Answer) → Before → Entered answer → failed_after b.failed o.day answer ≡ b.failed → disk.faults (disk_of b'.file) ≡ disk.faults (disk_of b.file)
-      → Counts b'.failed b'.at_open (disk.faults (disk_of b'.file))
+      → AreCounts b'.failed b'.at_open (disk.faults (disk_of b'.file))
   counts_still answer s e same count =
-      subst (λ (x : Option Day × (ℕ × ℕ)). Counts x.0 x.1.0 x.1.1) (λ i. (sym (e.failed ∙ same) i, (sym e.at_open i, sym count i))) s.counts
+      subst (λ (x : Option Day × (ℕ × ℕ)). AreCounts x.0 x.1.0 x.1.1) (λ i. (sym (e.failed ∙ same) i, (sym e.at_open i, sym count i))) s.counts
 
   -- an answer that entered nothing and left the disk's count
   quiet : (answer : Answer) → Before → Entered answer → b'.history ≡ b.history → failed_after b.failed o.day answer ≡ b.failed → disk.faults (disk_of b'.file) ≡ disk.faults (disk_of b.file)
@@ -136,15 +136,11 @@ module _ {D : Type 0} (disk : disks.Ghosts D) (o : Opening) (purses : TableId) (
   stand_after (Err (Full entries end need)) s e by = quiet (Err (Full entries end need)) s e e.history refl e.shows.6
   stand_after (Err (DiskFault before after)) s e by =
       let shows = e.shows in
-      let at_open : b.at_open ≤ disk.faults (disk_of b.file) = subst (λ (f : Option Day). Counts f b.at_open (disk.faults (disk_of b.file))) shows.0 s.counts in
-      let risen : HasRisen b'.at_open (disk.faults (disk_of b'.file)) = record {
-        before = before;
-        later = omega (arith, e.at_open, shows.3, at_open);
-        rose = subst (Rose before) shows.4 shows.5;
-      } in
+      let at_open : disk.faults (disk_of b.file) ≡ b.at_open = subst (λ (f : Option Day). AreCounts f b.at_open (disk.faults (disk_of b.file))) shows.0 s.counts in
+      let rose : Rose b'.at_open (disk.faults (disk_of b'.file)) = subst (λ (x : ℕ × ℕ). Rose x.0 x.1) (λ i. ((shows.3 ∙ at_open ∙ sym e.at_open) i, shows.4 i)) shows.5 in
       still (Err (DiskFault before after)) (max w.mark after) s e e.history (let m = s.mark in omega (arith, shows.4, e.later))
       (subst (λ (f : Option Day). IfSome f (λ day. day ≡ o.day)) (sym e.failed) refl)
-      (subst (λ (f : Option Day). Counts f b'.at_open (disk.faults (disk_of b'.file))) (sym e.failed) risen)
+      (subst (λ (f : Option Day). AreCounts f b'.at_open (disk.faults (disk_of b'.file))) (sym e.failed) rose)
   stand_after (Err (Broken from now)) s e by =
       let shows = e.shows in
       still (Err (Broken from now)) (max w.mark now) s e e.history (let m = s.mark in omega (arith, shows.2, e.later))
@@ -199,13 +195,16 @@ module _ {D : Type 0} (disk : disks.Ghosts D) (o : Opening) (purses : TableId) (
   added place outcome old new num s e m =
       let act : Act = record { by = number; entry = entry_on o pay outcome } in
       let front : take (length w.acts) new.known ≡ w.acts = ap (take (length w.acts)) m.known ∙ take_front w.acts act in
+      let is : b.history ≡ history_of o.base (take (length w.acts) new.known) = s.history ∙ ap (history_of o.base) (sym front) in
       record {
         at = length w.acts;
         place_is = let n = ap length s.history ∙ length-history_of o.base w.acts in let p = e.shows.3 in omega arith;
         past = prefix_length old.known w.acts m.before;
         there = subst (λ (l : List Act). slice_get l (length w.acts) ≡ Some record { by = old.number; entry = entry_on o pay outcome }) (sym m.known)
             (get_last w.acts act ∙ ap (λ (n : ℕ). Some record { by = n; entry = entry_on o pay outcome }) (sym num));
-        decided = e.shows.4 ∙ (λ i. outcome_of (s.accounts i) ((s.history ∙ ap (history_of o.base) (sym front)) i) pay);
+        decided = e.shows.4 ∙ (λ i. outcome_of (s.accounts i) (is i) pay);
+        room = subst (λ (x : Chart × List Entry). ShowsRoom (record o { accounts = x.0 }) pay x.1) (λ i. (s.accounts i, is i))
+            record { end = end_of b.file; end_is = e.place e.shows.0; room = e.shows.2 };
         alone = λ i a at past tag. ⊎_elim
             (λ (t : slice_get w.acts i ≡ Some a). let x = m.owed i a t past tag in absurd (cc (x.0)))
             (λ (t : (i ≡ length w.acts) × (act ≡ a)). t.0)
@@ -239,8 +238,9 @@ module _ {D : Type 0} (disk : disks.Ghosts D) (o : Opening) (purses : TableId) (
   says_after (Err (Full entries end need)) old new num s e m = (full entries end need old new s e m, none_past old new w.acts m.owed m.known)
   says_after (Err (DiskFault before after)) old new num s e m =
       let shows = e.shows in
-      let at_open : b.at_open ≤ disk.faults (disk_of b.file) = subst (λ (f : Option Day). Counts f b.at_open (disk.faults (disk_of b.file))) shows.0 s.counts in
-      (omega (arith, s.at_open, shows.3, at_open), shows.5, (let k = m.mark in omega arith), none_past old new w.acts m.owed m.known)
+      let at_open : disk.faults (disk_of b.file) ≡ b.at_open = subst (λ (f : Option Day). AreCounts f b.at_open (disk.faults (disk_of b.file))) shows.0 s.counts in
+      let missing = subst (λ (h : List Entry). entered_at pay.mir h ≡ None) (as_known old new None (Err (DiskFault before after)) s m refl) shows.1 in
+      (omega (arith, s.at_open, shows.3, at_open), shows.5, (let k = m.mark in omega arith), missing, none_past old new w.acts m.owed m.known)
   says_after (Err (Broken from now)) old new num s e m =
       let shows = e.shows in (shows.1 ∙ s.at_open, shows.3, (let k = m.mark in omega arith), none_past old new w.acts m.owed m.known)
   says_after (Err Memory) old new num s e m = tt
@@ -301,7 +301,7 @@ told_spare o pay old new spare answer t = record {
 }
   where
     says_spare : (answer : Answer) → Says o pay (record old { spare = spare }) new answer → Says o pay old new answer
-    says_spare (Ok (New place outcome)) x = record { at = x.at; place_is = x.place_is; past = x.past; there = x.there; decided = x.decided; alone = x.alone }
+    says_spare (Ok (New place outcome)) x = record { at = x.at; place_is = x.place_is; past = x.past; there = x.there; decided = x.decided; room = x.room; alone = x.alone }
     says_spare (Ok (Kept place outcome)) x = x
     says_spare (Err (Conflict place)) x = x
     says_spare (Err (Full entries end need)) x = x

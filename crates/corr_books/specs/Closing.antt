@@ -3,12 +3,13 @@ use Rattle.std.specs.Prelude.{◌≡◌, ◌⊎◌, ℕ, ◌+◌, ◌≤◌, IsT
 use mathlib.Core.List.{IsPrefix}
 use Rattle.corr_disk.specs.declared.disk.Disk as disks
 use Rattle.corr_disk.specs.Disk.{Only}
+use Rattle.corr_text.specs.Faults.{Rose}
 use Rattle.day_model.specs.declared.entry.Entry.{Entry}
 use Rattle.day_model.specs.Legal.{IsLegal}
 use Rattle.front_word.specs.declared.view.Act.{Act}
 use Rattle.front_word.specs.Known.{PassKnows}
 use Rattle.front_word.specs.Rule.{Among}
-use Rattle.jrn_book.specs.Book.{HasRisen, IsLeftBy}
+use Rattle.jrn_book.specs.Book.{IsLeftBy}
 use Rattle.jrn_book.specs.Journal.{StandsForBook}
 use Rattle.corr_books.specs.Opening.{Opening}
 use Rattle.corr_books.specs.Stand.{history_of}
@@ -35,14 +36,14 @@ pub record Closes (o : Opening) (history : List Entry) (faults : ℕ) (passes : 
   pub owned : (i : ℕ) (a : Act) → slice_get log i ≡ Some a → IsOwned o passes i a
   pub marks : (k : ℕ) (p : PassKnows) → slice_get passes k ≡ Some p → p.mark ≤ faults
 
--- the bytes of the disk stand for the closed history, a crash leaves nothing else, and the disk's count of faults is no less than at the opening
+-- the bytes of the disk stand for the closed history, a crash leaves nothing else, and the disk's count of faults is that at the opening
 pub record StandsAlone {D : Type 0} (disk : disks.Ghosts D) (o : Opening) (history : List Entry) (d : D) : Type 0 where
   pub stands : IsTrue (disk.honest d) → StandsForBook (disk.reads d) o.accounts history
   pub durable : IsTrue (disk.honest d) → Only (disk.reads d) (disk.may_leave d)
-  pub later : o.at_open ≤ disk.faults d
+  pub sure : disk.faults d ≡ o.at_open
 
--- The disk stands for the closed history alone; or, where its count of faults has risen since the opening, every image stands for it or for it and one legal entry of the books' day. Of a disk that doesn't tell its bytes nothing is said but the count.
+-- The disk stands for the closed history alone; or, where its count of faults rose since the opening, every image stands for it or for it and one legal entry of the books' day. Of a disk that doesn't tell its bytes nothing is said but the count.
 abbrev pub LeavesClosed : {D : Type 0} → disks.Ghosts D → Opening → List Entry → D → Type 0
 LeavesClosed disk o history d =
     StandsAlone disk o history d
-    ⊎ (HasRisen o.at_open (disk.faults d) × IsLeftBy (disk.honest d) (disk.may_leave d) o.accounts history o.day)
+    ⊎ (Rose o.at_open (disk.faults d) × IsLeftBy (disk.honest d) (disk.may_leave d) o.accounts history o.day)

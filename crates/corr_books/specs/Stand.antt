@@ -1,7 +1,8 @@
 -- What stands behind the journal's lock, and what holds of it wherever the lock is free.
-use Rattle.std.specs.Prelude.{◌≡◌, ◌≤◌, List, [], ◌++◌, map, None, IfSome}
+use Rattle.std.specs.Prelude.{◌≡◌, ◌≤◌, ℕ, List, [], ◌++◌, map, Option, None, Some, IfSome}
 use Rattle.atomic_table.specs.Seated.{TableId}
 use Rattle.corr_disk.specs.declared.disk.Disk as disks
+use Rattle.corr_text.specs.Faults.{Rose}
 use Rattle.corr_ids.specs.Day.{InCentury}
 use Rattle.corr_ids.specs.declared.day.Day.{Day}
 use Rattle.day_model.specs.declared.entry.Entry.{Entry}
@@ -9,7 +10,7 @@ use Rattle.day_model.specs.Laws.{IsLatest}
 use Rattle.front_word.specs.declared.view.Act.{Act}
 use Rattle.front_word.specs.Known.{WriterKnows}
 use Rattle.front_word.specs.Rule.{AreTagged}
-use Rattle.jrn_book.specs.Book.{Book, Counts}
+use Rattle.jrn_book.specs.Book.{Book}
 use Rattle.jrn_file.specs.File.{disk_of}
 use Rattle.corr_books.specs.Opening.{Opening}
 
@@ -27,7 +28,12 @@ pub record StandKnows (D : Type 0) : Type 0 where
   pub writer : WriterKnows
   pub day : Day
 
--- Wherever the lock is free: the parts are those that the name names; nothing is owed to a pass, and none was taken back; the history is that at the opening and the published entries, each tagged with a pass of the books; no entry has a later day than the books, and a commit failed on that day, if one did; the disk's count is no less than at the opening, and than the writer's mark.
+-- the disk's count of faults: that at the opening, or, where a commit failed, risen from it by that failure
+abbrev pub AreCounts : Option Day → ℕ → ℕ → Type 0
+AreCounts None at_open now = now ≡ at_open
+AreCounts (Some day) at_open now = Rose at_open now
+
+-- Wherever the lock is free: the parts are those that the name names; nothing is owed to a pass, and none was taken back; the history is that at the opening and the published entries, each tagged with a pass of the books; no entry has a later day than the books, and a commit failed on that day, if one did; the disk's count is that at the opening but for that failure, and no less than the writer's mark.
 pub record IsStand {D : Type 0} (disk : disks.Ghosts D) (o : Opening) (purses : TableId) (s : StandKnows D) : Type 0 where
   pub accounts : s.book.accounts ≡ o.accounts
   pub purses_are : s.book.table ≡ purses
@@ -44,5 +50,5 @@ pub record IsStand {D : Type 0} (disk : disks.Ghosts D) (o : Opening) (purses : 
   pub century : InCentury o.day
   pub latest : IsLatest s.book.history o.day
   pub failed : IfSome s.book.failed (λ d. d ≡ o.day)
-  pub counts : Counts s.book.failed s.book.at_open (disk.faults (disk_of s.book.file))
+  pub counts : AreCounts s.book.failed s.book.at_open (disk.faults (disk_of s.book.file))
   pub mark : s.writer.mark ≤ disk.faults (disk_of s.book.file)

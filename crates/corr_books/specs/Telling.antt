@@ -62,14 +62,15 @@ pub record ShowsFull (o : Opening) (pay : Pay) (history : List Entry) (entries e
   pub need_is : need ≡ need_of o.accounts history pay o.day
   pub full : IsFull history end need
 
--- What each answer says, shown by what the pass knows then: New, the entry that was added; Kept, the same pay at the place, with the outcome; Conflict, another pay with its reference; Full, that there is no room; DiskFault and Broken, that the disk's count of faults has risen since the opening, up to the pass's mark. Nothing tagged with the pass was added but by New.
+-- What each answer says, shown by what the pass knows then: New, the entry that was added; Kept, the same pay at the place, with the outcome; Conflict, another pay with its reference; Full, that there is no room; DiskFault, that the reference is missing, and it and Broken, that the disk's count of faults has risen since the opening, up to the pass's mark. Nothing tagged with the pass was added but by New.
 abbrev pub Says : Opening → Pay → PassKnows → PassKnows → Answer → Type 0
 Says o pay old new (Ok (New place outcome)) = IsAdded o pay old new place outcome
 Says o pay old new (Ok (Kept place outcome)) =
     ((stands : StandsAt (known_to o new) pay place true) × (stands.entry.outcome ≡ outcome)) × NothingAdded old new
 Says o pay old new (Err (Conflict place)) = StandsAt (known_to o new) pay place false × NothingAdded old new
 Says o pay old new (Err (Full entries end need)) = ShowsFull o pay (known_to o new) entries end need × NothingAdded old new
-Says o pay old new (Err (DiskFault before after)) = (o.at_open ≤ before) × Rose before after × (after ≤ new.mark) × NothingAdded old new
+Says o pay old new (Err (DiskFault before after)) =
+    (o.at_open ≤ before) × Rose before after × (after ≤ new.mark) × (entered_at pay.mir (known_to o new) ≡ None) × NothingAdded old new
 Says o pay old new (Err (Broken from now)) = (from ≡ o.at_open) × HasRisen from now × (now ≤ new.mark) × NothingAdded old new
 Says o pay old new (Err Memory) = Unit {0}
 

@@ -12,6 +12,3 @@ pub use front::Front;
 pub use pass::Pass;
 pub use view::{Act, Kept, Of, Role, View};
 pub use writer::Writer;
-
-#[cfg(test)]
-mod tests;

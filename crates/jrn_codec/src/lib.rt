@@ -9,8 +9,6 @@ mod header;
 mod header_writing;
 mod leg;
 mod order;
-#[cfg(test)]
-mod tests;
 mod writing;
 
 pub use entry::read_entry;

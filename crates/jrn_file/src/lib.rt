@@ -9,8 +9,6 @@ mod loading;
 mod making;
 mod opening;
 mod reading;
-#[cfg(test)]
-mod tests;
 
 pub use fault::{AppendFault, MakeFault, OpenFault};
 pub use file::{Ending, JFile};

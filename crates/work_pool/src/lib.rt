@@ -15,6 +15,3 @@ pub use desk::Desk;
 pub use gate::{Gate, OpenGate};
 pub use run::run_jobs;
 pub use worked::Worked;
-
-#[cfg(test)]
-mod tests;

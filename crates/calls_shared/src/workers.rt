@@ -1,11 +1,11 @@
 ghost use Rattle.std.specs.Prelude.{◌≡◌, ◌≤◌};
 
-use super::*;
 use corr_ids::Mir;
 use std::alloc::Global;
 use std::sync::Wait;
 use std::test::*;
 use std::thread::Threads;
+use work_pool::{Desk, Gate, OpenGate, Worked, run_jobs};
 
 // Writes each job behind the digits of its pass. The reply is the worker's number and what the pass is then.
 struct Digits;

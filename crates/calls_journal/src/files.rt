@@ -1,12 +1,10 @@
-ghost use Rattle.std.specs.Prelude.{IfOk, OnOk};
+ghost use Rattle.std.specs.Prelude.{◌^◌, ◌<◌, ◌≤◌, IfOk, OnOk};
 ghost use Rattle.jrn_file.specs.File.{IsOpen};
 ghost use Rattle.jrn_file.specs.Journal.{IsFrame};
 
-use crate::frame::framed;
-use crate::loading::{LoadFault, load};
-use crate::{AppendFault, Ending, JFile, MakeFault, OpenFault, create, open_file, read_file};
 use corr_disk::{Disk, Failed, FileDisk, FuseDisk, MemDisk};
 use corr_text::{Memory, Text};
+use jrn_file::{AppendFault, Ending, JFile, MakeFault, OpenFault, create, open_file, read_file};
 use std::alloc::Global;
 use std::fs;
 use std::test::Fail;
@@ -15,6 +13,17 @@ use std::test::Fail;
 const HEAD: &[u8] = b"\x01\0\0\0\x01H\0";
 
 const BOTH: &[u8] = b"\x01\0\0\0\x01H\x01\0\0\0\x02AB\0";
+
+// The record AB as it is appended.
+const AB: &[u8] = b"\0\0\0\x02AB\0";
+
+// A number of four bytes as it is appended.
+fn numbered(number: u32) -> [u8; 9]
+    ensures { IsFrame result }
+{
+    let [a, b, c, d] = number.to_be_bytes();
+    [0, 0, 0, 4, a, b, c, d, 0]
+}
 
 fn memory(alloc: Global, bytes: &[u8]) -> Result<MemDisk, Memory> {
     Ok(MemDisk::new(alloc, Text::from_bytes(alloc, bytes)?))
@@ -70,7 +79,7 @@ fn a_journal_is_made_appended_to_and_opened(rt: HostRuntime) -> Result<(), Fail>
     assert_eq!(rt; &bytes[..count.min(32)], HEAD);
     let (mut file, records) = open(alloc, disk)?;
     assert_eq!(rt; (file.end(), records.len()), (6, 1));
-    add(&mut file, framed(alloc, b"AB")?.as_slice())?;
+    add(&mut file, AB)?;
     assert_eq!(rt; file.end(), 13);
     let mut disk = file.into_disk();
     let (bytes, count) = bytes_of(&mut disk)?;
@@ -94,7 +103,7 @@ fn an_append_that_stops_leaves_the_records_before_or_with_the_new_one(
     for calls in 0..5u64 {
         for torn in 0..12u64 {
             let (mut file, _) = open(alloc, fuse(alloc, HEAD, calls + 2, torn)?)?;
-            let answer = add(&mut file, framed(alloc, b"AB")?.as_slice());
+            let answer = add(&mut file, AB);
             assert_eq!(rt; answer.is_ok(), calls == 4);
             if let Err(fault) = answer {
                 assert_eq!(rt;
@@ -234,69 +243,122 @@ fn any_byte_but_zero_opens_a_gate_and_what_follows_is_anything(
     Ok(())
 }
 
-// The header record H and three more, of 2, 0 and 13 bytes, with their closed gate at 36.
-const THREE: &[u8] = b"\x01\0\0\0\x01H\x01\0\0\0\x02AB\x01\0\0\0\0\x01\0\0\0\x0dABCDEFGHIJKLM\0xyz";
+// Three records of 2, 0 and 13 bytes behind their gates, with their closed gate at 30.
+const THREE: &[u8] = b"\x01\0\0\0\x02AB\x01\0\0\0\0\x01\0\0\0\x0dABCDEFGHIJKLM\0xyz";
+
+// How many bytes each read of an opening asks for.
+const PIECE: usize = 1 << 20;
+
+// A header record that ends at this place, and these bytes behind it.
+fn behind_head(alloc: Global, place: usize, bytes: &[u8]) -> Result<Text, Memory>
+    requires { (5 ≤ place) × (place ≤ 2 ^ 30) }
+{
+    let size = place - 5;
+    let mut image = vec![in alloc; b'H'; place]?;
+    image[0] = 1;
+    image[1..5].copy_from_slice(&(size as u32).to_be_bytes());
+    image.extend_from_slice(bytes)?;
+    Ok(Text::from_vec(image))
+}
+
+// The place of the closed gate, and the records behind the header, that a disk gives which passes so many calls; none where it fails.
+fn read_with(alloc: Global, image: Text, calls: u64) -> Result<Option<(u64, Vec<Text>)>, Fail> {
+    match open_file(alloc, FuseDisk::new(alloc, image, calls, 0)) {
+        Ok((file, mut records)) => {
+            records.remove(0);
+            Ok(Some((file.end(), records)))
+        }
+        Err((_, fault)) => match fault {
+            OpenFault::DiskFault {
+                before: 0,
+                after: 1,
+            } => Ok(None),
+            fault => Err(fault.into()),
+        },
+    }
+}
+
+fn are_three(records: &[Text]) -> bool {
+    records.len() == 3
+        && records[0].bytes() == b"AB".as_slice()
+        && records[1].bytes().is_empty()
+        && records[2].bytes() == b"ABCDEFGHIJKLM".as_slice()
+}
 
 // A sync, and a read for each piece up to the closed gate: with a call fewer nothing is opened.
 #[test]
 fn records_that_cross_the_edges_of_pieces_are_put_together(rt: HostRuntime) -> Result<(), Fail> {
     let alloc = rt.alloc();
-    let texts: [&[u8]; 4] = [b"H", b"AB", b"", b"ABCDEFGHIJKLM"];
-    for piece in 1..42usize {
-        let calls = 2 + 36 / piece as u64;
+    for crossed in 0..34usize {
+        let head = PIECE - crossed;
+        let gate = (head + 30) as u64;
+        let calls = 2 + gate / PIECE as u64;
         for passed in 0..calls + 1 {
-            let mut disk = fuse(alloc, THREE, passed, 0)?;
-            match load(alloc, &mut disk, piece) {
-                Ok((end, records)) => {
-                    assert_eq!(rt; (passed, end, records.len()), (calls, 36, 4));
-                    for (record, text) in records.iter().zip(texts) {
-                        assert_eq!(rt; record.bytes(), text);
-                    }
+            match read_with(alloc, behind_head(alloc, head, THREE)?, passed)? {
+                Some((end, records)) => {
+                    assert!(rt; passed == calls && end == gate && are_three(records.as_slice()))
                 }
-                Err(fault) => match fault {
-                    LoadFault::Disk => assert!(rt; passed < calls),
-                    LoadFault::NotAJournal | LoadFault::Memory => assert!(rt; false),
-                    LoadFault::Cut { .. } => assert!(rt; false),
-                },
+                None => assert!(rt; passed < calls),
             }
         }
     }
     Ok(())
+}
+
+// The place of the open gate with no whole record behind it, and how many records stand before it; none where no record does.
+fn cut_at(alloc: Global, image: Text) -> Result<Option<(u64, usize)>, Fail> {
+    match read_file(alloc, MemDisk::new(alloc, image)) {
+        Ok((records, ending)) => match ending {
+            Ending::Open(_) => Err("open".into()),
+            Ending::Damaged { at, .. } => Ok(Some((at, records.len()))),
+        },
+        Err((_, fault)) => match fault {
+            OpenFault::NotAJournal => Ok(None),
+            fault => Err(fault.into()),
+        },
+    }
+}
+
+// Whether a journal whose header record ends at this place is refused where it is cut short so many bytes behind it.
+fn is_refused(alloc: Global, head: usize, left: usize) -> Result<bool, Fail>
+    requires { (5 ≤ head) × (head ≤ 2 ^ 30) × (left ≤ 30) }
+{
+    let (record, count) = match left {
+        0..=7 => (0, 1),
+        8..=12 => (7, 2),
+        _ => (12, 3),
+    };
+    let place = if left == 0 {
+        None
+    } else {
+        Some(((head + record) as u64, count))
+    };
+    Ok(cut_at(alloc, behind_head(alloc, head, &THREE[..left])?)? == place)
 }
 
 #[test]
 fn a_journal_that_is_cut_short_is_refused_whatever_the_pieces(rt: HostRuntime) -> Result<(), Fail> {
     let alloc = rt.alloc();
-    for len in 0..37usize {
-        // the open gate with no whole record behind it, and the records before it
-        let place = match len {
-            0..=6 => None,
-            7..=13 => Some((6, 1)),
-            14..=18 => Some((13, 2)),
-            _ => Some((18, 3)),
-        };
-        for piece in 1..42usize {
-            let mut disk = memory(alloc, &THREE[..len])?;
-            match load(alloc, &mut disk, piece) {
-                Ok(_) => assert!(rt; false),
-                Err(fault) => match fault {
-                    LoadFault::NotAJournal => assert!(rt; place.is_none()),
-                    LoadFault::Cut { at, records } => {
-                        assert_eq!(rt; Some((at, records.len())), place)
-                    }
-                    LoadFault::Disk | LoadFault::Memory => assert!(rt; false),
-                },
-            }
+    for len in 0..6usize {
+        assert_eq!(rt;
+            cut_at(alloc, Text::from_bytes(alloc, &HEAD[..len])?)?,
+            None
+        );
+    }
+    for left in 0..31usize {
+        assert!(rt; is_refused(alloc, 6, left)?);
+        for crossed in 0..34usize {
+            assert!(rt; is_refused(alloc, PIECE - crossed, left)?);
         }
     }
     Ok(())
 }
 
-fn add_numbers<D: Disk>(alloc: Global, file: &mut JFile<D>) -> Result<(), Fail>
+fn add_numbers<D: Disk>(file: &mut JFile<D>) -> Result<(), AppendFault>
     requires { IsOpen D.honest D.reads D.may_leave file.old }
 {
     for number in 0..RECORDS {
-        add(file, framed(alloc, &number.to_be_bytes())?.as_slice())?;
+        add(file, &numbered(number))?;
     }
     Ok(())
 }
@@ -312,7 +374,7 @@ fn a_thousand_records_on_a_real_file_are_read_back(rt: HostRuntime) -> Result<()
     let disk = FileDisk::new(&rt, Text::from_bytes(alloc, FILE.as_bytes())?);
     let disk = create(alloc, disk, b"H").map_err(|e| e.1)?;
     let (mut file, _) = open(alloc, disk)?;
-    add_numbers(alloc, &mut file)?;
+    add_numbers(&mut file)?;
     drop(file);
     let disk = FileDisk::new(&rt, Text::from_bytes(alloc, FILE.as_bytes())?);
     let (file, records) = open(alloc, disk)?;

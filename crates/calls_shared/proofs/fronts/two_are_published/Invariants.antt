@@ -1,6 +1,6 @@
 use Rattle.std.proofs.Common.{◌+◌, [], length}
 use Rattle.front_word.specs.Blank.{blank_entry}
-use Rattle.front_word.proofs.tests.two_are_published.Given as goal
+use Rattle.calls_shared.proofs.fronts.two_are_published.Given as goal
 
 abbrev pub ghost-new : goal.ghost-new
 ghost-new g a = []

@@ -1,9 +1,9 @@
-use super::*;
 use corr_text::{Buf, Text};
+use jrn_codec::{EntryFault, put_entry, put_head, read_entry, read_head};
 use std::test::*;
 
-// An MT103 that was booked from account 1 to account 2, with an advice of the debit.
-const ENTRY: &[u8] =
+// An MT103 of EUR 1,234.56 that was booked from account 1 to account 2, with an advice of the debit.
+pub(crate) const ENTRY: &[u8] =
     b"240603ALPHDEFFAXXX0001000001\x01\0\0\0\x4d\xa5\0\0\x4d\xa5\0\x02\0\x01\0\0\0\0\0\0\x01\xe2\x40\0\x04REF1\0\x02\x01\0\0\0\0\0\x01\xe2\x40\x01\x01\x01\x04ALPHDEFFXXX\x01\0\0\0\x02\r\n";
 
 // A home bank without accounts.

@@ -2,7 +2,7 @@ ghost use Rattle.std.specs.Prelude.{◌≡◌, ◌<◌, ◌≤◌, length, IfOk}
 ghost use Rattle.day_model.specs.Legal.{IsLegal};
 ghost use Rattle.acct_locks.specs.Holdings.{Holds};
 
-use super::*;
+use acct_locks::{BookSides, Held, Loose, Name, Purses};
 use corr_ids::{Bic, Day, Mir};
 use corr_money::{Ccy, Minor};
 use corr_text::{List, Memory, Text};
@@ -12,9 +12,11 @@ use day_model::{
 use std::alloc::Global;
 use std::marker::{Brand, PhantomData};
 use std::process::Abort;
+use std::sync::atomic::AtomicBool;
+use std::sync::atomic::Ordering::SeqCst;
 use std::sync::{Mutex, Wait};
 use std::test::*;
-use std::thread::{Threads, join};
+use std::thread::{Threads, join, yield_now};
 
 fn bic(head: [u8; 8]) -> Bic {
     Bic {
@@ -216,44 +218,85 @@ fn a_debit_and_a_credit_are_settled(rt: HostRuntime) -> Result<(), Fail> {
     settled::<Brand, _>(&rt, rt.alloc(), loose, sides)
 }
 
-// Whether the lock of an account is free. Nobody else holds it, so the first of the tries finds it so.
-fn is_free<N: Name>(purses: &Purses<N>, number: usize) -> bool
-    requires { (0 < number) × (number ≤ purses.now) }
-{
-    for _ in 0..100 {
-        if purses.locks[number - 1].try_lock().is_some() {
-            return true;
-        }
-    }
-    false
+// Whether each of two threads is inside an account.
+#[derive(Drop)]
+struct Inside {
+    first: AtomicBool,
+    third: AtomicBool,
 }
 
-// Locks that are given back are free again, and those that are held are not.
-fn given_back<N: Name, R: Wait + Abort>(rt: &R, alloc: Global, loose: Loose) -> Result<(), Fail>
-    requires { (loose.table ≡ N.table) × (length loose.purses ≡ 3) }
+// Whether nobody else was inside on the way in, nor came in before the way out.
+fn is_alone(inside: &AtomicBool) -> bool {
+    let entered = !inside.swap(true, SeqCst);
+    yield_now();
+    inside.swap(false, SeqCst) && entered
+}
+
+// Holds account 1, then 3, each alone; account 2 is free meanwhile.
+fn hold_one<N: Name>(rt: &impl Wait, purses: &Purses<N>, inside: &Inside) -> bool
+    requires { purses.now ≡ 3 }
 {
-    let purses = loose.lock::<N>(alloc)?;
-    purses.hold().give_back();
     let one = purses.hold().take(rt, AcctNo(1));
-    assert!(rt; !is_free(&purses, 1) && is_free(&purses, 2));
+    purses.hold().take(rt, AcctNo(2)).give_back();
+    let first = is_alone(&inside.first);
     one.give_back();
+    let one = purses.hold().take(rt, AcctNo(3));
+    let third = is_alone(&inside.third);
+    one.give_back();
+    first && third
+}
+
+// Holds accounts 1 and 3, then all three.
+fn hold_more<N: Name>(rt: &impl Wait, purses: &Purses<N>, inside: &Inside) -> bool
+    requires { purses.now ≡ 3 }
+{
+    purses.hold().give_back();
     let two = purses.hold().take(rt, AcctNo(1)).take(rt, AcctNo(3));
-    assert!(rt; !is_free(&purses, 1) && !is_free(&purses, 3));
+    let pair = is_alone(&inside.first) && is_alone(&inside.third);
     two.give_back();
     let three = purses
         .hold()
         .take(rt, AcctNo(1))
         .take(rt, AcctNo(2))
         .take(rt, AcctNo(3));
+    let all = is_alone(&inside.first) && is_alone(&inside.third);
     three.give_back();
-    assert!(rt; is_free(&purses, 1) && is_free(&purses, 2) && is_free(&purses, 3));
-    Ok(())
+    pair && all
+}
+
+// How often each of two threads takes the same accounts.
+const ROUNDS: u32 = 1000;
+
+// An account that is held is taken by no other thread, and one that was given back is.
+fn given_back<N: Name + Send + Sync, R: Threads + Wait + Sync>(
+    rt: &R,
+    alloc: Global,
+    loose: Loose,
+) -> Result<(bool, bool), Fail>
+    requires { (loose.table ≡ N.table) × (length loose.purses ≡ 3) }
+{
+    let purses = loose.lock::<N>(alloc)?;
+    let inside = Inside {
+        first: AtomicBool::new(false),
+        third: AtomicBool::new(false),
+    };
+    Ok(join(
+        rt,
+        || -> bool
+            requires { purses ≡ 3 }
+        { (0..ROUNDS).all(|_| hold_one(rt, &purses, &inside)) },
+        || -> bool
+            requires { purses ≡ 3 }
+        { (0..ROUNDS).all(|_| hold_more(rt, &purses, &inside)) },
+    ))
 }
 
 #[test]
 fn locks_that_are_given_back_are_free(rt: HostRuntime) -> Result<(), Fail> {
     let (loose, _) = opened(&rt, rt.alloc())?;
-    given_back::<Brand, _>(&rt, rt.alloc(), loose)
+    let (one, more) = given_back::<Brand, _>(&rt, rt.alloc(), loose)?;
+    assert!(rt; one && more);
+    Ok(())
 }
 
 // The first and the last account are taken whatever their totals are, the least and the greatest too.
