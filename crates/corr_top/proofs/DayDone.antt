@@ -1,7 +1,7 @@
 -- A day that was served: its texts and what they send, or why there are none.
 use Rattle.std.proofs.Common.{◌≡◌, ◌+◌, ◌<◌, ◌≤◌, ◌⊎◌, inl, inr, ℕ, zero, suc, All, List, [], ◌∷◌, ◌++◌, Ok, Err, Result, Some, refl, ap, arith, sym, ◌∙◌, subst, length}
 use Rattle.std.specs.Prelude.{IsSome, slice_get}
-use Rattle.std.proofs.lemmas.Option.{get_or_from_slice_get, none-some, same_Some, slice_get_within}
+use Rattle.std.proofs.lemmas.Option.{none-some, same_Some}
 use Rattle.corr_disk.specs.declared.disk.Disk as disks
 use Rattle.corr_io.specs.declared.source.Source as sources
 use Rattle.corr_text.specs.Faults.{Rose}
@@ -39,6 +39,7 @@ use Rattle.corr_top.proofs.FrontPart.{front_on}
 use Rattle.corr_top.proofs.Fronts.{All-behind}
 use Rattle.corr_top.proofs.NoRoom.{no_room}
 use Rattle.corr_top.proofs.Origins.{sent-valid}
+use Rattle.corr_top.proofs.Replying.{get_all}
 use Rattle.corr_top.proofs.Workers.{get_there, in_pays}
 
 -- the entries behind the opening have the shape of what is written down
@@ -52,10 +53,6 @@ from_pays [] k pay at = absurd (none-some pay at)
 from_pays (Ok p ∷ readings) zero pay at = (zero, ap (λ (x : Pay). Some (Ok x)) (same_Some p pay at))
 from_pays (Ok p ∷ readings) (suc k) pay at = let r = from_pays readings k pay at in (suc r.0, r.1)
 from_pays (Err why ∷ readings) k pay at = let r = from_pays readings k pay at in (suc r.0, r.1)
-
--- each of these has a reply or found no room
-one_at : (made : List Served) (k : ℕ) (one : Served) → All IsTried made → slice_get made k ≡ Some one → IsTried one
-one_at made k one all at = subst IsTried (get_or_from_slice_get made k one one at) (all k one (slice_get_within made k one at))
 
 module _ (o : Opening) (readings : List (Result Pay NoPay)) (history : List Entry) (faults : ℕ) (made : List Served) (told : AreTold o history readings made) (turn : o.made ≡ 1 → AreInTurn o history readings made) where
   -- ---- pays that found no room
@@ -106,7 +103,7 @@ module _ (o : Opening) (readings : List (Result Pay NoPay)) (history : List Entr
       let n = from_pays readings k pay at in
       let below = get_below readings n.0 (Ok pay) n.1 in
       let m = get_there made n.0 (let e = told.each in omega (arith, below, e)) in
-      one_tried pay m.0 (told.told n.0 (Ok pay) m.0 n.1 m.1) (one_at made n.0 m.0 all m.1)
+      one_tried pay m.0 (told.told n.0 (Ok pay) m.0 n.1 m.1) (get_all IsTried made n.0 m.0 all m.1)
 
   tried_at : (before after : ℕ) (stop : BookStop) → StopsAsServed before after made stop → EachTried o.accounts o.base (pays_in readings) o.day history stop
   tried_at before after (booking.DiskFault then now) stops = tt

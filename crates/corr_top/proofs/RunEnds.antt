@@ -50,7 +50,7 @@ use Rattle.corr_top.specs.Steps.{Step}
 use Rattle.corr_top.specs.Stops.{status_of_books, status_of_day, status_of_opening, status_of_table}
 use Rattle.corr_top.specs.Tables.{HasDirectory, StopsDirectory, directory_steps}
 use Rattle.corr_top.proofs.Folding.{legal_fold}
-use Rattle.corr_top.proofs.Rooms.{get_all}
+use Rattle.corr_top.proofs.Replying.{get_all}
 use Rattle.corr_top.proofs.Serves.{get_at}
 use Rattle.corr_top.proofs.Walking.{halts_front}
 
