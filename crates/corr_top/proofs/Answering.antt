@@ -86,3 +86,7 @@ has_answered o history readings made replies told turn is =
       entered = pays_entered history readings replies are;
       alone = λ one. (turn one).all replies is;
     }
+
+-- each reply names a place of the history
+pub all_places : (o : Opening) (history : List Entry) (readings : List (Result Pay NoPay)) (made : List Served) (replies : List Reply) → AreTold o history readings made → made ≡ are_replies replies → All (NamesPlace history) replies
+all_places o history readings made replies told is = places_are history readings replies (replied o history readings made replies told is)

@@ -1,6 +1,6 @@
 -- A day that was served: its texts and what they send, or why there are none.
 use Rattle.std.proofs.Common.{◌≡◌, ◌+◌, ◌<◌, ◌≤◌, ◌⊎◌, inl, inr, ℕ, zero, suc, All, List, [], ◌∷◌, ◌++◌, Ok, Err, Result, Some, refl, ap, arith, sym, ◌∙◌, subst, length}
-use Rattle.std.specs.Prelude.{IsSome, slice_get}
+use Rattle.std.specs.Prelude.{IfErr, IfOk, IsSome, slice_get}
 use Rattle.std.proofs.lemmas.Option.{none-some, same_Some}
 use Rattle.corr_disk.specs.declared.disk.Disk as disks
 use Rattle.corr_io.specs.declared.source.Source as sources
@@ -10,31 +10,34 @@ use Rattle.corr_books.specs.Opening.{Opening, Parts, opening_of}
 use Rattle.corr_books.specs.Telling.{ShowsFull}
 use Rattle.day_model.specs.declared.entry.Entry.{Entry}
 use Rattle.day_model.specs.declared.pay.Pay.{Pay}
+use Rattle.day_model.specs.declared.reply.Reply.{Reply}
 use Rattle.day_model.specs.Chart.{Chart, IsChart}
 use Rattle.day_model.specs.Next.{entered_at}
 use Rattle.front_word.proofs.laws.Prefixes.{get_below}
 use Rattle.jrn_book.specs.Answers.{IsFull}
 use Rattle.jrn_codec.specs.Record.{IsEntry}
 use Rattle.ssi_versions.specs.InstructionList.{AreInstructions}
-use Rattle.corr_report.specs.Report.{report_of}
+use Rattle.corr_report.specs.Report.{NamesPlace, report_of}
 use Rattle.corr_top.specs.declared.answers.BookStop.{BookStop}
 use Rattle.corr_top.specs.declared.answers.BookStop.TheVariants as booking
 use Rattle.corr_top.specs.declared.desk.Served.{Served}
 use Rattle.corr_top.specs.declared.desk.Served.TheVariants as served
 use Rattle.corr_top.specs.declared.directory.Directory.{Directory}
 use Rattle.corr_top.specs.declared.message.NoPay.{NoPay}
+use Rattle.corr_top.specs.declared.serving.ServedDay.{ServedDay}
 use Rattle.corr_top.specs.declared.status.Status.{Status}
+use Rattle.corr_top.specs.declared.status.Status.TheVariants as status
 use Rattle.corr_top.specs.declared.writing.Texts.{Texts}
 use Rattle.corr_top.specs.Booking.{EachTried, EntersInOrder, HadNoRoom, LacksRoomThen}
 use Rattle.corr_top.specs.Collecting.{IsCalm, StopsAsServed}
-use Rattle.corr_top.specs.Days.{GivesDay, GivesTexts, StopCause, StopsAtPays}
+use Rattle.corr_top.specs.Days.{GivesDay, GivesServed, GivesTexts, StopCause, StopsAtPays}
 use Rattle.corr_top.specs.Message.{pays_in, readings_of}
 use Rattle.corr_top.specs.Origin.{SendsAccepted}
 use Rattle.corr_top.specs.Out.{sent_from}
 use Rattle.corr_top.specs.Passing.{HasMessages}
-use Rattle.corr_top.specs.Serving.{AreInTurn, AreTold, HasPayShape, HasServed, IsFirstFull, IsShort, IsTold, IsTried}
+use Rattle.corr_top.specs.Serving.{AllServed, AreInTurn, AreTold, are_replies, HasPayShape, HasServed, IsFirstFull, IsShort, IsTold, IsTried}
 use Rattle.corr_top.specs.Stops.{status_of_booking}
-use Rattle.corr_top.proofs.Answering.{entered_by, has_answered}
+use Rattle.corr_top.proofs.Answering.{all_places, entered_by, has_answered}
 use Rattle.corr_top.proofs.FrontPart.{front_on}
 use Rattle.corr_top.proofs.Fronts.{All-behind}
 use Rattle.corr_top.proofs.NoRoom.{no_room}
@@ -190,3 +193,44 @@ module _ {S D : Type 0} (source : sources.Ghosts S) (d : disks.Ghosts D) (direct
       alone = in_order books readings history (d.faults new) made told turn before (d.faults new) gives.0 gives.2;
       cause = cause_of books readings history (d.faults new) made told turn before (d.faults new) gives.0 was refl (still left.disk) gives.2;
     })
+
+-- ---- a day that was served, or for which there was no memory
+
+-- what was left of books on an opening's accounts
+left_on : {D : Type 0} (d : disks.Ghosts D) (o : Opening) (readings : List (Result Pay NoPay)) (chart : Chart) (history : List Entry) (left : D) → HasServed d o readings chart history left → HasServed d o readings o.accounts history left
+left_on d o readings chart history left has = record { accounts = refl; added = has.added; is = has.is; each = has.each; journal = has.journal; disk = has.disk; honest = has.honest }
+
+module _ {S D : Type 0} (source : sources.Ghosts S) (d : disks.Ghosts D) (directory : Directory) (workers : ℕ) (from to : S) (old : Parts D) (bytes : List ℕ) (cut : List (List ℕ)) (file : HasMessages source from to bytes cut)
+    (are : AreInstructions directory.tables directory.ssi) (sound : IsChart old.accounts) (count before : ℕ) (was : before ≡ old.at_open) (counted : count ≡ length old.base) where
+  by_served : {V M : Type 0} (items : V → List Served) (history : List Entry) (new : D) → HasServed d (opening_of d old workers) (readings_of directory old.accounts cut) old.accounts history new
+      → (served : Result V M) → IfOk served (λ made. AreTold (opening_of d old workers) history (readings_of directory old.accounts cut) (items made))
+      → IfOk served (λ made. workers ≡ 1 → AreInTurn (opening_of d old workers) history (readings_of directory old.accounts cut) (items made)) → IfErr served (λ _. history ≡ old.base)
+      → (r : Result Texts Status) → IfOk served (λ made. GivesTexts old.accounts history (items made) before (d.faults new) count r) → IfErr served (λ _. r ≡ Err status.Memory)
+      → GivesDay source d directory workers from to old new r
+  by_served items history new left (Ok made) told turn none (Ok texts) gives memory = day_done source d directory workers from to old new bytes cut file history left (items made) told turn count before texts was counted are sound gives
+  by_served items history new left (Ok made) told turn none (Err s) gives memory = day_stops source d directory workers from to old new bytes cut file history left (items made) told turn count before s was gives
+  by_served items history new left (Err e) told turn none r gives memory =
+      subst (GivesDay source d directory workers from to old new) (sym memory) (day_unserved source d directory workers from to old new bytes cut file history left none)
+
+  pub day_ends : (day : ServedDay D) → AllServed d (opening_of d old workers) (readings_of directory old.accounts cut) day → (r : Result Texts Status) → GivesServed d day before count r → GivesDay source d directory workers from to old day.closed.disk r
+  day_ends day all r gives =
+      by_served (λ made. made.items) day.closed.history.entries day.closed.disk (left_on d (opening_of d old workers) (readings_of directory old.accounts cut) day.closed.accounts day.closed.history.entries day.closed.disk all.left)
+      day.served all.told all.turn all.none r
+      (subst (λ (c : Chart). IfOk day.served (λ made. GivesTexts c day.closed.history.entries made.items before (d.faults day.closed.disk) count r)) all.left.accounts gives.texts) gives.none
+
+-- what the making of the texts needs of a served day
+pub places_in : {D : Type 0} (d : disks.Ghosts D) (o : Opening) (readings : List (Result Pay NoPay)) (day : ServedDay D) → AllServed d o readings day
+    → IfOk day.served (λ made. (replies : List Reply) → made.items ≡ are_replies replies → All (NamesPlace day.closed.history.entries) replies)
+places_in d o readings day all = by_told (λ made. made.items) day.served all.told
+  where
+    by_told : {V M : Type 0} (items : V → List Served) (served : Result V M) → IfOk served (λ made. AreTold o day.closed.history.entries readings (items made))
+        → IfOk served (λ made. (replies : List Reply) → items made ≡ are_replies replies → All (NamesPlace day.closed.history.entries) replies)
+    by_told items (Ok made) told = λ replies is. all_places o day.closed.history.entries readings (items made) replies told is
+    by_told items (Err e) told = tt
+
+pub few_made : {D : Type 0} (d : disks.Ghosts D) (o : Opening) (readings : List (Result Pay NoPay)) (day : ServedDay D) → AllServed d o readings day → (n : ℕ) → length readings ≤ n → IfOk day.served (λ made. length made.items ≤ n)
+few_made d o readings day all n few = by_told (λ made. made.items) day.served all.told
+  where
+    by_told : {V M : Type 0} (items : V → List Served) (served : Result V M) → IfOk served (λ made. AreTold o day.closed.history.entries readings (items made)) → IfOk served (λ made. length (items made) ≤ n)
+    by_told items (Ok made) told = let e = told.each in omega (arith, e, few)
+    by_told items (Err e) told = tt

@@ -248,3 +248,10 @@ module _ {S K D : Type 0} (source : sources.Ghosts S) (d : disks.Ghosts D) (day 
           )
       day_ends (Err s) (inl stops) = file_stops s stops
       day_ends (Err s) (inr stops) = pays_stop s stops
+
+-- whether the disk tells its bytes stays
+pub day_honest : {S D : Type 0} (source : sources.Ghosts S) (d : disks.Ghosts D) (directory : Directory) (workers : ℕ) (from to : S) (opened : Parts D) (new : D) (r : Result Texts Status)
+    → GivesDay source d directory workers from to opened new r → d.honest new ≡ d.honest (disk_of opened.file)
+day_honest source d directory workers from to opened new (Ok texts) gives = gives.4.served.honest
+day_honest source d directory workers from to opened new (Err s) (inl stops) = ap d.honest stops.same
+day_honest source d directory workers from to opened new (Err s) (inr stops) = stops.served.honest

@@ -1,5 +1,5 @@
 -- The part of a run between the opening of the books and their closing.
-use Rattle.std.specs.Prelude.{◌≡◌, ◌⊎◌, ◌+◌, ℕ, All, List, IsSome, length, slice_get, Some, Result, Ok, Err}
+use Rattle.std.specs.Prelude.{◌≡◌, ◌⊎◌, ◌+◌, ℕ, All, IfErr, IfOk, List, IsSome, length, slice_get, Some, Result, Ok, Err}
 use Rattle.corr_books.specs.Opening.{Opening, Parts, opening_of}
 use Rattle.corr_disk.specs.declared.disk.Disk as disks
 use Rattle.corr_io.specs.declared.source.Source as sources
@@ -17,7 +17,9 @@ use Rattle.corr_top.specs.declared.cutting.FileStop.{FileStop}
 use Rattle.corr_top.specs.declared.desk.Served.{Served}
 use Rattle.corr_top.specs.declared.directory.Directory.{Directory}
 use Rattle.corr_top.specs.declared.message.NoPay.{NoPay}
+use Rattle.corr_top.specs.declared.serving.ServedDay.{ServedDay}
 use Rattle.corr_top.specs.declared.status.Status.{Status}
+use Rattle.corr_top.specs.declared.status.Status.TheVariants as status
 use Rattle.corr_top.specs.declared.writing.Texts.{Texts}
 use Rattle.corr_top.specs.Booking.{EachTried, EntersInOrder, LacksRoom, LacksRoomThen}
 use Rattle.corr_top.specs.Collecting.{IsCalm, StopsAsServed}
@@ -33,6 +35,11 @@ abbrev pub GivesTexts : Chart → List Entry → List Served → ℕ → ℕ →
 GivesTexts chart history made before after count (Ok texts) = (replies : List Reply) × (made ≡ are_replies replies) × IsCalm before after
     × (texts.report ≡ report_of chart history replies) × (texts.out ≡ sent_from chart (count + 1) history) × SendsAccepted chart (count + 1) history
 GivesTexts chart history made before after count (Err s) = (stop : BookStop) × (s ≡ status_of_booking stop) × StopsAsServed before after made stop
+
+-- the same of a day that was served; where there was no memory to serve any message, there is none for the texts
+pub record GivesServed {D : Type 0} (disk : disks.Ghosts D) (day : ServedDay D) (before count : ℕ) (r : Result Texts Status) : Type 0 where
+  pub texts : IfOk day.served (λ made. GivesTexts day.closed.accounts day.closed.history.entries made.items before (disk.faults day.closed.disk) count r)
+  pub none : IfErr day.served (λ _. r ≡ Err status.Memory)
 
 -- Each message has its reply after the history, and each pay of the messages is entered in it. One worker made the fold of the pays in the order of the messages.
 pub record HasAnswered (o : Opening) (readings : List (Result Pay NoPay)) (history : List Entry) (replies : List Reply) : Type 0 where
