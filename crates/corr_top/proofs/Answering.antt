@@ -52,7 +52,7 @@ some_if : (pay : Pay) (history : List Entry) (found : Option ℕ) (r : Reply) �
 some_if pay history None r at is = absurd (none-some r is)
 some_if pay history (Some place) r at is = subst (λ (o : Option ℕ). IsSome o) (sym at) refl
 
-entered_by : (pay : Pay) (history : List Entry) (r : Reply) → reply_to pay history ≡ Some r → IsSome (entered_at pay.mir history)
+pub entered_by : (pay : Pay) (history : List Entry) (r : Reply) → reply_to pay history ≡ Some r → IsSome (entered_at pay.mir history)
 entered_by pay history r is = some_if pay history (entered_at pay.mir history) r refl is
 
 pays_entered : (history : List Entry) (readings : List (Result Pay NoPay)) (replies : List Reply) → AreReplies history readings replies → (k : ℕ) (pay : Pay) → slice_get (pays_in readings) k ≡ Some pay → IsSome (entered_at pay.mir history)
@@ -69,16 +69,16 @@ get_reply (x ∷ replies) zero r at = ap (λ (y : Reply). Some (served.Reply y))
 get_reply (x ∷ replies) (suc n) r at = get_reply replies n r at
 
 -- what was made of all messages is a reply for each
-pub replied : (o : Opening) (history : List Entry) (faults : ℕ) (readings : List (Result Pay NoPay)) (made : List Served) (replies : List Reply) → AreTold o history faults readings made → made ≡ are_replies replies → AreReplies history readings replies
-replied o history faults readings made replies told is = record {
+pub replied : (o : Opening) (history : List Entry) (readings : List (Result Pay NoPay)) (made : List Served) (replies : List Reply) → AreTold o history readings made → made ≡ are_replies replies → AreReplies history readings replies
+replied o history readings made replies told is = record {
   each = sym (length-map replies served.Reply) ∙ ap length (sym is) ∙ told.each;
   one = λ n reading r at also. told.told n reading (served.Reply r) at (ap (λ (l : List Served). slice_get l n) is ∙ get_reply replies n r also);
 }
 
-pub has_answered : (o : Opening) (history : List Entry) (faults : ℕ) (readings : List (Result Pay NoPay)) (made : List Served) (replies : List Reply) → AreTold o history faults readings made
+pub has_answered : (o : Opening) (history : List Entry) (readings : List (Result Pay NoPay)) (made : List Served) (replies : List Reply) → AreTold o history readings made
     → (o.made ≡ 1 → AreInTurn o history readings made) → made ≡ are_replies replies → HasAnswered o readings history replies
-has_answered o history faults readings made replies told turn is =
-    let are = replied o history faults readings made replies told is in
+has_answered o history readings made replies told turn is =
+    let are = replied o history readings made replies told is in
     record {
       replies_are = replies_are history readings replies are;
       each = are.each;
@@ -86,3 +86,7 @@ has_answered o history faults readings made replies told turn is =
       entered = pays_entered history readings replies are;
       alone = λ one. (turn one).all replies is;
     }
+
+-- each reply names a place of the history
+pub all_places : (o : Opening) (history : List Entry) (readings : List (Result Pay NoPay)) (made : List Served) (replies : List Reply) → AreTold o history readings made → made ≡ are_replies replies → All (NamesPlace history) replies
+all_places o history readings made replies told is = places_are history readings replies (replied o history readings made replies told is)

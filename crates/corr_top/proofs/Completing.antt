@@ -22,7 +22,6 @@ use Rattle.fin_frame.specs.Machine.{at_start, run, with_open}
 use Rattle.fin_frame.proofs.laws.Showing.{cut-comes}
 use Rattle.jrn_book.specs.Opening.{Finding, IsFound, book, faulty, no_book}
 use Rattle.jrn_book.proofs.laws.Findings.{one_finding}
-use Rattle.jrn_book.specs.Book.{HasRisen}
 use Rattle.jrn_file.specs.Faults.{Tells}
 use Rattle.jrn_file.specs.Reading.{Reading, opened_of}
 use Rattle.jrn_file.specs.declared.fault.MakeFault.{MakeFault}
@@ -54,7 +53,7 @@ use Rattle.corr_top.specs.declared.words.Command.TheVariants.{Run, Plain}
 use Rattle.corr_top.specs.declared.words.Plain.TheVariants.{Init, Query}
 use Rattle.corr_top.specs.Booking.{IsAdded, IsBack, LacksRoomThen, StopsBooking}
 use Rattle.corr_top.specs.Commands.{IsFor, steps_of}
-use Rattle.corr_top.specs.Complete.{HasRoomForAll, IsReady, IsSound, IsSure, IsUnfailed, Told}
+use Rattle.corr_top.specs.Complete.{HasRoomForAll, IsReady, IsSound, IsSure, Told}
 use Rattle.corr_top.specs.Ends.{Ends, HasStopped}
 use Rattle.corr_top.specs.Inputs.{Inputs, accounts_in, directory_in, instructions_in, opened, pays_of, tables_in}
 use Rattle.corr_top.specs.Message.{pays_in, readings_of}
@@ -253,9 +252,9 @@ front_legal j added lacks legal = legal_front j.chart (j.history ++ lacks.front)
 front_added : (j : Inputs) (added : List Entry) {entries end need : ℕ} → All (IsAdded j.day (pays_of j)) added → (lacks : LacksRoomThen j.chart j.history (pays_of j) j.day (j.history ++ added) entries end need) → All (IsAdded j.day (pays_of j)) lacks.front
 front_added j added each lacks = All-front (IsAdded j.day (pays_of j)) lacks.front lacks.later (subst (λ (es : List Entry). All (IsAdded j.day (pays_of j)) es) (added_is j.history added lacks.front lacks.later lacks.left_is) each)
 
-booking_memory : {D : Type 0} (d : disks.Ghosts D) (old new : D) (j i : Inputs) (stop : BookStop) → IsUnfailed d old new → HasRoomForAll i.chart i.history (pays_of i) → j.chart ≡ i.chart → j.history ≡ i.history → pays_of j ≡ pays_of i
+booking_memory : {D : Type 0} (d : disks.Ghosts D) (old new : D) (j i : Inputs) (stop : BookStop) → IsSure d old new → HasRoomForAll i.chart i.history (pays_of i) → j.chart ≡ i.chart → j.history ≡ i.history → pays_of j ≡ pays_of i
     → StopsBooking d old new j stop → status_of_booking stop ≡ status.Memory
-booking_memory d old new j i (booking.DiskFault b a) sure room chart history pays stops = absurd (sure.sound (subst (λ (x : ℕ × ℕ). HasRisen x.0 x.1) (λ k. (stops.cause.0 k, stops.cause.1 k)) stops.cause.2))
+booking_memory d old new j i (booking.DiskFault b a) sure room chart history pays stops = absurd (sure.sound (tells_rose (d.faults old) b a (d.faults new) stops.cause))
 booking_memory d old new j i (booking.Full entries end need) sure room chart history pays stops =
     absurd (has_room j.chart j.history (pays_of j) j.day (j.history ++ stops.added) entries end need
     (subst (λ (c : Chart). HasRoomForAll c j.history (pays_of j)) (sym chart) (subst (λ (h : List Entry). HasRoomForAll i.chart h (pays_of j)) (sym history) (subst (λ (ps : List Pay). HasRoomForAll i.chart i.history ps) (sym pays) room)))

@@ -3,14 +3,13 @@ use Rattle.std.proofs.Common.{◌≡◌, ◌⊎◌, inl, inr, ℕ, zero, suc, �
 use Rattle.std.specs.Prelude.{slice_get, sum_by}
 use Rattle.std.proofs.lemmas.List.{map-append}
 use Rattle.std.proofs.lemmas.List.Sums.{sum_by-append, sum_by-cons}
-use Rattle.std.proofs.lemmas.Option.{get_or_from_slice_get, none-some, same_Some, slice_get_within}
+use Rattle.std.proofs.lemmas.Option.{none-some, same_Some}
 use Rattle.corr_ids.specs.declared.day.Day.{Day}
 use Rattle.day_model.specs.declared.entry.Entry.{Entry}
 use Rattle.day_model.specs.declared.pay.Pay.{Pay}
 use Rattle.day_model.specs.Chart.{Chart}
 use Rattle.day_model.specs.Legal.{IsLegal}
 use Rattle.day_model.specs.Next.{entered_at, entry_of}
-use Rattle.day_model.proofs.laws.Growth.{none_passes}
 use Rattle.jrn_book.specs.Journal.{file_of, records_of}
 use Rattle.jrn_book.specs.Room.{longest_record}
 use Rattle.jrn_book.proofs.laws.Sizes.{no_longer}
@@ -20,7 +19,7 @@ use Rattle.jrn_file.specs.Reading.{size_of}
 use Rattle.jrn_file.proofs.laws.Sizes.{length-journal_bytes, size_of-append}
 use Rattle.corr_top.specs.Booking.{IsAdded, LacksRoomThen}
 use Rattle.corr_top.specs.Complete.{HasRoomForAll}
-use Rattle.corr_top.proofs.Replying.{get_stays}
+use Rattle.corr_top.proofs.Replying.{get_all}
 use Rattle.corr_top.proofs.Serves.{entered_mir, get_at, split}
 
 -- ---- sums of lengths
@@ -115,9 +114,6 @@ get_pay : (es : List Entry) (i : ℕ) (p : Pay) → slice_get (map (λ e. e.pay)
 get_pay [] i p at = absurd (none-some p at)
 get_pay (e ∷ es) zero p at = (e, refl, same_Some e.pay p at)
 get_pay (e ∷ es) (suc i) p at = get_pay es i p at
-
-pub get_all : (P : Entry → Type 0) (es : List Entry) (i : ℕ) (e : Entry) → All P es → slice_get es i ≡ Some e → P e
-get_all P es i e all at = subst P (get_or_from_slice_get es i e e at) (all i e (slice_get_within es i e at))
 
 get_behind : (xs ys : List Entry) (i : ℕ) (e : Entry) → slice_get ys i ≡ Some e → slice_get (xs ++ ys) (length xs + i) ≡ Some e
 get_behind [] ys i e at = ap (slice_get ys) (omega arith) ∙ at

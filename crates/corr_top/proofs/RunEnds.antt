@@ -9,6 +9,7 @@ use Rattle.corr_books.specs.Finding.{BooksCause, IsDateBack, OpensBack, RefusesA
 use Rattle.corr_books.specs.Opening.{Opening, Parts, opening_of}
 use Rattle.corr_disk.specs.declared.disk.Disk as disks
 use Rattle.corr_io.specs.declared.source.Source as sources
+use Rattle.corr_text.specs.Faults.{Rose}
 use Rattle.corr_ids.specs.Day.{InCentury}
 use Rattle.corr_ids.specs.declared.day.Day.{Day}
 use Rattle.corr_report.specs.Report.{report_of}
@@ -19,7 +20,7 @@ use Rattle.day_model.specs.Chart.{Chart}
 use Rattle.day_model.specs.Laws.{IsLatest}
 use Rattle.day_model.specs.Legal.{IsLegal}
 use Rattle.day_model.specs.Next.{entered_at, fold_of}
-use Rattle.jrn_book.specs.Book.{HasRisen, IsLeftBy}
+use Rattle.jrn_book.specs.Book.{IsLeftBy}
 use Rattle.jrn_book.specs.Journal.{IsJournal}
 use Rattle.jrn_book.specs.Opening.{Finding, IsFound, book, found_by}
 use Rattle.jrn_codec.specs.Record.{IsEntry}
@@ -49,7 +50,7 @@ use Rattle.corr_top.specs.Steps.{Step}
 use Rattle.corr_top.specs.Stops.{status_of_books, status_of_day, status_of_opening, status_of_table}
 use Rattle.corr_top.specs.Tables.{HasDirectory, StopsDirectory, directory_steps}
 use Rattle.corr_top.proofs.Folding.{legal_fold}
-use Rattle.corr_top.proofs.Rooms.{get_all}
+use Rattle.corr_top.proofs.Replying.{get_all}
 use Rattle.corr_top.proofs.Serves.{get_at}
 use Rattle.corr_top.proofs.Walking.{halts_front}
 
@@ -140,9 +141,9 @@ module _ {S K D : Type 0} (source : sources.Ghosts S) (d : disks.Ghosts D) (day 
 
       -- the disk after the books were closed
       is_left : (history : List Entry) → LeavesClosed d books history new.disk → IsLeft d old.disk new.disk opened.accounts history day
-      is_left history (inl alone) = inl (record { stands = alone.stands; durable = alone.durable })
+      is_left history (inl alone) = inl (alone.sure ∙ at_open, record { stands = alone.stands; durable = alone.durable })
       is_left history (inr failed) =
-          inr (subst (λ n. HasRisen n (d.faults new.disk)) at_open failed.0, subst (λ (x : Day). IsLeftBy (d.honest new.disk) (d.may_leave new.disk) opened.accounts history x) of_day failed.1)
+          inr (subst (λ n. Rose n (d.faults new.disk)) at_open failed.0, subst (λ (x : Day). IsLeftBy (d.honest new.disk) (d.may_leave new.disk) opened.accounts history x) of_day failed.1)
 
       -- the first steps passed, up to the message file
       pub file_stops : (s : Status) → StopsAtFile source d directory workers old.messages new.messages opened new.disk s → HasTexts source d (Run day workers) old new (Err s)
@@ -154,7 +155,7 @@ module _ {S K D : Type 0} (source : sources.Ghosts S) (d : disks.Ghosts D) (day 
 
       cause_of : (i : Inputs) (history : List Entry) (stop : BookStop) → i.chart ≡ opened.accounts → StopCause books (pays_of i) history (d.faults new.disk) stop → i.history ≡ opened.base → i.day ≡ opened.day → i.workers ≡ workers
           → BookCause d old.disk new.disk i history stop
-      cause_of i history (booking.DiskFault before after) chart cause base is number = (cause.0 ∙ at_open, cause.1, cause.2)
+      cause_of i history (booking.DiskFault before after) chart cause base is number = record { before_is = cause.0 ∙ at_open; after_is = cause.1; rose = cause.2 }
       cause_of i history (booking.Full entries end need) chart cause base is number = (
         cause.0 ∙ at_open,
         subst (λ (x : Chart × (List Entry × Day)). LacksRoomThen x.0 x.1.0 (pays_of i) x.1.1 history entries end need) (λ k. (sym chart k, (sym base k, sym is k))) cause.1,
@@ -212,12 +213,12 @@ module _ {S K D : Type 0} (source : sources.Ghosts S) (d : disks.Ghosts D) (day 
             entered = λ k pay at. subst (λ (es : List Entry). IsSome (entered_at pay.mir es)) history_is (a.entered k pay (ap (λ (ps : List Pay). slice_get ps k) (sym pays) ∙ at));
             alone = λ one. sym history_is ∙ a.alone one ∙ (λ k. fold_of opened.accounts opened.base (sym pays k) (of_day k));
           } in
-          let count : d.faults new.disk ≡ opened.at_open = even_count opened.at_open (d.faults new.disk) had.calm (later_count history served.disk) in (
+          let on : (d.faults new.disk ≡ opened.at_open) × IsOnDisk d new.disk opened.accounts history = alone_on history had.calm served.disk in (
             record {
               passed = (p.0, (p.1.0, (p.1.1.0, (p.1.1.1.0, (holds, (latest, (had.file, (answered, tt))))))));
               leaves = record {
-                sure = count ∙ at_open;
-                entered = subst (λ es. IsOnDisk d new.disk opened.accounts es) history_is (alone_on history had.calm served.disk);
+                sure = on.0 ∙ at_open;
+                entered = subst (λ es. IsOnDisk d new.disk opened.accounts es) history_is on.1;
                 journal = subst (λ es. IsJournal opened.accounts es) history_is served.journal;
               };
             },
@@ -225,16 +226,10 @@ module _ {S K D : Type 0} (source : sources.Ghosts S) (d : disks.Ghosts D) (day 
             told,
           )
         where
-          even_count : (before after : ℕ) → IsCalm before after → before ≤ after → after ≡ before
-          even_count before after calm le = let m = calm.no_more in omega (arith, m)
-
-          later_count : (h : List Entry) → LeavesClosed d books h new.disk → opened.at_open ≤ d.faults new.disk
-          later_count h (inl alone) = alone.later
-          later_count h (inr failed) = absurd (had.calm.calm failed.0)
-
-          alone_on : (h : List Entry) → IsCalm opened.at_open (d.faults new.disk) → LeavesClosed d books h new.disk → IsOnDisk d new.disk opened.accounts h
-          alone_on h calm (inl alone) = record { stands = alone.stands; durable = alone.durable }
-          alone_on h calm (inr failed) = absurd (calm.calm failed.0)
+          -- a disk whose count of faults has not risen
+          alone_on : (h : List Entry) → IsCalm opened.at_open (d.faults new.disk) → LeavesClosed d books h new.disk → (d.faults new.disk ≡ opened.at_open) × IsOnDisk d new.disk opened.accounts h
+          alone_on h calm (inl alone) = (alone.sure, record { stands = alone.stands; durable = alone.durable })
+          alone_on h calm (inr failed) = absurd (calm failed.0)
 
       -- the part of a run behind the opening of the books
       pub day_ends : (r : Result Texts Status) → GivesDay source d directory workers old.messages new.messages opened new.disk r → HasTexts source d (Run day workers) old new r
@@ -253,3 +248,10 @@ module _ {S K D : Type 0} (source : sources.Ghosts S) (d : disks.Ghosts D) (day 
           )
       day_ends (Err s) (inl stops) = file_stops s stops
       day_ends (Err s) (inr stops) = pays_stop s stops
+
+-- whether the disk tells its bytes stays
+pub day_honest : {S D : Type 0} (source : sources.Ghosts S) (d : disks.Ghosts D) (directory : Directory) (workers : ℕ) (from to : S) (opened : Parts D) (new : D) (r : Result Texts Status)
+    → GivesDay source d directory workers from to opened new r → d.honest new ≡ d.honest (disk_of opened.file)
+day_honest source d directory workers from to opened new (Ok texts) gives = gives.4.served.honest
+day_honest source d directory workers from to opened new (Err s) (inl stops) = ap d.honest stops.same
+day_honest source d directory workers from to opened new (Err s) (inr stops) = stops.served.honest

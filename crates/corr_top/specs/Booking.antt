@@ -1,4 +1,4 @@
--- Pays that are entered one after another, and how that stops.
+-- Pays that workers enter, and how that stops.
 use Rattle.std.specs.Prelude.{◌≡◌, ◌⊎◌, ℕ, ◌+◌, ◌^◌, ◌<ℤ◌, ◌||◌, Bool, true, nat_le, All, List, [], ◌∷◌, ◌++◌, IsSome, length, map, slice_get, Some, None, if◌then◌else◌}
 use Rattle.corr_disk.specs.declared.disk.Disk as outside
 use Rattle.corr_ids.specs.Day.{InCentury}
@@ -10,8 +10,8 @@ use Rattle.day_model.specs.Legal.{IsLegal}
 use Rattle.day_model.specs.Log.{most_entries}
 use Rattle.day_model.specs.Next.{entered_at, entry_of, fold_of, next_history}
 use Rattle.jrn_book.specs.Answers.{IsFull, need_of}
-use Rattle.jrn_book.specs.Book.{HasRisen}
 use Rattle.jrn_book.specs.Journal.{IsJournal, file_of}
+use Rattle.jrn_file.specs.Faults.{Tells}
 use Rattle.corr_top.specs.declared.answers.BookStop.{BookStop}
 use Rattle.corr_top.specs.declared.answers.BookStop.TheVariants as booking
 use Rattle.corr_top.specs.Inputs.{Inputs, new_in, pays_of, replies_of}
@@ -71,9 +71,9 @@ pub record LacksRoom (chart : Chart) (history : List Entry) (pays : List Pay) (d
   pub need_is : need ≡ need_of chart (fold_of chart history front day) pay day
   pub full : IsFull (fold_of chart history front day) end need
 
--- the cause: a call of the disk failed, and these are its counts of faults at entry and at the return; or a pay found no room, of one worker the first in the order of the file, and no call failed; want of memory tells nothing
+-- the cause: a call of the disk failed; or a pay found no room, of one worker the first in the order of the file, and no call failed; want of memory tells nothing
 abbrev pub BookCause : {D : Type 0} → outside.Ghosts D → D → D → Inputs → List Entry → BookStop → Type 0
-BookCause d old new i left (booking.DiskFault before after) = (before ≡ d.faults old) × (after ≡ d.faults new) × HasRisen before after
+BookCause d old new i left (booking.DiskFault before after) = Tells (d.faults old) before after (d.faults new)
 BookCause d old new i left (booking.Full entries end need) = HasNotFailed d old new × LacksRoomThen i.chart i.history (pays_of i) i.day left entries end need
     × (i.workers ≡ 1 → LacksRoom i.chart i.history (pays_of i) i.day left entries end need)
 BookCause d old new i left booking.Memory = Unit {0}
@@ -122,16 +122,16 @@ pub record EntersFront (chart : Chart) (history : List Entry) (pays : List Pay) 
   pub left_is : left ≡ entered_of chart history front day
   pub next : (rest ≡ []) ⊎ BeginsNew left rest
 
--- where room was wanting, none of these pays was left
-abbrev pub IsRestAt : BookStop → List Pay → Type 0
-IsRestAt (booking.DiskFault before after) rest = Unit {0}
-IsRestAt (booking.Full entries end need) rest = rest ≡ []
-IsRestAt booking.Memory rest = Unit {0}
+-- what was not come to: nothing where room was wanting; a failed disk stops at a pay that is new; memory may run out at any
+abbrev pub StopsBefore : List Entry → BookStop → List Pay → Type 0
+StopsBefore left (booking.DiskFault before after) rest = BeginsNew left rest
+StopsBefore left (booking.Full entries end need) rest = rest ≡ []
+StopsBefore left booking.Memory rest = Unit {0}
 
--- Of one worker: which pays were entered, in the order of the file; where room was wanting all were tried.
+-- of one worker: which pays were entered, in the order of the file, and where that stopped
 pub record EntersInOrder (chart : Chart) (history : List Entry) (pays : List Pay) (day : Day) (left : List Entry) (stop : BookStop) : Type 0 where
   pub entered : EntersFront chart history pays day left
-  pub all : IsRestAt stop entered.rest
+  pub stops : StopsBefore left stop entered.rest
 
 -- How the entering of the pays stops: by its cause. What is left is the journal's history and further entries of the day, each of a pay of the file, in a journal that may be opened again; where room was wanting each pay of the file was tried, and one worker entered a front part of the pays.
 pub record StopsBooking {D : Type 0} (d : outside.Ghosts D) (old new : D) (i : Inputs) (stop : BookStop) : Type 0 where

@@ -8,7 +8,6 @@ use Rattle.day_model.specs.declared.entry.Entry.{Entry}
 use Rattle.day_model.specs.declared.pay.Pay.{Pay}
 use Rattle.day_model.specs.Chart.{Chart}
 use Rattle.day_model.specs.Laws.{IsLatest}
-use Rattle.jrn_book.specs.Book.{HasRisen}
 use Rattle.jrn_book.specs.Journal.{file_of as book_file_of}
 use Rattle.jrn_book.specs.Room.{longest_record}
 use Rattle.corr_top.specs.declared.room.Room.{Room}
@@ -30,11 +29,6 @@ pub record IsSure {D : Type 0} (disk : disks.Ghosts D) (old new : D) : Type 0 wh
   pub told : IsTrue (disk.honest old)
   pub sound : Rose (disk.faults old) (disk.faults new) → ⊥
 
--- a disk tells its bytes, and its count of faults has not risen
-pub record IsUnfailed {D : Type 0} (disk : disks.Ghosts D) (old new : D) : Type 0 where
-  pub told : IsTrue (disk.honest old)
-  pub sound : HasRisen (disk.faults old) (disk.faults new) → ⊥
-
 -- The journal has room for these pays: with them it has at most 100,000 entries, and the file of the history, with the longest record of each of them, has at most 2^30 bytes.
 pub record HasRoomForAll (chart : Chart) (history : List Entry) (pays : List Pay) : Type 0 where
   pub entries : length history + length pays ≤ 100000
@@ -48,7 +42,7 @@ IsReady source disk old new i Step.make = IsSure disk old.disk new.disk × IsFre
 IsReady source disk old new i Step.open_journal = IsSure disk old.disk new.disk × HoldsJournal disk old.disk i.chart i.history
 IsReady source disk old new i Step.day = IsLatest i.history i.day
 IsReady source disk old new i Step.messages = Told source old.messages new.messages i.messages × IsMessageFile i.messages i.cut
-IsReady source disk old new i Step.book = IsUnfailed disk old.disk new.disk × HasRoomForAll i.chart i.history (pays_of i)
+IsReady source disk old new i Step.book = IsSure disk old.disk new.disk × HasRoomForAll i.chart i.history (pays_of i)
 
 -- nothing is wrong with what a command reads, and neither a source nor a sink nor the disk failed
 pub record IsSound {S K D : Type 0} (source : sources.Ghosts S) (sink : sinks.Ghosts K) (disk : disks.Ghosts D) (command : Command) (old new : Room S K D) (i : Inputs) : Type 0 where

@@ -1,15 +1,15 @@
 -- The part of a run between the opening of the books and their closing.
-use Rattle.std.specs.Prelude.{◌≡◌, ◌⊎◌, ◌+◌, ℕ, All, List, IsSome, length, slice_get, Some, Result, Ok, Err}
+use Rattle.std.specs.Prelude.{◌≡◌, ◌⊎◌, ◌+◌, ℕ, All, IfErr, IfOk, List, IsSome, length, slice_get, Some, Result, Ok, Err}
 use Rattle.corr_books.specs.Opening.{Opening, Parts, opening_of}
 use Rattle.corr_disk.specs.declared.disk.Disk as disks
 use Rattle.corr_io.specs.declared.source.Source as sources
+use Rattle.corr_text.specs.Faults.{Rose}
 use Rattle.corr_report.specs.Report.{NamesPlace, report_of}
 use Rattle.day_model.specs.declared.entry.Entry.{Entry}
 use Rattle.day_model.specs.declared.pay.Pay.{Pay}
 use Rattle.day_model.specs.declared.reply.Reply.{Reply}
 use Rattle.day_model.specs.Chart.{Chart}
 use Rattle.day_model.specs.Next.{entered_at, fold_of}
-use Rattle.jrn_book.specs.Book.{HasRisen}
 use Rattle.jrn_file.specs.File.{disk_of}
 use Rattle.corr_top.specs.declared.answers.BookStop.{BookStop}
 use Rattle.corr_top.specs.declared.answers.BookStop.TheVariants as booking
@@ -17,7 +17,9 @@ use Rattle.corr_top.specs.declared.cutting.FileStop.{FileStop}
 use Rattle.corr_top.specs.declared.desk.Served.{Served}
 use Rattle.corr_top.specs.declared.directory.Directory.{Directory}
 use Rattle.corr_top.specs.declared.message.NoPay.{NoPay}
+use Rattle.corr_top.specs.declared.serving.ServedDay.{ServedDay}
 use Rattle.corr_top.specs.declared.status.Status.{Status}
+use Rattle.corr_top.specs.declared.status.Status.TheVariants as status
 use Rattle.corr_top.specs.declared.writing.Texts.{Texts}
 use Rattle.corr_top.specs.Booking.{EachTried, EntersInOrder, LacksRoom, LacksRoomThen}
 use Rattle.corr_top.specs.Collecting.{IsCalm, StopsAsServed}
@@ -34,6 +36,11 @@ GivesTexts chart history made before after count (Ok texts) = (replies : List Re
     × (texts.report ≡ report_of chart history replies) × (texts.out ≡ sent_from chart (count + 1) history) × SendsAccepted chart (count + 1) history
 GivesTexts chart history made before after count (Err s) = (stop : BookStop) × (s ≡ status_of_booking stop) × StopsAsServed before after made stop
 
+-- the same of a day that was served; where there was no memory to serve any message, there is none for the texts
+pub record GivesServed {D : Type 0} (disk : disks.Ghosts D) (day : ServedDay D) (before count : ℕ) (r : Result Texts Status) : Type 0 where
+  pub texts : IfOk day.served (λ made. GivesTexts day.closed.accounts day.closed.history.entries made.items before (disk.faults day.closed.disk) count r)
+  pub none : IfErr day.served (λ _. r ≡ Err status.Memory)
+
 -- Each message has its reply after the history, and each pay of the messages is entered in it. One worker made the fold of the pays in the order of the messages.
 pub record HasAnswered (o : Opening) (readings : List (Result Pay NoPay)) (history : List Entry) (replies : List Reply) : Type 0 where
   pub replies_are : replies ≡ replies_in history readings
@@ -44,7 +51,7 @@ pub record HasAnswered (o : Opening) (readings : List (Result Pay NoPay)) (histo
 
 -- why not each pay was entered: the disk failed; one found no room, and the disk didn't fail; or memory ran out
 abbrev pub StopCause : Opening → List Pay → List Entry → ℕ → BookStop → Type 0
-StopCause o pays history faults (booking.DiskFault before after) = (before ≡ o.at_open) × (after ≡ faults) × HasRisen before after
+StopCause o pays history faults (booking.DiskFault before after) = (before ≡ o.at_open) × (after ≡ faults) × Rose before after
 StopCause o pays history faults (booking.Full entries end need) =
     (faults ≡ o.at_open) × LacksRoomThen o.accounts o.base pays o.day history entries end need
     × (o.made ≡ 1 → LacksRoom o.accounts o.base pays o.day history entries end need)

@@ -3,6 +3,7 @@ use Rattle.std.specs.Prelude.{◌≡◌, ◌⊎◌, ℕ, IsTrue, IfSome, None, L
 use Rattle.acct_locks.specs.Holdings.{LooseHand}
 use Rattle.corr_disk.specs.declared.disk.Disk as outside
 use Rattle.corr_disk.specs.Disk.{LeavesOnly, Only}
+use Rattle.corr_text.specs.Faults.{Rose}
 use Rattle.corr_ids.specs.declared.day.Day.{Day}
 use Rattle.day_model.specs.declared.entry.Entry.{Entry}
 use Rattle.day_model.specs.Chart.{Chart}
@@ -14,7 +15,7 @@ use Rattle.jrn_file.specs.Reading.{opened_of}
 use Rattle.jrn_file.specs.Untouched.{IsUntouched}
 use Rattle.jrn_file.specs.declared.fault.MakeFault.{MakeFault}
 use Rattle.jrn_file.specs.declared.fault.OpenFault.{OpenFault}
-use Rattle.jrn_book.specs.Book.{Book, HasRisen, IsLeftBy}
+use Rattle.jrn_book.specs.Book.{Book, IsLeftBy}
 use Rattle.jrn_book.specs.Journal.{IsJournal, StandsForBook, records_of}
 use Rattle.jrn_book.specs.Opening.{IsFound, OpenCause, found_by}
 
@@ -63,7 +64,7 @@ module _ {D : Type 0} (d : outside.Ghosts D) where
     pub untouched : IsUnwritten disk (disk_of book.file)
     pub sure : HasNotFailed disk (disk_of book.file)
 
-  -- What the entering of pays of a day left, whether it came to its end or not: this history alone; or, where the disk's count of faults rose, it or it and one legal entry more of that day.
+  -- What the entering of pays of a day left, whether it came to its end or not: this history alone, or, where a call failed, it or it and one legal entry more of that day.
   abbrev pub IsLeft : D → D → Chart → List Entry → Day → Type 0
   IsLeft old new chart history day =
-      IsOnDisk new chart history ⊎ (HasRisen (d.faults old) (d.faults new) × IsLeftBy (d.honest new) (d.may_leave new) chart history day)
+      (HasNotFailed old new × IsOnDisk new chart history) ⊎ (Rose (d.faults old) (d.faults new) × IsLeftBy (d.honest new) (d.may_leave new) chart history day)

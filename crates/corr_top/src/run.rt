@@ -7,7 +7,7 @@ ghost use Rattle.corr_report.specs.Report.{NamesPlace, report_of};
 ghost use Rattle.day_model.specs.Legal.{IsLegal};
 ghost use Rattle.jrn_book.specs.Journal.{IsJournal};
 ghost use Rattle.ssi_versions.specs.InstructionList.{AreInstructions};
-ghost use Rattle.corr_top.specs.Days.{GivesDay, GivesTexts};
+ghost use Rattle.corr_top.specs.Days.{GivesDay, GivesServed, GivesTexts};
 ghost use Rattle.corr_top.specs.Ends.{HasTexts};
 ghost use Rattle.corr_top.specs.Origin.{SendsAccepted};
 ghost use Rattle.corr_top.specs.Out.{sent_from};
@@ -95,6 +95,30 @@ fn texts_of<D: Disk + Drop>(
     )?)
 }
 
+/// The disk and the texts of a day that was served, or why there are none. The disk's count of faults was `before` at the
+/// opening, and the history then had `count` entries.
+fn end_day<D: Disk + Drop>(
+    alloc: Global,
+    day: ServedDay<D>,
+    before: u64,
+    count: u32,
+) -> (D, Result<Texts, Status>)
+    requires journal { IsJournal day.closed.accounts day.closed.history.entries }
+    requires places { IfOk day.served (λ made. (replies : List TheReply) → made.items ≡ are_replies replies → All (NamesPlace day.closed.history.entries) replies) }
+    requires few { (count ≤ length day.closed.history.entries) × IfOk day.served (λ made. vec_len made ≤ 50000) }
+    ensures disk { result.0 ≡ day.closed.disk }
+    ensures texts { GivesServed D.Disk day before count result.1 }
+{
+    let ServedDay { closed, served } = day;
+    match served {
+        Ok(served) => {
+            let texts = texts_of(alloc, &closed, served, before, count);
+            (closed.disk, texts)
+        }
+        Err(memory) => (closed.disk, Err(Status::from(memory))),
+    }
+}
+
 /// Lets the workers answer the messages of the message file over books that were opened, and makes the texts. The disk comes
 /// back; its count of faults was `before`.
 fn run_day<R: Wait + Threads + Sync, S: Source, D: Disk + Drop + Send, G: Gate + Sync>(
@@ -120,13 +144,7 @@ fn run_day<R: Wait + Threads + Sync, S: Source, D: Disk + Drop + Send, G: Gate +
     let count = opened.history().len();
     let messages = messages.as_slice();
     match serve_all::<Brand, _, _, _>(rt, alloc, directory, opened, workers, messages, gate) {
-        Ok(ServedDay { closed, served }) => {
-            let texts = match served {
-                Ok(served) => texts_of(alloc, &closed, served, before, count),
-                Err(memory) => Err(Status::from(memory)),
-            };
-            (closed.disk, texts)
-        }
+        Ok(day) => end_day(alloc, day, before, count),
         Err((disk, memory)) => (disk, Err(Status::from(memory))),
     }
 }

@@ -1,6 +1,6 @@
 //! Amounts with their currency: fields 33B, 71F and 71G.
 
-ghost use Rattle.std.specs.Prelude.{◌≡◌, ◌≤◌, ◌<◌, ◌^◌, ◌++◌, IfOk, IsTrue, Ok, OnOk, length, take};
+ghost use Rattle.std.specs.Prelude.{◌≡◌, ◌≤◌, ◌<◌, ◌^◌, ◌++◌, IfOk, IsTrue, Ok, OnErr, OnOk, length, take};
 ghost use Rattle.fin_contents.specs.Money.{amount_code, ccy_amount_in, ccy_amount_of, is_ccy_amount, minor_in};
 ghost use Rattle.fin_contents.specs.Writing.{IsAmount, IsHeading, ccy_amount_field, ccy_amount_text};
 ghost use Rattle.fin_fields.specs.Writing.{IsField};
@@ -44,7 +44,10 @@ fn amount_code(e: AmountFault) -> Code
     }
 }
 
-fn minor_in(decimals: u8, b: &[u8]) -> Result<Minor, Code>
+/// The minor units that bytes spell in a currency with so many decimals, or the code of what is wrong with them.
+///
+/// Example: with two decimals `1234,5` is 123450, and `1234` is T40.
+pub fn minor_in(decimals: u8, b: &[u8]) -> Result<Minor, Code>
     requires { decimals ≤ 4 }
     ensures { result ≡ minor_in decimals b.now }
 {
@@ -63,7 +66,8 @@ fn ccy(line: &[u8]) -> Ccy
     Ccy(code)
 }
 
-/// The currency and the amount of a line that has their form.
+/// The currency and the amount of a line that has their form, three capital letters and then characters of an amount; or the
+/// code of what is wrong with them: T52, T40, T43, C03 or P27.
 #[tactic(auto, unfolding(crate::specs::Money::ccy_amount_in))]
 pub fn ccy_amount_in(tables: &RefTables, line: &[u8]) -> Result<Amount, Code>
     requires { 4 ≤ length line.now }
@@ -110,12 +114,20 @@ impl Content for CcyAmount<'_> {
 }
 
 /// Adds a currency and an amount with all its decimals.
+///
+/// `Memory`: there was no room; then nothing was added.
 pub fn put_ccy_amount_text(alloc: Global, amount: &Amount, out: &mut Text) -> Result<(), Memory>
     requires { IsAmount amount.now }
-    ensures { OnOk result (out.new ≡ out.old ++ ccy_amount_text amount.now) }
+    ensures ok { OnOk result (out.new ≡ out.old ++ ccy_amount_text amount.now) }
+    ensures err { OnErr result (out.new ≡ out.old) }
 {
+    let before = out.bytes().len();
     out.push(&amount.ccy.0)?;
-    put_15d(alloc, amount.minor, amount.decimals, out)
+    if put_15d(alloc, amount.minor, amount.decimals, out).is_err() {
+        out.truncate(before);
+        return Err(Memory);
+    }
+    Ok(())
 }
 
 /// Writes a currency and an amount as a field of this tag and letter, with exactly as many decimals as the currency has.

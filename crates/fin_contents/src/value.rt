@@ -37,7 +37,8 @@ pub struct ValueDate<'a> {
     pub tables: &'a RefTables,
 }
 
-fn is_dated_amount(line: &[u8]) -> bool
+/// Whether a line is six digits, and a currency with an amount by their form.
+pub fn is_dated_amount(line: &[u8]) -> bool
     ensures value { result ≡ is_dated_amount line.now }
     ensures long { IsTrue result → 10 ≤ length line.now }
 {

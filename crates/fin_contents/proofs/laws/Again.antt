@@ -102,17 +102,17 @@ texts-again most tag letter f lines e = ap (λ (ls : List (List ℕ)). texts_of 
 
 -- ---- amounts
 
-coded-ok : (r : Result Minor AmountFault) (minor : Minor) → coded r ≡ Ok minor → r ≡ Ok minor
+pub coded-ok : (r : Result Minor AmountFault) (minor : Minor) → coded r ≡ Ok minor → r ≡ Ok minor
 coded-ok (Ok m) minor e = ap Ok (cc e)
 coded-ok (Err fault) minor e = absurd (cc e)
 
 -- what is known of an amount that was read from a line
-record AmountRead (t : Tables) (line : List ℕ) (a : Amount) : Type 0 where
-  ccy : a.ccy.0 ≡ take 3 line
-  known : decimals_in t (take 3 line) ≡ Some a.decimals
-  minor : amount_of a.decimals (drop 3 line) ≡ Ok a.minor
+pub record AmountRead (t : Tables) (line : List ℕ) (a : Amount) : Type 0 where
+  pub ccy : a.ccy.0 ≡ take 3 line
+  pub known : decimals_in t (take 3 line) ≡ Some a.decimals
+  pub minor : amount_of a.decimals (drop 3 line) ≡ Ok a.minor
 
-amount-read : (t : Tables) (line : List ℕ) (a : Amount) → ccy_amount_in t line ≡ Ok a → AmountRead t line a
+pub amount-read : (t : Tables) (line : List ℕ) (a : Amount) → ccy_amount_in t line ≡ Ok a → AmountRead t line a
 unfolding ccy_amount_in
 amount-read t line a e =
     let decimals = there (decimals_in t (take 3 line)) _ _ a e in
@@ -124,7 +124,7 @@ below : (n : ℕ) → nat_lt n amount_end ≡ true → n < amount_end
 below n e = grind (arith, nat_tests)
 
 -- an amount that was read is below the end of amounts
-small-amount : (decimals : ℕ) (bs : List ℕ) (m : Minor) → amount_of decimals bs ≡ Ok m → (is_comma_number bs ≡ true) × (m.0 < amount_end)
+pub small-amount : (decimals : ℕ) (bs : List ℕ) (m : Minor) → amount_of decimals bs ≡ Ok m → (is_comma_number bs ≡ true) × (m.0 < amount_end)
 unfolding amount_of
 small-amount decimals bs m e =
     let number = checked (is_comma_number bs) NoNumber _ m e in
@@ -155,25 +155,21 @@ ccy_amount-is t f a few e =
     amount-is t line.0 a few form.1
 
 -- an amount as it is written
-record AmountWritten (t : Tables) (a : Amount) : Type 0 where
-  form : is_ccy_amount (ccy_amount_text a) ≡ true
-  read : ccy_amount_in t (ccy_amount_text a) ≡ Ok a
-  front : take 3 (ccy_amount_text a) ≡ a.ccy.0
+pub record AmountWritten (t : Tables) (a : Amount) : Type 0 where
+  pub form : is_ccy_amount (ccy_amount_text a) ≡ true
+  pub read : ccy_amount_in t (ccy_amount_text a) ≡ Ok a
+  pub front : take 3 (ccy_amount_text a) ≡ a.ccy.0
 
 within-4 : (n : ℕ) → nat_le 4 n ≡ true → 3 ≤ n
 within-4 n e = grind (arith, nat_tests)
 
-amount-written : (t : Tables) (line : List ℕ) (a : Amount) → IsAmount a → is_ccy_amount line ≡ true → ccy_amount_in t line ≡ Ok a → AmountWritten t a
+-- an amount in a currency of three letters that the table has with these decimals
+pub amount-spelled : (t : Tables) (a : Amount) → IsAmount a → length a.ccy.0 ≡ 3 → list_all (is_in A) a.ccy.0 ≡ true → decimals_in t a.ccy.0 ≡ Some a.decimals → AmountWritten t a
 unfolding ccy_amount_in
-amount-written t line a is form e =
-    let read = amount-read t line a e in
-    let parts = and-three (nat_le 4 (length line)) (list_all (is_in A) (take 3 line)) (list_all (is_in X) (drop 3 line)) form in
+amount-spelled t a is three letters known =
     let text : List ℕ = amount_text a.decimals a.minor.0 in
-    let three : length a.ccy.0 ≡ 3 = ap (λ (x : List ℕ). length x) read.ccy ∙ length-take-le 3 line (within-4 (length line) parts.0) in
     let front : take 3 (a.ccy.0 ++ text) ≡ a.ccy.0 = take_at a.ccy.0 text 3 three in
     let back : drop 3 (a.ccy.0 ++ text) ≡ text = drop_at a.ccy.0 text 3 three in
-    let letters : list_all (is_in A) a.ccy.0 ≡ true = ap (λ (x : List ℕ). list_all (is_in A) x) read.ccy ∙ parts.1 in
-    let known : decimals_in t a.ccy.0 ≡ Some a.decimals = ap (λ (x : List ℕ). decimals_in t x) read.ccy ∙ read.known in
     let minor : amount_of a.decimals text ≡ Ok a.minor = reads_written a.decimals a.minor.0 is.few is.small in
     let number = comma_number-of-x text (small-amount a.decimals text a.minor minor).0 in
     let long : nat_le 4 (length (a.ccy.0 ++ text)) ≡ true = le-leb 4 (length (a.ccy.0 ++ text)) (omega (arith, length-append a.ccy.0 text, three, number.1)) in
@@ -182,6 +178,19 @@ amount-written t line a is form e =
       read = rw (front, known, back, minor) refl;
       front = front;
     }
+
+-- the letters of an amount that was read are three capitals
+pub amount-letters : (t : Tables) (line : List ℕ) (a : Amount) → is_ccy_amount line ≡ true → ccy_amount_in t line ≡ Ok a → (length a.ccy.0 ≡ 3) × (list_all (is_in A) a.ccy.0 ≡ true)
+amount-letters t line a form e =
+    let read = amount-read t line a e in
+    let parts = and-three (nat_le 4 (length line)) (list_all (is_in A) (take 3 line)) (list_all (is_in X) (drop 3 line)) form in
+    (ap (λ (x : List ℕ). length x) read.ccy ∙ length-take-le 3 line (within-4 (length line) parts.0), ap (λ (x : List ℕ). list_all (is_in A) x) read.ccy ∙ parts.1)
+
+amount-written : (t : Tables) (line : List ℕ) (a : Amount) → IsAmount a → is_ccy_amount line ≡ true → ccy_amount_in t line ≡ Ok a → AmountWritten t a
+amount-written t line a is form e =
+    let read = amount-read t line a e in
+    let letters = amount-letters t line a form e in
+    amount-spelled t a is letters.0 letters.1 (ap (λ (x : List ℕ). decimals_in t x) read.ccy ∙ read.known)
 
 pub ccy_amount-again : (tag : ℕ) (letter : Option ℕ) (t : Tables) (f : Field) (a : Amount) → IsAmount a → ccy_amount_of t f ≡ Ok a → ccy_amount_of t (ccy_amount_field tag letter a) ≡ Ok a
 unfolding ccy_amount_of

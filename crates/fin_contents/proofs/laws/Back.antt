@@ -36,13 +36,13 @@ each-weaker P R (x ∷ xs) p h = (h x p.0, each-weaker P R xs p.1 h)
 in-front : (segs : List (List Field)) (k : ℕ) (o : Option (ℕ × Field)) → field_in (joined segs) (places_of 0 segs) (0 + k) ≡ o → field_in (joined segs) (places_of 0 segs) k ≡ o
 in-front segs k o e = let same : 0 + k ≡ k = omega arith in rw same at e
 
-one-back : {A : Type 0} (order : List Place) (segs : List (List Field)) (k : ℕ) (read : Field → Result A Code) (f : Field) (x : A) → slice_get segs k ≡ Some (f ∷ []) → read f ≡ Ok x
+pub one-back : {A : Type 0} (order : List Place) (segs : List (List Field)) (k : ℕ) (read : Field → Result A Code) (f : Field) (x : A) → slice_get segs k ≡ Some (f ∷ []) → read f ≡ Ok x
     → in_place order (joined segs) (places_of 0 segs) k read ≡ Ok x
 one-back order segs k read f x at e =
     let there = grouped-field segs 0 k f [] at in
     rw (in-front segs k (Some (there.0, f)) there.1, e) refl
 
-option-back : {A : Type 0} (segs : List (List Field)) (k : ℕ) (read : Field → Result A Code) (write : A → Field) (o : Option A) → slice_get segs k ≡ Some (some_field write o) → IfSome o (λ x. read (write x) ≡ Ok x)
+pub option-back : {A : Type 0} (segs : List (List Field)) (k : ℕ) (read : Field → Result A Code) (write : A → Field) (o : Option A) → slice_get segs k ≡ Some (some_field write o) → IfSome o (λ x. read (write x) ≡ Ok x)
     → in_option (joined segs) (places_of 0 segs) k read ≡ Ok o
 option-back segs k read write None at e = rw (in-front segs k None (grouped-none segs 0 k at)) refl
 option-back segs k read write (Some x) at e =
@@ -58,7 +58,7 @@ lines-back segs k tag letter read (line ∷ lines) at (inr e) =
     let there = grouped-field segs 0 k (lines_field tag letter (line ∷ lines)) [] at in
     (Some (line ∷ lines), rw (in-front segs k (Some (there.0, lines_field tag letter (line ∷ lines))) there.1, e) refl, refl)
 
-reads-all : {A : Type 0} (read : Field → Result A Code) (write : A → Field) (xs : List A) → AllByRecursion (λ x. read (write x) ≡ Ok x) xs → ReadsAll read (map write xs) xs
+pub reads-all : {A : Type 0} (read : Field → Result A Code) (write : A → Field) (xs : List A) → AllByRecursion (λ x. read (write x) ≡ Ok x) xs → ReadsAll read (map write xs) xs
 reads-all read write [] e = tt
 reads-all read write (x ∷ xs) e = (e.0, reads-all read write xs e.1)
 

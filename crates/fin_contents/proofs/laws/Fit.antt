@@ -33,16 +33,16 @@ line-fit tag letter line h x = record {
 }
 
 -- a line of parts that are of X
-parts-of-x : (n : ℕ) (line : List ℕ) → list_all (is_in X) (take n line) ≡ true → list_all (is_in X) (drop n line) ≡ true → list_all (is_in X) line ≡ true
+pub parts-of-x : (n : ℕ) (line : List ℕ) → list_all (is_in X) (take n line) ≡ true → list_all (is_in X) (drop n line) ≡ true → list_all (is_in X) line ≡ true
 parts-of-x n line front back =
     sym (ap (list_all (is_in X)) (take-append-drop n line)) ∙ (list_all-append (is_in X) (take n line) (drop n line) ∙ rw (front, back) refl)
 
-ccy_amount-of-x : (line : List ℕ) → is_ccy_amount line ≡ true → list_all (is_in X) line ≡ true
+pub ccy_amount-of-x : (line : List ℕ) → is_ccy_amount line ≡ true → list_all (is_in X) line ≡ true
 ccy_amount-of-x line e =
     let parts = and-three (nat_le 4 (length line)) (list_all (is_in A) (take 3 line)) (list_all (is_in X) (drop 3 line)) e in
     parts-of-x 3 line (letters-of-x (take 3 line) parts.1) parts.2
 
-dated_amount-of-x : (line : List ℕ) → is_dated_amount line ≡ true → list_all (is_in X) line ≡ true
+pub dated_amount-of-x : (line : List ℕ) → is_dated_amount line ≡ true → list_all (is_in X) line ≡ true
 dated_amount-of-x line e =
     let parts = and-three (nat_le 10 (length line)) (list_all (is_in N) (take 6 line)) (is_ccy_amount (drop 6 line)) e in
     parts-of-x 6 line (digits-of-x (take 6 line) parts.1) (ccy_amount-of-x (drop 6 line) parts.2)
