@@ -191,14 +191,14 @@ module _ {S D : Type 0} (source : sources.Ghosts S) (d : disks.Ghosts D) (direct
       served = left;
       tried = tried_at books readings history (d.faults new) made told turn before (d.faults new) gives.0 gives.2;
       alone = in_order books readings history (d.faults new) made told turn before (d.faults new) gives.0 gives.2;
-      cause = cause_of books readings history (d.faults new) made told turn before (d.faults new) gives.0 was refl (still left.disk) gives.2;
+      cause = cause_of books readings history (d.faults new) made told turn before (d.faults new) gives.0 was refl (still left.leaves) gives.2;
     })
 
 -- ---- a day that was served, or for which there was no memory
 
 -- what was left of books on an opening's accounts
 left_on : {D : Type 0} (d : disks.Ghosts D) (o : Opening) (readings : List (Result Pay NoPay)) (chart : Chart) (history : List Entry) (left : D) → HasServed d o readings chart history left → HasServed d o readings o.accounts history left
-left_on d o readings chart history left has = record { accounts = refl; added = has.added; is = has.is; each = has.each; journal = has.journal; disk = has.disk; honest = has.honest }
+left_on d o readings chart history left has = record { accounts = refl; added = has.added; is = has.is; each = has.each; journal = has.journal; leaves = has.leaves; honest = has.honest }
 
 module _ {S D : Type 0} (source : sources.Ghosts S) (d : disks.Ghosts D) (directory : Directory) (workers : ℕ) (from to : S) (old : Parts D) (bytes : List ℕ) (cut : List (List ℕ)) (file : HasMessages source from to bytes cut)
     (are : AreInstructions directory.tables directory.ssi) (sound : IsChart old.accounts) (count before : ℕ) (was : before ≡ old.at_open) (counted : count ≡ length old.base) where

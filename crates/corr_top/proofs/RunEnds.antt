@@ -178,7 +178,7 @@ module _ {S K D : Type 0} (source : sources.Ghosts S) (d : disks.Ghosts D) (day 
             alone = λ one. subst (λ es. EntersInOrder opened.accounts opened.base (pays_of i) day es stops.stop) served.is
                 (subst (λ (x : List Pay × Day). EntersInOrder opened.accounts opened.base x.0 x.1 stops.history stops.stop) (λ k. (sym pays k, of_day k)) (stops.alone one));
             journal = subst (λ es. IsJournal opened.accounts es) served.is served.journal;
-            left = subst (λ es. IsLeft d old.disk new.disk opened.accounts es day) served.is (is_left stops.history served.disk);
+            left = subst (λ es. IsLeft d old.disk new.disk opened.accounts es day) served.is (is_left stops.history served.leaves);
             cause = subst (λ es. BookCause d old.disk new.disk i es stops.stop) served.is
                 (cause_of i stops.history stops.stop refl (subst (λ ps. StopCause books ps stops.history (d.faults new.disk) stops.stop) (sym pays) stops.cause) refl (sym of_day) refl);
           } in
@@ -213,7 +213,7 @@ module _ {S K D : Type 0} (source : sources.Ghosts S) (d : disks.Ghosts D) (day 
             entered = λ k pay at. subst (λ (es : List Entry). IsSome (entered_at pay.mir es)) history_is (a.entered k pay (ap (λ (ps : List Pay). slice_get ps k) (sym pays) ∙ at));
             alone = λ one. sym history_is ∙ a.alone one ∙ (λ k. fold_of opened.accounts opened.base (sym pays k) (of_day k));
           } in
-          let on : (d.faults new.disk ≡ opened.at_open) × IsOnDisk d new.disk opened.accounts history = alone_on history had.calm served.disk in (
+          let on : (d.faults new.disk ≡ opened.at_open) × IsOnDisk d new.disk opened.accounts history = alone_on history had.calm served.leaves in (
             record {
               passed = (p.0, (p.1.0, (p.1.1.0, (p.1.1.1.0, (holds, (latest, (had.file, (answered, tt))))))));
               leaves = record {

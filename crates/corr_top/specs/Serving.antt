@@ -130,7 +130,7 @@ pub record HasServed {D : Type 0} (disk : disks.Ghosts D) (o : Opening) (reading
   pub is : history ≡ o.base ++ added
   pub each : All (IsAdded o.day (pays_in readings)) added
   pub journal : IsJournal o.accounts history
-  pub disk : LeavesClosed disk o history left
+  pub leaves : LeavesClosed disk o history left
   pub honest : disk.honest left ≡ o.honest
 
 -- Messages were served over books, and the books were closed: what is left, and what was made of each message; or there was no memory to serve any, and nothing was entered.

@@ -80,7 +80,7 @@ returns-clause-served g c =
         is = closes.is;
         each = added_of o reading jobs (λ v. v.items) news before after c.seat.ensures history faults new closes replies worked.ensures.served worked.ensures.none;
         journal = subst (λ (chart : Chart). IsJournal chart history) ends.accounts ends.journal;
-        disk = ends.disk;
+        leaves = ends.disk;
         honest = ends.honest;
       };
       told = told_of o reading jobs (λ v. v.items) news before after c.seat.ensures history faults new closes replies worked.ensures.served;
