@@ -1,5 +1,7 @@
-//! The commands over disks that fail or stop, each by the top call.
+//! The commands over disks that fail or stop, and with workers that meet, each by the top call.
 #![tactic(auto)]
 
+#[cfg(test)]
+mod gates;
 #[cfg(test)]
 mod stops;

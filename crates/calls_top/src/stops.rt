@@ -7,6 +7,8 @@ use corr_top::{Done, Room, Status, Tables, corr};
 use std::alloc::Global;
 use std::sync::Wait;
 use std::test::Fail;
+use std::thread::Threads;
+use work_pool::OpenGate;
 
 const BICS: &[u8] = b"HOMEUS33\nALPHDEFF\nCORRBEBB\n";
 
@@ -65,7 +67,7 @@ fn room<D: Disk + Drop>(alloc: Global, disk: D) -> Result<Room<MemSource, MemSin
 }
 
 // A command over a disk.
-fn call<R: Wait, D: Disk + Drop>(
+fn call<R: Wait + Threads + Sync, D: Disk + Drop + Send>(
     rt: &R,
     alloc: Global,
     command: &[&[u8]],
@@ -73,10 +75,14 @@ fn call<R: Wait, D: Disk + Drop>(
 ) -> Result<Ended<D>, Memory> {
     let texts = words(alloc, command)?;
     let room = room(alloc, disk)?;
-    Ok(corr(rt, alloc, texts.as_slice(), room))
+    Ok(corr(rt, alloc, texts.as_slice(), room, &OpenGate))
 }
 
-fn run<R: Wait, D: Disk + Drop>(rt: &R, alloc: Global, disk: D) -> Result<Ended<D>, Memory> {
+fn run<R: Wait + Threads + Sync, D: Disk + Drop + Send>(
+    rt: &R,
+    alloc: Global,
+    disk: D,
+) -> Result<Ended<D>, Memory> {
     call(rt, alloc, &[b"run", b"240603", b"1"], disk)
 }
 
@@ -86,7 +92,7 @@ fn left(ended: Ended<FuseDisk>) -> Text {
 }
 
 // The bytes of a new journal.
-fn journal<R: Wait>(rt: &R, alloc: Global) -> Result<Text, Memory> {
+fn journal<R: Wait + Threads + Sync>(rt: &R, alloc: Global) -> Result<Text, Memory> {
     let disk = FuseDisk::new(alloc, Text::from_bytes(alloc, b"")?, 100, 0);
     let made = call(rt, alloc, &[b"init", b"HOMEUS33"], disk)?;
     Ok(left(made))
@@ -121,7 +127,7 @@ fn a_disk_that_fails_once_ends_the_run(rt: HostRuntime) -> Result<(), Fail> {
 }
 
 // Whether a run over a disk that stops after so many calls, and the same over what it leaves, come out as they must.
-fn is_made_good<R: Wait>(
+fn is_made_good<R: Wait + Threads + Sync>(
     rt: &R,
     alloc: Global,
     journal: &Text,

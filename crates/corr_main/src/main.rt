@@ -15,9 +15,11 @@ use std::io::Write;
 use std::os::fd::{AsRawFd, IntoRawFd};
 use std::process::ExitCode;
 use std::sync::Wait;
+use std::thread::Threads;
+use work_pool::OpenGate;
 
 const HELP: &[u8] =
-    b"corr FOLDER init HOME       makes journal.bin for the home bank HOME, a BIC, with the accounts of\n                            accounts.csv\ncorr FOLDER run DATE 1      books the messages of messages.fin on DATE (YYMMDD), prints the report and\n                            appends the messages that leave to out.fin\ncorr FOLDER send FROM UNTIL appends to out.fin once more what leaves for the entries at these places\ncorr FOLDER bookings        prints the entries\n\nA folder has bics.csv, ccys.csv, countries.csv, accounts.csv, ssi.csv and messages.fin.\n\ncorr --help     prints this\ncorr --version  prints the version\n\nStatus 0 done; 1 other words; 2 a table row is refused; 3 a file can't be read; 4 the report or\nout.fin can't be written; 5 journal.bin can't be read or written; 6 there is no journal, it is\ndamaged, or it is there already, or the openings don't balance; 7 no memory; 8 DATE is before the\nlast entry's day; 9 the message file is too large; 10 it can't be cut; 11 the journal is full. Each\nbut 0 has its line on standard error.\n";
+    b"corr FOLDER init HOME       makes journal.bin for the home bank HOME, a BIC, with the accounts of\n                            accounts.csv\ncorr FOLDER run DATE N      books the messages of messages.fin on DATE (YYMMDD) with N workers, 1 to 16,\n                            prints the report and appends the messages that leave to out.fin\ncorr FOLDER send FROM UNTIL appends to out.fin once more what leaves for the entries at these places\ncorr FOLDER bookings        prints the entries\n\nA folder has bics.csv, ccys.csv, countries.csv, accounts.csv, ssi.csv and messages.fin.\n\ncorr --help     prints this\ncorr --version  prints the version\n\nStatus 0 done; 1 other words; 2 a table row is refused; 3 a file can't be read; 4 the report or\nout.fin can't be written; 5 journal.bin can't be read or written; 6 there is no journal, it is\ndamaged, or it is there already, or the openings don't balance; 7 no memory; 8 DATE is before the\nlast entry's day; 9 the message file is too large; 10 it can't be cut; 11 the journal is full. Each\nbut 0 has its line on standard error.\n";
 
 const VERSION: &[u8] = b"corr 0.1.0\n";
 
@@ -130,15 +132,20 @@ fn room<'a>(rt: &'a HostRuntime, folder: &[u8]) -> Result<Files<'a>, Memory> {
     })
 }
 
-/// Does what the words behind the folder say. `waiter` is the handle by which a run waits for the locks of accounts.
-fn run(rt: &HostRuntime, waiter: &impl Wait, folder: &[u8], words: &[Text]) -> Status
+/// Does what the words behind the folder say. `waiter` is the handle by which a run starts its workers, and waits for locks.
+fn run(
+    rt: &HostRuntime,
+    waiter: &(impl Wait + Threads + Sync),
+    folder: &[u8],
+    words: &[Text],
+) -> Status
     ensures { HasLine result }
 {
     let room = match room(rt, folder) {
         Ok(room) => room,
         Err(Memory) => return Status::Memory,
     };
-    let done = corr(waiter, rt.alloc(), words, room);
+    let done = corr(waiter, rt.alloc(), words, room, &OpenGate);
     let status = done.status;
     // as one step: the checker counts each part of a value that ends with the function
     drop(done);
@@ -158,7 +165,7 @@ fn print(rt: &HostRuntime, text: &[u8]) -> Status
 }
 
 /// Without a folder, or with an empty one, no file is touched.
-fn command(rt: &HostRuntime, waiter: &impl Wait, words: &[Text]) -> Status
+fn command(rt: &HostRuntime, waiter: &(impl Wait + Threads + Sync), words: &[Text]) -> Status
     ensures { HasLine result }
 {
     match words {
@@ -171,7 +178,7 @@ fn command(rt: &HostRuntime, waiter: &impl Wait, words: &[Text]) -> Status
 }
 
 /// Does what the command line says. `ReadFault`: the null device is not there.
-fn start(rt: &HostRuntime, waiter: &impl Wait) -> Status
+fn start(rt: &HostRuntime, waiter: &(impl Wait + Threads + Sync)) -> Status
     ensures { HasLine result }
 {
     if fill_standard(rt).is_err() {

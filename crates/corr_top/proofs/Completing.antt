@@ -1,5 +1,5 @@
 -- Where nothing is wrong, a command is done or wants memory.
-use Rattle.std.proofs.Common.{◌≡◌, ℕ, ◌+◌, ◌≤◌, ◌⊎◌, inl, inr, Bool, true, false, cond, List, [], ◌∷◌, ◌++◌, length, map, Option, Some, None, refl, sym, ap, ◌∙◌, subst, arith, append-nil, nat_le, length-append}
+use Rattle.std.proofs.Common.{◌≡◌, ℕ, ◌+◌, ◌≤◌, ◌⊎◌, inl, inr, All, Bool, true, false, cond, List, [], ◌∷◌, ◌++◌, length, map, Option, Some, None, refl, sym, ap, ◌∙◌, subst, arith, append-nil, nat_le, length-append}
 use Rattle.std.specs.Prelude.{IfSome, slice_get}
 use Rattle.std.specs.Option.{option_map_or}
 use Rattle.std.proofs.lemmas.Bool.Decides.{nat_tests}
@@ -17,6 +17,7 @@ use Rattle.day_model.specs.declared.fault.AccountsFault.TheVariants as accounts
 use Rattle.day_model.specs.declared.pay.Pay.{Pay}
 use Rattle.day_model.specs.Chart.{Chart, opening_sum}
 use Rattle.day_model.specs.Laws.{IsLatest}
+use Rattle.day_model.specs.Legal.{IsLegal}
 use Rattle.fin_frame.specs.Machine.{at_start, run, with_open}
 use Rattle.fin_frame.proofs.laws.Showing.{cut-comes}
 use Rattle.jrn_book.specs.Opening.{Finding, IsFound, book, faulty, no_book}
@@ -43,7 +44,6 @@ use Rattle.corr_top.specs.declared.answers.BookStop.TheVariants as booking
 use Rattle.corr_top.specs.declared.cutting.FileStop.{FileStop}
 use Rattle.corr_top.specs.declared.cutting.FileStop.TheVariants as file
 use Rattle.corr_top.specs.declared.room.Room.{Room}
-use Rattle.corr_top.specs.declared.run.DateBack.{DateBack}
 use Rattle.corr_top.specs.declared.status.Status.{Status}
 use Rattle.corr_top.specs.declared.status.Status.TheVariants as status
 use Rattle.corr_top.specs.declared.tables.TableStop.{TableStop}
@@ -51,7 +51,7 @@ use Rattle.corr_top.specs.declared.tables.TableStop.TheVariants as table
 use Rattle.corr_top.specs.declared.words.Command.{Command}
 use Rattle.corr_top.specs.declared.words.Command.TheVariants.{Run, Plain}
 use Rattle.corr_top.specs.declared.words.Plain.TheVariants.{Init, Query}
-use Rattle.corr_top.specs.Booking.{IsBack, StopsBooking}
+use Rattle.corr_top.specs.Booking.{IsAdded, IsBack, LacksRoomThen, StopsBooking}
 use Rattle.corr_top.specs.Commands.{IsFor, steps_of}
 use Rattle.corr_top.specs.Complete.{HasRoomForAll, IsReady, IsSound, IsSure, Told}
 use Rattle.corr_top.specs.Ends.{Ends, HasStopped}
@@ -66,6 +66,7 @@ use Rattle.corr_top.specs.Stops.{status_of_booking, status_of_file, status_of_ma
 use Rattle.corr_top.specs.Writing.{FailsWriting}
 use Rattle.corr_top.proofs.MessageFiles.{no-fault}
 use Rattle.corr_top.proofs.Rooms.{has_room}
+use Rattle.corr_top.proofs.Fronts.{All-front, legal_front}
 
 -- ---- files that are told whole
 
@@ -218,7 +219,7 @@ opening_memory d old new chart history (opening.Damaged at) sure holds stops =
 opening_memory d old new chart history (opening.DiskFault b a) sure holds stops = absurd (sure.sound (tells_rose (d.faults old) b a (d.faults new) stops.cause))
 opening_memory d old new chart history opening.Memory sure holds stops = refl
 
-day_memory : (history meant : List Entry) (day : Day) (stop : DateBack) → history ≡ meant → IsLatest meant day → IsBack history day stop → ⊥
+day_memory : (history meant : List Entry) (day : Day) (stop : Day) → history ≡ meant → IsLatest meant day → IsBack history day stop → ⊥
 day_memory history meant day stop same latest back =
     let at : slice_get meant (length back.front) ≡ Some back.last = ap (λ (es : List Entry). slice_get es (length back.front)) (sym (sym back.history_is ∙ same)) ∙ at_end back.front back.last in
     let le = latest (length back.front) back.last at in
@@ -240,13 +241,24 @@ messages_memory source old new bytes meant cut (file.Framing at) told is stops =
     ap status_of_file (no-fault meant cut (file.Framing at) is (subst (λ f. StopsCutting f (file.Framing at)) same stops.1))
 messages_memory source old new bytes meant cut file.Memory told is stops = refl
 
+-- what was entered then is a beginning of what was added
+added_is : (history added front later : List Entry) → history ++ added ≡ (history ++ front) ++ later → added ≡ front ++ later
+added_is [] added front later is = is
+added_is (e ∷ history) added front later is = added_is history added front later (cc (is))
+
+front_legal : (j : Inputs) (added : List Entry) {entries end need : ℕ} → (lacks : LacksRoomThen j.chart j.history (pays_of j) j.day (j.history ++ added) entries end need) → IsLegal j.chart (j.history ++ added) → IsLegal j.chart (j.history ++ lacks.front)
+front_legal j added lacks legal = legal_front j.chart (j.history ++ lacks.front) lacks.later (subst (IsLegal j.chart) lacks.left_is legal)
+
+front_added : (j : Inputs) (added : List Entry) {entries end need : ℕ} → All (IsAdded j.day (pays_of j)) added → (lacks : LacksRoomThen j.chart j.history (pays_of j) j.day (j.history ++ added) entries end need) → All (IsAdded j.day (pays_of j)) lacks.front
+front_added j added each lacks = All-front (IsAdded j.day (pays_of j)) lacks.front lacks.later (subst (λ (es : List Entry). All (IsAdded j.day (pays_of j)) es) (added_is j.history added lacks.front lacks.later lacks.left_is) each)
+
 booking_memory : {D : Type 0} (d : disks.Ghosts D) (old new : D) (j i : Inputs) (stop : BookStop) → IsSure d old new → HasRoomForAll i.chart i.history (pays_of i) → j.chart ≡ i.chart → j.history ≡ i.history → pays_of j ≡ pays_of i
     → StopsBooking d old new j stop → status_of_booking stop ≡ status.Memory
 booking_memory d old new j i (booking.DiskFault b a) sure room chart history pays stops = absurd (sure.sound (tells_rose (d.faults old) b a (d.faults new) stops.cause))
 booking_memory d old new j i (booking.Full entries end need) sure room chart history pays stops =
     absurd (has_room j.chart j.history (pays_of j) j.day (j.history ++ stops.added) entries end need
     (subst (λ (c : Chart). HasRoomForAll c j.history (pays_of j)) (sym chart) (subst (λ (h : List Entry). HasRoomForAll i.chart h (pays_of j)) (sym history) (subst (λ (ps : List Pay). HasRoomForAll i.chart i.history ps) (sym pays) room)))
-    stops.cause.1)
+    stops.cause.1 (front_legal j stops.added stops.cause.1 stops.journal.legal) (front_added j stops.added stops.each stops.cause.1))
 booking_memory d old new j i booking.Memory sure room chart history pays stops = refl
 
 module _ {S K D : Type 0} (source : sources.Ghosts S) (d : disks.Ghosts D) (old new : Room S K D) (j i : Inputs) (home : j.home ≡ i.home) (day : j.day ≡ i.day) where
@@ -291,7 +303,7 @@ later : (s : Step) (done : List Step) → HasThree done → HasThree (s ∷ done
 later s done three = record { bics = inr three.bics; ccys = inr three.ccys; countries = inr three.countries }
 
 ordered : (command : Command) → AreOrdered [] (steps_of command)
-ordered (Run day) =
+ordered (Run day workers) =
     let three = three_read in
     let five = later Step.messages _ (later Step.day _ (later Step.open_journal _ (later (Step.table names.Ssi) _ three))) in
     (tt, (tt, (tt, (three, (tt, (inl refl, (tt, (record { three = five; ssi = inr (inr (inr (inl refl))); journal = inr (inr (inl refl)); messages = inl refl }, tt))))))))
@@ -308,8 +320,8 @@ no_write_fault sink old new report from to out then now sound sent (inr f) = sen
 -- a command that stopped wants memory
 stopped_memory : {S K D : Type 0} (source : sources.Ghosts S) (d : disks.Ghosts D) (sink : sinks.Ghosts K) (command : Command) (old new : Room S K D) (j i : Inputs) (s : Status) → IsFor command j → IsSound source sink d command old new i
     → HasStopped source d command old new s j → s ≡ status.Memory
-stopped_memory source d sink (Run day) old new j i s is sound (inl halts) =
-    halts_memory source d old new j (record i { home = j.home }) refl (is ∙ sym sound.are_for) s [] (steps_of (Run day)) (ordered (Run day)) tt sound.ready halts
+stopped_memory source d sink (Run day workers) old new j i s is sound (inl halts) =
+    halts_memory source d old new j (record i { home = j.home }) refl (is.0 ∙ sym sound.are_for.0) s [] (steps_of (Run day workers)) (ordered (Run day workers)) tt sound.ready halts
 stopped_memory source d sink (Plain (Init home)) old new j i s is sound (inl halts) =
     halts_memory source d old new j (record i { day = j.day }) (is ∙ sym sound.are_for) refl s [] (steps_of (Plain (Init home))) (ordered (Plain (Init home))) tt sound.ready halts
 stopped_memory source d sink (Plain (Query asked)) old new j i s is sound (inl halts) =

@@ -1,48 +1,236 @@
--- A day whose messages were all answered: its texts, and what they send.
-use Rattle.std.proofs.Common.{◌≡◌, ◌+◌, ℕ, List, Ok, ap, ◌∙◌, subst, length}
+-- A day that was served: its texts and what they send, or why there are none.
+use Rattle.std.proofs.Common.{◌≡◌, ◌+◌, ◌<◌, ◌≤◌, ◌⊎◌, inl, inr, ℕ, zero, suc, All, List, [], ◌∷◌, ◌++◌, Ok, Err, Result, Some, refl, ap, arith, sym, ◌∙◌, subst, length}
+use Rattle.std.specs.Prelude.{IfErr, IfOk, IsSome, slice_get}
+use Rattle.std.proofs.lemmas.Option.{none-some, same_Some}
 use Rattle.corr_disk.specs.declared.disk.Disk as disks
 use Rattle.corr_io.specs.declared.source.Source as sources
-use Rattle.corr_ids.specs.declared.day.Day.{Day}
-use Rattle.corr_report.specs.Report.{report_of}
+use Rattle.corr_text.specs.Faults.{Rose}
+use Rattle.corr_books.specs.Closing.{LeavesClosed}
+use Rattle.corr_books.specs.Opening.{Opening, Parts, opening_of}
+use Rattle.corr_books.specs.Telling.{ShowsFull}
 use Rattle.day_model.specs.declared.entry.Entry.{Entry}
+use Rattle.day_model.specs.declared.pay.Pay.{Pay}
 use Rattle.day_model.specs.declared.reply.Reply.{Reply}
 use Rattle.day_model.specs.Chart.{Chart, IsChart}
-use Rattle.day_model.specs.Legal.{IsLegal}
-use Rattle.jrn_book.specs.Book.{Book}
+use Rattle.day_model.specs.Next.{entered_at}
+use Rattle.front_word.proofs.laws.Prefixes.{get_below}
+use Rattle.jrn_book.specs.Answers.{IsFull}
+use Rattle.jrn_codec.specs.Record.{IsEntry}
 use Rattle.ssi_versions.specs.InstructionList.{AreInstructions}
+use Rattle.corr_report.specs.Report.{NamesPlace, report_of}
+use Rattle.corr_top.specs.declared.answers.BookStop.{BookStop}
+use Rattle.corr_top.specs.declared.answers.BookStop.TheVariants as booking
+use Rattle.corr_top.specs.declared.desk.Served.{Served}
+use Rattle.corr_top.specs.declared.desk.Served.TheVariants as served
 use Rattle.corr_top.specs.declared.directory.Directory.{Directory}
+use Rattle.corr_top.specs.declared.message.NoPay.{NoPay}
+use Rattle.corr_top.specs.declared.serving.ServedDay.{ServedDay}
+use Rattle.corr_top.specs.declared.status.Status.{Status}
+use Rattle.corr_top.specs.declared.status.Status.TheVariants as status
 use Rattle.corr_top.specs.declared.writing.Texts.{Texts}
-use Rattle.corr_top.specs.Days.{GivesDay, HasDay, HasFile}
-use Rattle.corr_top.specs.Message.{readings_of}
-use Rattle.corr_top.specs.Origin.{AreSentValid, SendsAccepted}
+use Rattle.corr_top.specs.Booking.{EachTried, EntersInOrder, HadNoRoom, LacksRoomThen}
+use Rattle.corr_top.specs.Collecting.{IsCalm, StopsAsServed}
+use Rattle.corr_top.specs.Days.{GivesDay, GivesServed, GivesTexts, StopCause, StopsAtPays}
+use Rattle.corr_top.specs.Message.{pays_in, readings_of}
+use Rattle.corr_top.specs.Origin.{SendsAccepted}
 use Rattle.corr_top.specs.Out.{sent_from}
-use Rattle.corr_top.specs.Turns.{HasAnswered}
+use Rattle.corr_top.specs.Passing.{HasMessages}
+use Rattle.corr_top.specs.Serving.{AllServed, AreInTurn, AreTold, are_replies, HasPayShape, HasServed, IsFirstFull, IsShort, IsTold, IsTried}
+use Rattle.corr_top.specs.Stops.{status_of_booking}
+use Rattle.corr_top.proofs.Answering.{all_places, entered_by, has_answered}
+use Rattle.corr_top.proofs.FrontPart.{front_on}
+use Rattle.corr_top.proofs.Fronts.{All-behind}
+use Rattle.corr_top.proofs.NoRoom.{no_room}
 use Rattle.corr_top.proofs.Origins.{sent-valid}
+use Rattle.corr_top.proofs.Replying.{get_all}
+use Rattle.corr_top.proofs.Workers.{get_there, in_pays}
 
-module _ {S D : Type 0} (source : sources.Ghosts S) (d : disks.Ghosts D) (directory : Directory) (day : Day) (from to : S) (old new : Book D) (bytes : List ℕ) (cut given : List (List ℕ)) (same : given ≡ cut)
-    (file : HasFile source d directory day from to old new bytes cut) (replies : List Reply) (answered : HasAnswered d day old new (readings_of directory old.accounts given) replies) where
-  had : HasDay source d directory day from to old new bytes cut replies
-  had = record { file = file; answered = subst (λ (ms : List (List ℕ)). HasAnswered d day old new (readings_of directory old.accounts ms) replies) same answered }
+-- the entries behind the opening have the shape of what is written down
+shapes_of : (base added history : List Entry) → history ≡ base ++ added → All IsEntry history → All HasPayShape added
+shapes_of base added history is all k d within =
+    (All-behind IsEntry base added (subst (λ (es : List Entry). All IsEntry es) is all) k d within).pay
 
-  -- what is sent of its entries is valid
-  day_valid : AreInstructions directory.tables directory.ssi → IsChart old.accounts → SendsAccepted old.accounts (length old.history + 1) new.history → AreSentValid directory.tables old.accounts (length old.history + 1) new.history
-  day_valid are sound sends =
-      let grown = had.answered.grown in
-      sent-valid directory old.accounts day cut old.history grown.added new.history are sound grown.history grown.each grown.shapes (subst (λ (c : Chart). IsLegal c new.history) grown.accounts grown.legal) sends
+-- a pay is that of a message
+from_pays : (readings : List (Result Pay NoPay)) (k : ℕ) (pay : Pay) → slice_get (pays_in readings) k ≡ Some pay → (n : ℕ) × (slice_get readings n ≡ Some (Ok pay))
+from_pays [] k pay at = absurd (none-some pay at)
+from_pays (Ok p ∷ readings) zero pay at = (zero, ap (λ (x : Pay). Some (Ok x)) (same_Some p pay at))
+from_pays (Ok p ∷ readings) (suc k) pay at = let r = from_pays readings k pay at in (suc r.0, r.1)
+from_pays (Err why ∷ readings) k pay at = let r = from_pays readings k pay at in (suc r.0, r.1)
 
-  -- its texts were made
-  pub day_done : (a : Chart) (h : List Entry) (count : ℕ) (told : List Reply) (texts : Texts) → a ≡ new.accounts → h ≡ new.history → count ≡ length old.history → told ≡ replies
-      → texts.report ≡ report_of a h told → texts.out ≡ sent_from a (count + 1) h → AreInstructions directory.tables directory.ssi → IsChart old.accounts → SendsAccepted a (count + 1) h
-      → GivesDay source d directory day from to old new (Ok texts)
-  day_done a h count told texts accounts history counted told_is report out are sound sends =
-      let chart : a ≡ old.accounts = accounts ∙ answered.grown.accounts in (
-        bytes,
-        cut,
-        replies,
-        had,
-        report ∙ ap (λ (c : Chart). report_of c h told) chart ∙ ap (λ (es : List Entry). report_of old.accounts es told) history ∙ ap (report_of old.accounts new.history) told_is,
-        out ∙ ap (λ (c : Chart). sent_from c (count + 1) h) chart ∙ ap (λ (n : ℕ). sent_from old.accounts (n + 1) h) counted ∙ ap (sent_from old.accounts (length old.history + 1)) history,
-        day_valid are sound
-            (subst (λ (es : List Entry). SendsAccepted old.accounts (length old.history + 1) es) history
-            (subst (λ (n : ℕ). SendsAccepted old.accounts (n + 1) h) counted (subst (λ (c : Chart). SendsAccepted c (count + 1) h) chart sends))),
-      )
+module _ (o : Opening) (readings : List (Result Pay NoPay)) (history : List Entry) (faults : ℕ) (made : List Served) (told : AreTold o history readings made) (turn : o.made ≡ 1 → AreInTurn o history readings made) where
+  -- ---- pays that found no room
+
+  short_of : (reading : Result Pay NoPay) (at entries end need : ℕ) → slice_get readings at ≡ Some reading → IsShort o history reading entries end need → LacksRoomThen o.accounts o.base (pays_in readings) o.day history entries end need
+  short_of reading at entries end need there short =
+      let place = in_pays readings at short.pay (there ∙ ap (λ (r : Result Pay NoPay). Some r) short.asks) in
+      let shows = subst (λ (h : List Entry). ShowsFull o short.pay h entries end need) (sym short.from.1) short.shows in
+      record {
+        place = place.0;
+        pay = short.pay;
+        pay_is = place.1;
+        front = short.from.0;
+        later = short.begins.0;
+        left_is = sym short.begins.1 ∙ ap (λ (h : List Entry). h ++ short.begins.0) (sym short.from.1);
+        new = shows.missing;
+        entries_are = shows.entries_are;
+        end_is = shows.end_is;
+        need_is = shows.need_is;
+        full = shows.full;
+      }
+
+  lacks_of : (entries end need : ℕ) → IsFirstFull made entries end need → LacksRoomThen o.accounts o.base (pays_in readings) o.day history entries end need
+  lacks_of entries end need first =
+      let below = get_below made first.at (served.Full entries end need) first.there in
+      let r = get_there readings first.at (let e = told.each in omega (arith, below, e)) in
+      short_of r.0 first.at entries end need r.1 (told.told first.at r.0 (served.Full entries end need) r.1 first.there)
+
+  -- ---- each pay was tried, where each message has a reply or found no room
+
+  one_tried : (pay : Pay) (one : Served) → IsTold o history (Ok pay) one → IsTried one → IsSome (entered_at pay.mir history) ⊎ HadNoRoom o.accounts o.base o.day history pay
+  one_tried pay (served.Reply r) is answered = inl (entered_by pay history r is)
+  one_tried pay (served.Full entries end need) short answered =
+      let same : short.pay ≡ pay = let a = short.asks in cc (a) in
+      let shows = subst (λ (h : List Entry). ShowsFull o short.pay h entries end need) (sym short.from.1) short.shows in
+      let full = subst (λ (n : ℕ). IsFull (o.base ++ short.from.0) end n) shows.need_is shows.full in
+      inr (subst (HadNoRoom o.accounts o.base o.day history) same (record {
+        front = short.from.0;
+        later = short.begins.0;
+        left_is = sym short.begins.1 ∙ ap (λ (h : List Entry). h ++ short.begins.0) (sym short.from.1);
+        new = shows.missing;
+        lacks = no_room o.accounts (o.base ++ short.from.0) short.pay o.day end shows.end_is full;
+      }))
+  one_tried pay (served.Stopped why) is answered = absurd answered
+
+  tried : All IsTried made → (k : ℕ) (pay : Pay) → slice_get (pays_in readings) k ≡ Some pay → IsSome (entered_at pay.mir history) ⊎ HadNoRoom o.accounts o.base o.day history pay
+  tried all k pay at =
+      let n = from_pays readings k pay at in
+      let below = get_below readings n.0 (Ok pay) n.1 in
+      let m = get_there made n.0 (let e = told.each in omega (arith, below, e)) in
+      one_tried pay m.0 (told.told n.0 (Ok pay) m.0 n.1 m.1) (get_all IsTried made n.0 m.0 all m.1)
+
+  tried_at : (before after : ℕ) (stop : BookStop) → StopsAsServed before after made stop → EachTried o.accounts o.base (pays_in readings) o.day history stop
+  tried_at before after (booking.DiskFault then now) stops = tt
+  tried_at before after (booking.Full entries end need) stops = tried stops.2
+  tried_at before after booking.Memory stops = tt
+
+  -- ---- which pays one worker entered
+
+  in_order : (before after : ℕ) (stop : BookStop) → StopsAsServed before after made stop → o.made ≡ 1 → EntersInOrder o.accounts o.base (pays_in readings) o.day history stop
+  in_order before after (booking.DiskFault then now) stops one = let e = (turn one).entered in record { entered = e.entered; stops = e.failed stops.3 }
+  in_order before after (booking.Full entries end need) stops one = let e = (turn one).entered in record { entered = e.entered; stops = e.all stops.2 }
+  in_order before after booking.Memory stops one = let e = (turn one).entered in record { entered = e.entered; stops = tt }
+
+  -- ---- why there are no texts
+
+  cause_of : (before after : ℕ) (stop : BookStop) → before ≡ o.at_open → after ≡ faults → (IsCalm o.at_open faults → faults ≡ o.at_open) → StopsAsServed before after made stop → StopCause o (pays_in readings) history faults stop
+  cause_of before after (booking.DiskFault then now) was is calm stops = (stops.0 ∙ was, stops.1 ∙ is, subst (λ (x : ℕ × ℕ). Rose x.0 x.1) (λ k. (sym stops.0 k, sym stops.1 k)) stops.2)
+  cause_of before after (booking.Full entries end need) was is calm stops =
+      (calm (subst (λ (x : ℕ × ℕ). IsCalm x.0 x.1) (λ k. (was k, is k)) stops.0), lacks_of entries end need stops.1, λ one. (turn one).short entries end need stops.1)
+  cause_of before after booking.Memory was is calm stops = tt
+
+module _ {S D : Type 0} (source : sources.Ghosts S) (d : disks.Ghosts D) (directory : Directory) (workers : ℕ) (from to : S) (old : Parts D) (new : D) (bytes : List ℕ) (cut : List (List ℕ)) (file : HasMessages source from to bytes cut)
+    (history : List Entry) (left : HasServed d (opening_of d old workers) (readings_of directory old.accounts cut) old.accounts history new) where
+  abbrev books : Opening
+  books = opening_of d old workers
+
+  abbrev readings : List (Result Pay NoPay)
+  readings = readings_of directory old.accounts cut
+
+  -- a count that has not risen is that at the opening
+  still : LeavesClosed d books history new → IsCalm old.at_open (d.faults new) → d.faults new ≡ old.at_open
+  still (inl alone) calm = alone.sure
+  still (inr failed) calm = absurd (calm failed.0)
+
+  -- there was no memory to serve any message
+  pub day_unserved : history ≡ old.base → GivesDay source d directory workers from to old new (Err (status_of_booking booking.Memory))
+  day_unserved none = inr (record {
+    stop = booking.Memory;
+    bytes = bytes;
+    cut = cut;
+    history = history;
+    status_is = refl;
+    file = file;
+    served = left;
+    tried = tt;
+    alone = λ one. record { entered = front_on old.accounts old.base [] (pays_in readings) old.day history none; stops = tt };
+    cause = tt;
+  })
+
+  module _ (made : List Served) (told : AreTold books history readings made) (turn : workers ≡ 1 → AreInTurn books history readings made) where
+    -- its texts were made
+    pub day_done : (count before : ℕ) (texts : Texts) → before ≡ old.at_open → count ≡ length old.base → AreInstructions directory.tables directory.ssi → IsChart old.accounts
+        → GivesTexts old.accounts history made before (d.faults new) count (Ok texts) → GivesDay source d directory workers from to old new (Ok texts)
+    day_done count before texts was counted are sound gives =
+        let replies = gives.0 in
+        let calm = subst (λ (n : ℕ). IsCalm n (d.faults new)) was gives.2 in
+        let sends = subst (λ (n : ℕ). SendsAccepted old.accounts (n + 1) history) counted gives.5 in (
+          bytes,
+          cut,
+          history,
+          replies,
+          record {
+            file = file;
+            served = left;
+            calm = calm;
+            answered = has_answered books history readings made replies told turn gives.1;
+          },
+          gives.3,
+          gives.4 ∙ ap (λ (n : ℕ). sent_from old.accounts (n + 1) history) counted,
+          sent-valid directory old.accounts old.day cut old.base left.added history are sound left.is left.each (shapes_of old.base left.added history left.is left.journal.entries) left.journal.legal sends,
+        )
+
+    -- or not
+    pub day_stops : (count before : ℕ) (s : Status) → before ≡ old.at_open → GivesTexts old.accounts history made before (d.faults new) count (Err s) → GivesDay source d directory workers from to old new (Err s)
+    day_stops count before s was gives = inr (record {
+      stop = gives.0;
+      bytes = bytes;
+      cut = cut;
+      history = history;
+      status_is = gives.1;
+      file = file;
+      served = left;
+      tried = tried_at books readings history (d.faults new) made told turn before (d.faults new) gives.0 gives.2;
+      alone = in_order books readings history (d.faults new) made told turn before (d.faults new) gives.0 gives.2;
+      cause = cause_of books readings history (d.faults new) made told turn before (d.faults new) gives.0 was refl (still left.leaves) gives.2;
+    })
+
+-- ---- a day that was served, or for which there was no memory
+
+-- what was left of books on an opening's accounts
+left_on : {D : Type 0} (d : disks.Ghosts D) (o : Opening) (readings : List (Result Pay NoPay)) (chart : Chart) (history : List Entry) (left : D) → HasServed d o readings chart history left → HasServed d o readings o.accounts history left
+left_on d o readings chart history left has = record { accounts = refl; added = has.added; is = has.is; each = has.each; journal = has.journal; leaves = has.leaves; honest = has.honest }
+
+module _ {S D : Type 0} (source : sources.Ghosts S) (d : disks.Ghosts D) (directory : Directory) (workers : ℕ) (from to : S) (old : Parts D) (bytes : List ℕ) (cut : List (List ℕ)) (file : HasMessages source from to bytes cut)
+    (are : AreInstructions directory.tables directory.ssi) (sound : IsChart old.accounts) (count before : ℕ) (was : before ≡ old.at_open) (counted : count ≡ length old.base) where
+  by_served : {V M : Type 0} (items : V → List Served) (history : List Entry) (new : D) → HasServed d (opening_of d old workers) (readings_of directory old.accounts cut) old.accounts history new
+      → (served : Result V M) → IfOk served (λ made. AreTold (opening_of d old workers) history (readings_of directory old.accounts cut) (items made))
+      → IfOk served (λ made. workers ≡ 1 → AreInTurn (opening_of d old workers) history (readings_of directory old.accounts cut) (items made)) → IfErr served (λ _. history ≡ old.base)
+      → (r : Result Texts Status) → IfOk served (λ made. GivesTexts old.accounts history (items made) before (d.faults new) count r) → IfErr served (λ _. r ≡ Err status.Memory)
+      → GivesDay source d directory workers from to old new r
+  by_served items history new left (Ok made) told turn none (Ok texts) gives memory = day_done source d directory workers from to old new bytes cut file history left (items made) told turn count before texts was counted are sound gives
+  by_served items history new left (Ok made) told turn none (Err s) gives memory = day_stops source d directory workers from to old new bytes cut file history left (items made) told turn count before s was gives
+  by_served items history new left (Err e) told turn none r gives memory =
+      subst (GivesDay source d directory workers from to old new) (sym memory) (day_unserved source d directory workers from to old new bytes cut file history left none)
+
+  pub day_ends : (day : ServedDay D) → AllServed d (opening_of d old workers) (readings_of directory old.accounts cut) day → (r : Result Texts Status) → GivesServed d day before count r → GivesDay source d directory workers from to old day.closed.disk r
+  day_ends day all r gives =
+      by_served (λ made. made.items) day.closed.history.entries day.closed.disk (left_on d (opening_of d old workers) (readings_of directory old.accounts cut) day.closed.accounts day.closed.history.entries day.closed.disk all.left)
+      day.served all.told all.turn all.none r
+      (subst (λ (c : Chart). IfOk day.served (λ made. GivesTexts c day.closed.history.entries made.items before (d.faults day.closed.disk) count r)) all.left.accounts gives.texts) gives.none
+
+-- what the making of the texts needs of a served day
+pub places_in : {D : Type 0} (d : disks.Ghosts D) (o : Opening) (readings : List (Result Pay NoPay)) (day : ServedDay D) → AllServed d o readings day
+    → IfOk day.served (λ made. (replies : List Reply) → made.items ≡ are_replies replies → All (NamesPlace day.closed.history.entries) replies)
+places_in d o readings day all = by_told (λ made. made.items) day.served all.told
+  where
+    by_told : {V M : Type 0} (items : V → List Served) (served : Result V M) → IfOk served (λ made. AreTold o day.closed.history.entries readings (items made))
+        → IfOk served (λ made. (replies : List Reply) → items made ≡ are_replies replies → All (NamesPlace day.closed.history.entries) replies)
+    by_told items (Ok made) told = λ replies is. all_places o day.closed.history.entries readings (items made) replies told is
+    by_told items (Err e) told = tt
+
+pub few_made : {D : Type 0} (d : disks.Ghosts D) (o : Opening) (readings : List (Result Pay NoPay)) (day : ServedDay D) → AllServed d o readings day → (n : ℕ) → length readings ≤ n → IfOk day.served (λ made. length made.items ≤ n)
+few_made d o readings day all n few = by_told (λ made. made.items) day.served all.told
+  where
+    by_told : {V M : Type 0} (items : V → List Served) (served : Result V M) → IfOk served (λ made. AreTold o day.closed.history.entries readings (items made)) → IfOk served (λ made. length (items made) ≤ n)
+    by_told items (Ok made) told = let e = told.each in omega (arith, e, few)
+    by_told items (Err e) told = tt

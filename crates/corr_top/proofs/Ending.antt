@@ -112,7 +112,7 @@ module _ {S K D : Type 0} (source : sources.Ghosts S) (disk : disks.Ghosts D) (s
   rest_again report out rest = cases command rest
     where
       cases : (c : Command) → KeepsRest c old room → KeepsRest c old (record room { report = report; out = out })
-      cases (Run day) rest = rest
+      cases (Run day workers) rest = rest
       cases (Plain (Init home)) rest = rest
       cases (Plain (Query asked)) rest = rest
 

@@ -49,7 +49,7 @@ use Rattle.corr_top.specs.Asks.{asks_cover, asks_transfer}
 use Rattle.corr_top.specs.Booking.{IsAdded}
 use Rattle.corr_top.specs.Message.{message_of, pay_in, pays_in, readings_of, refused, unrouted}
 use Rattle.corr_top.specs.Origin.{AreSentValid, SendsAccepted}
-use Rattle.corr_top.specs.Turns.{HasPayShape}
+use Rattle.corr_top.specs.Serving.{HasPayShape}
 use Rattle.corr_top.proofs.Senders.{AsksWell, IsGood, verdict-good}
 
 -- ---- lists

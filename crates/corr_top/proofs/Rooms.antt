@@ -1,13 +1,15 @@
 -- A journal that has room for all pays has room for each of them.
-use Rattle.std.proofs.Common.{◌≡◌, inl, inr, ℕ, ◌+◌, ◌<◌, ◌≤◌, ◌^◌, Bool, true, false, cond, List, [], ◌∷◌, ◌++◌, length, ap, ◌∙◌, arith, length-append}
-use Rattle.std.specs.Prelude.{is_some, sum_by}
+use Rattle.std.proofs.Common.{◌≡◌, ◌⊎◌, inl, inr, ℕ, zero, suc, ◌+◌, ◌<◌, ◌≤◌, ◌^◌, All, List, [], ◌∷◌, ◌++◌, length, map, None, Some, refl, sym, ap, ◌∙◌, subst, arith, append_assoc, length-append}
+use Rattle.std.specs.Prelude.{slice_get, sum_by}
 use Rattle.std.proofs.lemmas.List.{map-append}
 use Rattle.std.proofs.lemmas.List.Sums.{sum_by-append, sum_by-cons}
+use Rattle.std.proofs.lemmas.Option.{none-some, same_Some}
 use Rattle.corr_ids.specs.declared.day.Day.{Day}
 use Rattle.day_model.specs.declared.entry.Entry.{Entry}
 use Rattle.day_model.specs.declared.pay.Pay.{Pay}
 use Rattle.day_model.specs.Chart.{Chart}
-use Rattle.day_model.specs.Next.{entered_at, entry_of, fold_of, next_history}
+use Rattle.day_model.specs.Legal.{IsLegal}
+use Rattle.day_model.specs.Next.{entered_at, entry_of}
 use Rattle.jrn_book.specs.Journal.{file_of, records_of}
 use Rattle.jrn_book.specs.Room.{longest_record}
 use Rattle.jrn_book.proofs.laws.Sizes.{no_longer}
@@ -15,25 +17,21 @@ use Rattle.jrn_codec.specs.Header.{head_bytes}
 use Rattle.jrn_codec.specs.Record.{entry_bytes}
 use Rattle.jrn_file.specs.Reading.{size_of}
 use Rattle.jrn_file.proofs.laws.Sizes.{length-journal_bytes, size_of-append}
-use Rattle.corr_top.specs.Booking.{LacksRoom}
+use Rattle.corr_top.specs.Booking.{IsAdded, LacksRoomThen}
 use Rattle.corr_top.specs.Complete.{HasRoomForAll}
+use Rattle.corr_top.proofs.Replying.{get_all}
+use Rattle.corr_top.proofs.Serves.{entered_mir, get_at, split}
 
 -- ---- sums of lengths
 
 file_sum : (head all more own file next : ℕ) → file ≡ 5 + head + all + 1 → next ≡ 5 + head + more + 1 → more ≡ all + own → next ≡ file + own
 file_sum head all more own file next is now grown = omega arith
 
-one_entry : (own longest file next : ℕ) → next ≡ file + (5 + own) → own ≤ longest → next ≤ file + (longest + 5)
-one_entry own longest file next is short = omega arith
+entries_left : (start entered all now : ℕ) → now ≡ start + entered → entered + 1 ≤ all → start + all ≤ 100000 → now ≡ 100000 → ⊥
+entries_left start entered all now grown parts room full = omega arith
 
-both_added : (start middle last one rest all : ℕ) → middle ≤ start + one → last ≤ middle + rest → all ≡ one + rest → last ≤ start + all
-both_added start middle last one rest all first then sums = omega arith
-
-entries_left : (start front rest all now : ℕ) → now ≤ start + front → all ≡ front + (1 + rest) → start + all ≤ 100000 → now ≡ 100000 → ⊥
-entries_left start front rest all now grown parts room full = omega arith
-
-bytes_left : (start front longest rest all own file end need most : ℕ) → file ≤ start + front → all ≡ front + (longest + 5 + rest) → own ≤ longest → end + 1 ≡ file → need ≡ own + 6 → start + all ≤ most → most < end + need → ⊥
-bytes_left start front longest rest all own file end need most grown parts short place needs room full = omega arith
+bytes_left : (start entered longest all own file end need most : ℕ) → file ≤ start + entered → entered + (longest + 5) ≤ all → own ≤ longest → end + 1 ≡ file → need ≡ own + 6 → start + all ≤ most → most < end + need → ⊥
+bytes_left start entered longest all own file end need most grown parts short place needs room full = omega arith
 
 -- ---- what pays add
 
@@ -55,54 +53,114 @@ file_more chart h e =
     file_sum (length (head_bytes chart)) (size_of (records_of h)) (size_of (records_of (h ++ e ∷ []))) (5 + length (entry_bytes e)) (length (file_of chart h)) (length (file_of chart (h ++ e ∷ [])))
     (file_long chart h) (file_long chart (h ++ e ∷ [])) records
 
--- a history that a pay adds at most one entry to, and its longest record
-record IsGrownBy (chart : Chart) (old new : List Entry) (pay : Pay) : Type 0 where
-  entries : length new ≤ length old + 1
-  bytes : length (file_of chart new) ≤ length (file_of chart old) + most_of pay
+-- the file of a history grows by the longest records of the pays of its entries at most
+all_longer : (start one last rest all own : ℕ) → last ≤ start + (5 + own) + rest → own + 5 ≤ one → all ≡ one + rest → last ≤ start + all
+all_longer start one last rest all own grown short sums = omega arith
 
-grown_by : (chart : Chart) (h : List Entry) (e : Entry) (b : Bool) → IsGrownBy chart h (cond b h (h ++ e ∷ [])) e.pay
-grown_by chart h e true = record { entries = omega arith; bytes = omega arith }
-grown_by chart h e false = record {
-  entries = omega (arith, length-append h (e ∷ []));
-  bytes = one_entry (length (entry_bytes e)) (longest_record e.pay) (length (file_of chart h)) (length (file_of chart (h ++ e ∷ []))) (file_more chart h e) (no_longer e);
-}
+file_all : (chart : Chart) (h es : List Entry) → length (file_of chart (h ++ es)) ≤ length (file_of chart h) + sum_by most_of (map (λ e. e.pay) es)
+file_all chart h [] = subst (λ (x : List Entry). length (file_of chart x) ≤ length (file_of chart h) + sum_by most_of []) (sym (Rattle.std.proofs.Common.append-nil h)) (omega arith)
+file_all chart h (e ∷ es) =
+    let whole : (h ++ e ∷ []) ++ es ≡ h ++ e ∷ es = append_assoc h (e ∷ []) es in
+    let rest = file_all chart (h ++ e ∷ []) es in
+    let more = file_more chart h e in
+    let grown : length (file_of chart (h ++ e ∷ es)) ≤ length (file_of chart h) + (5 + length (entry_bytes e)) + sum_by most_of (map (λ (x : Entry). x.pay) es) =
+    subst (λ (x : List Entry). length (file_of chart x) ≤ length (file_of chart h) + (5 + length (entry_bytes e)) + sum_by most_of (map (λ (y : Entry). y.pay) es)) whole (omega (arith, rest, more)) in
+    all_longer (length (file_of chart h)) (most_of e.pay) (length (file_of chart (h ++ e ∷ es))) (sum_by most_of (map (λ (x : Entry). x.pay) es)) (sum_by most_of (map (λ (x : Entry). x.pay) (e ∷ es))) (length (entry_bytes e))
+    grown (let s = no_longer e in omega (arith, s)) (sum_by-cons most_of e.pay (map (λ (x : Entry). x.pay) es))
 
-next_small : (chart : Chart) (h : List Entry) (pay : Pay) (day : Day) → IsGrownBy chart h (next_history chart h pay day) pay
-next_small chart h pay day = grown_by chart h (entry_of chart h pay day) (is_some (entered_at pay.mir h))
+-- ---- pays of different references
 
--- one that pays add at most so many entries to, and their longest records
-record AreGrownBy (chart : Chart) (old new : List Entry) (pays : List Pay) : Type 0 where
-  entries : length new ≤ length old + length pays
-  bytes : length (file_of chart new) ≤ length (file_of chart old) + sum_by most_of pays
+-- they stand among these pays, and no two of them have one reference
+record AreAmong (some all : List Pay) : Type 0 where
+  pub there : (i : ℕ) (p : Pay) → slice_get some i ≡ Some p → (k : ℕ) × (slice_get all k ≡ Some p)
+  pub single : (i j : ℕ) (p q : Pay) → slice_get some i ≡ Some p → slice_get some j ≡ Some q → p.mir ≡ q.mir → i ≡ j
 
-fold_small : (chart : Chart) (h : List Entry) (pays : List Pay) (day : Day) → AreGrownBy chart h (fold_of chart h pays day) pays
-fold_small chart h [] day = record { entries = omega arith; bytes = omega arith }
-fold_small chart h (pay ∷ pays) day =
-    let next = next_small chart h pay day in
-    let more = fold_small chart (next_history chart h pay day) pays day in
-    record {
-      entries = omega (arith, next.entries, more.entries);
-      bytes = both_added (length (file_of chart h)) (length (file_of chart (next_history chart h pay day))) (length (file_of chart (fold_of chart (next_history chart h pay day) pays day)))
-          (most_of pay) (sum_by most_of pays) (sum_by most_of (pay ∷ pays)) next.bytes more.bytes (sum_by-cons most_of pay pays);
-    }
+-- what isn't this element stands among the others
+get_other : (front rest : List Pay) (p q : Pay) (k : ℕ) → (p.mir ≡ q.mir → ⊥) → slice_get (front ++ p ∷ rest) k ≡ Some q → (j : ℕ) × (slice_get (front ++ rest) j ≡ Some q)
+get_other [] rest p q zero differs at = absurd (differs (ap (λ (x : Pay). x.mir) (same_Some p q at)))
+get_other [] rest p q (suc k) differs at = (k, at)
+get_other (x ∷ front) rest p q zero differs at = (zero, at)
+get_other (x ∷ front) rest p q (suc k) differs at = let r = get_other front rest p q k differs at in (suc r.0, r.1)
 
-sum_parts : (front : List Pay) (pay : Pay) (rest : List Pay) → sum_by most_of (front ++ pay ∷ rest) ≡ sum_by most_of front + (longest_record pay + 5 + sum_by most_of rest)
-sum_parts front pay rest = sum_by-append most_of front (pay ∷ rest) ∙ ap (λ (n : ℕ). sum_by most_of front + n) (sum_by-cons most_of pay rest)
+sums_parts : (a b one rest all some : ℕ) → all ≡ a + (one + b) → rest ≡ a + b → some ≤ rest → one + some ≤ all
+sums_parts a b one rest all some is parts less = omega arith
 
-count_parts : (front : List Pay) (pay : Pay) (rest : List Pay) → length (front ++ pay ∷ rest) ≡ length front + (1 + length rest)
-count_parts front pay rest = omega (arith, length-append front (pay ∷ rest))
+-- so they sum to no more
+sum_among : (weight : Pay → ℕ) (some all : List Pay) → AreAmong some all → sum_by weight some ≤ sum_by weight all
+sum_among weight [] all among = omega arith
+sum_among weight (p ∷ some) all among =
+    let at = among.there 0 p refl in
+    let s = split all at.0 p at.1 in
+    let rest : AreAmong some (s.front ++ s.rest) = record {
+      there = λ i q here.
+          let k = among.there (suc i) q here in
+          get_other s.front s.rest p q k.0 (λ same. let e = among.single 0 (suc i) p q refl here same in absurd (omega (arith, e)))
+          (subst (λ (l : List Pay). slice_get l k.0 ≡ Some q) s.is k.1);
+      single = λ i j q r here there same. let e = among.single (suc i) (suc j) q r here there same in omega (arith, e);
+    } in
+    let less = sum_among weight some (s.front ++ s.rest) rest in
+    let whole : sum_by weight all ≡ sum_by weight s.front + (weight p + sum_by weight s.rest) =
+    ap (sum_by weight) s.is ∙ sum_by-append weight s.front (p ∷ s.rest) ∙ ap (λ (n : ℕ). sum_by weight s.front + n) (sum_by-cons weight p s.rest) in
+    let here = sum_by-cons weight p some in
+    let sum = sums_parts (sum_by weight s.front) (sum_by weight s.rest) (weight p) (sum_by weight (s.front ++ s.rest)) (sum_by weight all) (sum_by weight some) whole (sum_by-append weight s.front s.rest) less in
+    omega (arith, here, sum)
+
+sum_ones : (pays : List Pay) → sum_by (λ (p : Pay). 1) pays ≡ length pays
+sum_ones [] = refl
+sum_ones (p ∷ pays) = let s = sum_by-cons (λ (x : Pay). 1) p pays in let r = sum_ones pays in omega (arith, s, r)
+
+-- what stands in a list that was mapped
+get_pay : (es : List Entry) (i : ℕ) (p : Pay) → slice_get (map (λ e. e.pay) es) i ≡ Some p → (e : Entry) × (slice_get es i ≡ Some e) × (e.pay ≡ p)
+get_pay [] i p at = absurd (none-some p at)
+get_pay (e ∷ es) zero p at = (e, refl, same_Some e.pay p at)
+get_pay (e ∷ es) (suc i) p at = get_pay es i p at
+
+get_behind : (xs ys : List Entry) (i : ℕ) (e : Entry) → slice_get ys i ≡ Some e → slice_get (xs ++ ys) (length xs + i) ≡ Some e
+get_behind [] ys i e at = ap (slice_get ys) (omega arith) ∙ at
+get_behind (x ∷ xs) ys i e at = let n : suc (length xs) + i ≡ suc (length xs + i) = omega arith in ap (slice_get (x ∷ (xs ++ ys))) n ∙ get_behind xs ys i e at
+
+-- a pay whose reference is new and the entered ones stand among the pays of the file, each once
+among_all : (chart : Chart) (history front : List Entry) (day : Day) (pays : List Pay) (pay : Pay) (place : ℕ) → IsLegal chart (history ++ front) → All (IsAdded day pays) front → slice_get pays place ≡ Some pay
+    → entered_at pay.mir (history ++ front) ≡ None → AreAmong (pay ∷ map (λ e. e.pay) front) pays
+among_all chart history front day pays pay place legal added at new = record { there = there; single = single }
+  where
+    there : (i : ℕ) (p : Pay) → slice_get (pay ∷ map (λ e. e.pay) front) i ≡ Some p → (k : ℕ) × (slice_get pays k ≡ Some p)
+    there zero p here = (place, at ∙ here)
+    there (suc i) p here =
+        let e = get_pay front i p here in
+        let a = get_all (IsAdded day pays) front i e.0 added e.1 in (a.place, a.pay_is ∙ ap (λ (x : Pay). Some x) e.2)
+
+    is_new : (i : ℕ) (p : Pay) → slice_get (map (λ e. e.pay) front) i ≡ Some p → p.mir ≡ pay.mir → ⊥
+    is_new i p here same =
+        let e = get_pay front i p here in
+        entered_mir (history ++ front) pay.mir (length history + i) e.0 (get_behind history front i e.0 e.1) (ap (λ (x : Pay). x.mir) e.2 ∙ same) new
+
+    single : (i j : ℕ) (p q : Pay) → slice_get (pay ∷ map (λ e. e.pay) front) i ≡ Some p → slice_get (pay ∷ map (λ e. e.pay) front) j ≡ Some q → p.mir ≡ q.mir → i ≡ j
+    single zero zero p q here also same = refl
+    single zero (suc j) p q here also same = absurd (is_new j q also (sym same ∙ ap (λ (x : Pay). x.mir) (sym (same_Some pay p here))))
+    single (suc i) zero p q here also same = absurd (is_new i p here (same ∙ ap (λ (x : Pay). x.mir) (sym (same_Some pay q also))))
+    single (suc i) (suc j) p q here also same =
+        let d = get_pay front i p here in
+        let e = get_pay front j q also in
+        let mirs : d.0.pay.mir ≡ e.0.pay.mir = ap (λ (x : Pay). x.mir) d.2 ∙ same ∙ ap (λ (x : Pay). x.mir) (sym e.2) in
+        let s = legal.single (length history + i) (length history + j) d.0 e.0 (get_behind history front i d.0 d.1) (get_behind history front j e.0 e.1) mirs in omega (arith, s)
 
 -- no pay finds no room
-pub has_room : (chart : Chart) (history : List Entry) (pays : List Pay) (day : Day) (left : List Entry) (entries end need : ℕ) → HasRoomForAll chart history pays → LacksRoom chart history pays day left entries end need → ⊥
-has_room chart history pays day left entries end need room lacks =
-    let now = fold_of chart history lacks.front day in
-    let small = fold_small chart history lacks.front day in
-    let parts : sum_by most_of pays ≡ sum_by most_of lacks.front + (longest_record lacks.pay + 5 + sum_by most_of lacks.rest) =
-    ap (λ (ps : List Pay). sum_by most_of ps) lacks.pays_are ∙ sum_parts lacks.front lacks.pay lacks.rest in
-    let count : length pays ≡ length lacks.front + (1 + length lacks.rest) = ap length lacks.pays_are ∙ count_parts lacks.front lacks.pay lacks.rest in
+pub has_room : (chart : Chart) (history : List Entry) (pays : List Pay) (day : Day) (left : List Entry) (entries end need : ℕ) → HasRoomForAll chart history pays
+    → (lacks : LacksRoomThen chart history pays day left entries end need) → IsLegal chart (history ++ lacks.front) → All (IsAdded day pays) lacks.front → ⊥
+has_room chart history pays day left entries end need room lacks legal added =
+    let now = history ++ lacks.front in
+    let some = map (λ (e : Entry). e.pay) lacks.front in
+    let among = among_all chart history lacks.front day pays lacks.pay lacks.place legal added lacks.pay_is lacks.new in
+    let bytes = sum_among most_of (lacks.pay ∷ some) pays among in
+    let ones = sum_among (λ (p : Pay). 1) (lacks.pay ∷ some) pays among in
+    let of_pay = sum_by-cons most_of lacks.pay some in
+    let count = sum_ones (lacks.pay ∷ some) in
+    let all = sum_ones pays in
+    let long : length some ≡ length lacks.front = Rattle.std.proofs.lemmas.List.length-map lacks.front (λ (e : Entry). e.pay) in
     elim (lacks.full) [
-      | inl full ↦ entries_left (length history) (length lacks.front) (length lacks.rest) (length pays) (length now) small.entries count room.entries full
-      | inr full ↦ bytes_left (length (file_of chart history)) (sum_by most_of lacks.front) (longest_record lacks.pay) (sum_by most_of lacks.rest) (sum_by most_of pays)
+      | inl full ↦ entries_left (length history) (length lacks.front) (length pays) (length now) (length-append history lacks.front) (omega (arith, ones, count, all, long)) room.entries full
+      | inr full ↦ bytes_left (length (file_of chart history)) (sum_by most_of some) (longest_record lacks.pay) (sum_by most_of pays)
           (length (entry_bytes (entry_of chart now lacks.pay day))) (length (file_of chart now)) end need (2 ^ 30)
-          small.bytes parts (no_longer (entry_of chart now lacks.pay day)) lacks.end_is lacks.need_is room.bytes full
+          (file_all chart history lacks.front) (omega (arith, bytes, of_pay)) (no_longer (entry_of chart now lacks.pay day)) lacks.end_is lacks.need_is room.bytes full
     ]

@@ -1,20 +1,31 @@
 -- How a run ends before anything is written, from how its parts end.
-use Rattle.std.proofs.Common.{◌≡◌, ◌+◌, inl, inr, ℕ, All, List, [], ◌∷◌, Option, None, Result, Ok, Err, refl, sym, ap, ◌∙◌, subst, length}
+use Rattle.std.proofs.Common.{◌≡◌, ◌+◌, ◌<ℤ◌, inl, inr, ℕ, All, List, [], ◌∷◌, Option, None, Some, Result, Ok, Err, refl, sym, ap, arith, ◌∙◌, subst, length, map}
+use Rattle.std.specs.Prelude.{◌≤◌, IfSome, IsSome, IsTrue, is_some, slice_get}
 use Rattle.std.proofs.lemmas.List.{length-map}
-use Rattle.std.proofs.lemmas.Option.{none-some}
-use Rattle.acct_locks.specs.Holdings.{LooseHand}
+use Rattle.corr_books.specs.declared.opening.BooksFault.{BooksFault}
+use Rattle.corr_books.specs.declared.opening.BooksFault.TheVariants.{Open, DateBack}
+use Rattle.corr_books.specs.Closing.{LeavesClosed}
+use Rattle.corr_books.specs.Finding.{BooksCause, IsDateBack, OpensBack, RefusesAs, ShowsBack, TellsOf, is_of_bytes}
+use Rattle.corr_books.specs.Opening.{Opening, Parts, opening_of}
 use Rattle.corr_disk.specs.declared.disk.Disk as disks
 use Rattle.corr_io.specs.declared.source.Source as sources
 use Rattle.corr_text.specs.Faults.{Rose}
+use Rattle.corr_ids.specs.Day.{InCentury}
 use Rattle.corr_ids.specs.declared.day.Day.{Day}
 use Rattle.corr_report.specs.Report.{report_of}
+use Rattle.day_model.specs.declared.entry.Entry.{Entry}
+use Rattle.day_model.specs.declared.pay.Pay.{Pay}
 use Rattle.day_model.specs.declared.reply.Reply.{Reply}
 use Rattle.day_model.specs.Chart.{Chart}
+use Rattle.day_model.specs.Laws.{IsLatest}
 use Rattle.day_model.specs.Legal.{IsLegal}
-use Rattle.day_model.specs.Next.{fold_of}
-use Rattle.jrn_book.specs.Book.{Book, IsLeftBy, StandsOnDisk}
+use Rattle.day_model.specs.Next.{entered_at, fold_of}
+use Rattle.jrn_book.specs.Book.{IsLeftBy}
 use Rattle.jrn_book.specs.Journal.{IsJournal}
+use Rattle.jrn_book.specs.Opening.{Finding, IsFound, book, found_by}
+use Rattle.jrn_codec.specs.Record.{IsEntry}
 use Rattle.jrn_file.specs.File.{disk_of}
+use Rattle.jrn_file.specs.Reading.{Reading, opened_of}
 use Rattle.jrn_file.specs.declared.fault.OpenFault.{OpenFault}
 use Rattle.corr_top.specs.declared.answers.BookStop.{BookStop}
 use Rattle.corr_top.specs.declared.answers.BookStop.TheVariants as booking
@@ -24,21 +35,23 @@ use Rattle.corr_top.specs.declared.status.Status.{Status}
 use Rattle.corr_top.specs.declared.tables.TableStop.{TableStop}
 use Rattle.corr_top.specs.declared.words.Command.TheVariants.{Run}
 use Rattle.corr_top.specs.declared.writing.Texts.{Texts}
-use Rattle.corr_top.specs.Booking.{BookCause, EntersFront, IsAdded, LacksRoom, StopsBooking}
+use Rattle.corr_top.specs.Booking.{AreAnswered, BookCause, EachTried, EntersInOrder, IsAdded, IsBack, LacksRoom, LacksRoomThen, StopsBooking}
+use Rattle.corr_top.specs.Collecting.{IsCalm}
 use Rattle.corr_top.specs.Commands.{out_in, report_in}
-use Rattle.corr_top.specs.Days.{GivesDay, HasDay}
+use Rattle.corr_top.specs.Days.{GivesDay, HasDay, StopCause, StopsAtFile, StopsAtPays}
 use Rattle.corr_top.specs.Ends.{Gives, HasPassed, HasTexts}
 use Rattle.corr_top.specs.Inputs.{Inputs, new_in, pays_of, replies_of, tables_in}
 use Rattle.corr_top.specs.Message.{pays_in, readings_of, replies_in}
-use Rattle.corr_top.specs.OnDisk.{HasOpened, IsLeft, IsOnDisk, IsUnwritten, StopsOpening}
+use Rattle.corr_top.specs.OnDisk.{HoldsJournal, IsLeft, IsOnDisk, IsUnwritten, StopsOpening}
 use Rattle.corr_top.specs.Origin.{AreSentValid}
 use Rattle.corr_top.specs.Out.{sent_from}
 use Rattle.corr_top.specs.Passing.{IsUntouched, Passes, StopsAt}
 use Rattle.corr_top.specs.Steps.{Step}
-use Rattle.corr_top.specs.Stops.{status_of_opening, status_of_table}
+use Rattle.corr_top.specs.Stops.{status_of_books, status_of_day, status_of_opening, status_of_table}
 use Rattle.corr_top.specs.Tables.{HasDirectory, StopsDirectory, directory_steps}
-use Rattle.corr_top.specs.Turns.{HasFailed, StopCause}
-use Rattle.corr_top.proofs.Journals.{left_whole}
+use Rattle.corr_top.proofs.Folding.{legal_fold}
+use Rattle.corr_top.proofs.Replying.{get_all}
+use Rattle.corr_top.proofs.Serves.{get_at}
 use Rattle.corr_top.proofs.Walking.{halts_front}
 
 -- what a run leaves as it is
@@ -49,164 +62,196 @@ pub record IsRest {S K D : Type 0} (old new : Room S K D) : Type 0 where
   pub report : new.report ≡ old.report
   pub out : new.out ≡ old.out
 
-module _ {S K D : Type 0} (source : sources.Ghosts S) (d : disks.Ghosts D) (day : Day) (old new : Room S K D) (rest : IsRest old new) where
-  gives_run : (r : Result Texts Status) (i : Inputs) → i.day ≡ day → Gives source d (Run day) old new r i → HasTexts source d (Run day) old new r
-  gives_run r i is gives = record { inputs = i; are_for = is; gives = gives; rest = (rest.accounts, rest.received, rest.disk2); report = rest.report; out = rest.out }
+-- the day of the last entry is after that of the run
+is_back : (chart : Chart) (history : List Entry) (day last : Day) → IsJournal chart history → IsDateBack history day last → IsBack history day last
+is_back chart history day last journal back =
+    let ends = back.ends in
+    let at : slice_get history (length ends.before) ≡ Some ends.entry = ap (λ (es : List Entry). slice_get es (length ends.before)) ends.is ∙ get_at ends.before ends.entry [] in
+    let written = get_all IsEntry history (length ends.before) ends.entry journal.entries at in
+    record {
+      front = ends.before;
+      last = ends.entry;
+      history_is = ends.is;
+      day_is = sym ends.day_is;
+      after = subst (λ (x : Day). day.0 <ℤ x.0) (sym ends.day_is) back.later;
+      century = subst InCentury ends.day_is written.day;
+    }
+
+module _ {S K D : Type 0} (source : sources.Ghosts S) (d : disks.Ghosts D) (day : Day) (workers : ℕ) (old new : Room S K D) (rest : IsRest old new) where
+  gives_run : (r : Result Texts Status) (i : Inputs) → i.day ≡ day → i.workers ≡ workers → Gives source d (Run day workers) old new r i → HasTexts source d (Run day workers) old new r
+  gives_run r i is number gives = record { inputs = i; are_for = (is, number); gives = gives; rest = (rest.accounts, rest.received, rest.disk2); report = rest.report; out = rest.out }
 
   -- a table stopped it
   pub tables_stop : (stop : TableStop) → StopsDirectory source old.tables new.tables stop → new.messages ≡ old.messages → new.disk ≡ old.disk → IsUnwritten d old.disk new.disk
-      → HasTexts source d (Run day) old new (Err (status_of_table stop))
+      → HasTexts source d (Run day workers) old new (Err (status_of_table stop))
   tables_stop stop stops messages disk unwritten =
-      gives_run (Err (status_of_table stop)) (record stops.at.inputs { day = day }) refl
-      (inl (halts_front (Passes source d old new (record stops.at.inputs { day = day })) (StopsAt source d old new (record stops.at.inputs { day = day }) (status_of_table stop)) (IsUntouched d old new)
+      let i = record stops.at.inputs { day = day; workers = workers } in
+      gives_run (Err (status_of_table stop)) i refl refl
+      (inl (halts_front (Passes source d old new i) (StopsAt source d old new i (status_of_table stop)) (IsUntouched d old new)
       directory_steps (Step.open_journal ∷ Step.day ∷ Step.messages ∷ Step.book ∷ []) stops.at.halted (disk, (tt, (messages, (unwritten, tt))))))
 
   module _ (directory : Directory) (has : HasDirectory source old.tables new.tables directory) where
-    -- the journal was not opened
-    pub opening_stops : (fault : OpenFault) → StopsOpening d old.disk new.disk fault → new.messages ≡ old.messages → HasTexts source d (Run day) old new (Err (status_of_opening fault))
-    opening_stops fault stops messages =
+    -- the books were not opened, for a reason that opening the journal gave
+    open_stops : (fault : OpenFault) → StopsOpening d old.disk new.disk fault → new.messages ≡ old.messages → HasTexts source d (Run day workers) old new (Err (status_of_opening fault))
+    open_stops fault stops messages =
         let p = has.passed in
-        gives_run (Err (status_of_opening fault)) (record has.inputs { day = day }) refl
+        gives_run (Err (status_of_opening fault)) (record has.inputs { day = day; workers = workers }) refl refl
         (inl (inr (p.0, inr (p.1.0, inr (p.1.1.0, inr (p.1.1.1.0, inl ((fault, refl, stops), (tt, (messages, (stops.untouched, tt))))))))))
 
-    module _ (from to : Book D) (loose : LooseHand) (opened : HasOpened d old.disk from loose) (closed : new.disk ≡ disk_of to.file)
-        (stands : StandsOnDisk d.honest d.reads d.may_leave to.failed to.file to.accounts to.history) (journal : IsJournal to.accounts to.history) where
-      -- the inputs of a run that opened its journal
-      abbrev i_of : List ℕ → List (List ℕ) → Inputs
-      i_of bytes cut = record has.inputs { day = day; messages = bytes; cut = cut; chart = from.accounts; history = from.history }
+    -- or for the day of the last entry
+    back_stops : (last : Day) → OpensBack (opened_of (d.reads old.disk)) (d.honest old.disk) day last → d.faults new.disk ≡ d.faults old.disk → IsUnwritten d old.disk new.disk → new.messages ≡ old.messages
+        → HasTexts source d (Run day workers) old new (Err (status_of_day last))
+    back_stops last shows sure unwritten messages =
+        let p = has.passed in
+        let i = record has.inputs { day = day; workers = workers; chart = shows.accounts; history = shows.history } in
+        let holds : HoldsJournal d old.disk shows.accounts shows.history = record { journal = shows.journal; stands = λ honest. (shows.found honest).1 } in
+        gives_run (Err (status_of_day last)) i refl refl
+        (inl (inr (p.0, inr (p.1.0, inr (p.1.1.0, inr (p.1.1.1.0, inr (holds, inl ((last, refl, is_back shows.accounts shows.history day last shows.journal shows.back, sure), (messages, (unwritten, tt))))))))))
 
-      -- a book that nothing was entered in leaves the disk as it was
-      same_book : to ≡ from → IsUnwritten d old.disk new.disk × (d.faults new.disk ≡ d.faults old.disk)
-      same_book same =
-          let disk : new.disk ≡ disk_of from.file = closed ∙ ap (λ (b : Book D). disk_of b.file) same in
-          (subst (IsUnwritten d old.disk) (sym disk) opened.untouched, ap d.faults disk ∙ opened.sure)
+    -- opening the books stopped it
+    pub books_stop : (fault : BooksFault) → BooksCause (d.faults old.disk) (d.faults new.disk) fault → (IsTrue (d.honest old.disk) → IsTrue (is_of_bytes fault) → (finding : Finding) × IsFound (opened_of (d.reads old.disk)) finding × RefusesAs day fault finding)
+        → ShowsBack (opened_of (d.reads old.disk)) (d.honest old.disk) day fault → IsUnwritten d old.disk new.disk → new.messages ≡ old.messages → HasTexts source d (Run day workers) old new (Err (status_of_books fault))
+    books_stop (Open fault) cause told shows unwritten messages =
+        open_stops fault (record { cause = cause; told = λ honest. found_is (found_by fault) (opened_of (d.reads old.disk)) (told honest); untouched = unwritten }) messages
+      where
+        found_is : (found : Option Finding) (reading : Reading) → (IsTrue (is_some found) → (finding : Finding) × IsFound reading finding × IfSome found (λ f. f ≡ finding)) → IfSome found (IsFound reading)
+        found_is None reading told = tt
+        found_is (Some f) reading told = let t = told refl in subst (IsFound reading) (sym t.2) t.1
+    books_stop (DateBack last) cause told shows unwritten messages = back_stops last shows cause unwritten messages
 
-      is_left : HasFailed d day from to → to.accounts ≡ from.accounts → IsLeft d old.disk new.disk from.accounts to.history day
-      is_left (inl whole) same =
-          subst (λ (chart : Chart). IsLeft d old.disk new.disk chart to.history day) same
-          (inl (ap d.faults closed ∙ whole.1 ∙ opened.sure, left_whole d to.file to.accounts to.history new.disk to.failed closed whole.0 stands))
-      is_left (inr failed) same =
-          let left : IsLeftBy (d.honest (disk_of to.file)) (d.may_leave (disk_of to.file)) to.accounts to.history day =
-          subst (λ (o : Option Day). StandsOnDisk d.honest d.reads d.may_leave o to.file to.accounts to.history) failed.0 stands in
-          let rose = subst (λ n. Rose n (d.faults (disk_of to.file))) opened.sure failed.1 in
-          subst (λ (chart : Chart). IsLeft d old.disk new.disk chart to.history day) same
-          (inr (subst (λ (x : D). Rose (d.faults old.disk) (d.faults x)) (sym closed) rose, subst (λ (x : D). IsLeftBy (d.honest x) (d.may_leave x) to.accounts to.history day) (sym closed) left))
+    module _ (opened : Parts D) (journal : IsJournal opened.accounts opened.base) (told : IsTrue (d.honest old.disk) → TellsOf (opened_of (d.reads old.disk)) day (Ok opened)) (latest : IsLatest opened.base day)
+        (at_open : opened.at_open ≡ d.faults old.disk) (kept : d.faults (disk_of opened.file) ≡ d.faults old.disk) (honest : d.honest (disk_of opened.file) ≡ d.honest old.disk)
+        (of_day : opened.day ≡ day) (unwritten : IsUnwritten d old.disk (disk_of opened.file)) where
+      -- the opening of these books
+      abbrev pub books : Opening
+      books = opening_of d opened workers
 
-      cause_of : (bytes : List ℕ) (cut : List (List ℕ)) (stop : BookStop) → StopCause d day from to (pays_in (readings_of directory from.accounts cut)) stop
-          → pays_of (i_of bytes cut) ≡ pays_in (readings_of directory from.accounts cut) → BookCause d old.disk new.disk (i_of bytes cut) to.history stop
-      cause_of bytes cut (booking.DiskFault before after) cause same =
-          record { before_is = cause.before_is ∙ opened.sure; after_is = cause.after_is ∙ ap d.faults (sym closed); rose = cause.rose }
-      cause_of bytes cut (booking.Full entries end need) cause same =
-          (ap d.faults closed ∙ cause.0 ∙ opened.sure, subst (λ ps. LacksRoom from.accounts from.history ps day to.history entries end need) (sym same) cause.1)
-      cause_of bytes cut booking.Memory cause same = tt
+      -- the inputs of a run that opened its books, and entered these pays
+      abbrev i_of : List ℕ → List (List ℕ) → List Pay → Inputs
+      i_of bytes cut entered = record has.inputs { day = day; workers = workers; messages = bytes; cut = cut; chart = opened.accounts; history = opened.base; entered = entered }
 
-      same_pays : (bytes : List ℕ) (cut : List (List ℕ)) → pays_of (i_of bytes cut) ≡ pays_in (readings_of directory from.accounts cut)
-      same_pays bytes cut = ap (λ (x : Directory). pays_in (readings_of x from.accounts cut)) (sym has.directory_is)
+      holds : HoldsJournal d old.disk opened.accounts opened.base
+      holds = record {
+        journal = journal;
+        stands = λ true_here. let t = told true_here refl in let found : IsFound (opened_of (d.reads old.disk)) (book opened.accounts opened.base) = subst (IsFound (opened_of (d.reads old.disk))) t.2.0 t.1 in found.1;
+      }
 
-      has_passed : (bytes : List ℕ) (cut : List (List ℕ)) (replies : List Reply) → HasDay source d directory day old.messages new.messages from to bytes cut replies
-          → HasPassed source d (Run day) old new (i_of bytes cut) × (to.history ≡ new_in (i_of bytes cut)) × (replies ≡ replies_of (i_of bytes cut))
-      has_passed bytes cut replies had =
+      same_pays : (bytes : List ℕ) (cut : List (List ℕ)) (entered : List Pay) → pays_of (i_of bytes cut entered) ≡ pays_in (readings_of directory opened.accounts cut)
+      same_pays bytes cut entered = ap (λ (x : Directory). pays_in (readings_of x opened.accounts cut)) (sym has.directory_is)
+
+      -- the disk after the books were closed
+      is_left : (history : List Entry) → LeavesClosed d books history new.disk → IsLeft d old.disk new.disk opened.accounts history day
+      is_left history (inl alone) = inl (alone.sure ∙ at_open, record { stands = alone.stands; durable = alone.durable })
+      is_left history (inr failed) =
+          inr (subst (λ n. Rose n (d.faults new.disk)) at_open failed.0, subst (λ (x : Day). IsLeftBy (d.honest new.disk) (d.may_leave new.disk) opened.accounts history x) of_day failed.1)
+
+      -- the first steps passed, up to the message file
+      pub file_stops : (s : Status) → StopsAtFile source d directory workers old.messages new.messages opened new.disk s → HasTexts source d (Run day workers) old new (Err s)
+      file_stops s stops =
           let p = has.passed in
+          let disk = stops.same in
+          gives_run (Err s) (i_of stops.bytes [] []) refl refl
+          (inl (inr (p.0, inr (p.1.0, inr (p.1.1.0, inr (p.1.1.1.0, inr (holds, inr (latest, inl ((stops.stop, stops.status_is, stops.stops, ap d.faults disk ∙ kept), (subst (IsUnwritten d old.disk) (sym disk) unwritten, tt))))))))))
+
+      cause_of : (i : Inputs) (history : List Entry) (stop : BookStop) → i.chart ≡ opened.accounts → StopCause books (pays_of i) history (d.faults new.disk) stop → i.history ≡ opened.base → i.day ≡ opened.day → i.workers ≡ workers
+          → BookCause d old.disk new.disk i history stop
+      cause_of i history (booking.DiskFault before after) chart cause base is number = record { before_is = cause.0 ∙ at_open; after_is = cause.1; rose = cause.2 }
+      cause_of i history (booking.Full entries end need) chart cause base is number = (
+        cause.0 ∙ at_open,
+        subst (λ (x : Chart × (List Entry × Day)). LacksRoomThen x.0 x.1.0 (pays_of i) x.1.1 history entries end need) (λ k. (sym chart k, (sym base k, sym is k))) cause.1,
+        λ one. subst (λ (x : Chart × (List Entry × Day)). LacksRoom x.0 x.1.0 (pays_of i) x.1.1 history entries end need) (λ k. (sym chart k, (sym base k, sym is k))) (cause.2 (sym number ∙ one)),
+      )
+      cause_of i history booking.Memory chart cause base is number = tt
+
+      -- not each pay was entered
+      pub pays_stop : (s : Status) → StopsAtPays source d directory workers old.messages new.messages opened new.disk s → HasTexts source d (Run day workers) old new (Err s)
+      pays_stop s stops =
+          let p = has.passed in
+          let served = stops.served in
+          let i = i_of stops.bytes stops.cut [] in
+          let pays = same_pays stops.bytes stops.cut [] in
+          let booked : StopsBooking d old.disk new.disk i stops.stop = record {
+            added = served.added;
+            each = subst (λ (x : List Pay × Day). All (IsAdded x.1 x.0) served.added) (λ k. (sym pays k, of_day k)) served.each;
+            tried = subst (λ es. EachTried opened.accounts opened.base (pays_of i) day es stops.stop) served.is
+                (subst (λ (x : List Pay × Day). EachTried opened.accounts opened.base x.0 x.1 stops.history stops.stop) (λ k. (sym pays k, of_day k)) stops.tried);
+            alone = λ one. subst (λ es. EntersInOrder opened.accounts opened.base (pays_of i) day es stops.stop) served.is
+                (subst (λ (x : List Pay × Day). EntersInOrder opened.accounts opened.base x.0 x.1 stops.history stops.stop) (λ k. (sym pays k, of_day k)) (stops.alone one));
+            journal = subst (λ es. IsJournal opened.accounts es) served.is served.journal;
+            left = subst (λ es. IsLeft d old.disk new.disk opened.accounts es day) served.is (is_left stops.history served.leaves);
+            cause = subst (λ es. BookCause d old.disk new.disk i es stops.stop) served.is
+                (cause_of i stops.history stops.stop refl (subst (λ ps. StopCause books ps stops.history (d.faults new.disk) stops.stop) (sym pays) stops.cause) refl (sym of_day) refl);
+          } in
+          gives_run (Err s) i refl refl
+          (inl (inr (p.0, inr (p.1.0, inr (p.1.1.0, inr (p.1.1.1.0, inr (holds, inr (latest, inr (stops.file, inl ((stops.stop, stops.status_is, booked), tt))))))))))
+
+      -- the pays that were entered, in the order of the journal
+      abbrev entered_of : List Entry → List Pay
+      entered_of added = map (λ e. e.pay) added
+
+      -- each message was answered
+      has_passed : (bytes : List ℕ) (cut : List (List ℕ)) (history : List Entry) (replies : List Reply) → (had : HasDay source d directory workers old.messages new.messages opened new.disk bytes cut history replies)
+          → HasPassed source d (Run day workers) old new (i_of bytes cut (entered_of had.served.added)) × (history ≡ new_in (i_of bytes cut (entered_of had.served.added))) × (replies ≡ replies_of (i_of bytes cut (entered_of had.served.added)))
+      has_passed bytes cut history replies had =
+          let p = has.passed in
+          let served = had.served in
           let a = had.answered in
-          let i = i_of bytes cut in
-          let history : to.history ≡ new_in i = a.history ∙ ap (λ ps. fold_of from.accounts from.history ps day) (sym (same_pays bytes cut)) in
+          let i = i_of bytes cut (entered_of served.added) in
+          let pays = same_pays bytes cut (entered_of served.added) in
+          let legal = subst (IsLegal opened.accounts) served.is served.journal.legal in
+          let days : (k : ℕ) (e : Entry) → slice_get served.added k ≡ Some e → e.day ≡ day = λ k e at. (get_all (IsAdded opened.day _) served.added k e served.each at).day_is ∙ of_day in
+          let history_is : history ≡ new_in i = served.is ∙ legal_fold opened.accounts opened.base served.added day legal days in
           let told : replies ≡ replies_of i =
-          a.replies_are ∙ ap (λ es. replies_in es (readings_of directory from.accounts cut)) history
-          ∙ ap (λ (x : Directory). replies_in (new_in i) (readings_of x from.accounts cut)) has.directory_is in (
+          a.replies_are ∙ ap (λ es. replies_in es (readings_of directory opened.accounts cut)) history_is ∙ ap (λ (x : Directory). replies_in (new_in i) (readings_of x opened.accounts cut)) has.directory_is in
+          let answered : AreAnswered i = record {
+            each = ap length (sym told) ∙ a.each ∙ length-map cut _;
+            legal = subst (IsLegal opened.accounts) history_is served.journal.legal;
+            added = served.added;
+            is = sym history_is ∙ served.is;
+            pays = refl;
+            of_file = subst (λ (x : List Pay × Day). All (IsAdded x.1 x.0) served.added) (λ k. (sym pays k, of_day k)) served.each;
+            entered = λ k pay at. subst (λ (es : List Entry). IsSome (entered_at pay.mir es)) history_is (a.entered k pay (ap (λ (ps : List Pay). slice_get ps k) (sym pays) ∙ at));
+            alone = λ one. sym history_is ∙ a.alone one ∙ (λ k. fold_of opened.accounts opened.base (sym pays k) (of_day k));
+          } in
+          let on : (d.faults new.disk ≡ opened.at_open) × IsOnDisk d new.disk opened.accounts history = alone_on history had.calm served.leaves in (
             record {
-              passed = (
-                p.0,
-                (
-                  p.1.0,
-                  (
-                    p.1.1.0,
-                    (
-                      p.1.1.1.0,
-                      (
-                        opened.holds,
-                        (
-                          had.file.latest,
-                          (
-                            had.file.has,
-                            (
-                              record {
-                                each = ap length (sym told) ∙ a.each ∙ length-map cut _;
-                                legal = subst (λ es. IsLegal from.accounts es) history (subst (λ (chart : Chart). IsLegal chart to.history) a.grown.accounts a.grown.legal);
-                              },
-                              tt,
-                            ),
-                          ),
-                        ),
-                      ),
-                    ),
-                  ),
-                ),
-              );
+              passed = (p.0, (p.1.0, (p.1.1.0, (p.1.1.1.0, (holds, (latest, (had.file, (answered, tt))))))));
               leaves = record {
-                sure = ap d.faults closed ∙ not_failed a.grown.failed a.whole ∙ opened.sure;
-                entered = subst (λ (chart : Chart). IsOnDisk d new.disk chart (new_in i)) a.grown.accounts
-                    (subst (λ es. IsOnDisk d new.disk to.accounts es) history (left_whole d to.file to.accounts to.history new.disk to.failed closed a.whole stands));
-                journal = subst (λ es. IsJournal from.accounts es) history (subst (λ (chart : Chart). IsJournal chart to.history) a.grown.accounts journal);
+                sure = on.0 ∙ at_open;
+                entered = subst (λ es. IsOnDisk d new.disk opened.accounts es) history_is on.1;
+                journal = subst (λ es. IsJournal opened.accounts es) history_is served.journal;
               };
             },
-            history,
+            history_is,
             told,
           )
         where
-          not_failed : HasFailed d day from to → to.failed ≡ None → d.faults (disk_of to.file) ≡ d.faults (disk_of from.file)
-          not_failed (inl whole) none = whole.1
-          not_failed (inr failed) none = absurd (none-some day (sym none ∙ failed.0))
+          -- a disk whose count of faults has not risen
+          alone_on : (h : List Entry) → IsCalm opened.at_open (d.faults new.disk) → LeavesClosed d books h new.disk → (d.faults new.disk ≡ opened.at_open) × IsOnDisk d new.disk opened.accounts h
+          alone_on h calm (inl alone) = (alone.sure, record { stands = alone.stands; durable = alone.durable })
+          alone_on h calm (inr failed) = absurd (calm failed.0)
 
-      -- the part between the opening and the closing of the journal
-      pub day_ends : (r : Result Texts Status) → GivesDay source d directory day old.messages new.messages from to r → HasTexts source d (Run day) old new r
+      -- the part of a run behind the opening of the books
+      pub day_ends : (r : Result Texts Status) → GivesDay source d directory workers old.messages new.messages opened new.disk r → HasTexts source d (Run day workers) old new r
       unfolding report_in out_in
       day_ends (Ok texts) gives =
-          let bytes = gives.0 in
-          let cut = gives.1 in
-          let i = i_of bytes cut in
-          let done = has_passed bytes cut gives.2 gives.3 in
-          gives_run (Ok texts) i refl (
+          let history = gives.2 in
+          let had = gives.4 in
+          let i = i_of gives.0 gives.1 (entered_of had.served.added) in
+          let done = has_passed gives.0 gives.1 history gives.3 had in
+          gives_run (Ok texts) i refl refl (
             done.0,
-            gives.4 ∙ ap (λ es. report_of from.accounts es gives.2) done.1 ∙ ap (report_of from.accounts (new_in i)) done.2,
-            gives.5 ∙ ap (sent_from from.accounts (length from.history + 1)) done.1,
-            subst (λ es. AreSentValid (tables_in i) from.accounts (length from.history + 1) es) done.1
-                (subst (λ (x : Directory). AreSentValid x.tables from.accounts (length from.history + 1) to.history) has.directory_is gives.6),
+            gives.5 ∙ ap (λ es. report_of opened.accounts es gives.3) done.1 ∙ ap (report_of opened.accounts (new_in i)) done.2,
+            gives.6 ∙ ap (sent_from opened.accounts (length opened.base + 1)) done.1,
+            subst (λ es. AreSentValid (tables_in i) opened.accounts (length opened.base + 1) es) done.1
+                (subst (λ (x : Directory). AreSentValid x.tables opened.accounts (length opened.base + 1) history) has.directory_is gives.7),
           )
-      day_ends (Err s) (inl stops) =
-          let p = has.passed in
-          let same = same_book stops.book_same in
-          gives_run (Err s) (i_of [] []) refl
-          (inl (inr (p.0, inr (p.1.0, inr (p.1.1.0, inr (p.1.1.1.0, inr (opened.holds, inl ((stops.stop, stops.status_is, stops.back, same.1), (stops.source_same, (same.0, tt))))))))))
-      day_ends (Err s) (inr (inl stops)) =
-          let p = has.passed in
-          let same = same_book stops.book_same in
-          gives_run (Err s) (i_of stops.bytes []) refl
-          (inl (inr (p.0, inr (p.1.0, inr (p.1.1.0, inr (p.1.1.1.0, inr (opened.holds, inr (stops.latest, inl ((stops.stop, stops.status_is, stops.stops, same.1), (same.0, tt))))))))))
-      day_ends (Err s) (inr (inr (inl stops))) =
-          let p = has.passed in
-          let grown = stops.stopped.grown in
-          let i = i_of stops.bytes stops.cut in
-          let pays = same_pays stops.bytes stops.cut in
-          let booked : StopsBooking d old.disk new.disk i stops.stop = record {
-            added = grown.added;
-            each = subst (λ ps. All (IsAdded day ps) grown.added) (sym pays) grown.each;
-            front = subst (λ es. EntersFront from.accounts from.history (pays_of i) day es stops.stop) grown.history
-                (subst (λ ps. EntersFront from.accounts from.history ps day to.history stops.stop) (sym pays) stops.stopped.front);
-            journal = subst (λ es. IsJournal from.accounts es) grown.history (subst (λ (chart : Chart). IsJournal chart to.history) grown.accounts journal);
-            left = subst (λ es. IsLeft d old.disk new.disk from.accounts es day) grown.history (is_left grown.failed grown.accounts);
-            cause = subst (λ es. BookCause d old.disk new.disk i es stops.stop) grown.history (cause_of stops.bytes stops.cut stops.stop stops.stopped.cause pays);
-          } in
-          gives_run (Err s) i refl
-          (inl (inr (p.0, inr (p.1.0, inr (p.1.1.0, inr (p.1.1.1.0, inr (opened.holds, inr (stops.file.latest, inr (stops.file.has, inl ((stops.stop, stops.status_is, booked), tt))))))))))
-      day_ends (Err s) (inr (inr (inr stops))) =
-          let done = has_passed stops.bytes stops.cut stops.replies stops.had in
-          gives_run (Err s) (i_of stops.bytes stops.cut) refl (inr (done.0, stops.status_is))
+      day_ends (Err s) (inl stops) = file_stops s stops
+      day_ends (Err s) (inr stops) = pays_stop s stops
 
 -- whether the disk tells its bytes stays
-pub day_honest : {S D : Type 0} (source : sources.Ghosts S) (d : disks.Ghosts D) (directory : Directory) (day : Day) (from to : S) (old new : Book D) (r : Result Texts Status) → GivesDay source d directory day from to old new r
-    → d.honest (disk_of new.file) ≡ d.honest (disk_of old.file)
-day_honest source d directory day from to old new (Ok texts) gives = gives.3.answered.grown.honest
-day_honest {S} {D} source d directory day from to old new (Err s) (inl stops) = ap (λ (b : Book D). d.honest (disk_of b.file)) stops.book_same
-day_honest {S} {D} source d directory day from to old new (Err s) (inr (inl stops)) = ap (λ (b : Book D). d.honest (disk_of b.file)) stops.book_same
-day_honest source d directory day from to old new (Err s) (inr (inr (inl stops))) = stops.stopped.grown.honest
-day_honest source d directory day from to old new (Err s) (inr (inr (inr stops))) = stops.had.answered.grown.honest
+pub day_honest : {S D : Type 0} (source : sources.Ghosts S) (d : disks.Ghosts D) (directory : Directory) (workers : ℕ) (from to : S) (opened : Parts D) (new : D) (r : Result Texts Status)
+    → GivesDay source d directory workers from to opened new r → d.honest new ≡ d.honest (disk_of opened.file)
+day_honest source d directory workers from to opened new (Ok texts) gives = gives.4.served.honest
+day_honest source d directory workers from to opened new (Err s) (inl stops) = ap d.honest stops.same
+day_honest source d directory workers from to opened new (Err s) (inr stops) = stops.served.honest

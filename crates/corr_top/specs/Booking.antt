@@ -1,5 +1,5 @@
--- Pays that are entered one after another, and how that stops.
-use Rattle.std.specs.Prelude.{◌≡◌, ℕ, ◌+◌, ◌^◌, ◌<ℤ◌, ◌||◌, Bool, nat_le, All, List, [], ◌∷◌, ◌++◌, length, slice_get, Some, None, if◌then◌else◌}
+-- Pays that workers enter, and how that stops.
+use Rattle.std.specs.Prelude.{◌≡◌, ◌⊎◌, ℕ, ◌+◌, ◌^◌, ◌<ℤ◌, ◌||◌, Bool, true, nat_le, All, List, [], ◌∷◌, ◌++◌, IsSome, length, map, slice_get, Some, None, if◌then◌else◌}
 use Rattle.corr_disk.specs.declared.disk.Disk as outside
 use Rattle.corr_ids.specs.Day.{InCentury}
 use Rattle.corr_ids.specs.declared.day.Day.{Day}
@@ -14,23 +14,17 @@ use Rattle.jrn_book.specs.Journal.{IsJournal, file_of}
 use Rattle.jrn_file.specs.Faults.{Tells}
 use Rattle.corr_top.specs.declared.answers.BookStop.{BookStop}
 use Rattle.corr_top.specs.declared.answers.BookStop.TheVariants as booking
-use Rattle.corr_top.specs.declared.run.DateBack.{DateBack}
 use Rattle.corr_top.specs.Inputs.{Inputs, new_in, pays_of, replies_of}
 use Rattle.corr_top.specs.OnDisk.{HasNotFailed, IsLeft}
 
 -- the last entry of a history has this day, and it is after the day of a run
-pub record IsBack (history : List Entry) (day : Day) (back : DateBack) : Type 0 where
+pub record IsBack (history : List Entry) (day back : Day) : Type 0 where
   pub front : List Entry
   pub last : Entry
   pub history_is : history ≡ front ++ last ∷ []
-  pub day_is : back.last ≡ last.day
+  pub day_is : back ≡ last.day
   pub after : day.0 <ℤ last.day.0
-  pub century : InCentury back.last
-
--- each message has a reply, and the history that its pays make is legal: no reference is entered twice, each outcome is that of the entries before it, so debits equal credits
-pub record AreAnswered (i : Inputs) : Type 0 where
-  pub each : length (replies_of i) ≡ length i.cut
-  pub legal : IsLegal i.chart (new_in i)
+  pub century : InCentury back
 
 -- an entry that a run added: of its day, and of a pay of its file
 pub record IsAdded (day : Day) (pays : List Pay) (e : Entry) : Type 0 where
@@ -38,7 +32,32 @@ pub record IsAdded (day : Day) (pays : List Pay) (e : Entry) : Type 0 where
   pub place : ℕ
   pub pay_is : slice_get pays place ≡ Some e.pay
 
--- The first pay that found no room. Those ahead of it were entered as one thread does, and the numbers are those of the history that they made: how many entries, the place of the closed gate, and the bytes that this pay needed.
+-- Each message has a reply, and the history is legal: no reference is entered twice, each outcome is that of the entries before it, so debits equal credits. The entries that were added are those of the entered pays in their order, each of the day and of a pay of the file; and each pay of the file is entered. One worker enters them in the order of the file.
+pub record AreAnswered (i : Inputs) : Type 0 where
+  pub each : length (replies_of i) ≡ length i.cut
+  pub legal : IsLegal i.chart (new_in i)
+  pub added : List Entry
+  pub is : new_in i ≡ i.history ++ added
+  pub pays : map (λ e. e.pay) added ≡ i.entered
+  pub of_file : All (IsAdded i.day (pays_of i)) added
+  pub entered : (k : ℕ) (pay : Pay) → slice_get (pays_of i) k ≡ Some pay → IsSome (entered_at pay.mir (new_in i))
+  pub alone : i.workers ≡ 1 → new_in i ≡ fold_of i.chart i.history (pays_of i) i.day
+
+-- A pay of the file that found no room in what was entered then: a beginning of what is left, which has all of the journal as it was opened. The numbers are those of that history: how many entries, the place of the closed gate, and the bytes that this pay needed.
+pub record LacksRoomThen (chart : Chart) (history : List Entry) (pays : List Pay) (day : Day) (left : List Entry) (entries end need : ℕ) : Type 0 where
+  pub place : ℕ
+  pub pay : Pay
+  pub pay_is : slice_get pays place ≡ Some pay
+  pub front : List Entry
+  pub later : List Entry
+  pub left_is : left ≡ (history ++ front) ++ later
+  pub new : entered_at pay.mir (history ++ front) ≡ None
+  pub entries_are : entries ≡ length (history ++ front)
+  pub end_is : end + 1 ≡ length (file_of chart (history ++ front))
+  pub need_is : need ≡ need_of chart (history ++ front) pay day
+  pub full : IsFull (history ++ front) end need
+
+-- Of one worker: the first pay that found no room. Those ahead of it were entered as one thread does, and the numbers are those of the history that they made: how many entries, the place of the closed gate, and the bytes that this pay needed.
 pub record LacksRoom (chart : Chart) (history : List Entry) (pays : List Pay) (day : Day) (left : List Entry) (entries end need : ℕ) : Type 0 where
   pub front : List Pay
   pub pay : Pay
@@ -52,10 +71,11 @@ pub record LacksRoom (chart : Chart) (history : List Entry) (pays : List Pay) (d
   pub need_is : need ≡ need_of chart (fold_of chart history front day) pay day
   pub full : IsFull (fold_of chart history front day) end need
 
--- the cause: a call of the disk failed, or the first pay without room, and no call failed; want of memory tells nothing
+-- the cause: a call of the disk failed; or a pay found no room, of one worker the first in the order of the file, and no call failed; want of memory tells nothing
 abbrev pub BookCause : {D : Type 0} → outside.Ghosts D → D → D → Inputs → List Entry → BookStop → Type 0
 BookCause d old new i left (booking.DiskFault before after) = Tells (d.faults old) before after (d.faults new)
-BookCause d old new i left (booking.Full entries end need) = HasNotFailed d old new × LacksRoom i.chart i.history (pays_of i) i.day left entries end need
+BookCause d old new i left (booking.Full entries end need) = HasNotFailed d old new × LacksRoomThen i.chart i.history (pays_of i) i.day left entries end need
+    × (i.workers ≡ 1 → LacksRoom i.chart i.history (pays_of i) i.day left entries end need)
 BookCause d old new i left booking.Memory = Unit {0}
 
 -- there is no room for what a pay becomes: the history has the most entries that it may have, or the file would have more than 2^30 bytes
@@ -72,6 +92,21 @@ abbrev pub entered_of : Chart → List Entry → List Pay → Day → List Entry
 entered_of chart history [] day = history
 entered_of chart history (pay ∷ pays) day = entered_of chart (history_with chart history pay day) pays day
 
+-- a pay found no room in what was entered then, a beginning of what is left
+pub record HadNoRoom (chart : Chart) (history : List Entry) (day : Day) (left : List Entry) (pay : Pay) : Type 0 where
+  pub front : List Entry
+  pub later : List Entry
+  pub left_is : left ≡ (history ++ front) ++ later
+  pub new : entered_at pay.mir (history ++ front) ≡ None
+  pub lacks : lacks_room chart (history ++ front) pay day ≡ true
+
+-- Where room was wanting, each pay of the file was tried: its reference is entered, or it found no room. A failed disk and want of memory leave pays that were not tried.
+abbrev pub EachTried : Chart → List Entry → List Pay → Day → List Entry → BookStop → Type 0
+EachTried chart history pays day left (booking.DiskFault before after) = Unit {0}
+EachTried chart history pays day left (booking.Full entries end need) =
+    (k : ℕ) (pay : Pay) → slice_get pays k ≡ Some pay → IsSome (entered_at pay.mir left) ⊎ HadNoRoom chart history day left pay
+EachTried chart history pays day left booking.Memory = Unit {0}
+
 -- the first of these pays is not entered
 pub record BeginsNew (left : List Entry) (pays : List Pay) : Type 0 where
   pub pay : Pay
@@ -79,25 +114,31 @@ pub record BeginsNew (left : List Entry) (pays : List Pay) : Type 0 where
   pub pays_are : pays ≡ pay ∷ more
   pub new : entered_at pay.mir left ≡ None
 
+-- A front part of the pays was entered, one after another, but those without room. The first behind it, if there is one, is not entered.
+pub record EntersFront (chart : Chart) (history : List Entry) (pays : List Pay) (day : Day) (left : List Entry) : Type 0 where
+  pub front : List Pay
+  pub rest : List Pay
+  pub pays_are : pays ≡ front ++ rest
+  pub left_is : left ≡ entered_of chart history front day
+  pub next : (rest ≡ []) ⊎ BeginsNew left rest
+
 -- what was not come to: nothing where room was wanting; a failed disk stops at a pay that is new; memory may run out at any
 abbrev pub StopsBefore : List Entry → BookStop → List Pay → Type 0
 StopsBefore left (booking.DiskFault before after) rest = BeginsNew left rest
 StopsBefore left (booking.Full entries end need) rest = rest ≡ []
 StopsBefore left booking.Memory rest = Unit {0}
 
--- which pays were entered: those of a front part, one after another, but those without room
-pub record EntersFront (chart : Chart) (history : List Entry) (pays : List Pay) (day : Day) (left : List Entry) (stop : BookStop) : Type 0 where
-  pub front : List Pay
-  pub rest : List Pay
-  pub pays_are : pays ≡ front ++ rest
-  pub left_is : left ≡ entered_of chart history front day
-  pub stops : StopsBefore left stop rest
+-- of one worker: which pays were entered, in the order of the file, and where that stopped
+pub record EntersInOrder (chart : Chart) (history : List Entry) (pays : List Pay) (day : Day) (left : List Entry) (stop : BookStop) : Type 0 where
+  pub entered : EntersFront chart history pays day left
+  pub stops : StopsBefore left stop entered.rest
 
--- How the entering of the pays stops: by its cause. What is left is the journal's history and further entries of the day, those that one thread makes of a front part of the file's pays, in a journal that may be opened again.
+-- How the entering of the pays stops: by its cause. What is left is the journal's history and further entries of the day, each of a pay of the file, in a journal that may be opened again; where room was wanting each pay of the file was tried, and one worker entered a front part of the pays.
 pub record StopsBooking {D : Type 0} (d : outside.Ghosts D) (old new : D) (i : Inputs) (stop : BookStop) : Type 0 where
   pub added : List Entry
   pub each : All (IsAdded i.day (pays_of i)) added
-  pub front : EntersFront i.chart i.history (pays_of i) i.day (i.history ++ added) stop
+  pub tried : EachTried i.chart i.history (pays_of i) i.day (i.history ++ added) stop
+  pub alone : i.workers ≡ 1 → EntersInOrder i.chart i.history (pays_of i) i.day (i.history ++ added) stop
   pub journal : IsJournal i.chart (i.history ++ added)
   pub left : IsLeft d old new i.chart (i.history ++ added) i.day
   pub cause : BookCause d old new i (i.history ++ added) stop

@@ -24,9 +24,13 @@ abbrev pub places_of : List ℕ → List ℕ → Option (ℕ × ℕ)
 places_of from until =
     option_and_then (λ first. option_and_then (λ last. if nat_le 1 first && nat_le first last && nat_le last 100000 then Some (first, last) else None) (number_of until)) (number_of from)
 
--- `run DATE 1` with a day of the calendar
+-- a number of workers
+abbrev pub workers_of : List ℕ → Option ℕ
+workers_of number = option_and_then (λ n. if nat_le 1 n && nat_le n 16 then Some n else None) (number_of number)
+
+-- `run DATE WORKERS` with a day of the calendar and 1 to 16 workers
 abbrev pub run_of : List ℕ → List ℕ → Option Command
-run_of date workers = if bytes_eq workers (codes "1") then option_map Run (day_of date) else None
+run_of date workers = option_and_then (λ day. option_map (λ n. Run day n) (workers_of workers)) (day_of date)
 
 -- `init HOME` with a BIC
 abbrev pub init_of : List ℕ → Option PlainCommand
@@ -49,57 +53,57 @@ command_of (word ∷ one ∷ two ∷ three ∷ more) = None
 
 -- a command that waits for nobody
 abbrev pub plain_in : Command → Option PlainCommand
-plain_in (Run day) = None
+plain_in (Run day workers) = None
 plain_in (Plain command) = Some command
 
 -- the words of such a command
 abbrev pub plain_of : List (List ℕ) → Option PlainCommand
 plain_of words = option_and_then plain_in (command_of words)
 
--- what the words name is in its range: a day of 1980 to 2079, a BIC, two places
+-- what the words name is in its range: a day of 1980 to 2079 and 1 to 16 workers, a BIC, two places
 abbrev pub IsSpelled : Command → Type 0
-IsSpelled (Run day) = InCentury day
+IsSpelled (Run day workers) = InCentury day × (1 ≤ workers) × (workers ≤ 16)
 IsSpelled (Plain (Init home)) = IsBic home
 IsSpelled (Plain (Query (Send from until))) = (1 ≤ from) × (from ≤ until) × (until ≤ 100000)
 IsSpelled (Plain (Query Bookings)) = Unit {0}
 
 -- what was read for a command names what its words name
 abbrev pub IsFor : Command → Inputs → Type 0
-IsFor (Run day) i = i.day ≡ day
+IsFor (Run day workers) i = (i.day ≡ day) × (i.workers ≡ workers)
 IsFor (Plain (Init home)) i = i.home ≡ home
 IsFor (Plain (Query asked)) i = Unit {0}
 
 -- what a command reads, tests and does before it writes, in this order
 abbrev pub steps_of : Command → List Step
-steps_of (Run day) = run_steps
+steps_of (Run day workers) = run_steps
 steps_of (Plain (Init home)) = init_steps
 steps_of (Plain (Query asked)) = query_steps
 
 -- its report
 unfoldable pub report_in : Command → Inputs → List ℕ
-report_in (Run day) i = run_report i
+report_in (Run day workers) i = run_report i
 report_in (Plain (Init home)) i = []
 report_in (Plain (Query asked)) i = query_report asked i.chart i.history
 
 -- what it sends
 unfoldable pub out_in : Command → Inputs → List ℕ
-out_in (Run day) i = run_out i
+out_in (Run day workers) i = run_out i
 out_in (Plain (Init home)) i = []
 out_in (Plain (Query asked)) i = query_out asked i.chart i.history
 
 -- Each message that a run sends passes the tests of a sent message under the tables that it read. What `send` sends was entered under other tables, and may not pass under any that are known.
 abbrev pub SendsValid : Command → Inputs → Type 0
-SendsValid (Run day) i = AreSentValid (tables_in i) i.chart (length i.history + 1) (new_in i)
+SendsValid (Run day workers) i = AreSentValid (tables_in i) i.chart (length i.history + 1) (new_in i)
 SendsValid (Plain command) i = Unit {0}
 
 -- what it leaves on the disk where it comes to its end
 abbrev pub Leaves : {D : Type 0} → disks.Ghosts D → Command → D → D → Inputs → Type 0
-Leaves disk (Run day) old new i = RunLeaves disk old new i
+Leaves disk (Run day workers) old new i = RunLeaves disk old new i
 Leaves disk (Plain (Init home)) old new i = InitLeaves disk old new i
 Leaves disk (Plain (Query asked)) old new i = QueryLeaves disk old new
 
 -- the sources that it doesn't read are as they were, and so is the second disk
 abbrev pub KeepsRest : {S K D : Type 0} → Command → Room S K D → Room S K D → Type 0
-KeepsRest (Run day) old new = (new.tables.accounts ≡ old.tables.accounts) × (new.received ≡ old.received) × (new.disk2 ≡ old.disk2)
+KeepsRest (Run day workers) old new = (new.tables.accounts ≡ old.tables.accounts) × (new.received ≡ old.received) × (new.disk2 ≡ old.disk2)
 KeepsRest (Plain (Init home)) old new = (new.tables.ssi ≡ old.tables.ssi) × (new.messages ≡ old.messages) × (new.received ≡ old.received) × (new.disk2 ≡ old.disk2)
 KeepsRest (Plain (Query asked)) old new = (new.tables ≡ old.tables) × (new.messages ≡ old.messages) × (new.received ≡ old.received) × (new.disk2 ≡ old.disk2)

@@ -18,10 +18,11 @@ use Rattle.ssi_versions.specs.Rows.{instruction_of}
 use Rattle.corr_top.specs.declared.directory.Directory.{Directory}
 use Rattle.corr_top.specs.Message.{pays_in, readings_of, replies_in}
 
--- The home bank and the day that the words name; the bytes that were read of each file, and the messages of the message file; and the accounts and the history of the journal as it was opened. What was not reached has none.
+-- The home bank, the day and the number of workers that the words name; the bytes that were read of each file, and the messages of the message file; the accounts and the history of the journal as it was opened; and the pays that the workers entered, in the order of the journal. What was not reached has none.
 pub record Inputs : Type 0 where
   pub home : Bic
   pub day : Day
+  pub workers : ℕ
   pub bics : List ℕ
   pub ccys : List ℕ
   pub countries : List ℕ
@@ -31,6 +32,7 @@ pub record Inputs : Type 0 where
   pub cut : List (List ℕ)
   pub chart : Chart
   pub history : List Entry
+  pub entered : List Pay
 
 -- the tables of banks, currencies and countries
 abbrev pub tables_in : Inputs → Tables
@@ -60,9 +62,9 @@ directory_in i = record { tables = tables_in i; ssi = instructions_in i }
 abbrev pub pays_of : Inputs → List Pay
 pays_of i = pays_in (readings_of (directory_in i) i.chart i.cut)
 
--- the history that one thread makes of the journal's and these pays
+-- the history that one thread makes of the journal's and the pays that were entered, in their order
 abbrev pub new_in : Inputs → List Entry
-new_in i = fold_of i.chart i.history (pays_of i) i.day
+new_in i = fold_of i.chart i.history i.entered i.day
 
 -- the reply to each message after that history
 abbrev pub replies_of : Inputs → List Reply

@@ -18,8 +18,8 @@ pub mod Init
 pub mod Run
 pub mod Query
 pub mod Origin
-pub mod Pairs
-pub mod Turns
+pub mod Serving
+pub mod Collecting
 pub mod Days
 pub mod Commands
 pub mod Ends

@@ -1,6 +1,7 @@
 -- What passing a step of a command means, and how it stops there.
 use Rattle.std.specs.Prelude.{ℕ, ◌≡◌, ◌≤◌, List, Option, Some, None, pos}
 use Rattle.corr_disk.specs.declared.disk.Disk as disks
+use Rattle.corr_ids.specs.declared.day.Day.{Day}
 use Rattle.corr_io.specs.declared.source.Source as sources
 use Rattle.corr_money.specs.declared.amount.Ccy.{Ccy}
 use Rattle.day_model.specs.declared.fault.AccountsFault.{AccountsFault}
@@ -22,7 +23,6 @@ use Rattle.corr_top.specs.declared.cutting.FileStop.{FileStop}
 use Rattle.corr_top.specs.declared.cutting.FileStop.TheVariants as file
 use Rattle.corr_top.specs.declared.room.Room.{Room}
 use Rattle.corr_top.specs.declared.room.Tables.{Tables}
-use Rattle.corr_top.specs.declared.run.DateBack.{DateBack}
 use Rattle.corr_top.specs.declared.status.Status.{Status}
 use Rattle.corr_top.specs.declared.tables.TableStop.{TableStop}
 use Rattle.corr_top.specs.declared.tables.TableStop.TheVariants as table
@@ -123,7 +123,7 @@ StopsAt source disk old new i s (Step.table name) =
 StopsAt source disk old new i s Step.sums = (stop : AccountsFault) × (s ≡ status_of_sums stop) × StopsAtSums i stop
 StopsAt source disk old new i s Step.make = (stop : MakeFault) × (s ≡ status_of_making stop) × StopsMaking disk old.disk new.disk (chart_in i) stop
 StopsAt source disk old new i s Step.open_journal = (stop : OpenFault) × (s ≡ status_of_opening stop) × StopsOpening disk old.disk new.disk stop
-StopsAt source disk old new i s Step.day = (stop : DateBack) × (s ≡ status_of_day stop) × IsBack i.history i.day stop × HasNotFailed disk old.disk new.disk
+StopsAt source disk old new i s Step.day = (stop : Day) × (s ≡ status_of_day stop) × IsBack i.history i.day stop × HasNotFailed disk old.disk new.disk
 StopsAt source disk old new i s Step.messages = (stop : FileStop) × (s ≡ status_of_file stop) × StopsAtMessages source old.messages new.messages i.messages stop × HasNotFailed disk old.disk new.disk
 StopsAt source disk old new i s Step.book = (stop : BookStop) × (s ≡ status_of_booking stop) × StopsBooking disk old.disk new.disk i stop
 

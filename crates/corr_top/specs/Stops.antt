@@ -1,4 +1,7 @@
 -- Why a step of a command stopped, as the status that tells it.
+use Rattle.corr_books.specs.declared.opening.BooksFault.{BooksFault}
+use Rattle.corr_books.specs.declared.opening.BooksFault.TheVariants as books
+use Rattle.corr_ids.specs.declared.day.Day.{Day}
 use Rattle.day_model.specs.declared.fault.AccountsFault.{AccountsFault}
 use Rattle.day_model.specs.declared.fault.AccountsFault.TheVariants as accounts
 use Rattle.fin_frame.specs.declared.fault.FrameFault.{FrameFault}
@@ -15,7 +18,6 @@ use Rattle.corr_top.specs.declared.cutting.FileStop.{FileStop}
 use Rattle.corr_top.specs.declared.cutting.FileStop.TheVariants as file
 use Rattle.corr_top.specs.declared.reading.ReadStop.{ReadStop}
 use Rattle.corr_top.specs.declared.reading.ReadStop.TheVariants as reading
-use Rattle.corr_top.specs.declared.run.DateBack.{DateBack}
 use Rattle.corr_top.specs.declared.status.Status.{Status}
 use Rattle.corr_top.specs.declared.status.Status.TheVariants as status
 use Rattle.corr_top.specs.declared.tables.TableStop.{TableStop}
@@ -62,8 +64,12 @@ status_of_opening (opening.Damaged at) = status.Damaged at
 status_of_opening (opening.DiskFault before after) = status.DiskFault before after
 status_of_opening opening.Memory = status.Memory
 
-abbrev pub status_of_day : DateBack → Status
-status_of_day back = status.DateBack back.last
+abbrev pub status_of_day : Day → Status
+status_of_day back = status.DateBack back
+
+abbrev pub status_of_books : BooksFault → Status
+status_of_books (books.Open fault) = status_of_opening fault
+status_of_books (books.DateBack last) = status_of_day last
 
 abbrev pub status_of_file : FileStop → Status
 status_of_file (file.Fault before after) = status.ReadFault before after

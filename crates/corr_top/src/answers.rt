@@ -1,31 +1,20 @@
-//! Messages, answered one after another.
+//! The replies to messages, put together from what the workers made of them.
 
-ghost use Rattle.std.specs.Prelude.{◌≡◌, ◌⊎◌, ◌≤◌, All, Err, IfErr, IfOk, None, Some, OnErr, OnOk, [], length, is_none, if◌then◌else◌};
-ghost use Rattle.corr_ids.specs.Day.{InCentury};
-ghost use Rattle.day_model.specs.Laws.{IsLatest};
-ghost use Rattle.day_model.specs.Legal.{IsLegal};
-ghost use Rattle.jrn_book.specs.Answers.{IsAnswered};
-ghost use Rattle.corr_top.specs.Message.{message_of, pays_in, readings_of};
-ghost use Rattle.corr_top.specs.Turns.{HasAnswered, HasPlace, HasStopped, Turned, TurnedBack, missed, noted, replied};
+ghost use Rattle.std.specs.Prelude.{◌≡◌, ◌++◌, ◌∷◌, [], IfErr, IfOk, IsFalse, IsTrue, OnOk, Some, if◌then◌else◌, is_none};
+ghost use Rattle.corr_text.specs.Faults.{Rose};
+ghost use Rattle.corr_top.specs.Collecting.{IsCalm, StopsAsServed};
+ghost use Rattle.corr_top.specs.Serving.{SaysFailed, are_replies};
 
-use crate::booking::enter;
-use crate::directory::Directory;
-use crate::message::{Stop, read_message, reply_for};
+use crate::desk::{Halt, Served};
 use crate::status::Status;
-use acct_locks::{Name, Purses};
-use corr_disk::Disk;
-use corr_ids::{Day, Mir};
-use corr_text::{Memory, Text};
+use corr_text::Memory;
 use day_model::Reply;
-use jrn_book::{CommitFault, Committed, JrnBook};
 use std::alloc::Global;
-use std::marker::Model;
-use std::sync::Wait;
 
 /// Why the pays of a file were not all entered.
 #[derive(Clone, Copy, Debug, PartialEq, Eq)]
 pub enum BookStop {
-    /// A call of the disk failed: its count of faults before and after.
+    /// The disk failed: its count of faults at the opening and at the close.
     DiskFault { before: u64, after: u64 },
     /// A pay found no room: how many entries there were, the place of the closed gate, and the bytes that the pay needed.
     Full { entries: u32, end: u64, need: u64 },
@@ -57,93 +46,32 @@ impl From<Memory> for BookStop {
     }
 }
 
-/// What messages of a day are answered by: the directory, and the day on which pays are entered.
-#[derive(Drop)]
-pub struct Desk {
-    pub directory: Directory,
-    pub day: Day,
+/// Whether a count of faults has risen by one. One that stands at its last value may have.
+fn has_risen(before: u64, after: u64) -> bool
+    ensures yes { IsTrue result → Rose before after }
+    ensures no { IsFalse result → IsCalm before after }
+{
+    after == before.saturating_add(1)
 }
 
-/// What has been answered: a reply to each message but those whose pay was not entered, and what kept the first of these from
-/// it, where the disk's fault comes before want of room.
-#[derive(Debug, Drop)]
-struct Answers {
-    replies: Vec<Reply>,
-    full: Option<BookStop>,
-    fault: Option<BookStop>,
+/// Whether a message says that the disk failed over its pay.
+fn says_failed(served: &[Served]) -> bool
+    ensures { IsTrue result → SaysFailed served.now }
+{
+    served
+        .iter()
+        .any(|one| matches!(one, Served::Stopped(Halt::Disk)))
 }
 
-impl Model for Answers {
-    ghost use Rattle.corr_top.specs.Turns.{Told};
-
-    ghost Value = { Told };
-
-    ghost view = { λ a. record { replies = a.replies.items; full = a.full; fault = a.fault } };
-}
-
-impl Answers {
-    /// Nothing yet.
-    fn new(alloc: Global) -> Answers
-        ensures { result ≡ record { replies = []; full = None; fault = None } }
-    {
-        Answers {
-            replies: Vec::new(alloc),
-            full: None,
-            fault: None,
-        }
-    }
-
-    /// Notes the reply to a message that gives no pay.
-    fn reply(&mut self, reply: Reply) -> Result<(), Memory>
-        ensures { OnOk result (self.new ≡ replied self.old reply) }
-    {
-        self.replies.push(reply)?;
-        Ok(())
-    }
-
-    /// The replies, where each pay was entered.
-    fn end(self) -> Result<Vec<Reply>, BookStop>
-        ensures answered { IfOk result (λ replies. (self.full ≡ None) × (self.fault ≡ None) × (replies.items ≡ self.replies)) }
-        ensures stopped { IfErr result (λ stop. (self.fault ≡ Some stop) ⊎ ((self.fault ≡ None) × (self.full ≡ Some stop))) }
-    {
-        match (self.fault, self.full) {
-            (Some(fault), _) => Err(fault),
-            (None, Some(full)) => Err(full),
-            (None, None) => Ok(self.replies),
-        }
-    }
-
-    /// Notes the answer to the pay of a reference.
-    fn note(&mut self, mir: Mir, committed: Result<Committed, CommitFault>) -> Result<(), Memory>
-        ensures noted { OnOk result (self.new ≡ noted self.old mir committed) }
-        ensures answered { OnOk result (IsAnswered committed) }
-    {
-        match committed {
-            Ok(Committed::New { place, .. }) => self.reply(Reply::Entered { mir, place }),
-            Ok(Committed::Kept { place, .. }) => self.reply(Reply::Entered { mir, place }),
-            Err(CommitFault::Conflict { place }) => self.reply(Reply::Conflict { mir, place }),
-            Err(fault) => self.note_fault(fault),
-        }
-    }
-
-    /// Notes why a pay was not entered.
-    fn note_fault(&mut self, fault: CommitFault) -> Result<(), Memory>
-        ensures missed { OnOk result (self.new ≡ missed self.old fault) }
-        ensures answered { OnOk result (IsAnswered (Err fault)) }
-    {
-        match fault {
-            CommitFault::Full { entries, end, need } => {
-                self.full = first_full(self.full, BookStop::Full { entries, end, need });
-                Ok(())
-            }
-            CommitFault::DiskFault { before, after } => {
-                self.fault = Some(BookStop::DiskFault { before, after });
-                Ok(())
-            }
-            CommitFault::Memory => Err(Memory),
-            // an earlier commit answered DiskFault; a conflict has a reply
-            CommitFault::Broken { .. } | CommitFault::Conflict { .. } => Ok(()),
-        }
+/// Why pays were not entered, where the count has risen.
+fn failed_stop(before: u64, after: u64, served: &[Served]) -> BookStop
+    requires { Rose before after }
+    ensures { StopsAsServed before after served.now result }
+{
+    if says_failed(served) {
+        BookStop::DiskFault { before, after }
+    } else {
+        BookStop::Memory
     }
 }
 
@@ -157,59 +85,44 @@ fn first_full(first: Option<BookStop>, later: BookStop) -> Option<BookStop>
     }
 }
 
-/// Answers one message.
-fn answer<N: Name, R: Wait, D: Disk>(
-    rt: &R,
-    alloc: Global,
-    desk: &Desk,
-    purses: &Purses<N>,
-    book: &mut JrnBook<D>,
-    answers: &mut Answers,
-    message: &[u8],
-) -> Result<(), Memory>
-    requires short { length message.now ≤ 16384 }
-    requires century { InCentury desk.now.day }
-    requires latest { IsLatest book.old.history desk.now.day }
-    requires purses { (purses.now ≡ length book.old.accounts.accounts) × (book.old.table ≡ N.table) }
-    ensures turned { OnOk result (Turned D.Disk desk.now.day (message_of desk.now.directory book.old.accounts message.now) book.old book.new answers.old answers.new) }
-    ensures back { OnErr result (TurnedBack D.Disk desk.now.day (message_of desk.now.directory book.old.accounts message.now) book.old book.new) }
+/// Adds a reply at the end.
+fn add(replies: &mut Vec<Reply>, reply: Reply) -> Result<(), Memory>
+    ensures { OnOk result (replies.new.items ≡ replies.old.items ++ reply ∷ []) }
 {
-    match read_message(alloc, &desk.directory, book.accounts(), message) {
-        Ok(pay) => {
-            let committed = enter(rt, purses, book, &pay, desk.day);
-            answers.note(pay.mir, committed)
-        }
-        Err(Stop::NoPay(why)) => answers.reply(reply_for(why)),
-        Err(Stop::Memory) => Err(Memory),
-    }
+    replies.push(reply)?;
+    Ok(())
 }
 
-/// Enters the pays of messages in their order, and answers a reply to each message: at most 50,000 of at most 16,384 bytes.
+/// The replies of messages of which each has one, in the order of the messages; or why one has none: the disk failed, whose
+/// count of faults was `before` at the opening and is `after`, memory ran out, or its pay, the first such, found no room.
 ///
-/// It goes on after a pay that was not entered. `DiskFault` comes where a commit answered it, and `Full`, with the numbers of
-/// the first pay without room, where one answered that and none DiskFault.
-pub fn answer_all<N: Name, R: Wait, D: Disk>(
-    rt: &R,
+/// A count that rose without a message that says so is told as want of memory, which tells nothing.
+pub fn all_replies(
     alloc: Global,
-    desk: &Desk,
-    purses: &Purses<N>,
-    book: &mut JrnBook<D>,
-    messages: &[Text],
+    before: u64,
+    after: u64,
+    served: Vec<Served>,
 ) -> Result<Vec<Reply>, BookStop>
-    requires few { length messages.now ≤ 50000 }
-    requires short { All (λ m. length m ≤ 16384) messages.now }
-    requires century { InCentury desk.now.day }
-    requires latest { IsLatest book.old.history desk.now.day }
-    requires purses { (purses.now ≡ length book.old.accounts.accounts) × (book.old.table ≡ N.table) }
-    requires whole { book.old.failed ≡ None }
-    requires place { HasPlace book.old }
-    requires legal { IsLegal book.old.accounts book.old.history }
-    ensures answered { IfOk result (λ replies. HasAnswered D.Disk desk.now.day book.old book.new (readings_of desk.now.directory book.old.accounts messages.now) replies.items) }
-    ensures stopped { IfErr result (HasStopped D.Disk desk.now.day book.old book.new (pays_in (readings_of desk.now.directory book.old.accounts messages.now))) }
+    ensures answered { IfOk result (λ replies. served.items ≡ are_replies replies.items) }
+    ensures calm { IfOk result (λ _. IsCalm before after) }
+    ensures stopped { IfErr result (StopsAsServed before after served.items) }
 {
-    let mut answers = Answers::new(alloc);
-    for message in messages {
-        answer(rt, alloc, desk, purses, book, &mut answers, message.bytes())?;
+    if has_risen(before, after) {
+        return Err(failed_stop(before, after, served.as_slice()));
     }
-    answers.end()
+    let mut replies = Vec::new(alloc);
+    let mut full = None;
+    for one in served {
+        match one {
+            Served::Reply(reply) => add(&mut replies, reply)?,
+            Served::Full { entries, end, need } => {
+                full = first_full(full, BookStop::Full { entries, end, need });
+            }
+            Served::Stopped(_) => return Err(BookStop::Memory),
+        }
+    }
+    match full {
+        Some(full) => Err(full),
+        None => Ok(replies),
+    }
 }

@@ -21,6 +21,8 @@ use corr_io::{Sink, Source};
 use corr_text::Text;
 use std::alloc::Global;
 use std::sync::Wait;
+use std::thread::Threads;
+use work_pool::Gate;
 
 /// Words of no command touch nothing.
 fn refuse<S: Source, K: Sink, D: Disk>(room: Room<S, K, D>) -> Done<S, K, D>
@@ -99,16 +101,18 @@ pub fn plain<S: Source, K: Sink, D: Disk>(
 
 /// Does what the words say over the objects of a room, and hands the room back (docs/operating.md).
 ///
-/// `run DATE 1`, with `DATE` as YYMMDD, reads the tables, opens the journal, enters the pays of the message file's messages on
-/// that day, writes the report, and then to `out` the outgoing messages of the entries that it added, each followed by `$`.
+/// `run DATE WORKERS`, with `DATE` as YYMMDD, reads the tables, opens the journal, lets 1 to 16 workers enter the pays of the
+/// message file's messages on that day, writes the report, and then to `out` the outgoing messages of the entries that were
+/// added, each followed by `$`. Each pay passes the gate once its accounts are held.
 /// `init HOME` makes the journal of the home bank HOME with the accounts of the tables. `send FROM UNTIL` writes the outgoing
 /// messages of the entries at these places, `bookings` a line for each entry. Other words are `Usage`. Nothing is written
 /// but at `Done`, and a front part of both together at `WriteFault`.
-pub fn corr<R: Wait, S: Source, K: Sink, D: Disk>(
+pub fn corr<R: Wait + Threads + Sync, S: Source, K: Sink, D: Disk + Drop + Send, G: Gate + Sync>(
     rt: &R,
     alloc: Global,
     words: &[Text],
     room: Room<S, K, D>,
+    gate: &G,
 ) -> Done<S, K, D>
     // words of no command touch nothing
     ensures usage { command_of words.now ≡ None → (result.status ≡ Status.Usage) × (result.room ≡ room) }
@@ -124,8 +128,8 @@ pub fn corr<R: Wait, S: Source, K: Sink, D: Disk>(
 {
     match spelled(words) {
         Some(Command::Plain(command)) => perform(alloc, command, room),
-        Some(Command::Run { day }) => {
-            let (room, texts) = run(rt, alloc, day, room);
+        Some(Command::Run { day, workers }) => {
+            let (room, texts) = run(rt, alloc, day, workers, room, gate);
             end(room, texts)
         }
         None => refuse(room),

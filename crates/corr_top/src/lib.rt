@@ -3,9 +3,9 @@
 
 mod accounts;
 mod answers;
-mod booking;
 mod command;
 mod cutting;
+mod desk;
 mod directory;
 mod init;
 mod line;
@@ -16,6 +16,7 @@ mod query;
 mod reading;
 mod room;
 mod run;
+mod serving;
 mod slices;
 mod status;
 mod tables;

@@ -8,6 +8,7 @@ ghost use Rattle.corr_top.specs.OnDisk.{HasOpened, StopsOpening};
 
 use crate::status::Status;
 use acct_locks::Loose;
+use corr_books::BooksFault;
 use corr_disk::Disk;
 use jrn_book::{JrnBook, open_book};
 use jrn_file::OpenFault;
@@ -24,6 +25,19 @@ impl From<OpenFault> for Status {
             OpenFault::Damaged { at } => Status::Damaged { at },
             OpenFault::DiskFault { before, after } => Status::DiskFault { before, after },
             OpenFault::Memory => Status::Memory,
+        }
+    }
+}
+
+impl From<BooksFault> for Status {
+    ghost use Rattle.corr_top.specs.Stops.{status_of_books};
+
+    ghost from_gives = { λ fault status. status ≡ status_of_books fault };
+
+    fn from(fault: BooksFault) -> Status {
+        match fault {
+            BooksFault::Open(fault) => Status::from(fault),
+            BooksFault::DateBack { last } => Status::DateBack { last },
         }
     }
 }

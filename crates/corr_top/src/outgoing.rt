@@ -5,7 +5,7 @@ ghost use Rattle.std.specs.Int.{IsInRange};
 ghost use Rattle.advices.specs.Messages.{messages_of};
 ghost use Rattle.advices.specs.Valid.{AreAccepted};
 ghost use Rattle.corr_ids.specs.Bic.{IsBic};
-ghost use Rattle.corr_top.specs.Turns.{HasPayShape};
+ghost use Rattle.corr_top.specs.Serving.{HasPayShape};
 ghost use Rattle.corr_top.specs.Origin.{SendsAccepted};
 ghost use Rattle.corr_top.specs.Out.{parted, parted_all, sent_from, sent_of};
 ghost use Rattle.day_model.specs.Fit.{FitsAccounts};

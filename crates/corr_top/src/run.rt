@@ -1,77 +1,43 @@
 //! The command `run`: every message of a file is answered, the report is made, and the next messages are made.
 
-ghost use Rattle.std.specs.Prelude.{◌≡◌, ◌≤◌, ◌+◌, ℕ, All, List, None, IfErr, IfOk, OnOk, length};
+ghost use Rattle.std.specs.Prelude.{◌≡◌, ◌≤◌, ◌+◌, ℕ, All, List, IfErr, IfOk, OnOk, length, vec_len};
 ghost use Rattle.corr_ids.specs.Bic.{IsBic};
 ghost use Rattle.corr_ids.specs.Day.{InCentury};
 ghost use Rattle.corr_report.specs.Report.{NamesPlace, report_of};
-ghost use Rattle.day_model.specs.Laws.{IsLatest};
 ghost use Rattle.day_model.specs.Legal.{IsLegal};
 ghost use Rattle.jrn_book.specs.Journal.{IsJournal};
-ghost use Rattle.jrn_codec.specs.Record.{IsEntry};
 ghost use Rattle.ssi_versions.specs.InstructionList.{AreInstructions};
-ghost use Rattle.corr_top.specs.Booking.{IsBack};
-ghost use Rattle.corr_top.specs.Days.{GivesDay};
+ghost use Rattle.corr_top.specs.Days.{GivesDay, GivesServed, GivesTexts};
 ghost use Rattle.corr_top.specs.Ends.{HasTexts};
 ghost use Rattle.corr_top.specs.Origin.{SendsAccepted};
 ghost use Rattle.corr_top.specs.Out.{sent_from};
 ghost use Rattle.corr_top.specs.Passing.{HasMessages, StopsAtMessages};
-ghost use Rattle.corr_top.specs.Turns.{HasPayShape, HasPlace};
+ghost use Rattle.corr_top.specs.Serving.{HasPayShape, are_replies};
 ghost use Rattle.corr_top.specs.declared.words.Command.TheVariants.{Run};
+ghost use Rattle.day_model.specs.declared.reply.Reply.{Reply as TheReply};
 
-use crate::answers::{Desk, answer_all};
+use crate::answers::all_replies;
 use crate::cutting::{FILE_LIMIT, FileStop, cut_file};
-use crate::directory::read_directory;
-use crate::opening::{close_journal, open_journal};
+use crate::desk::Served;
+use crate::directory::{Directory, read_directory};
 use crate::outgoing::outgoing;
 use crate::reading::read_whole;
 use crate::room::Room;
+use crate::serving::{ServedDay, serve_all};
 use crate::status::Status;
 use crate::writing::Texts;
-use acct_locks::{Brand, Loose, Name};
+use corr_books::{Closed, Opened, open_books};
 use corr_disk::Disk;
 use corr_ids::Day;
 use corr_io::{Sink, Source};
 use corr_report::report;
 use corr_text::{List, Memory, Text};
 use day_model::{Accounts, History, Reply};
-use jrn_book::JrnBook;
 use std::alloc::Global;
+use std::marker::Brand;
 use std::sync::Wait;
-
-/// The day of the last entry, which is after that of a run.
-#[derive(Clone, Copy, Debug, PartialEq, Eq)]
-struct DateBack {
-    last: Day,
-}
-
-impl From<DateBack> for Status {
-    ghost use Rattle.corr_top.specs.Stops.{status_of_day};
-
-    ghost from_gives = { λ stop status. status ≡ status_of_day stop };
-
-    fn from(stop: DateBack) -> Status {
-        Status::DateBack { last: stop.last }
-    }
-}
-
-/// Whether entries of a day may follow a history.
-fn check_day(a: &Accounts, h: &History, day: Day) -> Result<(), DateBack>
-    requires legal { IsLegal a.now h.now.entries }
-    requires entries { All IsEntry h.now.entries }
-    ensures latest { OnOk result (IsLatest h.now.entries day) }
-    ensures back { IfErr result (IsBack h.now.entries day) }
-{
-    let _ = a;
-    let count = h.len();
-    if count == 0 {
-        return Ok(());
-    }
-    let last = h.get(count).day;
-    if last.0 > day.0 {
-        return Err(DateBack { last });
-    }
-    Ok(())
-}
+use std::thread::Threads;
+use work_pool::Gate;
 
 /// The messages of the message file, or its first fault.
 fn read_messages<S: Source>(alloc: Global, source: &mut S) -> Result<List<Text>, FileStop>
@@ -105,47 +71,97 @@ fn make_texts(
     })
 }
 
-/// Answers the messages of the message file over an open book, and makes the texts.
-fn book_day<N: Name, R: Wait, S: Source, D: Disk>(
-    rt: &R,
+/// The texts of a day that was served, or why there are none. The disk's count of faults was `before` at the opening, and the
+/// history then had `count` entries.
+fn texts_of<D: Disk + Drop>(
     alloc: Global,
-    desk: &Desk,
-    messages: &mut S,
-    book: &mut JrnBook<D>,
-    loose: Loose,
+    day: &Closed<D>,
+    served: Vec<Served>,
+    before: u64,
+    count: u32,
 ) -> Result<Texts, Status>
-    requires century { InCentury desk.now.day }
-    requires instructions { AreInstructions desk.now.directory.tables desk.now.directory.ssi }
-    requires journal { IsJournal book.old.accounts book.old.history }
-    requires whole { book.old.failed ≡ None }
-    requires place { HasPlace book.old }
-    requires purses { (length loose.purses ≡ length book.old.accounts.accounts) × (loose.table ≡ book.old.table) × (loose.table ≡ N.table) }
-    ensures { GivesDay S.Source D.Disk desk.now.directory desk.now.day messages.old messages.new book.old book.new result }
+    requires journal { IsJournal day.now.accounts day.now.history.entries }
+    requires places { (replies : List TheReply) → served.items ≡ are_replies replies → All (NamesPlace day.now.history.entries) replies }
+    requires few { (count ≤ length day.now.history.entries) × (vec_len served ≤ 50000) }
+    ensures { GivesTexts day.now.accounts day.now.history.entries served.items before (D.faults day.now.disk) count result }
 {
-    check_day(book.accounts(), book.history(), desk.day)?;
-    let messages = read_messages(alloc, messages)?;
-    let purses = loose.lock::<N>(alloc)?;
-    let count = book.history().len();
-    let replies = answer_all(rt, alloc, desk, &purses, book, messages.as_slice())?;
+    let replies = all_replies(alloc, before, day.disk.faults(), served)?;
     Ok(make_texts(
         alloc,
-        book.accounts(),
-        book.history(),
+        &day.accounts,
+        &day.history,
         count,
         replies.as_slice(),
     )?)
 }
 
-/// Reads the tables of banks, currencies, countries and instructions, opens the journal, and enters the pays of the message
-/// file's messages on a day. The texts are the report, and the outgoing messages of the entries that were added.
-pub fn run<R: Wait, S: Source, K: Sink, D: Disk>(
+/// The disk and the texts of a day that was served, or why there are none. The disk's count of faults was `before` at the
+/// opening, and the history then had `count` entries.
+fn end_day<D: Disk + Drop>(
+    alloc: Global,
+    day: ServedDay<D>,
+    before: u64,
+    count: u32,
+) -> (D, Result<Texts, Status>)
+    requires journal { IsJournal day.closed.accounts day.closed.history.entries }
+    requires places { IfOk day.served (λ made. (replies : List TheReply) → made.items ≡ are_replies replies → All (NamesPlace day.closed.history.entries) replies) }
+    requires few { (count ≤ length day.closed.history.entries) × IfOk day.served (λ made. vec_len made ≤ 50000) }
+    ensures disk { result.0 ≡ day.closed.disk }
+    ensures texts { GivesServed D.Disk day before count result.1 }
+{
+    let ServedDay { closed, served } = day;
+    match served {
+        Ok(served) => {
+            let texts = texts_of(alloc, &closed, served, before, count);
+            (closed.disk, texts)
+        }
+        Err(memory) => (closed.disk, Err(Status::from(memory))),
+    }
+}
+
+/// Lets the workers answer the messages of the message file over books that were opened, and makes the texts. The disk comes
+/// back; its count of faults was `before`.
+fn run_day<R: Wait + Threads + Sync, S: Source, D: Disk + Drop + Send, G: Gate + Sync>(
+    rt: &R,
+    alloc: Global,
+    directory: &Directory,
+    source: &mut S,
+    opened: Opened<D>,
+    before: u64,
+    workers: u32,
+    gate: &G,
+) -> (D, Result<Texts, Status>)
+    requires instructions { AreInstructions directory.now.tables directory.now.ssi }
+    requires workers { (1 ≤ workers) × (workers ≤ 16) }
+    requires journal { IsJournal opened.accounts opened.base }
+    requires count { before ≡ opened.at_open }
+    ensures { GivesDay S.Source D.Disk directory.now workers source.old source.new opened result.0 result.1 }
+{
+    let messages = match read_messages(alloc, source) {
+        Ok(messages) => messages,
+        Err(stop) => return (opened.into_disk(), Err(Status::from(stop))),
+    };
+    let count = opened.history().len();
+    let messages = messages.as_slice();
+    match serve_all::<Brand, _, _, _>(rt, alloc, directory, opened, workers, messages, gate) {
+        Ok(day) => end_day(alloc, day, before, count),
+        Err((disk, memory)) => (disk, Err(Status::from(memory))),
+    }
+}
+
+/// Reads the tables of banks, currencies, countries and instructions, opens the journal, and lets the workers enter the pays of
+/// the message file's messages on a day. The texts are the report, and the outgoing messages of the entries that were added.
+pub fn run<R: Wait + Threads + Sync, S: Source, K: Sink, D: Disk + Drop + Send, G: Gate + Sync>(
     rt: &R,
     alloc: Global,
     day: Day,
+    workers: u32,
     room: Room<S, K, D>,
+    gate: &G,
 ) -> (Room<S, K, D>, Result<Texts, Status>)
-    requires { InCentury day }
-    ensures texts { HasTexts S.Source D.Disk (Run day) room result.0 result.1 }
+    requires day { InCentury day }
+    requires workers { (1 ≤ workers) × (workers ≤ 16) }
+    ensures texts { HasTexts S.Source D.Disk (Run day workers) room result.0 result.1 }
     ensures honest { D.honest result.0.disk ≡ D.honest room.disk }
 {
     let mut room = room;
@@ -153,15 +169,16 @@ pub fn run<R: Wait, S: Source, K: Sink, D: Disk>(
         Ok(directory) => directory,
         Err(stop) => return (room, Err(Status::from(stop))),
     };
-    let (mut book, loose) = match open_journal(alloc, room.disk) {
+    let before = room.disk.faults();
+    let opened = match open_books(alloc, room.disk, day) {
         Ok(opened) => opened,
         Err((disk, fault)) => {
             room.disk = disk;
             return (room, Err(Status::from(fault)));
         }
     };
-    let desk = Desk { directory, day };
-    let texts = book_day::<Brand, _, _, _>(rt, alloc, &desk, &mut room.messages, &mut book, loose);
-    room.disk = close_journal(book);
+    let source = &mut room.messages;
+    let (disk, texts) = run_day(rt, alloc, &directory, source, opened, before, workers, gate);
+    room.disk = disk;
     (room, texts)
 }

@@ -3,7 +3,7 @@
 ghost use Rattle.std.specs.Prelude.{◌≡◌, ◌≤◌, IfSome};
 ghost use Rattle.std.specs.Option.{option_map};
 ghost use Rattle.std.specs.Str.{bytes_eq};
-ghost use Rattle.corr_top.specs.Commands.{IsSpelled, command_of, init_of, places_of, run_of, send_of};
+ghost use Rattle.corr_top.specs.Commands.{IsSpelled, command_of, init_of, places_of, run_of, send_of, workers_of};
 ghost use Rattle.corr_top.specs.declared.words.Command.TheVariants.{Plain as CommandPlain};
 
 use corr_ids::{Bic, Day, day_from_yymmdd, read_bic};
@@ -12,8 +12,8 @@ use corr_text::{Text, digits};
 /// What the words say.
 #[derive(Clone, Copy, Debug, PartialEq, Eq)]
 pub enum Command {
-    /// `run DATE 1`: answers the messages of the message file on a day.
-    Run { day: Day },
+    /// `run DATE WORKERS`: answers the messages of the message file on a day, with so many workers.
+    Run { day: Day, workers: u32 },
     /// A command that waits for nobody.
     Plain(Plain),
 }
@@ -38,6 +38,9 @@ pub enum Query {
 
 /// The last place of a journal that is full.
 const LAST_PLACE: u64 = 100_000;
+
+/// The most workers of a run.
+const MOST_WORKERS: u64 = 16;
 
 /// Whether bytes are this word.
 fn is_word(b: &[u8], word: &[u8]) -> bool
@@ -77,16 +80,26 @@ fn send(from: &[u8], until: &[u8]) -> Option<Command>
     Some(Command::Plain(Plain::Query(Query::Send { from, until })))
 }
 
-/// `run DATE 1` with a day of the calendar.
-fn run(date: &[u8], workers: &[u8]) -> Option<Command>
-    ensures value { result ≡ run_of date.now workers.now }
-    ensures sound { IfSome result IsSpelled }
+/// A number of workers: 1 to 16.
+fn workers(b: &[u8]) -> Option<u32>
+    ensures value { result ≡ workers_of b.now }
+    ensures sound { IfSome result (λ n. (1 ≤ n) × (n ≤ 16)) }
 {
-    if !is_word(workers, b"1") {
+    let number = digits(b)?;
+    if number < 1 || number > MOST_WORKERS {
         return None;
     }
+    Some(number as u32)
+}
+
+/// `run DATE WORKERS` with a day of the calendar.
+fn run(date: &[u8], number: &[u8]) -> Option<Command>
+    ensures value { result ≡ run_of date.now number.now }
+    ensures sound { IfSome result IsSpelled }
+{
     let day = day_from_yymmdd(date)?;
-    Some(Command::Run { day })
+    let workers = workers(number)?;
+    Some(Command::Run { day, workers })
 }
 
 /// The command that the words spell, none where they are no command.
@@ -100,10 +113,7 @@ pub fn spelled(words: &[Text]) -> Option<Command>
         }
         [word, home] if is_word(word.bytes(), b"init") => init(home.bytes()),
         [word, from, until] if is_word(word.bytes(), b"send") => send(from.bytes(), until.bytes()),
-        [word, date, workers] if is_word(word.bytes(), b"run") => run(
-            date.bytes(),
-            workers.bytes(),
-        ),
+        [word, date, number] if is_word(word.bytes(), b"run") => run(date.bytes(), number.bytes()),
         _ => None,
     }
 }

@@ -19,5 +19,5 @@ returns-in-Some-Run-clause-complete g c =
 
 pub returns-in-Some-Run-clause-line : goal.returns-in-Some-Run-clause-line
 returns-in-Some-Run-clause-line g c =
-    let command = Run c.in-Some-Run.day in
+    let command = Run c.in-Some-Run.day c.in-Some-Run.workers in
     ends_line g.S.Source g.D.Disk command c.args.room c.end.result.room g.K.Sink c.end.result.status (c.end.ensures.ends command c.args.room c.run-room.ensures.texts)

@@ -1,0 +1,90 @@
+use Rattle.std.proofs.Common.{◌≡◌, ℕ, Result, List, [], ◌∷◌, map, refl, sym, ap, ◌∙◌, subst, arith}
+use Rattle.std.specs.Prelude.{length, slice_get}
+use Rattle.std.proofs.lemmas.List.{length-map}
+use Rattle.corr_books.specs.Closing.{Closes}
+use Rattle.corr_books.specs.Opening.{Opening}
+use Rattle.corr_books.specs.Passes.{Belongs}
+use Rattle.corr_books.specs.Stand.{entries_of}
+use Rattle.day_model.specs.declared.pay.Pay.{Pay}
+use Rattle.day_model.specs.Chart.{Chart}
+use Rattle.front_word.specs.Known.{PassKnows}
+use Rattle.jrn_book.specs.Journal.{IsJournal}
+use Rattle.corr_top.specs.declared.desk.Job.{Job}
+use Rattle.corr_top.specs.declared.desk.Worker.{Worker}
+use Rattle.corr_top.specs.declared.message.NoPay.{NoPay}
+use Rattle.corr_top.specs.Message.{message_of, readings_of}
+use Rattle.corr_top.specs.Serving.{AllServed, starting}
+use Rattle.corr_top.proofs.Workers.{added_of, all_back, none_of, passes_of, told_of, turn_of, unmapped}
+use Rattle.corr_top.proofs.serving.serve_all.Goals as goal
+
+-- a list that is mapped twice
+map_twice : {A B C : Type 0} (f : A → B) (g : B → C) (xs : List A) → map (λ x. g (f x)) xs ≡ map g (map f xs)
+map_twice f g [] = refl
+map_twice {A} {B} {C} f g (x ∷ xs) = ap (λ (l : List C). g (f x) ∷ l) (map_twice f g xs)
+
+pub seat-requires-clause-room : goal.seat-requires-clause-room
+seat-requires-clause-room g c =
+    let count = c.in-Ok-books.ensures.passes.count in
+    let made = ap (λ (o : Opening). o.made) c.requires.named.opening_is in
+    omega (arith, count, made, c.in-Ok.ensures.workers.1)
+
+pub run_jobs-worked-requires-clause-passes : goal.run_jobs-worked-requires-clause-passes
+run_jobs-worked-requires-clause-passes g c κs within =
+    let count = c.in-Ok-books.ensures.passes.count in
+    let made = ap (λ (o : Opening). o.made) c.requires.named.opening_is in
+    let seated = ap length c.seat.ensures ∙ length-map c.in-Ok-books.made.1.items starting in
+    let enough = c.requires.count in
+    (omega (arith, count, made, seated, enough.0), omega (arith, count, made, seated, enough.1))
+
+pub run_jobs-worked-requires-clause-taken : goal.run_jobs-worked-requires-clause-taken
+run_jobs-worked-requires-clause-taken g c κs within k worker at =
+    let u = unmapped starting c.in-Ok-books.made.1.items k worker (ap (λ (ws : List Worker). slice_get ws k) (sym c.seat.ensures) ∙ at) in
+    subst (λ (w : Worker). Belongs g.N.BooksName.opening w.pass) u.2 (c.in-Ok-books.ensures.passes.each k u.0 u.1).belongs
+
+pub vacate-requires-clause-room : goal.vacate-requires-clause-room
+vacate-requires-clause-room g c =
+    let o = g.N.BooksName.opening in
+    let count = c.in-Ok-books.ensures.passes.count in
+    let made = ap (λ (x : Opening). x.made) c.requires.named.opening_is in
+    let worked = c.run_jobs-worked in
+    let reading = λ (job : Job). message_of c.args.directory.now o.accounts job.text.now in
+    let back = all_back o reading c.in-Ok.places.jobs.items (λ v. v.items) c.in-Ok-books.made.1.items c.seat.new.workers.items worked.result.passes.items c.seat.ensures worked.result.replies worked.ensures.served worked.ensures.none in
+    omega (arith, count, made, back, c.in-Ok.ensures.passes.1)
+
+pub returns-clause-served : goal.returns-clause-served
+returns-clause-served g c =
+    let o = g.N.BooksName.opening in
+    let named = c.requires.named.opening_is in
+    let directory = c.args.directory.now in
+    let reading = λ (job : Job). message_of directory o.accounts job.text.now in
+    let jobs = c.in-Ok.places.jobs.items in
+    let news = c.in-Ok-books.made.1.items in
+    let new = c.in-Ok-books.ensures.passes in
+    let worked = c.run_jobs-worked in
+    let before = c.seat.new.workers.items in
+    let after = worked.result.passes.items in
+    let replies = worked.result.replies in
+    let closed = c.in-Ok-close.closed in
+    let ends = c.in-Ok-close.ensures in
+    let history = closed.history.entries in
+    let faults = g.D.Disk.faults closed.disk in
+    let closes = subst (λ (ps : List PassKnows). Closes o history faults ps) c.vacate.ensures ends.closes in
+    let read : map reading jobs ≡ readings_of directory c.args.opened.accounts c.args.messages.now =
+    map_twice (λ (job : Job). job.text.now) (message_of directory o.accounts) jobs ∙ ap (λ (texts : List (List ℕ)). map (message_of directory o.accounts) texts) c.in-Ok.ensures.jobs
+    ∙ ap (λ (x : Opening). map (message_of directory x.accounts) c.args.messages.now) named in
+    let all : AllServed g.D.Disk o (map reading jobs) (record { closed = closed; served = replies }) =
+    record {
+      left = record {
+        accounts = ends.accounts;
+        added = entries_of closes.log;
+        is = closes.is;
+        each = added_of o reading jobs (λ v. v.items) news before after c.seat.ensures history faults new closes replies worked.ensures.served worked.ensures.none;
+        journal = subst (λ (chart : Chart). IsJournal chart history) ends.accounts ends.journal;
+        leaves = ends.disk;
+        honest = ends.honest;
+      };
+      told = told_of o reading jobs (λ v. v.items) news before after c.seat.ensures history faults new closes replies worked.ensures.served;
+      turn = turn_of o reading jobs (λ v. v.items) news before after c.seat.ensures history faults new closes replies worked.ensures.served;
+      none = none_of o reading jobs (λ v. v.items) news before after c.seat.ensures history faults new closes replies worked.ensures.none;
+    } in
+    subst (λ (x : Opening × List (Result Pay NoPay)). AllServed g.D.Disk x.0 x.1 (record { closed = closed; served = replies })) (λ i. (named i, read i)) all

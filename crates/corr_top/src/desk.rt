@@ -1,0 +1,181 @@
+//! The desk of a run: what a worker does with a message.
+
+ghost use Rattle.std.specs.Prelude.{◌≡◌, ◌≤◌, [], All, IfOk, length, map, vec_capacity, vec_len};
+ghost use Rattle.corr_books.specs.Passes.{Belongs};
+ghost use Rattle.corr_top.specs.Message.{message_of};
+ghost use Rattle.corr_top.specs.Serving.{Answers, halt_of, served_of, starting};
+
+use crate::directory::Directory;
+use crate::message::{Stop, read_message, reply_for};
+use corr_books::{Books, BooksName};
+use corr_disk::Disk;
+use corr_ids::Mir;
+use corr_text::{Memory, Text};
+use day_model::Reply;
+use front_word::Pass;
+use jrn_book::{CommitFault, Committed};
+use std::alloc::Global;
+use std::sync::Wait;
+use work_pool::{Desk, Gate};
+
+/// A message to be answered, of at most 16,384 bytes.
+#[derive(Clone, Copy, Debug, Drop)]
+pub struct Job<'a> {
+    text: &'a Text,
+    ghost short: { length text.now ≤ 16384 },
+}
+
+/// Why a worker serves no more.
+#[derive(Clone, Copy, Debug, PartialEq, Eq)]
+pub enum Halt {
+    /// The disk failed over a pay of the worker's.
+    Disk,
+    /// The disk had failed over an earlier pay.
+    Broken,
+    /// There was no memory.
+    Memory,
+}
+
+/// What a worker made of a message.
+#[derive(Debug, Drop)]
+pub enum Served {
+    /// The message has this reply: its pay is entered, or another one of its reference is, or it gives none.
+    Reply(Reply),
+    /// Its pay found no room in the journal: how many entries there were, the place of the closed gate, and the bytes that the
+    /// pay needed.
+    Full { entries: u32, end: u64, need: u64 },
+    /// Its pay was not entered: its worker stopped at this message, or had stopped before it.
+    Stopped(Halt),
+}
+
+/// A worker of a run: its pass of the books, and why it serves no more, if it doesn't.
+#[derive(Drop)]
+pub struct Worker {
+    pass: Pass,
+    halted: Option<Halt>,
+}
+
+/// What the workers of a run share: what messages are judged and routed by, and the books into which their pays are entered.
+#[derive(Drop)]
+pub struct RunDesk<'a, N: BooksName, D: Disk> {
+    pub alloc: Global,
+    pub directory: &'a Directory,
+    pub books: Books<N, D>,
+}
+
+/// A job for each message, in their order.
+pub fn jobs_of(alloc: Global, messages: &[Text]) -> Result<Vec<Job<'_>>, Memory>
+    requires short { All (λ m. length m ≤ 16384) messages.now }
+    ensures { IfOk result (λ jobs. map (λ job. job.text.now) jobs.items ≡ messages.now) }
+{
+    let mut jobs = Vec::with_capacity(alloc, messages.len())?;
+    for text in messages {
+        jobs.push(Job { text })?;
+    }
+    Ok(jobs)
+}
+
+/// Makes a worker of each pass. None has served yet.
+pub fn seat(workers: &mut Vec<Worker>, passes: Vec<Pass>)
+    requires empty { workers.old.items ≡ [] }
+    requires room { vec_len passes ≤ vec_capacity workers.old }
+    ensures { workers.new.items ≡ map starting passes.items }
+{
+    for pass in passes {
+        workers.push_reserved(Worker { pass, halted: None });
+    }
+}
+
+/// The passes of workers that nobody needs any more, in their order.
+pub fn vacate(passes: &mut Vec<Pass>, workers: Vec<Worker>)
+    requires empty { passes.old.items ≡ [] }
+    requires room { vec_len workers ≤ vec_capacity passes.old }
+    ensures { passes.new.items ≡ map (λ worker. worker.pass) workers.items }
+{
+    for worker in workers {
+        passes.push_reserved(worker.pass);
+    }
+}
+
+/// What the answer to the pay of a reference makes of its message.
+fn as_served(mir: Mir, answer: Result<Committed, CommitFault>) -> Served
+    ensures { result ≡ served_of mir answer }
+{
+    match answer {
+        Ok(Committed::New { place, .. }) => Served::Reply(Reply::Entered { mir, place }),
+        Ok(Committed::Kept { place, .. }) => Served::Reply(Reply::Entered { mir, place }),
+        Err(CommitFault::Conflict { place }) => Served::Reply(Reply::Conflict { mir, place }),
+        Err(CommitFault::Full { entries, end, need }) => Served::Full { entries, end, need },
+        Err(CommitFault::DiskFault { .. }) => Served::Stopped(Halt::Disk),
+        Err(CommitFault::Broken { .. }) => Served::Stopped(Halt::Broken),
+        Err(CommitFault::Memory) => Served::Stopped(Halt::Memory),
+    }
+}
+
+/// Why the worker of a message serves no more.
+fn halt_of(made: &Served) -> Option<Halt>
+    ensures { result ≡ halt_of made.now }
+{
+    match made {
+        Served::Stopped(why) => Some(*why),
+        Served::Reply(_) | Served::Full { .. } => None,
+    }
+}
+
+impl<'a, N: BooksName, D: Disk> RunDesk<'a, N, D> {
+    /// Reads a message, and enters the pay that it asks for. The locks are taken once the pay is known.
+    fn answer<R: Wait, G: Gate>(
+        &self,
+        rt: &R,
+        pass: &mut Pass,
+        worker: u32,
+        text: &[u8],
+        gate: &G,
+    ) -> Served
+        requires pass { Belongs N.opening pass.old }
+        requires short { length text.now ≤ 16384 }
+        ensures pass { Belongs N.opening pass.new }
+        ensures answered { Answers N.opening (message_of self.now.directory.now N.opening.accounts text.now) pass.old pass.new result }
+    {
+        let accounts = self.books.accounts();
+        match read_message(self.alloc, self.directory, accounts, text) {
+            Ok(pay) => as_served(pay.mir, self.books.book(rt, pass, worker, &pay, gate)),
+            Err(Stop::NoPay(why)) => Served::Reply(reply_for(why)),
+            Err(Stop::Memory) => Served::Stopped(Halt::Memory),
+        }
+    }
+}
+
+impl<'a, N: BooksName + Send + Sync, D: Disk + Drop + Send> Desk for RunDesk<'a, N, D> {
+    ghost use Rattle.corr_books.specs.Passes.{Belongs};
+    ghost use Rattle.corr_top.specs.Serving.{Serves};
+    ghost use Rattle.corr_top.specs.Message.{message_of};
+
+    type Pass = Worker;
+
+    type Job = Job<'a>;
+
+    type Reply = Served;
+
+    ghost takes = { λ _ worker. Belongs N.opening worker.pass };
+
+    ghost serves = { λ desk old job new served. Serves N.opening (message_of desk.directory.now N.opening.accounts job.text.now) old new served };
+
+    /// Answers the message, unless the worker has stopped. It stops where the disk failed and where memory ran out: so a
+    /// worker enters what stands ahead of a message before what stands behind it, or nothing behind it.
+    fn serve<R: Wait, G: Gate>(
+        &self,
+        rt: &R,
+        pass: &mut Worker,
+        worker: u32,
+        job: &Job<'a>,
+        gate: &G,
+    ) -> Served {
+        if let Some(why) = pass.halted {
+            return Served::Stopped(why);
+        }
+        let made = self.answer(rt, &mut pass.pass, worker, job.text.bytes(), gate);
+        pass.halted = halt_of(&made);
+        made
+    }
+}

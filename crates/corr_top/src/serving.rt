@@ -1,0 +1,101 @@
+//! Workers serve the messages of a day over the books of a journal.
+
+ghost use Rattle.std.specs.Prelude.{◌≡◌, ◌≤◌, [], All, IfErr, IfOk, length, map, vec_capacity};
+ghost use Rattle.jrn_file.specs.File.{disk_of};
+ghost use Rattle.corr_books.specs.Opening.{IsNamed, opening_of};
+ghost use Rattle.corr_top.specs.Message.{readings_of};
+ghost use Rattle.corr_top.specs.Serving.{AllServed};
+
+use crate::desk::{Job, RunDesk, Served, Worker, jobs_of, seat, vacate};
+use crate::directory::Directory;
+use corr_books::{BooksName, Closed, Opened};
+use corr_disk::Disk;
+use corr_text::{Memory, Text};
+use front_word::Pass;
+use std::alloc::Global;
+use std::sync::Wait;
+use std::thread::Threads;
+use work_pool::{Gate, run_jobs};
+
+/// What is left when messages were served: the closed books, and what became of each message, in the order of the messages. Where
+/// `served` is `Memory`, none was served.
+#[derive(Drop)]
+pub struct ServedDay<D: Disk> {
+    pub closed: Closed<D>,
+    pub served: Result<Vec<Served>, Memory>,
+}
+
+/// The memory that serving takes: a job for each message, and room for the workers and for their passes at the end.
+#[derive(Drop)]
+struct Places<'a> {
+    jobs: Vec<Job<'a>>,
+    workers: Vec<Worker>,
+    passes: Vec<Pass>,
+}
+
+/// The jobs of messages, and room for so many workers.
+fn make_places(alloc: Global, workers: u32, messages: &[Text]) -> Result<Places<'_>, Memory>
+    requires short { All (λ m. length m ≤ 16384) messages.now }
+    ensures jobs { IfOk result (λ places. map (λ job. job.text.now) places.jobs.items ≡ messages.now) }
+    ensures workers { IfOk result (λ places. (places.workers.items ≡ []) × (workers ≤ vec_capacity places.workers)) }
+    ensures passes { IfOk result (λ places. (places.passes.items ≡ []) × (workers ≤ vec_capacity places.passes)) }
+{
+    Ok(Places {
+        workers: Vec::with_capacity(alloc, workers as usize)?,
+        passes: Vec::with_capacity(alloc, workers as usize)?,
+        jobs: jobs_of(alloc, messages)?,
+    })
+}
+
+/// Lets 1 to 16 workers serve messages over the books of an opening, and closes the books. `N` names this opening.
+///
+/// Where there is no memory for the books, the disk comes back as it was.
+pub fn serve_all<
+    N: BooksName + Send + Sync,
+    R: Wait + Threads + Sync,
+    D: Disk + Drop + Send,
+    G: Gate + Sync,
+>(
+    rt: &R,
+    alloc: Global,
+    directory: &Directory,
+    opened: Opened<D>,
+    workers: u32,
+    messages: &[Text],
+    gate: &G,
+) -> Result<ServedDay<D>, (D, Memory)>
+    requires named { IsNamed D.Disk N.opening N.table opened workers }
+    requires count { (1 ≤ workers) × (workers ≤ 16) }
+    requires short { All (λ m. length m ≤ 16384) messages.now }
+    ensures served { IfOk result (λ day. AllServed D.Disk (opening_of D.Disk opened workers) (readings_of directory.now opened.accounts messages.now) day) }
+    ensures disk { IfErr result (λ e. e.0 ≡ disk_of opened.file) }
+{
+    let Ok(places) = make_places(alloc, workers, messages) else {
+        return Err((opened.into_disk(), Memory));
+    };
+    let (books, passes) = match opened.books::<N>(alloc, workers) {
+        Ok(made) => made,
+        Err(refused) => return Err(refused),
+    };
+    let Places {
+        jobs,
+        workers: mut staff,
+        passes: mut back,
+    } = places;
+    seat(&mut staff, passes);
+    let desk = RunDesk {
+        alloc,
+        directory,
+        books,
+    };
+    let worked = run_jobs(rt, alloc, &desk, staff, jobs, gate);
+    let RunDesk { books, .. } = desk;
+    vacate(&mut back, worked.passes);
+    let Ok(closed) = books.close(back) else {
+        unreachable!()
+    };
+    Ok(ServedDay {
+        closed,
+        served: worked.replies,
+    })
+}
