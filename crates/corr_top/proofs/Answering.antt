@@ -20,10 +20,10 @@ use Rattle.corr_top.specs.Serving.{AreInTurn, AreTold, IsTold, are_replies}
 use Rattle.corr_top.proofs.Replying.{all_one, names_place}
 
 -- a message with a reply, for each of them
-abbrev Reply_of : List Entry → Result Pay NoPay → Reply → Type 0
+abbrev pub Reply_of : List Entry → Result Pay NoPay → Reply → Type 0
 Reply_of history reading r = reply_in history reading ≡ Some r
 
-record AreReplies (history : List Entry) (readings : List (Result Pay NoPay)) (replies : List Reply) : Type 0 where
+pub record AreReplies (history : List Entry) (readings : List (Result Pay NoPay)) (replies : List Reply) : Type 0 where
   pub each : length replies ≡ length readings
   pub one : (n : ℕ) (reading : Result Pay NoPay) (r : Reply) → slice_get readings n ≡ Some reading → slice_get replies n ≡ Some r → Reply_of history reading r
 

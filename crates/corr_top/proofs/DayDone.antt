@@ -198,7 +198,7 @@ module _ {S D : Type 0} (source : sources.Ghosts S) (d : disks.Ghosts D) (direct
 
 -- what was left of books on an opening's accounts
 left_on : {D : Type 0} (d : disks.Ghosts D) (o : Opening) (readings : List (Result Pay NoPay)) (chart : Chart) (history : List Entry) (left : D) → HasServed d o readings chart history left → HasServed d o readings o.accounts history left
-left_on d o readings chart history left has = record { accounts = refl; added = has.added; is = has.is; each = has.each; journal = has.journal; leaves = has.leaves; honest = has.honest }
+left_on d o asked chart history left has = record { accounts = refl; added = has.added; is = has.is; each = has.each; journal = has.journal; leaves = has.leaves; honest = has.honest }
 
 module _ {S D : Type 0} (source : sources.Ghosts S) (d : disks.Ghosts D) (directory : Directory) (workers : ℕ) (from to : S) (old : Parts D) (bytes : List ℕ) (cut : List (List ℕ)) (file : HasMessages source from to bytes cut)
     (are : AreInstructions directory.tables directory.ssi) (sound : IsChart old.accounts) (count before : ℕ) (was : before ≡ old.at_open) (counted : count ≡ length old.base) where

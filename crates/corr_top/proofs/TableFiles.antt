@@ -113,6 +113,7 @@ abbrev pub no_inputs : Inputs
 no_inputs = record {
   home = record { head = []; branch = [] };
   day = record { 0 = pos 0 };
+  workers = 0;
   bics = [];
   ccys = [];
   countries = [];
@@ -122,6 +123,7 @@ no_inputs = record {
   cut = [];
   chart = record { home = record { head = []; branch = [] }; accounts = [] };
   history = [];
+  entered = [];
 }
 
 module _ {S : Type 0} (source : sources.Ghosts S) (old new : Files S) where
