@@ -1,6 +1,6 @@
 //! The command `run`: every message of a file is answered, the report is made, and the next messages are made.
 
-ghost use Rattle.std.specs.Prelude.{◌≡◌, ◌≤◌, ◌+◌, ℕ, All, List, IfErr, IfOk, OnOk, length, vec_len};
+ghost use Rattle.std.specs.Prelude.{◌≡◌, ◌≤◌, ◌+◌, ℕ, All, List, IfErr, IfOk, OnOk, length};
 ghost use Rattle.corr_ids.specs.Bic.{IsBic};
 ghost use Rattle.corr_ids.specs.Day.{InCentury};
 ghost use Rattle.corr_report.specs.Report.{NamesPlace, report_of};
@@ -82,7 +82,7 @@ fn texts_of<D: Disk + Drop>(
 ) -> Result<Texts, Status>
     requires journal { IsJournal day.now.accounts day.now.history.entries }
     requires places { (replies : List TheReply) → served.items ≡ are_replies replies → All (NamesPlace day.now.history.entries) replies }
-    requires few { (count ≤ length day.now.history.entries) × (vec_len served ≤ 50000) }
+    requires few { (count ≤ length day.now.history.entries) × (length served.items ≤ 50000) }
     ensures { GivesTexts day.now.accounts day.now.history.entries served.items before (D.faults day.now.disk) count result }
 {
     let replies = all_replies(alloc, before, day.disk.faults(), served)?;
@@ -105,7 +105,7 @@ fn end_day<D: Disk + Drop>(
 ) -> (D, Result<Texts, Status>)
     requires journal { IsJournal day.closed.accounts day.closed.history.entries }
     requires places { IfOk day.served (λ made. (replies : List TheReply) → made.items ≡ are_replies replies → All (NamesPlace day.closed.history.entries) replies) }
-    requires few { (count ≤ length day.closed.history.entries) × IfOk day.served (λ made. vec_len made ≤ 50000) }
+    requires few { (count ≤ length day.closed.history.entries) × IfOk day.served (λ made. length made.items ≤ 50000) }
     ensures disk { result.0 ≡ day.closed.disk }
     ensures texts { GivesServed D.Disk day before count result.1 }
 {

@@ -1,11 +1,15 @@
-use Rattle.std.proofs.Common.{◌≡◌, ◌≤◌, ℕ, List, inl, inr, refl, ap, arith, sym, subst, length, ◌∙◌, length-append}
-use Rattle.std.specs.Prelude.{All}
+use Rattle.std.proofs.Common.{◌≡◌, ◌≤◌, ◌<◌, ℕ, List, ◌++◌, inl, refl, ap, arith, sym, subst, length, ◌∙◌, length-append}
+use Rattle.std.specs.Prelude.{All, slice_index_or}
 use Rattle.std.proofs.lemmas.List.{length-map}
-use Rattle.corr_books.specs.Opening.{opening_of}
-use Rattle.corr_top.specs.declared.cutting.FileStop.TheVariants as file
-use Rattle.corr_top.specs.declared.status.Status.{Status}
+use Rattle.corr_books.specs.Opening.{Parts, opening_of}
+use Rattle.corr_disk.specs.declared.disk.Disk as disks
+use Rattle.corr_io.specs.declared.source.Source as sources
+use Rattle.day_model.specs.declared.entry.Entry.{Entry}
+use Rattle.corr_top.specs.declared.directory.Directory.{Directory}
+use Rattle.corr_top.specs.declared.serving.ServedDay.{ServedDay}
 use Rattle.corr_top.specs.Days.{GivesDay}
 use Rattle.corr_top.specs.Message.{message_of, readings_of}
+use Rattle.corr_top.specs.Serving.{AllServed}
 use Rattle.corr_top.proofs.DayDone.{day_ends, few_made, places_in}
 use Rattle.corr_top.proofs.MessageFiles.{all-short}
 use Rattle.corr_top.proofs.run.run_day.Goals as goal
@@ -22,22 +26,47 @@ returns-in-Err g c =
       same = c.into_disk.ensures;
     })
 
--- there was no memory for its workers
-pub returns-in-Err-serve_all : goal.returns-in-Err-serve_all
-returns-in-Err-serve_all g c =
-    let has = c.in-Ok.ensures.are in
-    inl (record {
-      stop = file.Memory;
-      bytes = has.0;
-      status_is = c.from-in-Err-serve_all.ensures;
-      stops = has.1.took.kept;
-      same = c.in-Err-serve_all.ensures.disk;
-    })
-
-pub serve_all-requires-clause-few : goal.serve_all-requires-clause-few
-serve_all-requires-clause-few g c = let few = c.in-Ok.ensures.are.1.are.few in subst (λ (ms : List (List ℕ)). length ms ≤ 50000) (sym c.as_slice.ensures) few
+all_given : (given cut : List (List ℕ)) → given ≡ cut → All (λ m. length m ≤ 16384) cut → (k : ℕ) (d : List ℕ) → k < length given → length (slice_index_or given k d) ≤ 16384
+all_given given cut same short k d within = subst (λ (ms : List (List ℕ)). All (λ m. length m ≤ 16384) ms) (sym same) short k d within
 
 pub serve_all-requires-clause-short : goal.serve_all-requires-clause-short
 serve_all-requires-clause-short g c =
     let has = c.in-Ok.ensures.are in
-    subst (λ (ms : List (List ℕ)). All (λ m. length m ≤ 16384) ms) (sym c.as_slice.ensures) (all-short has.0 c.in-Ok.messages has.1.are)
+    λ _ _. all_given c.as_slice-messages.result.now c.in-Ok.messages c.as_slice-messages.ensures (all-short has.0 c.in-Ok.messages has.1.are)
+
+-- what became of the messages of the file
+served_file : {S D : Type 0} (source : sources.Ghosts S) (d : disks.Ghosts D) (directory : Directory) (workers : ℕ) (opened : Parts D) (given cut : List (List ℕ)) (day : ServedDay D) → given ≡ cut
+    → AllServed d (opening_of d opened workers) (readings_of directory opened.accounts given) day → AllServed d (opening_of d opened workers) (readings_of directory opened.accounts cut) day
+served_file source d directory workers opened given cut day same all = subst (λ (ms : List (List ℕ)). AllServed d (opening_of d opened workers) (readings_of directory opened.accounts ms) day) same all
+
+counted_is : (n : ℕ) (history base : List Entry) → n ≡ length history → history ≡ base → n ≡ length base
+counted_is n history base is same = is ∙ ap (λ (es : List Entry). length es) same
+
+no_longer_than : (n : ℕ) (base added history : List Entry) → n ≡ length base → history ≡ base ++ added → n ≤ length history
+no_longer_than n base added history is same = let l = length-append base added in let e = ap (λ (es : List Entry). length es) same in omega (arith, is, l, e)
+
+pub end_day-requires-clause-places : goal.end_day-requires-clause-places
+end_day-requires-clause-places g c =
+    let opened = c.args.opened in
+    places_in g.D.Disk (opening_of g.D.Disk opened c.args.workers) (readings_of c.args.directory.now opened.accounts c.as_slice-messages.result.now) c.in-Ok-serve_all.day c.in-Ok-serve_all.ensures.served
+
+pub end_day-requires-clause-few : goal.end_day-requires-clause-few
+end_day-requires-clause-few g c =
+    let opened = c.args.opened in
+    let given = c.as_slice-messages.result.now in
+    let all = c.in-Ok-serve_all.ensures.served in
+    let short : length given ≤ 50000 = subst (λ (ms : List (List ℕ)). length ms ≤ 50000) (sym c.as_slice-messages.ensures) c.in-Ok.ensures.are.1.are.few in (
+      no_longer_than c.len-count.result opened.base all.left.added c.in-Ok-serve_all.day.closed.history.entries (counted_is c.len-count.result c.history.result.now.entries opened.base c.len-count.ensures.count c.history.ensures) all.left.is,
+      few_made g.D.Disk (opening_of g.D.Disk opened c.args.workers) (readings_of c.args.directory.now opened.accounts given) c.in-Ok-serve_all.day all 50000 (let l = length-map given (message_of c.args.directory.now opened.accounts) in omega (arith, l, short)),
+    )
+
+pub returns-in-Ok-serve_all : goal.returns-in-Ok-serve_all
+returns-in-Ok-serve_all g c =
+    let opened = c.args.opened in
+    let directory = c.args.directory.now in
+    let has = c.in-Ok.ensures.are in
+    let day = c.in-Ok-serve_all.day in
+    let all = served_file g.S.Source g.D.Disk directory c.args.workers opened c.as_slice-messages.result.now c.in-Ok.messages day c.as_slice-messages.ensures c.in-Ok-serve_all.ensures.served in
+    subst (λ (x : g.row.D.Denot). GivesDay g.S.Source g.D.Disk directory c.args.workers c.args.source.now c.read_messages.new.source opened x c.end_day.result.1) (sym c.end_day.ensures.disk)
+    (day_ends g.S.Source g.D.Disk directory c.args.workers c.args.source.now c.read_messages.new.source opened has.0 c.in-Ok.messages has.1 c.requires.instructions c.requires.journal.head.book
+    c.len-count.result c.args.before c.requires.count (counted_is c.len-count.result c.history.result.now.entries opened.base c.len-count.ensures.count c.history.ensures) day all c.end_day.result.1 c.end_day.ensures.texts)
