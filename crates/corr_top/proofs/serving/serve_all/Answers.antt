@@ -14,7 +14,7 @@ use Rattle.corr_top.specs.declared.desk.Worker.{Worker}
 use Rattle.corr_top.specs.declared.message.NoPay.{NoPay}
 use Rattle.corr_top.specs.Message.{message_of, readings_of}
 use Rattle.corr_top.specs.Serving.{AllServed, starting}
-use Rattle.corr_top.proofs.Workers.{added_of, all_back, none_of, passes_of, told_of, turn_of, unmapped}
+use Rattle.corr_top.proofs.Workers.{added_of, all_back, none_of, told_of, turn_of, unmapped}
 use Rattle.corr_top.proofs.serving.serve_all.Goals as goal
 
 -- a list that is mapped twice
@@ -50,6 +50,25 @@ vacate-requires-clause-room g c =
     let reading = λ (job : Job). message_of c.args.directory.now o.accounts job.text.now in
     let back = all_back o reading c.in-Ok.places.jobs.items (λ v. v.items) c.in-Ok-books.made.1.items c.seat.new.workers.items worked.result.passes.items c.seat.ensures worked.result.replies worked.ensures.served worked.ensures.none in
     omega (arith, count, made, back, c.in-Ok.ensures.passes.1)
+
+pub close-requires : goal.close-requires
+close-requires g c = record {
+  passes = λ k p at.
+      let worked = c.run_jobs-worked in
+      let u = unmapped (λ (w : Worker). w.pass) worked.result.passes.items k p (ap (λ (ps : List PassKnows). slice_get ps k) (sym c.vacate.ensures) ∙ at) in
+      subst (Belongs g.N.BooksName.opening) u.2 (worked.ensures.taken k u.0 u.1);
+}
+
+pub unreachable-requires : goal.unreachable-requires
+unreachable-requires g c =
+    let o = g.N.BooksName.opening in
+    let count = c.in-Ok-books.ensures.passes.count in
+    let worked = c.run_jobs-worked in
+    let reading = λ (job : Job). message_of c.args.directory.now o.accounts job.text.now in
+    let after = worked.result.passes.items in
+    let back = all_back o reading c.in-Ok.places.jobs.items (λ v. v.items) c.in-Ok-books.made.1.items c.seat.new.workers.items after c.seat.ensures worked.result.replies worked.ensures.served worked.ensures.none in
+    let given : length c.vacate.new.passes.items ≡ length after = ap length c.vacate.ensures ∙ length-map after (λ (w : Worker). w.pass) in
+    c.in_default-close.ensures.fault.1 (omega (arith, count, back, given))
 
 pub returns-clause-served : goal.returns-clause-served
 returns-clause-served g c =
