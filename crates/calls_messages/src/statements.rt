@@ -47,12 +47,14 @@ fn closing(alloc: Global, tables: &RefTables, text: &[u8]) -> Result<Option<i64>
     }
 }
 
-const TEXT: &[u8] = b":20:R\n:25:A\n:28C:5/1\n:60F:C240602EUR1,\n:61:240603C1,S103R//P\n:62F:C240603EUR2,\n";
+const TEXT: &[u8] =
+    b":20:R\n:25:A\n:28C:5/1\n:60F:C240602EUR1,\n:61:240603C1,S103R//P\n:62F:C240603EUR2,\n";
 
 #[test]
 fn a_page_is_read_and_written(rt: HostRuntime) -> Result<(), Fail> {
     let tables = tables(rt.alloc())?;
-    let want = b":20:R\r\n:25:A\r\n:28C:5/1\r\n:60F:C240602EUR1,00\r\n:61:240603C1,00S103R//P\r\n:62F:C240603EUR2,00\r\n";
+    let want =
+        b":20:R\r\n:25:A\r\n:28C:5/1\r\n:60F:C240602EUR1,00\r\n:61:240603C1,00S103R//P\r\n:62F:C240603EUR2,00\r\n";
     match page(rt.alloc(), &tables, TEXT)? {
         Some(got) => assert!(rt; got.bytes() == want.as_slice()),
         None => assert!(rt; false, "a page"),

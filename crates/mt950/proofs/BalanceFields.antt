@@ -1,10 +1,9 @@
 -- Fields 60a, 62a and 64: what is written is read, and what is read can be written.
 use Rattle.std.proofs.Common.{◌≡◌, ℕ, zero, suc, ◌+◌, ◌/◌, ◌%◌, ◌<◌, ◌≤◌, ◌==◌, ◌&&◌, ◌||◌, Bool, true, false, cond, List, [], ◌∷◌, ◌++◌, length, take, drop, Option, Some, None, Result, Ok, refl, sym, ap, ◌∙◌, arith, nat_le, inl, inr}
-use Rattle.std.specs.Prelude.{ℤ, pos, negsuc, neg_ℤ, unsigned_abs, IsTrue}
+use Rattle.std.specs.Prelude.{ℤ, pos, negsuc, neg_ℤ, unsigned_abs}
 use Rattle.std.specs.Char.{is_ascii_digit}
 use Rattle.std.specs.Int.{is_negative}
 use Rattle.std.specs.List.{list_all}
-use Rattle.std.proofs.lemmas.Bool.{cases_Bool, le-leb}
 use Rattle.std.proofs.lemmas.Bool.Decides.{nat_tests}
 use Rattle.std.proofs.lemmas.List.{drop_at, length-append, take_at}
 use Rattle.corr_text.specs.Sets.{is_in}
@@ -29,7 +28,7 @@ use Rattle.fin_contents.proofs.laws.Again.{AmountWritten, amount-letters, amount
 use Rattle.fin_contents.proofs.laws.Bytes.{and-three}
 use Rattle.fin_contents.proofs.laws.Steps.{checked, read-then, there}
 use Rattle.mt950.specs.Balances.{is_balance, is_last, signed_by, stated_in, stated_of}
-use Rattle.mt950.specs.Writing.{IsBalance, balance_amount, balance_field, balance_mark, balance_text}
+use Rattle.mt950.specs.Writing.{IsBalance, balance_amount, balance_field, balance_mark}
 use Rattle.mt950.specs.declared.balance.Balance.{Balance}
 use Rattle.mt950.specs.declared.balance.Stated.{Stated}
 use Rattle.mt950.proofs.Steps.{both}

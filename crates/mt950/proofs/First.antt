@@ -1,7 +1,6 @@
 -- The first element that passes a test, behind others that fail it.
-use Rattle.std.proofs.Common.{◌≡◌, ℕ, suc, ◌+◌, ◌<◌, Bool, true, false, List, [], ◌∷◌, ◌++◌, length, take, drop, position, Some, refl, sym, ap, ◌∙◌, arith, add-one, nat_lt, length-append}
+use Rattle.std.proofs.Common.{◌≡◌, suc, Bool, true, false, List, [], ◌∷◌, ◌++◌, length, drop, position, Some, refl, ap, ◌∙◌, arith, add-one}
 use Rattle.std.specs.List.{AllByRecursion, position_or_len, before_first, after_first}
-use Rattle.std.proofs.lemmas.Bool.{lt-ltb}
 use Rattle.std.proofs.Math.Seq.{take-append_seam}
 use Rattle.fin_fields.proofs.laws.Positions.{position-here, position-later}
 

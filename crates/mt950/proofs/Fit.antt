@@ -1,5 +1,5 @@
 -- The fields that a page is written as may stand in a text.
-use Rattle.std.proofs.Common.{◌≡◌, ℕ, ◌+◌, ◌<◌, ◌≤◌, ◌==◌, ◌&&◌, ◌||◌, ◌⊎◌, Bool, true, false, List, [], ◌∷◌, ◌++◌, length, map, Option, Some, None, Result, Ok, Err, refl, sym, ap, subst, ◌∙◌, arith, inl, inr, nat_le, append_assoc}
+use Rattle.std.proofs.Common.{◌≡◌, ℕ, ◌<◌, ◌≤◌, ◌==◌, ◌&&◌, ◌||◌, ◌⊎◌, Bool, true, false, List, [], ◌∷◌, ◌++◌, length, Option, Some, None, Result, Ok, Err, refl, sym, ap, subst, ◌∙◌, arith, inl, inr, nat_le}
 use Rattle.std.specs.Prelude.{IfSome, IfOk, IsTrue, ℤ, pos, negsuc}
 use Rattle.std.specs.Char.{is_ascii_digit, is_ascii_lowercase, is_ascii_uppercase}
 use Rattle.std.specs.Fmt.{decimal}
@@ -10,7 +10,7 @@ use Rattle.std.proofs.lemmas.Bool.{cases_Bool, eqb-true}
 use Rattle.std.proofs.lemmas.Bool.Decides.{nat_tests}
 use Rattle.std.proofs.lemmas.List.Elements.{All-cons}
 use Rattle.std.proofs.lemmas.List.Folds.{list_all-append}
-use Rattle.corr_text.specs.Sets.{is_c_byte, is_in, is_x_byte, marks}
+use Rattle.corr_text.specs.Sets.{is_c_byte, is_in, marks}
 use Rattle.corr_text.specs.declared.set.Set.TheVariants.{X, N, C as capital_or_digit}
 use Rattle.corr_ids.specs.Day.{yymmdd_of}
 use Rattle.corr_money.specs.Amounts.{amount_text}
@@ -22,11 +22,11 @@ use Rattle.fin_fields.specs.Patterns.{is_run}
 use Rattle.fin_fields.specs.Writing.{Continues, ContinueAll, IsField, fields_text}
 use Rattle.fin_layout.specs.Order.{places_from}
 use Rattle.fin_layout.specs.Segments.{joined}
-use Rattle.fin_contents.specs.Writing.{IsHeading, IsReadable, ccy_amount_text, line_field, some_field}
+use Rattle.fin_contents.specs.Writing.{IsHeading, IsReadable, ccy_amount_text}
 use Rattle.fin_contents.proofs.laws.Back.{each-weaker, some-weaker}
 use Rattle.fin_contents.proofs.laws.Bytes.{all-of-x, and-three, digits-of-x, letters-of-x}
 use Rattle.fin_contents.proofs.laws.Fit.{dated_amount-of-x, line-fit}
-use Rattle.fin_contents.proofs.laws.Placed.{Each, all-each, each-joined, some-each}
+use Rattle.fin_contents.proofs.laws.Placed.{all-each, each-joined, some-each}
 use Rattle.fin_contents.proofs.laws.Said.{Said as SaidAt, Stands, said-all, stand}
 use Rattle.mt950.specs.Entry.{line_of}
 use Rattle.mt950.specs.Order.{order_950}
@@ -40,9 +40,9 @@ use Rattle.mt950.specs.declared.entry.Mark.TheVariants.{C, D, RC, RD}
 use Rattle.mt950.specs.declared.page.Page950.{Page950}
 use Rattle.mt950.proofs.Amount.{amount-text}
 use Rattle.mt950.proofs.BalanceFields.{date-digits, dated-form}
-use Rattle.mt950.proofs.LineFields.{LineRead, line-nested, line-read}
+use Rattle.mt950.proofs.LineFields.{line-nested, line-read}
 use Rattle.mt950.proofs.PageNumbers.{decimal-digits}
-use Rattle.mt950.proofs.Read.{Found, few-decimals, found, page-is, readable-is}
+use Rattle.mt950.proofs.Read.{few-decimals, found, page-is, readable-is}
 use Rattle.mt950.proofs.Steps.{both}
 use Rattle.mt950.proofs.Written.{pages-read-back}
 

@@ -1,14 +1,12 @@
 -- Pages joined one after the other.
 use Rattle.std.proofs.Common.{◌≡◌, ℕ, suc, ◌+◌, ◌-◌, ◌<◌, ◌≤◌, Bool, true, false, List, [], ◌∷◌, ◌++◌, length, get_or, drop, Option, Some, None, Result, Ok, Err, refl, sym, ap, ◌∙◌, arith, pos, ◌+ℤ◌, ◌≤ℤ◌, neg_ℤ, ℤ, option_map}
 use Rattle.std.proofs.lemmas.Int.{ints}
-use Rattle.std.specs.Prelude.{flat_map}
-use Rattle.std.specs.List.{All, AllByRecursion}
+use Rattle.std.specs.List.{All}
 use Rattle.std.specs.Ordering.{int_eq}
 use Rattle.std.proofs.lemmas.List.{drop_all, drop_more}
 use Rattle.std.proofs.lemmas.List.Elements.{All-append, All-head, All-tail}
 use Rattle.corr_text.specs.Answers.{Refuses}
 use Rattle.corr_text.specs.First.{first_of, unless, ◌>>=◌}
-use Rattle.corr_ids.specs.declared.day.Day.{Day}
 use Rattle.corr_money.specs.Amounts.{amount_end}
 use Rattle.fin_contents.specs.Writing.{IsReadable}
 use Rattle.fin_contents.proofs.laws.Back.{each-weaker}

@@ -1,9 +1,8 @@
 -- Statement lines: what is written is read, and what is read can be written.
-use Rattle.std.proofs.Common.{◌≡◌, ℕ, ◌<◌, ◌≤◌, Bool, true, List, [], ◌∷◌, ◌++◌, length, Option, Some, None, Result, Ok, refl, sym, ap, subst, ◌∙◌, arith, append_assoc}
+use Rattle.std.proofs.Common.{◌≡◌, ℕ, ◌<◌, ◌≤◌, true, List, [], ◌∷◌, ◌++◌, length, Option, Some, None, Ok, refl, ap, subst, arith, append_assoc}
 use Rattle.std.specs.Prelude.{IfSome, IsTrue}
 use Rattle.std.specs.Char.{is_ascii_uppercase}
 use Rattle.std.specs.List.{list_all}
-use Rattle.std.proofs.lemmas.List.{length-append}
 use Rattle.corr_text.specs.Sets.{is_in}
 use Rattle.corr_text.specs.declared.set.Set.TheVariants.{X, N}
 use Rattle.corr_ids.specs.Day.{day_of, yymmdd_of}
@@ -19,7 +18,7 @@ use Rattle.mt950.specs.Entry.{line_of}
 use Rattle.mt950.specs.Parts.{LineParts, detail_in, parts_in}
 use Rattle.mt950.specs.Writing.{IsEntry, detail_lines, funds_text, line_field_61, line_text, mark_text, part_text, servicer_text}
 use Rattle.mt950.specs.declared.entry.Line61.{Line61}
-use Rattle.mt950.proofs.Amount.{IsAmountText, amount-text}
+use Rattle.mt950.proofs.Amount.{amount-text}
 use Rattle.mt950.proofs.BalanceFields.{date-digits}
 use Rattle.mt950.proofs.LineParts.{amount-again, cut-parts, date-again, entry-again, entry-read, funds-again, funds-read, kind-again, kind-ends, kind-read, mark-again, parts-cut, references-again, references-read}
 use Rattle.mt950.proofs.Steps.{some-if}

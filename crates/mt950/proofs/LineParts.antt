@@ -1,21 +1,19 @@
 -- The parts of a statement line: what is written is read, and what is read can be written.
-use Rattle.std.proofs.Common.{◌≡◌, ℕ, suc, ◌+◌, ◌<◌, ◌≤◌, ◌==◌, ◌&&◌, ◌||◌, not, Bool, true, false, cond, List, [], ◌∷◌, ◌++◌, length, take, drop, position, Option, Some, None, option_and_then, refl, sym, ap, subst, ◌∙◌, arith, nat_le, nat_lt}
-use Rattle.std.specs.Prelude.{IfSome, IsTrue, unwrap_or}
+use Rattle.std.proofs.Common.{◌≡◌, ℕ, suc, ◌+◌, ◌<◌, ◌≤◌, ◌==◌, ◌&&◌, ◌||◌, Bool, true, false, cond, List, [], ◌∷◌, ◌++◌, length, take, drop, position, Option, Some, None, refl, ap, subst, arith, nat_le, nat_lt}
+use Rattle.std.specs.Prelude.{IfSome, IsTrue}
 use Rattle.std.specs.Char.{is_ascii_digit, is_ascii_uppercase}
-use Rattle.std.specs.List.{AllByRecursion, list_all}
-use Rattle.std.specs.Option.{option_map_or}
-use Rattle.std.proofs.lemmas.Bool.{cases_Bool, le-leb, lt-ltb}
+use Rattle.std.specs.List.{list_all}
+use Rattle.std.proofs.lemmas.Bool.{le-leb, lt-ltb}
 use Rattle.std.proofs.lemmas.Bool.Decides.{nat_tests}
 use Rattle.std.proofs.lemmas.List.{append-nil, drop_at, length-append, length-take-le, take_at}
 use Rattle.corr_text.specs.Sets.{is_in}
 use Rattle.corr_text.specs.declared.set.Set.TheVariants.{X, N, C as capital_or_digit}
-use Rattle.corr_ids.specs.Day.{◌>>=◌}
 use Rattle.fin_fields.specs.Patterns.{is_run}
 use Rattle.mt950.specs.Parts.{LineParts, amount_in, are_references, date_in, double_slash_in, entry_in, funds_in, is_kind, kind_in, mark_in, parts_in, references_in, split_references}
 use Rattle.mt950.specs.Writing.{IsEnded, funds_text, mark_text, part_text, servicer_text}
 use Rattle.mt950.specs.declared.entry.Mark.{Mark}
 use Rattle.mt950.specs.declared.entry.Mark.TheVariants.{C, D, RC, RD}
-use Rattle.mt950.proofs.Amount.{IsAmountText, ends_amount}
+use Rattle.mt950.proofs.Amount.{ends_amount}
 use Rattle.mt950.proofs.First.{Fail, position-behind}
 use Rattle.mt950.proofs.Slashes.{ended-there, ends-it}
 use Rattle.mt950.proofs.Steps.{and-false, and-then, both, some-if}

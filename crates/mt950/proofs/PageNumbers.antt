@@ -3,7 +3,7 @@ use Rattle.std.proofs.Common.{◌≡◌, ℕ, ◌+◌, ◌-◌, ◌^◌, ◌<◌
 use Rattle.std.specs.Prelude.{IfSome, is_some}
 use Rattle.std.specs.Char.{is_ascii_digit}
 use Rattle.std.specs.Fmt.{decimal}
-use Rattle.std.specs.List.{All, AllByRecursion, after_first, before_first}
+use Rattle.std.specs.List.{after_first, before_first}
 use Rattle.std.specs.Str.{all_ascii_digits}
 use Rattle.std.specs.Str.Parse.{digits_value, digits_value_after}
 use Rattle.std.proofs.Math.Nat.{pow-le-pow_right}
@@ -22,7 +22,7 @@ use Rattle.fin_contents.specs.Plain.{is_slash, one_line}
 use Rattle.fin_contents.proofs.laws.Steps.{there}
 use Rattle.fin_contents.proofs.laws.Placed.{all-of}
 use Rattle.mt950.specs.Number.{few_digits_of, number_alone, number_and_page, numbers_in, numbers_of}
-use Rattle.mt950.specs.Writing.{number_field, page_text}
+use Rattle.mt950.specs.Writing.{number_field}
 use Rattle.mt950.specs.declared.number.Numbers.{Numbers}
 use Rattle.mt950.proofs.First.{Fail, before-it, behind-it, position-behind}
 use Rattle.mt950.proofs.Steps.{and-then, both, mapped, or-some, some-if}

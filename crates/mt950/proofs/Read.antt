@@ -1,36 +1,24 @@
 -- A page that was read can be written, and the fields that it is written as may stand in a text.
-use Rattle.std.proofs.Common.{◌≡◌, ℕ, ◌<◌, ◌≤◌, ◌==◌, ◌&&◌, ◌||◌, not, Bool, true, false, List, [], ◌∷◌, ◌++◌, length, map, get_or, Option, Some, None, option_map, Result, Ok, Err, refl, sym, ap, subst, ◌∙◌, arith}
-use Rattle.std.specs.Prelude.{IfSome, IfOk, IsTrue, unwrap_or}
-use Rattle.std.specs.Char.{is_ascii_digit, is_ascii_lowercase, is_ascii_uppercase}
-use Rattle.std.specs.Fmt.{decimal}
-use Rattle.std.specs.List.{All, AllByRecursion, list_all, list_any}
+use Rattle.std.proofs.Common.{◌≡◌, ℕ, ◌≤◌, ◌==◌, ◌&&◌, not, Bool, true, false, List, Option, Some, None, option_map, Ok, refl, sym, ap, subst, ◌∙◌, arith}
+use Rattle.std.specs.Prelude.{IfSome, unwrap_or}
+use Rattle.std.specs.List.{AllByRecursion, list_any}
 use Rattle.std.proofs.lemmas.Bool.Decides.{nat_tests}
-use Rattle.std.proofs.lemmas.List.Elements.{All-cons}
-use Rattle.std.proofs.lemmas.List.Folds.{list_all-append}
 use Rattle.corr_text.specs.First.{first_of}
-use Rattle.corr_text.specs.Sets.{is_c_byte, is_in, is_x_byte, marks}
+use Rattle.corr_text.specs.Sets.{is_in}
 use Rattle.corr_text.specs.Slashes.{has_stray_slash}
-use Rattle.corr_text.specs.declared.set.Set.TheVariants.{X, N, C as capital_or_digit}
-use Rattle.corr_text.specs.declared.fault.Fault.{Fault}
-use Rattle.corr_ids.specs.Day.{yymmdd_of}
-use Rattle.corr_money.specs.Amounts.{amount_text}
-use Rattle.ref_tables.specs.Seen.{Tables, few_decimals}
+use Rattle.corr_text.specs.declared.set.Set.TheVariants.{X}
+use Rattle.ref_tables.specs.Seen.{Tables}
 use Rattle.ref_tables.proofs.laws.Decimals.{lookup_few}
 use Rattle.std.specs.Str.{bytes_eq}
 use Rattle.fin_fields.specs.declared.field.Field.{Field}
-use Rattle.fin_fields.specs.Faults.{has_other_byte}
 use Rattle.fin_fields.specs.Patterns.{is_run}
-use Rattle.fin_fields.specs.Writing.{Continues, ContinueAll, IsField}
-use Rattle.fin_layout.specs.declared.place.Place.{Place}
-use Rattle.fin_layout.specs.Contents.{all_from, in_option, in_place}
-use Rattle.fin_layout.specs.Order.{fits, places_from}
-use Rattle.fin_layout.specs.Segments.{joined}
+use Rattle.fin_layout.specs.Order.{places_from}
 use Rattle.fin_layout.specs.Tests.{passed}
 use Rattle.fin_layout.proofs.laws.Passed.{passed-none}
 use Rattle.fin_contents.specs.Plain.{one_line, reference_of, short_line_of}
-use Rattle.fin_contents.specs.Writing.{IsHeading, IsReadable, line_field, some_field}
+use Rattle.fin_contents.specs.Writing.{IsReadable}
 use Rattle.fin_contents.proofs.laws.Back.{each-weaker, some-weaker}
-use Rattle.fin_contents.proofs.laws.Placed.{Each, all-of, each-joined, each-of}
+use Rattle.fin_contents.proofs.laws.Placed.{all-of}
 use Rattle.fin_contents.proofs.laws.Said.{Holds, Said as SaidAt, Stands, said-all, said-one, said-option, stand}
 use Rattle.fin_contents.proofs.laws.Steps.{checked, read-then, there}
 use Rattle.mt950.specs.Balances.{is_last, stated_of}
@@ -39,15 +27,14 @@ use Rattle.mt950.specs.Number.{numbers_of}
 use Rattle.mt950.specs.Order.{order_950}
 use Rattle.mt950.specs.Page.{mt950_of, page_of, said_of, tests_950}
 use Rattle.mt950.specs.Rules.{currency_rules}
-use Rattle.mt950.specs.Writing.{IsBalance, IsEntry, IsPage, balance_field, fields_950, line_field_61, segments_950}
-use Rattle.mt950.specs.declared.balance.Balance.{Balance}
+use Rattle.mt950.specs.Writing.{IsBalance, IsEntry, IsPage}
 use Rattle.mt950.specs.declared.balance.Stated.{Stated}
 use Rattle.mt950.specs.declared.entry.Line61.{Line61}
 use Rattle.mt950.specs.declared.page.Page950.{Page950}
 use Rattle.mt950.specs.declared.said.Said.{Said}
 use Rattle.mt950.proofs.BalanceFields.{StatedRead, stated-read}
-use Rattle.mt950.proofs.LineFields.{LineRead, line-read}
-use Rattle.mt950.proofs.PageNumbers.{AreFew, numbers-few}
+use Rattle.mt950.proofs.LineFields.{line-read}
+use Rattle.mt950.proofs.PageNumbers.{numbers-few}
 use Rattle.mt950.proofs.Rows.{row_64}
 use Rattle.mt950.proofs.Says.{Says, said-says}
 

@@ -4,7 +4,7 @@ use Rattle.ref_tables.specs.Seen.{Tables}
 use Rattle.fin_fields.specs.declared.field.Field.{Field}
 use Rattle.fin_layout.specs.Contents.{all_from, in_option, in_place}
 use Rattle.fin_contents.specs.Plain.{reference_of, short_line_of}
-use Rattle.fin_contents.proofs.laws.Steps.{read-then, told-is}
+use Rattle.fin_contents.proofs.laws.Steps.{read-then}
 use Rattle.mt950.specs.Balances.{stated_of}
 use Rattle.mt950.specs.Entry.{line_of}
 use Rattle.mt950.specs.Number.{numbers_of}

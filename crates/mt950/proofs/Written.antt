@@ -1,7 +1,6 @@
 -- The fields that a page is written as stand in its order, and say the page.
-use Rattle.std.proofs.Common.{◌≡◌, ℕ, ◌+◌, ◌<◌, ◌≤◌, ◌==◌, ◌&&◌, not, Bool, true, false, List, [], ◌∷◌, ◌++◌, length, map, slice_get, take, Option, Some, None, option_map, Result, Ok, refl, sym, ap, ◌∙◌, arith, inl, inr}
+use Rattle.std.proofs.Common.{◌≡◌, ℕ, ◌&&◌, Bool, true, false, List, [], ◌∷◌, map, take, Option, Some, None, option_map, Ok, refl, sym, ap, ◌∙◌, arith, inl}
 use Rattle.std.specs.Prelude.{IfSome, IsTrue}
-use Rattle.std.specs.List.{AllByRecursion}
 use Rattle.std.specs.Option.{option_map_or}
 use Rattle.std.specs.Str.{bytes_eq}
 use Rattle.std.proofs.lemmas.Slice.Eq.{bytes_eq-Decides}
@@ -14,7 +13,6 @@ use Rattle.corr_money.specs.declared.amount.Ccy.{Ccy}
 use Rattle.ref_tables.specs.Seen.{Tables}
 use Rattle.fin_fields.specs.declared.field.Field.{Field}
 use Rattle.fin_fields.specs.Patterns.{is_run}
-use Rattle.fin_layout.specs.declared.place.Place.{Place}
 use Rattle.fin_layout.specs.Order.{fits, missing_from}
 use Rattle.fin_layout.specs.Segments.{IsFirst, Segments, joined, places_of}
 use Rattle.fin_layout.proofs.laws.FoundField.{grouped-taken}
@@ -27,7 +25,7 @@ use Rattle.fin_contents.proofs.laws.Placed.{all-segment, each-of, first-of-tag, 
 use Rattle.mt950.specs.Balances.{is_last, stated_of}
 use Rattle.mt950.specs.Entry.{line_of}
 use Rattle.mt950.specs.Order.{order_950}
-use Rattle.mt950.specs.Page.{mt950_of, page_of}
+use Rattle.mt950.specs.Page.{page_of}
 use Rattle.mt950.specs.Rules.{agrees, c27, currency_rules, is_same, of_available, other_available, other_closing}
 use Rattle.mt950.specs.Writing.{IsBalance, IsEntry, IsPage, PagesReadBack, balance_field, balance_text, fields_950, letter_of, line_field_61, number_field, segments_950}
 use Rattle.mt950.specs.declared.balance.Balance.{Balance}

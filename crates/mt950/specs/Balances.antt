@@ -8,7 +8,6 @@ use Rattle.ref_tables.specs.Seen.{Tables}
 use Rattle.fin_fields.specs.declared.field.Field.{Field}
 use Rattle.fin_contents.specs.Money.{ccy_amount_in, is_dated_amount}
 use Rattle.fin_contents.specs.Plain.{one_line}
-use Rattle.mt950.specs.declared.balance.Balance.{Balance}
 use Rattle.mt950.specs.declared.balance.Stated.{Stated}
 
 -- C

@@ -1,5 +1,5 @@
 -- The numbers of a statement and of its page.
-use Rattle.std.specs.Prelude.{ℕ, List, length, Option, Some, None, option_and_then, option_map, Result, Ok, is_some, nat_le, if◌then◌else◌}
+use Rattle.std.specs.Prelude.{ℕ, List, length, Option, Some, None, option_and_then, option_map, Result, is_some, nat_le, if◌then◌else◌}
 use Rattle.std.specs.List.{after_first, before_first, position}
 use Rattle.corr_text.specs.Codes.{code}
 use Rattle.corr_text.specs.Digits.{number_of}

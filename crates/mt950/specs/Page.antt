@@ -1,5 +1,5 @@
 -- An MT950: what its fields say, or its first fault.
-use Rattle.std.specs.Prelude.{ℕ, ◌==◌, List, Option, Some, None, option_map, Result, Ok, Err, if◌then◌else◌}
+use Rattle.std.specs.Prelude.{ℕ, ◌==◌, List, Option, option_map, Result, Ok, Err, if◌then◌else◌}
 use Rattle.corr_text.specs.First.{fault_of, ◌>>=◌}
 use Rattle.corr_text.specs.declared.fault.Code.{Code}
 use Rattle.corr_text.specs.declared.fault.Fault.{Fault}

@@ -1,5 +1,5 @@
 -- The rules on the currencies of a page's balances.
-use Rattle.std.specs.Prelude.{ℕ, ◌&&◌, Bool, true, List, [], ◌∷◌, take, codes, Option, Some, None}
+use Rattle.std.specs.Prelude.{◌&&◌, Bool, true, List, [], ◌∷◌, take, codes, Option}
 use Rattle.std.specs.Option.{option_map_or}
 use Rattle.std.specs.Str.{bytes_eq}
 use Rattle.corr_text.specs.Codes.{code}

@@ -1,7 +1,7 @@
 use Rattle.std.proofs.Common.{arith, subst, sym}
 use Rattle.std.proofs.lemmas.Int.{ints}
 use Rattle.mt950.specs.Joining.{IsSmall}
-use Rattle.mt950.proofs.Joins.{effect-within, effects-end, effects-more}
+use Rattle.mt950.proofs.Joins.{effect-within, effects-more}
 use Rattle.mt950.proofs.joining.effects_of.Goals as goal
 
 pub loop-line-preserved : goal.loop-line-preserved

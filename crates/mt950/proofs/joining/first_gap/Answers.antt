@@ -1,4 +1,4 @@
-use Rattle.std.proofs.Common.{length, ap, sym, ◌∙◌}
+use Rattle.std.proofs.Common.{length, sym, ◌∙◌}
 use Rattle.mt950.proofs.Joins.{gap-end, gap-here, gap-more}
 use Rattle.mt950.proofs.joining.first_gap.Goals as goal
 
