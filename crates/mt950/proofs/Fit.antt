@@ -26,13 +26,13 @@ use Rattle.fin_contents.specs.Writing.{IsHeading, IsReadable, ccy_amount_text}
 use Rattle.fin_contents.proofs.laws.Back.{each-weaker, some-weaker}
 use Rattle.fin_contents.proofs.laws.Bytes.{all-of-x, and-three, digits-of-x, letters-of-x}
 use Rattle.fin_contents.proofs.laws.Fit.{dated_amount-of-x, line-fit}
-use Rattle.fin_contents.proofs.laws.Placed.{all-each, each-joined, some-each}
+use Rattle.fin_contents.proofs.laws.Placed.{all-each, each-joined, each-of, some-each}
 use Rattle.fin_contents.proofs.laws.Said.{Said as SaidAt, Stands, said-all, stand}
 use Rattle.mt950.specs.Entry.{line_of}
 use Rattle.mt950.specs.Order.{order_950}
 use Rattle.mt950.specs.Page.{mt950_of, page_of}
 use Rattle.mt950.specs.Parts.{is_kind}
-use Rattle.mt950.specs.Writing.{IsBalance, IsEntry, IsPage, balance_amount, balance_field, balance_mark, balance_text, detail_lines, fields_950, funds_text, letter_of, line_field_61, line_text, mark_text, number_field, page_text, part_text, segments_950, servicer_text}
+use Rattle.mt950.specs.Writing.{IsBalance, IsContinued, IsEntry, IsPage, balance_amount, balance_field, balance_mark, balance_text, detail_lines, fields_950, funds_text, letter_of, line_field_61, line_text, mark_text, number_field, page_text, part_text, segments_950, servicer_text}
 use Rattle.mt950.specs.declared.balance.Balance.{Balance}
 use Rattle.mt950.specs.declared.entry.Line61.{Line61}
 use Rattle.mt950.specs.declared.entry.Mark.{Mark}
@@ -196,6 +196,20 @@ module _ (t : Tables) (p : Page950) (is : IsPage t p) where
           ),
         ),
       )
+
+-- ---- a page that can be written, whose further lines may continue a field
+
+detail-continues : (detail : Option (List ℕ)) → IfSome detail Continues → All Continues (detail_lines detail)
+detail-continues None h = λ k d lt. absurd (omega arith)
+detail-continues (Some detail) h = All-cons Continues detail [] h (λ k d lt. absurd (omega arith))
+
+lines-continued : (decimals : ℕ) (lines : List Line61) → AllByRecursion (IsEntry decimals) lines → AllByRecursion IsContinued lines → AllByRecursion (λ line. IsField (line_field_61 decimals line)) lines
+lines-continued decimals [] is on = tt
+lines-continued decimals (line ∷ lines) is on = (line-field-fit decimals line is.0 (detail-continues line.detail on.0), lines-continued decimals lines is.1 on.1)
+
+pub page-fits : (t : Tables) (p : Page950) → IsPage t p → All IsContinued p.lines → All IsField (fields_950 p)
+unfolding fields_950
+page-fits t p is on = page-fit t p is (lines-continued p.decimals p.lines (each-of (IsEntry p.decimals) p.lines is.lines) (each-of IsContinued p.lines on))
 
 -- ---- a page that was read of the fields of a text
 

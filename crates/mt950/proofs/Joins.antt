@@ -1,7 +1,9 @@
 -- Pages joined one after the other.
-use Rattle.std.proofs.Common.{◌≡◌, ℕ, suc, ◌+◌, ◌-◌, ◌<◌, ◌≤◌, Bool, true, false, List, [], ◌∷◌, ◌++◌, length, get_or, drop, Option, Some, None, Result, Ok, Err, refl, sym, ap, ◌∙◌, arith, pos, ◌+ℤ◌, ◌≤ℤ◌, neg_ℤ, ℤ, option_map}
+use Rattle.std.proofs.Common.{◌≡◌, ℕ, suc, ◌+◌, ◌-◌, ◌<◌, ◌≤◌, Bool, true, false, List, [], ◌∷◌, ◌++◌, length, get_or, drop, Option, Some, None, Result, Ok, Err, refl, sym, ap, subst, ◌∙◌, arith, pos, ◌+ℤ◌, ◌≤ℤ◌, neg_ℤ, ℤ, option_map}
+use Rattle.std.proofs.lemmas.Bool.Decides.{Decides-int_eq}
 use Rattle.std.proofs.lemmas.Int.{ints}
-use Rattle.std.specs.List.{All}
+use Rattle.std.specs.Prelude.{IfOk}
+use Rattle.std.specs.List.{All, AllByRecursion}
 use Rattle.std.specs.Ordering.{int_eq}
 use Rattle.std.proofs.lemmas.List.{drop_all, drop_more}
 use Rattle.std.proofs.lemmas.List.Elements.{All-append, All-head, All-tail}
@@ -11,11 +13,12 @@ use Rattle.corr_money.specs.Amounts.{amount_end}
 use Rattle.fin_contents.specs.Writing.{IsReadable}
 use Rattle.fin_contents.proofs.laws.Back.{each-weaker}
 use Rattle.fin_contents.proofs.laws.Placed.{all-of, each-of}
+use Rattle.fin_contents.proofs.laws.Steps.{checked, read-then}
 use Rattle.mt950.specs.Entry.{effect_of, marked}
 use Rattle.mt950.specs.declared.entry.Mark.{Mark}
 use Rattle.mt950.specs.declared.entry.Mark.TheVariants.{C, D, RC, RD}
 use Rattle.mt950.specs.declared.joining.Statement.{Statement}
-use Rattle.mt950.specs.Joining.{IsSmall, carried_tests, effects_of, first_gap, first_uncarried, follows, gap_tests, joined_with, last_of, lines_of_pages, sum_test, told, without}
+use Rattle.mt950.specs.Joining.{IsSmall, IsStatement, Joins, carried_tests, effects_of, first_gap, first_uncarried, follows, gap_tests, held, joined_with, last_of, lines_of_pages, sum_test, told, without}
 use Rattle.mt950.specs.Page.{mt950_of}
 use Rattle.mt950.specs.Writing.{IsEntry}
 use Rattle.mt950.specs.declared.entry.Line61.{Line61}
@@ -147,3 +150,46 @@ pages-small (p ∷ pages) given =
     All-append IsSmall p.lines (lines_of_pages pages) (page-small p (All-head (IsReadable mt950_of) p pages given)) (pages-small pages (All-tail (IsReadable mt950_of) p pages given))
 
 pub ruleset small_pages = (arith, pages-small)
+
+-- ---- a statement of pages that were read
+
+abbrev got : Statement → Result Statement PageFault
+got s = Ok s
+
+got-is : (x y : Statement) → got x ≡ got y → x ≡ y
+got-is x y e = cc e
+
+last-readable : (page : Page950) (pages : List Page950) → IsReadable mt950_of page → AllByRecursion (IsReadable mt950_of) pages → IsReadable mt950_of (last_of page pages)
+last-readable page [] is given = is
+last-readable page (next ∷ pages) is given = last-readable next pages given.0 given.1
+
+module _ (first : Page950) (pages : List Page950) where
+  -- such pages are this statement, and it adds up
+  joined-is : (s : Statement) → joined_with first pages ≡ Ok s
+      → (statement_of first pages (lines_of_pages pages) (last_of first pages) ≡ s)
+      × (first.opening.signed +ℤ effects_of (lines_of_pages pages) ≡ (last_of first pages).closing.signed)
+  joined-is s e =
+      let lines = lines_of_pages pages in
+      let closing = (last_of first pages).closing.signed in
+      let past_gaps = read-then (gaps first pages) (λ _. behind_gaps first pages) s e in
+      let past_balances = read-then (balances first pages) (λ _. behind_balances first pages) s past_gaps.2 in
+      let added = checked (int_eq (first.opening.signed +ℤ effects_of lines) closing) (DoesNotAdd first.opening.signed (held (effects_of lines)) closing) (Ok (statement_of first pages lines (last_of first pages))) s past_balances.2 in
+      (got-is (statement_of first pages lines (last_of first pages)) s added.1, (Decides-int_eq (first.opening.signed +ℤ effects_of lines) closing).0 added.0)
+
+pub joined-sound : (pages : List Page950) (first : Page950) (r : Result Statement PageFault) → All (IsReadable mt950_of) pages → 1 ≤ length pages → first ≡ get_or pages 0 first → Joins r (joined_with first pages) → IfOk r IsStatement
+joined-sound pages first (Err e) given some is joins = tt
+joined-sound [] first (Ok s) given some is joins = absurd (omega (arith, some))
+joined-sound (p ∷ pages) first (Ok s) given some same joins =
+    let each = each-of (IsReadable mt950_of) (p ∷ pages) given in
+    let joined = joined-is p (p ∷ pages) s (subst (λ (x : Page950). joined_with x (p ∷ pages) ≡ Ok s) same joins) in
+    let opens = readable-is p each.0 in
+    let closes = readable-is (last_of p (p ∷ pages)) (last-readable p (p ∷ pages) each.0 each) in
+    let is : IsStatement (statement_of p (p ∷ pages) (lines_of_pages (p ∷ pages)) (last_of p (p ∷ pages))) = record {
+      few = opens.opening.few;
+      opening = opens.opening.small;
+      lines = pages-small (p ∷ pages) given;
+      closing = closes.closing.small;
+      day = closes.closing.day;
+      adds = joined.1;
+    } in
+    subst IsStatement joined.0 is

@@ -1,10 +1,11 @@
 -- The pages of a statement joined: the statement that they are, or the first test that fails.
-use Rattle.std.specs.Prelude.{ℕ, ◌<◌, ◌+◌, ◌-◌, ◌^◌, ◌==◌, ◌&&◌, Bool, true, false, List, [], ◌∷◌, length, Option, Some, None, option_map, Result, Ok, Err, ℤ, pos, neg_ℤ, ◌+ℤ◌, ◌≤ℤ◌, int_le, unwrap_or, if◌then◌else◌}
+use Rattle.std.specs.Prelude.{◌≡◌, ℕ, ◌<◌, ◌≤◌, ◌+◌, ◌-◌, ◌^◌, ◌==◌, ◌&&◌, Bool, true, false, List, [], ◌∷◌, length, Option, Some, None, option_map, Result, Ok, Err, ℤ, pos, neg_ℤ, ◌+ℤ◌, ◌≤ℤ◌, int_le, unwrap_or, unsigned_abs, All, if◌then◌else◌}
 use Rattle.std.specs.Ordering.{int_eq}
 use Rattle.std.specs.List.{flat_map}
 use Rattle.std.specs.Str.{bytes_eq}
 use Rattle.corr_text.specs.Answers as answers
 use Rattle.corr_text.specs.First.{check, first_of, unless, ◌>>=◌}
+use Rattle.corr_ids.specs.Day.{InCentury}
 use Rattle.corr_money.specs.Amounts.{amount_end}
 use Rattle.mt950.specs.Entry.{effect_of}
 use Rattle.mt950.specs.declared.entry.Line61.{Line61}
@@ -82,6 +83,16 @@ last_of page (next ∷ pages) = last_of next pages
 -- all lines of pages in their order
 abbrev pub lines_of_pages : List Page950 → List Line61
 lines_of_pages pages = flat_map (λ page. page.lines) pages
+
+-- a statement whose balances and lines may be added, compared and printed: 4 decimals at most, a day from 1980 to 2079, balances
+-- and amounts below 10^14, and the lines give the closing
+pub record IsStatement (s : Statement) : Type 0 where
+  pub few : s.decimals ≤ 4
+  pub opening : unsigned_abs s.opening < amount_end
+  pub lines : All IsSmall s.lines
+  pub closing : unsigned_abs s.closing < amount_end
+  pub day : InCentury s.day
+  pub adds : s.opening +ℤ effects_of s.lines ≡ s.closing
 
 -- no fault, or this one
 abbrev pub without : Option PageFault → Result (Unit {0}) PageFault

@@ -13,6 +13,7 @@ use Rattle.corr_money.specs.declared.amount.Amount.{Amount}
 use Rattle.corr_money.specs.declared.amount.Ccy.{Ccy}
 use Rattle.ref_tables.specs.Seen.{Tables, decimals_in}
 use Rattle.fin_fields.specs.Patterns.{is_run}
+use Rattle.fin_fields.specs.Writing.{Continues}
 use Rattle.fin_fields.specs.declared.field.Field.{Field}
 use Rattle.fin_layout.specs.Segments.{joined}
 use Rattle.fin_contents.specs.Writing.{ccy_amount_text, line_field, lines_field, some_field}
@@ -132,6 +133,10 @@ pub record IsEntry (decimals : ℕ) (line : Line61) : Type 0 where
   pub ended : IsEnded line.reference line.servicer
   pub servicer : IfSome line.servicer (λ text. IsTrue (is_run (is_in X) 16 text))
   pub detail : IfSome line.detail (λ text. IsTrue (is_run (is_in X) 34 text))
+
+-- a line whose further line may continue a field of a text
+abbrev pub IsContinued : Line61 → Type 0
+IsContinued line = IfSome line.detail Continues
 
 -- a page that can be written and is read under tables which hold its currency with its decimals. A 64 has no letter, so it is
 -- never the last

@@ -3,7 +3,7 @@
 ghost use Rattle.std.specs.Prelude.{◌≡◌, ◌≤◌, ◌++◌, ◌+ℤ◌, All, IfOk, OnOk, length, option_map};
 ghost use Rattle.std.specs.Ordering.{int_eq};
 ghost use Rattle.fin_contents.specs.Writing.{IsReadable};
-ghost use Rattle.mt950.specs.Joining.{IsSmall, IsSum, Joins, effects_of, first_gap, first_uncarried, follows, held, is_same_statement, joined_of, joined_with, lines_of_pages, sum_test, without};
+ghost use Rattle.mt950.specs.Joining.{IsSmall, IsStatement, IsSum, Joins, effects_of, first_gap, first_uncarried, follows, held, is_same_statement, joined_of, joined_with, lines_of_pages, sum_test, without};
 ghost use Rattle.mt950.specs.Page.{mt950_of};
 ghost use Rattle.mt950.specs.declared.joining.PageFault.TheVariants.{Gap};
 
@@ -228,12 +228,14 @@ fn join_with(alloc: Global, first: &Page950, pages: &[Page950]) -> Result<Statem
 /// Else `NotCarried`: the least page that opens at another balance than the page before closed at. Else `DoesNotAdd`: the opening
 /// of the first page and the effects of all lines don't give the closing of the last.
 ///
-/// There are at most 50,000 pages, each of which `read_mt950` gives of fields that were cut from a text (its clause `written`).
+/// There are at most 50,000 pages, each of which `read_mt950` gives of fields that were cut from a text (its clause `written`). So the
+/// statement's balances and amounts are below 10^14 minor units, with 4 decimals at most, and its lines give its closing (`sound`).
 #[tactic(auto, using(crate::proofs::Joins::small_pages), unfolding(crate::specs::Joining::joined_of))]
 pub fn join_pages(alloc: Global, pages: &[Page950]) -> Result<Statement, PageFault>
     requires few { length pages.now ≤ 50000 }
     requires given { All (IsReadable mt950_of) pages.now }
-    ensures { Joins result (joined_of pages.now) }
+    ensures joined { Joins result (joined_of pages.now) }
+    ensures sound { IfOk result IsStatement }
 {
     match pages {
         [first, ..] => join_with(alloc, first, pages),

@@ -1,12 +1,16 @@
 -- Pages that were read passed their tests and can be written, and what is written is read.
 use Rattle.std.proofs.Common.{◌≡◌, ◌≤◌, List, None, Ok}
+use Rattle.std.specs.Prelude.{IsTrue}
+use Rattle.std.specs.List.{All}
 use Rattle.corr_text.specs.First.{first_of}
-use Rattle.ref_tables.specs.Seen.{Tables}
+use Rattle.ref_tables.specs.Seen.{Tables, few_decimals}
 use Rattle.fin_fields.specs.declared.field.Field.{Field}
+use Rattle.fin_contents.specs.Writing.{IsReadable}
 use Rattle.mt950.specs.Page.{mt950_of, tests_950}
-use Rattle.mt950.specs.Writing.{IsPage, PagesReadBack}
+use Rattle.mt950.specs.Writing.{IsContinued, IsPage, PagesReadBack, fields_950}
 use Rattle.mt950.specs.declared.page.Page950.{Page950}
-use Rattle.mt950.proofs.Read.{page-is, passes-950}
+use Rattle.mt950.proofs.Fit.{page-fits}
+use Rattle.mt950.proofs.Read.{page-is, passes-950, readable-is}
 use Rattle.mt950.proofs.Written.{pages-read-back}
 
 -- of the fields of a page that was read no test fails
@@ -16,6 +20,14 @@ fields-pass-950 t fs p e = passes-950 t fs p e
 -- such a page can be written, where its currency has at most 4 decimals
 pub page-readable : (t : Tables) (fs : List Field) (p : Page950) → p.decimals ≤ 4 → mt950_of t fs ≡ Ok p → IsPage t p
 page-readable t fs p few e = page-is t fs p few e
+
+-- what read_mt950 gives of fields of a text can be written
+pub readable-page : (p : Page950) (r : IsReadable mt950_of p) → IsPage r.tables p
+readable-page p r = readable-is p r
+
+-- and a page that can be written, whose further lines may continue a field, is one that read_mt950 gives of fields of a text
+pub page-given : (t : Tables) (p : Page950) → IsTrue (few_decimals t.ccys) → IsPage t p → All IsContinued p.lines → IsReadable mt950_of p
+page-given t p few is on = record { tables = t; few = few; fields = fields_950 p; fit = page-fits t p is on; says = pages-read-back t p is }
 
 -- a page that can be written is read of the fields that it is written as
 pub page-reads-back : PagesReadBack
