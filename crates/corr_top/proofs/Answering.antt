@@ -1,5 +1,5 @@
 -- Each message has a reply: the replies are those after the history, and each pay is entered in it.
-use Rattle.std.proofs.Common.{◌≡◌, ◌⊎◌, inl, inr, ℕ, zero, suc, ◌+◌, ◌-◌, ◌<◌, ◌≤◌, All, List, [], ◌∷◌, ◌++◌, length, map, Option, Some, None, Result, Ok, Err, refl, sym, ap, ◌∙◌, subst, arith}
+use Rattle.std.proofs.Common.{◌≡◌, ℕ, zero, suc, ◌-◌, All, List, [], ◌∷◌, length, Option, Some, None, Result, Ok, Err, refl, sym, ap, ◌∙◌, subst, arith}
 use Rattle.std.specs.Prelude.{IsSome, option_and_then, slice_get}
 use Rattle.std.proofs.lemmas.List.{length-map}
 use Rattle.std.proofs.lemmas.List.Elements.{All-append, All-nil}
@@ -16,7 +16,7 @@ use Rattle.corr_top.specs.declared.desk.Served.TheVariants as served
 use Rattle.corr_top.specs.declared.message.NoPay.{NoPay}
 use Rattle.corr_top.specs.Days.{HasAnswered}
 use Rattle.corr_top.specs.Message.{pays_in, replies_in, reply_in}
-use Rattle.corr_top.specs.Serving.{AreInTurn, AreTold, IsTold, are_replies}
+use Rattle.corr_top.specs.Serving.{AreInTurn, AreTold, are_replies}
 use Rattle.corr_top.proofs.Replying.{all_one, names_place}
 
 -- a message with a reply, for each of them

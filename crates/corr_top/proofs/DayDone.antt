@@ -1,5 +1,5 @@
 -- A day that was served: its texts and what they send, or why there are none.
-use Rattle.std.proofs.Common.{◌≡◌, ◌+◌, ◌<◌, ◌≤◌, ◌⊎◌, inl, inr, ℕ, zero, suc, All, List, [], ◌∷◌, ◌++◌, Ok, Err, Result, Some, refl, ap, arith, sym, ◌∙◌, subst, length}
+use Rattle.std.proofs.Common.{◌≡◌, ◌+◌, ◌≤◌, ◌⊎◌, inl, inr, ℕ, zero, suc, All, List, [], ◌∷◌, ◌++◌, Ok, Err, Result, Some, refl, ap, arith, sym, ◌∙◌, subst, length}
 use Rattle.std.specs.Prelude.{IfErr, IfOk, IsSome, slice_get}
 use Rattle.std.proofs.lemmas.Option.{none-some, same_Some}
 use Rattle.corr_disk.specs.declared.disk.Disk as disks
@@ -17,7 +17,7 @@ use Rattle.front_word.proofs.laws.Prefixes.{get_below}
 use Rattle.jrn_book.specs.Answers.{IsFull}
 use Rattle.jrn_codec.specs.Record.{IsEntry}
 use Rattle.ssi_versions.specs.InstructionList.{AreInstructions}
-use Rattle.corr_report.specs.Report.{NamesPlace, report_of}
+use Rattle.corr_report.specs.Report.{NamesPlace}
 use Rattle.corr_top.specs.declared.answers.BookStop.{BookStop}
 use Rattle.corr_top.specs.declared.answers.BookStop.TheVariants as booking
 use Rattle.corr_top.specs.declared.desk.Served.{Served}
@@ -30,7 +30,7 @@ use Rattle.corr_top.specs.declared.status.Status.TheVariants as status
 use Rattle.corr_top.specs.declared.writing.Texts.{Texts}
 use Rattle.corr_top.specs.Booking.{EachTried, EntersInOrder, HadNoRoom, LacksRoomThen}
 use Rattle.corr_top.specs.Collecting.{IsCalm, StopsAsServed}
-use Rattle.corr_top.specs.Days.{GivesDay, GivesServed, GivesTexts, StopCause, StopsAtPays}
+use Rattle.corr_top.specs.Days.{GivesDay, GivesServed, GivesTexts, StopCause}
 use Rattle.corr_top.specs.Message.{pays_in, readings_of}
 use Rattle.corr_top.specs.Origin.{SendsAccepted}
 use Rattle.corr_top.specs.Out.{sent_from}

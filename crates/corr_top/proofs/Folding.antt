@@ -1,14 +1,12 @@
 -- A legal history is what one thread makes of the pays of its entries, in their order.
-use Rattle.std.proofs.Common.{◌≡◌, ℕ, zero, suc, ◌+◌, All, List, [], ◌∷◌, ◌++◌, cond, length, map, take, Some, None, refl, sym, ap, ◌∙◌, subst, arith, append_assoc, append-nil}
+use Rattle.std.proofs.Common.{◌≡◌, ℕ, suc, List, [], ◌∷◌, ◌++◌, cond, length, map, take, Some, refl, sym, ap, ◌∙◌, subst, append_assoc, append-nil}
 use Rattle.std.specs.Prelude.{is_some, slice_get}
 use Rattle.corr_ids.specs.declared.day.Day.{Day}
 use Rattle.day_model.specs.declared.entry.Entry.{Entry}
-use Rattle.day_model.specs.declared.entry.Outcome.{Outcome}
-use Rattle.day_model.specs.declared.pay.Pay.{Pay}
 use Rattle.day_model.specs.Balance.{outcome_of}
 use Rattle.day_model.specs.Chart.{Chart}
 use Rattle.day_model.specs.Legal.{IsLegal}
-use Rattle.day_model.specs.Next.{entered_at, entry_of, fold_of, next_history}
+use Rattle.day_model.specs.Next.{entry_of, fold_of, next_history}
 use Rattle.corr_top.proofs.Serves.{get_at, new_before}
 
 take_at : {A : Type 0} (front more : List A) → take (length front) (front ++ more) ≡ front

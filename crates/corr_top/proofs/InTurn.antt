@@ -1,5 +1,5 @@
 -- One worker, all of whose entries are its own: it enters the pay of a message as one thread does.
-use Rattle.std.proofs.Common.{◌≡◌, ◌⊎◌, inl, inr, ⊎_elim, ℕ, zero, suc, ◌+◌, ◌-◌, ◌<◌, ◌≤◌, List, [], ◌∷◌, ◌++◌, drop, length, map, take, Option, Some, None, Result, Ok, Err, cond, refl, sym, ap, ◌∙◌, subst, arith, append-nil, append_assoc, length-append, Bool, true, false}
+use Rattle.std.proofs.Common.{◌≡◌, inl, inr, ℕ, zero, suc, ◌+◌, ◌≤◌, List, [], ◌∷◌, ◌++◌, length, take, Option, Some, None, Result, Ok, Err, cond, refl, sym, ap, ◌∙◌, subst, arith, append-nil, append_assoc, length-append, true, false}
 use Rattle.std.specs.Prelude.{is_some, slice_get}
 use Rattle.std.proofs.lemmas.Bool.{cond-false, cond-true}
 use Rattle.std.proofs.lemmas.Option.{same_Some, none-some}
@@ -19,7 +19,7 @@ use Rattle.jrn_book.specs.declared.answer.Committed.TheVariants.{New, Kept}
 use Rattle.jrn_book.specs.declared.answer.CommitFault.TheVariants as fault
 use Rattle.work_pool.specs.Served.{AreRising}
 use Rattle.corr_books.specs.Opening.{Opening}
-use Rattle.corr_books.specs.Stand.{entries_of, history_of}
+use Rattle.corr_books.specs.Stand.{history_of}
 use Rattle.jrn_book.specs.Answers.{IsFull}
 use Rattle.corr_books.specs.Telling.{NothingAdded, ShowsFull, ShowsRoom, Told, entry_on, known_to}
 use Rattle.corr_books.proofs.laws.Histories.{history_of-push, take_front}

@@ -20,7 +20,7 @@ use Rattle.jrn_file.proofs.laws.Sizes.{length-journal_bytes, size_of-append}
 use Rattle.corr_top.specs.Booking.{IsAdded, LacksRoomThen}
 use Rattle.corr_top.specs.Complete.{HasRoomForAll}
 use Rattle.corr_top.proofs.Replying.{get_all}
-use Rattle.corr_top.proofs.Serves.{entered_mir, get_at, split}
+use Rattle.corr_top.proofs.Serves.{entered_mir, split}
 
 -- ---- sums of lengths
 

@@ -1,6 +1,6 @@
 -- How a run ends before anything is written, from how its parts end.
-use Rattle.std.proofs.Common.{◌≡◌, ◌+◌, ◌<ℤ◌, inl, inr, ℕ, All, List, [], ◌∷◌, Option, None, Some, Result, Ok, Err, refl, sym, ap, arith, ◌∙◌, subst, length, map}
-use Rattle.std.specs.Prelude.{◌≤◌, IfSome, IsSome, IsTrue, is_some, slice_get}
+use Rattle.std.proofs.Common.{◌≡◌, ◌+◌, ◌<ℤ◌, inl, inr, ℕ, All, List, [], ◌∷◌, Option, None, Some, Result, Ok, Err, refl, sym, ap, ◌∙◌, subst, length, map}
+use Rattle.std.specs.Prelude.{IfSome, IsSome, IsTrue, is_some, slice_get}
 use Rattle.std.proofs.lemmas.List.{length-map}
 use Rattle.corr_books.specs.declared.opening.BooksFault.{BooksFault}
 use Rattle.corr_books.specs.declared.opening.BooksFault.TheVariants.{Open, DateBack}

@@ -1,5 +1,5 @@
 -- One serve: what it does to a pass, and what of it stands when the books are closed.
-use Rattle.std.proofs.Common.{◌≡◌, ◌⊎◌, inl, inr, ℕ, zero, suc, ◌+◌, ◌-◌, ◌<◌, ◌≤◌, Bool, true, false, cond, List, [], ◌∷◌, ◌++◌, length, Option, Some, None, Result, Ok, Err, refl, sym, ap, ◌∙◌, subst, arith, append_assoc}
+use Rattle.std.proofs.Common.{◌≡◌, inl, inr, ℕ, zero, suc, ◌+◌, ◌-◌, ◌≤◌, Bool, true, false, cond, List, [], ◌∷◌, ◌++◌, length, Option, Some, None, Result, Ok, Err, refl, sym, ap, ◌∙◌, subst, arith, append_assoc}
 use Rattle.std.specs.Prelude.{is_some, slice_get}
 use Rattle.std.specs.List.{position_from}
 use Rattle.std.proofs.lemmas.Option.{same_Some, none-some}
@@ -9,7 +9,6 @@ use Rattle.corr_ids.specs.declared.mir.Mir.{Mir}
 use Rattle.day_model.specs.declared.entry.Entry.{Entry}
 use Rattle.day_model.specs.declared.entry.Outcome.{Outcome}
 use Rattle.day_model.specs.declared.pay.Pay.{Pay}
-use Rattle.day_model.specs.declared.reply.Reply.{Reply}
 use Rattle.day_model.specs.declared.reply.Reply.TheVariants as reply
 use Rattle.day_model.specs.Chart.{Chart}
 use Rattle.day_model.specs.Legal.{IsLegal}
@@ -30,8 +29,6 @@ use Rattle.corr_books.specs.Stand.{entries_of, history_of}
 use Rattle.corr_books.specs.Telling.{Grows, IsAdded, Told, entry_on, known_to}
 use Rattle.corr_books.proofs.laws.Histories.{entries_of-append, history_prefix, length-history_of}
 use Rattle.corr_top.specs.declared.desk.Served.{Served}
-use Rattle.corr_top.specs.declared.desk.Halt.TheVariants as halt
-use Rattle.corr_top.specs.declared.desk.Served.TheVariants as served
 use Rattle.corr_top.specs.declared.desk.Worker.{Worker}
 use Rattle.corr_top.specs.declared.message.NoPay.{NoPay}
 use Rattle.corr_top.specs.Serving.{Answers, IsTold, Serves, served_of}

@@ -1,12 +1,11 @@
 -- All workers together: what stands when their passes are back and the books are closed.
-use Rattle.std.proofs.Common.{◌≡◌, ℕ, zero, suc, ◌+◌, ◌-◌, ◌<◌, ◌≤◌, All, List, [], ◌∷◌, ◌++◌, length, map, Option, Some, None, Result, Ok, Err, refl, sym, ap, ◌∙◌, subst, arith, append-nil}
+use Rattle.std.proofs.Common.{◌≡◌, ℕ, zero, suc, ◌+◌, ◌-◌, ◌<◌, ◌≤◌, All, List, [], ◌∷◌, ◌++◌, length, map, Some, Result, Ok, Err, refl, sym, ap, ◌∙◌, subst, arith, append-nil}
 use Rattle.std.specs.Prelude.{IfErr, IfOk, OnErr, slice_get}
 use Rattle.std.specs.Option.{option_map}
 use Rattle.std.proofs.lemmas.List.{length-map}
 use Rattle.std.proofs.lemmas.List.Elements.{All-append, All-nil}
 use Rattle.std.proofs.lemmas.Option.{same_Some, none-some, slice_get-map}
 use mathlib.Core.List.{IsPrefix}
-use Rattle.corr_ids.specs.declared.day.Day.{Day}
 use Rattle.day_model.specs.declared.entry.Entry.{Entry}
 use Rattle.day_model.specs.declared.pay.Pay.{Pay}
 use Rattle.front_word.specs.declared.view.Act.{Act}
@@ -17,7 +16,6 @@ use Rattle.corr_books.specs.Closing.{Closes}
 use Rattle.corr_books.specs.Opening.{Opening}
 use Rattle.corr_books.specs.Passes.{AreNew}
 use Rattle.corr_books.specs.Stand.{entries_of, history_of}
-use Rattle.corr_books.specs.Telling.{entry_on}
 use Rattle.corr_top.specs.declared.desk.Served.{Served}
 use Rattle.corr_top.specs.declared.desk.Worker.{Worker}
 use Rattle.corr_top.specs.declared.message.NoPay.{NoPay}
@@ -26,7 +24,7 @@ use Rattle.corr_top.specs.Message.{pays_in}
 use Rattle.corr_top.specs.Serving.{AreInTurn, AreTold, IsTold, Serves, starting}
 use Rattle.corr_top.proofs.Chains.{Chain, IsServed, each_stands, grew, of_jobs}
 use Rattle.corr_top.proofs.Replying.{all_one}
-use Rattle.corr_top.proofs.OneWorker.{IsAlone, in_order, in_turn}
+use Rattle.corr_top.proofs.OneWorker.{in_order, in_turn}
 use Rattle.corr_top.proofs.Serves.{IsFrom, begins, get_at}
 
 -- ---- lists

@@ -1,4 +1,4 @@
-use Rattle.std.proofs.Common.{◌∙◌, Err, ap, refl, subst, sym}
+use Rattle.std.proofs.Common.{◌∙◌, Err, refl, subst, sym}
 use Rattle.corr_top.specs.Ends.{HasTexts}
 use Rattle.corr_top.specs.declared.status.Status.{Status}
 use Rattle.corr_top.specs.declared.words.Command.TheVariants.{Run}

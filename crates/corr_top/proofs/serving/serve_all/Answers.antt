@@ -14,7 +14,7 @@ use Rattle.corr_top.specs.declared.desk.Worker.{Worker}
 use Rattle.corr_top.specs.declared.message.NoPay.{NoPay}
 use Rattle.corr_top.specs.Message.{message_of, readings_of}
 use Rattle.corr_top.specs.Serving.{AllServed, starting}
-use Rattle.corr_top.proofs.Workers.{added_of, all_back, none_of, passes_of, told_of, turn_of, unmapped}
+use Rattle.corr_top.proofs.Workers.{added_of, all_back, none_of, told_of, turn_of, unmapped}
 use Rattle.corr_top.proofs.serving.serve_all.Goals as goal
 
 -- a list that is mapped twice
