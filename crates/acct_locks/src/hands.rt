@@ -82,7 +82,7 @@ impl<'a, H: Held, N: Name> Holder for More<'a, H, N> {
     fn settle_one(&mut self, sides: &mut BookSides, leg: &Leg) {
         if self.last.purse.number() == leg.account.0 {
             let purses = self.purses;
-            self.last.purse.add(purses.ledger(), sides, leg);
+            self.last.purse.add(purses.seat_table(), sides, leg);
         } else {
             self.rest.settle_one(sides, leg);
         }
@@ -101,7 +101,7 @@ impl<'a, H: Held, N: Name> Held for More<'a, H, N> {
     fn agree(&mut self, sides: &mut BookSides, n: AcctNo) {
         if self.last.purse.number() == n.0 {
             let purses = self.purses;
-            self.last.purse.agree(purses.ledger(), sides);
+            self.last.purse.agree(purses.seat_table(), sides);
         } else {
             self.rest.agree(sides, n);
         }

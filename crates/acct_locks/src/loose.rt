@@ -9,7 +9,7 @@ ghost use Rattle.acct_locks.specs.Holdings.{AwayUpTo, purse_at, purses_of};
 use crate::name::Name;
 use crate::purse::Purse;
 use crate::purses::{Named, Purses};
-use crate::seats::{Ledger, SeatOf};
+use crate::seats::{SeatOf, SeatTable};
 use crate::sides::BookSides;
 use crate::steps::{hand_out, open};
 use corr_text::Memory;
@@ -23,7 +23,7 @@ use std::sync::Mutex;
 /// Contracts see the table that they are of, and each purse with its number and its totals.
 #[derive(Drop)]
 pub struct Loose {
-    ledger: Ledger,
+    seat_table: SeatTable,
     purses: Vec<Purse>,
 }
 
@@ -33,21 +33,21 @@ impl Model for Loose {
 
     ghost Value = { LooseHand };
 
-    ghost view = { λ l. record { table = l.ledger.shared.table_id; purses = l.purses.items } };
+    ghost view = { λ l. record { table = l.seat_table.shared.table_id; purses = l.purses.items } };
 
-    ghost invariant = { λ l. (l.ledger.shared.table_id.words ≡ 1) × (length l.purses.items < 2 ^ 32) × All (λ p. p.table ≡ l.ledger.shared.table_id) l.purses.items };
+    ghost invariant = { λ l. (l.seat_table.shared.table_id.words ≡ 1) × (length l.purses.items < 2 ^ 32) × All (λ p. p.table ≡ l.seat_table.shared.table_id) l.purses.items };
 }
 
 // The purse of the next account.
-fn next_purse(ledger: &Ledger, seat: &mut SeatOf, number: u32, pair: (u64, u64)) -> Purse
-    requires table { (seat.old.table_id ≡ ledger.now.shared.table_id) × (ledger.now.shared.table_id.words ≡ 1) }
+fn next_purse(seat_table: &SeatTable, seat: &mut SeatOf, number: u32, pair: (u64, u64)) -> Purse
+    requires table { (seat.old.table_id ≡ seat_table.now.shared.table_id) × (seat_table.now.shared.table_id.words ≡ 1) }
     requires seat { IsBook seat.old.me.0 × (seat.old.me.1 ≡ []) }
     requires next { (0 < number) × ((n : ℕ) → n + 1 ≡ number → AwayUpTo n (away_in seat.old.me.0)) }
     requires pair { pair_at (pairs_in seat.old.me.0) number ≡ Some pair }
     ensures book { (seat.new.table_id ≡ seat.old.table_id) × IsBook seat.new.me.0 × (seat.new.me.1 ≡ []) × (pairs_in seat.new.me.0 ≡ pairs_in seat.old.me.0) × AwayUpTo number (away_in seat.new.me.0) }
-    ensures purse { result ≡ purse_at ledger.now.shared.table_id number pair }
+    ensures purse { result ≡ purse_at seat_table.now.shared.table_id number pair }
 {
-    let purse = hand_out(ledger, seat, number, pair);
+    let purse = hand_out(seat_table, seat, number, pair);
     Purse {
         number,
         credit: pair.0,
@@ -79,15 +79,15 @@ impl Loose {
         ensures count { IfOk result (λ r. length r.0.purses ≡ length pairs.items) }
         ensures sides { IfOk result (λ r. r.1.pairs ≡ pairs.items) }
     {
-        let (ledger, mut seat) = open(alloc, &pairs)?;
+        let (seat_table, mut seat) = open(alloc, &pairs)?;
         let mut purses = Vec::new(alloc);
         let mut number = 0u32;
         for pair in &pairs {
             number += 1;
-            let purse = next_purse(&ledger, &mut seat, number, *pair);
+            let purse = next_purse(&seat_table, &mut seat, number, *pair);
             purses.push(purse)?;
         }
-        Ok((Loose { ledger, purses }, BookSides { seat }))
+        Ok((Loose { seat_table, purses }, BookSides { seat }))
     }
 
     /// Puts each purse behind a lock of its own. `N` names the table of these purses.
@@ -97,7 +97,7 @@ impl Loose {
         requires named { self.table ≡ N.table }
         ensures count { IfOk result (λ p. p ≡ length self.purses) }
     {
-        let Loose { ledger, purses } = self;
+        let Loose { seat_table, purses } = self;
         let mut locks = Vec::new(alloc);
         for purse in purses {
             locks.push(Mutex::new(Named {
@@ -105,6 +105,6 @@ impl Loose {
                 of: PhantomData,
             }))?;
         }
-        Ok(Purses { ledger, locks })
+        Ok(Purses { seat_table, locks })
     }
 }

@@ -5,7 +5,7 @@ ghost use Rattle.std.specs.Sync.Mutex.{mutex_guard_value};
 
 use crate::name::Name;
 use crate::purse::Purse;
-use crate::seats::Ledger;
+use crate::seats::SeatTable;
 use std::marker::{Model, PhantomData};
 use std::sync::{Mutex, MutexGuard, Wait};
 
@@ -20,7 +20,7 @@ pub(crate) struct Named<N: Name> {
 /// One purse for each account, each behind a lock of its own. Contracts see how many there are.
 #[derive(Drop)]
 pub struct Purses<N: Name> {
-    pub(crate) ledger: Ledger,
+    pub(crate) seat_table: SeatTable,
     pub(crate) locks: Vec<Mutex<Named<N>>>,
 }
 
@@ -31,14 +31,14 @@ impl<N: Name> Model for Purses<N> {
 
     ghost view = { λ p. length p.locks.items };
 
-    ghost invariant = { λ p. (p.ledger.shared.table_id ≡ N.table) × (p.ledger.shared.table_id.words ≡ 1) };
+    ghost invariant = { λ p. (p.seat_table.shared.table_id ≡ N.table) × (p.seat_table.shared.table_id.words ≡ 1) };
 }
 
 impl<N: Name> Purses<N> {
-    pub(crate) fn ledger(&self) -> &Ledger
+    pub(crate) fn seat_table(&self) -> &SeatTable
         ensures { (result.now.shared.table_id ≡ N.table) × (result.now.shared.table_id.words ≡ 1) }
     {
-        &self.ledger
+        &self.seat_table
     }
 
     /// Waits for the lock of an account. What stands behind a lock is known by its type alone, so the purse's own

@@ -75,6 +75,6 @@ impl Join<View> for TakeBack {
     ghost spent = { Spent };
 }
 
-pub type Ledger = Table<u8, View, Vec<(u64, u64)>, Agreement, Global>;
+pub type SeatTable = Table<u8, View, Vec<(u64, u64)>, Agreement, Global>;
 
 pub type SeatOf = Seat<u8, View>;

@@ -17,7 +17,7 @@ abbrev pub AllIdle : List (Option Job) → Type 0
 AllIdle workers = (i : ℕ) (job : Option Job) → slice_get workers i ≡ Some job → job ≡ None
 
 -- the core of a history, whose workers are idle
-pub record IsFirst (chart : Chart) (entries : List Entry) (workers : ℕ) (s : CoreState) : Type 0 where
+pub record IsFirstState (chart : Chart) (entries : List Entry) (workers : ℕ) (s : CoreState) : Type 0 where
   pub ledger : IsFirstLedger chart entries s.ledger
   pub count : length s.workers ≡ workers
   pub idle : AllIdle s.workers

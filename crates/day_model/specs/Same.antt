@@ -18,15 +18,15 @@ is_mt Transfer Cover = false
 is_mt Cover Transfer = false
 
 -- two UETRs are the same, or both are absent
-abbrev pub is_uetr : Option Uetr → Option Uetr → Bool
-is_uetr (Some u) (Some v) = bytes_eq u.0 v.0
-is_uetr (Some u) None = false
-is_uetr None (Some v) = false
-is_uetr None None = true
+abbrev pub is_same_uetr : Option Uetr → Option Uetr → Bool
+is_same_uetr (Some u) (Some v) = bytes_eq u.0 v.0
+is_same_uetr (Some u) None = false
+is_same_uetr None (Some v) = false
+is_same_uetr None None = true
 
 -- reference, type, UETR and text agree
 abbrev pub is_same_pay : Pay → Pay → Bool
-is_same_pay p q = bytes_eq p.mir.0 q.mir.0 && is_mt p.mt q.mt && is_uetr p.uetr q.uetr && bytes_eq p.text q.text
+is_same_pay p q = bytes_eq p.mir.0 q.mir.0 && is_mt p.mt q.mt && is_same_uetr p.uetr q.uetr && bytes_eq p.text q.text
 
 -- two pays are the same
 abbrev pub IsSamePay : Pay → Pay → Type 0

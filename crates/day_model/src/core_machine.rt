@@ -4,7 +4,7 @@ ghost use Rattle.std.specs.Prelude.{◌≡◌, ◌≤◌, ◌↔◌, ◌&&◌, �
 ghost use Rattle.day_model.specs.Legal.{IsLegal};
 ghost use Rattle.day_model.specs.Fit.{legs_fit};
 ghost use Rattle.day_model.specs.CoreStep.{is_idle, step_of, worker_at};
-ghost use Rattle.day_model.specs.CoreSound.{AllIdle, FaultFreezes, HasHeld, IsFirst, MayGoOn, RunsAreKept};
+ghost use Rattle.day_model.specs.CoreSound.{AllIdle, FaultFreezes, HasHeld, IsFirstState, MayGoOn, RunsAreKept};
 
 use crate::account::AcctNo;
 use crate::accounts::Accounts;
@@ -51,7 +51,7 @@ impl Core {
     /// The core of a history that is legal for the accounts: its workers, numbered from 1, have no job.
     pub fn new(alloc: Global, a: Accounts, h: History, workers: u32) -> Result<Core, Memory>
         requires { IsLegal a h.entries }
-        ensures first { IfOk result (IsFirst a h.entries workers) }
+        ensures first { IfOk result (IsFirstState a h.entries workers) }
         ensures runs { IfOk result RunsAreKept }
     {
         Ok(Core {

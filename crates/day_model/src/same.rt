@@ -1,7 +1,7 @@
 //! When two pays are the same.
 
 ghost use Rattle.std.specs.Prelude.{◌≡◌};
-ghost use Rattle.day_model.specs.Same.{is_mt, is_same_pay, is_uetr};
+ghost use Rattle.day_model.specs.Same.{is_mt, is_same_pay, is_same_uetr};
 
 use crate::pay::{Mt, Pay};
 use corr_ids::Uetr;
@@ -13,7 +13,7 @@ fn is_same_type(m: Mt, n: Mt) -> bool
 }
 
 fn is_same_uetr(u: Option<Uetr>, v: Option<Uetr>) -> bool
-    ensures { result ≡ is_uetr u v }
+    ensures { result ≡ is_same_uetr u v }
 {
     match (u, v) {
         (Some(u), Some(v)) => u.0 == v.0,

@@ -21,14 +21,14 @@ between-again start bs end =
     let held : take (length group - (length start + length end)) (bs ++ end) ≡ bs = take_at bs end (length group - (length start + length end)) (omega (arith, long)) in
     rw (wide, begins, ends, behind, held, same-bytes start, same-bytes end) refl
 
-pub inside-again : (start bs : List ℕ) → inside start (start ++ bs ++ codes "}") ≡ Some bs
+pub inside-again : (start bs : List ℕ) → inside start (Some (start ++ bs ++ codes "}")) ≡ Some bs
 inside-again start bs = between-again start bs (codes "}")
 
 both-but : (a b c : Bool) → b ≡ false → (a && b && c) ≡ false
 both-but a b c h = and_left (a && b) c (and_right a b h)
 
 -- a group that begins otherwise is another
-pub inside-other : (start group : List ℕ) → bytes_eq (take (length start) group) start ≡ false → inside start group ≡ None
+pub inside-other : (start group : List ℕ) → bytes_eq (take (length start) group) start ≡ false → inside start (Some group) ≡ None
 unfolding between
 inside-other start group h =
     rw (both-but (nat_le (length start + length (codes "}")) (length group)) (bytes_eq (take (length start) group) start) (bytes_eq (drop (length group - length (codes "}")) group) (codes "}")) h) refl

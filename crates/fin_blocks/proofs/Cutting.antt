@@ -1,33 +1,32 @@
 -- Cutting bytes behind their next group.
 use Rattle.std.proofs.Common.{◌≡◌, ℕ, zero, suc, ◌+◌, ◌-◌, ◌<◌, ◌≤◌, ◌≢◌, false, List, [], ◌∷◌, ◌++◌, length, get_or, take, drop, refl, sym, ap, subst, ◌∙◌, arith}
-use Rattle.std.specs.Prelude.{◌==◌}
+use Rattle.std.specs.Prelude.{◌==◌, Option, Some, None}
 use Rattle.std.proofs.lemmas.Bool.{or_parts}
 use Rattle.std.proofs.lemmas.Bool.Decides.{nat_tests}
 use Rattle.std.proofs.lemmas.List.{take_more, drop_more, drop_all}
 use Rattle.corr_text.specs.Braces.{is_brace, depth_after}
-use Rattle.fin_blocks.specs.Groups.{with_byte, pieces_from, groups_of, next, IsCut}
+use Rattle.fin_blocks.specs.Groups.{group_with_byte, groups_from, groups_of, next_group, IsCut}
 
--- bytes put before the first piece
-abbrev pub with_bytes : List ℕ → List (List ℕ) → List (List ℕ)
-with_bytes [] pieces = pieces
-with_bytes (b ∷ bs) pieces = with_byte b (with_bytes bs pieces)
+-- bytes put before the first group
+abbrev pub with_bytes : List ℕ → List (Option (List ℕ)) → List (Option (List ℕ))
+with_bytes [] groups = groups
+with_bytes (b ∷ bs) groups = group_with_byte b (with_bytes bs groups)
 
-pub with_bytes-push : (bs : List ℕ) (b : ℕ) (pieces : List (List ℕ)) → with_bytes (bs ++ b ∷ []) pieces ≡ with_bytes bs (with_byte b pieces)
-with_bytes-push [] b pieces = refl
-with_bytes-push (x ∷ bs) b pieces = ap (with_byte x) (with_bytes-push bs b pieces)
+pub with_bytes-push : (bs : List ℕ) (b : ℕ) (groups : List (Option (List ℕ))) → with_bytes (bs ++ b ∷ []) groups ≡ with_bytes bs (group_with_byte b groups)
+with_bytes-push [] b groups = refl
+with_bytes-push (x ∷ bs) b groups = ap (group_with_byte x) (with_bytes-push bs b groups)
 
-pub with_bytes-group : (bs : List ℕ) (b : ℕ) (cs : List ℕ) (pieces : List (List ℕ)) → with_bytes bs ((b ∷ cs) ∷ pieces) ≡ (bs ++ b ∷ cs) ∷ pieces
-with_bytes-group [] b cs pieces = refl
-with_bytes-group (x ∷ []) b cs pieces = refl
-with_bytes-group (x ∷ y ∷ bs) b cs pieces = ap (with_byte x) (with_bytes-group (y ∷ bs) b cs pieces)
+pub with_bytes-group : (bs cs : List ℕ) (groups : List (Option (List ℕ))) → with_bytes bs (Some cs ∷ groups) ≡ Some (bs ++ cs) ∷ groups
+with_bytes-group [] cs groups = refl
+with_bytes-group (x ∷ bs) cs groups = ap (group_with_byte x) (with_bytes-group bs cs groups)
 
-with_bytes-open : (bs : List ℕ) → with_bytes bs ([] ∷ []) ≡ [] ∷ []
+with_bytes-open : (bs : List ℕ) → with_bytes bs (None ∷ []) ≡ None ∷ []
 with_bytes-open [] = refl
-with_bytes-open (x ∷ bs) = ap (with_byte x) (with_bytes-open bs)
+with_bytes-open (x ∷ bs) = ap (group_with_byte x) (with_bytes-open bs)
 
 -- the bytes passed are the front of a group that is still open
 pub record IsOpen (bs : List ℕ) (at depth : ℕ) : Type 0 where
-  pub front : groups_of bs ≡ with_bytes (take at bs) (pieces_from depth (drop at bs))
+  pub front : groups_of bs ≡ with_bytes (take at bs) (groups_from depth (drop at bs))
   pub inside : 0 < at → 0 < depth
   pub deep : depth < at + 1
 
@@ -35,10 +34,10 @@ pub starts-open : (bs : List ℕ) → IsOpen bs 0 0
 unfolding groups_of
 starts-open bs = record { front = refl; inside = λ h. absurd (omega (arith, h)); deep = omega arith }
 
-pub step : (depth b : ℕ) (bs : List ℕ) → depth_after depth b ≢ 0 → pieces_from depth (b ∷ bs) ≡ with_byte b (pieces_from (depth_after depth b) bs)
+pub step : (depth b : ℕ) (bs : List ℕ) → depth_after depth b ≢ 0 → groups_from depth (b ∷ bs) ≡ group_with_byte b (groups_from (depth_after depth b) bs)
 step depth b bs e = grind (arith, nat_tests)
 
-pub closes : (depth b : ℕ) (bs : List ℕ) → depth_after depth b ≡ 0 → pieces_from depth (b ∷ bs) ≡ (b ∷ []) ∷ pieces_from 0 bs
+pub closes : (depth b : ℕ) (bs : List ℕ) → depth_after depth b ≡ 0 → groups_from depth (b ∷ bs) ≡ Some (b ∷ []) ∷ groups_from 0 bs
 closes depth b bs e = rw e refl
 
 depth-le : (depth b : ℕ) → depth_after depth b ≤ depth + 1
@@ -46,9 +45,9 @@ depth-le depth b = grind (arith, nat_tests)
 
 pub open-more : {bs : List ℕ} {at depth : ℕ} → IsOpen bs at depth → (after : ℕ) → after ≡ depth_after depth (get_or bs at 0) → after ≢ 0 → at < length bs → IsOpen bs (at + 1) after
 open-more {bs} {at} {depth} h next e some lt = record {
-  front = h.front ∙ ap (λ r. with_bytes (take at bs) (pieces_from depth r)) (drop_more bs at 0 lt)
+  front = h.front ∙ ap (λ r. with_bytes (take at bs) (groups_from depth r)) (drop_more bs at 0 lt)
       ∙ ap (with_bytes (take at bs)) (step depth (get_or bs at 0) (drop (at + 1) bs) (λ z. some (e ∙ z)))
-      ∙ sym (with_bytes-push (take at bs) (get_or bs at 0) (pieces_from (depth_after depth (get_or bs at 0)) (drop (at + 1) bs)))
+      ∙ sym (with_bytes-push (take at bs) (get_or bs at 0) (groups_from (depth_after depth (get_or bs at 0)) (drop (at + 1) bs)))
       ∙ rw (take_more bs at 0 lt, e) refl;
   inside = λ l. omega (arith, some);
   deep = omega (arith, e, h.deep, depth-le depth (get_or bs at 0));
@@ -77,24 +76,24 @@ open-to {bs} {at} {depth} to h some low le others =
     let same : at + (to - at) ≡ to = omega (arith, low) in
     subst (λ i. IsOpen bs i depth) same (open-others (to - at) h some (omega (arith, low, le)) (λ k a b. others k a (omega (arith, low, b))))
 
-pub is-cut : {bs : List ℕ} {at depth : ℕ} → IsOpen bs at depth → depth_after depth (get_or bs at 0) ≡ 0 → at < length bs → IsCut bs (take (at + 1) bs) (drop (at + 1) bs)
+pub is-cut : {bs : List ℕ} {at depth : ℕ} → IsOpen bs at depth → depth_after depth (get_or bs at 0) ≡ 0 → at < length bs → IsCut bs (Some (take (at + 1) bs)) (drop (at + 1) bs)
 unfolding groups_of
 is-cut {bs} {at} {depth} h e lt =
-    let whole : groups_of bs ≡ take (at + 1) bs ∷ pieces_from 0 (drop (at + 1) bs) =
-    h.front ∙ ap (λ r. with_bytes (take at bs) (pieces_from depth r)) (drop_more bs at 0 lt)
+    let whole : groups_of bs ≡ Some (take (at + 1) bs) ∷ groups_from 0 (drop (at + 1) bs) =
+    h.front ∙ ap (λ r. with_bytes (take at bs) (groups_from depth r)) (drop_more bs at 0 lt)
     ∙ ap (with_bytes (take at bs)) (closes depth (get_or bs at 0) (drop (at + 1) bs) e)
-    ∙ with_bytes-group (take at bs) (get_or bs at 0) [] (pieces_from 0 (drop (at + 1) bs))
+    ∙ with_bytes-group (take at bs) (get_or bs at 0 ∷ []) (groups_from 0 (drop (at + 1) bs))
     ∙ rw (take_more bs at 0 lt) refl in
     record { group_is_next = rw whole refl; rest_is_after = rw whole refl }
 
-pub is-open : (bs : List ℕ) (at depth : ℕ) → IsOpen bs at depth → length bs ≡ at → IsCut bs [] []
+pub is-open : (bs : List ℕ) (at depth : ℕ) → IsOpen bs at depth → length bs ≡ at → IsCut bs None []
 unfolding groups_of
 is-open [] at depth h e = record { group_is_next = refl; rest_is_after = refl }
 is-open (b ∷ bs) at depth h e =
     let some : 0 < depth = h.inside (omega (arith, e)) in
     let last : drop at (b ∷ bs) ≡ [] = drop_all at (b ∷ bs) (omega (arith, e)) in
-    let tail : pieces_from depth [] ≡ [] ∷ [] = grind (arith, nat_tests) in
-    let whole : groups_of (b ∷ bs) ≡ [] ∷ [] =
-    h.front ∙ ap (λ r. with_bytes (take at (b ∷ bs)) (pieces_from depth r)) last
+    let tail : groups_from depth [] ≡ None ∷ [] = grind (arith, nat_tests) in
+    let whole : groups_of (b ∷ bs) ≡ None ∷ [] =
+    h.front ∙ ap (λ r. with_bytes (take at (b ∷ bs)) (groups_from depth r)) last
     ∙ ap (with_bytes (take at (b ∷ bs))) tail ∙ with_bytes-open (take at (b ∷ bs)) in
     record { group_is_next = rw whole refl; rest_is_after = rw whole refl }

@@ -105,7 +105,7 @@ basic-again bs a long address =
     let all : length (bs ++ codes "0000000000") ≡ 22 = omega (arith, long, length-append bs (codes "0000000000")) in
     rw (all, take_at bs (codes "0000000000") 12 long, drop_at bs (codes "0000000000") 12 long, address) refl
 
-pub own-again : (home : Bic) → IsBic home → basic_of (own_text home) ≡ Some (record { version = codes "01"; own = terminal_of home 65 })
+pub own-again : (home : Bic) → IsBic home → basic_of (Some (own_text home)) ≡ Some (record { version = codes "01"; own = terminal_of home 65 })
 own-again home h =
     let bs : List ℕ = lt_text (terminal_of home 65) in
     let a = spelled-address (terminal_of home 65) (terminal-again home 65 h refl) in
@@ -133,7 +133,7 @@ sent-again ds bs mt a n long address =
     let behind : drop 3 whole ≡ bs ++ codes "N" = ap (drop 3) (append_assoc ds bs (codes "N")) ∙ drop_at ds (bs ++ codes "N") 3 n.long in
     rw (all, priority, none, first, behind, take_at bs (codes "N") 12 long, n.number, address) refl
 
-pub receiver-again : (mt : ℕ) (to : Bic) → mt ≤ 999 → IsBic to → app_of (receiver_text mt to) ≡ Some (Sent mt (terminal_of to 88))
+pub receiver-again : (mt : ℕ) (to : Bic) → mt ≤ 999 → IsBic to → app_of (Some (receiver_text mt to)) ≡ Some (Sent mt (terminal_of to 88))
 receiver-again mt to low h =
     let bs : List ℕ = lt_text (terminal_of to 88) in
     let a = spelled-address (terminal_of to 88) (terminal-again to 88 h refl) in
@@ -170,6 +170,6 @@ lines-end text h =
       | inr some ↦ rw (sym h ∙ some.1) (feed-ends some.0)
     ]
 
-pub lines-again : (text : List ℕ) → IsText text → text_of (lines_text text) ≡ Some text
+pub lines-again : (text : List ℕ) → IsText text → text_of (Some (lines_text text)) ≡ Some text
 unfolding text_of
 lines-again text h = rw (between-again (codes "{4:" ++ crlf) text (codes "-}"), lines-end text h.lines, h.lines) refl

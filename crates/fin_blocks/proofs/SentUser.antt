@@ -1,5 +1,5 @@
 -- Block 3 of a sent message is one group, and is read to its subblocks.
-use Rattle.std.proofs.Common.{◌≡◌, ℕ, ◌&&◌, Bool, true, List, [], ◌∷◌, ◌++◌, length, map, drop, Some, refl, sym, ap, ◌∙◌, length-append, arith}
+use Rattle.std.proofs.Common.{◌≡◌, ℕ, ◌&&◌, Bool, true, List, [], ◌∷◌, ◌++◌, length, map, drop, Option, Some, refl, sym, ap, ◌∙◌, length-append, arith}
 use Rattle.std.specs.Prelude.{codes, nat_le, nat_lt}
 use Rattle.std.specs.List.{flat_map, list_all}
 use Rattle.std.proofs.lemmas.Bool.{and_parts, leb-true, le-leb, lt-ltb}
@@ -29,7 +29,7 @@ subblock s h =
     record { three = three-digits s.0 (leb-true s.0 999 q.0); plain = q.1; may = p.1 }
 
 -- a piece of three bytes and a text
-tagged-again : (tag text : List ℕ) → length tag ≡ 3 → is_plain text ≡ true → tagged_of (123 ∷ tag ++ 58 ∷ text ++ 125 ∷ []) ≡ Some (tag, text)
+tagged-again : (tag text : List ℕ) → length tag ≡ 3 → is_plain text ≡ true → tagged_of (Some (123 ∷ tag ++ 58 ∷ text ++ 125 ∷ [])) ≡ Some (tag, text)
 unfolding tagged_of is_tagged
 tagged-again tag text three plain =
     let held : List ℕ = tag ++ 58 ∷ text in
@@ -37,20 +37,24 @@ tagged-again tag text three plain =
     let behind : drop 4 held ≡ text = sym (drop-drop 1 3 held) ∙ ap (drop 1) (drop_at tag (58 ∷ text) 3 three) in
     rw (inside-again (codes "{") held, long, get_or_at tag 58 text 0 3 three, behind, plain, take_at tag (58 ∷ text) 3 three) refl
 
-subblock-again : (s : ℕ × List ℕ) → IsSubblock s → subblock_of (subblock_text s) ≡ Some s
+subblock-again : (s : ℕ × List ℕ) → IsSubblock s → subblock_of (Some (subblock_text s)) ≡ Some s
 unfolding subblock_of
 subblock-again s h = rw (tagged-again (padded 3 s.0) s.1 h.three.long h.plain, h.three.number, h.may) refl
 
 subblock-balanced : (s : ℕ × List ℕ) → IsSubblock s → IsBalanced (padded 3 s.0 ++ 58 ∷ s.1)
 subblock-balanced s h = balanced-plain (padded 3 s.0 ++ 58 ∷ s.1) (plain-both (padded 3 s.0) (58 ∷ s.1) h.three.plain h.plain)
 
+-- a subblock's group
+abbrev group_of : ℕ × List ℕ → Option (List ℕ)
+group_of s = Some (subblock_text s)
+
 -- subblocks are one group each
-user-groups : (user : List (ℕ × List ℕ)) → list_all is_subblock user ≡ true → groups_of (flat_map subblock_text user) ≡ map subblock_text user
+user-groups : (user : List (ℕ × List ℕ)) → list_all is_subblock user ≡ true → groups_of (flat_map subblock_text user) ≡ map group_of user
 user-groups [] h = groups-none [] refl
 user-groups (s ∷ user) h =
     let p = and_parts (is_subblock s) (list_all is_subblock user) h in
     group-first (padded 3 s.0 ++ 58 ∷ s.1) (flat_map subblock_text user) (subblock-balanced s (subblock s p.0))
-    ∙ ap (λ gs. subblock_text s ∷ gs) (user-groups user p.1)
+    ∙ ap (λ gs. group_of s ∷ gs) (user-groups user p.1)
 
 user-balanced : (user : List (ℕ × List ℕ)) → list_all is_subblock user ≡ true → IsBalanced (flat_map subblock_text user)
 user-balanced [] h = balanced-none
@@ -59,7 +63,7 @@ user-balanced (s ∷ user) h =
     balanced-both (subblock_text s) (flat_map subblock_text user)
     (balanced-group (padded 3 s.0 ++ 58 ∷ s.1) (subblock-balanced s (subblock s p.0))) (user-balanced user p.1)
 
-each-again : (user : List (ℕ × List ℕ)) → list_all is_subblock user ≡ true → each_of subblock_of (map subblock_text user) ≡ Some user
+each-again : (user : List (ℕ × List ℕ)) → list_all is_subblock user ≡ true → each_of subblock_of (map group_of user) ≡ Some user
 unfolding each_of
 each-again [] h = refl
 each-again (s ∷ user) h =
@@ -69,8 +73,8 @@ each-again (s ∷ user) h =
 -- what the subblocks of a sent message are
 pub record IsUser (user : List (ℕ × List ℕ)) : Type 0 where
   pub balanced : IsBalanced (flat_map subblock_text user)
-  pub groups : groups_of (flat_map subblock_text user) ≡ map subblock_text user
-  pub each : each_of subblock_of (map subblock_text user) ≡ Some user
+  pub groups : groups_of (flat_map subblock_text user) ≡ map group_of user
+  pub each : each_of subblock_of (map group_of user) ≡ Some user
   pub distinct : are_distinct (map (λ s. s.0) user) ≡ true
 
 pub user-parts : (user : List (ℕ × List ℕ)) → are_subblocks user ≡ true → IsUser user

@@ -3,7 +3,7 @@ use Rattle.std.specs.Prelude.{ℕ, Bool, true, false, List, [], ◌∷◌, Optio
 use Rattle.corr_text.specs.Answers.{Refuses}
 use Rattle.corr_text.specs.Codes.{code}
 use Rattle.corr_text.specs.First.{check, or_fault, ◌>>=◌}
-use Rattle.fin_blocks.specs.Groups.{groups_of, next, after}
+use Rattle.fin_blocks.specs.Groups.{groups_of, next_group, groups_after}
 use Rattle.fin_blocks.specs.Forms.{inside, basic_of, app_of, mir_in, each_of, trailer_of}
 use Rattle.fin_blocks.specs.User.{subblocks_in}
 use Rattle.fin_blocks.specs.Text.{text_of}
@@ -17,12 +17,12 @@ use Rattle.fin_blocks.specs.declared.fault.BlockFault.{BlockFault}
 use Rattle.fin_blocks.specs.declared.fault.BlockFault.TheVariants as fault
 
 -- whether the next group is the block that begins so
-abbrev pub has_next : List ℕ → List (List ℕ) → Bool
-has_next start groups = is_some (inside start (next groups))
+abbrev pub has_next : List ℕ → List (Option (List ℕ)) → Bool
+has_next start groups = is_some (inside start (next_group groups))
 
 -- the groups behind that block, or all where it does not come next
-abbrev pub behind : List ℕ → List (List ℕ) → List (List ℕ)
-behind start groups = if has_next start groups then after groups else groups
+abbrev pub groups_behind : List ℕ → List (Option (List ℕ)) → List (Option (List ℕ))
+groups_behind start groups = if has_next start groups then groups_after groups else groups
 
 -- what a block that may be absent says
 abbrev pub optional : {A : Type 0} → (List ℕ → Option (List A)) → Option (List ℕ) → Option (List A)
@@ -30,15 +30,15 @@ optional read None = Some []
 optional read (Some bs) = read bs
 
 -- block 3, `{3:`, subblocks, `}`
-abbrev pub user_of : List (List ℕ) → Option (List (ℕ × List ℕ))
-user_of groups = optional subblocks_in (inside (codes "{3:") (next groups))
+abbrev pub user_of : List (Option (List ℕ)) → Option (List (ℕ × List ℕ))
+user_of groups = optional subblocks_in (inside (codes "{3:") (next_group groups))
 
 -- block 5, `{5:`, trailers, `}`
-abbrev pub trailers_of : List (List ℕ) → Option (List (List ℕ))
-trailers_of groups = optional (λ bs. each_of trailer_of (groups_of bs)) (inside (codes "{5:") (next groups))
+abbrev pub trailers_of : List (Option (List ℕ)) → Option (List (List ℕ))
+trailers_of groups = optional (λ bs. each_of trailer_of (groups_of bs)) (inside (codes "{5:") (next_group groups))
 
 -- nothing more, or one last group `{S:`
-abbrev pub are_last : List (List ℕ) → Bool
+abbrev pub are_last : List (Option (List ℕ)) → Bool
 are_last [] = true
 are_last (group ∷ []) = is_some (inside (codes "{S:") group)
 are_last _ = false
@@ -47,17 +47,17 @@ are_last _ = false
 unfoldable pub blocks_of : List ℕ → Result Blocks BlockFault
 blocks_of m = do
   let first = groups_of m
-  basic ← or_fault (basic_of (next first)) (fault.Bad (code "P01") None)
+  basic ← or_fault (basic_of (next_group first)) (fault.Bad (code "P01") None)
   _ ← check (bytes_eq basic.version (codes "01")) (fault.Bad (code "P02") None)
-  let second = after first
-  app ← or_fault (app_of (next second)) (fault.Bad (code "P03") None)
-  let third = after second
+  let second = groups_after first
+  app ← or_fault (app_of (next_group second)) (fault.Bad (code "P03") None)
+  let third = groups_after second
   user ← or_fault (user_of third) (fault.Bad (code "P04") (mir_in app))
-  let fourth = behind (codes "{3:") third
-  text ← or_fault (text_of (next fourth)) (fault.Bad (code "P05") (mir_in app))
-  let fifth = after fourth
+  let fourth = groups_behind (codes "{3:") third
+  text ← or_fault (text_of (next_group fourth)) (fault.Bad (code "P05") (mir_in app))
+  let fifth = groups_after fourth
   trailers ← or_fault (trailers_of fifth) (fault.Bad (code "P06") (mir_in app))
-  _ ← check (are_last (behind (codes "{5:") fifth)) (fault.Bad (code "P06") (mir_in app))
+  _ ← check (are_last (groups_behind (codes "{5:") fifth)) (fault.Bad (code "P06") (mir_in app))
   Ok (record { own = basic.own; app = app; user = user; text = text; trailers = trailers })
 
 -- what block 2 names meets its grammar: the reference of a received message, the receiver's bank of a sent one

@@ -19,9 +19,10 @@ between start end group =
     Some (take (length group - (length start + length end)) (drop (length start) group))
     else None
 
--- what a block holds that begins so
-abbrev pub inside : List ℕ → List ℕ → Option (List ℕ)
-inside start group = between start (codes "}") group
+-- what a block holds that begins so, none where there is no group
+abbrev pub inside : List ℕ → Option (List ℕ) → Option (List ℕ)
+inside start None = None
+inside start (Some group) = between start (codes "}") group
 
 -- this many bytes from a place on
 abbrev pub part : ℕ → ℕ → List ℕ → List ℕ
@@ -42,7 +43,7 @@ basic_in bs = do
   Some (record { version = take 2 bs; own = own })
 
 -- `{1:F`, what basic_in reads, `}`
-abbrev pub basic_of : List ℕ → Option Basic
+abbrev pub basic_of : Option (List ℕ) → Option Basic
 basic_of group = inside (codes "{1:F") group >>= basic_in
 
 -- S, U or N: system, urgent or normal
@@ -76,15 +77,15 @@ sent_in bs = do
   Some (Sent mt to)
 
 -- `{2:O`, what received_in reads, `}`
-abbrev pub received_of : List ℕ → Option App
+abbrev pub received_of : Option (List ℕ) → Option App
 received_of group = inside (codes "{2:O") group >>= received_in
 
 -- `{2:I`, what sent_in reads, `}`
-abbrev pub sent_of : List ℕ → Option App
+abbrev pub sent_of : Option (List ℕ) → Option App
 sent_of group = inside (codes "{2:I") group >>= sent_in
 
 -- block 2: of the one form or the other
-abbrev pub app_of : List ℕ → Option App
+abbrev pub app_of : Option (List ℕ) → Option App
 app_of group = option_or (received_of group) (sent_of group)
 
 -- the reference of a received message
@@ -101,13 +102,13 @@ unfoldable pub is_tagged : List ℕ → Bool
 is_tagged bs = nat_le 4 (length bs) && (slice_index bs 3 == 58) && is_plain (drop 4 bs)
 
 -- `{`, three bytes, `:`, bytes without braces, `}`: the three and the bytes
-unfoldable pub tagged_of : List ℕ → Option (List ℕ × List ℕ)
+unfoldable pub tagged_of : Option (List ℕ) → Option (List ℕ × List ℕ)
 tagged_of group = do
   bs ← inside (codes "{") group
   when (is_tagged bs) (Some (take 3 bs, drop 4 bs))
 
 -- what each of these groups says, where each says something
-unfoldable pub each_of : {A : Type 0} → (List ℕ → Option A) → List (List ℕ) → Option (List A)
+unfoldable pub each_of : {A : Type 0} → (Option (List ℕ) → Option A) → List (Option (List ℕ)) → Option (List A)
 each_of read [] = Some []
 each_of read (group ∷ groups) = do
   x ← read group
@@ -115,7 +116,7 @@ each_of read (group ∷ groups) = do
   Some (x ∷ xs)
 
 -- a trailer: three capital letters
-unfoldable pub trailer_of : List ℕ → Option (List ℕ)
+unfoldable pub trailer_of : Option (List ℕ) → Option (List ℕ)
 trailer_of group = do
   p ← tagged_of group
   when (list_all is_ascii_uppercase p.0) (Some p.0)

@@ -23,7 +23,8 @@ unfoldable pub text_in : List ℕ → List ℕ
 text_in bs = flat_map ended (lines_of bs)
 
 -- `{4:`, a line end, the lines, `-}`
-unfoldable pub text_of : List ℕ → Option (List ℕ)
+unfoldable pub text_of : Option (List ℕ) → Option (List ℕ)
 text_of group = do
-  bs ← option_or (between (codes "{4:" ++ crlf) (codes "-}") group) (between (codes "{4:" ++ 10 ∷ []) (codes "-}") group)
+  block ← group
+  bs ← option_or (between (codes "{4:" ++ crlf) (codes "-}") block) (between (codes "{4:" ++ 10 ∷ []) (codes "-}") block)
   when (is_ended bs) (Some (text_in bs))

@@ -12,7 +12,7 @@ abbrev pub may_hold : ℕ → List ℕ → Bool
 may_hold number text = not (number == 121) || is_uetr text
 
 -- a subblock: its number, three digits, and its text
-unfoldable pub subblock_of : List ℕ → Option (ℕ × List ℕ)
+unfoldable pub subblock_of : Option (List ℕ) → Option (ℕ × List ℕ)
 subblock_of group = do
   p ← tagged_of group
   number ← number_of p.0

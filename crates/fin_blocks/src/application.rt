@@ -1,6 +1,6 @@
 //! Block 2: what a message is, and where it comes from or goes to.
 
-ghost use Rattle.std.specs.Prelude.{◌≡◌, ◌≤◌, IsTrue, length};
+ghost use Rattle.std.specs.Prelude.{◌≡◌, ◌≤◌, IsTrue, length, option_map};
 ghost use Rattle.fin_blocks.specs.Forms.{app_of, is_priority as is_priority_of, is_received as is_received_of, is_sent as is_sent_of, is_sent_length as is_sent_length_of, mir_in, received_in, received_of, sent_in, sent_of};
 
 use crate::blocks::App;
@@ -62,21 +62,21 @@ fn sent_inside(b: &[u8]) -> Option<App>
     Some(App::Sent { mt, to })
 }
 
-fn read_received(group: &[u8]) -> Option<App>
-    ensures { result ≡ received_of group.now }
+fn read_received(group: Option<&[u8]>) -> Option<App>
+    ensures { result ≡ received_of (option_map (λ b. b.now) group.entry) }
 {
     received_inside(inside(b"{2:O", group)?)
 }
 
-fn read_sent(group: &[u8]) -> Option<App>
-    ensures { result ≡ sent_of group.now }
+fn read_sent(group: Option<&[u8]>) -> Option<App>
+    ensures { result ≡ sent_of (option_map (λ b. b.now) group.entry) }
 {
     sent_inside(inside(b"{2:I", group)?)
 }
 
 /// Block 2 of a message, if the group is one.
-pub fn read_app(group: &[u8]) -> Option<App>
-    ensures { result ≡ app_of group.now }
+pub fn read_app(group: Option<&[u8]>) -> Option<App>
+    ensures { result ≡ app_of (option_map (λ b. b.now) group.entry) }
 {
     match read_received(group) {
         Some(app) => Some(app),

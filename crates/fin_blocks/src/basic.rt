@@ -1,6 +1,6 @@
 //! Block 1: the terminal that a message belongs to.
 
-ghost use Rattle.std.specs.Prelude.{◌≡◌, IsTrue, length};
+ghost use Rattle.std.specs.Prelude.{◌≡◌, IsTrue, length, option_map};
 ghost use Rattle.fin_blocks.specs.Forms.{basic_in, basic_of, is_basic as is_basic_of};
 
 use crate::forms::inside;
@@ -36,8 +36,8 @@ fn read_inside(b: &[u8]) -> Option<Basic>
 }
 
 /// Block 1 of a message, if the group is one.
-pub fn read_basic(group: &[u8]) -> Option<Basic>
-    ensures { result ≡ basic_of group.now }
+pub fn read_basic(group: Option<&[u8]>) -> Option<Basic>
+    ensures { result ≡ basic_of (option_map (λ b. b.now) group.entry) }
 {
     read_inside(inside(b"{1:F", group)?)
 }

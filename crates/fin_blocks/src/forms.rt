@@ -30,11 +30,11 @@ pub fn between<'a>(start: &[u8], end: &[u8], group: &'a [u8]) -> Option<&'a [u8]
 }
 
 /// What a block holds that begins so.
-pub fn inside<'a>(start: &[u8], group: &'a [u8]) -> Option<&'a [u8]>
+pub fn inside<'a>(start: &[u8], group: Option<&'a [u8]>) -> Option<&'a [u8]>
     requires { length start.now < 8 }
-    ensures { option_map (λ b. b.now) result ≡ inside_of start.now group.now }
+    ensures { option_map (λ b. b.now) result ≡ inside_of start.now (option_map (λ b. b.now) group.entry) }
 {
-    between(start, b"}", group)
+    between(start, b"}", group?)
 }
 
 /// A piece of block 3 or block 5: its three bytes before the colon, and its text.
@@ -54,8 +54,8 @@ fn is_tagged(b: &[u8]) -> bool
 
 /// The piece that a group is.
 #[tactic(auto, unfolding(crate::specs::Forms::tagged_of))]
-pub fn read_tagged(group: &[u8]) -> Option<Tagged<'_>>
-    ensures value { option_map (λ t. (t.tag.now, t.text.now)) result ≡ tagged_of group.now }
+pub fn read_tagged(group: Option<&[u8]>) -> Option<Tagged<'_>>
+    ensures value { option_map (λ t. (t.tag.now, t.text.now)) result ≡ tagged_of (option_map (λ b. b.now) group.entry) }
     ensures three { IfSome result (λ t. length t.tag.now ≡ 3) }
 {
     let b = inside(b"{", group)?;

@@ -1,16 +1,16 @@
 //! Groups: a `{` up to its matching `}`.
 
-ghost use Rattle.std.specs.Prelude.{◌≡◌, ◌≢◌, ◌<◌, ◌+◌, ◌^◌, [], length};
+ghost use Rattle.std.specs.Prelude.{◌≡◌, ◌≢◌, ◌<◌, ◌+◌, ◌^◌, [], length, option_map};
 ghost use Rattle.corr_text.specs.Braces.{depth_after as depth_of};
 ghost use Rattle.fin_blocks.specs.Groups.{IsCut};
 
 use corr_text::next_brace;
 
-/// Bytes, their next group, and what stands behind it.
+/// Bytes, their next group, if there is one and it is closed, and what stands behind it.
 #[derive(Clone, Copy, Debug)]
 pub struct Piece<'a> {
     pub from: &'a [u8],
-    pub group: &'a [u8],
+    pub group: Option<&'a [u8]>,
     pub rest: &'a [u8],
 }
 
@@ -25,10 +25,10 @@ fn depth_after(depth: usize, b: u8) -> usize
     }
 }
 
-/// Cuts bytes behind their next group; a group that is never closed is empty, with nothing behind it.
+/// Cuts bytes behind their next group. One that is never closed is none, with nothing behind it.
 pub fn next_group(bytes: &[u8]) -> Piece<'_>
     ensures from { result.from.now ≡ bytes.now }
-    ensures cut { IsCut bytes.now result.group.now result.rest.now }
+    ensures cut { IsCut bytes.now (option_map (λ b. b.now) result.group) result.rest.now }
     ensures shorter { bytes.now ≢ [] → length result.rest.now < length bytes.now }
 {
     let mut depth = 0;
@@ -38,7 +38,7 @@ pub fn next_group(bytes: &[u8]) -> Piece<'_>
         if depth == 0 {
             return Piece {
                 from: bytes,
-                group: &bytes[..at + 1],
+                group: Some(&bytes[..at + 1]),
                 rest: &bytes[at + 1..],
             };
         }
@@ -46,7 +46,7 @@ pub fn next_group(bytes: &[u8]) -> Piece<'_>
     }
     Piece {
         from: bytes,
-        group: &[],
+        group: None,
         rest: &[],
     }
 }

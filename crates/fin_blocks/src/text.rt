@@ -64,10 +64,13 @@ fn text_of_lines(alloc: Global, b: &[u8]) -> Result<Text, Memory>
 
 /// The lines of block 4, each ended by CR LF, if the group is one.
 #[tactic(auto, unfolding(crate::specs::Text::text_of))]
-pub fn read_text(alloc: Global, group: &[u8]) -> Result<Option<Text>, Memory>
-    ensures { IfOk result (λ o. o ≡ text_of group.now) }
+pub fn read_text(alloc: Global, group: Option<&[u8]>) -> Result<Option<Text>, Memory>
+    ensures { IfOk result (λ o. o ≡ text_of (option_map (λ b. b.now) group.entry)) }
 {
-    match lines_between(group) {
+    let Some(block) = group else {
+        return Ok(None);
+    };
+    match lines_between(block) {
         Some(lines) if is_ended(lines) => Ok(Some(text_of_lines(alloc, lines)?)),
         _ => Ok(None),
     }

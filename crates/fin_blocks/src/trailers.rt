@@ -1,6 +1,6 @@
 //! Block 5: trailers.
 
-ghost use Rattle.std.specs.Prelude.{◌≡◌, codes, IfOk};
+ghost use Rattle.std.specs.Prelude.{◌≡◌, codes, option_map, IfOk};
 ghost use Rattle.fin_blocks.specs.Groups.{groups_of};
 ghost use Rattle.fin_blocks.specs.Forms.{each_of, inside as inside_of, trailer_of};
 ghost use Rattle.fin_blocks.specs.Blocks.{optional};
@@ -11,8 +11,8 @@ use corr_text::{List, Memory, Set, is_all_of};
 use std::alloc::Global;
 
 #[tactic(auto, unfolding(crate::specs::Forms::trailer_of))]
-fn trailer(group: &[u8]) -> Option<[u8; 3]>
-    ensures { result ≡ trailer_of group.now }
+fn trailer(group: Option<&[u8]>) -> Option<[u8; 3]>
+    ensures { result ≡ trailer_of (option_map (λ b. b.now) group.entry) }
 {
     let piece = read_tagged(group)?;
     if !is_all_of(Set::A, piece.tag) {
@@ -40,8 +40,8 @@ fn trailers_in(alloc: Global, b: &[u8]) -> Result<Option<List<[u8; 3]>>, Memory>
 }
 
 /// The codes of block 5: none where the group is another, nothing where it is not of its form.
-pub fn read_trailers(alloc: Global, group: &[u8]) -> Result<Option<List<[u8; 3]>>, Memory>
-    ensures { IfOk result (λ o. o ≡ optional (λ b. each_of trailer_of (groups_of b)) (inside_of (codes "{5:") group.now)) }
+pub fn read_trailers(alloc: Global, group: Option<&[u8]>) -> Result<Option<List<[u8; 3]>>, Memory>
+    ensures { IfOk result (λ o. o ≡ optional (λ b. each_of trailer_of (groups_of b)) (inside_of (codes "{5:") (option_map (λ b. b.now) group.entry))) }
 {
     match inside(b"{5:", group) {
         Some(b) => trailers_in(alloc, b),

@@ -26,8 +26,8 @@ fn may_hold(number: u16, text: &[u8]) -> bool
 }
 
 #[tactic(auto, unfolding(crate::specs::User::subblock_of))]
-fn read_subblock(group: &[u8]) -> Option<Subblock<'_>>
-    ensures value { option_map (λ s. (s.number, s.text.now)) result ≡ subblock_of group.now }
+fn read_subblock(group: Option<&[u8]>) -> Option<Subblock<'_>>
+    ensures value { option_map (λ s. (s.number, s.text.now)) result ≡ subblock_of (option_map (λ b. b.now) group.entry) }
     ensures bound { IfSome result (λ s. s.number < 1000) }
 {
     let piece = read_tagged(group)?;
@@ -89,8 +89,8 @@ fn distinct_subblocks(alloc: Global, b: &[u8]) -> Result<Option<List<(u16, Text)
 }
 
 /// The subblocks of block 3: none where the group is another, nothing where it is not of its form.
-pub fn read_user(alloc: Global, group: &[u8]) -> Result<Option<List<(u16, Text)>>, Memory>
-    ensures { IfOk result (λ o. o ≡ optional subblocks_in (inside_of (codes "{3:") group.now)) }
+pub fn read_user(alloc: Global, group: Option<&[u8]>) -> Result<Option<List<(u16, Text)>>, Memory>
+    ensures { IfOk result (λ o. o ≡ optional subblocks_in (inside_of (codes "{3:") (option_map (λ b. b.now) group.entry))) }
 {
     match inside(b"{3:", group) {
         Some(b) => distinct_subblocks(alloc, b),

@@ -6,3 +6,4 @@ pub mod Said
 pub mod Back
 pub mod Placed
 pub mod Readable
+pub mod Grouped

@@ -7,7 +7,7 @@ use Rattle.fin_frame.specs.declared.cutter.Cutter.{Cutter}
 use Rattle.fin_frame.specs.declared.fault.FrameFault.{FrameFault}
 use Rattle.fin_frame.specs.declared.fault.FrameFault.TheVariants.{Unbalanced}
 use Rattle.fin_frame.proofs.Known.{whole-file, is-unbalanced}
-use Rattle.fin_frame.proofs.Feeding.{stands-so}
+use Rattle.fin_frame.proofs.Leaving.{stands-so}
 
 with_open-after : (given : List (List ℕ)) (held : Option (List ℕ)) → with_open given held ≡ given ++ with_open [] held
 with_open-after given None = sym (append-nil given)

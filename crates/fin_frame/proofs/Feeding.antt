@@ -2,14 +2,15 @@
 use Rattle.std.proofs.Common.{◌≡◌, ◌≤◌, ℕ, ◌+◌, List, [], ◌++◌, length, take, drop, Some, None, Err, refl, ap, sym, ◌∙◌, arith, subst, append_assoc, length-append}
 use Rattle.std.proofs.lemmas.List.{append-nil, take-append-drop, length-take-le}
 use Rattle.fin_frame.specs.Shown.{Begins}
-use Rattle.fin_frame.specs.Machine.{State, at_start, fails, run, HasCome, IsAfter, Took, TookAll}
-use Rattle.fin_frame.specs.Cutting.{state_of, WasFed}
+use Rattle.fin_frame.specs.Machine.{State, at_start, fails, run, state_of, HasCome, HasTaken, HasTakenAll}
+use Rattle.fin_frame.specs.Cutting.{Knows, WasFed}
 use Rattle.fin_frame.specs.declared.cutter.Cutter.{Cutter}
 use Rattle.fin_frame.specs.declared.fault.FrameFault.{FrameFault}
 use Rattle.fin_frame.specs.declared.fault.FrameFault.TheVariants.{Stray, TooLong, Unbalanced, Memory}
 use Rattle.fin_frame.proofs.laws.Running.{run-append, run-failed}
 use Rattle.fin_frame.proofs.Steps.{run-after, run-fed, after}
-use Rattle.fin_frame.proofs.Known.{was-fed}
+use Rattle.fin_frame.proofs.Known.{IsAfter, was-fed}
+use Rattle.fin_frame.proofs.Leaving.{knows-again, stands-so}
 
 run-parts : (s : State) (n : ℕ) (rest : List ℕ) → run s rest ≡ run (run s (take n rest)) (drop n rest)
 run-parts s n rest = ap (λ x. run s x) (sym (take-append-drop n rest)) ∙ run-append s (take n rest) (drop n rest)
@@ -27,7 +28,7 @@ took-fault fault s all now rest took later =
 pub took-later : (old s : State) (piece taken rest : List ℕ) → piece ≡ taken ++ rest → s ≡ run old taken → run s rest ≡ run old piece
 took-later old s piece taken rest parts is = ap (λ t. run t rest) is ∙ sym (run-append old taken rest) ∙ ap (λ x. run old x) (sym parts)
 
-pub took-err : (fault : FrameFault) (old s now : State) (piece taken rest : List ℕ) → Took (Err fault) s rest now → piece ≡ taken ++ rest → s ≡ run old taken → s.failed ≡ None → TookAll (Err fault) old piece now
+pub took-err : (fault : FrameFault) (old s now : State) (piece taken rest : List ℕ) → HasTaken (Err fault) s rest now → piece ≡ taken ++ rest → s ≡ run old taken → s.failed ≡ None → HasTakenAll (Err fault) old piece now
 took-err (Stray at) old s now piece taken rest took parts is sound = took-fault (Stray at) s (run old piece) now rest took (took-later old s piece taken rest parts is)
 took-err (TooLong at) old s now piece taken rest took parts is sound = took-fault (TooLong at) s (run old piece) now rest took (took-later old s piece taken rest parts is)
 took-err (Unbalanced at) old s now piece taken rest took parts is sound = took-fault (Unbalanced at) s (run old piece) now rest took (took-later old s piece taken rest parts is)
@@ -50,9 +51,6 @@ with_given given s = record s { given = given }
 -- messages that others gave before don't matter
 shifted : (c : Cutter) (out : List (List ℕ)) (piece : List ℕ) → run (state_of c out) piece ≡ after out (run (state_of c []) piece)
 shifted c out piece = ap (λ g. run (state_of c g) piece) (sym (append-nil out)) ∙ run-after out (state_of c []) piece
-
-pub stands-so : (c : Cutter) (fed : List ℕ) (given : List (List ℕ)) → WasFed c fed given → c.failed ≡ None → state_of c given ≡ run (at_start []) fed
-stands-so c fed given was sound = subst (λ o. IsAfter o (state_of c given) fed) sound was.stands
 
 further : (c : Cutter) (fed piece : List ℕ) (given : List (List ℕ)) → WasFed c fed given → c.failed ≡ None → run (at_start []) (fed ++ piece) ≡ after given (run (state_of c []) piece)
 further c fed piece given was sound = run-append (at_start []) fed piece ∙ ap (λ t. run t piece) (sym (stands-so c fed given was sound)) ∙ shifted c given piece
@@ -85,7 +83,7 @@ fed-fault fault c c' d out out' fed given piece was sound stored took =
 counts-none : (fault : FrameFault) (d : Cutter) (n : ℕ) → d.failed ≡ Some fault → d.failed ≡ None → d.fed ≡ n
 counts-none fault d n failed sound = absurd (let e : Some fault ≡ None = sym failed ∙ sound in cc)
 
-pub fed-err : (fault : FrameFault) (c c' d : Cutter) (out out' : List (List ℕ)) (fed : List ℕ) (given : List (List ℕ)) (piece : List ℕ) → WasFed c fed given → c.failed ≡ None → ((x : List (List ℕ)) → state_of d x ≡ fails fault (state_of c' x)) → TookAll (Err fault) (state_of c out) piece (state_of c' out') → Fed out out' d (fed ++ piece) given
+pub fed-err : (fault : FrameFault) (c c' d : Cutter) (out out' : List (List ℕ)) (fed : List ℕ) (given : List (List ℕ)) (piece : List ℕ) → WasFed c fed given → c.failed ≡ None → ((x : List (List ℕ)) → state_of d x ≡ fails fault (state_of c' x)) → HasTakenAll (Err fault) (state_of c out) piece (state_of c' out') → Fed out out' d (fed ++ piece) given
 fed-err (Stray at) c c' d out out' fed given piece was sound stored took =
     let both = fed-fault (Stray at) c c' d out out' fed given piece was sound stored took in
     let failed : d.failed ≡ Some (Stray at) = ap (λ t. t.failed) (stored []) in
@@ -118,19 +116,12 @@ fed-err Memory c c' d out out' fed given piece was sound stored took =
     (r.given, come.given ∙ ap (λ t. t.given) beside, was-fed d (fed ++ piece) (given ++ r.given) (counts-none Memory d (length (fed ++ piece)) failed) (subst (λ o. IsAfter o (state_of d (given ++ r.given)) (fed ++ piece)) (sym failed) (fed ++ front, all, there)))
 
 -- after a fault nothing more is known
-
-still : (fault : FrameFault) (s : State) (fed piece : List ℕ) → s.failed ≡ Some fault → s ≡ run (at_start []) fed → run (at_start []) fed ≡ run (at_start []) (fed ++ piece)
-still fault s fed piece failed is = sym (run-append (at_start []) fed piece ∙ run-failed (run (at_start []) fed) fault piece (sym (ap (λ t. t.failed) is) ∙ failed))
-
-after-again : (fault : FrameFault) (s : State) (fed piece : List ℕ) → s.failed ≡ Some fault → IsAfter (Some fault) s fed → IsAfter (Some fault) s (fed ++ piece)
-after-again (Stray at) s fed piece failed is = is ∙ still (Stray at) s fed piece failed is
-after-again (TooLong at) s fed piece failed is = is ∙ still (TooLong at) s fed piece failed is
-after-again (Unbalanced at) s fed piece failed is = is ∙ still (Unbalanced at) s fed piece failed is
-after-again Memory s fed piece failed is = (is.0, (is.1.0 ++ piece, ap (λ x. x ++ piece) is.1.1 ∙ append_assoc is.0 is.1.0 piece), is.2)
-
 pub fed-again : (fault : FrameFault) (c : Cutter) (out : List (List ℕ)) (fed : List ℕ) (given : List (List ℕ)) (piece : List ℕ) → WasFed c fed given → c.failed ≡ Some fault → Fed out out c (fed ++ piece) given
 fed-again fault c out fed given piece was failed =
-    let before : IsAfter (Some fault) (state_of c given) fed = subst (λ o. IsAfter o (state_of c given) fed) failed was.stands in
-    let now : IsAfter (Some fault) (state_of c given) (fed ++ piece) = after-again fault (state_of c given) fed piece failed before in
-    let kept : WasFed c (fed ++ piece) given = was-fed c (fed ++ piece) given (counts-none fault c (length (fed ++ piece)) failed) (subst (λ o. IsAfter o (state_of c given) (fed ++ piece)) (sym failed) now) in
+    let before : Knows (Some fault) fed given c.begun = subst (λ o. Knows o fed given c.begun) failed was.knows in
+    let kept : WasFed c (fed ++ piece) given = record {
+      count = counts-none fault c (length (fed ++ piece)) failed;
+      place = λ sound. absurd (let e : Some fault ≡ None = sym failed ∙ sound in cc);
+      knows = subst (λ o. Knows o (fed ++ piece) given c.begun) (sym failed) (knows-again fault fed piece given c.begun before);
+    } in
     ([], sym (append-nil out), subst (λ g. WasFed c (fed ++ piece) g) (sym (append-nil given)) kept)

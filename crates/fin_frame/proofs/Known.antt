@@ -5,20 +5,29 @@ use Rattle.fin_frame.specs.File.{lead, IsFileOf, IsCutInto}
 use Rattle.fin_frame.specs.File.IsFileOf.{more as file_more}
 use Rattle.fin_frame.specs.Shown.{Shows, IsSound, EndsWithin, AreWhole, Begins, HaveBegun}
 use Rattle.fin_frame.specs.Shown.EndsWithin.{inside as ends_inside, behind as ends_behind, apart as ends_apart}
-use Rattle.fin_frame.specs.Machine.{State, at_start, with_open, run, unbalanced_at, IsAfter}
-use Rattle.fin_frame.specs.Cutting.{state_of, IsShown, Knows, WasFed, IsWholeFile, IsUnbalanced}
+use Rattle.fin_frame.specs.Machine.{State, at_start, state_of, with_open, run, unbalanced_at, HasCome}
+use Rattle.fin_frame.specs.Cutting.{IsShown, Knows, LeavesOff, WasFed, IsWholeFile, IsUnbalanced}
+use Rattle.fin_frame.specs.Cutting.LeavesOff.{between as leaves_between, opening as leaves_opening, inside as leaves_inside, behind as leaves_behind}
 use Rattle.fin_frame.specs.declared.cutter.Cutter.{Cutter}
 use Rattle.fin_frame.specs.declared.fault.FrameFault.{FrameFault}
 use Rattle.fin_frame.specs.declared.fault.FrameFault.TheVariants.{Stray, TooLong, Unbalanced, Memory}
+use Rattle.fin_frame.specs.declared.stage.Stage.TheVariants.{Behind}
 use Rattle.fin_frame.proofs.laws.Showing.{shown-comes, whole-comes, begun-comes, cut-comes, ends-come}
 use Rattle.fin_frame.proofs.laws.Tracking.{Tracks, tracks-whole, tracks-begun}
 use Rattle.fin_frame.proofs.laws.Tracking.Tracks.{tracks_gap, tracks_opening, tracks_message, tracks_behind, tracks_failed}
 use Rattle.fin_frame.proofs.Tracked.{all-tracks}
 
-are-whole : (fed : List ℕ) → AreWhole fed (run (at_start []) fed).given
+-- where the machine is after the bytes, or, where memory was wanting, after some first ones of them
+abbrev pub IsAfter : Option FrameFault → State → List ℕ → Type 0
+IsAfter (Some Memory) now fed = (front : List ℕ) × Begins front fed × HasCome now (run (at_start []) front)
+IsAfter failed now fed = now ≡ run (at_start []) fed
+
+-- the messages given are all that the bytes show to be whole
+pub are-whole : (fed : List ℕ) → AreWhole fed (run (at_start []) fed).given
 are-whole fed = record { shown = tracks-whole (all-tracks fed); all = λ others shown. whole-comes shown }
 
-have-begun : (fed : List ℕ) → HaveBegun fed (run (at_start []) fed).begun
+-- all that began are counted
+pub have-begun : (fed : List ℕ) → HaveBegun fed (run (at_start []) fed).begun
 have-begun fed = record { last = tracks-begun (all-tracks fed); most = λ k begun. begun-comes begun }
 
 -- the fault that the machine came to
@@ -36,7 +45,8 @@ is-shown fed fault is =
     let found = tracks-shown fault (all-tracks fed) is in
     record { messages = found.0; shown = found.1; before = found.2; only = λ messages other shown. let came : Some other ≡ Some fault = sym (shown-comes shown) ∙ is in cc }
 
-knows-fault : (fed : List ℕ) (now : State) (fault : FrameFault) → now.failed ≡ Some fault → now ≡ run (at_start []) fed → IsShown fault fed now.given × AreWhole fed now.given × HaveBegun fed now.begun
+-- what is known where the machine came to a fault
+pub knows-fault : (fed : List ℕ) (now : State) (fault : FrameFault) → now.failed ≡ Some fault → now ≡ run (at_start []) fed → IsShown fault fed now.given × AreWhole fed now.given × HaveBegun fed now.begun
 knows-fault fed now fault is same =
     subst (λ t. IsShown fault fed t.given × AreWhole fed t.given × HaveBegun fed t.begun) (sym same)
     (is-shown fed fault (sym (ap (λ t. t.failed) same) ∙ is), are-whole fed, have-begun fed)
@@ -56,8 +66,27 @@ knows (Some Memory) fed now is lags = (
   subst (λ n. HaveBegun lags.0 n) (sym lags.2.begun) (have-begun lags.0),
 )
 
+-- where the machine is tells where the bytes leave off
+tracks-leave : {bytes : List ℕ} {s : State} → Tracks bytes s → s.failed ≡ None → LeavesOff bytes s.given s.stage s.held
+tracks-leave (tracks_gap file gap messages front far) sound = leaves_between file gap messages front far
+tracks-leave (tracks_opening file gap messages matched front far le) sound = leaves_opening file gap messages matched front far le
+tracks-leave (tracks_message file gap message messages zero front closed fits) sound =
+    subst (λ x. LeavesOff x messages (Behind (length file) 0) (Some message)) (append-nil (file ++ message)) (leaves_behind file gap message messages 0 front (closed, fits) (omega arith))
+tracks-leave (tracks_message file gap message messages (suc d) front inside fits) sound = leaves_inside file gap message messages d front inside fits
+tracks-leave (tracks_behind file gap message messages matched front closed le) sound = leaves_behind file gap message messages (suc matched) front closed (omega arith)
+tracks-leave (tracks_failed bytes s messages fault shown failed begins whole last) sound =
+    absurd (let e : None ≡ Some fault = sym sound ∙ failed in cc)
+
+leaves-so : (fed : List ℕ) (now : State) → now ≡ run (at_start []) fed → now.failed ≡ None → LeavesOff fed now.given now.stage now.held
+leaves-so fed now same sound =
+    subst (λ t. LeavesOff fed t.given t.stage t.held) (sym same) (tracks-leave (all-tracks fed) (sym (ap (λ t. t.failed) same) ∙ sound))
+
 pub was-fed : (c : Cutter) (fed : List ℕ) (given : List (List ℕ)) → (c.failed ≡ None → c.fed ≡ length fed) → IsAfter c.failed (state_of c given) fed → WasFed c fed given
-was-fed c fed given count stands = record { count = count; stands = stands; knows = knows c.failed fed (state_of c given) refl stands }
+was-fed c fed given count stands = record {
+  count = count;
+  place = λ sound. leaves-so fed (state_of c given) (subst (λ o. IsAfter o (state_of c given) fed) sound stands) sound;
+  knows = knows c.failed fed (state_of c given) refl stands;
+}
 
 -- the end of the input
 

@@ -6,7 +6,7 @@ use Rattle.corr_text.specs.Braces.{depth_after}
 use Rattle.fin_frame.specs.File.{lead, agrees, is_blank, is_gap_byte, dollars, most_bytes, IsGroupTo, IsMessageTo, IsMessage, IsFileOf}
 use Rattle.fin_frame.specs.File.IsMessageTo.{head as message_head, next as message_next}
 use Rattle.fin_frame.specs.File.IsFileOf.{start as file_start, more as file_more}
-use Rattle.fin_frame.specs.Shown.{no_more, stands_apart, cannot_follow, Shows, ShowWhole, Begins}
+use Rattle.fin_frame.specs.Shown.{is_marked, no_more, stands_apart, cannot_follow, Shows, ShowWhole, Begins}
 use Rattle.fin_frame.specs.Shown.Shows.{stray as shows_stray, long as shows_long}
 use Rattle.fin_frame.specs.Machine.{State, at_start, to, fails, begins, grows, within, resumes, held_bytes, next_opening, next_close, stage_between, moves, landed, next, run}
 use Rattle.fin_frame.specs.declared.fault.FrameFault.{FrameFault}
@@ -14,7 +14,7 @@ use Rattle.fin_frame.specs.declared.fault.FrameFault.TheVariants.{Stray, TooLong
 use Rattle.fin_frame.specs.declared.stage.Stage.TheVariants.{Between, Opening, Within, Behind}
 use Rattle.fin_frame.proofs.laws.Running.{other-test, state-same, within-full, within-room, behind-resumes}
 use Rattle.fin_frame.proofs.Steps.{begins-self, begins-more}
-use Rattle.fin_frame.proofs.laws.Led.{at_gap, in_message, is_marked, or-none, some-test, close-step, no-more-joined, marked-joined, or-true, gap-again, blank-stage}
+use Rattle.fin_frame.proofs.laws.Led.{at_gap, in_message, or-none, some-test, close-step, no-more-joined, marked-joined, or-true, gap-again, blank-stage}
 use Rattle.fin_frame.proofs.laws.Tracking.{whole-more, shown-more, not-true, both-true, dollars-append, message-more, file-more, room_of, LastBegun, last-more, in_opening, in_behind, Tracks, moved, tracks-whole, tracks-begun}
 use Rattle.fin_frame.proofs.laws.Tracking.Tracks.{tracks_gap, tracks_opening, tracks_message, tracks_behind, tracks_failed}
 

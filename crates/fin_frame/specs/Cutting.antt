@@ -1,15 +1,21 @@
 -- A cutter, seen as the bytes that it was fed and the messages that it gave.
-use Rattle.std.specs.Prelude.{◌≡◌, ℕ, List, length, Option, Some, None, Result, Ok, Err}
-use Rattle.fin_frame.specs.File.{IsCutInto}
-use Rattle.fin_frame.specs.Shown.{Shows, IsSound, AreWhole, HaveBegun, EndsWithin, Begins}
-use Rattle.fin_frame.specs.Machine.{State, IsAfter}
+use Rattle.std.specs.Prelude.{◌≡◌, ◌≤◌, ℕ, suc, true, List, ◌++◌, length, take, Option, Some, None, Result, Ok, Err}
+use Rattle.fin_frame.specs.File.{IsCutInto, IsFileOf, IsMessage, IsMessageTo, lead, most_bytes}
+use Rattle.fin_frame.specs.Shown.{Shows, IsSound, AreWhole, HaveBegun, EndsWithin, Begins, is_marked, stands_apart}
 use Rattle.fin_frame.specs.declared.cutter.Cutter.{Cutter}
 use Rattle.fin_frame.specs.declared.fault.FrameFault.{FrameFault}
 use Rattle.fin_frame.specs.declared.fault.FrameFault.TheVariants.{Unbalanced, Memory}
+use Rattle.fin_frame.specs.declared.stage.Stage.{Stage}
+use Rattle.fin_frame.specs.declared.stage.Stage.TheVariants.{Between, Opening, Within, Behind}
 
--- a cutter beside the messages that it gave
-abbrev pub state_of : Cutter → List (List ℕ) → State
-state_of c given = record { stage = c.stage; held = c.held; fed = c.fed; begun = c.begun; failed = c.failed; given = given }
+-- Where bytes leave off that show no fault, behind the messages that are given: in a gap, behind one or two bytes of a
+-- `{1:` that stands apart, within a message, or behind a whole one and up to two bytes of `{1:`. The last two leave a
+-- message open.
+pub data LeavesOff : List ℕ → List (List ℕ) → Stage → Option (List ℕ) → Type 0 where
+  between : (file gap : List ℕ) (given : List (List ℕ)) → IsFileOf file given gap → stands_apart given gap ≡ true → LeavesOff file given (Between (is_marked given gap)) None
+  opening : (file gap : List ℕ) (given : List (List ℕ)) (n : ℕ) → IsFileOf file given gap → stands_apart given gap ≡ true → n ≤ 1 → LeavesOff (file ++ take (suc n) lead) given (Opening (suc n)) None
+  inside : (file gap message : List ℕ) (given : List (List ℕ)) (d : ℕ) → IsFileOf file given gap → IsMessageTo (suc d) message → length message ≤ most_bytes → LeavesOff (file ++ message) given (Within (length file) (suc d)) (Some message)
+  behind : (file gap message : List ℕ) (given : List (List ℕ)) (n : ℕ) → IsFileOf file given gap → IsMessage message → n ≤ 2 → LeavesOff (file ++ message ++ take n lead) given (Behind (length file) n) (Some message)
 
 -- The bytes show this fault and no other. The messages given are the first ones of those before its place.
 pub record IsShown (fault : FrameFault) (fed : List ℕ) (given : List (List ℕ)) : Type 0 where
@@ -25,10 +31,11 @@ Knows None fed given begun = IsSound fed × AreWhole fed given × HaveBegun fed 
 Knows (Some Memory) fed given begun = (front : List ℕ) × Begins front fed × IsSound front × AreWhole front given × HaveBegun front begun
 Knows (Some fault) fed given begun = IsShown fault fed given × AreWhole fed given × HaveBegun fed begun
 
--- The cutter was fed these bytes since it was made, and gave these messages.
+-- The cutter was fed these bytes since it was made, and gave these messages. Until a fault it has counted the bytes, and
+-- stands where they leave off.
 pub record WasFed (c : Cutter) (fed : List ℕ) (given : List (List ℕ)) : Type 0 where
   pub count : c.failed ≡ None → c.fed ≡ length fed
-  pub stands : IsAfter c.failed (state_of c given) fed
+  pub place : c.failed ≡ None → LeavesOff fed given c.stage c.held
   pub knows : Knows c.failed fed given c.begun
 
 -- the answer of a call that leaves a cutter so

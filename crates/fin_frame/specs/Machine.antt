@@ -1,8 +1,10 @@
--- A cutter as a machine that takes one byte at a time.
+-- A cutter as a machine that takes one byte at a time: how its functions hand on to each other. What it promises is in
+-- Cutting.
 use Rattle.std.specs.Prelude.{◌≡◌, ◌<◌, ◌≤◌, Result, Ok, Err, ℕ, zero, suc, ◌+◌, ◌-◌, ◌==◌, Bool, true, nat_le, List, [], ◌∷◌, ◌++◌, length, take, get_or, Option, Some, None, is_some, unwrap_or, if◌then◌else◌}
 use Rattle.corr_text.specs.Braces.{depth_after}
 use Rattle.fin_frame.specs.File.{lead, is_blank, is_gap_byte, most_bytes}
 use Rattle.fin_frame.specs.Shown.{Begins}
+use Rattle.fin_frame.specs.declared.cutter.Cutter.{Cutter}
 use Rattle.fin_frame.specs.declared.fault.FrameFault.{FrameFault}
 use Rattle.fin_frame.specs.declared.fault.FrameFault.TheVariants.{Stray, TooLong, Memory}
 use Rattle.fin_frame.specs.declared.stage.Stage.{Stage}
@@ -16,6 +18,10 @@ pub record State : Type 0 where
   pub begun : ℕ
   pub failed : Option FrameFault
   pub given : List (List ℕ)
+
+-- a cutter beside the messages that it gave
+abbrev pub state_of : Cutter → List (List ℕ) → State
+state_of c given = record { stage = c.stage; held = c.held; fed = c.fed; begun = c.begun; failed = c.failed; given = given }
 
 -- before the first byte, no `$` may come
 abbrev pub at_start : List (List ℕ) → State
@@ -122,16 +128,16 @@ run s [] = s
 run s (b ∷ bytes) = run (next s b) bytes
 
 -- what a call that took bytes from the front of rest left
-abbrev pub Took : Result ℕ FrameFault → State → List ℕ → State → Type 0
-Took (Ok n) old rest now = (0 < n) × (n ≤ length rest) × (now ≡ run old (take n rest))
-Took (Err Memory) old rest now = (now.given ≡ old.given) × (now.begun ≡ old.begun)
-Took (Err fault) old rest now = run old (take 1 rest) ≡ fails fault now
+abbrev pub HasTaken : Result ℕ FrameFault → State → List ℕ → State → Type 0
+HasTaken (Ok n) old rest now = (0 < n) × (n ≤ length rest) × (now ≡ run old (take n rest))
+HasTaken (Err Memory) old rest now = (now.given ≡ old.given) × (now.begun ≡ old.begun)
+HasTaken (Err fault) old rest now = run old (take 1 rest) ≡ fails fault now
 
 -- the same of a call that took one byte, where this is the state behind it
-abbrev pub TookByte : Result ℕ FrameFault → State → State → State → Type 0
-TookByte (Ok n) old after now = (n ≡ 1) × (now ≡ after)
-TookByte (Err Memory) old after now = (now.given ≡ old.given) × (now.begun ≡ old.begun)
-TookByte (Err fault) old after now = after ≡ fails fault now
+abbrev pub HasTakenByte : Result ℕ FrameFault → State → State → State → Type 0
+HasTakenByte (Ok n) old after now = (n ≡ 1) × (now ≡ after)
+HasTakenByte (Err Memory) old after now = (now.given ≡ old.given) × (now.begun ≡ old.begun)
+HasTakenByte (Err fault) old after now = after ≡ fails fault now
 
 -- as many messages given and begun as in a state without a fault
 pub record HasCome (now there : State) : Type 0 where
@@ -139,13 +145,8 @@ pub record HasCome (now there : State) : Type 0 where
   pub given : now.given ≡ there.given
   pub begun : now.begun ≡ there.begun
 
--- where the machine is after the bytes, or, where memory was wanting, after some first ones of them
-abbrev pub IsAfter : Option FrameFault → State → List ℕ → Type 0
-IsAfter (Some Memory) now fed = (front : List ℕ) × Begins front fed × HasCome now (run (at_start []) front)
-IsAfter failed now fed = now ≡ run (at_start []) fed
-
 -- what a call that took all these bytes left
-abbrev pub TookAll : Result (Unit {0}) FrameFault → State → List ℕ → State → Type 0
-TookAll (Ok _) old bytes now = now ≡ run old bytes
-TookAll (Err Memory) old bytes now = (front : List ℕ) × Begins front bytes × HasCome now (run old front)
-TookAll (Err fault) old bytes now = run old bytes ≡ fails fault now
+abbrev pub HasTakenAll : Result (Unit {0}) FrameFault → State → List ℕ → State → Type 0
+HasTakenAll (Ok _) old bytes now = now ≡ run old bytes
+HasTakenAll (Err Memory) old bytes now = (front : List ℕ) × Begins front bytes × HasCome now (run old front)
+HasTakenAll (Err fault) old bytes now = run old bytes ≡ fails fault now

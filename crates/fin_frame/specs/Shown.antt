@@ -13,13 +13,17 @@ no_more (x ∷ xs) = false
 abbrev pub stands_apart : List (List ℕ) → List ℕ → Bool
 stands_apart messages gap = no_more messages || not (no_more gap)
 
+-- whether no `$` may come: before the first message, or where the gap has one
+abbrev pub is_marked : List (List ℕ) → List ℕ → Bool
+is_marked messages gap = no_more messages || nat_lt 0 (dollars gap)
+
 -- whether the byte after these messages and this gap is one that can't follow: neither `{` nor of a gap, a `$` before
 -- the first message or a second one in a gap, or the `{` of a group that stands apart and can't begin `{1:`
 abbrev pub cannot_follow : List (List ℕ) → List ℕ → List ℕ → Bool
 cannot_follow messages gap [] = false
 cannot_follow messages gap (b ∷ bytes) =
     if b == 123 then stands_apart messages gap && not (agrees lead (b ∷ bytes))
-    else if b == 36 then no_more messages || nat_lt 0 (dollars gap)
+    else if b == 36 then is_marked messages gap
     else not (is_blank b)
 
 -- The bytes show a fault. Those before its place are a file of these messages.

@@ -40,8 +40,8 @@ impl Cutter {
     ghost use Rattle.std.specs.Prelude.{◌≡◌, ◌+◌, ◌^◌, ◌<◌, ◌≤◌, [], ◌++◌, length, take, Some, None, IsSome, IsTrue, OnOk, OnErr};
     ghost use Rattle.fin_frame.specs.Tidy.{is_tidy};
     ghost use Rattle.fin_frame.specs.File.{IsCutInto};
-    ghost use Rattle.fin_frame.specs.Machine.{begins, gives, to, held_bytes, resumes, next_between, next_opening, next_close, Took, TookByte, TookAll};
-    ghost use Rattle.fin_frame.specs.Cutting.{state_of, answer_of, Knows, WasFed, Ends};
+    ghost use Rattle.fin_frame.specs.Machine.{begins, gives, to, held_bytes, resumes, next_between, next_opening, next_close, state_of, HasTaken, HasTakenByte, HasTakenAll};
+    ghost use Rattle.fin_frame.specs.Cutting.{answer_of, Knows, WasFed, Ends};
 
     /// A cutter that was fed nothing yet.
     pub fn new(alloc: Global) -> Cutter
@@ -116,7 +116,7 @@ impl Cutter {
         requires sound { self.old.failed ≡ None }
         requires few { self.old.fed + length piece.now < 2 ^ 32 }
         ensures failed { self.new.failed ≡ self.old.failed }
-        ensures took { TookAll result (state_of self.old out.old) piece.now (state_of self.new out.new) }
+        ensures took { HasTakenAll result (state_of self.old out.old) piece.now (state_of self.new out.new) }
     {
         let mut rest = piece;
         while !rest.is_empty() {
@@ -132,7 +132,7 @@ impl Cutter {
         requires some { 0 < length rest.now }
         requires few { self.old.fed + length rest.now < 2 ^ 32 }
         ensures failed { self.new.failed ≡ self.old.failed }
-        ensures took { Took result (state_of self.old out.old) rest.now (state_of self.new out.new) }
+        ensures took { HasTaken result (state_of self.old out.old) rest.now (state_of self.new out.new) }
     {
         match self.stage {
             Stage::Between { marked } => self.between(marked, rest[0]),
@@ -147,7 +147,7 @@ impl Cutter {
         requires sound { self.old.failed ≡ None }
         requires few { self.old.fed + 1 < 2 ^ 32 }
         ensures failed { self.new.failed ≡ self.old.failed }
-        ensures took { (given : _) → TookByte result (state_of self.old given) (next_between marked (state_of self.old given) b) (state_of self.new given) }
+        ensures took { (given : _) → HasTakenByte result (state_of self.old given) (next_between marked (state_of self.old given) b) (state_of self.new given) }
     {
         match stage::between(marked, b) {
             Some(stage) => {
@@ -175,7 +175,7 @@ impl Cutter {
         requires few { self.old.fed + 1 < 2 ^ 32 }
         requires matched { (matched ≤ 2) × (matched ≤ self.old.fed) }
         ensures failed { self.new.failed ≡ self.old.failed }
-        ensures took { TookByte result (state_of self.old out.old) (next_opening matched (state_of self.old out.old) b) (state_of self.new out.new) }
+        ensures took { HasTakenByte result (state_of self.old out.old) (next_opening matched (state_of self.old out.old) b) (state_of self.new out.new) }
     {
         if b != LEAD[matched as usize] {
             return Err(FrameFault::Stray {
@@ -206,7 +206,7 @@ impl Cutter {
         requires matched { (matched ≤ 2) × (matched ≤ self.old.fed) }
         requires stage { self.old.stage ≡ Stage.Behind from matched }
         ensures failed { self.new.failed ≡ self.old.failed }
-        ensures took { Took result (state_of self.old out.old) rest.now (state_of self.new out.new) }
+        ensures took { HasTaken result (state_of self.old out.old) rest.now (state_of self.new out.new) }
     {
         let b = rest[0];
         if b == LEAD[matched as usize] {
@@ -245,7 +245,7 @@ impl Cutter {
         requires sound { self.old.failed ≡ None }
         requires few { self.old.fed + 1 < 2 ^ 32 }
         ensures failed { self.new.failed ≡ self.old.failed }
-        ensures took { TookByte result (state_of self.old out.old) (next_close (state_of self.old out.old) b) (state_of self.new out.new) }
+        ensures took { HasTakenByte result (state_of self.old out.old) (next_close (state_of self.old out.old) b) (state_of self.new out.new) }
     {
         match b {
             b'\n' | b'\r' | b' ' | b'$' => {
@@ -264,7 +264,7 @@ impl Cutter {
         requires few { self.old.fed + length rest.now < 2 ^ 32 }
         requires stage { self.old.stage ≡ Stage.Within from depth }
         ensures failed { self.new.failed ≡ self.old.failed }
-        ensures took { (given : _) → Took result (state_of self.old given) rest.now (state_of self.new given) }
+        ensures took { (given : _) → HasTaken result (state_of self.old given) rest.now (state_of self.new given) }
     {
         let held = self.held_len();
         if held >= MOST_BYTES {

@@ -32,10 +32,10 @@ abbrev pub tests : List Place → (ℕ → Field → Option Code) → List Field
 tests order content_test fs = structure_tests order fs ++ contents_from content_test fs 0 (places_from order 0 fs) fs
 
 -- no fault, or this one
-abbrev pub without : Option Fault → Result (Unit {0}) Fault
-without None = Ok tt
-without (Some fault) = Err fault
+abbrev pub unless_fault : Option Fault → Result (Unit {0}) Fault
+unless_fault None = Ok tt
+unless_fault (Some fault) = Err fault
 
 -- no test fails, or the first that does is told
 abbrev pub passed : List (Option Fault) → Result (Unit {0}) Fault
-passed os = without (first_of os)
+passed os = unless_fault (first_of os)

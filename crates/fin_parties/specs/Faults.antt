@@ -10,6 +10,6 @@ TellsPartyFault party P24 = party ≡ None
 TellsPartyFault party Memory = Unit {0}
 
 -- what is read is this party, and P24 where there is none
-abbrev pub Reads : Option Party → Result Party PartyFault → Type 0
-Reads party (Ok p) = party ≡ Some p
-Reads party (Err fault) = TellsPartyFault party fault
+abbrev pub ReadsParty : Option Party → Result Party PartyFault → Type 0
+ReadsParty party (Ok p) = party ≡ Some p
+ReadsParty party (Err fault) = TellsPartyFault party fault

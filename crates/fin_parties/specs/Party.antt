@@ -11,6 +11,8 @@ use Rattle.fin_fields.specs.declared.pattern.Pattern.TheVariants.{Lines}
 use Rattle.fin_fields.specs.Patterns.{is_run, meets}
 use Rattle.fin_parties.specs.declared.form.Form.{Form}
 use Rattle.fin_parties.specs.declared.form.Form.TheVariants.{BankA, BankB, BankC, BankD, CustomerA, CustomerK, PayerF, PayeeF}
+use Rattle.fin_parties.specs.declared.form.Listing.{Listing}
+use Rattle.fin_parties.specs.declared.form.Listing.TheVariants.{Customer, Institution, Payee}
 use Rattle.fin_parties.specs.declared.opening.Opening.{Opening}
 use Rattle.fin_parties.specs.declared.opening.Opening.TheVariants.{PartyLine, AccountLine}
 use Rattle.fin_parties.specs.declared.party.Party.{Party}
@@ -102,22 +104,38 @@ abbrev pub account_party : List (List ℕ) → Option Party
 account_party (line ∷ []) = if is_account_line line then Some (party.C line) else None
 account_party _ = None
 
--- optional first line, then name and address
-abbrev pub name_party : Option (List ℕ) → List (List ℕ) → Option Party
-name_party first lines = if is_name lines then Some (party.D first lines) else None
+-- the lines behind an optional first line: name and address, or numbered lines
+abbrev pub is_listing : Listing → List (List ℕ) → Bool
+is_listing Institution lines = is_name lines
+is_listing Customer lines = is_name lines
+is_listing Payee lines = are_numbered lines
 
--- the same with an account
+-- the party that a first line and such lines name; a customer's first line is an account
+abbrev pub party_with : Listing → Option (List ℕ) → List (List ℕ) → Party
+party_with Institution first lines = party.D first lines
+party_with Customer first lines = party.K (option_map (drop 1) first) lines
+party_with Payee first lines = party.F first lines
+
+-- optional first line, then lines of this kind
+abbrev pub listed_party : Listing → Option (List ℕ) → List (List ℕ) → Option Party
+listed_party listing first lines = if is_listing listing lines then Some (party_with listing first lines) else None
+
+-- optional first line, then the name and address of an institution
+abbrev pub name_party : Option (List ℕ) → List (List ℕ) → Option Party
+name_party first lines = listed_party Institution first lines
+
+-- the same of a customer, with an account
 abbrev pub customer_party : Option (List ℕ) → List (List ℕ) → Option Party
-customer_party first lines = if is_name lines then Some (party.K (option_map (drop 1) first) lines) else None
+customer_party first lines = listed_party Customer first lines
 
 -- 35x, then numbered lines
 abbrev pub payer_party : List (List ℕ) → Option Party
 payer_party [] = None
 payer_party (line ∷ lines) = if is_line line && are_numbered lines then Some (party.F (Some line) lines) else None
 
--- optional first line, then numbered lines
+-- optional first line, then a payee's numbered lines
 abbrev pub payee_party : Option (List ℕ) → List (List ℕ) → Option Party
-payee_party first lines = if are_numbered lines then Some (party.F first lines) else None
+payee_party first lines = listed_party Payee first lines
 
 -- 52A to 58A; 50A, 59A
 abbrev pub form_a : ℕ → Option Form
@@ -160,19 +178,19 @@ form_of tag (Some letter) =
     else None
 
 -- lines behind a first line, if that is what it should be
-abbrev pub behind : Opening → (Option (List ℕ) → List (List ℕ) → Option Party) → List (List ℕ) → Option Party
-behind opening form lines = option_and_then (λ c. form c.first c.rest) (parts_of opening lines)
+abbrev pub behind_first : Opening → (Option (List ℕ) → List (List ℕ) → Option Party) → List (List ℕ) → Option Party
+behind_first opening form lines = option_and_then (λ c. form c.first c.rest) (parts_of opening lines)
 
 -- the party that lines name in a form
 unfoldable pub party_in : Form → List (List ℕ) → Option Party
-party_in BankA lines = behind PartyLine bic_party lines
-party_in BankB lines = behind PartyLine place_party lines
+party_in BankA lines = behind_first PartyLine bic_party lines
+party_in BankB lines = behind_first PartyLine place_party lines
 party_in BankC lines = account_party lines
-party_in BankD lines = behind PartyLine name_party lines
-party_in CustomerA lines = behind AccountLine bic_party lines
-party_in CustomerK lines = behind AccountLine customer_party lines
+party_in BankD lines = behind_first PartyLine name_party lines
+party_in CustomerA lines = behind_first AccountLine bic_party lines
+party_in CustomerK lines = behind_first AccountLine customer_party lines
 party_in PayerF lines = payer_party lines
-party_in PayeeF lines = behind AccountLine payee_party lines
+party_in PayeeF lines = behind_first AccountLine payee_party lines
 
 -- the party that a field names; none where it isn't in the grammar of its tag and letter
 unfoldable pub party_of : Field → Option Party

@@ -24,6 +24,17 @@ pub enum Form {
     PayeeF,
 }
 
+/// What stands behind an optional first line.
+#[derive(Clone, Copy)]
+pub enum Listing {
+    /// 52D to 58D: the name and address of an institution.
+    Institution,
+    /// 50K, 59: the name and address of a customer.
+    Customer,
+    /// 59F: a payee's numbered lines.
+    Payee,
+}
+
 /// The grammar of a tag and a letter, none where a party has no such field.
 #[tactic(auto, unfolding(crate::specs::Party::form_of))]
 pub fn form_of(tag: u8, letter: Option<u8>) -> Option<Form>

@@ -1,12 +1,12 @@
 //! Fields read as parties.
 
 ghost use Rattle.std.specs.Prelude.{◌≡◌, Some, IfOk, IfErr, drop, option_map};
-ghost use Rattle.fin_parties.specs.Party.{account_party, behind, bic_party, customer_party, is_line, is_name, name_party, party_in, party_of, payee_party, payer_party, place_party};
-ghost use Rattle.fin_parties.specs.declared.opening.Opening.TheVariants.{AccountLine, PartyLine};
-ghost use Rattle.fin_parties.specs.Faults.{Reads, TellsPartyFault};
+ghost use Rattle.fin_parties.specs.Party.{account_party, behind_first, bic_party, is_line, is_listing, is_name, listed_party, party_in, party_of, payer_party, place_party};
+ghost use Rattle.fin_parties.specs.declared.opening.Opening.TheVariants.{PartyLine};
+ghost use Rattle.fin_parties.specs.Faults.{ReadsParty, TellsPartyFault};
 
 use crate::fault::PartyFault;
-use crate::form::{Form, form_of};
+use crate::form::{Form, Listing, form_of};
 use crate::line::{has_slash, is_account_line};
 use crate::numbered::are_numbered;
 use crate::opening::{Opening, parts_of};
@@ -52,7 +52,7 @@ fn copy_account(alloc: Global, line: Option<&[u8]>) -> Result<Option<Text>, Memo
 }
 
 fn read_bic_party(alloc: Global, opening: Opening, lines: &[Text]) -> Result<Party, PartyFault>
-    ensures { Reads (behind opening bic_party lines.now) result }
+    ensures { ReadsParty (behind_first opening bic_party lines.now) result }
 {
     let Some(parts) = parts_of(opening, lines) else {
         return Err(PartyFault::P24);
@@ -70,7 +70,7 @@ fn read_bic_party(alloc: Global, opening: Opening, lines: &[Text]) -> Result<Par
 }
 
 fn read_place_party(alloc: Global, lines: &[Text]) -> Result<Party, PartyFault>
-    ensures { Reads (behind PartyLine place_party lines.now) result }
+    ensures { ReadsParty (behind_first PartyLine place_party lines.now) result }
 {
     let Some(parts) = parts_of(Opening::PartyLine, lines) else {
         return Err(PartyFault::P24);
@@ -89,7 +89,7 @@ fn read_place_party(alloc: Global, lines: &[Text]) -> Result<Party, PartyFault>
 }
 
 fn read_account_party(alloc: Global, lines: &[Text]) -> Result<Party, PartyFault>
-    ensures { Reads (account_party lines.now) result }
+    ensures { ReadsParty (account_party lines.now) result }
 {
     match lines {
         [line] if is_account_line(line.bytes()) => Ok(Party::C {
@@ -99,38 +99,48 @@ fn read_account_party(alloc: Global, lines: &[Text]) -> Result<Party, PartyFault
     }
 }
 
-fn read_name_party(alloc: Global, lines: &[Text]) -> Result<Party, PartyFault>
-    ensures { Reads (behind PartyLine name_party lines.now) result }
+fn is_listing(listing: Listing, lines: &[Text]) -> bool
+    ensures { result ≡ is_listing listing lines.now }
 {
-    let Some(parts) = parts_of(Opening::PartyLine, lines) else {
-        return Err(PartyFault::P24);
-    };
-    if !is_name(parts.rest) {
-        return Err(PartyFault::P24);
+    match listing {
+        Listing::Institution | Listing::Customer => is_name(lines),
+        Listing::Payee => are_numbered(lines),
     }
-    Ok(Party::D {
-        line: copy_line(alloc, parts.first)?,
-        lines: copy_texts(alloc, parts.rest)?,
-    })
 }
 
-fn read_customer_party(alloc: Global, lines: &[Text]) -> Result<Party, PartyFault>
-    ensures { Reads (behind AccountLine customer_party lines.now) result }
+fn read_listed_party(
+    alloc: Global,
+    opening: Opening,
+    listing: Listing,
+    lines: &[Text],
+) -> Result<Party, PartyFault>
+    ensures { ReadsParty (behind_first opening (listed_party listing) lines.now) result }
 {
-    let Some(parts) = parts_of(Opening::AccountLine, lines) else {
+    let Some(parts) = parts_of(opening, lines) else {
         return Err(PartyFault::P24);
     };
-    if !is_name(parts.rest) {
+    if !is_listing(listing, parts.rest) {
         return Err(PartyFault::P24);
     }
-    Ok(Party::K {
-        account: copy_account(alloc, parts.first)?,
-        lines: copy_texts(alloc, parts.rest)?,
-    })
+    let listed = copy_texts(alloc, parts.rest)?;
+    match listing {
+        Listing::Institution => Ok(Party::D {
+            line: copy_line(alloc, parts.first)?,
+            lines: listed,
+        }),
+        Listing::Customer => Ok(Party::K {
+            account: copy_account(alloc, parts.first)?,
+            lines: listed,
+        }),
+        Listing::Payee => Ok(Party::F {
+            line: copy_line(alloc, parts.first)?,
+            lines: listed,
+        }),
+    }
 }
 
 fn read_payer_party(alloc: Global, lines: &[Text]) -> Result<Party, PartyFault>
-    ensures { Reads (payer_party lines.now) result }
+    ensures { ReadsParty (payer_party lines.now) result }
 {
     match lines {
         [line, rest @ ..] if is_line(line.bytes()) && are_numbered(rest) => Ok(Party::F {
@@ -141,34 +151,19 @@ fn read_payer_party(alloc: Global, lines: &[Text]) -> Result<Party, PartyFault>
     }
 }
 
-fn read_payee_party(alloc: Global, lines: &[Text]) -> Result<Party, PartyFault>
-    ensures { Reads (behind AccountLine payee_party lines.now) result }
-{
-    let Some(parts) = parts_of(Opening::AccountLine, lines) else {
-        return Err(PartyFault::P24);
-    };
-    if !are_numbered(parts.rest) {
-        return Err(PartyFault::P24);
-    }
-    Ok(Party::F {
-        line: copy_line(alloc, parts.first)?,
-        lines: copy_texts(alloc, parts.rest)?,
-    })
-}
-
 #[tactic(auto, unfolding(crate::specs::Party::party_in))]
 fn read_lines(alloc: Global, form: Form, lines: &[Text]) -> Result<Party, PartyFault>
-    ensures { Reads (party_in form lines.now) result }
+    ensures { ReadsParty (party_in form lines.now) result }
 {
     match form {
         Form::BankA => read_bic_party(alloc, Opening::PartyLine, lines),
         Form::BankB => read_place_party(alloc, lines),
         Form::BankC => read_account_party(alloc, lines),
-        Form::BankD => read_name_party(alloc, lines),
+        Form::BankD => read_listed_party(alloc, Opening::PartyLine, Listing::Institution, lines),
         Form::CustomerA => read_bic_party(alloc, Opening::AccountLine, lines),
-        Form::CustomerK => read_customer_party(alloc, lines),
+        Form::CustomerK => read_listed_party(alloc, Opening::AccountLine, Listing::Customer, lines),
         Form::PayerF => read_payer_party(alloc, lines),
-        Form::PayeeF => read_payee_party(alloc, lines),
+        Form::PayeeF => read_listed_party(alloc, Opening::AccountLine, Listing::Payee, lines),
     }
 }
 

@@ -9,7 +9,7 @@ use Rattle.std.proofs.lemmas.List.{take_at, drop_at, drop_more, drop-drop}
 use Rattle.std.proofs.lemmas.Nat.{from_be_bytes-to_be_bytes_4}
 use Rattle.std.proofs.lemmas.Option.{same_Some, none-some}
 use Rattle.std.proofs.lemmas.Slice.Eq.{bytes_eq-Decides}
-use Rattle.jrn_file.specs.Reading.{Reading, no_journal, whole, cut, begins_with, is_whole, opened_of, reading_of, record_at, records_in, records_of, size_of, sized}
+use Rattle.jrn_file.specs.Reading.{Reading, no_journal, whole, cut, begins_with_record, is_whole, opened_of, reading_of, record_at, records_in, records_of, size_of, sized}
 use Rattle.jrn_file.specs.Journal.{behind_gates, AreOpen, StandsFor}
 use Rattle.jrn_file.specs.Opening.{BeginsWith, HasNoRecord}
 use Rattle.jrn_file.specs.Pieces.{IsTaken}
@@ -27,7 +27,7 @@ record-begun after r b =
     ap (λ (k : ℕ). take k (drop 4 after)) n ∙ ap (λ (l : List ℕ). take (length r) l) back ∙ take_at r (b.gate ∷ b.rest) (length r) refl
 
 -- the test by which one is told
-begins-true : (after r : List ℕ) → BeginsWith after r → begins_with after r ≡ true
+begins-true : (after r : List ℕ) → BeginsWith after r → begins_with_record after r ≡ true
 begins-true after r b =
     let n = length (sized r) in
     let short : nat_lt (length r) (2 ^ 32) ≡ true = lt-ltb (length r) (2 ^ 32) b.fits in
@@ -37,7 +37,7 @@ begins-true after r b =
     (and_from (nat_lt (length r) (2 ^ 32)) (nat_lt n (length after)) short long)
     ((bytes_eq-Decides (take n after) (sized r)).1 same)
 
-begins-is : (after r : List ℕ) → begins_with after r ≡ true → BeginsWith after r
+begins-is : (after r : List ℕ) → begins_with_record after r ≡ true → BeginsWith after r
 begins-is after r holds =
     let n = length (sized r) in
     let parts = and_parts (nat_lt (length r) (2 ^ 32) && nat_lt n (length after)) (bytes_eq (take n after) (sized r)) holds in
@@ -55,7 +55,7 @@ begins-is after r holds =
     }
 
 whole-begun : (after r : List ℕ) → BeginsWith after r → is_whole after ≡ true
-whole-begun after r b = subst (λ (x : List ℕ). begins_with after x ≡ true) (sym (record-begun after r b)) (begins-true after r b)
+whole-begun after r b = subst (λ (x : List ℕ). begins_with_record after x ≡ true) (sym (record-begun after r b)) (begins-true after r b)
 
 -- any gate but 0 is open
 is-open : (gate : ℕ) → gate ≢ 0 → not (gate == 0) ≡ true

@@ -12,12 +12,12 @@ abbrev pub record_at : List ℕ → List ℕ
 record_at after = take (from_be_bytes w32 (take 4 after)) (drop 4 after)
 
 -- these bytes begin with a record behind its length, and a byte more, which is the next gate
-abbrev pub begins_with : List ℕ → List ℕ → Bool
-begins_with after r = nat_lt (length r) (2 ^ 32) && nat_lt (length (sized r)) (length after) && bytes_eq (take (length (sized r)) after) (sized r)
+abbrev pub begins_with_record : List ℕ → List ℕ → Bool
+begins_with_record after r = nat_lt (length r) (2 ^ 32) && nat_lt (length (sized r)) (length after) && bytes_eq (take (length (sized r)) after) (sized r)
 
 -- a whole record stands behind the gate
 abbrev pub is_whole : List ℕ → Bool
-is_whole after = begins_with after (record_at after)
+is_whole after = begins_with_record after (record_at after)
 
 -- The whole records in front, each behind an open gate, which any byte but 0 is. They end at a closed gate, at an open one with no whole record behind it, or at the last byte. The first number bounds how many there are.
 abbrev pub records_in : ℕ → List ℕ → List (List ℕ)

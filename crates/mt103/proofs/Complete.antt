@@ -1,5 +1,5 @@
 -- Where no test of an MT103's fields fails, its fields say a message.
-use Rattle.std.proofs.Common.{◌≡◌, ℕ, List, [], None, Ok, refl}
+use Rattle.std.proofs.Common.{◌≡◌, ℕ, List, [], None, Ok, refl, sym, ◌∙◌}
 use Rattle.std.specs.Prelude.{unwrap_or}
 use Rattle.corr_text.specs.First.{first_of}
 use Rattle.ref_tables.specs.Seen.{Tables}
@@ -10,13 +10,15 @@ use Rattle.fin_contents.specs.Money.{ccy_amount_of, rate_of, value_of}
 use Rattle.fin_contents.specs.Parties.{known_party_of}
 use Rattle.fin_contents.specs.Plain.{reference_of, texts_of, time_of}
 use Rattle.mt103.specs.Codes.{charge_of, instr_of, kind_of, operation_of}
-use Rattle.mt103.specs.Message.{content_test, contents_of, details_of, field_tests, message_of, parties_of, terms_of}
+use Rattle.mt103.specs.Message.{content_test, contents_of, field_tests}
+use Rattle.mt103.specs.Parts.{details_of, message_of, parties_of, contents_in_parts, terms_of}
 use Rattle.mt103.specs.declared.details.Details.{Details}
 use Rattle.mt103.specs.declared.message.Mt103.{Mt103}
 use Rattle.mt103.specs.Order.{order_103}
 use Rattle.mt103.specs.declared.parties.Parties.{Parties}
 use Rattle.mt103.specs.declared.terms.Terms.{Terms}
 use Rattle.mt103.proofs.Says.{details-said, parties-said, terms-said}
+use Rattle.mt103.proofs.laws.Parts.{contents-are}
 
 module _ (t : Tables) (fs : List Field) (found : List ℕ) (hold : AllHold order_103 (content_test t) fs found) where
   terms-fine : (x : Terms) × (terms_of t fs found ≡ Ok x)
@@ -54,12 +56,14 @@ module _ (t : Tables) (fs : List Field) (found : List ℕ) (hold : AllHold order
       (record { info = unwrap_or x16.0 []; charge = x17.0; taken = x18.0; given = x19.0; notes = unwrap_or x20.0 []; regulatory = unwrap_or x21.0 [] }, details-said t fs found _ (record { info = record { said = x16.0; read = x16.1; same = refl }; charge = x17.1; taken = x18.1; given = x19.1; notes = record { said = x20.0; read = x20.1; same = refl }; regulatory = record { said = x21.0; read = x21.1; same = refl } }))
 
   contents-fine : (m : Mt103) × (contents_of t fs found ≡ Ok m)
-  unfolding contents_of
+  unfolding contents_in_parts
   contents-fine =
       let terms = terms-fine in
       let parties = parties-fine in
       let details = details-fine in
-      (message_of terms.0 parties.0 details.0, rw (terms.1, parties.1, details.1) refl)
+      let m : Mt103 = message_of terms.0 parties.0 details.0 in
+      let parts : contents_in_parts t fs found ≡ Ok m = rw (terms.1, parties.1, details.1) refl in
+      (m, sym (contents-are t fs found) ∙ parts)
 
 pub complete : (t : Tables) (fs : List Field) → first_of (field_tests t fs) ≡ None → (m : Mt103) × (contents_of t fs (places_from order_103 0 fs) ≡ Ok m)
 complete t fs none = contents-fine t fs (places_from order_103 0 fs) (all-hold order_103 (content_test t) fs none)

@@ -4,7 +4,9 @@ use Rattle.std.specs.Prelude.{is_none}
 use Rattle.std.specs.List.{list_all}
 use Rattle.std.proofs.lemmas.Bool.{eqb-true}
 use Rattle.std.proofs.lemmas.List.{take-append-drop}
+use Rattle.corr_text.specs.Codes.{code}
 use Rattle.corr_text.specs.Sets.{is_in}
+use Rattle.corr_text.specs.declared.fault.Code.{Code}
 use Rattle.corr_text.specs.declared.set.Set.TheVariants.{C, X}
 use Rattle.corr_ids.proofs.laws.Spelling.{some_if}
 use Rattle.fin_fields.specs.declared.field.Field.{Field}
@@ -13,38 +15,40 @@ use Rattle.fin_contents.specs.Plain.{one_line, sized}
 use Rattle.fin_contents.specs.Writing.{line_field, lines_field}
 use Rattle.fin_contents.proofs.laws.Bytes.{and-both}
 use Rattle.fin_contents.proofs.laws.Steps.{checked, is-only, there}
-use Rattle.mt103.specs.Codes.{charge_of, charges, code_in, instr_of, is_instruction, is_listed, kind_of, operation_of, operations, takes_text, text_in}
+use Rattle.mt103.specs.Codes.{charge_of, charges, code_in, instr_of, is_instruction, is_word_of, kind_of, operation_of, operations, takes_text, text_in, word_of}
 use Rattle.mt103.specs.Writing.{instr_field, text_behind}
 use Rattle.mt103.specs.declared.instruction.Instr.{Instr}
 
 sized-is : (n : ℕ) (line code : List ℕ) → sized n line ≡ Some code → line ≡ code
 sized-is n line code e = (some_if (length line == n) line code e).1
 
+-- a word of a list is the one line of its field
+word-kept : (size : ℕ) (words : List (List ℕ)) (refusal : Code) (f : Field) (word : List ℕ) → word_of size words refusal f ≡ Ok word → f.lines ≡ word ∷ []
+unfolding word_of
+word-kept size words refusal f word e =
+    let line = there (one_line f) _ _ word e in
+    let read = there (sized size line.0) _ _ word line.2 in
+    let listed = checked (is_word_of words read.0) _ _ word read.2 in
+    let same : read.0 ≡ word = cc listed.1 in
+    is-only f.lines line.0 line.1 ∙ ap (λ (x : List ℕ). x ∷ []) (sized-is size line.0 read.0 read.1 ∙ same)
+
+-- and is read again from it
+word-again : (size : ℕ) (words : List (List ℕ)) (refusal : Code) (tag : ℕ) (letter : Option ℕ) (f : Field) (word : List ℕ) → word_of size words refusal f ≡ Ok word → word_of size words refusal (line_field tag letter word) ≡ Ok word
+unfolding word_of
+word-again size words refusal tag letter f word e =
+    ap (λ (ls : List (List ℕ)). word_of size words refusal (lines_field tag letter ls)) (sym (word-kept size words refusal f word e)) ∙ e
+
 pub operation-kept : (f : Field) (op : List ℕ) → operation_of f ≡ Ok op → f.lines ≡ op ∷ []
-unfolding operation_of
-operation-kept f op e =
-    let line = there (one_line f) _ _ op e in
-    let code = there (sized 4 line.0) _ _ op line.2 in
-    let listed = checked (is_listed operations code.0) _ _ op code.2 in
-    let same : code.0 ≡ op = cc listed.1 in
-    is-only f.lines line.0 line.1 ∙ ap (λ (x : List ℕ). x ∷ []) (sized-is 4 line.0 code.0 code.1 ∙ same)
+operation-kept f op e = word-kept 4 operations (code "T36") f op e
 
 pub operation-again : (f : Field) (op : List ℕ) → operation_of f ≡ Ok op → operation_of (line_field 23 (Some 66) op) ≡ Ok op
-unfolding operation_of
-operation-again f op e = ap (λ (ls : List (List ℕ)). operation_of (lines_field 23 (Some 66) ls)) (sym (operation-kept f op e)) ∙ e
+operation-again f op e = word-again 4 operations (code "T36") 23 (Some 66) f op e
 
 pub charge-kept : (f : Field) (charge : List ℕ) → charge_of f ≡ Ok charge → f.lines ≡ charge ∷ []
-unfolding charge_of
-charge-kept f charge e =
-    let line = there (one_line f) _ _ charge e in
-    let code = there (sized 3 line.0) _ _ charge line.2 in
-    let listed = checked (is_listed charges code.0) _ _ charge code.2 in
-    let same : code.0 ≡ charge = cc listed.1 in
-    is-only f.lines line.0 line.1 ∙ ap (λ (x : List ℕ). x ∷ []) (sized-is 3 line.0 code.0 code.1 ∙ same)
+charge-kept f charge e = word-kept 3 charges (code "T08") f charge e
 
 pub charge-again : (f : Field) (charge : List ℕ) → charge_of f ≡ Ok charge → charge_of (line_field 71 (Some 65) charge) ≡ Ok charge
-unfolding charge_of
-charge-again f charge e = ap (λ (ls : List (List ℕ)). charge_of (lines_field 71 (Some 65) ls)) (sym (charge-kept f charge e)) ∙ e
+charge-again f charge e = word-again 3 charges (code "T08") 71 (Some 65) f charge e
 
 pub kind-kept : (f : Field) (kind : List ℕ) → kind_of f ≡ Ok kind → f.lines ≡ kind ∷ []
 unfolding kind_of

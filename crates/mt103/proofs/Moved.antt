@@ -17,7 +17,8 @@ use Rattle.fin_contents.proofs.laws.Back.{all-moved, each-all, each-weaker, line
 use Rattle.fin_contents.proofs.laws.Placed.{each-of, party-again-at}
 use Rattle.fin_contents.proofs.laws.Said.{Holds, Stands, stand}
 use Rattle.mt103.specs.Codes.{charge_of, instr_of, kind_of, operation_of}
-use Rattle.mt103.specs.Message.{contents_of, message_of}
+use Rattle.mt103.specs.Message.{contents_of}
+use Rattle.mt103.specs.Parts.{message_of}
 use Rattle.mt103.specs.Writing.{AreAmounts, instr_field, segments}
 use Rattle.mt103.specs.declared.details.Details.{Details}
 use Rattle.mt103.specs.declared.instruction.Instr.{Instr}

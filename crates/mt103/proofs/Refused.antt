@@ -1,5 +1,5 @@
 -- The contents of an MT103, read place by place, meet the first fault of the text.
-use Rattle.std.proofs.Common.{◌≡◌, ℕ, List, Result, Err, refl}
+use Rattle.std.proofs.Common.{◌≡◌, ℕ, List, Result, Err, refl, sym, ◌∙◌}
 use Rattle.corr_text.specs.First.{◌>>=◌}
 use Rattle.corr_text.specs.declared.fault.Fault.{Fault}
 use Rattle.ref_tables.specs.Seen.{Tables}
@@ -9,11 +9,13 @@ use Rattle.fin_contents.specs.Money.{ccy_amount_of, rate_of, value_of}
 use Rattle.fin_contents.specs.Parties.{known_party_of}
 use Rattle.fin_contents.specs.Plain.{reference_of, texts_of, time_of}
 use Rattle.mt103.specs.Codes.{charge_of, instr_of, kind_of, operation_of}
-use Rattle.mt103.specs.Message.{content_test, contents_of, details_of, parties_of, terms_of}
+use Rattle.mt103.specs.Message.{content_test, contents_of}
+use Rattle.mt103.specs.Parts.{details_of, parties_of, contents_in_parts, terms_of}
 use Rattle.mt103.specs.declared.details.Details.{Details}
 use Rattle.mt103.specs.Order.{order_103}
 use Rattle.mt103.specs.declared.parties.Parties.{Parties}
 use Rattle.mt103.specs.declared.terms.Terms.{Terms}
+use Rattle.mt103.proofs.laws.Parts.{contents-are}
 
 module _ (t : Tables) (fs : List Field) (found : List ℕ) (fault : Fault) where
   abbrev Lies : ℕ → Type 0
@@ -54,5 +56,7 @@ module _ (t : Tables) (fs : List Field) (found : List ℕ) (fault : Fault) where
       option-in l21 (texts_of 3) (λ f. refl) refl _ next (λ _ l22. on _ l22))))))
 
   pub contents-refused : Lies 0 → contents_of t fs found ≡ Err fault
-  unfolding contents_of
-  contents-refused l0 = terms-refused l0 _ (λ _ l8. parties-refused l8 _ (λ _ l16. details-refused l16 _ (λ _ l22. none-left l22)))
+  unfolding contents_in_parts
+  contents-refused l0 =
+      let parts : contents_in_parts t fs found ≡ Err fault = terms-refused l0 _ (λ _ l8. parties-refused l8 _ (λ _ l16. details-refused l16 _ (λ _ l22. none-left l22))) in
+      sym (contents-are t fs found) ∙ parts

@@ -1,5 +1,5 @@
 -- What the fields of a transfer say, place by place.
-use Rattle.std.proofs.Common.{◌≡◌, ℕ, List, [], Option, Ok, refl}
+use Rattle.std.proofs.Common.{◌≡◌, ℕ, List, [], Option, Ok, refl, sym, ◌∙◌}
 use Rattle.std.specs.Prelude.{unwrap_or}
 use Rattle.ref_tables.specs.Seen.{Tables}
 use Rattle.fin_fields.specs.declared.field.Field.{Field}
@@ -9,12 +9,14 @@ use Rattle.fin_contents.specs.Parties.{known_party_of}
 use Rattle.fin_contents.specs.Plain.{reference_of, texts_of, time_of}
 use Rattle.fin_contents.proofs.laws.Steps.{read-then, told-is}
 use Rattle.mt103.specs.Codes.{charge_of, instr_of, kind_of, operation_of}
-use Rattle.mt103.specs.Message.{contents_of, details_of, message_of, parties_of, terms_of}
+use Rattle.mt103.specs.Message.{contents_of}
+use Rattle.mt103.specs.Parts.{details_of, message_of, parties_of, contents_in_parts, terms_of}
 use Rattle.mt103.specs.declared.details.Details.{Details}
 use Rattle.mt103.specs.declared.message.Mt103.{Mt103}
 use Rattle.mt103.specs.Order.{order_103}
 use Rattle.mt103.specs.declared.parties.Parties.{Parties}
 use Rattle.mt103.specs.declared.terms.Terms.{Terms}
+use Rattle.mt103.proofs.laws.Parts.{contents-are}
 
 pub record TermsSay (t : Tables) (fs : List Field) (found : List ℕ) (x : Terms) : Type 0 where
   pub reference : in_place order_103 fs found 0 reference_of ≡ Ok x.reference
@@ -121,9 +123,10 @@ pub record ContentsSay (t : Tables) (fs : List Field) (found : List ℕ) (m : Mt
   pub same : message_of terms parties details ≡ m
 
 pub contents-say : (t : Tables) (fs : List Field) (found : List ℕ) (m : Mt103) → contents_of t fs found ≡ Ok m → ContentsSay t fs found m
-unfolding contents_of
+unfolding contents_in_parts
 contents-say t fs found m e =
-    let a = read-then (terms_of t fs found) _ m e in
+    let parts : contents_in_parts t fs found ≡ Ok m = contents-are t fs found ∙ e in
+    let a = read-then (terms_of t fs found) _ m parts in
     let b = read-then (parties_of t fs found) _ m a.2 in
     let c = read-then (details_of t fs found) _ m b.2 in
     record {
@@ -137,5 +140,7 @@ contents-say t fs found m e =
     }
 
 pub contents-said : (t : Tables) (fs : List Field) (found : List ℕ) (a : Terms) (b : Parties) (c : Details) → TermsSay t fs found a → PartiesSay t fs found b → DetailsSay t fs found c → contents_of t fs found ≡ Ok (message_of a b c)
-unfolding contents_of
-contents-said t fs found a b c r s u = rw (terms-said t fs found a r, parties-said t fs found b s, details-said t fs found c u) refl
+unfolding contents_in_parts
+contents-said t fs found a b c r s u =
+    let parts : contents_in_parts t fs found ≡ Ok (message_of a b c) = rw (terms-said t fs found a r, parties-said t fs found b s, details-said t fs found c u) refl in
+    sym (contents-are t fs found) ∙ parts

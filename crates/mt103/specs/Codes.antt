@@ -13,8 +13,8 @@ use Rattle.fin_contents.specs.Plain.{one_line, sized}
 use Rattle.mt103.specs.declared.instruction.Instr.{Instr}
 
 -- a code stands in a list
-abbrev pub is_listed : List (List ℕ) → List ℕ → Bool
-is_listed words word = list_any (λ w. bytes_eq w word) words
+abbrev pub is_word_of : List (List ℕ) → List ℕ → Bool
+is_word_of words word = list_any (λ w. bytes_eq w word) words
 
 -- the operations of 23B
 abbrev pub operations : List (List ℕ)
@@ -35,21 +35,21 @@ abbrev pub with_text : List (List ℕ)
 with_text =
     codes "PHON" ∷ codes "PHOB" ∷ codes "PHOI" ∷ codes "TELE" ∷ codes "TELB" ∷ codes "TELI" ∷ codes "HOLD" ∷ codes "REPA" ∷ []
 
+-- one line, which is a word of so many bytes of a list, or else this code
+unfoldable pub word_of : ℕ → List (List ℕ) → Code → Field → Result (List ℕ) Code
+word_of size words refusal f = do
+  line ← or_fault (one_line f) refusal
+  word ← or_fault (sized size line) refusal
+  _ ← check (is_word_of words word) refusal
+  Ok word
+
 -- 23B
-unfoldable pub operation_of : Field → Result (List ℕ) Code
-operation_of f = do
-  line ← or_fault (one_line f) (code "T36")
-  op ← or_fault (sized 4 line) (code "T36")
-  _ ← check (is_listed operations op) (code "T36")
-  Ok op
+abbrev pub operation_of : Field → Result (List ℕ) Code
+operation_of f = word_of 4 operations (code "T36") f
 
 -- 71A
-unfoldable pub charge_of : Field → Result (List ℕ) Code
-charge_of f = do
-  line ← or_fault (one_line f) (code "T08")
-  charge ← or_fault (sized 3 line) (code "T08")
-  _ ← check (is_listed charges charge) (code "T08")
-  Ok charge
+abbrev pub charge_of : Field → Result (List ℕ) Code
+charge_of f = word_of 3 charges (code "T08") f
 
 -- 26T: `3!c`
 unfoldable pub kind_of : Field → Result (List ℕ) Code
@@ -70,11 +70,11 @@ text_in (slash ∷ text) = if (slash == 47) && is_run (is_in X) 30 text then Som
 
 -- a code of 23E
 unfoldable pub is_instruction : List ℕ → Bool
-is_instruction word = is_listed instructions word
+is_instruction word = is_word_of instructions word
 
 -- a code that may have a text
 unfoldable pub takes_text : List ℕ → Bool
-takes_text word = is_listed with_text word
+takes_text word = is_word_of with_text word
 
 -- 23E: `4!c[/30x]`
 unfoldable pub instr_of : Field → Result Instr Code

@@ -13,10 +13,7 @@ use Rattle.fin_contents.specs.Parties.{known_party_of}
 use Rattle.fin_contents.specs.Plain.{reference_of, texts_of, time_of}
 use Rattle.mt103.specs.Codes.{charge_of, instr_of, kind_of, operation_of}
 use Rattle.mt103.specs.Instructions.{d98, e46}
-use Rattle.mt103.specs.declared.details.Details.{Details}
 use Rattle.mt103.specs.declared.message.Mt103.{Mt103}
-use Rattle.mt103.specs.declared.parties.Parties.{Parties}
-use Rattle.mt103.specs.declared.terms.Terms.{Terms}
 use Rattle.mt103.specs.Order.{at_account_bank, at_charge, at_given, at_info, at_instructions, at_intermediary, at_kind, at_notes, at_operation, at_ordered, at_ordering, at_payee, at_payer, at_rate, at_receivers_bank, at_reference, at_regulatory, at_senders_bank, at_taken, at_third_bank, at_times, at_value, order_103}
 
 -- what is wrong with the content of a field at a place of the order
@@ -36,9 +33,9 @@ content_test t k f =
     else if k == at_regulatory then fault_of (texts_of 3 f)
     else fault_of (known_party_of t f)
 
--- what 20 to 36 say
-unfoldable pub terms_of : Tables → List Field → List ℕ → Result Terms Fault
-terms_of t fs found = do
+-- what fields at these places say, place by place
+unfoldable pub contents_of : Tables → List Field → List ℕ → Result Mt103 Fault
+contents_of t fs found = do
   reference ← in_place order_103 fs found at_reference reference_of
   times ← all_from fs at_times time_of 0 found fs
   op ← in_place order_103 fs found at_operation operation_of
@@ -47,11 +44,6 @@ terms_of t fs found = do
   value ← in_place order_103 fs found at_value (value_of t)
   ordered ← in_option fs found at_ordered (ccy_amount_of t)
   rate ← in_option fs found at_rate rate_of
-  Ok (record { reference = reference; times = times; op = op; instrs = instrs; kind = kind; value = value; ordered = ordered; rate = rate })
-
--- what 50a to 59a say
-unfoldable pub parties_of : Tables → List Field → List ℕ → Result Parties Fault
-parties_of t fs found = do
   payer ← in_place order_103 fs found at_payer (known_party_of t)
   p52 ← in_option fs found at_ordering (known_party_of t)
   p53 ← in_option fs found at_senders_bank (known_party_of t)
@@ -60,54 +52,37 @@ parties_of t fs found = do
   p56 ← in_option fs found at_intermediary (known_party_of t)
   p57 ← in_option fs found at_account_bank (known_party_of t)
   payee ← in_place order_103 fs found at_payee (known_party_of t)
-  Ok (record { payer = payer; p52 = p52; p53 = p53; p54 = p54; p55 = p55; p56 = p56; p57 = p57; payee = payee })
-
--- what 70 to 77B say
-unfoldable pub details_of : Tables → List Field → List ℕ → Result Details Fault
-details_of t fs found = do
   info ← in_option fs found at_info (texts_of 4)
   charge ← in_place order_103 fs found at_charge charge_of
   taken ← all_from fs at_taken (ccy_amount_of t) 0 found fs
   given ← in_option fs found at_given (ccy_amount_of t)
   notes ← in_option fs found at_notes (texts_of 6)
   regulatory ← in_option fs found at_regulatory (texts_of 3)
-  Ok (record { info = unwrap_or info []; charge = charge; taken = taken; given = given; notes = unwrap_or notes []; regulatory = unwrap_or regulatory [] })
-
--- a message of its parts
-abbrev pub message_of : Terms → Parties → Details → Mt103
-message_of terms parties details = record {
-  reference = terms.reference;
-  times = terms.times;
-  op = terms.op;
-  instrs = terms.instrs;
-  kind = terms.kind;
-  value = terms.value.day;
-  amount = terms.value.amount;
-  ordered = terms.ordered;
-  rate = terms.rate;
-  payer = parties.payer;
-  p52 = parties.p52;
-  p53 = parties.p53;
-  p54 = parties.p54;
-  p55 = parties.p55;
-  p56 = parties.p56;
-  p57 = parties.p57;
-  payee = parties.payee;
-  info = details.info;
-  charge = details.charge;
-  taken = details.taken;
-  given = details.given;
-  notes = details.notes;
-  regulatory = details.regulatory;
-}
-
--- what fields at these places say
-unfoldable pub contents_of : Tables → List Field → List ℕ → Result Mt103 Fault
-contents_of t fs found = do
-  terms ← terms_of t fs found
-  parties ← parties_of t fs found
-  details ← details_of t fs found
-  Ok (message_of terms parties details)
+  Ok (record {
+    reference = reference;
+    times = times;
+    op = op;
+    instrs = instrs;
+    kind = kind;
+    value = value.day;
+    amount = value.amount;
+    ordered = ordered;
+    rate = rate;
+    payer = payer;
+    p52 = p52;
+    p53 = p53;
+    p54 = p54;
+    p55 = p55;
+    p56 = p56;
+    p57 = p57;
+    payee = payee;
+    info = unwrap_or info [];
+    charge = charge;
+    taken = taken;
+    given = given;
+    notes = unwrap_or notes [];
+    regulatory = unwrap_or regulatory [];
+  })
 
 -- the tests of the fields of an MT103: structure, then contents in the text's order
 abbrev pub field_tests : Tables → List Field → List (Option Fault)

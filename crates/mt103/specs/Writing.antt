@@ -18,8 +18,8 @@ abbrev pub instr_field : Instr → Field
 instr_field i = line_field 23 (Some 69) (i.code ++ text_behind i.text)
 
 -- the value date and the amount
-abbrev pub value_in : Mt103 → Value
-value_in m = record { day = m.value; amount = m.amount }
+abbrev pub value_said : Mt103 → Value
+value_said m = record { day = m.value; amount = m.amount }
 
 -- the fields of each place from 20 to 26T
 abbrev pub order_fields : Mt103 → List (List Field)
@@ -34,7 +34,7 @@ order_fields m =
 -- those from 32A to 36
 abbrev pub money_fields : Mt103 → List (List Field)
 money_fields m =
-    (value_field (value_in m) ∷ [])
+    (value_field (value_said m) ∷ [])
     ∷ some_field (ccy_amount_field 33 (Some 66)) m.ordered
     ∷ some_field (line_field 36 None) m.rate
     ∷ []
@@ -73,7 +73,7 @@ mt103_fields m = joined (segments m)
 
 -- its amounts can be written
 pub record AreAmounts (m : Mt103) : Type 0 where
-  pub value : IsValue (value_in m)
+  pub value : IsValue (value_said m)
   pub ordered : IfSome m.ordered IsAmount
   pub taken : All IsAmount m.taken
   pub given : IfSome m.given IsAmount

@@ -2,11 +2,11 @@
 
 ghost use Rattle.std.specs.Prelude.{◌≤◌, length};
 ghost use Rattle.fin_layout.specs.Reading.{Gives};
-ghost use Rattle.mt103.specs.Message.{details_of};
+ghost use Rattle.mt103.specs.Parts.{details_of};
 
-use crate::charge::Charge;
 use crate::order::ORDER;
 use crate::places::{CHARGE, GIVEN, INFO, NOTES, REGULATORY, TAKEN};
+use crate::word::Charge;
 use corr_money::Amount;
 use corr_text::{List, Text};
 use fin_contents::{CcyAmount, Texts, or_none};
@@ -27,7 +27,7 @@ pub struct Details {
 }
 
 /// The details that fields at these places say.
-#[tactic(auto, unfolding(crate::specs::Message::details_of))]
+#[tactic(auto, unfolding(crate::specs::Parts::details_of))]
 pub fn read_details(
     alloc: Global,
     tables: &RefTables,

@@ -1,20 +1,19 @@
 //! MT103, the customer transfer: its fields in their order, what they say, and what is wrong with them.
 #![tactic(auto)]
 
-mod charge;
 mod codes;
 mod details;
 mod instruction;
 mod kind;
 mod message;
 mod misfit;
-mod operation;
 mod order;
 mod parties;
 mod places;
 mod reading;
 mod terms;
 mod verdict;
+mod word;
 mod writing;
 
 pub use codes::{D97, D98, E46, P28, T08, T36};

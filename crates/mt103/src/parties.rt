@@ -2,7 +2,7 @@
 
 ghost use Rattle.std.specs.Prelude.{◌≤◌, length};
 ghost use Rattle.fin_layout.specs.Reading.{Gives};
-ghost use Rattle.mt103.specs.Message.{parties_of};
+ghost use Rattle.mt103.specs.Parts.{parties_of};
 
 use crate::order::ORDER;
 use crate::places::{
@@ -29,7 +29,7 @@ pub struct Parties {
 }
 
 /// The parties that fields at these places say.
-#[tactic(auto, unfolding(crate::specs::Message::parties_of))]
+#[tactic(auto, unfolding(crate::specs::Parts::parties_of))]
 pub fn read_parties(
     alloc: Global,
     tables: &RefTables,

@@ -2,7 +2,7 @@
 
 ghost use Rattle.std.specs.Prelude.{◌≡◌, ◌≤◌, IfOk, length};
 ghost use Rattle.fin_layout.specs.Reading.{Gives};
-ghost use Rattle.mt103.specs.Message.{contents_of, message_of};
+ghost use Rattle.mt103.specs.Parts.{message_of, contents_in_parts};
 
 use crate::details::{Details, read_details};
 use crate::message::Mt103;
@@ -47,7 +47,7 @@ fn message(terms: Terms, parties: Parties, details: Details) -> Mt103
 }
 
 /// The message that fields at these places say.
-#[tactic(auto, unfolding(crate::specs::Message::contents_of))]
+#[tactic(auto, unfolding(crate::specs::Parts::contents_in_parts))]
 pub fn read_contents(
     alloc: Global,
     tables: &RefTables,
@@ -56,7 +56,7 @@ pub fn read_contents(
 ) -> Result<Mt103, MtFault>
     requires few { length fields.now ≤ 65535 }
     requires each { length found.now ≤ length fields.now }
-    ensures value { Gives result (contents_of tables.now fields.now found.now) }
+    ensures value { Gives result (contents_in_parts tables.now fields.now found.now) }
     ensures few { IfOk result (λ m. length m.instrs ≤ length fields.now) }
 {
     let terms = read_terms(alloc, tables, fields, found)?;

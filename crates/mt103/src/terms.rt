@@ -2,13 +2,13 @@
 
 ghost use Rattle.std.specs.Prelude.{◌≤◌, IfOk, length};
 ghost use Rattle.fin_layout.specs.Reading.{Gives};
-ghost use Rattle.mt103.specs.Message.{terms_of};
+ghost use Rattle.mt103.specs.Parts.{terms_of};
 
 use crate::instruction::{Instr, Instruction};
 use crate::kind::Kind;
-use crate::operation::Operation;
 use crate::order::ORDER;
 use crate::places::{INSTRUCTIONS, KIND, OPERATION, ORDERED, RATE, REFERENCE, TIMES, VALUE};
+use crate::word::Operation;
 use corr_money::Amount;
 use corr_text::{List, Text};
 use fin_contents::{CcyAmount, Rate, Reference, Time, Value, ValueDate};
@@ -31,7 +31,7 @@ pub struct Terms {
 }
 
 /// The terms that fields at these places say.
-#[tactic(auto, unfolding(crate::specs::Message::terms_of))]
+#[tactic(auto, unfolding(crate::specs::Parts::terms_of))]
 pub fn read_terms(
     alloc: Global,
     tables: &RefTables,

@@ -6,7 +6,7 @@ use Rattle.corr_text.specs.declared.fault.Code.{Code}
 use Rattle.corr_text.specs.declared.fault.Fault.{Fault}
 use Rattle.corr_ids.specs.declared.bic.Bic.{Bic}
 use Rattle.corr_money.specs.declared.amount.Amount.{Amount}
-use Rattle.ref_tables.specs.Seen.{Tables, is_listed}
+use Rattle.ref_tables.specs.Seen.{Tables, is_listed_country}
 use Rattle.mt103.specs.declared.message.Mt103.{Mt103}
 use Rattle.mt103_rules.specs.Instructions.{first_barred, has_instr}
 use Rattle.mt103_rules.specs.Parties.{has_account, is_b, is_bare_b, is_bare_d, is_d, is_not_a, is_uncleared_c}
@@ -14,12 +14,12 @@ use Rattle.mt103_rules.specs.Parties.{has_account, is_b, is_bare_b, is_bare_d, i
 -- ---- words
 
 -- a fault of a rule, with the tag and the occurrence that it is told of
-abbrev pub fault_at : Code → List ℕ → ℕ → Fault
-fault_at refusal tag nth = record { code = refusal; tag = tag; nth = nth }
+abbrev pub fault_of_rule : Code → List ℕ → ℕ → Fault
+fault_of_rule refusal tag nth = record { code = refusal; tag = tag; nth = nth }
 
 -- the fault of a rule that is broken where this holds
 abbrev pub broken : Bool → Code → List ℕ → ℕ → Option Fault
-broken here refusal tag nth = if here then Some (fault_at refusal tag nth) else None
+broken here refusal tag nth = if here then Some (fault_of_rule refusal tag nth) else None
 
 -- a field that may stand more than once is there
 abbrev pub is_given : {A : Type 0} → List A → Bool
@@ -52,7 +52,7 @@ country_of b = take 2 (drop 4 b.head)
 
 -- a bank's country is listed
 abbrev pub is_listed_bank : Tables → Bic → Bool
-is_listed_bank t b = is_listed t (country_of b)
+is_listed_bank t b = is_listed_country t (country_of b)
 
 -- ---- amounts
 
@@ -68,7 +68,7 @@ d49 sender receiver t m = broken (is_listed_bank t sender && is_listed_bank t re
 
 -- SPRI: 23E is SDVA, TELB, PHOB or INTC
 unfoldable pub e01 : Mt103 → Option Fault
-e01 m = if is_op m (codes "SPRI") then option_map (λ i. fault_at (code "E01") (codes "23E") (i + 1)) (first_barred m.instrs) else None
+e01 m = if is_op m (codes "SPRI") then option_map (λ i. fault_of_rule (code "E01") (codes "23E") (i + 1)) (first_barred m.instrs) else None
 
 -- SSTD and SPAY: no 23E
 unfoldable pub e02 : Mt103 → Option Fault

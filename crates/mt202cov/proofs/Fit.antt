@@ -20,7 +20,7 @@ use Rattle.fin_contents.proofs.laws.Back.{each-weaker, some-weaker}
 use Rattle.fin_contents.proofs.laws.Fit.{ccy_amount-fit, kept-fit, value-fit}
 use Rattle.fin_contents.proofs.laws.Placed.{all-each, each-joined, lines-each, party-fit-at, some-each}
 use Rattle.fin_contents.proofs.laws.Said.{Holds, Said, Stands, said-all, said-one, said-option}
-use Rattle.mt202cov.specs.Writing.{AreAmounts, segments, value_in}
+use Rattle.mt202cov.specs.Writing.{AreAmounts, segments, value_said}
 use Rattle.mt202cov.specs.declared.message.Mt202Cov.{Mt202Cov}
 use Rattle.mt202cov.specs.Order.{order_202}
 use Rattle.mt202cov.proofs.Readings.{LinesRead, Readings}
@@ -68,7 +68,7 @@ module _ (t : Tables) (fs : List Field) (found : List ℕ) (h : Holds (Stands or
 
   pub all-fit : (m : Mt202Cov) → Readings t fs found m → AreAmounts m → All IsField (joined (segments m))
   all-fit m r amounts =
-      let value = said-one (Stands order_202 IsField) fs 3 (value_of t) order_202 found (value_in m) h r.value in
+      let value = said-one (Stands order_202 IsField) fs 3 (value_of t) order_202 found (value_said m) h r.value in
       let times = all-each IsField (line_field 13 (Some 67)) m.times (each-weaker (Said (Stands order_202 IsField 2) time_of) (λ x. IsField (line_field 13 (Some 67) x)) m.times (said-all (Stands order_202 IsField) fs 2 time_of 0 found fs m.times h r.times) time-fit) in
       let ordered = ordered-fit t (Stands order_202 IsField 18) m.ordered amounts.ordered (said-option (Stands order_202 IsField) fs 18 (ccy_amount_of t) found m.ordered h r.ordered) in
       each-joined IsField (segments m) (
@@ -78,7 +78,7 @@ module _ (t : Tables) (fs : List Field) (found : List ℕ) (h : Holds (Stands or
           (
             times,
             (
-              (value-fit t value.field (value_in m) amounts.value value.says, tt),
+              (value-fit t value.field (value_said m) amounts.value value.says, tt),
               (
                 some-party-fit 4 52 refl m.a52 r.a52,
                 (

@@ -13,11 +13,13 @@ use Rattle.fin_layout.specs.declared.fault.MtFault.TheVariants as faults
 use Rattle.fin_layout.proofs.laws.Fine.{passed-fails, passed-on}
 use Rattle.fin_layout.proofs.laws.InOrder.{fails-before, in-turn, structure-fails}
 use Rattle.mt202cov.specs.Message.{content_test, contents_of, mt202cov_of}
+use Rattle.mt202cov.specs.Parts.{contents_in_parts}
 use Rattle.mt202cov.specs.Rules.{all_rules}
 use Rattle.mt202cov.specs.Steps.{unless_told}
 use Rattle.mt202cov.specs.declared.message.Mt202Cov.{Mt202Cov}
 use Rattle.mt202cov.specs.Order.{order_202}
 use Rattle.mt202cov.proofs.Refused.{contents-refused}
+use Rattle.mt202cov.proofs.laws.Parts.{contents-are}
 
 abbrev finished : Mt202Cov → Result Mt202Cov Fault
 finished m = passed (all_rules m) >>= λ _. Ok m
@@ -40,21 +42,23 @@ module _ (t : Tables) (fs : List Field) where
     from-contents : mt202cov_of t fs ≡ behind_structure t fs found
     from-contents = in-contents sound ∙ ap (behind_structure t fs) (sym placed)
 
-    pub contents-fail : (e : MtFault) → Fails e (contents_of t fs found) → Fails e (mt202cov_of t fs)
+    pub contents-fail : (e : MtFault) → Fails e (contents_in_parts t fs found) → Fails e (mt202cov_of t fs)
     contents-fail faults.Memory h = tt
-    contents-fail (faults.Bad fault) h = from-contents ∙ fails-before (contents_of t fs found) finished fault h
+    contents-fail (faults.Bad fault) h =
+        let refused : contents_of t fs found ≡ Err fault = sym (contents-are t fs found) ∙ h in
+        from-contents ∙ fails-before (contents_of t fs found) finished fault refused
 
     module _ (m : Mt202Cov) (said : contents_of t fs found ≡ Ok m) where
-      pub rules-fail : (fault : Fault) → first_of (all_rules m) ≡ Some fault → mt202cov_of t fs ≡ Err fault
+      rules-fail : (fault : Fault) → first_of (all_rules m) ≡ Some fault → mt202cov_of t fs ≡ Err fault
       rules-fail fault h = from-contents ∙ rw said (passed-fails (first_of (all_rules m)) (Ok m) (faults.Bad fault) h)
 
       pub all-pass : first_of (all_rules m) ≡ None → mt202cov_of t fs ≡ Ok m
       all-pass h = from-contents ∙ rw said (passed-on (first_of (all_rules m)) (Ok m) h)
 
-      -- what the rules leave of the cover that the contents say
-      pub told : Gives (unless_told m (first_of (all_rules m))) (mt202cov_of t fs)
-      told = by (first_of (all_rules m)) refl
-        where
-          by : (first : Option Fault) → first_of (all_rules m) ≡ first → Gives (unless_told m first) (mt202cov_of t fs)
-          by None h = all-pass h
-          by (Some fault) h = rules-fail fault h
+      by-rules : (first : Option Fault) → first_of (all_rules m) ≡ first → Gives (unless_told m first) (mt202cov_of t fs)
+      by-rules None h = all-pass h
+      by-rules (Some fault) h = rules-fail fault h
+
+    -- what the rules leave of the cover that the contents say
+    pub told : (m : Mt202Cov) → contents_in_parts t fs found ≡ Ok m → Gives (unless_told m (first_of (all_rules m))) (mt202cov_of t fs)
+    told m parts = by-rules m (sym (contents-are t fs found) ∙ parts) (first_of (all_rules m)) refl

@@ -1,5 +1,5 @@
 -- What is read at the places of a cover's fields, and the cover that it makes.
-use Rattle.std.proofs.Common.{◌≡◌, ℕ, List, [], Option, Ok, refl}
+use Rattle.std.proofs.Common.{◌≡◌, ℕ, List, [], Option, Ok, refl, sym, ◌∙◌}
 use Rattle.std.specs.Prelude.{unwrap_or}
 use Rattle.ref_tables.specs.Seen.{Tables}
 use Rattle.fin_fields.specs.declared.field.Field.{Field}
@@ -8,8 +8,9 @@ use Rattle.fin_contents.specs.Money.{ccy_amount_of, value_of}
 use Rattle.fin_contents.specs.Parties.{known_party_of}
 use Rattle.fin_contents.specs.Plain.{reference_of, texts_of, time_of}
 use Rattle.fin_contents.proofs.laws.Steps.{read-then}
-use Rattle.mt202cov.specs.Message.{banks_of, contents_of, customers_of, details_of, message_of, sequence_a_of, sequence_b_of, terms_of}
-use Rattle.mt202cov.specs.Writing.{value_in}
+use Rattle.mt202cov.specs.Message.{contents_of}
+use Rattle.mt202cov.specs.Parts.{banks_of, contents_in_parts, customers_of, details_of, message_of, sequence_a_of, sequence_b_of, terms_of}
+use Rattle.mt202cov.specs.Writing.{value_said}
 use Rattle.mt202cov.specs.declared.banks.Banks.{Banks}
 use Rattle.mt202cov.specs.declared.customers.Customers.{Customers}
 use Rattle.mt202cov.specs.declared.details.Details.{Details}
@@ -18,6 +19,7 @@ use Rattle.mt202cov.specs.Order.{order_202}
 use Rattle.mt202cov.specs.declared.sequences.SequenceA.{SequenceA}
 use Rattle.mt202cov.specs.declared.sequences.SequenceB.{SequenceB}
 use Rattle.mt202cov.specs.declared.terms.Terms.{Terms}
+use Rattle.mt202cov.proofs.laws.Parts.{contents-are}
 
 -- lines that may be none
 abbrev pub LinesRead : List Field → List ℕ → ℕ → ℕ → List (List ℕ) → Type 0
@@ -28,7 +30,7 @@ pub record Readings (t : Tables) (fs : List Field) (found : List ℕ) (m : Mt202
   pub reference : in_place order_202 fs found 0 reference_of ≡ Ok m.reference
   pub related : in_place order_202 fs found 1 reference_of ≡ Ok m.related
   pub times : all_from fs 2 time_of 0 found fs ≡ Ok m.times
-  pub value : in_place order_202 fs found 3 (value_of t) ≡ Ok (value_in m)
+  pub value : in_place order_202 fs found 3 (value_of t) ≡ Ok (value_said m)
   pub a52 : in_option fs found 4 (known_party_of t) ≡ Ok m.a52
   pub a53 : in_option fs found 5 (known_party_of t) ≡ Ok m.a53
   pub a54 : in_option fs found 6 (known_party_of t) ≡ Ok m.a54
@@ -142,9 +144,10 @@ module _ (t : Tables) (fs : List Field) (found : List ℕ) where
       }
 
   pub readings : (m : Mt202Cov) → contents_of t fs found ≡ Ok m → Readings t fs found m
-  unfolding contents_of
+  unfolding contents_in_parts
   readings m e =
-      let a = read-then (sequence_a_of t fs found) _ m e in
+      let parts : contents_in_parts t fs found ≡ Ok m = contents-are t fs found ∙ e in
+      let a = read-then (sequence_a_of t fs found) _ m parts in
       let b = read-then (sequence_b_of t fs found) _ m a.2 in
       let same : message_of a.0 b.0 ≡ m = cc b.2 in
       rw (← same) (of-sequences a.0 b.0 a.1 b.1)
@@ -152,9 +155,10 @@ module _ (t : Tables) (fs : List Field) (found : List ℕ) where
   -- ---- and back
 
   pub said-by : (m : Mt202Cov) → Readings t fs found m → contents_of t fs found ≡ Ok m
-  unfolding contents_of sequence_a_of sequence_b_of terms_of banks_of customers_of details_of
+  unfolding contents_in_parts sequence_a_of sequence_b_of terms_of banks_of customers_of details_of
   said-by m r =
       let (a, ea, sa) = r.a_notes in
       let (i, ei, si) = r.info in
       let (b, eb, sb) = r.b_notes in
-      rw (r.reference, r.related, r.times, r.value, r.a52, r.a53, r.a54, r.a56, r.a57, r.a58, ea, r.payer, r.b52, r.b56, r.b57, r.payee, ei, eb, r.ordered) (rw (sa, si, sb) refl)
+      let parts : contents_in_parts t fs found ≡ Ok m = rw (r.reference, r.related, r.times, r.value, r.a52, r.a53, r.a54, r.a56, r.a57, r.a58, ea, r.payer, r.b52, r.b56, r.b57, r.payee, ei, eb, r.ordered) (rw (sa, si, sb) refl) in
+      sym (contents-are t fs found) ∙ parts

@@ -1,5 +1,5 @@
 -- The contents of an MT202 COV, read place by place, meet the first fault of the text.
-use Rattle.std.proofs.Common.{◌≡◌, ℕ, List, Result, Ok, Err, refl}
+use Rattle.std.proofs.Common.{◌≡◌, ℕ, List, Result, Ok, Err, refl, sym, ◌∙◌}
 use Rattle.corr_text.specs.First.{◌>>=◌}
 use Rattle.corr_text.specs.declared.fault.Fault.{Fault}
 use Rattle.ref_tables.specs.Seen.{Tables}
@@ -8,7 +8,8 @@ use Rattle.fin_layout.proofs.laws.InOrder.{LiesFrom, all-in, none-left, one-in, 
 use Rattle.fin_contents.specs.Money.{ccy_amount_of, value_of}
 use Rattle.fin_contents.specs.Parties.{known_party_of}
 use Rattle.fin_contents.specs.Plain.{reference_of, texts_of, time_of}
-use Rattle.mt202cov.specs.Message.{banks_of, content_test, contents_of, customers_of, details_of, sequence_a_of, sequence_b_of, terms_of}
+use Rattle.mt202cov.specs.Message.{content_test, contents_of}
+use Rattle.mt202cov.specs.Parts.{banks_of, contents_in_parts, customers_of, details_of, sequence_a_of, sequence_b_of, terms_of}
 use Rattle.mt202cov.specs.declared.banks.Banks.{Banks}
 use Rattle.mt202cov.specs.declared.customers.Customers.{Customers}
 use Rattle.mt202cov.specs.declared.details.Details.{Details}
@@ -16,6 +17,7 @@ use Rattle.mt202cov.specs.Order.{order_202}
 use Rattle.mt202cov.specs.declared.sequences.SequenceA.{SequenceA}
 use Rattle.mt202cov.specs.declared.sequences.SequenceB.{SequenceB}
 use Rattle.mt202cov.specs.declared.terms.Terms.{Terms}
+use Rattle.mt202cov.proofs.laws.Parts.{contents-are}
 
 module _ (t : Tables) (fs : List Field) (found : List ℕ) (fault : Fault) where
   abbrev Lies : ℕ → Type 0
@@ -75,5 +77,7 @@ module _ (t : Tables) (fs : List Field) (found : List ℕ) (fault : Fault) where
       within (details_of t fs found) 19 (details-refused l16) _ next (λ _ l19. on _ l19))
 
   pub contents-refused : Lies 0 → contents_of t fs found ≡ Err fault
-  unfolding contents_of
-  contents-refused l0 = sequence_a-refused l0 _ (λ _ l11. sequence_b-refused l11 _ (λ _ l19. none-left l19))
+  unfolding contents_in_parts
+  contents-refused l0 =
+      let parts : contents_in_parts t fs found ≡ Err fault = sequence_a-refused l0 _ (λ _ l11. sequence_b-refused l11 _ (λ _ l19. none-left l19)) in
+      sym (contents-are t fs found) ∙ parts

@@ -19,7 +19,7 @@ use Rattle.fin_contents.proofs.laws.Said.{Said, Stands, said-one, said-option, s
 use Rattle.fin_contents.proofs.laws.Steps.{read-then}
 use Rattle.mt202cov.specs.Message.{contents_of, field_tests, mt202cov_of}
 use Rattle.mt202cov.specs.Rules.{all_rules}
-use Rattle.mt202cov.specs.Writing.{AreAmounts, mt202cov_fields, segments, value_in}
+use Rattle.mt202cov.specs.Writing.{AreAmounts, mt202cov_fields, segments, value_said}
 use Rattle.mt202cov.specs.declared.message.Mt202Cov.{Mt202Cov}
 use Rattle.mt202cov.specs.Order.{order_202}
 use Rattle.mt202cov.proofs.Fit.{all-fit}
@@ -67,9 +67,9 @@ module _ (m : Mt202Cov) (is : IsReadable mt202cov_of m) where
       let found : List ℕ = places_from order_202 0 is.fields in
       let h = stand order_202 IsField 0 is.fields is.fit in
       let r = readings is.tables is.fields found m a.contents in
-      let value = said-one (Stands order_202 IsField) is.fields 3 (value_of is.tables) order_202 found (value_in m) h r.value in
+      let value = said-one (Stands order_202 IsField) is.fields 3 (value_of is.tables) order_202 found (value_said m) h r.value in
       record {
-        value = value-is is.tables value.field (value_in m) is.few value.says;
+        value = value-is is.tables value.field (value_said m) is.few value.says;
         ordered = some-weaker (Said (Stands order_202 IsField 18) (ccy_amount_of is.tables)) IsAmount m.ordered (said-option (Stands order_202 IsField) is.fields 18 (ccy_amount_of is.tables) found m.ordered h r.ordered) (λ x s. ccy_amount-is is.tables s.field x is.few s.says);
       }
 

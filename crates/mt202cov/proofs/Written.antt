@@ -17,7 +17,7 @@ use Rattle.fin_contents.proofs.laws.Again.{ccy_amount-again, reference-again, te
 use Rattle.fin_contents.proofs.laws.Back.{all-moved, each-all, lines-moved, one-moved, option-moved, some-all, some-weaker}
 use Rattle.fin_contents.proofs.laws.Placed.{all-segment, first-of-tag, lines-segment, one-segment, party-again-at, party-fits-at, some-segment}
 use Rattle.fin_contents.proofs.laws.Said.{Holds, Said, Stands, said-one, said-option}
-use Rattle.mt202cov.specs.Writing.{AreAmounts, segments, value_in}
+use Rattle.mt202cov.specs.Writing.{AreAmounts, segments, value_said}
 use Rattle.mt202cov.specs.declared.message.Mt202Cov.{Mt202Cov}
 use Rattle.mt202cov.specs.Order.{order_202}
 use Rattle.mt202cov.proofs.Readings.{LinesRead, Readings}
@@ -65,7 +65,7 @@ module _ (t : Tables) (fs : List Field) (found : List ℕ) (P : Field → Type 0
               0,
               inl (omega arith),
               (
-                one-segment order_202 0 3 (value_field (value_in m)) refl,
+                one-segment order_202 0 3 (value_field (value_said m)) refl,
                 (
                   0,
                   inl (omega arith),
@@ -197,7 +197,7 @@ module _ (t : Tables) (fs : List Field) (found : List ℕ) (P : Field → Type 0
       reference = one-moved (Stands order_202 P) fs found h (segments m) 0 order_202 reference_of (line_field 20 None) m.reference (λ f q e. reference-again 20 None f m.reference e) refl r.reference;
       related = one-moved (Stands order_202 P) fs found h (segments m) 1 order_202 reference_of (line_field 21 None) m.related (λ f q e. reference-again 21 None f m.related e) refl r.related;
       times = all-moved (Stands order_202 P) fs found h (segments m) 2 time_of (line_field 13 (Some 67)) m.times (each-all _ m.times (λ x f q e. time-again 13 (Some 67) f x e)) refl r.times;
-      value = one-moved (Stands order_202 P) fs found h (segments m) 3 order_202 (value_of t) value_field (value_in m) (λ f q e. value-again t f (value_in m) amounts.value e) refl r.value;
+      value = one-moved (Stands order_202 P) fs found h (segments m) 3 order_202 (value_of t) value_field (value_said m) (λ f q e. value-again t f (value_said m) amounts.value e) refl r.value;
       a52 = option-moved (Stands order_202 P) fs found h (segments m) 4 (known_party_of t) (party_field 52) m.a52 (some-all _ m.a52 (party-again-at order_202 P 4 52 any refl t)) refl r.a52;
       a53 = option-moved (Stands order_202 P) fs found h (segments m) 5 (known_party_of t) (party_field 53) m.a53 (some-all _ m.a53 (party-again-at order_202 P 5 53 any refl t)) refl r.a53;
       a54 = option-moved (Stands order_202 P) fs found h (segments m) 6 (known_party_of t) (party_field 54) m.a54 (some-all _ m.a54 (party-again-at order_202 P 6 54 any refl t)) refl r.a54;

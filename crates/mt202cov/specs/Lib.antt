@@ -1,5 +1,6 @@
 pub mod Steps
 pub mod Rules
 pub mod Message
+pub mod Parts
 pub mod Writing
 pub mod Order

@@ -12,13 +12,7 @@ use Rattle.fin_contents.specs.Money.{ccy_amount_of, value_of}
 use Rattle.fin_contents.specs.Parties.{known_party_of}
 use Rattle.fin_contents.specs.Plain.{reference_of, texts_of, time_of}
 use Rattle.mt202cov.specs.Rules.{all_rules}
-use Rattle.mt202cov.specs.declared.banks.Banks.{Banks}
-use Rattle.mt202cov.specs.declared.customers.Customers.{Customers}
-use Rattle.mt202cov.specs.declared.details.Details.{Details}
 use Rattle.mt202cov.specs.declared.message.Mt202Cov.{Mt202Cov}
-use Rattle.mt202cov.specs.declared.sequences.SequenceA.{SequenceA}
-use Rattle.mt202cov.specs.declared.sequences.SequenceB.{SequenceB}
-use Rattle.mt202cov.specs.declared.terms.Terms.{Terms}
 use Rattle.mt202cov.specs.Order.{at_a_account_bank, at_a_intermediary, at_a_notes, at_a_ordering, at_a_receivers_bank, at_a_senders_bank, at_b_account_bank, at_b_intermediary, at_b_notes, at_b_ordering, at_beneficiary, at_info, at_ordered, at_payee, at_payer, at_reference, at_related, at_times, at_value, order_202}
 
 -- what is wrong with the content of a field at a place of the order
@@ -32,90 +26,50 @@ content_test t k f =
     else if k == at_ordered then fault_of (ccy_amount_of t f)
     else fault_of (known_party_of t f)
 
--- what 20 to 32A say
-unfoldable pub terms_of : Tables → List Field → List ℕ → Result Terms Fault
-terms_of t fs found = do
+-- what fields at these places say, place by place
+unfoldable pub contents_of : Tables → List Field → List ℕ → Result Mt202Cov Fault
+contents_of t fs found = do
   reference ← in_place order_202 fs found at_reference reference_of
   related ← in_place order_202 fs found at_related reference_of
   times ← all_from fs at_times time_of 0 found fs
   value ← in_place order_202 fs found at_value (value_of t)
-  Ok (record { reference = reference; related = related; times = times; value = value })
-
--- what 52a to 58a of sequence A say
-unfoldable pub banks_of : Tables → List Field → List ℕ → Result Banks Fault
-banks_of t fs found = do
-  p52 ← in_option fs found at_a_ordering (known_party_of t)
-  p53 ← in_option fs found at_a_senders_bank (known_party_of t)
-  p54 ← in_option fs found at_a_receivers_bank (known_party_of t)
-  p56 ← in_option fs found at_a_intermediary (known_party_of t)
-  p57 ← in_option fs found at_a_account_bank (known_party_of t)
-  p58 ← in_place order_202 fs found at_beneficiary (known_party_of t)
-  Ok (record { p52 = p52; p53 = p53; p54 = p54; p56 = p56; p57 = p57; p58 = p58 })
-
--- what 50a to 59a of sequence B say
-unfoldable pub customers_of : Tables → List Field → List ℕ → Result Customers Fault
-customers_of t fs found = do
+  a52 ← in_option fs found at_a_ordering (known_party_of t)
+  a53 ← in_option fs found at_a_senders_bank (known_party_of t)
+  a54 ← in_option fs found at_a_receivers_bank (known_party_of t)
+  a56 ← in_option fs found at_a_intermediary (known_party_of t)
+  a57 ← in_option fs found at_a_account_bank (known_party_of t)
+  a58 ← in_place order_202 fs found at_beneficiary (known_party_of t)
+  a_notes ← in_option fs found at_a_notes (texts_of 6)
   payer ← in_place order_202 fs found at_payer (known_party_of t)
-  p52 ← in_option fs found at_b_ordering (known_party_of t)
-  p56 ← in_option fs found at_b_intermediary (known_party_of t)
-  p57 ← in_option fs found at_b_account_bank (known_party_of t)
+  b52 ← in_option fs found at_b_ordering (known_party_of t)
+  b56 ← in_option fs found at_b_intermediary (known_party_of t)
+  b57 ← in_option fs found at_b_account_bank (known_party_of t)
   payee ← in_place order_202 fs found at_payee (known_party_of t)
-  Ok (record { payer = payer; p52 = p52; p56 = p56; p57 = p57; payee = payee })
-
--- what 70, 72 and 33B of sequence B say
-unfoldable pub details_of : Tables → List Field → List ℕ → Result Details Fault
-details_of t fs found = do
   info ← in_option fs found at_info (texts_of 4)
-  notes ← in_option fs found at_b_notes (texts_of 6)
+  b_notes ← in_option fs found at_b_notes (texts_of 6)
   ordered ← in_option fs found at_ordered (ccy_amount_of t)
-  Ok (record { info = unwrap_or info []; notes = unwrap_or notes []; ordered = ordered })
-
--- what sequence A says
-unfoldable pub sequence_a_of : Tables → List Field → List ℕ → Result SequenceA Fault
-sequence_a_of t fs found = do
-  terms ← terms_of t fs found
-  banks ← banks_of t fs found
-  notes ← in_option fs found at_a_notes (texts_of 6)
-  Ok (record { terms = terms; banks = banks; notes = unwrap_or notes [] })
-
--- what sequence B says
-unfoldable pub sequence_b_of : Tables → List Field → List ℕ → Result SequenceB Fault
-sequence_b_of t fs found = do
-  customers ← customers_of t fs found
-  details ← details_of t fs found
-  Ok (record { customers = customers; details = details })
-
--- a cover of its sequences
-abbrev pub message_of : SequenceA → SequenceB → Mt202Cov
-message_of a b = record {
-  reference = a.terms.reference;
-  related = a.terms.related;
-  times = a.terms.times;
-  value = a.terms.value.day;
-  amount = a.terms.value.amount;
-  a52 = a.banks.p52;
-  a53 = a.banks.p53;
-  a54 = a.banks.p54;
-  a56 = a.banks.p56;
-  a57 = a.banks.p57;
-  a58 = a.banks.p58;
-  a_notes = a.notes;
-  payer = b.customers.payer;
-  b52 = b.customers.p52;
-  b56 = b.customers.p56;
-  b57 = b.customers.p57;
-  payee = b.customers.payee;
-  info = b.details.info;
-  b_notes = b.details.notes;
-  ordered = b.details.ordered;
-}
-
--- what fields at these places say
-unfoldable pub contents_of : Tables → List Field → List ℕ → Result Mt202Cov Fault
-contents_of t fs found = do
-  a ← sequence_a_of t fs found
-  b ← sequence_b_of t fs found
-  Ok (message_of a b)
+  Ok (record {
+    reference = reference;
+    related = related;
+    times = times;
+    value = value.day;
+    amount = value.amount;
+    a52 = a52;
+    a53 = a53;
+    a54 = a54;
+    a56 = a56;
+    a57 = a57;
+    a58 = a58;
+    a_notes = unwrap_or a_notes [];
+    payer = payer;
+    b52 = b52;
+    b56 = b56;
+    b57 = b57;
+    payee = payee;
+    info = unwrap_or info [];
+    b_notes = unwrap_or b_notes [];
+    ordered = ordered;
+  })
 
 -- the tests of the fields of an MT202 COV: structure, then contents in the text's order
 abbrev pub field_tests : Tables → List Field → List (Option Fault)

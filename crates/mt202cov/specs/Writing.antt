@@ -8,8 +8,8 @@ use Rattle.fin_contents.specs.Writing.{IsAmount, IsValue, ccy_amount_field, line
 use Rattle.mt202cov.specs.declared.message.Mt202Cov.{Mt202Cov}
 
 -- the value date and the amount
-abbrev pub value_in : Mt202Cov → Value
-value_in m = record { day = m.value; amount = m.amount }
+abbrev pub value_said : Mt202Cov → Value
+value_said m = record { day = m.value; amount = m.amount }
 
 -- the fields of each place from 20 to 32A
 abbrev pub terms_fields : Mt202Cov → List (List Field)
@@ -17,7 +17,7 @@ terms_fields m =
     (line_field 20 None m.reference ∷ [])
     ∷ (line_field 21 None m.related ∷ [])
     ∷ map (line_field 13 (Some 67)) m.times
-    ∷ (value_field (value_in m) ∷ [])
+    ∷ (value_field (value_said m) ∷ [])
     ∷ []
 
 -- those from 52a to 58a of sequence A
@@ -58,5 +58,5 @@ mt202cov_fields m = joined (segments m)
 
 -- its amounts can be written
 pub record AreAmounts (m : Mt202Cov) : Type 0 where
-  pub value : IsValue (value_in m)
+  pub value : IsValue (value_said m)
   pub ordered : IfSome m.ordered IsAmount

@@ -2,7 +2,7 @@
 
 ghost use Rattle.std.specs.Prelude.{◌≤◌, length};
 ghost use Rattle.fin_layout.specs.Reading.{Gives};
-ghost use Rattle.mt202cov.specs.Message.{banks_of};
+ghost use Rattle.mt202cov.specs.Parts.{banks_of};
 
 use crate::order::ORDER;
 use crate::places::{
@@ -27,7 +27,7 @@ pub struct Banks {
 }
 
 /// The banks that fields at the places of sequence A say.
-#[tactic(auto, unfolding(crate::specs::Message::banks_of))]
+#[tactic(auto, unfolding(crate::specs::Parts::banks_of))]
 pub fn read_banks(
     alloc: Global,
     tables: &RefTables,

@@ -2,7 +2,7 @@
 
 ghost use Rattle.std.specs.Prelude.{◌≤◌, length};
 ghost use Rattle.fin_layout.specs.Reading.{Gives};
-ghost use Rattle.mt202cov.specs.Message.{customers_of};
+ghost use Rattle.mt202cov.specs.Parts.{customers_of};
 
 use crate::order::ORDER;
 use crate::places::{B_ACCOUNT_BANK, B_INTERMEDIARY, B_ORDERING, PAYEE, PAYER};
@@ -24,7 +24,7 @@ pub struct Customers {
 }
 
 /// The customers and their banks that fields at the places of sequence B say.
-#[tactic(auto, unfolding(crate::specs::Message::customers_of))]
+#[tactic(auto, unfolding(crate::specs::Parts::customers_of))]
 pub fn read_customers(
     alloc: Global,
     tables: &RefTables,

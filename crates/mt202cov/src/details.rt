@@ -2,7 +2,7 @@
 
 ghost use Rattle.std.specs.Prelude.{◌≤◌, length};
 ghost use Rattle.fin_layout.specs.Reading.{Gives};
-ghost use Rattle.mt202cov.specs.Message.{details_of};
+ghost use Rattle.mt202cov.specs.Parts.{details_of};
 
 use crate::places::{B_NOTES, INFO, ORDERED};
 use corr_money::Amount;
@@ -22,7 +22,7 @@ pub struct Details {
 }
 
 /// The details that fields at the places of sequence B say.
-#[tactic(auto, unfolding(crate::specs::Message::details_of))]
+#[tactic(auto, unfolding(crate::specs::Parts::details_of))]
 pub fn read_details(
     alloc: Global,
     tables: &RefTables,

@@ -2,7 +2,7 @@
 
 ghost use Rattle.std.specs.Prelude.{◌≡◌, ◌≤◌, length};
 ghost use Rattle.fin_layout.specs.Reading.{Gives};
-ghost use Rattle.mt202cov.specs.Message.{contents_of, message_of};
+ghost use Rattle.mt202cov.specs.Parts.{contents_in_parts, message_of};
 
 use crate::message::Mt202Cov;
 use crate::sequences::{SequenceA, SequenceB, read_sequence_a, read_sequence_b};
@@ -40,7 +40,7 @@ fn message(a: SequenceA, b: SequenceB) -> Mt202Cov
 }
 
 /// The cover that fields at these places say.
-#[tactic(auto, unfolding(crate::specs::Message::contents_of))]
+#[tactic(auto, unfolding(crate::specs::Parts::contents_in_parts))]
 pub fn read_contents(
     alloc: Global,
     tables: &RefTables,
@@ -49,7 +49,7 @@ pub fn read_contents(
 ) -> Result<Mt202Cov, MtFault>
     requires few { length fields.now ≤ 65535 }
     requires each { length found.now ≤ length fields.now }
-    ensures { Gives result (contents_of tables.now fields.now found.now) }
+    ensures { Gives result (contents_in_parts tables.now fields.now found.now) }
 {
     let a = read_sequence_a(alloc, tables, fields, found)?;
     let b = read_sequence_b(alloc, tables, fields, found);

@@ -2,7 +2,7 @@
 
 ghost use Rattle.std.specs.Prelude.{◌≤◌, length};
 ghost use Rattle.fin_layout.specs.Reading.{Gives};
-ghost use Rattle.mt202cov.specs.Message.{sequence_a_of, sequence_b_of};
+ghost use Rattle.mt202cov.specs.Parts.{sequence_a_of, sequence_b_of};
 
 use crate::banks::{Banks, read_banks};
 use crate::customers::{Customers, read_customers};
@@ -33,7 +33,7 @@ pub struct SequenceB {
 }
 
 /// What the fields at the places of sequence A say.
-#[tactic(auto, unfolding(crate::specs::Message::sequence_a_of))]
+#[tactic(auto, unfolding(crate::specs::Parts::sequence_a_of))]
 pub fn read_sequence_a(
     alloc: Global,
     tables: &RefTables,
@@ -57,7 +57,7 @@ pub fn read_sequence_a(
 }
 
 /// What the fields at the places of sequence B say.
-#[tactic(auto, unfolding(crate::specs::Message::sequence_b_of))]
+#[tactic(auto, unfolding(crate::specs::Parts::sequence_b_of))]
 pub fn read_sequence_b(
     alloc: Global,
     tables: &RefTables,

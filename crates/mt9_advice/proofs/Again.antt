@@ -17,12 +17,14 @@ use Rattle.fin_contents.proofs.laws.Back.{lines-moved, one-moved, option-moved, 
 use Rattle.fin_contents.proofs.laws.Placed.{party-again-at}
 use Rattle.fin_contents.proofs.laws.Said.{Holds, Stands}
 use Rattle.fin_contents.proofs.laws.Steps.{checked, is-only, read-then, there}
-use Rattle.mt9_advice.specs.Advice.{booking_of, contents_900, contents_910, is_stamp, mt900, mt910, stamp_of}
+use Rattle.mt9_advice.specs.Advice.{contents_900, contents_910, is_stamp, stamp_of}
+use Rattle.mt9_advice.specs.Parts.{booking_of, mt900, mt910, parts_900, parts_910}
 use Rattle.mt9_advice.specs.Writing.{booking_fields, segments_900, segments_910}
 use Rattle.mt9_advice.specs.declared.booking.Booking.{Booking}
 use Rattle.mt9_advice.specs.declared.credit.Mt910.{Mt910}
 use Rattle.mt9_advice.specs.declared.debit.Mt900.{Mt900}
 use Rattle.mt9_advice.specs.Order.{order_900, order_910}
+use Rattle.mt9_advice.proofs.laws.Parts.{contents-are-900, contents-are-910}
 
 -- ---- 13D
 
@@ -78,19 +80,21 @@ pub record Says900 (t : Tables) (fs : List Field) (found : List ℕ) (m : Mt900)
   pub same : unwrap_or lines [] ≡ m.notes
 
 pub said-900 : (t : Tables) (fs : List Field) (found : List ℕ) (m : Mt900) → contents_900 t fs found ≡ Ok m → Says900 t fs found m
-unfolding contents_900
+unfolding parts_900
 said-900 t fs found m e =
-    let one = read-then (booking_of order_900 t fs found) _ m e in
+    let parts : parts_900 t fs found ≡ Ok m = contents-are-900 t fs found ∙ e in
+    let one = read-then (booking_of order_900 t fs found) _ m parts in
     let two = read-then (in_option fs found 5 (known_party_of t)) _ m one.2 in
     let three = read-then (in_option fs found 6 (texts_of 6)) _ m two.2 in
     let same : mt900 one.0 two.0 (unwrap_or three.0 []) ≡ m = cc three.2 in
     rw (← same) (record { booking = booking-said order_900 t fs found one.0 one.1; p52 = two.1; lines = three.0; notes = three.1; same = refl })
 
 pub says-900 : (t : Tables) (fs : List Field) (found : List ℕ) (m : Mt900) → Says900 t fs found m → contents_900 t fs found ≡ Ok m
-unfolding contents_900
+unfolding parts_900
 says-900 t fs found m s =
     let booking = booking-says order_900 t fs found (booking_900 m) s.booking in
-    rw (booking, s.p52, s.notes, s.same) refl
+    let parts : parts_900 t fs found ≡ Ok m = rw (booking, s.p52, s.notes, s.same) refl in
+    sym (contents-are-900 t fs found) ∙ parts
 
 -- the fields of an MT910 say so
 pub record Says910 (t : Tables) (fs : List Field) (found : List ℕ) (m : Mt910) : Type 0 where
@@ -103,9 +107,10 @@ pub record Says910 (t : Tables) (fs : List Field) (found : List ℕ) (m : Mt910)
   pub same : unwrap_or lines [] ≡ m.notes
 
 pub said-910 : (t : Tables) (fs : List Field) (found : List ℕ) (m : Mt910) → contents_910 t fs found ≡ Ok m → Says910 t fs found m
-unfolding contents_910
+unfolding parts_910
 said-910 t fs found m e =
-    let one = read-then (booking_of order_910 t fs found) _ m e in
+    let parts : parts_910 t fs found ≡ Ok m = contents-are-910 t fs found ∙ e in
+    let one = read-then (booking_of order_910 t fs found) _ m parts in
     let two = read-then (in_option fs found 5 (known_party_of t)) _ m one.2 in
     let three = read-then (in_option fs found 6 (known_party_of t)) _ m two.2 in
     let four = read-then (in_option fs found 7 (known_party_of t)) _ m three.2 in
@@ -114,10 +119,11 @@ said-910 t fs found m e =
     rw (← same) (record { booking = booking-said order_910 t fs found one.0 one.1; payer = two.1; p52 = three.1; p56 = four.1; lines = five.0; notes = five.1; same = refl })
 
 pub says-910 : (t : Tables) (fs : List Field) (found : List ℕ) (m : Mt910) → Says910 t fs found m → contents_910 t fs found ≡ Ok m
-unfolding contents_910
+unfolding parts_910
 says-910 t fs found m s =
     let booking = booking-says order_910 t fs found (booking_910 m) s.booking in
-    rw (booking, s.payer, s.p52, s.p56, s.notes, s.same) refl
+    let parts : parts_910 t fs found ≡ Ok m = rw (booking, s.payer, s.p52, s.p56, s.notes, s.same) refl in
+    sym (contents-are-910 t fs found) ∙ parts
 
 -- ---- and so do the fields that it is written as
 

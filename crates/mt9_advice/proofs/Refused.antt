@@ -1,5 +1,5 @@
 -- The contents of an advice, read place by place, meet the first fault of the text.
-use Rattle.std.proofs.Common.{◌≡◌, ℕ, List, ◌∷◌, Result, Err, refl}
+use Rattle.std.proofs.Common.{◌≡◌, ℕ, List, ◌∷◌, Result, Err, refl, sym, ◌∙◌}
 use Rattle.corr_text.specs.First.{◌>>=◌}
 use Rattle.corr_text.specs.declared.fault.Fault.{Fault}
 use Rattle.ref_tables.specs.Seen.{Tables}
@@ -9,9 +9,11 @@ use Rattle.fin_layout.proofs.laws.InOrder.{LiesFrom, none-left, one-in, option-i
 use Rattle.fin_contents.specs.Money.{value_of}
 use Rattle.fin_contents.specs.Parties.{known_party_of}
 use Rattle.fin_contents.specs.Plain.{reference_of, short_line_of, texts_of}
-use Rattle.mt9_advice.specs.Advice.{booking_of, content_test, contents_900, contents_910, stamp_of}
+use Rattle.mt9_advice.specs.Advice.{content_test, contents_900, contents_910, stamp_of}
+use Rattle.mt9_advice.specs.Parts.{booking_of, parts_900, parts_910}
 use Rattle.mt9_advice.specs.declared.booking.Booking.{Booking}
 use Rattle.mt9_advice.specs.Order.{order_900, order_910}
+use Rattle.mt9_advice.proofs.laws.Parts.{contents-are-900, contents-are-910}
 use Rattle.mt9_advice.proofs.Rows.{row_13, row_20, row_21, row_25, row_32}
 
 -- an order that begins with 20, 21, 25, 13D and 32A
@@ -32,17 +34,19 @@ module _ (t : Tables) (fs : List Field) (found : List ℕ) (fault : Fault) where
       one-in l4 (value_of t) (λ f. refl) refl _ refl refl _ next (λ _ l5. on _ l5)))))
 
   pub refused-900 : LiesFrom order_900 (content_test 6 t) fs found fault 0 → contents_900 t fs found ≡ Err fault
-  unfolding contents_900
+  unfolding parts_900
   refused-900 l0 =
-      booking-refused _ 6 l0 _ (λ _ l5.
+      let parts : parts_900 t fs found ≡ Err fault = booking-refused _ 6 l0 _ (λ _ l5.
       option-met l5 (known_party_of t) (λ f. refl) refl _ (λ _ l6.
-      option-met l6 (texts_of 6) (λ f. refl) refl _ (λ _ l7. none-left l7)))
+      option-met l6 (texts_of 6) (λ f. refl) refl _ (λ _ l7. none-left l7))) in
+      sym (contents-are-900 t fs found) ∙ parts
 
   pub refused-910 : LiesFrom order_910 (content_test 8 t) fs found fault 0 → contents_910 t fs found ≡ Err fault
-  unfolding contents_910
+  unfolding parts_910
   refused-910 l0 =
-      booking-refused _ 8 l0 _ (λ _ l5.
+      let parts : parts_910 t fs found ≡ Err fault = booking-refused _ 8 l0 _ (λ _ l5.
       option-met l5 (known_party_of t) (λ f. refl) refl _ (λ _ l6.
       option-met l6 (known_party_of t) (λ f. refl) refl _ (λ _ l7.
       option-met l7 (known_party_of t) (λ f. refl) refl _ (λ _ l8.
-      option-met l8 (texts_of 6) (λ f. refl) refl _ (λ _ l9. none-left l9)))))
+      option-met l8 (texts_of 6) (λ f. refl) refl _ (λ _ l9. none-left l9))))) in
+      sym (contents-are-910 t fs found) ∙ parts

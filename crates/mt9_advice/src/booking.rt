@@ -2,7 +2,7 @@
 
 ghost use Rattle.std.specs.Prelude.{◌≤◌, length};
 ghost use Rattle.fin_layout.specs.Reading.{Gives};
-ghost use Rattle.mt9_advice.specs.Advice.{booking_of};
+ghost use Rattle.mt9_advice.specs.Parts.{booking_of};
 
 use crate::places::{ACCOUNT, REFERENCE, RELATED, STAMP, VALUE};
 use crate::stamp::Stamp;
@@ -24,7 +24,7 @@ pub struct Booking {
 }
 
 /// The entry that the fields at the first five places of an order say.
-#[tactic(auto, unfolding(crate::specs::Advice::booking_of))]
+#[tactic(auto, unfolding(crate::specs::Parts::booking_of))]
 pub fn read_booking(
     alloc: Global,
     order: &[Place],

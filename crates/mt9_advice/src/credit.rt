@@ -7,7 +7,8 @@ ghost use Rattle.fin_contents.specs.Writing.{IsReadable};
 ghost use Rattle.fin_fields.specs.Writing.{IsField};
 ghost use Rattle.fin_layout.specs.Order.{places_from};
 ghost use Rattle.fin_layout.specs.Reading.{Gives};
-ghost use Rattle.mt9_advice.specs.Advice.{booking_of, c06, contents_910, mt910, mt910_of, tests_910};
+ghost use Rattle.mt9_advice.specs.Advice.{c06, contents_910, mt910_of, tests_910};
+ghost use Rattle.mt9_advice.specs.Parts.{booking_of, mt910, parts_910};
 ghost use Rattle.mt9_advice.specs.declared.credit.Mt910.{Mt910 as Mt910Seen};
 ghost use Rattle.mt9_advice.specs.Order.{order_910};
 ghost use Rattle.ref_tables.specs.Seen.{few_decimals};
@@ -89,7 +90,7 @@ fn read_credit(
     read_booking(alloc, &ORDER_910, tables, fields, found)
 }
 
-#[tactic(auto, unfolding(crate::specs::Advice::contents_910))]
+#[tactic(auto, unfolding(crate::specs::Parts::parts_910))]
 fn read_contents(
     alloc: Global,
     tables: &RefTables,
@@ -97,7 +98,7 @@ fn read_contents(
     found: &[usize],
 ) -> Result<Mt910, MtFault>
     requires few { length fields.now ≤ 65535 }
-    ensures { Gives result (contents_910 tables.now fields.now found.now) }
+    ensures { Gives result (parts_910 tables.now fields.now found.now) }
 {
     let booking = read_credit(alloc, tables, fields, found)?;
     let payer = read_optional(alloc, &KnownParty { tables }, fields, found, PAYER)?;

@@ -7,7 +7,8 @@ ghost use Rattle.fin_contents.specs.Writing.{IsReadable};
 ghost use Rattle.fin_fields.specs.Writing.{IsField};
 ghost use Rattle.fin_layout.specs.Order.{places_from};
 ghost use Rattle.fin_layout.specs.Reading.{Gives};
-ghost use Rattle.mt9_advice.specs.Advice.{contents_900, mt900, mt900_of, tests_900};
+ghost use Rattle.mt9_advice.specs.Advice.{contents_900, mt900_of, tests_900};
+ghost use Rattle.mt9_advice.specs.Parts.{mt900, parts_900};
 ghost use Rattle.mt9_advice.specs.declared.debit.Mt900.{Mt900 as Mt900Seen};
 ghost use Rattle.mt9_advice.specs.Order.{order_900};
 ghost use Rattle.ref_tables.specs.Seen.{few_decimals};
@@ -61,7 +62,7 @@ fn message(booking: Booking, p52: Option<Party>, notes: List<Text>) -> Mt900
     }
 }
 
-#[tactic(auto, unfolding(crate::specs::Advice::contents_900))]
+#[tactic(auto, unfolding(crate::specs::Parts::parts_900))]
 fn read_contents(
     alloc: Global,
     tables: &RefTables,
@@ -69,7 +70,7 @@ fn read_contents(
     found: &[usize],
 ) -> Result<Mt900, MtFault>
     requires few { length fields.now ≤ 65535 }
-    ensures { Gives result (contents_900 tables.now fields.now found.now) }
+    ensures { Gives result (parts_900 tables.now fields.now found.now) }
 {
     let booking = read_booking(alloc, &ORDER_900, tables, fields, found)?;
     let p52 = read_optional(alloc, &KnownParty { tables }, fields, found, ORDERING_900)?;

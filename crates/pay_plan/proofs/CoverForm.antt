@@ -1,5 +1,5 @@
 -- The form of a cover that was read: its references, its value date, and the banks of 56a, 57a and 58a.
-use Rattle.std.proofs.Common.{◌≡◌, ℕ, IfSome, List, [], Ok, subst}
+use Rattle.std.proofs.Common.{◌≡◌, ℕ, IfSome, List, [], Ok, subst, ◌∙◌}
 use Rattle.std.specs.Prelude.{unwrap_or}
 use Rattle.corr_ids.specs.Day.{InCentury}
 use Rattle.day_model.specs.Shape.{IsReference}
@@ -15,12 +15,14 @@ use Rattle.fin_contents.specs.Money.{value_of}
 use Rattle.fin_contents.specs.Parties.{known_party_of}
 use Rattle.fin_contents.specs.Plain.{reference_of, texts_of, time_of}
 use Rattle.mt202cov.specs.Rules.{all_rules}
-use Rattle.mt202cov.specs.Message.{banks_of, contents_of, field_tests, message_of, mt202cov_of, sequence_a_of, sequence_b_of, terms_of}
+use Rattle.mt202cov.specs.Message.{contents_of, field_tests, mt202cov_of}
+use Rattle.mt202cov.specs.Parts.{banks_of, contents_in_parts, message_of, sequence_a_of, sequence_b_of, terms_of}
 use Rattle.mt202cov.specs.declared.banks.Banks.{Banks}
 use Rattle.mt202cov.specs.declared.message.Mt202Cov.{Mt202Cov}
 use Rattle.mt202cov.specs.Order.{order_202}
 use Rattle.mt202cov.specs.declared.sequences.SequenceA.{SequenceA}
 use Rattle.mt202cov.specs.declared.terms.Terms.{Terms}
+use Rattle.mt202cov.proofs.laws.Parts.{contents-are}
 use Rattle.pay_plan.specs.Readable.{IsCoverRead}
 use Rattle.pay_plan.proofs.Parties.{HasBank, bank-form, ok-is, party-bank}
 use Rattle.pay_plan.proofs.Words.{reference-form}
@@ -83,9 +85,10 @@ sequence-form t fs found x e =
     subst (SequenceForm t) same (record { terms = terms-form t fs found terms.0 terms.1; banks = banks-form t fs found banks.0 banks.1 })
 
 contents-form : (t : Tables) (fs : List Field) (found : List ℕ) (m : Mt202Cov) → contents_of t fs found ≡ Ok m → CoverForm t m
-unfolding contents_of
+unfolding contents_in_parts
 contents-form t fs found m e =
-    let a = read-then (sequence_a_of t fs found) _ m e in
+    let whole : contents_in_parts t fs found ≡ Ok m = contents-are t fs found ∙ e in
+    let a = read-then (sequence_a_of t fs found) _ m whole in
     let b = read-then (sequence_b_of t fs found) _ m a.2 in
     let same : message_of a.0 b.0 ≡ m = ok-is _ m b.2 in
     let s = sequence-form t fs found a.0 a.1 in

@@ -1,5 +1,5 @@
 -- The form of a transfer that was read: its reference, its value date, and the banks of 56a and 57a.
-use Rattle.std.proofs.Common.{◌≡◌, ℕ, IfSome, List, [], ◌∷◌, Ok, subst}
+use Rattle.std.proofs.Common.{◌≡◌, ℕ, IfSome, List, [], ◌∷◌, Ok, subst, ◌∙◌}
 use Rattle.corr_ids.specs.Day.{InCentury}
 use Rattle.day_model.specs.Shape.{IsReference}
 use Rattle.ref_tables.specs.Seen.{Tables}
@@ -15,11 +15,13 @@ use Rattle.fin_contents.specs.Parties.{known_party_of}
 use Rattle.fin_contents.specs.Plain.{reference_of, time_of}
 use Rattle.mt103.specs.Codes.{instr_of, kind_of, operation_of}
 use Rattle.mt103.specs.Instructions.{d98, e46}
-use Rattle.mt103.specs.Message.{contents_of, details_of, field_tests, message_of, mt103_of, parties_of, terms_of}
+use Rattle.mt103.specs.Message.{contents_of, field_tests, mt103_of}
+use Rattle.mt103.specs.Parts.{contents_in_parts, details_of, message_of, parties_of, terms_of}
 use Rattle.mt103.specs.declared.message.Mt103.{Mt103}
 use Rattle.mt103.specs.Order.{order_103}
 use Rattle.mt103.specs.declared.parties.Parties.{Parties}
 use Rattle.mt103.specs.declared.terms.Terms.{Terms}
+use Rattle.mt103.proofs.laws.Parts.{contents-are}
 use Rattle.pay_plan.specs.Readable.{IsTransferRead}
 use Rattle.pay_plan.proofs.Parties.{HasBank, bank-form, ok-is}
 use Rattle.pay_plan.proofs.Words.{reference-form}
@@ -69,9 +71,10 @@ parties-form t fs found x e =
     subst (PartiesForm t) same (record { p56 = bank-form t fs found 13 r5.0 r5.1; p57 = bank-form t fs found 14 r6.0 r6.1 })
 
 contents-form : (t : Tables) (fs : List Field) (found : List ℕ) (m : Mt103) → contents_of t fs found ≡ Ok m → TransferForm t m
-unfolding contents_of
+unfolding contents_in_parts
 contents-form t fs found m e =
-    let terms = read-then (terms_of t fs found) _ m e in
+    let whole : contents_in_parts t fs found ≡ Ok m = contents-are t fs found ∙ e in
+    let terms = read-then (terms_of t fs found) _ m whole in
     let parties = read-then (parties_of t fs found) _ m terms.2 in
     let details = read-then (details_of t fs found) _ m parties.2 in
     let same : message_of terms.0 parties.0 details.0 ≡ m = ok-is _ m details.2 in

@@ -16,7 +16,7 @@ use Rattle.corr_money.specs.Amounts.{amount_end}
 use Rattle.ref_tables.specs.declared.account.AccountRow.{AccountRow}
 use Rattle.ref_tables.specs.declared.fault.Why.{Why}
 use Rattle.ref_tables.specs.declared.fault.Why.TheVariants as why
-use Rattle.ref_tables.specs.Columns.{is_account_id, is_ccy, is_kind, kind_of, signed_of}
+use Rattle.ref_tables.specs.Columns.{is_account_id, is_ccy, is_kind, kind_in_cell, signed_of}
 use Rattle.ref_tables.specs.Rows.{Cells, cell, rows_within}
 use Rattle.ref_tables.specs.Refusals.{against, value, double, first_bad_row}
 use Rattle.ref_tables.specs.Seen.{Tables, has_head, decimals_in}
@@ -28,7 +28,7 @@ use Rattle.ref_tables.proofs.laws.Records.{rows_within_some}
 -- the columns of a row have their forms
 pub record Formed (row : Cells) : Type 0 where
   pub id : is_account_id (cell 0 row) ≡ true
-  pub kind : is_some (kind_of (cell 1 row)) ≡ true
+  pub kind : is_some (kind_in_cell (cell 1 row)) ≡ true
   pub owner : is_bic (cell 2 row) ≡ true
   pub ccy : is_ccy (cell 3 row) ≡ true
 
@@ -44,7 +44,7 @@ five-hold a b c d e f g h i j more none =
 
 pub formed : (row : Cells) → form_fault row ≡ None → Formed row
 formed row none =
-    let h = five-hold (length row == 7) (is_account_id (cell 0 row)) (is_some (kind_of (cell 1 row))) (is_bic (cell 2 row)) (is_ccy (cell 3 row))
+    let h = five-hold (length row == 7) (is_account_id (cell 0 row)) (is_some (kind_in_cell (cell 1 row))) (is_bic (cell 2 row)) (is_ccy (cell 3 row))
     why.Columns (why.Value 1) (why.Value 2) (why.Value 3) (why.Value 4)
     (value 5 (is_some (signed_of (cell 4 row))) ∷ value 6 (is_some (signed_of (cell 5 row))) ∷ value 7 (is_some (signed_of (cell 6 row))) ∷ []) none in
     record { id = h.0; kind = h.1; owner = h.2; ccy = h.3 }
@@ -64,7 +64,7 @@ stands home t earlier a e =
     let last = next-holds _ _ _ third.1 in
     record { alone = first.0; owner = second.0; ccy = third.0; limits = last.0 }
 
-kind-is : (bs : List ℕ) → is_some (kind_of bs) ≡ true → is_kind (unwrap_or (kind_of bs) 0) ≡ true
+kind-is : (bs : List ℕ) → is_some (kind_in_cell bs) ≡ true → is_kind (unwrap_or (kind_in_cell bs) 0) ≡ true
 kind-is [] e = absurd (cc e)
 kind-is (b ∷ []) e = go (is_kind b) refl e
   where

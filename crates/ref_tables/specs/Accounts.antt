@@ -5,7 +5,7 @@ use Rattle.std.specs.Str.{bytes_eq}
 use Rattle.corr_text.specs.First.{first_of, unless}
 use Rattle.corr_ids.specs.Bic.{is_bic, branch_of}
 use Rattle.corr_money.specs.Amounts.{amount_end}
-use Rattle.ref_tables.specs.Columns.{is_ccy, is_account_id, kind_of, signed_of}
+use Rattle.ref_tables.specs.Columns.{is_ccy, is_account_id, kind_in_cell, signed_of}
 use Rattle.ref_tables.specs.Rows.{Cells, cell, most_rows}
 use Rattle.ref_tables.specs.Refusals.{against, columns, value, double, first_fault}
 use Rattle.ref_tables.specs.Seen.{Tables, has_head, decimals_in}
@@ -21,7 +21,7 @@ customer = 67
 abbrev pub account_of : Tables → Cells → AccountRow
 account_of t row = record {
   id = cell 0 row;
-  kind = unwrap_or (kind_of (cell 1 row)) 0;
+  kind = unwrap_or (kind_in_cell (cell 1 row)) 0;
   owner = record { head = take 8 (cell 2 row); branch = branch_of (cell 2 row) };
   ccy = record { 0 = cell 3 row };
   decimals = unwrap_or (decimals_in t (cell 3 row)) 0;
@@ -35,7 +35,7 @@ abbrev pub form_fault : Cells → Option Why
 form_fault row = first_of (
     columns 7 row
     ∷ value 1 (is_account_id (cell 0 row))
-    ∷ value 2 (is_some (kind_of (cell 1 row)))
+    ∷ value 2 (is_some (kind_in_cell (cell 1 row)))
     ∷ value 3 (is_bic (cell 2 row))
     ∷ value 4 (is_ccy (cell 3 row))
     ∷ value 5 (is_some (signed_of (cell 4 row)))

@@ -14,9 +14,9 @@ abbrev pub is_country : List ℕ → Bool
 is_country bs = (length bs == 2) && list_all is_ascii_uppercase bs
 
 -- a number of decimals: one digit, 0 to 4
-abbrev pub decimals_of : List ℕ → Option ℕ
-decimals_of (b ∷ []) = if nat_le 48 b && nat_le b 52 then Some (b - 48) else None
-decimals_of _ = None
+abbrev pub decimals_in_cell : List ℕ → Option ℕ
+decimals_in_cell (b ∷ []) = if nat_le 48 b && nat_le b 52 then Some (b - 48) else None
+decimals_in_cell _ = None
 
 -- Y or N
 abbrev pub yes_of : List ℕ → Option Bool
@@ -32,9 +32,9 @@ abbrev pub is_kind : ℕ → Bool
 is_kind b = (b == 67) || (b == 86) || (b == 78)
 
 -- a kind, of one letter
-abbrev pub kind_of : List ℕ → Option ℕ
-kind_of (b ∷ []) = if is_kind b then Some b else None
-kind_of _ = None
+abbrev pub kind_in_cell : List ℕ → Option ℕ
+kind_in_cell (b ∷ []) = if is_kind b then Some b else None
+kind_in_cell _ = None
 
 -- 1 to 15 digits
 abbrev pub magnitude_of : List ℕ → Option ℕ

@@ -19,8 +19,8 @@ abbrev pub decimals_in : Tables → List ℕ → Option ℕ
 decimals_in t ccy = lookup (bytes_eq ccy) t.ccys
 
 -- a country is listed: it is in the table, with Y
-abbrev pub is_listed : Tables → List ℕ → Bool
-is_listed t country = unwrap_or (lookup (bytes_eq country) t.countries) false
+abbrev pub is_listed_country : Tables → List ℕ → Bool
+is_listed_country t country = unwrap_or (lookup (bytes_eq country) t.countries) false
 
 -- each currency has at most 4 decimals
 abbrev pub few_decimals : List (List ℕ × ℕ) → Bool

@@ -1,6 +1,6 @@
 //! The table of banks.
 
-ghost use Rattle.ref_tables.specs.Tables.{bank_fault, bank_of};
+ghost use Rattle.ref_tables.specs.Tables.{bank_fault, bank_in_row};
 
 use crate::fault::Why;
 use crate::keyed::{KeyedRow, unseen};
@@ -13,7 +13,7 @@ use indexmap::IndexMap;
 pub struct BankRow;
 
 impl KeyedRow<8, [u8; 3]> for BankRow {
-    ghost entry = { bank_of };
+    ghost entry = { bank_in_row };
 
     ghost fault = { bank_fault };
 

@@ -1,7 +1,7 @@
 //! The forms of columns (docs/tables.md, "Columns").
 
 ghost use Rattle.std.specs.Prelude.{◌≡◌, None, option_map, pos, Some, if◌then◌else◌};
-ghost use Rattle.ref_tables.specs.Columns.{decimals_of, is_account_id as is_account_id_of, is_ccy, is_country, kind_of, magnitude_of, signed_of, yes_of};
+ghost use Rattle.ref_tables.specs.Columns.{decimals_in_cell, is_account_id as is_account_id_of, is_ccy, is_country, kind_in_cell, magnitude_of, signed_of, yes_of};
 
 use corr_money::Ccy;
 use corr_text::{Set, digits, is_all_of};
@@ -32,7 +32,7 @@ pub fn country(b: &[u8]) -> Option<[u8; 2]>
 
 /// A number of decimals: one digit, 0 to 4.
 pub fn decimals(b: &[u8]) -> Option<u8>
-    ensures { result ≡ decimals_of b.now }
+    ensures { result ≡ decimals_in_cell b.now }
 {
     match b {
         [b] if b'0' <= *b && *b <= b'4' => Some(*b - b'0'),
@@ -60,7 +60,7 @@ pub fn is_account_id(b: &[u8]) -> bool
 
 /// `C`, `V` or `N`.
 pub fn kind(b: &[u8]) -> Option<u8>
-    ensures { result ≡ kind_of b.now }
+    ensures { result ≡ kind_in_cell b.now }
 {
     match b {
         [b] if *b == b'C' || *b == b'V' || *b == b'N' => Some(*b),

@@ -1,6 +1,6 @@
 //! The table of countries.
 
-ghost use Rattle.ref_tables.specs.Tables.{country_fault, country_of};
+ghost use Rattle.ref_tables.specs.Tables.{country_fault, country_in_row};
 
 use crate::columns::{country, yes_or_no};
 use crate::fault::Why;
@@ -13,7 +13,7 @@ use indexmap::IndexMap;
 pub struct CountryRow;
 
 impl KeyedRow<2, bool> for CountryRow {
-    ghost entry = { country_of };
+    ghost entry = { country_in_row };
 
     ghost fault = { country_fault };
 

@@ -2,7 +2,7 @@
 
 ghost use Rattle.std.specs.Prelude.{◌≡◌, ◌≤◌, IfErr, IfOk, IfSome, IsTrue, None};
 ghost use Rattle.ref_tables.specs.Refusals.{Tells};
-ghost use Rattle.ref_tables.specs.Seen.{decimals_in, few_decimals, has_head, is_listed};
+ghost use Rattle.ref_tables.specs.Seen.{decimals_in, few_decimals, has_head, is_listed_country};
 ghost use Rattle.ref_tables.specs.Tables.{tables_fault, tables_of};
 
 use crate::banks::BankRow;
@@ -62,7 +62,7 @@ impl RefTables {
 
     /// Whether a country's row says `Y`.
     pub fn listed(&self, country: &[u8; 2]) -> bool
-        ensures { result ≡ is_listed self.now country.now }
+        ensures { result ≡ is_listed_country self.now country.now }
     {
         self.countries.get(country).copied().unwrap_or(false)
     }

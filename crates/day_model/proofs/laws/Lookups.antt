@@ -11,7 +11,7 @@ use Rattle.day_model.specs.declared.pay.Mt.{Mt}
 use Rattle.day_model.specs.declared.pay.Mt.TheVariants.{Transfer, Cover}
 use Rattle.day_model.specs.declared.reply.Reply.TheVariants as reply
 use Rattle.day_model.specs.Next.{has_mir, entered_at}
-use Rattle.day_model.specs.Same.{is_mt, is_uetr, is_same_pay, reply_at, reply_to}
+use Rattle.day_model.specs.Same.{is_mt, is_same_uetr, is_same_pay, reply_at, reply_to}
 
 -- a new entry is found at its place
 found_last : {A : Type 0} (t : A → Bool) (i : ℕ) (xs : List A) (y : A) → position_from t i xs ≡ None → t y ≡ true → position_from t i (xs ++ y ∷ []) ≡ Some (i + length xs)
@@ -33,7 +33,7 @@ same_mt : (m : Mt) → is_mt m m ≡ true
 same_mt Transfer = refl
 same_mt Cover = refl
 
-same_uetr : (u : Option Uetr) → is_uetr u u ≡ true
+same_uetr : (u : Option Uetr) → is_same_uetr u u ≡ true
 same_uetr None = refl
 same_uetr (Some u) = same_bytes u.0
 

@@ -11,9 +11,9 @@ use Rattle.corr_ids.specs.Day.{◌>>=◌ as ◌onward◌}
 use Rattle.corr_ids.specs.Mir.{IsMir, is_mir, mir_of}
 use Rattle.corr_ids.specs.declared.address.LtAddress.{LtAddress}
 use Rattle.corr_ids.proofs.laws.Spelling.{lt-bank}
-use Rattle.fin_blocks.specs.Blocks.{AreNamed, IsApp, are_last, behind, blocks_of, trailers_of, user_of}
+use Rattle.fin_blocks.specs.Blocks.{AreNamed, IsApp, are_last, groups_behind, blocks_of, trailers_of, user_of}
 use Rattle.fin_blocks.specs.Forms.{app_of, basic_in, basic_of, inside, mir_in, received_in, received_of, sent_in, sent_of}
-use Rattle.fin_blocks.specs.Groups.{after, groups_of, next}
+use Rattle.fin_blocks.specs.Groups.{groups_after, groups_of, next_group}
 use Rattle.fin_blocks.specs.Text.{text_of}
 use Rattle.fin_blocks.specs.declared.basic.Basic.{Basic}
 use Rattle.fin_blocks.specs.declared.blocks.App.{App}
@@ -73,7 +73,7 @@ basic-in-form : (bs : List ℕ) → IfSome (basic_in bs) BasicForm
 unfolding basic_in
 basic-in-form bs = given HasBank BasicForm _ _ (guarded HasBank _ _ (bank-again _)) (λ own h. h)
 
-basic-form : (group : List ℕ) → IfSome (basic_of group) BasicForm
+basic-form : (group : Option (List ℕ)) → IfSome (basic_of group) BasicForm
 basic-form group = last-of BasicForm (inside (codes "{1:F") group) basic_in basic-in-form
 
 received-in-form : (bs : List ℕ) → IfSome (received_in bs) IsApp
@@ -84,7 +84,7 @@ sent-in-form : (bs : List ℕ) → IfSome (sent_in bs) IsApp
 unfolding sent_in
 sent-in-form bs = last-of IsApp _ _ (λ mt. given HasBank IsApp _ _ (bank-again _) (λ to h. h))
 
-app-form : (group : List ℕ) → IfSome (app_of group) IsApp
+app-form : (group : Option (List ℕ)) → IfSome (app_of group) IsApp
 app-form group =
     either IsApp (received_of group) (sent_of group)
     (last-of IsApp (inside (codes "{2:O") group) received_in received-in-form)
@@ -97,13 +97,13 @@ unfolding blocks_of
 blocks-form m =
     let P : Blocks → Type 0 = AreNamed in
     let first = groups_of m in
-    then-part BasicForm P (basic_of (next first)) (fault.Bad (code "P01") None) _ (basic-form (next first)) (λ basic own.
+    then-part BasicForm P (basic_of (next_group first)) (fault.Bad (code "P01") None) _ (basic-form (next_group first)) (λ basic own.
     then P (check (bytes_eq basic.version (codes "01")) (fault.Bad (code "P02") None)) _ (λ _ _.
-    then-part IsApp P (app_of (next (after first))) (fault.Bad (code "P03") None) _ (app-form (next (after first))) (λ app form.
-    then P (or_fault (user_of (after (after first))) (fault.Bad (code "P04") (mir_in app))) _ (λ user _.
-    then P (or_fault (text_of (next (behind (codes "{3:") (after (after first))))) (fault.Bad (code "P05") (mir_in app))) _ (λ text _.
-    then P (or_fault (trailers_of (after (behind (codes "{3:") (after (after first))))) (fault.Bad (code "P06") (mir_in app))) _ (λ trailers _.
-    then P (check (are_last (behind (codes "{5:") (after (behind (codes "{3:") (after (after first)))))) (fault.Bad (code "P06") (mir_in app))) _ (λ _ _.
+    then-part IsApp P (app_of (next_group (groups_after first))) (fault.Bad (code "P03") None) _ (app-form (next_group (groups_after first))) (λ app form.
+    then P (or_fault (user_of (groups_after (groups_after first))) (fault.Bad (code "P04") (mir_in app))) _ (λ user _.
+    then P (or_fault (text_of (next_group (groups_behind (codes "{3:") (groups_after (groups_after first))))) (fault.Bad (code "P05") (mir_in app))) _ (λ text _.
+    then P (or_fault (trailers_of (groups_after (groups_behind (codes "{3:") (groups_after (groups_after first))))) (fault.Bad (code "P06") (mir_in app))) _ (λ trailers _.
+    then P (check (are_last (groups_behind (codes "{5:") (groups_after (groups_behind (codes "{3:") (groups_after (groups_after first)))))) (fault.Bad (code "P06") (mir_in app))) _ (λ _ _.
     record { own = own; app = form })))))))
 
 -- what is named by the blocks of a message that was read meets its grammar

@@ -12,54 +12,61 @@ use Rattle.corr_text.specs.First.{check, or_fault, ◌>>=◌}
 use Rattle.corr_text.specs.Lines.{begins_with, lines_of, with_byte as with_line_byte}
 use Rattle.corr_text.proofs.laws.Written.{is_inner, line-again}
 use Rattle.corr_ids.specs.Day.{◌>>=◌ as ◌then◌}
-use Rattle.fin_blocks.specs.Blocks.{are_last, behind, blocks_of, has_next, trailers_of, user_of}
+use Rattle.fin_blocks.specs.Blocks.{are_last, groups_behind, blocks_of, has_next, trailers_of, user_of}
 use Rattle.fin_blocks.specs.Forms.{app_of, basic_of, between, mir_in}
 use Rattle.corr_text.specs.Braces.{depth_after}
-use Rattle.fin_blocks.specs.Groups.{after, groups_of, next, pieces_from, with_byte}
+use Rattle.fin_blocks.specs.Groups.{groups_after, groups_of, next_group, groups_from, group_with_byte}
 use Rattle.fin_blocks.specs.Text.{ended, text_in, text_of}
 use Rattle.fin_blocks.specs.declared.blocks.Blocks.{Blocks}
 use Rattle.fin_blocks.specs.declared.fault.BlockFault.TheVariants as fault
 
--- ---- pieces of at most n bytes
+-- ---- groups of at most n bytes
 
-abbrev AreSmall : ℕ → List (List ℕ) → Type 0
+abbrev IsSmall : ℕ → Option (List ℕ) → Type 0
+IsSmall n group = IfSome group (λ g. length g ≤ n)
+
+abbrev AreSmall : ℕ → List (Option (List ℕ)) → Type 0
 AreSmall n [] = Unit {0}
-AreSmall n (piece ∷ pieces) = (length piece ≤ n) × AreSmall n pieces
+AreSmall n (None ∷ groups) = AreSmall n groups
+AreSmall n (Some group ∷ groups) = (length group ≤ n) × AreSmall n groups
 
-still-small : (n : ℕ) (pieces : List (List ℕ)) → AreSmall n pieces → AreSmall (suc n) pieces
+still-small : (n : ℕ) (groups : List (Option (List ℕ))) → AreSmall n groups → AreSmall (suc n) groups
 still-small n [] small = tt
-still-small n (piece ∷ pieces) small = (let le = small.0 in omega arith, still-small n pieces small.1)
+still-small n (None ∷ groups) small = still-small n groups small
+still-small n (Some group ∷ groups) small = (let le = small.0 in omega arith, still-small n groups small.1)
 
-small-with : (n b : ℕ) (pieces : List (List ℕ)) → AreSmall n pieces → AreSmall (suc n) (with_byte b pieces)
+small-with : (n b : ℕ) (groups : List (Option (List ℕ))) → AreSmall n groups → AreSmall (suc n) (group_with_byte b groups)
 small-with n b [] small = tt
-small-with n b ([] ∷ pieces) small = (omega arith, still-small n pieces small.1)
-small-with n b ((c ∷ cs) ∷ pieces) small = (let le = small.0 in omega arith, still-small n pieces small.1)
+small-with n b (None ∷ groups) small = still-small n groups small
+small-with n b (Some group ∷ groups) small = (let le = small.0 in omega arith, still-small n groups small.1)
 
-either : (n : ℕ) (t : Bool) (xs ys : List (List ℕ)) → AreSmall n xs → AreSmall n ys → AreSmall n (cond t xs ys)
+either : (n : ℕ) (t : Bool) (xs ys : List (Option (List ℕ))) → AreSmall n xs → AreSmall n ys → AreSmall n (cond t xs ys)
 either n true xs ys a b = a
 either n false xs ys a b = b
 
-pieces-small : (depth : ℕ) (bs : List ℕ) → AreSmall (length bs) (pieces_from depth bs)
-pieces-small depth [] = either zero (depth == 0) [] ([] ∷ []) tt (omega arith, tt)
-pieces-small depth (b ∷ bs) =
-    either (suc (length bs)) (depth_after depth b == 0) ((b ∷ []) ∷ pieces_from 0 bs) (with_byte b (pieces_from (depth_after depth b) bs))
-    (omega arith, still-small (length bs) (pieces_from 0 bs) (pieces-small 0 bs))
-    (small-with (length bs) b (pieces_from (depth_after depth b) bs) (pieces-small (depth_after depth b) bs))
+from-small : (depth : ℕ) (bs : List ℕ) → AreSmall (length bs) (groups_from depth bs)
+from-small depth [] = either zero (depth == 0) [] (None ∷ []) tt tt
+from-small depth (b ∷ bs) =
+    either (suc (length bs)) (depth_after depth b == 0) (Some (b ∷ []) ∷ groups_from 0 bs) (group_with_byte b (groups_from (depth_after depth b) bs))
+    (omega arith, still-small (length bs) (groups_from 0 bs) (from-small 0 bs))
+    (small-with (length bs) b (groups_from (depth_after depth b) bs) (from-small (depth_after depth b) bs))
 
 groups-small : (bs : List ℕ) → AreSmall (length bs) (groups_of bs)
 unfolding groups_of
-groups-small bs = pieces-small 0 bs
+groups-small bs = from-small 0 bs
 
-next-small : (n : ℕ) (groups : List (List ℕ)) → AreSmall n groups → length (next groups) ≤ n
-next-small n [] small = omega arith
-next-small n (group ∷ groups) small = small.0
+next-small : (n : ℕ) (groups : List (Option (List ℕ))) → AreSmall n groups → IsSmall n (next_group groups)
+next-small n [] small = tt
+next-small n (None ∷ groups) small = tt
+next-small n (Some group ∷ groups) small = small.0
 
-after-small : (n : ℕ) (groups : List (List ℕ)) → AreSmall n groups → AreSmall n (after groups)
+after-small : (n : ℕ) (groups : List (Option (List ℕ))) → AreSmall n groups → AreSmall n (groups_after groups)
 after-small n [] small = tt
-after-small n (group ∷ groups) small = small.1
+after-small n (None ∷ groups) small = small
+after-small n (Some group ∷ groups) small = small.1
 
-behind-small : (n : ℕ) (start : List ℕ) (groups : List (List ℕ)) → AreSmall n groups → AreSmall n (behind start groups)
-behind-small n start groups small = either n (has_next start groups) (after groups) groups (after-small n groups small) small
+behind-small : (n : ℕ) (start : List ℕ) (groups : List (Option (List ℕ))) → AreSmall n groups → AreSmall n (groups_behind start groups)
+behind-small n start groups small = either n (has_next start groups) (groups_after groups) groups (after-small n groups small) small
 
 -- ---- lines, each with a new end
 
@@ -160,9 +167,10 @@ weaker : (P Q : List ℕ → Type 0) (o : Option (List ℕ)) → ((bs : List ℕ
 weaker P Q None f a = tt
 weaker P Q (Some bs) f a = f bs a
 
-text-of-sized : (group : List ℕ) (n : ℕ) → length group ≤ n → IfSome (text_of group) (Sized n)
+text-of-sized : (group : Option (List ℕ)) (n : ℕ) → IsSmall n group → IfSome (text_of group) (Sized n)
 unfolding text_of
-text-of-sized group n le =
+text-of-sized None n le = tt
+text-of-sized (Some group) n le =
     let P : List ℕ → Type 0 = λ bs. length bs + 6 ≤ n in
     let crlf : List ℕ = codes "{4:" ++ 13 ∷ 10 ∷ [] in
     let lf : List ℕ = codes "{4:" ++ 10 ∷ [] in
@@ -217,25 +225,25 @@ found None fault x e = absurd (cc e)
 blocks-sized : (m : List ℕ) → IfOk (blocks_of m) (λ b. Sized (length m) b.text)
 unfolding blocks_of
 blocks-sized m =
-    let third = after (after (groups_of m)) in
-    let fourth = behind (codes "{3:") third in
-    let fifth = after fourth in
+    let third = groups_after (groups_after (groups_of m)) in
+    let fourth = groups_behind (codes "{3:") third in
+    let fifth = groups_after fourth in
     step-1 (λ (b : Blocks). Sized (length m) b.text)
-    (or_fault (basic_of (next (groups_of m))) (fault.Bad (code "P01") None))
+    (or_fault (basic_of (next_group (groups_of m))) (fault.Bad (code "P01") None))
     (λ basic. check (bytes_eq basic.version (codes "01")) (fault.Bad (code "P02") None))
-    (or_fault (app_of (next (after (groups_of m)))) (fault.Bad (code "P03") None))
+    (or_fault (app_of (next_group (groups_after (groups_of m)))) (fault.Bad (code "P03") None))
     (λ app. or_fault (user_of third) (fault.Bad (code "P04") (mir_in app)))
-    (λ app. or_fault (text_of (next fourth)) (fault.Bad (code "P05") (mir_in app)))
+    (λ app. or_fault (text_of (next_group fourth)) (fault.Bad (code "P05") (mir_in app)))
     (λ app. or_fault (trailers_of fifth) (fault.Bad (code "P06") (mir_in app)))
-    (λ app. check (are_last (behind (codes "{5:") fifth)) (fault.Bad (code "P06") (mir_in app)))
+    (λ app. check (are_last (groups_behind (codes "{5:") fifth)) (fault.Bad (code "P06") (mir_in app)))
     (λ basic app user text trailers. record { own = basic.own; app = app; user = user; text = text; trailers = trailers })
-    (λ basic app user text is trailers. sized text (found (text_of (next fourth)) (fault.Bad (code "P05") (mir_in app)) text is))
+    (λ basic app user text is trailers. sized text (found (text_of (next_group fourth)) (fault.Bad (code "P05") (mir_in app)) text is))
   where
-    sized : (text : List ℕ) → text_of (next (behind (codes "{3:") (after (after (groups_of m))))) ≡ Some text → Sized (length m) text
+    sized : (text : List ℕ) → text_of (next_group (groups_behind (codes "{3:") (groups_after (groups_after (groups_of m))))) ≡ Some text → Sized (length m) text
     sized text is =
-        let group = next (behind (codes "{3:") (after (after (groups_of m)))) in
-        let short : length group ≤ length m = next-small (length m) (behind (codes "{3:") (after (after (groups_of m))))
-        (behind-small (length m) (codes "{3:") (after (after (groups_of m))) (after-small (length m) (after (groups_of m)) (after-small (length m) (groups_of m) (groups-small m)))) in
+        let group = next_group (groups_behind (codes "{3:") (groups_after (groups_after (groups_of m)))) in
+        let short : IsSmall (length m) group = next-small (length m) (groups_behind (codes "{3:") (groups_after (groups_after (groups_of m))))
+        (behind-small (length m) (codes "{3:") (groups_after (groups_after (groups_of m))) (after-small (length m) (groups_after (groups_of m)) (after-small (length m) (groups_of m) (groups-small m)))) in
         subst (λ o. IfSome o (Sized (length m))) is (text-of-sized group (length m) short)
 
 pub text_lines : (m : List ℕ) (b : Blocks) → blocks_of m ≡ Ok b → length (lines_of b.text) ≤ length m

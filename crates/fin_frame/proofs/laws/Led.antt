@@ -8,7 +8,7 @@ use Rattle.corr_text.specs.Braces.{depth_after}
 use Rattle.fin_frame.specs.File.{left_open, lead, agrees, is_blank, is_gap_byte, dollars, most_bytes, IsGroupTo, IsMessageTo, IsGap, IsFileOf}
 use Rattle.fin_frame.specs.File.IsMessageTo.{head, next as joined}
 use Rattle.fin_frame.specs.File.IsFileOf.{start as file_start, more as file_more}
-use Rattle.fin_frame.specs.Shown.{no_more, stands_apart}
+use Rattle.fin_frame.specs.Shown.{is_marked, no_more, stands_apart}
 use Rattle.fin_frame.specs.Machine.{State, at_start, to, fails, gives, held_bytes, landed, grows, within, next_close, next, run, moves, stage_between}
 use Rattle.fin_frame.specs.declared.fault.FrameFault.TheVariants.{TooLong}
 use Rattle.fin_frame.specs.declared.stage.Stage.TheVariants.{Between, Within, Behind}
@@ -21,10 +21,6 @@ at_gap n messages marked = record { stage = Between marked; held = None; fed = n
 -- in a message that begins at from and leaves d groups left, behind these messages
 abbrev pub in_message : ℕ → ℕ → List ℕ → List (List ℕ) → ℕ → State
 in_message from d message messages n = record { stage = landed from d; held = Some message; fed = n; begun = length messages + 1; failed = None; given = messages }
-
--- whether no `$` may come
-abbrev pub is_marked : List (List ℕ) → List ℕ → Bool
-is_marked messages gap = no_more messages || nat_lt 0 (dollars gap)
 
 -- the machine behind a file: in a gap, or directly behind the last message
 pub data Rests : ℕ → List (List ℕ) → List ℕ → State → Type 0 where

@@ -4,7 +4,7 @@ use Rattle.std.proofs.lemmas.List.{append-nil, length-take-le}
 use Rattle.std.proofs.lemmas.Bool.Decides.{nat_tests}
 use Rattle.corr_text.specs.Braces.{depth_after}
 use Rattle.fin_frame.specs.File.{left_open, lead, is_gap_byte, most_bytes}
-use Rattle.fin_frame.specs.Machine.{State, to, fails, gives, begins, held_bytes, landed, grows, within, resumes, next_opening, next_close, next_behind, next_at, next, run, Took, TookByte}
+use Rattle.fin_frame.specs.Machine.{State, to, fails, gives, begins, held_bytes, landed, grows, within, resumes, next_opening, next_close, next_behind, next_at, next, run, HasTaken, HasTakenByte}
 use Rattle.fin_frame.specs.declared.fault.FrameFault.{FrameFault}
 use Rattle.fin_frame.specs.declared.fault.FrameFault.TheVariants.{Stray, TooLong, Unbalanced, Memory}
 use Rattle.fin_frame.specs.declared.stage.Stage.{Stage}
@@ -127,7 +127,7 @@ take-first zero xs n some = absurd (omega arith)
 take-first (suc n) [] n-some some = absurd (omega arith)
 take-first (suc n) (x ∷ xs) n-some some = (omega arith, refl)
 
-pub took-resumed : (from matched : ℕ) (r : Result ℕ FrameFault) (s : State) (rest : List ℕ) (now : State) → s.failed ≡ None → s.stage ≡ Behind from matched → 0 < matched → 0 < length rest → (get_or rest 0 0 ≡ get_or lead matched 0 → ⊥) → Took r (resumes from matched s) rest now → Took r s rest now
+pub took-resumed : (from matched : ℕ) (r : Result ℕ FrameFault) (s : State) (rest : List ℕ) (now : State) → s.failed ≡ None → s.stage ≡ Behind from matched → 0 < matched → 0 < length rest → (get_or rest 0 0 ≡ get_or lead matched 0 → ⊥) → HasTaken r (resumes from matched s) rest now → HasTaken r s rest now
 took-resumed from matched (Ok n) s rest now sound stage begun some other took =
     let first = take-first n rest took.0 some in
     (took.0, took.1, took.2 ∙ sym (run-resumed from matched s (take n rest) sound stage begun first.0 (λ e. other (sym first.1 ∙ e))))
@@ -143,7 +143,7 @@ took-resumed from matched (Err (Unbalanced at)) s rest now sound stage begun som
     run-resumed from matched s (take 1 rest) sound stage begun first.0 (λ e. other (sym first.1 ∙ e)) ∙ took
 
 -- one byte
-pub took-one : (r : Result ℕ FrameFault) (s after : State) (rest : List ℕ) (now : State) → 0 < length rest → after ≡ next s (get_or rest 0 0) → TookByte r s after now → Took r s rest now
+pub took-one : (r : Result ℕ FrameFault) (s after : State) (rest : List ℕ) (now : State) → 0 < length rest → after ≡ next s (get_or rest 0 0) → HasTakenByte r s after now → HasTaken r s rest now
 took-one (Ok n) s after rest now some is took =
     let one : n ≡ 1 = took.0 in
     let ran : run s (take n rest) ≡ after = ap (λ k. run s (take k rest)) one ∙ run-first s rest some ∙ sym is in
@@ -154,7 +154,7 @@ took-one (Err (TooLong at)) s after rest now some is took = run-first s rest som
 took-one (Err (Unbalanced at)) s after rest now some is took = run-first s rest some ∙ sym is ∙ took
 
 -- the answer of a call that took bytes within groups
-pub took-within : (from d e len reach : ℕ) (rest : List ℕ) (s now : State) → s.failed ≡ None → s.stage ≡ Within from d → 0 < d → 0 < reach → reach ≤ length rest → length (held_bytes s) + reach ≤ most_bytes → len ≤ reach → left_open d (take len rest) ≡ Some e → (e ≡ 0) ⊎ (len ≡ reach) → now ≡ grows from e (take len rest) s → Took (Ok len) s rest now
+pub took-within : (from d e len reach : ℕ) (rest : List ℕ) (s now : State) → s.failed ≡ None → s.stage ≡ Within from d → 0 < d → 0 < reach → reach ≤ length rest → length (held_bytes s) + reach ≤ most_bytes → len ≤ reach → left_open d (take len rest) ≡ Some e → (e ≡ 0) ⊎ (len ≡ reach) → now ≡ grows from e (take len rest) s → HasTaken (Ok len) s rest now
 took-within from d e len reach rest s now sound stage deep some fits room most is end same =
     let size : length (take len rest) ≡ len = length-take-le len rest (omega arith) in
     let progress : 0 < len = progress-of d e len reach rest deep some is end in

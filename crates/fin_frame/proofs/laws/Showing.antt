@@ -3,7 +3,7 @@ use Rattle.std.proofs.Common.{◌≡◌, ◌≢◌, ◌<◌, ◌≤◌, ◌⊎�
 use Rattle.std.proofs.lemmas.Bool.{eqb-true, ltb-true}
 use Rattle.std.proofs.lemmas.Bool.Decides.{eqb_tells, leb_tells}
 use Rattle.fin_frame.specs.File.{lead, agrees, is_blank, is_gap_byte, most_bytes, IsCutInto}
-use Rattle.fin_frame.specs.Shown.{no_more, stands_apart, cannot_follow, Shows, EndsWithin, is_over, ShowWhole, Begins, HasBegun}
+use Rattle.fin_frame.specs.Shown.{is_marked, no_more, stands_apart, cannot_follow, Shows, EndsWithin, is_over, ShowWhole, Begins, HasBegun}
 use Rattle.fin_frame.specs.Shown.Shows.{stray as shows_stray, long as shows_long}
 use Rattle.fin_frame.specs.Shown.EndsWithin.{inside as ends_inside, behind as ends_behind, apart as ends_apart}
 use Rattle.fin_frame.specs.Shown.ShowWhole.{none as whole_none, some as whole_some}
@@ -14,7 +14,7 @@ use Rattle.fin_frame.specs.declared.fault.FrameFault.TheVariants.{Stray, TooLong
 use Rattle.fin_frame.specs.declared.stage.Stage.TheVariants.{Opening, Behind}
 use Rattle.fin_frame.proofs.laws.Running.{run-append, run-failed, other-test}
 use Rattle.fin_frame.proofs.Steps.{run-given, run-begun}
-use Rattle.fin_frame.proofs.laws.Led.{at_gap, in_message, is_marked, Rests, file-run, message-run, message-over, lead-run, and-parts, or-parts, close-step, no-more-joined}
+use Rattle.fin_frame.proofs.laws.Led.{at_gap, in_message, Rests, file-run, message-run, message-over, lead-run, and-parts, or-parts, close-step, no-more-joined}
 use Rattle.fin_frame.proofs.laws.Led.Rests.{rests_apart, rests_behind}
 
 not-parts : (b : Bool) → not b ≡ true → b ≡ false

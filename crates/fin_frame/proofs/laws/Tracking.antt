@@ -7,7 +7,7 @@ use Rattle.corr_text.specs.Braces.{depth_after}
 use Rattle.fin_frame.specs.File.{lead, agrees, is_blank, is_gap_byte, dollars, most_bytes, IsGroupTo, IsMessageTo, IsMessage, IsGap, IsFileOf}
 use Rattle.fin_frame.specs.File.IsMessageTo.{head as message_head, next as message_next}
 use Rattle.fin_frame.specs.File.IsFileOf.{start as file_start, more as file_more}
-use Rattle.fin_frame.specs.Shown.{no_more, stands_apart, cannot_follow, Shows, is_over, ShowWhole, Begins, HasBegun}
+use Rattle.fin_frame.specs.Shown.{is_marked, no_more, stands_apart, cannot_follow, Shows, is_over, ShowWhole, Begins, HasBegun}
 use Rattle.fin_frame.specs.Shown.Shows.{stray as shows_stray, long as shows_long}
 use Rattle.fin_frame.specs.Shown.ShowWhole.{none as whole_none, some as whole_some}
 use Rattle.fin_frame.specs.Shown.HasBegun.{begun as has_begun}
@@ -17,7 +17,7 @@ use Rattle.fin_frame.specs.declared.fault.FrameFault.TheVariants.{Stray, TooLong
 use Rattle.fin_frame.specs.declared.stage.Stage.TheVariants.{Opening, Behind}
 use Rattle.fin_frame.proofs.Groups.{left_open-more}
 use Rattle.fin_frame.proofs.laws.Running.{lt-test}
-use Rattle.fin_frame.proofs.laws.Led.{at_gap, in_message, is_marked, and-parts, or-parts, no-more-joined, or-true, message-leads, leads}
+use Rattle.fin_frame.proofs.laws.Led.{at_gap, in_message, and-parts, or-parts, no-more-joined, or-true, message-leads, leads}
 
 -- more bytes show no less
 

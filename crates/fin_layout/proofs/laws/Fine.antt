@@ -11,7 +11,7 @@ use Rattle.fin_layout.specs.Naming.{fault_at, absent}
 use Rattle.fin_layout.specs.Order.{field_in, is_missing, missing_from, places_from}
 use Rattle.fin_layout.specs.Contents.{all_from, in_option, in_place}
 use Rattle.fin_layout.specs.Reading.{Fails, Tells}
-use Rattle.fin_layout.specs.Tests.{contents_from, tests, without}
+use Rattle.fin_layout.specs.Tests.{contents_from, tests, unless_fault}
 use Rattle.fin_layout.specs.declared.fault.MtFault.{MtFault}
 use Rattle.fin_layout.specs.declared.fault.MtFault.TheVariants as faults
 use Rattle.fin_layout.proofs.laws.FoundField.{field-here, field-later, shifted}
@@ -188,9 +188,9 @@ module _ {A : Type 0} {order : List Place} {test : ℕ → Field → Option Code
 
 -- ---- the verdict of tests in a row of steps
 
-pub passed-fails : {A : Type 0} (first : Option Fault) (next : Result A Fault) (e : MtFault) → Tells first e → Fails e (without first >>= λ _. next)
+pub passed-fails : {A : Type 0} (first : Option Fault) (next : Result A Fault) (e : MtFault) → Tells first e → Fails e (unless_fault first >>= λ _. next)
 passed-fails first next faults.Memory h = tt
 passed-fails first next (faults.Bad fault) h = rw h refl
 
-pub passed-on : {A : Type 0} (first : Option Fault) (next : Result A Fault) → first ≡ None → (without first >>= λ _. next) ≡ next
+pub passed-on : {A : Type 0} (first : Option Fault) (next : Result A Fault) → first ≡ None → (unless_fault first >>= λ _. next) ≡ next
 passed-on first next h = rw h refl

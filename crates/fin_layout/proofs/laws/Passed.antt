@@ -2,9 +2,9 @@
 use Rattle.std.proofs.Common.{◌≡◌, List, Option, Some, None, Ok, refl}
 use Rattle.corr_text.specs.First.{first_of}
 use Rattle.corr_text.specs.declared.fault.Fault.{Fault}
-use Rattle.fin_layout.specs.Tests.{passed, without}
+use Rattle.fin_layout.specs.Tests.{passed, unless_fault}
 
-without-none : (o : Option Fault) (u : Unit {0}) → without o ≡ Ok u → o ≡ None
+without-none : (o : Option Fault) (u : Unit {0}) → unless_fault o ≡ Ok u → o ≡ None
 without-none None u e = refl
 without-none (Some fault) u e = absurd (cc e)
 

@@ -9,7 +9,7 @@ use Rattle.fin_layout.specs.declared.fault.MtFault.{MtFault}
 use Rattle.fin_contents.specs.Money.{IsPayable}
 use Rattle.fin_contents.proofs.laws.Again.{place-payable}
 use Rattle.mt202cov.specs.Message.{mt202cov_of}
-use Rattle.mt202cov.specs.Writing.{value_in}
+use Rattle.mt202cov.specs.Writing.{value_said}
 use Rattle.mt202cov.specs.declared.message.Mt202Cov.{Mt202Cov}
 use Rattle.mt202cov.specs.Order.{order_202}
 use Rattle.mt202cov.proofs.Readings.{readings}
@@ -18,7 +18,7 @@ use Rattle.mt202cov.proofs.RoundTrip.{accepted}
 pub amount-payable : (t : Tables) (fs : List Field) (m : Mt202Cov) → mt202cov_of t fs ≡ Ok m → IsPayable m.amount
 amount-payable t fs m e =
     let found : List ℕ = places_from order_202 0 fs in
-    place-payable t order_202 fs found 3 (value_in m) (readings t fs found m (accepted t fs m e).contents).value
+    place-payable t order_202 fs found 3 (value_said m) (readings t fs found m (accepted t fs m e).contents).value
 
 pub given-payable : (t : Tables) (fs : List Field) (r : Result Mt202Cov MtFault) → Gives r (mt202cov_of t fs) → IfOk r (λ m. IsPayable m.amount)
 given-payable t fs (Ok m) is = amount-payable t fs m is

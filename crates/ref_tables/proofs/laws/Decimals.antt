@@ -3,7 +3,7 @@ use Rattle.std.proofs.Common.{◌≡◌, ℕ, ◌-◌, ◌≤◌, Bool, true, fa
 use Rattle.std.specs.Prelude.{IfSome, IsTrue}
 use Rattle.std.specs.Map.{lookup}
 use Rattle.std.proofs.lemmas.Bool.Decides.{nat_tests}
-use Rattle.ref_tables.specs.Columns.{decimals_of}
+use Rattle.ref_tables.specs.Columns.{decimals_in_cell}
 use Rattle.ref_tables.specs.Rows.{Cells, cell}
 use Rattle.ref_tables.specs.Seen.{few_decimals}
 use Rattle.ref_tables.specs.Tables.{ccy_of}
@@ -12,7 +12,7 @@ digit-few : (b : ℕ) → nat_le (unwrap_or (cond (nat_le 48 b && nat_le b 52) (
 digit-few b = grind (arith, nat_tests)
 
 -- a column of decimals says at most 4
-few : (bs : List ℕ) → nat_le (unwrap_or (decimals_of bs) 0) 4 ≡ true
+few : (bs : List ℕ) → nat_le (unwrap_or (decimals_in_cell bs) 0) 4 ≡ true
 few [] = refl
 few (b ∷ []) = digit-few b
 few (b ∷ c ∷ bs) = refl

@@ -1,4 +1,5 @@
-use Rattle.std.proofs.Common.{◌≡◌, ◌<◌, ◌∙◌, ℕ, List, Some, length, ap, arith}
+use Rattle.std.proofs.Common.{◌≡◌, ◌<◌, ◌∙◌, ℕ, List, Bor, Some, length, ap, arith}
+use Rattle.std.specs.Prelude.{option_map}
 use Rattle.std.proofs.lemmas.Grind.{common_steps}
 use Rattle.fin_blocks.specs.User.{subblock_of}
 use Rattle.fin_blocks.proofs.Pieces.{read-more, read-stops, read-all}
@@ -8,7 +9,7 @@ use Rattle.fin_blocks.proofs.user.subblocks.Goals as goal
 pub returns-in_default-clause-value : goal.returns-in_default-clause-value
 returns-in_default-clause-value c =
     let some : 0 < length c.loop-rest.rest.now = grind (arith, common_steps) in
-    read-stops subblock_of c.args.b.now c.loop-rest.rest.now c.loop-rest.user c.loop-rest.invariant.read some c.next_group-piece.result.group.now c.next_group-piece.result.rest.now
+    read-stops subblock_of c.args.b.now c.loop-rest.rest.now c.loop-rest.user c.loop-rest.invariant.read some (option_map (λ (b : Bor (List ℕ)). b.now) c.next_group-piece.result.group) c.next_group-piece.result.rest.now
     c.next_group-piece.ensures.cut (rw c.in_default.is at c.read_subblock.ensures.value)
 
 pub loop-rest-preserved : goal.loop-rest-preserved
@@ -17,7 +18,7 @@ loop-rest-preserved c =
     let number = c.in-Some.sub.number in
     let text = c.in_ok-text.text in
     rw c.in_ok-push.ensures.ok (record {
-      read = read-more subblock_of c.args.b.now c.loop-rest.rest.now c.loop-rest.user c.loop-rest.invariant.read some c.next_group-piece.result.group.now c.next_group-piece.result.rest.now
+      read = read-more subblock_of c.args.b.now c.loop-rest.rest.now c.loop-rest.user c.loop-rest.invariant.read some (option_map (λ (b : Bor (List ℕ)). b.now) c.next_group-piece.result.group) c.next_group-piece.result.rest.now
           c.next_group-piece.ensures.cut (number, text) (ap (λ t. Some (number, t)) c.in_ok-text.ensures ∙ c.in-Some.ensures.value);
       bound = All-push (λ (s : ℕ × List ℕ). s.0 < 1000) c.loop-rest.user (number, text) c.loop-rest.invariant.bound c.in-Some.ensures.bound;
     })

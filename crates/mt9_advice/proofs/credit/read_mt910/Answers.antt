@@ -4,6 +4,7 @@ use Rattle.fin_contents.proofs.laws.Readable.{given-readable}
 use Rattle.mt9_advice.specs.Advice.{mt910_of}
 use Rattle.mt9_advice.proofs.laws.Amount.{given-payable-910}
 use Rattle.mt9_advice.proofs.Outcome.{contents-910, rule-fails, rule-holds, structure-910}
+use Rattle.mt9_advice.proofs.laws.Parts.{contents-are-910}
 use Rattle.mt9_advice.proofs.credit.read_mt910.Goals as goal
 
 pub returns-in_err-found-clause-message : goal.returns-in_err-found-clause-message
@@ -19,10 +20,10 @@ returns-in_err-m-clause-message c =
     rw (p.1, p.2) fails
 
 pub returns-in-Some-clause-message : goal.returns-in-Some-clause-message
-returns-in-Some-clause-message c = rule-fails c.args.t.now c.args.f.now c.as_slice.result.now c.in_ok-found.ensures.sound (c.as_slice.ensures.value ∙ c.in_ok-found.ensures.places) c.in_ok-m.m c.in-Some.fault c.in_ok-m.ensures (sym c.c06.ensures ∙ c.in-Some.is)
+returns-in-Some-clause-message c = rule-fails c.args.t.now c.args.f.now c.as_slice.result.now c.in_ok-found.ensures.sound (c.as_slice.ensures.value ∙ c.in_ok-found.ensures.places) c.in_ok-m.m c.in-Some.fault (sym (contents-are-910 c.args.t.now c.args.f.now c.as_slice.result.now) ∙ c.in_ok-m.ensures) (sym c.c06.ensures ∙ c.in-Some.is)
 
 pub returns-clause-message : goal.returns-clause-message
-returns-clause-message c = rule-holds c.args.t.now c.args.f.now c.as_slice.result.now c.in_ok-found.ensures.sound (c.as_slice.ensures.value ∙ c.in_ok-found.ensures.places) c.in_ok-m.m c.in_ok-m.ensures (sym c.c06.ensures ∙ c.in-None.is)
+returns-clause-message c = rule-holds c.args.t.now c.args.f.now c.as_slice.result.now c.in_ok-found.ensures.sound (c.as_slice.ensures.value ∙ c.in_ok-found.ensures.places) c.in_ok-m.m (sym (contents-are-910 c.args.t.now c.args.f.now c.as_slice.result.now) ∙ c.in_ok-m.ensures) (sym c.c06.ensures ∙ c.in-None.is)
 
 pub returns-clause-amount : goal.returns-clause-amount
 returns-clause-amount c = given-payable-910 c.args.t.now c.args.f.now (Ok c.in_ok-m.m) (returns-clause-message c)

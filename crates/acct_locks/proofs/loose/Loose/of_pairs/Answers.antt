@@ -14,7 +14,7 @@ pub loop-pair-preserved : goal.loop-pair-preserved
 loop-pair-preserved c =
     let i = c.loop-pair.invariant in
     let e = c.next_purse-purse.ensures in
-    let t = c.in_ok-ledger.ledger.shared.table_id in
+    let t = c.in_ok-seat_table.seat_table.shared.table_id in
     let at = c.loop-pair.pair-index in
     let pairs = c.deref-pair-items.result.now in
     record {
@@ -29,5 +29,5 @@ loop-pair-preserved c =
           ∙ ap (λ (h : Holding). purses_from t 1 (take at pairs) ++ h ∷ []) (e.purse ∙ ap (λ (n : ℕ). purse_at t n (get_or pairs at (0, 0))) (let n : c.loop-pair.number + 1 ≡ 1 + at = omega (arith, i.at) in n))
           ∙ sym (purses_more t 1 at pairs (0, 0) (omega arith));
       many = search rules;
-      of_table = subst (All (λ (p : Holding). p.table ≡ c.in_ok-ledger.ledger.shared.table_id)) (sym c.in_ok-push.ensures.items) (All-push (λ (p : Holding). p.table ≡ c.in_ok-ledger.ledger.shared.table_id) c.loop-pair.purses.items c.next_purse-purse.result i.of_table (ap (λ (h : Holding). h.table) e.purse));
+      of_table = subst (All (λ (p : Holding). p.table ≡ c.in_ok-seat_table.seat_table.shared.table_id)) (sym c.in_ok-push.ensures.items) (All-push (λ (p : Holding). p.table ≡ c.in_ok-seat_table.seat_table.shared.table_id) c.loop-pair.purses.items c.next_purse-purse.result i.of_table (ap (λ (h : Holding). h.table) e.purse));
     }

@@ -1,6 +1,5 @@
 use Rattle.std.proofs.Common.{◌≡◌, get_or, arith, sym, subst, ap, ◌∙◌}
-use Rattle.fin_frame.specs.Machine.{next_at, next, next_behind, Took, resumes}
-use Rattle.fin_frame.specs.Cutting.{state_of}
+use Rattle.fin_frame.specs.Machine.{next_at, next, next_behind, HasTaken, resumes, state_of}
 use Rattle.fin_frame.proofs.laws.Running.{run-first, next-sound, behind-more, took-resumed}
 use Rattle.fin_frame.proofs.cutter.Cutter.behind.Goals as goal
 
@@ -15,5 +14,5 @@ pub returns-then-matched-gt0-clause-took : goal.returns-then-matched-gt0-clause-
 returns-then-matched-gt0-clause-took c =
     let s = state_of c.args.self.now c.args.out.now in
     let now = state_of c.inside.new.self c.args.out.now in
-    let took : Took c.inside.result (resumes c.args.from c.args.matched s) c.args.rest.now now = subst (λ t. Took c.inside.result t c.args.rest.now now) (c.in_ok-resume.ensures.ok c.args.out.now) (c.inside.ensures.took c.args.out.now) in
+    let took : HasTaken c.inside.result (resumes c.args.from c.args.matched s) c.args.rest.now now = subst (λ t. HasTaken c.inside.result t c.args.rest.now now) (c.in_ok-resume.ensures.ok c.args.out.now) (c.inside.ensures.took c.args.out.now) in
     took-resumed c.args.from c.args.matched c.inside.result s c.args.rest.now now c.requires.sound c.requires.stage (omega arith) c.requires.some c.if-b-matched.false took

@@ -1,9 +1,8 @@
 use Rattle.std.proofs.Common.{◌≡◌, ◌+◌, ◌<◌, ◌≤◌, length, take, get_or, Some, arith, refl, sym, subst, ap, ◌⊎◌, IsTrue, ◌∙◌}
 use Rattle.fin_frame.specs.File.{most_bytes, left_open}
-use Rattle.fin_frame.specs.Machine.{held_bytes, next_at, grows}
+use Rattle.fin_frame.specs.Machine.{held_bytes, next_at, grows, state_of}
 use Rattle.std.proofs.lemmas.List.{length-take-le, take-take}
 use Rattle.fin_frame.specs.Tidy.{is_tidy}
-use Rattle.fin_frame.specs.Cutting.{state_of}
 use Rattle.fin_frame.specs.declared.stage.Stage.TheVariants.{Within}
 use Rattle.fin_frame.proofs.laws.Running.{run-first, next-sound, within-full, took-within, state-same, deep-of}
 use Rattle.fin_frame.proofs.cutter.Cutter.inside.Goals as goal

@@ -1,0 +1,47 @@
+-- A transfer that is read part by part is what its fields say place by place.
+use Rattle.std.proofs.Common.{◌≡◌, ℕ, List, [], Option, Result, Ok, refl}
+use Rattle.std.specs.Prelude.{unwrap_or}
+use Rattle.corr_text.specs.First.{◌>>=◌}
+use Rattle.corr_money.specs.declared.amount.Amount.{Amount}
+use Rattle.ref_tables.specs.Seen.{Tables}
+use Rattle.fin_fields.specs.declared.field.Field.{Field}
+use Rattle.fin_layout.specs.Contents.{all_from, in_option, in_place}
+use Rattle.fin_parties.specs.declared.party.Party.{Party}
+use Rattle.fin_contents.specs.Money.{ccy_amount_of, rate_of, value_of}
+use Rattle.fin_contents.specs.Parties.{known_party_of}
+use Rattle.fin_contents.specs.Plain.{reference_of, texts_of, time_of}
+use Rattle.fin_contents.specs.declared.value.Value.{Value}
+use Rattle.fin_contents.proofs.laws.Grouped.{eight-apart, six-apart}
+use Rattle.mt103.specs.Codes.{charge_of, instr_of, kind_of, operation_of}
+use Rattle.mt103.specs.Message.{contents_of}
+use Rattle.mt103.specs.Order.{order_103}
+use Rattle.mt103.specs.Parts.{details_of, message_of, parties_of, contents_in_parts, terms_of}
+use Rattle.mt103.specs.declared.details.Details.{Details}
+use Rattle.mt103.specs.declared.instruction.Instr.{Instr}
+use Rattle.mt103.specs.declared.parties.Parties.{Parties}
+use Rattle.mt103.specs.declared.terms.Terms.{Terms}
+
+abbrev terms : List ℕ → List (List ℕ) → List ℕ → List Instr → Option (List ℕ) → Value → Option Amount → Option (List ℕ) → Terms
+terms reference times op instrs kind value ordered rate =
+    record { reference = reference; times = times; op = op; instrs = instrs; kind = kind; value = value; ordered = ordered; rate = rate }
+
+abbrev parties : Party → Option Party → Option Party → Option Party → Option Party → Option Party → Option Party → Party → Parties
+parties payer p52 p53 p54 p55 p56 p57 payee =
+    record { payer = payer; p52 = p52; p53 = p53; p54 = p54; p55 = p55; p56 = p56; p57 = p57; payee = payee }
+
+abbrev details : Option (List (List ℕ)) → List ℕ → List Amount → Option Amount → Option (List (List ℕ)) → Option (List (List ℕ)) → Details
+details info charge taken given notes regulatory =
+    record { info = unwrap_or info []; charge = charge; taken = taken; given = given; notes = unwrap_or notes []; regulatory = unwrap_or regulatory [] }
+
+pub contents-are : (t : Tables) (fs : List Field) (found : List ℕ) → contents_in_parts t fs found ≡ contents_of t fs found
+unfolding contents_in_parts contents_of terms_of parties_of details_of
+contents-are t fs found =
+    eight-apart (in_place order_103 fs found 0 reference_of) (all_from fs 1 time_of 0 found fs) (in_place order_103 fs found 2 operation_of) (all_from fs 3 instr_of 0 found fs)
+    (in_option fs found 4 kind_of) (in_place order_103 fs found 5 (value_of t)) (in_option fs found 6 (ccy_amount_of t)) (in_option fs found 7 rate_of)
+    terms (λ (x : Terms). parties_of t fs found >>= λ (y : Parties). details_of t fs found >>= λ (z : Details). Ok (message_of x y z)) _ (λ a0 a1 a2 a3 a4 a5 a6 a7.
+    eight-apart (in_place order_103 fs found 8 (known_party_of t)) (in_option fs found 9 (known_party_of t)) (in_option fs found 10 (known_party_of t)) (in_option fs found 11 (known_party_of t))
+    (in_option fs found 12 (known_party_of t)) (in_option fs found 13 (known_party_of t)) (in_option fs found 14 (known_party_of t)) (in_place order_103 fs found 15 (known_party_of t))
+    parties (λ (y : Parties). details_of t fs found >>= λ (z : Details). Ok (message_of (terms a0 a1 a2 a3 a4 a5 a6 a7) y z)) _ (λ b0 b1 b2 b3 b4 b5 b6 b7.
+    six-apart (in_option fs found 16 (texts_of 4)) (in_place order_103 fs found 17 charge_of) (all_from fs 18 (ccy_amount_of t) 0 found fs) (in_option fs found 19 (ccy_amount_of t))
+    (in_option fs found 20 (texts_of 6)) (in_option fs found 21 (texts_of 3))
+    details (λ (z : Details). Ok (message_of (terms a0 a1 a2 a3 a4 a5 a6 a7) (parties b0 b1 b2 b3 b4 b5 b6 b7) z)) _ (λ c0 c1 c2 c3 c4 c5. refl)))

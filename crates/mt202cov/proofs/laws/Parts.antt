@@ -1,0 +1,63 @@
+-- A cover that is read part by part is what its fields say place by place.
+use Rattle.std.proofs.Common.{◌≡◌, ℕ, List, [], Option, Ok, refl, ◌∙◌}
+use Rattle.std.specs.Prelude.{unwrap_or}
+use Rattle.corr_text.specs.First.{◌>>=◌}
+use Rattle.corr_money.specs.declared.amount.Amount.{Amount}
+use Rattle.ref_tables.specs.Seen.{Tables}
+use Rattle.fin_fields.specs.declared.field.Field.{Field}
+use Rattle.fin_layout.specs.Contents.{all_from, in_option, in_place}
+use Rattle.fin_parties.specs.declared.party.Party.{Party}
+use Rattle.fin_contents.specs.Money.{ccy_amount_of, value_of}
+use Rattle.fin_contents.specs.Parties.{known_party_of}
+use Rattle.fin_contents.specs.Plain.{reference_of, texts_of, time_of}
+use Rattle.fin_contents.specs.declared.value.Value.{Value}
+use Rattle.fin_contents.proofs.laws.Grouped.{alike, five-apart, four-apart, joined, six-apart, three-apart}
+use Rattle.mt202cov.specs.Message.{contents_of}
+use Rattle.mt202cov.specs.Order.{order_202}
+use Rattle.mt202cov.specs.Parts.{banks_of, contents_in_parts, customers_of, details_of, message_of, sequence_a_of, sequence_b_of, terms_of}
+use Rattle.mt202cov.specs.declared.banks.Banks.{Banks}
+use Rattle.mt202cov.specs.declared.customers.Customers.{Customers}
+use Rattle.mt202cov.specs.declared.details.Details.{Details}
+use Rattle.mt202cov.specs.declared.sequences.SequenceA.{SequenceA}
+use Rattle.mt202cov.specs.declared.sequences.SequenceB.{SequenceB}
+use Rattle.mt202cov.specs.declared.terms.Terms.{Terms}
+
+abbrev terms : List ℕ → List ℕ → List (List ℕ) → Value → Terms
+terms reference related times value = record { reference = reference; related = related; times = times; value = value }
+
+abbrev banks : Option Party → Option Party → Option Party → Option Party → Option Party → Party → Banks
+banks p52 p53 p54 p56 p57 p58 = record { p52 = p52; p53 = p53; p54 = p54; p56 = p56; p57 = p57; p58 = p58 }
+
+abbrev customers : Party → Option Party → Option Party → Option Party → Party → Customers
+customers payer p52 p56 p57 payee = record { payer = payer; p52 = p52; p56 = p56; p57 = p57; payee = payee }
+
+abbrev details : Option (List (List ℕ)) → Option (List (List ℕ)) → Option Amount → Details
+details info notes ordered = record { info = unwrap_or info []; notes = unwrap_or notes []; ordered = ordered }
+
+abbrev sequence_a : Terms → Banks → Option (List (List ℕ)) → SequenceA
+sequence_a terms banks notes = record { terms = terms; banks = banks; notes = unwrap_or notes [] }
+
+abbrev sequence_b : Customers → Details → SequenceB
+sequence_b customers details = record { customers = customers; details = details }
+
+pub contents-are : (t : Tables) (fs : List Field) (found : List ℕ) → contents_in_parts t fs found ≡ contents_of t fs found
+unfolding contents_in_parts contents_of sequence_a_of sequence_b_of terms_of banks_of customers_of details_of
+contents-are t fs found =
+    joined (terms_of t fs found) _ _ ∙
+    four-apart (in_place order_202 fs found 0 reference_of) (in_place order_202 fs found 1 reference_of) (all_from fs 2 time_of 0 found fs) (in_place order_202 fs found 3 (value_of t))
+    terms (λ (x : Terms). (banks_of t fs found >>= λ (y : Banks). in_option fs found 10 (texts_of 6) >>= λ n. Ok (sequence_a x y n)) >>= λ (a : SequenceA). sequence_b_of t fs found >>= λ (b : SequenceB). Ok (message_of a b)) _ (λ a0 a1 a2 a3.
+    let x : Terms = terms a0 a1 a2 a3 in
+    joined (banks_of t fs found) _ _ ∙
+    six-apart (in_option fs found 4 (known_party_of t)) (in_option fs found 5 (known_party_of t)) (in_option fs found 6 (known_party_of t)) (in_option fs found 7 (known_party_of t)) (in_option fs found 8 (known_party_of t)) (in_place order_202 fs found 9 (known_party_of t))
+    banks (λ (y : Banks). (in_option fs found 10 (texts_of 6) >>= λ n. Ok (sequence_a x y n)) >>= λ (a : SequenceA). sequence_b_of t fs found >>= λ (b : SequenceB). Ok (message_of a b)) _ (λ b0 b1 b2 b3 b4 b5.
+    let y : Banks = banks b0 b1 b2 b3 b4 b5 in
+    joined (in_option fs found 10 (texts_of 6)) _ _ ∙
+    alike (in_option fs found 10 (texts_of 6)) _ _ (λ n.
+    let a : SequenceA = sequence_a x y n in
+    joined (customers_of t fs found) _ _ ∙
+    five-apart (in_place order_202 fs found 11 (known_party_of t)) (in_option fs found 12 (known_party_of t)) (in_option fs found 13 (known_party_of t)) (in_option fs found 14 (known_party_of t)) (in_place order_202 fs found 15 (known_party_of t))
+    customers (λ (z : Customers). (details_of t fs found >>= λ (d : Details). Ok (sequence_b z d)) >>= λ (b : SequenceB). Ok (message_of a b)) _ (λ c0 c1 c2 c3 c4.
+    let z : Customers = customers c0 c1 c2 c3 c4 in
+    joined (details_of t fs found) _ _ ∙
+    three-apart (in_option fs found 16 (texts_of 4)) (in_option fs found 17 (texts_of 6)) (in_option fs found 18 (ccy_amount_of t))
+    details (λ (d : Details). Ok (message_of a (sequence_b z d))) _ (λ d0 d1 d2. refl)))))
