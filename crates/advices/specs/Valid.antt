@@ -42,19 +42,21 @@ pub record IsTabled (t : Tables) (a : Amount) : Type 0 where
 
 -- ---- the premises
 
--- the text of a pay is that of this message, and the pay has its type; of an advice there is no pay
+-- the text of a pay is that of this message, and the pay has its type; of an advice and of a page there is no pay
 abbrev pub IsTextOf : Pay → Message → Type 0
 IsTextOf pay (message.Transfer envelope text transfer) = (pay.mt ≡ Transfer) × (text ≡ pay.text)
 IsTextOf pay (message.Cover envelope text cover) = (pay.mt ≡ Cover) × (text ≡ pay.text)
 IsTextOf pay (message.Debit envelope advice) = ⊥
 IsTextOf pay (message.Credit envelope advice) = ⊥
+IsTextOf pay (message.Page envelope page) = ⊥
 
--- the amount of a message's 32A
+-- the amount of a message's 32A; a page has none, and zero stands in its place
 abbrev pub amount_of : Message → Amount
 amount_of (message.Transfer envelope text transfer) = transfer.amount
 amount_of (message.Cover envelope text cover) = cover.amount
 amount_of (message.Debit envelope advice) = advice.amount
 amount_of (message.Credit envelope advice) = advice.amount
+amount_of (message.Page envelope page) = record { ccy = page.ccy; minor = record { 0 = 0 }; decimals = page.decimals }
 
 -- a message that passes the tests of its lines, its fields and its contents under these tables and breaks no rule, and
 -- whose text the pay keeps

@@ -15,7 +15,8 @@ use Rattle.day_model.specs.declared.account.Account.{Account}
 use Rattle.day_model.specs.Chart.{is_ccy}
 use Rattle.corr_money.specs.declared.amount.Ccy.{Ccy}
 use Rattle.corr_report.specs.declared.currency.Currency.{Currency}
-use Rattle.corr_report.specs.Totals.{AreCurrencies, currencies_of, currency_of, entered, is_before}
+use Rattle.corr_report.specs.Totals.{AreCurrencies, currencies_of, currency_of, entered}
+use Rattle.day_model.specs.Gap.{is_before}
 
 -- byte order
 abbrev ccy_order : Currency → Currency → Ordering

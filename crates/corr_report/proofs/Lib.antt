@@ -3,3 +3,4 @@ pub mod Sums
 pub mod LineLists
 pub mod FailingLeg
 pub mod Currencies
+pub mod Days

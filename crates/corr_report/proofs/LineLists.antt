@@ -33,14 +33,15 @@ numbered-append f n (x ∷ xs) y =
     ap (λ bs. f n x ++ bs) (numbered-append f (n + 1) xs y) ∙ (sym (append_assoc (f n x) (numbered f (n + 1) xs) (f (n + 1 + length xs) y)) ∙ ap (λ k. f n x ++ numbered f (n + 1) xs ++ f k y) next)
 
 -- one numbered line more
-pub numbered_more : {X : Type 0} (f : ℕ → X → List ℕ) (xs : List X) (i j n : ℕ) (d : X) (out new : List ℕ) → i < length xs → i + 1 ≡ j → i + 1 ≡ n
-    → out ≡ numbered f 1 (take i xs) → new ≡ out ++ f n (get_or xs i d) → new ≡ numbered f 1 (take j xs)
-numbered_more {X} f xs i j n d out new lt next number before line =
+pub numbered_more : {X : Type 0} (f : ℕ → X → List ℕ) (xs : List X) (i j n : ℕ) (d : X) (old out new : List ℕ) → i < length xs → i + 1 ≡ j → i + 1 ≡ n
+    → out ≡ old ++ numbered f 1 (take i xs) → new ≡ out ++ f n (get_or xs i d) → new ≡ old ++ numbered f 1 (take j xs)
+numbered_more {X} f xs i j n d old out new lt next number before line =
     let long : length (take i xs) ≡ i = length-take-le i xs (omega arith) in
     let last : 1 + length (take i xs) ≡ n = omega arith in
     let whole : numbered f 1 (take j xs) ≡ numbered f 1 (take i xs) ++ f (1 + length (take i xs)) (get_or xs i d) =
     ap (λ k. numbered f 1 (take k xs)) (sym next) ∙ (ap (numbered f 1) (take_more xs i d lt) ∙ numbered-append f 1 (take i xs) (get_or xs i d)) in
-    line ∙ (ap (λ bs. bs ++ f n (get_or xs i d)) before ∙ (ap (λ k. numbered f 1 (take i xs) ++ f k (get_or xs i d)) (sym last) ∙ sym whole))
+    line ∙ (ap (λ bs. bs ++ f n (get_or xs i d)) before ∙ (append_assoc old (numbered f 1 (take i xs)) (f n (get_or xs i d))
+    ∙ ap (λ bs. old ++ bs) (ap (λ k. numbered f 1 (take i xs) ++ f k (get_or xs i d)) (sym last) ∙ sym whole)))
 
 -- the words of one element more
 pub spaced_more : {X : Type 0} (words : X → List (List ℕ)) (xs : List X) (i : ℕ) (d : X) (old out new : List ℕ) → i < length xs

@@ -3,3 +3,5 @@ pub mod Report
 pub mod Bookings
 pub mod Totals
 pub mod Outcomes
+pub mod Generated
+pub mod Summary

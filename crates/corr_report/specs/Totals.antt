@@ -1,8 +1,8 @@
 -- The currencies of a book, and what its booked entries move in each.
-use Rattle.std.specs.Prelude.{◌≡◌, ℕ, ◌+◌, Bool, true, List, [], ◌∷◌, unwrap_or, codes, if◌then◌else◌}
+use Rattle.std.specs.Prelude.{◌≡◌, ℕ, ◌+◌, true, List, [], ◌∷◌, unwrap_or, codes, if◌then◌else◌}
 use Rattle.std.specs.List.{All, Contains, flat_map, insert, list_any, position_or_len}
 use Rattle.std.specs.List.Sorted.{IsStrictlySortedBy}
-use Rattle.std.specs.Ordering.{is_lt, nat_cmp}
+use Rattle.std.specs.Ordering.{nat_cmp}
 use Rattle.std.specs.Cmp.Lexicographic.{slice_cmp}
 use Rattle.corr_money.specs.Amounts.{amount_text}
 use Rattle.corr_money.specs.declared.amount.Ccy.{Ccy}
@@ -11,14 +11,11 @@ use Rattle.day_model.specs.declared.entry.Entry.{Entry}
 use Rattle.day_model.specs.declared.pay.Side.{Side}
 use Rattle.day_model.specs.declared.pay.Side.TheVariants.{Debit, Credit}
 use Rattle.day_model.specs.Chart.{Chart, is_ccy}
+use Rattle.day_model.specs.Gap.{is_before}
 use Rattle.day_model.specs.Laws.{turnover}
 use Rattle.day_model.specs.Totals.{Pair, pair_at}
 use Rattle.corr_report.specs.declared.currency.Currency.{Currency}
 use Rattle.corr_report.specs.Lines.{line}
-
--- byte order
-abbrev pub is_before : Ccy → Ccy → Bool
-is_before c d = is_lt (slice_cmp nat_cmp c.0 d.0)
 
 -- currencies in byte order, and one more where it isn't among them
 abbrev pub entered : Currency → List Currency → List Currency

@@ -3,7 +3,8 @@
 ghost use Rattle.std.specs.Prelude.{◌≡◌, ◌≤◌, [], ◌∷◌, IfOk, OnOk, length};
 ghost use Rattle.std.specs.List.{All, list_any, position};
 ghost use Rattle.day_model.specs.Chart.{is_ccy};
-ghost use Rattle.corr_report.specs.Totals.{currencies_of, entered, is_before};
+ghost use Rattle.corr_report.specs.Totals.{currencies_of, entered};
+ghost use Rattle.day_model.specs.Gap.{is_before};
 
 use corr_money::Ccy;
 use corr_text::Memory;

@@ -1,13 +1,18 @@
-//! What is printed of a day: the report of a run, and the entries of a journal.
+//! What is printed of a day: the report of a run, the entries of a journal and the summary of a trial; and a day of
+//! messages, made from a number.
 #![tactic(auto)]
 
 mod currency;
 mod entries;
+mod generator;
 mod outcome;
 mod replies;
+mod summing;
 mod totals;
 mod turnover;
 mod words;
 
 pub use entries::bookings;
-pub use replies::report;
+pub use generator::generated;
+pub use replies::{put_reply_line, report};
+pub use summing::summary;

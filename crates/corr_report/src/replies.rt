@@ -72,7 +72,10 @@ fn put_reply(
     }
 }
 
-fn put_line(
+/// Adds the line of the `n`-th message: its number, its message's MIR or 28 dashes, and what became of it.
+///
+/// The history is legal for the accounts, and has the place that the reply names. `Memory`: there was no room.
+pub fn put_reply_line(
     alloc: Global,
     a: &Accounts,
     h: &History,
@@ -90,7 +93,13 @@ fn put_line(
     out.push(b"\n")
 }
 
-fn put_counts(alloc: Global, messages: u64, entries: u64, out: &mut Text) -> Result<(), Memory>
+/// Adds the counts of messages and entries.
+pub(crate) fn put_counts(
+    alloc: Global,
+    messages: u64,
+    entries: u64,
+    out: &mut Text,
+) -> Result<(), Memory>
     ensures { OnOk result (out.new ≡ out.old ++ count_line messages entries) }
 {
     out.push(b"MESSAGES")?;
@@ -116,7 +125,7 @@ pub fn report(alloc: Global, a: &Accounts, h: &History, replies: &[Reply]) -> Re
 {
     let mut out = Text::from_bytes(alloc, b"")?;
     for (at, reply) in replies.iter().enumerate() {
-        put_line(alloc, a, h, at as u64 + 1, reply, &mut out)?;
+        put_reply_line(alloc, a, h, at as u64 + 1, reply, &mut out)?;
     }
     put_counts(alloc, replies.len() as u64, h.len() as u64, &mut out)?;
     put_totals(alloc, a, h, &mut out)?;

@@ -42,8 +42,8 @@ uetr-form : (b : Blocks) → IfSome (uetr_in b) IsUetr
 uetr-form b = last-of IsUetr (user_text 121 b.user) uetr_of uetr-again
 
 with-form : (own : LtAddress) (app : App) (uetr : Option Uetr) → IsBic (bank_of own) → IsApp app → IfSome uetr IsUetr → IsEnvelope (envelope_with own app uetr)
-with-form own (Received mt mir) uetr o a u = record { mir = a; sender = sender-bank mir a; receiver = o; uetr = u }
-with-form own (Sent mt to) uetr o a u = record { mir = tt; sender = o; receiver = a; uetr = u }
+with-form own (Received mt mir) uetr o a u = record { mir = a; named = refl; sender = sender-bank mir a; receiver = o; uetr = u }
+with-form own (Sent mt to) uetr o a u = record { mir = tt; named = tt; sender = o; receiver = a; uetr = u }
 
 pub envelope-form : (m : List ℕ) (b : Blocks) → blocks_of m ≡ Ok b → IsEnvelope (envelope_of b)
 envelope-form m b e = let named = blocks-named m b e in with-form b.own b.app (uetr_in b) named.own named.app (uetr-form b)

@@ -1,6 +1,8 @@
 -- What a message has that passes every test.
-use Rattle.std.proofs.Common.{◌≡◌, ℕ, ◌*◌, ◌≤◌, ◌==◌, Bool, true, false, cond, List, [], ◌∷◌, length, option_map, option_and_then, position, slice_get, Option, Some, None, Result, Ok, Err, refl, sym, subst, arith, inl, inr, ◌⊎◌}
+use Rattle.std.proofs.Common.{◌≡◌, ℕ, ◌*◌, ◌≤◌, ◌==◌, not, Bool, true, false, cond, List, [], ◌∷◌, length, option_map, option_and_then, position, slice_get, Option, Some, None, Result, Ok, Err, refl, sym, subst, arith, inl, inr, ◌⊎◌}
 use Rattle.std.specs.Prelude.{IfOk, IsTrue, codes}
+use Rattle.std.specs.Str.{bytes_eq}
+use Rattle.corr_text.specs.Codes.{code}
 use Rattle.corr_text.specs.First.{first_of, unless}
 use Rattle.corr_text.specs.Lines.{lines_of}
 use Rattle.corr_text.specs.declared.fault.Fault.{Fault}
@@ -33,12 +35,14 @@ use Rattle.mt202cov.proofs.laws.Passed.{fields-pass as cover-passes, rules-pass}
 use Rattle.mt9_advice.specs.Advice.{mt900_of, mt910_of}
 use Rattle.mt9_advice.proofs.laws.Amount.{payable-900, payable-910}
 use Rattle.mt9_advice.proofs.laws.Passed.{fields-pass-900, fields-pass-910, rule-passes}
-use Rattle.ref_tables.specs.Seen.{Tables, few_decimals}
+use Rattle.mt950.specs.Page.{mt950_of}
+use Rattle.mt950.proofs.laws.Pages.{fields-pass-950}
+use Rattle.ref_tables.specs.Seen.{Tables, few_decimals, has_head}
 use Rattle.fin_message.specs.Answers.{Answers}
-use Rattle.fin_message.specs.Heading.{at_block, has_form, heading_tests}
-use Rattle.fin_message.specs.Parts.{envelope_of, envelope_with, type_of, uetr_in}
-use Rattle.fin_message.specs.Sound.{CanBeWritten, Goes, HasAmount, HasEnvelope, IsEnvelope, IsOfForm, IsRead, IsSaid, IsSound, KeepsRules, lines_in}
-use Rattle.fin_message.specs.Verdict.{Refused, blocks_in, cover_of, credit_of, debit_of, judged, line_test, message_in, message_of, told_of, told_of_fields, transfer_of}
+use Rattle.fin_message.specs.Heading.{at_block, has_form, heading_tests, is_type}
+use Rattle.fin_message.specs.Parts.{envelope_of, envelope_with, has_trailer, partner_of, type_of, uetr_in}
+use Rattle.fin_message.specs.Sound.{CanBeWritten, Goes, HasAmount, HasEnvelope, HasPartner, IsEnvelope, IsOfForm, IsRead, IsSaid, IsValid, KeepsRules, lines_in, partner_in}
+use Rattle.fin_message.specs.Verdict.{Refused, blocks_in, cover_of, credit_of, debit_of, judged, line_test, message_in, message_of, page_of, told_of, told_of_fields, transfer_of}
 use Rattle.fin_message.specs.declared.direction.Direction.{Direction}
 use Rattle.fin_message.specs.declared.direction.Direction.TheVariants.{Received, Sent}
 use Rattle.fin_message.specs.declared.fault.MessageFault.{MessageFault}
@@ -54,9 +58,33 @@ of-form Sent own (form.Sent mt to) uetr e = refl
 envelope-says : (way : Direction) (b : Blocks) → has_form way b.app ≡ true → IsOfForm way (envelope_of b)
 envelope-says way b e = of-form way b.own b.app (uetr_in b) e
 
-first-holds : (holds : Bool) (fault : Fault) (others : List (Option Fault)) (x : Unit {0}) → passed (unless holds fault ∷ others) ≡ Ok x → holds ≡ true
-first-holds true fault others x e = refl
-first-holds false fault others x e = absurd (cc e)
+-- ---- the tests of the blocks
+
+held : (holds : Bool) (fault : Fault) (others : List (Option Fault)) → first_of (unless holds fault ∷ others) ≡ None → (holds ≡ true) × (first_of others ≡ None)
+held true fault others e = (refl, e)
+held false fault others e = absurd (cc e)
+
+-- block 2 is of its form, and the tables hold the bank that it names
+record HeadingHolds (way : Direction) (t : Tables) (b : Blocks) : Type 0 where
+  formed : has_form way b.app ≡ true
+  partner : has_head t (partner_of b.app).head ≡ true
+
+heading-holds : (way : Direction) (home : Bic) (t : Tables) (b : Blocks) (x : Unit {0}) → passed (heading_tests way home t b) ≡ Ok x → HeadingHolds way t b
+heading-holds way home t b x e =
+    let p07 = held (has_form way b.app) (at_block (code "P07") (codes "B2 ")) _ (passed-none (heading_tests way home t b) x e) in
+    let p08 = held (bytes_eq b.own.head home.head) (at_block (code "P08") (codes "B1 ")) _ p07.1 in
+    let p09 = held (not (has_trailer (codes "TNG") b)) (at_block (code "P09") (codes "B5 ")) _ p08.1 in
+    let p10 = held (not (has_trailer (codes "PDE") b)) (at_block (code "P10") (codes "B5 ")) _ p09.1 in
+    let p11 = held (is_type (type_of b.app)) (at_block (code "P11") (codes "B2 ")) _ p10.1 in
+    let p12 = held (has_head t (partner_of b.app).head) (at_block (code "P12") (codes "B2 ")) _ p11.1 in
+    record { formed = p07.0; partner = p12.0 }
+
+-- the bank that block 2 names is the envelope's other bank
+partner-known : (way : Direction) (t : Tables) (own : LtAddress) (app : App) (uetr : Option Uetr) → has_form way app ≡ true → has_head t (partner_of app).head ≡ true → has_head t (partner_in way (envelope_with own app uetr)).head ≡ true
+partner-known Received t own (form.Received mt mir) uetr e known = known
+partner-known Received t own (form.Sent mt to) uetr e known = absurd (cc e)
+partner-known Sent t own (form.Received mt mir) uetr e known = absurd (cc e)
+partner-known Sent t own (form.Sent mt to) uetr e known = known
 
 -- ---- lines without fault
 
@@ -95,6 +123,7 @@ writable read t text m cut says few = record { tables = t; few = few; fields = f
 record Says (way : Direction) (t : Tables) (text : List ℕ) (x : Message) : Type 0 where
   goes : Goes way x
   envelope : HasEnvelope x
+  partner : HasPartner way t x
   said : IsSaid t x
   read : IsRead t x
   rules : KeepsRules t x
@@ -102,7 +131,7 @@ record Says (way : Direction) (t : Tables) (text : List ℕ) (x : Message) : Typ
   written : IsTrue (few_decimals t.ccys) → CanBeWritten x
   lines : (lines_in x ≡ text) ⊎ (lines_in x ≡ [])
 
-module _ (way : Direction) (t : Tables) (b : Blocks) (e : has_form way b.app ≡ true) (f : IsEnvelope (envelope_of b)) (cut : field_fault b.text ≡ None) where
+module _ (way : Direction) (t : Tables) (b : Blocks) (e : HeadingHolds way t b) (f : IsEnvelope (envelope_of b)) (cut : field_fault b.text ≡ None) where
   transfer-says : IfOk (transfer_of t b) (Says way t b.text)
   unfolding transfer_of
   transfer-says =
@@ -111,8 +140,9 @@ module _ (way : Direction) (t : Tables) (b : Blocks) (e : has_form way b.app ≡
       then P (mt103_of t (fields_of b.text)) _ (λ transfer read.
       then P (passed (rules transfer)) _ (λ u keeps.
       record {
-        goes = envelope-says way b e;
+        goes = envelope-says way b e.formed;
         envelope = f;
+        partner = partner-known way t b.own b.app (uetr_in b) e.formed e.partner;
         said = record { cut = cut; tests = transfer-passes t (fields_of b.text) transfer read; says = read };
         read = read;
         rules = passed-none (rules transfer) u keeps;
@@ -126,8 +156,9 @@ module _ (way : Direction) (t : Tables) (b : Blocks) (e : has_form way b.app ≡
   cover-says =
       then (Says way t b.text) (mt202cov_of t (fields_of b.text)) _ (λ cover read.
       record {
-        goes = envelope-says way b e;
+        goes = envelope-says way b e.formed;
         envelope = f;
+        partner = partner-known way t b.own b.app (uetr_in b) e.formed e.partner;
         said = record { cut = cut; tests = cover-passes t (fields_of b.text) cover read; says = read };
         read = read;
         rules = rules-pass t (fields_of b.text) cover read;
@@ -141,8 +172,9 @@ module _ (way : Direction) (t : Tables) (b : Blocks) (e : has_form way b.app ≡
   debit-says =
       then (Says way t b.text) (mt900_of t (fields_of b.text)) _ (λ advice read.
       record {
-        goes = envelope-says way b e;
+        goes = envelope-says way b e.formed;
         envelope = f;
+        partner = partner-known way t b.own b.app (uetr_in b) e.formed e.partner;
         said = (b.text, record { cut = cut; tests = fields-pass-900 t (fields_of b.text) advice read; says = read });
         read = tt;
         rules = tt;
@@ -156,8 +188,9 @@ module _ (way : Direction) (t : Tables) (b : Blocks) (e : has_form way b.app ≡
   credit-says =
       then (Says way t b.text) (mt910_of t (fields_of b.text)) _ (λ advice read.
       record {
-        goes = envelope-says way b e;
+        goes = envelope-says way b e.formed;
         envelope = f;
+        partner = partner-known way t b.own b.app (uetr_in b) e.formed e.partner;
         said = (b.text, record { cut = cut; tests = fields-pass-910 t (fields_of b.text) advice read; says = read });
         read = tt;
         rules = rule-passes t (fields_of b.text) advice read;
@@ -166,18 +199,34 @@ module _ (way : Direction) (t : Tables) (b : Blocks) (e : has_form way b.app ≡
         lines = inr refl;
       })
 
+  page-says : IfOk (page_of t b) (Says way t b.text)
+  unfolding page_of
+  page-says =
+      then (Says way t b.text) (mt950_of t (fields_of b.text)) _ (λ page read.
+      record {
+        goes = envelope-says way b e.formed;
+        envelope = f;
+        partner = partner-known way t b.own b.app (uetr_in b) e.formed e.partner;
+        said = (b.text, record { cut = cut; tests = fields-pass-950 t (fields_of b.text) page read; says = read });
+        read = tt;
+        rules = tt;
+        amount = tt;
+        written = writable mt950_of t b.text page cut read;
+        lines = inr refl;
+      })
+
 either-ok : (P : Message → Type 0) (test : Bool) (r q : Result Message Fault) → IfOk r P → IfOk q P → IfOk (cond test r q) P
 either-ok P true r q p o = p
 either-ok P false r q p o = o
 
-type-says : (way : Direction) (t : Tables) (b : Blocks) → has_form way b.app ≡ true → IsEnvelope (envelope_of b) → field_fault b.text ≡ None → IfOk (message_in t b) (Says way t b.text)
+type-says : (way : Direction) (t : Tables) (b : Blocks) → HeadingHolds way t b → IsEnvelope (envelope_of b) → field_fault b.text ≡ None → IfOk (message_in t b) (Says way t b.text)
 type-says way t b e f cut =
     let P : Message → Type 0 = Says way t b.text in
     let mt = type_of b.app in
     either-ok P (mt == 103) (transfer_of t b) _ (transfer-says way t b e f cut)
     (either-ok P (mt == 202) (cover_of t b) _ (cover-says way t b e f cut)
     (either-ok P (mt == 900) (debit_of t b) _ (debit-says way t b e f cut)
-    (either-ok P (mt == 910) (credit_of t b) _ (credit-says way t b e f cut) tt)))
+    (either-ok P (mt == 910) (credit_of t b) _ (credit-says way t b e f cut) (page-says way t b e f cut))))
 
 lines-short : (lines text : List ℕ) (n : ℕ) → (lines ≡ text) ⊎ (lines ≡ []) → length text ≤ n → length lines ≤ n
 lines-short lines text n (inl e) le = subst (λ (l : List ℕ). length l ≤ n) (sym e) le
@@ -189,7 +238,7 @@ message-says way home t b f =
     let P : Message → Type 0 = Says way t b.text in
     then P (passed (heading_tests way home t b)) _ (λ x e.
     then P (passed (line_test b.text ∷ [])) _ (λ u lines.
-    type-says way t b (first-holds (has_form way b.app) (at_block _ (codes "B2 ")) _ x e) f (lines-cut b.text u lines)))
+    type-says way t b (heading-holds way home t b x e) f (lines-cut b.text u lines)))
 
 told-says : (P : Message → Type 0) (b : Blocks) (r : Result Message Fault) → IfOk r P → IfOk (told_of b r) P
 told-says P b (Ok x) p = p
@@ -199,10 +248,10 @@ read-blocks : (r : Result Blocks BlockFault) (b : Blocks) → blocks_in r ≡ Ok
 read-blocks (Ok x) b e = cc e
 read-blocks (Err fault) b e = absurd (cc e)
 
-judged-sound : (way : Direction) (home : Bic) (t : Tables) (m : List ℕ) → IfOk (judged way home t m) (IsSound way t (2 * length m))
+judged-sound : (way : Direction) (home : Bic) (t : Tables) (m : List ℕ) → IfOk (judged way home t m) (IsValid way t (2 * length m))
 unfolding judged
 judged-sound way home t m =
-    let P : Message → Type 0 = IsSound way t (2 * length m) in
+    let P : Message → Type 0 = IsValid way t (2 * length m) in
     then P (blocks_in (blocks_of m)) _ (λ b e.
     let is : blocks_of m ≡ Ok b = read-blocks (blocks_of m) b e in
     told-says P b (message_of way home t b)
@@ -210,6 +259,7 @@ judged-sound way home t m =
     (λ x says. record {
       goes = says.goes;
       envelope = says.envelope;
+      partner = says.partner;
       said = says.said;
       read = says.read;
       rules = says.rules;
@@ -227,5 +277,5 @@ answered : (P : Message → Type 0) (r : Result Message MessageFault) (meant : R
 answered P (Ok x) meant a p = subst (λ o. IfOk o P) a p
 answered P (Err e) meant a p = tt
 
-pub sound : (way : Direction) (home : Bic) (t : Tables) (m : List ℕ) (r : Result Message MessageFault) → Answers r (judged way home t m) → IfOk r (IsSound way t (2 * length m))
-sound way home t m r a = answered (IsSound way t (2 * length m)) r (judged way home t m) a (judged-sound way home t m)
+pub sound : (way : Direction) (home : Bic) (t : Tables) (m : List ℕ) (r : Result Message MessageFault) → Answers r (judged way home t m) → IfOk r (IsValid way t (2 * length m))
+sound way home t m r a = answered (IsValid way t (2 * length m)) r (judged way home t m) a (judged-sound way home t m)

@@ -25,13 +25,14 @@ use Rattle.mt103.specs.Message.{mt103_of}
 use Rattle.mt103_rules.specs.Rules.{all_rules}
 use Rattle.mt202cov.specs.Message.{mt202cov_of}
 use Rattle.mt9_advice.specs.Advice.{mt900_of, mt910_of}
+use Rattle.mt950.specs.Page.{mt950_of}
 use Rattle.ref_tables.specs.Seen.{Tables}
 use Rattle.fin_message.specs.Heading.{at_block, heading_tests}
 use Rattle.fin_message.specs.Parts.{envelope_of, type_of}
 use Rattle.fin_message.specs.declared.direction.Direction.{Direction}
 use Rattle.fin_message.specs.declared.direction.Direction.TheVariants.{Received, Sent}
 use Rattle.fin_message.specs.declared.message.Message.{Message}
-use Rattle.fin_message.specs.declared.message.Message.TheVariants.{Cover, Credit, Debit, Transfer}
+use Rattle.fin_message.specs.declared.message.Message.TheVariants.{Cover, Credit, Debit, Page, Transfer}
 
 -- why a message is refused: its reference where that is told, and the fault
 abbrev pub Refused : Type 0
@@ -97,14 +98,20 @@ credit_of t b = do
   advice ← mt910_of t (fields_of b.text)
   Ok (Credit (envelope_of b) advice)
 
--- the message by its type; the other type is not read
+-- an MT950: its fields and its currencies
+unfoldable pub page_of : Tables → Blocks → Result Message Fault
+page_of t b = do
+  page ← mt950_of t (fields_of b.text)
+  Ok (Page (envelope_of b) page)
+
+-- the message by its type; behind P11 the last type is 950
 abbrev pub message_in : Tables → Blocks → Result Message Fault
 message_in t b =
     if type_of b.app == 103 then transfer_of t b
     else if type_of b.app == 202 then cover_of t b
     else if type_of b.app == 900 then debit_of t b
     else if type_of b.app == 910 then credit_of t b
-    else Err (at_block (code "P90") (codes "B4 "))
+    else page_of t b
 
 -- the tests behind those of the blocks, in their order
 unfoldable pub message_of : Direction → Bic → Tables → Blocks → Result Message Fault

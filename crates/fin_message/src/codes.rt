@@ -20,5 +20,3 @@ pub const P13: Code = Code(*b"P13");
 pub const P20: Code = Code(*b"P20");
 /// A field with a character outside X.
 pub const P21: Code = Code(*b"P21");
-/// A type whose fields are not read.
-pub const P90: Code = Code(*b"P90");

@@ -5,18 +5,18 @@ ghost use Rattle.corr_text.specs.Lines.{lines_of};
 ghost use Rattle.fin_fields.specs.Fields.{fields_of};
 ghost use Rattle.fin_layout.specs.Reading.{Gives};
 ghost use Rattle.fin_message.specs.Answers.{Answers};
-ghost use Rattle.fin_message.specs.Sound.{IsSound};
+ghost use Rattle.fin_message.specs.Sound.{IsValid};
 ghost use Rattle.fin_message.specs.Verdict.{judged, message_in, message_of, sent_verdict_of, verdict_of};
 
 use crate::advices::{read_credit, read_debit};
-use crate::codes::P90;
 use crate::cover::read_cover;
 use crate::direction::Direction;
-use crate::fault::{MessageFault, at_block};
+use crate::fault::MessageFault;
 use crate::fields::read_fields;
 use crate::heading::heading_fault;
 use crate::message::Message;
-use crate::parts::{reference, type_of};
+use crate::page::read_page;
+use crate::parts::{mir_of, type_of};
 use crate::transfer::read_transfer;
 use corr_ids::Bic;
 use fin_blocks::{Blocks, read_blocks};
@@ -41,7 +41,8 @@ fn read_of_type(
         202 => read_cover(alloc, t, blocks, fields),
         900 => read_debit(alloc, t, &blocks, fields),
         910 => read_credit(alloc, t, &blocks, fields),
-        _ => Err(MtFault::Bad(at_block(P90, *b"B4 "))),
+        // P11 leaves no other type than 950
+        _ => read_page(alloc, t, &blocks, fields),
     }
 }
 
@@ -76,7 +77,7 @@ fn judge(
     ensures { Answers result (judged way home.now t.now m.now) }
 {
     let blocks = read_blocks(alloc, m)?;
-    let mir = reference(&blocks.app);
+    let mir = mir_of(&blocks.app);
     match read_message(alloc, way, home, t, blocks) {
         Ok(message) => Ok(message),
         Err(MtFault::Bad(fault)) => Err(MessageFault::Refused { mir, fault }),
@@ -86,7 +87,7 @@ fn judge(
 
 /// What a message says that the home bank received, or the first test that it fails (docs/messages.md, "The tests of a
 /// message"): its blocks (P01 to P06), what they say (P07 to P13), its lines and characters (P20, P21), then by its type
-/// the order of its fields, their contents and its rules. P90 is a type whose fields are not read.
+/// the order of its fields, their contents and its rules.
 ///
 /// The message's reference is told with the fault where blocks 1 and 2 are read (none of P01 to P03 holds) and block 2 is
 /// of output form. A message has at most 65,535 bytes.
@@ -97,7 +98,7 @@ fn judge(
 pub fn verdict(alloc: Global, m: &[u8], home: &Bic, t: &RefTables) -> Result<Message, MessageFault>
     requires { length m.now ≤ 65535 }
     ensures value { Answers result (verdict_of home.now t.now m.now) }
-    ensures sound { IfOk result (IsSound Direction.Received t.now (2 * length m.now)) }
+    ensures sound { IfOk result (IsValid Direction.Received t.now (2 * length m.now)) }
 {
     judge(alloc, Direction::Received, home, t, m)
 }
@@ -113,7 +114,7 @@ pub fn check_sent(
 ) -> Result<Message, MessageFault>
     requires { length m.now ≤ 65535 }
     ensures value { Answers result (sent_verdict_of home.now t.now m.now) }
-    ensures sound { IfOk result (IsSound Direction.Sent t.now (2 * length m.now)) }
+    ensures sound { IfOk result (IsValid Direction.Sent t.now (2 * length m.now)) }
 {
     judge(alloc, Direction::Sent, home, t, m)
 }

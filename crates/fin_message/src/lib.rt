@@ -10,10 +10,11 @@ mod fields;
 mod heading;
 mod judging;
 mod message;
+mod page;
 mod parts;
 mod transfer;
 
-pub use codes::{P07, P08, P09, P10, P11, P12, P13, P20, P21, P90};
+pub use codes::{P07, P08, P09, P10, P11, P12, P13, P20, P21};
 pub use fault::MessageFault;
 pub use judging::{check_sent, verdict};
 pub use message::Message;

@@ -5,6 +5,7 @@ use corr_text::Text;
 use mt9_advice::{Mt900, Mt910};
 use mt103::Mt103;
 use mt202cov::Mt202Cov;
+use mt950::Page950;
 
 /// A valid message, by its type.
 #[derive(Debug, Drop)]
@@ -17,4 +18,6 @@ pub enum Message {
     Debit(Envelope, Mt900),
     /// An MT910, the confirmation of a credit.
     Credit(Envelope, Mt910),
+    /// An MT950, a page of the statement of an account.
+    Page(Envelope, Page950),
 }

@@ -19,7 +19,7 @@ pub fn type_of(app: &App) -> u16
 }
 
 /// The reference of a message of output form.
-pub fn reference(app: &App) -> Option<Mir>
+pub fn mir_of(app: &App) -> Option<Mir>
     ensures { result ≡ mir_in app.now }
 {
     match app {

@@ -14,6 +14,10 @@ use Rattle.mt950.specs.declared.joining.PageFault.TheVariants.{Gap, NotCarried, 
 use Rattle.mt950.specs.declared.joining.Statement.{Statement}
 use Rattle.mt950.specs.declared.page.Page950.{Page950}
 
+-- how many pages are joined at most: as many as a file has messages
+abbrev pub most_pages : ℕ
+most_pages = 50000
+
 -- two truths agree
 abbrev pub both : Bool → Bool → Bool
 both true b = b

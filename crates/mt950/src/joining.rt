@@ -3,7 +3,7 @@
 ghost use Rattle.std.specs.Prelude.{◌≡◌, ◌≤◌, ◌++◌, ◌+ℤ◌, All, IfOk, OnOk, length, option_map};
 ghost use Rattle.std.specs.Ordering.{int_eq};
 ghost use Rattle.fin_contents.specs.Writing.{IsReadable};
-ghost use Rattle.mt950.specs.Joining.{IsSmall, IsStatement, IsSum, Joins, effects_of, first_gap, first_uncarried, follows, held, is_same_statement, joined_of, joined_with, lines_of_pages, sum_test, without};
+ghost use Rattle.mt950.specs.Joining.{IsSmall, IsStatement, IsSum, Joins, effects_of, first_gap, first_uncarried, follows, held, is_same_statement, joined_of, joined_with, lines_of_pages, most_pages, sum_test, without};
 ghost use Rattle.mt950.specs.Page.{mt950_of};
 ghost use Rattle.mt950.specs.declared.joining.PageFault.TheVariants.{Gap};
 
@@ -75,7 +75,7 @@ fn is_same_statement(first: &Page950, page: &Page950) -> bool
 
 /// Whether the page at a place, from 0, among so many belongs there behind this first page.
 fn follows(first: &Page950, count: usize, at: usize, page: &Page950) -> bool
-    requires { at ≤ 50000 }
+    requires { at ≤ most_pages }
     ensures { result ≡ follows first.now count at page.now }
 {
     is_same_statement(first, page)
@@ -85,7 +85,7 @@ fn follows(first: &Page950, count: usize, at: usize, page: &Page950) -> bool
 }
 
 fn first_gap(first: &Page950, pages: &[Page950]) -> Option<u32>
-    requires { length pages.now ≤ 50000 }
+    requires { length pages.now ≤ most_pages }
     ensures { result ≡ first_gap first.now (length pages.now) 0 pages.now }
 {
     for (at, page) in pages.iter().enumerate() {
@@ -104,7 +104,7 @@ fn opens_at(closing: i64, page: &Page950) -> bool
 
 /// Each page belongs at its place.
 fn check_gaps(first: &Page950, pages: &[Page950]) -> Result<(), PageFault>
-    requires { length pages.now ≤ 50000 }
+    requires { length pages.now ≤ most_pages }
     ensures { result ≡ without (option_map Gap (first_gap first.now (length pages.now) 0 pages.now)) }
 {
     match first_gap(first, pages) {
@@ -115,7 +115,7 @@ fn check_gaps(first: &Page950, pages: &[Page950]) -> Result<(), PageFault>
 
 /// Each page opens where the one before closed, the first as it does itself.
 fn check_carried(first: &Page950, pages: &[Page950]) -> Result<(), PageFault>
-    requires { length pages.now ≤ 50000 }
+    requires { length pages.now ≤ most_pages }
     ensures { result ≡ without (first_uncarried first.now pages.now) }
 {
     let mut closing = first.opening.signed;
@@ -200,7 +200,7 @@ fn check_sum(first: &Page950, lines: &[Line61], last: &Page950) -> Result<(), Pa
 
 fn join_with(alloc: Global, first: &Page950, pages: &[Page950]) -> Result<Statement, PageFault>
     requires some { 1 ≤ length pages.now }
-    requires few { length pages.now ≤ 50000 }
+    requires few { length pages.now ≤ most_pages }
     requires small { All IsSmall (lines_of_pages pages.now) }
     ensures { Joins result (joined_with first.now pages.now) }
 {
@@ -232,7 +232,7 @@ fn join_with(alloc: Global, first: &Page950, pages: &[Page950]) -> Result<Statem
 /// statement's balances and amounts are below 10^14 minor units, with 4 decimals at most, and its lines give its closing (`sound`).
 #[tactic(auto, using(crate::proofs::Joins::small_pages), unfolding(crate::specs::Joining::joined_of))]
 pub fn join_pages(alloc: Global, pages: &[Page950]) -> Result<Statement, PageFault>
-    requires few { length pages.now ≤ 50000 }
+    requires few { length pages.now ≤ most_pages }
     requires given { All (IsReadable mt950_of) pages.now }
     ensures joined { Joins result (joined_of pages.now) }
     ensures sound { IfOk result IsStatement }

@@ -135,6 +135,7 @@ module _ (t : Tables) (chart : Chart) (pay : Pay) (place : ℕ) (small : place �
       accepted chart.home t 910 to [] fs back says.0 refl asks refl says.1
   order-accepted (message.Debit envelope m) k o came few is asks back = absurd came.received.kept
   order-accepted (message.Credit envelope m) k o came few is asks back = absurd came.received.kept
+  order-accepted (message.Page envelope m) k o came few is asks back = absurd came.received.kept
 
   -- and so those of orders in turn
   pub orders-accepted : (m : Message) (k : ℕ) (os : List Order) → CameFrom t chart pay m → k + length os ≤ 256 → All (IsOrder (length pay.legs)) os → All (Asks t m) os → AllReadBack chart pay place k os

@@ -13,7 +13,8 @@ use Rattle.fin_contents.specs.Parties.{known_party_of}
 use Rattle.fin_contents.specs.Plain.{reference_of, texts_of, time_of}
 use Rattle.fin_contents.proofs.laws.Steps.{read-then, told-is}
 use Rattle.fin_parties.specs.declared.party.Party.{Party}
-use Rattle.mt202cov.specs.Message.{banks_of, content_test, contents_of, customers_of, details_of, field_tests, message_of, mt202cov_of, sequence_a_of, sequence_b_of, terms_of}
+use Rattle.mt202cov.specs.Message.{content_test, contents_of, field_tests, mt202cov_of}
+use Rattle.mt202cov.specs.Parts.{banks_of, contents_in_parts, customers_of, details_of, message_of, sequence_a_of, sequence_b_of, terms_of}
 use Rattle.mt202cov.specs.Order.{order_202}
 use Rattle.mt202cov.specs.Rules.{all_rules, c68, c81}
 use Rattle.mt202cov.specs.declared.banks.Banks.{Banks}
@@ -23,6 +24,7 @@ use Rattle.mt202cov.specs.declared.message.Mt202Cov.{Mt202Cov}
 use Rattle.mt202cov.specs.declared.sequences.SequenceA.{SequenceA}
 use Rattle.mt202cov.specs.declared.sequences.SequenceB.{SequenceB}
 use Rattle.mt202cov.specs.declared.terms.Terms.{Terms}
+use Rattle.mt202cov.proofs.laws.Parts.{contents-are}
 use Rattle.mt202cov.proofs.laws.Passed.{fields-pass, rules-pass}
 use Rattle.advices.proofs.laws.Said.{at_place, option-there}
 use Rattle.advices.proofs.laws.Finding.{not-true}
@@ -89,9 +91,10 @@ module _ (t : Tables) (fs : List Field) where
       subst (λ (y : SequenceB). (in_option fs found 13 (known_party_of t) ≡ Ok y.customers.p56) × (in_option fs found 14 (known_party_of t) ≡ Ok y.customers.p57)) same (customers-there customers.0 customers.1)
 
   contents-there : (m : Mt202Cov) → contents_of t fs found ≡ Ok m → IsThere t fs m
-  unfolding contents_of
+  unfolding contents_in_parts
   contents-there m e =
-      let a = read-then (sequence_a_of t fs found) _ m e in
+      let whole : contents_in_parts t fs found ≡ Ok m = contents-are t fs found ∙ e in
+      let a = read-then (sequence_a_of t fs found) _ m whole in
       let b = read-then (sequence_b_of t fs found) _ m a.2 in
       let same : message_of a.0 b.0 ≡ m = told-is (message_of a.0 b.0) m b.2 in
       let one = sequence-a-there a.0 a.1 in
@@ -155,8 +158,11 @@ module _ (t : Tables) (fs : List Field) where
     sequence-b-fine = (record { customers = customers-fine.0; details = details-fine.0 }, rw (customers-fine.1, details-fine.1) refl)
 
     contents-fine : (m : Mt202Cov) × (contents_of t fs found ≡ Ok m)
-    unfolding contents_of
-    contents-fine = (message_of sequence-a-fine.0 sequence-b-fine.0, rw (sequence-a-fine.1, sequence-b-fine.1) refl)
+    unfolding contents_in_parts
+    contents-fine =
+        let m : Mt202Cov = message_of sequence-a-fine.0 sequence-b-fine.0 in
+        let whole : contents_in_parts t fs found ≡ Ok m = rw (sequence-a-fine.1, sequence-b-fine.1) refl in
+        (m, sym (contents-are t fs found) ∙ whole)
 
     -- a party is told just where there is a field
     told : (m : Mt202Cov) (k : ℕ) (x : Option Party) → in_option fs found k (known_party_of t) ≡ Ok x → is_some x ≡ is_some (at_place fs found k)

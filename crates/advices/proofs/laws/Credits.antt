@@ -1,5 +1,5 @@
 -- The notice of a credit passes the tests of an MT910.
-use Rattle.std.proofs.Common.{◌≡◌, ℕ, ◌≤◌, true, List, [], ◌∷◌, length, Some, None, Ok, refl, ◌∙◌, arith, inl}
+use Rattle.std.proofs.Common.{◌≡◌, ℕ, ◌≤◌, true, List, [], ◌∷◌, length, Some, None, Ok, refl, sym, ◌∙◌, arith, inl}
 use Rattle.std.specs.Prelude.{codes, find}
 use Rattle.corr_text.specs.First.{first_of}
 use Rattle.ref_tables.specs.Seen.{Tables}
@@ -17,7 +17,9 @@ use Rattle.fin_contents.specs.Writing.{line_field, value_field}
 use Rattle.mt202cov.specs.Message.{content_test as content_202, field_tests as tests_202, mt202cov_of}
 use Rattle.mt202cov.specs.Order.{order_202}
 use Rattle.mt202cov.specs.declared.message.Mt202Cov.{Mt202Cov}
-use Rattle.mt9_advice.specs.Advice.{booking_of, content_test, contents_910, mt910, mt910_of, tests_910}
+use Rattle.mt9_advice.specs.Advice.{content_test, contents_910, mt910_of, tests_910}
+use Rattle.mt9_advice.specs.Parts.{booking_of, mt910, parts_910}
+use Rattle.mt9_advice.proofs.laws.Parts.{contents-are-910}
 use Rattle.mt9_advice.specs.Order.{order_910}
 use Rattle.mt9_advice.specs.declared.booking.Booking.{Booking}
 use Rattle.fin_message.specs.Sound.{Say}
@@ -72,8 +74,10 @@ module _ (t : Tables) (reference related account : List ℕ) (v : Value) (f21 f5
   says = rw (one, two, three, four) refl
 
   contents : contents_910 t (joined segs) found ≡ Ok (mt910 (booked reference related account v) None (Some bank) None [])
-  unfolding contents_910
-  contents = rw (says, five) refl
+  unfolding parts_910
+  contents =
+      let parts : parts_910 t (joined segs) found ≡ Ok (mt910 (booked reference related account v) None (Some bank) None []) = rw (says, five) refl in
+      sym (contents-are-910 t (joined segs) found) ∙ parts
 
   -- and 52a is there, so the rule is kept
   pub reads : mt910_of t (joined segs) ≡ Ok (mt910 (booked reference related account v) None (Some bank) None [])

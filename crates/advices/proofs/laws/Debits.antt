@@ -1,5 +1,5 @@
 -- The notice of a debit passes the tests of an MT900.
-use Rattle.std.proofs.Common.{◌≡◌, ℕ, ◌≤◌, List, [], ◌∷◌, length, Some, None, Ok, refl, ◌∙◌, arith}
+use Rattle.std.proofs.Common.{◌≡◌, ℕ, ◌≤◌, List, [], ◌∷◌, length, Some, None, Ok, refl, sym, ◌∙◌, arith}
 use Rattle.std.specs.Prelude.{codes, find}
 use Rattle.corr_text.specs.First.{first_of}
 use Rattle.ref_tables.specs.Seen.{Tables}
@@ -11,7 +11,9 @@ use Rattle.fin_contents.specs.Money.{value_of}
 use Rattle.fin_contents.specs.Plain.{reference_of, short_line_of}
 use Rattle.fin_contents.specs.Writing.{line_field, value_field}
 use Rattle.fin_contents.proofs.laws.Again.{reference-kept}
-use Rattle.mt9_advice.specs.Advice.{booking_of, content_test, contents_900, mt900, mt900_of, tests_900}
+use Rattle.mt9_advice.specs.Advice.{content_test, contents_900, mt900_of, tests_900}
+use Rattle.mt9_advice.specs.Parts.{booking_of, mt900, parts_900}
+use Rattle.mt9_advice.proofs.laws.Parts.{contents-are-900}
 use Rattle.mt9_advice.specs.Order.{order_900}
 use Rattle.mt9_advice.specs.declared.booking.Booking.{Booking}
 use Rattle.advices.specs.declared.received.Received.{Received}
@@ -62,8 +64,10 @@ module _ (t : Tables) (reference related account : List ℕ) (v : Value)
   says = rw (one, two, three, four) refl
 
   contents : contents_900 t fields found ≡ Ok (mt900 (booked reference related account v) None [])
-  unfolding contents_900
-  contents = rw says refl
+  unfolding parts_900
+  contents =
+      let parts : parts_900 t fields found ≡ Ok (mt900 (booked reference related account v) None []) = rw says refl in
+      sym (contents-are-900 t fields found) ∙ parts
 
   pub reads : mt900_of t fields ≡ Ok (mt900 (booked reference related account v) None [])
   unfolding mt900_of

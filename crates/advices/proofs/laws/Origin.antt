@@ -27,11 +27,15 @@ use Rattle.fin_message.specs.declared.message.Message.{Message}
 use Rattle.fin_message.specs.declared.message.Message.TheVariants as message
 use Rattle.mt103.specs.Codes.{instr_of, kind_of, operation_of}
 use Rattle.mt103.specs.Instructions.{d98, e46}
-use Rattle.mt103.specs.Message.{content_test as content_103, contents_of as contents_103, details_of as details_103, field_tests as tests_103, message_of as message_103, mt103_of, parties_of as parties_103, terms_of as terms_103}
+use Rattle.mt103.specs.Message.{content_test as content_103, contents_of as contents_103, field_tests as tests_103, mt103_of}
+use Rattle.mt103.specs.Parts.{contents_in_parts as parts_103, details_of as details_103, message_of as message_103, parties_of as parties_103, terms_of as terms_103}
+use Rattle.mt103.proofs.laws.Parts.{contents-are as contents-are-103}
 use Rattle.mt103.specs.Order.{order_103}
 use Rattle.mt103.specs.declared.message.Mt103.{Mt103}
 use Rattle.mt103.specs.declared.terms.Terms.{Terms as Terms103}
-use Rattle.mt202cov.specs.Message.{banks_of, content_test as content_202, contents_of as contents_202, field_tests as tests_202, message_of as message_202, mt202cov_of, sequence_a_of, sequence_b_of, terms_of as terms_202}
+use Rattle.mt202cov.specs.Message.{content_test as content_202, contents_of as contents_202, field_tests as tests_202, mt202cov_of}
+use Rattle.mt202cov.specs.Parts.{banks_of, contents_in_parts as parts_202, message_of as message_202, sequence_a_of, sequence_b_of, terms_of as terms_202}
+use Rattle.mt202cov.proofs.laws.Parts.{contents-are as contents-are-202}
 use Rattle.mt202cov.specs.Order.{order_202}
 use Rattle.mt202cov.specs.Rules.{all_rules as rules_202}
 use Rattle.mt202cov.specs.declared.message.Mt202Cov.{Mt202Cov}
@@ -97,14 +101,15 @@ terms-value t fs found terms e =
     six.1 ∙ ap (λ (x : Terms103). told x.value) same
 
 transfer-value : (t : Tables) (fs : List Field) (m : Mt103) → mt103_of t fs ≡ Ok m → (v : Value) × (in_place order_103 fs (places_from order_103 0 fs) 5 (value_of t) ≡ Ok v) × (v.amount ≡ m.amount)
-unfolding mt103_of contents_103
+unfolding mt103_of parts_103
 transfer-value t fs m e =
     let found = places_from order_103 0 fs in
     let one = read-then (passed (tests_103 t fs)) _ m e in
     let two = read-then (contents_103 t fs found) _ m one.2 in
     let three = read-then (passed (e46 two.0.instrs ∷ d98 two.0.instrs ∷ [])) _ m two.2 in
     let same : two.0 ≡ m = told-is two.0 m three.2 in
-    let terms = read-then (terms_103 t fs found) _ two.0 two.1 in
+    let whole : parts_103 t fs found ≡ Ok two.0 = contents-are-103 t fs found ∙ two.1 in
+    let terms = read-then (terms_103 t fs found) _ two.0 whole in
     let parties = read-then (parties_103 t fs found) _ two.0 terms.2 in
     let details = read-then (details_103 t fs found) _ two.0 parties.2 in
     let made : message_103 terms.0 parties.0 details.0 ≡ two.0 = told-is (message_103 terms.0 parties.0 details.0) two.0 details.2 in
@@ -124,14 +129,15 @@ cover-terms-value t fs found terms e =
     four.1 ∙ ap (λ (x : Terms202). told x.value) same
 
 cover-value : (t : Tables) (fs : List Field) (m : Mt202Cov) → mt202cov_of t fs ≡ Ok m → (v : Value) × (in_place order_202 fs (places_from order_202 0 fs) 3 (value_of t) ≡ Ok v) × (v.amount ≡ m.amount)
-unfolding mt202cov_of contents_202 sequence_a_of
+unfolding mt202cov_of parts_202 sequence_a_of
 cover-value t fs m e =
     let found = places_from order_202 0 fs in
     let one = read-then (passed (tests_202 t fs)) _ m e in
     let two = read-then (contents_202 t fs found) _ m one.2 in
     let three = read-then (passed (rules_202 two.0)) _ m two.2 in
     let same : two.0 ≡ m = told-is two.0 m three.2 in
-    let a = read-then (sequence_a_of t fs found) _ two.0 two.1 in
+    let all : parts_202 t fs found ≡ Ok two.0 = contents-are-202 t fs found ∙ two.1 in
+    let a = read-then (sequence_a_of t fs found) _ two.0 all in
     let b = read-then (sequence_b_of t fs found) _ two.0 a.2 in
     let made : message_202 a.0 b.0 ≡ two.0 = told-is (message_202 a.0 b.0) two.0 b.2 in
     let terms = read-then (terms_202 t fs found) _ a.0 a.1 in
@@ -219,3 +225,4 @@ given t pay (message.Transfer envelope text transfer) r = let same = r.kept.1 in
 given t pay (message.Cover envelope text cover) r = let same = r.kept.1 in of-cover t pay cover (rw (← same) r.said)
 given t pay (message.Debit envelope advice) r = absurd r.kept
 given t pay (message.Credit envelope advice) r = absurd r.kept
+given t pay (message.Page envelope page) r = absurd r.kept

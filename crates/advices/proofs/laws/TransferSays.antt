@@ -1,5 +1,5 @@
 -- What the fields of a transfer say, place by place: of one that was read, and of one whose fields pass their tests.
-use Rattle.std.proofs.Common.{◌≡◌, List, [], ◌∷◌, ℕ, None, Ok, refl, subst}
+use Rattle.std.proofs.Common.{◌≡◌, List, [], ◌∷◌, ℕ, None, Ok, refl, subst, sym, ◌∙◌}
 use Rattle.std.specs.Prelude.{unwrap_or}
 use Rattle.corr_text.specs.First.{first_of}
 use Rattle.ref_tables.specs.Seen.{Tables}
@@ -15,12 +15,14 @@ use Rattle.fin_contents.specs.declared.value.Value.{Value}
 use Rattle.fin_contents.proofs.laws.Steps.{read-then, told-is}
 use Rattle.mt103.specs.Codes.{charge_of, instr_of, kind_of, operation_of}
 use Rattle.mt103.specs.Instructions.{d98, e46}
-use Rattle.mt103.specs.Message.{content_test, contents_of, details_of, field_tests, message_of, mt103_of, parties_of, terms_of}
+use Rattle.mt103.specs.Message.{content_test, contents_of, field_tests, mt103_of}
+use Rattle.mt103.specs.Parts.{contents_in_parts, details_of, message_of, parties_of, terms_of}
 use Rattle.mt103.specs.Order.{order_103}
 use Rattle.mt103.specs.declared.details.Details.{Details}
 use Rattle.mt103.specs.declared.message.Mt103.{Mt103}
 use Rattle.mt103.specs.declared.parties.Parties.{Parties}
 use Rattle.mt103.specs.declared.terms.Terms.{Terms}
+use Rattle.mt103.proofs.laws.Parts.{contents-are}
 
 -- what the rules ask of is said at its place
 pub record TransferSays (t : Tables) (fs : List Field) (m : Mt103) : Type 0 where
@@ -109,9 +111,10 @@ module _ (t : Tables) (fs : List Field) where
 
   -- of the whole
   pub contents-say : (m : Mt103) → contents_of t fs found ≡ Ok m → TransferSays t fs m
-  unfolding contents_of
+  unfolding contents_in_parts
   contents-say m e =
-      let a = read-then (terms_of t fs found) _ m e in
+      let whole : contents_in_parts t fs found ≡ Ok m = contents-are t fs found ∙ e in
+      let a = read-then (terms_of t fs found) _ m whole in
       let b = read-then (parties_of t fs found) _ m a.2 in
       let c = read-then (details_of t fs found) _ m b.2 in
       let same : message_of a.0 b.0 c.0 ≡ m = told-is (message_of a.0 b.0 c.0) m c.2 in
@@ -192,8 +195,11 @@ module _ (t : Tables) (fs : List Field) where
 
     -- they say something
     pub contents-fine : (m : Mt103) × (contents_of t fs found ≡ Ok m)
-    unfolding contents_of
-    contents-fine = (message_of terms-fine.0 parties-fine.0 details-fine.0, rw (terms-fine.1, parties-fine.1, details-fine.1) refl)
+    unfolding contents_in_parts
+    contents-fine =
+        let m : Mt103 = message_of terms-fine.0 parties-fine.0 details-fine.0 in
+        let whole : contents_in_parts t fs found ≡ Ok m = rw (terms-fine.1, parties-fine.1, details-fine.1) refl in
+        (m, sym (contents-are t fs found) ∙ whole)
 
     -- and where the instructions stand together, that is what is read
     pub read-fine : (m : Mt103) → contents_of t fs found ≡ Ok m → first_of (e46 m.instrs ∷ d98 m.instrs ∷ []) ≡ None → mt103_of t fs ≡ Ok m

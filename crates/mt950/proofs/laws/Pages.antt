@@ -5,11 +5,12 @@ use Rattle.std.specs.List.{All}
 use Rattle.corr_text.specs.First.{first_of}
 use Rattle.ref_tables.specs.Seen.{Tables, few_decimals}
 use Rattle.fin_fields.specs.declared.field.Field.{Field}
+use Rattle.fin_fields.specs.Writing.{IsField}
 use Rattle.fin_contents.specs.Writing.{IsReadable}
 use Rattle.mt950.specs.Page.{mt950_of, tests_950}
 use Rattle.mt950.specs.Writing.{IsContinued, IsPage, PagesReadBack, fields_950}
 use Rattle.mt950.specs.declared.page.Page950.{Page950}
-use Rattle.mt950.proofs.Fit.{page-fits}
+use Rattle.mt950.proofs.Fit.{fit-950, page-fits}
 use Rattle.mt950.proofs.Read.{page-is, passes-950, readable-is}
 use Rattle.mt950.proofs.Written.{pages-read-back}
 
@@ -28,6 +29,10 @@ readable-page p r = readable-is p r
 -- and a page that can be written, whose further lines may continue a field, is one that read_mt950 gives of fields of a text
 pub page-given : (t : Tables) (p : Page950) → IsTrue (few_decimals t.ccys) → IsPage t p → All IsContinued p.lines → IsReadable mt950_of p
 page-given t p few is on = record { tables = t; few = few; fields = fields_950 p; fit = page-fits t p is on; says = pages-read-back t p is }
+
+-- the fields of such a page are fields of a text
+pub fields-fit-950 : (p : Page950) → IsReadable mt950_of p → All IsField (fields_950 p)
+fields-fit-950 p readable = fit-950 p readable
 
 -- a page that can be written is read of the fields that it is written as
 pub page-reads-back : PagesReadBack

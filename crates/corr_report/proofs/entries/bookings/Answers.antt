@@ -1,4 +1,4 @@
-use Rattle.std.proofs.Common.{◌≡◌, ◌+◌, ◌-◌, ◌++◌, ap, sym, ◌∙◌, arith}
+use Rattle.std.proofs.Common.{◌≡◌, ◌+◌, ◌-◌, [], ◌++◌, ap, sym, ◌∙◌, arith}
 use Rattle.std.proofs.lemmas.Option.{slice_get_within, get_or_from_slice_get}
 use Rattle.corr_report.specs.Bookings.{booking_line}
 use Rattle.corr_report.proofs.FailingLeg.{names_leg}
@@ -20,4 +20,4 @@ loop-place-preserved c =
     let next : l.place - 1 + 1 ≡ l.place + 1 - 1 = omega (arith, l.auto.place) in
     let number : l.place - 1 + 1 ≡ l.place = omega (arith, l.auto.place) in
     let line = c.in_ok-put_line.ensures ∙ ap (λ entry. l.out ++ booking_line c.args.a.now l.place entry) (sym item) in
-    numbered_more (booking_line c.args.a.now) entries (l.place - 1) (l.place + 1 - 1) l.place c.get.result.now l.out _ within next number l.invariant line
+    numbered_more (booking_line c.args.a.now) entries (l.place - 1) (l.place + 1 - 1) l.place c.get.result.now [] l.out _ within next number l.invariant line

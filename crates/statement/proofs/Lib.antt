@@ -1,0 +1,16 @@
+pub mod Legs
+pub mod Moves
+pub mod Days
+pub mod Changes
+pub mod Prefixes
+pub mod Parted
+pub mod Adding
+pub mod DayParts
+pub mod Walking
+pub mod Joined
+pub mod Words
+pub mod Fine
+pub mod Running
+pub mod PageSteps
+pub mod Printing
+pub mod laws

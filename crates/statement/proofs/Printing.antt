@@ -1,0 +1,210 @@
+-- The pages of a statement that are printed so far.
+use Rattle.std.proofs.Common.{◌≡◌, ℕ, zero, suc, ◌+◌, ◌-◌, ◌*◌, ◌<◌, ◌≤◌, ◌==◌, List, [], ◌∷◌, ◌++◌, map, length, take, drop, true, inl, inr, Option, Some, refl, sym, ap, ◌∙◌, subst, arith, pos, ℤ}
+use Rattle.std.specs.Prelude.{All, slice_get}
+use Rattle.std.specs.Ordering.{int_eq}
+use Rattle.std.specs.List.{AllByRecursion}
+use Rattle.std.specs.Option.{option_map_or}
+use Rattle.std.proofs.lemmas.Bool.{cases_Bool}
+use Rattle.std.proofs.lemmas.Int.{ints}
+use Rattle.std.proofs.lemmas.List.{map-append}
+use Rattle.std.proofs.lemmas.List.Elements.{All-append, All-drop, All-from_recursion, All-take}
+use Rattle.std.proofs.lemmas.Option.{same_Some}
+use Rattle.jiff_core.specs.Calendar.{IsBetween}
+use Rattle.corr_ids.specs.Bic.{IsBic}
+use Rattle.corr_ids.specs.Day.{InCentury}
+use Rattle.corr_ids.specs.declared.bic.Bic.{Bic}
+use Rattle.corr_ids.specs.declared.day.Day.{Day}
+use Rattle.fin_blocks.specs.Sending.{sent_text}
+use Rattle.fin_fields.specs.Writing.{fields_text}
+use Rattle.fin_contents.specs.Writing.{IsReadable}
+use Rattle.day_model.specs.Balance.{balance_of}
+use Rattle.day_model.specs.Chart.{Chart, IsListed, account_at}
+use Rattle.day_model.specs.declared.account.Account.{Account}
+use Rattle.day_model.specs.declared.account.AcctNo.{AcctNo}
+use Rattle.day_model.specs.declared.entry.Entry.{Entry}
+use Rattle.mt950.specs.Page.{mt950_of}
+use Rattle.mt950.specs.Writing.{fields_950}
+use Rattle.mt950.specs.declared.page.Page950.{Page950}
+use Rattle.statement.specs.Index.{IsIndexOf, balance_at, last_balance, movements_of, on_day}
+use Rattle.statement.specs.Legs.{before_day}
+use Rattle.statement.specs.Lines.{lines_on}
+use Rattle.statement.specs.Pages.{message_of, page_of, pages_for, pages_from, pages_of, statement_of}
+use Rattle.statement.specs.Running.{message_by, page_by}
+use Rattle.statement.specs.Seen.{Book}
+use Rattle.statement.specs.Valid.{AreReadBack, AreShaped, Closes, IsPrintable, Prints, ReadsBack}
+use Rattle.statement.specs.declared.index.HistoryIndex.{HistoryIndex}
+use Rattle.statement.specs.declared.ledger.Ledger.{Ledger}
+use Rattle.statement.specs.declared.movement.Movement.{Movement}
+use Rattle.statement.proofs.Adding.{Kept, all-one, kept, kept-before}
+use Rattle.statement.proofs.PageSteps.{line-count, page-is, pages-more}
+use Rattle.statement.proofs.laws.Closing.{closes}
+use Rattle.statement.proofs.laws.Readable.{page-readable, pages-few}
+
+-- what can be printed from an index can be printed from its book
+pub printable : (index : HistoryIndex) (n : ℕ) (day : Day) (book : Book) → Prints index n day book → IsPrintable book n day
+printable index n day book prints = record {
+  chart = prints.has.is.chart;
+  legal = prints.has.is.legal;
+  listed = prints.has.listed;
+  shaped = prints.shaped;
+  century = prints.century;
+  codes = prints.has.is.codes;
+  quotes = prints.has.is.quotes;
+}
+
+-- a page begins among the lines
+pub begins-within : (k lines : ℕ) → k < pages_for lines → 25 * k ≤ lines
+begins-within k zero lt = omega (arith, lt)
+begins-within k (suc lines) lt = omega (arith, lt)
+
+-- an index of a legal history prints its statements
+pub prints-history : (index : HistoryIndex) (chart : Chart) (entries : List Entry) (n : ℕ) (day : Day) → IsIndexOf index (record { chart = chart; entries = entries }) → IsListed chart n → AreShaped entries → IsBic chart.home → InCentury day
+    → Prints index n day (record { chart = chart; entries = entries })
+prints-history index chart entries n day is listed shaped home century = record { has = record { is = is; listed = listed }; shaped = shaped; home = home; century = century }
+
+-- its pages close at the books
+pub statement-closes : (index : HistoryIndex) (n : ℕ) (day : Day) (book : Book) → Prints index n day book → Closes book.chart book.entries n day
+statement-closes index n day book prints = closes book.chart book.entries n day prints.has.is.legal prints.has.listed
+
+-- ---- movements of a day of the century
+
+same-number : (a b : Day) → int_eq a.0 b.0 ≡ true → b.0 ≡ a.0
+same-number a b e = grind (arith, ints)
+
+dated : (day : Day) → InCentury day → (movements : List Movement) → AllByRecursion (λ m. InCentury m.day) (on_day day movements)
+dated day century [] = tt
+dated day century (m ∷ movements) =
+    elim (cases_Bool (int_eq m.day.0 day.0)) [
+      | inl met ↦ rw met ((subst (IsBetween (pos 3652) (pos 40176)) (same-number m.day day met) century, dated day century movements))
+      | inr unmet ↦ rw unmet (dated day century movements)
+    ]
+
+pub part-dated : (day : Day) (ms here movements : List Movement) (first : ℕ) → InCentury day → ms ≡ on_day day movements → here ≡ take 25 (drop first ms) → All (λ m. InCentury m.day) here
+part-dated day ms here movements first century are part =
+    let P : Movement → Type 0 = λ m. InCentury m.day in
+    let all : All P (on_day day movements) = All-from_recursion P (on_day day movements) (dated day century movements) in
+    subst (All P) (sym (part ∙ ap (λ (xs : List Movement). take 25 (drop first xs)) are)) (All-take P 25 (drop first (on_day day movements)) (All-drop P first (on_day day movements) all))
+
+-- ---- the pages so far
+
+-- texts are those of the first pages, whose blocks and lines read back
+abbrev pub SoFar : HistoryIndex → ℕ → Day → ℕ → List (List ℕ) → Type 0
+SoFar index n day count texts =
+    (book : Book) → Prints index n day book → (account : Account) → account_at book.chart n ≡ Some account
+    → (texts ≡ map (message_of book.chart account) (pages_from (page_of book.chart book.entries n day account) 1 count))
+    × All (ReadsBack book.chart.home account.owner) (pages_from (page_of book.chart book.entries n day account) 1 count)
+
+-- a message by its home bank, its receiver and its page
+abbrev message_with : Bic → Bic → Page950 → List ℕ
+message_with home to page = sent_text home 950 to [] (fields_text (fields_950 page))
+
+abbrev Seat : Type 0
+Seat = Bic × Bic × Page950
+
+stated : (book : Book) (n : ℕ) (day : Day) (account : Account) → account_at book.chart n ≡ Some account
+    → statement_of book.chart book.entries n day ≡ pages_from (page_of book.chart book.entries n day account) 1 (pages_for (length (lines_on n day book.entries)))
+stated book n day account there =
+    ap (λ (o : Option Account). option_map_or (λ a. pages_from (page_of book.chart book.entries n day a) 1 (pages_for (length (lines_on n day book.entries)))) o []) there
+
+told : (book : Book) (n : ℕ) (day : Day) (account : Account) → account_at book.chart n ≡ Some account
+    → pages_of book.chart book.entries n day ≡ map (message_of book.chart account) (pages_from (page_of book.chart book.entries n day account) 1 (pages_for (length (lines_on n day book.entries))))
+told book n day account there =
+    ap (λ (o : Option Account). option_map_or (λ a. map (message_of book.chart a) (statement_of book.chart book.entries n day)) o []) there
+    ∙ ap (map (message_of book.chart account)) (stated book n day account there)
+
+module _ (index : HistoryIndex) (number : AcctNo) (day : Day) (ledger : Ledger) (at : slice_get index.ledgers.items (number.0 - 1) ≡ Some ledger)
+    (book : Book) (prints : Prints index number.0 day book) where
+  abbrev n : ℕ
+  n = number.0
+
+  abbrev of_book : Kept book n ledger
+  of_book = kept index book n ledger prints.has.is prints.has.listed at
+
+  abbrev account : Account
+  account = of_book.account
+
+  abbrev movements : List Movement
+  movements = movements_of book.chart n book.entries
+
+  pub owner-is : IsBic ledger.owner
+  owner-is = subst (λ (l : Ledger). IsBic l.owner) (sym of_book.same) (prints.has.is.chart.rows.formed (n - 1) account of_book.there).owner
+
+  abbrev page : ℕ → Page950
+  page k = page_of book.chart book.entries n day account k
+
+  pub few-pages : (ms : List Movement) (count : ℕ) → ms ≡ on_day day ledger.movements → count ≡ pages_for (length ms) → count < 5000
+  few-pages ms count are counted =
+      let few = pages-few book n day (printable index n day book prints) account of_book.there in
+      let same : ms ≡ on_day day movements = are ∙ ap (λ (l : Ledger). on_day day l.movements) of_book.same in
+      let size : pages_for (length (lines_on n day book.entries)) ≡ count =
+      ap pages_for (line-count book.chart book.entries n day) ∙ ap (λ (xs : List Movement). pages_for (length xs)) (sym same) ∙ sym counted in
+      subst (λ (c : ℕ). c < 5000) size few
+
+  -- the page that the ledger's movements make
+  module _ (k : ℕ) (ms here : List Movement) (opening balance : ℤ) (count : ℕ)
+      (ms_are : ms ≡ on_day day ledger.movements) (opening_is : opening ≡ balance_at ledger day) (balance_is : balance ≡ last_balance opening (take (k * 25) ms))
+      (here_are : here ≡ take 25 (drop (k * 25) ms)) (count_is : count ≡ pages_for (length ms)) where
+    place : k * 25 ≡ 25 * k
+    place = omega arith
+
+    are : ms ≡ on_day day movements
+    are = ms_are ∙ ap (λ (l : Ledger). on_day day l.movements) of_book.same
+
+    opens : opening ≡ balance_of book.chart (before_day day book.entries) n
+    opens = opening_is ∙ kept-before index book n ledger day prints.has.is of_book
+
+    balanced : balance ≡ last_balance (balance_of book.chart (before_day day book.entries) n) (take (25 * k) (on_day day movements))
+    balanced = balance_is ∙ (λ i. last_balance (opens i) (take (place i) (are i)))
+
+    here-is : here ≡ take 25 (drop (25 * k) (on_day day movements))
+    here-is = here_are ∙ (λ i. take 25 (drop (place i) (are i)))
+
+    counted : count ≡ pages_for (length (on_day day movements))
+    counted = count_is ∙ ap (λ (xs : List Movement). pages_for (length xs)) are
+
+    pub page-made : page_by ledger (record { account = number; day = day; page = k + 1; last = k + 1 == count }) balance here ≡ page (k + 1)
+    page-made =
+        (λ i. page_by (of_book.same i) (record { account = number; day = day; page = k + 1; last = k + 1 == counted i }) (balanced i) (here-is i))
+        ∙ page-is book.chart book.entries n day account number refl k
+
+    in-count : k < count → k + 1 ≤ pages_for (length (lines_on n day book.entries))
+    in-count lt =
+        let size = line-count book.chart book.entries n day in
+        subst (λ (c : ℕ). k + 1 ≤ pages_for c) (sym size) (omega (arith, lt, counted))
+
+    pub made-readable : k < count → IsReadable mt950_of (page_by ledger (record { account = number; day = day; page = k + 1; last = k + 1 == count }) balance here)
+    made-readable lt =
+        subst (IsReadable mt950_of) (sym page-made) (page-readable book n day (printable index n day book prints) account of_book.there (k + 1) (in-count lt))
+
+    -- one page more
+    pub more-pages : (texts new : List (List ℕ)) (text : List ℕ) (other : Account) → account_at book.chart n ≡ Some other
+        → (texts ≡ map (message_of book.chart other) (pages_from (page_of book.chart book.entries n day other) 1 k)) × All (ReadsBack book.chart.home other.owner) (pages_from (page_of book.chart book.entries n day other) 1 k)
+        → text ≡ message_by index.home ledger (page_by ledger (record { account = number; day = day; page = k + 1; last = k + 1 == count }) balance here)
+        → ReadsBack index.home ledger.owner (page_by ledger (record { account = number; day = day; page = k + 1; last = k + 1 == count }) balance here)
+        → new ≡ texts ++ text ∷ []
+        → (new ≡ map (message_of book.chart other) (pages_from (page_of book.chart book.entries n day other) 1 (k + 1))) × All (ReadsBack book.chart.home other.owner) (pages_from (page_of book.chart book.entries n day other) 1 (k + 1))
+    more-pages texts new text other there so_far is back added =
+        let same : account ≡ other = same_Some account other (sym of_book.there ∙ there) in
+        let made = page-made ∙ ap (λ (a : Account). page_of book.chart book.entries n day a (k + 1)) same in
+        let of_owner : ledger.owner ≡ other.owner = ap (λ (l : Ledger). l.owner) of_book.same ∙ ap (λ (a : Account). a.owner) same in
+        let pages : List Page950 = pages_from (page_of book.chart book.entries n day other) 1 k in
+        let next : Page950 = page_of book.chart book.entries n day other (k + 1) in
+        let grow : pages_from (page_of book.chart book.entries n day other) 1 (k + 1) ≡ pages ++ next ∷ [] =
+        pages-more (page_of book.chart book.entries n day other) 1 k ∙ ap (λ (j : ℕ). pages ++ page_of book.chart book.entries n day other j ∷ []) (omega arith) in
+        let spelled : text ≡ message_of book.chart other next = is ∙ (λ i. message_with (prints.has.is.home i) (of_owner i) (made i)) in
+        let reads : ReadsBack book.chart.home other.owner next = subst (λ (q : Seat). ReadsBack q.0 q.1 q.2) (λ i. (prints.has.is.home i, of_owner i, made i)) back in (
+          added ∙ (λ i. so_far.0 i ++ spelled i ∷ []) ∙ sym (map-append (message_of book.chart other) pages (next ∷ [])) ∙ ap (map (message_of book.chart other)) (sym grow),
+          subst (All (ReadsBack book.chart.home other.owner)) (sym grow) (All-append (ReadsBack book.chart.home other.owner) pages (next ∷ []) so_far.1 (all-one (ReadsBack book.chart.home other.owner) next reads)),
+        )
+
+  -- all pages
+  pub all-pages : (texts : List (List ℕ)) (count : ℕ) → count ≡ pages_for (length (on_day day ledger.movements)) → SoFar index n day count texts → (texts ≡ pages_of book.chart book.entries n day) × AreReadBack book.chart book.entries n day
+  all-pages texts count counted so_far =
+      let done : count ≡ pages_for (length (lines_on n day book.entries)) =
+      counted ∙ ap (λ (l : Ledger). pages_for (length (on_day day l.movements))) of_book.same ∙ sym (ap pages_for (line-count book.chart book.entries n day)) in (
+        (so_far book prints account of_book.there).0
+            ∙ ap (λ (c : ℕ). map (message_of book.chart account) (pages_from (page_of book.chart book.entries n day account) 1 c)) done
+            ∙ sym (told book n day account of_book.there),
+        λ other there.
+            subst (All (ReadsBack book.chart.home other.owner)) (ap (pages_from (page_of book.chart book.entries n day other) 1) done ∙ sym (stated book n day other there)) (so_far book prints other there).1,
+      )

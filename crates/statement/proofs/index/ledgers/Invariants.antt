@@ -1,0 +1,7 @@
+use Rattle.std.proofs.Common.{◌≡◌, [], map, take}
+use Rattle.std.specs.Prelude.{All}
+use Rattle.statement.specs.Index.{HasCode, ledger_with}
+use Rattle.statement.proofs.index.ledgers.Given as goal
+
+abbrev pub invariant-loop-n : goal.invariant-loop-n
+invariant-loop-n l = (l.ledgers.items ≡ map (λ account. ledger_with account []) (take l.n l.a.accounts)) × All HasCode (take l.n l.a.accounts)

@@ -1,0 +1,124 @@
+-- What an index of a history keeps.
+use Rattle.std.specs.Prelude.{◌≡◌, All, ◌<◌, Bool, ℕ, zero, suc, ◌+◌, ◌-◌, List, [], ◌∷◌, ◌++◌, length, map, take, slice_get, Some, ℤ, int_lt, ◌≤ℤ◌}
+use Rattle.std.specs.Ordering.{int_eq}
+use Rattle.std.specs.List.{filter}
+use Rattle.corr_ids.specs.declared.day.Day.{Day}
+use Rattle.day_model.specs.Balance.{balance_of}
+use Rattle.day_model.specs.Chart.{Chart, IsChart, IsListed}
+use Rattle.day_model.specs.Legal.{IsLegal}
+use Rattle.day_model.specs.declared.account.Account.{Account}
+use Rattle.day_model.specs.declared.entry.Entry.{Entry}
+use Rattle.day_model.specs.declared.pay.Leg.{Leg}
+use Rattle.statement.specs.Legs.{HasQuotes, legs_on, quote_text}
+use Rattle.statement.specs.Seen.{Book}
+use Rattle.statement.specs.declared.index.HistoryIndex.{HistoryIndex}
+use Rattle.statement.specs.declared.ledger.Ledger.{Ledger}
+use Rattle.statement.specs.declared.movement.Movement.{Movement}
+
+-- a leg on account n of the entry that follows these, with the balance after it
+abbrev pub movement_of : Chart → ℕ → List Entry → Entry → Leg → Movement
+movement_of chart n before entry leg = record {
+  place = length before + 1;
+  day = entry.day;
+  value = entry.pay.value;
+  mt = entry.pay.mt;
+  side = leg.side;
+  amount = leg.amount;
+  reference = quote_text (length before + 1) leg.quote;
+  balance = balance_of chart (before ++ entry ∷ []) n;
+}
+
+-- the movements on account n of entries that follow these
+abbrev pub movements_from : Chart → ℕ → List Entry → List Entry → List Movement
+movements_from chart n before [] = []
+movements_from chart n before (entry ∷ entries) =
+    map (movement_of chart n before entry) (legs_on n entry) ++ movements_from chart n (before ++ entry ∷ []) entries
+
+-- all movements on account n
+abbrev pub movements_of : Chart → ℕ → List Entry → List Movement
+movements_of chart n entries = movements_from chart n [] entries
+
+-- an account's columns with movements
+abbrev pub ledger_with : Account → List Movement → Ledger
+ledger_with account movements = record {
+  id = account.id;
+  owner = account.owner;
+  ccy = account.ccy;
+  decimals = account.decimals;
+  opening = account.opening;
+  movements = movements;
+}
+
+-- an account's currency has three letters
+abbrev pub HasCode : Account → Type 0
+HasCode account = length account.ccy.0 ≡ 3
+
+-- a ledger for each account, with all movements on it
+pub record AreLedgersOf (ledgers : List Ledger) (chart : Chart) (entries : List Entry) : Type 0 where
+  pub size : length ledgers ≡ length chart.accounts
+  pub each : (i : ℕ) (account : Account) → slice_get chart.accounts i ≡ Some account
+      → slice_get ledgers i ≡ Some (ledger_with account (movements_of chart (i + 1) entries))
+
+-- an index is that of a legal history of a book
+pub record IsIndexOf (index : HistoryIndex) (book : Book) : Type 0 where
+  pub chart : IsChart book.chart
+  pub legal : IsLegal book.chart book.entries
+  pub home : index.home ≡ book.chart.home
+  pub count : index.entries ≡ length book.entries
+  pub ledgers : AreLedgersOf index.ledgers.items book.chart book.entries
+  pub codes : All HasCode book.chart.accounts
+  pub quotes : All HasQuotes book.entries
+
+-- an index is that of a book, whose history stays legal with this entry behind it
+pub record TakesNext (index : HistoryIndex) (entry : Entry) (book : Book) : Type 0 where
+  pub is : IsIndexOf index book
+  pub legal : IsLegal book.chart (book.entries ++ entry ∷ [])
+
+-- a book with an entry more
+abbrev pub grown : Book → Entry → Book
+grown book entry = record book { entries = book.entries ++ entry ∷ [] }
+
+-- an index is that of a book which has account n
+pub record HasAccount (index : HistoryIndex) (n : ℕ) (book : Book) : Type 0 where
+  pub is : IsIndexOf index book
+  pub listed : IsListed book.chart n
+
+-- ---- ledgers that change
+
+-- a list with its k-th element changed
+abbrev pub changed_at : {A : Type 0} → ℕ → (A → A) → List A → List A
+changed_at k change [] = []
+changed_at zero change (x ∷ xs) = change x ∷ xs
+changed_at (suc k) change (x ∷ xs) = x ∷ changed_at k change xs
+
+-- a ledger with a movement more
+abbrev pub pushed : Movement → Ledger → Ledger
+pushed movement ledger = record ledger { movements = ledger.movements ++ movement ∷ [] }
+
+-- a ledger without its last movement
+abbrev pub undone : Ledger → Ledger
+undone ledger = record ledger { movements = take (length ledger.movements - 1) ledger.movements }
+
+-- ---- what a ledger tells
+
+-- the balance after the last of movements that follow on a balance
+abbrev pub last_balance : ℤ → List Movement → ℤ
+last_balance balance [] = balance
+last_balance balance (movement ∷ movements) = last_balance movement.balance movements
+
+-- days of movements never fall
+abbrev pub Rise : List Movement → Type 0
+Rise movements =
+    (i j : ℕ) (a b : Movement) → i < j → slice_get movements i ≡ Some a → slice_get movements j ≡ Some b → a.day.0 ≤ℤ b.day.0
+
+-- a movement is of an earlier day
+abbrev pub is_before : ℤ → Movement → Bool
+is_before day movement = int_lt movement.day.0 day
+
+-- the balance by the movements of earlier days
+abbrev pub balance_at : Ledger → Day → ℤ
+balance_at ledger day = last_balance ledger.opening (filter (is_before day.0) ledger.movements)
+
+-- the movements of a day
+abbrev pub on_day : Day → List Movement → List Movement
+on_day day movements = filter (λ movement. int_eq movement.day.0 day.0) movements

@@ -1,0 +1,9 @@
+-- What contracts see of an index.
+use Rattle.std.specs.Prelude.{List}
+use Rattle.day_model.specs.Chart.{Chart}
+use Rattle.day_model.specs.declared.entry.Entry.{Entry}
+
+-- the accounts of a book, and the entries of its history
+pub record Book : Type 0 where
+  pub chart : Chart
+  pub entries : List Entry

@@ -1,0 +1,94 @@
+-- What holds of the pages of a statement.
+use Rattle.std.specs.Prelude.{◌≡◌, ℕ, true, List, [], Some, None, Ok, All, map}
+use Rattle.corr_ids.specs.Bic.{IsBic}
+use Rattle.corr_ids.specs.Day.{InCentury}
+use Rattle.corr_ids.specs.declared.bic.Bic.{Bic}
+use Rattle.corr_ids.specs.declared.day.Day.{Day}
+use Rattle.corr_ids.specs.declared.envelope.Envelope.{Envelope}
+use Rattle.ref_tables.specs.Seen.{Tables, decimals_in, has_head}
+use Rattle.fin_blocks.specs.Blocks.{blocks_of}
+use Rattle.fin_blocks.specs.Sending.{sent_blocks, sent_text}
+use Rattle.fin_fields.specs.Faults.{field_fault}
+use Rattle.fin_fields.specs.Fields.{fields_of}
+use Rattle.fin_fields.specs.Writing.{fields_text}
+use Rattle.fin_fields.specs.declared.field.Field.{Field}
+use Rattle.fin_message.specs.Verdict.{sent_verdict_of}
+use Rattle.fin_message.specs.declared.message.Message.TheVariants.{Page}
+use Rattle.day_model.specs.Balance.{balance_of}
+use Rattle.day_model.specs.Chart.{Chart, IsChart, IsListed, account_at}
+use Rattle.day_model.specs.Legal.{IsLegal}
+use Rattle.day_model.specs.Shape.{HasShape}
+use Rattle.day_model.specs.declared.account.Account.{Account}
+use Rattle.day_model.specs.declared.entry.Entry.{Entry}
+use Rattle.mt950.specs.Joining.{joined_of}
+use Rattle.mt950.specs.Page.{mt950_of}
+use Rattle.mt950.specs.Writing.{fields_950}
+use Rattle.mt950.specs.declared.joining.Statement.{Statement}
+use Rattle.mt950.specs.declared.page.Page950.{Page950}
+use Rattle.statement.specs.Index.{HasAccount, HasCode}
+use Rattle.statement.specs.Legs.{HasQuotes, before_day}
+use Rattle.statement.specs.Lines.{lines_on, up_to_day}
+use Rattle.statement.specs.Pages.{message_of, statement_of}
+use Rattle.statement.specs.Seen.{Book}
+use Rattle.statement.specs.declared.index.HistoryIndex.{HistoryIndex}
+
+-- entries whose pays can be written down, so that each quotes a reference
+abbrev pub AreShaped : List Entry → Type 0
+AreShaped entries = All (λ entry. HasShape entry.pay) entries
+
+-- the statement that pages join to opens at the balance before the day, has the lines of the day, and closes at the balance by the
+-- entries up to the day
+pub record ClosesAt (chart : Chart) (entries : List Entry) (n : ℕ) (day : Day) (statement : Statement) : Type 0 where
+  pub joined : joined_of (statement_of chart entries n day) ≡ Ok statement
+  pub opening : statement.opening ≡ balance_of chart (before_day day entries) n
+  pub lines : statement.lines ≡ map (λ placed. placed.line) (lines_on n day entries)
+  pub closing : statement.closing ≡ balance_of chart (up_to_day day entries) n
+  pub dated : statement.day ≡ day
+
+-- the pages of account n are such a statement
+abbrev pub Closes : Chart → List Entry → ℕ → Day → Type 0
+Closes chart entries n day = (statement : Statement) × ClosesAt chart entries n day statement
+
+-- a page's message is read into the blocks that it was written of, its lines are cut without fault, and wherever the page is read
+-- of any fields it is read of these lines
+pub record ReadsBack (home to : Bic) (page : Page950) : Type 0 where
+  pub blocks : blocks_of (sent_text home 950 to [] (fields_text (fields_950 page))) ≡ Ok (sent_blocks home 950 to [] (fields_text (fields_950 page)))
+  pub cut : field_fault (fields_text (fields_950 page)) ≡ None
+  pub again : (t : Tables) (fs : List Field) → mt950_of t fs ≡ Ok page → mt950_of t (fields_of (fields_text (fields_950 page))) ≡ Ok page
+
+-- so do the messages of account n's pages
+abbrev pub AreReadBack : Chart → List Entry → ℕ → Day → Type 0
+AreReadBack chart entries n day =
+    (account : Account) → account_at chart n ≡ Some account → All (ReadsBack chart.home account.owner) (statement_of chart entries n day)
+
+-- tables hold an account's owner, and its currency with its decimals
+pub record Holds (t : Tables) (account : Account) : Type 0 where
+  pub owner : has_head t account.owner.head ≡ true
+  pub ccy : decimals_in t account.ccy.0 ≡ Some account.decimals
+
+-- a text is one that the home bank may send, and says this page: no test of a sent message fails
+abbrev pub IsAcceptedAs : Bic → Tables → List ℕ → Page950 → Type 0
+IsAcceptedAs home t text page = (envelope : Envelope) × (sent_verdict_of home t text ≡ Ok (Page envelope page))
+
+-- under all such tables so are the texts of account n's pages
+abbrev pub AreAccepted : Chart → List Entry → ℕ → Day → Type 0
+AreAccepted chart entries n day =
+    (t : Tables) (account : Account) → account_at chart n ≡ Some account → Holds t account
+    → All (λ page. IsAcceptedAs chart.home t (message_of chart account page) page) (statement_of chart entries n day)
+
+-- an index is that of a book whose statement of account n on this day can be printed
+pub record Prints (index : HistoryIndex) (n : ℕ) (day : Day) (book : Book) : Type 0 where
+  pub has : HasAccount index n book
+  pub shaped : AreShaped book.entries
+  pub home : IsBic book.chart.home
+  pub century : InCentury day
+
+-- what a statement of account n on a day needs of its book: all of it is in `Prints`
+pub record IsPrintable (book : Book) (n : ℕ) (day : Day) : Type 0 where
+  pub chart : IsChart book.chart
+  pub legal : IsLegal book.chart book.entries
+  pub listed : IsListed book.chart n
+  pub shaped : AreShaped book.entries
+  pub century : InCentury day
+  pub codes : All HasCode book.chart.accounts
+  pub quotes : All HasQuotes book.entries

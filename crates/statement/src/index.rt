@@ -1,0 +1,149 @@
+//! An index of a history by its accounts.
+
+ghost use Rattle.std.specs.Prelude.{◌≡◌, ◌<◌, ◌-◌, [], ◌∷◌, ◌++◌, true, All, IfOk, OnErr, OnOk, Some, length, map, slice_get};
+ghost use Rattle.corr_money.specs.Amounts.{amount_end};
+ghost use Rattle.day_model.specs.Balance.{balance_of, is_booked};
+ghost use Rattle.day_model.specs.Chart.{IsChart, IsListed};
+ghost use Rattle.day_model.specs.Legal.{IsLegal};
+ghost use Rattle.statement.specs.Index.{AreLedgersOf, HasAccount, HasCode, IsIndexOf, TakesNext, grown, ledger_with, movement_of};
+ghost use Rattle.statement.specs.Legs.{HasQuotes, IsByteQuote, before_day, legs_on};
+ghost use Rattle.statement.specs.Seen.{Book};
+
+use crate::ledger::{Ledger, at, push, undo};
+use crate::movement::Movement;
+use crate::references::quote_text;
+use corr_ids::{Bic, Day};
+use corr_text::Memory;
+use day_model::{Accounts, AcctNo, Entry, History, Leg, Outcome};
+use std::alloc::Global;
+
+/// An index of a history: for each account its booked legs in their order, each with the balance after it. So a statement takes
+/// the time of its account's entries, and not of the whole history.
+///
+/// Contracts see whose index it is by `IsIndexOf`: of which accounts, and of which entries.
+#[derive(Debug, Drop)]
+pub struct HistoryIndex {
+    alloc: Global,
+    home: Bic,
+    ledgers: Vec<Ledger>,
+    entries: u32,
+}
+
+/// A ledger without movements for each account.
+fn ledgers(alloc: Global, a: &Accounts) -> Result<Vec<Ledger>, Memory>
+    ensures value { IfOk result (λ ledgers. ledgers.items ≡ map (λ account. ledger_with account []) a.now.accounts) }
+    ensures sound { IsChart a.now }
+    ensures codes { OnOk result (All HasCode a.now.accounts) }
+{
+    let mut ledgers = Vec::new(alloc);
+    for n in 0..a.count() {
+        ledgers.push(Ledger::new(alloc, a.get(AcctNo(n + 1)))?)?;
+    }
+    Ok(ledgers)
+}
+
+impl HistoryIndex {
+    /// The index of a history.
+    pub fn new(alloc: Global, a: &Accounts, h: &History) -> Result<HistoryIndex, Memory>
+        requires legal { IsLegal a.now h.now.entries }
+        ensures { IfOk result (λ ix. IsIndexOf ix (record { chart = a.now; entries = h.now.entries })) }
+    {
+        let mut index = HistoryIndex {
+            alloc,
+            home: *a.home(),
+            ledgers: ledgers(alloc, a)?,
+            entries: 0,
+        };
+        for at in 0..h.len() {
+            index.add(h.get(at + 1))?;
+        }
+        Ok(index)
+    }
+
+    /// A leg of the next entry, the only one on its account, with the balance after it.
+    fn movement(&self, e: &Entry, leg: &Leg) -> Result<Movement, Memory>
+        requires next { (book : Book) × TakesNext self.now e.now book × IsListed book.chart leg.now.account.0 }
+        requires only { legs_on leg.now.account.0 e.now ≡ leg.now ∷ [] }
+        requires amount { leg.now.amount.0 < amount_end }
+        ensures quote { OnOk result (IsByteQuote leg.now.quote) }
+        ensures value { IfOk result (λ m. (book : Book) → TakesNext self.now e.now book → m ≡ movement_of book.chart leg.now.account.0 book.entries e.now leg.now) }
+    {
+        let place = self.entries + 1;
+        Ok(Movement {
+            place,
+            day: e.day,
+            value: e.pay.value,
+            mt: e.pay.mt,
+            side: leg.side,
+            amount: leg.amount,
+            reference: quote_text(self.alloc, place, &leg.quote)?,
+            balance: self.ledger(leg.account).balance_with(leg),
+        })
+    }
+
+    /// The legs of a booked entry, which are on two accounts.
+    fn book(&mut self, e: &Entry) -> Result<(), Memory>
+        requires next { (book : Book) × TakesNext self.old e.now book }
+        requires booked { is_booked e.now.outcome ≡ true }
+        ensures ok { OnOk result ((book : Book) → TakesNext self.old e.now book → AreLedgersOf self.new.ledgers.items book.chart (book.entries ++ e.now ∷ [])) }
+        ensures quotes { OnOk result (HasQuotes e.now) }
+        ensures err { OnErr result (self.new.ledgers.items ≡ self.old.ledgers.items) }
+        ensures home { self.new.home ≡ self.old.home }
+        ensures count { self.new.entries ≡ self.old.entries }
+    {
+        let [debit, credit] = e.pay.legs.as_slice() else {
+            return Ok(());
+        };
+        let debited = self.movement(e, debit)?;
+        let credited = self.movement(e, credit)?;
+        push(&mut self.ledgers, debit.account, debited)?;
+        if let Err(memory) = push(&mut self.ledgers, credit.account, credited) {
+            undo(&mut self.ledgers, debit.account);
+            return Err(memory);
+        }
+        Ok(())
+    }
+
+    /// Adds the next entry of the history. Want of memory leaves the index as it was.
+    pub fn add(&mut self, e: &Entry) -> Result<(), Memory>
+        requires { (book : Book) × TakesNext self.old e.now book }
+        ensures ok { OnOk result ((book : Book) → TakesNext self.old e.now book → IsIndexOf self.new (grown book e.now)) }
+        ensures err { OnErr result ((book : Book) → IsIndexOf self.old book → IsIndexOf self.new book) }
+    {
+        match e.outcome {
+            Outcome::Booked => self.book(e)?,
+            Outcome::Unfunded { .. } => {}
+        }
+        self.entries += 1;
+        Ok(())
+    }
+
+    /// What the index keeps of an account.
+    pub(crate) fn ledger(&self, n: AcctNo) -> &Ledger
+        requires from_one { 0 < n.0 }
+        requires there { n.0 - 1 < length self.now.ledgers.items }
+        ensures { slice_get self.now.ledgers.items (n.0 - 1) ≡ Some result.now }
+    {
+        &self.ledgers[at(n)]
+    }
+
+    /// The home bank.
+    pub(crate) fn home(&self) -> &Bic
+        ensures { result.now ≡ self.now.home }
+    {
+        &self.home
+    }
+
+    /// The allocator.
+    pub(crate) fn alloc(&self) -> Global {
+        self.alloc
+    }
+
+    /// The balance of an account by the entries of earlier days, in minor units. Takes no memory.
+    pub fn balance_before(&self, n: AcctNo, day: Day) -> i64
+        requires { (book : Book) × HasAccount self.now n.0 book }
+        ensures { (book : Book) → HasAccount self.now n.0 book → result ≡ balance_of book.chart (before_day day book.entries) n.0 }
+    {
+        self.ledger(n).balance_before(day)
+    }
+}

@@ -1,0 +1,104 @@
+//! The statement of an account on a day.
+
+ghost use Rattle.std.specs.Prelude.{◌≡◌, ◌≤◌, IfOk, OnOk, drop, length, take};
+ghost use Rattle.corr_ids.specs.Bic.{IsBic};
+ghost use Rattle.corr_ids.specs.Day.{InCentury};
+ghost use Rattle.day_model.specs.Chart.{IsListed};
+ghost use Rattle.day_model.specs.Legal.{IsLegal};
+ghost use Rattle.statement.specs.Pages.{most_lines, pages_for, pages_of};
+ghost use Rattle.statement.specs.Seen.{Book};
+ghost use Rattle.statement.specs.Valid.{AreAccepted, AreShaped, Closes, Prints};
+
+use crate::index::HistoryIndex;
+use crate::ledger::between;
+use crate::movement::{Movement, balance_after};
+use crate::page::{Heading, page_message};
+use corr_ids::Day;
+use corr_text::{List, Memory, Text};
+use day_model::{Accounts, AcctNo, History};
+use std::alloc::Global;
+
+/// How many lines a page has at most.
+const LINES: usize = 25;
+
+/// How many pages so many lines need: one for no lines too.
+fn count_of(lines: usize) -> usize
+    ensures { result ≡ pages_for lines }
+{
+    if lines == 0 {
+        return 1;
+    }
+    (lines - 1) / LINES + 1
+}
+
+/// The movements of the page that begins behind so many.
+fn here(movements: &[Movement], first: usize) -> &[Movement]
+    requires { first ≤ length movements.now }
+    ensures { result.now ≡ take most_lines (drop first movements.now) }
+{
+    let rest = &movements[first..];
+    if rest.len() <= LINES {
+        return rest;
+    }
+    between(rest, 0, LINES)
+}
+
+/// The statement of an account on a day, from an index of the history: what `pages` gives, in the time of the account's
+/// entries of that day.
+pub fn pages_with(ix: &HistoryIndex, n: AcctNo, day: Day) -> Result<List<Text>, Memory>
+    requires { (book : Book) × Prints ix.now n.0 day book }
+    ensures value { IfOk result (λ texts. (book : Book) → Prints ix.now n.0 day book → texts ≡ pages_of book.chart book.entries n.0 day) }
+    ensures closes { (book : Book) → Prints ix.now n.0 day book → Closes book.chart book.entries n.0 day }
+    ensures accepted { OnOk result ((book : Book) → Prints ix.now n.0 day book → AreAccepted book.chart book.entries n.0 day) }
+{
+    let alloc = ix.alloc();
+    let ledger = ix.ledger(n);
+    let movements = ledger.on(day);
+    let opening = ledger.balance_before(day);
+    let count = count_of(movements.len());
+    let mut texts = List::with_room(alloc, count)?;
+    for k in 0..count {
+        let first = k * LINES;
+        let heading = Heading {
+            account: n,
+            day,
+            page: k as u32 + 1,
+            last: k + 1 == count,
+        };
+        let balance = balance_after(opening, &movements[..first]);
+        let here = here(movements, first);
+        texts.push(page_message(alloc, ix.home(), ledger, heading, balance, here)?)?;
+    }
+    Ok(texts)
+}
+
+/// The statement of an account on a day as the messages that its owner is sent, page by page (docs/messages.md, "Statements").
+///
+/// A line is a booked entry of the day with a leg on the account, in the order of the journal; a page holds 25, and without lines
+/// there is one page. The statement opens at the balance by the entries of earlier days, and each page closes at the balance after
+/// the entry of its last line, which the next page opens at.
+///
+/// The pages are ones that `join_pages` accepts, opening at the balance before the day and closing at the balance by all entries
+/// up to the day (`closes`). Each message is `accepted`: under all tables that hold the owner's head and the account's currency
+/// with its decimals no test of a sent message fails, and the message says its page. Want of memory is the only error.
+///
+/// The history is legal and its pays can be written down; the home BIC meets its grammar; the day lies in 1980 to 2079.
+pub fn pages(
+    alloc: Global,
+    a: &Accounts,
+    h: &History,
+    n: AcctNo,
+    day: Day,
+) -> Result<List<Text>, Memory>
+    requires legal { IsLegal a.now h.now.entries }
+    requires shaped { AreShaped h.now.entries }
+    requires home { IsBic a.now.home }
+    requires listed { IsListed a.now n.0 }
+    requires day { InCentury day }
+    ensures value { IfOk result (λ texts. texts ≡ pages_of a.now h.now.entries n.0 day) }
+    ensures closes { Closes a.now h.now.entries n.0 day }
+    ensures accepted { OnOk result (AreAccepted a.now h.now.entries n.0 day) }
+{
+    let index = HistoryIndex::new(alloc, a, h)?;
+    pages_with(&index, n, day)
+}
