@@ -20,7 +20,7 @@ unfolding report_in out_in
 query_texts {S} {K} {D} source d asked old new (Ok texts) gives rest = record {
   inputs = record no_inputs { chart = gives.0; history = gives.1 };
   are_for = tt;
-  gives = (record { passed = (gives.2.holds, tt); leaves = gives.2.leaves }, gives.3, gives.4, tt);
+  gives = (record { passed = (gives.2.holds, tt); leaves = gives.2.leaves }, gives.3, gives.4, gives.5);
   rest = (ap (λ (r : Room S K D). r.tables) rest, ap (λ (r : Room S K D). r.messages) rest, ap (λ (r : Room S K D). r.received) rest, ap (λ (r : Room S K D). r.disk2) rest);
   report = ap (λ (r : Room S K D). r.report) rest;
   out = ap (λ (r : Room S K D). r.out) rest;

@@ -1,5 +1,5 @@
 -- A day that was served: its texts and what they send, or why there are none.
-use Rattle.std.proofs.Common.{◌≡◌, ◌+◌, ◌≤◌, ◌⊎◌, inl, inr, ℕ, zero, suc, All, List, [], ◌∷◌, ◌++◌, Ok, Err, Result, Some, refl, ap, arith, sym, ◌∙◌, subst, length}
+use Rattle.std.proofs.Common.{◌≡◌, ◌+◌, ◌<◌, ◌≤◌, ◌⊎◌, inl, inr, ℕ, zero, suc, All, List, [], ◌∷◌, ◌++◌, take, Ok, Err, Result, Some, refl, ap, arith, sym, ◌∙◌, subst, length}
 use Rattle.std.specs.Prelude.{IfErr, IfOk, IsSome, slice_get}
 use Rattle.std.proofs.lemmas.Option.{none-some, same_Some}
 use Rattle.corr_disk.specs.declared.disk.Disk as disks
@@ -37,13 +37,14 @@ use Rattle.corr_top.specs.Out.{sent_from}
 use Rattle.corr_top.specs.Passing.{HasMessages}
 use Rattle.corr_top.specs.Serving.{AllServed, AreInTurn, AreTold, are_replies, HasPayShape, HasServed, IsFirstFull, IsShort, IsTold, IsTried}
 use Rattle.corr_top.specs.Stops.{status_of_booking}
+use Rattle.corr_top.proofs.Adding.{in_front}
 use Rattle.corr_top.proofs.Answering.{all_places, entered_by, has_answered}
 use Rattle.corr_top.proofs.FrontPart.{front_on}
 use Rattle.corr_top.proofs.Fronts.{All-behind}
 use Rattle.corr_top.proofs.NoRoom.{no_room}
 use Rattle.corr_top.proofs.Origins.{sent-valid}
 use Rattle.corr_top.proofs.Replying.{get_all}
-use Rattle.corr_top.proofs.Workers.{get_there, in_pays}
+use Rattle.corr_top.proofs.Workers.{get_there, unmapped}
 
 -- the entries behind the opening have the shape of what is written down
 shapes_of : (base added history : List Entry) → history ≡ base ++ added → All IsEntry history → All HasPayShape added
@@ -57,17 +58,49 @@ from_pays (Ok p ∷ readings) zero pay at = (zero, ap (λ (x : Pay). Some (Ok x)
 from_pays (Ok p ∷ readings) (suc k) pay at = let r = from_pays readings k pay at in (suc r.0, r.1)
 from_pays (Err why ∷ readings) k pay at = let r = from_pays readings k pay at in (suc r.0, r.1)
 
+-- pays ahead of a place are of messages ahead of another
+abbrev AreAhead : List (Result Pay NoPay) → ℕ → ℕ → Type 0
+AreAhead readings n k = (j : ℕ) (other : Pay) → j < k → slice_get (pays_in readings) j ≡ Some other → (m : ℕ) × (m < n) × (slice_get readings m ≡ Some (Ok other))
+
+ahead_more : (p : Pay) (readings : List (Result Pay NoPay)) (n k : ℕ) → AreAhead readings n k → AreAhead (Ok p ∷ readings) (suc n) (suc k)
+ahead_more p readings n k ahead zero other less is = (zero, omega arith, ap (λ (x : Pay). Some (Ok x)) (same_Some p other is))
+ahead_more p readings n k ahead (suc j) other less is = let m = ahead j other (omega (arith, less)) is in let before = m.1 in (suc m.0, omega (arith, before), m.2)
+
+-- the pay of a message stands among the pays, and those ahead of it are of messages ahead of that one
+asked_at : (readings : List (Result Pay NoPay)) (n : ℕ) (pay : Pay) → slice_get readings n ≡ Some (Ok pay) → (k : ℕ) × (slice_get (pays_in readings) k ≡ Some pay) × AreAhead readings n k
+asked_at [] n pay at = absurd (none-some (Ok pay) at)
+asked_at (Ok p ∷ readings) zero pay at = (zero, (let s : p ≡ pay = cc (at) in ap (λ (x : Pay). Some x) s), λ j other less is. absurd (omega (arith, less)))
+asked_at (Ok p ∷ readings) (suc n) pay at = let r = asked_at readings n pay at in (suc r.0, r.1, ahead_more p readings n r.0 r.2)
+asked_at (Err why ∷ readings) zero pay at = absurd (cc (at))
+asked_at (Err why ∷ readings) (suc n) pay at =
+    let r = asked_at readings n pay at in (r.0, r.1, λ j other less is. let m = r.2 j other less is in let before = m.1 in (suc m.0, omega (arith, before), m.2))
+
 module _ (o : Opening) (readings : List (Result Pay NoPay)) (history : List Entry) (faults : ℕ) (made : List Served) (told : AreTold o history readings made) (turn : o.made ≡ 1 → AreInTurn o history readings made) where
   -- ---- pays that found no room
 
-  short_of : (reading : Result Pay NoPay) (at entries end need : ℕ) → slice_get readings at ≡ Some reading → IsShort o history reading entries end need → LacksRoomThen o.accounts o.base (pays_in readings) o.day history entries end need
-  short_of reading at entries end need there short =
-      let place = in_pays readings at short.pay (there ∙ ap (λ (r : Result Pay NoPay). Some r) short.asks) in
+  -- the pay of a message with a reply is entered
+  entered_as : (pay : Pay) (r : Reply) (one : Served) → served.Reply r ≡ one → IsTold o history (Ok pay) one → IsSome (entered_at pay.mir history)
+  entered_as pay r one is answers = entered_by pay history r (subst (IsTold o history (Ok pay)) (sym is) answers)
+
+  -- where each message ahead of a place has a reply, their pays are entered
+  entered_ahead : (at : ℕ) (replies : List Reply) → take at made ≡ are_replies replies → (n : ℕ) (pay : Pay) → n < at → slice_get readings n ≡ Some (Ok pay) → IsSome (entered_at pay.mir history)
+  entered_ahead at replies ahead n pay before is =
+      let below = get_below readings n (Ok pay) is in
+      let m = get_there made n (let e = told.each in omega (arith, below, e)) in
+      let front : slice_get (are_replies replies) n ≡ Some m.0 = subst (λ (xs : List Served). slice_get xs n ≡ Some m.0) ahead (in_front at made n m.0 before m.1) in
+      let r = unmapped served.Reply replies n m.0 front in
+      entered_as pay r.0 m.0 r.2 (told.told n (Ok pay) m.0 is m.1)
+
+  short_of : (reading : Result Pay NoPay) (at entries end need : ℕ) → slice_get readings at ≡ Some reading → IsShort o history reading entries end need
+      → ((n : ℕ) (pay : Pay) → n < at → slice_get readings n ≡ Some (Ok pay) → IsSome (entered_at pay.mir history)) → LacksRoomThen o.accounts o.base (pays_in readings) o.day history entries end need
+  short_of reading at entries end need there short before =
+      let place = asked_at readings at short.pay (there ∙ ap (λ (r : Result Pay NoPay). Some r) short.asks) in
       let shows = subst (λ (h : List Entry). ShowsFull o short.pay h entries end need) (sym short.from.1) short.shows in
       record {
         place = place.0;
         pay = short.pay;
         pay_is = place.1;
+        ahead = λ k other less is. let m = place.2 k other less is in before m.0 other m.1 m.2;
         front = short.from.0;
         later = short.begins.0;
         left_is = sym short.begins.1 ∙ ap (λ (h : List Entry). h ++ short.begins.0) (sym short.from.1);
@@ -82,7 +115,7 @@ module _ (o : Opening) (readings : List (Result Pay NoPay)) (history : List Entr
   lacks_of entries end need first =
       let below = get_below made first.at (served.Full entries end need) first.there in
       let r = get_there readings first.at (let e = told.each in omega (arith, below, e)) in
-      short_of r.0 first.at entries end need r.1 (told.told first.at r.0 (served.Full entries end need) r.1 first.there)
+      short_of r.0 first.at entries end need r.1 (told.told first.at r.0 (served.Full entries end need) r.1 first.there) (entered_ahead first.at first.replies first.ahead)
 
   -- ---- each pay was tried, where each message has a reply or found no room
 

@@ -1,18 +1,11 @@
 -- A journal that is opened, made, or left by a run.
-use Rattle.std.proofs.Common.{◌≡◌, inl, ℕ, List, Option, None, Ok, Err, refl, sym, subst, arith}
+use Rattle.std.proofs.Common.{◌≡◌, inl, ℕ, List, Ok, Err, refl, sym, subst, arith}
 use Rattle.std.specs.Prelude.{IfErr, IfOk, IfSome, IsTrue, MatchResult}
 use Rattle.corr_disk.specs.declared.disk.Disk as disks
-use Rattle.corr_ids.specs.declared.day.Day.{Day}
-use Rattle.day_model.specs.declared.entry.Entry.{Entry}
-use Rattle.day_model.specs.Chart.{Chart}
-use Rattle.jrn_codec.specs.Header.{head_bytes}
-use Rattle.jrn_file.specs.declared.file.JFile.{JFile}
-use Rattle.jrn_file.specs.File.{IsSettled, disk_of}
+use Rattle.jrn_file.specs.File.{disk_of}
 use Rattle.jrn_file.specs.Reading.{opened_of}
-use Rattle.jrn_book.specs.Book.{StandsOnDisk}
-use Rattle.jrn_book.specs.Journal.{records_of}
 use Rattle.jrn_book.specs.Opening.{HasPurses, IsFound, IsNewBook, OpenCause, Opened, finding_in}
-use Rattle.corr_top.specs.OnDisk.{HasOpened, IsOnDisk, IsUnwritten, StopsOpening}
+use Rattle.corr_top.specs.OnDisk.{HasOpened, IsUnwritten, StopsOpening}
 
 module _ {D : Type 0} (d : disks.Ghosts D) where
   -- a disk that nothing was done to is unwritten: since this moment there is no other
@@ -45,11 +38,3 @@ module _ {D : Type 0} (d : disks.Ghosts D) where
         → MatchResult r (λ o. IsUnwritten d disk (disk_of o.0.file)) (λ e. IsUnwritten d disk e.0) → IfErr r (λ e. StopsOpening d disk e.0 e.1)
     unopened (Ok o) cause told unwritten = tt
     unopened (Err e) cause told unwritten = record { cause = cause; told = told; untouched = unwritten }
-
-  -- what a book whose commits all succeeded leaves on its disk
-  pub left_whole : (file : JFile D) (chart : Chart) (history : List Entry) (new : D) (failed : Option Day) → new ≡ disk_of file → failed ≡ None
-      → StandsOnDisk d.honest d.reads d.may_leave failed file chart history → IsOnDisk d new chart history
-  left_whole file chart history new failed is whole stands =
-      let settled : IsSettled d.honest d.reads d.may_leave file (head_bytes chart) (records_of history) =
-      subst (λ (o : Option Day). StandsOnDisk d.honest d.reads d.may_leave o file chart history) whole stands in
-      subst (λ (x : D). IsOnDisk d x chart history) (sym is) (record { stands = settled.stands; durable = settled.durable })

@@ -7,6 +7,7 @@ pub mod Walking
 pub mod Outcomes
 pub mod Adding
 pub mod Sending
+pub mod Printing
 pub mod Senders
 pub mod Origins
 pub mod DayDone

@@ -158,6 +158,7 @@ module _ (directory : Directory) (chart : Chart) (are : AreInstructions director
       }
   origin-of (message.Debit envelope advice) good e = absurd (cc e)
   origin-of (message.Credit envelope advice) good e = absurd (cc e)
+  origin-of (message.Page envelope page) good e = absurd (cc e)
 
   -- the pay of a message's bytes
   bytes-origin : (bs : List ℕ) → message_of directory chart bs ≡ Ok pay → HasOrigin directory.tables chart pay

@@ -31,10 +31,11 @@ use Rattle.mt103_rules.specs.Rules.{all_rules}
 use Rattle.mt202cov.specs.Message.{mt202cov_of}
 use Rattle.mt202cov.proofs.laws.Passed.{fields-pass as cover-passes, rules-pass}
 use Rattle.mt9_advice.specs.Advice.{mt900_of, mt910_of}
+use Rattle.mt950.specs.Page.{mt950_of}
 use Rattle.fin_message.specs.Heading.{at_block, has_form, heading_tests, is_type}
 use Rattle.fin_message.specs.Parts.{envelope_of, envelope_with, has_trailer, partner_of, type_of, uetr_in}
 use Rattle.fin_message.specs.Sound.{IsSaid, KeepsRules}
-use Rattle.fin_message.specs.Verdict.{blocks_in, cover_of, credit_of, debit_of, judged, line_test, message_in, message_of, told_of, told_of_fields, transfer_of, verdict_of}
+use Rattle.fin_message.specs.Verdict.{blocks_in, cover_of, credit_of, debit_of, judged, line_test, message_in, message_of, page_of, told_of, told_of_fields, transfer_of, verdict_of}
 use Rattle.fin_message.specs.declared.direction.Direction.TheVariants.{Received}
 use Rattle.fin_message.specs.declared.message.Message.{Message}
 use Rattle.fin_message.specs.declared.message.Message.TheVariants as message
@@ -57,6 +58,7 @@ AsksWell t (message.Transfer envelope text transfer) = IsGood t envelope (messag
 AsksWell t (message.Cover envelope text cover) = IsGood t envelope (message.Cover envelope text cover)
 AsksWell t (message.Debit envelope advice) = Unit {0}
 AsksWell t (message.Credit envelope advice) = Unit {0}
+AsksWell t (message.Page envelope page) = Unit {0}
 
 -- ---- the tests of the blocks
 
@@ -143,13 +145,17 @@ module _ (t : Tables) (b : Blocks) (known : HasSender t (envelope_of b)) (cut : 
   unfolding credit_of
   credit-good e = let m = read-then (mt910_of t (fields_of b.text)) _ x e in subst (AsksWell t) (told-is (message.Credit (envelope_of b) m.0) x m.2) tt
 
+  page-good : page_of t b ≡ Ok x → AsksWell t x
+  unfolding page_of
+  page-good e = let m = read-then (mt950_of t (fields_of b.text)) _ x e in subst (AsksWell t) (told-is (message.Page (envelope_of b) m.0) x m.2) tt
+
   type-good : message_in t b ≡ Ok x → AsksWell t x
   type-good e =
       let mt = type_of b.app in
       let P = AsksWell t x in
       either P (mt == 103) (transfer_of t b) _ x transfer-good
       (either P (mt == 202) (cover_of t b) _ x cover-good
-      (either P (mt == 900) (debit_of t b) _ x debit-good (either P (mt == 910) (credit_of t b) _ x credit-good (λ none. absurd (cc none))))) e
+      (either P (mt == 900) (debit_of t b) _ x debit-good (either P (mt == 910) (credit_of t b) _ x credit-good page-good))) e
 
 message-good : (home : Bic) (t : Tables) (b : Blocks) (x : Message) → message_of Received home t b ≡ Ok x → AsksWell t x
 unfolding message_of

@@ -1,5 +1,5 @@
 -- Pays that workers enter, and how that stops.
-use Rattle.std.specs.Prelude.{◌≡◌, ◌⊎◌, ℕ, ◌+◌, ◌^◌, ◌<ℤ◌, ◌||◌, Bool, true, nat_le, All, List, [], ◌∷◌, ◌++◌, IsSome, length, map, slice_get, Some, None, if◌then◌else◌}
+use Rattle.std.specs.Prelude.{◌≡◌, ◌⊎◌, ℕ, ◌+◌, ◌^◌, ◌<◌, ◌<ℤ◌, ◌||◌, Bool, true, nat_le, All, List, [], ◌∷◌, ◌++◌, IsSome, length, map, slice_get, Some, None, if◌then◌else◌}
 use Rattle.corr_disk.specs.declared.disk.Disk as outside
 use Rattle.corr_ids.specs.Day.{InCentury}
 use Rattle.corr_ids.specs.declared.day.Day.{Day}
@@ -43,11 +43,12 @@ pub record AreAnswered (i : Inputs) : Type 0 where
   pub entered : (k : ℕ) (pay : Pay) → slice_get (pays_of i) k ≡ Some pay → IsSome (entered_at pay.mir (new_in i))
   pub alone : i.workers ≡ 1 → new_in i ≡ fold_of i.chart i.history (pays_of i) i.day
 
--- A pay of the file that found no room in what was entered then: a beginning of what is left, which has all of the journal as it was opened. The numbers are those of that history: how many entries, the place of the closed gate, and the bytes that this pay needed.
+-- The first pay of the file that found no room in what was entered then: a beginning of what is left, which has all of the journal as it was opened. Those ahead of it in the file are entered. The numbers are those of that history: how many entries, the place of the closed gate, and the bytes that this pay needed.
 pub record LacksRoomThen (chart : Chart) (history : List Entry) (pays : List Pay) (day : Day) (left : List Entry) (entries end need : ℕ) : Type 0 where
   pub place : ℕ
   pub pay : Pay
   pub pay_is : slice_get pays place ≡ Some pay
+  pub ahead : (k : ℕ) (other : Pay) → k < place → slice_get pays k ≡ Some other → IsSome (entered_at other.mir left)
   pub front : List Entry
   pub later : List Entry
   pub left_is : left ≡ (history ++ front) ++ later

@@ -11,11 +11,11 @@ use Rattle.corr_top.specs.declared.words.Command.{Command}
 use Rattle.corr_top.specs.declared.words.Command.TheVariants.{Run, Plain}
 use Rattle.corr_top.specs.declared.words.Plain.{Plain as PlainCommand}
 use Rattle.corr_top.specs.declared.words.Plain.TheVariants.{Init, Query}
-use Rattle.corr_top.specs.declared.words.Query.TheVariants.{Send, Bookings}
+use Rattle.corr_top.specs.declared.words.Query.TheVariants.{Send, Bookings, Statements}
 use Rattle.corr_top.specs.Init.{InitLeaves, init_steps}
 use Rattle.corr_top.specs.Inputs.{Inputs, new_in, tables_in}
 use Rattle.corr_top.specs.Origin.{AreSentValid}
-use Rattle.corr_top.specs.Query.{QueryLeaves, query_out, query_report, query_steps}
+use Rattle.corr_top.specs.Query.{QueryLeaves, QuerySends, query_out, query_report, query_steps}
 use Rattle.corr_top.specs.Run.{RunLeaves, run_out, run_report, run_steps}
 use Rattle.corr_top.specs.Steps.{Step}
 
@@ -36,6 +36,10 @@ run_of date workers = option_and_then (λ day. option_map (λ n. Run day n) (wor
 abbrev pub init_of : List ℕ → Option PlainCommand
 init_of home = option_map Init (bic_of home)
 
+-- `statements DATE` with a day of the calendar
+abbrev pub statements_of : List ℕ → Option PlainCommand
+statements_of date = option_map (λ day. Query (Statements day)) (day_of date)
+
 -- `send FROM UNTIL` with two places
 abbrev pub send_of : List ℕ → List ℕ → Option PlainCommand
 send_of from until = option_map (λ places. Query (Send places.0 places.1)) (places_of from until)
@@ -44,7 +48,10 @@ send_of from until = option_map (λ places. Query (Send places.0 places.1)) (pla
 abbrev pub command_of : List (List ℕ) → Option Command
 command_of [] = None
 command_of (word ∷ []) = if bytes_eq word (codes "bookings") then Some (Plain (Query Bookings)) else None
-command_of (word ∷ home ∷ []) = if bytes_eq word (codes "init") then option_map Plain (init_of home) else None
+command_of (word ∷ one ∷ []) =
+    if bytes_eq word (codes "init") then option_map Plain (init_of one)
+    else if bytes_eq word (codes "statements") then option_map Plain (statements_of one)
+    else None
 command_of (word ∷ one ∷ two ∷ []) =
     if bytes_eq word (codes "send") then option_map Plain (send_of one two)
     else if bytes_eq word (codes "run") then run_of one two
@@ -60,12 +67,13 @@ plain_in (Plain command) = Some command
 abbrev pub plain_of : List (List ℕ) → Option PlainCommand
 plain_of words = option_and_then plain_in (command_of words)
 
--- what the words name is in its range: a day of 1980 to 2079 and 1 to 16 workers, a BIC, two places
+-- what the words name is in its range: days of 1980 to 2079, 1 to 16 workers, a BIC, two places
 abbrev pub IsSpelled : Command → Type 0
 IsSpelled (Run day workers) = InCentury day × (1 ≤ workers) × (workers ≤ 16)
 IsSpelled (Plain (Init home)) = IsBic home
 IsSpelled (Plain (Query (Send from until))) = (1 ≤ from) × (from ≤ until) × (until ≤ 100000)
 IsSpelled (Plain (Query Bookings)) = Unit {0}
+IsSpelled (Plain (Query (Statements day))) = InCentury day
 
 -- what was read for a command names what its words name
 abbrev pub IsFor : Command → Inputs → Type 0
@@ -91,10 +99,11 @@ out_in (Run day workers) i = run_out i
 out_in (Plain (Init home)) i = []
 out_in (Plain (Query asked)) i = query_out asked i.chart i.history
 
--- Each message that a run sends passes the tests of a sent message under the tables that it read. What `send` sends was entered under other tables, and may not pass under any that are known.
+-- What is known of the messages that a command sends: each message of a run passes the tests of a sent message under the tables that it read.
 abbrev pub SendsValid : Command → Inputs → Type 0
 SendsValid (Run day workers) i = AreSentValid (tables_in i) i.chart (length i.history + 1) (new_in i)
-SendsValid (Plain command) i = Unit {0}
+SendsValid (Plain (Init home)) i = Unit {0}
+SendsValid (Plain (Query asked)) i = QuerySends asked i.chart i.history
 
 -- what it leaves on the disk where it comes to its end
 abbrev pub Leaves : {D : Type 0} → disks.Ghosts D → Command → D → D → Inputs → Type 0

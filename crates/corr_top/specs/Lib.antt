@@ -16,6 +16,7 @@ pub mod Tables
 pub mod Writing
 pub mod Init
 pub mod Run
+pub mod Statements
 pub mod Query
 pub mod Origin
 pub mod Serving

@@ -31,12 +31,13 @@ abbrev pub unrouted : {A : Type 0} → Envelope → Result A Code → Result A N
 unrouted envelope (Ok x) = Ok x
 unrouted envelope (Err code) = Err (Unrouted (mir_in envelope) code)
 
--- the pay of a valid message: a transfer and a cover have a plan, an advice asks for nothing, which is P37
+-- the pay of a valid message: a transfer and a cover have a plan, an advice and a page of a statement ask for nothing, which is P37
 abbrev pub pay_in : Directory → Chart → Message → Result Pay NoPay
 pay_in directory chart (message.Transfer envelope text transfer) = unrouted envelope (plan_of envelope text (asks_transfer transfer) directory.ssi chart)
 pay_in directory chart (message.Cover envelope text cover) = unrouted envelope (plan_of envelope text (asks_cover cover) directory.ssi chart)
 pay_in directory chart (message.Debit envelope advice) = unrouted envelope (Err (code "P37"))
 pay_in directory chart (message.Credit envelope advice) = unrouted envelope (Err (code "P37"))
+pay_in directory chart (message.Page envelope page) = unrouted envelope (Err (code "P37"))
 
 -- the pay that a message asks for, or why it gives none
 unfoldable pub message_of : Directory → Chart → List ℕ → Result Pay NoPay

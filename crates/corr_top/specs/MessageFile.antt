@@ -7,15 +7,23 @@ use Rattle.fin_frame.specs.declared.fault.FrameFault.TheVariants as frame
 use Rattle.corr_top.specs.declared.cutting.FileStop.{FileStop}
 use Rattle.corr_top.specs.declared.cutting.FileStop.TheVariants as file
 
+-- a message file has at most 64 MiB
+abbrev pub most_message_bytes : ℕ
+most_message_bytes = 67108864
+
+-- and at most so many messages
+abbrev pub most_messages : ℕ
+most_messages = 50000
+
 -- the bytes pass a limit of the file: they are more than 64 MiB, or a message past the 50,000th has begun in them
 abbrev pub IsPast : List ℕ → Type 0
-IsPast bytes = (67108864 < length bytes) ⊎ ((n : ℕ) × (50000 < n) × HasBegun bytes n)
+IsPast bytes = (most_message_bytes < length bytes) ⊎ ((n : ℕ) × (most_messages < n) × HasBegun bytes n)
 
 -- the file is these messages, within its limits
 pub record IsMessageFile (file : List ℕ) (messages : List (List ℕ)) : Type 0 where
   pub cut : IsCutInto file messages
-  pub short : length file ≤ 67108864
-  pub few : length messages ≤ 50000
+  pub short : length file ≤ most_message_bytes
+  pub few : length messages ≤ most_messages
 
 -- the bytes show no fault and pass no limit
 pub record IsPassed (bytes : List ℕ) : Type 0 where

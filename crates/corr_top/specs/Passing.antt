@@ -11,6 +11,7 @@ use Rattle.day_model.specs.Gap.{TellsUnbalanced}
 use Rattle.day_model.specs.Laws.{IsLatest}
 use Rattle.jrn_file.specs.declared.fault.MakeFault.{MakeFault}
 use Rattle.jrn_file.specs.declared.fault.OpenFault.{OpenFault}
+use Rattle.ref_tables.specs.Rows.{most_table_bytes}
 use Rattle.ref_tables.specs.declared.fault.TableName.{TableName}
 use Rattle.ref_tables.specs.declared.fault.TableName.TheVariants as names
 use Rattle.ref_tables.specs.declared.fault.Why.{Why}
@@ -28,7 +29,7 @@ use Rattle.corr_top.specs.declared.tables.TableStop.{TableStop}
 use Rattle.corr_top.specs.declared.tables.TableStop.TheVariants as table
 use Rattle.corr_top.specs.Booking.{AreAnswered, IsBack, StopsBooking}
 use Rattle.corr_top.specs.Inputs.{Inputs, accounts_in, chart_in, tables_in}
-use Rattle.corr_top.specs.MessageFile.{IsMessageFile, StopsCutting}
+use Rattle.corr_top.specs.MessageFile.{IsMessageFile, StopsCutting, most_message_bytes}
 use Rattle.corr_top.specs.OnDisk.{HasNotFailed, HoldsJournal, IsFree, IsUnwritten, StopsMaking, StopsOpening}
 use Rattle.corr_top.specs.Reading.{Failed, Took}
 use Rattle.corr_top.specs.Steps.{Step}
@@ -66,13 +67,13 @@ fault_of names.Ssi i = named names.Ssi (ssi_fault (tables_in i) i.ssi)
 
 -- a table was read, of at most 8 MiB, and has no fault
 pub record IsFine {S : Type 0} (source : sources.Ghosts S) (old new : S) (bytes : List ℕ) (fault : Option Bad) : Type 0 where
-  pub took : Took source.left source.faults 8388608 old new bytes
+  pub took : Took source.left source.faults most_table_bytes old new bytes
   pub no_fault : fault ≡ None
 
 -- how reading and testing it stops: its source fails, it has this fault, or memory runs out
 abbrev pub StopsAtTable : {S : Type 0} → sources.Ghosts S → S → S → List ℕ → Option Bad → TableStop → Type 0
 StopsAtTable source old new bytes fault (table.Fault then now) = Failed source.faults old new then now
-StopsAtTable source old new bytes fault (table.Bad name row why) = Took source.left source.faults 8388608 old new bytes × (fault ≡ Some (name, row, why))
+StopsAtTable source old new bytes fault (table.Bad name row why) = Took source.left source.faults most_table_bytes old new bytes × (fault ≡ Some (name, row, why))
 StopsAtTable source old new bytes fault table.Memory = source.faults new ≡ source.faults old
 
 -- ---- the sums of the openings
@@ -95,14 +96,14 @@ StopsAtSums i refused.Memory = Unit {0}
 
 -- it was read, and is these messages
 pub record HasMessages {S : Type 0} (source : sources.Ghosts S) (old new : S) (bytes : List ℕ) (cut : List (List ℕ)) : Type 0 where
-  pub took : Took source.left source.faults 67108864 old new bytes
+  pub took : Took source.left source.faults most_message_bytes old new bytes
   pub are : IsMessageFile bytes cut
 
 -- how reading it stops: its source fails, it passes a limit, it can't be cut, or memory runs out
 abbrev pub StopsAtMessages : {S : Type 0} → sources.Ghosts S → S → S → List ℕ → FileStop → Type 0
 StopsAtMessages source old new bytes (file.Fault then now) = Failed source.faults old new then now
-StopsAtMessages source old new bytes (file.TooLarge count messages) = Took source.left source.faults 67108864 old new bytes × StopsCutting bytes (file.TooLarge count messages)
-StopsAtMessages source old new bytes (file.Framing at) = Took source.left source.faults 67108864 old new bytes × StopsCutting bytes (file.Framing at)
+StopsAtMessages source old new bytes (file.TooLarge count messages) = Took source.left source.faults most_message_bytes old new bytes × StopsCutting bytes (file.TooLarge count messages)
+StopsAtMessages source old new bytes (file.Framing at) = Took source.left source.faults most_message_bytes old new bytes × StopsCutting bytes (file.Framing at)
 StopsAtMessages source old new bytes file.Memory = source.faults new ≡ source.faults old
 
 -- ---- a step of a command over the objects of a room, as they were and as they are

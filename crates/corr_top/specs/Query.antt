@@ -12,6 +12,7 @@ use Rattle.corr_top.specs.declared.status.Status.TheVariants as status
 use Rattle.corr_top.specs.declared.writing.Texts.{Texts}
 use Rattle.corr_top.specs.OnDisk.{HasNotFailed, HoldsJournal, IsUnwritten, StopsOpening}
 use Rattle.corr_top.specs.Out.{sent_from}
+use Rattle.corr_top.specs.Statements.{AreStatements, sent_statements}
 use Rattle.corr_top.specs.Steps.{Step}
 use Rattle.corr_top.specs.Stops.{status_of_opening}
 
@@ -23,11 +24,19 @@ query_steps = Step.open_journal ∷ []
 abbrev pub query_report : Query → Chart → List Entry → List ℕ
 query_report (query.Send from until) chart history = []
 query_report query.Bookings chart history = bookings_of chart history
+query_report (query.Statements day) chart history = []
 
--- `send` sends the outgoing messages of the entries at these places, as far as there are any, each followed by `$`
+-- `send` sends the outgoing messages of the entries at these places, as far as there are any, and `statements` the pages of the vostro accounts, each followed by `$`
 abbrev pub query_out : Query → Chart → List Entry → List ℕ
 query_out (query.Send from until) chart history = sent_from chart from (take until history)
 query_out query.Bookings chart history = []
+query_out (query.Statements day) chart history = sent_statements chart history day
+
+-- What is known of what is sent: statements close at the balances, and are accepted. What `send` sends was entered under other tables, and may not pass under any that are known.
+abbrev pub QuerySends : Query → Chart → List Entry → Type 0
+QuerySends (query.Send from until) chart history = Unit {0}
+QuerySends query.Bookings chart history = Unit {0}
+QuerySends (query.Statements day) chart history = AreStatements chart history day
 
 module _ {D : Type 0} (disk : disks.Ghosts D) (old new : D) where
   -- nothing is written to the disk, and no call of it failed
@@ -44,6 +53,7 @@ module _ {D : Type 0} (disk : disks.Ghosts D) (old new : D) where
   abbrev pub GivesAsked : Query → Result Texts Status → Type 0
   GivesAsked asked (Ok texts) =
       (chart : Chart) × (history : List Entry) × WasRead chart history × (texts.report ≡ query_report asked chart history) × (texts.out ≡ query_out asked chart history)
+      × QuerySends asked chart history
   GivesAsked asked (Err s) =
       ((stop : OpenFault) × (s ≡ status_of_opening stop) × StopsOpening disk old new stop)
       ⊎ ((chart : Chart) × (history : List Entry) × WasRead chart history × (s ≡ status.Memory))

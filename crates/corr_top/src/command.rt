@@ -105,8 +105,9 @@ pub fn plain<S: Source, K: Sink, D: Disk>(
 /// message file's messages on that day, writes the report, and then to `out` the outgoing messages of the entries that were
 /// added, each followed by `$`. Each pay passes the gate once its accounts are held.
 /// `init HOME` makes the journal of the home bank HOME with the accounts of the tables. `send FROM UNTIL` writes the outgoing
-/// messages of the entries at these places, `bookings` a line for each entry. Other words are `Usage`. Nothing is written
-/// but at `Done`, and a front part of both together at `WriteFault`.
+/// messages of the entries at these places, `bookings` a line for each entry, `statements DATE` to `out` what the owners of the
+/// vostro accounts are sent of that day. Other words are `Usage`. Nothing is written but at `Done`, and a front part of both
+/// together at `WriteFault`.
 pub fn corr<R: Wait + Threads + Sync, S: Source, K: Sink, D: Disk + Drop + Send, G: Gate + Sync>(
     rt: &R,
     alloc: Global,

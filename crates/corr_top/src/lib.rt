@@ -18,6 +18,7 @@ mod room;
 mod run;
 mod serving;
 mod slices;
+mod statements;
 mod status;
 mod tables;
 mod words;

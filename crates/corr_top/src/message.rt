@@ -18,7 +18,7 @@ use fin_message::{Message, MessageFault, verdict};
 use pay_plan::{Ask, PlanFault, plan};
 use std::alloc::Global;
 
-/// An advice: it tells of an account and asks for no pay.
+/// An advice or a page of a statement: it tells of an account and asks for no pay.
 const P37: Code = Code(*b"P37");
 
 /// Why a message gives no pay.
@@ -97,7 +97,7 @@ fn plan_pay(
     }
 }
 
-/// The pay of a valid message, or why it has none. An advice asks for none.
+/// The pay of a valid message, or why it has none. An advice and a page of a statement ask for none.
 fn read_pay(
     alloc: Global,
     directory: &Directory,
@@ -133,7 +133,7 @@ fn read_pay(
                 Ask::Cover(cover),
             )
         }
-        Message::Debit(envelope, _) | Message::Credit(envelope, _) => {
+        Message::Debit(envelope, _) | Message::Credit(envelope, _) | Message::Page(envelope, _) => {
             Err(Stop::NoPay(NoPay::Unrouted {
                 mir: reference(envelope),
                 code: P37,

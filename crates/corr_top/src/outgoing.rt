@@ -26,7 +26,7 @@ fn push_message(message: &Text, out: &mut Text) -> Result<(), Memory>
 }
 
 /// Appends messages, each followed by `$`.
-fn push_parted(messages: &[Text], out: &mut Text) -> Result<(), Memory>
+pub fn push_parted(messages: &[Text], out: &mut Text) -> Result<(), Memory>
     ensures { OnOk result (out.new ≡ out.old ++ parted_all messages.now) }
 {
     for message in messages {

@@ -1,9 +1,9 @@
-//! The commands that read the journal and print what it says: `send` and `bookings`.
+//! The commands that read the journal and print what it says: `send`, `bookings` and `statements`.
 
-ghost use Rattle.std.specs.Prelude.{◌≡◌, IfOk};
+ghost use Rattle.std.specs.Prelude.{◌≡◌, IfOk, OnOk};
 ghost use Rattle.corr_top.specs.Commands.{IsSpelled};
 ghost use Rattle.corr_top.specs.Ends.{HasTexts};
-ghost use Rattle.corr_top.specs.Query.{GivesAsked, query_out, query_report};
+ghost use Rattle.corr_top.specs.Query.{GivesAsked, QuerySends, query_out, query_report};
 ghost use Rattle.corr_top.specs.declared.words.Command.TheVariants.{Plain};
 ghost use Rattle.corr_top.specs.declared.words.Plain.TheVariants as plain;
 ghost use Rattle.jrn_book.specs.Journal.{IsJournal};
@@ -11,6 +11,7 @@ ghost use Rattle.jrn_book.specs.Journal.{IsJournal};
 use crate::opening::{close_journal, open_journal};
 use crate::outgoing::outgoing;
 use crate::room::Room;
+use crate::statements::statements;
 use crate::status::Status;
 use crate::words::Query;
 use crate::writing::Texts;
@@ -27,6 +28,7 @@ fn printed(alloc: Global, asked: Query, a: &Accounts, h: &History) -> Result<Tex
     requires journal { IsJournal a.now h.now.entries }
     ensures report { IfOk result (λ texts. texts.report ≡ query_report asked a.now h.now.entries) }
     ensures out { IfOk result (λ texts. texts.out ≡ query_out asked a.now h.now.entries) }
+    ensures valid { OnOk result (QuerySends asked a.now h.now.entries) }
 {
     match asked {
         Query::Send { from, until } => Ok(Texts {
@@ -36,6 +38,10 @@ fn printed(alloc: Global, asked: Query, a: &Accounts, h: &History) -> Result<Tex
         Query::Bookings => Ok(Texts {
             report: bookings(alloc, a, h)?,
             out: Text::from_bytes(alloc, b"")?,
+        }),
+        Query::Statements { day } => Ok(Texts {
+            report: Text::from_bytes(alloc, b"")?,
+            out: statements(alloc, a, h, day)?,
         }),
     }
 }

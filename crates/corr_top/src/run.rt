@@ -10,6 +10,7 @@ ghost use Rattle.ssi_versions.specs.InstructionList.{AreInstructions};
 ghost use Rattle.corr_top.specs.Days.{GivesDay, GivesServed, GivesTexts};
 ghost use Rattle.corr_top.specs.Ends.{HasTexts};
 ghost use Rattle.corr_top.specs.Origin.{SendsAccepted};
+ghost use Rattle.corr_top.specs.MessageFile.{most_messages};
 ghost use Rattle.corr_top.specs.Out.{sent_from};
 ghost use Rattle.corr_top.specs.Passing.{HasMessages, StopsAtMessages};
 ghost use Rattle.corr_top.specs.Serving.{HasPayShape, are_replies};
@@ -60,7 +61,7 @@ fn make_texts(
     requires legal { IsLegal a.now h.now.entries }
     requires shapes { All HasPayShape h.now.entries }
     requires places { All (NamesPlace h.now.entries) replies.now }
-    requires few { (count ≤ length h.now.entries) × (length replies.now ≤ 50000) }
+    requires few { (count ≤ length h.now.entries) × (length replies.now ≤ most_messages) }
     ensures report { IfOk result (λ texts. texts.report ≡ report_of a.now h.now.entries replies.now) }
     ensures out { IfOk result (λ texts. texts.out ≡ sent_from a.now (count + 1) h.now.entries) }
     ensures accepted { OnOk result (SendsAccepted a.now (count + 1) h.now.entries) }
@@ -82,7 +83,7 @@ fn texts_of<D: Disk + Drop>(
 ) -> Result<Texts, Status>
     requires journal { IsJournal day.now.accounts day.now.history.entries }
     requires places { (replies : List TheReply) → served.items ≡ are_replies replies → All (NamesPlace day.now.history.entries) replies }
-    requires few { (count ≤ length day.now.history.entries) × (length served.items ≤ 50000) }
+    requires few { (count ≤ length day.now.history.entries) × (length served.items ≤ most_messages) }
     ensures { GivesTexts day.now.accounts day.now.history.entries served.items before (D.faults day.now.disk) count result }
 {
     let replies = all_replies(alloc, before, day.disk.faults(), served)?;
@@ -105,7 +106,7 @@ fn end_day<D: Disk + Drop>(
 ) -> (D, Result<Texts, Status>)
     requires journal { IsJournal day.closed.accounts day.closed.history.entries }
     requires places { IfOk day.served (λ made. (replies : List TheReply) → made.items ≡ are_replies replies → All (NamesPlace day.closed.history.entries) replies) }
-    requires few { (count ≤ length day.closed.history.entries) × IfOk day.served (λ made. length made.items ≤ 50000) }
+    requires few { (count ≤ length day.closed.history.entries) × IfOk day.served (λ made. length made.items ≤ most_messages) }
     ensures disk { result.0 ≡ day.closed.disk }
     ensures texts { GivesServed D.Disk day before count result.1 }
 {

@@ -4,7 +4,7 @@ ghost use Rattle.std.specs.Prelude.{◌≡◌, ℕ, List, Option, None, IfOk, If
 ghost use Rattle.ref_tables.specs.AccountList.{AreAccounts};
 ghost use Rattle.ref_tables.specs.Accounts.{account_of, accounts_fault};
 ghost use Rattle.ref_tables.specs.Refusals.{named};
-ghost use Rattle.ref_tables.specs.Rows.{rows_of};
+ghost use Rattle.ref_tables.specs.Rows.{most_table_bytes, rows_of};
 ghost use Rattle.ref_tables.specs.Tables.{bics_fault, ccys_fault, countries_fault, tables_of};
 ghost use Rattle.ref_tables.specs.declared.fault.TableName.TheVariants as names;
 ghost use Rattle.ssi_versions.specs.InstructionList.{AreInstructions};
@@ -86,7 +86,7 @@ impl From<TableStop> for Status {
 
 /// The bytes of a table's file up to its end, or one more than the limit.
 fn read_table<S: Source>(alloc: Global, source: &mut S) -> Result<Text, TableStop>
-    ensures took { IfOk result (Took S.left S.faults 8388608 source.old source.new) }
+    ensures took { IfOk result (Took S.left S.faults most_table_bytes source.old source.new) }
     ensures stopped { IfErr result (λ stop. (file : List ℕ) (fault : Option Bad) → StopsAtTable S.Source source.old source.new file fault stop) }
 {
     Ok(read_whole(alloc, source, TABLE_LIMIT)?)

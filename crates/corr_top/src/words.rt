@@ -3,7 +3,7 @@
 ghost use Rattle.std.specs.Prelude.{◌≡◌, ◌≤◌, IfSome};
 ghost use Rattle.std.specs.Option.{option_map};
 ghost use Rattle.std.specs.Str.{bytes_eq};
-ghost use Rattle.corr_top.specs.Commands.{IsSpelled, command_of, init_of, places_of, run_of, send_of, workers_of};
+ghost use Rattle.corr_top.specs.Commands.{IsSpelled, command_of, init_of, places_of, run_of, send_of, statements_of, workers_of};
 ghost use Rattle.corr_top.specs.declared.words.Command.TheVariants.{Plain as CommandPlain};
 
 use corr_ids::{Bic, Day, day_from_yymmdd, read_bic};
@@ -34,6 +34,8 @@ pub enum Query {
     Send { from: u32, until: u32 },
     /// `bookings`: a line for each entry.
     Bookings,
+    /// `statements DATE`: what the owners of the vostro accounts are sent of a day.
+    Statements { day: Day },
 }
 
 /// The last place of a journal that is full.
@@ -80,6 +82,15 @@ fn send(from: &[u8], until: &[u8]) -> Option<Command>
     Some(Command::Plain(Plain::Query(Query::Send { from, until })))
 }
 
+/// `statements DATE` with a day of the calendar.
+fn statements(date: &[u8]) -> Option<Command>
+    ensures value { result ≡ option_map CommandPlain (statements_of date.now) }
+    ensures sound { IfSome result IsSpelled }
+{
+    let day = day_from_yymmdd(date)?;
+    Some(Command::Plain(Plain::Query(Query::Statements { day })))
+}
+
 /// A number of workers: 1 to 16.
 fn workers(b: &[u8]) -> Option<u32>
     ensures value { result ≡ workers_of b.now }
@@ -112,6 +123,7 @@ pub fn spelled(words: &[Text]) -> Option<Command>
             Some(Command::Plain(Plain::Query(Query::Bookings)))
         }
         [word, home] if is_word(word.bytes(), b"init") => init(home.bytes()),
+        [word, date] if is_word(word.bytes(), b"statements") => statements(date.bytes()),
         [word, from, until] if is_word(word.bytes(), b"send") => send(from.bytes(), until.bytes()),
         [word, date, number] if is_word(word.bytes(), b"run") => run(date.bytes(), number.bytes()),
         _ => None,

@@ -1,0 +1,58 @@
+-- The statements of a day, account by account.
+use Rattle.std.proofs.Common.{◌≡◌, ℕ, ◌+◌, ◌-◌, ◌<◌, ◌≤◌, ◌++◌, Bool, true, List, [], Some, sym, ap, ◌∙◌, subst, arith, drop, inl, inr, length}
+use Rattle.std.specs.Prelude.{slice_get, if◌then◌else◌}
+use Rattle.std.proofs.Math.Nat.{eq-or-lt_of_le}
+use Rattle.std.proofs.lemmas.Bool.{eq-eqb}
+use Rattle.std.proofs.lemmas.Option.{same_Some, slice_get_cases}
+use Rattle.corr_ids.specs.declared.day.Day.{Day}
+use Rattle.corr_report.specs.Lines.{numbered}
+use Rattle.corr_report.proofs.laws.Rests.{rest_at}
+use Rattle.day_model.specs.Chart.{Chart, account_at, vostro}
+use Rattle.day_model.specs.declared.account.Account.{Account}
+use Rattle.day_model.specs.declared.entry.Entry.{Entry}
+use Rattle.statement.specs.Pages.{pages_of}
+use Rattle.corr_top.specs.Out.{parted_all}
+use Rattle.corr_top.specs.Statements.{Adds, IsStatement, is_vostro, pages_sent}
+use Rattle.corr_top.proofs.Adding.{numbered_next}
+
+module _ (chart : Chart) (entries : List Entry) (day : Day) (n : ℕ) (there : Account) (at : account_at chart n ≡ Some there) where
+  same_there : (account : Account) → account_at chart n ≡ Some account → there ≡ account
+  same_there account here = same_Some there account (sym at ∙ here)
+
+  -- of a vostro account its pages are sent
+  pub shows : (old new : List ℕ) → there.kind ≡ vostro → new ≡ old ++ parted_all (pages_of chart entries n day) → IsStatement chart entries day n → Adds chart entries day n old new
+  shows old new same added is = record {
+    text = λ account here.
+        subst (λ (a : Account). new ≡ old ++ pages_sent chart entries day n a) (same_there account here)
+        (added ∙ ap (λ (v : Bool). old ++ (if v then parted_all (pages_of chart entries n day) else [])) (sym (eq-eqb there.kind vostro same)));
+    valid = λ account here _. is;
+  }
+
+-- what stands where a number of a list points to
+pub there_is : {A : Type 0} (xs : List A) (n : ℕ) → 1 ≤ n → n ≤ length xs → (x : A) × (slice_get xs (n - 1) ≡ Some x)
+there_is xs n first last = elim (slice_get_cases xs (n - 1)).1 [
+  | inl here ↦ (here.0, here.2)
+  | inr past ↦ absurd (omega (arith, first, last, past.0))
+]
+
+-- ---- the accounts in turn
+
+module _ (chart : Chart) (entries : List Entry) (day : Day) where
+  -- the statements of the accounts ahead of number n are as they are to be
+  abbrev pub AreSoFar : ℕ → Type 0
+  AreSoFar n = (i : ℕ) (account : Account) → i + 1 < n → slice_get chart.accounts i ≡ Some account → is_vostro account ≡ true → IsStatement chart entries day (i + 1)
+
+  pub next-text : (n : ℕ) (all old new : List ℕ) → 1 ≤ n → n ≤ length chart.accounts → all ≡ old ++ numbered (pages_sent chart entries day) n (drop (n - 1) chart.accounts) → Adds chart entries day n old new
+      → all ≡ new ++ numbered (pages_sent chart entries day) (n + 1) (drop (n + 1 - 1) chart.accounts)
+  next-text n all old new first last so_far adds =
+      let account = there_is chart.accounts n first last in
+      numbered_next (pages_sent chart entries day) n all old new account.0 (drop (n - 1) chart.accounts) (drop (n + 1 - 1) chart.accounts)
+      (rest_at chart.accounts n account.0 first account.1) so_far (adds.text account.0 account.1)
+
+  pub next-valid : (n : ℕ) (old new : List ℕ) → 1 ≤ n → AreSoFar n → Adds chart entries day n old new → AreSoFar (n + 1)
+  next-valid n old new first so_far adds i account below at vostro = elim (eq-or-lt_of_le {n = i + 1} {m = n} (omega (arith, below))) [
+    | inl last ↦
+        subst (IsStatement chart entries day) (sym last)
+        (adds.valid account (ap (slice_get chart.accounts) (let p : n - 1 ≡ i = omega (arith, last) in p) ∙ at) vostro)
+    | inr less ↦ so_far i account less at vostro
+  ]
