@@ -1,4 +1,4 @@
-//! The report and the bookings of one pay.
+//! The report, the bookings and the summary of one pay, and a generated day of one message.
 
 ghost use Rattle.std.specs.Prelude.{◌≡◌, ◌∷◌, [], IfOk, OnOk, length};
 ghost use Rattle.day_model.specs.Fit.{FitsAccounts};
@@ -8,7 +8,7 @@ ghost use Rattle.corr_report.specs.Bookings.{AreInCentury};
 
 use corr_ids::{Bic, Day, Mir};
 use corr_money::{Ccy, Minor};
-use corr_report::{bookings, report};
+use corr_report::{bookings, generated, put_reply_line, report, summary};
 use corr_text::{List, Memory, Text};
 use day_model::{
     Account, Accounts, AcctNo, Entry, History, Leg, Mt, Pay, Quote, Reply, Side, decide, rows_hold,
@@ -102,16 +102,27 @@ fn history_of(alloc: Global, a: &Accounts, pay: Pay) -> Result<History, Memory>
     Ok(h)
 }
 
+const ENTERED: Reply = Reply::Entered {
+    mir: FIRST,
+    place: 1,
+};
+
 // The report of the only entry.
 fn reported(alloc: Global, a: &Accounts, h: &History) -> Result<Text, Memory>
     requires legal { IsLegal a.now h.now.entries }
     requires one { length h.now.entries ≡ 1 }
 {
-    let reply = Reply::Entered {
-        mir: FIRST,
-        place: 1,
-    };
-    report(alloc, a, h, &[reply])
+    report(alloc, a, h, &[ENTERED])
+}
+
+// Its line as that of the seventh message.
+fn told(alloc: Global, a: &Accounts, h: &History) -> Result<Text, Memory>
+    requires legal { IsLegal a.now h.now.entries }
+    requires one { length h.now.entries ≡ 1 }
+{
+    let mut out = Text::from_bytes(alloc, b"")?;
+    put_reply_line(alloc, a, h, 7, &ENTERED, &mut out)?;
+    Ok(out)
 }
 
 // The bookings of a history.
@@ -120,6 +131,18 @@ fn booked(alloc: Global, a: &Accounts, h: &History) -> Result<Text, Memory>
     requires days { AreInCentury h.now.entries }
 {
     bookings(alloc, a, h)
+}
+
+// The summary of a history.
+fn summed(alloc: Global, a: &Accounts, h: &History) -> Result<Text, Memory>
+    requires { IsLegal a.now h.now.entries }
+{
+    summary(alloc, a, h)
+}
+
+// A day of one message.
+fn day(alloc: Global) -> Result<Text, Memory> {
+    generated(alloc, 1, 1)
 }
 
 #[test]
@@ -135,5 +158,20 @@ fn a_booked_pay_is_reported(rt: HostRuntime) -> Result<(), Fail> {
     );
     let text = booked(rt.alloc(), &a, &h)?;
     assert!(rt; text.bytes().ends_with(b" BOOKED D A 0,03 C B 0,03\n"));
+    let text = told(rt.alloc(), &a, &h)?;
+    assert!(rt; text.bytes().starts_with(b"000007 240603ALPHDEFF"));
+    let text = summed(rt.alloc(), &a, &h)?;
+    assert!(rt; text.bytes().ends_with(b"BALANCE A 0,02\nBALANCE B -0,02\n"));
+    Ok(())
+}
+
+#[test]
+fn a_day_of_one_message_is_made(rt: HostRuntime) -> Result<(), Fail> {
+    let text = day(rt.alloc())?;
+    assert!(rt;
+        text.bytes()
+            .starts_with(b"{1:F01HOMEUS33AXXX0001000001}{2:")
+    );
+    assert!(rt; text.bytes().ends_with(b"\r\nA PAYEE\r\n:71A:SHA\r\n-}$"));
     Ok(())
 }

@@ -1,12 +1,13 @@
 //! Pages of statements as messages hold them.
 
-ghost use Rattle.std.specs.Prelude.{IsTrue};
+ghost use Rattle.std.specs.Prelude.{All, IsTrue};
+ghost use Rattle.mt950.specs.Joining.{IsSmall};
 ghost use Rattle.ref_tables.specs.Seen.{few_decimals};
 
 use crate::cutting::{cut, let_go, tables};
-use corr_text::Text;
+use corr_text::{Memory, Text};
 use fin_fields::FieldFault;
-use mt950::{PageFault, join_pages, put_mt950, read_mt950};
+use mt950::{Line61, PageFault, join_pages, put_mt950, read_mt950};
 use ref_tables::RefTables;
 use std::alloc::Global;
 use std::test::Fail;
@@ -26,8 +27,24 @@ fn page(alloc: Global, tables: &RefTables, text: &[u8]) -> Result<Option<Text>, 
     }
 }
 
-// What a statement of the page of a text closes at; none where the text says none, or its page is no statement.
-fn closing(alloc: Global, tables: &RefTables, text: &[u8]) -> Result<Option<i64>, FieldFault>
+// What the first line adds, by a copy of it; 0 where there is none.
+fn first_effect(alloc: Global, lines: &[Line61]) -> Result<i64, Memory>
+    requires { All IsSmall lines.now }
+{
+    match lines {
+        [line, ..] => {
+            let copy = line.copy(alloc)?;
+            let effect = copy.effect();
+            let_go(copy);
+            Ok(effect)
+        }
+        [] => Ok(0),
+    }
+}
+
+// What a statement of the page of a text closes at, and what its first line adds; none where the text says none, or its page is
+// no statement.
+fn closing(alloc: Global, tables: &RefTables, text: &[u8]) -> Result<Option<(i64, i64)>, FieldFault>
     requires { IsTrue (few_decimals tables.now.ccys) }
 {
     let fields = cut(alloc, text)?;
@@ -37,12 +54,36 @@ fn closing(alloc: Global, tables: &RefTables, text: &[u8]) -> Result<Option<i64>
             match join_pages(alloc, &pages) {
                 Ok(statement) => {
                     let closing = statement.closing;
+                    let effect = first_effect(alloc, statement.lines.as_slice());
                     let_go(statement);
-                    Ok(Some(closing))
+                    Ok(Some((closing, effect?)))
                 }
                 Err(_) => Ok(None),
             }
         }
+        Err(_) => Ok(None),
+    }
+}
+
+// Why the pages of two texts are no statement; none where a text says no page, or they are one.
+fn misjoined(
+    alloc: Global,
+    tables: &RefTables,
+    first: &[u8],
+    second: &[u8],
+) -> Result<Option<PageFault>, FieldFault>
+    requires { IsTrue (few_decimals tables.now.ccys) }
+{
+    let first = cut(alloc, first)?;
+    let second = cut(alloc, second)?;
+    match read_mt950(alloc, first.as_slice(), tables) {
+        Ok(p) => match read_mt950(alloc, second.as_slice(), tables) {
+            Ok(q) => {
+                let pages = [p, q];
+                Ok(join_pages(alloc, &pages).err())
+            }
+            Err(_) => Ok(None),
+        },
         Err(_) => Ok(None),
     }
 }
@@ -65,7 +106,21 @@ fn a_page_is_read_and_written(rt: HostRuntime) -> Result<(), Fail> {
 #[test]
 fn a_page_is_a_statement(rt: HostRuntime) -> Result<(), Fail> {
     let tables = tables(rt.alloc())?;
-    assert!(rt; closing(rt.alloc(), &tables, TEXT)? == Some(200));
+    assert!(rt; closing(rt.alloc(), &tables, TEXT)? == Some((200, 100)));
     assert!(rt; join_pages(rt.alloc(), &[]).err() == Some(PageFault::Gap { page: 1 }));
+    Ok(())
+}
+
+#[test]
+fn a_page_opens_where_the_one_before_closed(rt: HostRuntime) -> Result<(), Fail> {
+    let tables = tables(rt.alloc())?;
+    let first = b":20:R\n:25:A\n:28C:5/1\n:60F:C240602EUR2,\n:62M:C240603EUR2,\n";
+    let second = b":20:S\n:25:A\n:28C:5/2\n:60M:C240603EUR1,\n:62F:C240603EUR1,\n";
+    let want = PageFault::NotCarried {
+        page: 2,
+        closing: 200,
+        opening: 100,
+    };
+    assert!(rt; misjoined(rt.alloc(), &tables, first, second)? == Some(want));
     Ok(())
 }

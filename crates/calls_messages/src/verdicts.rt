@@ -50,6 +50,15 @@ fn a_debit_is_received(rt: HostRuntime) -> Result<(), Fail> {
 }
 
 #[test]
+fn a_page_is_received(rt: HostRuntime) -> Result<(), Fail> {
+    let t = tables(rt.alloc())?;
+    let m =
+        b"{1:F01HOMEUS33AXXX0001000007}{2:O9501200240603ALPHDEFFAXXX00010000012406031205N}{4:\n:20:R\n:25:A\n:28C:1\n:60F:C240602EUR1,\n:62F:C240603EUR1,\n-}";
+    assert!(rt; is_received(rt.alloc(), m, &t));
+    Ok(())
+}
+
+#[test]
 fn a_message_that_came_is_not_one_to_send(rt: HostRuntime) -> Result<(), Fail> {
     let t = tables(rt.alloc())?;
     let m =

@@ -313,11 +313,15 @@ impl<'a> Gate for HeldGate<'a> {
     }
 }
 
-#[test]
-fn a_held_pay_holds_no_pay_of_other_accounts(rt: HostRuntime) -> Result<(), Fail> {
-    let alloc = rt.alloc();
+// Books a pay between accounts 1 and 3 that is held at the gate, and then a second one. Whether the first was held in vain.
+fn book_held<R: Threads + Wait + Sync + Abort>(
+    rt: &R,
+    alloc: Global,
+    second: &Pay,
+) -> Result<(Both<MemDisk>, bool), Fail>
+    requires { HasShape second.now }
+{
     let first = pay(alloc, 1, 1, 3, 1_000)?;
-    let second = pay(alloc, 2, 5, 7, 2_000)?;
     let reached = AtomicBool::new(false);
     let answered = AtomicBool::new(false);
     let late = AtomicBool::new(false);
@@ -326,12 +330,26 @@ fn a_held_pay_holds_no_pay_of_other_accounts(rt: HostRuntime) -> Result<(), Fail
         answered: &answered,
         late: &late,
     };
-    let disk = MemDisk::new(alloc, journal(&rt, alloc, 0)?);
-    let both = book_both(
-        &rt, alloc, disk, &first, &second, &gate, &reached, &answered,
-    )?;
-    assert!(rt; both.in_time && !late.load(SeqCst));
+    let disk = MemDisk::new(alloc, journal(rt, alloc, 0)?);
+    let both = book_both(rt, alloc, disk, &first, second, &gate, &reached, &answered)?;
+    Ok((both, late.load(SeqCst)))
+}
+
+#[test]
+fn a_held_pay_holds_no_pay_of_other_accounts(rt: HostRuntime) -> Result<(), Fail> {
+    let second = pay(rt.alloc(), 2, 5, 7, 2_000)?;
+    let (both, late) = book_held(&rt, rt.alloc(), &second)?;
+    assert!(rt; both.in_time && !late);
     assert!(rt; both.two == new(1) && both.one == new(2));
+    Ok(())
+}
+
+#[test]
+fn a_held_pay_holds_a_pay_of_one_of_its_accounts(rt: HostRuntime) -> Result<(), Fail> {
+    let second = pay(rt.alloc(), 2, 2, 3, 2_000)?;
+    let (both, late) = book_held(&rt, rt.alloc(), &second)?;
+    assert!(rt; both.in_time && late);
+    assert!(rt; both.one == new(1) && both.two == new(2));
     Ok(())
 }
 

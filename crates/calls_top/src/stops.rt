@@ -30,6 +30,9 @@ const REPORT: &[u8] =
 const SENT: &[u8] =
     b"{1:F01HOMEUS33AXXX0000000000}{2:I900ALPHDEFFXXXXN}{4:\r\n:20:P00000001K1\r\n:21:REF1\r\n:25:VALPHEUR\r\n:32A:240603EUR1234,50\r\n-}$";
 
+const STATEMENT: &[u8] =
+    b"{1:F01HOMEUS33AXXX0000000000}{2:I950ALPHDEFFXXXXN}{4:\r\n:20:S2406030001P0001\r\n:25:VALPHEUR\r\n:28C:155/1\r\n:60F:C240602EUR50000,00\r\n:61:2406030603D1234,50S103REF1//P00000001\r\n:62F:C240603EUR48765,50\r\n-}$";
+
 type Ended<D> = Done<MemSource, MemSink, D>;
 
 fn source(alloc: Global, bytes: &[u8]) -> Result<MemSource, Memory> {
@@ -158,5 +161,31 @@ fn the_same_command_over_what_a_stop_leaves_gives_the_same_report(
         assert!(rt; is_made_good(&rt, rt.alloc(), &journal, 3, torn)?);
         assert!(rt; is_made_good(&rt, rt.alloc(), &journal, 5, torn)?);
     }
+    Ok(())
+}
+
+fn statements<R: Wait + Threads + Sync, D: Disk + Drop + Send>(
+    rt: &R,
+    alloc: Global,
+    disk: D,
+) -> Result<Ended<D>, Memory> {
+    call(rt, alloc, &[b"statements", b"240603"], disk)
+}
+
+// The bytes of a journal with the entry of the message.
+fn booked<R: Wait + Threads + Sync>(rt: &R, alloc: Global) -> Result<Text, Memory> {
+    let disk = FuseDisk::new(alloc, journal(rt, alloc)?, 100, 0);
+    let ended = run(rt, alloc, disk)?;
+    Ok(left(ended))
+}
+
+#[test]
+fn statements_are_sent_of_a_journal_that_can_be_read(rt: HostRuntime) -> Result<(), Fail> {
+    let alloc = rt.alloc();
+    let journal = booked(&rt, alloc)?;
+    let failed = statements(&rt, alloc, OnceDisk::new(alloc, journal.copy(alloc)?, 1))?;
+    assert!(rt; is_refused(&failed));
+    let done = statements(&rt, alloc, MemDisk::new(alloc, journal))?;
+    assert!(rt; done.status == Status::Done && wrote(&done, b"", STATEMENT));
     Ok(())
 }

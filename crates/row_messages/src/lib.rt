@@ -6,6 +6,7 @@ mod covers;
 pub mod given;
 mod kinds;
 mod messages;
+mod statements;
 mod transfers;
 
 use row_words::answer::Answer;
@@ -18,6 +19,7 @@ pub fn call(name: &[u8], words: &mut Words, answer: &mut Answer) -> Result<bool,
         transfers::call(name, words, answer)?
             || covers::call(name, words, answer)?
             || advices::call(name, words, answer)?
+            || statements::call(name, words, answer)?
             || messages::call(name, words, answer)?,
     )
 }

@@ -4,7 +4,7 @@ ghost use Rattle.std.specs.Prelude.{◌≤◌, IfOk, length};
 
 use crate::given::{let_go, put_fault, tables_in};
 use corr_ids::{Bic, Envelope, Mir, put_bic};
-use corr_money::Amount;
+use corr_money::Ccy;
 use corr_text::{Memory, Text};
 use fin_message::{Message, MessageFault, check_sent, verdict};
 use row_words::answer::Answer;
@@ -116,7 +116,8 @@ struct Told<'a> {
     env: &'a Envelope,
     text: &'a Text,
     reference: &'a Text,
-    amount: &'a Amount,
+    ccy: Ccy,
+    number: u64,
 }
 
 fn put_told(told: &Told, answer: &mut Answer) -> Result<(), Memory> {
@@ -124,8 +125,8 @@ fn put_told(told: &Told, answer: &mut Answer) -> Result<(), Memory> {
     put_envelope(told.env, answer)?;
     answer.text(told.text.bytes())?;
     answer.text(told.reference.bytes())?;
-    answer.word(&told.amount.ccy.0)?;
-    answer.number(told.amount.minor.0)
+    answer.word(&told.ccy.0)?;
+    answer.number(told.number)
 }
 
 fn parts_of(message: &Message) -> Told<'_> {
@@ -135,34 +136,47 @@ fn parts_of(message: &Message) -> Told<'_> {
             env,
             text,
             reference: &m.reference,
-            amount: &m.amount,
+            ccy: m.amount.ccy,
+            number: m.amount.minor.0,
         },
         Message::Cover(env, text, m) => Told {
             kind: b"cover",
             env,
             text,
             reference: &m.related,
-            amount: &m.amount,
+            ccy: m.amount.ccy,
+            number: m.amount.minor.0,
         },
         Message::Debit(env, m) => Told {
             kind: b"debit",
             env,
             text: &m.account,
             reference: &m.related,
-            amount: &m.amount,
+            ccy: m.amount.ccy,
+            number: m.amount.minor.0,
         },
         Message::Credit(env, m) => Told {
             kind: b"credit",
             env,
             text: &m.account,
             reference: &m.related,
-            amount: &m.amount,
+            ccy: m.amount.ccy,
+            number: m.amount.minor.0,
+        },
+        Message::Page(env, m) => Told {
+            kind: b"page",
+            env,
+            text: &m.account,
+            reference: &m.reference,
+            ccy: m.ccy,
+            number: m.lines.as_slice().len() as u64,
         },
     }
 }
 
 /// Adds the type and the envelope; of a transfer and a cover block 4 and the reference, of an advice the account and the
-/// reference that it is about; then the currency and the amount in minor units, and of a credit whether it names a payer.
+/// reference that it is about, of a page the account and its reference; then the currency and the amount in minor units, of a
+/// page how many lines it has, and of a credit whether it names a payer.
 fn put_message(message: &Message, answer: &mut Answer) -> Result<(), Memory> {
     put_told(&parts_of(message), answer)?;
     match message {

@@ -5,7 +5,7 @@ ghost use Rattle.corr_report.specs.Report.{NamesPlace};
 
 use crate::books::{book_in, lines_in, mir, small};
 use crate::histories::history_in;
-use corr_report::{bookings, report};
+use corr_report::{bookings, generated, report, summary};
 use corr_text::{Code, Fault, List};
 use day_model::{History, Reply};
 use row_words::answer::Answer;
@@ -18,6 +18,8 @@ pub fn call(name: &[u8], words: &mut Words, answer: &mut Answer) -> Result<bool,
     match name {
         b"report" => reported(words, answer)?,
         b"bookings" => booked(words, answer)?,
+        b"summary" => summed(words, answer)?,
+        b"generated" => made(words, answer)?,
         _ => return Ok(false),
     }
     Ok(true)
@@ -126,5 +128,25 @@ fn booked(words: &mut Words, answer: &mut Answer) -> Result<(), Stop> {
     let book = book_in(alloc, words.next()?)?;
     let h = history_in(alloc, &book, words.next()?)?;
     let text = bookings(alloc, &book, &h)?;
+    Ok(answer.text(text.bytes())?)
+}
+
+/// `summary ACCOUNTS PAYS`: the summary of the history of the pays.
+fn summed(words: &mut Words, answer: &mut Answer) -> Result<(), Stop> {
+    let alloc = answer.alloc();
+    let book = book_in(alloc, words.next()?)?;
+    let h = history_in(alloc, &book, words.next()?)?;
+    let text = summary(alloc, &book, &h)?;
+    Ok(answer.text(text.bytes())?)
+}
+
+/// `generated COUNT SEED`: a day of messages, made from a number.
+fn made(words: &mut Words, answer: &mut Answer) -> Result<(), Stop> {
+    let count = small(words)?;
+    let seed = words.number()?;
+    if count > 50_000 {
+        return Err(Stop::Unreadable);
+    }
+    let text = generated(answer.alloc(), count, seed)?;
     Ok(answer.text(text.bytes())?)
 }

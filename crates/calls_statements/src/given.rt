@@ -1,0 +1,131 @@
+//! A small bank, and its history of a day.
+
+ghost use Rattle.std.specs.Prelude.{IfOk, OnOk};
+ghost use Rattle.corr_ids.specs.Bic.{IsBic};
+ghost use Rattle.day_model.specs.Shape.{HasShape};
+ghost use Rattle.calls_statements.specs.Grown.{IsGrown};
+
+use corr_ids::{Bic, Day, read_bic};
+use corr_money::Ccy;
+use corr_text::{List, Memory, Text, put_digits};
+use day_model::{Account, Accounts, Entry, History, Pay, decide, rows_hold};
+use jrn_codec::read_entry;
+use statement::HistoryIndex;
+use std::alloc::Global;
+use std::test::Fail;
+
+/// 3 June 2024.
+pub const DAY: Day = Day(19877);
+
+const ALPHA: Bic = Bic {
+    head: *b"ALPHDEFF",
+    branch: *b"XXX",
+};
+
+const BETA: Bic = Bic {
+    head: *b"BETAFRPP",
+    branch: *b"XXX",
+};
+
+const CORR: Bic = Bic {
+    head: *b"CORRBEBB",
+    branch: *b"XXX",
+};
+
+fn row(alloc: Global, id: &[u8], kind: u8, owner: Bic, opening: i64) -> Result<Account, Memory> {
+    Ok(Account {
+        id: Text::from_bytes(alloc, id)?,
+        kind,
+        owner,
+        ccy: Ccy(*b"EUR"),
+        decimals: 2,
+        floor: -90_000_000_000,
+        ceil: 90_000_000_000,
+        opening,
+    })
+}
+
+fn rows(alloc: Global, home: Bic) -> Result<List<Account>, Memory> {
+    let mut rows = List::new(alloc);
+    rows.push(row(alloc, b"VALPHEUR", b'V', ALPHA, 5_000_000)?)?;
+    rows.push(row(alloc, b"VBETAEUR", b'V', BETA, 1_000_000)?)?;
+    rows.push(row(alloc, b"CUST1", b'C', home, 0)?)?;
+    rows.push(row(alloc, b"NCORREUR", b'N', CORR, -6_000_000)?)?;
+    Ok(rows)
+}
+
+/// The accounts.
+pub fn accounts(alloc: Global) -> Result<Accounts, Fail>
+    ensures { IfOk result (λ a. IsBic a.home) }
+{
+    let Some(home) = read_bic(b"HOMEUS33") else {
+        return Err("no home".into());
+    };
+    let rows = rows(alloc, home)?;
+    if !rows_hold(rows.as_slice()) {
+        return Err("no rows".into());
+    }
+    Ok(Accounts::new(home, rows)?)
+}
+
+// The record of an entry of the day: an amount in minor units from account 1 to account 3, booked. The number is that of its
+// reference.
+fn record(alloc: Global, number: u32, amount: u64) -> Result<Text, Memory> {
+    let amount = amount.to_be_bytes();
+    let mut bytes = Text::from_bytes(alloc, b"240603ALPHDEFFAXXX0001")?;
+    put_digits(alloc, u64::from(number), 6, &mut bytes)?;
+    bytes.push(b"\x01\0\0\0\x4d\xa5\0\0\x4d\xa5\0\x02\0\x01\0")?;
+    bytes.push(&amount)?;
+    bytes.push(b"\0\x04REF1\0\x03\x01")?;
+    bytes.push(&amount)?;
+    bytes.push(b"\x01\x01\x01\x04ALPHDEFFXXX\x01\0\0\0\x02\r\n")?;
+    Ok(bytes)
+}
+
+fn pay(alloc: Global, number: u32, amount: u64) -> Result<Pay, Fail>
+    ensures { IfOk result HasShape }
+{
+    let bytes = record(alloc, number, amount)?;
+    match read_entry(alloc, bytes.bytes()) {
+        Ok(entry) => Ok(entry.pay),
+        Err(_) => Err("no entry".into()),
+    }
+}
+
+// Enters a pay that fits, and adds its entry to the index.
+fn enter(a: &Accounts, h: &mut History, index: &mut HistoryIndex, pay: Pay) -> Result<(), Fail>
+    requires shape { HasShape pay }
+    requires grown { IsGrown a.now h.old.entries index.old }
+    ensures { OnOk result (IsGrown a.now h.new.entries index.new) }
+{
+    if !a.fits(&pay) || h.find(&pay.mir).is_some() || h.len() >= 100 {
+        return Err("no entry".into());
+    }
+    let outcome = decide(a, h, &pay);
+    let entry = Entry {
+        pay,
+        day: DAY,
+        outcome,
+    };
+    index.add(&entry)?;
+    h.push(entry)?;
+    Ok(())
+}
+
+/// So many entries of the day, each of this amount from account 1 to account 3, and their index, which grew entry by entry.
+#[tactic(auto, using(day_model::proofs::laws::Growth::legal_here))]
+pub fn grown(
+    alloc: Global,
+    a: &Accounts,
+    count: u32,
+    amount: u64,
+) -> Result<(History, HistoryIndex), Fail>
+    ensures { IfOk result (λ g. IsGrown a.now g.0.entries g.1) }
+{
+    let mut h = History::new(alloc);
+    let mut index = HistoryIndex::new(alloc, a, &h)?;
+    for number in 0..count {
+        enter(a, &mut h, &mut index, pay(alloc, number, amount)?)?;
+    }
+    Ok((h, index))
+}
