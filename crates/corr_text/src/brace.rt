@@ -6,6 +6,7 @@ ghost use Rattle.corr_text.specs.Braces.{is_brace};
 use memchr::memchr2;
 
 /// The place of the first brace from a place on, and the end where there is none.
+#[inline(never)]
 pub fn next_brace(text: &[u8], from: usize) -> usize
     requires { from ≤ length text.now }
     ensures least { from ≤ result }

@@ -49,6 +49,7 @@ pub fn first_line(text: &[u8]) -> FirstLine<'_>
     }
 }
 
+#[inline(never)]
 fn first_outside_x(text: &[u8]) -> Option<usize>
     ensures { result ≡ position (λ b. not (is_x_byte b)) text.now }
 {

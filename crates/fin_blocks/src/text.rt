@@ -40,6 +40,7 @@ fn copy_lines(alloc: Global, b: &[u8]) -> Result<Text, Memory>
 }
 
 /// Whether each line feed has a carriage return before it.
+#[inline(never)]
 fn has_crlf_alone(b: &[u8]) -> bool
     ensures { result ≡ true → is_ended_of b.now ≡ true → text_in b.now ≡ b.now }
 {

@@ -39,6 +39,7 @@ pub fn is_for_home(home: &Bic, ask: Ask<'_>) -> bool
 }
 
 /// What a message asks of the books of the home bank.
+#[inline(never)]
 pub fn asked_of(alloc: Global, home: &Bic, ask: Ask<'_>) -> Result<Asked, Memory>
     ensures { IfOk result (λ asked. asked ≡ asked_of home.now ask.entry) }
 {

@@ -22,6 +22,7 @@ use routing::{Routed, route};
 use ssi_versions::Ssi;
 use std::alloc::Global;
 
+#[inline(never)]
 fn pay_of(
     alloc: Global,
     mir: Mir,
