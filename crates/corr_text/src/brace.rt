@@ -2,7 +2,7 @@
 
 ghost use Rattle.std.specs.Prelude.{◌≡◌, ◌<◌, ◌≤◌, ℕ, length, slice_index, true, false};
 ghost use Rattle.std.specs.List.{list_any};
-ghost use Rattle.corr_text.specs.Braces.{is_brace};
+ghost use Rattle.corr_text.specs.Braces.{is_brace, one_if};
 
 /// How many bytes are tested at once where braces are far, and where one is near.
 const FAR: usize = 32;
@@ -15,16 +15,24 @@ fn is_brace(b: u8) -> bool
     b == b'{' || b == b'}'
 }
 
-/// Whether a brace is among the bytes of a group. Goes to its end in each case, so that some bytes are tested at once.
+/// 1 for a brace, 0 for every other byte. By both comparisons in each case, so that some bytes are tested at once.
+#[inline(always)]
+fn as_one(b: u8) -> u8
+    ensures { result ≡ one_if (is_brace b) }
+{
+    (b == b'{') as u8 | (b == b'}') as u8
+}
+
+/// Whether a brace is among the bytes of a group. Goes to its end in each case.
 #[inline(always)]
 fn has_brace(group: &[u8]) -> bool
     ensures { result ≡ list_any is_brace group.now }
 {
-    let mut found = false;
+    let mut found = 0u8;
     for b in group {
-        found |= is_brace(*b);
+        found |= as_one(*b);
     }
-    found
+    found != 0
 }
 
 /// Goes from a place on past groups of `len` bytes without a brace.
