@@ -14,10 +14,10 @@ pub none-yet : (xs : List ℕ) (from : ℕ) → NoBrace xs from from
 none-yet xs from k low high = absurd (omega (arith, low, high))
 
 pub joined : (xs : List ℕ) (from mid to : ℕ) → NoBrace xs from mid → NoBrace xs mid to → NoBrace xs from to
-joined xs from mid to before behind k low high =
+joined xs from mid to before after k low high =
     elim (cases_lt k mid) [
       | inl less ↦ before k low less
-      | inr past ↦ behind k (omega arith) high
+      | inr past ↦ after k (omega arith) high
     ]
 
 pub one-more : (xs : List ℕ) (from at : ℕ) → NoBrace xs from at → is_brace (get_or xs at 0) ≡ false → NoBrace xs from (at + 1)
@@ -43,5 +43,5 @@ group-more xs from at len before none =
     joined xs from at (at + len) before (λ k low high.
     let place : at + (k - at) ≡ k = omega (arith, low) in
     let here : get_or (take (at + len - at) (drop at xs)) (k - at) 0 ≡ get_or xs k 0 =
-        get_or-take (at + len - at) (drop at xs) (k - at) 0 (omega (arith, low, high)) ∙ get_or-drop at xs (k - at) 0 ∙ ap (λ i. get_or xs i 0) place in
+    get_or-take (at + len - at) (drop at xs) (k - at) 0 (omega (arith, low, high)) ∙ get_or-drop at xs (k - at) 0 ∙ ap (λ i. get_or xs i 0) place in
     ap is_brace (sym here) ∙ none-among (take (at + len - at) (drop at xs)) (k - at) none)

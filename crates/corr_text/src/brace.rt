@@ -6,6 +6,7 @@ ghost use Rattle.corr_text.specs.Braces.{is_brace, one_if};
 
 /// How many bytes are tested at once where braces are far, and where one is near.
 const FAR: usize = 32;
+
 const NEAR: usize = 8;
 
 #[inline(always)]
@@ -37,7 +38,7 @@ fn has_brace(group: &[u8]) -> bool
 
 /// Goes from a place on past groups of `len` bytes without a brace.
 #[inline(always)]
-fn behind_groups(text: &[u8], from: usize, len: usize) -> usize
+fn after_groups(text: &[u8], from: usize, len: usize) -> usize
     requires some { 0 < len }
     requires inside { from ≤ length text.now }
     ensures least { from ≤ result }
@@ -82,6 +83,6 @@ pub fn next_brace(text: &[u8], from: usize) -> usize
     ensures first { (k : ℕ) → from ≤ k → k < result → is_brace (slice_index text.now k) ≡ false }
     ensures found { result < length text.now → is_brace (slice_index text.now result) ≡ true }
 {
-    let far = behind_groups(text, from, FAR);
-    next_by_one(text, behind_groups(text, far, NEAR))
+    let far = after_groups(text, from, FAR);
+    next_by_one(text, after_groups(text, far, NEAR))
 }

@@ -1,6 +1,6 @@
 use Rattle.std.proofs.Common.{sym, ◌∙◌, arith}
 use Rattle.corr_text.proofs.Braces.{group-more, none-yet}
-use Rattle.corr_text.proofs.brace.behind_groups.Goals as goal
+use Rattle.corr_text.proofs.brace.after_groups.Goals as goal
 
 pub loop-at-init : goal.loop-at-init
 loop-at-init c = record { least = omega arith; most = c.requires.inside; none = none-yet c.args.text.now c.args.from }

@@ -1,6 +1,6 @@
 use Rattle.std.proofs.Common.{◌≤◌, ◌-◌, length}
 use Rattle.corr_text.proofs.Braces.{NoBrace}
-use Rattle.corr_text.proofs.brace.behind_groups.Given as goal
+use Rattle.corr_text.proofs.brace.after_groups.Given as goal
 
 abbrev pub invariant-loop-at : goal.invariant-loop-at
 invariant-loop-at l = record {
