@@ -1,14 +1,19 @@
-use Rattle.std.proofs.Common.{◌+◌, Option, refl, sym, subst}
+use Rattle.std.proofs.Common.{◌+◌, Option, refl, sym, ◌∙◌, subst}
 use Rattle.std.proofs.lemmas.Option.{slice_get_read}
 use Rattle.day_model.specs.declared.gap.Gap.{Gap}
-use Rattle.day_model.proofs.Openings.{SoFar, so_far_more, so_far_all}
+use Rattle.day_model.proofs.Openings.{SoFar, so_far_known, so_far_more, so_far_all}
 use Rattle.day_model.proofs.gap.first_gap.Goals as goal
 
-pub loop-row-preserved : goal.loop-row-preserved
-loop-row-preserved c =
-    let at = slice_get_read c.args.rows.now _ c.loop-row.row-index c.row-item.result refl c.loop-row-test.true c.row-item.is in
-    subst (λ (o : Option Gap). SoFar c.args.rows.now (c.loop-row.row-index + 1) o) (sym c.earlier-first.ensures)
-    (so_far_more c.args.rows.now c.loop-row.row-index c.row-item.result c.loop-row.first c.gap_of.result c.loop-row.invariant at c.gap_of.ensures)
+pub loop-at-preserved-then-not-has_ccy : goal.loop-at-preserved-then-not-has_ccy
+loop-at-preserved-then-not-has_ccy c =
+    let at = slice_get_read c.args.rows.now _ c.loop-at.at c.row-item.result refl c.loop-at-test.true c.row-item.is in
+    subst (λ (o : Option Gap). SoFar c.args.rows.now (c.loop-at.at + 1) o) (sym c.earlier-first.ensures)
+    (so_far_more c.args.rows.now c.loop-at.at c.row-item.result c.loop-at.first c.gap_of.result c.loop-at.invariant at c.gap_of.ensures)
+
+pub loop-at-preserved-else-not-has_ccy : goal.loop-at-preserved-else-not-has_ccy
+loop-at-preserved-else-not-has_ccy c =
+    let at = slice_get_read c.args.rows.now _ c.loop-at.at c.row-item.result refl c.loop-at-test.true c.row-item.is in
+    so_far_known c.args.rows.now c.loop-at.at c.row-item.result c.loop-at.first c.loop-at.invariant at (sym c.has_ccy.ensures ∙ c.if-has_ccy.true)
 
 pub returns : goal.returns
-returns c = so_far_all c.args.rows.now c.loop-row.row-index c.loop-row.first c.loop-row-test.false c.loop-row.invariant
+returns c = so_far_all c.args.rows.now c.loop-at.at c.loop-at.first c.loop-at-test.false c.loop-at.invariant
