@@ -12,20 +12,29 @@ use corr_text::{Memory, Text};
 use day_model::Mt;
 use routing::{Cover, Target};
 use std::alloc::Global;
+use std::marker::Model;
 
 /// What a message asks of the books.
 ///
 /// `reference` is field 20, and `last_reference` what the last bank's or customer's statement quotes: field 20 of a transfer
 /// and field 21 of a cover.
 #[derive(Drop)]
-pub struct Asked {
+pub struct Asked<'a> {
     pub mt: Mt,
     pub value: Day,
     pub amount: Amount,
-    pub reference: Text,
-    pub last_reference: Text,
+    pub reference: &'a Text,
+    pub last_reference: &'a Text,
     pub cover: Cover,
     pub target: Target,
+}
+
+impl<'a> Model for Asked<'a> {
+    ghost use Rattle.pay_plan.specs.Asked.{Asked, asked_in};
+
+    ghost Value = { Asked };
+
+    ghost view = { asked_in };
 }
 
 /// Whether a message is a cover that names the home bank in 58a.
@@ -40,7 +49,7 @@ pub fn is_for_home(home: &Bic, ask: Ask<'_>) -> bool
 
 /// What a message asks of the books of the home bank.
 #[inline(never)]
-pub fn asked_of(alloc: Global, home: &Bic, ask: Ask<'_>) -> Result<Asked, Memory>
+pub fn asked_of<'a>(alloc: Global, home: &Bic, ask: Ask<'a>) -> Result<Asked<'a>, Memory>
     ensures { IfOk result (λ asked. asked ≡ asked_of home.now ask.entry) }
 {
     match ask {
@@ -48,8 +57,8 @@ pub fn asked_of(alloc: Global, home: &Bic, ask: Ask<'_>) -> Result<Asked, Memory
             mt: Mt::Transfer,
             value: m.value,
             amount: m.amount,
-            reference: m.reference.copy(alloc)?,
-            last_reference: m.reference.copy(alloc)?,
+            reference: &m.reference,
+            last_reference: &m.reference,
             cover: cover_of(alloc, &m.p53, &m.p54)?,
             target: transfer_target(alloc, home, m)?,
         }),
@@ -57,8 +66,8 @@ pub fn asked_of(alloc: Global, home: &Bic, ask: Ask<'_>) -> Result<Asked, Memory
             mt: Mt::Cover,
             value: m.value,
             amount: m.amount,
-            reference: m.reference.copy(alloc)?,
-            last_reference: m.related.copy(alloc)?,
+            reference: &m.reference,
+            last_reference: &m.related,
             cover: cover_of(alloc, &m.a53, &m.a54)?,
             target: cover_target(home, m),
         }),

@@ -28,7 +28,7 @@ fn pay_of(
     mir: Mir,
     env: &Envelope,
     text: &Text,
-    asked: &Asked,
+    asked: &Asked<'_>,
     routed: &Routed,
     a: &Accounts,
 ) -> Result<Pay, Memory>
