@@ -9,8 +9,8 @@ returns-then-has_number c =
     let subs = c.args.user.now in
     let ns = map (λ s. s.0) subs in
     let at = c.loop-at.at in
-    let n = c.sub-item.result.0 in
-    let here = number-at subs at c.sub-item.result c.sub-item.is c.loop-at-test.true in
+    let n = c.index-user-at.result.0 in
+    let here = number-at subs at c.index-user-at.result c.index-user-at.is c.loop-at-test.true in
     sym (c.loop-at.invariant ∙ ap (differ_from (take at ns)) (at-place ns at n here (omega (arith, length-map subs (λ s. s.0), c.loop-at-test.true)))
     ∙ differs-twice (take at ns) n (drop (at + 1) ns) (sym (stands-before n at subs) ∙ sym c.has_number.ensures ∙ c.if-has_number.true))
 
@@ -19,8 +19,8 @@ loop-at-preserved c =
     let subs = c.args.user.now in
     let ns = map (λ s. s.0) subs in
     let at = c.loop-at.at in
-    let n = c.sub-item.result.0 in
-    let here = number-at subs at c.sub-item.result c.sub-item.is c.loop-at-test.true in
+    let n = c.index-user-at.result.0 in
+    let here = number-at subs at c.index-user-at.result c.index-user-at.is c.loop-at-test.true in
     let lt = omega (arith, length-map subs (λ s. s.0), c.loop-at-test.true) in
     c.loop-at.invariant ∙ ap (differ_from (take at ns)) (at-place ns at n here lt)
     ∙ differs-more (take at ns) n (drop (at + 1) ns) (sym (stands-before n at subs) ∙ sym c.has_number.ensures ∙ c.if-has_number.false)
