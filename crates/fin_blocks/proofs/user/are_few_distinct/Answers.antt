@@ -1,4 +1,4 @@
-use Rattle.std.proofs.Common.{map, sym, ap, ◌∙◌, ◌++◌, ◌∷◌, ◌+◌, [], take, drop, arith}
+use Rattle.std.proofs.Common.{map, sym, ap, ◌∙◌, ◌++◌, ◌∷◌, ◌+◌, ◌<◌, [], length, take, drop, arith}
 use Rattle.std.proofs.lemmas.List.{drop_all, length-map, take_more}
 use Rattle.fin_blocks.specs.User.{differ_from}
 use Rattle.fin_blocks.proofs.Distinct.{at-place, differs-more, differs-twice, number-at, stands-before}
@@ -21,7 +21,7 @@ loop-at-preserved c =
     let at = c.loop-at.at in
     let n = c.index-user-at.result.0 in
     let here = number-at subs at c.index-user-at.result c.index-user-at.is c.loop-at-test.true in
-    let lt = omega (arith, length-map subs (λ s. s.0), c.loop-at-test.true) in
+    let lt : at < length ns = omega (arith, length-map subs (λ s. s.0), c.loop-at-test.true) in
     c.loop-at.invariant ∙ ap (differ_from (take at ns)) (at-place ns at n here lt)
     ∙ differs-more (take at ns) n (drop (at + 1) ns) (sym (stands-before n at subs) ∙ sym c.has_number.ensures ∙ c.if-has_number.false)
     ∙ ap (λ m. differ_from (take at ns ++ m ∷ []) (drop (at + 1) ns)) here
