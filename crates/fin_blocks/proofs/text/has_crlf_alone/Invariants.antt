@@ -1,4 +1,4 @@
-use Rattle.std.proofs.Common.{◌≡◌, ◌≤◌, ◌<◌, drop, false, length}
+use Rattle.std.proofs.Common.{◌≡◌, drop, false}
 use Rattle.fin_blocks.proofs.Unchanged.{before, crlf_alone}
 use Rattle.fin_blocks.proofs.text.has_crlf_alone.Given as goal
 
