@@ -1,23 +1,47 @@
--- The first brace from a place on.
-use Rattle.std.proofs.Common.{◌≡◌, ◌<◌, ◌≤◌, ◌+◌, ◌-◌, ℕ, Bool, true, false, List, length, get_or, drop, refl, sym, ap, ◌∙◌, arith}
-use Rattle.std.proofs.lemmas.List.{get_or-drop, length-drop}
-use Rattle.memchr.specs.Find.{Nowhere, Passes, is_byte2}
+-- Braces from a place on.
+use Rattle.std.proofs.Common.{◌≡◌, ◌<◌, ◌≤◌, ◌+◌, ◌-◌, ℕ, zero, suc, Bool, true, false, List, [], ◌∷◌, get_or, take, drop, refl, sym, ap, ◌∙◌, inl, inr, arith}
+use Rattle.std.specs.Prelude.{◌||◌}
+use Rattle.std.specs.List.{list_any, slice_range}
+use Rattle.std.proofs.lemmas.Bool.{cases_lt}
+use Rattle.std.proofs.lemmas.List.{get_or-drop, get_or-take}
 use Rattle.corr_text.specs.Braces.{is_brace}
 
-is-false : (b : Bool) → (b ≡ true → ⊥) → b ≡ false
-is-false true never = absurd (never refl)
-is-false false never = refl
+-- no brace stands from one place to another
+abbrev pub NoBrace : List ℕ → ℕ → ℕ → Type 0
+NoBrace xs from to = (k : ℕ) → from ≤ k → k < to → is_brace (get_or xs k 0) ≡ false
 
-pub no-brace : (xs hay : List ℕ) (from n : ℕ) → hay ≡ drop from xs → Nowhere (Passes (is_byte2 123 125) hay) 0 n → (k : ℕ) → from ≤ k → k < from + n → is_brace (get_or xs k 0) ≡ false
-no-brace xs hay from n is none k low high =
-    let at : from + (k - from) ≡ k = omega (arith, low) in
-    let same : get_or hay (k - from) 0 ≡ get_or xs k 0 = ap (λ l. get_or l (k - from) 0) is ∙ get_or-drop from xs (k - from) 0 ∙ ap (λ i. get_or xs i 0) at in
-    is-false (is_brace (get_or xs k 0)) (λ passes. none (k - from) (omega arith) (omega (arith, low, high)) (ap is_brace same ∙ passes))
+pub none-yet : (xs : List ℕ) (from : ℕ) → NoBrace xs from from
+none-yet xs from k low high = absurd (omega (arith, low, high))
 
-pub no-brace-left : (xs hay : List ℕ) (from : ℕ) → hay ≡ drop from xs → from ≤ length xs → Nowhere (Passes (is_byte2 123 125) hay) 0 (length hay) → (k : ℕ) → from ≤ k → k < length xs → is_brace (get_or xs k 0) ≡ false
-no-brace-left xs hay from is le none k low high =
-    let long : length hay ≡ length xs - from = ap length is ∙ length-drop from xs in
-    no-brace xs hay from (length hay) is none k low (omega (arith, long, le, high))
+pub joined : (xs : List ℕ) (from mid to : ℕ) → NoBrace xs from mid → NoBrace xs mid to → NoBrace xs from to
+joined xs from mid to before after k low high =
+    elim (cases_lt k mid) [
+      | inl less ↦ before k low less
+      | inr past ↦ after k (omega arith) high
+    ]
 
-pub a-brace : (xs hay : List ℕ) (from at : ℕ) → hay ≡ drop from xs → Passes (is_byte2 123 125) hay at → is_brace (get_or xs (from + at) 0) ≡ true
-a-brace xs hay from at is passes = ap is_brace (sym (ap (λ l. get_or l at 0) is ∙ get_or-drop from xs at 0)) ∙ passes
+pub one-more : (xs : List ℕ) (from at : ℕ) → NoBrace xs from at → is_brace (get_or xs at 0) ≡ false → NoBrace xs from (at + 1)
+one-more xs from at before other =
+    joined xs from at (at + 1) before (λ k low high. let same : k ≡ at = omega (arith, low, high) in ap (λ i. is_brace (get_or xs i 0)) same ∙ other)
+
+left : (a b : Bool) → (a || b) ≡ false → a ≡ false
+left false b h = refl
+left true b h = h
+
+right : (a b : Bool) → (a || b) ≡ false → b ≡ false
+right false b h = h
+right true false h = refl
+right true true h = h
+
+none-among : (group : List ℕ) (k : ℕ) → list_any is_brace group ≡ false → is_brace (get_or group k 0) ≡ false
+none-among [] k h = refl
+none-among (b ∷ bs) zero h = left (is_brace b) (list_any is_brace bs) h
+none-among (b ∷ bs) (suc k) h = none-among bs k (right (is_brace b) (list_any is_brace bs) h)
+
+pub group-more : (xs : List ℕ) (from at len : ℕ) → NoBrace xs from at → list_any is_brace (slice_range xs at (at + len)) ≡ false → NoBrace xs from (at + len)
+group-more xs from at len before none =
+    joined xs from at (at + len) before (λ k low high.
+    let place : at + (k - at) ≡ k = omega (arith, low) in
+    let here : get_or (take (at + len - at) (drop at xs)) (k - at) 0 ≡ get_or xs k 0 =
+    get_or-take (at + len - at) (drop at xs) (k - at) 0 (omega (arith, low, high)) ∙ get_or-drop at xs (k - at) 0 ∙ ap (λ i. get_or xs i 0) place in
+    ap is_brace (sym here) ∙ none-among (take (at + len - at) (drop at xs)) (k - at) none)

@@ -11,7 +11,7 @@ abbrev pub with_byte : ℕ → List (List ℕ) → List (List ℕ)
 with_byte b [] = (b ∷ []) ∷ []
 with_byte b (line ∷ lines) = (b ∷ line) ∷ lines
 
--- the lines without their ends; what stands behind the last end is a line too, unless it is nothing
+-- the lines without their ends; what stands after the last end is a line too, unless it is nothing
 abbrev pub lines_of : List ℕ → List (List ℕ)
 lines_of [] = []
 lines_of (b ∷ bs) =

@@ -7,7 +7,7 @@ ghost use Rattle.corr_text.specs.Sets.{is_x_byte};
 
 use crate::set::is_x;
 
-/// The first line of a text, without its end, and what stands behind that end.
+/// The first line of a text, without its end, and what stands after that end.
 #[derive(Clone, Copy, Debug)]
 pub struct FirstLine<'a> {
     pub line: &'a [u8],
@@ -29,9 +29,9 @@ fn line_feed(text: &[u8]) -> Option<usize>
     text.iter().position(|b| *b == b'\n')
 }
 
-/// Cuts a text behind its first line end, LF or CR LF; a text without one is its own first line.
+/// Cuts a text after its first line end, LF or CR LF; a text without one is its own first line.
 ///
-/// The first line of `:20:A` CR LF `:21:B` is `:20:A`, and `:21:B` stands behind it.
+/// The first line of `:20:A` CR LF `:21:B` is `:20:A`, and `:21:B` stands after it.
 pub fn first_line(text: &[u8]) -> FirstLine<'_>
     requires { text.now ≢ [] }
     ensures cut { lines_of text.now ≡ result.line.now ∷ lines_of result.rest.now }
@@ -49,6 +49,7 @@ pub fn first_line(text: &[u8]) -> FirstLine<'_>
     }
 }
 
+#[inline(never)]
 fn first_outside_x(text: &[u8]) -> Option<usize>
     ensures { result ≡ position (λ b. not (is_x_byte b)) text.now }
 {

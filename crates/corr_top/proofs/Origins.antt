@@ -41,7 +41,7 @@ use Rattle.routing.proofs.laws.Routes.{KnowsVia}
 use Rattle.pay_plan.specs.Asked.{asked_of}
 use Rattle.pay_plan.specs.Plan.{plan_of}
 use Rattle.pay_plan.specs.Sends.{Follows, IsPayOf}
-use Rattle.pay_plan.specs.declared.asked.Asked.{Asked}
+use Rattle.pay_plan.specs.Asked.{Asked}
 use Rattle.pay_plan.proofs.laws.Sent.{plan-is}
 use Rattle.advices.specs.Valid.{Asks, CameFrom, IsInMoney, IsTextOf, amount_of}
 use Rattle.corr_top.specs.declared.directory.Directory.{Directory}

@@ -7,6 +7,7 @@ use Rattle.std.proofs.lemmas.List.{take_more}
 use Rattle.std.proofs.lemmas.Option.{slice_get_within, same_Some}
 use Rattle.std.proofs.lemmas.Slice.Eq.{bytes_eq-Decides}
 use Rattle.std.proofs.lemmas.Cmp.{nat_list_cmp_total, tied_itself}
+use Rattle.std.specs.List.{list_any}
 use Rattle.std.specs.Ordering.{is_lt, nat_cmp}
 use Rattle.std.specs.Cmp.Lexicographic.{slice_cmp}
 use Rattle.corr_money.specs.Amounts.{amount_end}
@@ -140,6 +141,30 @@ so_far_more rows i row None None old here none = λ k a lt at. cases_place rows 
 so_far_more rows i row None (Some other) old here new = new_leads rows i row other here new (λ k a lt at b. old k a lt at)
 so_far_more rows i row (Some gap) None old here none = old_leads rows i row gap old here (λ b. none)
 so_far_more rows i row (Some gap) (Some other) old here new = chosen rows i row gap other (is_before other.ccy gap.ccy) refl old here new
+
+-- ---- an account whose currency was summed before
+
+found_before : (rows : List Account) (i : ℕ) (ccy : Ccy) → list_any (λ r. is_ccy r.ccy ccy) (take i rows) ≡ true → (k : ℕ) × (a : Account) × (k < i) × (slice_get rows k ≡ Some a) × (a.ccy ≡ ccy)
+found_before [] zero ccy h = absurd (false≢true h)
+found_before [] (suc i) ccy h = absurd (false≢true h)
+found_before (x ∷ rows) zero ccy h = absurd (false≢true h)
+found_before (x ∷ rows) (suc i) ccy h =
+    elim (cases_Bool (is_ccy x.ccy ccy)) [
+      | inl here ↦ (0, x, omega arith, refl, same_ccy x.ccy ccy here)
+      | inr apart ↦ let f = found_before rows i ccy (rw apart at h) in (suc f.0, f.1, omega (arith, f.2), f.3, f.4)
+    ]
+
+summed : (rows : List Account) (i : ℕ) (row : Account) (first : Option Gap) → SoFar rows i first → slice_get rows i ≡ Some row → (k : ℕ) (a : Account) → k < i → slice_get rows k ≡ Some a → a.ccy ≡ row.ccy → SoFar rows (i + 1) first
+summed rows i row None old here k a lt at same = λ j b below there.
+    cases_place rows i j row b below here there (λ early. old j b early there)
+    (λ last. subst (λ (x : Account). opening_sum x.ccy rows ≡ pos 0) last (subst (λ (c : Ccy). opening_sum c rows ≡ pos 0) same (old k a lt at)))
+summed rows i row (Some gap) old here k a lt at same =
+    old_leads rows i row gap old here
+    (λ b. subst (λ (c : Ccy). opening_sum c rows ≡ pos 0) same (old.first k a lt at (subst (λ (c : Ccy). is_before c gap.ccy ≡ true) (sym same) b)))
+
+pub so_far_known : (rows : List Account) (i : ℕ) (row : Account) (first : Option Gap) → SoFar rows i first → slice_get rows i ≡ Some row → list_any (λ r. is_ccy r.ccy row.ccy) (take i rows) ≡ true → SoFar rows (i + 1) first
+so_far_known rows i row first old here known =
+    let f = found_before rows i row.ccy known in summed rows i row first old here f.0 f.1 f.2 f.3 f.4
 
 -- after all accounts it is the first of all currencies
 pub so_far_all : (rows : List Account) (i : ℕ) (first : Option Gap) → length rows ≤ i → SoFar rows i first → FirstGap rows first

@@ -1,6 +1,7 @@
 //! Openings that don't add up.
 
 ghost use Rattle.std.specs.Prelude.{◌≡◌, Some, pos, if◌then◌else◌};
+ghost use Rattle.std.specs.List.{list_any};
 ghost use Rattle.day_model.specs.Chart.{AreRows, is_ccy, opening_sum};
 ghost use Rattle.day_model.specs.Gap.{FirstGap, GapOf, earlier_of, is_before};
 
@@ -70,14 +71,22 @@ fn earlier(first: Option<Gap>, second: Option<Gap>) -> Option<Gap>
     }
 }
 
-/// The first currency in byte order whose openings don't sum to 0.
+fn has_ccy(rows: &[Account], ccy: Ccy) -> bool
+    ensures { result ≡ list_any (λ row. is_ccy row.ccy ccy) rows.now }
+{
+    rows.iter().any(|row| row.ccy == ccy)
+}
+
+/// The first currency in byte order whose openings don't sum to 0. Each currency is summed once, at its first account.
 pub(crate) fn first_gap(rows: &[Account]) -> Option<Gap>
     requires { AreRows rows.now }
     ensures { FirstGap rows.now result }
 {
     let mut first = None;
-    for row in rows {
-        first = earlier(first, gap_of(rows, row));
+    for (at, row) in rows.iter().enumerate() {
+        if !has_ccy(&rows[..at], row.ccy) {
+            first = earlier(first, gap_of(rows, row));
+        }
     }
     first
 }

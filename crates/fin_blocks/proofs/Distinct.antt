@@ -5,7 +5,7 @@ use Rattle.std.specs.List.{list_any}
 use Rattle.std.proofs.lemmas.Grind.{get_or-set_at}
 use Rattle.std.proofs.lemmas.Bool.{cases_Bool}
 use Rattle.std.proofs.lemmas.Bool.Decides.{nat_tests}
-use Rattle.std.proofs.lemmas.List.{get_or-set_other, get_or-map, take_more, drop_more, drop_all, length-set}
+use Rattle.std.proofs.lemmas.List.{get_or-set_other, get_or-map, take-map, take_more, drop_more, drop_all, length-set}
 use Rattle.std.proofs.lemmas.List.Folds.{list_any_more}
 use Rattle.fin_blocks.specs.User.{differ_from, are_distinct}
 
@@ -37,14 +37,14 @@ mark-at seen n k below =
           get_or-set_other seen n k true false e ∙ sym (rw other (or-false (get_or seen k false)))
     ]
 
-differs-more : (before : List ℕ) (n : ℕ) (ns : List ℕ) → list_any (λ q. q == n) before ≡ false → differ_from before (n ∷ ns) ≡ differ_from (before ++ n ∷ []) ns
+pub differs-more : (before : List ℕ) (n : ℕ) (ns : List ℕ) → list_any (λ q. q == n) before ≡ false → differ_from before (n ∷ ns) ≡ differ_from (before ++ n ∷ []) ns
 differs-more before n ns new = rw new refl
 
-differs-twice : (before : List ℕ) (n : ℕ) (ns : List ℕ) → list_any (λ q. q == n) before ≡ true → differ_from before (n ∷ ns) ≡ false
+pub differs-twice : (before : List ℕ) (n : ℕ) (ns : List ℕ) → list_any (λ q. q == n) before ≡ true → differ_from before (n ∷ ns) ≡ false
 differs-twice before n ns old = rw old refl
 
 -- the number at a place and those behind it
-at-place : (ns : List ℕ) (at n : ℕ) → n ≡ get_or ns at n → at < length ns → drop at ns ≡ n ∷ drop (at + 1) ns
+pub at-place : (ns : List ℕ) (at n : ℕ) → n ≡ get_or ns at n → at < length ns → drop at ns ≡ n ∷ drop (at + 1) ns
 at-place ns at n e lt = drop_more ns at n lt ∙ ap (λ m. m ∷ drop (at + 1) ns) (sym e)
 
 pub marks-more : {seen : List Bool} {ns : List ℕ} {at : ℕ} → IsMarked seen ns at → (n : ℕ) → n ≡ get_or ns at n → at < length ns → n < 1000 → get_or seen n false ≡ false
@@ -73,3 +73,13 @@ marks-all {seen} {ns} {at} h end = sym (h.passed ∙ ap (differ_from (take at ns
 -- the number of the item at a place
 pub number-at : {T : Type 0} (xs : List (ℕ × T)) (i : ℕ) (x : ℕ × T) → x ≡ get_or xs i x → i < length xs → x.0 ≡ get_or (map (λ s. s.0) xs) i x.0
 number-at xs i x e lt = ap (λ s. s.0) e ∙ sym (get_or-map (λ s. s.0) xs i x x.0 lt)
+
+-- ---- without a table
+
+-- whether the number of an item is among those before it
+any-number : {T : Type 0} (n : ℕ) (xs : List (ℕ × T)) → list_any (λ s. s.0 == n) xs ≡ list_any (λ q. q == n) (map (λ s. s.0) xs)
+any-number n [] = refl
+any-number n (x ∷ xs) = ap (λ b. (x.0 == n) || b) (any-number n xs)
+
+pub stands-before : {T : Type 0} (n at : ℕ) (xs : List (ℕ × T)) → list_any (λ s. s.0 == n) (take at xs) ≡ list_any (λ q. q == n) (take at (map (λ s. s.0) xs))
+stands-before n at xs = any-number n (take at xs) ∙ ap (list_any (λ q. q == n)) (sym (take-map (λ s. s.0) at xs))

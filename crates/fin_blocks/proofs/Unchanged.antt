@@ -1,9 +1,10 @@
 -- Lines that end with CR LF already.
-use Rattle.std.proofs.Common.{◌≡◌, ◌≢◌, ◌<◌, ℕ, zero, suc, ◌+◌, ◌-◌, ◌==◌, ◌&&◌, not, Bool, true, false, cond, List, [], ◌∷◌, length, drop, get_or, refl, sym, ap, subst, ◌∙◌, arith}
+use Rattle.std.proofs.Common.{◌≡◌, ◌≢◌, ◌<◌, ◌≤◌, ℕ, zero, suc, ◌+◌, ◌-◌, ◌==◌, ◌&&◌, not, Bool, true, false, cond, List, [], ◌∷◌, length, drop, get_or, refl, sym, ap, subst, ◌∙◌, arith}
+use Rattle.std.specs.Prelude.{◌||◌}
 use Rattle.std.specs.List.{flat_map}
 use Rattle.std.proofs.lemmas.Bool.{and_parts, false≢true}
 use Rattle.std.proofs.lemmas.Bool.Decides.{nat_tests}
-use Rattle.std.proofs.lemmas.List.{drop_more}
+use Rattle.std.proofs.lemmas.List.{drop_all, drop_more, nil_from_length}
 use Rattle.corr_text.specs.Lines.{lines_of, with_byte as with_line_byte}
 use Rattle.fin_blocks.specs.Text.{ended, is_ended, text_in}
 
@@ -99,13 +100,33 @@ abbrev pub before : List ℕ → ℕ → ℕ
 before bs zero = 0
 before bs (suc i) = get_or bs i 0
 
-pub before-is : (bs : List ℕ) (i : ℕ) → 0 < i → before bs i ≡ get_or bs (i - 1) 0
+before-is : (bs : List ℕ) (i : ℕ) → 0 < i → before bs i ≡ get_or bs (i - 1) 0
 before-is bs zero some = absurd (omega (arith, some))
 before-is bs (suc i) some = let place : i ≡ suc i - 1 = omega arith in ap (λ k. get_or bs k 0) place
 
-behind-first : (bs : List ℕ) (i : ℕ) → before bs (i + 1) ≡ get_or bs i 0
-behind-first bs i = let next : i + 1 ≡ suc i = omega arith in ap (before bs) next
+after-first : (bs : List ℕ) (i : ℕ) → before bs (i + 1) ≡ get_or bs i 0
+after-first bs i = let next : i + 1 ≡ suc i = omega arith in ap (before bs) next
 
-pub alone-more : (bs : List ℕ) (i : ℕ) → i < length bs → ((get_or bs i 0 == 10) && not (before bs i == 13)) ≡ false
+alone-more : (bs : List ℕ) (i : ℕ) → i < length bs → ((get_or bs i 0 == 10) && not (before bs i == 13)) ≡ false
     → crlf_alone (before bs i) (drop i bs) ≡ crlf_alone (before bs (i + 1)) (drop (i + 1) bs)
-alone-more bs i lt good = rw (drop_more bs i 0 lt, good) (ap (λ p. crlf_alone p (drop (i + 1) bs)) (sym (behind-first bs i)))
+alone-more bs i lt good = rw (drop_more bs i 0 lt, good) (ap (λ p. crlf_alone p (drop (i + 1) bs)) (sym (after-first bs i)))
+
+-- a text without bytes has no line feed
+pub none-alone : (bs : List ℕ) → length bs ≡ 0 → crlf_alone 0 bs ≡ true
+none-alone bs none = ap (crlf_alone 0) (nil_from_length bs none)
+
+-- the first byte is no line feed
+pub first-alone : (bs : List ℕ) → 0 < length bs → (get_or bs 0 0 == 10) ≡ false → crlf_alone (before bs 1) (drop 1 bs) ≡ crlf_alone 0 bs
+first-alone bs some calm = sym (alone-more bs 0 some (rw calm refl))
+
+-- one byte more, where the bytes so far are left out if a line feed stood alone among them
+pub alone-further : (bs : List ℕ) (i : ℕ) (stray : Bool) → 0 < i → i < length bs → (stray || ((get_or bs i 0 == 10) && not (get_or bs (i - 1) 0 == 13))) ≡ false
+    → (stray ≡ false → crlf_alone (before bs i) (drop i bs) ≡ crlf_alone 0 bs) → crlf_alone (before bs (i + 1)) (drop (i + 1) bs) ≡ crlf_alone 0 bs
+alone-further bs i true some lt calm so-far = absurd (false≢true (sym calm))
+alone-further bs i false some lt calm so-far = sym (alone-more bs i lt (rw (before-is bs i some) calm)) ∙ so-far refl
+
+-- at the end
+pub all-alone : (bs : List ℕ) (at : ℕ) (stray : Bool) → length bs ≤ at → not stray ≡ true
+    → (stray ≡ false → crlf_alone (before bs at) (drop at bs) ≡ crlf_alone 0 bs) → crlf_alone 0 bs ≡ true
+all-alone bs at true end calm so-far = absurd (false≢true calm)
+all-alone bs at false end calm so-far = sym (so-far refl) ∙ ap (crlf_alone (before bs at)) (drop_all at bs end)

@@ -93,6 +93,7 @@ fn blocks_in(alloc: Global, m: &[u8]) -> Result<Blocks, BlockFault>
 /// reference, if the message was received. A line of block 4 may end with LF alone; the text has CR LF, and so at most twice
 /// as many bytes as the message. The banks that blocks 1 and 2 name and a received message's reference meet their grammar
 /// (`names`).
+#[inline(never)]
 pub fn read_blocks(alloc: Global, m: &[u8]) -> Result<Blocks, BlockFault>
     ensures value { IfOk result (λ b. blocks_of m.now ≡ Ok b) }
     ensures lines { IfOk result (λ b. length (lines_of b.text) ≤ length m.now) }

@@ -40,15 +40,19 @@ fn copy_lines(alloc: Global, b: &[u8]) -> Result<Text, Memory>
 }
 
 /// Whether each line feed has a carriage return before it.
+#[inline(never)]
 fn has_crlf_alone(b: &[u8]) -> bool
     ensures { result ≡ true → is_ended_of b.now ≡ true → text_in b.now ≡ b.now }
 {
-    for (at, c) in b.iter().enumerate() {
-        if *c == b'\n' && (at == 0 || b[at - 1] != b'\r') {
-            return false;
-        }
+    if b.is_empty() {
+        return true;
     }
-    true
+    // to the end in each case, so that some bytes are tested at once
+    let mut stray = b[0] == b'\n';
+    for at in 1..b.len() {
+        stray |= (b[at] == b'\n') & (b[at - 1] != b'\r');
+    }
+    !stray
 }
 
 /// The lines of block 4, each ended by CR LF, at once where they are so already.

@@ -1,7 +1,7 @@
 //! Block 3: subblocks of the sender's and the receiver's own.
 
-ghost use Rattle.std.specs.Prelude.{◌≡◌, ◌<◌, codes, map, option_map, IfOk, IfSome};
-ghost use Rattle.std.specs.List.{All};
+ghost use Rattle.std.specs.Prelude.{◌≡◌, ◌==◌, ◌<◌, codes, map, option_map, IfOk, IfSome};
+ghost use Rattle.std.specs.List.{All, list_any};
 ghost use Rattle.fin_blocks.specs.Groups.{groups_of};
 ghost use Rattle.fin_blocks.specs.Forms.{each_of, inside as inside_of};
 ghost use Rattle.fin_blocks.specs.User.{are_distinct as are_distinct_of, may_hold as may_hold_of, subblock_of, subblocks_in};
@@ -12,6 +12,9 @@ use crate::groups::next_group;
 use corr_ids::read_uetr;
 use corr_text::{List, Memory, Text};
 use std::alloc::Global;
+
+/// Up to how many subblocks a search costs less than a table.
+const FEW: usize = 8;
 
 #[derive(Clone, Copy)]
 struct Subblock<'a> {
@@ -59,7 +62,27 @@ fn subblocks(alloc: Global, b: &[u8]) -> Result<Option<List<(u16, Text)>>, Memor
     Ok(Some(user))
 }
 
-fn are_distinct(user: &[(u16, Text)]) -> bool
+fn has_number(user: &[(u16, Text)], number: u16) -> bool
+    ensures { result ≡ list_any (λ s. s.0 == number) user.now }
+{
+    user.iter().any(|s| s.0 == number)
+}
+
+/// Whether the numbers of a few subblocks differ: each is looked for among those before it.
+fn are_few_distinct(user: &[(u16, Text)]) -> bool
+    ensures { result ≡ are_distinct_of (map (λ s. s.0) user.now) }
+{
+    for (at, sub) in user.iter().enumerate() {
+        if has_number(&user[..at], sub.0) {
+            return false;
+        }
+    }
+    true
+}
+
+/// Whether the numbers of subblocks differ, by a table of those that were seen.
+#[inline(never)]
+fn are_many_distinct(user: &[(u16, Text)]) -> bool
     requires { All (λ s. s.0 < 1000) user.now }
     ensures { result ≡ are_distinct_of (map (λ s. s.0) user.now) }
 {
@@ -72,6 +95,16 @@ fn are_distinct(user: &[(u16, Text)]) -> bool
         seen[number] = true;
     }
     true
+}
+
+fn are_distinct(user: &[(u16, Text)]) -> bool
+    requires { All (λ s. s.0 < 1000) user.now }
+    ensures { result ≡ are_distinct_of (map (λ s. s.0) user.now) }
+{
+    if user.len() <= FEW {
+        return are_few_distinct(user);
+    }
+    are_many_distinct(user)
 }
 
 #[tactic(auto, unfolding(crate::specs::User::subblocks_in))]

@@ -1,6 +1,7 @@
 //! A place in the order of a message type's fields.
 
-ghost use Rattle.std.specs.Prelude.{◌≡◌};
+ghost use Rattle.std.specs.Prelude.{◌≡◌, ◌==◌};
+ghost use Rattle.std.specs.List.{list_any};
 ghost use Rattle.fin_layout.specs.Order.{fits, place_tag};
 
 use fin_fields::{Field, letter_of};
@@ -60,11 +61,18 @@ macro_rules! any {
     };
 }
 
+fn is_option(options: &[u8; 4], letter: u8) -> bool
+    ensures { result ≡ list_any (λ option. option == letter) options.now }
+{
+    let [first, second, third, fourth] = *options;
+    first == letter || second == letter || third == letter || fourth == letter
+}
+
 /// Whether a field may stand at a place: it has the place's number and one of its letters.
 pub fn fits(p: &Place, f: &Field) -> bool
     ensures { result ≡ fits p.now f.now }
 {
-    p.tag == f.tag && p.options.contains(&letter_of(f))
+    p.tag == f.tag && is_option(&p.options, letter_of(f))
 }
 
 /// The tag of a place: two digits and a space where it has several options, else the whole tag.

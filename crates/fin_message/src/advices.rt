@@ -15,6 +15,7 @@ use ref_tables::RefTables;
 use std::alloc::Global;
 
 /// The confirmation of a debit that a message with these fields says. `Bad`: the first test of its fields.
+#[inline(never)]
 #[tactic(auto, unfolding(crate::specs::Verdict::debit_of))]
 pub fn read_debit(
     alloc: Global,
@@ -31,6 +32,7 @@ pub fn read_debit(
 }
 
 /// The confirmation of a credit that a message with these fields says. `Bad`: the first test of its fields, or its rule.
+#[inline(never)]
 #[tactic(auto, unfolding(crate::specs::Verdict::credit_of))]
 pub fn read_credit(
     alloc: Global,

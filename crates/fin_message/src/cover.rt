@@ -15,6 +15,7 @@ use ref_tables::RefTables;
 use std::alloc::Global;
 
 /// The cover that a message with these fields says. `Bad`: the first test of its fields, or the first of its rules.
+#[inline(never)]
 #[tactic(auto, unfolding(crate::specs::Verdict::cover_of))]
 pub fn read_cover(
     alloc: Global,

@@ -51,6 +51,7 @@ fn copy_account(alloc: Global, line: Option<&[u8]>) -> Result<Option<Text>, Memo
     }
 }
 
+#[inline(never)]
 fn read_bic_party(alloc: Global, opening: Opening, lines: &[Text]) -> Result<Party, PartyFault>
     ensures { ReadsParty (behind_first opening bic_party lines.now) result }
 {
@@ -69,6 +70,7 @@ fn read_bic_party(alloc: Global, opening: Opening, lines: &[Text]) -> Result<Par
     })
 }
 
+#[inline(never)]
 fn read_place_party(alloc: Global, lines: &[Text]) -> Result<Party, PartyFault>
     ensures { ReadsParty (behind_first PartyLine place_party lines.now) result }
 {
@@ -88,6 +90,7 @@ fn read_place_party(alloc: Global, lines: &[Text]) -> Result<Party, PartyFault>
     }
 }
 
+#[inline(never)]
 fn read_account_party(alloc: Global, lines: &[Text]) -> Result<Party, PartyFault>
     ensures { ReadsParty (account_party lines.now) result }
 {
@@ -108,6 +111,7 @@ fn is_listing(listing: Listing, lines: &[Text]) -> bool
     }
 }
 
+#[inline(never)]
 fn read_listed_party(
     alloc: Global,
     opening: Opening,
@@ -139,6 +143,7 @@ fn read_listed_party(
     }
 }
 
+#[inline(never)]
 fn read_payer_party(alloc: Global, lines: &[Text]) -> Result<Party, PartyFault>
     ensures { ReadsParty (payer_party lines.now) result }
 {

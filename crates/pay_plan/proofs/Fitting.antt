@@ -6,7 +6,7 @@ use Rattle.day_model.specs.Chart.{Chart}
 use Rattle.day_model.specs.Fit.{accounts_fit, legs_fit}
 use Rattle.fin_contents.specs.Money.{IsPayable}
 use Rattle.routing.specs.declared.routed.Routed.{Routed}
-use Rattle.pay_plan.specs.declared.asked.Asked.{Asked}
+use Rattle.pay_plan.specs.Asked.{Asked}
 use Rattle.pay_plan.specs.declared.way.Way.{Way}
 use Rattle.pay_plan.specs.Pay.{legs_of}
 

@@ -11,7 +11,7 @@ use Rattle.ssi_versions.specs.declared.row.SsiRow.{SsiRow}
 use Rattle.routing.specs.Route.{route_of}
 use Rattle.routing.specs.declared.routed.Routed.{Routed}
 use Rattle.pay_plan.specs.declared.ask.Ask.{Ask}
-use Rattle.pay_plan.specs.declared.asked.Asked.{Asked}
+use Rattle.pay_plan.specs.Asked.{Asked}
 use Rattle.pay_plan.specs.declared.fault.PlanFault.{PlanFault}
 use Rattle.pay_plan.specs.declared.fault.PlanFault.TheVariants as fault
 use Rattle.pay_plan.specs.Asked.{asked_of, is_for_home}

@@ -5,7 +5,7 @@ use Rattle.day_model.specs.declared.pay.Quote.{Quote}
 use Rattle.day_model.specs.declared.pay.Quote.TheVariants.{Ours, Theirs}
 use Rattle.day_model.specs.declared.pay.Side.TheVariants.{Credit, Debit}
 use Rattle.routing.specs.declared.routed.Routed.{Routed}
-use Rattle.pay_plan.specs.declared.asked.Asked.{Asked}
+use Rattle.pay_plan.specs.Asked.{Asked}
 use Rattle.pay_plan.specs.declared.way.Way.{Way}
 use Rattle.pay_plan.specs.declared.way.Way.TheVariants.{Covered, Credited, Ends, Onward, Passed}
 

@@ -15,7 +15,7 @@ use Rattle.routing.specs.Route.{route_of}
 use Rattle.routing.specs.declared.routed.Routed.{Routed}
 use Rattle.routing.specs.declared.target.Target.{Target}
 use Rattle.pay_plan.specs.declared.ask.Ask.{Ask}
-use Rattle.pay_plan.specs.declared.asked.Asked.{Asked}
+use Rattle.pay_plan.specs.Asked.{Asked}
 use Rattle.pay_plan.specs.declared.fault.PlanFault.{PlanFault}
 use Rattle.pay_plan.specs.declared.fault.PlanFault.TheVariants as fault
 use Rattle.pay_plan.specs.declared.way.Way.{Way}

@@ -1,65 +1,31 @@
-//! What a message asks of the books.
+//! What a message asks of the books, as one value.
 
-ghost use Rattle.std.specs.Prelude.{◌≡◌, IfOk};
-ghost use Rattle.pay_plan.specs.Asked.{asked_of, is_for_home};
-
-use crate::ask::Ask;
-use crate::cover::cover_of;
-use crate::target::{cover_target, names_home, transfer_target};
-use corr_ids::{Bic, Day};
+use corr_ids::Day;
 use corr_money::Amount;
-use corr_text::{Memory, Text};
+use corr_text::Text;
 use day_model::Mt;
 use routing::{Cover, Target};
-use std::alloc::Global;
+use std::marker::Model;
 
 /// What a message asks of the books.
 ///
 /// `reference` is field 20, and `last_reference` what the last bank's or customer's statement quotes: field 20 of a transfer
 /// and field 21 of a cover.
 #[derive(Drop)]
-pub struct Asked {
+pub struct Asked<'a> {
     pub mt: Mt,
     pub value: Day,
     pub amount: Amount,
-    pub reference: Text,
-    pub last_reference: Text,
+    pub reference: &'a Text,
+    pub last_reference: &'a Text,
     pub cover: Cover,
     pub target: Target,
 }
 
-/// Whether a message is a cover that names the home bank in 58a.
-pub fn is_for_home(home: &Bic, ask: Ask<'_>) -> bool
-    ensures { result ≡ is_for_home home.now ask.entry }
-{
-    match ask {
-        Ask::Transfer(_) => false,
-        Ask::Cover(m) => names_home(home, &m.a58),
-    }
-}
+impl<'a> Model for Asked<'a> {
+    ghost use Rattle.pay_plan.specs.Asked.{Asked, asked_in};
 
-/// What a message asks of the books of the home bank.
-pub fn asked_of(alloc: Global, home: &Bic, ask: Ask<'_>) -> Result<Asked, Memory>
-    ensures { IfOk result (λ asked. asked ≡ asked_of home.now ask.entry) }
-{
-    match ask {
-        Ask::Transfer(m) => Ok(Asked {
-            mt: Mt::Transfer,
-            value: m.value,
-            amount: m.amount,
-            reference: m.reference.copy(alloc)?,
-            last_reference: m.reference.copy(alloc)?,
-            cover: cover_of(alloc, &m.p53, &m.p54)?,
-            target: transfer_target(alloc, home, m)?,
-        }),
-        Ask::Cover(m) => Ok(Asked {
-            mt: Mt::Cover,
-            value: m.value,
-            amount: m.amount,
-            reference: m.reference.copy(alloc)?,
-            last_reference: m.related.copy(alloc)?,
-            cover: cover_of(alloc, &m.a53, &m.a54)?,
-            target: cover_target(home, m),
-        }),
-    }
+    ghost Value = { Asked };
+
+    ghost view = { asked_in };
 }

@@ -12,7 +12,7 @@ use std::alloc::Global;
 
 // What the credit quotes: the last reference where the payment ends here, else the reference of the order that tells the
 // account's bank of it.
-fn quote_of(alloc: Global, way: Way, asked: &Asked) -> Result<Quote, Memory>
+fn quote_of(alloc: Global, way: Way, asked: &Asked<'_>) -> Result<Quote, Memory>
     ensures { IfOk result (λ quote. quote ≡ quote_of way asked.now) }
 {
     match way {
@@ -23,7 +23,12 @@ fn quote_of(alloc: Global, way: Way, asked: &Asked) -> Result<Quote, Memory>
 }
 
 /// The debit and the credit of a pay.
-pub fn legs_of(alloc: Global, way: Way, asked: &Asked, routed: &Routed) -> Result<List<Leg>, Memory>
+pub fn legs_of(
+    alloc: Global,
+    way: Way,
+    asked: &Asked<'_>,
+    routed: &Routed,
+) -> Result<List<Leg>, Memory>
     ensures { IfOk result (λ legs. legs ≡ legs_of way asked.now routed.now) }
 {
     let mut legs = List::new(alloc);

@@ -4,6 +4,7 @@
 
 mod ask;
 mod asked;
+mod asking;
 mod cover;
 mod fault;
 mod legs;

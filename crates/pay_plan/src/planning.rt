@@ -10,7 +10,8 @@ ghost use Rattle.pay_plan.specs.Plan.{Plans, pay_of, plan_of};
 ghost use Rattle.pay_plan.specs.Readable.{IsRead, IsWritable};
 
 use crate::ask::Ask;
-use crate::asked::{Asked, asked_of, is_for_home};
+use crate::asked::Asked;
+use crate::asking::{asked_of, is_for_home};
 use crate::fault::{P34, PlanFault};
 use crate::legs::legs_of;
 use crate::orders::orders_of;
@@ -22,12 +23,13 @@ use routing::{Routed, route};
 use ssi_versions::Ssi;
 use std::alloc::Global;
 
+#[inline(never)]
 fn pay_of(
     alloc: Global,
     mir: Mir,
     env: &Envelope,
     text: &Text,
-    asked: &Asked,
+    asked: &Asked<'_>,
     routed: &Routed,
     a: &Accounts,
 ) -> Result<Pay, Memory>

@@ -28,6 +28,7 @@ use ssi_versions::Ssi;
 /// - P30: no instruction is in force on the value date; P33: the customer has no account that fits; P35: the target has no
 ///   BIC; P36: the instruction's account isn't there or doesn't fit.
 /// - P38: both sides are one account.
+#[inline(never)]
 #[tactic(auto, unfolding(crate::specs::Route::route_of))]
 pub fn route(
     sender: &Bic,

@@ -31,7 +31,7 @@ use Rattle.routing.specs.declared.target.Target.{Target}
 use Rattle.routing.specs.declared.target.Target.TheVariants.{Bank, Customer, NoBic}
 use Rattle.routing.proofs.laws.Routes.{IsRouted, KnowsVia, route-is}
 use Rattle.pay_plan.specs.declared.ask.Ask.{Ask}
-use Rattle.pay_plan.specs.declared.asked.Asked.{Asked}
+use Rattle.pay_plan.specs.Asked.{Asked}
 use Rattle.pay_plan.specs.declared.way.Way.{Way}
 use Rattle.pay_plan.specs.declared.way.Way.TheVariants.{Credited, Onward, Passed}
 use Rattle.pay_plan.specs.Asked.{asked_of, is_for_home}

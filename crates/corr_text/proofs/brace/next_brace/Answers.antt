@@ -1,12 +1,9 @@
-use Rattle.std.proofs.lemmas.List.{take_rest}
-use Rattle.corr_text.proofs.Braces.{no-brace, no-brace-left, a-brace}
+use Rattle.corr_text.proofs.Braces.{joined}
 use Rattle.corr_text.proofs.brace.next_brace.Goals as goal
 
-pub returns-in-Some-clause-first : goal.returns-in-Some-clause-first
-returns-in-Some-clause-first c = no-brace c.args.text.now _ c.args.from c.in-Some.at (take_rest c.args.text.now c.args.from) c.in-Some.ensures.0.before
-
-pub returns-in-Some-clause-found : goal.returns-in-Some-clause-found
-returns-in-Some-clause-found c = λ _. a-brace c.args.text.now _ c.args.from c.in-Some.at (take_rest c.args.text.now c.args.from) c.in-Some.ensures.1
-
-pub returns-in-None-clause-first : goal.returns-in-None-clause-first
-returns-in-None-clause-first c = no-brace-left c.args.text.now _ c.args.from (take_rest c.args.text.now c.args.from) c.requires c.in-None.ensures
+pub returns-clause-first : goal.returns-clause-first
+returns-clause-first c =
+    let text = c.args.text.now in
+    let far = c.after_groups-far.result in
+    let near = c.after_groups.result in
+    joined text c.args.from near c.next_by_one.result (joined text c.args.from far near c.after_groups-far.ensures.none c.after_groups.ensures.none) c.next_by_one.ensures.first

@@ -4,7 +4,7 @@ use Rattle.day_model.specs.Fit.{FitsAccounts}
 use Rattle.day_model.specs.Shape.{HasShape}
 use Rattle.day_model.specs.declared.pay.Pay.{Pay}
 use Rattle.fin_contents.specs.Money.{IsPayable}
-use Rattle.pay_plan.specs.declared.asked.Asked.{Asked}
+use Rattle.pay_plan.specs.Asked.{Asked}
 use Rattle.pay_plan.specs.Asked.{asked_of, is_for_home}
 use Rattle.pay_plan.specs.Way.{way_of}
 use Rattle.pay_plan.proofs.Planned.{home-refused, refused-by, route-refused, routed-planned}

@@ -1,7 +1,7 @@
 use Rattle.std.proofs.Common.{◌<◌, map, refl, ap, arith}
 use Rattle.std.proofs.lemmas.List.{get_or-replicate, length-map}
 use Rattle.fin_blocks.proofs.Distinct.{marks-none, marks-more, marks-twice, marks-all, number-at}
-use Rattle.fin_blocks.proofs.user.are_distinct.Goals as goal
+use Rattle.fin_blocks.proofs.user.are_many_distinct.Goals as goal
 
 pub loop-sub-init : goal.loop-sub-init
 loop-sub-init c = marks-none _ (map (λ s. s.0) c.args.user.now) refl (λ n below. get_or-replicate 1000 n _ _ below)
