@@ -19,8 +19,8 @@ use Rattle.mt103.specs.Message.{contents_of, field_tests, mt103_of}
 use Rattle.mt103.specs.Parts.{contents_in_parts, details_of, message_of, parties_of, terms_of}
 use Rattle.mt103.specs.declared.message.Mt103.{Mt103}
 use Rattle.mt103.specs.Order.{order_103}
-use Rattle.mt103.specs.declared.parties.Parties.{Parties}
-use Rattle.mt103.specs.declared.terms.Terms.{Terms}
+use Rattle.mt103.specs.Parts.{Parties}
+use Rattle.mt103.specs.Parts.{Terms}
 use Rattle.mt103.proofs.laws.Parts.{contents-are}
 use Rattle.pay_plan.specs.Readable.{IsTransferRead}
 use Rattle.pay_plan.proofs.Parties.{HasBank, bank-form, ok-is}

@@ -18,10 +18,10 @@ use Rattle.mt103.specs.Instructions.{d98, e46}
 use Rattle.mt103.specs.Message.{content_test, contents_of, field_tests, mt103_of}
 use Rattle.mt103.specs.Parts.{contents_in_parts, details_of, message_of, parties_of, terms_of}
 use Rattle.mt103.specs.Order.{order_103}
-use Rattle.mt103.specs.declared.details.Details.{Details}
+use Rattle.mt103.specs.Parts.{Details}
 use Rattle.mt103.specs.declared.message.Mt103.{Mt103}
-use Rattle.mt103.specs.declared.parties.Parties.{Parties}
-use Rattle.mt103.specs.declared.terms.Terms.{Terms}
+use Rattle.mt103.specs.Parts.{Parties}
+use Rattle.mt103.specs.Parts.{Terms}
 use Rattle.mt103.proofs.laws.Parts.{contents-are}
 
 -- what the rules ask of is said at its place
