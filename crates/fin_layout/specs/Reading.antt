@@ -36,14 +36,9 @@ Fails e message = answers.Refuses told_fault message e
 abbrev pub Gives : {A : Type 0} → Result A MtFault → Result A Fault → Type 0
 Gives result message = answers.Answers told_fault message result
 
--- what a call answers that leaves its value in a place
-abbrev pub left_in : {A B : Type 0} → A → Result B MtFault → Result A MtFault
-left_in x (Ok b) = Ok x
-left_in x (Err e) = Err e
-
 -- a place that is filled holds what the fields say; after a fault nothing is said of it
 abbrev pub Fills : {A B : Type 0} → Result B MtFault → A → Result A Fault → Type 0
-Fills result place message = Gives (left_in place result) message
+Fills result place message = Gives (answers.left_in place result) message
 
 -- a fault tells the first test that fails, or want of memory
 abbrev pub Tells : Option Fault → MtFault → Type 0
