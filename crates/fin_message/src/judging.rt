@@ -157,7 +157,7 @@ pub fn verdict(alloc: Global, m: &[u8], home: &Bic, t: &RefTables) -> Result<Mes
 }
 
 /// As `verdict`, but what the message says is put into `out`, where another message stood. After a fault it may say anything.
-#[tactic(auto, using(crate::proofs::Judged::sound))]
+#[tactic(auto, using(crate::proofs::Judged::sound_in))]
 pub fn verdict_into(
     alloc: Global,
     m: &[u8],

@@ -26,10 +26,19 @@ fn is_transfer(message: &Message) -> bool
 
 /// Puts a transfer that says nothing in the place of another message.
 #[inline(never)]
-fn make_transfer(alloc: Global, out: &mut Message)
+fn put_blank(alloc: Global, out: &mut Message)
     ensures { IsTrue (is_transfer out.new) }
 {
     put(out, Message::blank(alloc));
+}
+
+/// Makes a place hold a transfer, whatever it says.
+fn make_transfer(alloc: Global, out: &mut Message)
+    ensures { IsTrue (is_transfer out.new) }
+{
+    if !is_transfer(out) {
+        put_blank(alloc, out);
+    }
 }
 
 /// Fills a transfer with what these fields say, and tests its rules.
@@ -64,9 +73,7 @@ pub fn read_transfer(
     requires same { fields.now ≡ fields_of blocks.now.text }
     ensures { Fills result (with_text blocks.now.text out.new) (transfer_of t.now blocks.now) }
 {
-    if !is_transfer(out) {
-        make_transfer(alloc, out);
-    }
+    make_transfer(alloc, out);
     match out {
         Message::Transfer(envelope, _, transfer) => {
             *envelope = envelope_of(blocks);
