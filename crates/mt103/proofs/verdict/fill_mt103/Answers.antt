@@ -18,14 +18,14 @@ returns-in_err-found-clause-complete c = complete c.args.t.now c.args.f.now
 pub returns-in_err-fill_contents-clause-message : goal.returns-in_err-fill_contents-clause-message
 returns-in_err-fill_contents-clause-message c =
     let p = err_from_is_err_and c.from_residual-in_err-fill_contents.result c.from_residual-in_err-fill_contents.ensures.1 in
-    rw (p.1, p.2) (contents-fail c.args.t.now c.args.f.now c.in_ok-found.ensures.sound c.as_slice.result.now (c.as_slice.ensures.value ∙ c.in_ok-found.ensures.places) c.args.m.old c.in_err-fill_contents.field-0.0 c.in_err-fill_contents.ensures.value)
+    rw (p.1, p.2) (contents-fail c.args.t.now c.args.f.now c.in_ok-found.ensures.sound c.as_slice.result.now (c.as_slice.ensures.value ∙ c.in_ok-found.ensures.places) c.args.m.now c.in_err-fill_contents.field-0.0 c.in_err-fill_contents.ensures.value)
 
 pub returns-in_err-fill_contents-clause-complete : goal.returns-in_err-fill_contents-clause-complete
 returns-in_err-fill_contents-clause-complete c = complete c.args.t.now c.args.f.now
 
 pub returns-in-Some-clause-message : goal.returns-in-Some-clause-message
 returns-in-Some-clause-message c =
-    instrs-fail c.args.t.now c.args.f.now c.in_ok-found.ensures.sound c.as_slice.result.now (c.as_slice.ensures.value ∙ c.in_ok-found.ensures.places) c.args.m.old c.fill_contents.new.m c.fill_contents.ensures.value
+    instrs-fail c.args.t.now c.args.f.now c.in_ok-found.ensures.sound c.as_slice.result.now (c.as_slice.ensures.value ∙ c.in_ok-found.ensures.places) c.args.m.now c.fill_contents.new.m c.in_ok-fill_contents.ensures.value
     c.as_slice-2.result.now c.as_slice-2.ensures c.in-Some.fault (sym c.instructions_fault.ensures ∙ c.in-Some.is)
 
 pub returns-in-Some-clause-complete : goal.returns-in-Some-clause-complete
@@ -33,7 +33,7 @@ returns-in-Some-clause-complete c = complete c.args.t.now c.args.f.now
 
 pub returns-clause-message : goal.returns-clause-message
 returns-clause-message c =
-    all-pass c.args.t.now c.args.f.now c.in_ok-found.ensures.sound c.as_slice.result.now (c.as_slice.ensures.value ∙ c.in_ok-found.ensures.places) c.args.m.old c.fill_contents.new.m c.fill_contents.ensures.value
+    all-pass c.args.t.now c.args.f.now c.in_ok-found.ensures.sound c.as_slice.result.now (c.as_slice.ensures.value ∙ c.in_ok-found.ensures.places) c.args.m.now c.fill_contents.new.m c.in_ok-fill_contents.ensures.value
     c.as_slice-2.result.now c.as_slice-2.ensures (sym c.instructions_fault.ensures ∙ c.in-None.is)
 
 pub returns-clause-amount : goal.returns-clause-amount
