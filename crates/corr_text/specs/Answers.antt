@@ -14,3 +14,8 @@ Refuses told meant e = IfSome (told e) (λ fault. meant ≡ Err fault)
 abbrev pub Answers : {A E F : Type 0} → (E → Option F) → Result A F → Result A E → Type 0
 Answers told meant (Ok x) = meant ≡ Ok x
 Answers told meant (Err e) = Refuses told meant e
+
+-- what a call answers that leaves its value in a place; after an error nothing is said of the place
+abbrev pub left_in : {A B E : Type 0} → A → Result B E → Result A E
+left_in place (Ok b) = Ok place
+left_in place (Err e) = Err e

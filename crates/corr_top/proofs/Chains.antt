@@ -15,7 +15,7 @@ use Rattle.work_pool.specs.Served.{ServedWith}
 use Rattle.corr_books.specs.Opening.{Opening}
 use Rattle.corr_books.specs.Stand.{history_of}
 use Rattle.corr_top.specs.declared.desk.Served.{Served}
-use Rattle.corr_top.specs.declared.desk.Worker.{Worker}
+use Rattle.corr_top.specs.Workers.{Worker}
 use Rattle.corr_top.specs.declared.message.NoPay.{NoPay}
 use Rattle.corr_top.specs.Serving.{IsTold, Serves}
 use Rattle.corr_top.proofs.Serves.{IsFrom, goes, stands}

@@ -17,7 +17,7 @@ use Rattle.corr_books.specs.Opening.{Opening}
 use Rattle.corr_books.specs.Passes.{AreNew}
 use Rattle.corr_books.specs.Stand.{entries_of, history_of}
 use Rattle.corr_top.specs.declared.desk.Served.{Served}
-use Rattle.corr_top.specs.declared.desk.Worker.{Worker}
+use Rattle.corr_top.specs.Workers.{Worker}
 use Rattle.corr_top.specs.declared.message.NoPay.{NoPay}
 use Rattle.corr_top.specs.Booking.{IsAdded}
 use Rattle.corr_top.specs.Message.{pays_in}

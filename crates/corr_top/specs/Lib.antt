@@ -25,3 +25,4 @@ pub mod Days
 pub mod Commands
 pub mod Ends
 pub mod Complete
+pub mod Workers

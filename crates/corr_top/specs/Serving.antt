@@ -22,7 +22,7 @@ use Rattle.corr_top.specs.declared.desk.Halt.{Halt}
 use Rattle.corr_top.specs.declared.desk.Halt.TheVariants as halt
 use Rattle.corr_top.specs.declared.desk.Served.{Served}
 use Rattle.corr_top.specs.declared.desk.Served.TheVariants as served
-use Rattle.corr_top.specs.declared.desk.Worker.{Worker}
+use Rattle.corr_top.specs.Workers.{Worker}
 use Rattle.corr_top.specs.declared.message.NoPay.{NoPay}
 use Rattle.corr_top.specs.declared.serving.ServedDay.{ServedDay}
 use Rattle.corr_top.specs.Booking.{BeginsNew, EntersFront, IsAdded, LacksRoom}

@@ -10,11 +10,13 @@ use crate::message::{Stop, read_message, reply_for};
 use corr_books::{Books, BooksName};
 use corr_disk::Disk;
 use corr_ids::Mir;
-use corr_text::{Memory, Text};
+use corr_text::{Memory, Text, let_go};
 use day_model::Reply;
+use fin_message::Message;
 use front_word::Pass;
 use jrn_book::{CommitFault, Committed};
 use std::alloc::Global;
+use std::marker::Model;
 use std::sync::Wait;
 use work_pool::{Desk, Gate};
 
@@ -48,11 +50,20 @@ pub enum Served {
     Stopped(Halt),
 }
 
-/// A worker of a run: its pass of the books, and why it serves no more, if it doesn't.
+/// A worker of a run: its pass of the books, why it serves no more, if it doesn't, and where it reads its messages into.
 #[derive(Drop)]
 pub struct Worker {
     pass: Pass,
     halted: Option<Halt>,
+    room: Message,
+}
+
+impl Model for Worker {
+    ghost use Rattle.corr_top.specs.Workers.{Worker, worker_in};
+
+    ghost Value = { Worker };
+
+    ghost view = { worker_in };
 }
 
 /// What the workers of a run share: what messages are judged and routed by, and the books into which their pays are entered.
@@ -76,13 +87,17 @@ pub fn jobs_of(alloc: Global, messages: &[Text]) -> Result<Vec<Job<'_>>, Memory>
 }
 
 /// Makes a worker of each pass. None has served yet.
-pub fn seat(workers: &mut Vec<Worker>, passes: Vec<Pass>)
+pub fn seat(alloc: Global, workers: &mut Vec<Worker>, passes: Vec<Pass>)
     requires empty { workers.old.items ≡ [] }
     requires room { vec_len passes ≤ vec_capacity workers.old }
     ensures { workers.new.items ≡ map starting passes.items }
 {
     for pass in passes {
-        workers.push_reserved(Worker { pass, halted: None });
+        workers.push_reserved(Worker {
+            pass,
+            halted: None,
+            room: Message::blank(alloc),
+        });
     }
 }
 
@@ -94,6 +109,7 @@ pub fn vacate(passes: &mut Vec<Pass>, workers: Vec<Worker>)
 {
     for worker in workers {
         passes.push_reserved(worker.pass);
+        let_go(worker.room);
     }
 }
 
@@ -128,6 +144,7 @@ impl<'a, N: BooksName, D: Disk> RunDesk<'a, N, D> {
         &self,
         rt: &R,
         pass: &mut Pass,
+        room: &mut Message,
         worker: u32,
         text: &[u8],
         gate: &G,
@@ -138,7 +155,7 @@ impl<'a, N: BooksName, D: Disk> RunDesk<'a, N, D> {
         ensures answered { Answers N.opening (message_of self.now.directory.now N.opening.accounts text.now) pass.old pass.new result }
     {
         let accounts = self.books.accounts();
-        match read_message(self.alloc, self.directory, accounts, text) {
+        match read_message(self.alloc, self.directory, accounts, text, room) {
             Ok(pay) => as_served(pay.mir, self.books.book(rt, pass, worker, &pay, gate)),
             Err(Stop::NoPay(why)) => Served::Reply(reply_for(why)),
             Err(Stop::Memory) => Served::Stopped(Halt::Memory),
@@ -174,7 +191,14 @@ impl<'a, N: BooksName + Send + Sync, D: Disk + Drop + Send> Desk for RunDesk<'a,
         if let Some(why) = pass.halted {
             return Served::Stopped(why);
         }
-        let made = self.answer(rt, &mut pass.pass, worker, job.text.bytes(), gate);
+        let made = self.answer(
+            rt,
+            &mut pass.pass,
+            &mut pass.room,
+            worker,
+            job.text.bytes(),
+            gate,
+        );
         pass.halted = halt_of(&made);
         made
     }

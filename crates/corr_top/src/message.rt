@@ -14,7 +14,7 @@ use crate::directory::Directory;
 use corr_ids::{Envelope, Mir};
 use corr_text::{Code, Fault, Text};
 use day_model::{Accounts, Pay, Reply};
-use fin_message::{Message, MessageFault, verdict};
+use fin_message::{Message, MessageFault, verdict_into};
 use pay_plan::{Ask, PlanFault, plan};
 use std::alloc::Global;
 
@@ -142,22 +142,20 @@ fn read_pay(
     }
 }
 
-/// The pay that a message of at most 16,384 bytes asks for, or why it gives none.
+/// The pay that a message of at most 16,384 bytes asks for, or why it gives none. `room` is where the message is read into.
 #[tactic(auto, unfolding(crate::specs::Message::message_of))]
 pub fn read_message(
     alloc: Global,
     directory: &Directory,
     accounts: &Accounts,
     b: &[u8],
+    room: &mut Message,
 ) -> Result<Pay, Stop>
     requires { length b.now ≤ 16384 }
     ensures value { ReadsAs result (message_of directory.now accounts.now b.now) }
     ensures fits { IfOk result (FitsAccounts accounts.now) }
     ensures shape { IfOk result HasShape }
 {
-    let message = verdict(alloc, b, accounts.home(), &directory.tables)?;
-    let pay = read_pay(alloc, directory, accounts, &message);
-    // as one step: the checker counts each part of a value that ends with the function
-    drop(message);
-    pay
+    verdict_into(alloc, b, accounts.home(), &directory.tables, room)?;
+    read_pay(alloc, directory, accounts, room)
 }

@@ -82,7 +82,7 @@ pub fn serve_all<
         workers: mut staff,
         passes: mut back,
     } = places;
-    seat(&mut staff, passes);
+    seat(alloc, &mut staff, passes);
     let desk = RunDesk {
         alloc,
         directory,

@@ -36,6 +36,10 @@ Fails e message = answers.Refuses told_fault message e
 abbrev pub Gives : {A : Type 0} → Result A MtFault → Result A Fault → Type 0
 Gives result message = answers.Answers told_fault message result
 
+-- a place that is filled holds what the fields say; after a fault nothing is said of it
+abbrev pub Fills : {A B : Type 0} → Result B MtFault → A → Result A Fault → Type 0
+Fills result place message = Gives (answers.left_in place result) message
+
 -- a fault tells the first test that fails, or want of memory
 abbrev pub Tells : Option Fault → MtFault → Type 0
 Tells first e = answers.Tells told_fault first e

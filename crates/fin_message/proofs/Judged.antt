@@ -1,6 +1,6 @@
 -- What a message has that passes every test.
 use Rattle.std.proofs.Common.{◌≡◌, ℕ, ◌*◌, ◌≤◌, ◌==◌, not, Bool, true, false, cond, List, [], ◌∷◌, length, option_map, option_and_then, position, slice_get, Option, Some, None, Result, Ok, Err, refl, sym, subst, arith, inl, inr, ◌⊎◌}
-use Rattle.std.specs.Prelude.{IfOk, IsTrue, codes}
+use Rattle.std.specs.Prelude.{IfOk, IsTrue, OnOk, codes}
 use Rattle.std.specs.Str.{bytes_eq}
 use Rattle.corr_text.specs.Codes.{code}
 use Rattle.corr_text.specs.First.{first_of, unless}
@@ -38,7 +38,7 @@ use Rattle.mt9_advice.proofs.laws.Passed.{fields-pass-900, fields-pass-910, rule
 use Rattle.mt950.specs.Page.{mt950_of}
 use Rattle.mt950.proofs.laws.Pages.{fields-pass-950}
 use Rattle.ref_tables.specs.Seen.{Tables, few_decimals, has_head}
-use Rattle.fin_message.specs.Answers.{Answers}
+use Rattle.fin_message.specs.Answers.{Answers, Fills}
 use Rattle.fin_message.specs.Heading.{at_block, has_form, heading_tests, is_type}
 use Rattle.fin_message.specs.Parts.{envelope_of, envelope_with, has_trailer, partner_of, type_of, uetr_in}
 use Rattle.fin_message.specs.Sound.{CanBeWritten, Goes, HasAmount, HasEnvelope, HasPartner, IsEnvelope, IsOfForm, IsRead, IsSaid, IsValid, KeepsRules, lines_in, partner_in}
@@ -279,3 +279,11 @@ answered P (Err e) meant a p = tt
 
 pub sound : (way : Direction) (home : Bic) (t : Tables) (m : List ℕ) (r : Result Message MessageFault) → Answers r (judged way home t m) → IfOk r (IsValid way t (2 * length m))
 sound way home t m r a = answered (IsValid way t (2 * length m)) r (judged way home t m) a (judged-sound way home t m)
+
+placed : {B : Type 0} (P : Message → Type 0) (r : Result B MessageFault) (x : Message) (meant : Result Message Refused) → Fills r x meant → IfOk meant P → OnOk r (P x)
+placed P (Ok b) x meant a p = subst (λ o. IfOk o P) a p
+placed P (Err e) x meant a p = tt
+
+-- the same of a message that is left in a place
+pub sound_in : {B : Type 0} (way : Direction) (home : Bic) (t : Tables) (m : List ℕ) (r : Result B MessageFault) (x : Message) → Fills r x (judged way home t m) → OnOk r (IsValid way t (2 * length m) x)
+sound_in way home t m r x a = placed (IsValid way t (2 * length m)) r x (judged way home t m) a (judged-sound way home t m)

@@ -1,3 +1,4 @@
 pub mod Formed
 pub mod Judged
 pub mod Passed
+pub mod Ruled

@@ -26,6 +26,10 @@ Refuses e meant = answers.Refuses told meant e
 abbrev pub Answers : {A : Type 0} → Result A MessageFault → Result A Refused → Type 0
 Answers result meant = answers.Answers told meant result
 
+-- a place that is filled holds what is meant
+abbrev pub Fills : {A B : Type 0} → Result B MessageFault → A → Result A Refused → Type 0
+Fills result place meant = Answers (answers.left_in place result) meant
+
 -- faults of blocks and of lines, as the code carries them
 abbrev pub fault_of_blocks : BlockFault → MessageFault
 fault_of_blocks (block.Bad refusal mir) = message.Refused mir (at_block refusal (block_tag refusal))

@@ -3,3 +3,4 @@ pub mod Heading
 pub mod Verdict
 pub mod Answers
 pub mod Sound
+pub mod Filling

@@ -2,11 +2,13 @@
 
 ghost use Rattle.std.specs.Prelude.{◌≡◌, ◌≤◌, length};
 ghost use Rattle.fin_fields.specs.Fields.{fields_of};
-ghost use Rattle.fin_layout.specs.Reading.{Gives};
+ghost use Rattle.fin_layout.specs.Reading.{Fills};
+ghost use Rattle.fin_message.specs.Filling.{with_text};
 ghost use Rattle.fin_message.specs.Verdict.{credit_of, debit_of};
 
 use crate::message::Message;
 use crate::parts::envelope;
+use corr_text::put;
 use fin_blocks::Blocks;
 use fin_fields::Field;
 use fin_layout::MtFault;
@@ -14,7 +16,7 @@ use mt9_advice::{read_mt900, read_mt910};
 use ref_tables::RefTables;
 use std::alloc::Global;
 
-/// The confirmation of a debit that a message with these fields says. `Bad`: the first test of its fields.
+/// Puts the confirmation of a debit that a message with these fields says into `out`. `Bad`: the first test of its fields.
 #[inline(never)]
 #[tactic(auto, unfolding(crate::specs::Verdict::debit_of))]
 pub fn read_debit(
@@ -22,16 +24,18 @@ pub fn read_debit(
     t: &RefTables,
     blocks: &Blocks,
     fields: &[Field],
-) -> Result<Message, MtFault>
+    out: &mut Message,
+) -> Result<(), MtFault>
     requires few { length fields.now ≤ 65535 }
     requires same { fields.now ≡ fields_of blocks.now.text }
-    ensures { Gives result (debit_of t.now blocks.now) }
+    ensures { Fills result (with_text blocks.now.text out.new) (debit_of t.now blocks.now) }
 {
     let advice = read_mt900(alloc, fields, t)?;
-    Ok(Message::Debit(envelope(blocks), advice))
+    put(out, Message::Debit(envelope(blocks), advice));
+    Ok(())
 }
 
-/// The confirmation of a credit that a message with these fields says. `Bad`: the first test of its fields, or its rule.
+/// Puts the confirmation of a credit that a message with these fields says into `out`. `Bad`: the first test of its fields, or its rule.
 #[inline(never)]
 #[tactic(auto, unfolding(crate::specs::Verdict::credit_of))]
 pub fn read_credit(
@@ -39,11 +43,13 @@ pub fn read_credit(
     t: &RefTables,
     blocks: &Blocks,
     fields: &[Field],
-) -> Result<Message, MtFault>
+    out: &mut Message,
+) -> Result<(), MtFault>
     requires few { length fields.now ≤ 65535 }
     requires same { fields.now ≡ fields_of blocks.now.text }
-    ensures { Gives result (credit_of t.now blocks.now) }
+    ensures { Fills result (with_text blocks.now.text out.new) (credit_of t.now blocks.now) }
 {
     let advice = read_mt910(alloc, fields, t)?;
-    Ok(Message::Credit(envelope(blocks), advice))
+    put(out, Message::Credit(envelope(blocks), advice));
+    Ok(())
 }

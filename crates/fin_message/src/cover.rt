@@ -2,11 +2,13 @@
 
 ghost use Rattle.std.specs.Prelude.{◌≡◌, ◌≤◌, length};
 ghost use Rattle.fin_fields.specs.Fields.{fields_of};
-ghost use Rattle.fin_layout.specs.Reading.{Gives};
+ghost use Rattle.fin_layout.specs.Reading.{Fills};
+ghost use Rattle.fin_message.specs.Filling.{with_text};
 ghost use Rattle.fin_message.specs.Verdict.{cover_of};
 
 use crate::message::Message;
 use crate::parts::envelope;
+use corr_text::{Text, put};
 use fin_blocks::Blocks;
 use fin_fields::Field;
 use fin_layout::MtFault;
@@ -14,19 +16,21 @@ use mt202cov::read_mt202cov;
 use ref_tables::RefTables;
 use std::alloc::Global;
 
-/// The cover that a message with these fields says. `Bad`: the first test of its fields, or the first of its rules.
+/// Puts the cover that a message with these fields says into `out`, but for its text. `Bad`: the first test of its fields, or the first of its rules.
 #[inline(never)]
 #[tactic(auto, unfolding(crate::specs::Verdict::cover_of))]
 pub fn read_cover(
     alloc: Global,
     t: &RefTables,
-    blocks: Blocks,
+    blocks: &Blocks,
     fields: &[Field],
-) -> Result<Message, MtFault>
+    out: &mut Message,
+) -> Result<(), MtFault>
     requires few { length fields.now ≤ 65535 }
-    requires same { fields.now ≡ fields_of blocks.text }
-    ensures { Gives result (cover_of t.now blocks) }
+    requires same { fields.now ≡ fields_of blocks.now.text }
+    ensures { Fills result (with_text blocks.now.text out.new) (cover_of t.now blocks.now) }
 {
     let cover = read_mt202cov(alloc, fields, t)?;
-    Ok(Message::Cover(envelope(&blocks), blocks.text, cover))
+    put(out, Message::Cover(envelope(blocks), Text::from_vec(Vec::new(alloc)), cover));
+    Ok(())
 }

@@ -1,10 +1,11 @@
 //! The verdict on a message.
 
-ghost use Rattle.std.specs.Prelude.{◌≡◌, ◌≤◌, ◌*◌, IfOk, length};
+ghost use Rattle.std.specs.Prelude.{◌≡◌, ◌≤◌, ◌*◌, IfOk, OnOk, length};
 ghost use Rattle.corr_text.specs.Lines.{lines_of};
 ghost use Rattle.fin_fields.specs.Fields.{fields_of};
-ghost use Rattle.fin_layout.specs.Reading.{Gives};
-ghost use Rattle.fin_message.specs.Answers.{Answers};
+ghost use Rattle.fin_layout.specs.Reading as mt;
+ghost use Rattle.fin_message.specs.Answers.{Answers, Fills};
+ghost use Rattle.fin_message.specs.Filling.{with_text};
 ghost use Rattle.fin_message.specs.Sound.{IsValid};
 ghost use Rattle.fin_message.specs.Verdict.{judged, message_in, message_of, sent_verdict_of, verdict_of};
 
@@ -14,55 +15,84 @@ use crate::direction::Direction;
 use crate::fault::MessageFault;
 use crate::fields::read_fields;
 use crate::heading::heading_fault;
-use crate::message::Message;
+use crate::message::{Message, put_text};
 use crate::page::read_page;
 use crate::parts::{mir_of, type_of};
 use crate::transfer::read_transfer;
 use corr_ids::Bic;
+use corr_text::let_go;
 use fin_blocks::{Blocks, read_blocks};
 use fin_fields::Field;
 use fin_layout::MtFault;
 use ref_tables::RefTables;
 use std::alloc::Global;
 
-/// The message that blocks and their fields say, by its type. `Bad`: the first test of the type that it fails.
+/// Puts the message that blocks and their fields say into `out`, by its type, but for its text. `Bad`: the first test of the
+/// type that it fails.
 fn read_of_type(
     alloc: Global,
     t: &RefTables,
-    blocks: Blocks,
+    blocks: &Blocks,
     fields: &[Field],
-) -> Result<Message, MtFault>
+    out: &mut Message,
+) -> Result<(), MtFault>
     requires few { length fields.now ≤ 65535 }
-    requires same { fields.now ≡ fields_of blocks.text }
-    ensures { Gives result (message_in t.now blocks) }
+    requires same { fields.now ≡ fields_of blocks.now.text }
+    ensures { mt.Fills result (with_text blocks.now.text out.new) (message_in t.now blocks.now) }
 {
     match type_of(&blocks.app) {
-        103 => read_transfer(alloc, t, blocks, fields),
-        202 => read_cover(alloc, t, blocks, fields),
-        900 => read_debit(alloc, t, &blocks, fields),
-        910 => read_credit(alloc, t, &blocks, fields),
+        103 => read_transfer(alloc, t, blocks, fields, out),
+        202 => read_cover(alloc, t, blocks, fields, out),
+        900 => read_debit(alloc, t, blocks, fields, out),
+        910 => read_credit(alloc, t, blocks, fields, out),
         // P11 leaves no other type than 950
-        _ => read_page(alloc, t, &blocks, fields),
+        _ => read_page(alloc, t, blocks, fields, out),
     }
 }
 
-/// The message that blocks say. `Bad`: the first test behind those of the blocks that it fails.
+/// Puts the message that blocks say into `out`, but for its text. `Bad`: the first test behind those of the blocks that it
+/// fails.
 #[tactic(auto, unfolding(crate::specs::Verdict::message_of))]
+fn read_parts(
+    alloc: Global,
+    way: Direction,
+    home: &Bic,
+    t: &RefTables,
+    blocks: &Blocks,
+    out: &mut Message,
+) -> Result<(), MtFault>
+    requires { length (lines_of blocks.now.text) ≤ 65535 }
+    ensures { mt.Fills result (with_text blocks.now.text out.new) (message_of way home.now t.now blocks.now) }
+{
+    if let Some(fault) = heading_fault(way, home, t, blocks) {
+        return Err(MtFault::Bad(fault));
+    }
+    let fields = read_fields(alloc, blocks.text.bytes())?;
+    read_of_type(alloc, t, blocks, fields.as_slice(), out)
+}
+
+/// Puts the message that blocks say into `out`. `Bad`: the first test behind those of the blocks that it fails.
 fn read_message(
     alloc: Global,
     way: Direction,
     home: &Bic,
     t: &RefTables,
     blocks: Blocks,
-) -> Result<Message, MtFault>
+    out: &mut Message,
+) -> Result<(), MtFault>
     requires { length (lines_of blocks.text) ≤ 65535 }
-    ensures { Gives result (message_of way home.now t.now blocks) }
+    ensures { mt.Fills result out.new (message_of way home.now t.now blocks) }
 {
-    if let Some(fault) = heading_fault(way, home, t, &blocks) {
-        return Err(MtFault::Bad(fault));
+    match read_parts(alloc, way, home, t, &blocks, out) {
+        Ok(()) => {
+            put_text(blocks.text, out);
+            Ok(())
+        }
+        Err(fault) => {
+            let_go(blocks);
+            Err(fault)
+        }
     }
-    let fields = read_fields(alloc, blocks.text.bytes())?;
-    read_of_type(alloc, t, blocks, fields.as_slice())
 }
 
 #[tactic(auto, unfolding(crate::specs::Verdict::judged))]
@@ -72,16 +102,39 @@ fn judge(
     home: &Bic,
     t: &RefTables,
     m: &[u8],
+    out: &mut Message,
+) -> Result<(), MessageFault>
+    requires { length m.now ≤ 65535 }
+    ensures { Fills result out.new (judged way home.now t.now m.now) }
+{
+    let blocks = read_blocks(alloc, m)?;
+    let mir = mir_of(&blocks.app);
+    match read_message(alloc, way, home, t, blocks, out) {
+        Ok(()) => Ok(()),
+        Err(MtFault::Bad(fault)) => Err(MessageFault::Refused { mir, fault }),
+        Err(MtFault::Memory) => Err(MessageFault::Memory),
+    }
+}
+
+/// As `judge`, in a place of its own.
+#[inline(never)]
+fn judge_apart(
+    alloc: Global,
+    way: Direction,
+    home: &Bic,
+    t: &RefTables,
+    m: &[u8],
 ) -> Result<Message, MessageFault>
     requires { length m.now ≤ 65535 }
     ensures { Answers result (judged way home.now t.now m.now) }
 {
-    let blocks = read_blocks(alloc, m)?;
-    let mir = mir_of(&blocks.app);
-    match read_message(alloc, way, home, t, blocks) {
-        Ok(message) => Ok(message),
-        Err(MtFault::Bad(fault)) => Err(MessageFault::Refused { mir, fault }),
-        Err(MtFault::Memory) => Err(MessageFault::Memory),
+    let mut message = Message::blank(alloc);
+    match judge(alloc, way, home, t, m, &mut message) {
+        Ok(()) => Ok(message),
+        Err(fault) => {
+            let_go(message);
+            Err(fault)
+        }
     }
 }
 
@@ -100,7 +153,23 @@ pub fn verdict(alloc: Global, m: &[u8], home: &Bic, t: &RefTables) -> Result<Mes
     ensures value { Answers result (verdict_of home.now t.now m.now) }
     ensures sound { IfOk result (IsValid Direction.Received t.now (2 * length m.now)) }
 {
-    judge(alloc, Direction::Received, home, t, m)
+    judge_apart(alloc, Direction::Received, home, t, m)
+}
+
+/// As `verdict`, but what the message says is put into `out`, where another message stood. After a fault it may say anything.
+#[tactic(auto, using(crate::proofs::Judged::sound_in))]
+pub fn verdict_into(
+    alloc: Global,
+    m: &[u8],
+    home: &Bic,
+    t: &RefTables,
+    out: &mut Message,
+) -> Result<(), MessageFault>
+    requires { length m.now ≤ 65535 }
+    ensures value { Fills result out.new (verdict_of home.now t.now m.now) }
+    ensures sound { OnOk result (IsValid Direction.Received t.now (2 * length m.now) out.new) }
+{
+    judge(alloc, Direction::Received, home, t, m, out)
 }
 
 /// The same of a message that the home bank sends: block 2 is of input form (else P07) and names the receiver, who is in
@@ -116,5 +185,5 @@ pub fn check_sent(
     ensures value { Answers result (sent_verdict_of home.now t.now m.now) }
     ensures sound { IfOk result (IsValid Direction.Sent t.now (2 * length m.now)) }
 {
-    judge(alloc, Direction::Sent, home, t, m)
+    judge_apart(alloc, Direction::Sent, home, t, m)
 }

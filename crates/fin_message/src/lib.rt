@@ -16,5 +16,5 @@ mod transfer;
 
 pub use codes::{P07, P08, P09, P10, P11, P12, P13, P20, P21};
 pub use fault::MessageFault;
-pub use judging::{check_sent, verdict};
+pub use judging::{check_sent, verdict, verdict_into};
 pub use message::Message;

@@ -1,11 +1,15 @@
 //! What a valid message says.
 
-use corr_ids::Envelope;
-use corr_text::Text;
+ghost use Rattle.std.specs.Prelude.{◌≡◌, IsTrue};
+ghost use Rattle.fin_message.specs.Filling.{is_transfer, with_text};
+
+use corr_ids::{Bic, Envelope};
+use corr_text::{Text, put};
 use mt9_advice::{Mt900, Mt910};
-use mt103::Mt103;
+use mt103::{Mt103, blank};
 use mt202cov::Mt202Cov;
 use mt950::Page950;
+use std::alloc::Global;
 
 /// A valid message, by its type.
 #[derive(Debug, Drop)]
@@ -20,4 +24,39 @@ pub enum Message {
     Credit(Envelope, Mt910),
     /// An MT950, a page of the statement of an account.
     Page(Envelope, Page950),
+}
+
+fn no_bank() -> Bic {
+    Bic {
+        head: [0; 8],
+        branch: [0; 3],
+    }
+}
+
+fn no_envelope() -> Envelope {
+    Envelope {
+        mir: None,
+        sender: no_bank(),
+        receiver: no_bank(),
+        uetr: None,
+    }
+}
+
+impl Message {
+    /// A place for messages to be read into: a transfer that says nothing.
+    pub fn blank(alloc: Global) -> Message
+        ensures { IsTrue (is_transfer result) }
+    {
+        Message::Transfer(no_envelope(), Text::from_vec(Vec::new(alloc)), blank(alloc))
+    }
+}
+
+/// Moves the text of block 4 into a message that has it beside what it says.
+pub fn put_text(text: Text, message: &mut Message)
+    ensures { message.new ≡ with_text text message.old }
+{
+    match message {
+        Message::Transfer(_, place, _) | Message::Cover(_, place, _) => put(place, text),
+        Message::Debit(_, _) | Message::Credit(_, _) | Message::Page(_, _) => {}
+    }
 }

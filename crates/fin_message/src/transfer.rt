@@ -1,36 +1,84 @@
 //! A customer transfer: its fields, then its rules.
 
-ghost use Rattle.std.specs.Prelude.{◌≡◌, ◌≤◌, length};
+ghost use Rattle.std.specs.Prelude.{◌≡◌, ◌≤◌, IsTrue, length};
 ghost use Rattle.fin_fields.specs.Fields.{fields_of};
-ghost use Rattle.fin_layout.specs.Reading.{Gives};
-ghost use Rattle.fin_message.specs.Verdict.{transfer_of};
+ghost use Rattle.fin_layout.specs.Reading.{Fills};
+ghost use Rattle.fin_message.specs.Filling.{is_transfer, with_text};
+ghost use Rattle.fin_message.specs.Verdict.{ruled_of, transfer_of};
 
 use crate::message::Message;
-use crate::parts::envelope;
+use crate::parts::envelope as envelope_of;
+use corr_ids::Envelope;
+use corr_text::put;
 use fin_blocks::Blocks;
 use fin_fields::Field;
 use fin_layout::MtFault;
-use mt103::read_mt103;
+use mt103::{Mt103, fill_mt103};
 use mt103_rules::first_rule;
 use ref_tables::RefTables;
 use std::alloc::Global;
 
-/// The transfer that a message with these fields says. `Bad`: the first test of its fields, or the first of its rules.
+fn is_transfer(message: &Message) -> bool
+    ensures { result ≡ is_transfer message.now }
+{
+    matches!(message, Message::Transfer(_, _, _))
+}
+
+/// Puts a transfer that says nothing in the place of another message.
+#[inline(never)]
+fn put_blank(alloc: Global, out: &mut Message)
+    ensures { IsTrue (is_transfer out.new) }
+{
+    put(out, Message::blank(alloc));
+}
+
+/// Makes a place hold a transfer, whatever it says.
+fn make_transfer(alloc: Global, out: &mut Message)
+    ensures { IsTrue (is_transfer out.new) }
+{
+    if !is_transfer(out) {
+        put_blank(alloc, out);
+    }
+}
+
+/// Fills a transfer with what these fields say, and tests its rules.
+fn fill_transfer(
+    alloc: Global,
+    t: &RefTables,
+    fields: &[Field],
+    envelope: &Envelope,
+    transfer: &mut Mt103,
+) -> Result<(), MtFault>
+    requires few { length fields.now ≤ 65535 }
+    ensures value { Fills result transfer.new (ruled_of t.now envelope.now fields.now) }
+{
+    fill_mt103(alloc, fields, t, transfer)?;
+    match first_rule(transfer, &envelope.sender, &envelope.receiver, t) {
+        Some(fault) => Err(MtFault::Bad(fault)),
+        None => Ok(()),
+    }
+}
+
+/// Puts the transfer that a message with these fields says into `out`, but for its text. `Bad`: the first test of its fields,
+/// or the first of its rules; then `out` may say anything.
 #[tactic(auto, unfolding(crate::specs::Verdict::transfer_of))]
 pub fn read_transfer(
     alloc: Global,
     t: &RefTables,
-    blocks: Blocks,
+    blocks: &Blocks,
     fields: &[Field],
-) -> Result<Message, MtFault>
+    out: &mut Message,
+) -> Result<(), MtFault>
     requires few { length fields.now ≤ 65535 }
-    requires same { fields.now ≡ fields_of blocks.text }
-    ensures { Gives result (transfer_of t.now blocks) }
+    requires same { fields.now ≡ fields_of blocks.now.text }
+    ensures { Fills result (with_text blocks.now.text out.new) (transfer_of t.now blocks.now) }
 {
-    let transfer = read_mt103(alloc, fields, t)?;
-    let envelope = envelope(&blocks);
-    match first_rule(&transfer, &envelope.sender, &envelope.receiver, t) {
-        Some(fault) => Err(MtFault::Bad(fault)),
-        None => Ok(Message::Transfer(envelope, blocks.text, transfer)),
+    make_transfer(alloc, out);
+    match out {
+        Message::Transfer(envelope, _, transfer) => {
+            *envelope = envelope_of(blocks);
+            fill_transfer(alloc, t, fields, envelope, transfer)
+        }
+        _ => unreachable!(),
     }
 }

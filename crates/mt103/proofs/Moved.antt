@@ -18,14 +18,11 @@ use Rattle.fin_contents.proofs.laws.Placed.{each-of, party-again-at}
 use Rattle.fin_contents.proofs.laws.Said.{Holds, Stands, stand}
 use Rattle.mt103.specs.Codes.{charge_of, instr_of, kind_of, operation_of}
 use Rattle.mt103.specs.Message.{contents_of}
-use Rattle.mt103.specs.Parts.{message_of}
+use Rattle.mt103.specs.Parts.{Details, Parties, Terms, message_of}
 use Rattle.mt103.specs.Writing.{AreAmounts, instr_field, segments}
-use Rattle.mt103.specs.declared.details.Details.{Details}
 use Rattle.mt103.specs.declared.instruction.Instr.{Instr}
 use Rattle.mt103.specs.declared.message.Mt103.{Mt103}
 use Rattle.mt103.specs.Order.{order_103}
-use Rattle.mt103.specs.declared.parties.Parties.{Parties}
-use Rattle.mt103.specs.declared.terms.Terms.{Terms}
 use Rattle.mt103.proofs.Kept.{charge-again, instr-again, kind-again, operation-again}
 use Rattle.mt103.proofs.Says.{DetailsSay, LinesSay, PartiesSay, TermsSay, contents-said, contents-say}
 

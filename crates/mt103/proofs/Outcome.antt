@@ -13,21 +13,12 @@ use Rattle.fin_layout.proofs.laws.Fine.{passed-fails, passed-on}
 use Rattle.fin_layout.proofs.laws.InOrder.{fails-before, in-turn, structure-fails}
 use Rattle.mt103.specs.Instructions.{d98, e46}
 use Rattle.mt103.specs.Message.{content_test, contents_of, mt103_of}
-use Rattle.mt103.specs.Parts.{details_of, parties_of, contents_in_parts, terms_of}
+use Rattle.mt103.specs.Parts.{contents_into}
 use Rattle.mt103.specs.declared.instruction.Instr.{Instr}
 use Rattle.mt103.specs.declared.message.Mt103.{Mt103}
 use Rattle.mt103.specs.Order.{order_103}
-use Rattle.mt103.specs.declared.parties.Parties.{Parties}
-use Rattle.mt103.specs.declared.terms.Terms.{Terms}
 use Rattle.mt103.proofs.Refused.{contents-refused}
-use Rattle.mt103.proofs.laws.Parts.{contents-are}
-
--- the details are refused, where the terms and the parties are read
-pub details-fail : (t : Tables) (fs : List Field) (found : List ℕ) (terms : Terms) (parties : Parties) (e : MtFault)
-    → terms_of t fs found ≡ Ok terms → parties_of t fs found ≡ Ok parties → Fails e (details_of t fs found) → Fails e (contents_in_parts t fs found)
-unfolding contents_in_parts
-details-fail t fs found terms parties faults.Memory read also h = tt
-details-fail t fs found terms parties (faults.Bad fault) read also h = rw (read, also, h) refl
+use Rattle.mt103.proofs.laws.Parts.{into-are}
 
 abbrev pub finished : Mt103 → Result Mt103 Fault
 finished m = passed (e46 m.instrs ∷ d98 m.instrs ∷ []) >>= λ _. Ok m
@@ -45,16 +36,16 @@ module _ (t : Tables) (fs : List Field) where
     unfolding mt103_of
     as-contents = in-turn order_103 (content_test t) fs (said_by t fs >>= finished) sound (λ fault lies. fails-before (said_by t fs) finished fault (contents-refused t fs (places_from order_103 0 fs) fault lies))
 
-    module _ (found : List ℕ) (places : found ≡ places_from order_103 0 fs) where
-      pub contents-fail : (e : MtFault) → Fails e (contents_in_parts t fs found) → Fails e (mt103_of t fs)
+    module _ (found : List ℕ) (places : found ≡ places_from order_103 0 fs) (old : Mt103) where
+      pub contents-fail : (e : MtFault) → Fails e (contents_into t fs found old) → Fails e (mt103_of t fs)
       contents-fail faults.Memory h = tt
       contents-fail (faults.Bad fault) h =
-          let said : contents_of t fs found ≡ Err fault = sym (contents-are t fs found) ∙ h in
+          let said : contents_of t fs found ≡ Err fault = sym (into-are t fs found old) ∙ h in
           as-contents ∙ fails-before (said_by t fs) finished fault (rw places at said)
 
-      module _ (m : Mt103) (parts : contents_in_parts t fs found ≡ Ok m) (instrs : List Instr) (same : instrs ≡ m.instrs) where
+      module _ (m : Mt103) (parts : contents_into t fs found old ≡ Ok m) (instrs : List Instr) (same : instrs ≡ m.instrs) where
         said : contents_of t fs found ≡ Ok m
-        said = sym (contents-are t fs found) ∙ parts
+        said = sym (into-are t fs found old) ∙ parts
 
         pub instrs-fail : (fault : Fault) → first_of (e46 instrs ∷ d98 instrs ∷ []) ≡ Some fault → mt103_of t fs ≡ Err fault
         instrs-fail fault h = as-contents ∙ rw (rw places at said) (passed-fails (first_of (e46 m.instrs ∷ d98 m.instrs ∷ [])) (Ok m) (faults.Bad fault) (rw same at h))

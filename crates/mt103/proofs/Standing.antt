@@ -23,13 +23,10 @@ use Rattle.fin_contents.proofs.laws.Fit.{ccy_amount-fit, kept-fit, value-fit}
 use Rattle.fin_contents.proofs.laws.Placed.{Each, all-each, all-of, all-segment, first-of-tag, lines-each, lines-segment, one-segment, each-append, party-fit-at, party-fits-at, some-each, some-segment}
 use Rattle.fin_contents.proofs.laws.Said.{Holds, Said, Stands, said-all, said-one, said-option, stand}
 use Rattle.mt103.specs.Codes.{charge_of, instr_of, kind_of, operation_of}
-use Rattle.mt103.specs.Parts.{message_of}
+use Rattle.mt103.specs.Parts.{Details, Parties, Terms, message_of}
 use Rattle.mt103.specs.Writing.{AreAmounts, detail_fields, instr_field, money_fields, order_fields, party_fields, segments, text_behind}
-use Rattle.mt103.specs.declared.details.Details.{Details}
 use Rattle.mt103.specs.declared.instruction.Instr.{Instr}
 use Rattle.mt103.specs.Order.{order_103}
-use Rattle.mt103.specs.declared.parties.Parties.{Parties}
-use Rattle.mt103.specs.declared.terms.Terms.{Terms}
 use Rattle.mt103.proofs.Kept.{charge-kept, instr-kept, kind-kept, operation-kept}
 use Rattle.mt103.proofs.Says.{DetailsSay, LinesSay, PartiesSay, TermsSay}
 

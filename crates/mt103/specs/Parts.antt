@@ -1,5 +1,5 @@
 -- How the private readers share the fields of an MT103: three parts, one after another. No public contract cites them.
-use Rattle.std.specs.Prelude.{ℕ, List, [], Result, Ok, unwrap_or}
+use Rattle.std.specs.Prelude.{ℕ, List, [], Option, Result, Ok, unwrap_or}
 use Rattle.corr_text.specs.First.{◌>>=◌}
 use Rattle.corr_text.specs.declared.fault.Fault.{Fault}
 use Rattle.ref_tables.specs.Seen.{Tables}
@@ -10,10 +10,42 @@ use Rattle.fin_contents.specs.Parties.{known_party_of}
 use Rattle.fin_contents.specs.Plain.{reference_of, texts_of, time_of}
 use Rattle.mt103.specs.Codes.{charge_of, instr_of, kind_of, operation_of}
 use Rattle.mt103.specs.Order.{at_account_bank, at_charge, at_given, at_info, at_instructions, at_intermediary, at_kind, at_notes, at_operation, at_ordered, at_ordering, at_payee, at_payer, at_rate, at_receivers_bank, at_reference, at_regulatory, at_senders_bank, at_taken, at_third_bank, at_times, at_value, order_103}
-use Rattle.mt103.specs.declared.details.Details.{Details}
+use Rattle.mt103.specs.declared.instruction.Instr.{Instr}
 use Rattle.mt103.specs.declared.message.Mt103.{Mt103}
-use Rattle.mt103.specs.declared.parties.Parties.{Parties}
-use Rattle.mt103.specs.declared.terms.Terms.{Terms}
+use Rattle.corr_money.specs.declared.amount.Amount.{Amount}
+use Rattle.fin_contents.specs.declared.value.Value.{Value}
+use Rattle.fin_parties.specs.declared.party.Party.{Party}
+
+-- what 20 to 36 say
+pub record Terms : Type 0 where
+  pub reference : List ℕ
+  pub times : List (List ℕ)
+  pub op : List ℕ
+  pub instrs : List Instr
+  pub kind : Option (List ℕ)
+  pub value : Value
+  pub ordered : Option Amount
+  pub rate : Option (List ℕ)
+
+-- what 50a to 59a say
+pub record Parties : Type 0 where
+  pub payer : Party
+  pub p52 : Option Party
+  pub p53 : Option Party
+  pub p54 : Option Party
+  pub p55 : Option Party
+  pub p56 : Option Party
+  pub p57 : Option Party
+  pub payee : Party
+
+-- what 70 to 77B say
+pub record Details : Type 0 where
+  pub info : List (List ℕ)
+  pub charge : List ℕ
+  pub taken : List Amount
+  pub given : Option Amount
+  pub notes : List (List ℕ)
+  pub regulatory : List (List ℕ)
 
 -- what 20 to 36 say
 unfoldable pub terms_of : Tables → List Field → List ℕ → Result Terms Fault
@@ -87,3 +119,108 @@ contents_in_parts t fs found = do
   parties ← parties_of t fs found
   details ← details_of t fs found
   Ok (message_of terms parties details)
+
+-- ---- parts put into a message, whatever it said
+
+abbrev pub with_terms : Mt103 → Terms → Mt103
+with_terms m terms = record {
+  reference = terms.reference;
+  times = terms.times;
+  op = terms.op;
+  instrs = terms.instrs;
+  kind = terms.kind;
+  value = terms.value.day;
+  amount = terms.value.amount;
+  ordered = terms.ordered;
+  rate = terms.rate;
+  payer = m.payer;
+  p52 = m.p52;
+  p53 = m.p53;
+  p54 = m.p54;
+  p55 = m.p55;
+  p56 = m.p56;
+  p57 = m.p57;
+  payee = m.payee;
+  info = m.info;
+  charge = m.charge;
+  taken = m.taken;
+  given = m.given;
+  notes = m.notes;
+  regulatory = m.regulatory;
+}
+
+unfoldable pub terms_into : Tables → List Field → List ℕ → Mt103 → Result Mt103 Fault
+terms_into t fs found m = do
+  terms ← terms_of t fs found
+  Ok (with_terms m terms)
+
+abbrev pub with_parties : Mt103 → Parties → Mt103
+with_parties m parties = record {
+  reference = m.reference;
+  times = m.times;
+  op = m.op;
+  instrs = m.instrs;
+  kind = m.kind;
+  value = m.value;
+  amount = m.amount;
+  ordered = m.ordered;
+  rate = m.rate;
+  payer = parties.payer;
+  p52 = parties.p52;
+  p53 = parties.p53;
+  p54 = parties.p54;
+  p55 = parties.p55;
+  p56 = parties.p56;
+  p57 = parties.p57;
+  payee = parties.payee;
+  info = m.info;
+  charge = m.charge;
+  taken = m.taken;
+  given = m.given;
+  notes = m.notes;
+  regulatory = m.regulatory;
+}
+
+unfoldable pub parties_into : Tables → List Field → List ℕ → Mt103 → Result Mt103 Fault
+parties_into t fs found m = do
+  parties ← parties_of t fs found
+  Ok (with_parties m parties)
+
+abbrev pub with_details : Mt103 → Details → Mt103
+with_details m details = record {
+  reference = m.reference;
+  times = m.times;
+  op = m.op;
+  instrs = m.instrs;
+  kind = m.kind;
+  value = m.value;
+  amount = m.amount;
+  ordered = m.ordered;
+  rate = m.rate;
+  payer = m.payer;
+  p52 = m.p52;
+  p53 = m.p53;
+  p54 = m.p54;
+  p55 = m.p55;
+  p56 = m.p56;
+  p57 = m.p57;
+  payee = m.payee;
+  info = details.info;
+  charge = details.charge;
+  taken = details.taken;
+  given = details.given;
+  notes = details.notes;
+  regulatory = details.regulatory;
+}
+
+unfoldable pub details_into : Tables → List Field → List ℕ → Mt103 → Result Mt103 Fault
+details_into t fs found m = do
+  details ← details_of t fs found
+  Ok (with_details m details)
+
+-- one part after another
+unfoldable pub contents_into : Tables → List Field → List ℕ → Mt103 → Result Mt103 Fault
+contents_into t fs found m = do
+  first ← terms_into t fs found m
+  second ← parties_into t fs found first
+  details_into t fs found second

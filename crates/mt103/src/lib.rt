@@ -18,7 +18,7 @@ mod writing;
 
 pub use codes::{D97, D98, E46, P28, T08, T36};
 pub use instruction::Instr;
-pub use message::Mt103;
+pub use message::{Mt103, blank};
 pub use order::ORDER;
-pub use verdict::read_mt103;
+pub use verdict::{fill_mt103, read_mt103};
 pub use writing::put_mt103;

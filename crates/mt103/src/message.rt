@@ -2,9 +2,10 @@
 
 use crate::instruction::Instr;
 use corr_ids::Day;
-use corr_money::Amount;
+use corr_money::{Amount, Ccy, Minor};
 use corr_text::{List, Text};
 use fin_parties::Party;
+use std::alloc::Global;
 
 /// A customer transfer.
 #[derive(Debug, Drop)]
@@ -55,4 +56,47 @@ pub struct Mt103 {
     pub notes: List<Text>,
     /// The lines of 77B, regulatory reporting; none without the field.
     pub regulatory: List<Text>,
+}
+
+fn no_text(alloc: Global) -> Text {
+    Text::from_vec(Vec::new(alloc))
+}
+
+fn no_party(alloc: Global) -> Party {
+    Party::C {
+        line: no_text(alloc),
+    }
+}
+
+/// A place for a message to be read into: it says nothing yet.
+pub fn blank(alloc: Global) -> Mt103 {
+    Mt103 {
+        reference: no_text(alloc),
+        times: List::new(alloc),
+        op: [0; 4],
+        instrs: List::new(alloc),
+        kind: None,
+        value: Day(0),
+        amount: Amount {
+            ccy: Ccy([0; 3]),
+            minor: Minor(0),
+            decimals: 0,
+        },
+        ordered: None,
+        rate: None,
+        payer: no_party(alloc),
+        p52: None,
+        p53: None,
+        p54: None,
+        p55: None,
+        p56: None,
+        p57: None,
+        payee: no_party(alloc),
+        info: List::new(alloc),
+        charge: [0; 3],
+        taken: List::new(alloc),
+        given: None,
+        notes: List::new(alloc),
+        regulatory: List::new(alloc),
+    }
 }

@@ -1,65 +1,46 @@
 //! The terms of a transfer: fields 20 to 36.
 
-ghost use Rattle.std.specs.Prelude.{◌≤◌, IfOk, length};
-ghost use Rattle.fin_layout.specs.Reading.{Gives};
-ghost use Rattle.mt103.specs.Parts.{terms_of};
+ghost use Rattle.std.specs.Prelude.{◌≤◌, OnOk, length};
+ghost use Rattle.fin_layout.specs.Reading.{Fills};
+ghost use Rattle.mt103.specs.Parts.{terms_into};
 
-use crate::instruction::{Instr, Instruction};
+use crate::instruction::Instruction;
 use crate::kind::Kind;
+use crate::message::Mt103;
 use crate::order::ORDER;
 use crate::places::{INSTRUCTIONS, KIND, OPERATION, ORDERED, RATE, REFERENCE, TIMES, VALUE};
 use crate::word::Operation;
-use corr_money::Amount;
-use corr_text::{List, Text};
-use fin_contents::{CcyAmount, Rate, Reference, Time, Value, ValueDate};
+use corr_text::put;
+use fin_contents::{CcyAmount, Rate, Reference, Time, ValueDate};
 use fin_fields::Field;
 use fin_layout::{MtFault, read_all, read_one, read_optional};
 use ref_tables::RefTables;
 use std::alloc::Global;
 
-/// What 20, 13C, 23B, 23E, 26T, 32A, 33B and 36 say.
-#[derive(Drop)]
-pub struct Terms {
-    pub reference: Text,
-    pub times: List<Text>,
-    pub op: [u8; 4],
-    pub instrs: List<Instr>,
-    pub kind: Option<[u8; 3]>,
-    pub value: Value,
-    pub ordered: Option<Amount>,
-    pub rate: Option<Text>,
-}
-
-/// The terms that fields at these places say.
-#[tactic(auto, unfolding(crate::specs::Parts::terms_of))]
-pub fn read_terms(
+/// Puts what fields at these places say in 20 to 36 into a message.
+#[tactic(auto, unfolding(crate::specs::Parts::terms_into, crate::specs::Parts::terms_of))]
+pub fn fill_terms(
     alloc: Global,
     tables: &RefTables,
     fields: &[Field],
     found: &[usize],
-) -> Result<Terms, MtFault>
+    m: &mut Mt103,
+) -> Result<(), MtFault>
     requires few { length fields.now ≤ 65535 }
     requires each { length found.now ≤ length fields.now }
-    ensures value { Gives result (terms_of tables.now fields.now found.now) }
-    ensures few { IfOk result (λ m. length m.instrs ≤ length fields.now) }
+    ensures value { Fills result m.new (terms_into tables.now fields.now found.now m.old) }
+    ensures few { OnOk result (length m.new.instrs ≤ length fields.now) }
 {
     let amount = CcyAmount { tables };
-    let reference = read_one(alloc, &Reference, &ORDER, fields, found, REFERENCE)?;
-    let times = read_all(alloc, &Time, fields, found, TIMES)?;
-    let op = read_one(alloc, &Operation, &ORDER, fields, found, OPERATION)?;
-    let instrs = read_all(alloc, &Instruction, fields, found, INSTRUCTIONS)?;
-    let kind = read_optional(alloc, &Kind, fields, found, KIND)?;
+    put(&mut m.reference, read_one(alloc, &Reference, &ORDER, fields, found, REFERENCE)?);
+    put(&mut m.times, read_all(alloc, &Time, fields, found, TIMES)?);
+    m.op = read_one(alloc, &Operation, &ORDER, fields, found, OPERATION)?;
+    put(&mut m.instrs, read_all(alloc, &Instruction, fields, found, INSTRUCTIONS)?);
+    m.kind = read_optional(alloc, &Kind, fields, found, KIND)?;
     let value = read_one(alloc, &ValueDate { tables }, &ORDER, fields, found, VALUE)?;
-    let ordered = read_optional(alloc, &amount, fields, found, ORDERED)?;
-    let rate = read_optional(alloc, &Rate, fields, found, RATE)?;
-    Ok(Terms {
-        reference,
-        times,
-        op,
-        instrs,
-        kind,
-        value,
-        ordered,
-        rate,
-    })
+    m.value = value.day;
+    m.amount = value.amount;
+    m.ordered = read_optional(alloc, &amount, fields, found, ORDERED)?;
+    put(&mut m.rate, read_optional(alloc, &Rate, fields, found, RATE)?);
+    Ok(())
 }

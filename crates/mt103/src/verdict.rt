@@ -1,12 +1,12 @@
 //! An MT103 read from its fields.
 
-ghost use Rattle.std.specs.Prelude.{◌≡◌, ◌≤◌, [], ◌∷◌, All, IfOk, IsTrue, None, Ok, length};
+ghost use Rattle.std.specs.Prelude.{◌≡◌, ◌≤◌, [], ◌∷◌, All, IfOk, IsTrue, None, Ok, OnOk, length};
 ghost use Rattle.corr_text.specs.First.{first_of};
 ghost use Rattle.fin_contents.specs.Money.{IsPayable};
 ghost use Rattle.fin_contents.specs.Writing.{IsReadable};
 ghost use Rattle.fin_fields.specs.Writing.{IsField};
 ghost use Rattle.fin_layout.specs.Order.{places_from};
-ghost use Rattle.fin_layout.specs.Reading.{Gives};
+ghost use Rattle.fin_layout.specs.Reading.{Fills, Gives};
 ghost use Rattle.mt103.specs.Instructions.{d98, e46};
 ghost use Rattle.mt103.specs.Message.{contents_of, field_tests, mt103_of};
 ghost use Rattle.mt103.specs.declared.message.Mt103.{Mt103 as Mt103Seen};
@@ -14,11 +14,11 @@ ghost use Rattle.mt103.specs.Order.{order_103};
 ghost use Rattle.ref_tables.specs.Seen.{few_decimals};
 
 use crate::instruction::Instr;
-use crate::message::Mt103;
+use crate::message::{Mt103, blank};
 use crate::misfit::{d98, e46};
 use crate::order::ORDER;
-use crate::reading::read_contents;
-use corr_text::Fault;
+use crate::reading::fill_contents;
+use corr_text::{Fault, let_go};
 use fin_fields::Field;
 use fin_layout::{MtFault, check_structure};
 use ref_tables::RefTables;
@@ -31,6 +31,30 @@ fn instructions_fault(instrs: &[Instr]) -> Option<Fault>
     match e46(instrs) {
         Some(fault) => Some(fault),
         None => d98(instrs),
+    }
+}
+
+/// Puts what the fields of block 4 say into a transfer, whatever it said: the same tests as in `read_mt103`, and the same
+/// promises of what it then says. After a fault it may say anything.
+pub fn fill_mt103(
+    alloc: Global,
+    f: &[Field],
+    t: &RefTables,
+    m: &mut Mt103,
+) -> Result<(), MtFault>
+    requires few { length f.now ≤ 65535 }
+    ensures message { Fills result m.new (mt103_of t.now f.now) }
+    ensures few { OnOk result (length m.new.instrs ≤ length f.now) }
+    ensures amount { OnOk result (IsPayable m.new.amount) }
+    ensures written { IsTrue (few_decimals t.now.ccys) → All IsField f.now → OnOk result (IsReadable mt103_of m.new) }
+    ensures complete { first_of (field_tests t.now f.now) ≡ None
+        → (m : Mt103Seen) × (contents_of t.now f.now (places_from order_103 0 f.now) ≡ Ok m) }
+{
+    let found = check_structure(alloc, &ORDER, f)?;
+    fill_contents(alloc, t, f, found.as_slice(), m)?;
+    match instructions_fault(m.instrs.as_slice()) {
+        Some(fault) => Err(MtFault::Bad(fault)),
+        None => Ok(()),
     }
 }
 
@@ -50,10 +74,12 @@ pub fn read_mt103(alloc: Global, f: &[Field], t: &RefTables) -> Result<Mt103, Mt
     ensures complete { first_of (field_tests t.now f.now) ≡ None
         → (m : Mt103Seen) × (contents_of t.now f.now (places_from order_103 0 f.now) ≡ Ok m) }
 {
-    let found = check_structure(alloc, &ORDER, f)?;
-    let m = read_contents(alloc, t, f, found.as_slice())?;
-    match instructions_fault(m.instrs.as_slice()) {
-        Some(fault) => Err(MtFault::Bad(fault)),
-        None => Ok(m),
+    let mut m = blank(alloc);
+    match fill_mt103(alloc, f, t, &mut m) {
+        Ok(()) => Ok(m),
+        Err(fault) => {
+            let_go(m);
+            Err(fault)
+        }
     }
 }

@@ -28,11 +28,10 @@ use Rattle.fin_message.specs.declared.message.Message.TheVariants as message
 use Rattle.mt103.specs.Codes.{instr_of, kind_of, operation_of}
 use Rattle.mt103.specs.Instructions.{d98, e46}
 use Rattle.mt103.specs.Message.{content_test as content_103, contents_of as contents_103, field_tests as tests_103, mt103_of}
-use Rattle.mt103.specs.Parts.{contents_in_parts as parts_103, details_of as details_103, message_of as message_103, parties_of as parties_103, terms_of as terms_103}
+use Rattle.mt103.specs.Parts.{Terms as Terms103, contents_in_parts as parts_103, details_of as details_103, message_of as message_103, parties_of as parties_103, terms_of as terms_103}
 use Rattle.mt103.proofs.laws.Parts.{contents-are as contents-are-103}
 use Rattle.mt103.specs.Order.{order_103}
 use Rattle.mt103.specs.declared.message.Mt103.{Mt103}
-use Rattle.mt103.specs.declared.terms.Terms.{Terms as Terms103}
 use Rattle.mt202cov.specs.Message.{content_test as content_202, contents_of as contents_202, field_tests as tests_202, mt202cov_of}
 use Rattle.mt202cov.specs.Parts.{banks_of, contents_in_parts as parts_202, message_of as message_202, sequence_a_of, sequence_b_of, terms_of as terms_202}
 use Rattle.mt202cov.proofs.laws.Parts.{contents-are as contents-are-202}

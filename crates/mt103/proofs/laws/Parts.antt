@@ -1,5 +1,5 @@
 -- A transfer that is read part by part is what its fields say place by place.
-use Rattle.std.proofs.Common.{◌≡◌, ℕ, List, [], Option, Result, Ok, refl}
+use Rattle.std.proofs.Common.{◌≡◌, ℕ, List, [], Option, Result, Ok, Err, refl, ◌∙◌}
 use Rattle.std.specs.Prelude.{unwrap_or}
 use Rattle.corr_text.specs.First.{◌>>=◌}
 use Rattle.corr_money.specs.declared.amount.Amount.{Amount}
@@ -15,11 +15,10 @@ use Rattle.fin_contents.proofs.laws.Grouped.{eight-apart, six-apart}
 use Rattle.mt103.specs.Codes.{charge_of, instr_of, kind_of, operation_of}
 use Rattle.mt103.specs.Message.{contents_of}
 use Rattle.mt103.specs.Order.{order_103}
-use Rattle.mt103.specs.Parts.{details_of, message_of, parties_of, contents_in_parts, terms_of}
-use Rattle.mt103.specs.declared.details.Details.{Details}
+use Rattle.mt103.specs.Parts.{contents_in_parts, contents_into, details_into, details_of, message_of, parties_into, parties_of, terms_into, terms_of, with_details, with_parties, with_terms, Details, Parties, Terms}
+use Rattle.corr_text.specs.declared.fault.Fault.{Fault}
 use Rattle.mt103.specs.declared.instruction.Instr.{Instr}
-use Rattle.mt103.specs.declared.parties.Parties.{Parties}
-use Rattle.mt103.specs.declared.terms.Terms.{Terms}
+use Rattle.mt103.specs.declared.message.Mt103.{Mt103}
 
 abbrev terms : List ℕ → List (List ℕ) → List ℕ → List Instr → Option (List ℕ) → Value → Option Amount → Option (List ℕ) → Terms
 terms reference times op instrs kind value ordered rate =
@@ -45,3 +44,17 @@ contents-are t fs found =
     six-apart (in_option fs found 16 (texts_of 4)) (in_place order_103 fs found 17 charge_of) (all_from fs 18 (ccy_amount_of t) 0 found fs) (in_option fs found 19 (ccy_amount_of t))
     (in_option fs found 20 (texts_of 6)) (in_option fs found 21 (texts_of 3))
     details (λ (z : Details). Ok (message_of (terms a0 a1 a2 a3 a4 a5 a6 a7) (parties b0 b1 b2 b3 b4 b5 b6 b7) z)) _ (λ c0 c1 c2 c3 c4 c5. refl)))
+
+-- ---- the same in a message that said something else
+
+one-by-one : (m : Mt103) (terms : Result Terms Fault) (parties : Result Parties Fault) (details : Result Details Fault)
+    → ((terms >>= λ x. Ok (with_terms m x)) >>= λ (first : Mt103). (parties >>= λ y. Ok (with_parties first y)) >>= λ (second : Mt103). details >>= λ z. Ok (with_details second z))
+    ≡ (terms >>= λ x. parties >>= λ y. details >>= λ z. Ok (message_of x y z))
+one-by-one m (Err fault) parties details = refl
+one-by-one m (Ok x) (Err fault) details = refl
+one-by-one m (Ok x) (Ok y) (Err fault) = refl
+one-by-one m (Ok x) (Ok y) (Ok z) = refl
+
+pub into-are : (t : Tables) (fs : List Field) (found : List ℕ) (m : Mt103) → contents_into t fs found m ≡ contents_of t fs found
+unfolding contents_into terms_into parties_into details_into contents_in_parts
+into-are t fs found m = one-by-one m (terms_of t fs found) (parties_of t fs found) (details_of t fs found) ∙ contents-are t fs found

@@ -10,7 +10,7 @@ use Rattle.day_model.specs.Chart.{Chart}
 use Rattle.front_word.specs.Known.{PassKnows}
 use Rattle.jrn_book.specs.Journal.{IsJournal}
 use Rattle.corr_top.specs.declared.desk.Job.{Job}
-use Rattle.corr_top.specs.declared.desk.Worker.{Worker}
+use Rattle.corr_top.specs.Workers.{Worker}
 use Rattle.corr_top.specs.declared.message.NoPay.{NoPay}
 use Rattle.corr_top.specs.Message.{message_of, readings_of}
 use Rattle.corr_top.specs.Serving.{AllServed, starting}
