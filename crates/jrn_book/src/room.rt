@@ -52,25 +52,30 @@ fn put_frame(frame: &mut Buf, body: &[u8]) -> Result<(), Memory>
     frame.push(&[0])
 }
 
+/// As many bytes as the record of a pay takes at most: its text, 25 for each order, and 148 for what else there is.
+#[tactic(auto, using(jrn_codec::proofs::laws::Records::record_within))]
+fn most_bytes(p: &Pay) -> u64
+    requires { HasShape p.now }
+    ensures room { longest_record p.now ≤ result }
+    ensures few { result ≤ 39291 }
+{
+    let orders = p.orders.as_slice().len() as u64;
+    p.text.bytes().len() as u64 + orders * 25 + 148
+}
+
 impl Room {
     /// Room for a commit of this pay: as much as its longest record takes.
     pub(crate) fn new(alloc: Global, p: &Pay) -> Result<Room, Memory>
         requires shape { HasShape p.now }
         ensures pay { IfOk result (λ room. room ≡ p.now) }
     {
-        let entry = Entry {
-            pay: p.copy(alloc)?,
-            day: Day(3652),
-            outcome: Outcome::Unfunded { leg: 1, balance: 0 },
-        };
+        let most = most_bytes(p);
         let mut record = Buf::new(alloc);
-        put_entry(&entry, &mut record)?;
-        let longest = record.bytes().len() as u64;
-        record.clear();
+        record.reserve(most)?;
         let mut frame = Buf::new(alloc);
-        frame.reserve(longest + 5)?;
+        frame.reserve(most + 5)?;
         Ok(Room {
-            pay: entry.pay,
+            pay: p.copy(alloc)?,
             record,
             frame,
         })

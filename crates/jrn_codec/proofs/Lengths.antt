@@ -159,25 +159,25 @@ legs_short pay h =
     let each = all_short leg_bytes 29 IsLeg leg_short pay.legs (recursion_from_All IsLeg pay.legs h.each_leg) in
     omega (arith, each, two_legs pay.legs h.legs)
 
-orders_short : (pay : Pay) → HasShape pay → length (listed_bytes order_bytes pay.orders) ≤ 6376
+orders_short : (pay : Pay) → HasShape pay → length (listed_bytes order_bytes pay.orders) ≤ length pay.orders * 25 + 1
 orders_short pay h =
     let fits = IsOrder (length pay.legs) in
     let each = all_short order_bytes 25 fits (order_short (length pay.legs)) pay.orders (recursion_from_All fits pay.orders h.each_order) in
-    omega (arith, each, h.few_orders)
+    omega (arith, each)
 
-text_short : (text : List ℕ) → length text ≤ 32768 → length (long_bytes text) ≤ 32772
+text_long : (text : List ℕ) → length (long_bytes text) ≡ length text + 4
 unfolding long_bytes
-text_short text h =
+text_long text =
     let count : List ℕ = to_be_bytes w32 (length text) in
     let whole : length (long_bytes text) ≡ length count + length text = length-append count text in
     let four : length count ≡ 4 = refl in
-    omega (arith, whole, four, h)
+    omega (arith, whole, four)
 
 -- ---- an entry
 
--- an entry's record: a text of 32,768 bytes, 255 orders and what else there is
-pub entry_short : (e : Entry) → HasShape e.pay → length (entry_bytes e) ≤ 39291
-entry_short e h =
+-- an entry's record: its text, its orders, and what else there is
+pub entry_within : (e : Entry) → HasShape e.pay → length (entry_bytes e) ≤ length e.pay.text + length e.pay.orders * 25 + 148
+entry_within e h =
     let stamp : List ℕ = stamp_bytes e.pay.mir e.pay.mt e.pay.uetr in
     let fate : List ℕ = fate_bytes e.day e.pay.value e.outcome in
     let legs : List ℕ = listed_bytes leg_bytes e.pay.legs in
@@ -189,9 +189,13 @@ entry_short e h =
     let a : length stamp ≤ 66 = stamp_short e.pay h in
     let b : length fate ≤ 18 = fate_short e.day e.pay.value e.outcome in
     let c : length legs ≤ 59 = legs_short e.pay h in
-    let d : length orders ≤ 6376 = orders_short e.pay h in
-    let f : length text ≤ 32772 = text_short e.pay.text h.text in
+    let d : length orders ≤ length e.pay.orders * 25 + 1 = orders_short e.pay h in
+    let f : length text ≡ length e.pay.text + 4 = text_long e.pay.text in
     omega (arith, whole, front, back, a, b, c, d, f)
+
+-- with a text of 32,768 bytes and 255 orders
+pub entry_short : (e : Entry) → HasShape e.pay → length (entry_bytes e) ≤ 39291
+entry_short e h = omega (arith, entry_within e h, h.text, h.few_orders)
 
 -- ---- a header
 

@@ -1,5 +1,5 @@
 -- A record is of one value, and short.
-use Rattle.std.proofs.Common.{◌≡◌, ℕ, ◌≤◌, List, length, Option, Some, None, Ok, Err, refl, sym, ◌∙◌, arith}
+use Rattle.std.proofs.Common.{◌≡◌, ℕ, ◌+◌, ◌*◌, ◌≤◌, List, length, Option, Some, None, Ok, Err, refl, sym, ◌∙◌, arith}
 use Rattle.day_model.specs.declared.entry.Entry.{Entry}
 use Rattle.day_model.specs.Chart.{Chart}
 use Rattle.day_model.specs.Shape.{HasShape}
@@ -10,7 +10,7 @@ use Rattle.jrn_codec.specs.RecordReading.{entry_of}
 use Rattle.jrn_codec.specs.HeaderReading.{head_of}
 use Rattle.jrn_codec.proofs.Entries as entries
 use Rattle.jrn_codec.proofs.Heads as heads
-use Rattle.jrn_codec.proofs.Lengths.{entry_short, head_short}
+use Rattle.jrn_codec.proofs.Lengths.{entry_short, entry_within, head_short}
 
 -- reading the record decides which entry it is
 read_once : (d e : Entry) (bytes : List ℕ) (read : Option Entry) → entry_of bytes ≡ read → IsEntry d → IsEntry e → bytes ≡ entry_bytes d → bytes ≡ entry_bytes e → d ≡ e
@@ -30,6 +30,10 @@ read_head_once a b bytes None is ha hb ia ib = absurd (heads.is_refused bytes fa
 -- two books with one header are one
 pub one_head : (a b : Chart) → IsHead a → IsHead b → head_bytes a ≡ head_bytes b → a ≡ b
 one_head a b ha hb same = read_head_once a b (head_bytes a) (head_of (head_bytes a)) refl ha hb refl same
+
+-- a record has the bytes of its text, 25 an order, and 148 more at most
+pub record_within : (e : Entry) → HasShape e.pay → length (entry_bytes e) ≤ length e.pay.text + length e.pay.orders * 25 + 148
+record_within e h = entry_within e h
 
 -- the longest record: a text of 32,768 bytes, 255 orders and what else there is
 pub short_record : (e : Entry) → HasShape e.pay → length (entry_bytes e) ≤ 39291
