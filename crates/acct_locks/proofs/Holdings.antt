@@ -103,20 +103,3 @@ module _ (left rest : List Leg) (leg : Leg) (held : List Holding) (is : left ≡
 
   pub held_next : held_with rest (held_with (leg ∷ []) held) ≡ held_with left held
   held_next = sym (held_with-cons leg rest held) ∙ ap (λ (ls : List Leg). held_with ls held) (sym is)
-
--- two legs on two held accounts
-pub can_settle_two : (held : List Holding) (a b : Leg) → HoldsOnce held a.account.0 → HoldsOnce held b.account.0 → a.account.0 ≢ b.account.0
-    → Fits64 (plus (held_totals held a.account.0) (leg_pair a)) → Fits64 (plus (held_totals held b.account.0) (leg_pair b)) → CanSettle (a ∷ b ∷ []) held
-can_settle_two held a b holds_a holds_b apart fits_a fits_b =
-    let p = held_totals held a.account.0 in
-    let q = held_totals held b.account.0 in
-    let first : plus p (leg_pair a) ≡ plus p (legs_pair a.account.0 (a ∷ b ∷ [])) =
-    sym (plus_leg a.account.0 p a (b ∷ []) ∙ plus_other a.account.0 (plus p (legs_pair a.account.0 (a ∷ []))) b (λ e. apart (sym e)) ∙ plus_own a.account.0 p a refl) in
-    let second : plus q (leg_pair b) ≡ plus q (legs_pair b.account.0 (a ∷ b ∷ [])) =
-    sym (plus_leg b.account.0 q a (b ∷ []) ∙ plus_own b.account.0 (plus q (legs_pair b.account.0 (a ∷ []))) b refl ∙ ap (λ (x : Pair). plus x (leg_pair b)) (plus_other b.account.0 q a apart)) in
-    let once = λ (leg : Leg). HoldsOnce held leg.account.0 in
-    let fits = λ (leg : Leg). Fits64 (plus (held_totals held leg.account.0) (legs_pair leg.account.0 (a ∷ b ∷ []))) in
-    record {
-      once = All-cons once a (b ∷ []) holds_a (All-cons once b [] holds_b (All-nil once));
-      fits = All-cons fits a (b ∷ []) (subst Fits64 first fits_a) (All-cons fits b [] (subst Fits64 second fits_b) (All-nil fits));
-    }

@@ -9,18 +9,18 @@ use Rattle.acct_locks.specs.declared.seats.View.{View}
 use Rattle.acct_locks.specs.declared.seats.View.TheVariants.{Book, Purse, Spent}
 use Rattle.day_model.specs.Totals.{Pair, pair_at}
 use Rattle.day_model.specs.Pairs.{with_pair}
-use Rattle.acct_locks.specs.Seats.{IsIn, without, IsBook, IsPurse, pairs_in, away_in, handed_out, took_back, KeepsRight, KeptBy, IsKept, Looked}
+use Rattle.acct_locks.specs.Seats.{IsIn, without, IsBook, IsPurse, pairs_in, away_in, handed_out, took_back, KeepsRight, KeptBy, RuleIsKept, Looked}
 use Rattle.day_model.proofs.laws.PairLists.{there_is}
 use Rattle.acct_locks.proofs.Places.{get_within, get_snoc, pair_here, pair_else, not_without, without_else}
 
 -- who has a book's view sees the rule from there
-seen : (s : State ℕ View) → IsKept s → (id : ℕ) (v : View) → IsBook v → get_elem? s.views id ≡ some v → KeptBy s.words s.views id v
+seen : (s : State ℕ View) → RuleIsKept s → (id : ℕ) (v : View) → IsBook v → get_elem? s.views id ≡ some v → KeptBy s.words s.views id v
 seen s h id v isb at =
     let same : id ≡ h.0 = h.2.one_book id v at isb in
     let view : h.1 ≡ v = some-injective _ _ (sym h.2.there ∙ ap (λ (j : ℕ). get_elem? s.views j) (sym same) ∙ at) in
     subst (λ (y : ℕ × View). KeptBy s.words s.views y.0 y.1) (λ i. (sym same i, view i)) h.2
 
-pub opens : (first : List Pair) → IsKept (opening (0 ∷ []) [] (Book first [] None))
+pub opens : (first : List Pair) → RuleIsKept (opening (0 ∷ []) [] (Book first [] None))
 opens first = (
   0,
   Book first [] None,
@@ -44,7 +44,7 @@ opens first = (
     none zero n p e = (let f : Book first [] None ≡ Purse n p = some-injective _ _ e in cc)
     none (suc j) n p e = some-ne-none _ (sym e)
 
-pub hands_out : (id n : ℕ) (p : Pair) (v : View) → IsBook v → (IsIn n (away_in v) → ⊥) → 0 < n → n ≤ length (pairs_in v) → Splits IsKept id v (handed_out n p v) (Purse n p)
+pub hands_out : (id n : ℕ) (p : Pair) (v : View) → IsBook v → (IsIn n (away_in v) → ⊥) → 0 < n → n ≤ length (pairs_in v) → Splits RuleIsKept id v (handed_out n p v) (Purse n p)
 hands_out id n p (Purse a b) isb home pos le s h at = absurd isb
 hands_out id n p Spent isb home pos le s h at = absurd isb
 hands_out id n p (Book ps aw k) isb home pos le s h at = (
@@ -94,7 +94,7 @@ hands_out id n p (Book ps aw k) isb home pos le s h at = (
         (λ new. ⊎_elim (λ old'. absurd (other j m q' old' new.1)) (λ new'. new.0 ∙ sym new'.0) (purse j m q' f))
         (purse i m q e)
 
-pub takes_back : (id : ℕ) (v : View) (by n : ℕ) (p : Pair) → IsBook v → Joins IsKept id v by (Purse n p) (took_back v (Purse n p)) Spent
+pub takes_back : (id : ℕ) (v : View) (by n : ℕ) (p : Pair) → IsBook v → Joins RuleIsKept id v by (Purse n p) (took_back v (Purse n p)) Spent
 takes_back id (Purse a b) by n p isb s h at apart there = absurd isb
 takes_back id Spent by n p isb s h at apart there = absurd isb
 takes_back id (Book ps aw k) by n p isb s h at apart there = (
@@ -128,7 +128,7 @@ takes_back id (Book ps aw k) by n p isb s h at apart there = (
         (λ (t : (j ≢ by) × (get_elem? (set s.views id both) j ≡ some (Purse m q))). ⊎_elim (λ (u : (j ≡ id) × (both ≡ Purse m q)). absurd (cc (u.1))) (λ (u : (j ≢ id) × (get_elem? s.views j ≡ some (Purse m q))). (t.0, u.1)) (at_set s.views id j both (Purse m q) t.1))
         (at_set (set s.views id both) by j Spent (Purse m q) e)
 
-pub looks : (slots id : ℕ) (me : Me ℕ View) → IsBook me.0 → Allows IsKept slots id me 0 (λ n. n) (Looked (step slots 0 0 0 none) me)
+pub looks : (slots id : ℕ) (me : Me ℕ View) → IsBook me.0 → Allows RuleIsKept slots id me 0 (λ n. n) (Looked (step slots 0 0 0 none) me)
 looks slots id me isb s h len at small =
     let r = seen s h id me.0 isb at in
     (me.0, keeps, tt, (id, me.0, subst (λ (y : List ℕ × List View). KeptBy y.0 y.1 id me.0) (λ i. (words r.zero_word i, sym (views_same at) i)) r), (refl, refl, r.right))
@@ -139,7 +139,7 @@ looks slots id me isb s h len at small =
     views_same : get_elem? s.views id ≡ some me.0 → set s.views id me.0 ≡ s.views
     views_same e = set_again s.views id me.0 e
 
-pub takes_back_any : (id : ℕ) (v : View) (by : ℕ) (w : View) → IsBook v → IsPurse w → Joins IsKept id v by w (took_back v w) Spent
+pub takes_back_any : (id : ℕ) (v : View) (by : ℕ) (w : View) → IsBook v → IsPurse w → Joins RuleIsKept id v by w (took_back v w) Spent
 takes_back_any id v by (Purse n p) isb isp = takes_back id v by n p isb
 takes_back_any id v by (Book ps aw k) isb isp = absurd isp
 takes_back_any id v by Spent isb isp = absurd isp

@@ -65,8 +65,8 @@ pub record KeptBy (words : List ℕ) (views : List View) (seat : ℕ) (v : View)
   pub right : KeepsRight v
 
 -- the state keeps the rule: one seat has the book's view, and all others fit it
-abbrev pub IsKept : State ℕ View → Type 0
-IsKept s = (seat : ℕ) × (v : View) × KeptBy s.words s.views seat v
+abbrev pub RuleIsKept : State ℕ View → Type 0
+RuleIsKept s = (seat : ℕ) × (v : View) × KeptBy s.words s.views seat v
 
 -- a look changes nothing, and tells that the kept pair is right
 abbrev pub Looked : Step ℕ → Me ℕ View → ℕ → Me ℕ View → Type 0

@@ -20,9 +20,9 @@ pub struct Agreement;
 impl TableRule<u8, View, Vec<(u64, u64)>> for Agreement {
     ghost use Rattle.std.specs.Prelude.{[], None};
     ghost use Rattle.acct_locks.specs.declared.seats.View.TheVariants.{Book};
-    ghost use Rattle.acct_locks.specs.Seats.{IsKept};
+    ghost use Rattle.acct_locks.specs.Seats.{RuleIsKept};
 
-    ghost holds = { λ first s. IsKept s };
+    ghost holds = { λ first s. RuleIsKept s };
 
     ghost first = { λ first. Book first.items [] None };
 }

@@ -4,18 +4,18 @@ use Rattle.std.proofs.lemmas.List.{length-take-le, take_more}
 use Rattle.day_model.specs.Chart.{Chart}
 use Rattle.day_model.specs.declared.pay.Order.{Order}
 use Rattle.day_model.specs.declared.pay.Pay.{Pay}
-use Rattle.advices.specs.Messages.{AllReadBack, OrderReadsBack, message_of, messages_from}
+use Rattle.advices.specs.Messages.{AllReadBack, OrderReadsBack, order_message, messages_from}
 
 module _ (chart : Chart) (pay : Pay) (place : ℕ) where
   messages-append : (k n : ℕ) (orders : List Order) (order : Order) → n ≡ k + length orders
-      → messages_from chart pay place k (orders ++ order ∷ []) ≡ messages_from chart pay place k orders ++ message_of chart pay place n order ∷ []
-  messages-append k n [] order same = let e : k ≡ n = omega (arith, same) in ap (λ (m : ℕ). message_of chart pay place m order ∷ []) e
+      → messages_from chart pay place k (orders ++ order ∷ []) ≡ messages_from chart pay place k orders ++ order_message chart pay place n order ∷ []
+  messages-append k n [] order same = let e : k ≡ n = omega (arith, same) in ap (λ (m : ℕ). order_message chart pay place m order ∷ []) e
   messages-append k n (first ∷ orders) order same =
-      ap (λ (ms : List (List ℕ)). message_of chart pay place k first ∷ ms) (messages-append (k + 1) n orders order (omega (arith, same)))
+      ap (λ (ms : List (List ℕ)). order_message chart pay place k first ∷ ms) (messages-append (k + 1) n orders order (omega (arith, same)))
 
   -- the messages so far, and that of the next order
   pub messages-more : (d : Order) (orders items : List Order) (i k : ℕ) (text : List ℕ) (before after : List (List ℕ)) → items ≡ orders → i < length items → k ≡ 1 + i
-      → before ≡ messages_from chart pay place 1 (take i orders) → text ≡ message_of chart pay place k (get_or items i d) → after ≡ before ++ text ∷ []
+      → before ≡ messages_from chart pay place 1 (take i orders) → text ≡ order_message chart pay place k (get_or items i d) → after ≡ before ++ text ∷ []
       → after ≡ messages_from chart pay place 1 (take (i + 1) orders)
   messages-more d orders items i k text before after same lt number b t a =
       let order : Order = get_or items i d in
@@ -23,7 +23,7 @@ module _ (chart : Chart) (pay : Pay) (place : ℕ) where
       let count : k ≡ 1 + length (take i items) = omega (arith, number, length-take-le i items (omega arith)) in
       let front : before ≡ messages_from chart pay place 1 (take i items) = b ∙ ap (λ (os : List Order). messages_from chart pay place 1 (take i os)) (sym same) in
       a ∙ ap (λ (m : List ℕ). before ++ m ∷ []) t
-      ∙ ap (λ (ms : List (List ℕ)). ms ++ message_of chart pay place k order ∷ []) front
+      ∙ ap (λ (ms : List (List ℕ)). ms ++ order_message chart pay place k order ∷ []) front
       ∙ sym (messages-append 1 k (take i items) order count) ∙ ap (messages_from chart pay place 1) (sym more)
       ∙ ap (λ (os : List Order). messages_from chart pay place 1 (take (i + 1) os)) same
 

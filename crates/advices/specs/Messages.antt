@@ -26,12 +26,12 @@ use Rattle.advices.specs.Received.{ordered_of, received_of}
 use Rattle.advices.specs.Transfer.{transfer_fields}
 
 -- the type of an order's message
-abbrev pub type_of : Order → ℕ
-type_of (Transfer to skip via) = 103
-type_of (Cover to end skip) = 202
-type_of (Pass to skip) = 202
-type_of (Debit to leg) = 900
-type_of (Credit to leg) = 910
+abbrev pub order_type : Order → ℕ
+order_type (Transfer to skip via) = 103
+order_type (Cover to end skip) = 202
+order_type (Pass to skip) = 202
+order_type (Debit to leg) = 900
+order_type (Credit to leg) = 910
 
 -- the bank that it goes to
 abbrev pub receiver_of : Order → Bic
@@ -47,12 +47,12 @@ uetr_block None = []
 uetr_block (Some uetr) = (121, uetr.0) ∷ []
 
 -- block 3: a transfer has the UETR, and a cover the validation flag before it
-abbrev pub user_of : Option Uetr → Order → List (ℕ × List ℕ)
-user_of uetr (Transfer to skip via) = uetr_block uetr
-user_of uetr (Cover to end skip) = (119, codes "COV") ∷ uetr_block uetr
-user_of uetr (Pass to skip) = (119, codes "COV") ∷ uetr_block uetr
-user_of uetr (Debit to leg) = []
-user_of uetr (Credit to leg) = []
+abbrev pub order_user : Option Uetr → Order → List (ℕ × List ℕ)
+order_user uetr (Transfer to skip via) = uetr_block uetr
+order_user uetr (Cover to end skip) = (119, codes "COV") ∷ uetr_block uetr
+order_user uetr (Pass to skip) = (119, codes "COV") ∷ uetr_block uetr
+order_user uetr (Debit to leg) = []
+order_user uetr (Credit to leg) = []
 
 -- fields that need the amount of a leg
 abbrev pub with_amount : Chart → Pay → ℕ → (Amount → List Field) → List Field
@@ -81,14 +81,14 @@ order_fields chart pay place k (Credit to leg) =
     credit_fields (received_of pay) (ours place k) account.id (value_of_pay pay moved)))
 
 -- the message of the k-th order
-abbrev pub message_of : Chart → Pay → ℕ → ℕ → Order → List ℕ
-message_of chart pay place k order =
-    sent_text chart.home (type_of order) (receiver_of order) (user_of pay.uetr order) (fields_text (order_fields chart pay place k order))
+abbrev pub order_message : Chart → Pay → ℕ → ℕ → Order → List ℕ
+order_message chart pay place k order =
+    sent_text chart.home (order_type order) (receiver_of order) (order_user pay.uetr order) (fields_text (order_fields chart pay place k order))
 
 -- those of orders in turn, the first of which is the k-th
 abbrev pub messages_from : Chart → Pay → ℕ → ℕ → List Order → List (List ℕ)
 messages_from chart pay place k [] = []
-messages_from chart pay place k (order ∷ orders) = message_of chart pay place k order ∷ messages_from chart pay place (k + 1) orders
+messages_from chart pay place k (order ∷ orders) = order_message chart pay place k order ∷ messages_from chart pay place (k + 1) orders
 
 -- the messages of the entry at a place: those of a booked one in the order of its orders, none of another
 abbrev pub messages_of : Chart → Entry → ℕ → List (List ℕ)
@@ -104,7 +104,7 @@ pub record ReadsBack (home : Bic) (mt : ℕ) (to : Bic) (user : List (ℕ × Lis
 
 -- so the message of the k-th order
 abbrev pub OrderReadsBack : Chart → Pay → ℕ → ℕ → Order → Type 0
-OrderReadsBack chart pay place k order = ReadsBack chart.home (type_of order) (receiver_of order) (user_of pay.uetr order) (order_fields chart pay place k order)
+OrderReadsBack chart pay place k order = ReadsBack chart.home (order_type order) (receiver_of order) (order_user pay.uetr order) (order_fields chart pay place k order)
 
 -- and those of orders in turn
 abbrev pub AllReadBack : Chart → Pay → ℕ → ℕ → List Order → Type 0

@@ -17,16 +17,16 @@ abbrev pub IsPlain : List ℕ → Type 0
 IsPlain bs = list_all (is_in X) bs ≡ true
 
 -- an amount that can be written, of a currency of capital letters
-pub record IsSpelled (a : Amount) : Type 0 where
+pub record IsWritableAmount (a : Amount) : Type 0 where
   pub amount : IsAmount a
   pub letters : list_all is_ascii_uppercase a.ccy.0 ≡ true
 
 -- the same on a day of the century
 pub record IsMoved (v : Value) : Type 0 where
   pub day : InCentury v.day
-  pub amount : IsSpelled v.amount
+  pub amount : IsWritableAmount v.amount
 
 -- a message whose fields may stand in a text, from a bank whose BIC meets its grammar
-pub record IsCut (r : Received) : Type 0 where
+pub record IsReceivedWhole (r : Received) : Type 0 where
   pub fields : All IsField r.fields
   pub sender : IsBic r.sender

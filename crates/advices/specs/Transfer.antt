@@ -48,8 +48,8 @@ abbrev pub is_passed_on : Bool → Bool → Field → Bool
 is_passed_on has_56 has_57 f = is_named 23 (codes "E") f && (has_56 || not (tells_intermediary f)) && (has_57 || not (tells_account_bank f))
 
 -- the instructions that are passed on
-abbrev pub instructions : Skip → List Field → List Field
-instructions skip fs = copied_all (is_passed_on (is_there (intermediary skip fs)) (is_there (account_bank skip fs))) fs
+abbrev pub passed_instructions : Skip → List Field → List Field
+passed_instructions skip fs = copied_all (is_passed_on (is_there (intermediary skip fs)) (is_there (account_bank skip fs))) fs
 
 -- a field, and an amount in place of none
 abbrev pub or_amount : Amount → List Field → List Field
@@ -65,7 +65,7 @@ abbrev pub term_fields : List Field → List ℕ → Value → Amount → Skip �
 term_fields fs reference value ordered skip =
     (line_field 20 None reference ∷ [])
     ∷ copied 23 (codes "B") fs
-    ∷ instructions skip fs
+    ∷ passed_instructions skip fs
     ∷ copied 26 (codes "T") fs
     ∷ (value_field value ∷ [])
     ∷ ordered_amount ordered fs

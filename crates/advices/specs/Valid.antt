@@ -8,7 +8,7 @@ use Rattle.corr_ids.specs.Bic.{IsBic}
 use Rattle.corr_ids.specs.declared.bic.Bic.{Bic}
 use Rattle.corr_ids.specs.declared.envelope.Envelope.{Envelope}
 use Rattle.corr_money.specs.declared.amount.Amount.{Amount}
-use Rattle.ref_tables.specs.Seen.{Tables, decimals_in, has_head}
+use Rattle.ref_tables.specs.Seen.{Tables, decimals_in, has_head, IsKnown}
 use Rattle.fin_contents.specs.Money.{is_metal}
 use Rattle.fin_message.specs.Sound.{IsSaid, KeepsRules}
 use Rattle.fin_message.specs.Verdict.{sent_verdict_of}
@@ -31,6 +31,7 @@ use Rattle.day_model.specs.declared.pay.Order.{Order}
 use Rattle.day_model.specs.declared.pay.Order.TheVariants as order
 use Rattle.day_model.specs.declared.pay.Pay.{Pay}
 use Rattle.day_model.specs.declared.pay.Skip.{Skip}
+use Rattle.day_model.specs.Log.{most_entries}
 use Rattle.advices.specs.Legs.{leg_account}
 use Rattle.advices.specs.Messages.{order_fields}
 
@@ -86,7 +87,7 @@ pub record CameFrom (t : Tables) (chart : Chart) (pay : Pay) (m : Message) : Typ
 -- MT900 is read of them; it has no rules
 abbrev pub DebitPasses : Type 0
 DebitPasses =
-    (t : Tables) (chart : Chart) (pay : Pay) (m : Message) (place k leg : ℕ) (to : Bic) → CameFrom t chart pay m → place ≤ 100000 → k ≤ 255 → IsNumbered (length pay.legs) leg
+    (t : Tables) (chart : Chart) (pay : Pay) (m : Message) (place k leg : ℕ) (to : Bic) → CameFrom t chart pay m → place ≤ most_entries → k ≤ 255 → IsNumbered (length pay.legs) leg
     → (first_of (tests_900 t (order_fields chart pay place k (order.Debit to leg))) ≡ None)
     × ((advice : Mt900) × (mt900_of t (order_fields chart pay place k (order.Debit to leg)) ≡ Ok advice))
 
@@ -95,7 +96,7 @@ DebitPasses =
 abbrev pub CreditPasses : Type 0
 CreditPasses =
     (t : Tables) (chart : Chart) (pay : Pay) (envelope : Envelope) (text : List ℕ) (cover : Mt202Cov) (place k leg : ℕ) (to : Bic) → CameFrom t chart pay (message.Cover envelope text cover)
-    → place ≤ 100000 → k ≤ 255 → IsNumbered (length pay.legs) leg
+    → place ≤ most_entries → k ≤ 255 → IsNumbered (length pay.legs) leg
     → (first_of (tests_910 t (order_fields chart pay place k (order.Credit to leg))) ≡ None)
     × ((advice : Mt910) × (mt910_of t (order_fields chart pay place k (order.Credit to leg)) ≡ Ok advice))
 
@@ -104,26 +105,22 @@ CreditPasses =
 abbrev pub TransferReads : Type 0
 TransferReads =
     (t : Tables) (chart : Chart) (pay : Pay) (envelope : Envelope) (text : List ℕ) (m : Mt103) (place k : ℕ) (to : Bic) (skip : Skip) (via : Option Bic) → CameFrom t chart pay (message.Transfer envelope text m)
-    → place ≤ 100000 → k ≤ 255 → IfSome via (λ b. IsBic b × (has_head t b.head ≡ true)) → (sender receiver : Bic)
+    → place ≤ most_entries → k ≤ 255 → IfSome via (λ b. IsBic b × (has_head t b.head ≡ true)) → (sender receiver : Bic)
     → (sent : Mt103) × (mt103_of t (order_fields chart pay place k (order.Transfer to skip via)) ≡ Ok sent) × (first_of (rules_103 sender receiver t sent) ≡ None)
 
 -- its cover is read of its fields, which asks for its rules too
 abbrev pub CoverReads : Type 0
 CoverReads =
     (t : Tables) (chart : Chart) (pay : Pay) (envelope : Envelope) (text : List ℕ) (m : Mt103) (place k : ℕ) (to end : Bic) (skip : Skip) → CameFrom t chart pay (message.Transfer envelope text m)
-    → place ≤ 100000 → k ≤ 255 → IsBic end → has_head t end.head ≡ true → (sent : Mt202Cov) × (mt202cov_of t (order_fields chart pay place k (order.Cover to end skip)) ≡ Ok sent)
+    → place ≤ most_entries → k ≤ 255 → IsBic end → has_head t end.head ≡ true → (sent : Mt202Cov) × (mt202cov_of t (order_fields chart pay place k (order.Cover to end skip)) ≡ Ok sent)
 
 -- and so is a cover that is passed on, where the pay came from a cover
 abbrev pub PassReads : Type 0
 PassReads =
     (t : Tables) (chart : Chart) (pay : Pay) (envelope : Envelope) (text : List ℕ) (m : Mt202Cov) (place k : ℕ) (to : Bic) (skip : Skip) → CameFrom t chart pay (message.Cover envelope text m)
-    → place ≤ 100000 → k ≤ 255 → (sent : Mt202Cov) × (mt202cov_of t (order_fields chart pay place k (order.Pass to skip)) ≡ Ok sent)
+    → place ≤ most_entries → k ≤ 255 → (sent : Mt202Cov) × (mt202cov_of t (order_fields chart pay place k (order.Pass to skip)) ≡ Ok sent)
 
 -- ---- whole messages
-
--- the tables hold the head of a bank
-abbrev pub IsKnown : Tables → Bic → Type 0
-IsKnown t b = has_head t b.head ≡ true
 
 -- an order that a message may ask for, at banks whose heads the tables hold: a transfer asks for transfers and their covers, a
 -- cover is passed on or told to the bank that it credits, and both are told to the bank that is debited

@@ -8,7 +8,8 @@ ghost use Rattle.day_model.specs.Chart.{IsChart};
 ghost use Rattle.day_model.specs.Fit.{FitsAccounts};
 ghost use Rattle.day_model.specs.Shape.{HasShape, IsOrder};
 ghost use Rattle.fin_fields.specs.Writing.{IsField};
-ghost use Rattle.advices.specs.Messages.{AllReadBack, OrderReadsBack, message_of, messages_from, messages_of, order_fields};
+ghost use Rattle.day_model.specs.Log.{most_entries};
+ghost use Rattle.advices.specs.Messages.{AllReadBack, OrderReadsBack, order_message, messages_from, messages_of, order_fields};
 ghost use Rattle.advices.specs.Received.{received_of};
 ghost use Rattle.advices.specs.Valid.{AreAccepted};
 
@@ -110,9 +111,9 @@ fn message(
     requires shape { HasShape pay.now }
     requires same { received.now ≡ received_of pay.now }
     requires order { IsOrder (length pay.now.legs) order.now }
-    requires place { place ≤ 100000 }
+    requires place { place ≤ most_entries }
     requires k { k ≤ 255 }
-    ensures value { IfOk result (λ text. text ≡ message_of a.now pay.now place k order.now) }
+    ensures value { IfOk result (λ text. text ≡ order_message a.now pay.now place k order.now) }
     ensures back { OnOk result (OrderReadsBack a.now pay.now place k order.now) }
 {
     let fields = order_fields(alloc, a, pay, received, place, k, *order)?;
@@ -133,7 +134,7 @@ fn messages(alloc: Global, a: &Accounts, pay: &Pay, place: u32) -> Result<List<T
     requires home { IsBic a.now.home }
     requires fits { FitsAccounts a.now pay.now }
     requires shape { HasShape pay.now }
-    requires place { place ≤ 100000 }
+    requires place { place ≤ most_entries }
     ensures value { IfOk result (λ texts. texts ≡ messages_from a.now pay.now place 1 pay.now.orders) }
     ensures back { OnOk result (AllReadBack a.now pay.now place 1 pay.now.orders) }
 {
@@ -159,7 +160,7 @@ pub fn orders(alloc: Global, a: &Accounts, e: &Entry, place: u32) -> Result<List
     requires home { IsBic a.now.home }
     requires fits { FitsAccounts a.now e.now.pay }
     requires shape { HasShape e.now.pay }
-    requires place { IsInRange 1 100000 place }
+    requires place { IsInRange 1 most_entries place }
     ensures value { IfOk result (λ texts. texts ≡ messages_of a.now e.now place) }
     ensures accepted { IfOk result (λ texts. AreAccepted a.now e.now.pay texts) }
 {

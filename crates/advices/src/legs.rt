@@ -5,7 +5,7 @@ ghost use Rattle.day_model.specs.Chart.{IsChart, IsFormed};
 ghost use Rattle.day_model.specs.Fit.{FitsAccounts};
 ghost use Rattle.day_model.specs.Shape.{IsNumbered};
 ghost use Rattle.advices.specs.Legs.{leg_account, leg_amount};
-ghost use Rattle.advices.specs.Spelled.{IsSpelled};
+ghost use Rattle.advices.specs.Spelled.{IsWritableAmount};
 
 use corr_money::Amount;
 use day_model::{Account, Accounts, Leg, Pay};
@@ -33,7 +33,7 @@ pub fn leg_amount(a: &Accounts, pay: &Pay, n: u8) -> Amount
     requires fits { FitsAccounts a.now pay.now }
     requires leg { IsNumbered (length pay.now.legs) n }
     ensures value { leg_amount a.now pay.now n ≡ Some result }
-    ensures spelled { IsSpelled result }
+    ensures spelled { IsWritableAmount result }
     ensures sound { IsChart a.now }
 {
     let account = leg_account(a, pay, n);

@@ -4,7 +4,7 @@ ghost use Rattle.std.specs.Prelude.{◌≡◌, ◌<◌, ◌≤◌, IfSome, IsTru
 ghost use Rattle.corr_money.specs.Amounts.{amount_end, amount_of};
 ghost use Rattle.fin_contents.specs.Money.{is_ccy_amount, is_dated_amount};
 ghost use Rattle.advices.specs.Received.{amount_if, amount_in, minor_if, ordered_of};
-ghost use Rattle.advices.specs.Spelled.{IsSpelled};
+ghost use Rattle.advices.specs.Spelled.{IsWritableAmount};
 
 use crate::copying::first_named;
 use crate::received::Received;
@@ -51,7 +51,7 @@ fn minor_if(decimals: u8, b: &[u8]) -> Option<Minor>
 fn amount_if(decimals: u8, line: &[u8]) -> Option<Amount>
     requires { decimals ≤ 4 }
     ensures value { result ≡ amount_if decimals line.now }
-    ensures spelled { IfSome result IsSpelled }
+    ensures spelled { IfSome result IsWritableAmount }
 {
     if !is_dated_amount(line) {
         return None;
@@ -67,7 +67,7 @@ fn amount_if(decimals: u8, line: &[u8]) -> Option<Amount>
 fn amount_in(decimals: u8, fields: &[Field]) -> Option<Amount>
     requires { decimals ≤ 4 }
     ensures value { result ≡ amount_in decimals fields.now }
-    ensures spelled { IfSome result IsSpelled }
+    ensures spelled { IfSome result IsWritableAmount }
 {
     let f = first_named(fields, 32, b"A")?;
     amount_if(decimals, one_line(f)?)
@@ -75,9 +75,9 @@ fn amount_in(decimals: u8, fields: &[Field]) -> Option<Amount>
 
 /// What was ordered: the currency and the amount of 32A, and where it has none those of the account.
 pub fn ordered_of(received: &Received, own: &Amount) -> Amount
-    requires { IsSpelled own.now }
+    requires { IsWritableAmount own.now }
     ensures value { result ≡ ordered_of received.now own.now }
-    ensures spelled { IsSpelled result }
+    ensures spelled { IsWritableAmount result }
 {
     match amount_in(own.decimals, received.fields.as_slice()) {
         Some(amount) => amount,

@@ -5,7 +5,7 @@ ghost use Rattle.corr_ids.specs.Bic.{IsBic};
 ghost use Rattle.corr_ids.specs.Uetr.{IsUetr};
 ghost use Rattle.fin_blocks.specs.Sending.{IsText, are_subblocks, sent_text};
 ghost use Rattle.fin_fields.specs.Writing.{IsField, fields_text};
-ghost use Rattle.advices.specs.Messages.{ReadsBack, receiver_of, type_of, uetr_block, user_of};
+ghost use Rattle.advices.specs.Messages.{ReadsBack, receiver_of, order_type, uetr_block, order_user};
 ghost use Rattle.day_model.specs.Shape.{IsOrder};
 
 use corr_ids::{Bic, Uetr};
@@ -17,7 +17,7 @@ use std::alloc::Global;
 
 /// The type of an order's message.
 pub fn type_of(order: Order) -> u16
-    ensures value { result ≡ type_of order }
+    ensures value { result ≡ order_type order }
     ensures bound { result ≤ 999 }
 {
     match order {
@@ -56,7 +56,7 @@ pub fn user_of(
     uetr: &Option<Uetr>,
     order: Order,
 ) -> Result<List<(u16, Text)>, Memory>
-    ensures { IfOk result (λ user. user ≡ user_of uetr.now order) }
+    ensures { IfOk result (λ user. user ≡ order_user uetr.now order) }
 {
     let mut user = List::new(alloc);
     match order {

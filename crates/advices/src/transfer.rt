@@ -6,7 +6,7 @@ ghost use Rattle.corr_ids.specs.Bic.{IsBic};
 ghost use Rattle.fin_layout.specs.Segments.{joined};
 ghost use Rattle.fin_contents.specs.Writing.{IsAmount, IsValue, some_field};
 ghost use Rattle.advices.specs.Fields.{bank_field, copied_all, is_named, kept};
-ghost use Rattle.advices.specs.Transfer.{account_bank, detail_fields, has_code, instructions, intermediary, is_passed_on, is_there, ordered_amount, party_fields, tells_account_bank, tells_intermediary, term_fields, transfer_fields};
+ghost use Rattle.advices.specs.Transfer.{account_bank, detail_fields, has_code, passed_instructions, intermediary, is_passed_on, is_there, ordered_amount, party_fields, tells_account_bank, tells_intermediary, term_fields, transfer_fields};
 
 use crate::copying::{bank_field, copy_field, first_named, is_named, push_copied};
 use crate::received::{Received, push_ordering};
@@ -119,7 +119,7 @@ fn push_instructions(
     skip: Skip,
     out: &mut List<Field>,
 ) -> Result<(), Memory>
-    ensures { OnOk result (out.new ≡ out.old ++ instructions skip fields.now) }
+    ensures { OnOk result (out.new ≡ out.old ++ passed_instructions skip fields.now) }
 {
     let has_56 = intermediary(fields, skip).is_some();
     let has_57 = account_bank(fields, skip).is_some();

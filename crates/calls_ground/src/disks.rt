@@ -1,6 +1,7 @@
 //! Calls go through functions that promise nothing: a test then carries none of what a disk promises.
 
-ghost use Rattle.std.specs.Prelude.{◌≤◌, ◌+◌, ◌^◌, IsTrue, length};
+ghost use Rattle.std.specs.Prelude.{◌≤◌, ◌+◌, IsTrue, length};
+ghost use Rattle.corr_disk.specs.Disk.{most_disk_bytes};
 
 use corr_disk::{Disk, FileDisk, FuseDisk, MemDisk, OnceDisk};
 use corr_text::{Memory, Text};
@@ -52,7 +53,7 @@ fn holds<D: Disk>(disk: &mut D, at: u64, want: &[u8]) -> bool {
 
 fn write<D: Disk>(disk: &mut D, at: u64, bytes: &[u8]) -> bool
     requires no_gap { IsTrue (D.honest disk.old) → at ≤ length (D.reads disk.old) }
-    requires room { at + length bytes.now ≤ 2 ^ 30 }
+    requires room { at + length bytes.now ≤ most_disk_bytes }
 {
     disk.write_at(at, bytes).is_ok()
 }

@@ -1,4 +1,5 @@
-ghost use Rattle.std.specs.Prelude.{◌^◌, ◌<◌, ◌≤◌, IfOk, OnOk};
+ghost use Rattle.std.specs.Prelude.{◌<◌, ◌≤◌, IfOk, OnOk};
+ghost use Rattle.corr_disk.specs.Disk.{most_disk_bytes};
 ghost use Rattle.jrn_file.specs.File.{IsOpen};
 ghost use Rattle.jrn_file.specs.Journal.{IsFrame};
 
@@ -251,7 +252,7 @@ const PIECE: usize = 1 << 20;
 
 // A header record that ends at this place, and these bytes behind it.
 fn behind_head(alloc: Global, place: usize, bytes: &[u8]) -> Result<Text, Memory>
-    requires { (5 ≤ place) × (place ≤ 2 ^ 30) }
+    requires { (5 ≤ place) × (place ≤ most_disk_bytes) }
 {
     let size = place - 5;
     let mut image = vec![in alloc; b'H'; place]?;
@@ -321,7 +322,7 @@ fn cut_at(alloc: Global, image: Text) -> Result<Option<(u64, usize)>, Fail> {
 
 // Whether a journal whose header record ends at this place is refused where it is cut short so many bytes behind it.
 fn is_refused(alloc: Global, head: usize, left: usize) -> Result<bool, Fail>
-    requires { (5 ≤ head) × (head ≤ 2 ^ 30) × (left ≤ 30) }
+    requires { (5 ≤ head) × (head ≤ most_disk_bytes) × (left ≤ 30) }
 {
     let (record, count) = match left {
         0..=7 => (0, 1),

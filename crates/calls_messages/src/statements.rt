@@ -1,7 +1,7 @@
 //! Pages of statements as messages hold them.
 
 ghost use Rattle.std.specs.Prelude.{All, IsTrue};
-ghost use Rattle.mt950.specs.Joining.{IsSmall};
+ghost use Rattle.mt950.specs.Joining.{IsSmallLine};
 ghost use Rattle.ref_tables.specs.Seen.{few_decimals};
 
 use crate::cutting::{cut, let_go, tables};
@@ -29,7 +29,7 @@ fn page(alloc: Global, tables: &RefTables, text: &[u8]) -> Result<Option<Text>, 
 
 // What the first line adds, by a copy of it; 0 where there is none.
 fn first_effect(alloc: Global, lines: &[Line61]) -> Result<i64, Memory>
-    requires { All IsSmall lines.now }
+    requires { All IsSmallLine lines.now }
 {
     match lines {
         [line, ..] => {

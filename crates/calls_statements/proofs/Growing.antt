@@ -14,7 +14,7 @@ use Rattle.day_model.specs.declared.entry.Outcome.{Outcome}
 use Rattle.day_model.specs.declared.pay.Pay.{Pay}
 use Rattle.day_model.proofs.laws.Growth.{one_more, pushed}
 use Rattle.statement.specs.Index.{IsIndexOf, TakesNext, grown}
-use Rattle.statement.specs.Seen.{Book}
+use Rattle.statement.specs.Seen.{SeenBook}
 use Rattle.statement.specs.declared.index.HistoryIndex.{HistoryIndex}
 use Rattle.calls_statements.specs.Grown.{IsGrown, the_day}
 
@@ -30,11 +30,11 @@ module _ (chart : Chart) (entries : List Entry) (pay : Pay) (outcome : Outcome) 
   next-legal = subst (λ (o : Outcome). IsLegal chart (entries ++ entry_with pay o ∷ [])) (sym same) (one_more chart entries pay the_day is.legal fit is.latest (omega (arith, room)) fresh)
 
   -- the index takes the entry
-  pub takes-next : (book : Book) × TakesNext index (entry_with pay outcome) book
+  pub takes-next : (book : SeenBook) × TakesNext index (entry_with pay outcome) book
   takes-next = (record { chart = chart; entries = entries }, record { is = is.indexed; legal = next-legal })
 
   -- and is then that of the history with it
-  pub grown-more : (new : HistoryIndex) → HasShape pay → ((book : Book) → TakesNext index (entry_with pay outcome) book → IsIndexOf new (grown book (entry_with pay outcome))) → IsGrown chart (entries ++ entry_with pay outcome ∷ []) new
+  pub grown-more : (new : HistoryIndex) → HasShape pay → ((book : SeenBook) → TakesNext index (entry_with pay outcome) book → IsIndexOf new (grown book (entry_with pay outcome))) → IsGrown chart (entries ++ entry_with pay outcome ∷ []) new
   grown-more new shape taken =
       let Shaped : Entry → Type 0 = λ e. HasShape e.pay in
       record {

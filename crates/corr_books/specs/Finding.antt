@@ -5,7 +5,7 @@ use Rattle.day_model.specs.declared.entry.Entry.{Entry}
 use Rattle.day_model.specs.Chart.{Chart}
 use Rattle.day_model.specs.Laws.{IsLatest}
 use Rattle.jrn_book.specs.Journal.{IsJournal}
-use Rattle.jrn_book.specs.Opening.{Finding, book, no_book, faulty, IsFound, OpenCause, found_by}
+use Rattle.jrn_book.specs.Opening.{Finding, book, no_book, faulty, IsFound, BookOpenCause, found_by}
 use Rattle.jrn_file.specs.Reading.{Reading}
 use Rattle.jrn_file.specs.declared.fault.OpenFault.TheVariants as open_fault
 use Rattle.corr_books.specs.declared.opening.BooksFault.{BooksFault}
@@ -73,7 +73,7 @@ ShowsBack reading honest day (DateBack last) = OpensBack reading honest day last
 
 -- a fault of the disk tells its counts; where the disk didn't fail, its count is as it was
 abbrev pub BooksCause : ℕ → ℕ → BooksFault → Type 0
-BooksCause old new (Open fault) = OpenCause old new fault
+BooksCause old new (Open fault) = BookOpenCause old new fault
 BooksCause old new (DateBack last) = new ≡ old
 
 -- a book of this history was not begun for the day: its last entry has a later one, or there was no memory

@@ -1,6 +1,10 @@
 -- What the calls of a disk do to its bytes, and what a crash may leave between two syncs.
 use Rattle.std.specs.Prelude.{◌≡◌, ◌⊎◌, ℕ, ◌+◌, ◌-◌, ◌≤◌, min, max, List, ◌++◌, length, take, drop}
 
+-- a disk has at most so many bytes
+abbrev pub most_disk_bytes : ℕ
+most_disk_bytes = 2 ^ 30
+
 -- the bytes with this piece written over them from this place on
 abbrev pub written : ℕ → List ℕ → List ℕ → List ℕ
 written at piece bytes = take at bytes ++ piece ++ drop (at + length piece) bytes

@@ -8,6 +8,7 @@ pub now_counts : (first : List ℕ) (steps : List Step) (t : ℕ) (c : List ℕ)
 now_counts first [] t c now = now
 now_counts first (step ∷ earlier) t c now = inl now
 
+-- no moment is after the last one
 too_late : (n : ℕ) → suc n ≤ n → ⊥
 too_late n le = omega (arith, le)
 

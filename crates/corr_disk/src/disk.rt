@@ -1,8 +1,8 @@
 //! The trait of a disk.
 
-ghost use Rattle.std.specs.Prelude.{◌≡◌, ◌+◌, ◌^◌, ◌≤◌, ℕ, Bool, true, false, List, Option, Some, length, IsTrue, IsSome, IsOk, IsErr, IfOk, OnOk, OnErr};
+ghost use Rattle.std.specs.Prelude.{◌≡◌, ◌+◌, ◌≤◌, ℕ, Bool, true, false, List, Option, Some, length, IsTrue, IsSome, IsOk, IsErr, IfOk, OnOk, OnErr};
 ghost use Rattle.corr_disk.specs.Calls.{CallsMade};
-ghost use Rattle.corr_disk.specs.Disk.{written, Torn, Follows, NoMore, Only, Elapses, ReadsAt, IsAsBefore};
+ghost use Rattle.corr_disk.specs.Disk.{written, Torn, Follows, NoMore, Only, Elapses, ReadsAt, IsAsBefore, most_disk_bytes};
 ghost use Rattle.corr_text.specs.Faults.{HasCause};
 
 use corr_text::Failed;
@@ -79,7 +79,7 @@ pub trait Disk {
     /// something was known of the call.
     fn write_at(&mut self, at: u64, bytes: &[u8]) -> Result<(), Failed>
         requires no_gap { IsTrue (honest self.old) → at ≤ length (reads self.old) }
-        requires room { at + length bytes.now ≤ 2 ^ 30 }
+        requires room { at + length bytes.now ≤ most_disk_bytes }
         ensures answer { IsTrue (honest self.old) → OnOk result (reads self.new ≡ written at bytes.now (reads self.old)) }
         ensures elsewhere { IsTrue (honest self.old) → Torn at (length bytes.now) (reads self.old) (reads self.new) }
         ensures crash { Follows (Torn at (length bytes.now)) (may_leave self.old) (may_leave self.new) }

@@ -1,8 +1,8 @@
 //! A disk that stops.
 
-ghost use Rattle.std.specs.Prelude.{◌≡◌, ◌+◌, ◌-◌, ◌^◌, ◌≤◌, ◌∷◌, ℕ, nat_le, IsTrue, Some, true, length, map, unwrap_or, option_map, IfOk, OnOk, OnErr};
+ghost use Rattle.std.specs.Prelude.{◌≡◌, ◌+◌, ◌-◌, ◌≤◌, ◌∷◌, ℕ, nat_le, IsTrue, Some, true, length, map, unwrap_or, option_map, IfOk, OnOk, OnErr};
 ghost use Rattle.corr_disk.specs.Calls.{fails_at};
-ghost use Rattle.corr_disk.specs.Disk.{Only};
+ghost use Rattle.corr_disk.specs.Disk.{Only, most_disk_bytes};
 ghost use Rattle.corr_disk.specs.Past.{bytes_after, Image, LeftSince};
 ghost use Rattle.corr_disk.specs.Laws.{now_counts, no_other, reads_stay};
 ghost use Rattle.corr_disk.specs.Tearing.{arrived, torn_write, left_of};
@@ -61,7 +61,7 @@ impl FuseDisk {
     /// Writes, and tears the image too.
     fn write(&mut self, at: u64, bytes: &[u8]) -> Result<(), Memory>
         requires no_gap { at ≤ length (bytes_after self.old.disk.past.first self.old.disk.past.steps) }
-        requires room { at + length bytes.now ≤ 2 ^ 30 }
+        requires room { at + length bytes.now ≤ most_disk_bytes }
         ensures first { self.new.disk.past.first ≡ self.old.disk.past.first }
         ensures ok { OnOk result (self.new.disk.past.steps ≡ Some (at, bytes.now) ∷ self.old.disk.past.steps) }
         ensures err { OnErr result (self.new.disk.past.steps ≡ self.old.disk.past.steps) }
@@ -137,7 +137,7 @@ fn torn_copy(
     bytes: &[u8],
     torn: u64,
 ) -> Result<Vec<u8>, Memory>
-    requires room { at + length bytes.now ≤ 2 ^ 30 }
+    requires room { at + length bytes.now ≤ most_disk_bytes }
     ensures { IfOk result (λ next. next.items ≡ torn_write torn at bytes.now image.now) }
 {
     let mut next = Vec::from_slice(alloc, image)?;
@@ -150,7 +150,7 @@ fn torn_copy(
 
 /// What of a piece arrives.
 fn part_of(alloc: Global, piece: &[u8], torn: u64) -> Result<Vec<u8>, Memory>
-    requires room { length piece.now ≤ 2 ^ 30 }
+    requires room { length piece.now ≤ most_disk_bytes }
     ensures part { IfOk result (λ part. part.items ≡ arrived torn piece.now) }
     ensures length { IfOk result (λ part. length part.items ≤ length piece.now) }
 {

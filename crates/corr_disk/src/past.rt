@@ -1,7 +1,7 @@
 //! What a disk in memory has been through.
 
-ghost use Rattle.std.specs.Prelude.{◌≡◌, ◌+◌, ◌^◌, ◌≤◌, [], ◌∷◌, ◌++◌, Some, length, OnOk, OnErr};
-ghost use Rattle.corr_disk.specs.Disk.{written};
+ghost use Rattle.std.specs.Prelude.{◌≡◌, ◌+◌, ◌≤◌, [], ◌∷◌, ◌++◌, Some, length, OnOk, OnErr};
+ghost use Rattle.corr_disk.specs.Disk.{written, most_disk_bytes};
 ghost use Rattle.corr_disk.specs.Past.{History, bytes_after, Settles};
 
 use corr_text::{Memory, Text};
@@ -81,7 +81,7 @@ impl Past {
     /// Writes over what is there and past the end.
     pub(crate) fn write(&mut self, at: u64, piece: &[u8]) -> Result<(), Memory>
         requires no_gap { at ≤ length (bytes_after self.old.first self.old.steps) }
-        requires room { at + length piece.now ≤ 2 ^ 30 }
+        requires room { at + length piece.now ≤ most_disk_bytes }
         ensures first { self.new.first ≡ self.old.first }
         ensures ok { OnOk result (self.new.steps ≡ Some (at, piece.now) ∷ self.old.steps) }
         ensures err { OnErr result (self.new.steps ≡ self.old.steps) }
@@ -117,7 +117,7 @@ impl Past {
 /// Puts a piece over the bytes from a place on.
 pub(crate) fn overwrite(bytes: &mut Vec<u8>, at: usize, piece: &[u8]) -> Result<(), Memory>
     requires no_gap { at ≤ length bytes.old.items }
-    requires room { at + length piece.now ≤ 2 ^ 30 }
+    requires room { at + length piece.now ≤ most_disk_bytes }
     ensures ok { OnOk result (bytes.new.items ≡ written at piece.now bytes.old.items) }
     ensures err { OnErr result (bytes.new.items ≡ bytes.old.items) }
 {

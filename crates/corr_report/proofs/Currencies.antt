@@ -12,7 +12,7 @@ use Rattle.std.proofs.lemmas.List.{append-nil}
 use Rattle.std.proofs.lemmas.List.Elements.{All-from_recursion, All-push, All-weaker, Contains-append_left, Contains-push, recursion_from_All}
 use Rattle.std.proofs.lemmas.Map.Text.{is_eq-slice_cmp}
 use Rattle.day_model.specs.declared.account.Account.{Account}
-use Rattle.day_model.specs.Chart.{is_ccy}
+use Rattle.day_model.specs.Chart.{is_same_ccy}
 use Rattle.corr_money.specs.declared.amount.Ccy.{Ccy}
 use Rattle.corr_report.specs.declared.currency.Currency.{Currency}
 use Rattle.corr_report.specs.Totals.{AreCurrencies, currencies_of, currency_of, entered}
@@ -25,7 +25,7 @@ ccy_order c d = slice_cmp nat_cmp c.ccy.0 d.ccy.0
 order_total : IsTotalOrder ccy_order
 order_total = on_total (λ (unit : Currency). unit.ccy.0) nat_list_cmp_total
 
-same_ccy : (c : Ccy) → is_ccy c c ≡ true
+same_ccy : (c : Ccy) → is_same_ccy c c ≡ true
 same_ccy c = sym (is_eq-slice_cmp c.0 c.0) ∙ ap is_eq (tied_itself nat_list_cmp_total c.0)
 
 -- one more element
@@ -57,7 +57,7 @@ any_inserted p [] (suc i) x h = ap (λ b. b || false) h
 any_inserted p (y ∷ xs) (suc i) x h = or_right (p y) (list_any p (insert xs i x)) (any_inserted p xs i x h)
 
 -- a new currency goes before the first that is greater
-placed : (new u : Currency) (units : List Currency) (o : Ordering) → ccy_order new u ≡ o → is_ccy u.ccy new.ccy ≡ false → IsStrictlySortedBy ccy_order (u ∷ units)
+placed : (new u : Currency) (units : List Currency) (o : Ordering) → ccy_order new u ≡ o → is_same_ccy u.ccy new.ccy ≡ false → IsStrictlySortedBy ccy_order (u ∷ units)
     → IsStrictlySortedBy ccy_order (insert units (position_or_len (λ unit. is_before new.ccy unit.ccy) units) new)
     → IsStrictlySortedBy ccy_order (insert (u ∷ units) (cond (not (is_lt o)) (suc (position_or_len (λ unit. is_before new.ccy unit.ccy) units)) 0) new)
 unfolding IsStrictlySortedBy
@@ -70,12 +70,12 @@ placed new u units Greater e other s rest =
     let under : ccy_order u new ≡ Less = order_total.antisymm u new ∙ ap ordering_reverse e in
     (all_insert (λ y. ccy_order u y ≡ Less) units (position_or_len (λ unit. is_before new.ccy unit.ccy) units) new under s.0, rest)
 
-insert_rising : (new : Currency) (units : List Currency) → list_any (λ unit. is_ccy unit.ccy new.ccy) units ≡ false → IsStrictlySortedBy ccy_order units
+insert_rising : (new : Currency) (units : List Currency) → list_any (λ unit. is_same_ccy unit.ccy new.ccy) units ≡ false → IsStrictlySortedBy ccy_order units
     → IsStrictlySortedBy ccy_order (insert units (position_or_len (λ unit. is_before new.ccy unit.ccy) units) new)
 unfolding IsStrictlySortedBy
 insert_rising new [] none s = (tt, tt)
 insert_rising new (u ∷ units) none s =
-    let others = or_parts (is_ccy u.ccy new.ccy) (list_any (λ unit. is_ccy unit.ccy new.ccy) units) none in
+    let others = or_parts (is_same_ccy u.ccy new.ccy) (list_any (λ unit. is_same_ccy unit.ccy new.ccy) units) none in
     let at = position_or_len (λ unit. is_before new.ccy unit.ccy) units in
     let next : suc at ≡ 1 + at = omega arith in
     subst (λ (k : ℕ). IsStrictlySortedBy ccy_order (insert (u ∷ units) (cond (not (is_lt (ccy_order new u))) k 0) new)) next
@@ -87,18 +87,18 @@ one_more seen a units are =
     let new = currency_of a in
     let at = position_or_len (λ unit. is_before new.ccy unit.ccy) units in
     let OfSeen : List Account → Currency → Type 0 = λ accounts unit. (x : Account) × Contains accounts x × (currency_of x ≡ unit) in
-    let Has : List Currency → Account → Type 0 = λ units x. list_any (λ unit. is_ccy unit.ccy x.ccy) units ≡ true in
+    let Has : List Currency → Account → Type 0 = λ units x. list_any (λ unit. is_same_ccy unit.ccy x.ccy) units ≡ true in
     let each : All (OfSeen (seen ++ a ∷ [])) units =
     All-weaker (OfSeen seen) (OfSeen (seen ++ a ∷ [])) (λ unit of. (of.0, Contains-append_left seen (a ∷ []) of.0 of.1, of.2)) units are.each in
-    cond_both (list_any (λ unit. is_ccy unit.ccy new.ccy) units) units (insert units at new) (AreCurrencies (seen ++ a ∷ []))
+    cond_both (list_any (λ unit. is_same_ccy unit.ccy new.ccy) units) units (insert units at new) (AreCurrencies (seen ++ a ∷ []))
     (λ known. record { rising = are.rising; each = each; all = All-push (Has units) seen a are.all known })
     (λ none. record {
       rising = insert_rising new units none are.rising;
       each = All-from_recursion (OfSeen (seen ++ a ∷ [])) (insert units at new)
           (all_insert (OfSeen (seen ++ a ∷ [])) units at new (a, Contains-push seen a, refl) (recursion_from_All (OfSeen (seen ++ a ∷ [])) units each));
       all = All-push (Has (insert units at new)) seen a
-          (All-weaker (Has units) (Has (insert units at new)) (λ x h. any_insert (λ unit. is_ccy unit.ccy x.ccy) units at new h) seen are.all)
-          (any_inserted (λ unit. is_ccy unit.ccy a.ccy) units at new (same_ccy a.ccy));
+          (All-weaker (Has units) (Has (insert units at new)) (λ x h. any_insert (λ unit. is_same_ccy unit.ccy x.ccy) units at new h) seen are.all)
+          (any_inserted (λ unit. is_same_ccy unit.ccy a.ccy) units at new (same_ccy a.ccy));
     })
 
 more : (seen accounts : List Account) (units : List Currency) → AreCurrencies seen units → AreCurrencies (seen ++ accounts) (currencies_of units accounts)

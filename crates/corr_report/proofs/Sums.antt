@@ -7,7 +7,7 @@ use Rattle.day_model.specs.declared.account.Account.{Account}
 use Rattle.day_model.specs.declared.entry.Entry.{Entry}
 use Rattle.day_model.specs.declared.pay.Side.{Side}
 use Rattle.day_model.specs.declared.pay.Side.TheVariants.{Debit, Credit}
-use Rattle.day_model.specs.Chart.{Chart, is_ccy}
+use Rattle.day_model.specs.Chart.{Chart, is_same_ccy}
 use Rattle.day_model.specs.Balance.{moved_by}
 use Rattle.day_model.specs.Legal.{IsLegal}
 use Rattle.day_model.specs.Laws.{sum_in, turnover}
@@ -18,7 +18,7 @@ use Rattle.corr_report.specs.Totals.{part_at, part_of, sum_over}
 over_same : (f g : ℕ → ℕ) (ccy : Ccy) (i : ℕ) (accounts : List Account) → ((n : ℕ) → i ≤ n → n < i + length accounts → f n ≡ g n) → sum_over f ccy i accounts ≡ sum_over g ccy i accounts
 over_same f g ccy i [] h = refl
 over_same f g ccy i (x ∷ xs) h =
-    let here = ap (λ (m : ℕ). cond (is_ccy x.ccy ccy) m 0) (h i (omega arith) (omega arith)) in
+    let here = ap (λ (m : ℕ). cond (is_same_ccy x.ccy ccy) m 0) (h i (omega arith) (omega arith)) in
     let rest = over_same f g ccy (i + 1) xs (λ n from upto. h n (omega arith) (omega arith)) in
     omega (arith, here, rest)
 
@@ -30,8 +30,8 @@ number_step false x s = omega (arith, ints)
 over_in : (f : ℕ → ℕ) (ccy : Ccy) (i : ℕ) (accounts : List Account) → sum_in ccy (λ n. pos (f n)) i accounts ≡ pos (sum_over f ccy i accounts)
 over_in f ccy i [] = refl
 over_in f ccy i (x ∷ xs) =
-    ap (λ (z : ℤ). (if is_ccy x.ccy ccy then pos (f i) else pos 0) +ℤ z) (over_in f ccy (i + 1) xs)
-    ∙ number_step (is_ccy x.ccy ccy) (f i) (sum_over f ccy (i + 1) xs)
+    ap (λ (z : ℤ). (if is_same_ccy x.ccy ccy then pos (f i) else pos 0) +ℤ z) (over_in f ccy (i + 1) xs)
+    ∙ number_step (is_same_ccy x.ccy ccy) (f i) (sum_over f ccy (i + 1) xs)
 
 same_number : (m n : ℕ) (z : ℤ) → z ≡ pos m → z ≡ pos n → m ≡ n
 same_number m n z a b = omega (arith, ints, a, b)

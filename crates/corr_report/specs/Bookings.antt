@@ -19,13 +19,13 @@ abbrev pub AreInCentury : List Entry → Type 0
 AreInCentury entries = (i : ℕ) (entry : Entry) → slice_get entries i ≡ Some entry → InCentury entry.day
 
 -- the letter of a side
-abbrev pub mark_of : Side → List ℕ
-mark_of Debit = codes "D"
-mark_of Credit = codes "C"
+abbrev pub side_letter : Side → List ℕ
+side_letter Debit = codes "D"
+side_letter Credit = codes "C"
 
 -- `D VALPHEUR 1234,50`
 abbrev pub leg_words : Chart → Leg → List (List ℕ)
-leg_words chart leg = said (account_at chart leg.account.0) (λ account. mark_of leg.side ∷ account.id ∷ amount_text account.decimals leg.amount.0 ∷ [])
+leg_words chart leg = said (account_at chart leg.account.0) (λ account. side_letter leg.side ∷ account.id ∷ amount_text account.decimals leg.amount.0 ∷ [])
 
 -- `BOOKED` and the legs, or `UNFUNDED` with the account of the failing leg and its balance
 abbrev pub outcome_words : Chart → List Leg → Outcome → List (List ℕ)

@@ -11,7 +11,7 @@ use Rattle.day_model.specs.declared.reply.Reply.{Reply}
 use Rattle.day_model.specs.declared.reply.Reply.TheVariants.{Entered, Conflict, Refused, Unrouted}
 use Rattle.day_model.specs.Chart.{Chart, account_at}
 use Rattle.corr_report.specs.Lines.{line, numbered, said}
-use Rattle.corr_report.specs.Totals.{totals_of}
+use Rattle.corr_report.specs.Totals.{total_lines}
 
 -- a reply names a place of the history
 abbrev pub NamesPlace : List Entry → Reply → Type 0
@@ -63,4 +63,4 @@ count_line messages entries = line (codes "MESSAGES") (padded 6 messages ∷ cod
 -- a line for each message, the counts, and the totals of each currency
 abbrev pub report_of : Chart → List Entry → List Reply → List ℕ
 report_of chart entries replies =
-    numbered (reply_line chart entries) 1 replies ++ count_line (length replies) (length entries) ++ totals_of chart entries
+    numbered (reply_line chart entries) 1 replies ++ count_line (length replies) (length entries) ++ total_lines chart entries

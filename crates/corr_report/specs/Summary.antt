@@ -7,7 +7,7 @@ use Rattle.day_model.specs.declared.account.Account.{Account}
 use Rattle.day_model.specs.declared.entry.Entry.{Entry}
 use Rattle.corr_report.specs.Lines.{line, numbered}
 use Rattle.corr_report.specs.Report.{count_line}
-use Rattle.corr_report.specs.Totals.{totals_of}
+use Rattle.corr_report.specs.Totals.{total_lines}
 
 -- `BALANCE VALPHEUR 49999,25`
 abbrev pub balance_line : ℤ → Account → List ℕ
@@ -19,4 +19,4 @@ balances_of chart entries = numbered (λ n. balance_line (balance_of chart entri
 
 -- the counts, with one message for each entry, the totals of each currency, and the balances
 abbrev pub summary_of : Chart → List Entry → List ℕ
-summary_of chart entries = count_line (length entries) (length entries) ++ totals_of chart entries ++ balances_of chart entries
+summary_of chart entries = count_line (length entries) (length entries) ++ total_lines chart entries ++ balances_of chart entries

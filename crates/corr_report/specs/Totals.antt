@@ -10,7 +10,7 @@ use Rattle.day_model.specs.declared.account.Account.{Account}
 use Rattle.day_model.specs.declared.entry.Entry.{Entry}
 use Rattle.day_model.specs.declared.pay.Side.{Side}
 use Rattle.day_model.specs.declared.pay.Side.TheVariants.{Debit, Credit}
-use Rattle.day_model.specs.Chart.{Chart, is_ccy}
+use Rattle.day_model.specs.Chart.{Chart, is_same_ccy}
 use Rattle.day_model.specs.Gap.{is_before}
 use Rattle.day_model.specs.Laws.{turnover}
 use Rattle.day_model.specs.Totals.{Pair, pair_at}
@@ -19,7 +19,7 @@ use Rattle.corr_report.specs.Lines.{line}
 
 -- currencies in byte order, and one more where it isn't among them
 abbrev pub entered : Currency → List Currency → List Currency
-entered new units = if list_any (λ unit. is_ccy unit.ccy new.ccy) units then units else insert units (position_or_len (λ unit. is_before new.ccy unit.ccy) units) new
+entered new units = if list_any (λ unit. is_same_ccy unit.ccy new.ccy) units then units else insert units (position_or_len (λ unit. is_before new.ccy unit.ccy) units) new
 
 -- an account's currency and its decimals
 abbrev pub currency_of : Account → Currency
@@ -29,7 +29,7 @@ currency_of account = record { ccy = account.ccy; decimals = account.decimals }
 pub record AreCurrencies (accounts : List Account) (units : List Currency) : Type 0 where
   pub rising : IsStrictlySortedBy (λ (c d : Currency). slice_cmp nat_cmp c.ccy.0 d.ccy.0) units
   pub each : All (λ unit. (a : Account) × Contains accounts a × (currency_of a ≡ unit)) units
-  pub all : All (λ a. list_any (λ unit. is_ccy unit.ccy a.ccy) units ≡ true) accounts
+  pub all : All (λ a. list_any (λ unit. is_same_ccy unit.ccy a.ccy) units ≡ true) accounts
 
 -- the currencies of the accounts as a list: those of an empty list, and then of one account more each time (`AreCurrencies`)
 abbrev pub currencies_of : List Currency → List Account → List Currency
@@ -47,13 +47,13 @@ total_of chart entries unit =
     total_line unit (turnover chart unit.ccy Debit entries) (turnover chart unit.ccy Credit entries)
 
 -- a line for each currency
-abbrev pub totals_of : Chart → List Entry → List ℕ
-totals_of chart entries = flat_map (total_of chart entries) (currencies_of [] chart.accounts)
+abbrev pub total_lines : Chart → List Entry → List ℕ
+total_lines chart entries = flat_map (total_of chart entries) (currencies_of [] chart.accounts)
 
 -- the sum of a number of each account of a currency, the first account having number n
 abbrev pub sum_over : (ℕ → ℕ) → Ccy → ℕ → List Account → ℕ
 sum_over moved ccy n [] = 0
-sum_over moved ccy n (account ∷ accounts) = (if is_ccy account.ccy ccy then moved n else 0) + sum_over moved ccy (n + 1) accounts
+sum_over moved ccy n (account ∷ accounts) = (if is_same_ccy account.ccy ccy then moved n else 0) + sum_over moved ccy (n + 1) accounts
 
 -- one side of an account's totals
 abbrev pub part_of : Side → Pair → ℕ

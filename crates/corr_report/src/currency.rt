@@ -2,7 +2,7 @@
 
 ghost use Rattle.std.specs.Prelude.{◌≡◌, ◌≤◌, [], ◌∷◌, IfOk, OnOk, length};
 ghost use Rattle.std.specs.List.{All, list_any, position};
-ghost use Rattle.day_model.specs.Chart.{is_ccy};
+ghost use Rattle.day_model.specs.Chart.{is_same_ccy};
 ghost use Rattle.corr_report.specs.Totals.{currencies_of, entered};
 ghost use Rattle.day_model.specs.Gap.{is_before};
 
@@ -25,7 +25,7 @@ fn is_earlier(ccy: Ccy, other: Ccy) -> bool
 }
 
 fn is_among(ccy: Ccy, units: &[Currency]) -> bool
-    ensures { result ≡ list_any (λ unit. is_ccy unit.ccy ccy) units.now }
+    ensures { result ≡ list_any (λ unit. is_same_ccy unit.ccy ccy) units.now }
 {
     units.iter().any(|unit| unit.ccy == ccy)
 }

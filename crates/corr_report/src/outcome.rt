@@ -5,7 +5,7 @@ ghost use Rattle.std.specs.List.{flat_map};
 ghost use Rattle.corr_money.specs.Amounts.{amount_end};
 ghost use Rattle.day_model.specs.Chart.{IsListed, account_at};
 ghost use Rattle.day_model.specs.Fit.{FitsAccounts};
-ghost use Rattle.corr_report.specs.Bookings.{leg_words, mark_of, outcome_words};
+ghost use Rattle.corr_report.specs.Bookings.{leg_words, side_letter, outcome_words};
 ghost use Rattle.corr_report.specs.Lines.{spaced};
 ghost use Rattle.corr_report.specs.Outcomes.{NamesLeg};
 ghost use Rattle.corr_report.specs.Report.{amount_words, balance_words, entry_words};
@@ -85,7 +85,7 @@ pub(crate) fn put_entry(
 }
 
 fn mark(side: Side) -> &'static [u8]
-    ensures { result.now ≡ mark_of side }
+    ensures { result.now ≡ side_letter side }
 {
     match side {
         Side::Debit => b"D",

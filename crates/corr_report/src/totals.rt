@@ -2,7 +2,7 @@
 
 ghost use Rattle.std.specs.Prelude.{◌≡◌, ◌≤◌, ◌++◌, length, OnOk};
 ghost use Rattle.day_model.specs.Legal.{IsLegal};
-ghost use Rattle.corr_report.specs.Totals.{total_line, totals_of};
+ghost use Rattle.corr_report.specs.Totals.{total_line, total_lines};
 
 use crate::currency::{Currency, currencies};
 use crate::turnover::sum_of;
@@ -38,7 +38,7 @@ pub(crate) fn put_totals(
     out: &mut Text,
 ) -> Result<(), Memory>
     requires { IsLegal a.now h.now.entries }
-    ensures { OnOk result (out.new ≡ out.old ++ totals_of a.now h.now.entries) }
+    ensures { OnOk result (out.new ≡ out.old ++ total_lines a.now h.now.entries) }
 {
     let pairs = totals(alloc, a, h)?;
     let units = currencies(alloc, a)?;

@@ -1,7 +1,7 @@
 //! What the booked entries move in a currency.
 
 ghost use Rattle.std.specs.Prelude.{◌≡◌, ◌<◌, ◌≤◌, ◌^◌, length, if◌then◌else◌};
-ghost use Rattle.day_model.specs.Chart.{is_ccy};
+ghost use Rattle.day_model.specs.Chart.{is_same_ccy};
 ghost use Rattle.corr_report.specs.Totals.{part_at, part_of, sum_over};
 
 use corr_money::Ccy;
@@ -26,7 +26,7 @@ fn part_of_account(side: Side, pairs: &[(u64, u64)], n: u32) -> u64
 }
 
 fn beside(account: &Account, ccy: Ccy, sum: u64) -> u64
-    ensures { result ≡ (if is_ccy account.now.ccy ccy then sum else 0) }
+    ensures { result ≡ (if is_same_ccy account.now.ccy ccy then sum else 0) }
 {
     if account.ccy == ccy { sum } else { 0 }
 }

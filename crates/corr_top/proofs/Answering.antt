@@ -15,13 +15,13 @@ use Rattle.corr_top.specs.declared.desk.Served.{Served}
 use Rattle.corr_top.specs.declared.desk.Served.TheVariants as served
 use Rattle.corr_top.specs.declared.message.NoPay.{NoPay}
 use Rattle.corr_top.specs.Days.{HasAnswered}
-use Rattle.corr_top.specs.Message.{pays_in, replies_in, reply_in}
+use Rattle.corr_top.specs.Message.{pays_in, replies_in, message_reply}
 use Rattle.corr_top.specs.Serving.{AreInTurn, AreTold, are_replies}
 use Rattle.corr_top.proofs.Replying.{all_one, names_place}
 
 -- a message with a reply, for each of them
 abbrev pub Reply_of : List Entry → Result Pay NoPay → Reply → Type 0
-Reply_of history reading r = reply_in history reading ≡ Some r
+Reply_of history reading r = message_reply history reading ≡ Some r
 
 pub record AreReplies (history : List Entry) (readings : List (Result Pay NoPay)) (replies : List Reply) : Type 0 where
   pub each : length replies ≡ length readings
@@ -35,7 +35,7 @@ replies_are history [] [] are = refl
 replies_are history [] (r ∷ replies) are = let e = are.each in absurd (omega (arith, e))
 replies_are history (reading ∷ readings) [] are = let e = are.each in absurd (omega (arith, e))
 replies_are history (reading ∷ readings) (r ∷ replies) are =
-    let told : reply_in history reading ≡ Some r = are.one 0 reading r refl refl in
+    let told : message_reply history reading ≡ Some r = are.one 0 reading r refl refl in
     let first : replies_in history (reading ∷ readings) ≡ r ∷ replies_in history readings = rw told refl in
     ap (λ (l : List Reply). r ∷ l) (replies_are history readings replies (rest_of history reading readings r replies are)) ∙ sym first
 

@@ -22,7 +22,7 @@ use Rattle.fin_frame.specs.Machine.{at_start, run, with_open}
 use Rattle.fin_frame.proofs.laws.Showing.{cut-comes}
 use Rattle.jrn_book.specs.Opening.{Finding, IsFound, book, faulty, no_book}
 use Rattle.jrn_book.proofs.laws.Findings.{one_finding}
-use Rattle.jrn_file.specs.Faults.{Tells}
+use Rattle.jrn_file.specs.Faults.{TellsCounts}
 use Rattle.jrn_file.specs.Reading.{Reading, opened_of}
 use Rattle.jrn_file.specs.declared.fault.MakeFault.{MakeFault}
 use Rattle.jrn_file.specs.declared.fault.MakeFault.TheVariants as making
@@ -51,15 +51,15 @@ use Rattle.corr_top.specs.declared.tables.TableStop.TheVariants as table
 use Rattle.corr_top.specs.declared.words.Command.{Command}
 use Rattle.corr_top.specs.declared.words.Command.TheVariants.{Run, Plain}
 use Rattle.corr_top.specs.declared.words.Plain.TheVariants.{Init, Query}
-use Rattle.corr_top.specs.Booking.{IsAdded, IsBack, LacksRoomThen, StopsBooking}
-use Rattle.corr_top.specs.Commands.{IsFor, steps_of}
-use Rattle.corr_top.specs.Complete.{HasRoomForAll, IsReady, IsSound, IsSure, Told}
+use Rattle.corr_top.specs.Booking.{IsEnteredOn, IsBack, LacksRoomThen, StopsBooking}
+use Rattle.corr_top.specs.Commands.{IsFor, command_steps}
+use Rattle.corr_top.specs.Complete.{HasRoomForAll, IsReady, IsFaultless, IsSure, Told}
 use Rattle.corr_top.specs.Ends.{Ends, HasStopped}
 use Rattle.corr_top.specs.Inputs.{Inputs, accounts_in, directory_in, instructions_in, opened, pays_of, tables_in}
 use Rattle.corr_top.specs.Message.{pays_in, readings_of}
 use Rattle.corr_top.specs.MessageFile.{IsMessageFile, StopsCutting}
 use Rattle.corr_top.specs.OnDisk.{HoldsJournal, IsFree, StopsMaking, StopsOpening}
-use Rattle.corr_top.specs.Passing.{Bad, Balances, IsUntouched, Passes, StopsAt, StopsAtMessages, StopsAtSums, StopsAtTable, fault_of, file_of}
+use Rattle.corr_top.specs.Passing.{Bad, Balances, StepIsUntouched, Passes, StopsAt, StopsAtMessages, StopsAtSums, StopsAtTable, table_fault, table_file}
 use Rattle.corr_top.specs.Reading.{Failed, IsRead, Took}
 use Rattle.corr_top.specs.Steps.{Halts, Step, Walks}
 use Rattle.corr_top.specs.Stops.{status_of_booking, status_of_file, status_of_making, status_of_opening, status_of_sums, status_of_table}
@@ -91,7 +91,7 @@ small name most test file e =
     let b : nat_le (length file) 8388608 ≡ true = small_if (nat_le (length file) 8388608) name (first_bad_row test []) (up_to most (rows_of file)) e in
     grind (arith, nat_tests)
 
-small_table : (name : TableName) (i : Inputs) → fault_of name i ≡ None → length (file_of name i) ≤ 8388608
+small_table : (name : TableName) (i : Inputs) → table_fault name i ≡ None → length (table_file name i) ≤ 8388608
 small_table names.Bics i none = small _ _ _ i.bics none
 small_table names.Ccys i none = small _ _ _ i.ccys none
 small_table names.Countries i none = small _ _ _ i.countries none
@@ -105,7 +105,7 @@ record SameJournal (j i : Inputs) : Type 0 where
   pub history : j.history ≡ i.history
 
 abbrev Agrees : Inputs → Inputs → Step → Type 0
-Agrees j i (Step.table name) = file_of name j ≡ file_of name i
+Agrees j i (Step.table name) = table_file name j ≡ table_file name i
 Agrees j i Step.open_journal = SameJournal j i
 Agrees j i Step.messages = j.cut ≡ i.cut
 Agrees j i _ = Unit {0}
@@ -155,7 +155,7 @@ same_tables j i done has all =
     ∙ ap (λ (f : List ℕ). tables_of i.bics f j.countries) (agreed j i done (Step.table names.Ccys) all has.ccys)
     ∙ ap (λ (f : List ℕ). tables_of i.bics i.ccys f) (agreed j i done (Step.table names.Countries) all has.countries)
 
-same_fault : (j i : Inputs) (done : List Step) (name : TableName) → j.home ≡ i.home → IsAfter done (Step.table name) → Walks (Agrees j i) done → file_of name j ≡ file_of name i → fault_of name j ≡ fault_of name i
+same_fault : (j i : Inputs) (done : List Step) (name : TableName) → j.home ≡ i.home → IsAfter done (Step.table name) → Walks (Agrees j i) done → table_file name j ≡ table_file name i → table_fault name j ≡ table_fault name i
 same_fault j i done names.Bics home after all own = ap (λ (f : List ℕ). named names.Bics (bics_fault f)) own
 same_fault j i done names.Ccys home after all own = ap (λ (f : List ℕ). named names.Ccys (ccys_fault f)) own
 same_fault j i done names.Countries home after all own = ap (λ (f : List ℕ). named names.Countries (countries_fault f)) own
@@ -187,7 +187,7 @@ same_pays j i done has all =
 same_rose : {A : Type 0} (faults : A → ℕ) (old new : A) (then now : ℕ) → Failed faults old new then now → Rose (faults old) (faults new)
 same_rose faults old new then now f = subst (λ n. Rose n (faults new)) f.then_is (subst (λ n. Rose then n) f.now_is f.rose)
 
-tells_rose : (old before after new : ℕ) → Tells old before after new → Rose old new
+tells_rose : (old before after new : ℕ) → TellsCounts old before after new → Rose old new
 tells_rose old before after new t = subst (λ n. Rose n new) t.before_is (subst (λ n. Rose before n) t.after_is t.rose)
 
 table_memory : {S : Type 0} (source : sources.Ghosts S) (old new : S) (bytes meant_bytes : List ℕ) (fault meant : Option Bad) (stop : TableStop) → Told source old new meant_bytes → meant ≡ None → length meant_bytes ≤ 8388608
@@ -249,8 +249,8 @@ added_is (e ∷ history) added front later is = added_is history added front lat
 front_legal : (j : Inputs) (added : List Entry) {entries end need : ℕ} → (lacks : LacksRoomThen j.chart j.history (pays_of j) j.day (j.history ++ added) entries end need) → IsLegal j.chart (j.history ++ added) → IsLegal j.chart (j.history ++ lacks.front)
 front_legal j added lacks legal = legal_front j.chart (j.history ++ lacks.front) lacks.later (subst (IsLegal j.chart) lacks.left_is legal)
 
-front_added : (j : Inputs) (added : List Entry) {entries end need : ℕ} → All (IsAdded j.day (pays_of j)) added → (lacks : LacksRoomThen j.chart j.history (pays_of j) j.day (j.history ++ added) entries end need) → All (IsAdded j.day (pays_of j)) lacks.front
-front_added j added each lacks = All-front (IsAdded j.day (pays_of j)) lacks.front lacks.later (subst (λ (es : List Entry). All (IsAdded j.day (pays_of j)) es) (added_is j.history added lacks.front lacks.later lacks.left_is) each)
+front_added : (j : Inputs) (added : List Entry) {entries end need : ℕ} → All (IsEnteredOn j.day (pays_of j)) added → (lacks : LacksRoomThen j.chart j.history (pays_of j) j.day (j.history ++ added) entries end need) → All (IsEnteredOn j.day (pays_of j)) lacks.front
+front_added j added each lacks = All-front (IsEnteredOn j.day (pays_of j)) lacks.front lacks.later (subst (λ (es : List Entry). All (IsEnteredOn j.day (pays_of j)) es) (added_is j.history added lacks.front lacks.later lacks.left_is) each)
 
 booking_memory : {D : Type 0} (d : disks.Ghosts D) (old new : D) (j i : Inputs) (stop : BookStop) → IsSure d old new → HasRoomForAll i.chart i.history (pays_of i) → j.chart ≡ i.chart → j.history ≡ i.history → pays_of j ≡ pays_of i
     → StopsBooking d old new j stop → status_of_booking stop ≡ status.Memory
@@ -264,7 +264,7 @@ booking_memory d old new j i booking.Memory sure room chart history pays stops =
 module _ {S K D : Type 0} (source : sources.Ghosts S) (d : disks.Ghosts D) (old new : Room S K D) (j i : Inputs) (home : j.home ≡ i.home) (day : j.day ≡ i.day) where
   step_memory : (s : Status) (done : List Step) (step : Step) → IsAfter done step → Walks (Agrees j i) done → IsReady source d old new i step → StopsAt source d old new j s step → s ≡ status.Memory
   step_memory s done (Step.table name) after all ready stops =
-      stops.1 ∙ table_memory source _ _ (file_of name j) (file_of name i) (fault_of name j) (fault_of name i) stops.0 ready.0 ready.1 (small_table name i ready.1) (same_fault j i done name home after all) stops.2
+      stops.1 ∙ table_memory source _ _ (table_file name j) (table_file name i) (table_fault name j) (table_fault name i) stops.0 ready.0 ready.1 (small_table name i ready.1) (same_fault j i done name home after all) stops.2
   step_memory s done Step.sums after all ready stops = stops.1 ∙ sums_memory j i stops.0 (same_accounts j i done after.0 after.1 all) ready stops.2
   step_memory s done Step.make after all ready stops = stops.1 ∙ making_memory d old.disk new.disk _ stops.0 ready.0 ready.1 stops.2
   step_memory s done Step.open_journal after all ready stops = stops.1 ∙ opening_memory d old.disk new.disk i.chart i.history stops.0 ready.0 ready.1 stops.2
@@ -276,7 +276,7 @@ module _ {S K D : Type 0} (source : sources.Ghosts S) (d : disks.Ghosts D) (old 
       stops.1 ∙ booking_memory d old.disk new.disk j i stops.0 ready.0 ready.1 journal.chart journal.history (same_pays j i done after all) stops.2
 
   step_agrees : (step : Step) → IsReady source d old new i step → Passes source d old new j step → Agrees j i step
-  step_agrees (Step.table name) ready passes = took_whole source.left source.faults 8388608 _ _ (file_of name j) (file_of name i) ready.0.told (small_table name i ready.1) passes.took
+  step_agrees (Step.table name) ready passes = took_whole source.left source.faults 8388608 _ _ (table_file name j) (table_file name i) ready.0.told (small_table name i ready.1) passes.took
   step_agrees Step.sums ready passes = tt
   step_agrees Step.make ready passes = tt
   step_agrees Step.open_journal ready passes =
@@ -289,7 +289,7 @@ module _ {S K D : Type 0} (source : sources.Ghosts S) (d : disks.Ghosts D) (old 
   step_agrees Step.book ready passes = tt
 
   halts_memory : (s : Status) (done steps : List Step) → AreOrdered done steps → Walks (Agrees j i) done → Walks (IsReady source d old new i) steps
-      → Halts (Passes source d old new j) (StopsAt source d old new j s) (IsUntouched d old new) steps → s ≡ status.Memory
+      → Halts (Passes source d old new j) (StopsAt source d old new j s) (StepIsUntouched d old new) steps → s ≡ status.Memory
   halts_memory s done [] ordered all ready halts = absurd halts
   halts_memory s done (step ∷ steps) ordered all ready (inl here) = step_memory s done step ordered.0 all ready.0 here.0
   halts_memory s done (step ∷ steps) ordered all ready (inr later) = halts_memory s (step ∷ done) steps ordered.1 (step_agrees step ready.0 later.0, all) ready.1 later.1
@@ -302,7 +302,7 @@ three_read = record { bics = inr (inr (inl refl)); ccys = inr (inl refl); countr
 later : (s : Step) (done : List Step) → HasThree done → HasThree (s ∷ done)
 later s done three = record { bics = inr three.bics; ccys = inr three.ccys; countries = inr three.countries }
 
-ordered : (command : Command) → AreOrdered [] (steps_of command)
+ordered : (command : Command) → AreOrdered [] (command_steps command)
 ordered (Run day workers) =
     let three = three_read in
     let five = later Step.messages _ (later Step.day _ (later Step.open_journal _ (later (Step.table names.Ssi) _ three))) in
@@ -318,18 +318,18 @@ no_write_fault sink old new report from to out then now sound sent (inl f) = sou
 no_write_fault sink old new report from to out then now sound sent (inr f) = sent (same_rose sink.faults from to then now f.1.failed)
 
 -- a command that stopped wants memory
-stopped_memory : {S K D : Type 0} (source : sources.Ghosts S) (d : disks.Ghosts D) (sink : sinks.Ghosts K) (command : Command) (old new : Room S K D) (j i : Inputs) (s : Status) → IsFor command j → IsSound source sink d command old new i
+stopped_memory : {S K D : Type 0} (source : sources.Ghosts S) (d : disks.Ghosts D) (sink : sinks.Ghosts K) (command : Command) (old new : Room S K D) (j i : Inputs) (s : Status) → IsFor command j → IsFaultless source sink d command old new i
     → HasStopped source d command old new s j → s ≡ status.Memory
 stopped_memory source d sink (Run day workers) old new j i s is sound (inl halts) =
-    halts_memory source d old new j (record i { home = j.home }) refl (is.0 ∙ sym sound.are_for.0) s [] (steps_of (Run day workers)) (ordered (Run day workers)) tt sound.ready halts
+    halts_memory source d old new j (record i { home = j.home }) refl (is.0 ∙ sym sound.are_for.0) s [] (command_steps (Run day workers)) (ordered (Run day workers)) tt sound.ready halts
 stopped_memory source d sink (Plain (Init home)) old new j i s is sound (inl halts) =
-    halts_memory source d old new j (record i { day = j.day }) (is ∙ sym sound.are_for) refl s [] (steps_of (Plain (Init home))) (ordered (Plain (Init home))) tt sound.ready halts
+    halts_memory source d old new j (record i { day = j.day }) (is ∙ sym sound.are_for) refl s [] (command_steps (Plain (Init home))) (ordered (Plain (Init home))) tt sound.ready halts
 stopped_memory source d sink (Plain (Query asked)) old new j i s is sound (inl halts) =
-    halts_memory source d old new j (record i { home = j.home; day = j.day }) refl refl s [] (steps_of (Plain (Query asked))) (ordered (Plain (Query asked))) tt sound.ready halts
+    halts_memory source d old new j (record i { home = j.home; day = j.day }) refl refl s [] (command_steps (Plain (Query asked))) (ordered (Plain (Query asked))) tt sound.ready halts
 stopped_memory source d sink command old new j i s is sound (inr memory) = memory.1
 
 pub done_or_memory : {S K D : Type 0} (source : sources.Ghosts S) (d : disks.Ghosts D) (sink : sinks.Ghosts K) (command : Command) (old new : Room S K D) (s : Status) (i : Inputs) → Ends source d command old new sink s
-    → IsSound source sink d command old new i → (s ≡ status.Done) ⊎ (s ≡ status.Memory)
+    → IsFaultless source sink d command old new i → (s ≡ status.Done) ⊎ (s ≡ status.Memory)
 done_or_memory source d sink command old new s i e sound = elim e.ends [
   | inl done ↦ inl done.status_is
   | inr rest ↦ elim rest [
@@ -341,6 +341,6 @@ done_or_memory source d sink command old new s i e sound = elim e.ends [
 -- the same of a command that words may spell
 pub complete_if : {S K D C : Type 0} (source : sources.Ghosts S) (d : disks.Ghosts D) (sink : sinks.Ghosts K) (of : C → Command) (spelled : Option C) (old new : Room S K D) (s : Status)
     → IfSome spelled (λ command. Ends source d (of command) old new sink s)
-    → IfSome spelled (λ command. (i : Inputs) → IsSound source sink d (of command) old new i → (s ≡ status.Done) ⊎ (s ≡ status.Memory))
+    → IfSome spelled (λ command. (i : Inputs) → IsFaultless source sink d (of command) old new i → (s ≡ status.Done) ⊎ (s ≡ status.Memory))
 complete_if source d sink of None old new s ends = ends
 complete_if source d sink of (Some command) old new s ends = λ i sound. done_or_memory source d sink (of command) old new s i ends sound

@@ -21,10 +21,10 @@ use Rattle.corr_top.specs.declared.words.Command.{Command}
 use Rattle.corr_top.specs.declared.words.Command.TheVariants.{Run, Plain}
 use Rattle.corr_top.specs.declared.words.Plain.TheVariants.{Init, Query}
 use Rattle.corr_top.specs.declared.writing.Texts.{Texts}
-use Rattle.corr_top.specs.Commands.{KeepsRest, out_in, report_in, steps_of}
+use Rattle.corr_top.specs.Commands.{KeepsRest, out_in, report_in, command_steps}
 use Rattle.corr_top.specs.Ends.{Ends, HasStopped, HasTexts}
 use Rattle.corr_top.specs.Inputs.{Inputs}
-use Rattle.corr_top.specs.Passing.{IsUntouched, Passes, StopsAt, StopsAtSums}
+use Rattle.corr_top.specs.Passing.{StepIsUntouched, Passes, StopsAt, StopsAtSums}
 use Rattle.corr_top.specs.Status.{HasLine}
 use Rattle.corr_top.specs.Steps.{Halts, Step}
 use Rattle.corr_top.specs.Stops.{status_of_booking, status_of_file, status_of_making, status_of_opening, status_of_sums, status_of_table}
@@ -73,13 +73,13 @@ module _ {S K D : Type 0} (source : sources.Ghosts S) (disk : disks.Ghosts D) (o
   step_line Step.messages stops = subst HasLine (sym stops.1) (file_line stops.0)
   step_line Step.book stops = subst HasLine (sym stops.1) (booking_line stops.0)
 
-  halts_line : (steps : List Step) → Halts (Passes source disk old new i) (StopsAt source disk old new i s) (IsUntouched disk old new) steps → HasLine s
+  halts_line : (steps : List Step) → Halts (Passes source disk old new i) (StopsAt source disk old new i s) (StepIsUntouched disk old new) steps → HasLine s
   halts_line [] halts = absurd halts
   halts_line (step ∷ steps) (inl here) = step_line step here.0
   halts_line (step ∷ steps) (inr later) = halts_line steps later.1
 
   stopped_line : (command : Command) → HasStopped source disk command old new s i → HasLine s
-  stopped_line command (inl halts) = halts_line (steps_of command) halts
+  stopped_line command (inl halts) = halts_line (command_steps command) halts
   stopped_line command (inr memory) = subst HasLine (sym memory.1) tt
 
 pub ends_line : {S K D : Type 0} (source : sources.Ghosts S) (disk : disks.Ghosts D) (command : Command) (old new : Room S K D) (sink : sinks.Ghosts K) (s : Status) → Ends source disk command old new sink s → HasLine s

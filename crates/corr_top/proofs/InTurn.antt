@@ -30,7 +30,7 @@ use Rattle.corr_top.specs.declared.desk.Served.TheVariants as served
 use Rattle.corr_top.specs.declared.message.NoPay.{NoPay}
 use Rattle.corr_top.specs.Message.{pays_in}
 use Rattle.corr_top.specs.Booking.{entered_of, history_with, lacks_room}
-use Rattle.corr_top.specs.Serving.{Answers, IsTried, served_of}
+use Rattle.corr_top.specs.Serving.{AnswersMessage, IsTried, served_of}
 use Rattle.corr_top.proofs.NoRoom.{no_room, some_room, with_known}
 use Rattle.corr_top.proofs.Serves.{get_at, new_before}
 
@@ -130,7 +130,7 @@ module _ (o : Opening) where
   stays_known pay old new place at same = subst (λ (h : List Entry). entered_at pay.mir h ≡ Some place) same at
 
   -- a message that has a reply goes on as one thread does
-  pub goes_on : (reading : Result Pay NoPay) (old new : PassKnows) (reply : Reply) → Answers o reading old new (served.Reply reply) → AllTagged new old.number
+  pub goes_on : (reading : Result Pay NoPay) (old new : PassKnows) (reply : Reply) → AnswersMessage o reading old new (served.Reply reply) → AllTagged new old.number
       → known_to o new ≡ fold_of o.accounts (known_to o old) (pays_in (reading ∷ [])) o.day
   goes_on (Ok pay) old new reply (inl none) tags = absurd (cc (none.1))
   goes_on (Ok pay) old new reply (inr s) tags = cases s.0 s.1 s.3
@@ -150,7 +150,7 @@ module _ (o : Opening) where
   goes_on (Err why) old new reply s tags = ap (λ (p : PassKnows). known_to o p) s.0
 
   -- one that has a reply or finds no room goes on as one thread does that passes over pays without room
-  pub tries_on : (reading : Result Pay NoPay) (old new : PassKnows) (made : Served) → IsTried made → Answers o reading old new made → AllTagged new old.number
+  pub tries_on : (reading : Result Pay NoPay) (old new : PassKnows) (made : Served) → IsTried made → AnswersMessage o reading old new made → AllTagged new old.number
       → known_to o new ≡ entered_of o.accounts (known_to o old) (pays_in (reading ∷ [])) o.day
   tries_on (Ok pay) old new made tried (inl none) tags = absurd (subst IsTried none.1 tried)
   tries_on (Ok pay) old new made tried (inr s) tags = cases s.0 s.1 (subst IsTried s.3 tried)
@@ -182,7 +182,7 @@ module _ (o : Opening) where
   tries_on (Err why) old new made tried s tags = ap (λ (p : PassKnows). known_to o p) s.0
 
   -- one that stops its worker adds nothing
-  pub stops_here : (reading : Result Pay NoPay) (old new : PassKnows) (why : Halt) → Answers o reading old new (served.Stopped why) → AllTagged new old.number → known_to o new ≡ known_to o old
+  pub stops_here : (reading : Result Pay NoPay) (old new : PassKnows) (why : Halt) → AnswersMessage o reading old new (served.Stopped why) → AllTagged new old.number → known_to o new ≡ known_to o old
   stops_here (Ok pay) old new why (inl none) tags = ap (λ (p : PassKnows). known_to o p) none.0
   stops_here (Ok pay) old new why (inr s) tags = cases s.0 s.1 s.3
     where
@@ -197,7 +197,7 @@ module _ (o : Opening) where
   stops_here (Err why) old new halted s tags = ap (λ (p : PassKnows). known_to o p) s.0
 
   -- one over whose pay the disk failed asks for a pay that is not entered
-  pub fails_new : (reading : Result Pay NoPay) (old new : PassKnows) → Answers o reading old new (served.Stopped halt.Disk) → (pay : Pay) × (reading ≡ Ok pay) × (entered_at pay.mir (known_to o new) ≡ None)
+  pub fails_new : (reading : Result Pay NoPay) (old new : PassKnows) → AnswersMessage o reading old new (served.Stopped halt.Disk) → (pay : Pay) × (reading ≡ Ok pay) × (entered_at pay.mir (known_to o new) ≡ None)
   fails_new (Ok pay) old new (inl none) = absurd (cc (none.1))
   fails_new (Ok pay) old new (inr s) = (pay, refl, cases s.0 s.1 s.3)
     where
@@ -213,7 +213,7 @@ module _ (o : Opening) where
   fails_new (Err why) old new (same, inr told) = absurd (cc (told))
 
   -- one that finds no room shows it of what the pass knew
-  pub full_shows : (reading : Result Pay NoPay) (old new : PassKnows) (entries end need : ℕ) → Answers o reading old new (served.Full entries end need) → AllTagged new old.number
+  pub full_shows : (reading : Result Pay NoPay) (old new : PassKnows) (entries end need : ℕ) → AnswersMessage o reading old new (served.Full entries end need) → AllTagged new old.number
       → (pay : Pay) × (reading ≡ Ok pay) × ShowsFull o pay (known_to o old) entries end need
   full_shows (Ok pay) old new entries end need (inl none) tags = absurd (cc (none.1))
   full_shows (Ok pay) old new entries end need (inr s) tags = (pay, refl, cases s.0 s.1 s.3)

@@ -24,7 +24,7 @@ use Rattle.corr_top.specs.Commands.{out_in, report_in}
 use Rattle.corr_top.specs.Ends.{HasTexts}
 use Rattle.corr_top.specs.Inputs.{chart_in}
 use Rattle.corr_top.specs.OnDisk.{HasNotFailed, IsFree, IsOnDisk, IsUnwritten, StopsMaking}
-use Rattle.corr_top.specs.Passing.{IsUntouched, Passes, StopsAt}
+use Rattle.corr_top.specs.Passing.{StepIsUntouched, Passes, StopsAt}
 use Rattle.corr_top.specs.Steps.{Step}
 use Rattle.corr_top.specs.Stops.{status_of_making}
 use Rattle.corr_top.specs.Tables.{HasAccounts, StopsAccounts, account_steps}
@@ -69,7 +69,7 @@ module _ {S K D : Type 0} (source : sources.Ghosts S) (d : disks.Ghosts D) (home
   accounts_stop s stops rest = record {
     inputs = stops.inputs;
     are_for = stops.home_is;
-    gives = inl (halts_front (Passes source d old new stops.inputs) (StopsAt source d old new stops.inputs s) (IsUntouched d old new) account_steps (Step.make ∷ []) stops.halted (ap (λ (r : Room S K D). r.disk) rest, tt));
+    gives = inl (halts_front (Passes source d old new stops.inputs) (StopsAt source d old new stops.inputs s) (StepIsUntouched d old new) account_steps (Step.make ∷ []) stops.halted (ap (λ (r : Room S K D). r.disk) rest, tt));
     rest = (stops.ssi, ap (λ (r : Room S K D). r.messages) rest, ap (λ (r : Room S K D). r.received) rest, ap (λ (r : Room S K D). r.disk2) rest);
     report = ap (λ (r : Room S K D). r.report) rest;
     out = ap (λ (r : Room S K D). r.out) rest;

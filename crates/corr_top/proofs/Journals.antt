@@ -4,7 +4,7 @@ use Rattle.std.specs.Prelude.{IfErr, IfOk, IfSome, IsTrue, MatchResult}
 use Rattle.corr_disk.specs.declared.disk.Disk as disks
 use Rattle.jrn_file.specs.File.{disk_of}
 use Rattle.jrn_file.specs.Reading.{opened_of}
-use Rattle.jrn_book.specs.Opening.{HasPurses, IsFound, IsNewBook, OpenCause, Opened, finding_in}
+use Rattle.jrn_book.specs.Opening.{HasPurses, IsFound, IsNewBook, BookOpenCause, Opened, finding_in}
 use Rattle.corr_top.specs.OnDisk.{HasOpened, IsUnwritten, StopsOpening}
 
 module _ {D : Type 0} (d : disks.Ghosts D) where
@@ -33,7 +33,7 @@ module _ {D : Type 0} (d : disks.Ghosts D) where
     }
     opened (Err e) new purses told unwritten kept = tt
 
-    pub unopened : (r : Opened D) → IfErr r (λ e. OpenCause (d.faults disk) (d.faults e.0) e.1)
+    pub unopened : (r : Opened D) → IfErr r (λ e. BookOpenCause (d.faults disk) (d.faults e.0) e.1)
         → (IsTrue (d.honest disk) → IfSome (finding_in r) (IsFound (opened_of (d.reads disk))))
         → MatchResult r (λ o. IsUnwritten d disk (disk_of o.0.file)) (λ e. IsUnwritten d disk e.0) → IfErr r (λ e. StopsOpening d disk e.0 e.1)
     unopened (Ok o) cause told unwritten = tt

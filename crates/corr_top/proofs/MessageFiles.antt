@@ -5,7 +5,7 @@ use Rattle.std.proofs.lemmas.List.{append-nil, take-append-drop}
 use Rattle.std.proofs.lemmas.Bool.{cases_lt}
 use Rattle.std.proofs.lemmas.List.Elements.{All-append, All-cons}
 use Rattle.std.proofs.lemmas.Option.{none-some}
-use Rattle.fin_frame.specs.Cutting.{Ends, Knows, WasFed}
+use Rattle.fin_frame.specs.Cutting.{EndsInput, Knows, WasFed}
 use Rattle.fin_frame.specs.File.{IsCutInto, IsFileOf, lead}
 use Rattle.fin_frame.specs.File.IsFileOf.{start as file_start, more as file_more}
 use Rattle.fin_frame.specs.Machine.{State, at_start, run}
@@ -105,10 +105,10 @@ message-file file messages cut within = record {
   few = few-messages file messages within (messages-begin cut.1) (cases_lt 50000 (length messages));
 }
 
-pub cut-at-end : (c : Cutter) (file fed rest : List ℕ) (given all : List (List ℕ)) → HasPassed c fed given → fed ++ rest ≡ file → length rest ≡ 0 → Ends c.failed (Ok tt) fed all → IsMessageFile file all
+pub cut-at-end : (c : Cutter) (file fed rest : List ℕ) (given all : List (List ℕ)) → HasPassed c fed given → fed ++ rest ≡ file → length rest ≡ 0 → EndsInput c.failed (Ok tt) fed all → IsMessageFile file all
 cut-at-end c file fed rest given all so_far whole none ends =
     let same = whole-so fed rest file whole none in
-    let cut = (subst (λ o. Ends o (Ok tt) fed all) so_far.sound ends).cut in
+    let cut = (subst (λ o. EndsInput o (Ok tt) fed all) so_far.sound ends).cut in
     subst (λ f. IsMessageFile f all) same (message-file fed all cut so_far.within)
 
 -- ---- the messages of a file are short

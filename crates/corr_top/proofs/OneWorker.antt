@@ -26,7 +26,7 @@ use Rattle.corr_top.specs.Workers.{Worker}
 use Rattle.corr_top.specs.declared.message.NoPay.{NoPay}
 use Rattle.corr_top.specs.Booking.{BeginsNew, EntersFront, LacksRoom, entered_of}
 use Rattle.corr_top.specs.Message.{pays_in}
-use Rattle.corr_top.specs.Serving.{Answers, AreEntered, AreInTurn, IsFirstFull, IsTried, SaysFailed, Serves, are_replies, halt_of}
+use Rattle.corr_top.specs.Serving.{AnswersMessage, AreEntered, AreInTurn, IsFirstFull, IsTried, SaysFailed, Serves, are_replies, halt_of}
 use Rattle.corr_top.proofs.Chains.{Chain, grew}
 use Rattle.corr_top.proofs.FrontPart.{front_on}
 use Rattle.corr_top.proofs.InTurn.{AllTagged, fails_new, first_is, full_shows, goes_on, stops_here, tries_on}
@@ -143,7 +143,7 @@ module _ {Job : Type 0} (o : Opening) (reading : Job → Result Pay NoPay) (jobs
   tags_front known whole number p tags i a at = tags i a (prefix_get known whole i a p at)
 
   -- a worker that goes on answers the message
-  answered : (job : Job) (old new : Worker) (one : Served) → old.halted ≡ None → Serves o (reading job) old new one → Answers o (reading job) old.pass new.pass one × (new.halted ≡ halt_of one)
+  answered : (job : Job) (old new : Worker) (one : Served) → old.halted ≡ None → Serves o (reading job) old new one → AnswersMessage o (reading job) old.pass new.pass one × (new.halted ≡ halt_of one)
   answered job old new one on (inl s) = (s.1, s.2)
   answered job old new one on (inr s) = absurd (none-some s.0 (sym on ∙ s.1))
 
@@ -174,14 +174,14 @@ module _ {Job : Type 0} (o : Opening) (reading : Job → Result Pay NoPay) (jobs
   record IsStep (P : Served → Type 0) (F : List Entry → List Pay → List Entry) : Type 0 where
     none : (h : List Entry) → F h [] ≡ h
     more : (h : List Entry) (pay : Pay) (pays : List Pay) → F h (pay ∷ pays) ≡ F (F h (pay ∷ [])) pays
-    step : (reading : Result Pay NoPay) (old new : PassKnows) (one : Served) → P one → Answers o reading old new one → AllTagged o new old.number → known_to o new ≡ F (known_to o old) (pays_in (reading ∷ []))
+    step : (reading : Result Pay NoPay) (old new : PassKnows) (one : Served) → P one → AnswersMessage o reading old new one → AllTagged o new old.number → known_to o new ≡ F (known_to o old) (pays_in (reading ∷ []))
     on : (one : Served) → P one → halt_of one ≡ None
 
   replied_step : IsStep IsReplied (λ h pays. fold_of o.accounts h pays o.day)
   replied_step = record {
     none = λ h. refl;
     more = λ h pay pays. refl;
-    step = λ r old new one is a tags. goes_on o r old new is.0 (subst (Answers o r old new) is.1 a) tags;
+    step = λ r old new one is a tags. goes_on o r old new is.0 (subst (AnswersMessage o r old new) is.1 a) tags;
     on = λ one is. ap halt_of is.1;
   }
 
@@ -380,7 +380,7 @@ module _ {Job : Type 0} (o : Opening) (reading : Job → Result Pay NoPay) (jobs
       stop_next : IsNext at (served.Stopped why) stop_until.mid
       stop_next = next_of at (served.Stopped why) stop_until.mid stop_until.rest here stop_until.length_is stop_until.chain stop_until.order
 
-      stop_answer : Answers o (reading stop_next.job) stop_until.mid.pass stop_next.next.pass (served.Stopped why) × (stop_next.next.halted ≡ Some why)
+      stop_answer : AnswersMessage o (reading stop_next.job) stop_until.mid.pass stop_next.next.pass (served.Stopped why) × (stop_next.next.halted ≡ Some why)
       stop_answer = answered stop_next.job stop_until.mid stop_next.next (served.Stopped why) stop_until.on stop_next.serves
 
       stop_last : after ≡ stop_next.next
@@ -444,7 +444,7 @@ module _ {Job : Type 0} (o : Opening) (reading : Job → Result Pay NoPay) (jobs
       stopped_disk : halt.Disk ≡ why → AreEntered o history (asked jobs) made
       stopped_disk disk =
           let n = stop_next in
-          let f = fails_new o (reading n.job) stop_until.mid.pass n.next.pass (subst (λ (h : Halt). Answers o (reading n.job) stop_until.mid.pass n.next.pass (served.Stopped h)) (sym disk) stop_answer.0) in
+          let f = fails_new o (reading n.job) stop_until.mid.pass n.next.pass (subst (λ (h : Halt). AnswersMessage o (reading n.job) stop_until.mid.pass n.next.pass (served.Stopped h)) (sym disk) stop_answer.0) in
           let begins : BeginsNew history (f.0 ∷ asked (drop (suc at) jobs)) =
           record { pay = f.0; more = asked (drop (suc at) jobs); pays_are = refl; new = subst (λ (h : List Entry). entered_at f.0.mir h ≡ None) (sym stop_whole) f.2 } in
           record {

@@ -18,7 +18,7 @@ use Rattle.corr_money.specs.declared.amount.Ccy.{Ccy}
 use Rattle.ref_tables.specs.Seen.{Tables, has_head}
 use Rattle.ssi_versions.specs.InstructionList.{AreInstructions}
 use Rattle.ssi_versions.specs.declared.row.SsiRow.{SsiRow}
-use Rattle.day_model.specs.Chart.{Chart, IsChart, account_at, is_ccy}
+use Rattle.day_model.specs.Chart.{Chart, IsChart, account_at, is_same_ccy}
 use Rattle.day_model.specs.Fit.{FitsAccounts}
 use Rattle.day_model.specs.Legal.{IsLegal}
 use Rattle.day_model.specs.Shape.{HasShape}
@@ -36,17 +36,17 @@ use Rattle.fin_message.specs.declared.message.Message.{Message}
 use Rattle.fin_message.specs.declared.message.Message.TheVariants as message
 use Rattle.mt103.specs.declared.message.Mt103.{Mt103}
 use Rattle.mt202cov.specs.declared.message.Mt202Cov.{Mt202Cov}
-use Rattle.routing.specs.Accounts.{fits}
+use Rattle.routing.specs.Accounts.{fits_amount}
 use Rattle.routing.proofs.laws.Routes.{KnowsVia}
 use Rattle.pay_plan.specs.Asked.{asked_of}
 use Rattle.pay_plan.specs.Plan.{plan_of}
-use Rattle.pay_plan.specs.Sends.{Follows, IsPayOf}
+use Rattle.pay_plan.specs.Sends.{FollowsMessage, IsPayOf}
 use Rattle.pay_plan.specs.Asked.{Asked}
 use Rattle.pay_plan.proofs.laws.Sent.{plan-is}
 use Rattle.advices.specs.Valid.{Asks, CameFrom, IsInMoney, IsTextOf, amount_of}
 use Rattle.corr_top.specs.declared.directory.Directory.{Directory}
 use Rattle.corr_top.specs.Asks.{asks_cover, asks_transfer}
-use Rattle.corr_top.specs.Booking.{IsAdded}
+use Rattle.corr_top.specs.Booking.{IsEnteredOn}
 use Rattle.corr_top.specs.Message.{message_of, pay_in, pays_in, readings_of, refused, unrouted}
 use Rattle.corr_top.specs.Origin.{AreSentValid, SendsAccepted}
 use Rattle.corr_top.specs.Serving.{HasPayShape}
@@ -76,29 +76,29 @@ rows-known t rows are = all-get (KnowsVia t) rows (λ i r at. (are.each i r at).
 
 -- ---- the accounts
 
-same-ccy : (a b : Ccy) → is_ccy a b ≡ true → a ≡ b
+same-ccy : (a b : Ccy) → is_same_ccy a b ≡ true → a ≡ b
 same-ccy a b e = ap (λ (bs : List ℕ). record { 0 = bs }) ((bytes_eq-Decides a.0 b.0).0 e)
 
-in-money : (amount : Amount) (x : Account) → fits amount x ≡ true → IsInMoney x amount
+in-money : (amount : Amount) (x : Account) → fits_amount amount x ≡ true → IsInMoney x amount
 in-money amount x e =
-    let parts = and_parts (is_ccy x.ccy amount.ccy) (eqb x.decimals amount.decimals) e in
+    let parts = and_parts (is_same_ccy x.ccy amount.ccy) (eqb x.decimals amount.decimals) e in
     record { ccy = same-ccy x.ccy amount.ccy parts.0; decimals = eqb-true x.decimals amount.decimals parts.1 }
 
-of-leg : (chart : Chart) (amount : Amount) (o : Option Leg) (x : Account) → ((leg : Leg) → o ≡ Some leg → account_at chart leg.account.0 ≡ Some x → fits amount x ≡ true)
+of-leg : (chart : Chart) (amount : Amount) (o : Option Leg) (x : Account) → ((leg : Leg) → o ≡ Some leg → account_at chart leg.account.0 ≡ Some x → fits_amount amount x ≡ true)
     → option_and_then (λ leg. account_at chart leg.account.0) o ≡ Some x → IsInMoney x amount
 of-leg chart amount None x each at = absurd (none-some x at)
 of-leg chart amount (Some leg) x each at = in-money amount x (each leg refl at)
 
 -- ---- the orders
 
-follows-transfer : (t : Tables) (envelope : Envelope) (text : List ℕ) (m : Mt103) (o : Order) → Follows t mt.Transfer o → Asks t (message.Transfer envelope text m) o
+follows-transfer : (t : Tables) (envelope : Envelope) (text : List ℕ) (m : Mt103) (o : Order) → FollowsMessage t mt.Transfer o → Asks t (message.Transfer envelope text m) o
 follows-transfer t envelope text m (order.Transfer to skip via) h = h
 follows-transfer t envelope text m (order.Cover to end skip) h = h
 follows-transfer t envelope text m (order.Pass to skip) h = h
 follows-transfer t envelope text m (order.Debit to leg) h = h
 follows-transfer t envelope text m (order.Credit to leg) h = h
 
-follows-cover : (t : Tables) (envelope : Envelope) (text : List ℕ) (m : Mt202Cov) (o : Order) → Follows t mt.Cover o → Asks t (message.Cover envelope text m) o
+follows-cover : (t : Tables) (envelope : Envelope) (text : List ℕ) (m : Mt202Cov) (o : Order) → FollowsMessage t mt.Cover o → Asks t (message.Cover envelope text m) o
 follows-cover t envelope text m (order.Transfer to skip via) h = h
 follows-cover t envelope text m (order.Cover to end skip) h = h
 follows-cover t envelope text m (order.Pass to skip) h = h
@@ -143,7 +143,7 @@ module _ (directory : Directory) (chart : Chart) (are : AreInstructions director
       record {
         source = source;
         came = came-from t chart envelope text (asked_of chart.home (asks_transfer m)) pay source sound fit shape good is (is.mt_is, sym is.text_is) refl;
-        asks = All-weaker (Follows t mt.Transfer) (Asks t source) (follows-transfer t envelope text m) pay.orders is.orders;
+        asks = All-weaker (FollowsMessage t mt.Transfer) (Asks t source) (follows-transfer t envelope text m) pay.orders is.orders;
       }
   origin-of (message.Cover envelope text m) good e =
       let t = directory.tables in
@@ -154,7 +154,7 @@ module _ (directory : Directory) (chart : Chart) (are : AreInstructions director
       record {
         source = source;
         came = came-from t chart envelope text (asked_of chart.home (asks_cover m)) pay source sound fit shape good is (is.mt_is, sym is.text_is) refl;
-        asks = All-weaker (Follows t mt.Cover) (Asks t source) (follows-cover t envelope text m) pay.orders is.orders;
+        asks = All-weaker (FollowsMessage t mt.Cover) (Asks t source) (follows-cover t envelope text m) pay.orders is.orders;
       }
   origin-of (message.Debit envelope advice) good e = absurd (cc e)
   origin-of (message.Credit envelope advice) good e = absurd (cc e)
@@ -189,12 +189,12 @@ read-from directory chart (m ∷ ms) n pay at =
 
 -- what is sent of the entries that the pays of a file added is accepted under the tables that the file was read by
 pub sent-valid : (directory : Directory) (chart : Chart) (day : Day) (cut : List (List ℕ)) (old added new : List Entry) → AreInstructions directory.tables directory.ssi → IsChart chart
-    → new ≡ old ++ added → All (IsAdded day (pays_in (readings_of directory chart cut))) added → All HasPayShape added → IsLegal chart new
+    → new ≡ old ++ added → All (IsEnteredOn day (pays_in (readings_of directory chart cut))) added → All HasPayShape added → IsLegal chart new
     → SendsAccepted chart (length old + 1) new → AreSentValid directory.tables chart (length old + 1) new
 sent-valid directory chart day cut old added new are sound grown each shapes legal sends = λ i e from at.
     let past : length old ≤ i = omega (arith, from) in
     let place = behind old added i e past (subst (λ (es : List Entry). slice_get es i ≡ Some e) grown at) in
-    let is = get-all (IsAdded day (pays_in (readings_of directory chart cut))) added place.0 e each place.1 in
+    let is = get-all (IsEnteredOn day (pays_in (readings_of directory chart cut))) added place.0 e each place.1 in
     let bytes = read-from directory chart cut is.place e.pay is.pay_is in
     let origin = bytes-origin directory chart are sound e.pay (legal.fits i e at) (get-all HasPayShape added place.0 e shapes place.1) bytes.0 bytes.1 in
     sends i e from at directory.tables origin.source origin.came origin.asks

@@ -12,7 +12,7 @@ use Rattle.day_model.specs.declared.account.Account.{Account}
 use Rattle.day_model.specs.declared.entry.Entry.{Entry}
 use Rattle.statement.specs.Pages.{pages_of}
 use Rattle.corr_top.specs.Out.{parted_all}
-use Rattle.corr_top.specs.Statements.{Adds, IsStatement, is_vostro, pages_sent}
+use Rattle.corr_top.specs.Statements.{Adds, IsStatementOfDay, is_vostro, pages_sent}
 use Rattle.corr_top.proofs.Adding.{numbered_next}
 
 module _ (chart : Chart) (entries : List Entry) (day : Day) (n : ℕ) (there : Account) (at : account_at chart n ≡ Some there) where
@@ -20,7 +20,7 @@ module _ (chart : Chart) (entries : List Entry) (day : Day) (n : ℕ) (there : A
   same_there account here = same_Some there account (sym at ∙ here)
 
   -- of a vostro account its pages are sent
-  pub shows : (old new : List ℕ) → there.kind ≡ vostro → new ≡ old ++ parted_all (pages_of chart entries n day) → IsStatement chart entries day n → Adds chart entries day n old new
+  pub shows : (old new : List ℕ) → there.kind ≡ vostro → new ≡ old ++ parted_all (pages_of chart entries n day) → IsStatementOfDay chart entries day n → Adds chart entries day n old new
   shows old new same added is = record {
     text = λ account here.
         subst (λ (a : Account). new ≡ old ++ pages_sent chart entries day n a) (same_there account here)
@@ -40,7 +40,7 @@ there_is xs n first last = elim (slice_get_cases xs (n - 1)).1 [
 module _ (chart : Chart) (entries : List Entry) (day : Day) where
   -- the statements of the accounts ahead of number n are as they are to be
   abbrev pub AreSoFar : ℕ → Type 0
-  AreSoFar n = (i : ℕ) (account : Account) → i + 1 < n → slice_get chart.accounts i ≡ Some account → is_vostro account ≡ true → IsStatement chart entries day (i + 1)
+  AreSoFar n = (i : ℕ) (account : Account) → i + 1 < n → slice_get chart.accounts i ≡ Some account → is_vostro account ≡ true → IsStatementOfDay chart entries day (i + 1)
 
   pub next-text : (n : ℕ) (all old new : List ℕ) → 1 ≤ n → n ≤ length chart.accounts → all ≡ old ++ numbered (pages_sent chart entries day) n (drop (n - 1) chart.accounts) → Adds chart entries day n old new
       → all ≡ new ++ numbered (pages_sent chart entries day) (n + 1) (drop (n + 1 - 1) chart.accounts)
@@ -52,7 +52,7 @@ module _ (chart : Chart) (entries : List Entry) (day : Day) where
   pub next-valid : (n : ℕ) (old new : List ℕ) → 1 ≤ n → AreSoFar n → Adds chart entries day n old new → AreSoFar (n + 1)
   next-valid n old new first so_far adds i account below at vostro = elim (eq-or-lt_of_le {n = i + 1} {m = n} (omega (arith, below))) [
     | inl last ↦
-        subst (IsStatement chart entries day) (sym last)
+        subst (IsStatementOfDay chart entries day) (sym last)
         (adds.valid account (ap (slice_get chart.accounts) (let p : n - 1 ≡ i = omega (arith, last) in p) ∙ at) vostro)
     | inr less ↦ so_far i account less at vostro
   ]

@@ -14,7 +14,7 @@ use Rattle.jrn_book.specs.Answers.{StandsAt}
 use Rattle.corr_report.specs.Report.{NamesPlace}
 use Rattle.corr_top.specs.declared.message.NoPay.{NoPay}
 use Rattle.corr_top.specs.declared.message.NoPay.TheVariants as no_pay
-use Rattle.corr_top.specs.Message.{reply_for, reply_in}
+use Rattle.corr_top.specs.Message.{reply_for, message_reply}
 
 -- an element keeps its place when others follow
 pub get_stays : {A : Type 0} (xs ys : List A) (k : ℕ) (x : A) → slice_get xs k ≡ Some x → slice_get (xs ++ ys) k ≡ Some x
@@ -61,7 +61,7 @@ names_none : (entries : List Entry) (why : NoPay) → NamesPlace entries (reply_
 names_none entries (no_pay.Refused mir fault) = tt
 names_none entries (no_pay.Unrouted mir code) = tt
 
-pub names_place : (entries : List Entry) (reading : Result Pay NoPay) (r : Reply) → reply_in entries reading ≡ Some r → NamesPlace entries r
+pub names_place : (entries : List Entry) (reading : Result Pay NoPay) (r : Reply) → message_reply entries reading ≡ Some r → NamesPlace entries r
 names_place entries (Ok pay) r is = named_from pay entries (entered_at pay.mir entries) r refl is
 names_place entries (Err why) r is = subst (NamesPlace entries) (same_Some _ r is) (names_none entries why)
 

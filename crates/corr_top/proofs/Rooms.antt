@@ -10,14 +10,14 @@ use Rattle.day_model.specs.declared.pay.Pay.{Pay}
 use Rattle.day_model.specs.Chart.{Chart}
 use Rattle.day_model.specs.Legal.{IsLegal}
 use Rattle.day_model.specs.Next.{entered_at, entry_of}
-use Rattle.jrn_book.specs.Journal.{file_of, records_of}
+use Rattle.jrn_book.specs.Journal.{file_of, entry_records}
 use Rattle.jrn_book.specs.Room.{longest_record}
 use Rattle.jrn_book.proofs.laws.Sizes.{no_longer}
 use Rattle.jrn_codec.specs.Header.{head_bytes}
 use Rattle.jrn_codec.specs.Record.{entry_bytes}
 use Rattle.jrn_file.specs.Reading.{size_of}
 use Rattle.jrn_file.proofs.laws.Sizes.{length-journal_bytes, size_of-append}
-use Rattle.corr_top.specs.Booking.{IsAdded, LacksRoomThen}
+use Rattle.corr_top.specs.Booking.{IsEnteredOn, LacksRoomThen}
 use Rattle.corr_top.specs.Complete.{HasRoomForAll}
 use Rattle.corr_top.proofs.Replying.{get_all}
 use Rattle.corr_top.proofs.Serves.{entered_mir, split}
@@ -39,8 +39,8 @@ bytes_left start entered longest all own file end need most grown parts short pl
 abbrev most_of : Pay → ℕ
 most_of pay = longest_record pay + 5
 
-file_long : (chart : Chart) (h : List Entry) → length (file_of chart h) ≡ 5 + length (head_bytes chart) + size_of (records_of h) + 1
-file_long chart h = length-journal_bytes (head_bytes chart) (records_of h)
+file_long : (chart : Chart) (h : List Entry) → length (file_of chart h) ≡ 5 + length (head_bytes chart) + size_of (entry_records h) + 1
+file_long chart h = length-journal_bytes (head_bytes chart) (entry_records h)
 
 last_record : (r : List ℕ) → size_of (r ∷ []) ≡ 5 + length r
 last_record r = omega arith
@@ -48,9 +48,9 @@ last_record r = omega arith
 -- a file with an entry more
 pub file_more : (chart : Chart) (h : List Entry) (e : Entry) → length (file_of chart (h ++ e ∷ [])) ≡ length (file_of chart h) + (5 + length (entry_bytes e))
 file_more chart h e =
-    let records : size_of (records_of (h ++ e ∷ [])) ≡ size_of (records_of h) + (5 + length (entry_bytes e)) =
-    ap size_of (map-append entry_bytes h (e ∷ [])) ∙ size_of-append (records_of h) (entry_bytes e ∷ []) ∙ ap (λ (n : ℕ). size_of (records_of h) + n) (last_record (entry_bytes e)) in
-    file_sum (length (head_bytes chart)) (size_of (records_of h)) (size_of (records_of (h ++ e ∷ []))) (5 + length (entry_bytes e)) (length (file_of chart h)) (length (file_of chart (h ++ e ∷ [])))
+    let records : size_of (entry_records (h ++ e ∷ [])) ≡ size_of (entry_records h) + (5 + length (entry_bytes e)) =
+    ap size_of (map-append entry_bytes h (e ∷ [])) ∙ size_of-append (entry_records h) (entry_bytes e ∷ []) ∙ ap (λ (n : ℕ). size_of (entry_records h) + n) (last_record (entry_bytes e)) in
+    file_sum (length (head_bytes chart)) (size_of (entry_records h)) (size_of (entry_records (h ++ e ∷ []))) (5 + length (entry_bytes e)) (length (file_of chart h)) (length (file_of chart (h ++ e ∷ [])))
     (file_long chart h) (file_long chart (h ++ e ∷ [])) records
 
 -- the file of a history grows by the longest records of the pays of its entries at most
@@ -120,7 +120,7 @@ get_behind [] ys i e at = ap (slice_get ys) (omega arith) ∙ at
 get_behind (x ∷ xs) ys i e at = let n : suc (length xs) + i ≡ suc (length xs + i) = omega arith in ap (slice_get (x ∷ (xs ++ ys))) n ∙ get_behind xs ys i e at
 
 -- a pay whose reference is new and the entered ones stand among the pays of the file, each once
-among_all : (chart : Chart) (history front : List Entry) (day : Day) (pays : List Pay) (pay : Pay) (place : ℕ) → IsLegal chart (history ++ front) → All (IsAdded day pays) front → slice_get pays place ≡ Some pay
+among_all : (chart : Chart) (history front : List Entry) (day : Day) (pays : List Pay) (pay : Pay) (place : ℕ) → IsLegal chart (history ++ front) → All (IsEnteredOn day pays) front → slice_get pays place ≡ Some pay
     → entered_at pay.mir (history ++ front) ≡ None → AreAmong (pay ∷ map (λ e. e.pay) front) pays
 among_all chart history front day pays pay place legal added at new = record { there = there; single = single }
   where
@@ -128,7 +128,7 @@ among_all chart history front day pays pay place legal added at new = record { t
     there zero p here = (place, at ∙ here)
     there (suc i) p here =
         let e = get_pay front i p here in
-        let a = get_all (IsAdded day pays) front i e.0 added e.1 in (a.place, a.pay_is ∙ ap (λ (x : Pay). Some x) e.2)
+        let a = get_all (IsEnteredOn day pays) front i e.0 added e.1 in (a.place, a.pay_is ∙ ap (λ (x : Pay). Some x) e.2)
 
     is_new : (i : ℕ) (p : Pay) → slice_get (map (λ e. e.pay) front) i ≡ Some p → p.mir ≡ pay.mir → ⊥
     is_new i p here same =
@@ -147,7 +147,7 @@ among_all chart history front day pays pay place legal added at new = record { t
 
 -- no pay finds no room
 pub has_room : (chart : Chart) (history : List Entry) (pays : List Pay) (day : Day) (left : List Entry) (entries end need : ℕ) → HasRoomForAll chart history pays
-    → (lacks : LacksRoomThen chart history pays day left entries end need) → IsLegal chart (history ++ lacks.front) → All (IsAdded day pays) lacks.front → ⊥
+    → (lacks : LacksRoomThen chart history pays day left entries end need) → IsLegal chart (history ++ lacks.front) → All (IsEnteredOn day pays) lacks.front → ⊥
 has_room chart history pays day left entries end need room lacks legal added =
     let now = history ++ lacks.front in
     let some = map (λ (e : Entry). e.pay) lacks.front in

@@ -35,7 +35,7 @@ use Rattle.corr_top.specs.declared.status.Status.{Status}
 use Rattle.corr_top.specs.declared.tables.TableStop.{TableStop}
 use Rattle.corr_top.specs.declared.words.Command.TheVariants.{Run}
 use Rattle.corr_top.specs.declared.writing.Texts.{Texts}
-use Rattle.corr_top.specs.Booking.{AreAnswered, BookCause, EachTried, EntersInOrder, IsAdded, IsBack, LacksRoom, LacksRoomThen, StopsBooking}
+use Rattle.corr_top.specs.Booking.{AreAnswered, BookCause, EachTried, EntersInOrder, IsEnteredOn, IsBack, LacksRoom, LacksRoomThen, StopsBooking}
 use Rattle.corr_top.specs.Collecting.{IsCalm}
 use Rattle.corr_top.specs.Commands.{out_in, report_in}
 use Rattle.corr_top.specs.Days.{GivesDay, HasDay, StopCause, StopsAtFile, StopsAtPays}
@@ -45,7 +45,7 @@ use Rattle.corr_top.specs.Message.{pays_in, readings_of, replies_in}
 use Rattle.corr_top.specs.OnDisk.{HoldsJournal, IsLeft, IsOnDisk, IsUnwritten, StopsOpening}
 use Rattle.corr_top.specs.Origin.{AreSentValid}
 use Rattle.corr_top.specs.Out.{sent_from}
-use Rattle.corr_top.specs.Passing.{IsUntouched, Passes, StopsAt}
+use Rattle.corr_top.specs.Passing.{StepIsUntouched, Passes, StopsAt}
 use Rattle.corr_top.specs.Steps.{Step}
 use Rattle.corr_top.specs.Stops.{status_of_books, status_of_day, status_of_opening, status_of_table}
 use Rattle.corr_top.specs.Tables.{HasDirectory, StopsDirectory, directory_steps}
@@ -87,7 +87,7 @@ module _ {S K D : Type 0} (source : sources.Ghosts S) (d : disks.Ghosts D) (day 
   tables_stop stop stops messages disk unwritten =
       let i = record stops.at.inputs { day = day; workers = workers } in
       gives_run (Err (status_of_table stop)) i refl refl
-      (inl (halts_front (Passes source d old new i) (StopsAt source d old new i (status_of_table stop)) (IsUntouched d old new)
+      (inl (halts_front (Passes source d old new i) (StopsAt source d old new i (status_of_table stop)) (StepIsUntouched d old new)
       directory_steps (Step.open_journal ∷ Step.day ∷ Step.messages ∷ Step.book ∷ []) stops.at.halted (disk, (tt, (messages, (unwritten, tt))))))
 
   module _ (directory : Directory) (has : HasDirectory source old.tables new.tables directory) where
@@ -172,7 +172,7 @@ module _ {S K D : Type 0} (source : sources.Ghosts S) (d : disks.Ghosts D) (day 
           let pays = same_pays stops.bytes stops.cut [] in
           let booked : StopsBooking d old.disk new.disk i stops.stop = record {
             added = served.added;
-            each = subst (λ (x : List Pay × Day). All (IsAdded x.1 x.0) served.added) (λ k. (sym pays k, of_day k)) served.each;
+            each = subst (λ (x : List Pay × Day). All (IsEnteredOn x.1 x.0) served.added) (λ k. (sym pays k, of_day k)) served.each;
             tried = subst (λ es. EachTried opened.accounts opened.base (pays_of i) day es stops.stop) served.is
                 (subst (λ (x : List Pay × Day). EachTried opened.accounts opened.base x.0 x.1 stops.history stops.stop) (λ k. (sym pays k, of_day k)) stops.tried);
             alone = λ one. subst (λ es. EntersInOrder opened.accounts opened.base (pays_of i) day es stops.stop) served.is
@@ -199,7 +199,7 @@ module _ {S K D : Type 0} (source : sources.Ghosts S) (d : disks.Ghosts D) (day 
           let i = i_of bytes cut (entered_of served.added) in
           let pays = same_pays bytes cut (entered_of served.added) in
           let legal = subst (IsLegal opened.accounts) served.is served.journal.legal in
-          let days : (k : ℕ) (e : Entry) → slice_get served.added k ≡ Some e → e.day ≡ day = λ k e at. (get_all (IsAdded opened.day _) served.added k e served.each at).day_is ∙ of_day in
+          let days : (k : ℕ) (e : Entry) → slice_get served.added k ≡ Some e → e.day ≡ day = λ k e at. (get_all (IsEnteredOn opened.day _) served.added k e served.each at).day_is ∙ of_day in
           let history_is : history ≡ new_in i = served.is ∙ legal_fold opened.accounts opened.base served.added day legal days in
           let told : replies ≡ replies_of i =
           a.replies_are ∙ ap (λ es. replies_in es (readings_of directory opened.accounts cut)) history_is ∙ ap (λ (x : Directory). replies_in (new_in i) (readings_of x opened.accounts cut)) has.directory_is in
@@ -209,7 +209,7 @@ module _ {S K D : Type 0} (source : sources.Ghosts S) (d : disks.Ghosts D) (day 
             added = served.added;
             is = sym history_is ∙ served.is;
             pays = refl;
-            of_file = subst (λ (x : List Pay × Day). All (IsAdded x.1 x.0) served.added) (λ k. (sym pays k, of_day k)) served.each;
+            of_file = subst (λ (x : List Pay × Day). All (IsEnteredOn x.1 x.0) served.added) (λ k. (sym pays k, of_day k)) served.each;
             entered = λ k pay at. subst (λ (es : List Entry). IsSome (entered_at pay.mir es)) history_is (a.entered k pay (ap (λ (ps : List Pay). slice_get ps k) (sym pays) ∙ at));
             alone = λ one. sym history_is ∙ a.alone one ∙ (λ k. fold_of opened.accounts opened.base (sym pays k) (of_day k));
           } in

@@ -39,12 +39,12 @@ use Rattle.fin_message.specs.Verdict.{blocks_in, cover_of, credit_of, debit_of, 
 use Rattle.fin_message.specs.declared.direction.Direction.TheVariants.{Received}
 use Rattle.fin_message.specs.declared.message.Message.{Message}
 use Rattle.fin_message.specs.declared.message.Message.TheVariants as message
-use Rattle.pay_plan.specs.Plan.{mir_in}
+use Rattle.pay_plan.specs.Plan.{mir_of_envelope}
 
 -- the tables hold the head of the bank that sent it, which its reference names
 pub record HasSender (t : Tables) (envelope : Envelope) : Type 0 where
   pub known : has_head t envelope.sender.head ≡ true
-  pub named : has_head t (bank_of (sender_of (mir_in envelope))).head ≡ true
+  pub named : has_head t (bank_of (sender_of (mir_of_envelope envelope))).head ≡ true
 
 -- such a message, which its lines say and which breaks no rule
 pub record IsGood (t : Tables) (envelope : Envelope) (m : Message) : Type 0 where

@@ -31,7 +31,7 @@ use Rattle.corr_books.proofs.laws.Histories.{entries_of-append, history_prefix, 
 use Rattle.corr_top.specs.declared.desk.Served.{Served}
 use Rattle.corr_top.specs.Workers.{Worker}
 use Rattle.corr_top.specs.declared.message.NoPay.{NoPay}
-use Rattle.corr_top.specs.Serving.{Answers, IsTold, Serves, served_of}
+use Rattle.corr_top.specs.Serving.{AnswersMessage, IsTold, Serves, served_of}
 use Rattle.corr_top.proofs.Replying.{get_stays, reply_here, reply_stays}
 
 -- ---- lists
@@ -131,7 +131,7 @@ module _ (o : Opening) where
   goes_told reading pay asks shape old new (Err (fault.Broken at_open now)) t = grown reading old new (t.grows tt) (λ i a at past tag. absurd (t.says.3 i a at past tag))
   goes_told reading pay asks shape old new (Err fault.Memory) t = goes_spare reading old new (t.memory refl)
 
-  goes_answered : (reading : Result Pay NoPay) (old new : PassKnows) (made : Served) → Answers o reading old new made → Goes reading old new
+  goes_answered : (reading : Result Pay NoPay) (old new : PassKnows) (made : Served) → AnswersMessage o reading old new made → Goes reading old new
   goes_answered (Ok pay) old new made (inl none) = goes_same (Ok pay) old new none.0
   goes_answered (Ok pay) old new made (inr s) = goes_told (Ok pay) pay refl s.2 old new s.0 s.1
   goes_answered (Err why) old new made s = goes_same (Err why) old new s.0
@@ -189,7 +189,7 @@ module _ (o : Opening) where
     stands_told pay old new (Err (fault.Broken at_open now)) t p = tt
     stands_told pay old new (Err fault.Memory) t p = tt
 
-    stands_answered : (reading : Result Pay NoPay) (old new : PassKnows) (made : Served) → Answers o reading old new made → IsPrefix new.known log → IsTold o history reading made
+    stands_answered : (reading : Result Pay NoPay) (old new : PassKnows) (made : Served) → AnswersMessage o reading old new made → IsPrefix new.known log → IsTold o history reading made
     stands_answered (Ok pay) old new made (inl none) p = subst (IsTold o history (Ok pay)) (sym none.1) tt
     stands_answered (Ok pay) old new made (inr s) p = subst (IsTold o history (Ok pay)) (sym s.3) (stands_told pay old new s.0 s.1 p)
     stands_answered (Err why) old new made (same, inl none) p = subst (IsTold o history (Err why)) (sym none) tt

@@ -19,7 +19,7 @@ use Rattle.corr_books.specs.Stand.{entries_of, history_of}
 use Rattle.corr_top.specs.declared.desk.Served.{Served}
 use Rattle.corr_top.specs.Workers.{Worker}
 use Rattle.corr_top.specs.declared.message.NoPay.{NoPay}
-use Rattle.corr_top.specs.Booking.{IsAdded}
+use Rattle.corr_top.specs.Booking.{IsEnteredOn}
 use Rattle.corr_top.specs.Message.{pays_in}
 use Rattle.corr_top.specs.Serving.{AreInTurn, AreTold, IsTold, Serves, starting}
 use Rattle.corr_top.proofs.Chains.{Chain, IsServed, each_stands, grew, of_jobs}
@@ -78,7 +78,7 @@ module _ {Job : Type 0} (o : Opening) (reading : Job → Result Pay NoPay) (jobs
   abbrev pub readings : List (Result Pay NoPay)
   readings = map reading jobs
 
-  added_here : (e : Entry) (k : ℕ) (job : Job) → slice_get jobs k ≡ Some job → IsFrom o (reading job) e → IsAdded o.day (pays_in readings) e
+  added_here : (e : Entry) (k : ℕ) (job : Job) → slice_get jobs k ≡ Some job → IsFrom o (reading job) e → IsEnteredOn o.day (pays_in readings) e
   added_here e k job at from =
       let pay = from.0 in
       let asks : slice_get readings k ≡ Some (Ok pay) = get_mapped reading jobs k job at ∙ ap (λ (r : Result Pay NoPay). Some r) from.1 in
@@ -102,7 +102,7 @@ module _ {Job : Type 0} (o : Opening) (reading : Job → Result Pay NoPay) (jobs
         (l.0, q.0, l.1, q.1, served.served k l.0 (starting q.0) w l.1 (get_mapped starting news k q.0 q.1) at)
 
     -- each entry that was added is of the day, and of a pay of the messages
-    added_at : (i : ℕ) (a : Act) → slice_get closes.log i ≡ Some a → IsAdded o.day (pays_in readings) a.entry
+    added_at : (i : ℕ) (a : Act) → slice_get closes.log i ≡ Some a → IsEnteredOn o.day (pays_in readings) a.entry
     added_at i a at =
         let own = closes.owned i a at in
         let there = unmapped (λ (w : Worker). w.pass) after own.at own.pass own.there in
@@ -115,8 +115,8 @@ module _ {Job : Type 0} (o : Opening) (reading : Job → Result Pay NoPay) (jobs
         let from = of_jobs o reading jobs made c.0 (starting c.1) there.0 c.4 i a known (omega (arith, none)) tagged in
         added_here a.entry from.0 from.1 from.2 from.3
 
-    pub all_added : All (IsAdded o.day (pays_in readings)) (entries_of closes.log)
-    all_added = all_entries (IsAdded o.day (pays_in readings)) closes.log added_at
+    pub all_added : All (IsEnteredOn o.day (pays_in readings)) (entries_of closes.log)
+    all_added = all_entries (IsEnteredOn o.day (pays_in readings)) closes.log added_at
 
     -- what was made of the job with a number stands
     job_stands : (n : ℕ) → 1 ≤ n → n ≤ length jobs → IsServed o reading jobs made closes.log history closes.is closes.legal n
@@ -239,10 +239,10 @@ module _ {Job : Type 0} (o : Opening) (reading : Job → Result Pay NoPay) (jobs
     all_back (Err e) done none = ap length (none ∙ seated) ∙ length-map news starting
 
     module _ (history : List Entry) (faults : ℕ) (new : AreNew o news) (closes : Closes o history faults (passes_of after)) where
-      pub added_of : (r : Result R E) → IsDone r → IsNone r → All (IsAdded o.day (pays_in readings)) (entries_of closes.log)
+      pub added_of : (r : Result R E) → IsDone r → IsNone r → All (IsEnteredOn o.day (pays_in readings)) (entries_of closes.log)
       added_of (Ok rs) done none = all_added news after history faults new closes (items rs) (from_seats news before after (items rs) seated done)
       added_of (Err e) done none =
-          subst (λ (l : List Act). All (IsAdded o.day (pays_in readings)) (entries_of l)) (sym (none_added news (passes_of after) history faults new closes (same_passes news before after seated none))) (All-nil (IsAdded o.day (pays_in readings)))
+          subst (λ (l : List Act). All (IsEnteredOn o.day (pays_in readings)) (entries_of l)) (sym (none_added news (passes_of after) history faults new closes (same_passes news before after seated none))) (All-nil (IsEnteredOn o.day (pays_in readings)))
 
       pub told_of : (r : Result R E) → IsDone r → IfOk r (λ rs. AreTold o history readings (items rs))
       told_of (Ok rs) done = are_told news after history faults new closes (items rs) (from_seats news before after (items rs) seated done)

@@ -1,8 +1,9 @@
 -- Pays that workers enter, and how that stops.
-use Rattle.std.specs.Prelude.{◌≡◌, ◌⊎◌, ℕ, ◌+◌, ◌^◌, ◌<◌, ◌<ℤ◌, ◌||◌, Bool, true, nat_le, All, List, [], ◌∷◌, ◌++◌, IsSome, length, map, slice_get, Some, None, if◌then◌else◌}
+use Rattle.std.specs.Prelude.{◌≡◌, ◌⊎◌, ℕ, ◌+◌, ◌<◌, ◌<ℤ◌, ◌||◌, Bool, true, nat_le, All, List, [], ◌∷◌, ◌++◌, IsSome, length, map, slice_get, Some, None, if◌then◌else◌}
 use Rattle.corr_disk.specs.declared.disk.Disk as outside
 use Rattle.corr_ids.specs.Day.{InCentury}
 use Rattle.corr_ids.specs.declared.day.Day.{Day}
+use Rattle.corr_disk.specs.Disk.{most_disk_bytes}
 use Rattle.day_model.specs.declared.entry.Entry.{Entry}
 use Rattle.day_model.specs.declared.pay.Pay.{Pay}
 use Rattle.day_model.specs.Chart.{Chart}
@@ -11,7 +12,7 @@ use Rattle.day_model.specs.Log.{most_entries}
 use Rattle.day_model.specs.Next.{entered_at, entry_of, fold_of, next_history}
 use Rattle.jrn_book.specs.Answers.{IsFull, need_of}
 use Rattle.jrn_book.specs.Journal.{IsJournal, file_of}
-use Rattle.jrn_file.specs.Faults.{Tells}
+use Rattle.jrn_file.specs.Faults.{TellsCounts}
 use Rattle.corr_top.specs.declared.answers.BookStop.{BookStop}
 use Rattle.corr_top.specs.declared.answers.BookStop.TheVariants as booking
 use Rattle.corr_top.specs.Inputs.{Inputs, new_in, pays_of, replies_of}
@@ -27,7 +28,7 @@ pub record IsBack (history : List Entry) (day back : Day) : Type 0 where
   pub century : InCentury back
 
 -- an entry that a run added: of its day, and of a pay of its file
-pub record IsAdded (day : Day) (pays : List Pay) (e : Entry) : Type 0 where
+pub record IsEnteredOn (day : Day) (pays : List Pay) (e : Entry) : Type 0 where
   pub day_is : e.day ≡ day
   pub place : ℕ
   pub pay_is : slice_get pays place ≡ Some e.pay
@@ -39,7 +40,7 @@ pub record AreAnswered (i : Inputs) : Type 0 where
   pub added : List Entry
   pub is : new_in i ≡ i.history ++ added
   pub pays : map (λ e. e.pay) added ≡ i.entered
-  pub of_file : All (IsAdded i.day (pays_of i)) added
+  pub of_file : All (IsEnteredOn i.day (pays_of i)) added
   pub entered : (k : ℕ) (pay : Pay) → slice_get (pays_of i) k ≡ Some pay → IsSome (entered_at pay.mir (new_in i))
   pub alone : i.workers ≡ 1 → new_in i ≡ fold_of i.chart i.history (pays_of i) i.day
 
@@ -74,7 +75,7 @@ pub record LacksRoom (chart : Chart) (history : List Entry) (pays : List Pay) (d
 
 -- the cause: a call of the disk failed; or a pay found no room, of one worker the first in the order of the file, and no call failed; want of memory tells nothing
 abbrev pub BookCause : {D : Type 0} → outside.Ghosts D → D → D → Inputs → List Entry → BookStop → Type 0
-BookCause d old new i left (booking.DiskFault before after) = Tells (d.faults old) before after (d.faults new)
+BookCause d old new i left (booking.DiskFault before after) = TellsCounts (d.faults old) before after (d.faults new)
 BookCause d old new i left (booking.Full entries end need) = HasNotFailed d old new × LacksRoomThen i.chart i.history (pays_of i) i.day left entries end need
     × (i.workers ≡ 1 → LacksRoom i.chart i.history (pays_of i) i.day left entries end need)
 BookCause d old new i left booking.Memory = Unit {0}
@@ -82,7 +83,7 @@ BookCause d old new i left booking.Memory = Unit {0}
 -- there is no room for what a pay becomes: the history has the most entries that it may have, or the file would have more than 2^30 bytes
 abbrev pub lacks_room : Chart → List Entry → Pay → Day → Bool
 lacks_room chart history pay day =
-    nat_le most_entries (length history) || nat_le (2 ^ 30 + 1) (length (file_of chart (history ++ entry_of chart history pay day ∷ [])))
+    nat_le most_entries (length history) || nat_le (most_disk_bytes + 1) (length (file_of chart (history ++ entry_of chart history pay day ∷ [])))
 
 -- a pay without room adds nothing; another does as on one thread
 abbrev pub history_with : Chart → List Entry → Pay → Day → List Entry
@@ -137,7 +138,7 @@ pub record EntersInOrder (chart : Chart) (history : List Entry) (pays : List Pay
 -- How the entering of the pays stops: by its cause. What is left is the journal's history and further entries of the day, each of a pay of the file, in a journal that may be opened again; where room was wanting each pay of the file was tried, and one worker entered a front part of the pays.
 pub record StopsBooking {D : Type 0} (d : outside.Ghosts D) (old new : D) (i : Inputs) (stop : BookStop) : Type 0 where
   pub added : List Entry
-  pub each : All (IsAdded i.day (pays_of i)) added
+  pub each : All (IsEnteredOn i.day (pays_of i)) added
   pub tried : EachTried i.chart i.history (pays_of i) i.day (i.history ++ added) stop
   pub alone : i.workers ≡ 1 → EntersInOrder i.chart i.history (pays_of i) i.day (i.history ++ added) stop
   pub journal : IsJournal i.chart (i.history ++ added)

@@ -6,6 +6,7 @@ use Rattle.corr_disk.specs.declared.disk.Disk as disks
 use Rattle.corr_text.specs.Digits.{number_of}
 use Rattle.corr_ids.specs.Bic.{IsBic, bic_of}
 use Rattle.corr_ids.specs.Day.{InCentury, day_of}
+use Rattle.day_model.specs.Log.{most_entries}
 use Rattle.corr_top.specs.declared.room.Room.{Room}
 use Rattle.corr_top.specs.declared.words.Command.{Command}
 use Rattle.corr_top.specs.declared.words.Command.TheVariants.{Run, Plain}
@@ -20,17 +21,17 @@ use Rattle.corr_top.specs.Run.{RunLeaves, run_out, run_report, run_steps}
 use Rattle.corr_top.specs.Steps.{Step}
 
 -- two places of a journal, the second not before the first
-abbrev pub places_of : List ℕ → List ℕ → Option (ℕ × ℕ)
-places_of from until =
-    option_and_then (λ first. option_and_then (λ last. if nat_le 1 first && nat_le first last && nat_le last 100000 then Some (first, last) else None) (number_of until)) (number_of from)
+abbrev pub two_places : List ℕ → List ℕ → Option (ℕ × ℕ)
+two_places from until =
+    option_and_then (λ first. option_and_then (λ last. if nat_le 1 first && nat_le first last && nat_le last most_entries then Some (first, last) else None) (number_of until)) (number_of from)
 
 -- a number of workers
 abbrev pub workers_of : List ℕ → Option ℕ
 workers_of number = option_and_then (λ n. if nat_le 1 n && nat_le n 16 then Some n else None) (number_of number)
 
 -- `run DATE WORKERS` with a day of the calendar and 1 to 16 workers
-abbrev pub run_of : List ℕ → List ℕ → Option Command
-run_of date workers = option_and_then (λ day. option_map (λ n. Run day n) (workers_of workers)) (day_of date)
+abbrev pub run_command : List ℕ → List ℕ → Option Command
+run_command date workers = option_and_then (λ day. option_map (λ n. Run day n) (workers_of workers)) (day_of date)
 
 -- `init HOME` with a BIC
 abbrev pub init_of : List ℕ → Option PlainCommand
@@ -42,7 +43,7 @@ statements_of date = option_map (λ day. Query (Statements day)) (day_of date)
 
 -- `send FROM UNTIL` with two places
 abbrev pub send_of : List ℕ → List ℕ → Option PlainCommand
-send_of from until = option_map (λ places. Query (Send places.0 places.1)) (places_of from until)
+send_of from until = option_map (λ places. Query (Send places.0 places.1)) (two_places from until)
 
 -- the words of a command; other words are none
 abbrev pub command_of : List (List ℕ) → Option Command
@@ -54,7 +55,7 @@ command_of (word ∷ one ∷ []) =
     else None
 command_of (word ∷ one ∷ two ∷ []) =
     if bytes_eq word (codes "send") then option_map Plain (send_of one two)
-    else if bytes_eq word (codes "run") then run_of one two
+    else if bytes_eq word (codes "run") then run_command one two
     else None
 command_of (word ∷ one ∷ two ∷ three ∷ more) = None
 
@@ -71,7 +72,7 @@ plain_of words = option_and_then plain_in (command_of words)
 abbrev pub IsSpelled : Command → Type 0
 IsSpelled (Run day workers) = InCentury day × (1 ≤ workers) × (workers ≤ 16)
 IsSpelled (Plain (Init home)) = IsBic home
-IsSpelled (Plain (Query (Send from until))) = (1 ≤ from) × (from ≤ until) × (until ≤ 100000)
+IsSpelled (Plain (Query (Send from until))) = (1 ≤ from) × (from ≤ until) × (until ≤ most_entries)
 IsSpelled (Plain (Query Bookings)) = Unit {0}
 IsSpelled (Plain (Query (Statements day))) = InCentury day
 
@@ -82,10 +83,10 @@ IsFor (Plain (Init home)) i = i.home ≡ home
 IsFor (Plain (Query asked)) i = Unit {0}
 
 -- what a command reads, tests and does before it writes, in this order
-abbrev pub steps_of : Command → List Step
-steps_of (Run day workers) = run_steps
-steps_of (Plain (Init home)) = init_steps
-steps_of (Plain (Query asked)) = query_steps
+abbrev pub command_steps : Command → List Step
+command_steps (Run day workers) = run_steps
+command_steps (Plain (Init home)) = init_steps
+command_steps (Plain (Query asked)) = query_steps
 
 -- its report
 unfoldable pub report_in : Command → Inputs → List ℕ

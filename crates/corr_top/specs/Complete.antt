@@ -1,22 +1,24 @@
 -- A command that nothing stops but want of memory.
-use Rattle.std.specs.Prelude.{ℕ, ◌≡◌, ◌+◌, ◌≤◌, ◌^◌, IsTrue, List, length, Some, None, sum_by}
+use Rattle.std.specs.Prelude.{ℕ, ◌≡◌, ◌+◌, ◌≤◌, IsTrue, List, length, Some, None, sum_by}
 use Rattle.corr_disk.specs.declared.disk.Disk as disks
 use Rattle.corr_io.specs.declared.sink.Sink as sinks
 use Rattle.corr_io.specs.declared.source.Source as sources
 use Rattle.corr_text.specs.Faults.{Rose}
+use Rattle.corr_disk.specs.Disk.{most_disk_bytes}
 use Rattle.day_model.specs.declared.entry.Entry.{Entry}
 use Rattle.day_model.specs.declared.pay.Pay.{Pay}
 use Rattle.day_model.specs.Chart.{Chart}
 use Rattle.day_model.specs.Laws.{IsLatest}
+use Rattle.day_model.specs.Log.{most_entries}
 use Rattle.jrn_book.specs.Journal.{file_of as book_file_of}
 use Rattle.jrn_book.specs.Room.{longest_record}
 use Rattle.corr_top.specs.declared.room.Room.{Room}
 use Rattle.corr_top.specs.declared.words.Command.{Command}
-use Rattle.corr_top.specs.Commands.{IsFor, steps_of}
+use Rattle.corr_top.specs.Commands.{IsFor, command_steps}
 use Rattle.corr_top.specs.Inputs.{Inputs, pays_of}
 use Rattle.corr_top.specs.MessageFile.{IsMessageFile}
 use Rattle.corr_top.specs.OnDisk.{HoldsJournal, IsFree}
-use Rattle.corr_top.specs.Passing.{Balances, fault_of, file_of, table_at}
+use Rattle.corr_top.specs.Passing.{Balances, table_fault, table_file, table_at}
 use Rattle.corr_top.specs.Steps.{Step, Walks}
 
 -- a source told these bytes, and did not fail
@@ -31,12 +33,12 @@ pub record IsSure {D : Type 0} (disk : disks.Ghosts D) (old new : D) : Type 0 wh
 
 -- The journal has room for these pays: with them it has at most 100,000 entries, and the file of the history, with the longest record of each of them, has at most 2^30 bytes.
 pub record HasRoomForAll (chart : Chart) (history : List Entry) (pays : List Pay) : Type 0 where
-  pub entries : length history + length pays ≤ 100000
-  pub bytes : length (book_file_of chart history) + sum_by (λ pay. longest_record pay + 5) pays ≤ 2 ^ 30
+  pub entries : length history + length pays ≤ most_entries
+  pub bytes : length (book_file_of chart history) + sum_by (λ pay. longest_record pay + 5) pays ≤ most_disk_bytes
 
 -- nothing is wrong with what a step reads, and neither its source nor its disk failed
 abbrev pub IsReady : {S K D : Type 0} → sources.Ghosts S → disks.Ghosts D → Room S K D → Room S K D → Inputs → Step → Type 0
-IsReady source disk old new i (Step.table name) = Told source (table_at name old.tables) (table_at name new.tables) (file_of name i) × (fault_of name i ≡ None)
+IsReady source disk old new i (Step.table name) = Told source (table_at name old.tables) (table_at name new.tables) (table_file name i) × (table_fault name i ≡ None)
 IsReady source disk old new i Step.sums = Balances i
 IsReady source disk old new i Step.make = IsSure disk old.disk new.disk × IsFree disk old.disk
 IsReady source disk old new i Step.open_journal = IsSure disk old.disk new.disk × HoldsJournal disk old.disk i.chart i.history
@@ -45,8 +47,8 @@ IsReady source disk old new i Step.messages = Told source old.messages new.messa
 IsReady source disk old new i Step.book = IsSure disk old.disk new.disk × HasRoomForAll i.chart i.history (pays_of i)
 
 -- nothing is wrong with what a command reads, and neither a source nor a sink nor the disk failed
-pub record IsSound {S K D : Type 0} (source : sources.Ghosts S) (sink : sinks.Ghosts K) (disk : disks.Ghosts D) (command : Command) (old new : Room S K D) (i : Inputs) : Type 0 where
+pub record IsFaultless {S K D : Type 0} (source : sources.Ghosts S) (sink : sinks.Ghosts K) (disk : disks.Ghosts D) (command : Command) (old new : Room S K D) (i : Inputs) : Type 0 where
   pub are_for : IsFor command i
-  pub ready : Walks (IsReady source disk old new i) (steps_of command)
+  pub ready : Walks (IsReady source disk old new i) (command_steps command)
   pub report : Rose (sink.faults old.report) (sink.faults new.report) → ⊥
   pub out : Rose (sink.faults old.out) (sink.faults new.out) → ⊥

@@ -8,22 +8,22 @@ use Rattle.corr_top.specs.declared.status.Status.{Status}
 use Rattle.corr_top.specs.declared.status.Status.TheVariants as status
 use Rattle.corr_top.specs.declared.words.Command.{Command}
 use Rattle.corr_top.specs.declared.writing.Texts.{Texts}
-use Rattle.corr_top.specs.Commands.{IsFor, KeepsRest, Leaves, SendsValid, out_in, report_in, steps_of}
+use Rattle.corr_top.specs.Commands.{IsFor, KeepsRest, Leaves, SendsValid, out_in, report_in, command_steps}
 use Rattle.corr_top.specs.Inputs.{Inputs}
-use Rattle.corr_top.specs.Passing.{IsUntouched, Passes, StopsAt}
+use Rattle.corr_top.specs.Passing.{StepIsUntouched, Passes, StopsAt}
 use Rattle.corr_top.specs.Steps.{Halts, Walks}
 use Rattle.corr_top.specs.Writing.{FailsWriting, Received}
 
 module _ {S K D : Type 0} (source : sources.Ghosts S) (disk : disks.Ghosts D) (command : Command) (old new : Room S K D) where
   -- each step passed, and the disk is as the command leaves it
   pub record HasPassed (i : Inputs) : Type 0 where
-    pub passed : Walks (Passes source disk old new i) (steps_of command)
+    pub passed : Walks (Passes source disk old new i) (command_steps command)
     pub leaves : Leaves disk command old.disk new.disk i
 
   -- the first step that didn't pass stopped it, or memory ran out after the last one
   abbrev pub HasStopped : Status → Inputs → Type 0
   HasStopped stop i =
-      Halts (Passes source disk old new i) (StopsAt source disk old new i stop) (IsUntouched disk old new) (steps_of command)
+      Halts (Passes source disk old new i) (StopsAt source disk old new i stop) (StepIsUntouched disk old new) (command_steps command)
       ⊎ (HasPassed i × (stop ≡ status.Memory))
 
   -- before anything is written: the texts of a command that passed, and whose messages are valid, or the status of one that stopped; the sinks are as they were
@@ -31,6 +31,7 @@ module _ {S K D : Type 0} (source : sources.Ghosts S) (disk : disks.Ghosts D) (c
   Gives (Ok texts) i = HasPassed i × (texts.report ≡ report_in command i) × (texts.out ≡ out_in command i) × SendsValid command i
   Gives (Err stop) i = HasStopped stop i
 
+  -- what a command made of what it read, and what it left beside the sinks
   pub record HasTexts (texts : Result Texts Status) : Type 0 where
     pub inputs : Inputs
     pub are_for : IsFor command inputs

@@ -15,7 +15,7 @@ use Rattle.day_model.specs.Same.{reply_to}
 use Rattle.fin_message.specs.declared.message.Message.{Message}
 use Rattle.fin_message.specs.declared.message.Message.TheVariants as message
 use Rattle.fin_message.specs.Verdict.{Refused as Refusal, verdict_of}
-use Rattle.pay_plan.specs.Plan.{mir_in, plan_of}
+use Rattle.pay_plan.specs.Plan.{mir_of_envelope, plan_of}
 use Rattle.corr_top.specs.declared.directory.Directory.{Directory}
 use Rattle.corr_top.specs.declared.message.NoPay.{NoPay}
 use Rattle.corr_top.specs.declared.message.NoPay.TheVariants.{Refused, Unrouted}
@@ -29,7 +29,7 @@ refused (Err refusal) = Err (Refused refusal.0 refusal.1)
 -- a valid message without a route
 abbrev pub unrouted : {A : Type 0} → Envelope → Result A Code → Result A NoPay
 unrouted envelope (Ok x) = Ok x
-unrouted envelope (Err code) = Err (Unrouted (mir_in envelope) code)
+unrouted envelope (Err code) = Err (Unrouted (mir_of_envelope envelope) code)
 
 -- the pay of a valid message: a transfer and a cover have a plan, an advice and a page of a statement ask for nothing, which is P37
 abbrev pub pay_in : Directory → Chart → Message → Result Pay NoPay
@@ -59,10 +59,10 @@ reply_for (Refused mir fault) = reply.Refused mir fault
 reply_for (Unrouted mir code) = reply.Unrouted mir code
 
 -- the reply to a message after a history; a pay that is not entered has none
-abbrev pub reply_in : List Entry → Result Pay NoPay → Option Reply
-reply_in entries (Ok pay) = reply_to pay entries
-reply_in entries (Err why) = Some (reply_for why)
+abbrev pub message_reply : List Entry → Result Pay NoPay → Option Reply
+message_reply entries (Ok pay) = reply_to pay entries
+message_reply entries (Err why) = Some (reply_for why)
 
 -- the replies, in the order of the messages
 abbrev pub replies_in : List Entry → List (Result Pay NoPay) → List Reply
-replies_in entries readings = filter_map (reply_in entries) readings
+replies_in entries readings = filter_map (message_reply entries) readings

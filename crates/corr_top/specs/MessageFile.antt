@@ -1,7 +1,7 @@
 -- The message file: its messages, or its first fault.
 use Rattle.std.specs.Prelude.{ℕ, ◌≡◌, ◌+◌, ◌≤◌, ◌<◌, ◌⊎◌, List, [], ◌∷◌, ◌++◌, length}
 use Rattle.fin_frame.specs.File.{IsCutInto}
-use Rattle.fin_frame.specs.Shown.{EndsWithin, HasBegun, HaveBegun, IsSound, Shows}
+use Rattle.fin_frame.specs.Shown.{EndsWithin, HasBegun, HaveBegun, ShowsNoFault, Shows}
 use Rattle.fin_frame.specs.declared.fault.FrameFault.{FrameFault}
 use Rattle.fin_frame.specs.declared.fault.FrameFault.TheVariants as frame
 use Rattle.corr_top.specs.declared.cutting.FileStop.{FileStop}
@@ -27,7 +27,7 @@ pub record IsMessageFile (file : List ℕ) (messages : List (List ℕ)) : Type 0
 
 -- the bytes show no fault and pass no limit
 pub record IsPassed (bytes : List ℕ) : Type 0 where
-  pub sound : IsSound bytes
+  pub sound : ShowsNoFault bytes
   pub within : IsPast bytes → ⊥
 
 -- The file passes a limit at some byte, up to which nothing is wrong. That is told by how many bytes there are up to and
@@ -43,11 +43,11 @@ pub record IsTooLarge (file : List ℕ) (bytes messages : ℕ) : Type 0 where
   pub begun : HaveBegun (passed ++ byte ∷ []) messages
 
 -- the place of a fault
-abbrev pub place_of : FrameFault → ℕ
-place_of (frame.Stray at) = at
-place_of (frame.TooLong at) = at
-place_of (frame.Unbalanced at) = at
-place_of frame.Memory = 0
+abbrev pub fault_place : FrameFault → ℕ
+fault_place (frame.Stray at) = at
+fault_place (frame.TooLong at) = at
+fault_place (frame.Unbalanced at) = at
+fault_place frame.Memory = 0
 
 -- the bytes show a fault at this place and pass no limit
 pub record IsAtFault (bytes : List ℕ) (at : ℕ) : Type 0 where
@@ -55,7 +55,7 @@ pub record IsAtFault (bytes : List ℕ) (at : ℕ) : Type 0 where
   pub fault : FrameFault
   pub shown : Shows bytes messages fault
   pub within : IsPast bytes → ⊥
-  pub at_is : at ≡ place_of fault
+  pub at_is : at ≡ fault_place fault
 
 -- the file can't be cut: some first bytes show a fault at this place and pass no limit
 pub record ShowsFault (file : List ℕ) (at : ℕ) : Type 0 where

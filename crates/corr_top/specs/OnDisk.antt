@@ -16,8 +16,8 @@ use Rattle.jrn_file.specs.Untouched.{IsUntouched}
 use Rattle.jrn_file.specs.declared.fault.MakeFault.{MakeFault}
 use Rattle.jrn_file.specs.declared.fault.OpenFault.{OpenFault}
 use Rattle.jrn_book.specs.Book.{Book, IsLeftBy}
-use Rattle.jrn_book.specs.Journal.{IsJournal, StandsForBook, records_of}
-use Rattle.jrn_book.specs.Opening.{IsFound, OpenCause, found_by}
+use Rattle.jrn_book.specs.Journal.{IsJournal, StandsForBook, entry_records}
+use Rattle.jrn_book.specs.Opening.{IsFound, BookOpenCause, found_by}
 
 module _ {D : Type 0} (d : outside.Ghosts D) where
   -- a disk holds the journal of these accounts and this history, and a crash leaves nothing else
@@ -50,7 +50,7 @@ module _ {D : Type 0} (d : outside.Ghosts D) where
 
   -- how its opening stops: by its cause, and what that says of the bytes; nothing is written
   pub record StopsOpening (old new : D) (fault : OpenFault) : Type 0 where
-    pub cause : OpenCause (d.faults old) (d.faults new) fault
+    pub cause : BookOpenCause (d.faults old) (d.faults new) fault
     pub told : IsTrue (d.honest old) → IfSome (found_by fault) (IsFound (opened_of (d.reads old)))
     pub untouched : IsUnwritten old new
 
@@ -58,7 +58,7 @@ module _ {D : Type 0} (d : outside.Ghosts D) where
   pub record HasOpened (disk : D) (book : Book D) (loose : LooseHand) : Type 0 where
     pub holds : HoldsJournal disk book.accounts book.history
     pub whole : book.failed ≡ None
-    pub settled : IsSettled d.honest d.reads d.may_leave book.file (head_bytes book.accounts) (records_of book.history)
+    pub settled : IsSettled d.honest d.reads d.may_leave book.file (head_bytes book.accounts) (entry_records book.history)
     pub table : loose.table ≡ book.table
     pub count : length loose.purses ≡ length book.accounts.accounts
     pub untouched : IsUnwritten disk (disk_of book.file)

@@ -15,9 +15,9 @@ abbrev pub parted_all : List (List ℕ) → List ℕ
 parted_all texts = flat_map parted texts
 
 -- the outgoing messages of the entry at a place, each followed by `$`
-abbrev pub sent_of : Chart → ℕ → Entry → List ℕ
-sent_of chart place entry = parted_all (messages_of chart entry place)
+abbrev pub entry_out : Chart → ℕ → Entry → List ℕ
+entry_out chart place entry = parted_all (messages_of chart entry place)
 
 -- those of all entries from a place on, in their order
 abbrev pub sent_from : Chart → ℕ → List Entry → List ℕ
-sent_from chart from entries = numbered (sent_of chart) from (drop (from - 1) entries)
+sent_from chart from entries = numbered (entry_out chart) from (drop (from - 1) entries)

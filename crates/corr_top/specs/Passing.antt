@@ -46,24 +46,24 @@ table_at names.Accounts tables = tables.accounts
 table_at names.Ssi tables = tables.ssi
 
 -- its bytes
-abbrev pub file_of : TableName → Inputs → List ℕ
-file_of names.Bics i = i.bics
-file_of names.Ccys i = i.ccys
-file_of names.Countries i = i.countries
-file_of names.Accounts i = i.accounts
-file_of names.Ssi i = i.ssi
+abbrev pub table_file : TableName → Inputs → List ℕ
+table_file names.Bics i = i.bics
+table_file names.Ccys i = i.ccys
+table_file names.Countries i = i.countries
+table_file names.Accounts i = i.accounts
+table_file names.Ssi i = i.ssi
 
 -- a fault of a table: which, the row, and why
 abbrev pub Bad : Type 0
 Bad = TableName × ℕ × Why
 
 -- the first fault of a table, given the tables ahead of it
-abbrev pub fault_of : TableName → Inputs → Option Bad
-fault_of names.Bics i = named names.Bics (bics_fault i.bics)
-fault_of names.Ccys i = named names.Ccys (ccys_fault i.ccys)
-fault_of names.Countries i = named names.Countries (countries_fault i.countries)
-fault_of names.Accounts i = named names.Accounts (accounts_fault i.home.head (tables_in i) i.accounts)
-fault_of names.Ssi i = named names.Ssi (ssi_fault (tables_in i) i.ssi)
+abbrev pub table_fault : TableName → Inputs → Option Bad
+table_fault names.Bics i = named names.Bics (bics_fault i.bics)
+table_fault names.Ccys i = named names.Ccys (ccys_fault i.ccys)
+table_fault names.Countries i = named names.Countries (countries_fault i.countries)
+table_fault names.Accounts i = named names.Accounts (accounts_fault i.home.head (tables_in i) i.accounts)
+table_fault names.Ssi i = named names.Ssi (ssi_fault (tables_in i) i.ssi)
 
 -- a table was read, of at most 8 MiB, and has no fault
 pub record IsFine {S : Type 0} (source : sources.Ghosts S) (old new : S) (bytes : List ℕ) (fault : Option Bad) : Type 0 where
@@ -108,8 +108,9 @@ StopsAtMessages source old new bytes file.Memory = source.faults new ≡ source.
 
 -- ---- a step of a command over the objects of a room, as they were and as they are
 
+-- how a command passes there: what the step reads was read and is right, or what it tests holds
 abbrev pub Passes : {S K D : Type 0} → sources.Ghosts S → disks.Ghosts D → Room S K D → Room S K D → Inputs → Step → Type 0
-Passes source disk old new i (Step.table name) = IsFine source (table_at name old.tables) (table_at name new.tables) (file_of name i) (fault_of name i)
+Passes source disk old new i (Step.table name) = IsFine source (table_at name old.tables) (table_at name new.tables) (table_file name i) (table_fault name i)
 Passes source disk old new i Step.sums = Balances i
 Passes source disk old new i Step.make = IsFree disk old.disk
 Passes source disk old new i Step.open_journal = HoldsJournal disk old.disk i.chart i.history
@@ -120,7 +121,7 @@ Passes source disk old new i Step.book = AreAnswered i
 -- how a command stops there with this status: for a reason that the status tells, by its cause
 abbrev pub StopsAt : {S K D : Type 0} → sources.Ghosts S → disks.Ghosts D → Room S K D → Room S K D → Inputs → Status → Step → Type 0
 StopsAt source disk old new i s (Step.table name) =
-    (stop : TableStop) × (s ≡ status_of_table stop) × StopsAtTable source (table_at name old.tables) (table_at name new.tables) (file_of name i) (fault_of name i) stop
+    (stop : TableStop) × (s ≡ status_of_table stop) × StopsAtTable source (table_at name old.tables) (table_at name new.tables) (table_file name i) (table_fault name i) stop
 StopsAt source disk old new i s Step.sums = (stop : AccountsFault) × (s ≡ status_of_sums stop) × StopsAtSums i stop
 StopsAt source disk old new i s Step.make = (stop : MakeFault) × (s ≡ status_of_making stop) × StopsMaking disk old.disk new.disk (chart_in i) stop
 StopsAt source disk old new i s Step.open_journal = (stop : OpenFault) × (s ≡ status_of_opening stop) × StopsOpening disk old.disk new.disk stop
@@ -129,11 +130,11 @@ StopsAt source disk old new i s Step.messages = (stop : FileStop) × (s ≡ stat
 StopsAt source disk old new i s Step.book = (stop : BookStop) × (s ≡ status_of_booking stop) × StopsBooking disk old.disk new.disk i stop
 
 -- what a step reads or does is as it was
-abbrev pub IsUntouched : {S K D : Type 0} → disks.Ghosts D → Room S K D → Room S K D → Step → Type 0
-IsUntouched disk old new (Step.table name) = table_at name new.tables ≡ table_at name old.tables
-IsUntouched disk old new Step.sums = Unit {0}
-IsUntouched disk old new Step.make = new.disk ≡ old.disk
-IsUntouched disk old new Step.open_journal = new.disk ≡ old.disk
-IsUntouched disk old new Step.day = Unit {0}
-IsUntouched disk old new Step.messages = new.messages ≡ old.messages
-IsUntouched disk old new Step.book = IsUnwritten disk old.disk new.disk
+abbrev pub StepIsUntouched : {S K D : Type 0} → disks.Ghosts D → Room S K D → Room S K D → Step → Type 0
+StepIsUntouched disk old new (Step.table name) = table_at name new.tables ≡ table_at name old.tables
+StepIsUntouched disk old new Step.sums = Unit {0}
+StepIsUntouched disk old new Step.make = new.disk ≡ old.disk
+StepIsUntouched disk old new Step.open_journal = new.disk ≡ old.disk
+StepIsUntouched disk old new Step.day = Unit {0}
+StepIsUntouched disk old new Step.messages = new.messages ≡ old.messages
+StepIsUntouched disk old new Step.book = IsUnwritten disk old.disk new.disk

@@ -25,8 +25,8 @@ use Rattle.corr_top.specs.declared.desk.Served.TheVariants as served
 use Rattle.corr_top.specs.Workers.{Worker}
 use Rattle.corr_top.specs.declared.message.NoPay.{NoPay}
 use Rattle.corr_top.specs.declared.serving.ServedDay.{ServedDay}
-use Rattle.corr_top.specs.Booking.{BeginsNew, EntersFront, IsAdded, LacksRoom}
-use Rattle.corr_top.specs.Message.{pays_in, reply_for, reply_in}
+use Rattle.corr_top.specs.Booking.{BeginsNew, EntersFront, IsEnteredOn, LacksRoom}
+use Rattle.corr_top.specs.Message.{pays_in, reply_for, message_reply}
 
 -- an entry's pay has the shape of what is written down
 abbrev pub HasPayShape : Entry → Type 0
@@ -51,15 +51,15 @@ halt_of (served.Full entries end need) = None
 halt_of (served.Stopped why) = Some why
 
 -- What became of a message that asks for a pay, or gives none, and of a pass: the pay was booked with the pass, and the answer tells what became of the message; or it has the reply of a message without a pay. Where memory ran out before that, the pass is as it was; so it is where there is no pay.
-abbrev pub Answers : Opening → Result Pay NoPay → PassKnows → PassKnows → Served → Type 0
-Answers o (Ok pay) old new made =
+abbrev pub AnswersMessage : Opening → Result Pay NoPay → PassKnows → PassKnows → Served → Type 0
+AnswersMessage o (Ok pay) old new made =
     ((new ≡ old) × (made ≡ served.Stopped halt.Memory)) ⊎ ((answer : Answer) × Told o pay old answer new × HasShape pay × (made ≡ served_of pay.mir answer))
-Answers o (Err why) old new made = (new ≡ old) × ((made ≡ served.Stopped halt.Memory) ⊎ (made ≡ served.Reply (reply_for why)))
+AnswersMessage o (Err why) old new made = (new ≡ old) × ((made ≡ served.Stopped halt.Memory) ⊎ (made ≡ served.Reply (reply_for why)))
 
 -- What a worker makes of a message: it answers it, and goes on unless that stops it; one that has stopped serves no more.
 abbrev pub Serves : Opening → Result Pay NoPay → Worker → Worker → Served → Type 0
 Serves o reading old new made =
-    ((old.halted ≡ None) × Answers o reading old.pass new.pass made × (new.halted ≡ halt_of made))
+    ((old.halted ≡ None) × AnswersMessage o reading old.pass new.pass made × (new.halted ≡ halt_of made))
     ⊎ ((why : Halt) × (old.halted ≡ Some why) × (new ≡ old) × (made ≡ served.Stopped why))
 
 -- a worker that has not served yet
@@ -79,7 +79,7 @@ pub record IsShort (o : Opening) (history : List Entry) (reading : Result Pay No
 
 -- What was made of a message, by the history at the end. A reply is the one after that history; a worker that stopped tells nothing.
 abbrev pub IsTold : Opening → List Entry → Result Pay NoPay → Served → Type 0
-IsTold o history reading (served.Reply told) = reply_in history reading ≡ Some told
+IsTold o history reading (served.Reply told) = message_reply history reading ≡ Some told
 IsTold o history reading (served.Full entries end need) = IsShort o history reading entries end need
 IsTold o history reading (served.Stopped why) = Unit {0}
 
@@ -128,7 +128,7 @@ pub record HasServed {D : Type 0} (disk : disks.Ghosts D) (o : Opening) (reading
   pub accounts : chart ≡ o.accounts
   pub added : List Entry
   pub is : history ≡ o.base ++ added
-  pub each : All (IsAdded o.day (pays_in readings)) added
+  pub each : All (IsEnteredOn o.day (pays_in readings)) added
   pub journal : IsJournal o.accounts history
   pub leaves : LeavesClosed disk o history left
   pub honest : disk.honest left ≡ o.honest

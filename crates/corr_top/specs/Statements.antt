@@ -9,7 +9,7 @@ use Rattle.day_model.specs.declared.account.Account.{Account}
 use Rattle.day_model.specs.declared.entry.Entry.{Entry}
 use Rattle.statement.specs.Index.{IsIndexOf}
 use Rattle.statement.specs.Pages.{pages_of}
-use Rattle.statement.specs.Valid.{AreAccepted, AreShaped, Closes}
+use Rattle.statement.specs.Valid.{AreAccepted, AreShaped, ClosesAtBalance}
 use Rattle.statement.specs.declared.index.HistoryIndex.{HistoryIndex}
 use Rattle.corr_top.specs.Out.{parted_all}
 
@@ -26,13 +26,13 @@ abbrev pub sent_statements : Chart → List Entry → Day → List ℕ
 sent_statements chart entries day = numbered (pages_sent chart entries day) 1 chart.accounts
 
 -- The statement of account n closes at its balance by the entries up to the day, and opens at that by the entries before it. Each page passes the tests of a sent message under all tables that hold the owner, and the currency with its decimals.
-pub record IsStatement (chart : Chart) (entries : List Entry) (day : Day) (n : ℕ) : Type 0 where
-  pub closes : Closes chart entries n day
+pub record IsStatementOfDay (chart : Chart) (entries : List Entry) (day : Day) (n : ℕ) : Type 0 where
+  pub closes : ClosesAtBalance chart entries n day
   pub accepted : AreAccepted chart entries n day
 
 -- those of all vostro accounts do
 abbrev pub AreStatements : Chart → List Entry → Day → Type 0
-AreStatements chart entries day = (i : ℕ) (account : Account) → slice_get chart.accounts i ≡ Some account → is_vostro account ≡ true → IsStatement chart entries day (i + 1)
+AreStatements chart entries day = (i : ℕ) (account : Account) → slice_get chart.accounts i ≡ Some account → is_vostro account ≡ true → IsStatementOfDay chart entries day (i + 1)
 
 -- an index is that of these entries, whose statements of a day can be printed
 pub record MayPrint (index : HistoryIndex) (chart : Chart) (day : Day) (entries : List Entry) : Type 0 where
@@ -44,4 +44,4 @@ pub record MayPrint (index : HistoryIndex) (chart : Chart) (day : Day) (entries 
 -- what is sent of account n is added to what was there, and is its statement
 pub record Adds (chart : Chart) (entries : List Entry) (day : Day) (n : ℕ) (old new : List ℕ) : Type 0 where
   pub text : (account : Account) → account_at chart n ≡ Some account → new ≡ old ++ pages_sent chart entries day n account
-  pub valid : (account : Account) → account_at chart n ≡ Some account → is_vostro account ≡ true → IsStatement chart entries day n
+  pub valid : (account : Account) → account_at chart n ≡ Some account → is_vostro account ≡ true → IsStatementOfDay chart entries day n

@@ -17,22 +17,22 @@ HasLine (DateBack last) = InCentury last
 HasLine _ = Unit {0}
 
 -- the exit status
-abbrev pub number_of : Status → ℕ
-number_of Done = 0
-number_of Usage = 1
-number_of (Table name row reason) = 2
-number_of (ReadFault before after) = 3
-number_of (WriteFault before after) = 4
-number_of (DiskFault before after) = 5
-number_of NotAJournal = 6
-number_of (Damaged at) = 6
-number_of (Unbalanced ccy decimals sum) = 6
-number_of (Exists first) = 6
-number_of Memory = 7
-number_of (DateBack last) = 8
-number_of (TooLarge bytes messages) = 9
-number_of (Framing at) = 10
-number_of (Full entries end need) = 11
+abbrev pub status_number : Status → ℕ
+status_number Done = 0
+status_number Usage = 1
+status_number (Table name row reason) = 2
+status_number (ReadFault before after) = 3
+status_number (WriteFault before after) = 4
+status_number (DiskFault before after) = 5
+status_number NotAJournal = 6
+status_number (Damaged at) = 6
+status_number (Unbalanced ccy decimals sum) = 6
+status_number (Exists first) = 6
+status_number Memory = 7
+status_number (DateBack last) = 8
+status_number (TooLarge bytes messages) = 9
+status_number (Framing at) = 10
+status_number (Full entries end need) = 11
 
 -- a number behind a space
 unfoldable pub spaced : ℕ → List ℕ
@@ -77,5 +77,5 @@ status_text (Framing at) = codes "framing" ++ spaced at
 status_text (Full entries end need) = codes "full" ++ spaced entries ++ spaced end ++ spaced need
 
 -- its line, without a line end
-abbrev pub line_of : Status → List ℕ
-line_of status = codes "corr: " ++ status_text status
+abbrev pub status_line_of : Status → List ℕ
+status_line_of status = codes "corr: " ++ status_text status

@@ -28,6 +28,7 @@ abbrev pub table_stop_of_read : ReadStop → TableStop
 table_stop_of_read (reading.Fault before after) = table.Fault before after
 table_stop_of_read reading.Memory = table.Memory
 
+-- a table was read, and is refused by its bad row
 abbrev pub table_stop_of_fault : TableFault → TableStop
 table_stop_of_fault (refused.Bad name row why) = table.Bad name row why
 table_stop_of_fault refused.Memory = table.Memory
@@ -37,46 +38,54 @@ abbrev pub file_stop_of_read : ReadStop → FileStop
 file_stop_of_read (reading.Fault before after) = file.Fault before after
 file_stop_of_read reading.Memory = file.Memory
 
+-- the message file can't be cut: of each fault the place alone is told
 abbrev pub file_stop_of_frame : FrameFault → FileStop
 file_stop_of_frame (frame.Stray at) = file.Framing at
 file_stop_of_frame (frame.TooLong at) = file.Framing at
 file_stop_of_frame (frame.Unbalanced at) = file.Framing at
 file_stop_of_frame frame.Memory = file.Memory
 
--- the statuses
+-- the status where a table couldn't be read, or is refused
 abbrev pub status_of_table : TableStop → Status
 status_of_table (table.Fault before after) = status.ReadFault before after
 status_of_table (table.Bad name row why) = status.Table name row why
 status_of_table table.Memory = status.Memory
 
+-- the status where the openings of a currency don't sum to 0
 abbrev pub status_of_sums : AccountsFault → Status
 status_of_sums (accounts.Unbalanced ccy decimals sum) = status.Unbalanced ccy decimals sum
 status_of_sums accounts.Memory = status.Memory
 
+-- the status where a journal couldn't be made
 abbrev pub status_of_making : MakeFault → Status
 status_of_making (making.Exists first) = status.Exists first
 status_of_making (making.DiskFault before after) = status.DiskFault before after
 status_of_making making.Memory = status.Memory
 
+-- the status where a journal couldn't be opened
 abbrev pub status_of_opening : OpenFault → Status
 status_of_opening opening.NotAJournal = status.NotAJournal
 status_of_opening (opening.Damaged at) = status.Damaged at
 status_of_opening (opening.DiskFault before after) = status.DiskFault before after
 status_of_opening opening.Memory = status.Memory
 
+-- the status where the day is before that of the last entry, which is told
 abbrev pub status_of_day : Day → Status
 status_of_day back = status.DateBack back
 
+-- the status where the books couldn't be opened for a day
 abbrev pub status_of_books : BooksFault → Status
 status_of_books (books.Open fault) = status_of_opening fault
 status_of_books (books.DateBack last) = status_of_day last
 
+-- the status where the message file couldn't be read, is too large, or can't be cut
 abbrev pub status_of_file : FileStop → Status
 status_of_file (file.Fault before after) = status.ReadFault before after
 status_of_file (file.TooLarge bytes messages) = status.TooLarge bytes messages
 status_of_file (file.Framing at) = status.Framing at
 status_of_file file.Memory = status.Memory
 
+-- the status where the payments of a file couldn't all be entered
 abbrev pub status_of_booking : BookStop → Status
 status_of_booking (booking.DiskFault before after) = status.DiskFault before after
 status_of_booking (booking.Full entries end need) = status.Full entries end need

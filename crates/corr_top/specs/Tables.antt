@@ -11,7 +11,7 @@ use Rattle.corr_top.specs.declared.room.Tables.{Tables}
 use Rattle.corr_top.specs.declared.status.Status.{Status}
 use Rattle.corr_top.specs.declared.tables.TableStop.{TableStop}
 use Rattle.corr_top.specs.Inputs.{Inputs, chart_in, directory_in, tables_in}
-use Rattle.corr_top.specs.Passing.{Balances, IsFine, StopsAtSums, StopsAtTable, fault_of, file_of, table_at}
+use Rattle.corr_top.specs.Passing.{Balances, IsFine, StopsAtSums, StopsAtTable, table_fault, table_file, table_at}
 use Rattle.corr_top.specs.Steps.{Halts, Step, Walks}
 use Rattle.corr_top.specs.Stops.{status_of_sums, status_of_table}
 
@@ -30,16 +30,18 @@ account_steps = Step.table names.Bics ∷ Step.table names.Ccys ∷ Step.table n
 module _ {S : Type 0} (source : sources.Ghosts S) (old new : Tables S) where
   -- these steps over the tables alone
   abbrev pub PassesTables : Inputs → Step → Type 0
-  PassesTables i (Step.table name) = IsFine source (table_at name old) (table_at name new) (file_of name i) (fault_of name i)
+  PassesTables i (Step.table name) = IsFine source (table_at name old) (table_at name new) (table_file name i) (table_fault name i)
   PassesTables i Step.sums = Balances i
   PassesTables i _ = ⊥
 
+  -- one of these steps stopped with this status: the fault of its table, or openings that don't sum to 0
   abbrev pub StopsAtTables : Inputs → Status → Step → Type 0
   StopsAtTables i s (Step.table name) =
-      (stop : TableStop) × (s ≡ status_of_table stop) × StopsAtTable source (table_at name old) (table_at name new) (file_of name i) (fault_of name i) stop
+      (stop : TableStop) × (s ≡ status_of_table stop) × StopsAtTable source (table_at name old) (table_at name new) (table_file name i) (table_fault name i) stop
   StopsAtTables i s Step.sums = (stop : AccountsFault) × (s ≡ status_of_sums stop) × StopsAtSums i stop
   StopsAtTables i s _ = ⊥
 
+  -- the table of this step is as it was
   abbrev pub AreUntouched : Step → Type 0
   AreUntouched (Step.table name) = table_at name new ≡ table_at name old
   AreUntouched _ = Unit {0}
@@ -72,16 +74,18 @@ module _ {S : Type 0} (source : sources.Ghosts S) (old new : Tables S) where
     pub inputs : Inputs
     pub halted : Halts (PassesTables inputs) (StopsAtTables inputs s) AreUntouched steps
 
-  -- reading the three tables, the directory, or the accounts of a home bank stops
+  -- reading the three tables stops
   pub record StopsKnown (stop : TableStop) : Type 0 where
     pub at : StopsIn known_steps (status_of_table stop)
     pub accounts : new.accounts ≡ old.accounts
     pub ssi : new.ssi ≡ old.ssi
 
+  -- reading the directory stops
   pub record StopsDirectory (stop : TableStop) : Type 0 where
     pub at : StopsIn directory_steps (status_of_table stop)
     pub accounts : new.accounts ≡ old.accounts
 
+  -- reading the accounts of a home bank stops
   pub record StopsAccounts (home : Bic) (s : Status) : Type 0 where
     pub inputs : Inputs
     pub home_is : inputs.home ≡ home

@@ -2,7 +2,7 @@
 
 ghost use Rattle.std.specs.Prelude.{◌≡◌, ◌⊎◌, None, IfSome};
 ghost use Rattle.corr_top.specs.Commands.{IsSpelled, command_of, plain_of};
-ghost use Rattle.corr_top.specs.Complete.{IsSound};
+ghost use Rattle.corr_top.specs.Complete.{IsFaultless};
 ghost use Rattle.corr_top.specs.Ends.{Ends, HasTexts};
 ghost use Rattle.corr_top.specs.Inputs.{Inputs};
 ghost use Rattle.corr_top.specs.Status.{HasLine};
@@ -86,7 +86,7 @@ pub fn plain<S: Source, K: Sink, D: Disk>(
     // each other status by its cause
     ensures ends { IfSome (plain_of words.now) (λ command. Ends S.Source D.Disk (PlainCommand command) room result.room K.Sink result.status) }
     // where nothing is wrong and nothing fails, only memory can be wanting
-    ensures complete { IfSome (plain_of words.now) (λ command. (i : Inputs) → IsSound S.Source K.Sink D.Disk (PlainCommand command) room result.room i →
+    ensures complete { IfSome (plain_of words.now) (λ command. (i : Inputs) → IsFaultless S.Source K.Sink D.Disk (PlainCommand command) room result.room i →
         (result.status ≡ Status.Done) ⊎ (result.status ≡ Status.Memory)) }
     // a line can tell the status
     ensures line { HasLine result.status }
@@ -120,7 +120,7 @@ pub fn corr<R: Wait + Threads + Sync, S: Source, K: Sink, D: Disk + Drop + Send,
     // each other status by its cause
     ensures ends { IfSome (command_of words.now) (λ command. Ends S.Source D.Disk command room result.room K.Sink result.status) }
     // where nothing is wrong and nothing fails, only memory can be wanting
-    ensures complete { IfSome (command_of words.now) (λ command. (i : Inputs) → IsSound S.Source K.Sink D.Disk command room result.room i →
+    ensures complete { IfSome (command_of words.now) (λ command. (i : Inputs) → IsFaultless S.Source K.Sink D.Disk command room result.room i →
         (result.status ≡ Status.Done) ⊎ (result.status ≡ Status.Memory)) }
     // a line can tell the status
     ensures line { HasLine result.status }

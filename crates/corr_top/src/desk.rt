@@ -1,9 +1,10 @@
 //! The desk of a run: what a worker does with a message.
 
 ghost use Rattle.std.specs.Prelude.{◌≡◌, ◌≤◌, [], All, IfOk, length, map, vec_capacity, vec_len};
+ghost use Rattle.fin_frame.specs.File.{most_bytes};
 ghost use Rattle.corr_books.specs.Passes.{Belongs};
 ghost use Rattle.corr_top.specs.Message.{message_of};
-ghost use Rattle.corr_top.specs.Serving.{Answers, halt_of, served_of, starting};
+ghost use Rattle.corr_top.specs.Serving.{AnswersMessage, halt_of, served_of, starting};
 
 use crate::directory::Directory;
 use crate::message::{Stop, read_message, reply_for};
@@ -24,7 +25,7 @@ use work_pool::{Desk, Gate};
 #[derive(Clone, Copy, Debug, Drop)]
 pub struct Job<'a> {
     text: &'a Text,
-    ghost short: { length text.now ≤ 16384 },
+    ghost short: { length text.now ≤ most_bytes },
 }
 
 /// Why a worker serves no more.
@@ -76,7 +77,7 @@ pub struct RunDesk<'a, N: BooksName, D: Disk> {
 
 /// A job for each message, in their order.
 pub fn jobs_of(alloc: Global, messages: &[Text]) -> Result<Vec<Job<'_>>, Memory>
-    requires short { All (λ m. length m ≤ 16384) messages.now }
+    requires short { All (λ m. length m ≤ most_bytes) messages.now }
     ensures { IfOk result (λ jobs. map (λ job. job.text.now) jobs.items ≡ messages.now) }
 {
     let mut jobs = Vec::with_capacity(alloc, messages.len())?;
@@ -150,9 +151,9 @@ impl<'a, N: BooksName, D: Disk> RunDesk<'a, N, D> {
         gate: &G,
     ) -> Served
         requires pass { Belongs N.opening pass.old }
-        requires short { length text.now ≤ 16384 }
+        requires short { length text.now ≤ most_bytes }
         ensures pass { Belongs N.opening pass.new }
-        ensures answered { Answers N.opening (message_of self.now.directory.now N.opening.accounts text.now) pass.old pass.new result }
+        ensures answered { AnswersMessage N.opening (message_of self.now.directory.now N.opening.accounts text.now) pass.old pass.new result }
     {
         let accounts = self.books.accounts();
         match read_message(self.alloc, self.directory, accounts, text, room) {

@@ -4,6 +4,7 @@ ghost use Rattle.std.specs.Prelude.{◌≡◌, ◌≤◌, [], length, IfErr, IfO
 ghost use Rattle.corr_ids.specs.Bic.{IsBic};
 ghost use Rattle.day_model.specs.Chart.{Chart};
 ghost use Rattle.jrn_codec.specs.Header.{IsHead, head_bytes};
+ghost use Rattle.jrn_file.specs.Journal.{most_header_bytes};
 ghost use Rattle.corr_top.specs.Ends.{HasTexts};
 ghost use Rattle.corr_top.specs.OnDisk.{HasNotFailed, IsFree, IsOnDisk, StopsMaking};
 ghost use Rattle.corr_top.specs.Tables.{HasAccounts, StopsAccounts};
@@ -59,7 +60,7 @@ fn prepare<S: Source>(alloc: Global, home: Bic, tables: &mut Tables<S>) -> Resul
 
 /// Makes the journal of this header on a disk, and hands the disk back.
 fn make<D: Disk>(alloc: Global, disk: D, head: &Text) -> (D, Result<(), MakeFault>)
-    requires { length head.now ≤ 1048576 }
+    requires { length head.now ≤ most_header_bytes }
     ensures made { MatchResult result.1
         (λ _. (chart : Chart) → head.now ≡ head_bytes chart → IsFree D.Disk disk × IsOnDisk D.Disk result.0 chart [] × HasNotFailed D.Disk disk result.0)
         (λ fault. (chart : Chart) → head.now ≡ head_bytes chart → StopsMaking D.Disk disk result.0 chart fault) }

@@ -3,7 +3,7 @@
 ghost use Rattle.std.specs.Prelude.{◌≡◌, ◌≤◌, ◌++◌, [], OnOk, OnErr, IfOk, codes};
 ghost use Rattle.corr_ids.specs.Day.{InCentury, yymmdd_of};
 ghost use Rattle.corr_money.specs.Amounts.{signed_text};
-ghost use Rattle.corr_top.specs.Status.{HasLine, line_of, name_text, spaced, status_text, why_text};
+ghost use Rattle.corr_top.specs.Status.{HasLine, status_line_of, name_text, spaced, status_text, why_text};
 
 use crate::status::Status;
 use corr_ids::{Day, put_yymmdd};
@@ -144,7 +144,7 @@ fn put_status(alloc: Global, s: &Status, out: &mut Text) -> Result<(), Memory>
 /// Adds the line of a status.
 fn put_line(alloc: Global, s: &Status, out: &mut Text) -> Result<(), Memory>
     requires { HasLine s.now }
-    ensures { OnOk result (out.new ≡ out.old ++ line_of s.now) }
+    ensures { OnOk result (out.new ≡ out.old ++ status_line_of s.now) }
 {
     out.push(b"corr: ")?;
     put_status(alloc, s, out)
@@ -156,7 +156,7 @@ fn put_line(alloc: Global, s: &Status, out: &mut Text) -> Result<(), Memory>
 /// The decimals of an `Unbalanced` are at most 4. `Memory`: there was no room for the line; then `out` is empty.
 pub fn put_status_line(alloc: Global, s: &Status, out: &mut Text) -> Result<(), Memory>
     requires { HasLine s.now }
-    ensures ok { OnOk result (out.new ≡ line_of s.now) }
+    ensures ok { OnOk result (out.new ≡ status_line_of s.now) }
     ensures err { OnErr result (out.new ≡ []) }
 {
     out.truncate(0);
@@ -170,7 +170,7 @@ pub fn put_status_line(alloc: Global, s: &Status, out: &mut Text) -> Result<(), 
 /// The line of `put_status_line` as a text of its own.
 pub fn status_line(alloc: Global, s: &Status) -> Result<Text, Memory>
     requires { HasLine s.now }
-    ensures { IfOk result (λ line. line ≡ line_of s.now) }
+    ensures { IfOk result (λ line. line ≡ status_line_of s.now) }
 {
     let mut line = Text::from_bytes(alloc, b"")?;
     put_status_line(alloc, s, &mut line)?;

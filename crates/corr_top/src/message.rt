@@ -1,12 +1,13 @@
 //! A message, read to the pay that it asks for.
 
 ghost use Rattle.std.specs.Prelude.{◌≡◌, ◌≤◌, IfOk, IsSome, length};
+ghost use Rattle.fin_frame.specs.File.{most_bytes};
 ghost use Rattle.day_model.specs.Fit.{FitsAccounts};
-ghost use Rattle.day_model.specs.Shape.{HasShape};
-ghost use Rattle.fin_message.specs.Sound.{Goes, HasEnvelope, IsRead as IsReadMessage, lines_in};
+ghost use Rattle.day_model.specs.Shape.{HasShape, most_text};
+ghost use Rattle.fin_message.specs.Sound.{Goes, HasEnvelope, TextSays, lines_in};
 ghost use Rattle.fin_message.specs.declared.direction.Direction.TheVariants.{Received};
-ghost use Rattle.pay_plan.specs.Plan.{mir_in, plan_of};
-ghost use Rattle.pay_plan.specs.Readable.{IsRead, IsWritable};
+ghost use Rattle.pay_plan.specs.Plan.{mir_of_envelope, plan_of};
+ghost use Rattle.pay_plan.specs.Readable.{IsSomeReading, IsWritable};
 ghost use Rattle.corr_top.specs.Message.{message_of, pay_in, reply_for, unrouted};
 ghost use Rattle.corr_top.specs.Replies.{ReadsAs};
 
@@ -63,7 +64,7 @@ pub fn reply_for(why: NoPay) -> Reply
 /// The reference of a received message.
 fn reference(envelope: &Envelope) -> Mir
     requires { IsSome envelope.now.mir }
-    ensures { result ≡ mir_in envelope.now }
+    ensures { result ≡ mir_of_envelope envelope.now }
 {
     match envelope.mir {
         Some(mir) => mir,
@@ -81,7 +82,7 @@ fn plan_pay(
     ask: Ask<'_>,
 ) -> Result<Pay, Stop>
     requires received { IsSome envelope.now.mir }
-    requires read { IsRead ask }
+    requires read { IsSomeReading ask }
     requires writable { IsWritable envelope.now text.now }
     ensures value { ReadsAs result (unrouted envelope.now (plan_of envelope.now text.now ask.entry directory.now.ssi accounts.now)) }
     ensures fits { IfOk result (FitsAccounts accounts.now) }
@@ -105,9 +106,9 @@ fn read_pay(
     message: &Message,
 ) -> Result<Pay, Stop>
     requires received { Goes Received message.now }
-    requires read { IsReadMessage directory.now.tables message.now }
+    requires read { TextSays directory.now.tables message.now }
     requires envelope { HasEnvelope message.now }
-    requires short { length (lines_in message.now) ≤ 32768 }
+    requires short { length (lines_in message.now) ≤ most_text }
     ensures value { ReadsAs result (pay_in directory.now accounts.now message.now) }
     ensures fits { IfOk result (FitsAccounts accounts.now) }
     ensures shape { IfOk result HasShape }
@@ -151,7 +152,7 @@ pub fn read_message(
     b: &[u8],
     room: &mut Message,
 ) -> Result<Pay, Stop>
-    requires { length b.now ≤ 16384 }
+    requires { length b.now ≤ most_bytes }
     ensures value { ReadsAs result (message_of directory.now accounts.now b.now) }
     ensures fits { IfOk result (FitsAccounts accounts.now) }
     ensures shape { IfOk result HasShape }

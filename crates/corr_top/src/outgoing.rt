@@ -2,12 +2,13 @@
 
 ghost use Rattle.std.specs.Prelude.{◌≡◌, ◌≤◌, ◌++◌, All, IfOk, OnOk, take};
 ghost use Rattle.std.specs.Int.{IsInRange};
+ghost use Rattle.day_model.specs.Log.{most_entries};
 ghost use Rattle.advices.specs.Messages.{messages_of};
 ghost use Rattle.advices.specs.Valid.{AreAccepted};
 ghost use Rattle.corr_ids.specs.Bic.{IsBic};
 ghost use Rattle.corr_top.specs.Serving.{HasPayShape};
 ghost use Rattle.corr_top.specs.Origin.{SendsAccepted};
-ghost use Rattle.corr_top.specs.Out.{parted, parted_all, sent_from, sent_of};
+ghost use Rattle.corr_top.specs.Out.{parted, parted_all, sent_from, entry_out};
 ghost use Rattle.day_model.specs.Fit.{FitsAccounts};
 ghost use Rattle.day_model.specs.Legal.{IsLegal};
 ghost use Rattle.day_model.specs.Shape.{HasShape};
@@ -46,8 +47,8 @@ fn push_orders(
     requires home { IsBic a.now.home }
     requires fits { FitsAccounts a.now entry.now.pay }
     requires shape { HasShape entry.now.pay }
-    requires place { IsInRange 1 100000 place }
-    ensures added { OnOk result (out.new ≡ out.old ++ sent_of a.now place entry.now) }
+    requires place { IsInRange 1 most_entries place }
+    ensures added { OnOk result (out.new ≡ out.old ++ entry_out a.now place entry.now) }
     ensures accepted { OnOk result (AreAccepted a.now entry.now.pay (messages_of a.now entry.now place)) }
 {
     let messages = orders(alloc, a, entry, place)?;

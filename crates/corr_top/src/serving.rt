@@ -1,6 +1,7 @@
 //! Workers serve the messages of a day over the books of a journal.
 
 ghost use Rattle.std.specs.Prelude.{◌≡◌, ◌≤◌, [], All, IfErr, IfOk, length, map, vec_capacity};
+ghost use Rattle.fin_frame.specs.File.{most_bytes};
 ghost use Rattle.jrn_file.specs.File.{disk_of};
 ghost use Rattle.corr_books.specs.Opening.{IsNamed, opening_of};
 ghost use Rattle.corr_top.specs.Message.{readings_of};
@@ -35,7 +36,7 @@ struct Places<'a> {
 
 /// The jobs of messages, and room for so many workers.
 fn make_places(alloc: Global, workers: u32, messages: &[Text]) -> Result<Places<'_>, Memory>
-    requires short { All (λ m. length m ≤ 16384) messages.now }
+    requires short { All (λ m. length m ≤ most_bytes) messages.now }
     ensures jobs { IfOk result (λ places. map (λ job. job.text.now) places.jobs.items ≡ messages.now) }
     ensures workers { IfOk result (λ places. (places.workers.items ≡ []) × (workers ≤ vec_capacity places.workers)) }
     ensures passes { IfOk result (λ places. (places.passes.items ≡ []) × (workers ≤ vec_capacity places.passes)) }
@@ -66,7 +67,7 @@ pub fn serve_all<
 ) -> Result<ServedDay<D>, (D, Memory)>
     requires named { IsNamed D.Disk N.opening N.table opened workers }
     requires count { (1 ≤ workers) × (workers ≤ 16) }
-    requires short { All (λ m. length m ≤ 16384) messages.now }
+    requires short { All (λ m. length m ≤ most_bytes) messages.now }
     ensures served { IfOk result (λ day. AllServed D.Disk (opening_of D.Disk opened workers) (readings_of directory.now opened.accounts messages.now) day) }
     ensures disk { IfErr result (λ e. e.0 ≡ disk_of opened.file) }
 {

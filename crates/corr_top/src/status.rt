@@ -1,7 +1,7 @@
 //! How a command ended.
 
 ghost use Rattle.std.specs.Prelude.{◌≡◌};
-ghost use Rattle.corr_top.specs.Status.{number_of};
+ghost use Rattle.corr_top.specs.Status.{status_number};
 
 use corr_ids::Day;
 use corr_money::Ccy;
@@ -80,7 +80,7 @@ pub enum Status {
 impl Status {
     /// The status as a number, which is the program's exit status.
     pub fn number(&self) -> u8
-        ensures { result ≡ number_of self.now }
+        ensures { result ≡ status_number self.now }
     {
         match self {
             Status::Done => 0,

@@ -3,7 +3,8 @@
 ghost use Rattle.std.specs.Prelude.{◌≡◌, ◌≤◌, IfSome};
 ghost use Rattle.std.specs.Option.{option_map};
 ghost use Rattle.std.specs.Str.{bytes_eq};
-ghost use Rattle.corr_top.specs.Commands.{IsSpelled, command_of, init_of, places_of, run_of, send_of, statements_of, workers_of};
+ghost use Rattle.day_model.specs.Log.{most_entries};
+ghost use Rattle.corr_top.specs.Commands.{IsSpelled, command_of, init_of, two_places, run_command, send_of, statements_of, workers_of};
 ghost use Rattle.corr_top.specs.declared.words.Command.TheVariants.{Plain as CommandPlain};
 
 use corr_ids::{Bic, Day, day_from_yymmdd, read_bic};
@@ -53,8 +54,8 @@ fn is_word(b: &[u8], word: &[u8]) -> bool
 
 /// Two places of a journal, the second not before the first.
 fn places(from: &[u8], until: &[u8]) -> Option<(u32, u32)>
-    ensures value { result ≡ places_of from.now until.now }
-    ensures sound { IfSome result (λ places. (1 ≤ places.0) × (places.0 ≤ places.1) × (places.1 ≤ 100000)) }
+    ensures value { result ≡ two_places from.now until.now }
+    ensures sound { IfSome result (λ places. (1 ≤ places.0) × (places.0 ≤ places.1) × (places.1 ≤ most_entries)) }
 {
     let from = digits(from)?;
     let until = digits(until)?;
@@ -105,7 +106,7 @@ fn workers(b: &[u8]) -> Option<u32>
 
 /// `run DATE WORKERS` with a day of the calendar.
 fn run(date: &[u8], number: &[u8]) -> Option<Command>
-    ensures value { result ≡ run_of date.now number.now }
+    ensures value { result ≡ run_command date.now number.now }
     ensures sound { IfSome result IsSpelled }
 {
     let day = day_from_yymmdd(date)?;

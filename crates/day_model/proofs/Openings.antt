@@ -14,11 +14,11 @@ use Rattle.corr_money.specs.Amounts.{amount_end}
 use Rattle.corr_money.specs.declared.amount.Ccy.{Ccy}
 use Rattle.day_model.specs.declared.account.Account.{Account}
 use Rattle.day_model.specs.declared.gap.Gap.{Gap}
-use Rattle.day_model.specs.Chart.{IsLimited, is_ccy, opening_sum}
+use Rattle.day_model.specs.Chart.{IsLimited, is_same_ccy, opening_sum}
 use Rattle.day_model.specs.Gap.{is_before, IsGapOf, GapOf, earlier_of, FirstGap}
 
 abbrev pub opening_in : Ccy → Account → ℤ
-opening_in ccy account = if is_ccy account.ccy ccy then account.opening else pos 0
+opening_in ccy account = if is_same_ccy account.ccy ccy then account.opening else pos 0
 
 opening_sum-append : (ccy : Ccy) (xs : List Account) (a : Account) → opening_sum ccy (xs ++ a ∷ []) ≡ opening_sum ccy xs +ℤ opening_in ccy a
 opening_sum-append ccy [] a = omega (arith, ints)
@@ -41,7 +41,7 @@ small_opening ccy a limits =
     let high = limits.ceil_small.1 in
     let above = limits.above_floor in
     let below = limits.below_ceil in
-    cond_both (is_ccy a.ccy ccy) a.opening (pos 0) (IsNear 1) (λ _. record { low = omega (arith, ints); high = omega (arith, ints) }) (λ _. record { low = omega (arith, ints); high = omega (arith, ints) })
+    cond_both (is_same_ccy a.ccy ccy) a.opening (pos 0) (IsNear 1) (λ _. record { low = omega (arith, ints); high = omega (arith, ints) }) (λ _. record { low = omega (arith, ints); high = omega (arith, ints) })
 
 pub near_more : (ccy : Ccy) (i : ℕ) (z : ℤ) (a : Account) → IsLimited a → IsNear i z → IsNear (i + 1) (z +ℤ opening_in ccy a)
 near_more ccy i z a limits near =
@@ -58,18 +58,18 @@ near_fits i z few near =
     let high = near.high in
     omega (arith, ints)
 
-same_ccy : (c d : Ccy) → is_ccy c d ≡ true → c ≡ d
+same_ccy : (c d : Ccy) → is_same_ccy c d ≡ true → c ≡ d
 same_ccy c d e = let digits : c.0 ≡ d.0 = (bytes_eq-Decides c.0 d.0).0 e in ap (λ (bs : List ℕ). record { 0 = bs }) digits
 
 -- a currency that no account has sums to 0
 has_or_zero : (ccy : Ccy) (rows : List Account) → ((k : ℕ) × (a : Account) × (slice_get rows k ≡ Some a) × (a.ccy ≡ ccy)) ⊎ (opening_sum ccy rows ≡ pos 0)
 has_or_zero ccy [] = inr refl
 has_or_zero ccy (x ∷ rows) =
-    elim (cases_Bool (is_ccy x.ccy ccy)) [
+    elim (cases_Bool (is_same_ccy x.ccy ccy)) [
       | inl here ↦ inl (0, x, refl, same_ccy x.ccy ccy here)
       | inr apart ↦ elim (has_or_zero ccy rows) [
         | inl (k, a, at, is) ↦ inl (suc k, a, at, is)
-        | inr none ↦ inr (ap (λ (z : ℤ). z +ℤ opening_sum ccy rows) (cond-false (is_ccy x.ccy ccy) x.opening (pos 0) apart) ∙ ap (λ (z : ℤ). pos 0 +ℤ z) none)
+        | inr none ↦ inr (ap (λ (z : ℤ). z +ℤ opening_sum ccy rows) (cond-false (is_same_ccy x.ccy ccy) x.opening (pos 0) apart) ∙ ap (λ (z : ℤ). pos 0 +ℤ z) none)
       ]
     ]
 
@@ -144,12 +144,12 @@ so_far_more rows i row (Some gap) (Some other) old here new = chosen rows i row 
 
 -- ---- an account whose currency was summed before
 
-found_before : (rows : List Account) (i : ℕ) (ccy : Ccy) → list_any (λ r. is_ccy r.ccy ccy) (take i rows) ≡ true → (k : ℕ) × (a : Account) × (k < i) × (slice_get rows k ≡ Some a) × (a.ccy ≡ ccy)
+found_before : (rows : List Account) (i : ℕ) (ccy : Ccy) → list_any (λ r. is_same_ccy r.ccy ccy) (take i rows) ≡ true → (k : ℕ) × (a : Account) × (k < i) × (slice_get rows k ≡ Some a) × (a.ccy ≡ ccy)
 found_before [] zero ccy h = absurd (false≢true h)
 found_before [] (suc i) ccy h = absurd (false≢true h)
 found_before (x ∷ rows) zero ccy h = absurd (false≢true h)
 found_before (x ∷ rows) (suc i) ccy h =
-    elim (cases_Bool (is_ccy x.ccy ccy)) [
+    elim (cases_Bool (is_same_ccy x.ccy ccy)) [
       | inl here ↦ (0, x, omega arith, refl, same_ccy x.ccy ccy here)
       | inr apart ↦ let f = found_before rows i ccy (rw apart at h) in (suc f.0, f.1, omega (arith, f.2), f.3, f.4)
     ]
@@ -162,7 +162,7 @@ summed rows i row (Some gap) old here k a lt at same =
     old_leads rows i row gap old here
     (λ b. subst (λ (c : Ccy). opening_sum c rows ≡ pos 0) same (old.first k a lt at (subst (λ (c : Ccy). is_before c gap.ccy ≡ true) (sym same) b)))
 
-pub so_far_known : (rows : List Account) (i : ℕ) (row : Account) (first : Option Gap) → SoFar rows i first → slice_get rows i ≡ Some row → list_any (λ r. is_ccy r.ccy row.ccy) (take i rows) ≡ true → SoFar rows (i + 1) first
+pub so_far_known : (rows : List Account) (i : ℕ) (row : Account) (first : Option Gap) → SoFar rows i first → slice_get rows i ≡ Some row → list_any (λ r. is_same_ccy r.ccy row.ccy) (take i rows) ≡ true → SoFar rows (i + 1) first
 so_far_known rows i row first old here known =
     let f = found_before rows i row.ccy known in summed rows i row first old here f.0 f.1 f.2 f.3 f.4
 

@@ -15,7 +15,7 @@ use Rattle.day_model.specs.declared.pay.Side.{Side}
 use Rattle.day_model.specs.declared.pay.Side.TheVariants.{Debit, Credit}
 use Rattle.day_model.specs.declared.pay.Leg.{Leg}
 use Rattle.day_model.specs.declared.entry.Entry.{Entry}
-use Rattle.day_model.specs.Chart.{Chart, IsChart, account_at, is_ccy, opening_sum}
+use Rattle.day_model.specs.Chart.{Chart, IsChart, account_at, is_same_ccy, opening_sum}
 use Rattle.day_model.specs.Fit.{same_ccy}
 use Rattle.day_model.specs.Balance.{is_booked, moved, moved_by, credits_of, debits_of, balance_of}
 use Rattle.day_model.specs.Legal.{IsLegal}
@@ -26,8 +26,8 @@ use Rattle.day_model.proofs.laws.Balances.{balance_more, booked_moves, unmoved, 
 pub sum_in-same : (ccy : Ccy) (f g : ℕ → ℤ) (n : ℕ) (accounts : List Account) → ((k : ℕ) → f k ≡ g k) → sum_in ccy f n accounts ≡ sum_in ccy g n accounts
 sum_in-same ccy f g n [] same = refl
 sum_in-same ccy f g n (a ∷ accounts) same =
-    ap (λ (z : ℤ). (if is_ccy a.ccy ccy then z else pos 0) +ℤ sum_in ccy f (n + 1) accounts) (same n)
-    ∙ ap (λ (z : ℤ). (if is_ccy a.ccy ccy then g n else pos 0) +ℤ z) (sum_in-same ccy f g (n + 1) accounts same)
+    ap (λ (z : ℤ). (if is_same_ccy a.ccy ccy then z else pos 0) +ℤ sum_in ccy f (n + 1) accounts) (same n)
+    ∙ ap (λ (z : ℤ). (if is_same_ccy a.ccy ccy then g n else pos 0) +ℤ z) (sum_in-same ccy f g (n + 1) accounts same)
 
 plus_step : (b : Bool) (x y z s u v : ℤ) → (if b then (x +ℤ y) -ℤ z else pos 0) +ℤ ((s +ℤ u) -ℤ v) ≡ (((if b then x else pos 0) +ℤ s) +ℤ ((if b then y else pos 0) +ℤ u)) -ℤ ((if b then z else pos 0) +ℤ v)
 plus_step true x y z s u v = omega (arith, ints)
@@ -36,15 +36,15 @@ plus_step false x y z s u v = omega (arith, ints)
 sum_in-plus : (ccy : Ccy) (f g h : ℕ → ℤ) (n : ℕ) (accounts : List Account) → sum_in ccy (λ k. (f k +ℤ g k) -ℤ h k) n accounts ≡ (sum_in ccy f n accounts +ℤ sum_in ccy g n accounts) -ℤ sum_in ccy h n accounts
 sum_in-plus ccy f g h n [] = refl
 sum_in-plus ccy f g h n (a ∷ accounts) =
-    ap (λ (z : ℤ). (if is_ccy a.ccy ccy then (f n +ℤ g n) -ℤ h n else pos 0) +ℤ z) (sum_in-plus ccy f g h (n + 1) accounts)
-    ∙ plus_step (is_ccy a.ccy ccy) (f n) (g n) (h n) (sum_in ccy f (n + 1) accounts) (sum_in ccy g (n + 1) accounts) (sum_in ccy h (n + 1) accounts)
+    ap (λ (z : ℤ). (if is_same_ccy a.ccy ccy then (f n +ℤ g n) -ℤ h n else pos 0) +ℤ z) (sum_in-plus ccy f g h (n + 1) accounts)
+    ∙ plus_step (is_same_ccy a.ccy ccy) (f n) (g n) (h n) (sum_in ccy f (n + 1) accounts) (sum_in ccy g (n + 1) accounts) (sum_in ccy h (n + 1) accounts)
 
 sum_in-none : (ccy : Ccy) (m amount n : ℕ) (accounts : List Account) → m < n → sum_in ccy (λ k. pos (cond (eqb m k) amount 0)) n accounts ≡ pos 0
 sum_in-none ccy m amount n [] lt = refl
 sum_in-none ccy m amount n (a ∷ accounts) lt =
     let rest = sum_in-none ccy m amount (n + 1) accounts (omega arith) in
     let other : m ≢ n = λ e. omega arith in
-    rw (ne_eqb m n other, rest) (cond_both (is_ccy a.ccy ccy) (pos 0) (pos 0) (λ (z : ℤ). z +ℤ pos 0 ≡ pos 0) (λ _. refl) (λ _. refl))
+    rw (ne_eqb m n other, rest) (cond_both (is_same_ccy a.ccy ccy) (pos 0) (pos 0) (λ (z : ℤ). z +ℤ pos 0 ≡ pos 0) (λ _. refl) (λ _. refl))
 
 -- an amount on one account counts in its currency alone
 sum_in-one : (ccy : Ccy) (m amount n : ℕ) (accounts : List Account) → n ≤ m → m < n + length accounts → sum_in ccy (λ k. pos (cond (eqb m k) amount 0)) n accounts ≡ pos (cond (in_ccy ccy (slice_get accounts (m - n))) amount 0)
@@ -54,14 +54,14 @@ sum_in-one ccy m amount n (a ∷ accounts) le lt =
       | inl here ↦
           let rest = sum_in-none ccy m amount (n + 1) accounts (omega arith) in
           let first : m - n ≡ 0 = omega arith in
-          rw (eq-eqb m n here, rest, first) (elim (cases_Bool (is_ccy a.ccy ccy)) [
+          rw (eq-eqb m n here, rest, first) (elim (cases_Bool (is_same_ccy a.ccy ccy)) [
             | inl yes_ccy ↦ rw yes_ccy (omega (arith, ints))
             | inr no_ccy ↦ rw no_ccy refl
           ])
       | inr other ↦
           let rest = sum_in-one ccy m amount (n + 1) accounts (omega arith) (omega arith) in
           let later : m - n ≡ suc (m - (n + 1)) = omega arith in
-          rw (ne_eqb m n other, rest, later) (elim (cases_Bool (is_ccy a.ccy ccy)) [
+          rw (ne_eqb m n other, rest, later) (elim (cases_Bool (is_same_ccy a.ccy ccy)) [
             | inl yes_ccy ↦ rw yes_ccy (omega (arith, ints))
             | inr no_ccy ↦ rw no_ccy (omega (arith, ints))
           ])

@@ -13,7 +13,7 @@ use Rattle.corr_ids.specs.Bic.{bic_of}
 use Rattle.corr_ids.specs.declared.bic.Bic.{Bic}
 use Rattle.corr_money.specs.declared.amount.Ccy.{Ccy}
 use Rattle.day_model.specs.declared.account.Account.{Account}
-use Rattle.day_model.specs.Chart.{AreRows, IsFormed, IsLimited, IsSameBank, is_ccy, is_kind, customer}
+use Rattle.day_model.specs.Chart.{AreRows, IsFormed, IsLimited, IsSameBank, is_same_ccy, is_kind, customer}
 use Rattle.day_model.specs.RowTests.{is_same_bic, reads_itself, is_formed, has_limits, is_row, apart, all_apart, rows_fit}
 
 -- what all pass, each passes
@@ -98,13 +98,13 @@ same_decimals false d e is = absurd (false≢true is)
 
 parted : (a b : Account) → apart a b ≡ true → Apart a b
 parted a b e =
-    let bank : Bool = not (eqb a.kind customer) && eqb a.kind b.kind && bytes_eq a.owner.head b.owner.head && is_ccy a.ccy b.ccy in
-    let last = and_parts (not (bytes_eq a.id b.id) && not bank) (not (is_ccy a.ccy b.ccy) || eqb a.decimals b.decimals) e in
+    let bank : Bool = not (eqb a.kind customer) && eqb a.kind b.kind && bytes_eq a.owner.head b.owner.head && is_same_ccy a.ccy b.ccy in
+    let last = and_parts (not (bytes_eq a.id b.id) && not bank) (not (is_same_ccy a.ccy b.ccy) || eqb a.decimals b.decimals) e in
     let first = and_parts (not (bytes_eq a.id b.id)) (not bank) last.0 in
     record {
       ids = λ is. false≢true (sym (not-true (bytes_eq a.id b.id) first.0) ∙ same_bytes a.id b.id is);
-      banks = λ is. false≢true (sym (not-true bank first.1) ∙ and_from (not (eqb a.kind customer) && eqb a.kind b.kind && bytes_eq a.owner.head b.owner.head) (is_ccy a.ccy b.ccy) (and_from (not (eqb a.kind customer) && eqb a.kind b.kind) (bytes_eq a.owner.head b.owner.head) (and_from (not (eqb a.kind customer)) (eqb a.kind b.kind) (not_from_false (eqb a.kind customer) (ne_eqb a.kind customer is.bank)) (eq-eqb a.kind b.kind is.kind)) (same_bytes a.owner.head b.owner.head is.head)) (same_bytes a.ccy.0 b.ccy.0 (ap (λ (c : Ccy). c.0) is.ccy)));
-      decimals = λ is. eqb-true _ _ (same_decimals (is_ccy a.ccy b.ccy) (eqb a.decimals b.decimals) last.1 (same_bytes a.ccy.0 b.ccy.0 (ap (λ (c : Ccy). c.0) is)));
+      banks = λ is. false≢true (sym (not-true bank first.1) ∙ and_from (not (eqb a.kind customer) && eqb a.kind b.kind && bytes_eq a.owner.head b.owner.head) (is_same_ccy a.ccy b.ccy) (and_from (not (eqb a.kind customer) && eqb a.kind b.kind) (bytes_eq a.owner.head b.owner.head) (and_from (not (eqb a.kind customer)) (eqb a.kind b.kind) (not_from_false (eqb a.kind customer) (ne_eqb a.kind customer is.bank)) (eq-eqb a.kind b.kind is.kind)) (same_bytes a.owner.head b.owner.head is.head)) (same_bytes a.ccy.0 b.ccy.0 (ap (λ (c : Ccy). c.0) is.ccy)));
+      decimals = λ is. eqb-true _ _ (same_decimals (is_same_ccy a.ccy b.ccy) (eqb a.decimals b.decimals) last.1 (same_bytes a.ccy.0 b.ccy.0 (ap (λ (c : Ccy). c.0) is)));
     }
 
 pub rows_sound : (accounts : List Account) → rows_fit accounts ≡ true → AreRows accounts
@@ -175,12 +175,12 @@ either : (c d : Bool) → (c ≡ true → d ≡ true) → (not c || d) ≡ true
 either true d so = so refl
 either false d so = refl
 
-ccy_of : (c d : Ccy) → is_ccy c d ≡ true → c ≡ d
+ccy_of : (c d : Ccy) → is_same_ccy c d ≡ true → c ≡ d
 ccy_of c d e = let digits : c.0 ≡ d.0 = (bytes_eq-Decides c.0 d.0).0 e in ap (λ (bs : List ℕ). record { 0 = bs }) digits
 
-same_bank : (a b : Account) → (not (eqb a.kind customer) && eqb a.kind b.kind && bytes_eq a.owner.head b.owner.head && is_ccy a.ccy b.ccy) ≡ true → IsSameBank a b
+same_bank : (a b : Account) → (not (eqb a.kind customer) && eqb a.kind b.kind && bytes_eq a.owner.head b.owner.head && is_same_ccy a.ccy b.ccy) ≡ true → IsSameBank a b
 same_bank a b e =
-    let ccy = and_parts (not (eqb a.kind customer) && eqb a.kind b.kind && bytes_eq a.owner.head b.owner.head) (is_ccy a.ccy b.ccy) e in
+    let ccy = and_parts (not (eqb a.kind customer) && eqb a.kind b.kind && bytes_eq a.owner.head b.owner.head) (is_same_ccy a.ccy b.ccy) e in
     let head = and_parts (not (eqb a.kind customer) && eqb a.kind b.kind) (bytes_eq a.owner.head b.owner.head) ccy.0 in
     let kind = and_parts (not (eqb a.kind customer)) (eqb a.kind b.kind) head.0 in
     record {
@@ -192,9 +192,9 @@ same_bank a b e =
 
 apart_from : (a b : Account) → Apart a b → apart a b ≡ true
 apart_from a b p =
-    let bank : Bool = not (eqb a.kind customer) && eqb a.kind b.kind && bytes_eq a.owner.head b.owner.head && is_ccy a.ccy b.ccy in
+    let bank : Bool = not (eqb a.kind customer) && eqb a.kind b.kind && bytes_eq a.owner.head b.owner.head && is_same_ccy a.ccy b.ccy in
     let first = and_from (not (bytes_eq a.id b.id)) (not bank) (not_of (bytes_eq a.id b.id) (λ is. p.ids ((bytes_eq-Decides a.id b.id).0 is))) (not_of bank (λ is. p.banks (same_bank a b is))) in
-    and_from (not (bytes_eq a.id b.id) && not bank) (not (is_ccy a.ccy b.ccy) || eqb a.decimals b.decimals) first (either (is_ccy a.ccy b.ccy) (eqb a.decimals b.decimals) (λ is. eq-eqb a.decimals b.decimals (p.decimals (ccy_of a.ccy b.ccy is))))
+    and_from (not (bytes_eq a.id b.id) && not bank) (not (is_same_ccy a.ccy b.ccy) || eqb a.decimals b.decimals) first (either (is_same_ccy a.ccy b.ccy) (eqb a.decimals b.decimals) (λ is. eq-eqb a.decimals b.decimals (p.decimals (ccy_of a.ccy b.ccy is))))
 
 later : (i j : ℕ) → i < j → i ≡ j → ⊥
 later i j lt is = omega arith

@@ -39,13 +39,13 @@ abbrev pub has_id : List ℕ → Account → Bool
 has_id id account = bytes_eq account.id id
 
 -- two currencies are the same
-abbrev pub is_ccy : Ccy → Ccy → Bool
-is_ccy c d = bytes_eq c.0 d.0
+abbrev pub is_same_ccy : Ccy → Ccy → Bool
+is_same_ccy c d = bytes_eq c.0 d.0
 
 -- of this kind, this head of its owner, this currency and this number of decimals
 abbrev pub is_owned : ℕ → List ℕ → Ccy → ℕ → Account → Bool
 is_owned kind head ccy decimals account =
-    (account.kind == kind) && bytes_eq account.owner.head head && is_ccy account.ccy ccy && (account.decimals == decimals)
+    (account.kind == kind) && bytes_eq account.owner.head head && is_same_ccy account.ccy ccy && (account.decimals == decimals)
 
 -- the letter C, of a customer's account
 abbrev pub customer : ℕ
@@ -60,10 +60,10 @@ abbrev pub nostro : ℕ
 nostro = 78
 
 -- the letter of a kind
-abbrev pub letter_of : Kind → ℕ
-letter_of Customer = customer
-letter_of Vostro = vostro
-letter_of Nostro = nostro
+abbrev pub kind_letter : Kind → ℕ
+kind_letter Customer = customer
+kind_letter Vostro = vostro
+kind_letter Nostro = nostro
 
 -- one of the three letters
 abbrev pub is_kind : ℕ → Bool
@@ -109,7 +109,7 @@ pub record AreRows (accounts : List Account) : Type 0 where
 -- the sum of the openings of a currency's accounts
 abbrev pub opening_sum : Ccy → List Account → ℤ
 opening_sum ccy [] = pos 0
-opening_sum ccy (account ∷ accounts) = (if is_ccy account.ccy ccy then account.opening else pos 0) +ℤ opening_sum ccy accounts
+opening_sum ccy (account ∷ accounts) = (if is_same_ccy account.ccy ccy then account.opening else pos 0) +ℤ opening_sum ccy accounts
 
 -- the accounts of a book: the openings of each currency sum to 0
 pub record IsChart (chart : Chart) : Type 0 where

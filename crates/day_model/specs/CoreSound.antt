@@ -77,7 +77,7 @@ abbrev pub NoDeadlock : CoreState → Type 0
 NoDeadlock s = (worker : ℕ) (job : Job) → job_at s.workers worker ≡ Some job → (w : ℕ) × MayGoOn s w
 
 -- what holds of a state that a list of events leads to
-pub record IsKept (first s : CoreState) : Type 0 where
+pub record IsReached (first s : CoreState) : Type 0 where
   pub sound : IsSound s
   pub accounts : s.ledger.chart ≡ first.ledger.chart
   pub begins : (more : List Entry) × (s.ledger.entries ≡ first.ledger.entries ++ more)
@@ -85,7 +85,7 @@ pub record IsKept (first s : CoreState) : Type 0 where
 
 -- every list of events leads to a state that keeps what holds
 abbrev pub RunsAreKept : CoreState → Type 0
-RunsAreKept s = (events : List Event) → IsKept s (run_of s events)
+RunsAreKept s = (events : List Event) → IsReached s (run_of s events)
 
 -- after a fault the history stays
 abbrev pub FaultFreezes : CoreState → Type 0

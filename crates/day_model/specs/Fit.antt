@@ -6,7 +6,7 @@ use Rattle.day_model.specs.declared.pay.Side.{Side}
 use Rattle.day_model.specs.declared.pay.Side.TheVariants.{Debit, Credit}
 use Rattle.day_model.specs.declared.pay.Leg.{Leg}
 use Rattle.day_model.specs.declared.pay.Pay.{Pay}
-use Rattle.day_model.specs.Chart.{Chart, account_at, is_ccy}
+use Rattle.day_model.specs.Chart.{Chart, account_at, is_same_ccy}
 
 -- two sides are the same
 abbrev pub is_side : Side → Side → Bool
@@ -21,7 +21,7 @@ is_listed chart n = nat_le 1 n && nat_le n (length chart.accounts)
 
 -- both accounts are there and have one currency
 abbrev pub same_ccy : Option Account → Option Account → Bool
-same_ccy (Some a) (Some b) = is_ccy a.ccy b.ccy
+same_ccy (Some a) (Some b) = is_same_ccy a.ccy b.ccy
 same_ccy (Some a) None = false
 same_ccy None b = false
 

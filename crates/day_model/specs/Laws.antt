@@ -9,7 +9,7 @@ use Rattle.day_model.specs.declared.pay.Side.TheVariants.{Debit, Credit}
 use Rattle.day_model.specs.declared.pay.Leg.{Leg}
 use Rattle.day_model.specs.declared.pay.Pay.{Pay}
 use Rattle.day_model.specs.declared.entry.Entry.{Entry}
-use Rattle.day_model.specs.Chart.{Chart, account_at, is_ccy}
+use Rattle.day_model.specs.Chart.{Chart, account_at, is_same_ccy}
 use Rattle.day_model.specs.Log.{most_entries}
 use Rattle.day_model.specs.Fit.{FitsAccounts, is_side}
 use Rattle.day_model.specs.Balance.{is_booked, balance_of, credits_of, debits_of}
@@ -19,7 +19,7 @@ use Rattle.day_model.specs.Legal.{IsLegal}
 -- the sum of an amount over the accounts of a currency, of which the first has number n
 abbrev pub sum_in : Ccy → (ℕ → ℤ) → ℕ → List Account → ℤ
 sum_in ccy amount n [] = pos 0
-sum_in ccy amount n (account ∷ accounts) = (if is_ccy account.ccy ccy then amount n else pos 0) +ℤ sum_in ccy amount (n + 1) accounts
+sum_in ccy amount n (account ∷ accounts) = (if is_same_ccy account.ccy ccy then amount n else pos 0) +ℤ sum_in ccy amount (n + 1) accounts
 
 -- the balances of each currency sum to 0
 abbrev pub BalancesCancel : Chart → List Entry → Type 0
@@ -27,7 +27,7 @@ BalancesCancel chart entries = (ccy : Ccy) → sum_in ccy (balance_of chart entr
 
 -- the account is there and has this currency
 abbrev pub in_ccy : Ccy → Option Account → Bool
-in_ccy ccy (Some account) = is_ccy account.ccy ccy
+in_ccy ccy (Some account) = is_same_ccy account.ccy ccy
 in_ccy ccy None = false
 
 -- what a leg moves on one side of a currency

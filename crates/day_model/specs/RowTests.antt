@@ -8,7 +8,7 @@ use Rattle.corr_ids.specs.Bic.{bic_of}
 use Rattle.corr_ids.specs.declared.bic.Bic.{Bic}
 use Rattle.corr_money.specs.Amounts.{amount_end}
 use Rattle.day_model.specs.declared.account.Account.{Account}
-use Rattle.day_model.specs.Chart.{is_ccy, is_kind, customer, most_accounts}
+use Rattle.day_model.specs.Chart.{is_same_ccy, is_kind, customer, most_accounts}
 
 -- a BIC that is read, if any, is this one
 abbrev pub is_same_bic : Option Bic → Bic → Bool
@@ -38,8 +38,8 @@ is_row a = is_formed a && has_limits a
 abbrev pub apart : Account → Account → Bool
 apart a b =
     not (bytes_eq a.id b.id)
-    && not (not (a.kind == customer) && (a.kind == b.kind) && bytes_eq a.owner.head b.owner.head && is_ccy a.ccy b.ccy)
-    && (not (is_ccy a.ccy b.ccy) || (a.decimals == b.decimals))
+    && not (not (a.kind == customer) && (a.kind == b.kind) && bytes_eq a.owner.head b.owner.head && is_same_ccy a.ccy b.ccy)
+    && (not (is_same_ccy a.ccy b.ccy) || (a.decimals == b.decimals))
 
 -- each two accounts are apart
 abbrev pub all_apart : List Account → Bool

@@ -1,5 +1,5 @@
 -- When two pays are the same, and the reply to a pay.
-use Rattle.std.specs.Prelude.{ℕ, ◌-◌, ◌&&◌, Bool, true, false, List, Option, Some, None, option_and_then, slice_get, if◌then◌else◌, IsTrue}
+use Rattle.std.specs.Prelude.{ℕ, ◌-◌, ◌&&◌, Bool, true, false, List, Option, Some, None, option_and_then, slice_get, if◌then◌else◌}
 use Rattle.std.specs.Str.{bytes_eq}
 use Rattle.corr_ids.specs.declared.uetr.Uetr.{Uetr}
 use Rattle.day_model.specs.declared.pay.Mt.{Mt}
@@ -27,10 +27,6 @@ is_same_uetr None None = true
 -- reference, type, UETR and text agree
 abbrev pub is_same_pay : Pay → Pay → Bool
 is_same_pay p q = bytes_eq p.mir.0 q.mir.0 && is_mt p.mt q.mt && is_same_uetr p.uetr q.uetr && bytes_eq p.text q.text
-
--- two pays are the same
-abbrev pub IsSamePay : Pay → Pay → Type 0
-IsSamePay p q = IsTrue (is_same_pay p q)
 
 -- the reply that the entry at a place gives to a pay of its reference
 abbrev pub reply_at : Pay → ℕ → Option Entry → Option Reply

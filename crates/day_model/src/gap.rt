@@ -2,7 +2,7 @@
 
 ghost use Rattle.std.specs.Prelude.{◌≡◌, Some, pos, if◌then◌else◌};
 ghost use Rattle.std.specs.List.{list_any};
-ghost use Rattle.day_model.specs.Chart.{AreRows, is_ccy, opening_sum};
+ghost use Rattle.day_model.specs.Chart.{AreRows, is_same_ccy, opening_sum};
 ghost use Rattle.day_model.specs.Gap.{FirstGap, GapOf, earlier_of, is_before};
 
 use crate::account::Account;
@@ -18,7 +18,7 @@ pub(crate) struct Gap {
 }
 
 fn opening_in(ccy: Ccy, row: &Account) -> i64
-    ensures { result ≡ (if is_ccy row.now.ccy ccy then row.now.opening else pos 0) }
+    ensures { result ≡ (if is_same_ccy row.now.ccy ccy then row.now.opening else pos 0) }
 {
     if row.ccy == ccy { row.opening } else { 0 }
 }
@@ -72,7 +72,7 @@ fn earlier(first: Option<Gap>, second: Option<Gap>) -> Option<Gap>
 }
 
 fn has_ccy(rows: &[Account], ccy: Ccy) -> bool
-    ensures { result ≡ list_any (λ row. is_ccy row.ccy ccy) rows.now }
+    ensures { result ≡ list_any (λ row. is_same_ccy row.ccy ccy) rows.now }
 {
     rows.iter().any(|row| row.ccy == ccy)
 }

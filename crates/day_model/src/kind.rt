@@ -1,7 +1,7 @@
 //! Kinds of accounts.
 
 ghost use Rattle.std.specs.Prelude.{◌≡◌};
-ghost use Rattle.day_model.specs.Chart.{letter_of};
+ghost use Rattle.day_model.specs.Chart.{kind_letter};
 
 /// Whose account it is: a customer's, a bank's with the home bank (vostro), or the home bank's with a bank (nostro).
 #[derive(Clone, Copy, Debug, PartialEq, Eq)]
@@ -14,7 +14,7 @@ pub enum Kind {
 impl Kind {
     /// The letter of the kind, as the field `kind` of an account has it: `C`, `V` or `N`.
     pub fn letter(self) -> u8
-        ensures { result ≡ letter_of self }
+        ensures { result ≡ kind_letter self }
     {
         match self {
             Kind::Customer => b'C',

@@ -77,16 +77,16 @@ sent_in bs = do
   Some (Sent mt to)
 
 -- `{2:O`, what received_in reads, `}`
-abbrev pub received_of : Option (List ℕ) → Option App
-received_of group = inside (codes "{2:O") group >>= received_in
+abbrev pub output_form_of : Option (List ℕ) → Option App
+output_form_of group = inside (codes "{2:O") group >>= received_in
 
 -- `{2:I`, what sent_in reads, `}`
-abbrev pub sent_of : Option (List ℕ) → Option App
-sent_of group = inside (codes "{2:I") group >>= sent_in
+abbrev pub input_form_of : Option (List ℕ) → Option App
+input_form_of group = inside (codes "{2:I") group >>= sent_in
 
 -- block 2: of the one form or the other
 abbrev pub app_of : Option (List ℕ) → Option App
-app_of group = option_or (received_of group) (sent_of group)
+app_of group = option_or (output_form_of group) (input_form_of group)
 
 -- the reference of a received message
 abbrev pub mir_in : App → Option Mir

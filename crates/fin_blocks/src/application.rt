@@ -1,7 +1,7 @@
 //! Block 2: what a message is, and where it comes from or goes to.
 
 ghost use Rattle.std.specs.Prelude.{◌≡◌, ◌≤◌, IsTrue, length, option_map};
-ghost use Rattle.fin_blocks.specs.Forms.{app_of, is_priority as is_priority_of, is_received as is_received_of, is_sent as is_sent_of, is_sent_length as is_sent_length_of, mir_in, received_in, received_of, sent_in, sent_of};
+ghost use Rattle.fin_blocks.specs.Forms.{app_of, is_priority as is_priority_of, is_received as is_received_of, is_sent as is_sent_of, is_sent_length as is_sent_length_of, mir_in, received_in, output_form_of, sent_in, input_form_of};
 
 use crate::blocks::App;
 use crate::forms::{inside, three_digits};
@@ -63,13 +63,13 @@ fn sent_inside(b: &[u8]) -> Option<App>
 }
 
 fn read_received(group: Option<&[u8]>) -> Option<App>
-    ensures { result ≡ received_of (option_map (λ b. b.now) group.entry) }
+    ensures { result ≡ output_form_of (option_map (λ b. b.now) group.entry) }
 {
     received_inside(inside(b"{2:O", group)?)
 }
 
 fn read_sent(group: Option<&[u8]>) -> Option<App>
-    ensures { result ≡ sent_of (option_map (λ b. b.now) group.entry) }
+    ensures { result ≡ input_form_of (option_map (λ b. b.now) group.entry) }
 {
     sent_inside(inside(b"{2:I", group)?)
 }

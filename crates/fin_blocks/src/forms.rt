@@ -16,17 +16,9 @@ pub fn is_plain(b: &[u8]) -> bool
 /// What stands between a start and an end.
 #[tactic(auto, unfolding(crate::specs::Forms::between))]
 pub fn between<'a>(start: &[u8], end: &[u8], group: &'a [u8]) -> Option<&'a [u8]>
-    requires small { length start.now + length end.now < 16 }
     ensures { option_map (λ b. b.now) result ≡ between_of start.now end.now group.now }
 {
-    let both = start.len() + end.len();
-    if group.len() < both
-        || &group[..start.len()] != start
-        || &group[group.len() - end.len()..] != end
-    {
-        return None;
-    }
-    Some(&group[start.len()..group.len() - end.len()])
+    group.strip_prefix(start)?.strip_suffix(end)
 }
 
 /// What a block holds that begins so.

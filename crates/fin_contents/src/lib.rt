@@ -19,7 +19,7 @@ pub use codes::{C03, C08, P25, P26, P27, T26, T40, T43, T50, T52};
 pub use fields::{
     push_ccy_amount, push_ccy_amounts, push_party, push_rate, push_texts, push_times,
 };
-pub use line::{array_of, begins_with, first_slash, line_field, one_line};
+pub use line::{array_of, first_slash, line_field, one_line};
 pub use party::{KnownParty, put_known_party};
 pub use rate::{Rate, put_rate};
 pub use reference::{Reference, put_reference};

@@ -2,7 +2,6 @@
 
 ghost use Rattle.std.specs.Prelude.{◌≡◌, IfOk, option_map};
 ghost use Rattle.std.specs.List.{position};
-ghost use Rattle.corr_text.specs.Lines.{begins_with};
 ghost use Rattle.fin_contents.specs.Plain.{is_slash, one_line, sized};
 ghost use Rattle.fin_contents.specs.Writing.{line_field};
 
@@ -30,16 +29,6 @@ pub fn array_of<const N: usize>(b: &[u8]) -> Option<[u8; N]>
     let mut array = [0; N];
     array.copy_from_slice(b);
     Some(array)
-}
-
-/// Whether bytes begin with this one.
-pub fn begins_with(byte: u8, b: &[u8]) -> bool
-    ensures { result ≡ begins_with byte b.now }
-{
-    match b {
-        [first, ..] => *first == byte,
-        [] => false,
-    }
 }
 
 /// The place of the first slash.

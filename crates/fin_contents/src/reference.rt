@@ -10,7 +10,7 @@ ghost use Rattle.fin_fields.specs.declared.field.Field.{Field as FieldSeen};
 ghost use Rattle.fin_layout.specs.Reading.{Reads};
 
 use crate::codes::T26;
-use crate::line::{begins_with, line_field, one_line};
+use crate::line::{line_field, one_line};
 use corr_text::{Memory, Set, Text};
 use fin_fields::{Field, is_run_of};
 use fin_layout::{Content, P24, Refusal};
@@ -45,7 +45,7 @@ fn has_stray_slash(line: &[u8]) -> bool
 {
     match line {
         [] => false,
-        [.., last] => begins_with(b'/', line) || *last == b'/' || has_double_slash(line),
+        [.., last] => line.starts_with(b"/") || *last == b'/' || has_double_slash(line),
     }
 }
 

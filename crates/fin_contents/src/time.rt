@@ -7,7 +7,7 @@ ghost use Rattle.fin_fields.specs.Writing.{IsField};
 ghost use Rattle.fin_fields.specs.declared.field.Field.{Field as FieldSeen};
 ghost use Rattle.fin_layout.specs.Reading.{Reads};
 
-use crate::line::{begins_with, first_slash, line_field, one_line};
+use crate::line::{first_slash, line_field, one_line};
 use corr_text::{Memory, Set, Text, is_all_of};
 use fin_fields::{Field, is_run_of};
 use fin_layout::{Content, P24, Refusal};
@@ -25,7 +25,7 @@ pub fn is_clock(b: &[u8]) -> bool
 {
     b.len() == 9
         && is_all_of(Set::N, &b[..4])
-        && (begins_with(b'+', &b[4..]) || begins_with(b'-', &b[4..]))
+        && (b[4..].starts_with(b"+") || b[4..].starts_with(b"-"))
         && is_all_of(Set::N, &b[5..])
 }
 

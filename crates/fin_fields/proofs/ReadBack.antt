@@ -17,7 +17,7 @@ use Rattle.fin_fields.specs.declared.fault.FieldFault.TheVariants.{P20}
 use Rattle.corr_text.specs.Lines.{begins_with, lines_of}
 use Rattle.fin_fields.specs.Fields.{Grouped, Heading, behind_tag, fields_of, grouped, heading_of, with_line}
 use Rattle.fin_fields.specs.Faults.{field_fault, faulty_line, has_other_byte, is_empty, is_misplaced, is_outside_x, outside_x, outside_x_at}
-use Rattle.fin_fields.specs.Writing.{Continues, ContinueAll, IsField, ended, fields_text, heading_text, letter_text}
+use Rattle.fin_fields.specs.Writing.{Continues, ContinueAll, IsField, ended_lines, fields_text, heading_text, letter_text}
 use Rattle.fin_fields.proofs.laws.Positions.{position-none}
 
 -- ---- lines that are ended are read back
@@ -37,10 +37,10 @@ line-read line rest x = line-again line rest (inner line x)
 abbrev InX : List ℕ → Type 0
 InX line = has_other_byte line ≡ false
 
-lines-read : (lines : List (List ℕ)) (rest : List ℕ) → All InX lines → lines_of (ended lines ++ rest) ≡ lines ++ lines_of rest
+lines-read : (lines : List (List ℕ)) (rest : List ℕ) → All InX lines → lines_of (ended_lines lines ++ rest) ≡ lines ++ lines_of rest
 lines-read [] rest x = refl
 lines-read (line ∷ lines) rest x =
-    rw append_assoc (line-read line (ended lines ++ rest) (All-head InX line lines x)
+    rw append_assoc (line-read line (ended_lines lines ++ rest) (All-head InX line lines x)
     ∙ ap (λ (ls : List (List ℕ)). line ∷ ls) (lines-read lines rest (All-tail InX line lines x)))
 
 -- ---- a heading is read back
@@ -95,12 +95,12 @@ all_written [] = []
 all_written (f ∷ fs) = written f f.lines ++ all_written fs
 
 text-read : (f : Field) (lines : List (List ℕ)) (rest : List ℕ) → IsField f → ContinueAll lines → All InX lines
-    → lines_of ((heading_text f ++ ended lines) ++ rest) ≡ written f lines ++ lines_of rest
+    → lines_of ((heading_text f ++ ended_lines lines) ++ rest) ≡ written f lines ++ lines_of rest
 text-read f [] rest is go x = absurd go
 text-read f (first ∷ more) rest is go x =
     let first_x : has_other_byte (heading_text f ++ first) ≡ false =
     list_any-append (λ b. not (is_x_byte b)) (heading_text f) first ∙ or_from _ _ (heading-x f is) (All-head InX first more x) in
-    let same : heading_text f ++ ended (first ∷ more) ≡ ended (written f (first ∷ more)) = sym (append_assoc (heading_text f) first (13 ∷ 10 ∷ ended more)) in
+    let same : heading_text f ++ ended_lines (first ∷ more) ≡ ended_lines (written f (first ∷ more)) = sym (append_assoc (heading_text f) first (13 ∷ 10 ∷ ended_lines more)) in
     ap (λ (t : List ℕ). lines_of (t ++ rest)) same
     ∙ lines-read (written f (first ∷ more)) rest (All-cons InX (heading_text f ++ first) more first_x (All-tail InX first more x))
 

@@ -2,9 +2,9 @@
 use Rattle.std.proofs.Common.{◌≡◌, ℕ, ◌+◌, ◌<◌, List, [], ◌∷◌, ◌++◌, length, get_or, take, refl, sym, ap, ◌∙◌, append_assoc}
 use Rattle.std.proofs.lemmas.List.{append-nil, take_more}
 use Rattle.fin_fields.specs.declared.field.Field.{Field}
-use Rattle.fin_fields.specs.Writing.{ended, field_text, fields_text}
+use Rattle.fin_fields.specs.Writing.{ended_lines, field_text, fields_text}
 
-pub ended-append : (lines more : List (List ℕ)) → ended (lines ++ more) ≡ ended lines ++ ended more
+pub ended-append : (lines more : List (List ℕ)) → ended_lines (lines ++ more) ≡ ended_lines lines ++ ended_lines more
 ended-append [] more = refl
 ended-append (line ∷ lines) more = rw append_assoc (ap (λ (t : List ℕ). line ++ 13 ∷ 10 ∷ t) (ended-append lines more))
 
@@ -14,8 +14,8 @@ fields_text-append (f ∷ fs) more = ap (λ (t : List ℕ). field_text f ++ t) (
 
 -- the text of one more line
 pub ended-more : (lines : List (List ℕ)) (i : ℕ) (line start before middle after : List ℕ) → line ≡ get_or lines i line → i < length lines
-    → before ≡ start ++ ended (take i lines) → middle ≡ before ++ line → after ≡ middle ++ 13 ∷ 10 ∷ []
-    → after ≡ start ++ ended (take (i + 1) lines)
+    → before ≡ start ++ ended_lines (take i lines) → middle ≡ before ++ line → after ≡ middle ++ 13 ∷ 10 ∷ []
+    → after ≡ start ++ ended_lines (take (i + 1) lines)
 ended-more lines i line start before middle after at lt b m a =
     let more : take (i + 1) lines ≡ take i lines ++ line ∷ [] = take_more lines i line lt ∙ ap (λ (l : List ℕ). take i lines ++ l ∷ []) (sym at) in
     a ∙ (rw (m, b, more, ended-append (take i lines) (line ∷ [])) (simp append_assoc))

@@ -4,6 +4,10 @@ use Rattle.std.specs.Char.{is_ascii_digit, is_ascii_uppercase}
 use Rattle.fin_fields.specs.declared.field.Field.{Field}
 use Rattle.corr_text.specs.Lines.{lines_of}
 
+-- a text that is cut has at most so many lines, and so many fields: a line's number and a field's occurrence fit 16 bits
+abbrev pub most_text_lines : ℕ
+most_text_lines = 65535
+
 -- what a line says that begins a field: the tag, the letter, and the field's first line
 pub record Heading : Type 0 where
   pub tag : ℕ

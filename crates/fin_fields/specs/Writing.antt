@@ -16,13 +16,13 @@ abbrev pub heading_text : Field → List ℕ
 heading_text f = 58 ∷ (48 + f.tag / 10) ∷ (48 + f.tag % 10) ∷ letter_text f.letter ++ 58 ∷ []
 
 -- lines, each ended by CR LF
-abbrev pub ended : List (List ℕ) → List ℕ
-ended [] = []
-ended (line ∷ lines) = line ++ 13 ∷ 10 ∷ ended lines
+abbrev pub ended_lines : List (List ℕ) → List ℕ
+ended_lines [] = []
+ended_lines (line ∷ lines) = line ++ 13 ∷ 10 ∷ ended_lines lines
 
 -- the text of a field
 abbrev pub field_text : Field → List ℕ
-field_text f = heading_text f ++ ended f.lines
+field_text f = heading_text f ++ ended_lines f.lines
 
 -- the text of fields
 abbrev pub fields_text : List Field → List ℕ

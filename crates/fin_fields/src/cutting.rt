@@ -3,7 +3,7 @@
 ghost use Rattle.std.specs.Prelude.{◌≡◌, ◌≢◌, ◌≤◌, ◌<◌, ◌+◌, [], ◌∷◌, None, true, false, All, IfOk, IfErr, length, not, option_map, position};
 ghost use Rattle.std.specs.List.{list_any};
 ghost use Rattle.corr_text.specs.Lines.{lines_of};
-ghost use Rattle.fin_fields.specs.Fields.{Grouped, fields_of, field_begun, grouped, heading_of, so_far, with_line};
+ghost use Rattle.fin_fields.specs.Fields.{Grouped, fields_of, field_begun, grouped, heading_of, so_far, with_line, most_text_lines};
 ghost use Rattle.fin_fields.specs.Headings.{heading_in};
 ghost use Rattle.fin_fields.specs.Writing.{IsField};
 ghost use Rattle.fin_fields.specs.Faults.{faulty_line, field_fault, has_other_byte, is_misplaced, outside_x, TellsFieldFault, TellsLineFault};
@@ -112,7 +112,7 @@ fn group_lines(
     open_field: Field,
     plain: bool,
 ) -> Result<ReadLines, FieldFault>
-    requires few { length (lines_of text.now) < 65535 }
+    requires few { length (lines_of text.now) < most_text_lines }
     ensures fields { IfOk result (λ read. read.fields ≡ so_far [] open_field (grouped (lines_of text.now))) }
     ensures plain { IfOk result (λ read. read.plain ≡ true → (plain ≡ true) × (list_any has_other_byte (lines_of text.now) ≡ false)) }
     ensures sound { IfOk result (λ _. position is_misplaced (lines_of text.now) ≡ None) }
@@ -141,7 +141,7 @@ fn group_lines(
 
 /// The fields of a text whose lines are none at fault.
 fn read_lines(alloc: Global, text: &[u8]) -> Result<ReadLines, FieldFault>
-    requires few { length (lines_of text.now) ≤ 65535 }
+    requires few { length (lines_of text.now) ≤ most_text_lines }
     ensures fields { IfOk result (λ read. read.fields ≡ fields_of text.now) }
     ensures plain { IfOk result (λ read. read.plain ≡ true → list_any has_other_byte (lines_of text.now) ≡ false) }
     ensures sound { IfOk result (λ _. faulty_line (lines_of text.now) ≡ None) }
@@ -167,7 +167,7 @@ fn read_lines(alloc: Global, text: &[u8]) -> Result<ReadLines, FieldFault>
 /// first field that has a byte outside X (docs/messages.md, "Fields"). `put_fields` takes the fields that are cut.
 #[inline(never)]
 pub fn cut_fields(alloc: Global, text: &[u8]) -> Result<List<Field>, FieldFault>
-    requires { length (lines_of text.now) ≤ 65535 }
+    requires { length (lines_of text.now) ≤ most_text_lines }
     ensures fields { IfOk result (λ fields. (field_fault text.now ≡ None) × (fields ≡ fields_of text.now)) }
     ensures fit { IfOk result (λ fields. (fields ≢ []) × All IsField fields) }
     ensures fault { IfErr result (TellsFieldFault text.now) }

@@ -3,6 +3,7 @@
 ghost use Rattle.std.specs.Prelude.{◌≡◌, ◌≤◌, length, position};
 ghost use Rattle.std.specs.List.{list_any};
 ghost use Rattle.fin_fields.specs.Faults.{has_other_byte, is_outside_x, outside_x};
+ghost use Rattle.fin_fields.specs.Fields.{most_text_lines};
 
 use crate::fault::FieldFault;
 use crate::field::Field;
@@ -31,7 +32,7 @@ fn first_place(fields: &[Field]) -> Option<usize>
 
 /// The fault of the first field with a byte outside X, none where there is no such field.
 pub fn first_outside_x(fields: &[Field]) -> Option<FieldFault>
-    requires few { length fields.now ≤ 65535 }
+    requires few { length fields.now ≤ most_text_lines }
     ensures { result ≡ outside_x fields.now }
 {
     let at = first_place(fields)?;

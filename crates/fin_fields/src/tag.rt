@@ -2,6 +2,7 @@
 
 ghost use Rattle.std.specs.Prelude.{◌≡◌, ◌≤◌, ◌<◌, count_by, length};
 ghost use Rattle.fin_fields.specs.Faults.{is_like, letter_of, nth_of, tag_of};
+ghost use Rattle.fin_fields.specs.Fields.{most_text_lines};
 
 use crate::field::Field;
 
@@ -31,7 +32,7 @@ fn alike(fields: &[Field], f: &Field) -> usize
 
 /// Which field of its tag and letter the field at `at`, from 0, is: counted from 1 and from the start of the fields.
 pub fn nth_of(fields: &[Field], at: usize) -> u16
-    requires few { length fields.now ≤ 65535 }
+    requires few { length fields.now ≤ most_text_lines }
     requires within { at < length fields.now }
     ensures { result ≡ nth_of fields.now at }
 {

@@ -3,7 +3,7 @@
 ghost use Rattle.std.specs.Prelude.{◌≡◌, ◌≢◌, [], ◌++◌, All, ◌≤◌, IfOk, OnOk};
 ghost use Rattle.fin_fields.specs.Fields.{fields_of};
 ghost use Rattle.fin_fields.specs.Faults.{field_fault};
-ghost use Rattle.fin_fields.specs.Writing.{ended, field_text, fields_text, heading_text, letter_text, IsField};
+ghost use Rattle.fin_fields.specs.Writing.{ended_lines, field_text, fields_text, heading_text, letter_text, IsField};
 
 use crate::field::Field;
 use corr_text::{Memory, Text};
@@ -28,7 +28,7 @@ fn put_heading(f: &Field, out: &mut Text) -> Result<(), Memory>
 }
 
 fn put_lines(lines: &[Text], out: &mut Text) -> Result<(), Memory>
-    ensures { OnOk result (out.new ≡ out.old ++ ended lines.now) }
+    ensures { OnOk result (out.new ≡ out.old ++ ended_lines lines.now) }
 {
     for line in lines {
         out.push(line.bytes())?;

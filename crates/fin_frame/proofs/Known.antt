@@ -3,7 +3,7 @@ use Rattle.std.proofs.Common.{◌≡◌, ℕ, zero, suc, ◌+◌, ◌-◌, List,
 use Rattle.std.proofs.lemmas.List.{append-nil}
 use Rattle.fin_frame.specs.File.{lead, IsFileOf, IsCutInto}
 use Rattle.fin_frame.specs.File.IsFileOf.{more as file_more}
-use Rattle.fin_frame.specs.Shown.{Shows, IsSound, EndsWithin, AreWhole, Begins, HaveBegun}
+use Rattle.fin_frame.specs.Shown.{Shows, ShowsNoFault, EndsWithin, AreWhole, Begins, HaveBegun}
 use Rattle.fin_frame.specs.Shown.EndsWithin.{inside as ends_inside, behind as ends_behind, apart as ends_apart}
 use Rattle.fin_frame.specs.Machine.{State, at_start, state_of, with_open, run, unbalanced_at, HasCome}
 use Rattle.fin_frame.specs.Cutting.{IsShown, Knows, LeavesOff, WasFed, IsWholeFile, IsUnbalanced}
@@ -53,7 +53,7 @@ knows-fault fed now fault is same =
 
 pub knows : (failed : Option FrameFault) (fed : List ℕ) (now : State) → now.failed ≡ failed → IsAfter failed now fed → Knows failed fed now.given now.begun
 knows None fed now is same =
-    subst (λ t. IsSound fed × AreWhole fed t.given × HaveBegun fed t.begun) (sym same)
+    subst (λ t. ShowsNoFault fed × AreWhole fed t.given × HaveBegun fed t.begun) (sym same)
     ((λ messages fault shown. let e : Some fault ≡ None = sym (shown-comes shown) ∙ sym (ap (λ t. t.failed) same) ∙ is in cc), are-whole fed, have-begun fed)
 knows (Some (Stray at)) fed now is same = knows-fault fed now (Stray at) is same
 knows (Some (TooLong at)) fed now is same = knows-fault fed now (TooLong at) is same

@@ -1,7 +1,7 @@
 -- A cutter, seen as the bytes that it was fed and the messages that it gave.
 use Rattle.std.specs.Prelude.{◌≡◌, ◌≤◌, ℕ, suc, true, List, ◌++◌, length, take, Option, Some, None, Result, Ok, Err}
 use Rattle.fin_frame.specs.File.{IsCutInto, IsFileOf, IsMessage, IsMessageTo, lead, most_bytes}
-use Rattle.fin_frame.specs.Shown.{Shows, IsSound, AreWhole, HaveBegun, EndsWithin, Begins, is_marked, stands_apart}
+use Rattle.fin_frame.specs.Shown.{Shows, ShowsNoFault, AreWhole, HaveBegun, EndsWithin, Begins, is_marked, stands_apart}
 use Rattle.fin_frame.specs.declared.cutter.Cutter.{Cutter}
 use Rattle.fin_frame.specs.declared.fault.FrameFault.{FrameFault}
 use Rattle.fin_frame.specs.declared.fault.FrameFault.TheVariants.{Unbalanced, Memory}
@@ -27,8 +27,8 @@ pub record IsShown (fault : FrameFault) (fed : List ℕ) (given : List (List ℕ
 -- What is known where a call failed so, or didn't. All messages that the bytes show to be whole are given, and all that
 -- begun are counted. Where memory was wanting, these are those of some first bytes, which show no fault.
 abbrev pub Knows : Option FrameFault → List ℕ → List (List ℕ) → ℕ → Type 0
-Knows None fed given begun = IsSound fed × AreWhole fed given × HaveBegun fed begun
-Knows (Some Memory) fed given begun = (front : List ℕ) × Begins front fed × IsSound front × AreWhole front given × HaveBegun front begun
+Knows None fed given begun = ShowsNoFault fed × AreWhole fed given × HaveBegun fed begun
+Knows (Some Memory) fed given begun = (front : List ℕ) × Begins front fed × ShowsNoFault front × AreWhole front given × HaveBegun front begun
 Knows (Some fault) fed given begun = IsShown fault fed given × AreWhole fed given × HaveBegun fed begun
 
 -- The cutter was fed these bytes since it was made, and gave these messages. Until a fault it has counted the bytes, and
@@ -56,9 +56,9 @@ pub record IsUnbalanced (fed : List ℕ) (at : ℕ) : Type 0 where
   pub no_file : (messages : List (List ℕ)) → IsCutInto fed messages → ⊥
 
 -- what the end of the input comes to, after a fault or none
-abbrev pub Ends : Option FrameFault → Result (Unit {0}) FrameFault → List ℕ → List (List ℕ) → Type 0
-Ends (Some fault) result fed all = result ≡ Err fault
-Ends None (Ok _) fed all = IsWholeFile fed all
-Ends None (Err Memory) fed all = Unit {0}
-Ends None (Err (Unbalanced at)) fed all = IsUnbalanced fed at
-Ends None (Err fault) fed all = ⊥
+abbrev pub EndsInput : Option FrameFault → Result (Unit {0}) FrameFault → List ℕ → List (List ℕ) → Type 0
+EndsInput (Some fault) result fed all = result ≡ Err fault
+EndsInput None (Ok _) fed all = IsWholeFile fed all
+EndsInput None (Err Memory) fed all = Unit {0}
+EndsInput None (Err (Unbalanced at)) fed all = IsUnbalanced fed at
+EndsInput None (Err fault) fed all = ⊥

@@ -32,8 +32,8 @@ pub data Shows : List ℕ → List (List ℕ) → FrameFault → Type 0 where
   long : {d : ℕ} {gap : List ℕ} {messages : List (List ℕ)} (file message rest : List ℕ) → IsFileOf file messages gap → IsMessageTo d message → most_bytes < length message → Shows (file ++ message ++ rest) messages (TooLong (length file))
 
 -- the bytes show no fault
-abbrev pub IsSound : List ℕ → Type 0
-IsSound bytes = (messages : List (List ℕ)) (fault : FrameFault) → Shows bytes messages fault → ⊥
+abbrev pub ShowsNoFault : List ℕ → Type 0
+ShowsNoFault bytes = (messages : List (List ℕ)) (fault : FrameFault) → Shows bytes messages fault → ⊥
 
 -- The bytes end within a group, whose message begins at this place: within one that can't be another message's first,
 -- behind one or two bytes of `{1:` directly after a message, or behind these bytes where they stand apart.

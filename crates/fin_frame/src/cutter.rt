@@ -41,7 +41,7 @@ impl Cutter {
     ghost use Rattle.fin_frame.specs.Tidy.{is_tidy};
     ghost use Rattle.fin_frame.specs.File.{IsCutInto};
     ghost use Rattle.fin_frame.specs.Machine.{begins, gives, to, held_bytes, resumes, next_between, next_opening, next_close, state_of, HasTaken, HasTakenByte, HasTakenAll};
-    ghost use Rattle.fin_frame.specs.Cutting.{answer_of, Knows, WasFed, Ends};
+    ghost use Rattle.fin_frame.specs.Cutting.{answer_of, Knows, WasFed, EndsInput};
 
     /// A cutter that was fed nothing yet.
     pub fn new(alloc: Global) -> Cutter
@@ -92,7 +92,7 @@ impl Cutter {
     pub fn finish(mut self, out: &mut List<Text>) -> Result<(), FrameFault>
         // The messages given, with what is added, are those of the file, or it ends within a group.
         ensures ends { (fed : _) (given : _) → WasFed self fed given →
-            (gained : _) × (out.new ≡ out.old ++ gained) × Ends self.failed result fed (given ++ gained) }
+            (gained : _) × (out.new ≡ out.old ++ gained) × EndsInput self.failed result fed (given ++ gained) }
         ensures err { OnErr result (out.new ≡ out.old) }
     {
         if let Some(fault) = self.failed {

@@ -1,6 +1,7 @@
 //! The faults of fields, each with its tag and occurrence.
 
 ghost use Rattle.std.specs.Prelude.{◌≡◌, ◌≤◌, ◌<◌, length};
+ghost use Rattle.fin_fields.specs.Fields.{most_text_lines};
 ghost use Rattle.fin_layout.specs.Naming.{absent, fault_at};
 
 use crate::fault::P23;
@@ -10,7 +11,7 @@ use fin_fields::{Field, nth_of, tag_of};
 
 /// A fault of the field at `at`, from 0: the code, the field's tag with its letter, and which of that tag it is, from 1.
 pub fn fault_at(fields: &[Field], at: usize, code: Code) -> Fault
-    requires few { length fields.now ≤ 65535 }
+    requires few { length fields.now ≤ most_text_lines }
     requires within { at < length fields.now }
     ensures { result ≡ fault_at fields.now at code }
 {

@@ -1,6 +1,7 @@
 //! What the fields at a place say.
 
 ghost use Rattle.std.specs.Prelude.{◌≡◌, ◌≤◌, ◌<◌, IfOk, length};
+ghost use Rattle.fin_fields.specs.Fields.{most_text_lines};
 ghost use Rattle.fin_layout.specs.Contents.{all_from, in_option, in_place};
 ghost use Rattle.fin_layout.specs.Reading.{Gives, placed};
 
@@ -14,7 +15,7 @@ use fin_fields::Field;
 use std::alloc::Global;
 
 fn locate<T>(fields: &[Field], at: usize, read: Result<T, Refusal>) -> Result<T, MtFault>
-    requires few { length fields.now ≤ 65535 }
+    requires few { length fields.now ≤ most_text_lines }
     requires within { at < length fields.now }
     ensures { result ≡ placed fields.now at read }
 {
@@ -35,7 +36,7 @@ pub fn read_one<C: Content>(
     found: &[usize],
     place: usize,
 ) -> Result<C::Value, MtFault>
-    requires few { length fields.now ≤ 65535 }
+    requires few { length fields.now ≤ most_text_lines }
     requires within { place < length order.now }
     ensures { Gives result (in_place order.now fields.now found.now place (C.meaning content.now)) }
 {
@@ -53,7 +54,7 @@ pub fn read_optional<C: Content>(
     found: &[usize],
     place: usize,
 ) -> Result<Option<C::Value>, MtFault>
-    requires few { length fields.now ≤ 65535 }
+    requires few { length fields.now ≤ most_text_lines }
     ensures { Gives result (in_option fields.now found.now place (C.meaning content.now)) }
 {
     match find(fields, found, place) {
@@ -70,7 +71,7 @@ pub fn read_all<C: Content>(
     found: &[usize],
     place: usize,
 ) -> Result<List<C::Value>, MtFault>
-    requires few { length fields.now ≤ 65535 }
+    requires few { length fields.now ≤ most_text_lines }
     requires each { length found.now ≤ length fields.now }
     ensures value { Gives result (all_from fields.now place (C.meaning content.now) 0 found.now fields.now) }
     ensures few { IfOk result (λ l. length l ≤ length fields.now) }

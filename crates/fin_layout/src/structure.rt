@@ -2,6 +2,7 @@
 
 ghost use Rattle.std.specs.Prelude.{◌≡◌, ◌≤◌, None, IfErr, IfOk, length};
 ghost use Rattle.corr_text.specs.First.{first_of};
+ghost use Rattle.fin_fields.specs.Fields.{most_text_lines};
 ghost use Rattle.fin_layout.specs.Order.{places_from};
 ghost use Rattle.fin_layout.specs.Reading.{Tells};
 ghost use Rattle.fin_layout.specs.Tests.{structure_tests};
@@ -22,7 +23,7 @@ pub fn check_structure(
     order: &[Place],
     fields: &[Field],
 ) -> Result<Vec<usize>, MtFault>
-    requires few { length fields.now ≤ 65535 }
+    requires few { length fields.now ≤ most_text_lines }
     ensures fault { IfErr result (Tells (first_of (structure_tests order.now fields.now))) }
     ensures sound { IfOk result (λ _. first_of (structure_tests order.now fields.now) ≡ None) }
     ensures places { IfOk result (λ v. v.items ≡ places_from order.now 0 fields.now) }

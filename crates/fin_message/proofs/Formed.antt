@@ -16,7 +16,7 @@ use Rattle.fin_blocks.specs.declared.blocks.App.{App}
 use Rattle.fin_blocks.specs.declared.blocks.App.TheVariants.{Received, Sent}
 use Rattle.fin_blocks.specs.declared.blocks.Blocks.{Blocks}
 use Rattle.fin_blocks.proofs.laws.Named.{blocks-named}
-use Rattle.fin_message.specs.Parts.{envelope_of, envelope_with, uetr_in, user_text}
+use Rattle.fin_message.specs.Parts.{envelope_of, envelope_with, uetr_in, subblock_under}
 use Rattle.fin_message.specs.Sound.{IsEnvelope}
 
 -- what holds of the last of several steps
@@ -39,7 +39,7 @@ sender-bank : (mir : Mir) → IsMir mir → IsBic (bank_of (sender_of mir))
 sender-bank mir h = lt-bank (sender_text mir.0) (mir-sender mir.0 (mir-form mir h))
 
 uetr-form : (b : Blocks) → IfSome (uetr_in b) IsUetr
-uetr-form b = last-of IsUetr (user_text 121 b.user) uetr_of uetr-again
+uetr-form b = last-of IsUetr (subblock_under 121 b.user) uetr_of uetr-again
 
 with-form : (own : LtAddress) (app : App) (uetr : Option Uetr) → IsBic (bank_of own) → IsApp app → IfSome uetr IsUetr → IsEnvelope (envelope_with own app uetr)
 with-form own (Received mt mir) uetr o a u = record { mir = a; named = refl; sender = sender-bank mir a; receiver = o; uetr = u }

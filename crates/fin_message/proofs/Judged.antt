@@ -41,7 +41,7 @@ use Rattle.ref_tables.specs.Seen.{Tables, few_decimals, has_head}
 use Rattle.fin_message.specs.Answers.{Answers, Fills}
 use Rattle.fin_message.specs.Heading.{at_block, has_form, heading_tests, is_type}
 use Rattle.fin_message.specs.Parts.{envelope_of, envelope_with, has_trailer, partner_of, type_of, uetr_in}
-use Rattle.fin_message.specs.Sound.{CanBeWritten, Goes, HasAmount, HasEnvelope, HasPartner, IsEnvelope, IsOfForm, IsRead, IsSaid, IsValid, KeepsRules, lines_in, partner_in}
+use Rattle.fin_message.specs.Sound.{CanBeWritten, Goes, HasAmount, HasEnvelope, HasPartner, IsEnvelope, IsOfForm, TextSays, IsSaid, IsValid, KeepsRules, lines_in, partner_in}
 use Rattle.fin_message.specs.Verdict.{Refused, blocks_in, cover_of, credit_of, debit_of, judged, line_test, message_in, message_of, page_of, told_of, told_of_fields, transfer_of}
 use Rattle.fin_message.specs.declared.direction.Direction.{Direction}
 use Rattle.fin_message.specs.declared.direction.Direction.TheVariants.{Received, Sent}
@@ -125,7 +125,7 @@ record Says (way : Direction) (t : Tables) (text : List ℕ) (x : Message) : Typ
   envelope : HasEnvelope x
   partner : HasPartner way t x
   said : IsSaid t x
-  read : IsRead t x
+  read : TextSays t x
   rules : KeepsRules t x
   amount : HasAmount x
   written : IsTrue (few_decimals t.ccys) → CanBeWritten x

@@ -11,7 +11,7 @@ use Rattle.fin_blocks.specs.declared.blocks.App.{App}
 use Rattle.fin_blocks.specs.declared.blocks.App.TheVariants as form
 use Rattle.fin_blocks.specs.declared.blocks.Blocks.{Blocks}
 use Rattle.ref_tables.specs.Seen.{Tables, has_head}
-use Rattle.fin_message.specs.Parts.{has_trailer, partner_of, type_of, user_text}
+use Rattle.fin_message.specs.Parts.{has_trailer, partner_of, type_of, subblock_under}
 use Rattle.fin_message.specs.declared.direction.Direction.{Direction}
 use Rattle.fin_message.specs.declared.direction.Direction.TheVariants.{Received, Sent}
 
@@ -47,5 +47,5 @@ heading_tests way home t b =
     ∷ unless (not (has_trailer (codes "PDE") b)) (at_block (code "P10") (codes "B5 "))
     ∷ unless (is_type (type_of b.app)) (at_block (code "P11") (codes "B2 "))
     ∷ unless (has_head t (partner_of b.app).head) (at_block (code "P12") (codes "B2 "))
-    ∷ unless (fits_validation (type_of b.app) (user_text 119 b.user)) (at_block (code "P13") (codes "B3 "))
+    ∷ unless (fits_validation (type_of b.app) (subblock_under 119 b.user)) (at_block (code "P13") (codes "B3 "))
     ∷ []

@@ -28,13 +28,13 @@ abbrev pub has_trailer : List ℕ → Blocks → Bool
 has_trailer code b = list_any (λ c. bytes_eq c code) b.trailers
 
 -- what block 3 holds under a number
-abbrev pub user_text : ℕ → List (ℕ × List ℕ) → Option (List ℕ)
-user_text number user =
+abbrev pub subblock_under : ℕ → List (ℕ × List ℕ) → Option (List ℕ)
+subblock_under number user =
     option_and_then (λ at. option_map (λ s. s.1) (slice_get user at)) (position (λ s. s.0 == number) user)
 
 -- the UETR, which block 3 holds under 121
 abbrev pub uetr_in : Blocks → Option Uetr
-uetr_in b = option_and_then uetr_of (user_text 121 b.user)
+uetr_in b = option_and_then uetr_of (subblock_under 121 b.user)
 
 -- who sent it to whom: block 1 names the home bank, block 2 the other one
 abbrev pub envelope_with : LtAddress → App → Option Uetr → Envelope

@@ -113,10 +113,10 @@ CanBeWritten (Credit envelope advice) = IsReadable mt910_of advice
 CanBeWritten (Page envelope page) = IsReadable mt950_of page
 
 -- the lines that a message keeps say what it has beside its envelope
-abbrev pub IsRead : Tables → Message → Type 0
-IsRead t (Transfer envelope text transfer) = mt103_of t (fields_of text) ≡ Ok transfer
-IsRead t (Cover envelope text cover) = mt202cov_of t (fields_of text) ≡ Ok cover
-IsRead t _ = Unit {0}
+abbrev pub TextSays : Tables → Message → Type 0
+TextSays t (Transfer envelope text transfer) = mt103_of t (fields_of text) ≡ Ok transfer
+TextSays t (Cover envelope text cover) = mt202cov_of t (fields_of text) ≡ Ok cover
+TextSays t _ = Unit {0}
 
 -- a valid message that goes this way under these tables, with lines of at most so many bytes
 pub record IsValid (way : Direction) (t : Tables) (most : ℕ) (message : Message) : Type 0 where
@@ -124,7 +124,7 @@ pub record IsValid (way : Direction) (t : Tables) (most : ℕ) (message : Messag
   pub envelope : HasEnvelope message
   pub partner : HasPartner way t message
   pub said : IsSaid t message
-  pub read : IsRead t message
+  pub read : TextSays t message
   pub rules : KeepsRules t message
   pub amount : HasAmount message
   pub written : IsTrue (few_decimals t.ccys) → CanBeWritten message

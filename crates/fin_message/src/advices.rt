@@ -1,7 +1,7 @@
 //! The confirmations of a debit and of a credit.
 
 ghost use Rattle.std.specs.Prelude.{◌≡◌, ◌≤◌, length};
-ghost use Rattle.fin_fields.specs.Fields.{fields_of};
+ghost use Rattle.fin_fields.specs.Fields.{fields_of, most_text_lines};
 ghost use Rattle.fin_layout.specs.Reading.{Fills};
 ghost use Rattle.fin_message.specs.Filling.{with_text};
 ghost use Rattle.fin_message.specs.Verdict.{credit_of, debit_of};
@@ -26,7 +26,7 @@ pub fn read_debit(
     fields: &[Field],
     out: &mut Message,
 ) -> Result<(), MtFault>
-    requires few { length fields.now ≤ 65535 }
+    requires few { length fields.now ≤ most_text_lines }
     requires same { fields.now ≡ fields_of blocks.now.text }
     ensures { Fills result (with_text blocks.now.text out.new) (debit_of t.now blocks.now) }
 {
@@ -45,7 +45,7 @@ pub fn read_credit(
     fields: &[Field],
     out: &mut Message,
 ) -> Result<(), MtFault>
-    requires few { length fields.now ≤ 65535 }
+    requires few { length fields.now ≤ most_text_lines }
     requires same { fields.now ≡ fields_of blocks.now.text }
     ensures { Fills result (with_text blocks.now.text out.new) (credit_of t.now blocks.now) }
 {

@@ -2,7 +2,7 @@
 
 ghost use Rattle.std.specs.Prelude.{◌≡◌, ◌≤◌, IfErr, IfOk, None, OnOk, length};
 ghost use Rattle.corr_text.specs.Lines.{lines_of};
-ghost use Rattle.fin_fields.specs.Fields.{fields_of};
+ghost use Rattle.fin_fields.specs.Fields.{fields_of, most_text_lines};
 ghost use Rattle.fin_layout.specs.Reading.{Tells};
 ghost use Rattle.fin_message.specs.Answers.{fault_of_fields};
 ghost use Rattle.fin_message.specs.Verdict.{line_test};
@@ -34,9 +34,9 @@ fn refuse(fault: FieldFault) -> MtFault
 /// The fields of a text. `Bad`: the first line that is none of a field (P20), else the first field with a character
 /// outside X (P21).
 pub fn read_fields(alloc: Global, text: &[u8]) -> Result<List<Field>, MtFault>
-    requires { length (lines_of text.now) ≤ 65535 }
+    requires { length (lines_of text.now) ≤ most_text_lines }
     ensures value { IfOk result (λ fields. fields ≡ fields_of text.now) }
-    ensures few { IfOk result (λ fields. length fields ≤ 65535) }
+    ensures few { IfOk result (λ fields. length fields ≤ most_text_lines) }
     ensures sound { OnOk result (line_test text.now ≡ None) }
     ensures fault { IfErr result (Tells (line_test text.now)) }
 {

@@ -2,7 +2,7 @@
 
 ghost use Rattle.std.specs.Prelude.{◌≡◌, ◌≤◌, ◌*◌, IfOk, OnOk, length};
 ghost use Rattle.corr_text.specs.Lines.{lines_of};
-ghost use Rattle.fin_fields.specs.Fields.{fields_of};
+ghost use Rattle.fin_fields.specs.Fields.{fields_of, most_text_lines};
 ghost use Rattle.fin_layout.specs.Reading as mt;
 ghost use Rattle.fin_message.specs.Answers.{Answers, Fills};
 ghost use Rattle.fin_message.specs.Filling.{with_text};
@@ -36,7 +36,7 @@ fn read_of_type(
     fields: &[Field],
     out: &mut Message,
 ) -> Result<(), MtFault>
-    requires few { length fields.now ≤ 65535 }
+    requires few { length fields.now ≤ most_text_lines }
     requires same { fields.now ≡ fields_of blocks.now.text }
     ensures { mt.Fills result (with_text blocks.now.text out.new) (message_in t.now blocks.now) }
 {
@@ -61,7 +61,7 @@ fn read_parts(
     blocks: &Blocks,
     out: &mut Message,
 ) -> Result<(), MtFault>
-    requires { length (lines_of blocks.now.text) ≤ 65535 }
+    requires { length (lines_of blocks.now.text) ≤ most_text_lines }
     ensures { mt.Fills result (with_text blocks.now.text out.new) (message_of way home.now t.now blocks.now) }
 {
     if let Some(fault) = heading_fault(way, home, t, blocks) {
@@ -80,7 +80,7 @@ fn read_message(
     blocks: Blocks,
     out: &mut Message,
 ) -> Result<(), MtFault>
-    requires { length (lines_of blocks.text) ≤ 65535 }
+    requires { length (lines_of blocks.text) ≤ most_text_lines }
     ensures { mt.Fills result out.new (message_of way home.now t.now blocks) }
 {
     match read_parts(alloc, way, home, t, &blocks, out) {

@@ -1,7 +1,7 @@
 //! A page of a statement.
 
 ghost use Rattle.std.specs.Prelude.{◌≡◌, ◌≤◌, length};
-ghost use Rattle.fin_fields.specs.Fields.{fields_of};
+ghost use Rattle.fin_fields.specs.Fields.{fields_of, most_text_lines};
 ghost use Rattle.fin_layout.specs.Reading.{Fills};
 ghost use Rattle.fin_message.specs.Filling.{with_text};
 ghost use Rattle.fin_message.specs.Verdict.{page_of};
@@ -26,7 +26,7 @@ pub fn read_page(
     fields: &[Field],
     out: &mut Message,
 ) -> Result<(), MtFault>
-    requires few { length fields.now ≤ 65535 }
+    requires few { length fields.now ≤ most_text_lines }
     requires same { fields.now ≡ fields_of blocks.now.text }
     ensures { Fills result (with_text blocks.now.text out.new) (page_of t.now blocks.now) }
 {

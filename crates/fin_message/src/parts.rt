@@ -3,7 +3,7 @@
 ghost use Rattle.std.specs.Prelude.{◌≡◌, ◌==◌, option_map, position};
 ghost use Rattle.corr_ids.specs.Address.{bank_of};
 ghost use Rattle.fin_blocks.specs.Forms.{mir_in};
-ghost use Rattle.fin_message.specs.Parts.{envelope_of, has_trailer as has_trailer_of, partner_of, type_of as type_in, uetr_in, user_text as user_text_of};
+ghost use Rattle.fin_message.specs.Parts.{envelope_of, has_trailer as has_trailer_of, partner_of, type_of as type_in, uetr_in, subblock_under};
 
 use corr_ids::{Bic, Envelope, LtAddress, Mir, Uetr, read_uetr};
 use corr_text::Text;
@@ -61,7 +61,7 @@ fn subblock(user: &[(u16, Text)], number: u16) -> Option<usize>
 
 /// What block 3 holds under a number.
 pub fn user_text(blocks: &Blocks, number: u16) -> Option<&[u8]>
-    ensures { option_map (λ text. text.now) result ≡ user_text_of number blocks.now.user }
+    ensures { option_map (λ text. text.now) result ≡ subblock_under number blocks.now.user }
 {
     let user = blocks.user.as_slice();
     let at = subblock(user, number)?;

@@ -1,7 +1,7 @@
 //! A customer transfer: its fields, then its rules.
 
 ghost use Rattle.std.specs.Prelude.{◌≡◌, ◌≤◌, IsTrue, length};
-ghost use Rattle.fin_fields.specs.Fields.{fields_of};
+ghost use Rattle.fin_fields.specs.Fields.{fields_of, most_text_lines};
 ghost use Rattle.fin_layout.specs.Reading.{Fills};
 ghost use Rattle.fin_message.specs.Filling.{is_transfer, with_text};
 ghost use Rattle.fin_message.specs.Verdict.{ruled_of, transfer_of};
@@ -49,7 +49,7 @@ fn fill_transfer(
     envelope: &Envelope,
     transfer: &mut Mt103,
 ) -> Result<(), MtFault>
-    requires few { length fields.now ≤ 65535 }
+    requires few { length fields.now ≤ most_text_lines }
     ensures value { Fills result transfer.new (ruled_of t.now envelope.now fields.now) }
 {
     fill_mt103(alloc, fields, t, transfer)?;
@@ -69,7 +69,7 @@ pub fn read_transfer(
     fields: &[Field],
     out: &mut Message,
 ) -> Result<(), MtFault>
-    requires few { length fields.now ≤ 65535 }
+    requires few { length fields.now ≤ most_text_lines }
     requires same { fields.now ≡ fields_of blocks.now.text }
     ensures { Fills result (with_text blocks.now.text out.new) (transfer_of t.now blocks.now) }
 {

@@ -16,7 +16,7 @@ use Rattle.jrn_book.specs.Answers.{Answer, IsAnswered, Shows, calls_disk, failed
 use Rattle.jrn_book.specs.Appending.{Repeats}
 use Rattle.jrn_book.specs.Book.{Book, Counts, HasRisen, IsBook, StandsOnDisk}
 use Rattle.jrn_book.specs.Commits.{Commits}
-use Rattle.jrn_book.specs.Journal.{IsBeforeOrNext, StandsForBook, file_of, records_of}
+use Rattle.jrn_book.specs.Journal.{IsBeforeOrNext, StandsForBook, file_of, entry_records}
 use Rattle.jrn_book.specs.declared.answer.Committed.{Committed}
 use Rattle.jrn_book.specs.declared.answer.Committed.TheVariants.{New, Kept}
 use Rattle.jrn_book.specs.declared.answer.CommitFault.{CommitFault}
@@ -39,11 +39,11 @@ module _ {D : Type 0} (honest : D → Bool) (reads : D → List ℕ) (may_leave 
   Told old new held after pay day answer = Commits honest reads may_leave moment left_since faults plan old new held after pay day answer
 
   -- a whole book's file
-  pub settled : (b : Book D) → IsBook honest reads may_leave faults b → b.failed ≡ None → IsSettled honest reads may_leave b.file (head_bytes b.accounts) (records_of b.history)
+  pub settled : (b : Book D) → IsBook honest reads may_leave faults b → b.failed ≡ None → IsSettled honest reads may_leave b.file (head_bytes b.accounts) (entry_records b.history)
   settled b is whole = subst (λ (f : Option Day). StandsOnDisk honest reads may_leave f b.file b.accounts b.history) whole is.disk
 
   -- while nothing is called, a crash leaves the history
-  rests : (b : Book D) (pay : Pay) (day : Day) → IsSettled honest reads may_leave b.file (head_bytes b.accounts) (records_of b.history) → IsTrue (honest (disk_of b.file))
+  rests : (b : Book D) (pay : Pay) (day : Day) → IsSettled honest reads may_leave b.file (head_bytes b.accounts) (entry_records b.history) → IsTrue (honest (disk_of b.file))
       → LeavesOnly moment left_since (disk_of b.file) (disk_of b.file) (IsBeforeOrNext b.accounts b.history pay day)
   rests b pay day file told = record {
     later = omega arith;
@@ -60,7 +60,7 @@ module _ {D : Type 0} (honest : D → Bool) (reads : D → List ℕ) (may_leave 
         → old.history ≡ history_after old.accounts old.history pay day answer
         → legs_entered old.accounts old.history pay day answer ≡ []
         → old.failed ≡ failed_after old.failed day answer
-        → OnOk answer (IsSettled honest reads may_leave old.file (head_bytes old.accounts) (records_of old.history))
+        → OnOk answer (IsSettled honest reads may_leave old.file (head_bytes old.accounts) (entry_records old.history))
         → calls_disk answer ≡ false
         → (old.room ≡ Some pay → IsAnswered answer)
         → Told old (record old { room = room }) held held pay day answer

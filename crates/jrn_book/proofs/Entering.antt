@@ -30,7 +30,7 @@ use Rattle.jrn_codec.specs.Header.{head_bytes}
 use Rattle.jrn_codec.specs.Record.{entry_bytes}
 use Rattle.jrn_book.specs.Deciding.{HoldsAll}
 use Rattle.jrn_book.specs.Index.{place_in, references_of}
-use Rattle.jrn_book.specs.Journal.{IsBeforeOrNext, records_of}
+use Rattle.jrn_book.specs.Journal.{IsBeforeOrNext, entry_records}
 
 -- the next history of a pay whose reference is new
 pub next_new : (chart : Chart) (history : List Entry) (pay : Pay) (day : Day) → entered_at pay.mir history ≡ None → next_history chart history pay day ≡ history ++ entry_of chart history pay day ∷ []
@@ -41,7 +41,7 @@ pub next_legal : (chart : Chart) (history : List Entry) (pay : Pay) (day : Day) 
 next_legal chart history pay day legal fits latest few new = one_more chart history pay day legal fits latest few (ap is_some new)
 
 -- the records and the references of a history with an entry more
-pub records_more : (history : List Entry) (e : Entry) → records_of (history ++ e ∷ []) ≡ records_of history ++ entry_bytes e ∷ []
+pub records_more : (history : List Entry) (e : Entry) → entry_records (history ++ e ∷ []) ≡ entry_records history ++ entry_bytes e ∷ []
 records_more history e = map-append entry_bytes history (e ∷ [])
 
 pub references_more : (history : List Entry) (e : Entry) → references_of (history ++ e ∷ []) ≡ references_of history ++ e.pay.mir.0 ∷ []
@@ -106,16 +106,16 @@ held_with-nil (h ∷ held) =
 
 -- the records of the next history
 pub records_next : (chart : Chart) (history : List Entry) (pay : Pay) (day : Day) (e : Entry) (r : List ℕ) → entered_at pay.mir history ≡ None → e ≡ entry_of chart history pay day → r ≡ entry_bytes e
-    → records_of history ++ r ∷ [] ≡ records_of (next_history chart history pay day)
+    → entry_records history ++ r ∷ [] ≡ entry_records (next_history chart history pay day)
 records_next chart history pay day e r new is same =
-    ap (λ (x : List ℕ). records_of history ++ x ∷ []) (same ∙ ap entry_bytes is)
+    ap (λ (x : List ℕ). entry_records history ++ x ∷ []) (same ∙ ap entry_bytes is)
     ∙ sym (records_more history (entry_of chart history pay day))
-    ∙ ap records_of (sym (next_new chart history pay day new))
+    ∙ ap entry_records (sym (next_new chart history pay day new))
 
 -- each moment of an append is one of the commit
 pub moments : {D : Type 0} (moment : D → ℕ) (left_since : D → ℕ → List ℕ → Type 0) (old new : D) (chart : Chart) (history : List Entry) (pay : Pay) (day : Day) (rs : List (List ℕ))
-    → rs ≡ records_of (next_history chart history pay day)
-    → LeavesOnly moment left_since old new (λ image. StandsFor image (head_bytes chart) (records_of history) ⊎ StandsFor image (head_bytes chart) rs)
+    → rs ≡ entry_records (next_history chart history pay day)
+    → LeavesOnly moment left_since old new (λ image. StandsFor image (head_bytes chart) (entry_records history) ⊎ StandsFor image (head_bytes chart) rs)
     → LeavesOnly moment left_since old new (IsBeforeOrNext chart history pay day)
 moments moment left_since old new chart history pay day rs is leaves =
-    subst (λ (more : List (List ℕ)). LeavesOnly moment left_since old new (λ image. StandsFor image (head_bytes chart) (records_of history) ⊎ StandsFor image (head_bytes chart) more)) is leaves
+    subst (λ (more : List (List ℕ)). LeavesOnly moment left_since old new (λ image. StandsFor image (head_bytes chart) (entry_records history) ⊎ StandsFor image (head_bytes chart) more)) is leaves

@@ -1,13 +1,13 @@
 -- What the answers of an opening tell of the bytes.
 use Rattle.std.proofs.Common.{◌≡◌, ℕ, ◌+◌, ◌<◌, ◌^◌, Bool, List, [], ◌∷◌, ◌++◌, length, Option, Some, None, refl, sym, ap, ◌∙◌, subst, arith, inl, inr}
 use Rattle.std.specs.Prelude.{IfSome, IsTrue}
-use Rattle.jrn_file.specs.Faults.{Tells}
+use Rattle.jrn_file.specs.Faults.{TellsCounts}
 use Rattle.jrn_file.specs.Journal.{journal_bytes}
 use Rattle.jrn_file.specs.Opening.{ReadCause}
 use Rattle.jrn_file.specs.Reading.{Reading, no_journal, whole, cut, opened_of, size_of}
 use Rattle.jrn_file.specs.declared.fault.OpenFault.{OpenFault}
 use Rattle.jrn_file.specs.declared.fault.OpenFault.TheVariants.{NotAJournal, Damaged, DiskFault, Memory}
-use Rattle.jrn_book.specs.Opening.{Finding, IsFaultyAt, IsFound, IsNoBook, OpenCause, found_by}
+use Rattle.jrn_book.specs.Opening.{Finding, IsFaultyAt, IsFound, IsNoBook, BookOpenCause, found_by}
 use Rattle.jrn_book.specs.Reading.{IsOfBytes, RefusesRecords}
 use Rattle.jrn_file.proofs.laws.Sizes.{length-journal_bytes}
 use Rattle.jrn_book.proofs.laws.Findings.{one_finding}
@@ -19,14 +19,14 @@ told_by_cause old new honest image (Damaged at) cause told = absurd cause
 told_by_cause old new honest image (DiskFault before after) cause told = tt
 told_by_cause old new honest image Memory cause told = tt
 
-pub counts_of : (old new : ℕ) (honest : Bool) (image : List ℕ) (fault : OpenFault) → ReadCause old new honest image fault → OpenCause old new fault
+pub counts_of : (old new : ℕ) (honest : Bool) (image : List ℕ) (fault : OpenFault) → ReadCause old new honest image fault → BookOpenCause old new fault
 counts_of old new honest image NotAJournal cause = cause.0
 counts_of old new honest image (Damaged at) cause = absurd cause
 counts_of old new honest image (DiskFault before after) cause = cause
 counts_of old new honest image Memory cause = cause
 
 -- a refusal of what was read leaves the disk's count
-pub counts_stay : (old new : ℕ) (fault : OpenFault) → new ≡ old → IsOfBytes fault → OpenCause old new fault
+pub counts_stay : (old new : ℕ) (fault : OpenFault) → new ≡ old → IsOfBytes fault → BookOpenCause old new fault
 counts_stay old new NotAJournal same is = same
 counts_stay old new (Damaged at) same is = same
 counts_stay old new (DiskFault before after) same is = absurd is

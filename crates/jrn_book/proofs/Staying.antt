@@ -25,7 +25,7 @@ use Rattle.jrn_book.specs.Answers.{calls_disk, failed_after}
 use Rattle.jrn_book.specs.Appending.{ShowsAppend}
 use Rattle.jrn_book.specs.Book.{Counts, IsBacked, IsLeftBy, StandsOnDisk}
 use Rattle.jrn_book.specs.Index.{References, references_of}
-use Rattle.jrn_book.specs.Journal.{IsJournal, records_of}
+use Rattle.jrn_book.specs.Journal.{IsJournal, entry_records}
 use Rattle.jrn_book.proofs.Entering.{records_more, references_more}
 
 -- the counts after a fault
@@ -41,7 +41,7 @@ module _ {D : Type 0} (honest : D → Bool) (reads : D → List ℕ) (may_leave 
     (counts_now : (disk : D) (t : ℕ) (c : List ℕ) → t ≤ moment disk → may_leave disk c → left_since disk t c) where
   -- what a failed append leaves
   pub left_by : (chart : Chart) (history : List Entry) (e : Entry) (old new : JFile D) → IsEntry e → IsLegal chart (history ++ e ∷ []) → honest (disk_of new) ≡ honest (disk_of old)
-      → (IsTrue (honest (disk_of old)) → LeavesOnly moment left_since (disk_of old) (disk_of new) (IsBeforeOrAfter (head_bytes chart) (records_of history) (entry_bytes e)))
+      → (IsTrue (honest (disk_of old)) → LeavesOnly moment left_since (disk_of old) (disk_of new) (IsBeforeOrAfter (head_bytes chart) (entry_records history) (entry_bytes e)))
       → IsLeftBy (honest (disk_of new)) (may_leave (disk_of new)) chart history e.day
   left_by chart history e old new written legal same leaves = record {
     entry = e;
@@ -50,19 +50,19 @@ module _ {D : Type 0} (honest : D → Bool) (reads : D → List ℕ) (may_leave 
     legal = legal;
     images = λ told image left.
         let all = leaves (subst IsTrue same told) in
-        subst (λ (rs : List (List ℕ)). StandsFor image (head_bytes chart) (records_of history) ⊎ StandsFor image (head_bytes chart) rs) (sym (records_more history e))
+        subst (λ (rs : List (List ℕ)). StandsFor image (head_bytes chart) (entry_records history) ⊎ StandsFor image (head_bytes chart) rs) (sym (records_more history e))
         (all.each image (counts_now (disk_of new) (moment (disk_of old)) image all.later left));
   }
 
   -- what stands on the disk after a fault
   pub disk_after : (chart : Chart) (history : List Entry) (day : Day) (old new : JFile D) (count end need before after : ℕ) (fault : CommitFault) → ShowsAppend count end need before after (Err fault)
       → (calls_disk (Err fault) ≡ false → new ≡ old)
-      → IsSettled honest reads may_leave old (head_bytes chart) (records_of history)
+      → IsSettled honest reads may_leave old (head_bytes chart) (entry_records history)
       → ((count ≡ most_entries → ⊥) → IsLeftBy (honest (disk_of new)) (may_leave (disk_of new)) chart history day)
       → StandsOnDisk honest reads may_leave (failed_after None day (Err fault)) new chart history
   disk_after chart history day old new count end need before after (Conflict place) shows same settled left = absurd shows
   disk_after chart history day old new count end need before after (Full entries at more) shows same settled left =
-      subst (λ (f : JFile D). IsSettled honest reads may_leave f (head_bytes chart) (records_of history)) (sym (same refl)) settled
+      subst (λ (f : JFile D). IsSettled honest reads may_leave f (head_bytes chart) (entry_records history)) (sym (same refl)) settled
   disk_after chart history day old new count end need before after (DiskFault from to) shows same settled left = left shows.0
   disk_after chart history day old new count end need before after (Broken from now) shows same settled left = absurd shows
   disk_after chart history day old new count end need before after Memory shows same settled left = absurd shows

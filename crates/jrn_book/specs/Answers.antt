@@ -1,7 +1,8 @@
 -- What the answer of a commit tells, and what it leaves.
-use Rattle.std.specs.Prelude.{◌≡◌, ◌≢◌, ◌⊎◌, ℕ, ◌+◌, ◌-◌, ◌^◌, ◌<◌, ◌≤◌, Bool, true, false, All, List, [], ◌∷◌, ◌++◌, length, slice_get, Option, Some, None, IsSome, Result, Ok, Err}
+use Rattle.std.specs.Prelude.{◌≡◌, ◌≢◌, ◌⊎◌, ℕ, ◌+◌, ◌-◌, ◌<◌, ◌≤◌, Bool, true, false, All, List, [], ◌∷◌, ◌++◌, length, slice_get, Option, Some, None, IsSome, Result, Ok, Err}
 use Rattle.corr_text.specs.Faults.{Rose}
 use Rattle.corr_ids.specs.declared.day.Day.{Day}
+use Rattle.corr_disk.specs.Disk.{most_disk_bytes}
 use Rattle.day_model.specs.declared.pay.Leg.{Leg}
 use Rattle.day_model.specs.declared.pay.Pay.{Pay}
 use Rattle.day_model.specs.declared.entry.Entry.{Entry}
@@ -37,11 +38,11 @@ need_of chart history pay day = length (entry_bytes (entry_of chart history pay 
 -- there is room for the entry in the history, and behind this place in the file
 pub record HasRoom (history : List Entry) (end need : ℕ) : Type 0 where
   pub entries : length history < most_entries
-  pub bytes : end + need ≤ 2 ^ 30
+  pub bytes : end + need ≤ most_disk_bytes
 
 -- there is none
 abbrev pub IsFull : List Entry → ℕ → ℕ → Type 0
-IsFull history end need = (length history ≡ most_entries) ⊎ (2 ^ 30 < end + need)
+IsFull history end need = (length history ≡ most_entries) ⊎ (most_disk_bytes < end + need)
 
 -- What an answer to a pay on a day tells of the history before it, the place `end` of the closed gate, and the disk's count of faults at the opening, before the call and after it. Each case says that those before it in the order don't hold: a commit failed before, memory is wanting, the reference is entered, there is no room, the disk failed.
 abbrev pub Shows : Chart → List Entry → Pay → Day → ℕ → Option Day → ℕ → ℕ → ℕ → Answer → Type 0

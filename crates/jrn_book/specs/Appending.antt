@@ -1,6 +1,7 @@
 -- What the append of a frame tells, and the answer to a pay that is entered.
-use Rattle.std.specs.Prelude.{◌≡◌, ◌⊎◌, ℕ, ◌+◌, ◌^◌, ◌<◌, ◌≤◌, true, false, List, Result, Ok, Err}
+use Rattle.std.specs.Prelude.{◌≡◌, ◌⊎◌, ℕ, ◌+◌, ◌<◌, ◌≤◌, true, false, List, Result, Ok, Err}
 use Rattle.corr_text.specs.Faults.{Rose}
+use Rattle.corr_disk.specs.Disk.{most_disk_bytes}
 use Rattle.day_model.specs.declared.pay.Pay.{Pay}
 use Rattle.day_model.specs.declared.entry.Entry.{Entry}
 use Rattle.day_model.specs.Log.{most_entries}
@@ -11,11 +12,11 @@ use Rattle.jrn_book.specs.declared.answer.CommitFault.TheVariants.{Conflict, Ful
 
 -- with so many entries, a file whose closed gate stands at `end` takes `need` bytes more; or it doesn't, and the answer tells why
 abbrev pub ShowsAppend : ℕ → ℕ → ℕ → ℕ → ℕ → Result (Unit {0}) CommitFault → Type 0
-ShowsAppend count end need old new (Ok done) = (count ≡ most_entries → ⊥) × (end + need ≤ 2 ^ 30) × (new ≡ old)
+ShowsAppend count end need old new (Ok done) = (count ≡ most_entries → ⊥) × (end + need ≤ most_disk_bytes) × (new ≡ old)
 ShowsAppend count end need old new (Err (Full entries at more)) =
-    (entries ≡ count) × (at ≡ end) × (more ≡ need) × ((count ≡ most_entries) ⊎ (2 ^ 30 < end + need)) × (new ≡ old)
+    (entries ≡ count) × (at ≡ end) × (more ≡ need) × ((count ≡ most_entries) ⊎ (most_disk_bytes < end + need)) × (new ≡ old)
 ShowsAppend count end need old new (Err (DiskFault before after)) =
-    (count ≡ most_entries → ⊥) × (end + need ≤ 2 ^ 30) × (before ≡ old) × (after ≡ new) × Rose before after
+    (count ≡ most_entries → ⊥) × (end + need ≤ most_disk_bytes) × (before ≡ old) × (after ≡ new) × Rose before after
 ShowsAppend count end need old new (Err (Conflict place)) = ⊥
 ShowsAppend count end need old new (Err (Broken from now)) = ⊥
 ShowsAppend count end need old new (Err Memory) = ⊥

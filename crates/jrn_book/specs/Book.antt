@@ -15,7 +15,7 @@ use Rattle.jrn_file.specs.File.{disk_of, IsSettled}
 use Rattle.jrn_codec.specs.Header.{head_bytes}
 use Rattle.jrn_codec.specs.Record.{IsEntry}
 use Rattle.jrn_book.specs.Index.{References, references_of}
-use Rattle.jrn_book.specs.Journal.{IsJournal, IsWithOrWithout, records_of}
+use Rattle.jrn_book.specs.Journal.{IsJournal, IsWithOrWithout, entry_records}
 
 -- The accounts and the history; the table of the purses that belong to it; the open file; the disk's count of faults at the opening; on which day a commit failed, if one did; and for which pay there is room.
 pub record Book (D : Type 0) : Type 0 where
@@ -49,7 +49,7 @@ pub record IsLeftBy (honest : Bool) (may_leave : List ℕ → Type 0) (chart : C
 module _ {D : Type 0} (honest : D → Bool) (reads : D → List ℕ) (may_leave : D → List ℕ → Type 0) where
   -- what a crash leaves of the book: its history alone, unless a commit failed
   abbrev pub StandsOnDisk : Option Day → JFile D → Chart → List Entry → Type 0
-  StandsOnDisk None file chart history = IsSettled honest reads may_leave file (head_bytes chart) (records_of history)
+  StandsOnDisk None file chart history = IsSettled honest reads may_leave file (head_bytes chart) (entry_records history)
   StandsOnDisk (Some day) file chart history = IsLeftBy (honest (disk_of file)) (may_leave (disk_of file)) chart history day
 
   -- what holds of a book wherever it is seen

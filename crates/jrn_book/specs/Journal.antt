@@ -11,16 +11,16 @@ use Rattle.jrn_codec.specs.Header.{IsHead, head_bytes}
 use Rattle.jrn_codec.specs.Record.{IsEntry, entry_bytes}
 
 -- the records of entries, in their order
-abbrev pub records_of : List Entry → List (List ℕ)
-records_of history = map entry_bytes history
+abbrev pub entry_records : List Entry → List (List ℕ)
+entry_records history = map entry_bytes history
 
 -- the header of these accounts and the records of this history
 abbrev pub all_records : Chart → List Entry → List (List ℕ)
-all_records chart history = head_bytes chart ∷ records_of history
+all_records chart history = head_bytes chart ∷ entry_records history
 
 -- the file of these accounts and this history
 abbrev pub file_of : Chart → List Entry → List ℕ
-file_of chart history = journal_bytes (head_bytes chart) (records_of history)
+file_of chart history = journal_bytes (head_bytes chart) (entry_records history)
 
 -- accounts and a history that a journal may hold: each has a record, and the history is legal
 pub record IsJournal (chart : Chart) (history : List Entry) : Type 0 where
@@ -30,7 +30,7 @@ pub record IsJournal (chart : Chart) (history : List Entry) : Type 0 where
 
 -- the bytes begin with the file of these accounts and this history, but for its open gates
 abbrev pub StandsForBook : List ℕ → Chart → List Entry → Type 0
-StandsForBook image chart history = StandsFor image (head_bytes chart) (records_of history)
+StandsForBook image chart history = StandsFor image (head_bytes chart) (entry_records history)
 
 -- the bytes stand for the history, or for it with one entry more
 abbrev pub IsWithOrWithout : Chart → List Entry → Entry → List ℕ → Type 0

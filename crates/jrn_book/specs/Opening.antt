@@ -5,7 +5,7 @@ use Rattle.day_model.specs.declared.entry.Entry.{Entry}
 use Rattle.day_model.specs.Chart.{Chart}
 use Rattle.day_model.specs.Legal.{IsLegal}
 use Rattle.day_model.specs.Totals.{HasTotals, Pair}
-use Rattle.jrn_file.specs.Faults.{Tells}
+use Rattle.jrn_file.specs.Faults.{TellsCounts}
 use Rattle.jrn_file.specs.File.{disk_of, IsSettled}
 use Rattle.jrn_file.specs.Reading.{Reading, no_journal, whole, cut, size_of}
 use Rattle.jrn_file.specs.declared.fault.OpenFault.{OpenFault}
@@ -13,7 +13,7 @@ use Rattle.jrn_file.specs.declared.fault.OpenFault.TheVariants.{NotAJournal, Dam
 use Rattle.jrn_codec.specs.Header.{IsHead, head_bytes}
 use Rattle.jrn_codec.specs.Record.{IsEntry, entry_bytes}
 use Rattle.jrn_book.specs.Book.{Book}
-use Rattle.jrn_book.specs.Journal.{IsJournal, all_records, records_of}
+use Rattle.jrn_book.specs.Journal.{IsJournal, all_records, entry_records}
 
 -- what bytes are as the journal of a book
 pub data Finding : Type 0 where
@@ -87,18 +87,18 @@ finding_in (Ok opened) = Some (book opened.0.accounts opened.0.history)
 finding_in (Err refused) = found_by refused.1
 
 -- a fault of the disk tells its counts; where the disk didn't fail, its count is as it was
-abbrev pub OpenCause : ℕ → ℕ → OpenFault → Type 0
-OpenCause old new NotAJournal = new ≡ old
-OpenCause old new (Damaged at) = new ≡ old
-OpenCause old new (DiskFault before after) = Tells old before after new
-OpenCause old new Memory = new ≡ old
+abbrev pub BookOpenCause : ℕ → ℕ → OpenFault → Type 0
+BookOpenCause old new NotAJournal = new ≡ old
+BookOpenCause old new (Damaged at) = new ≡ old
+BookOpenCause old new (DiskFault before after) = TellsCounts old before after new
+BookOpenCause old new Memory = new ≡ old
 
 -- A book that was just opened: no commit has failed, its count of faults is the disk's, and its history alone is on the disk, behind which its closed gate stands.
 pub record IsNewBook {D : Type 0} (honest : D → Bool) (reads : D → List ℕ) (may_leave : D → List ℕ → Type 0) (faults : D → ℕ) (b : Book D) : Type 0 where
   pub whole : b.failed ≡ None
   pub count : b.at_open ≡ faults (disk_of b.file)
   pub journal : IsJournal b.accounts b.history
-  pub settled : IsSettled honest reads may_leave b.file (head_bytes b.accounts) (records_of b.history)
+  pub settled : IsSettled honest reads may_leave b.file (head_bytes b.accounts) (entry_records b.history)
 
 -- the purses that were given with a book: of its table, one for each account, with its totals after the history
 pub record HasPurses {D : Type 0} (b : Book D) (loose : LooseHand) : Type 0 where

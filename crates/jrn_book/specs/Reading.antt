@@ -16,7 +16,7 @@ pub record Read : Type 0 where
   pub history : List Entry
 
 -- the next record was read: it is that of an entry that may stand next, which is added
-pub record IsAdded (old : Read) (r : List ℕ) (new : Read) : Type 0 where
+pub record IsReadNext (old : Read) (r : List ℕ) (new : Read) : Type 0 where
   pub entry : Entry
   pub next : IsNextOf old.accounts old.history entry
   pub is : r ≡ entry_bytes entry
@@ -24,7 +24,7 @@ pub record IsAdded (old : Read) (r : List ℕ) (new : Read) : Type 0 where
 
 -- it is added, or refused and all is as before; want of memory tells nothing
 abbrev pub ReadsRecord : Read → List ℕ → Result (Unit {0}) EntryFault → Read → Type 0
-ReadsRecord old r (Ok done) new = IsAdded old r new
+ReadsRecord old r (Ok done) new = IsReadNext old r new
 ReadsRecord old r (Err entry_fault.NoEntry) new = IsNoNext old.accounts old.history r × (new ≡ old)
 ReadsRecord old r (Err entry_fault.Memory) new = Unit {0}
 

@@ -19,14 +19,14 @@ ghost use Rattle.acct_locks.specs.Holdings.{held_totals, held_with};
 ghost use Rattle.jrn_file.specs.File.{IsOpen, IsSettled, disk_of, end_of};
 ghost use Rattle.jrn_file.specs.Journal.{IsBeforeOrAfter, IsFrame, frame_of, record_in};
 ghost use Rattle.jrn_codec.specs.Header.{head_bytes};
-ghost use Rattle.jrn_codec.specs.Record.{IsEntry, entry_bytes};
+ghost use Rattle.jrn_codec.specs.Record.{IsEntry, entry_bytes, most_record_bytes};
 ghost use Rattle.jrn_book.specs.Answers.{IsAnswered, Shows, calls_disk, failed_after, history_after, legs_entered};
 ghost use Rattle.jrn_book.specs.Book.{Counts};
 ghost use Rattle.jrn_book.specs.Commits.{Commits};
 ghost use Rattle.jrn_book.specs.Appending.{Repeats, ShowsAppend};
 ghost use Rattle.jrn_book.specs.Deciding.{HoldsAll};
 ghost use Rattle.jrn_book.specs.Index.{place_in};
-ghost use Rattle.jrn_book.specs.Journal.{IsBeforeOrNext, IsJournal, file_of, records_of};
+ghost use Rattle.jrn_book.specs.Journal.{IsBeforeOrNext, IsJournal, file_of, entry_records};
 ghost use Rattle.jrn_book.specs.Resuming.{IsResumable};
 
 use crate::answer::{CommitFault, Committed};
@@ -95,7 +95,7 @@ fn prepare<H: Held>(
     ensures entry { result.0 ≡ entry_of a.now h.now.entries room day }
     ensures written { IsEntry result.0 }
     ensures frame { result.1.bytes ≡ frame_of (entry_bytes result.0) }
-    ensures few { length (entry_bytes result.0) ≤ 1048576 }
+    ensures few { length (entry_bytes result.0) ≤ most_record_bytes }
     ensures agreed { result.0.outcome ≡ Booked → All (λ leg. held_totals (H.held held.old) leg.account.0 ≡ totals_of leg.account.0 h.now.entries) room.legs }
     ensures held_same { (H.held held.new ≡ H.held held.old) × (H.table held.new ≡ H.table held.old) × (H.count held.new ≡ H.count held.old) }
     ensures sides_same { sides.new ≡ sides.old }
@@ -172,7 +172,7 @@ impl<D: Disk> JrnBook<D> {
         // A crash at any moment of the call leaves the history from before it or the next one; after Ok the next one alone.
         ensures any_moment { self.old.failed ≡ None → IsTrue (D.honest (disk_of self.old.file))
             → LeavesOnly D.moment D.left_since (disk_of self.old.file) (disk_of self.new.file) (IsBeforeOrNext self.old.accounts self.old.history p.now day) }
-        ensures durable { OnOk result (IsSettled D.honest D.reads D.may_leave self.new.file (head_bytes self.old.accounts) (records_of self.new.history)) }
+        ensures durable { OnOk result (IsSettled D.honest D.reads D.may_leave self.new.file (head_bytes self.old.accounts) (entry_records self.new.history)) }
         ensures place { self.old.failed ≡ None → end_of self.old.file + 1 ≡ length (file_of self.old.accounts self.old.history) }
 
         // Where the history is that of a run so far, whatever a crash leaves stands for one from which the same run, given
@@ -259,7 +259,7 @@ impl<D: Disk> JrnBook<D> {
         ensures later { D.faults (disk_of self.old.file) ≤ D.faults (disk_of self.new.file) }
         ensures no_memory { IsAnswered result }
         ensures legal { IsLegal self.new.accounts self.new.history }
-        ensures durable { OnOk result (IsSettled D.honest D.reads D.may_leave self.new.file (head_bytes self.old.accounts) (records_of self.new.history)) }
+        ensures durable { OnOk result (IsSettled D.honest D.reads D.may_leave self.new.file (head_bytes self.old.accounts) (entry_records self.new.history)) }
     {
         let Some(room) = self.room.take() else {
             unreachable!()

@@ -2,6 +2,7 @@
 
 ghost use Rattle.std.specs.Prelude.{◌≡◌, ◌+◌, ◌<◌, ◌≤◌, pos, ◌+ℤ◌, ◌-ℤ◌, All, IsTrue, IfNone, Some, length, unwrap_or};
 ghost use Rattle.corr_text.specs.First.{first_of};
+ghost use Rattle.corr_money.specs.Amounts.{amount_end};
 ghost use Rattle.day_model.specs.declared.entry.Outcome.TheVariants.{Booked};
 ghost use Rattle.day_model.specs.Balance.{changed, is_within, leg_test, leg_tests};
 ghost use Rattle.day_model.specs.Chart.{IsChart, IsListed, IsSmall, account_at};
@@ -26,7 +27,7 @@ fn balance_by(account: &Account, totals: (u64, u64)) -> i64
 
 fn after_leg(balance: i64, leg: &Leg) -> i64
     requires small { IsSmall balance }
-    requires amount { leg.now.amount.0 < 100000000000000 }
+    requires amount { leg.now.amount.0 < amount_end }
     ensures { result ≡ changed leg.now.side leg.now.amount.0 balance }
 {
     match leg.side {
@@ -50,7 +51,7 @@ pub(crate) fn leg_outcome(
 ) -> Option<Outcome>
     requires listed { IsListed a.now leg.now.account.0 }
     requires small { IsSmall (balance_with a.now leg.now.account.0 totals) }
-    requires amount { leg.now.amount.0 < 100000000000000 }
+    requires amount { leg.now.amount.0 < amount_end }
     ensures value { result ≡ leg_test_by a.now totals number leg.now }
 {
     let account = a.get(leg.account);

@@ -1,6 +1,6 @@
 //! Opening a book.
 
-ghost use Rattle.std.specs.Prelude.{◌≡◌, ◌^◌, ◌++◌, ℕ, List, None, length, IfErr, IfOk, IfSome, IsTrue, MatchResult};
+ghost use Rattle.std.specs.Prelude.{◌≡◌, ◌++◌, ℕ, List, None, length, IfErr, IfOk, IfSome, IsTrue, MatchResult};
 ghost use Rattle.corr_disk.specs.Calls.{AtMostCalls, CallsMade};
 ghost use Rattle.corr_ids.specs.declared.day.Day.{Day as TheDay};
 ghost use Rattle.day_model.specs.declared.pay.Pay.{Pay};
@@ -8,12 +8,12 @@ ghost use Rattle.day_model.specs.declared.entry.Entry.{Entry};
 ghost use Rattle.day_model.specs.Next.{fold_of};
 ghost use Rattle.jrn_file.specs.File.{IsSettled, disk_of, end_of};
 ghost use Rattle.jrn_file.specs.Opening.{IsOpened};
-ghost use Rattle.jrn_file.specs.Pieces.{calls_to_open};
+ghost use Rattle.jrn_file.specs.Pieces.{calls_to_open, piece_size};
 ghost use Rattle.jrn_file.specs.Reading.{cut, opened_of, size_of, whole};
 ghost use Rattle.jrn_file.specs.Untouched.{IsUntouched};
 ghost use Rattle.jrn_codec.specs.Header.{head_bytes};
-ghost use Rattle.jrn_book.specs.Journal.{records_of};
-ghost use Rattle.jrn_book.specs.Opening.{Finding, HasPurses, IsFound, IsNewBook, OpenCause, finding_in, found_by};
+ghost use Rattle.jrn_book.specs.Journal.{entry_records};
+ghost use Rattle.jrn_book.specs.Opening.{Finding, HasPurses, IsFound, IsNewBook, BookOpenCause, finding_in, found_by};
 ghost use Rattle.jrn_book.specs.Reading.{IsOfBytes};
 ghost use Rattle.jrn_book.specs.Resuming.{ResumesRun};
 
@@ -46,7 +46,7 @@ pub fn open_book<D: Disk>(alloc: Global, disk: D) -> Result<(JrnBook<D>, Loose),
     // What it answers is what the bytes are, and what they are is what it answers, unless the disk or memory failed.
     ensures told { IsTrue (D.honest disk) → IfSome (finding_in result) (IsFound (opened_of (D.reads disk))) }
     ensures only { IsTrue (D.honest disk) → (finding : Finding) → IsFound (opened_of (D.reads disk)) finding → IfSome (finding_in result) (λ found. found ≡ finding) }
-    ensures cause { IfErr result (λ e. OpenCause (D.faults disk) (D.faults e.0) e.1) }
+    ensures cause { IfErr result (λ e. BookOpenCause (D.faults disk) (D.faults e.0) e.1) }
 
     // A run that stopped with this history and is given again from its first pay makes what it would have made.
     ensures again { IfOk result (λ r. (start : List Entry) (done more : List Pay) (day : TheDay) → r.0.history ≡ fold_of r.0.accounts start done day
@@ -58,8 +58,8 @@ pub fn open_book<D: Disk>(alloc: Global, disk: D) -> Result<(JrnBook<D>, Loose),
         (λ e. IsUntouched D.reads D.may_leave D.moment D.left_since disk e.0) }
 
     // It makes as many calls as a sync and a read of each 2^20 bytes up to the closed gate are.
-    ensures calls { IfOk result (λ r. CallsMade (calls_to_open (2 ^ 20) (end_of r.0.file)) (D.plan disk) (D.plan (disk_of r.0.file))) }
-    ensures no_more_calls { IsTrue (D.honest disk) → IfErr result (λ e. AtMostCalls (calls_to_open (2 ^ 20) (length (D.reads disk))) (D.plan disk) (D.plan e.0)) }
+    ensures calls { IfOk result (λ r. CallsMade (calls_to_open piece_size (end_of r.0.file)) (D.plan disk) (D.plan (disk_of r.0.file))) }
+    ensures no_more_calls { IsTrue (D.honest disk) → IfErr result (λ e. AtMostCalls (calls_to_open piece_size (length (D.reads disk))) (D.plan disk) (D.plan e.0)) }
 
     ensures honest { MatchResult result (λ r. D.honest (disk_of r.0.file) ≡ D.honest disk) (λ e. D.honest e.0 ≡ D.honest disk) }
     ensures kept { IfOk result (λ r. D.faults (disk_of r.0.file) ≡ D.faults disk) }
@@ -111,7 +111,7 @@ fn give<D: Disk>(
     past: Past,
     file: JFile<D>,
 ) -> Result<(JrnBook<D>, Loose), (D, OpenFault)>
-    requires settled { IsSettled D.honest D.reads D.may_leave file (head_bytes past.accounts) (records_of past.history) }
+    requires settled { IsSettled D.honest D.reads D.may_leave file (head_bytes past.accounts) (entry_records past.history) }
     ensures opened { IfOk result (λ r. IsNewBook D.honest D.reads D.may_leave D.faults r.0) }
     ensures purses { IfOk result (λ r. HasPurses r.0 r.1) }
     ensures past { IfOk result (λ r. (r.0.accounts ≡ past.accounts) × (r.0.history ≡ past.history) × (r.0.file ≡ file)) }

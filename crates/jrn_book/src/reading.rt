@@ -12,7 +12,7 @@ ghost use Rattle.day_model.specs.Pairs.{PairsFit, pairs_with};
 ghost use Rattle.jrn_codec.specs.Header.{IsHead, head_bytes};
 ghost use Rattle.jrn_codec.specs.Record.{IsEntry, entry_bytes};
 ghost use Rattle.jrn_file.specs.Reading.{size_of};
-ghost use Rattle.jrn_book.specs.Journal.{IsJournal, all_records, records_of};
+ghost use Rattle.jrn_book.specs.Journal.{IsJournal, all_records, entry_records};
 ghost use Rattle.jrn_book.specs.Following.{Follows};
 ghost use Rattle.jrn_book.specs.Reading.{ReadsRecord, RefusesHead, RefusesRecords};
 
@@ -208,7 +208,7 @@ fn read_entries(
     requires good { IsJournal past.old.accounts past.old.history }
     requires place { start ≡ size_of (all_records past.old.accounts past.old.history) }
     ensures accounts { OnOk result (past.new.accounts ≡ past.old.accounts) }
-    ensures read { OnOk result (records_of past.new.history ≡ records_of past.old.history ++ entries.now) }
+    ensures read { OnOk result (entry_records past.new.history ≡ entry_records past.old.history ++ entries.now) }
     ensures good { OnOk result (IsJournal past.new.accounts past.new.history) }
     ensures fault { IfErr result (RefusesRecords (all_records past.old.accounts past.old.history ++ entries.now)) }
 {

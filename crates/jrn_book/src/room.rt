@@ -5,7 +5,7 @@ ghost use Rattle.std.specs.Bool.{OnTrue};
 ghost use Rattle.corr_ids.specs.Day.{InCentury};
 ghost use Rattle.day_model.specs.Shape.{HasShape};
 ghost use Rattle.jrn_file.specs.Journal.{frame_of};
-ghost use Rattle.jrn_codec.specs.Record.{IsEntry, entry_bytes};
+ghost use Rattle.jrn_codec.specs.Record.{IsEntry, entry_bytes, most_record_bytes};
 ghost use Rattle.jrn_book.specs.Room.{longest_record};
 
 use crate::same::is_pay;
@@ -102,7 +102,7 @@ impl Room {
         ensures entry { result.0 ≡ record { pay = self; day = day; outcome = outcome } }
         ensures written { IsEntry result.0 }
         ensures frame { result.1.bytes ≡ frame_of (entry_bytes result.0) }
-        ensures few { length (entry_bytes result.0) ≤ 1048576 }
+        ensures few { length (entry_bytes result.0) ≤ most_record_bytes }
     {
         let Room {
             pay,

@@ -25,11 +25,11 @@ use Rattle.jrn_codec.specs.declared.entry.Stamp.{Stamp}
 use Rattle.jrn_codec.specs.declared.entry.Fate.{Fate}
 use Rattle.jrn_codec.specs.declared.fault.EntryFault.{EntryFault}
 use Rattle.jrn_codec.specs.declared.fault.EntryFault.TheVariants as faults
-use Rattle.jrn_codec.specs.Answers.{Gives, IsReadAs}
+use Rattle.jrn_codec.specs.Answers.{Gives, IsGiven}
 use Rattle.jrn_codec.specs.Spelling.{optional_bytes, listed_bytes, long_bytes}
 use Rattle.jrn_codec.specs.Record.{IsEntry, IsOutcome, mt_mark, day_bytes, outcome_bytes, stamp_bytes, fate_bytes, leg_bytes, order_bytes, entry_bytes}
 use Rattle.jrn_codec.specs.Reading.{mark_at, optional_at, listed_at, long_at}
-use Rattle.jrn_codec.specs.RecordReading.{mt_of, uetr_at, day_at, outcome_at, leg_at, order_at, stamp_at, fate_at, is_whole, entry_with, entry_of}
+use Rattle.jrn_codec.specs.RecordReading.{mt_of, uetr_at, day_at, outcome_at, leg_at, order_at, stamp_at, fate_at, is_whole_pay, entry_with, entry_of}
 use Rattle.jrn_codec.proofs.Fields.{IsBytes, IsField, step, resume, tested, joined5}
 use Rattle.jrn_codec.proofs.Parts.{mark_field, optional_field, listed_field, long_field}
 use Rattle.jrn_codec.proofs.Marks.{mt_marks}
@@ -132,7 +132,7 @@ weaker P Q f [] h = tt
 weaker P Q f (x ∷ xs) h = (f x h.0, weaker P Q f xs h.1)
 
 abbrev entry_text : Stamp → Fate → List Leg → List Order → List ℕ × List ℕ → Option Entry
-entry_text stamp fate legs orders text = cond (is_whole legs text.0 text.1) (Some (entry_with stamp fate legs orders text.0)) None
+entry_text stamp fate legs orders text = cond (is_whole_pay legs text.0 text.1) (Some (entry_with stamp fate legs orders text.0)) None
 
 abbrev entry_orders : Stamp → Fate → List Leg → List Order × List ℕ → Option Entry
 entry_orders stamp fate legs orders = option_and_then (entry_text stamp fate legs orders.0) (long_at orders.1)
@@ -151,7 +151,7 @@ record WholeParts (legs : List Leg) (text rest : List ℕ) : Type 0 where
   short : length text ≤ 32768
   ended : rest ≡ []
 
-whole_parts : (legs : List Leg) (text rest : List ℕ) → is_whole legs text rest ≡ true → WholeParts legs text rest
+whole_parts : (legs : List Leg) (text rest : List ℕ) → is_whole_pay legs text rest ≡ true → WholeParts legs text rest
 whole_parts legs text rest e =
     let a = both (are_legs legs && nat_le (length text) 32768) (length rest == 0) e in
     let c = both (are_legs legs) (nat_le (length text) 32768) a.0 in
@@ -165,7 +165,7 @@ entry_takes bytes e b read =
     let legs = step (listed_field leg_field) (entry_legs stamp.value fate.value) fate.rest e fate.bytes_on fate.on in
     let orders = step (listed_field (order_field (length legs.value))) (entry_orders stamp.value fate.value legs.value) legs.rest e legs.bytes_on legs.on in
     let text = step long_field (entry_text stamp.value fate.value legs.value orders.value) orders.rest e orders.bytes_on orders.on in
-    let t = tested (is_whole legs.value text.value text.rest) (entry_with stamp.value fate.value legs.value orders.value text.value) e text.on in
+    let t = tested (is_whole_pay legs.value text.value text.rest) (entry_with stamp.value fate.value legs.value orders.value text.value) e text.on in
     let w = whole_parts legs.value text.value text.rest t.0 in
     let made : Entry = entry_with stamp.value fate.value legs.value orders.value text.value in
     let last : orders.rest ≡ long_bytes text.value = text.parts ∙ ap (λ (s : List ℕ). long_bytes text.value ++ s) w.ended ∙ append-nil (long_bytes text.value) in
@@ -217,7 +217,7 @@ entry_again e h =
     let regrouped : entry_bytes e ≡ stamped stamp ++ (fated fate ++ legs) =
     ap (λ (s : List ℕ). (stamped stamp ++ fated fate) ++ (lists ++ s)) (sym (append-nil (long_bytes e.pay.text))) ∙ sym (joined5 (stamped stamp) (fated fate) (listed_bytes leg_bytes e.pay.legs) (listed_bytes order_bytes e.pay.orders) text) in
     let few : length e.pay.text < 2 ^ 32 = omega (arith, h.pay.text) in
-    let whole : is_whole e.pay.legs e.pay.text [] ≡ true = rw (h.pay.legs, true_le (length e.pay.text) 32768 h.pay.text) refl in
+    let whole : is_whole_pay e.pay.legs e.pay.text [] ≡ true = rw (h.pay.legs, true_le (length e.pay.text) 32768 h.pay.text) refl in
     ap entry_of regrouped
     ∙ resume stamp_field entry_stamp stamp (fated fate ++ legs) (Some e) (h.pay.mir, h.pay.uetr)
     (resume fate_field (entry_fate stamp) fate legs (Some e) (h.day, h.pay.value, h.outcome)
@@ -232,10 +232,10 @@ pub is_found : (bytes : List ℕ) (r : Result Entry EntryFault) → IsBytes byte
 is_found bytes (Ok e) b given = entry_takes bytes e b given
 is_found bytes (Err e) b given = tt
 
-is_read : (e : Entry) (r : Result Entry EntryFault) → Gives (λ x. x) r (Some e) → IsReadAs e r
+is_read : (e : Entry) (r : Result Entry EntryFault) → Gives (λ x. x) r (Some e) → IsGiven e r
 is_read e (Ok x) given = sym (same_Some e x given)
 is_read e (Err faults.NoEntry) given = absurd cc
 is_read e (Err faults.Memory) given = tt
 
-pub is_only : (bytes : List ℕ) (r : Result Entry EntryFault) → Gives (λ e. e) r (entry_of bytes) → (e : Entry) → IsEntry e → bytes ≡ entry_bytes e → IsReadAs e r
+pub is_only : (bytes : List ℕ) (r : Result Entry EntryFault) → Gives (λ e. e) r (entry_of bytes) → (e : Entry) → IsEntry e → bytes ≡ entry_bytes e → IsGiven e r
 is_only bytes r given e h is = is_read e r (subst (λ (o : Option Entry). Gives (λ x. x) r o) (ap entry_of is ∙ entry_again e h) given)

@@ -17,7 +17,7 @@ use Rattle.day_model.specs.Chart.{Chart, IsChart, IsFormed, IsLimited, IsSmall}
 use Rattle.jrn_codec.specs.declared.header.Limits.{Limits}
 use Rattle.jrn_codec.specs.declared.fault.EntryFault.{EntryFault}
 use Rattle.jrn_codec.specs.declared.fault.EntryFault.TheVariants as faults
-use Rattle.jrn_codec.specs.Answers.{Fails, IsReadAs}
+use Rattle.jrn_codec.specs.Answers.{Fails, IsGiven}
 use Rattle.jrn_codec.specs.Spelling.{signed_bytes, bic_bytes, short_bytes}
 use Rattle.jrn_codec.specs.Header.{version, title_bytes, account_bytes, head_bytes, HasCode, IsHead}
 use Rattle.jrn_codec.specs.Reading.{cut, byte_at, number_at, signed_at, bic_at, items_at}
@@ -266,11 +266,11 @@ pub is_found : (bytes : List ℕ) (rows : Chart) (r : Result Chart EntryFault) �
 is_found bytes rows (Ok a) b e h = found_rows bytes a b (e ∙ ap (λ (x : Chart). Some x) (sym h.0)) h.1
 is_found bytes rows (Err fault) b e h = tt
 
-pub is_only : (bytes : List ℕ) (rows : Chart) (r : Result Chart EntryFault) → head_of bytes ≡ Some rows → (IsChart rows → IsReadAs rows r) → (chart : Chart) → IsHead chart → bytes ≡ head_bytes chart → IsReadAs chart r
+pub is_only : (bytes : List ℕ) (rows : Chart) (r : Result Chart EntryFault) → head_of bytes ≡ Some rows → (IsChart rows → IsGiven rows r) → (chart : Chart) → IsHead chart → bytes ≡ head_bytes chart → IsGiven chart r
 is_only bytes rows r e only chart h is =
     let same = same_Some rows chart (sym e ∙ read_again bytes chart h is) in
-    subst (λ (x : Chart). IsReadAs x r) same (only (subst IsChart (sym same) h.book))
+    subst (λ (x : Chart). IsGiven x r) same (only (subst IsChart (sym same) h.book))
 
-pub is_refused : (bytes : List ℕ) (fault : EntryFault) → Fails fault (head_of bytes) → (chart : Chart) → IsHead chart → bytes ≡ head_bytes chart → IsReadAs {X = Chart} chart (Err fault)
+pub is_refused : (bytes : List ℕ) (fault : EntryFault) → Fails fault (head_of bytes) → (chart : Chart) → IsHead chart → bytes ≡ head_bytes chart → IsGiven {X = Chart} chart (Err fault)
 is_refused bytes faults.NoEntry none chart h is = none-some chart (sym none ∙ read_again bytes chart h is)
 is_refused bytes faults.Memory none chart h is = tt

@@ -18,7 +18,7 @@ use Rattle.day_model.specs.Shape.{IsReference, IsQuote, IsLeg}
 use Rattle.jrn_codec.specs.Spelling.{signed_bytes}
 use Rattle.jrn_codec.specs.Record.{IsOutcome, outcome_bytes, quote_bytes, leg_bytes, posting_bytes, side_mark}
 use Rattle.jrn_codec.specs.Reading.{number_at, signed_at, mark_at}
-use Rattle.jrn_codec.specs.RecordReading.{unfunded_at, outcome_at, is_reference, theirs_at, ours_at, quote_at, is_account, side_of, leg_with, leg_at}
+use Rattle.jrn_codec.specs.RecordReading.{unfunded_at, outcome_at, is_reference, theirs_at, ours_at, quote_at, is_account_number, side_of, leg_with, leg_at}
 use Rattle.jrn_codec.proofs.Fields.{IsBytes, IsBytes-behind, IsField, step, resume, tested, differs, byte_field, field16, field64, signed64_field}
 use Rattle.jrn_codec.proofs.Parts.{mark_field, short_field}
 use Rattle.jrn_codec.proofs.Marks.{side_marks}
@@ -120,7 +120,7 @@ side_field : IsField (λ (x : Side). side_mark x ∷ []) (mark_at side_of) (λ (
 side_field = mark_field side_mark side_of side_marks
 
 abbrev leg_end : ℕ → Side → ℕ → Quote × List ℕ → Option (Leg × List ℕ)
-leg_end account side amount quote = cond (is_account account) (Some (leg_with account side amount quote.0, quote.1)) None
+leg_end account side amount quote = cond (is_account_number account) (Some (leg_with account side amount quote.0, quote.1)) None
 
 abbrev leg_amount : ℕ → Side → ℕ × List ℕ → Option (Leg × List ℕ)
 leg_amount account side amount = option_and_then (leg_end account side amount.0) (quote_at amount.1)
@@ -135,7 +135,7 @@ leg_takes bytes leg rest b e =
     let side = step side_field (leg_side account.value) account.rest (leg, rest) account.bytes_on account.on in
     let amount = step field64 (leg_amount account.value side.value) side.rest (leg, rest) side.bytes_on side.on in
     let quote = step quote_field (leg_end account.value side.value amount.value) amount.rest (leg, rest) amount.bytes_on amount.on in
-    let t = tested (is_account account.value) (leg_with account.value side.value amount.value quote.value, quote.rest) (leg, rest) quote.on in
+    let t = tested (is_account_number account.value) (leg_with account.value side.value amount.value quote.value, quote.rest) (leg, rest) quote.on in
     let p = both (nat_le 1 account.value) (nat_le account.value 1000) t.0 in
     let amount_on = amount.parts ∙ ap (λ (s : List ℕ). to_be_bytes w64 amount.value ++ s) quote.parts in
     let side_on = side.parts ∙ ap (λ (s : List ℕ). side_mark side.value ∷ s) amount_on in
@@ -148,7 +148,7 @@ unfolding leg_at leg_bytes posting_bytes
 leg_again leg rest fits =
     let regrouped : leg_bytes leg ++ rest ≡ to_be_bytes w16 leg.account.0 ++ (side_mark leg.side ∷ (to_be_bytes w64 leg.amount.0 ++ (quote_bytes leg.quote ++ rest))) =
     sym (leg_parts (to_be_bytes w16 leg.account.0) (side_mark leg.side) (to_be_bytes w64 leg.amount.0) (quote_bytes leg.quote) rest) in
-    let account : is_account leg.account.0 ≡ true = rw (true_le 1 leg.account.0 fits.0.account.0, true_le leg.account.0 1000 fits.0.account.1) refl in
+    let account : is_account_number leg.account.0 ≡ true = rw (true_le 1 leg.account.0 fits.0.account.0, true_le leg.account.0 1000 fits.0.account.1) refl in
     ap leg_at regrouped
     ∙ resume field16 (λ account. option_and_then (leg_side account.0) (mark_at side_of account.1)) leg.account.0 (side_mark leg.side ∷ (to_be_bytes w64 leg.amount.0 ++ (quote_bytes leg.quote ++ rest))) (Some (leg, rest)) (omega (arith, fits.0.account.1))
     (resume side_field (leg_side leg.account.0) leg.side (to_be_bytes w64 leg.amount.0 ++ (quote_bytes leg.quote ++ rest)) (Some (leg, rest)) tt

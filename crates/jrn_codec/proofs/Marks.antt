@@ -8,7 +8,7 @@ use Rattle.day_model.specs.declared.pay.Mt.TheVariants.{Transfer, Cover}
 use Rattle.day_model.specs.declared.pay.Skip.{Skip}
 use Rattle.day_model.specs.declared.pay.Skip.TheVariants.{Keep, Mid, Both}
 use Rattle.jrn_codec.specs.Record.{mt_mark, side_mark, skip_mark}
-use Rattle.jrn_codec.specs.RecordReading.{mt_of, side_of, skip_of}
+use Rattle.jrn_codec.specs.RecordReading.{mt_of, side_of, skip_marked}
 use Rattle.jrn_codec.proofs.Fields.{differs}
 use Rattle.jrn_codec.proofs.Parts.{IsMark}
 
@@ -41,18 +41,18 @@ side_back (suc (suc b)) x e =
 pub side_marks : IsMark side_mark side_of
 side_marks = record { again = side_again; back = side_back }
 
-skip_again : (x : Skip) → skip_of (skip_mark x) ≡ Some x
+skip_again : (x : Skip) → skip_marked (skip_mark x) ≡ Some x
 skip_again Keep = refl
 skip_again Mid = refl
 skip_again Both = refl
 
-skip_back : (b : ℕ) (x : Skip) → skip_of b ≡ Some x → skip_mark x ≡ b
+skip_back : (b : ℕ) (x : Skip) → skip_marked b ≡ Some x → skip_mark x ≡ b
 skip_back zero x e = sym (ap skip_mark (same_Some Keep x e))
 skip_back (suc zero) x e = sym (ap skip_mark (same_Some Mid x e))
 skip_back (suc (suc zero)) x e = sym (ap skip_mark (same_Some Both x e))
 skip_back (suc (suc (suc b))) x e =
-    let none : skip_of (suc (suc (suc b))) ≡ None = simp (differs (suc (suc (suc b))) 0 (omega arith), differs (suc (suc (suc b))) 1 (omega arith), differs (suc (suc (suc b))) 2 (omega arith)) refl in
+    let none : skip_marked (suc (suc (suc b))) ≡ None = simp (differs (suc (suc (suc b))) 0 (omega arith), differs (suc (suc (suc b))) 1 (omega arith), differs (suc (suc (suc b))) 2 (omega arith)) refl in
     absurd (none-some x (sym none ∙ e))
 
-pub skip_marks : IsMark skip_mark skip_of
+pub skip_marks : IsMark skip_mark skip_marked
 skip_marks = record { again = skip_again; back = skip_back }

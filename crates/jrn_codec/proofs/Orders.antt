@@ -11,15 +11,15 @@ use Rattle.day_model.specs.Shape.{IsNumbered, IsOrder}
 use Rattle.jrn_codec.specs.Spelling.{bic_bytes, optional_bytes}
 use Rattle.jrn_codec.specs.Record.{order_bytes, skip_mark}
 use Rattle.jrn_codec.specs.Reading.{byte_at, bic_at, mark_at, optional_at}
-use Rattle.jrn_codec.specs.RecordReading.{skip_of, transfer_at, cover_at, pass_at, is_numbered, noticed_at, debit_at, credit_at, order_at}
+use Rattle.jrn_codec.specs.RecordReading.{skip_marked, transfer_at, cover_at, pass_at, is_numbered, noticed_at, debit_at, credit_at, order_at}
 use Rattle.jrn_codec.proofs.Fields.{IsBytes, IsField, step, resume, tested, differs, byte_field}
 use Rattle.jrn_codec.proofs.Parts.{mark_field, optional_field}
 use Rattle.jrn_codec.proofs.Marks.{skip_marks}
 use Rattle.jrn_codec.proofs.Identifiers.{bic_field}
 use Rattle.jrn_codec.proofs.Legs.{behind, both, le_true, true_le}
 
-skip_field : IsField (λ (x : Skip). skip_mark x ∷ []) (mark_at skip_of) (λ (x : Skip). Unit {0})
-skip_field = mark_field skip_mark skip_of skip_marks
+skip_field : IsField (λ (x : Skip). skip_mark x ∷ []) (mark_at skip_marked) (λ (x : Skip). Unit {0})
+skip_field = mark_field skip_mark skip_marked skip_marks
 
 via_field : IsField (optional_bytes bic_bytes) (optional_at bic_at) (λ (via : Option Bic). IfSome via IsBic)
 via_field = optional_field bic_field
@@ -37,7 +37,7 @@ abbrev transfer_skip : Bic → Skip × List ℕ → Option (Order × List ℕ)
 transfer_skip to skip = option_and_then (transfer_via to skip.0) (optional_at bic_at skip.1)
 
 abbrev transfer_to : Bic × List ℕ → Option (Order × List ℕ)
-transfer_to to = option_and_then (transfer_skip to.0) (mark_at skip_of to.1)
+transfer_to to = option_and_then (transfer_skip to.0) (mark_at skip_marked to.1)
 
 transfer_takes : (legs : ℕ) (bytes : List ℕ) (x : Order × List ℕ) → IsBytes bytes → transfer_at bytes ≡ Some x → Spells legs 1 bytes x
 unfolding transfer_at
@@ -55,7 +55,7 @@ abbrev cover_skip : Bic → Bic → Skip × List ℕ → Option (Order × List �
 cover_skip to end skip = Some (order.Cover to end skip.0, skip.1)
 
 abbrev cover_end : Bic → Bic × List ℕ → Option (Order × List ℕ)
-cover_end to end = option_and_then (cover_skip to end.0) (mark_at skip_of end.1)
+cover_end to end = option_and_then (cover_skip to end.0) (mark_at skip_marked end.1)
 
 abbrev cover_to : Bic × List ℕ → Option (Order × List ℕ)
 cover_to to = option_and_then (cover_end to.0) (bic_at to.1)
@@ -76,7 +76,7 @@ abbrev pass_skip : Bic → Skip × List ℕ → Option (Order × List ℕ)
 pass_skip to skip = Some (order.Pass to skip.0, skip.1)
 
 abbrev pass_to : Bic × List ℕ → Option (Order × List ℕ)
-pass_to to = option_and_then (pass_skip to.0) (mark_at skip_of to.1)
+pass_to to = option_and_then (pass_skip to.0) (mark_at skip_marked to.1)
 
 pass_takes : (legs : ℕ) (bytes : List ℕ) (x : Order × List ℕ) → IsBytes bytes → pass_at bytes ≡ Some x → Spells legs 3 bytes x
 unfolding pass_at

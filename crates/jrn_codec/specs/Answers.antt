@@ -14,7 +14,7 @@ Gives view (Ok x) read = read ≡ Some (view x)
 Gives view (Err e) read = Fails e read
 
 -- Ok with this value, unless memory ran out
-abbrev pub IsReadAs : {X : Type 0} → X → Result X EntryFault → Type 0
-IsReadAs x (Ok y) = y ≡ x
-IsReadAs x (Err NoEntry) = ⊥
-IsReadAs x (Err Memory) = Unit {0}
+abbrev pub IsGiven : {X : Type 0} → X → Result X EntryFault → Type 0
+IsGiven x (Ok y) = y ≡ x
+IsGiven x (Err NoEntry) = ⊥
+IsGiven x (Err Memory) = Unit {0}

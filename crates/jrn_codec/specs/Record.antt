@@ -22,6 +22,10 @@ use Rattle.day_model.specs.declared.entry.Entry.{Entry}
 use Rattle.day_model.specs.Shape.{HasShape}
 use Rattle.jrn_codec.specs.Spelling.{signed_bytes, bic_bytes, optional_bytes, short_bytes, long_bytes, listed_bytes}
 
+-- the record of an entry has at most so many bytes
+abbrev pub most_record_bytes : ℕ
+most_record_bytes = 1048576
+
 -- 1 for a transfer, 2 for a cover
 abbrev pub mt_mark : Mt → ℕ
 mt_mark Transfer = 1

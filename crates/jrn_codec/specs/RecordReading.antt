@@ -41,8 +41,8 @@ abbrev pub side_of : ℕ → Option Side
 side_of mark = if mark == 0 then Some Debit else if mark == 1 then Some Credit else None
 
 -- which fields are left out, by the mark
-abbrev pub skip_of : ℕ → Option Skip
-skip_of mark = if mark == 0 then Some Keep else if mark == 1 then Some Mid else if mark == 2 then Some Both else None
+abbrev pub skip_marked : ℕ → Option Skip
+skip_marked mark = if mark == 0 then Some Keep else if mark == 1 then Some Mid else if mark == 2 then Some Both else None
 
 -- a day of the century
 abbrev pub in_century : Day → Bool
@@ -53,8 +53,8 @@ abbrev pub is_reference : List ℕ → Bool
 is_reference text = nat_le 1 (length text) && nat_le (length text) 16 && list_all (is_in X) text && not (has_stray_slash text)
 
 -- one of at most 1,000 accounts
-abbrev pub is_account : ℕ → Bool
-is_account n = nat_le 1 n && nat_le n most_accounts
+abbrev pub is_account_number : ℕ → Bool
+is_account_number n = nat_le 1 n && nat_le n most_accounts
 
 -- one of so many legs
 abbrev pub is_numbered : ℕ → ℕ → Bool
@@ -116,13 +116,13 @@ leg_at bytes = do
   side ← mark_at side_of account.1
   amount ← number_at w64 side.1
   quote ← quote_at amount.1
-  if is_account account.0 then Some (leg_with account.0 side.0 amount.0 quote.0, quote.1) else None
+  if is_account_number account.0 then Some (leg_with account.0 side.0 amount.0 quote.0, quote.1) else None
 
 -- what a transfer adds
 unfoldable pub transfer_at : List ℕ → Option (Order × List ℕ)
 transfer_at bytes = do
   to ← bic_at bytes
-  skip ← mark_at skip_of to.1
+  skip ← mark_at skip_marked to.1
   via ← optional_at bic_at skip.1
   Some (order.Transfer to.0 skip.0 via.0, via.1)
 
@@ -131,14 +131,14 @@ unfoldable pub cover_at : List ℕ → Option (Order × List ℕ)
 cover_at bytes = do
   to ← bic_at bytes
   end ← bic_at to.1
-  skip ← mark_at skip_of end.1
+  skip ← mark_at skip_marked end.1
   Some (order.Cover to.0 end.0 skip.0, skip.1)
 
 -- what a cover that is passed on adds
 unfoldable pub pass_at : List ℕ → Option (Order × List ℕ)
 pass_at bytes = do
   to ← bic_at bytes
-  skip ← mark_at skip_of to.1
+  skip ← mark_at skip_marked to.1
   Some (order.Pass to.0 skip.0, skip.1)
 
 -- a bank and one of so many legs
@@ -193,8 +193,8 @@ fate_at bytes = do
   Some (record { day = day.0; value = value.0; outcome = outcome.0 }, outcome.1)
 
 -- legs and text are those of a pay, and nothing stands behind
-abbrev pub is_whole : List Leg → List ℕ → List ℕ → Bool
-is_whole legs text rest = are_legs legs && nat_le (length text) most_text && (length rest == 0)
+abbrev pub is_whole_pay : List Leg → List ℕ → List ℕ → Bool
+is_whole_pay legs text rest = are_legs legs && nat_le (length text) most_text && (length rest == 0)
 
 -- an entry with these parts
 abbrev pub entry_with : Stamp → Fate → List Leg → List Order → List ℕ → Entry
@@ -212,4 +212,4 @@ entry_of bytes = do
   legs ← listed_at leg_at fate.1
   orders ← listed_at (order_at (length legs.0)) legs.1
   text ← long_at orders.1
-  if is_whole legs.0 text.0 text.1 then Some (entry_with stamp.0 fate.0 legs.0 orders.0 text.0) else None
+  if is_whole_pay legs.0 text.0 text.1 then Some (entry_with stamp.0 fate.0 legs.0 orders.0 text.0) else None

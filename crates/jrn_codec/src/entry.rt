@@ -2,10 +2,10 @@
 
 ghost use Rattle.std.specs.Prelude.{◌≡◌, IfOk, length};
 ghost use Rattle.day_model.specs.declared.entry.Entry.{Entry};
-ghost use Rattle.jrn_codec.specs.Answers.{Gives, IsReadAs};
+ghost use Rattle.jrn_codec.specs.Answers.{Gives, IsGiven};
 ghost use Rattle.jrn_codec.specs.Reading.{mark_at, optional_at};
 ghost use Rattle.jrn_codec.specs.Record.{IsEntry, entry_bytes};
-ghost use Rattle.jrn_codec.specs.RecordReading.{day_at, entry_of, entry_with, fate_at, in_century, is_whole, mir_at, mt_of, outcome_at, stamp_at, uetr_at, unfunded_at};
+ghost use Rattle.jrn_codec.specs.RecordReading.{day_at, entry_of, entry_with, fate_at, in_century, is_whole_pay, mir_at, mt_of, outcome_at, stamp_at, uetr_at, unfunded_at};
 
 use crate::fault::EntryFault;
 use crate::field::{byte_at, cut, i32_at, i64_at, long_at};
@@ -147,7 +147,7 @@ fn fate_at(bytes: &[u8]) -> Result<(Fate, &[u8]), EntryFault>
 }
 
 fn is_whole(legs: &[Leg], text: &[u8], rest: &[u8]) -> bool
-    ensures { result ≡ is_whole legs.now text.now rest.now }
+    ensures { result ≡ is_whole_pay legs.now text.now rest.now }
 {
     are_legs(legs) && text.len() <= 32768 && rest.is_empty()
 }
@@ -192,7 +192,7 @@ fn entry_of(alloc: Global, bytes: &[u8]) -> Result<Entry, EntryFault>
 /// `NoEntry` comes exactly where they are no entry's record; `Memory` where there is no room for the entry.
 pub fn read_entry(alloc: Global, b: &[u8]) -> Result<Entry, EntryFault>
     ensures found { IfOk result (λ e. IsEntry e × (b.now ≡ entry_bytes e)) }
-    ensures only { (e : Entry) → IsEntry e → b.now ≡ entry_bytes e → IsReadAs e result }
+    ensures only { (e : Entry) → IsEntry e → b.now ≡ entry_bytes e → IsGiven e result }
 {
     entry_of(alloc, b)
 }

@@ -3,9 +3,9 @@
 ghost use Rattle.std.specs.Prelude.{◌≡◌, ◌++◌, [], ◌∷◌, ◌≤◌, ◌+◌, length, flat_map, All, IsOk, OnErr, OnOk};
 ghost use Rattle.corr_ids.specs.Day.{InCentury};
 ghost use Rattle.day_model.specs.Shape.{HasShape, IsLeg, IsQuote, most_text};
-ghost use Rattle.jrn_codec.specs.Record.{IsEntry, IsOutcome, back_bytes, entry_bytes, fate_bytes, front_bytes, leg_bytes, mt_mark, order_bytes, outcome_bytes, posting_bytes, quote_bytes, side_mark, skip_mark, stamp_bytes};
+ghost use Rattle.jrn_codec.specs.Record.{IsEntry, IsOutcome, back_bytes, entry_bytes, fate_bytes, front_bytes, leg_bytes, mt_mark, order_bytes, outcome_bytes, posting_bytes, quote_bytes, side_mark, skip_mark, stamp_bytes, most_record_bytes};
 ghost use Rattle.jrn_codec.specs.Spelling.{bic_bytes, listed_bytes, long_bytes, optional_bytes};
-ghost use Rattle.jrn_codec.specs.Writing.{HasRoom, IsFrontOf};
+ghost use Rattle.jrn_codec.specs.Writing.{WritesInRoom, IsFrontOf};
 ghost use Rattle.day_model.specs.Chart.{most_accounts};
 
 use crate::writing::{push, push_all};
@@ -43,7 +43,7 @@ fn skip_mark(skip: Skip) -> u8
 
 fn put_uetr(out: &mut Buf, uetr: &Option<Uetr>) -> Result<(), Memory>
     ensures ok { OnOk result (out.new.bytes ≡ out.old.bytes ++ optional_bytes (λ u. u.0) uetr.now) }
-    ensures room { HasRoom (optional_bytes (λ u. u.0) uetr.now) out.old.spare out.new.spare result }
+    ensures room { WritesInRoom (optional_bytes (λ u. u.0) uetr.now) out.old.spare out.new.spare result }
     ensures front { IsFrontOf out.old.bytes out.new.bytes }
 {
     match uetr {
@@ -55,7 +55,7 @@ fn put_uetr(out: &mut Buf, uetr: &Option<Uetr>) -> Result<(), Memory>
 #[tactic(auto, unfolding(crate::specs::Spelling::signed_bytes))]
 fn put_outcome(out: &mut Buf, outcome: Outcome) -> Result<(), Memory>
     ensures ok { OnOk result (out.new.bytes ≡ out.old.bytes ++ outcome_bytes outcome) }
-    ensures room { HasRoom (outcome_bytes outcome) out.old.spare out.new.spare result }
+    ensures room { WritesInRoom (outcome_bytes outcome) out.old.spare out.new.spare result }
     ensures front { IsFrontOf out.old.bytes out.new.bytes }
     ensures fits { OnOk result (IsOutcome outcome) }
 {
@@ -68,7 +68,7 @@ fn put_outcome(out: &mut Buf, outcome: Outcome) -> Result<(), Memory>
 #[tactic(auto, using(crate::proofs::Fronts::goes_on), unfolding(crate::specs::Record::stamp_bytes))]
 fn put_stamp(out: &mut Buf, e: &Entry) -> Result<(), Memory>
     ensures ok { OnOk result (out.new.bytes ≡ out.old.bytes ++ stamp_bytes e.now.pay.mir e.now.pay.mt e.now.pay.uetr) }
-    ensures room { HasRoom (stamp_bytes e.now.pay.mir e.now.pay.mt e.now.pay.uetr) out.old.spare out.new.spare result }
+    ensures room { WritesInRoom (stamp_bytes e.now.pay.mir e.now.pay.mt e.now.pay.uetr) out.old.spare out.new.spare result }
     ensures front { IsFrontOf out.old.bytes out.new.bytes }
 {
     push_all(out, &[&e.pay.mir.0, &[mt_mark(e.pay.mt)]])?;
@@ -78,7 +78,7 @@ fn put_stamp(out: &mut Buf, e: &Entry) -> Result<(), Memory>
 #[tactic(auto, using(crate::proofs::Fronts::goes_on), unfolding(crate::specs::Record::fate_bytes, crate::specs::Spelling::signed_bytes))]
 fn put_fate(out: &mut Buf, e: &Entry) -> Result<(), Memory>
     ensures ok { OnOk result (out.new.bytes ≡ out.old.bytes ++ fate_bytes e.now.day e.now.pay.value e.now.outcome) }
-    ensures room { HasRoom (fate_bytes e.now.day e.now.pay.value e.now.outcome) out.old.spare out.new.spare result }
+    ensures room { WritesInRoom (fate_bytes e.now.day e.now.pay.value e.now.outcome) out.old.spare out.new.spare result }
     ensures front { IsFrontOf out.old.bytes out.new.bytes }
     ensures fits { OnOk result (IsOutcome e.now.outcome) }
 {
@@ -89,7 +89,7 @@ fn put_fate(out: &mut Buf, e: &Entry) -> Result<(), Memory>
 fn put_quote(out: &mut Buf, quote: &Quote) -> Result<(), Memory>
     requires { IsQuote quote.now }
     ensures ok { OnOk result (out.new.bytes ≡ out.old.bytes ++ quote_bytes quote.now) }
-    ensures room { HasRoom (quote_bytes quote.now) out.old.spare out.new.spare result }
+    ensures room { WritesInRoom (quote_bytes quote.now) out.old.spare out.new.spare result }
     ensures front { IsFrontOf out.old.bytes out.new.bytes }
 {
     match quote {
@@ -105,7 +105,7 @@ fn put_quote(out: &mut Buf, quote: &Quote) -> Result<(), Memory>
 fn put_posting(out: &mut Buf, leg: &Leg) -> Result<(), Memory>
     requires { leg.now.account.0 ≤ most_accounts }
     ensures ok { OnOk result (out.new.bytes ≡ out.old.bytes ++ posting_bytes leg.now) }
-    ensures room { HasRoom (posting_bytes leg.now) out.old.spare out.new.spare result }
+    ensures room { WritesInRoom (posting_bytes leg.now) out.old.spare out.new.spare result }
     ensures front { IsFrontOf out.old.bytes out.new.bytes }
 {
     let account = leg.account.0 as u16;
@@ -123,7 +123,7 @@ fn put_posting(out: &mut Buf, leg: &Leg) -> Result<(), Memory>
 fn put_leg(out: &mut Buf, leg: &Leg) -> Result<(), Memory>
     requires { IsLeg leg.now }
     ensures ok { OnOk result (out.new.bytes ≡ out.old.bytes ++ leg_bytes leg.now) }
-    ensures room { HasRoom (leg_bytes leg.now) out.old.spare out.new.spare result }
+    ensures room { WritesInRoom (leg_bytes leg.now) out.old.spare out.new.spare result }
     ensures front { IsFrontOf out.old.bytes out.new.bytes }
 {
     put_posting(out, leg)?;
@@ -134,7 +134,7 @@ fn put_leg(out: &mut Buf, leg: &Leg) -> Result<(), Memory>
 fn put_legs(out: &mut Buf, legs: &[Leg]) -> Result<(), Memory>
     requires { All IsLeg legs.now }
     ensures ok { OnOk result (out.new.bytes ≡ out.old.bytes ++ flat_map leg_bytes legs.now) }
-    ensures room { HasRoom (flat_map leg_bytes legs.now) out.old.spare out.new.spare result }
+    ensures room { WritesInRoom (flat_map leg_bytes legs.now) out.old.spare out.new.spare result }
     ensures front { IsFrontOf out.old.bytes out.new.bytes }
 {
     match legs {
@@ -148,7 +148,7 @@ fn put_legs(out: &mut Buf, legs: &[Leg]) -> Result<(), Memory>
 
 fn put_via(out: &mut Buf, via: &Option<Bic>) -> Result<(), Memory>
     ensures ok { OnOk result (out.new.bytes ≡ out.old.bytes ++ optional_bytes bic_bytes via.now) }
-    ensures room { HasRoom (optional_bytes bic_bytes via.now) out.old.spare out.new.spare result }
+    ensures room { WritesInRoom (optional_bytes bic_bytes via.now) out.old.spare out.new.spare result }
     ensures front { IsFrontOf out.old.bytes out.new.bytes }
 {
     match via {
@@ -160,7 +160,7 @@ fn put_via(out: &mut Buf, via: &Option<Bic>) -> Result<(), Memory>
 #[tactic(auto, using(crate::proofs::Fronts::goes_on))]
 fn put_order(out: &mut Buf, order: &Order) -> Result<(), Memory>
     ensures ok { OnOk result (out.new.bytes ≡ out.old.bytes ++ order_bytes order.now) }
-    ensures room { HasRoom (order_bytes order.now) out.old.spare out.new.spare result }
+    ensures room { WritesInRoom (order_bytes order.now) out.old.spare out.new.spare result }
     ensures front { IsFrontOf out.old.bytes out.new.bytes }
 {
     match order {
@@ -188,7 +188,7 @@ fn put_order(out: &mut Buf, order: &Order) -> Result<(), Memory>
 #[tactic(auto, using(crate::proofs::Fronts::goes_on))]
 fn put_orders(out: &mut Buf, orders: &[Order]) -> Result<(), Memory>
     ensures ok { OnOk result (out.new.bytes ≡ out.old.bytes ++ flat_map order_bytes orders.now) }
-    ensures room { HasRoom (flat_map order_bytes orders.now) out.old.spare out.new.spare result }
+    ensures room { WritesInRoom (flat_map order_bytes orders.now) out.old.spare out.new.spare result }
     ensures front { IsFrontOf out.old.bytes out.new.bytes }
 {
     match orders {
@@ -203,7 +203,7 @@ fn put_orders(out: &mut Buf, orders: &[Order]) -> Result<(), Memory>
 fn put_count(out: &mut Buf, count: usize) -> Result<(), Memory>
     requires { count ≤ 255 }
     ensures ok { OnOk result (out.new.bytes ≡ out.old.bytes ++ count ∷ []) }
-    ensures room { HasRoom (count ∷ []) out.old.spare out.new.spare result }
+    ensures room { WritesInRoom (count ∷ []) out.old.spare out.new.spare result }
     ensures front { IsFrontOf out.old.bytes out.new.bytes }
 {
     push(out, &[count as u8])
@@ -215,7 +215,7 @@ fn put_listed(out: &mut Buf, legs: &[Leg], orders: &[Order]) -> Result<(), Memor
     requires few_legs { length legs.now ≤ 255 }
     requires few_orders { length orders.now ≤ 255 }
     ensures ok { OnOk result (out.new.bytes ≡ out.old.bytes ++ listed_bytes leg_bytes legs.now ++ listed_bytes order_bytes orders.now) }
-    ensures room { HasRoom (listed_bytes leg_bytes legs.now ++ listed_bytes order_bytes orders.now) out.old.spare out.new.spare result }
+    ensures room { WritesInRoom (listed_bytes leg_bytes legs.now ++ listed_bytes order_bytes orders.now) out.old.spare out.new.spare result }
     ensures front { IsFrontOf out.old.bytes out.new.bytes }
 {
     put_count(out, legs.len())?;
@@ -228,7 +228,7 @@ fn put_listed(out: &mut Buf, legs: &[Leg], orders: &[Order]) -> Result<(), Memor
 fn put_text(out: &mut Buf, text: &[u8]) -> Result<(), Memory>
     requires { length text.now ≤ most_text }
     ensures ok { OnOk result (out.new.bytes ≡ out.old.bytes ++ long_bytes text.now) }
-    ensures room { HasRoom (long_bytes text.now) out.old.spare out.new.spare result }
+    ensures room { WritesInRoom (long_bytes text.now) out.old.spare out.new.spare result }
     ensures front { IsFrontOf out.old.bytes out.new.bytes }
 {
     push_all(out, &[&(text.len() as u32).to_be_bytes(), text])
@@ -237,7 +237,7 @@ fn put_text(out: &mut Buf, text: &[u8]) -> Result<(), Memory>
 #[tactic(auto, using(crate::proofs::Fronts::goes_on))]
 fn put_front(out: &mut Buf, e: &Entry) -> Result<(), Memory>
     ensures ok { OnOk result (out.new.bytes ≡ out.old.bytes ++ front_bytes e.now) }
-    ensures room { HasRoom (front_bytes e.now) out.old.spare out.new.spare result }
+    ensures room { WritesInRoom (front_bytes e.now) out.old.spare out.new.spare result }
     ensures front { IsFrontOf out.old.bytes out.new.bytes }
     ensures fits { OnOk result (IsOutcome e.now.outcome) }
 {
@@ -249,7 +249,7 @@ fn put_front(out: &mut Buf, e: &Entry) -> Result<(), Memory>
 fn put_back(out: &mut Buf, e: &Entry) -> Result<(), Memory>
     requires { HasShape e.now.pay }
     ensures ok { OnOk result (out.new.bytes ≡ out.old.bytes ++ back_bytes e.now) }
-    ensures room { HasRoom (back_bytes e.now) out.old.spare out.new.spare result }
+    ensures room { WritesInRoom (back_bytes e.now) out.old.spare out.new.spare result }
     ensures front { IsFrontOf out.old.bytes out.new.bytes }
 {
     put_listed(out, e.pay.legs.as_slice(), e.pay.orders.as_slice())?;
@@ -260,7 +260,7 @@ fn put_back(out: &mut Buf, e: &Entry) -> Result<(), Memory>
 fn put_parts(out: &mut Buf, e: &Entry) -> Result<(), Memory>
     requires { HasShape e.now.pay }
     ensures ok { OnOk result (out.new.bytes ≡ out.old.bytes ++ entry_bytes e.now) }
-    ensures room { HasRoom (entry_bytes e.now) out.old.spare out.new.spare result }
+    ensures room { WritesInRoom (entry_bytes e.now) out.old.spare out.new.spare result }
     ensures front { IsFrontOf out.old.bytes out.new.bytes }
     ensures fits { OnOk result (IsOutcome e.now.outcome) }
 {
@@ -281,7 +281,7 @@ pub fn put_entry(e: &Entry, out: &mut Buf) -> Result<(), Memory>
     ensures succeeds { length (entry_bytes e.now) ≤ out.old.spare → IsOk result }
     ensures room { length (entry_bytes e.now) ≤ out.old.spare → out.old.spare ≤ out.new.spare + length (entry_bytes e.now) }
     ensures entry { OnOk result (IsEntry e.now) }
-    ensures few { length (entry_bytes e.now) ≤ 1048576 }
+    ensures few { length (entry_bytes e.now) ≤ most_record_bytes }
     ensures err { OnErr result (out.new.bytes ≡ out.old.bytes) }
 {
     let before = out.bytes().len();

@@ -2,7 +2,7 @@
 
 ghost use Rattle.std.specs.Prelude.{◌≡◌, IfOk, OnOk};
 ghost use Rattle.day_model.specs.Chart.{Chart, IsChart};
-ghost use Rattle.jrn_codec.specs.Answers.{Gives, IsReadAs};
+ghost use Rattle.jrn_codec.specs.Answers.{Gives, IsGiven};
 ghost use Rattle.jrn_codec.specs.Header.{IsHead, head_bytes};
 ghost use Rattle.jrn_codec.specs.HeaderReading.{account_at, chart_of, head_of, limits_at};
 ghost use Rattle.jrn_codec.specs.Reading.{items_at};
@@ -113,7 +113,7 @@ fn head_of(alloc: Global, bytes: &[u8]) -> Result<Rows, EntryFault>
 
 fn accounts_with(rows: Rows) -> Result<Accounts, EntryFault>
     ensures found { IfOk result (λ a. (a ≡ record { home = rows.home; accounts = rows.accounts }) × IsChart a) }
-    ensures only { IsChart (record { home = rows.home; accounts = rows.accounts }) → IsReadAs (record { home = rows.home; accounts = rows.accounts }) result }
+    ensures only { IsChart (record { home = rows.home; accounts = rows.accounts }) → IsGiven (record { home = rows.home; accounts = rows.accounts }) result }
 {
     if !rows_hold(rows.accounts.as_slice()) {
         return Err(EntryFault::NoEntry);
@@ -130,7 +130,7 @@ fn accounts_with(rows: Rows) -> Result<Accounts, EntryFault>
 /// `NoEntry` comes exactly where they are no header of accounts of a book; `Memory` where there is no room for them.
 pub fn read_head(alloc: Global, b: &[u8]) -> Result<Accounts, EntryFault>
     ensures found { IfOk result (λ a. IsHead a × (b.now ≡ head_bytes a)) }
-    ensures only { (chart : Chart) → IsHead chart → b.now ≡ head_bytes chart → IsReadAs chart result }
+    ensures only { (chart : Chart) → IsHead chart → b.now ≡ head_bytes chart → IsGiven chart result }
 {
     let rows = head_of(alloc, b)?;
     accounts_with(rows)

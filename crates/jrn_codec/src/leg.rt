@@ -4,12 +4,11 @@ ghost use Rattle.std.specs.Prelude.{◌≡◌, ◌==◌, ◌&&◌};
 ghost use Rattle.std.specs.List.{list_all, list_any, zip};
 ghost use Rattle.corr_text.specs.declared.set.Set.TheVariants.{X};
 ghost use Rattle.corr_text.specs.Sets.{is_in};
-ghost use Rattle.corr_text.specs.Lines.{begins_with};
 ghost use Rattle.corr_text.specs.Slashes.{has_double_slash, has_stray_slash};
 ghost use Rattle.day_model.specs.Shape.{are_legs};
 ghost use Rattle.jrn_codec.specs.Answers.{Gives};
 ghost use Rattle.jrn_codec.specs.Reading.{byte_at, items_at, listed_at, mark_at};
-ghost use Rattle.jrn_codec.specs.RecordReading.{is_account, is_reference, leg_at, ours_at, quote_at, side_of, theirs_at};
+ghost use Rattle.jrn_codec.specs.RecordReading.{is_account_number, is_reference, leg_at, ours_at, quote_at, side_of, theirs_at};
 
 use crate::fault::EntryFault;
 use crate::field::{byte_at, short_at, u16_at, u64_at};
@@ -35,21 +34,12 @@ fn has_double_slash(text: &[u8]) -> bool
     }
 }
 
-fn begins_with_slash(text: &[u8]) -> bool
-    ensures { result ≡ begins_with 47 text.now }
-{
-    match text {
-        [] => false,
-        [first, ..] => *first == b'/',
-    }
-}
-
 fn has_stray_slash(text: &[u8]) -> bool
     ensures { result ≡ has_stray_slash text.now }
 {
     match text {
         [] => false,
-        [.., last] => begins_with_slash(text) || *last == b'/' || has_double_slash(text),
+        [.., last] => text.starts_with(b"/") || *last == b'/' || has_double_slash(text),
     }
 }
 

@@ -3,7 +3,7 @@
 ghost use Rattle.std.specs.Prelude.{◌≡◌};
 ghost use Rattle.jrn_codec.specs.Answers.{Gives};
 ghost use Rattle.jrn_codec.specs.Reading.{bic_at, items_at, listed_at, mark_at, optional_at};
-ghost use Rattle.jrn_codec.specs.RecordReading.{cover_at, credit_at, debit_at, noticed_at, order_at, pass_at, skip_of, transfer_at};
+ghost use Rattle.jrn_codec.specs.RecordReading.{cover_at, credit_at, debit_at, noticed_at, order_at, pass_at, skip_marked, transfer_at};
 
 use crate::fault::EntryFault;
 use crate::field::{bic_at, byte_at};
@@ -14,7 +14,7 @@ use std::alloc::Global;
 
 #[tactic(auto, unfolding(crate::specs::Reading::mark_at))]
 fn skip_at(bytes: &[u8]) -> Result<(Skip, &[u8]), EntryFault>
-    ensures { Gives (λ x. (x.0, x.1.now)) result (mark_at skip_of bytes.now) }
+    ensures { Gives (λ x. (x.0, x.1.now)) result (mark_at skip_marked bytes.now) }
 {
     let (mark, rest) = byte_at(bytes)?;
     match mark {

@@ -1,7 +1,7 @@
 //! Writing fields into a buffer. Each writing succeeds where there is room for what it adds.
 
 ghost use Rattle.std.specs.Prelude.{◌≡◌, ◌+◌, ◌++◌, flat_map, OnOk};
-ghost use Rattle.jrn_codec.specs.Writing.{HasRoom, IsFrontOf};
+ghost use Rattle.jrn_codec.specs.Writing.{WritesInRoom, IsFrontOf};
 
 use corr_text::{Buf, Memory};
 
@@ -9,7 +9,7 @@ use corr_text::{Buf, Memory};
 #[tactic(auto, using(crate::proofs::Fronts::adds, crate::proofs::Fronts::stays))]
 pub fn push(out: &mut Buf, bytes: &[u8]) -> Result<(), Memory>
     ensures ok { OnOk result (out.new.bytes ≡ out.old.bytes ++ bytes.now) }
-    ensures room { HasRoom bytes.now out.old.spare out.new.spare result }
+    ensures room { WritesInRoom bytes.now out.old.spare out.new.spare result }
     ensures front { IsFrontOf out.old.bytes out.new.bytes }
 {
     out.push(bytes)
@@ -19,7 +19,7 @@ pub fn push(out: &mut Buf, bytes: &[u8]) -> Result<(), Memory>
 #[tactic(auto, using(crate::proofs::Fronts::goes_on))]
 pub fn push_all(out: &mut Buf, pieces: &[&[u8]]) -> Result<(), Memory>
     ensures ok { OnOk result (out.new.bytes ≡ out.old.bytes ++ flat_map (λ piece. piece.now) pieces.now) }
-    ensures room { HasRoom (flat_map (λ piece. piece.now) pieces.now) out.old.spare out.new.spare result }
+    ensures room { WritesInRoom (flat_map (λ piece. piece.now) pieces.now) out.old.spare out.new.spare result }
     ensures front { IsFrontOf out.old.bytes out.new.bytes }
 {
     match pieces {

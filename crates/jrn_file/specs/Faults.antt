@@ -1,6 +1,7 @@
 -- The causes of faults.
-use Rattle.std.specs.Prelude.{◌≡◌, ℕ, ◌+◌, ◌^◌, ◌<◌}
+use Rattle.std.specs.Prelude.{◌≡◌, ℕ, ◌+◌, ◌<◌}
 use Rattle.corr_text.specs.Faults.{Rose}
+use Rattle.corr_disk.specs.Disk.{most_disk_bytes}
 use Rattle.jrn_file.specs.declared.fault.AppendFault.{AppendFault}
 use Rattle.jrn_file.specs.declared.fault.AppendFault.TheVariants as append
 use Rattle.jrn_file.specs.declared.fault.MakeFault.{MakeFault}
@@ -9,27 +10,27 @@ use Rattle.jrn_file.specs.declared.loading.LoadFault.{LoadFault}
 use Rattle.jrn_file.specs.declared.loading.LoadFault.TheVariants as load
 
 -- the counts that a fault of the disk tells: that at entry, and one more, which is that at the return
-pub record Tells (old before after new : ℕ) : Type 0 where
+pub record TellsCounts (old before after new : ℕ) : Type 0 where
   pub before_is : before ≡ old
   pub after_is : after ≡ new
   pub rose : Rose before after
 
 -- With so many bytes more behind its closed gate the file would pass its limit. It is as before.
-pub record IsFull (at more end need : ℕ) (untouched : Type 0) : Type 0 where
+pub record PassesLimit (at more end need : ℕ) (untouched : Type 0) : Type 0 where
   pub end_is : end ≡ at
   pub need_is : need ≡ more
-  pub past : 2 ^ 30 < end + need
+  pub past : most_disk_bytes < end + need
   pub same : untouched
 
 -- Full tells the place of the closed gate and the bytes that are needed.
 abbrev pub AppendCause : ℕ → ℕ → ℕ → ℕ → Type 0 → AppendFault → Type 0
-AppendCause old new at more untouched (append.Full end need) = IsFull at more end need untouched
-AppendCause old new at more untouched (append.DiskFault before after) = Tells old before after new
+AppendCause old new at more untouched (append.Full end need) = PassesLimit at more end need untouched
+AppendCause old new at more untouched (append.DiskFault before after) = TellsCounts old before after new
 
 -- Exists tells the first byte of what is there. Where the disk didn't fail, its count is as it was.
 abbrev pub MakeCause : ℕ → ℕ → (ℕ → Type 0) → MakeFault → Type 0
 MakeCause old new is_other (making.Exists first) = (new ≡ old) × is_other first
-MakeCause old new is_other (making.DiskFault before after) = Tells old before after new
+MakeCause old new is_other (making.DiskFault before after) = TellsCounts old before after new
 MakeCause old new is_other making.Memory = new ≡ old
 
 -- where this byte is in front of something else, the answer is Exists, unless the disk or memory failed

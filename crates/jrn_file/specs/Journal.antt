@@ -2,6 +2,10 @@
 use Rattle.std.specs.Prelude.{◌≡◌, ◌≢◌, ◌⊎◌, ℕ, ◌-◌, ◌^◌, ◌<◌, List, [], ◌∷◌, ◌++◌, length, map, take, drop}
 use Rattle.jrn_file.specs.Reading.{sized, opened_of, whole}
 
+-- a journal's first record, its header, has at most so many bytes
+abbrev pub most_header_bytes : ℕ
+most_header_bytes = 1048576
+
 -- a record as it is appended: behind its length, and a closed gate after it
 abbrev pub frame_of : List ℕ → List ℕ
 frame_of r = sized r ++ 0 ∷ []

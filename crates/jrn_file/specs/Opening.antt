@@ -4,7 +4,7 @@ use Rattle.corr_disk.specs.Calls.{CallsMade}
 use Rattle.jrn_file.specs.Reading.{Reading, no_journal, whole, cut, sized, opened_of}
 use Rattle.jrn_file.specs.Journal.{journal_bytes, StandsFor}
 use Rattle.jrn_file.specs.File.{IsSettled}
-use Rattle.jrn_file.specs.Faults.{Tells}
+use Rattle.jrn_file.specs.Faults.{TellsCounts}
 use Rattle.jrn_file.specs.Pieces.{OfBytes, calls_to_open}
 use Rattle.jrn_file.specs.declared.file.Ending.{Ending}
 use Rattle.jrn_file.specs.declared.file.Ending.TheVariants as ending
@@ -54,14 +54,14 @@ ExplainsLoad honest reads load.Memory = Unit {0}
 abbrev pub ReadCause : ℕ → ℕ → Bool → List ℕ → OpenFault → Type 0
 ReadCause old new honest image NotAJournal = (new ≡ old) × (IsTrue honest → opened_of image ≡ no_journal)
 ReadCause old new honest image (Damaged at) = ⊥
-ReadCause old new honest image (DiskFault before after) = Tells old before after new
+ReadCause old new honest image (DiskFault before after) = TellsCounts old before after new
 ReadCause old new honest image Memory = new ≡ old
 
 -- the same, and Damaged tells the place of damage behind whole records
 abbrev pub OpenCause : ℕ → ℕ → Bool → List ℕ → OpenFault → Type 0
 OpenCause old new honest image NotAJournal = (new ≡ old) × (IsTrue honest → opened_of image ≡ no_journal)
 OpenCause old new honest image (Damaged at) = (new ≡ old) × (IsTrue honest → (all : List (List ℕ)) × (opened_of image ≡ cut all at))
-OpenCause old new honest image (DiskFault before after) = Tells old before after new
+OpenCause old new honest image (DiskFault before after) = TellsCounts old before after new
 OpenCause old new honest image Memory = new ≡ old
 
 -- a file was opened: it holds the first of these as header and the others as records

@@ -22,6 +22,10 @@ pub record IsTaken (bytes : List ℕ) (all : List (List ℕ)) (rest : List ℕ) 
 abbrev pub OfBytes : Bool → List ℕ → (List ℕ → Type 0) → Type 0
 OfBytes honest reads P = (bytes : List ℕ) × P bytes × (IsTrue honest → bytes ≡ reads)
 
+-- a file is read in pieces of so many bytes
+abbrev pub piece_size : ℕ
+piece_size = 2 ^ 20
+
 -- the calls that show a disk's bytes up to this place, or its end there, by reads of so many bytes: a sync and the reads
 abbrev pub calls_to_open : ℕ → ℕ → ℕ
 calls_to_open piece place = 2 + place / piece

@@ -1,8 +1,8 @@
 //! One record onto the disk.
 
-ghost use Rattle.std.specs.Prelude.{◌≡◌, ◌+◌, ◌^◌, ◌<◌, ◌≤◌, [], ◌∷◌, length, IsTrue, OnOk};
+ghost use Rattle.std.specs.Prelude.{◌≡◌, ◌+◌, ◌<◌, ◌≤◌, [], ◌∷◌, length, IsTrue, OnOk};
 ghost use Rattle.corr_disk.specs.Calls.{CallsMade, AtMostCalls};
-ghost use Rattle.corr_disk.specs.Disk.{written, Only, LeavesOnly};
+ghost use Rattle.corr_disk.specs.Disk.{written, Only, LeavesOnly, most_disk_bytes};
 ghost use Rattle.corr_text.specs.Faults.{HasCause};
 ghost use Rattle.jrn_file.specs.Making.{IsEntering};
 
@@ -14,7 +14,7 @@ const OPEN: u8 = 1;
 /// Writes a frame behind the closed gate at this place, and opens the gate once the frame is on the disk.
 pub(crate) fn enter<D: Disk>(disk: &mut D, gate: u64, frame: &[u8]) -> Result<(), Failed>
     requires gate { IsTrue (D.honest disk.old) → gate < length (D.reads disk.old) }
-    requires room { gate + 1 + length frame.now ≤ 2 ^ 30 }
+    requires room { gate + 1 + length frame.now ≤ most_disk_bytes }
     ensures honest { D.honest disk.new ≡ D.honest disk.old }
     ensures cause { HasCause (D.faults disk.old) (D.faults disk.new) result }
     ensures entered { IsTrue (D.honest disk.old) → OnOk result (D.reads disk.new ≡ written gate (1 ∷ []) (written (gate + 1) frame.now (D.reads disk.old))) }

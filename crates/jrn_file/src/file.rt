@@ -1,8 +1,8 @@
 //! An open journal.
 
-ghost use Rattle.std.specs.Prelude.{◌≡◌, ◌+◌, ◌^◌, ◌<◌, ◌↔◌, ◌∷◌, [], ◌++◌, ℕ, List, length, IsTrue, OnOk, OnErr, IfErr, IsErrOf};
+ghost use Rattle.std.specs.Prelude.{◌≡◌, ◌+◌, ◌<◌, ◌↔◌, ◌∷◌, [], ◌++◌, ℕ, List, length, IsTrue, OnOk, OnErr, IfErr, IsErrOf};
 ghost use Rattle.corr_disk.specs.Calls.{CallsMade, AtMostCalls};
-ghost use Rattle.corr_disk.specs.Disk.{written, LeavesOnly};
+ghost use Rattle.corr_disk.specs.Disk.{written, LeavesOnly, most_disk_bytes};
 ghost use Rattle.jrn_file.specs.Journal.{IsFrame, record_in, IsBeforeOrAfter};
 ghost use Rattle.jrn_file.specs.File.{disk_of, end_of, IsSettled, IsOpen};
 ghost use Rattle.jrn_file.specs.Faults.{AppendCause};
@@ -69,7 +69,7 @@ impl<D: Disk> JFile<D> {
         ensures calls { OnOk result (CallsMade 4 (D.plan (disk_of self.old)) (D.plan (disk_of self.new))) }
         ensures no_more_calls { AtMostCalls 4 (D.plan (disk_of self.old)) (D.plan (disk_of self.new)) }
 
-        ensures full { IsErrOf result (AppendFault.Full (end_of self.old) (length frame.now + 1)) ↔ (2 ^ 30 < end_of self.old + (length frame.now + 1)) }
+        ensures full { IsErrOf result (AppendFault.Full (end_of self.old) (length frame.now + 1)) ↔ (most_disk_bytes < end_of self.old + (length frame.now + 1)) }
         ensures cause { IfErr result (AppendCause (D.faults (disk_of self.old)) (D.faults (disk_of self.new)) (end_of self.old) (length frame.now + 1) (self.new ≡ self.old)) }
         ensures kept { OnOk result (D.faults (disk_of self.new) ≡ D.faults (disk_of self.old)) }
         ensures honest { D.honest (disk_of self.new) ≡ D.honest (disk_of self.old) }

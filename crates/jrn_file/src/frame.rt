@@ -1,14 +1,14 @@
 //! A record as it is appended.
 
 ghost use Rattle.std.specs.Prelude.{◌≡◌, ◌≤◌, length, IfOk};
-ghost use Rattle.jrn_file.specs.Journal.{frame_of};
+ghost use Rattle.jrn_file.specs.Journal.{frame_of, most_header_bytes};
 
 use corr_text::Memory;
 use std::alloc::Global;
 
 /// A record behind its length in four bytes, and a closed gate after it.
 pub(crate) fn framed(alloc: Global, record: &[u8]) -> Result<Vec<u8>, Memory>
-    requires { length record.now ≤ 1048576 }
+    requires { length record.now ≤ most_header_bytes }
     ensures { IfOk result (λ frame. frame.items ≡ frame_of record.now) }
 {
     let mut frame = Vec::from_slice(alloc, &(record.len() as u32).to_be_bytes())?;

@@ -1,14 +1,14 @@
 //! The records of a disk, read piece by piece.
 
-ghost use Rattle.std.specs.Prelude.{◌≡◌, ◌+◌, ◌^◌, ◌<◌, ◌≤◌, length, IsTrue, IfOk, IfErr, OnOk};
+ghost use Rattle.std.specs.Prelude.{◌≡◌, ◌+◌, ◌<◌, ◌≤◌, length, IsTrue, IfOk, IfErr, OnOk};
 ghost use Rattle.corr_disk.specs.Calls.{CallsMade, AtMostCalls};
-ghost use Rattle.corr_disk.specs.Disk.{Only};
+ghost use Rattle.corr_disk.specs.Disk.{Only, most_disk_bytes};
 ghost use Rattle.jrn_file.specs.Faults.{LoadCause};
 ghost use Rattle.jrn_file.specs.Opening.{IsReadAs, ExplainsLoad};
 ghost use Rattle.jrn_file.specs.Pieces.{IsPiece, OfBytes, calls_to_open};
 ghost use Rattle.jrn_file.specs.Untouched.{IsUntouched};
 
-use crate::reading::{is_closed, is_none, refusal, take_records};
+use crate::reading::{is_closed, refusal, take_records};
 use corr_disk::{Disk, Failed};
 use corr_text::{Memory, Text};
 use std::alloc::{AllocError, Global};
@@ -67,7 +67,7 @@ pub(crate) fn load<D: Disk>(
     piece: usize,
 ) -> Result<(u64, Vec<Text>), LoadFault>
     requires some { 0 < piece }
-    requires few { piece ≤ 2 ^ 30 }
+    requires few { piece ≤ most_disk_bytes }
     ensures records { IfOk result (λ read. OfBytes (D.honest disk.old) (D.reads disk.old) (λ bytes. IsReadAs bytes read.0 read.1.items)) }
     ensures fault { IfErr result (ExplainsLoad (D.honest disk.old) (D.reads disk.old)) }
     ensures durable { OnOk result (Only (D.reads disk.new) (D.may_leave disk.new)) }
@@ -87,7 +87,7 @@ pub(crate) fn load<D: Disk>(
         take_records(alloc, &mut held, &mut records)?;
         let gate = at + count as u64 - held.len() as u64;
         if is_closed(held.as_slice()) {
-            if is_none(records.as_slice()) {
+            if records.as_slice().is_empty() {
                 return Err(LoadFault::NotAJournal);
             }
             return Ok((gate, records));
@@ -106,7 +106,7 @@ fn read_piece<D: Disk>(
     piece: usize,
     held: &mut Vec<u8>,
 ) -> Result<usize, LoadFault>
-    requires few { piece ≤ 2 ^ 30 }
+    requires few { piece ≤ most_disk_bytes }
     ensures piece { IfOk result (λ n. IsPiece (D.honest disk.old) (D.reads disk.old) at piece n held.old.items held.new.items) }
     ensures fault { IfErr result (ExplainsLoad (D.honest disk.old) (D.reads disk.old)) }
     ensures untouched { IsUntouched D.reads D.may_leave D.moment D.left_since disk.old disk.new }

@@ -1,11 +1,11 @@
 //! A new journal.
 
-ghost use Rattle.std.specs.Prelude.{◌≡◌, ◌+◌, ◌^◌, ◌≤◌, ℕ, [], ◌∷◌, length, take, Some, IsTrue, IsErr, IfOk, IfErr, OnOk, IfNone, IfSome, MatchResult};
+ghost use Rattle.std.specs.Prelude.{◌≡◌, ◌+◌, ◌≤◌, ℕ, [], ◌∷◌, length, take, Some, IsTrue, IsErr, IfOk, IfErr, OnOk, IfNone, IfSome, MatchResult};
 ghost use Rattle.corr_disk.specs.Calls.{CallsMade, AtMostCalls};
-ghost use Rattle.corr_disk.specs.Disk.{Only, LeavesOnly};
+ghost use Rattle.corr_disk.specs.Disk.{Only, LeavesOnly, most_disk_bytes};
 ghost use Rattle.corr_text.specs.Faults.{HasCause};
 ghost use Rattle.jrn_file.specs.Faults.{MakeCause, IsRefusal};
-ghost use Rattle.jrn_file.specs.Journal.{StandsFor, IsFrame, record_in};
+ghost use Rattle.jrn_file.specs.Journal.{StandsFor, IsFrame, record_in, most_header_bytes};
 ghost use Rattle.jrn_file.specs.Making.{IsOther, IsUnmade, IsUnmadeOrMade, IsFront, calls_to_look, calls_to_make, made_over};
 ghost use Rattle.jrn_file.specs.Untouched.{IsUntouched};
 
@@ -35,7 +35,7 @@ enum Front {
 /// the new journal stay as they are. Where the disk stops at any moment, it
 /// holds the new journal, or `create` may be given again.
 pub fn create<D: Disk>(alloc: Global, disk: D, head: &[u8]) -> Result<D, (D, MakeFault)>
-    requires { length head.now ≤ 1048576 }
+    requires { length head.now ≤ most_header_bytes }
 
     ensures made { IsTrue (D.honest disk) → IfOk result (λ made. StandsFor (D.reads made) head.now []) }
     ensures bytes { IsTrue (D.honest disk) → IfOk result (λ made. D.reads made ≡ made_over head.now (D.reads disk)) }
@@ -82,7 +82,7 @@ pub fn create<D: Disk>(alloc: Global, disk: D, head: &[u8]) -> Result<D, (D, Mak
 /// Makes the journal, or answers the first byte of what stands there.
 fn make<D: Disk>(disk: &mut D, frame: &[u8]) -> Result<Option<u8>, Failed>
     requires frame { IsFrame frame.now }
-    requires room { 1 + length frame.now ≤ 2 ^ 30 }
+    requires room { 1 + length frame.now ≤ most_disk_bytes }
     ensures honest { D.honest disk.new ≡ D.honest disk.old }
     ensures cause { HasCause (D.faults disk.old) (D.faults disk.new) result }
     ensures made { IsTrue (D.honest disk.old) → IfOk result (λ other. IfNone other (StandsFor (D.reads disk.new) (record_in frame.now) [])) }
@@ -150,7 +150,7 @@ fn blank<D: Disk>(disk: &mut D) -> Result<(), Failed>
 fn enter_head<D: Disk>(disk: &mut D, frame: &[u8]) -> Result<(), Failed>
     requires closed { IsTrue (D.honest disk.old) → take 1 (D.reads disk.old) ≡ 0 ∷ [] }
     requires frame { IsFrame frame.now }
-    requires room { 1 + length frame.now ≤ 2 ^ 30 }
+    requires room { 1 + length frame.now ≤ most_disk_bytes }
     ensures honest { D.honest disk.new ≡ D.honest disk.old }
     ensures cause { HasCause (D.faults disk.old) (D.faults disk.new) result }
     ensures made { IsTrue (D.honest disk.old) → OnOk result (StandsFor (D.reads disk.new) (record_in frame.now) []) }

@@ -1,10 +1,10 @@
 //! Opening a journal.
 
-ghost use Rattle.std.specs.Prelude.{◌≡◌, ◌^◌, length, IsTrue, IfOk, IfErr, MatchResult};
+ghost use Rattle.std.specs.Prelude.{◌≡◌, length, IsTrue, IfOk, IfErr, MatchResult};
 ghost use Rattle.corr_disk.specs.Calls.{CallsMade, AtMostCalls};
 ghost use Rattle.jrn_file.specs.File.{disk_of, end_of};
 ghost use Rattle.jrn_file.specs.Opening.{IsOpened, IsOpenEnding, OpensByCalls, OpenCause, ReadCause, disk_in, reading_in};
-ghost use Rattle.jrn_file.specs.Pieces.{calls_to_open};
+ghost use Rattle.jrn_file.specs.Pieces.{calls_to_open, piece_size};
 ghost use Rattle.jrn_file.specs.Reading.{AreAt, opened_of, whole};
 ghost use Rattle.jrn_file.specs.Untouched.{IsUntouched};
 
@@ -40,10 +40,10 @@ pub fn read_file<D: Disk>(alloc: Global, disk: D) -> Result<(Vec<Text>, Ending<D
 
     // It makes as many calls as a sync and a read of each 2^20 bytes up to the closed gate are, and where there is none
     // no more than those up to the end.
-    ensures calls { IfOk result (λ r. OpensByCalls D.plan (2 ^ 20) disk r.1) }
+    ensures calls { IfOk result (λ r. OpensByCalls D.plan piece_size disk r.1) }
     ensures no_more_calls { IsTrue (D.honest disk) → MatchResult result
-        (λ r. AtMostCalls (calls_to_open (2 ^ 20) (length (D.reads disk))) (D.plan disk) (D.plan (disk_in r.1)))
-        (λ e. AtMostCalls (calls_to_open (2 ^ 20) (length (D.reads disk))) (D.plan disk) (D.plan e.0)) }
+        (λ r. AtMostCalls (calls_to_open piece_size (length (D.reads disk))) (D.plan disk) (D.plan (disk_in r.1)))
+        (λ e. AtMostCalls (calls_to_open piece_size (length (D.reads disk))) (D.plan disk) (D.plan e.0)) }
 
     ensures honest { MatchResult result (λ r. D.honest (disk_in r.1) ≡ D.honest disk) (λ e. D.honest e.0 ≡ D.honest disk) }
     ensures kept { IfOk result (λ r. D.faults (disk_in r.1) ≡ D.faults disk) }
@@ -80,8 +80,8 @@ pub fn open_file<D: Disk>(alloc: Global, disk: D) -> Result<(JFile<D>, Vec<Text>
 
     // It makes as many calls as a sync and a read of each 2^20 bytes up to the closed gate are; where it refuses
     // or fails, no more than those up to the end.
-    ensures calls { IfOk result (λ r. CallsMade (calls_to_open (2 ^ 20) (end_of r.0)) (D.plan disk) (D.plan (disk_of r.0))) }
-    ensures no_more_calls { IsTrue (D.honest disk) → IfErr result (λ e. AtMostCalls (calls_to_open (2 ^ 20) (length (D.reads disk))) (D.plan disk) (D.plan e.0)) }
+    ensures calls { IfOk result (λ r. CallsMade (calls_to_open piece_size (end_of r.0)) (D.plan disk) (D.plan (disk_of r.0))) }
+    ensures no_more_calls { IsTrue (D.honest disk) → IfErr result (λ e. AtMostCalls (calls_to_open piece_size (length (D.reads disk))) (D.plan disk) (D.plan e.0)) }
 
     ensures honest { MatchResult result (λ r. D.honest (disk_of r.0) ≡ D.honest disk) (λ e. D.honest e.0 ≡ D.honest disk) }
     ensures kept { IfOk result (λ r. D.faults (disk_of r.0) ≡ D.faults disk) }

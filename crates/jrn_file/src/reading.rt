@@ -76,18 +76,10 @@ pub(crate) fn refusal(gate: u64, records: Vec<Text>) -> LoadFault
     ensures none { length records.items ≡ 0 → result ≡ LoadFault.NotAJournal }
     ensures some { 0 < length records.items → result ≡ LoadFault.Cut gate records }
 {
-    if is_none(records.as_slice()) {
+    if records.as_slice().is_empty() {
         return LoadFault::NotAJournal;
     }
     LoadFault::Cut { at: gate, records }
-}
-
-/// Whether there is no record.
-pub(crate) fn is_none(records: &[Text]) -> bool
-    ensures none { OnTrue result (length records.now ≡ 0) }
-    ensures some { OnFalse result (0 < length records.now) }
-{
-    records.is_empty()
 }
 
 /// The record behind an open gate, where it is whole.

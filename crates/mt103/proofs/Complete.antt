@@ -11,7 +11,7 @@ use Rattle.fin_contents.specs.Parties.{known_party_of}
 use Rattle.fin_contents.specs.Plain.{reference_of, texts_of, time_of}
 use Rattle.mt103.specs.Codes.{charge_of, instr_of, kind_of, operation_of}
 use Rattle.mt103.specs.Message.{content_test, contents_of, field_tests}
-use Rattle.mt103.specs.Parts.{Details, Parties, Terms, contents_in_parts, details_of, message_of, parties_of, terms_of}
+use Rattle.mt103.specs.Parts.{Details, Parties, Terms, contents_in_parts, details_of, transfer_of_parts, parties_of, terms_of}
 use Rattle.mt103.specs.declared.message.Mt103.{Mt103}
 use Rattle.mt103.specs.Order.{order_103}
 use Rattle.mt103.proofs.Says.{details-said, parties-said, terms-said}
@@ -58,7 +58,7 @@ module _ (t : Tables) (fs : List Field) (found : List ℕ) (hold : AllHold order
       let terms = terms-fine in
       let parties = parties-fine in
       let details = details-fine in
-      let m : Mt103 = message_of terms.0 parties.0 details.0 in
+      let m : Mt103 = transfer_of_parts terms.0 parties.0 details.0 in
       let parts : contents_in_parts t fs found ≡ Ok m = rw (terms.1, parties.1, details.1) refl in
       (m, sym (contents-are t fs found) ∙ parts)
 

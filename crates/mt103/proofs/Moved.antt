@@ -18,7 +18,7 @@ use Rattle.fin_contents.proofs.laws.Placed.{each-of, party-again-at}
 use Rattle.fin_contents.proofs.laws.Said.{Holds, Stands, stand}
 use Rattle.mt103.specs.Codes.{charge_of, instr_of, kind_of, operation_of}
 use Rattle.mt103.specs.Message.{contents_of}
-use Rattle.mt103.specs.Parts.{Details, Parties, Terms, message_of}
+use Rattle.mt103.specs.Parts.{Details, Parties, Terms, transfer_of_parts}
 use Rattle.mt103.specs.Writing.{AreAmounts, instr_field, segments}
 use Rattle.mt103.specs.declared.instruction.Instr.{Instr}
 use Rattle.mt103.specs.declared.message.Mt103.{Mt103}
@@ -33,12 +33,12 @@ Any f = Unit {0}
 abbrev some_place : Place
 some_place = record { tag = 0; options = []; many = false; must = false }
 
-module _ (t : Tables) (fs : List Field) (a : Terms) (b : Parties) (c : Details) (amounts : AreAmounts (message_of a b c)) where
+module _ (t : Tables) (fs : List Field) (a : Terms) (b : Parties) (c : Details) (amounts : AreAmounts (transfer_of_parts a b c)) where
   abbrev found : List ℕ
   found = places_from order_103 0 fs
 
   abbrev segs : List (List Field)
-  segs = segments (message_of a b c)
+  segs = segments (transfer_of_parts a b c)
 
   abbrev At : ℕ → Field → Type 0
   At k f = Stands order_103 Any k f
@@ -85,12 +85,12 @@ module _ (t : Tables) (fs : List Field) (a : Terms) (b : Parties) (c : Details) 
     regulatory = lines-say 21 3 77 (Some 66) c.regulatory refl s.regulatory;
   }
 
-  whole-moved : TermsSay t fs found a → PartiesSay t fs found b → DetailsSay t fs found c → contents_of t (joined segs) (places_of 0 segs) ≡ Ok (message_of a b c)
+  whole-moved : TermsSay t fs found a → PartiesSay t fs found b → DetailsSay t fs found c → contents_of t (joined segs) (places_of 0 segs) ≡ Ok (transfer_of_parts a b c)
   whole-moved r s u = contents-said t (joined segs) (places_of 0 segs) a b c (terms-moved r) (parties-moved s) (details-moved u)
 
 pub contents-moved : (t : Tables) (fs : List Field) (m : Mt103) → AreAmounts m → contents_of t fs (places_from order_103 0 fs) ≡ Ok m → contents_of t (joined (segments m)) (places_of 0 (segments m)) ≡ Ok m
 contents-moved t fs m amounts e =
     let say = contents-say t fs (places_from order_103 0 fs) m e in
     let same = say.same in
-    let is : AreAmounts (message_of say.terms say.parties say.details) = rw (← same) at amounts in
+    let is : AreAmounts (transfer_of_parts say.terms say.parties say.details) = rw (← same) at amounts in
     rw (← same) (whole-moved t fs say.terms say.parties say.details is say.terms_say say.parties_say say.details_say)

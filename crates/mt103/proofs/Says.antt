@@ -10,7 +10,7 @@ use Rattle.fin_contents.specs.Plain.{reference_of, texts_of, time_of}
 use Rattle.fin_contents.proofs.laws.Steps.{read-then, told-is}
 use Rattle.mt103.specs.Codes.{charge_of, instr_of, kind_of, operation_of}
 use Rattle.mt103.specs.Message.{contents_of}
-use Rattle.mt103.specs.Parts.{Details, Parties, Terms, contents_in_parts, details_of, message_of, parties_of, terms_of}
+use Rattle.mt103.specs.Parts.{Details, Parties, Terms, contents_in_parts, details_of, transfer_of_parts, parties_of, terms_of}
 use Rattle.mt103.specs.declared.message.Mt103.{Mt103}
 use Rattle.mt103.specs.Order.{order_103}
 use Rattle.mt103.proofs.laws.Parts.{contents-are}
@@ -117,7 +117,7 @@ pub record ContentsSay (t : Tables) (fs : List Field) (found : List ℕ) (m : Mt
   pub terms_say : TermsSay t fs found terms
   pub parties_say : PartiesSay t fs found parties
   pub details_say : DetailsSay t fs found details
-  pub same : message_of terms parties details ≡ m
+  pub same : transfer_of_parts terms parties details ≡ m
 
 pub contents-say : (t : Tables) (fs : List Field) (found : List ℕ) (m : Mt103) → contents_of t fs found ≡ Ok m → ContentsSay t fs found m
 unfolding contents_in_parts
@@ -133,11 +133,11 @@ contents-say t fs found m e =
       terms_say = terms-say t fs found a.0 a.1;
       parties_say = parties-say t fs found b.0 b.1;
       details_say = details-say t fs found c.0 c.1;
-      same = told-is (message_of a.0 b.0 c.0) m c.2;
+      same = told-is (transfer_of_parts a.0 b.0 c.0) m c.2;
     }
 
-pub contents-said : (t : Tables) (fs : List Field) (found : List ℕ) (a : Terms) (b : Parties) (c : Details) → TermsSay t fs found a → PartiesSay t fs found b → DetailsSay t fs found c → contents_of t fs found ≡ Ok (message_of a b c)
+pub contents-said : (t : Tables) (fs : List Field) (found : List ℕ) (a : Terms) (b : Parties) (c : Details) → TermsSay t fs found a → PartiesSay t fs found b → DetailsSay t fs found c → contents_of t fs found ≡ Ok (transfer_of_parts a b c)
 unfolding contents_in_parts
 contents-said t fs found a b c r s u =
-    let parts : contents_in_parts t fs found ≡ Ok (message_of a b c) = rw (terms-said t fs found a r, parties-said t fs found b s, details-said t fs found c u) refl in
+    let parts : contents_in_parts t fs found ≡ Ok (transfer_of_parts a b c) = rw (terms-said t fs found a r, parties-said t fs found b s, details-said t fs found c u) refl in
     sym (contents-are t fs found) ∙ parts

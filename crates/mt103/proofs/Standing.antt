@@ -23,8 +23,8 @@ use Rattle.fin_contents.proofs.laws.Fit.{ccy_amount-fit, kept-fit, value-fit}
 use Rattle.fin_contents.proofs.laws.Placed.{Each, all-each, all-of, all-segment, first-of-tag, lines-each, lines-segment, one-segment, each-append, party-fit-at, party-fits-at, some-each, some-segment}
 use Rattle.fin_contents.proofs.laws.Said.{Holds, Said, Stands, said-all, said-one, said-option, stand}
 use Rattle.mt103.specs.Codes.{charge_of, instr_of, kind_of, operation_of}
-use Rattle.mt103.specs.Parts.{Details, Parties, Terms, message_of}
-use Rattle.mt103.specs.Writing.{AreAmounts, detail_fields, instr_field, money_fields, order_fields, party_fields, segments, text_behind}
+use Rattle.mt103.specs.Parts.{Details, Parties, Terms, transfer_of_parts}
+use Rattle.mt103.specs.Writing.{AreAmounts, detail_segments, instr_field, money_fields, head_segments, party_segments, segments, text_behind}
 use Rattle.mt103.specs.declared.instruction.Instr.{Instr}
 use Rattle.mt103.specs.Order.{order_103}
 use Rattle.mt103.proofs.Kept.{charge-kept, instr-kept, kind-kept, operation-kept}
@@ -55,7 +55,7 @@ module _ (t : Tables) (few : IsTrue (few_decimals t.ccys)) (fs : List Field) (fi
   is-value : IsValue a.value
   is-value = let said = said-one At fs 5 (value_of t) order_103 found a.value here r.value in value-is t said.field a.value few said.says
 
-  pub amounts-are : AreAmounts (message_of a b c)
+  pub amounts-are : AreAmounts (transfer_of_parts a b c)
   amounts-are = record {
     value = is-value;
     ordered = some-weaker (Said (At 6) (ccy_amount_of t)) IsAmount a.ordered (said-option At fs 6 (ccy_amount_of t) found a.ordered here r.ordered) (is-amount 6);
@@ -71,7 +71,7 @@ module _ (t : Tables) (few : IsTrue (few_decimals t.ccys)) (fs : List Field) (fi
   abbrev plain : List ℕ → List ℕ
   plain x = x
 
-  order-fit : Each IsField (order_fields (message_of a b c))
+  order-fit : Each IsField (head_segments (transfer_of_parts a b c))
   order-fit = (
     (kept 0 20 None reference_of plain a.reference (λ f e. reference-kept f a.reference e) (bare 20 (omega arith)) (said-one At fs 0 reference_of order_103 found a.reference here r.reference), tt),
     (
@@ -98,7 +98,7 @@ module _ (t : Tables) (few : IsTrue (few_decimals t.ccys)) (fs : List Field) (fi
   value-fits : IsField (value_field a.value)
   value-fits = let said = said-one At fs 5 (value_of t) order_103 found a.value here r.value in value-fit t said.field a.value is-value said.says
 
-  money-fit : Each IsField (money_fields (message_of a b c))
+  money-fit : Each IsField (money_fields (transfer_of_parts a b c))
   money-fit = (
     (value-fits, tt),
     (
@@ -115,7 +115,7 @@ module _ (t : Tables) (few : IsTrue (few_decimals t.ccys)) (fs : List Field) (fi
   party-fits : (k tag : ℕ) → (get_or order_103 k some_place).tag ≡ tag → (p : Party) → Said (At k) (known_party_of t) p → IsField (party_field tag p)
   party-fits k tag at p said = party-fit-at order_103 IsField k tag some_place at t p (λ f is. is) said
 
-  parties-fit : Each IsField (party_fields (message_of a b c))
+  parties-fit : Each IsField (party_segments (transfer_of_parts a b c))
   parties-fit = (
     (party-fits 8 50 refl b.payer (said-one At fs 8 (known_party_of t) order_103 found b.payer here s.payer), tt),
     (
@@ -151,7 +151,7 @@ module _ (t : Tables) (few : IsTrue (few_decimals t.ccys)) (fs : List Field) (fi
           let said = said-option At fs k (texts_of most) found (Some ls) here e in
           inr (kept-fit tag letter said.field lines head (texts-kept most said.field ls said.says ∙ same) said.holds.has)
 
-  details-fit : Each IsField (detail_fields (message_of a b c))
+  details-fit : Each IsField (detail_segments (transfer_of_parts a b c))
   details-fit = (
     lines-fit 16 4 70 None c.info (bare 70 (omega arith)) u.info,
     (
@@ -174,18 +174,18 @@ module _ (t : Tables) (few : IsTrue (few_decimals t.ccys)) (fs : List Field) (fi
     ),
   )
 
-  pub all-fit : Each IsField (segments (message_of a b c))
+  pub all-fit : Each IsField (segments (transfer_of_parts a b c))
   all-fit =
-      each-append IsField (order_fields (message_of a b c)) (money_fields (message_of a b c) ++ party_fields (message_of a b c) ++ detail_fields (message_of a b c)) order-fit
-      (each-append IsField (money_fields (message_of a b c)) (party_fields (message_of a b c) ++ detail_fields (message_of a b c)) money-fit
-      (each-append IsField (party_fields (message_of a b c)) (detail_fields (message_of a b c)) parties-fit details-fit))
+      each-append IsField (head_segments (transfer_of_parts a b c)) (money_fields (transfer_of_parts a b c) ++ party_segments (transfer_of_parts a b c) ++ detail_segments (transfer_of_parts a b c)) order-fit
+      (each-append IsField (money_fields (transfer_of_parts a b c)) (party_segments (transfer_of_parts a b c) ++ detail_segments (transfer_of_parts a b c)) money-fit
+      (each-append IsField (party_segments (transfer_of_parts a b c)) (detail_segments (transfer_of_parts a b c)) parties-fit details-fit))
 
   -- ---- where the fields stand
 
   party-place : (k tag : ℕ) → (get_or order_103 k some_place).tag ≡ tag → (p : Party) → Said (At k) (known_party_of t) p → fits (get_or order_103 k some_place) (party_field tag p) ≡ true
   party-place k tag at p said = party-fits-at order_103 IsField k tag some_place at t p said
 
-  pub in-order : Segments order_103 0 0 (segments (message_of a b c))
+  pub in-order : Segments order_103 0 0 (segments (transfer_of_parts a b c))
   in-order = (
     one-segment order_103 0 0 (line_field 20 None a.reference) refl,
     (

@@ -85,8 +85,8 @@ details_of t fs found = do
   Ok (record { info = unwrap_or info []; charge = charge; taken = taken; given = given; notes = unwrap_or notes []; regulatory = unwrap_or regulatory [] })
 
 -- a message of its parts
-abbrev pub message_of : Terms → Parties → Details → Mt103
-message_of terms parties details = record {
+abbrev pub transfer_of_parts : Terms → Parties → Details → Mt103
+transfer_of_parts terms parties details = record {
   reference = terms.reference;
   times = terms.times;
   op = terms.op;
@@ -118,7 +118,7 @@ contents_in_parts t fs found = do
   terms ← terms_of t fs found
   parties ← parties_of t fs found
   details ← details_of t fs found
-  Ok (message_of terms parties details)
+  Ok (transfer_of_parts terms parties details)
 
 -- ---- parts put into a message, whatever it said
 

@@ -22,8 +22,8 @@ abbrev pub value_said : Mt103 → Value
 value_said m = record { day = m.value; amount = m.amount }
 
 -- the fields of each place from 20 to 26T
-abbrev pub order_fields : Mt103 → List (List Field)
-order_fields m =
+abbrev pub head_segments : Mt103 → List (List Field)
+head_segments m =
     (line_field 20 None m.reference ∷ [])
     ∷ map (line_field 13 (Some 67)) m.times
     ∷ (line_field 23 (Some 66) m.op ∷ [])
@@ -40,8 +40,8 @@ money_fields m =
     ∷ []
 
 -- those from 50a to 59a
-abbrev pub party_fields : Mt103 → List (List Field)
-party_fields m =
+abbrev pub party_segments : Mt103 → List (List Field)
+party_segments m =
     (party_field 50 m.payer ∷ [])
     ∷ some_field (party_field 52) m.p52
     ∷ some_field (party_field 53) m.p53
@@ -53,8 +53,8 @@ party_fields m =
     ∷ []
 
 -- those from 70 to 77B
-abbrev pub detail_fields : Mt103 → List (List Field)
-detail_fields m =
+abbrev pub detail_segments : Mt103 → List (List Field)
+detail_segments m =
     lines_fields 70 None m.info
     ∷ (line_field 71 (Some 65) m.charge ∷ [])
     ∷ map (ccy_amount_field 71 (Some 70)) m.taken
@@ -65,7 +65,7 @@ detail_fields m =
 
 -- the fields of each place
 abbrev pub segments : Mt103 → List (List Field)
-segments m = order_fields m ++ money_fields m ++ party_fields m ++ detail_fields m
+segments m = head_segments m ++ money_fields m ++ party_segments m ++ detail_segments m
 
 -- the fields of a transfer, in the order of their places
 unfoldable pub mt103_fields : Mt103 → List Field

@@ -1,6 +1,7 @@
 //! The details of a transfer: fields 70 to 77B.
 
 ghost use Rattle.std.specs.Prelude.{◌≡◌, ◌≤◌, OnOk, length};
+ghost use Rattle.fin_fields.specs.Fields.{most_text_lines};
 ghost use Rattle.fin_layout.specs.Reading.{Fills};
 ghost use Rattle.mt103.specs.Parts.{details_into};
 
@@ -24,7 +25,7 @@ pub fn fill_details(
     found: &[usize],
     m: &mut Mt103,
 ) -> Result<(), MtFault>
-    requires few { length fields.now ≤ 65535 }
+    requires few { length fields.now ≤ most_text_lines }
     requires each { length found.now ≤ length fields.now }
     ensures value { Fills result m.new (details_into tables.now fields.now found.now m.old) }
     ensures kept { OnOk result (m.new.instrs ≡ m.old.instrs) }

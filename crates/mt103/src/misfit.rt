@@ -2,6 +2,7 @@
 
 ghost use Rattle.std.specs.Prelude.{◌≡◌, ◌≤◌, ◌<◌, IfSome, [], length, option_map, position};
 ghost use Rattle.std.specs.Str.{bytes_eq};
+ghost use Rattle.fin_fields.specs.Fields.{most_text_lines};
 ghost use Rattle.mt103.specs.Codes.{instructions};
 ghost use Rattle.mt103.specs.Instructions.{d98, e46, first_given, fits_badly, instr_fault, misfits, rank_of};
 
@@ -63,7 +64,7 @@ fn first_misfit(misfit: Misfit, instrs: &[Instr]) -> Option<usize>
 }
 
 fn fault_at(code: Code, at: Option<usize>) -> Option<Fault>
-    requires { IfSome at (λ i. i < 65535) }
+    requires { IfSome at (λ i. i < most_text_lines) }
     ensures { result ≡ option_map (instr_fault code) at }
 {
     match at {
@@ -78,7 +79,7 @@ fn fault_at(code: Code, at: Option<usize>) -> Option<Fault>
 
 /// The first instruction whose code came before: E46 with the tag 23E and its occurrence.
 pub fn e46(instrs: &[Instr]) -> Option<Fault>
-    requires { length instrs.now ≤ 65535 }
+    requires { length instrs.now ≤ most_text_lines }
     ensures { result ≡ e46 instrs.now }
 {
     fault_at(E46, first_misfit(Misfit::Repeated, instrs))
@@ -87,7 +88,7 @@ pub fn e46(instrs: &[Instr]) -> Option<Fault>
 /// The first instruction whose code stands before that of an earlier one in the list of codes: D98 with the tag 23E and its
 /// occurrence.
 pub fn d98(instrs: &[Instr]) -> Option<Fault>
-    requires { length instrs.now ≤ 65535 }
+    requires { length instrs.now ≤ most_text_lines }
     ensures { result ≡ d98 instrs.now }
 {
     fault_at(D98, first_misfit(Misfit::Early, instrs))

@@ -1,6 +1,7 @@
 //! The parties of a transfer: fields 50a to 59a.
 
 ghost use Rattle.std.specs.Prelude.{◌≡◌, ◌≤◌, OnOk, length};
+ghost use Rattle.fin_fields.specs.Fields.{most_text_lines};
 ghost use Rattle.fin_layout.specs.Reading.{Fills};
 ghost use Rattle.mt103.specs.Parts.{parties_into};
 
@@ -25,7 +26,7 @@ pub fn fill_parties(
     found: &[usize],
     m: &mut Mt103,
 ) -> Result<(), MtFault>
-    requires few { length fields.now ≤ 65535 }
+    requires few { length fields.now ≤ most_text_lines }
     ensures value { Fills result m.new (parties_into tables.now fields.now found.now m.old) }
     ensures kept { OnOk result (m.new.instrs ≡ m.old.instrs) }
 {

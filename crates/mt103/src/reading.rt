@@ -1,6 +1,7 @@
 //! What the fields of an MT103 say.
 
 ghost use Rattle.std.specs.Prelude.{◌≤◌, OnOk, length};
+ghost use Rattle.fin_fields.specs.Fields.{most_text_lines};
 ghost use Rattle.fin_layout.specs.Reading.{Fills};
 ghost use Rattle.mt103.specs.Parts.{contents_into};
 
@@ -22,7 +23,7 @@ pub fn fill_contents(
     found: &[usize],
     m: &mut Mt103,
 ) -> Result<(), MtFault>
-    requires few { length fields.now ≤ 65535 }
+    requires few { length fields.now ≤ most_text_lines }
     requires each { length found.now ≤ length fields.now }
     ensures value { Fills result m.new (contents_into tables.now fields.now found.now m.old) }
     ensures few { OnOk result (length m.new.instrs ≤ length fields.now) }

@@ -1,6 +1,7 @@
 //! The terms of a transfer: fields 20 to 36.
 
 ghost use Rattle.std.specs.Prelude.{◌≤◌, OnOk, length};
+ghost use Rattle.fin_fields.specs.Fields.{most_text_lines};
 ghost use Rattle.fin_layout.specs.Reading.{Fills};
 ghost use Rattle.mt103.specs.Parts.{terms_into};
 
@@ -26,7 +27,7 @@ pub fn fill_terms(
     found: &[usize],
     m: &mut Mt103,
 ) -> Result<(), MtFault>
-    requires few { length fields.now ≤ 65535 }
+    requires few { length fields.now ≤ most_text_lines }
     requires each { length found.now ≤ length fields.now }
     ensures value { Fills result m.new (terms_into tables.now fields.now found.now m.old) }
     ensures few { OnOk result (length m.new.instrs ≤ length fields.now) }

@@ -2,6 +2,7 @@
 
 ghost use Rattle.std.specs.Prelude.{◌≡◌, ◌≤◌, [], ◌∷◌, All, IfOk, IsTrue, None, Ok, OnOk, length};
 ghost use Rattle.corr_text.specs.First.{first_of};
+ghost use Rattle.fin_fields.specs.Fields.{most_text_lines};
 ghost use Rattle.fin_contents.specs.Money.{IsPayable};
 ghost use Rattle.fin_contents.specs.Writing.{IsReadable};
 ghost use Rattle.fin_fields.specs.Writing.{IsField};
@@ -25,7 +26,7 @@ use ref_tables::RefTables;
 use std::alloc::Global;
 
 fn instructions_fault(instrs: &[Instr]) -> Option<Fault>
-    requires { length instrs.now ≤ 65535 }
+    requires { length instrs.now ≤ most_text_lines }
     ensures { result ≡ first_of (e46 instrs.now ∷ d98 instrs.now ∷ []) }
 {
     match e46(instrs) {
@@ -42,7 +43,7 @@ pub fn fill_mt103(
     t: &RefTables,
     m: &mut Mt103,
 ) -> Result<(), MtFault>
-    requires few { length f.now ≤ 65535 }
+    requires few { length f.now ≤ most_text_lines }
     ensures message { Fills result m.new (mt103_of t.now f.now) }
     ensures few { OnOk result (length m.new.instrs ≤ length f.now) }
     ensures amount { OnOk result (IsPayable m.new.amount) }
@@ -66,7 +67,7 @@ pub fn fill_mt103(
 /// a message (`complete`), so there is no other refusal. The amount of 32A is above zero and below 10^14 minor units
 /// (`amount`). `put_mt103` takes what fields of a text say (`written`). The rules of the transfer are not tested here.
 pub fn read_mt103(alloc: Global, f: &[Field], t: &RefTables) -> Result<Mt103, MtFault>
-    requires few { length f.now ≤ 65535 }
+    requires few { length f.now ≤ most_text_lines }
     ensures message { Gives result (mt103_of t.now f.now) }
     ensures few { IfOk result (λ m. length m.instrs ≤ length f.now) }
     ensures amount { IfOk result (λ m. IsPayable m.amount) }

@@ -8,7 +8,7 @@ ghost use Rattle.fin_fields.specs.Writing.{fields_text};
 ghost use Rattle.fin_fields.specs.declared.field.Field.{Field as FieldSeen};
 ghost use Rattle.fin_layout.specs.Segments.{joined};
 ghost use Rattle.mt103.specs.Message.{mt103_of};
-ghost use Rattle.mt103.specs.Writing.{AreAmounts, detail_fields, instr_field, money_fields, mt103_fields, order_fields, party_fields, text_behind};
+ghost use Rattle.mt103.specs.Writing.{AreAmounts, detail_segments, instr_field, money_fields, mt103_fields, head_segments, party_segments, text_behind};
 ghost use Rattle.ref_tables.specs.Seen.{Tables};
 
 use crate::instruction::Instr;
@@ -61,7 +61,7 @@ fn push_kind(alloc: Global, kind: &Option<[u8; 3]>, fields: &mut List<Field>) ->
 
 // 20 to 26T.
 fn push_order(alloc: Global, m: &Mt103, fields: &mut List<Field>) -> Result<(), Memory>
-    ensures { OnOk result (fields.new ≡ fields.old ++ joined (order_fields m.now)) }
+    ensures { OnOk result (fields.new ≡ fields.old ++ joined (head_segments m.now)) }
 {
     fields.push(put_reference(alloc, 20, &m.reference)?)?;
     push_times(alloc, m.times.as_slice(), fields)?;
@@ -86,7 +86,7 @@ fn push_money(alloc: Global, m: &Mt103, fields: &mut List<Field>) -> Result<(), 
 
 // 50a to 59a.
 fn push_parties(alloc: Global, m: &Mt103, fields: &mut List<Field>) -> Result<(), Memory>
-    ensures { OnOk result (fields.new ≡ fields.old ++ joined (party_fields m.now)) }
+    ensures { OnOk result (fields.new ≡ fields.old ++ joined (party_segments m.now)) }
 {
     fields.push(put_known_party(alloc, 50, &m.payer)?)?;
     push_party(alloc, 52, &m.p52, fields)?;
@@ -101,7 +101,7 @@ fn push_parties(alloc: Global, m: &Mt103, fields: &mut List<Field>) -> Result<()
 // 70 to 77B.
 fn push_details(alloc: Global, m: &Mt103, fields: &mut List<Field>) -> Result<(), Memory>
     requires { AreAmounts m.now }
-    ensures { OnOk result (fields.new ≡ fields.old ++ joined (detail_fields m.now)) }
+    ensures { OnOk result (fields.new ≡ fields.old ++ joined (detail_segments m.now)) }
 {
     push_texts(alloc, 70, None, m.info.as_slice(), fields)?;
     fields.push(line_field(alloc, 71, Some(b'A'), &m.charge)?)?;

@@ -2,6 +2,7 @@
 
 ghost use Rattle.std.specs.Prelude.{◌≡◌, ◌≤◌, length};
 ghost use Rattle.corr_text.specs.First.{first_of};
+ghost use Rattle.fin_fields.specs.Fields.{most_text_lines};
 ghost use Rattle.mt103_rules.specs.Rules.{all_rules, amount_rules, charge_rules, contact_rules, institution_rules, level_rules};
 
 use crate::amounts::{c02, d49, d51, d75};
@@ -26,7 +27,7 @@ fn amount_fault(m: &Mt103, sender: &Bic, receiver: &Bic, t: &RefTables) -> Optio
 
 #[tactic(auto, unfolding(crate::specs::Rules::level_rules))]
 fn level_fault(m: &Mt103) -> Option<Fault>
-    requires few { length m.now.instrs ≤ 65535 }
+    requires few { length m.now.instrs ≤ most_text_lines }
     ensures { result ≡ first_of (level_rules m.now) }
 {
     if let Some(fault) = e01(m) {
@@ -111,7 +112,7 @@ fn contact_fault(m: &Mt103) -> Option<Fault>
 /// is 0 where the field is missing.
 #[tactic(auto, unfolding(crate::specs::Rules::all_rules), using(crate::proofs::Parts::first_of_append))]
 pub fn first_rule(m: &Mt103, sender: &Bic, receiver: &Bic, t: &RefTables) -> Option<Fault>
-    requires few { length m.now.instrs ≤ 65535 }
+    requires few { length m.now.instrs ≤ most_text_lines }
     ensures { result ≡ first_of (all_rules sender.now receiver.now t.now m.now) }
 {
     if let Some(fault) = amount_fault(m, sender, receiver, t) {

@@ -1,6 +1,7 @@
 //! The rules on instructions: 23E beside 23B, 56a, 57a and 59a.
 
 ghost use Rattle.std.specs.Prelude.{◌≡◌, ◌≤◌, ◌<◌, ◌||◌, IfSome, codes, length};
+ghost use Rattle.fin_fields.specs.Fields.{most_text_lines};
 ghost use Rattle.mt103_rules.specs.Instructions.{first_barred, has_instr, is_priority};
 ghost use Rattle.mt103_rules.specs.Rules.{e01, e02, e18, e44, e45};
 
@@ -37,7 +38,7 @@ fn has_instr(code: &[u8; 4], instrs: &[Instr]) -> bool
 /// SPRI has no other 23E than SDVA, TELB, PHOB and INTC.
 #[tactic(auto, unfolding(crate::specs::Rules::e01))]
 pub fn e01(m: &Mt103) -> Option<Fault>
-    requires few { length m.now.instrs ≤ 65535 }
+    requires few { length m.now.instrs ≤ most_text_lines }
     ensures { result ≡ e01 m.now }
 {
     if !is_op(m, b"SPRI") {

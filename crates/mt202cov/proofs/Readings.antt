@@ -9,7 +9,7 @@ use Rattle.fin_contents.specs.Parties.{known_party_of}
 use Rattle.fin_contents.specs.Plain.{reference_of, texts_of, time_of}
 use Rattle.fin_contents.proofs.laws.Steps.{read-then}
 use Rattle.mt202cov.specs.Message.{contents_of}
-use Rattle.mt202cov.specs.Parts.{banks_of, contents_in_parts, customers_of, details_of, message_of, sequence_a_of, sequence_b_of, terms_of}
+use Rattle.mt202cov.specs.Parts.{banks_of, contents_in_parts, customers_of, details_of, cover_of_parts, sequence_a_of, sequence_b_of, terms_of}
 use Rattle.mt202cov.specs.Writing.{value_said}
 use Rattle.mt202cov.specs.declared.banks.Banks.{Banks}
 use Rattle.mt202cov.specs.declared.customers.Customers.{Customers}
@@ -113,7 +113,7 @@ module _ (t : Tables) (fs : List Field) (found : List ℕ) where
       let same : record { customers = r0.0; details = r1.0 } ≡ x = cc r1.2 in
       rw (← same) (r0.1, r1.1)
 
-  of-sequences : (a : SequenceA) (b : SequenceB) → sequence_a_of t fs found ≡ Ok a → sequence_b_of t fs found ≡ Ok b → Readings t fs found (message_of a b)
+  of-sequences : (a : SequenceA) (b : SequenceB) → sequence_a_of t fs found ≡ Ok a → sequence_b_of t fs found ≡ Ok b → Readings t fs found (cover_of_parts a b)
   of-sequences a b ea eb =
       let sa = sequence_a-read a ea in
       let sb = sequence_b-read b eb in
@@ -149,7 +149,7 @@ module _ (t : Tables) (fs : List Field) (found : List ℕ) where
       let parts : contents_in_parts t fs found ≡ Ok m = contents-are t fs found ∙ e in
       let a = read-then (sequence_a_of t fs found) _ m parts in
       let b = read-then (sequence_b_of t fs found) _ m a.2 in
-      let same : message_of a.0 b.0 ≡ m = cc b.2 in
+      let same : cover_of_parts a.0 b.0 ≡ m = cc b.2 in
       rw (← same) (of-sequences a.0 b.0 a.1 b.1)
 
   -- ---- and back

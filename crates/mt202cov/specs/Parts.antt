@@ -72,8 +72,8 @@ sequence_b_of t fs found = do
   Ok (record { customers = customers; details = details })
 
 -- a cover of its sequences
-abbrev pub message_of : SequenceA → SequenceB → Mt202Cov
-message_of a b = record {
+abbrev pub cover_of_parts : SequenceA → SequenceB → Mt202Cov
+cover_of_parts a b = record {
   reference = a.terms.reference;
   related = a.terms.related;
   times = a.terms.times;
@@ -101,4 +101,4 @@ unfoldable pub contents_in_parts : Tables → List Field → List ℕ → Result
 contents_in_parts t fs found = do
   a ← sequence_a_of t fs found
   b ← sequence_b_of t fs found
-  Ok (message_of a b)
+  Ok (cover_of_parts a b)

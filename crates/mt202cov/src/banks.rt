@@ -1,6 +1,7 @@
 //! The banks of sequence A: fields 52a to 58a.
 
 ghost use Rattle.std.specs.Prelude.{◌≤◌, length};
+ghost use Rattle.fin_fields.specs.Fields.{most_text_lines};
 ghost use Rattle.fin_layout.specs.Reading.{Gives};
 ghost use Rattle.mt202cov.specs.Parts.{banks_of};
 
@@ -34,7 +35,7 @@ pub fn read_banks(
     fields: &[Field],
     found: &[usize],
 ) -> Result<Banks, MtFault>
-    requires { length fields.now ≤ 65535 }
+    requires { length fields.now ≤ most_text_lines }
     ensures { Gives result (banks_of tables.now fields.now found.now) }
 {
     let party = KnownParty { tables };

@@ -1,6 +1,7 @@
 //! The parties of sequence B: fields 50a to 59a.
 
 ghost use Rattle.std.specs.Prelude.{◌≤◌, length};
+ghost use Rattle.fin_fields.specs.Fields.{most_text_lines};
 ghost use Rattle.fin_layout.specs.Reading.{Gives};
 ghost use Rattle.mt202cov.specs.Parts.{customers_of};
 
@@ -31,7 +32,7 @@ pub fn read_customers(
     fields: &[Field],
     found: &[usize],
 ) -> Result<Customers, MtFault>
-    requires { length fields.now ≤ 65535 }
+    requires { length fields.now ≤ most_text_lines }
     ensures { Gives result (customers_of tables.now fields.now found.now) }
 {
     let party = KnownParty { tables };

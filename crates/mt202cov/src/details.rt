@@ -1,6 +1,7 @@
 //! The details of sequence B: fields 70, 72 and 33B.
 
 ghost use Rattle.std.specs.Prelude.{◌≤◌, length};
+ghost use Rattle.fin_fields.specs.Fields.{most_text_lines};
 ghost use Rattle.fin_layout.specs.Reading.{Gives};
 ghost use Rattle.mt202cov.specs.Parts.{details_of};
 
@@ -29,7 +30,7 @@ pub fn read_details(
     fields: &[Field],
     found: &[usize],
 ) -> Result<Details, MtFault>
-    requires { length fields.now ≤ 65535 }
+    requires { length fields.now ≤ most_text_lines }
     ensures { Gives result (details_of tables.now fields.now found.now) }
 {
     let info = read_optional(alloc, &Texts { most: 4 }, fields, found, INFO)?;

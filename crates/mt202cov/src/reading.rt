@@ -1,8 +1,9 @@
 //! What the fields of an MT202 COV say.
 
 ghost use Rattle.std.specs.Prelude.{◌≡◌, ◌≤◌, length};
+ghost use Rattle.fin_fields.specs.Fields.{most_text_lines};
 ghost use Rattle.fin_layout.specs.Reading.{Gives};
-ghost use Rattle.mt202cov.specs.Parts.{contents_in_parts, message_of};
+ghost use Rattle.mt202cov.specs.Parts.{contents_in_parts, cover_of_parts};
 
 use crate::message::Mt202Cov;
 use crate::sequences::{SequenceA, SequenceB, read_sequence_a, read_sequence_b};
@@ -13,7 +14,7 @@ use ref_tables::RefTables;
 use std::alloc::Global;
 
 fn message(a: SequenceA, b: SequenceB) -> Mt202Cov
-    ensures { result ≡ message_of a b }
+    ensures { result ≡ cover_of_parts a b }
 {
     Mt202Cov {
         reference: a.terms.reference,
@@ -47,7 +48,7 @@ pub fn read_contents(
     fields: &[Field],
     found: &[usize],
 ) -> Result<Mt202Cov, MtFault>
-    requires few { length fields.now ≤ 65535 }
+    requires few { length fields.now ≤ most_text_lines }
     requires each { length found.now ≤ length fields.now }
     ensures { Gives result (contents_in_parts tables.now fields.now found.now) }
 {

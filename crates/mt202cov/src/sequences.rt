@@ -1,6 +1,7 @@
 //! The two sequences of a cover.
 
 ghost use Rattle.std.specs.Prelude.{◌≤◌, length};
+ghost use Rattle.fin_fields.specs.Fields.{most_text_lines};
 ghost use Rattle.fin_layout.specs.Reading.{Gives};
 ghost use Rattle.mt202cov.specs.Parts.{sequence_a_of, sequence_b_of};
 
@@ -40,7 +41,7 @@ pub fn read_sequence_a(
     fields: &[Field],
     found: &[usize],
 ) -> Result<SequenceA, MtFault>
-    requires few { length fields.now ≤ 65535 }
+    requires few { length fields.now ≤ most_text_lines }
     requires each { length found.now ≤ length fields.now }
     ensures { Gives result (sequence_a_of tables.now fields.now found.now) }
 {
@@ -64,7 +65,7 @@ pub fn read_sequence_b(
     fields: &[Field],
     found: &[usize],
 ) -> Result<SequenceB, MtFault>
-    requires { length fields.now ≤ 65535 }
+    requires { length fields.now ≤ most_text_lines }
     ensures { Gives result (sequence_b_of tables.now fields.now found.now) }
 {
     let customers = read_customers(alloc, tables, fields, found)?;

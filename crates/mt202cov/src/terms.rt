@@ -1,6 +1,7 @@
 //! The terms of a cover: fields 20 to 32A.
 
 ghost use Rattle.std.specs.Prelude.{◌≤◌, length};
+ghost use Rattle.fin_fields.specs.Fields.{most_text_lines};
 ghost use Rattle.fin_layout.specs.Reading.{Gives};
 ghost use Rattle.mt202cov.specs.Parts.{terms_of};
 
@@ -30,7 +31,7 @@ pub fn read_terms(
     fields: &[Field],
     found: &[usize],
 ) -> Result<Terms, MtFault>
-    requires few { length fields.now ≤ 65535 }
+    requires few { length fields.now ≤ most_text_lines }
     requires each { length found.now ≤ length fields.now }
     ensures { Gives result (terms_of tables.now fields.now found.now) }
 {

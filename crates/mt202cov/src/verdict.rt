@@ -2,6 +2,7 @@
 
 ghost use Rattle.std.specs.Prelude.{◌≡◌, ◌≤◌, All, IfOk, IsTrue, None, Ok, length};
 ghost use Rattle.corr_text.specs.First.{first_of};
+ghost use Rattle.fin_fields.specs.Fields.{most_text_lines};
 ghost use Rattle.fin_contents.specs.Money.{IsPayable};
 ghost use Rattle.fin_contents.specs.Writing.{IsReadable};
 ghost use Rattle.fin_fields.specs.Writing.{IsField};
@@ -30,7 +31,7 @@ use std::alloc::Global;
 /// say a cover (`complete`), so there is no other refusal. The amount of a cover is above zero and below 10^14 minor units
 /// (`amount`). `put_mt202cov` takes what fields of a text say (`written`).
 pub fn read_mt202cov(alloc: Global, f: &[Field], t: &RefTables) -> Result<Mt202Cov, MtFault>
-    requires { length f.now ≤ 65535 }
+    requires { length f.now ≤ most_text_lines }
     ensures message { Gives result (mt202cov_of t.now f.now) }
     ensures amount { IfOk result (λ m. IsPayable m.amount) }
     ensures written { IsTrue (few_decimals t.now.ccys) → All IsField f.now → IfOk result (IsReadable mt202cov_of) }

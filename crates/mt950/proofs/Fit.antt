@@ -31,8 +31,8 @@ use Rattle.fin_contents.proofs.laws.Said.{Said as SaidAt, Stands, said-all, stan
 use Rattle.mt950.specs.Entry.{line_of}
 use Rattle.mt950.specs.Order.{order_950}
 use Rattle.mt950.specs.Page.{mt950_of, page_of}
-use Rattle.mt950.specs.Parts.{is_kind}
-use Rattle.mt950.specs.Writing.{IsBalance, IsContinued, IsEntry, IsPage, balance_amount, balance_field, balance_mark, balance_text, detail_lines, fields_950, funds_text, letter_of, line_field_61, line_text, mark_text, number_field, page_text, part_text, segments_950, servicer_text}
+use Rattle.mt950.specs.Parts.{is_entry_type}
+use Rattle.mt950.specs.Writing.{IsBalance, IsContinued, IsWritableLine, IsPage, balance_amount, balance_field, balance_mark, balance_text, detail_lines, fields_950, funds_text, balance_letter, line_field_61, line_text, mark_text, number_field, page_text, part_text, segments_950, servicer_text}
 use Rattle.mt950.specs.declared.balance.Balance.{Balance}
 use Rattle.mt950.specs.declared.entry.Line61.{Line61}
 use Rattle.mt950.specs.declared.entry.Mark.{Mark}
@@ -113,7 +113,7 @@ letter-of-x b rest e all =
       | inr unmet ↦ let same : b ≡ 70 = eqb-true b 70 (rw unmet at e) in rw same all
     ]
 
-kind-of-x : (kind : List ℕ) → is_kind kind ≡ true → list_all (is_in X) kind ≡ true
+kind-of-x : (kind : List ℕ) → is_entry_type kind ≡ true → list_all (is_in X) kind ≡ true
 kind-of-x [] e = absurd (cc e)
 kind-of-x (b ∷ rest) e =
     elim (either-kind (b == 83) (list_all (is_in N) rest) ((b == 78) || (b == 70)) (list_all (is_in capital_or_digit) rest) e) [
@@ -125,7 +125,7 @@ servicer-of-x : (servicer : Option (List ℕ)) → IfSome servicer (λ text. IsT
 servicer-of-x None e = refl
 servicer-of-x (Some text) e = run-of-x 16 text e
 
-line-of-x : (decimals : ℕ) (line : Line61) → IsEntry decimals line → list_all (is_in X) (line_text decimals line) ≡ true
+line-of-x : (decimals : ℕ) (line : Line61) → IsWritableLine decimals line → list_all (is_in X) (line_text decimals line) ≡ true
 line-of-x decimals line is =
     let amount : List ℕ = amount_text decimals line.amount.0 in
     let references : List ℕ = line.reference ++ servicer_text line.servicer in
@@ -144,7 +144,7 @@ line-of-x decimals line is =
 
 -- ---- fields
 
-letter-capital : (last : Bool) → is_ascii_uppercase (letter_of last) ≡ true
+letter-capital : (last : Bool) → is_ascii_uppercase (balance_letter last) ≡ true
 letter-capital true = refl
 letter-capital false = refl
 
@@ -152,7 +152,7 @@ detail-bytes : (detail : Option (List ℕ)) → IfSome detail (λ text. IsTrue (
 detail-bytes None is = λ k d lt. absurd (omega arith)
 detail-bytes (Some detail) is = All-cons (λ line. has_other_byte line ≡ false) detail [] (all-of-x detail (run-of-x 34 detail is)) (λ k d lt. absurd (omega arith))
 
-line-field-fit : (decimals : ℕ) (line : Line61) → IsEntry decimals line → All Continues (detail_lines line.detail) → IsField (line_field_61 decimals line)
+line-field-fit : (decimals : ℕ) (line : Line61) → IsWritableLine decimals line → All Continues (detail_lines line.detail) → IsField (line_field_61 decimals line)
 line-field-fit decimals line is more = record {
   tag = omega arith;
   letter = tt;
@@ -181,11 +181,11 @@ module _ (t : Tables) (p : Page950) (is : IsPage t p) where
           (
             (number-fit, tt),
             (
-              (balance-fit 60 (Some (letter_of p.opening.last)) p.opening (record { two_digits = omega arith; capital = letter-capital p.opening.last }) is.opening, tt),
+              (balance-fit 60 (Some (balance_letter p.opening.last)) p.opening (record { two_digits = omega arith; capital = letter-capital p.opening.last }) is.opening, tt),
               (
                 all-each IsField (line_field_61 p.decimals) p.lines lines,
                 (
-                  (balance-fit 62 (Some (letter_of p.closing.last)) p.closing (record { two_digits = omega arith; capital = letter-capital p.closing.last }) is.closing, tt),
+                  (balance-fit 62 (Some (balance_letter p.closing.last)) p.closing (record { two_digits = omega arith; capital = letter-capital p.closing.last }) is.closing, tt),
                   (
                     some-each IsField (balance_field 64 None p.ccy p.decimals) p.available (some-weaker _ _ p.available is.available (λ (b : Balance) h. balance-fit 64 None b (record { two_digits = omega arith; capital = tt }) h.0)),
                     tt,
@@ -203,13 +203,13 @@ detail-continues : (detail : Option (List ℕ)) → IfSome detail Continues → 
 detail-continues None h = λ k d lt. absurd (omega arith)
 detail-continues (Some detail) h = All-cons Continues detail [] h (λ k d lt. absurd (omega arith))
 
-lines-continued : (decimals : ℕ) (lines : List Line61) → AllByRecursion (IsEntry decimals) lines → AllByRecursion IsContinued lines → AllByRecursion (λ line. IsField (line_field_61 decimals line)) lines
+lines-continued : (decimals : ℕ) (lines : List Line61) → AllByRecursion (IsWritableLine decimals) lines → AllByRecursion IsContinued lines → AllByRecursion (λ line. IsField (line_field_61 decimals line)) lines
 lines-continued decimals [] is on = tt
 lines-continued decimals (line ∷ lines) is on = (line-field-fit decimals line is.0 (detail-continues line.detail on.0), lines-continued decimals lines is.1 on.1)
 
 pub page-fits : (t : Tables) (p : Page950) → IsPage t p → All IsContinued p.lines → All IsField (fields_950 p)
 unfolding fields_950
-page-fits t p is on = page-fit t p is (lines-continued p.decimals p.lines (each-of (IsEntry p.decimals) p.lines is.lines) (each-of IsContinued p.lines on))
+page-fits t p is on = page-fit t p is (lines-continued p.decimals p.lines (each-of (IsWritableLine p.decimals) p.lines is.lines) (each-of IsContinued p.lines on))
 
 -- ---- a page that was read of the fields of a text
 

@@ -14,13 +14,13 @@ use Rattle.fin_contents.specs.Writing.{IsReadable}
 use Rattle.fin_contents.proofs.laws.Back.{each-weaker}
 use Rattle.fin_contents.proofs.laws.Placed.{all-of, each-of}
 use Rattle.fin_contents.proofs.laws.Steps.{checked, read-then}
-use Rattle.mt950.specs.Entry.{effect_of, marked}
+use Rattle.mt950.specs.Entry.{effect_of, signed_amount}
 use Rattle.mt950.specs.declared.entry.Mark.{Mark}
 use Rattle.mt950.specs.declared.entry.Mark.TheVariants.{C, D, RC, RD}
 use Rattle.mt950.specs.declared.joining.Statement.{Statement}
-use Rattle.mt950.specs.Joining.{IsSmall, IsStatement, Joins, carried_tests, effects_of, first_gap, first_uncarried, follows, gap_tests, held, joined_with, last_of, lines_of_pages, sum_test, told, without}
+use Rattle.mt950.specs.Joining.{IsSmallLine, IsAddable, Joins, carried_tests, effects_of, first_gap, first_uncarried, follows, gap_tests, held, joined_with, last_of, lines_of_pages, sum_test, told, unless_page_fault}
 use Rattle.mt950.specs.Page.{mt950_of}
-use Rattle.mt950.specs.Writing.{IsEntry}
+use Rattle.mt950.specs.Writing.{IsWritableLine}
 use Rattle.mt950.specs.declared.entry.Line61.{Line61}
 use Rattle.mt950.specs.declared.joining.PageFault.{PageFault}
 use Rattle.mt950.specs.declared.joining.PageFault.TheVariants.{DoesNotAdd, Gap, Memory, NotCarried}
@@ -65,13 +65,13 @@ pub effects-end : (lines : List Line61) (i : ℕ) → length lines ≤ i → eff
 effects-end lines i le = rw (drop_all i lines le) refl
 
 -- a line adds less than an amount's end, and takes less away
-marked-within : (mark : Mark) (n : ℕ) → n < amount_end → (neg_ℤ (pos amount_end) ≤ℤ marked mark n) × (marked mark n ≤ℤ pos amount_end)
+marked-within : (mark : Mark) (n : ℕ) → n < amount_end → (neg_ℤ (pos amount_end) ≤ℤ signed_amount mark n) × (signed_amount mark n ≤ℤ pos amount_end)
 marked-within C n lt = (omega (arith, ints), omega (arith, ints))
 marked-within RD n lt = (omega (arith, ints), omega (arith, ints))
 marked-within D n lt = (omega (arith, ints), omega (arith, ints))
 marked-within RC n lt = (omega (arith, ints), omega (arith, ints))
 
-pub effect-within : (line : Line61) → IsSmall line → (neg_ℤ (pos amount_end) ≤ℤ effect_of line) × (effect_of line ≤ℤ pos amount_end)
+pub effect-within : (line : Line61) → IsSmallLine line → (neg_ℤ (pos amount_end) ≤ℤ effect_of line) × (effect_of line ≤ℤ pos amount_end)
 effect-within line small = marked-within line.mark line.amount.0 small
 
 -- ---- the tests in their order
@@ -104,7 +104,7 @@ module _ (first : Page950) (pages : List Page950) where
   -- what is told behind the gaps
   abbrev behind_gaps : Result Statement PageFault
   behind_gaps =
-      without (first_uncarried first pages) >>= λ _.
+      unless_page_fault (first_uncarried first pages) >>= λ _.
       sum_test first.opening.signed (lines_of_pages pages) (last_of first pages).closing.signed >>= λ _.
       Ok (statement_of (lines_of_pages pages) (last_of first pages))
 
@@ -114,10 +114,10 @@ module _ (first : Page950) (pages : List Page950) where
       Ok (statement_of (lines_of_pages pages) (last_of first pages))
 
   abbrev gaps : Result (Unit {0}) PageFault
-  gaps = without (option_map Gap (first_gap first (length pages) 0 pages))
+  gaps = unless_page_fault (option_map Gap (first_gap first (length pages) 0 pages))
 
   abbrev balances : Result (Unit {0}) PageFault
-  balances = without (first_uncarried first pages)
+  balances = unless_page_fault (first_uncarried first pages)
 
   pub gap-told : (fault : PageFault) → gaps ≡ Err fault → Refuses told (joined_with first pages) fault
   gap-told fault e = told-refuses (joined_with first pages) fault (stops-at gaps behind_gaps fault e)
@@ -141,13 +141,13 @@ module _ (first : Page950) (pages : List Page950) where
 
 -- ---- the lines of pages that were read are small
 
-page-small : (p : Page950) → IsReadable mt950_of p → All IsSmall p.lines
-page-small p r = all-of IsSmall p.lines (each-weaker (IsEntry p.decimals) IsSmall p.lines (each-of (IsEntry p.decimals) p.lines (readable-is p r).lines) (λ (line : Line61) is. is.small))
+page-small : (p : Page950) → IsReadable mt950_of p → All IsSmallLine p.lines
+page-small p r = all-of IsSmallLine p.lines (each-weaker (IsWritableLine p.decimals) IsSmallLine p.lines (each-of (IsWritableLine p.decimals) p.lines (readable-is p r).lines) (λ (line : Line61) is. is.small))
 
-pub pages-small : (pages : List Page950) → All (IsReadable mt950_of) pages → All IsSmall (lines_of_pages pages)
+pub pages-small : (pages : List Page950) → All (IsReadable mt950_of) pages → All IsSmallLine (lines_of_pages pages)
 pages-small [] given = λ k d lt. absurd (omega arith)
 pages-small (p ∷ pages) given =
-    All-append IsSmall p.lines (lines_of_pages pages) (page-small p (All-head (IsReadable mt950_of) p pages given)) (pages-small pages (All-tail (IsReadable mt950_of) p pages given))
+    All-append IsSmallLine p.lines (lines_of_pages pages) (page-small p (All-head (IsReadable mt950_of) p pages given)) (pages-small pages (All-tail (IsReadable mt950_of) p pages given))
 
 pub ruleset small_pages = (arith, pages-small)
 
@@ -176,7 +176,7 @@ module _ (first : Page950) (pages : List Page950) where
       let added = checked (int_eq (first.opening.signed +ℤ effects_of lines) closing) (DoesNotAdd first.opening.signed (held (effects_of lines)) closing) (Ok (statement_of first pages lines (last_of first pages))) s past_balances.2 in
       (got-is (statement_of first pages lines (last_of first pages)) s added.1, (Decides-int_eq (first.opening.signed +ℤ effects_of lines) closing).0 added.0)
 
-pub joined-sound : (pages : List Page950) (first : Page950) (r : Result Statement PageFault) → All (IsReadable mt950_of) pages → 1 ≤ length pages → first ≡ get_or pages 0 first → Joins r (joined_with first pages) → IfOk r IsStatement
+pub joined-sound : (pages : List Page950) (first : Page950) (r : Result Statement PageFault) → All (IsReadable mt950_of) pages → 1 ≤ length pages → first ≡ get_or pages 0 first → Joins r (joined_with first pages) → IfOk r IsAddable
 joined-sound pages first (Err e) given some is joins = tt
 joined-sound [] first (Ok s) given some is joins = absurd (omega (arith, some))
 joined-sound (p ∷ pages) first (Ok s) given some same joins =
@@ -184,7 +184,7 @@ joined-sound (p ∷ pages) first (Ok s) given some same joins =
     let joined = joined-is p (p ∷ pages) s (subst (λ (x : Page950). joined_with x (p ∷ pages) ≡ Ok s) same joins) in
     let opens = readable-is p each.0 in
     let closes = readable-is (last_of p (p ∷ pages)) (last-readable p (p ∷ pages) each.0 each) in
-    let is : IsStatement (statement_of p (p ∷ pages) (lines_of_pages (p ∷ pages)) (last_of p (p ∷ pages))) = record {
+    let is : IsAddable (statement_of p (p ∷ pages) (lines_of_pages (p ∷ pages)) (last_of p (p ∷ pages))) = record {
       few = opens.opening.few;
       opening = opens.opening.small;
       lines = pages-small (p ∷ pages) given;
@@ -192,4 +192,4 @@ joined-sound (p ∷ pages) first (Ok s) given some same joins =
       day = closes.closing.day;
       adds = joined.1;
     } in
-    subst IsStatement joined.0 is
+    subst IsAddable joined.0 is

@@ -16,7 +16,7 @@ use Rattle.fin_contents.proofs.laws.Again.{coded-ok, small-amount}
 use Rattle.fin_contents.proofs.laws.Steps.{read-then, there}
 use Rattle.mt950.specs.Entry.{line_of}
 use Rattle.mt950.specs.Parts.{LineParts, detail_in, parts_in}
-use Rattle.mt950.specs.Writing.{IsEntry, detail_lines, funds_text, line_field_61, line_text, mark_text, part_text, servicer_text}
+use Rattle.mt950.specs.Writing.{IsWritableLine, detail_lines, funds_text, line_field_61, line_text, mark_text, part_text, servicer_text}
 use Rattle.mt950.specs.declared.entry.Line61.{Line61}
 use Rattle.mt950.proofs.Amount.{amount-text}
 use Rattle.mt950.proofs.BalanceFields.{date-digits}
@@ -48,7 +48,7 @@ line-nested decimals line = nested (yymmdd_of line.value) (part_text line.entry)
 nonempty : (text rest : List ℕ) (first : ℕ) → text ≡ first ∷ rest → 0 < length text
 nonempty text rest first e = rw e (omega arith)
 
-parts-again : (decimals : ℕ) (line : Line61) → IsEntry decimals line → parts_in (line_text decimals line) ≡ Some (parts_of decimals line)
+parts-again : (decimals : ℕ) (line : Line61) → IsWritableLine decimals line → parts_in (line_text decimals line) ≡ Some (parts_of decimals line)
 parts-again decimals line is =
     let text : List ℕ = amount_text decimals line.amount.0 in
     let amount = amount-text decimals line.amount.0 is.few is.small in
@@ -80,7 +80,7 @@ detail-again first None is = refl
 detail-again first (Some detail) is = rw is refl
 
 -- a line that is written is read
-pub line-again : (decimals : ℕ) (line : Line61) → IsEntry decimals line → line_of decimals (line_field_61 decimals line) ≡ Ok line
+pub line-again : (decimals : ℕ) (line : Line61) → IsWritableLine decimals line → line_of decimals (line_field_61 decimals line) ≡ Ok line
 unfolding line_of
 line-again decimals line is =
     let minor : minor_in decimals (amount_text decimals line.amount.0) ≡ Ok line.amount = ap coded (reads_written decimals line.amount.0 is.few is.small) in
@@ -90,7 +90,7 @@ line-again decimals line is =
 
 -- what is known of a line that was read
 pub record LineRead (decimals : ℕ) (f : Field) (line : Line61) : Type 0 where
-  pub is : IsEntry decimals line
+  pub is : IsWritableLine decimals line
   pub first : List ℕ
   pub lines : f.lines ≡ first ∷ detail_lines line.detail
 

@@ -9,7 +9,7 @@ use Rattle.std.proofs.lemmas.List.{append-nil, drop_at, length-append, length-ta
 use Rattle.corr_text.specs.Sets.{is_in}
 use Rattle.corr_text.specs.declared.set.Set.TheVariants.{X, N, C as capital_or_digit}
 use Rattle.fin_fields.specs.Patterns.{is_run}
-use Rattle.mt950.specs.Parts.{LineParts, amount_in, are_references, date_in, double_slash_in, entry_in, funds_in, is_kind, kind_in, mark_in, parts_in, references_in, split_references}
+use Rattle.mt950.specs.Parts.{LineParts, amount_part, are_references, date_in, double_slash_in, entry_date_part, funds_in, is_entry_type, kind_in, mark_in, parts_in, references_in, split_references}
 use Rattle.mt950.specs.Writing.{IsEnded, funds_text, mark_text, part_text, servicer_text}
 use Rattle.mt950.specs.declared.entry.Mark.{Mark}
 use Rattle.mt950.specs.declared.entry.Mark.TheVariants.{C, D, RC, RD}
@@ -27,7 +27,7 @@ date-again date rest six digits =
     let long : nat_le 6 (length (date ++ rest)) ≡ true = le-leb 6 (length (date ++ rest)) (omega (arith, length-append date rest, six)) in
     rw (long, front, back, digits) refl
 
-entry-some : (entry rest : List ℕ) → length entry ≡ 4 → list_all (is_in N) entry ≡ true → entry_in (entry ++ rest) ≡ (Some entry, rest)
+entry-some : (entry rest : List ℕ) → length entry ≡ 4 → list_all (is_in N) entry ≡ true → entry_date_part (entry ++ rest) ≡ (Some entry, rest)
 entry-some entry rest four digits =
     let front : take 4 (entry ++ rest) ≡ entry = take_at entry rest 4 four in
     let back : drop 4 (entry ++ rest) ≡ rest = drop_at entry rest 4 four in
@@ -35,16 +35,16 @@ entry-some entry rest four digits =
     rw (long, front, back, digits) refl
 
 -- a mark is no digit
-letter-first : (letter : ℕ) (rest : List ℕ) → is_ascii_digit letter ≡ false → entry_in (letter ∷ rest) ≡ (None, letter ∷ rest)
+letter-first : (letter : ℕ) (rest : List ℕ) → is_ascii_digit letter ≡ false → entry_date_part (letter ∷ rest) ≡ (None, letter ∷ rest)
 letter-first letter rest other = rw (other, and-false (nat_le 4 (length (letter ∷ rest)))) refl
 
-entry-none : (mark : Mark) (rest : List ℕ) → entry_in (mark_text mark ++ rest) ≡ (None, mark_text mark ++ rest)
+entry-none : (mark : Mark) (rest : List ℕ) → entry_date_part (mark_text mark ++ rest) ≡ (None, mark_text mark ++ rest)
 entry-none C rest = letter-first 67 rest refl
 entry-none D rest = letter-first 68 rest refl
 entry-none RC rest = letter-first 82 (67 ∷ rest) refl
 entry-none RD rest = letter-first 82 (68 ∷ rest) refl
 
-pub entry-again : (entry : Option (List ℕ)) (mark : Mark) (rest : List ℕ) → IfSome entry (λ entry. (length entry ≡ 4) × IsTrue (list_all (is_in N) entry)) → entry_in (part_text entry ++ (mark_text mark ++ rest)) ≡ (entry, mark_text mark ++ rest)
+pub entry-again : (entry : Option (List ℕ)) (mark : Mark) (rest : List ℕ) → IfSome entry (λ entry. (length entry ≡ 4) × IsTrue (list_all (is_in N) entry)) → entry_date_part (part_text entry ++ (mark_text mark ++ rest)) ≡ (entry, mark_text mark ++ rest)
 entry-again None mark rest is = entry-none mark rest
 entry-again (Some entry) mark rest is = entry-some entry (mark_text mark ++ rest) is.0 is.1
 
@@ -63,7 +63,7 @@ pub funds-again : (funds : Option ℕ) (b : ℕ) (rest : List ℕ) → IfSome fu
 funds-again None b rest up digit = digit-first b rest digit
 funds-again (Some letter) b rest up digit = rw up refl
 
-pub amount-again : (text rest : List ℕ) (b : ℕ) → Fail ends_amount text → 0 < length text → ends_amount b ≡ true → amount_in (text ++ b ∷ rest) ≡ Some (text, b ∷ rest)
+pub amount-again : (text rest : List ℕ) (b : ℕ) → Fail ends_amount text → 0 < length text → ends_amount b ≡ true → amount_part (text ++ b ∷ rest) ≡ Some (text, b ∷ rest)
 amount-again text rest b goes some ends =
     let at : position ends_amount (text ++ b ∷ rest) ≡ Some (length text) = position-behind ends_amount text b rest goes ends in
     let front : take (length text) (text ++ b ∷ rest) ≡ text = take_at text (b ∷ rest) (length text) refl in
@@ -75,11 +75,11 @@ kind-byte : (b : ℕ) (digits capitals : Bool) → (((b == 83) && digits) || (((
 kind-byte b digits capitals e = grind (arith, nat_tests)
 
 -- a type begins with a letter
-pub kind-ends : (kind : List ℕ) → length kind ≡ 4 → is_kind kind ≡ true → (b : ℕ) × (rest : List ℕ) × (kind ≡ b ∷ rest) × (ends_amount b ≡ true)
+pub kind-ends : (kind : List ℕ) → length kind ≡ 4 → is_entry_type kind ≡ true → (b : ℕ) × (rest : List ℕ) × (kind ≡ b ∷ rest) × (ends_amount b ≡ true)
 kind-ends [] four is = absurd (cc four)
 kind-ends (b ∷ rest) four is = (b, rest, refl, kind-byte b (list_all (is_in N) rest) (list_all (is_in capital_or_digit) rest) is)
 
-pub kind-again : (kind rest : List ℕ) → length kind ≡ 4 → is_kind kind ≡ true → kind_in (kind ++ rest) ≡ Some (kind, rest)
+pub kind-again : (kind rest : List ℕ) → length kind ≡ 4 → is_entry_type kind ≡ true → kind_in (kind ++ rest) ≡ Some (kind, rest)
 kind-again kind rest four is =
     let front : take 4 (kind ++ rest) ≡ kind = take_at kind rest 4 four in
     let back : drop 4 (kind ++ rest) ≡ rest = drop_at kind rest 4 four in
@@ -121,10 +121,10 @@ pub record Cut (line : List ℕ) (p : LineParts) : Type 0 where
   pub behind_amount : List ℕ
   pub behind_kind : List ℕ
   pub date : date_in line ≡ Some (p.date, behind_date)
-  pub entry : entry_in behind_date ≡ (p.entry, behind_entry)
+  pub entry : entry_date_part behind_date ≡ (p.entry, behind_entry)
   pub mark : mark_in behind_entry ≡ Some (p.mark, behind_mark)
   pub funds : funds_in behind_mark ≡ (p.funds, behind_funds)
-  pub amount : amount_in behind_funds ≡ Some (p.amount, behind_amount)
+  pub amount : amount_part behind_funds ≡ Some (p.amount, behind_amount)
   pub kind : kind_in behind_amount ≡ Some (p.kind, behind_kind)
   pub references : references_in behind_kind ≡ Some (p.reference, p.servicer)
 
@@ -136,14 +136,14 @@ pub parts-cut : (line : List ℕ) (p : LineParts) → parts_in line ≡ Some p �
 unfolding parts_in
 parts-cut line p e =
     let date = and-then (date_in line) _ p e in
-    let mark = and-then (mark_in (entry_in date.0.1).1) _ p date.2 in
-    let amount = and-then (amount_in (funds_in mark.0.1).1) _ p mark.2 in
+    let mark = and-then (mark_in (entry_date_part date.0.1).1) _ p date.2 in
+    let amount = and-then (amount_part (funds_in mark.0.1).1) _ p mark.2 in
     let kind = and-then (kind_in amount.0.1) _ p amount.2 in
     let references = and-then (references_in kind.0.1) _ p kind.2 in
-    let same : record { date = date.0.0; entry = (entry_in date.0.1).0; mark = mark.0.0; funds = (funds_in mark.0.1).0; amount = amount.0.0; kind = kind.0.0; reference = references.0.0; servicer = references.0.1 } ≡ p = cc references.2 in
+    let same : record { date = date.0.0; entry = (entry_date_part date.0.1).0; mark = mark.0.0; funds = (funds_in mark.0.1).0; amount = amount.0.0; kind = kind.0.0; reference = references.0.0; servicer = references.0.1 } ≡ p = cc references.2 in
     rw (← same) (record {
       behind_date = date.0.1;
-      behind_entry = (entry_in date.0.1).1;
+      behind_entry = (entry_date_part date.0.1).1;
       behind_mark = mark.0.1;
       behind_funds = (funds_in mark.0.1).1;
       behind_amount = amount.0.1;
@@ -167,7 +167,7 @@ entry-by true rest e =
     let long : 4 ≤ length rest = grind (arith, nat_tests) in
     (length-take-le 4 rest long, p.1)
 
-pub entry-read : (rest : List ℕ) → IfSome (entry_in rest).0 (λ entry. (length entry ≡ 4) × IsTrue (list_all (is_in N) entry))
+pub entry-read : (rest : List ℕ) → IfSome (entry_date_part rest).0 (λ entry. (length entry ≡ 4) × IsTrue (list_all (is_in N) entry))
 entry-read rest = entry-by (nat_le 4 (length rest) && list_all (is_in N) (take 4 rest)) rest refl
 
 funds-by : (b : Bool) (letter : ℕ) (rest : List ℕ) → is_ascii_uppercase letter ≡ b → IfSome (cond {A = Option ℕ × List ℕ} b (Some letter, rest) (None, letter ∷ rest)).0 (λ letter. is_ascii_uppercase letter ≡ true)
@@ -178,10 +178,10 @@ pub funds-read : (rest : List ℕ) → IfSome (funds_in rest).0 (λ letter. is_a
 funds-read [] = tt
 funds-read (letter ∷ rest) = funds-by (is_ascii_uppercase letter) letter rest refl
 
-pub kind-read : (rest kind more : List ℕ) → kind_in rest ≡ Some (kind, more) → (length kind ≡ 4) × (is_kind kind ≡ true)
+pub kind-read : (rest kind more : List ℕ) → kind_in rest ≡ Some (kind, more) → (length kind ≡ 4) × (is_entry_type kind ≡ true)
 kind-read rest kind more e =
-    let s = some-if (nat_le 4 (length rest) && is_kind (take 4 rest)) (Some (take 4 rest, drop 4 rest)) (kind, more) e in
-    let p = both (nat_le 4 (length rest)) (is_kind (take 4 rest)) s.0 in
+    let s = some-if (nat_le 4 (length rest) && is_entry_type (take 4 rest)) (Some (take 4 rest, drop 4 rest)) (kind, more) e in
+    let p = both (nat_le 4 (length rest)) (is_entry_type (take 4 rest)) s.0 in
     let long : 4 ≤ length rest = grind (arith, nat_tests) in
     let pair : (take 4 rest, drop 4 rest) ≡ (kind, more) = cc s.1 in
     let same : take 4 rest ≡ kind = ap (λ (x : List ℕ × List ℕ). x.0) pair in

@@ -27,7 +27,7 @@ use Rattle.mt950.specs.Number.{numbers_of}
 use Rattle.mt950.specs.Order.{order_950}
 use Rattle.mt950.specs.Page.{mt950_of, page_of, said_of, tests_950}
 use Rattle.mt950.specs.Rules.{currency_rules}
-use Rattle.mt950.specs.Writing.{IsBalance, IsEntry, IsPage}
+use Rattle.mt950.specs.Writing.{IsBalance, IsWritableLine, IsPage}
 use Rattle.mt950.specs.declared.balance.Stated.{Stated}
 use Rattle.mt950.specs.declared.entry.Line61.{Line61}
 use Rattle.mt950.specs.declared.page.Page950.{Page950}
@@ -127,9 +127,9 @@ module _ (t : Tables) (fs : List Field) (s : Said) (says : Says t fs (places_fro
       let read = stated-read t at.field x at.says in
       (record { day = read.day; small = read.small; few = few }, read.last_is ∙ fits-letter (row_64.tag == at.field.tag) at.field.letter (at.holds.fitting row_64))
 
-  lines-read : AllByRecursion (IsEntry s.opening.decimals) s.lines
+  lines-read : AllByRecursion (IsWritableLine s.opening.decimals) s.lines
   lines-read =
-      each-weaker (SaidAt (At 4) (line_of s.opening.decimals)) (IsEntry s.opening.decimals) s.lines (said-all At fs 4 (line_of s.opening.decimals) 0 here fs s.lines (stand-any fs) says.lines)
+      each-weaker (SaidAt (At 4) (line_of s.opening.decimals)) (IsWritableLine s.opening.decimals) s.lines (said-all At fs 4 (line_of s.opening.decimals) 0 here fs s.lines (stand-any fs) says.lines)
       (λ (x : Line61) at. (line-read s.opening.decimals at.field x few at.says).is)
 
   said-is : IsPage t (page_of s)
@@ -151,7 +151,7 @@ module _ (t : Tables) (fs : List Field) (s : Said) (says : Says t fs (places_fro
         capitals = opening.capitals;
         known = opening.known;
         opening = record { day = opening.day; small = opening.small; few = few };
-        lines = all-of (IsEntry s.opening.decimals) s.lines lines-read;
+        lines = all-of (IsWritableLine s.opening.decimals) s.lines lines-read;
         closing = record { day = closing.day; small = closing.small; few = few };
         available = some-mapped (λ (x : Stated). x.balance) _ s.available (some-weaker _ _ s.available (said-option At fs 6 (stated_of t) here s.available (stand-any fs) says.available) available-read);
       }

@@ -26,8 +26,8 @@ use Rattle.mt950.specs.Balances.{is_last, stated_of}
 use Rattle.mt950.specs.Entry.{line_of}
 use Rattle.mt950.specs.Order.{order_950}
 use Rattle.mt950.specs.Page.{page_of}
-use Rattle.mt950.specs.Rules.{agrees, c27, currency_rules, is_same, of_available, other_available, other_closing}
-use Rattle.mt950.specs.Writing.{IsBalance, IsEntry, IsPage, PagesReadBack, balance_field, balance_text, fields_950, letter_of, line_field_61, number_field, segments_950}
+use Rattle.mt950.specs.Rules.{same_two_letters, c27, currency_rules, is_same, of_available, other_available, other_closing}
+use Rattle.mt950.specs.Writing.{IsBalance, IsWritableLine, IsPage, PagesReadBack, balance_field, balance_text, fields_950, balance_letter, line_field_61, number_field, segments_950}
 use Rattle.mt950.specs.declared.balance.Balance.{Balance}
 use Rattle.mt950.specs.declared.balance.Stated.{Stated}
 use Rattle.mt950.specs.declared.entry.Line61.{Line61}
@@ -42,20 +42,20 @@ use Rattle.mt950.proofs.Says.{Says, says-said}
 
 -- ---- each field in its place
 
-fits-opening : (last : Bool) (line : List ℕ) → fits row_60 (line_field 60 (Some (letter_of last)) line) ≡ true
+fits-opening : (last : Bool) (line : List ℕ) → fits row_60 (line_field 60 (Some (balance_letter last)) line) ≡ true
 fits-opening true line = refl
 fits-opening false line = refl
 
-fits-closing : (last : Bool) (line : List ℕ) → fits row_62 (line_field 62 (Some (letter_of last)) line) ≡ true
+fits-closing : (last : Bool) (line : List ℕ) → fits row_62 (line_field 62 (Some (balance_letter last)) line) ≡ true
 fits-closing true line = refl
 fits-closing false line = refl
 
 module _ (p : Page950) where
   abbrev opening : Field
-  opening = balance_field 60 (Some (letter_of p.opening.last)) p.ccy p.decimals p.opening
+  opening = balance_field 60 (Some (balance_letter p.opening.last)) p.ccy p.decimals p.opening
 
   abbrev closing : Field
-  closing = balance_field 62 (Some (letter_of p.closing.last)) p.ccy p.decimals p.closing
+  closing = balance_field 62 (Some (balance_letter p.closing.last)) p.ccy p.decimals p.closing
 
   abbrev available : Balance → Field
   available b = balance_field 64 None p.ccy p.decimals b
@@ -119,7 +119,7 @@ account-again : (x : List ℕ) → IsTrue (is_run (is_in X) 35 x) → short_line
 unfolding short_line_of
 account-again x run = rw run refl
 
-letter-again : (last : Bool) → is_last (Some (letter_of last)) ≡ last
+letter-again : (last : Bool) → is_last (Some (balance_letter last)) ≡ last
 letter-again true = refl
 letter-again false = refl
 
@@ -160,14 +160,14 @@ module _ (t : Tables) (p : Page950) (is : IsPage t p) where
   page-says : Says t (joined segs) (places_of 0 segs) (said_page p)
   page-says =
       let write : Stated → Field = λ s. available p s.balance in
-      let each = each-weaker (IsEntry p.decimals) (λ x. line_of p.decimals (line_field_61 p.decimals x) ≡ Ok x) p.lines (each-of (IsEntry p.decimals) p.lines is.lines) (λ (x : Line61) e. line-again p.decimals x e) in
+      let each = each-weaker (IsWritableLine p.decimals) (λ x. line_of p.decimals (line_field_61 p.decimals x) ≡ Ok x) p.lines (each-of (IsWritableLine p.decimals) p.lines is.lines) (λ (x : Line61) e. line-again p.decimals x e) in
       record {
         reference = one-back order_950 segs 0 reference_of (line_field 20 None p.reference) p.reference refl (reference-again p.reference is.reference is.slashes);
         account = one-back order_950 segs 1 (short_line_of 35) (line_field 25 None p.account) p.account refl (account-again p.account is.account);
         numbers = one-back order_950 segs 2 _ (number_field p.number p.page) (record { number = p.number; page = p.page }) refl (numbers-again p.number p.page is.number is.page);
-        opening = one-back order_950 segs 3 (stated_of t) (opening p) (stated p p.opening) refl (balance-again 60 (Some (letter_of p.opening.last)) p.opening is.opening (letter-again p.opening.last));
+        opening = one-back order_950 segs 3 (stated_of t) (opening p) (stated p p.opening) refl (balance-again 60 (Some (balance_letter p.opening.last)) p.opening is.opening (letter-again p.opening.last));
         lines = grouped-all (joined segs) (line_of p.decimals) segs 0 4 0 4 (map (line_field_61 p.decimals) p.lines) p.lines (omega arith) refl (reads-all (line_of p.decimals) (line_field_61 p.decimals) p.lines each);
-        closing = one-back order_950 segs 5 (stated_of t) (closing p) (stated p p.closing) refl (balance-again 62 (Some (letter_of p.closing.last)) p.closing is.closing (letter-again p.closing.last));
+        closing = one-back order_950 segs 5 (stated_of t) (closing p) (stated p p.closing) refl (balance-again 62 (Some (balance_letter p.closing.last)) p.closing is.closing (letter-again p.closing.last));
         available = option-back segs 6 (stated_of t) write (option_map (stated p) p.available) (ap Some (some-stated p p.available)) (each-stated t p p.available (available-again p.available is.available));
       }
 
@@ -191,9 +191,9 @@ available-true test p (Some b) e = e
 
 rules-kept : (p : Page950) → first_of (currency_rules (said_page p)) ≡ None
 rules-kept p =
-    let alike : agrees p.ccy p.ccy ≡ true = same-bytes (take 2 p.ccy.0) in
+    let alike : same_two_letters p.ccy p.ccy ≡ true = same-bytes (take 2 p.ccy.0) in
     let same : is_same p.ccy p.ccy ≡ true = same-bytes p.ccy.0 in
-    let first = kept (agrees p.ccy p.ccy && of_available agrees (said_page p)) _ (two-true _ _ alike (available-true agrees p p.available alike)) in
+    let first = kept (same_two_letters p.ccy p.ccy && of_available same_two_letters (said_page p)) _ (two-true _ _ alike (available-true same_two_letters p p.available alike)) in
     three-kept (c27 (said_page p)) (other_closing (said_page p)) (other_available (said_page p)) first (kept (is_same p.ccy p.ccy) _ same) (kept (of_available is_same (said_page p)) _ (available-true is_same p p.available same))
 
 balance-back : (p : Page950) (o : Option Balance) → option_map (λ (s : Stated). s.balance) (option_map (stated p) o) ≡ o

@@ -21,12 +21,12 @@ line_of decimals f = do
   Ok (record { value = value; entry = parts.entry; mark = parts.mark; funds = parts.funds; amount = amount; kind = parts.kind; reference = parts.reference; servicer = parts.servicer; detail = lines.1 })
 
 -- what an amount of this mark adds to a balance: credits and reversed debits add it
-abbrev pub marked : Mark → ℕ → ℤ
-marked C amount = pos amount
-marked RD amount = pos amount
-marked D amount = neg_ℤ (pos amount)
-marked RC amount = neg_ℤ (pos amount)
+abbrev pub signed_amount : Mark → ℕ → ℤ
+signed_amount C amount = pos amount
+signed_amount RD amount = pos amount
+signed_amount D amount = neg_ℤ (pos amount)
+signed_amount RC amount = neg_ℤ (pos amount)
 
 -- what a line adds to a balance
 abbrev pub effect_of : Line61 → ℤ
-effect_of line = marked line.mark line.amount.0
+effect_of line = signed_amount line.mark line.amount.0

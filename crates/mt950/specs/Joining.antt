@@ -72,8 +72,8 @@ abbrev pub sum_test : ℤ → List Line61 → ℤ → Result (Unit {0}) PageFaul
 sum_test opening lines closing = check (int_eq (opening +ℤ effects_of lines) closing) (DoesNotAdd opening (held (effects_of lines)) closing)
 
 -- a line whose amount is below the end of amounts
-abbrev pub IsSmall : Line61 → Type 0
-IsSmall line = line.amount.0 < amount_end
+abbrev pub IsSmallLine : Line61 → Type 0
+IsSmallLine line = line.amount.0 < amount_end
 
 -- what the lines of a list can add: there are fewer than 2^64, each below 10^14
 abbrev pub IsSum : ℤ → Type 0
@@ -90,26 +90,26 @@ lines_of_pages pages = flat_map (λ page. page.lines) pages
 
 -- a statement whose balances and lines may be added, compared and printed: 4 decimals at most, a day from 1980 to 2079, balances
 -- and amounts below 10^14, and the lines give the closing
-pub record IsStatement (s : Statement) : Type 0 where
+pub record IsAddable (s : Statement) : Type 0 where
   pub few : s.decimals ≤ 4
   pub opening : unsigned_abs s.opening < amount_end
-  pub lines : All IsSmall s.lines
+  pub lines : All IsSmallLine s.lines
   pub closing : unsigned_abs s.closing < amount_end
   pub day : InCentury s.day
   pub adds : s.opening +ℤ effects_of s.lines ≡ s.closing
 
 -- no fault, or this one
-abbrev pub without : Option PageFault → Result (Unit {0}) PageFault
-without None = Ok tt
-without (Some fault) = Err fault
+abbrev pub unless_page_fault : Option PageFault → Result (Unit {0}) PageFault
+unless_page_fault None = Ok tt
+unless_page_fault (Some fault) = Err fault
 
 -- pages with a first one: the gaps, the balances that are carried, and the sum of opening and lines
 abbrev pub joined_with : Page950 → List Page950 → Result Statement PageFault
 joined_with first pages = do
   let last = last_of first pages
   let lines = lines_of_pages pages
-  _ ← without (option_map Gap (first_gap first (length pages) 0 pages))
-  _ ← without (first_uncarried first pages)
+  _ ← unless_page_fault (option_map Gap (first_gap first (length pages) 0 pages))
+  _ ← unless_page_fault (first_uncarried first pages)
   _ ← sum_test first.opening.signed lines last.closing.signed
   Ok (record { account = first.account; ccy = first.ccy; decimals = first.decimals; opening = first.opening.signed; lines = lines; closing = last.closing.signed; day = last.closing.day })
 

@@ -17,8 +17,8 @@ abbrev pub date_in : List ℕ → Option (List ℕ × List ℕ)
 date_in line = if nat_le 6 (length line) && list_all (is_in N) (take 6 line) then Some (take 6 line, drop 6 line) else None
 
 -- the entry date: four digits, where they stand there
-abbrev pub entry_in : List ℕ → Option (List ℕ) × List ℕ
-entry_in rest = if nat_le 4 (length rest) && list_all (is_in N) (take 4 rest) then (Some (take 4 rest), drop 4 rest) else (None, rest)
+abbrev pub entry_date_part : List ℕ → Option (List ℕ) × List ℕ
+entry_date_part rest = if nat_le 4 (length rest) && list_all (is_in N) (take 4 rest) then (Some (take 4 rest), drop 4 rest) else (None, rest)
 
 -- behind R: the reversal of a credit or of a debit
 abbrev pub reversal_in : List ℕ → Option (Mark × List ℕ)
@@ -44,17 +44,17 @@ abbrev pub end_of_amount : List ℕ → ℕ
 end_of_amount rest = unwrap_or (position (λ b. not (is_ascii_digit b || is_comma b)) rest) (length rest)
 
 -- the amount: all of them, one at least
-abbrev pub amount_in : List ℕ → Option (List ℕ × List ℕ)
-amount_in rest = if nat_lt 0 (end_of_amount rest) then Some (take (end_of_amount rest) rest, drop (end_of_amount rest) rest) else None
+abbrev pub amount_part : List ℕ → Option (List ℕ × List ℕ)
+amount_part rest = if nat_lt 0 (end_of_amount rest) then Some (take (end_of_amount rest) rest, drop (end_of_amount rest) rest) else None
 
 -- S and three digits, or N or F and three of C
-abbrev pub is_kind : List ℕ → Bool
-is_kind kind =
+abbrev pub is_entry_type : List ℕ → Bool
+is_entry_type kind =
     (begins_with 83 kind && list_all (is_in N) (drop 1 kind)) || ((begins_with 78 kind || begins_with 70 kind) && list_all (is_in capital_or_digit) (drop 1 kind))
 
 -- the type: four such bytes
 abbrev pub kind_in : List ℕ → Option (List ℕ × List ℕ)
-kind_in rest = if nat_le 4 (length rest) && is_kind (take 4 rest) then Some (take 4 rest, drop 4 rest) else None
+kind_in rest = if nat_le 4 (length rest) && is_entry_type (take 4 rest) then Some (take 4 rest, drop 4 rest) else None
 
 -- where the first two slashes in a row stand
 abbrev pub double_slash_in : List ℕ → Option ℕ
@@ -90,10 +90,10 @@ pub record LineParts : Type 0 where
 unfoldable pub parts_in : List ℕ → Option LineParts
 parts_in line = do
   date ← date_in line
-  let entry = entry_in date.1
+  let entry = entry_date_part date.1
   mark ← mark_in entry.1
   let funds = funds_in mark.1
-  amount ← amount_in funds.1
+  amount ← amount_part funds.1
   kind ← kind_in amount.1
   references ← references_in kind.1
   Some (record { date = date.0; entry = entry.0; mark = mark.0; funds = funds.0; amount = amount.0; kind = kind.0; reference = references.0; servicer = references.1 })

@@ -9,8 +9,8 @@ use Rattle.corr_money.specs.declared.amount.Ccy.{Ccy}
 use Rattle.mt950.specs.declared.said.Said.{Said}
 
 -- two currencies begin with the same two letters
-abbrev pub agrees : Ccy → Ccy → Bool
-agrees a b = bytes_eq (take 2 a.0) (take 2 b.0)
+abbrev pub same_two_letters : Ccy → Ccy → Bool
+same_two_letters a b = bytes_eq (take 2 a.0) (take 2 b.0)
 
 -- two currencies are the same
 abbrev pub is_same : Ccy → Ccy → Bool
@@ -22,7 +22,7 @@ of_available test said = option_map_or (λ stated. test said.opening.ccy stated.
 
 -- C27: the first two letters of the currencies of 60a, 62a and 64 differ
 abbrev pub c27 : Said → Option Fault
-c27 said = unless (agrees said.opening.ccy said.closing.ccy && of_available agrees said) (record { code = code "C27"; tag = codes "62 "; nth = 1 })
+c27 said = unless (same_two_letters said.opening.ccy said.closing.ccy && of_available same_two_letters said) (record { code = code "C27"; tag = codes "62 "; nth = 1 })
 
 -- P24: the whole currency of 62a is another than that of 60a
 abbrev pub other_closing : Said → Option Fault

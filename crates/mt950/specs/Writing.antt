@@ -18,7 +18,7 @@ use Rattle.fin_fields.specs.declared.field.Field.{Field}
 use Rattle.fin_layout.specs.Segments.{joined}
 use Rattle.fin_contents.specs.Writing.{ccy_amount_text, line_field, lines_field, some_field}
 use Rattle.mt950.specs.Page.{mt950_of}
-use Rattle.mt950.specs.Parts.{double_slash_in, is_kind}
+use Rattle.mt950.specs.Parts.{double_slash_in, is_entry_type}
 use Rattle.mt950.specs.declared.balance.Balance.{Balance}
 use Rattle.mt950.specs.declared.entry.Line61.{Line61}
 use Rattle.mt950.specs.declared.entry.Mark.{Mark}
@@ -48,8 +48,8 @@ mark_text mark.RC = codes "RC"
 mark_text mark.RD = codes "RD"
 
 -- the letter of a balance's field: F or M
-abbrev pub letter_of : Bool → ℕ
-letter_of last = if last then 70 else 77
+abbrev pub balance_letter : Bool → ℕ
+balance_letter last = if last then 70 else 77
 
 -- the page's number behind a slash
 abbrev pub page_text : Option ℕ → List ℕ
@@ -97,9 +97,9 @@ segments_950 p =
     (line_field 20 None p.reference ∷ [])
     ∷ (line_field 25 None p.account ∷ [])
     ∷ (number_field p.number p.page ∷ [])
-    ∷ (balance_field 60 (Some (letter_of p.opening.last)) p.ccy p.decimals p.opening ∷ [])
+    ∷ (balance_field 60 (Some (balance_letter p.opening.last)) p.ccy p.decimals p.opening ∷ [])
     ∷ map (line_field_61 p.decimals) p.lines
-    ∷ (balance_field 62 (Some (letter_of p.closing.last)) p.ccy p.decimals p.closing ∷ [])
+    ∷ (balance_field 62 (Some (balance_letter p.closing.last)) p.ccy p.decimals p.closing ∷ [])
     ∷ some_field (balance_field 64 None p.ccy p.decimals) p.available
     ∷ []
 
@@ -121,14 +121,14 @@ IsEnded reference None = double_slash_in reference ≡ None
 IsEnded reference (Some servicer) = double_slash_in (reference ++ 47 ∷ []) ≡ None
 
 -- a line that can be written: each part is of its form
-pub record IsEntry (decimals : ℕ) (line : Line61) : Type 0 where
+pub record IsWritableLine (decimals : ℕ) (line : Line61) : Type 0 where
   pub value : InCentury line.value
   pub entry : IfSome line.entry (λ entry. (length entry ≡ 4) × IsTrue (list_all (is_in N) entry))
   pub funds : IfSome line.funds (λ letter. is_ascii_uppercase letter ≡ true)
   pub small : line.amount.0 < amount_end
   pub few : decimals ≤ 4
   pub four : length line.kind ≡ 4
-  pub kind : IsTrue (is_kind line.kind)
+  pub kind : IsTrue (is_entry_type line.kind)
   pub reference : IsTrue (is_run (is_in X) 16 line.reference)
   pub ended : IsEnded line.reference line.servicer
   pub servicer : IfSome line.servicer (λ text. IsTrue (is_run (is_in X) 16 text))
@@ -150,7 +150,7 @@ pub record IsPage (t : Tables) (p : Page950) : Type 0 where
   pub capitals : IsTrue (list_all (is_in A) p.ccy.0)
   pub known : decimals_in t p.ccy.0 ≡ Some p.decimals
   pub opening : IsBalance p.decimals p.opening
-  pub lines : All (IsEntry p.decimals) p.lines
+  pub lines : All (IsWritableLine p.decimals) p.lines
   pub closing : IsBalance p.decimals p.closing
   pub available : IfSome p.available (λ b. IsBalance p.decimals b × (b.last ≡ false))
 

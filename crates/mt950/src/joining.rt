@@ -3,7 +3,7 @@
 ghost use Rattle.std.specs.Prelude.{◌≡◌, ◌≤◌, ◌++◌, ◌+ℤ◌, All, IfOk, OnOk, length, option_map};
 ghost use Rattle.std.specs.Ordering.{int_eq};
 ghost use Rattle.fin_contents.specs.Writing.{IsReadable};
-ghost use Rattle.mt950.specs.Joining.{IsSmall, IsStatement, IsSum, Joins, effects_of, first_gap, first_uncarried, follows, held, is_same_statement, joined_of, joined_with, lines_of_pages, most_pages, sum_test, without};
+ghost use Rattle.mt950.specs.Joining.{IsSmallLine, IsAddable, IsSum, Joins, effects_of, first_gap, first_uncarried, follows, held, is_same_statement, joined_of, joined_with, lines_of_pages, most_pages, sum_test, unless_page_fault};
 ghost use Rattle.mt950.specs.Page.{mt950_of};
 ghost use Rattle.mt950.specs.declared.joining.PageFault.TheVariants.{Gap};
 
@@ -105,7 +105,7 @@ fn opens_at(closing: i64, page: &Page950) -> bool
 /// Each page belongs at its place.
 fn check_gaps(first: &Page950, pages: &[Page950]) -> Result<(), PageFault>
     requires { length pages.now ≤ most_pages }
-    ensures { result ≡ without (option_map Gap (first_gap first.now (length pages.now) 0 pages.now)) }
+    ensures { result ≡ unless_page_fault (option_map Gap (first_gap first.now (length pages.now) 0 pages.now)) }
 {
     match first_gap(first, pages) {
         Some(page) => Err(PageFault::Gap { page }),
@@ -116,7 +116,7 @@ fn check_gaps(first: &Page950, pages: &[Page950]) -> Result<(), PageFault>
 /// Each page opens where the one before closed, the first as it does itself.
 fn check_carried(first: &Page950, pages: &[Page950]) -> Result<(), PageFault>
     requires { length pages.now ≤ most_pages }
-    ensures { result ≡ without (first_uncarried first.now pages.now) }
+    ensures { result ≡ unless_page_fault (first_uncarried first.now pages.now) }
 {
     let mut closing = first.opening.signed;
     for (at, page) in pages.iter().enumerate() {
@@ -152,7 +152,7 @@ fn all_lines(alloc: Global, pages: &[Page950]) -> Result<List<Line61>, Memory>
 }
 
 fn effects_of(lines: &[Line61]) -> i128
-    requires { All IsSmall lines.now }
+    requires { All IsSmallLine lines.now }
     ensures sum { result ≡ effects_of lines.now }
     ensures bound { IsSum result }
 {
@@ -184,7 +184,7 @@ fn adds_up(opening: i64, sum: i128, closing: i64) -> bool
 }
 
 fn check_sum(first: &Page950, lines: &[Line61], last: &Page950) -> Result<(), PageFault>
-    requires { All IsSmall lines.now }
+    requires { All IsSmallLine lines.now }
     ensures { result ≡ sum_test first.now.opening.signed lines.now last.now.closing.signed }
 {
     let sum = effects_of(lines);
@@ -201,7 +201,7 @@ fn check_sum(first: &Page950, lines: &[Line61], last: &Page950) -> Result<(), Pa
 fn join_with(alloc: Global, first: &Page950, pages: &[Page950]) -> Result<Statement, PageFault>
     requires some { 1 ≤ length pages.now }
     requires few { length pages.now ≤ most_pages }
-    requires small { All IsSmall (lines_of_pages pages.now) }
+    requires small { All IsSmallLine (lines_of_pages pages.now) }
     ensures { Joins result (joined_with first.now pages.now) }
 {
     check_gaps(first, pages)?;
@@ -235,7 +235,7 @@ pub fn join_pages(alloc: Global, pages: &[Page950]) -> Result<Statement, PageFau
     requires few { length pages.now ≤ most_pages }
     requires given { All (IsReadable mt950_of) pages.now }
     ensures joined { Joins result (joined_of pages.now) }
-    ensures sound { IfOk result IsStatement }
+    ensures sound { IfOk result IsAddable }
 {
     match pages {
         [first, ..] => join_with(alloc, first, pages),

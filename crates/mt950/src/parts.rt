@@ -7,11 +7,11 @@ ghost use Rattle.fin_fields.specs.Patterns.{is_run};
 ghost use Rattle.std.specs.Char.{is_ascii_digit};
 ghost use Rattle.std.specs.List.{zip};
 ghost use Rattle.corr_money.specs.Amounts.{is_comma};
-ghost use Rattle.mt950.specs.Parts.{amount_in, date_in, detail_in, double_slash_in, entry_in, funds_in, is_kind, kind_in, mark_in, parts_in, references_in, reversal_in, split_references};
+ghost use Rattle.mt950.specs.Parts.{amount_part, date_in, detail_in, double_slash_in, entry_date_part, funds_in, is_entry_type, kind_in, mark_in, parts_in, references_in, reversal_in, split_references};
 
 use crate::entry::Mark;
 use corr_text::{Set, Text, is_all_of};
-use fin_contents::{array_of, begins_with};
+use fin_contents::array_of;
 use fin_fields::is_run_of;
 
 /// The parts of a line in their order. Its date, its amount and its references are not yet read.
@@ -39,7 +39,7 @@ fn date_in(line: &[u8]) -> Option<(&[u8], &[u8])>
 
 // The entry date, `4!n`, where four digits stand there.
 fn entry_in(rest: &[u8]) -> (Option<[u8; 4]>, &[u8])
-    ensures { (result.0, result.1.now) ≡ entry_in rest.now }
+    ensures { (result.0, result.1.now) ≡ entry_date_part rest.now }
 {
     if rest.len() < 4 || !is_all_of(Set::N, &rest[..4]) {
         return (None, rest);
@@ -95,7 +95,7 @@ fn end_of_amount(rest: &[u8]) -> Option<usize>
 
 // The amount: the longest run of digits and commas, of one byte at least.
 fn amount_in(rest: &[u8]) -> Option<(&[u8], &[u8])>
-    ensures { option_map (λ x. (x.0.now, x.1.now)) result ≡ amount_in rest.now }
+    ensures { option_map (λ x. (x.0.now, x.1.now)) result ≡ amount_part rest.now }
 {
     let end = end_of_amount(rest).unwrap_or(rest.len());
     if end == 0 {
@@ -106,10 +106,10 @@ fn amount_in(rest: &[u8]) -> Option<(&[u8], &[u8])>
 
 fn is_kind(kind: &[u8]) -> bool
     requires { length kind.now ≡ 4 }
-    ensures { result ≡ is_kind kind.now }
+    ensures { result ≡ is_entry_type kind.now }
 {
-    (begins_with(b'S', kind) && is_all_of(Set::N, &kind[1..]))
-        || ((begins_with(b'N', kind) || begins_with(b'F', kind)) && is_all_of(Set::C, &kind[1..]))
+    (kind.starts_with(b"S") && is_all_of(Set::N, &kind[1..]))
+        || ((kind.starts_with(b"N") || kind.starts_with(b"F")) && is_all_of(Set::C, &kind[1..]))
 }
 
 // The type, `1!a3!c`: S and three digits, or N or F and three of C.

@@ -2,6 +2,7 @@
 
 ghost use Rattle.std.specs.Prelude.{◌≡◌, ◌≤◌, All, IfOk, IsTrue, None, Ok, length};
 ghost use Rattle.corr_text.specs.First.{first_of};
+ghost use Rattle.fin_fields.specs.Fields.{most_text_lines};
 ghost use Rattle.fin_contents.specs.Writing.{IsReadable};
 ghost use Rattle.fin_fields.specs.Writing.{IsField};
 ghost use Rattle.fin_layout.specs.Order.{places_from};
@@ -29,7 +30,7 @@ use std::alloc::Global;
 /// fields of a text say (`written`).
 #[tactic(auto, using(crate::proofs::Complete::complete_950))]
 pub fn read_mt950(alloc: Global, f: &[Field], t: &RefTables) -> Result<Page950, MtFault>
-    requires few { length f.now ≤ 65535 }
+    requires few { length f.now ≤ most_text_lines }
     ensures message { Gives result (mt950_of t.now f.now) }
     ensures written { IsTrue (few_decimals t.now.ccys) → All IsField f.now → IfOk result (IsReadable mt950_of) }
     ensures complete { first_of (tests_950 t.now f.now) ≡ None

@@ -3,7 +3,7 @@
 ghost use Rattle.std.specs.Prelude.{◌≡◌, true};
 ghost use Rattle.std.specs.Option.{option_map_or};
 ghost use Rattle.corr_text.specs.First.{first_of};
-ghost use Rattle.mt950.specs.Rules.{agrees, is_same, currency_rules};
+ghost use Rattle.mt950.specs.Rules.{same_two_letters, is_same, currency_rules};
 
 use crate::balance::Stated;
 use crate::said::Said;
@@ -15,13 +15,13 @@ use fin_layout::P24;
 pub const C27: Code = Code(*b"C27");
 
 fn agrees(a: Ccy, b: Ccy) -> bool
-    ensures { result ≡ agrees a b }
+    ensures { result ≡ same_two_letters a b }
 {
     a.0[0] == b.0[0] && a.0[1] == b.0[1]
 }
 
 fn available_agrees(opening: Ccy, available: &Option<Stated>) -> bool
-    ensures { result ≡ option_map_or (λ stated. agrees opening stated.ccy) available.now true }
+    ensures { result ≡ option_map_or (λ stated. same_two_letters opening stated.ccy) available.now true }
 {
     match available {
         Some(stated) => agrees(opening, stated.ccy),

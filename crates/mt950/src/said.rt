@@ -1,6 +1,7 @@
 //! What the fields of an MT950 say, with the currency of each balance.
 
 ghost use Rattle.std.specs.Prelude.{◌≡◌, ◌≤◌, Some, length};
+ghost use Rattle.fin_fields.specs.Fields.{most_text_lines};
 ghost use Rattle.fin_layout.specs.Contents.{all_from};
 ghost use Rattle.fin_layout.specs.Reading.{Gives};
 ghost use Rattle.mt950.specs.Entry.{line_of};
@@ -41,7 +42,7 @@ fn read_lines(
     fields: &[Field],
     found: &[usize],
 ) -> Result<List<Line61>, MtFault>
-    requires few { length fields.now ≤ 65535 }
+    requires few { length fields.now ≤ most_text_lines }
     requires each { length found.now ≤ length fields.now }
     requires known { decimals_in tables.now opening.now.ccy.0 ≡ Some opening.now.decimals }
     ensures { Gives result (all_from fields.now at_lines (line_of opening.now.decimals) 0 found.now fields.now) }
@@ -60,7 +61,7 @@ pub fn read_said(
     fields: &[Field],
     found: &[usize],
 ) -> Result<Said, MtFault>
-    requires few { length fields.now ≤ 65535 }
+    requires few { length fields.now ≤ most_text_lines }
     requires each { length found.now ≤ length fields.now }
     ensures { Gives result (said_of tables.now fields.now found.now) }
 {

@@ -7,7 +7,7 @@ ghost use Rattle.fin_fields.specs.Fields.{fields_of};
 ghost use Rattle.fin_fields.specs.Writing.{fields_text};
 ghost use Rattle.fin_fields.specs.declared.field.Field.{Field as FieldSeen};
 ghost use Rattle.mt950.specs.Page.{mt950_of};
-ghost use Rattle.mt950.specs.Writing.{IsBalance, IsEntry, balance_field, balance_mark, detail_lines, fields_950, funds_text, letter_of, line_field_61, line_text, mark_text, number_field, page_text, part_text, servicer_text};
+ghost use Rattle.mt950.specs.Writing.{IsBalance, IsWritableLine, balance_field, balance_mark, detail_lines, fields_950, funds_text, balance_letter, line_field_61, line_text, mark_text, number_field, page_text, part_text, servicer_text};
 ghost use Rattle.ref_tables.specs.Seen.{Tables};
 
 use crate::balance::Balance;
@@ -22,7 +22,7 @@ use std::alloc::Global;
 
 /// The letter of a balance's field.
 fn letter_of(last: bool) -> u8
-    ensures { result ≡ letter_of last }
+    ensures { result ≡ balance_letter last }
 {
     if last { b'F' } else { b'M' }
 }
@@ -121,7 +121,7 @@ fn put_servicer(servicer: &Option<Text>, out: &mut Text) -> Result<(), Memory>
 
 /// The first line of a field 61.
 fn put_first_line(alloc: Global, decimals: u8, line: &Line61) -> Result<Text, Memory>
-    requires { IsEntry decimals line.now }
+    requires { IsWritableLine decimals line.now }
     ensures { IfOk result (λ t. t ≡ line_text decimals line.now) }
 {
     let mut out = Text::from_bytes(alloc, b"")?;
@@ -146,7 +146,7 @@ fn push_detail(alloc: Global, detail: &Option<Text>, lines: &mut List<Text>) -> 
 }
 
 fn put_line(alloc: Global, decimals: u8, line: &Line61) -> Result<Field, Memory>
-    requires { IsEntry decimals line.now }
+    requires { IsWritableLine decimals line.now }
     ensures { IfOk result (λ f. f ≡ line_field_61 decimals line.now) }
 {
     let mut lines = List::new(alloc);
@@ -165,7 +165,7 @@ fn push_lines(
     lines: &[Line61],
     fields: &mut List<Field>,
 ) -> Result<(), Memory>
-    requires { All (IsEntry decimals) lines.now }
+    requires { All (IsWritableLine decimals) lines.now }
     ensures { OnOk result (fields.new ≡ fields.old ++ map (line_field_61 decimals) lines.now) }
 {
     for line in lines {
@@ -187,7 +187,7 @@ fn push_available(alloc: Global, p: &Page950, fields: &mut List<Field>) -> Resul
 #[tactic(auto, unfolding(crate::specs::Writing::fields_950))]
 fn fields_950(alloc: Global, p: &Page950) -> Result<List<Field>, Memory>
     requires opening { IsBalance p.now.decimals p.now.opening }
-    requires lines { All (IsEntry p.now.decimals) p.now.lines }
+    requires lines { All (IsWritableLine p.now.decimals) p.now.lines }
     requires closing { IsBalance p.now.decimals p.now.closing }
     requires available { IfSome p.now.available (IsBalance p.now.decimals) }
     ensures { IfOk result (λ fields. fields ≡ fields_950 p.now) }

@@ -1,6 +1,7 @@
 //! What an MT900 and an MT910 have in common.
 
 ghost use Rattle.std.specs.Prelude.{◌≤◌, length};
+ghost use Rattle.fin_fields.specs.Fields.{most_text_lines};
 ghost use Rattle.fin_layout.specs.Reading.{Gives};
 ghost use Rattle.mt9_advice.specs.Parts.{booking_of};
 
@@ -32,7 +33,7 @@ pub fn read_booking(
     fields: &[Field],
     found: &[usize],
 ) -> Result<Booking, MtFault>
-    requires few { length fields.now ≤ 65535 }
+    requires few { length fields.now ≤ most_text_lines }
     requires long { 5 ≤ length order.now }
     ensures { Gives result (booking_of order.now tables.now fields.now found.now) }
 {

@@ -2,6 +2,7 @@
 
 ghost use Rattle.std.specs.Prelude.{◌≡◌, ◌≤◌, All, IfOk, IsTrue, None, Ok, length};
 ghost use Rattle.corr_text.specs.First.{first_of};
+ghost use Rattle.fin_fields.specs.Fields.{most_text_lines};
 ghost use Rattle.fin_contents.specs.Money.{IsPayable};
 ghost use Rattle.fin_contents.specs.Writing.{IsReadable};
 ghost use Rattle.fin_fields.specs.Writing.{IsField};
@@ -84,7 +85,7 @@ fn read_credit(
     fields: &[Field],
     found: &[usize],
 ) -> Result<Booking, MtFault>
-    requires few { length fields.now ≤ 65535 }
+    requires few { length fields.now ≤ most_text_lines }
     ensures { Gives result (booking_of order_910 tables.now fields.now found.now) }
 {
     read_booking(alloc, &ORDER_910, tables, fields, found)
@@ -97,7 +98,7 @@ fn read_contents(
     fields: &[Field],
     found: &[usize],
 ) -> Result<Mt910, MtFault>
-    requires few { length fields.now ≤ 65535 }
+    requires few { length fields.now ≤ most_text_lines }
     ensures { Gives result (parts_910 tables.now fields.now found.now) }
 {
     let booking = read_credit(alloc, tables, fields, found)?;
@@ -130,7 +131,7 @@ fn c06(m: &Mt910) -> Option<Fault>
 /// (`written`).
 #[tactic(auto, using(crate::proofs::Complete::complete_910))]
 pub fn read_mt910(alloc: Global, f: &[Field], t: &RefTables) -> Result<Mt910, MtFault>
-    requires few { length f.now ≤ 65535 }
+    requires few { length f.now ≤ most_text_lines }
     ensures message { Gives result (mt910_of t.now f.now) }
     ensures amount { IfOk result (λ m. IsPayable m.amount) }
     ensures written { IsTrue (few_decimals t.now.ccys) → All IsField f.now → IfOk result (IsReadable mt910_of) }

@@ -2,6 +2,7 @@
 
 ghost use Rattle.std.specs.Prelude.{◌≡◌, ◌≤◌, All, IfOk, IsTrue, None, Ok, length};
 ghost use Rattle.corr_text.specs.First.{first_of};
+ghost use Rattle.fin_fields.specs.Fields.{most_text_lines};
 ghost use Rattle.fin_contents.specs.Money.{IsPayable};
 ghost use Rattle.fin_contents.specs.Writing.{IsReadable};
 ghost use Rattle.fin_fields.specs.Writing.{IsField};
@@ -69,7 +70,7 @@ fn read_contents(
     fields: &[Field],
     found: &[usize],
 ) -> Result<Mt900, MtFault>
-    requires few { length fields.now ≤ 65535 }
+    requires few { length fields.now ≤ most_text_lines }
     ensures { Gives result (parts_900 tables.now fields.now found.now) }
 {
     let booking = read_booking(alloc, &ORDER_900, tables, fields, found)?;
@@ -86,7 +87,7 @@ fn read_contents(
 /// what fields of a text say (`written`).
 #[tactic(auto, using(crate::proofs::Complete::complete_900))]
 pub fn read_mt900(alloc: Global, f: &[Field], t: &RefTables) -> Result<Mt900, MtFault>
-    requires few { length f.now ≤ 65535 }
+    requires few { length f.now ≤ most_text_lines }
     ensures message { Gives result (mt900_of t.now f.now) }
     ensures amount { IfOk result (λ m. IsPayable m.amount) }
     ensures written { IsTrue (few_decimals t.now.ccys) → All IsField f.now → IfOk result (IsReadable mt900_of) }

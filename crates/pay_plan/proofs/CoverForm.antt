@@ -16,7 +16,7 @@ use Rattle.fin_contents.specs.Parties.{known_party_of}
 use Rattle.fin_contents.specs.Plain.{reference_of, texts_of, time_of}
 use Rattle.mt202cov.specs.Rules.{all_rules}
 use Rattle.mt202cov.specs.Message.{contents_of, field_tests, mt202cov_of}
-use Rattle.mt202cov.specs.Parts.{banks_of, contents_in_parts, message_of, sequence_a_of, sequence_b_of, terms_of}
+use Rattle.mt202cov.specs.Parts.{banks_of, contents_in_parts, cover_of_parts, sequence_a_of, sequence_b_of, terms_of}
 use Rattle.mt202cov.specs.declared.banks.Banks.{Banks}
 use Rattle.mt202cov.specs.declared.message.Mt202Cov.{Mt202Cov}
 use Rattle.mt202cov.specs.Order.{order_202}
@@ -90,7 +90,7 @@ contents-form t fs found m e =
     let whole : contents_in_parts t fs found ≡ Ok m = contents-are t fs found ∙ e in
     let a = read-then (sequence_a_of t fs found) _ m whole in
     let b = read-then (sequence_b_of t fs found) _ m a.2 in
-    let same : message_of a.0 b.0 ≡ m = ok-is _ m b.2 in
+    let same : cover_of_parts a.0 b.0 ≡ m = ok-is _ m b.2 in
     let s = sequence-form t fs found a.0 a.1 in
     subst (CoverForm t) same (record {
       reference = s.terms.reference;

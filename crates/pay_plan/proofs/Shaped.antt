@@ -21,10 +21,10 @@ use Rattle.day_model.specs.declared.pay.Order.{Order}
 use Rattle.day_model.specs.declared.pay.Order.TheVariants as order
 use Rattle.day_model.specs.declared.pay.Quote.TheVariants.{Theirs}
 use Rattle.day_model.specs.declared.pay.Side.TheVariants.{Credit, Debit}
-use Rattle.ref_tables.specs.Seen.{Tables}
+use Rattle.ref_tables.specs.Seen.{Tables, IsKnown}
 use Rattle.fin_parties.specs.declared.party.Party.{Party}
 use Rattle.fin_parties.specs.declared.party.Party.TheVariants as party
-use Rattle.routing.specs.Accounts.{AreBetween, fits}
+use Rattle.routing.specs.Accounts.{AreBetween, fits_amount}
 use Rattle.routing.specs.Route.{is_bank}
 use Rattle.routing.specs.declared.routed.Routed.{Routed}
 use Rattle.routing.specs.declared.target.Target.{Target}
@@ -39,7 +39,6 @@ use Rattle.pay_plan.specs.Orders.{next_orders, notices_of, orders_by, orders_of,
 use Rattle.pay_plan.specs.Pay.{legs_of, quote_of}
 use Rattle.pay_plan.specs.Plan.{pay_of}
 use Rattle.pay_plan.specs.Readable.{IsReadBy, IsWritable}
-use Rattle.pay_plan.specs.Sends.{IsKnown}
 use Rattle.pay_plan.specs.Target.{aimed, bank_target, customer_target, names_home}
 use Rattle.pay_plan.specs.Way.{way_of}
 use Rattle.pay_plan.proofs.CoverForm.{cover-form}
@@ -124,8 +123,8 @@ two x y h k = All-cons IsLeg x (y ∷ []) h (All-cons IsLeg y [] k (All-nil IsLe
 
 each-leg : (t : Tables) (chart : Chart) (way : Way) (asked : Asked) (routed : Routed) → IsChart chart → AskedForm t asked → AreBetween chart asked.amount routed → All IsLeg (legs_of way asked routed)
 each-leg t chart way asked routed sound h between =
-    let debit = number-form chart routed.debit.0 (option_map_or (fits asked.amount) (account_at chart routed.debit.0) false) sound between.debit in
-    let credit = number-form chart routed.credit.0 (option_map_or (fits asked.amount) (account_at chart routed.credit.0) false) sound between.credit in
+    let debit = number-form chart routed.debit.0 (option_map_or (fits_amount asked.amount) (account_at chart routed.debit.0) false) sound between.debit in
+    let credit = number-form chart routed.credit.0 (option_map_or (fits_amount asked.amount) (account_at chart routed.credit.0) false) sound between.credit in
     let first : Leg = record { account = routed.debit; side = Debit; amount = asked.amount.minor; quote = Theirs asked.reference } in
     let second : Leg = record { account = routed.credit; side = Credit; amount = asked.amount.minor; quote = quote_of way asked } in
     two first second (record { account = debit; quote = h.reference }) (record { account = credit; quote = quote-form t way asked h })
@@ -135,9 +134,9 @@ both a b e f = rw (e, f) refl
 
 -- legs that fit accounts are legs
 legs-form : (chart : Chart) (way : Way) (asked : Asked) (routed : Routed) → legs_fit chart (legs_of way asked routed) ≡ true → routed.debit.0 ≢ routed.credit.0 → are_legs (legs_of way asked routed) ≡ true
-legs-form chart way asked routed fits distinct =
+legs-form chart way asked routed fits_amount distinct =
     let amounts = amounts_fit asked.amount.minor.0 asked.amount.minor.0 in
-    let paid = (and_parts amounts (accounts_fit chart routed.debit.0 routed.credit.0) fits).0 in
+    let paid = (and_parts amounts (accounts_fit chart routed.debit.0 routed.credit.0) fits_amount).0 in
     let same : eqb routed.debit.0 routed.credit.0 ≡ false = ne_eqb routed.debit.0 routed.credit.0 distinct in
     both amounts (not (eqb routed.debit.0 routed.credit.0)) paid (rw same refl)
 
@@ -207,7 +206,7 @@ given None d some h = absurd (cc some)
 pub shaped : (t : Tables) (env : Envelope) (text : List ℕ) (asked : Asked) (routed : Routed) (chart : Chart) → IsSome env.mir → IsWritable env text
     → AskedForm t asked → AreBetween chart asked.amount routed → IfSome routed.via IsBic → legs_fit chart (legs_of (way_of asked.mt asked.target routed.method) asked routed) ≡ true
     → IsChart chart → ((a : Account) → account_at chart routed.debit.0 ≡ Some a → IsBic a.owner) → HasShape (pay_of env text asked routed chart)
-shaped t env text asked routed chart received writable form between via fits sound owner =
+shaped t env text asked routed chart received writable form between via fits_amount sound owner =
     let way = way_of asked.mt asked.target routed.method in
     let orders = there-form t way asked.target routed.via (account_at chart routed.debit.0) form.target via owner in
     record {
@@ -215,7 +214,7 @@ shaped t env text asked routed chart received writable form between via fits sou
       uetr = writable.uetr;
       text = writable.short;
       value = form.value;
-      legs = legs-form chart way asked routed fits between.distinct;
+      legs = legs-form chart way asked routed fits_amount between.distinct;
       each_leg = each-leg t chart way asked routed sound form between;
       few_orders = omega (arith, orders.few);
       each_order = orders.each;

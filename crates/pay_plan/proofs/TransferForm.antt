@@ -16,7 +16,7 @@ use Rattle.fin_contents.specs.Plain.{reference_of, time_of}
 use Rattle.mt103.specs.Codes.{instr_of, kind_of, operation_of}
 use Rattle.mt103.specs.Instructions.{d98, e46}
 use Rattle.mt103.specs.Message.{contents_of, field_tests, mt103_of}
-use Rattle.mt103.specs.Parts.{Parties, Terms, contents_in_parts, details_of, message_of, parties_of, terms_of}
+use Rattle.mt103.specs.Parts.{Parties, Terms, contents_in_parts, details_of, transfer_of_parts, parties_of, terms_of}
 use Rattle.mt103.specs.declared.message.Mt103.{Mt103}
 use Rattle.mt103.specs.Order.{order_103}
 use Rattle.mt103.proofs.laws.Parts.{contents-are}
@@ -75,7 +75,7 @@ contents-form t fs found m e =
     let terms = read-then (terms_of t fs found) _ m whole in
     let parties = read-then (parties_of t fs found) _ m terms.2 in
     let details = read-then (details_of t fs found) _ m parties.2 in
-    let same : message_of terms.0 parties.0 details.0 ≡ m = ok-is _ m details.2 in
+    let same : transfer_of_parts terms.0 parties.0 details.0 ≡ m = ok-is _ m details.2 in
     let first = terms-form t fs found terms.0 terms.1 in
     let second = parties-form t fs found parties.0 parties.1 in
     subst (TransferForm t) same (record { reference = first.reference; value = first.value; p56 = second.p56; p57 = second.p57 })

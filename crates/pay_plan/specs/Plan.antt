@@ -25,8 +25,8 @@ use Rattle.pay_plan.specs.Pay.{legs_of}
 use Rattle.pay_plan.specs.Way.{way_of}
 
 -- the reference of a received message
-abbrev pub mir_in : Envelope → Mir
-mir_in env = unwrap_or env.mir (record { 0 = [] })
+abbrev pub mir_of_envelope : Envelope → Mir
+mir_of_envelope env = unwrap_or env.mir (record { 0 = [] })
 
 -- the orders of a payment whose debit falls on an account of the book
 abbrev pub orders_in : Chart → Way → Target → Routed → List Order
@@ -37,7 +37,7 @@ abbrev pub pay_of : Envelope → List ℕ → Asked → Routed → Chart → Pay
 pay_of env text asked routed chart =
     let way = way_of asked.mt asked.target routed.method in
     record {
-      mir = mir_in env;
+      mir = mir_of_envelope env;
       mt = asked.mt;
       uetr = env.uetr;
       text = text;

@@ -29,8 +29,8 @@ IsReadBy t (Transfer m) = IsTransferRead t m.now
 IsReadBy t (Cover m) = IsCoverRead t m.now
 
 -- under some tables
-abbrev pub IsRead : Ask → Type 0
-IsRead ask = (t : Tables) × IsReadBy t ask
+abbrev pub IsSomeReading : Ask → Type 0
+IsSomeReading ask = (t : Tables) × IsReadBy t ask
 
 -- an envelope and a text whose pay can be written down: the reference and the UETR meet their grammar, and the text is short
 pub record IsWritable (env : Envelope) (text : List ℕ) : Type 0 where

@@ -2,7 +2,7 @@
 use Rattle.std.specs.Prelude.{◌≡◌, ℕ, true, All, IfSome, IsTrue, List, Some, slice_get}
 use Rattle.corr_ids.specs.declared.bic.Bic.{Bic}
 use Rattle.corr_ids.specs.declared.envelope.Envelope.{Envelope}
-use Rattle.ref_tables.specs.Seen.{Tables, has_head}
+use Rattle.ref_tables.specs.Seen.{Tables, has_head, IsKnown}
 use Rattle.day_model.specs.Chart.{Chart, account_at}
 use Rattle.day_model.specs.declared.account.Account.{Account}
 use Rattle.day_model.specs.declared.pay.Leg.{Leg}
@@ -11,30 +11,26 @@ use Rattle.day_model.specs.declared.pay.Mt.TheVariants as mt
 use Rattle.day_model.specs.declared.pay.Order.{Order}
 use Rattle.day_model.specs.declared.pay.Order.TheVariants as order
 use Rattle.day_model.specs.declared.pay.Pay.{Pay}
-use Rattle.routing.specs.Accounts.{fits}
+use Rattle.routing.specs.Accounts.{fits_amount}
 use Rattle.pay_plan.specs.Asked.{Asked}
-use Rattle.pay_plan.specs.Plan.{mir_in}
-
--- the tables hold the head of a bank
-abbrev pub IsKnown : Tables → Bic → Type 0
-IsKnown t b = has_head t b.head ≡ true
+use Rattle.pay_plan.specs.Plan.{mir_of_envelope}
 
 -- an order that follows a message of a type, at banks whose heads the tables hold: a transfer is followed by transfers and their
 -- covers, a cover is passed on or told to the bank that it credits, and both are told to the bank that is debited
-abbrev pub Follows : Tables → Mt → Order → Type 0
-Follows t mt.Transfer (order.Transfer to skip via) = IsKnown t to × IfSome via (IsKnown t)
-Follows t mt.Transfer (order.Cover to end skip) = IsKnown t to × IsKnown t end
-Follows t mt.Transfer (order.Debit to leg) = IsKnown t to
-Follows t mt.Cover (order.Pass to skip) = IsKnown t to
-Follows t mt.Cover (order.Debit to leg) = IsKnown t to
-Follows t mt.Cover (order.Credit to leg) = IsKnown t to
-Follows t _ _ = ⊥
+abbrev pub FollowsMessage : Tables → Mt → Order → Type 0
+FollowsMessage t mt.Transfer (order.Transfer to skip via) = IsKnown t to × IfSome via (IsKnown t)
+FollowsMessage t mt.Transfer (order.Cover to end skip) = IsKnown t to × IsKnown t end
+FollowsMessage t mt.Transfer (order.Debit to leg) = IsKnown t to
+FollowsMessage t mt.Cover (order.Pass to skip) = IsKnown t to
+FollowsMessage t mt.Cover (order.Debit to leg) = IsKnown t to
+FollowsMessage t mt.Cover (order.Credit to leg) = IsKnown t to
+FollowsMessage t _ _ = ⊥
 
 -- the pay of a message: it keeps reference, type and text; the account of each leg has the currency and the decimals of the amount
 -- that is asked for; and its orders follow the message
 pub record IsPayOf (t : Tables) (chart : Chart) (env : Envelope) (text : List ℕ) (asked : Asked) (pay : Pay) : Type 0 where
-  pub mir_is : pay.mir ≡ mir_in env
+  pub mir_is : pay.mir ≡ mir_of_envelope env
   pub mt_is : pay.mt ≡ asked.mt
   pub text_is : pay.text ≡ text
-  pub accounts : (n : ℕ) (leg : Leg) (x : Account) → slice_get pay.legs n ≡ Some leg → account_at chart leg.account.0 ≡ Some x → IsTrue (fits asked.amount x)
-  pub orders : All (Follows t asked.mt) pay.orders
+  pub accounts : (n : ℕ) (leg : Leg) (x : Account) → slice_get pay.legs n ≡ Some leg → account_at chart leg.account.0 ≡ Some x → IsTrue (fits_amount asked.amount x)
+  pub orders : All (FollowsMessage t asked.mt) pay.orders

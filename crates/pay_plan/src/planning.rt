@@ -7,7 +7,7 @@ ghost use Rattle.day_model.specs.Fit.{FitsAccounts};
 ghost use Rattle.day_model.specs.Shape.{HasShape};
 ghost use Rattle.day_model.specs.declared.account.Account.{Account};
 ghost use Rattle.pay_plan.specs.Plan.{Plans, pay_of, plan_of};
-ghost use Rattle.pay_plan.specs.Readable.{IsRead, IsWritable};
+ghost use Rattle.pay_plan.specs.Readable.{IsSomeReading, IsWritable};
 
 use crate::ask::Ask;
 use crate::asked::Asked;
@@ -68,7 +68,7 @@ pub fn plan(
     accounts: &Accounts,
 ) -> Result<Pay, PlanFault>
     requires received { IsSome env.now.mir }
-    requires message { IsRead ask }
+    requires message { IsSomeReading ask }
     ensures plan { Plans result (plan_of env.now text.now ask.entry ssi.now accounts.now) }
     ensures fit { IfOk result (FitsAccounts accounts.now) }
     ensures form { IsWritable env.now text.now → IfOk result HasShape }

@@ -1,8 +1,9 @@
 -- What contracts see of the reference tables, and what they say.
-use Rattle.std.specs.Prelude.{ℕ, Bool, false, List, Option, unwrap_or, is_some, nat_le}
+use Rattle.std.specs.Prelude.{◌≡◌, ℕ, Bool, true, false, List, Option, unwrap_or, is_some, nat_le}
 use Rattle.std.specs.List.{list_all}
 use Rattle.std.specs.Map.{lookup}
 use Rattle.std.specs.Str.{bytes_eq}
+use Rattle.corr_ids.specs.declared.bic.Bic.{Bic}
 
 -- banks by head, with their branches; currencies by code, with their decimals; countries by code, and whether they are listed
 pub record Tables : Type 0 where
@@ -13,6 +14,10 @@ pub record Tables : Type 0 where
 -- a bank of the table has this head
 abbrev pub has_head : Tables → List ℕ → Bool
 has_head t head = is_some (lookup (bytes_eq head) t.bics)
+
+-- the tables hold the head of a bank
+abbrev pub IsKnown : Tables → Bic → Type 0
+IsKnown t b = has_head t b.head ≡ true
 
 -- the decimals of a currency, none where it is not in the table
 abbrev pub decimals_in : Tables → List ℕ → Option ℕ

@@ -9,9 +9,9 @@ use Rattle.std.proofs.lemmas.Slice.Eq.{bytes_eq-Decides}
 use Rattle.corr_money.specs.declared.amount.Amount.{Amount}
 use Rattle.day_model.specs.declared.account.Account.{Account}
 use Rattle.day_model.specs.declared.account.AcctNo.{AcctNo}
-use Rattle.day_model.specs.Chart.{AreRows, Chart, IsListed, account_at, customer, has_id, is_ccy, is_owned, nostro, number_of_first, vostro}
+use Rattle.day_model.specs.Chart.{AreRows, Chart, IsListed, account_at, customer, has_id, is_same_ccy, is_owned, nostro, number_of_first, vostro}
 use Rattle.day_model.proofs.laws.Places.{position_from-within}
-use Rattle.routing.specs.Accounts.{fits, fits_at, named, serves}
+use Rattle.routing.specs.Accounts.{fits_amount, fits_at, account_named, serves}
 use Rattle.routing.specs.declared.ledger.Wanted.{Wanted}
 use Rattle.routing.specs.declared.ledger.Wanted.TheVariants.{Customer, Relation, Vostro, Nostro}
 use Rattle.routing.proofs.Numbers.{StandsAt, found, none-both, none-such, some-both}
@@ -33,7 +33,7 @@ stands t chart n e =
     found t 1 (n.0 - 1) n.0 chart.accounts (place-of t chart.accounts n e) (omega arith)
 
 -- the first account that passes a test that only fitting ones pass fits
-first-fits : (t : Account → Bool) (chart : Chart) (amount : Amount) (n : AcctNo) → ((x : Account) → t x ≡ true → fits amount x ≡ true) → number_of_first t chart.accounts ≡ Some n → fits_at chart amount n ≡ true
+first-fits : (t : Account → Bool) (chart : Chart) (amount : Amount) (n : AcctNo) → ((x : Account) → t x ≡ true → fits_amount amount x ≡ true) → number_of_first t chart.accounts ≡ Some n → fits_at chart amount n ≡ true
 first-fits t chart amount n only e =
     let l : IsListed chart n.0 = listed t chart n e in
     let s : StandsAt t chart.accounts (n.0 - 1) = stands t chart n e in
@@ -46,17 +46,17 @@ last-two true true c d e = e
 last-two true false c d e = cc
 last-two false b c d e = cc
 
-pub owned-fits : (kind : ℕ) (head : List ℕ) (amount : Amount) (x : Account) → is_owned kind head amount.ccy amount.decimals x ≡ true → fits amount x ≡ true
-owned-fits kind head amount x e = last-two (eqb x.kind kind) (bytes_eq x.owner.head head) (is_ccy x.ccy amount.ccy) (eqb x.decimals amount.decimals) e
+pub owned-fits : (kind : ℕ) (head : List ℕ) (amount : Amount) (x : Account) → is_owned kind head amount.ccy amount.decimals x ≡ true → fits_amount amount x ≡ true
+owned-fits kind head amount x e = last-two (eqb x.kind kind) (bytes_eq x.owner.head head) (is_same_ccy x.ccy amount.ccy) (eqb x.decimals amount.decimals) e
 
 either : (a b c : Bool) → (a ≡ true → c ≡ true) → (b ≡ true → c ≡ true) → a || b ≡ true → c ≡ true
 either true b c f g e = f refl
 either false b c f g e = g e
 
-pub serves-fits : (w : Wanted) (amount : Amount) (x : Account) → serves w amount x ≡ true → fits amount x ≡ true
-serves-fits Customer amount x e = (and_parts (eqb x.kind customer) (fits amount x) e).1
+pub serves-fits : (w : Wanted) (amount : Amount) (x : Account) → serves w amount x ≡ true → fits_amount amount x ≡ true
+serves-fits Customer amount x e = (and_parts (eqb x.kind customer) (fits_amount amount x) e).1
 serves-fits (Relation bank) amount x e =
-    either (is_owned vostro bank.head amount.ccy amount.decimals x) (is_owned nostro bank.head amount.ccy amount.decimals x) (fits amount x)
+    either (is_owned vostro bank.head amount.ccy amount.decimals x) (is_owned nostro bank.head amount.ccy amount.decimals x) (fits_amount amount x)
     (owned-fits vostro bank.head amount x) (owned-fits nostro bank.head amount x) e
 serves-fits (Vostro bank) amount x e = owned-fits vostro bank.head amount x e
 serves-fits (Nostro bank) amount x e = owned-fits nostro bank.head amount x e
@@ -72,24 +72,24 @@ not-found : (o : Option ℕ) → option_map numbered o ≡ None → o ≡ None
 not-found (Some k) h = cc
 not-found None h = refl
 
-pub named-None : (id : List ℕ) (w : Wanted) (amount : Amount) (chart : Chart) → number_of_first (has_id id) chart.accounts ≡ None → named id w amount chart ≡ None
+pub named-None : (id : List ℕ) (w : Wanted) (amount : Amount) (chart : Chart) → number_of_first (has_id id) chart.accounts ≡ None → account_named id w amount chart ≡ None
 named-None id w amount chart e =
     ap (option_map numbered) (none-both (has_id id) (serves w amount) 1 chart.accounts (not-found (position_from (has_id id) 1 chart.accounts) e))
 
 pub named-Some : (id : List ℕ) (w : Wanted) (amount : Amount) (chart : Chart) (n : AcctNo) (x : Account) →
-    number_of_first (has_id id) chart.accounts ≡ Some n → account_at chart n.0 ≡ Some x → serves w amount x ≡ true → named id w amount chart ≡ Some n
+    number_of_first (has_id id) chart.accounts ≡ Some n → account_at chart n.0 ≡ Some x → serves w amount x ≡ true → account_named id w amount chart ≡ Some n
 named-Some id w amount chart n x e there passes =
     let l : IsListed chart n.0 = listed (has_id id) chart n e in
     let both = some-both (has_id id) (serves w amount) 1 (n.0 - 1) n.0 chart.accounts x (place-of (has_id id) chart.accounts n e) (omega arith) there passes in
     ap (option_map numbered) both
 
-pub named-Fits : (id : List ℕ) (w : Wanted) (amount : Amount) (chart : Chart) (n : AcctNo) → named id w amount chart ≡ Some n → fits_at chart amount n ≡ true
+pub named-Fits : (id : List ℕ) (w : Wanted) (amount : Amount) (chart : Chart) (n : AcctNo) → account_named id w amount chart ≡ Some n → fits_at chart amount n ≡ true
 named-Fits id w amount chart n e =
     first-fits (λ x. has_id id x && serves w amount x) chart amount n (λ x both. serves-fits w amount x (and_parts (has_id id x) (serves w amount x) both).1) e
 
 -- ids are distinct: no other account has the id
 pub named-other : (id : List ℕ) (w : Wanted) (amount : Amount) (chart : Chart) (n : AcctNo) (x : Account) → AreRows chart.accounts →
-    number_of_first (has_id id) chart.accounts ≡ Some n → account_at chart n.0 ≡ Some x → serves w amount x ≡ false → named id w amount chart ≡ None
+    number_of_first (has_id id) chart.accounts ≡ Some n → account_at chart n.0 ≡ Some x → serves w amount x ≡ false → account_named id w amount chart ≡ None
 named-other id w amount chart n x rows e there fails =
     let s : StandsAt (has_id id) chart.accounts (n.0 - 1) = stands (has_id id) chart n e in
     let mine : s.item.id ≡ id = (bytes_eq-Decides s.item.id id).0 s.passes in

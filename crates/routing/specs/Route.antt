@@ -14,7 +14,7 @@ use Rattle.ssi_versions.specs.declared.method.Method.{Method}
 use Rattle.ssi_versions.specs.declared.method.Method.TheVariants as method
 use Rattle.ssi_versions.specs.declared.row.SsiRow.{SsiRow}
 use Rattle.ssi_versions.specs.Instruction.{instruction_at}
-use Rattle.routing.specs.Accounts.{account_with, named}
+use Rattle.routing.specs.Accounts.{account_with, account_named}
 use Rattle.routing.specs.declared.cover.Cover.{Cover}
 use Rattle.routing.specs.declared.cover.Cover.TheVariants as cover
 use Rattle.routing.specs.declared.credit.Credit.{Credit}
@@ -41,27 +41,27 @@ cover_of_bank bank sender amount chart =
 abbrev pub debit_of : Bic → Amount → Cover → Chart → Result AcctNo Code
 debit_of sender amount cover.Relation chart = relation_of sender amount chart
 debit_of sender amount (cover.Bank bank) chart = cover_of_bank bank sender amount chart
-debit_of sender amount (cover.Account id) chart = or_fault (named id (wanted.Relation sender) amount chart) (code "P32")
+debit_of sender amount (cover.Account id) chart = or_fault (account_named id (wanted.Relation sender) amount chart) (code "P32")
 debit_of sender amount cover.NoBic chart = Err (code "P35")
 
 -- a customer's account, by its id
 abbrev pub customer_credit : Option (List ℕ) → Amount → Chart → Result Credit Code
 customer_credit account amount chart = do
   id ← or_fault account (code "P33")
-  n ← or_fault (named id wanted.Customer amount chart) (code "P33")
+  n ← or_fault (account_named id wanted.Customer amount chart) (code "P33")
   Ok (record { account = n; method = None; via = None })
 
 -- a bank's vostro account, by its id
 abbrev pub booked_credit : Bic → List ℕ → Amount → Chart → Result Credit Code
 booked_credit bank id amount chart = do
-  n ← or_fault (named id (wanted.Vostro bank) amount chart) (code "P36")
+  n ← or_fault (account_named id (wanted.Vostro bank) amount chart) (code "P36")
   Ok (record { account = n; method = Some method.Book; via = None })
 
 -- our nostro account with the bank between that an instruction names
 abbrev pub carried_credit : SsiRow → Amount → Chart → Result Credit Code
 carried_credit row amount chart = do
   via ← or_fault row.via (code "P36")
-  n ← or_fault (named row.account (wanted.Nostro via) amount chart) (code "P36")
+  n ← or_fault (account_named row.account (wanted.Nostro via) amount chart) (code "P36")
   Ok (record { account = n; method = Some row.method; via = Some via })
 
 -- the account to credit, by the method of an instruction

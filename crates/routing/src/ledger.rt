@@ -1,8 +1,8 @@
 //! The accounts that a payment may be booked on.
 
 ghost use Rattle.std.specs.Prelude.{◌≡◌, IfSome, IsTrue};
-ghost use Rattle.day_model.specs.Chart.{is_owned, letter_of};
-ghost use Rattle.routing.specs.Accounts.{account_with, fits, fits_at, named, serves};
+ghost use Rattle.day_model.specs.Chart.{is_owned, kind_letter};
+ghost use Rattle.routing.specs.Accounts.{account_with, fits_amount, fits_at, account_named, serves};
 
 use corr_ids::Bic;
 use corr_money::Amount;
@@ -22,13 +22,13 @@ pub enum Wanted {
 }
 
 fn fits(amount: &Amount, account: &Account) -> bool
-    ensures { result ≡ fits amount.now account.now }
+    ensures { result ≡ fits_amount amount.now account.now }
 {
     account.ccy == amount.ccy && account.decimals == amount.decimals
 }
 
 fn is_owned(kind: Kind, bank: &Bic, amount: &Amount, account: &Account) -> bool
-    ensures { result ≡ is_owned (letter_of kind) bank.now.head amount.now.ccy amount.now.decimals account.now }
+    ensures { result ≡ is_owned (kind_letter kind) bank.now.head amount.now.ccy amount.now.decimals account.now }
 {
     account.kind == kind.letter() && account.owner.head == bank.head && fits(amount, account)
 }
@@ -49,7 +49,7 @@ fn serves(wanted: &Wanted, amount: &Amount, account: &Account) -> bool
 
 /// The account of this kind that a bank owns, in the amount's currency and decimals.
 pub fn account_with(kind: Kind, bank: &Bic, amount: &Amount, a: &Accounts) -> Option<AcctNo>
-    ensures value { result ≡ account_with (letter_of kind) bank.now amount.now a.now }
+    ensures value { result ≡ account_with (kind_letter kind) bank.now amount.now a.now }
     ensures fits { IfSome result (λ n. IsTrue (fits_at a.now amount.now n)) }
 {
     a.owned(kind.letter(), &bank.head, amount.ccy, amount.decimals)
@@ -57,7 +57,7 @@ pub fn account_with(kind: Kind, bank: &Bic, amount: &Amount, a: &Accounts) -> Op
 
 /// The account with this id, if it fits the amount and is what is wanted.
 pub fn named(id: &[u8], wanted: &Wanted, amount: &Amount, a: &Accounts) -> Option<AcctNo>
-    ensures value { result ≡ named id.now wanted.now amount.now a.now }
+    ensures value { result ≡ account_named id.now wanted.now amount.now a.now }
     ensures fits { IfSome result (λ n. IsTrue (fits_at a.now amount.now n)) }
 {
     let n = a.find(id)?;

@@ -1,6 +1,7 @@
 //! Calls of fin_layout: fields at the places of an order.
 
 ghost use Rattle.std.specs.Prelude.{◌≤◌, IfOk, length};
+ghost use Rattle.fin_fields.specs.Fields.{most_text_lines};
 
 use crate::fields::{put_lines, two_digits};
 use crate::lines::fields_in;
@@ -81,7 +82,7 @@ fn order_in(alloc: Global, text: &[u8]) -> Result<Vec<Place>, Stop> {
 
 /// The fields of a text, which can be cut.
 fn fields_of(alloc: Global, text: &[u8]) -> Result<List<Field>, Stop>
-    ensures { IfOk result (λ fields. length fields ≤ 65535) }
+    ensures { IfOk result (λ fields. length fields ≤ most_text_lines) }
 {
     match fields_in(alloc, text) {
         Ok(fields) => Ok(fields),
@@ -100,7 +101,7 @@ struct Laid {
 
 /// The order and the fields of two texts, and the places that they take.
 fn lay(alloc: Global, order: &[u8], text: &[u8]) -> Result<Laid, Stop>
-    ensures few { IfOk result (λ laid. length laid.fields ≤ 65535) }
+    ensures few { IfOk result (λ laid. length laid.fields ≤ most_text_lines) }
     ensures each { IfOk result (λ laid. length laid.found.items ≤ length laid.fields) }
 {
     let order = order_in(alloc, order)?;
@@ -209,7 +210,7 @@ fn put_found(laid: &Laid, at: usize, answer: &mut Answer) -> Result<(), Stop> {
 const CONTENT: Texts = Texts { most: 2 };
 
 fn one_at(alloc: Global, laid: &Laid, at: usize) -> Result<Result<List<Text>, MtFault>, Stop>
-    requires few { length laid.now.fields ≤ 65535 }
+    requires few { length laid.now.fields ≤ most_text_lines }
 {
     if at >= laid.order.len() {
         return Err(Stop::Unreadable);
@@ -235,7 +236,7 @@ fn one(words: &mut Words, answer: &mut Answer) -> Result<(), Stop> {
 }
 
 fn optional_at(alloc: Global, laid: &Laid, at: usize) -> Result<Option<List<Text>>, MtFault>
-    requires few { length laid.now.fields ≤ 65535 }
+    requires few { length laid.now.fields ≤ most_text_lines }
 {
     read_optional(
         alloc,
@@ -258,7 +259,7 @@ fn optional(words: &mut Words, answer: &mut Answer) -> Result<(), Stop> {
 }
 
 fn all_at(alloc: Global, laid: &Laid, at: usize) -> Result<List<List<Text>>, MtFault>
-    requires few { length laid.now.fields ≤ 65535 }
+    requires few { length laid.now.fields ≤ most_text_lines }
     requires each { length laid.now.found.items ≤ length laid.now.fields }
 {
     read_all(

@@ -2,6 +2,7 @@
 
 ghost use Rattle.std.specs.Prelude.{◌≤◌, ◌≢◌, [], All, IfOk, length};
 ghost use Rattle.fin_fields.specs.Writing.{IsField};
+ghost use Rattle.fin_fields.specs.Fields.{most_text_lines};
 
 use crate::fields::{put_field, read_field};
 use corr_text::List;
@@ -40,7 +41,7 @@ pub fn call(name: &[u8], words: &mut Words, answer: &mut Answer) -> Result<bool,
 #[tactic(auto, using(fin_fields::proofs::laws::Bounds::lines_few))]
 pub fn fields_in(alloc: Global, text: &[u8]) -> Result<List<Field>, FieldFault>
     ensures fit { IfOk result (λ fields. (fields ≢ []) × All IsField fields) }
-    ensures few { IfOk result (λ fields. length fields ≤ 65535) }
+    ensures few { IfOk result (λ fields. length fields ≤ most_text_lines) }
 {
     if text.len() > MOST_BYTES {
         return Err(FieldFault::Memory);

@@ -2,6 +2,7 @@
 
 ghost use Rattle.std.specs.Prelude.{◌≤◌, All, IfOk, IsTrue, length};
 ghost use Rattle.fin_fields.specs.Writing.{IsField};
+ghost use Rattle.fin_fields.specs.Fields.{most_text_lines};
 ghost use Rattle.ref_tables.specs.Seen.{few_decimals};
 
 use corr_text::{Code, Fault, List, Memory, Text};
@@ -89,7 +90,7 @@ pub fn text_in(alloc: Global, words: &mut Words) -> Result<Text, Stop> {
 /// The fields of a text, which can be cut.
 #[tactic(auto, using(fin_fields::proofs::laws::Bounds::lines_few))]
 pub fn cut(alloc: Global, text: &[u8]) -> Result<List<Field>, Stop>
-    ensures few { IfOk result (λ fields. length fields ≤ 65535) }
+    ensures few { IfOk result (λ fields. length fields ≤ most_text_lines) }
     ensures fit { IfOk result (λ fields. All IsField fields) }
 {
     if text.len() > 65000 {
@@ -104,7 +105,7 @@ pub fn cut(alloc: Global, text: &[u8]) -> Result<List<Field>, Stop>
 
 /// The fields that the words say, as `text_in` has them.
 pub fn fields_in(alloc: Global, words: &mut Words) -> Result<List<Field>, Stop>
-    ensures few { IfOk result (λ fields. length fields ≤ 65535) }
+    ensures few { IfOk result (λ fields. length fields ≤ most_text_lines) }
     ensures fit { IfOk result (λ fields. All IsField fields) }
 {
     let text = text_in(alloc, words)?;

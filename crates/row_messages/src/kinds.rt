@@ -2,6 +2,7 @@
 
 ghost use Rattle.std.specs.Prelude.{◌≤◌, All, IsTrue, length};
 ghost use Rattle.fin_fields.specs.Writing.{IsField};
+ghost use Rattle.fin_fields.specs.Fields.{most_text_lines};
 ghost use Rattle.ref_tables.specs.Seen.{few_decimals};
 
 use crate::given::{fields_in, put_refusal, tables_in};
@@ -18,11 +19,11 @@ use std::alloc::Global;
 pub trait Kind {
     /// Whether fields say a message of this type.
     fn check(alloc: Global, fields: &[Field], tables: &RefTables) -> Result<(), MtFault>
-        requires { length fields.now ≤ 65535 };
+        requires { length fields.now ≤ most_text_lines };
 
     /// The lines of the message that fields say.
     fn rewrite(alloc: Global, fields: &[Field], tables: &RefTables) -> Result<Text, MtFault>
-        requires few { length fields.now ≤ 65535 }
+        requires few { length fields.now ≤ most_text_lines }
         requires fit { All IsField fields.now }
         requires decimals { IsTrue (few_decimals tables.now.ccys) };
 }
@@ -34,7 +35,7 @@ fn checked<K: Kind>(
     file: &[u8],
     fields: &[Field],
 ) -> Result<Result<(), MtFault>, Stop>
-    requires { length fields.now ≤ 65535 }
+    requires { length fields.now ≤ most_text_lines }
 {
     let tables = tables_in(alloc, file)?;
     Ok(K::check(alloc, fields, &tables))
@@ -56,7 +57,7 @@ fn written<K: Kind>(
     file: &[u8],
     fields: &[Field],
 ) -> Result<Result<Text, MtFault>, Stop>
-    requires few { length fields.now ≤ 65535 }
+    requires few { length fields.now ≤ most_text_lines }
     requires fit { All IsField fields.now }
 {
     let tables = tables_in(alloc, file)?;

@@ -3,7 +3,7 @@
 ghost use Rattle.std.specs.Prelude.{◌≡◌, ◌+◌, ◌≤◌, All, IfOk, IsTrue, OnOk, length};
 ghost use Rattle.corr_ids.specs.Day.{InCentury};
 ghost use Rattle.fin_contents.specs.Writing.{IsReadable};
-ghost use Rattle.mt950.specs.Joining.{IsSmall, IsStatement};
+ghost use Rattle.mt950.specs.Joining.{IsSmallLine, IsAddable};
 ghost use Rattle.mt950.specs.Page.{mt950_of};
 ghost use Rattle.ref_tables.specs.Seen.{few_decimals};
 
@@ -75,7 +75,7 @@ fn pages_in(alloc: Global, tables: &RefTables, texts: &[Text]) -> Result<List<Pa
 
 /// The statement that the pages of some texts are, under the tables of a file.
 fn joined(alloc: Global, file: &[u8], texts: &[Text]) -> Result<Result<Statement, PageFault>, Stop>
-    ensures { IfOk result (λ s. IfOk s IsStatement) }
+    ensures { IfOk result (λ s. IfOk s IsAddable) }
 {
     if texts.len() > 50000 {
         return Err(Stop::Unreadable);
@@ -95,7 +95,7 @@ fn put_day(day: Day, answer: &mut Answer) -> Result<(), Memory>
 
 /// Adds what each line adds to the balance.
 fn put_effects(lines: &[Line61], answer: &mut Answer) -> Result<(), Memory>
-    requires { All IsSmall lines.now }
+    requires { All IsSmallLine lines.now }
 {
     for line in lines {
         answer.signed(line.effect())?;
@@ -105,7 +105,7 @@ fn put_effects(lines: &[Line61], answer: &mut Answer) -> Result<(), Memory>
 
 /// Adds a statement: its account, currency and decimals, opening and closing, the day of the closing, and what each line adds.
 fn put_statement(s: &Statement, answer: &mut Answer) -> Result<(), Memory>
-    requires { IsStatement s.now }
+    requires { IsAddable s.now }
 {
     answer.text(s.account.bytes())?;
     answer.word(&s.ccy.0)?;

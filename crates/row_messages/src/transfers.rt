@@ -1,6 +1,7 @@
 //! Calls of mt103 and mt103_rules.
 
 ghost use Rattle.std.specs.Prelude.{◌≤◌, length};
+ghost use Rattle.fin_fields.specs.Fields.{most_text_lines};
 
 use crate::given::{fields_in, let_go, put_fault, put_refusal, tables_in};
 use crate::kinds::{Kind, read, rewrite};
@@ -64,7 +65,7 @@ fn broken(
     banks: Banks,
     fields: &[Field],
 ) -> Result<Result<Option<Fault>, MtFault>, Stop>
-    requires { length fields.now ≤ 65535 }
+    requires { length fields.now ≤ most_text_lines }
 {
     let tables = tables_in(alloc, file)?;
     Ok(first_broken(alloc, fields, banks, &tables))
@@ -76,7 +77,7 @@ fn first_broken(
     banks: Banks,
     tables: &RefTables,
 ) -> Result<Option<Fault>, MtFault>
-    requires { length fields.now ≤ 65535 }
+    requires { length fields.now ≤ most_text_lines }
 {
     let m = read_mt103(alloc, fields, tables)?;
     let fault = first_rule(&m, &banks.sender, &banks.receiver, tables);

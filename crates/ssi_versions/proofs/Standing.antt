@@ -28,7 +28,7 @@ use Rattle.ssi_versions.specs.declared.method.Method.TheVariants.{Book, Serial, 
 use Rattle.ssi_versions.specs.declared.row.SsiRow.{SsiRow}
 use Rattle.ssi_versions.specs.Instruction.{is_asked}
 use Rattle.ssi_versions.specs.InstructionList.{AreInstructions, IsInForm, IsInstruction}
-use Rattle.ssi_versions.specs.Rows.{form_fault, instruction_fault, instruction_of, is_bank, knows_bank, knows_via, method_in, method_of, overlap, overlaps, standing_fault, via_in, via_of}
+use Rattle.ssi_versions.specs.Rows.{form_fault, instruction_fault, instruction_of, is_bank_text, knows_bank, knows_via, method_in, method_of, overlap, overlaps, standing_fault, via_in, via_of}
 
 six-hold : (a b c d e f : Bool) (g h i j k l : Why) (more : List (Option Why)) → first_of (unless a g ∷ unless b h ∷ unless c i ∷ unless d j ∷ unless e k ∷ unless f l ∷ more) ≡ None
     → (b ≡ true) × (c ≡ true) × (d ≡ true) × (e ≡ true) × (f ≡ true)
@@ -89,7 +89,7 @@ booked-none Cover bs e = absurd (cc e)
 -- the columns of a row have their forms
 in-form : (row : Cells) → form_fault row ≡ None → IsInForm (instruction_of row)
 in-form row none =
-    let h = six-hold (length row == 7) (is_ccy (cell 0 row)) (is_bank (cell 1 row)) (is_some (method_of (cell 2 row))) (is_some (via_in row)) (is_account_id (cell 4 row))
+    let h = six-hold (length row == 7) (is_ccy (cell 0 row)) (is_bank_text (cell 1 row)) (is_some (method_of (cell 2 row))) (is_some (via_in row)) (is_account_id (cell 4 row))
     why.Columns (why.Value 1) (why.Value 2) (why.Value 3) (why.Value 4) (why.Value 5)
     (value 6 (is_some (day_of (cell 5 row))) ∷ value 7 (is_some (day_of (cell 6 row))) ∷ []) none in
     record {

@@ -9,12 +9,12 @@ use Rattle.ref_tables.specs.Seen.{Tables, decimals_in}
 use Rattle.ssi_versions.specs.declared.method.Method.TheVariants.{Book}
 use Rattle.ssi_versions.specs.declared.row.SsiRow.{SsiRow}
 use Rattle.ssi_versions.specs.Instruction.{is_asked}
-use Rattle.ssi_versions.specs.Rows.{is_bank, knows_bank, knows_via, most_instructions}
+use Rattle.ssi_versions.specs.Rows.{is_bank_text, knows_bank, knows_via, most_instructions}
 
 -- an instruction in the form of its columns: there is a bank between, a BIC, exactly where it doesn't pay by BOOK
 pub record IsInForm (r : SsiRow) : Type 0 where
   pub ccy : IsTrue (is_ccy r.ccy.0)
-  pub bank : IsTrue (is_bank r.bank)
+  pub bank : IsTrue (is_bank_text r.bank)
   pub via : (b : Bic) → r.via ≡ Some b → IsBic b
   pub booked : (r.via ≡ None) ↔ (r.method ≡ Book)
   pub account : IsTrue (is_account_id r.account)

@@ -21,8 +21,8 @@ abbrev pub any_bank : List ℕ
 any_bank = 42 ∷ []
 
 -- a bank: * or a BIC
-abbrev pub is_bank : List ℕ → Bool
-is_bank bs = bytes_eq bs any_bank || is_some (bic_of bs)
+abbrev pub is_bank_text : List ℕ → Bool
+is_bank_text bs = bytes_eq bs any_bank || is_some (bic_of bs)
 
 -- the way to pay that this word names
 abbrev pub method_of : List ℕ → Option Method
@@ -60,7 +60,7 @@ abbrev pub form_fault : Cells → Option Why
 form_fault row = first_of (
     columns 7 row
     ∷ value 1 (is_ccy (cell 0 row))
-    ∷ value 2 (is_bank (cell 1 row))
+    ∷ value 2 (is_bank_text (cell 1 row))
     ∷ value 3 (is_some (method_of (cell 2 row)))
     ∷ value 4 (is_some (via_in row))
     ∷ value 5 (is_account_id (cell 4 row))

@@ -1,14 +1,14 @@
 //! The forms of the columns that no other table has (docs/tables.md, "ssi").
 
 ghost use Rattle.std.specs.Prelude.{◌≡◌};
-ghost use Rattle.ssi_versions.specs.Rows.{is_bank, method_of, via_of};
+ghost use Rattle.ssi_versions.specs.Rows.{is_bank_text, method_of, via_of};
 
 use crate::method::Method;
 use corr_ids::{Bic, read_bic};
 
 /// Whether this is `*` or a BIC.
 pub fn is_bank(b: &[u8]) -> bool
-    ensures { result ≡ is_bank b.now }
+    ensures { result ≡ is_bank_text b.now }
 {
     b == b"*".as_slice() || read_bic(b).is_some()
 }

@@ -18,9 +18,9 @@ use Rattle.day_model.specs.declared.entry.Entry.{Entry}
 use Rattle.day_model.specs.declared.pay.Leg.{Leg}
 use Rattle.day_model.proofs.laws.Balances.{listed_account, small_at}
 use Rattle.day_model.proofs.laws.Fitting.{transfer}
-use Rattle.statement.specs.Index.{AreLedgersOf, HasCode, IsIndexOf, Rise, TakesNext, balance_at, changed_at, grown, is_before, last_balance, ledger_with, movement_of, movements_of, pushed}
+use Rattle.statement.specs.Index.{AreLedgersOf, HasCode, IsIndexOf, Rise, TakesNext, balance_at, changed_at, grown, is_of_earlier_day, last_balance, ledger_with, movement_of, movements_of, pushed}
 use Rattle.statement.specs.Legs.{HasQuotes, IsByteQuote, before_day, legs_on, quote_text}
-use Rattle.statement.specs.Seen.{Book}
+use Rattle.statement.specs.Seen.{SeenBook}
 use Rattle.statement.specs.declared.index.HistoryIndex.{HistoryIndex}
 use Rattle.statement.specs.declared.ledger.Ledger.{Ledger}
 use Rattle.statement.specs.declared.movement.Movement.{Movement}
@@ -149,7 +149,7 @@ pub record Booking (chart : Chart) (entry : Entry) (d c : Leg) : Type 0 where
   pub d_small : d.amount.0 < amount_end
   pub c_small : c.amount.0 < amount_end
 
-pub booking : (index : HistoryIndex) (entry : Entry) (book : Book) (d c : Leg) → TakesNext index entry book → is_booked entry.outcome ≡ true → entry.pay.legs ≡ d ∷ c ∷ [] → Booking book.chart entry d c
+pub booking : (index : HistoryIndex) (entry : Entry) (book : SeenBook) (d c : Leg) → TakesNext index entry book → is_booked entry.outcome ≡ true → entry.pay.legs ≡ d ∷ c ∷ [] → Booking book.chart entry d c
 booking index entry book d c next booked are =
     let fits = next.legal.fits (length book.entries) entry (last-get book.entries entry) in
     let t = transfer book.chart entry.pay.legs fits in
@@ -166,26 +166,26 @@ booking index entry book d c next booked are =
       c_small = subst (λ (l : Leg). l.amount.0 < amount_end) is_c c_below;
     }
 
-pub booked-two : (index : HistoryIndex) (entry : Entry) (book : Book) (d c : Leg) (legs : List Leg) → TakesNext index entry book → is_booked entry.outcome ≡ true → legs ≡ entry.pay.legs
+pub booked-two : (index : HistoryIndex) (entry : Entry) (book : SeenBook) (d c : Leg) (legs : List Leg) → TakesNext index entry book → is_booked entry.outcome ≡ true → legs ≡ entry.pay.legs
     → 2 ≤ length legs → length legs < 3 → d ≡ get_or legs 0 d → c ≡ get_or legs 1 c → Booking book.chart entry d c
 booked-two index entry book d c legs next booked same low high e f = booking index entry book d c next booked (sym same ∙ two-of legs d c (omega (arith, low, high)) e f)
 
-pub two-legs : (index : HistoryIndex) (entry : Entry) (book : Book) → TakesNext index entry book → length entry.pay.legs ≡ 2
+pub two-legs : (index : HistoryIndex) (entry : Entry) (book : SeenBook) → TakesNext index entry book → length entry.pay.legs ≡ 2
 two-legs index entry book next = ap length (transfer book.chart entry.pay.legs (next.legal.fits (length book.entries) entry (last-get book.entries entry))).legs_are
 
-pub balance-small : (index : HistoryIndex) (book : Book) (n : ℕ) → IsIndexOf index book → IsListed book.chart n → IsSmall (balance_of book.chart book.entries n)
+pub balance-small : (index : HistoryIndex) (book : SeenBook) (n : ℕ) → IsIndexOf index book → IsListed book.chart n → IsSmall (balance_of book.chart book.entries n)
 balance-small index book n is listed =
     subst (λ (es : List Entry). IsSmall (balance_of book.chart es n)) (take_all (length book.entries) book.entries (omega arith)) (small_at book.chart book.entries n (length book.entries) is.chart is.legal listed (omega arith))
 
 -- ---- what an index keeps of an account
 
 -- a ledger that stands in an index is that of the account
-pub record Kept (book : Book) (n : ℕ) (ledger : Ledger) : Type 0 where
+pub record Kept (book : SeenBook) (n : ℕ) (ledger : Ledger) : Type 0 where
   pub account : Account
   pub there : account_at book.chart n ≡ Some account
   pub same : ledger ≡ ledger_with account (movements_of book.chart n book.entries)
 
-pub kept : (index : HistoryIndex) (book : Book) (n : ℕ) (ledger : Ledger) → IsIndexOf index book → IsListed book.chart n → slice_get index.ledgers.items (n - 1) ≡ Some ledger → Kept book n ledger
+pub kept : (index : HistoryIndex) (book : SeenBook) (n : ℕ) (ledger : Ledger) → IsIndexOf index book → IsListed book.chart n → slice_get index.ledgers.items (n - 1) ≡ Some ledger → Kept book n ledger
 kept index book n ledger is listed at =
     let account = listed_account book.chart n listed in
     let place : n - 1 + 1 ≡ n = omega (arith, listed.0) in
@@ -193,33 +193,33 @@ kept index book n ledger is listed at =
     is.ledgers.each (n - 1) account.0 account.1 ∙ ap (λ (k : ℕ). Some (ledger_with account.0 (movements_of book.chart k book.entries))) place in
     record { account = account.0; there = account.1; same = same_Some ledger (ledger_with account.0 (movements_of book.chart n book.entries)) (sym at ∙ there) }
 
-pub kept-balance-of : (book : Book) (n : ℕ) (ledger : Ledger) → Kept book n ledger → last_balance ledger.opening ledger.movements ≡ balance_of book.chart book.entries n
+pub kept-balance-of : (book : SeenBook) (n : ℕ) (ledger : Ledger) → Kept book n ledger → last_balance ledger.opening ledger.movements ≡ balance_of book.chart book.entries n
 kept-balance-of book n ledger k = ap (λ (l : Ledger). last_balance l.opening l.movements) k.same ∙ last-balance book.chart n k.account book.entries k.there
 
 -- its movements stand in the order of their days, and tell the balance before a day
-pub kept-rise : (index : HistoryIndex) (book : Book) (n : ℕ) (ledger : Ledger) → IsIndexOf index book → Kept book n ledger → Rise ledger.movements
+pub kept-rise : (index : HistoryIndex) (book : SeenBook) (n : ℕ) (ledger : Ledger) → IsIndexOf index book → Kept book n ledger → Rise ledger.movements
 kept-rise index book n ledger is k =
     let up = moves-rise book.chart n [] book.entries (rising entry_day book.entries is.legal.days) in
     subst (λ (l : Ledger). Rise l.movements) (sym k.same) (rise-at movement_day (movements_of book.chart n book.entries) up)
 
-pub kept-before : (index : HistoryIndex) (book : Book) (n : ℕ) (ledger : Ledger) (day : Day) → IsIndexOf index book → Kept book n ledger → balance_at ledger day ≡ balance_of book.chart (before_day day book.entries) n
+pub kept-before : (index : HistoryIndex) (book : SeenBook) (n : ℕ) (ledger : Ledger) (day : Day) → IsIndexOf index book → Kept book n ledger → balance_at ledger day ≡ balance_of book.chart (before_day day book.entries) n
 kept-before index book n ledger day is k =
-    let earlier : List Movement = filter (is_before day.0) (movements_of book.chart n book.entries) in
+    let earlier : List Movement = filter (is_of_earlier_day day.0) (movements_of book.chart n book.entries) in
     ap (λ (l : Ledger). balance_at l day) k.same
     ∙ ap (λ (b : ℤ). last_balance b earlier) (sym (opening-is book.chart n k.account k.there))
     ∙ kept-balance book.chart n (λ d. int_lt d day.0) (lt-down day.0) [] book.entries (rising entry_day book.entries is.legal.days)
 
-pub within : (index : HistoryIndex) (book : Book) (n : ℕ) → IsIndexOf index book → IsListed book.chart n → n - 1 < length index.ledgers.items
+pub within : (index : HistoryIndex) (book : SeenBook) (n : ℕ) → IsIndexOf index book → IsListed book.chart n → n - 1 < length index.ledgers.items
 within index book n is listed = omega (arith, is.ledgers.size, listed.0, listed.1)
 
-pub entry-short : (index : HistoryIndex) (entry : Entry) (book : Book) → TakesNext index entry book → index.entries < 100000
+pub entry-short : (index : HistoryIndex) (entry : Entry) (book : SeenBook) → TakesNext index entry book → index.entries < 100000
 entry-short index entry book next = omega (arith, next.legal.short, length-append book.entries (entry ∷ []), next.is.count)
 
-pub listed-too : (index : HistoryIndex) (book other : Book) (n : ℕ) → IsIndexOf index book → IsIndexOf index other → IsListed book.chart n → IsListed other.chart n
+pub listed-too : (index : HistoryIndex) (book other : SeenBook) (n : ℕ) → IsIndexOf index book → IsIndexOf index other → IsListed book.chart n → IsListed other.chart n
 listed-too index book other n is too listed = (listed.0, omega (arith, listed.1, is.ledgers.size, too.ledgers.size))
 
 -- a leg of the next entry, with the balance after it
-module _ (index : HistoryIndex) (entry : Entry) (leg : Leg) (book : Book) (ledger : Ledger) (next : TakesNext index entry book) (listed : IsListed book.chart leg.account.0) (only : legs_on leg.account.0 entry ≡ leg ∷ [])
+module _ (index : HistoryIndex) (entry : Entry) (leg : Leg) (book : SeenBook) (ledger : Ledger) (next : TakesNext index entry book) (listed : IsListed book.chart leg.account.0) (only : legs_on leg.account.0 entry ≡ leg ∷ [])
     (at : slice_get index.ledgers.items (leg.account.0 - 1) ≡ Some ledger) (text : List ℕ) (quotes : text ≡ quote_text (index.entries + 1) leg.quote)
     (balance : ℤ) (tells : balance ≡ changed leg.side leg.amount.0 (last_balance ledger.opening ledger.movements)) where
   abbrev n : ℕ
@@ -257,14 +257,14 @@ begins chart index sound codes legal home none made = record {
 }
 
 -- the first k entries of a history
-abbrev pub front : Chart → List Entry → ℕ → Book
+abbrev pub front : Chart → List Entry → ℕ → SeenBook
 front chart entries k = record { chart = chart; entries = take k entries }
 
 pub next-at : (chart : Chart) (entries : List Entry) (k : ℕ) (entry : Entry) (index : HistoryIndex) → IsLegal chart entries → slice_get entries (k + 1 - 1) ≡ Some entry → IsIndexOf index (front chart entries k) → TakesNext index entry (front chart entries k)
 next-at chart entries k entry index legal at is = record { is = is; legal = subst (IsLegal chart) (take-next entries k entry at) (legal-take chart entries (k + 1) legal) }
 
 -- the index with the next entry
-pub grown-index : (index new : HistoryIndex) (entry : Entry) (book : Book) → TakesNext index entry book → new.home ≡ index.home → new.entries ≡ index.entries + 1 → AreLedgersOf new.ledgers.items book.chart (book.entries ++ entry ∷ []) → HasQuotes entry → IsIndexOf new (grown book entry)
+pub grown-index : (index new : HistoryIndex) (entry : Entry) (book : SeenBook) → TakesNext index entry book → new.home ≡ index.home → new.entries ≡ index.entries + 1 → AreLedgersOf new.ledgers.items book.chart (book.entries ++ entry ∷ []) → HasQuotes entry → IsIndexOf new (grown book entry)
 grown-index index new entry book next home count ledgers quotes = record {
   chart = next.is.chart;
   legal = next.legal;
@@ -276,12 +276,12 @@ grown-index index new entry book next home count ledgers quotes = record {
 }
 
 -- its entries are counted last
-pub counted-index : (index mid : HistoryIndex) (entry : Entry) (book : Book) → TakesNext index entry book → mid.home ≡ index.home → mid.entries ≡ index.entries → AreLedgersOf mid.ledgers.items book.chart (book.entries ++ entry ∷ []) → HasQuotes entry
+pub counted-index : (index mid : HistoryIndex) (entry : Entry) (book : SeenBook) → TakesNext index entry book → mid.home ≡ index.home → mid.entries ≡ index.entries → AreLedgersOf mid.ledgers.items book.chart (book.entries ++ entry ∷ []) → HasQuotes entry
     → IsIndexOf (record mid { entries = mid.entries + 1 }) (grown book entry)
 counted-index index mid entry book next home count ledgers quotes = grown-index index (record mid { entries = mid.entries + 1 }) entry book next home (ap (λ (k : ℕ). k + 1) count) ledgers quotes
 
 -- one with the ledgers, the home and the count of an index
-pub same-index : (index new : HistoryIndex) (book : Book) → IsIndexOf index book → new.home ≡ index.home → new.entries ≡ index.entries → new.ledgers.items ≡ index.ledgers.items → IsIndexOf new book
+pub same-index : (index new : HistoryIndex) (book : SeenBook) → IsIndexOf index book → new.home ≡ index.home → new.entries ≡ index.entries → new.ledgers.items ≡ index.ledgers.items → IsIndexOf new book
 same-index index new book is home count ledgers = record {
   chart = is.chart;
   legal = is.legal;

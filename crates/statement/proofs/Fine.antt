@@ -28,8 +28,8 @@ use Rattle.day_model.specs.declared.pay.Quote.TheVariants.{Ours, Theirs}
 use Rattle.day_model.proofs.laws.Balances.{small_at}
 use Rattle.day_model.proofs.laws.Fitting.{leg_sound, transfer}
 use Rattle.advices.proofs.laws.Bytes.{day-digits}
-use Rattle.mt950.specs.Parts.{is_kind}
-use Rattle.mt950.specs.Writing.{IsEntry}
+use Rattle.mt950.specs.Parts.{is_entry_type}
+use Rattle.mt950.specs.Writing.{IsWritableLine}
 use Rattle.statement.specs.Legs.{HasQuotes, IsByteQuote, before_day, legs_on, quote_text}
 use Rattle.statement.specs.Lines.{Placed, entry_lines, kind_of, line_of, lines_from, mmdd_of}
 use Rattle.statement.specs.Pages.{balance_after}
@@ -78,7 +78,7 @@ kind-four : (mt : Mt) → length (kind_of mt) ≡ 4
 kind-four Transfer = refl
 kind-four Cover = refl
 
-kind-is : (mt : Mt) → is_kind (kind_of mt) ≡ true
+kind-is : (mt : Mt) → is_entry_type (kind_of mt) ≡ true
 kind-is Transfer = refl
 kind-is Cover = refl
 
@@ -91,7 +91,7 @@ month-and-day day century = dropped (is_in N) 2 (yymmdd_of day) (day-digits day 
 
 -- a line that can be written, of the entry at a place among so many, and without a further line
 pub record IsFine (decimals most : ℕ) (p : Placed) : Type 0 where
-  pub entry : IsEntry decimals p.line
+  pub entry : IsWritableLine decimals p.line
   pub place : p.place ≤ most
   pub plain : p.line.detail ≡ None
 

@@ -15,7 +15,7 @@ use Rattle.mt950.specs.Joining.{both, carried_tests, effects_of, first_gap, firs
 use Rattle.mt950.specs.declared.entry.Line61.{Line61}
 use Rattle.mt950.specs.declared.page.Page950.{Page950}
 use Rattle.statement.specs.Lines.{Placed, lines_on}
-use Rattle.statement.specs.Pages.{balance_after, carried, page_of, pages_for, pages_from}
+use Rattle.statement.specs.Pages.{balance_after, carried, page_at, pages_for, pages_from}
 
 -- ---- numbers and truths
 
@@ -70,7 +70,7 @@ module _ (chart : Chart) (entries : List Entry) (n : ℕ) (day : Day) (account :
   count = pages_for (length (lines_on n day entries))
 
   abbrev page : ℕ → Page950
-  page k = page_of chart entries n day account k
+  page k = page_at chart entries n day account k
 
   -- ---- no gap
 

@@ -14,7 +14,7 @@ use Rattle.mt950.specs.declared.page.Page950.{Page950}
 use Rattle.statement.specs.Index.{last_balance, ledger_with, movements_of, on_day}
 use Rattle.statement.specs.Legs.{before_day}
 use Rattle.statement.specs.Lines.{lines_on}
-use Rattle.statement.specs.Pages.{balance_after, carried, day_before, lines_of_page, page_of, page_reference, pages_for, pages_from}
+use Rattle.statement.specs.Pages.{balance_after, carried, day_before, lines_of_page, page_at, page_reference, pages_for, pages_from}
 use Rattle.statement.specs.Running.{line_by, page_by}
 use Rattle.statement.specs.declared.movement.Movement.{Movement}
 use Rattle.statement.proofs.Moves.{last-append}
@@ -70,7 +70,7 @@ module _ (chart : Chart) (entries : List Entry) (n : ℕ) (day : Day) where
   module _ (account : Account) (number : AcctNo) (is : number.0 ≡ n) (k : ℕ) where
     -- a page by its running balance
     pub page-is : page_by (ledger_with account (movements_of chart n entries)) (record { account = number; day = day; page = k + 1; last = k + 1 == pages_for (length here) }) (last_balance opening (take (25 * k) here)) (take 25 (drop (25 * k) here))
-        ≡ page_of chart entries n day account (k + 1)
+        ≡ page_at chart entries n day account (k + 1)
     page-is =
         let before : last_balance opening (take (25 * k) here) ≡ carried chart entries n day (k + 1 - 1) = carried-by k ∙ ap (carried chart entries n day) (omega arith) in
         λ i. record {

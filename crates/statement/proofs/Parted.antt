@@ -8,7 +8,7 @@ use Rattle.std.proofs.lemmas.Bool.{cases_lt}
 use Rattle.std.proofs.lemmas.Int.{ints}
 use Rattle.std.proofs.lemmas.Option.{slice_get-get_or}
 use Rattle.corr_ids.specs.declared.day.Day.{Day}
-use Rattle.statement.specs.Index.{Rise, is_before, last_balance, on_day}
+use Rattle.statement.specs.Index.{Rise, is_of_earlier_day, last_balance, on_day}
 use Rattle.statement.specs.declared.movement.Movement.{Movement}
 
 -- the last of movements tells the balance
@@ -59,28 +59,28 @@ nothing (suc k) zero ms e = rw e refl
 nothing (suc k) (suc i) ms e = rw e refl
 
 -- those of a day stand between those of earlier days and those of later ones
-pub between : (day : Day) (ms : List Movement) (i j : ℕ) → IsParted (is_before day.0) ms i → IsParted (is_before (day.0 +ℤ pos 1)) ms j → take (j - i) (drop i ms) ≡ on_day day ms
+pub between : (day : Day) (ms : List Movement) (i j : ℕ) → IsParted (is_of_earlier_day day.0) ms i → IsParted (is_of_earlier_day (day.0 +ℤ pos 1)) ms j → take (j - i) (drop i ms) ≡ on_day day ms
 between day [] i j first last = nothing (j - i) i [] refl
 between day (m ∷ ms) (suc i) (suc j) first last =
     let less : suc j - suc i ≡ j - i = omega arith in
     let before : int_lt m.day.0 day.0 ≡ true = first.0 0 m (omega arith) (omega arith) in
-    rw (early m.day.0 day.0 before, less) (between day ms i j (parted-rest (is_before day.0) m ms i first) (parted-rest (is_before (day.0 +ℤ pos 1)) m ms j last))
+    rw (early m.day.0 day.0 before, less) (between day ms i j (parted-rest (is_of_earlier_day day.0) m ms i first) (parted-rest (is_of_earlier_day (day.0 +ℤ pos 1)) m ms j last))
 between day (m ∷ ms) (suc i) zero first last =
     absurd (never m.day.0 day.0 (first.0 0 m (omega arith) (omega arith)) (last.1 0 m (omega arith) (omega arith)))
 between day (m ∷ ms) zero (suc j) first last =
     let on : int_eq m.day.0 day.0 ≡ true = same m.day.0 day.0 (first.1 0 m (omega arith) (omega arith)) (last.0 0 m (omega arith) (omega arith)) in
     let more : suc j - 0 ≡ suc (j - 0) = omega arith in
-    rw (on, more) (ap (λ (xs : List Movement). m ∷ xs) (between day ms zero j (parted-none (is_before day.0) m ms first) (parted-rest (is_before (day.0 +ℤ pos 1)) m ms j last)))
+    rw (on, more) (ap (λ (xs : List Movement). m ∷ xs) (between day ms zero j (parted-none (is_of_earlier_day day.0) m ms first) (parted-rest (is_of_earlier_day (day.0 +ℤ pos 1)) m ms j last)))
 between day (m ∷ ms) zero zero first last =
     let off : int_eq m.day.0 day.0 ≡ false = late m.day.0 day.0 (last.1 0 m (omega arith) (omega arith)) in
-    rw off (between day ms zero zero (parted-none (is_before day.0) m ms first) (parted-none (is_before (day.0 +ℤ pos 1)) m ms last))
+    rw off (between day ms zero zero (parted-none (is_of_earlier_day day.0) m ms first) (parted-none (is_of_earlier_day (day.0 +ℤ pos 1)) m ms last))
 
 -- they begin where they end or before
-pub ordered : (day : Day) (ms : List Movement) (i j : ℕ) → IsParted (is_before day.0) ms i → IsParted (is_before (day.0 +ℤ pos 1)) ms j → i ≤ length ms → i ≤ j
+pub ordered : (day : Day) (ms : List Movement) (i j : ℕ) → IsParted (is_of_earlier_day day.0) ms i → IsParted (is_of_earlier_day (day.0 +ℤ pos 1)) ms j → i ≤ length ms → i ≤ j
 ordered day [] i j first last le = omega (arith, le)
 ordered day (m ∷ ms) zero j first last le = omega arith
 ordered day (m ∷ ms) (suc i) (suc j) first last le =
-    let rest = ordered day ms i j (parted-rest (is_before day.0) m ms i first) (parted-rest (is_before (day.0 +ℤ pos 1)) m ms j last) (omega (arith, le)) in
+    let rest = ordered day ms i j (parted-rest (is_of_earlier_day day.0) m ms i first) (parted-rest (is_of_earlier_day (day.0 +ℤ pos 1)) m ms j last) (omega (arith, le)) in
     omega (arith, rest)
 ordered day (m ∷ ms) (suc i) zero first last le =
     absurd (never m.day.0 day.0 (first.0 0 m (omega arith) (omega arith)) (last.1 0 m (omega arith) (omega arith)))
@@ -90,7 +90,7 @@ ordered day (m ∷ ms) (suc i) zero first last le =
 not-later : (a b day : ℤ) → a ≤ℤ b → int_lt b day ≡ true → int_lt a day ≡ true
 not-later a b day le e = grind (arith, ints)
 
-pub rise_parts : (ms : List Movement) (day : ℤ) → Rise ms → IsPartitionedBy (is_before day) ms
+pub rise_parts : (ms : List Movement) (day : ℤ) → Rise ms → IsPartitionedBy (is_of_earlier_day day) ms
 rise_parts ms day up i j d le lt e =
     let at_j = slice_get-get_or ms j d lt in
     let at_i = slice_get-get_or ms i d (omega (arith, le, lt)) in
@@ -98,5 +98,5 @@ rise_parts ms day up i j d le lt e =
       | inl less ↦ not-later (get_or ms i d).day.0 (get_or ms j d).day.0 day (up i j (get_or ms i d) (get_or ms j d) less at_i at_j) e
       | inr more ↦
           let one : i ≡ j = omega (arith, le, more) in
-          ap (λ (k : ℕ). is_before day (get_or ms k d)) one ∙ e
+          ap (λ (k : ℕ). is_of_earlier_day day (get_or ms k d)) one ∙ e
     ]

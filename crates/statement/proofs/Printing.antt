@@ -28,10 +28,10 @@ use Rattle.mt950.specs.declared.page.Page950.{Page950}
 use Rattle.statement.specs.Index.{IsIndexOf, balance_at, last_balance, movements_of, on_day}
 use Rattle.statement.specs.Legs.{before_day}
 use Rattle.statement.specs.Lines.{lines_on}
-use Rattle.statement.specs.Pages.{message_of, page_of, pages_for, pages_from, pages_of, statement_of}
+use Rattle.statement.specs.Pages.{page_message, page_at, pages_for, pages_from, pages_of, statement_of}
 use Rattle.statement.specs.Running.{message_by, page_by}
-use Rattle.statement.specs.Seen.{Book}
-use Rattle.statement.specs.Valid.{AreReadBack, AreShaped, Closes, IsPrintable, Prints, ReadsBack}
+use Rattle.statement.specs.Seen.{SeenBook}
+use Rattle.statement.specs.Valid.{AreReadBack, AreShaped, ClosesAtBalance, IsPrintable, Prints, ReadsBack}
 use Rattle.statement.specs.declared.index.HistoryIndex.{HistoryIndex}
 use Rattle.statement.specs.declared.ledger.Ledger.{Ledger}
 use Rattle.statement.specs.declared.movement.Movement.{Movement}
@@ -41,7 +41,7 @@ use Rattle.statement.proofs.laws.Closing.{closes}
 use Rattle.statement.proofs.laws.Readable.{page-readable, pages-few}
 
 -- what can be printed from an index can be printed from its book
-pub printable : (index : HistoryIndex) (n : ℕ) (day : Day) (book : Book) → Prints index n day book → IsPrintable book n day
+pub printable : (index : HistoryIndex) (n : ℕ) (day : Day) (book : SeenBook) → Prints index n day book → IsPrintable book n day
 printable index n day book prints = record {
   chart = prints.has.is.chart;
   legal = prints.has.is.legal;
@@ -63,7 +63,7 @@ pub prints-history : (index : HistoryIndex) (chart : Chart) (entries : List Entr
 prints-history index chart entries n day is listed shaped home century = record { has = record { is = is; listed = listed }; shaped = shaped; home = home; century = century }
 
 -- its pages close at the books
-pub statement-closes : (index : HistoryIndex) (n : ℕ) (day : Day) (book : Book) → Prints index n day book → Closes book.chart book.entries n day
+pub statement-closes : (index : HistoryIndex) (n : ℕ) (day : Day) (book : SeenBook) → Prints index n day book → ClosesAtBalance book.chart book.entries n day
 statement-closes index n day book prints = closes book.chart book.entries n day prints.has.is.legal prints.has.listed
 
 -- ---- movements of a day of the century
@@ -90,9 +90,9 @@ part-dated day ms here movements first century are part =
 -- texts are those of the first pages, whose blocks and lines read back
 abbrev pub SoFar : HistoryIndex → ℕ → Day → ℕ → List (List ℕ) → Type 0
 SoFar index n day count texts =
-    (book : Book) → Prints index n day book → (account : Account) → account_at book.chart n ≡ Some account
-    → (texts ≡ map (message_of book.chart account) (pages_from (page_of book.chart book.entries n day account) 1 count))
-    × All (ReadsBack book.chart.home account.owner) (pages_from (page_of book.chart book.entries n day account) 1 count)
+    (book : SeenBook) → Prints index n day book → (account : Account) → account_at book.chart n ≡ Some account
+    → (texts ≡ map (page_message book.chart account) (pages_from (page_at book.chart book.entries n day account) 1 count))
+    × All (ReadsBack book.chart.home account.owner) (pages_from (page_at book.chart book.entries n day account) 1 count)
 
 -- a message by its home bank, its receiver and its page
 abbrev message_with : Bic → Bic → Page950 → List ℕ
@@ -101,19 +101,19 @@ message_with home to page = sent_text home 950 to [] (fields_text (fields_950 pa
 abbrev Seat : Type 0
 Seat = Bic × Bic × Page950
 
-stated : (book : Book) (n : ℕ) (day : Day) (account : Account) → account_at book.chart n ≡ Some account
-    → statement_of book.chart book.entries n day ≡ pages_from (page_of book.chart book.entries n day account) 1 (pages_for (length (lines_on n day book.entries)))
+stated : (book : SeenBook) (n : ℕ) (day : Day) (account : Account) → account_at book.chart n ≡ Some account
+    → statement_of book.chart book.entries n day ≡ pages_from (page_at book.chart book.entries n day account) 1 (pages_for (length (lines_on n day book.entries)))
 stated book n day account there =
-    ap (λ (o : Option Account). option_map_or (λ a. pages_from (page_of book.chart book.entries n day a) 1 (pages_for (length (lines_on n day book.entries)))) o []) there
+    ap (λ (o : Option Account). option_map_or (λ a. pages_from (page_at book.chart book.entries n day a) 1 (pages_for (length (lines_on n day book.entries)))) o []) there
 
-told : (book : Book) (n : ℕ) (day : Day) (account : Account) → account_at book.chart n ≡ Some account
-    → pages_of book.chart book.entries n day ≡ map (message_of book.chart account) (pages_from (page_of book.chart book.entries n day account) 1 (pages_for (length (lines_on n day book.entries))))
+told : (book : SeenBook) (n : ℕ) (day : Day) (account : Account) → account_at book.chart n ≡ Some account
+    → pages_of book.chart book.entries n day ≡ map (page_message book.chart account) (pages_from (page_at book.chart book.entries n day account) 1 (pages_for (length (lines_on n day book.entries))))
 told book n day account there =
-    ap (λ (o : Option Account). option_map_or (λ a. map (message_of book.chart a) (statement_of book.chart book.entries n day)) o []) there
-    ∙ ap (map (message_of book.chart account)) (stated book n day account there)
+    ap (λ (o : Option Account). option_map_or (λ a. map (page_message book.chart a) (statement_of book.chart book.entries n day)) o []) there
+    ∙ ap (map (page_message book.chart account)) (stated book n day account there)
 
 module _ (index : HistoryIndex) (number : AcctNo) (day : Day) (ledger : Ledger) (at : slice_get index.ledgers.items (number.0 - 1) ≡ Some ledger)
-    (book : Book) (prints : Prints index number.0 day book) where
+    (book : SeenBook) (prints : Prints index number.0 day book) where
   abbrev n : ℕ
   n = number.0
 
@@ -130,7 +130,7 @@ module _ (index : HistoryIndex) (number : AcctNo) (day : Day) (ledger : Ledger) 
   owner-is = subst (λ (l : Ledger). IsBic l.owner) (sym of_book.same) (prints.has.is.chart.rows.formed (n - 1) account of_book.there).owner
 
   abbrev page : ℕ → Page950
-  page k = page_of book.chart book.entries n day account k
+  page k = page_at book.chart book.entries n day account k
 
   pub few-pages : (ms : List Movement) (count : ℕ) → ms ≡ on_day day ledger.movements → count ≡ pages_for (length ms) → count < 5000
   few-pages ms count are counted =
@@ -178,22 +178,22 @@ module _ (index : HistoryIndex) (number : AcctNo) (day : Day) (ledger : Ledger) 
 
     -- one page more
     pub more-pages : (texts new : List (List ℕ)) (text : List ℕ) (other : Account) → account_at book.chart n ≡ Some other
-        → (texts ≡ map (message_of book.chart other) (pages_from (page_of book.chart book.entries n day other) 1 k)) × All (ReadsBack book.chart.home other.owner) (pages_from (page_of book.chart book.entries n day other) 1 k)
+        → (texts ≡ map (page_message book.chart other) (pages_from (page_at book.chart book.entries n day other) 1 k)) × All (ReadsBack book.chart.home other.owner) (pages_from (page_at book.chart book.entries n day other) 1 k)
         → text ≡ message_by index.home ledger (page_by ledger (record { account = number; day = day; page = k + 1; last = k + 1 == count }) balance here)
         → ReadsBack index.home ledger.owner (page_by ledger (record { account = number; day = day; page = k + 1; last = k + 1 == count }) balance here)
         → new ≡ texts ++ text ∷ []
-        → (new ≡ map (message_of book.chart other) (pages_from (page_of book.chart book.entries n day other) 1 (k + 1))) × All (ReadsBack book.chart.home other.owner) (pages_from (page_of book.chart book.entries n day other) 1 (k + 1))
+        → (new ≡ map (page_message book.chart other) (pages_from (page_at book.chart book.entries n day other) 1 (k + 1))) × All (ReadsBack book.chart.home other.owner) (pages_from (page_at book.chart book.entries n day other) 1 (k + 1))
     more-pages texts new text other there so_far is back added =
         let same : account ≡ other = same_Some account other (sym of_book.there ∙ there) in
-        let made = page-made ∙ ap (λ (a : Account). page_of book.chart book.entries n day a (k + 1)) same in
+        let made = page-made ∙ ap (λ (a : Account). page_at book.chart book.entries n day a (k + 1)) same in
         let of_owner : ledger.owner ≡ other.owner = ap (λ (l : Ledger). l.owner) of_book.same ∙ ap (λ (a : Account). a.owner) same in
-        let pages : List Page950 = pages_from (page_of book.chart book.entries n day other) 1 k in
-        let next : Page950 = page_of book.chart book.entries n day other (k + 1) in
-        let grow : pages_from (page_of book.chart book.entries n day other) 1 (k + 1) ≡ pages ++ next ∷ [] =
-        pages-more (page_of book.chart book.entries n day other) 1 k ∙ ap (λ (j : ℕ). pages ++ page_of book.chart book.entries n day other j ∷ []) (omega arith) in
-        let spelled : text ≡ message_of book.chart other next = is ∙ (λ i. message_with (prints.has.is.home i) (of_owner i) (made i)) in
+        let pages : List Page950 = pages_from (page_at book.chart book.entries n day other) 1 k in
+        let next : Page950 = page_at book.chart book.entries n day other (k + 1) in
+        let grow : pages_from (page_at book.chart book.entries n day other) 1 (k + 1) ≡ pages ++ next ∷ [] =
+        pages-more (page_at book.chart book.entries n day other) 1 k ∙ ap (λ (j : ℕ). pages ++ page_at book.chart book.entries n day other j ∷ []) (omega arith) in
+        let spelled : text ≡ page_message book.chart other next = is ∙ (λ i. message_with (prints.has.is.home i) (of_owner i) (made i)) in
         let reads : ReadsBack book.chart.home other.owner next = subst (λ (q : Seat). ReadsBack q.0 q.1 q.2) (λ i. (prints.has.is.home i, of_owner i, made i)) back in (
-          added ∙ (λ i. so_far.0 i ++ spelled i ∷ []) ∙ sym (map-append (message_of book.chart other) pages (next ∷ [])) ∙ ap (map (message_of book.chart other)) (sym grow),
+          added ∙ (λ i. so_far.0 i ++ spelled i ∷ []) ∙ sym (map-append (page_message book.chart other) pages (next ∷ [])) ∙ ap (map (page_message book.chart other)) (sym grow),
           subst (All (ReadsBack book.chart.home other.owner)) (sym grow) (All-append (ReadsBack book.chart.home other.owner) pages (next ∷ []) so_far.1 (all-one (ReadsBack book.chart.home other.owner) next reads)),
         )
 
@@ -203,8 +203,8 @@ module _ (index : HistoryIndex) (number : AcctNo) (day : Day) (ledger : Ledger) 
       let done : count ≡ pages_for (length (lines_on n day book.entries)) =
       counted ∙ ap (λ (l : Ledger). pages_for (length (on_day day l.movements))) of_book.same ∙ sym (ap pages_for (line-count book.chart book.entries n day)) in (
         (so_far book prints account of_book.there).0
-            ∙ ap (λ (c : ℕ). map (message_of book.chart account) (pages_from (page_of book.chart book.entries n day account) 1 c)) done
+            ∙ ap (λ (c : ℕ). map (page_message book.chart account) (pages_from (page_at book.chart book.entries n day account) 1 c)) done
             ∙ sym (told book n day account of_book.there),
         λ other there.
-            subst (All (ReadsBack book.chart.home other.owner)) (ap (pages_from (page_of book.chart book.entries n day other) 1) done ∙ sym (stated book n day other there)) (so_far book prints other there).1,
+            subst (All (ReadsBack book.chart.home other.owner)) (ap (pages_from (page_at book.chart book.entries n day other) 1) done ∙ sym (stated book n day other there)) (so_far book prints other there).1,
       )

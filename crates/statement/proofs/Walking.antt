@@ -15,10 +15,10 @@ use Rattle.day_model.specs.declared.pay.Leg.{Leg}
 use Rattle.day_model.specs.declared.pay.Side.{Side}
 use Rattle.day_model.specs.declared.pay.Side.TheVariants.{Credit, Debit}
 use Rattle.day_model.proofs.laws.Fitting.{transfer}
-use Rattle.mt950.specs.Entry.{effect_of, marked}
+use Rattle.mt950.specs.Entry.{effect_of, signed_amount}
 use Rattle.mt950.specs.Joining.{effects_of}
 use Rattle.statement.specs.Legs.{before_day, legs_on}
-use Rattle.statement.specs.Lines.{Placed, entry_lines, line_of, lines_from, mark_of}
+use Rattle.statement.specs.Lines.{Placed, entry_lines, line_of, lines_from, statement_mark}
 use Rattle.statement.specs.Pages.{balance_after}
 use Rattle.statement.proofs.Legs.{one-moves, unmoved}
 
@@ -58,7 +58,7 @@ nothing-more : (a : ℤ) → a +ℤ pos 0 ≡ a
 nothing-more a = omega (arith, ints)
 
 -- a side changes a balance as its mark says
-as-marked : (side : Side) (amount : ℕ) (balance : ℤ) → changed side amount balance ≡ balance +ℤ marked (mark_of side) amount
+as-marked : (side : Side) (amount : ℕ) (balance : ℤ) → changed side amount balance ≡ balance +ℤ signed_amount (statement_mark side) amount
 as-marked Credit amount balance = refl
 as-marked Debit amount balance = omega (arith, ints)
 

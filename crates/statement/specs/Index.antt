@@ -10,7 +10,7 @@ use Rattle.day_model.specs.declared.account.Account.{Account}
 use Rattle.day_model.specs.declared.entry.Entry.{Entry}
 use Rattle.day_model.specs.declared.pay.Leg.{Leg}
 use Rattle.statement.specs.Legs.{HasQuotes, legs_on, quote_text}
-use Rattle.statement.specs.Seen.{Book}
+use Rattle.statement.specs.Seen.{SeenBook}
 use Rattle.statement.specs.declared.index.HistoryIndex.{HistoryIndex}
 use Rattle.statement.specs.declared.ledger.Ledger.{Ledger}
 use Rattle.statement.specs.declared.movement.Movement.{Movement}
@@ -60,7 +60,7 @@ pub record AreLedgersOf (ledgers : List Ledger) (chart : Chart) (entries : List 
       → slice_get ledgers i ≡ Some (ledger_with account (movements_of chart (i + 1) entries))
 
 -- an index is that of a legal history of a book
-pub record IsIndexOf (index : HistoryIndex) (book : Book) : Type 0 where
+pub record IsIndexOf (index : HistoryIndex) (book : SeenBook) : Type 0 where
   pub chart : IsChart book.chart
   pub legal : IsLegal book.chart book.entries
   pub home : index.home ≡ book.chart.home
@@ -70,16 +70,16 @@ pub record IsIndexOf (index : HistoryIndex) (book : Book) : Type 0 where
   pub quotes : All HasQuotes book.entries
 
 -- an index is that of a book, whose history stays legal with this entry behind it
-pub record TakesNext (index : HistoryIndex) (entry : Entry) (book : Book) : Type 0 where
+pub record TakesNext (index : HistoryIndex) (entry : Entry) (book : SeenBook) : Type 0 where
   pub is : IsIndexOf index book
   pub legal : IsLegal book.chart (book.entries ++ entry ∷ [])
 
 -- a book with an entry more
-abbrev pub grown : Book → Entry → Book
+abbrev pub grown : SeenBook → Entry → SeenBook
 grown book entry = record book { entries = book.entries ++ entry ∷ [] }
 
 -- an index is that of a book which has account n
-pub record HasAccount (index : HistoryIndex) (n : ℕ) (book : Book) : Type 0 where
+pub record HasAccount (index : HistoryIndex) (n : ℕ) (book : SeenBook) : Type 0 where
   pub is : IsIndexOf index book
   pub listed : IsListed book.chart n
 
@@ -112,12 +112,12 @@ Rise movements =
     (i j : ℕ) (a b : Movement) → i < j → slice_get movements i ≡ Some a → slice_get movements j ≡ Some b → a.day.0 ≤ℤ b.day.0
 
 -- a movement is of an earlier day
-abbrev pub is_before : ℤ → Movement → Bool
-is_before day movement = int_lt movement.day.0 day
+abbrev pub is_of_earlier_day : ℤ → Movement → Bool
+is_of_earlier_day day movement = int_lt movement.day.0 day
 
 -- the balance by the movements of earlier days
 abbrev pub balance_at : Ledger → Day → ℤ
-balance_at ledger day = last_balance ledger.opening (filter (is_before day.0) ledger.movements)
+balance_at ledger day = last_balance ledger.opening (filter (is_of_earlier_day day.0) ledger.movements)
 
 -- the movements of a day
 abbrev pub on_day : Day → List Movement → List Movement

@@ -25,9 +25,9 @@ abbrev pub mmdd_of : Day → List ℕ
 mmdd_of day = drop 2 (yymmdd_of day)
 
 -- the mark of a side
-abbrev pub mark_of : Side → Mark
-mark_of Credit = mark.C
-mark_of Debit = mark.D
+abbrev pub statement_mark : Side → Mark
+statement_mark Credit = mark.C
+statement_mark Debit = mark.D
 
 -- the type of the transaction by the message that asked for it
 abbrev pub kind_of : Mt → List ℕ
@@ -43,7 +43,7 @@ abbrev pub line_of : Day → ℕ → Entry → Leg → Line61
 line_of day place entry leg = record {
   value = entry.pay.value;
   entry = Some (mmdd_of day);
-  mark = mark_of leg.side;
+  mark = statement_mark leg.side;
   funds = None;
   amount = leg.amount;
   kind = kind_of entry.pay.mt;

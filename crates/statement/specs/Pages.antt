@@ -49,23 +49,23 @@ abbrev pub carried : Chart → List Entry → ℕ → Day → ℕ → ℤ
 carried chart entries n day k = balance_after chart entries n day (take (most_lines * k) (lines_on n day entries))
 
 -- the opening of the k-th page: of the first page with the day before and the letter F
-abbrev pub opening_of : Chart → List Entry → ℕ → Day → ℕ → Balance
-opening_of chart entries n day k = record { last = k == 1; day = if k == 1 then day_before day else day; signed = carried chart entries n day (k - 1) }
+abbrev pub page_opening : Chart → List Entry → ℕ → Day → ℕ → Balance
+page_opening chart entries n day k = record { last = k == 1; day = if k == 1 then day_before day else day; signed = carried chart entries n day (k - 1) }
 
 -- the closing of the k-th page: of the last page with the letter F
 abbrev pub closing_of : Chart → List Entry → ℕ → Day → ℕ → Balance
 closing_of chart entries n day k = record { last = k == pages_for (length (lines_on n day entries)); day = day; signed = carried chart entries n day k }
 
 -- the k-th page of account n, which has these columns
-abbrev pub page_of : Chart → List Entry → ℕ → Day → Account → ℕ → Page950
-page_of chart entries n day account k = record {
+abbrev pub page_at : Chart → List Entry → ℕ → Day → Account → ℕ → Page950
+page_at chart entries n day account k = record {
   reference = page_reference day n k;
   account = account.id;
   number = place_in_year day;
   page = Some k;
   ccy = account.ccy;
   decimals = account.decimals;
-  opening = opening_of chart entries n day k;
+  opening = page_opening chart entries n day k;
   lines = map (λ placed. placed.line) (lines_of_page k (lines_on n day entries));
   closing = closing_of chart entries n day k;
   available = None;
@@ -79,13 +79,13 @@ pages_from page k (suc more) = page k ∷ pages_from page (k + 1) more
 -- the pages of an account's statement of a day; none for a number that no account has
 abbrev pub statement_of : Chart → List Entry → ℕ → Day → List Page950
 statement_of chart entries n day =
-    option_map_or (λ account. pages_from (page_of chart entries n day account) 1 (pages_for (length (lines_on n day entries)))) (account_at chart n) []
+    option_map_or (λ account. pages_from (page_at chart entries n day account) 1 (pages_for (length (lines_on n day entries)))) (account_at chart n) []
 
 -- a page as the message that its account's owner is sent
-abbrev pub message_of : Chart → Account → Page950 → List ℕ
-message_of chart account page = sent_text chart.home 950 account.owner [] (fields_text (fields_950 page))
+abbrev pub page_message : Chart → Account → Page950 → List ℕ
+page_message chart account page = sent_text chart.home 950 account.owner [] (fields_text (fields_950 page))
 
 -- the messages of an account's statement of a day
 abbrev pub pages_of : Chart → List Entry → ℕ → Day → List (List ℕ)
 pages_of chart entries n day =
-    option_map_or (λ account. map (message_of chart account) (statement_of chart entries n day)) (account_at chart n) []
+    option_map_or (λ account. map (page_message chart account) (statement_of chart entries n day)) (account_at chart n) []

@@ -4,6 +4,6 @@ use Rattle.day_model.specs.Chart.{Chart}
 use Rattle.day_model.specs.declared.entry.Entry.{Entry}
 
 -- the accounts of a book, and the entries of its history
-pub record Book : Type 0 where
+pub record SeenBook : Type 0 where
   pub chart : Chart
   pub entries : List Entry

@@ -28,8 +28,8 @@ use Rattle.mt950.specs.declared.page.Page950.{Page950}
 use Rattle.statement.specs.Index.{HasAccount, HasCode}
 use Rattle.statement.specs.Legs.{HasQuotes, before_day}
 use Rattle.statement.specs.Lines.{lines_on, up_to_day}
-use Rattle.statement.specs.Pages.{message_of, statement_of}
-use Rattle.statement.specs.Seen.{Book}
+use Rattle.statement.specs.Pages.{page_message, statement_of}
+use Rattle.statement.specs.Seen.{SeenBook}
 use Rattle.statement.specs.declared.index.HistoryIndex.{HistoryIndex}
 
 -- entries whose pays can be written down, so that each quotes a reference
@@ -46,8 +46,8 @@ pub record ClosesAt (chart : Chart) (entries : List Entry) (n : ℕ) (day : Day)
   pub dated : statement.day ≡ day
 
 -- the pages of account n are such a statement
-abbrev pub Closes : Chart → List Entry → ℕ → Day → Type 0
-Closes chart entries n day = (statement : Statement) × ClosesAt chart entries n day statement
+abbrev pub ClosesAtBalance : Chart → List Entry → ℕ → Day → Type 0
+ClosesAtBalance chart entries n day = (statement : Statement) × ClosesAt chart entries n day statement
 
 -- a page's message is read into the blocks that it was written of, its lines are cut without fault, and wherever the page is read
 -- of any fields it is read of these lines
@@ -62,7 +62,7 @@ AreReadBack chart entries n day =
     (account : Account) → account_at chart n ≡ Some account → All (ReadsBack chart.home account.owner) (statement_of chart entries n day)
 
 -- tables hold an account's owner, and its currency with its decimals
-pub record Holds (t : Tables) (account : Account) : Type 0 where
+pub record TablesKnow (t : Tables) (account : Account) : Type 0 where
   pub owner : has_head t account.owner.head ≡ true
   pub ccy : decimals_in t account.ccy.0 ≡ Some account.decimals
 
@@ -73,18 +73,18 @@ IsAcceptedAs home t text page = (envelope : Envelope) × (sent_verdict_of home t
 -- under all such tables so are the texts of account n's pages
 abbrev pub AreAccepted : Chart → List Entry → ℕ → Day → Type 0
 AreAccepted chart entries n day =
-    (t : Tables) (account : Account) → account_at chart n ≡ Some account → Holds t account
-    → All (λ page. IsAcceptedAs chart.home t (message_of chart account page) page) (statement_of chart entries n day)
+    (t : Tables) (account : Account) → account_at chart n ≡ Some account → TablesKnow t account
+    → All (λ page. IsAcceptedAs chart.home t (page_message chart account page) page) (statement_of chart entries n day)
 
 -- an index is that of a book whose statement of account n on this day can be printed
-pub record Prints (index : HistoryIndex) (n : ℕ) (day : Day) (book : Book) : Type 0 where
+pub record Prints (index : HistoryIndex) (n : ℕ) (day : Day) (book : SeenBook) : Type 0 where
   pub has : HasAccount index n book
   pub shaped : AreShaped book.entries
   pub home : IsBic book.chart.home
   pub century : InCentury day
 
 -- what a statement of account n on a day needs of its book: all of it is in `Prints`
-pub record IsPrintable (book : Book) (n : ℕ) (day : Day) : Type 0 where
+pub record IsPrintable (book : SeenBook) (n : ℕ) (day : Day) : Type 0 where
   pub chart : IsChart book.chart
   pub legal : IsLegal book.chart book.entries
   pub listed : IsListed book.chart n

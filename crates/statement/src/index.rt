@@ -7,7 +7,7 @@ ghost use Rattle.day_model.specs.Chart.{IsChart, IsListed};
 ghost use Rattle.day_model.specs.Legal.{IsLegal};
 ghost use Rattle.statement.specs.Index.{AreLedgersOf, HasAccount, HasCode, IsIndexOf, TakesNext, grown, ledger_with, movement_of};
 ghost use Rattle.statement.specs.Legs.{HasQuotes, IsByteQuote, before_day, legs_on};
-ghost use Rattle.statement.specs.Seen.{Book};
+ghost use Rattle.statement.specs.Seen.{SeenBook};
 
 use crate::ledger::{Ledger, at, push, undo};
 use crate::movement::Movement;
@@ -62,11 +62,11 @@ impl HistoryIndex {
 
     /// A leg of the next entry, the only one on its account, with the balance after it.
     fn movement(&self, e: &Entry, leg: &Leg) -> Result<Movement, Memory>
-        requires next { (book : Book) × TakesNext self.now e.now book × IsListed book.chart leg.now.account.0 }
+        requires next { (book : SeenBook) × TakesNext self.now e.now book × IsListed book.chart leg.now.account.0 }
         requires only { legs_on leg.now.account.0 e.now ≡ leg.now ∷ [] }
         requires amount { leg.now.amount.0 < amount_end }
         ensures quote { OnOk result (IsByteQuote leg.now.quote) }
-        ensures value { IfOk result (λ m. (book : Book) → TakesNext self.now e.now book → m ≡ movement_of book.chart leg.now.account.0 book.entries e.now leg.now) }
+        ensures value { IfOk result (λ m. (book : SeenBook) → TakesNext self.now e.now book → m ≡ movement_of book.chart leg.now.account.0 book.entries e.now leg.now) }
     {
         let place = self.entries + 1;
         Ok(Movement {
@@ -83,9 +83,9 @@ impl HistoryIndex {
 
     /// The legs of a booked entry, which are on two accounts.
     fn book(&mut self, e: &Entry) -> Result<(), Memory>
-        requires next { (book : Book) × TakesNext self.old e.now book }
+        requires next { (book : SeenBook) × TakesNext self.old e.now book }
         requires booked { is_booked e.now.outcome ≡ true }
-        ensures ok { OnOk result ((book : Book) → TakesNext self.old e.now book → AreLedgersOf self.new.ledgers.items book.chart (book.entries ++ e.now ∷ [])) }
+        ensures ok { OnOk result ((book : SeenBook) → TakesNext self.old e.now book → AreLedgersOf self.new.ledgers.items book.chart (book.entries ++ e.now ∷ [])) }
         ensures quotes { OnOk result (HasQuotes e.now) }
         ensures err { OnErr result (self.new.ledgers.items ≡ self.old.ledgers.items) }
         ensures home { self.new.home ≡ self.old.home }
@@ -106,9 +106,9 @@ impl HistoryIndex {
 
     /// Adds the next entry of the history. Want of memory leaves the index as it was.
     pub fn add(&mut self, e: &Entry) -> Result<(), Memory>
-        requires { (book : Book) × TakesNext self.old e.now book }
-        ensures ok { OnOk result ((book : Book) → TakesNext self.old e.now book → IsIndexOf self.new (grown book e.now)) }
-        ensures err { OnErr result ((book : Book) → IsIndexOf self.old book → IsIndexOf self.new book) }
+        requires { (book : SeenBook) × TakesNext self.old e.now book }
+        ensures ok { OnOk result ((book : SeenBook) → TakesNext self.old e.now book → IsIndexOf self.new (grown book e.now)) }
+        ensures err { OnErr result ((book : SeenBook) → IsIndexOf self.old book → IsIndexOf self.new book) }
     {
         match e.outcome {
             Outcome::Booked => self.book(e)?,
@@ -141,8 +141,8 @@ impl HistoryIndex {
 
     /// The balance of an account by the entries of earlier days, in minor units. Takes no memory.
     pub fn balance_before(&self, n: AcctNo, day: Day) -> i64
-        requires { (book : Book) × HasAccount self.now n.0 book }
-        ensures { (book : Book) → HasAccount self.now n.0 book → result ≡ balance_of book.chart (before_day day book.entries) n.0 }
+        requires { (book : SeenBook) × HasAccount self.now n.0 book }
+        ensures { (book : SeenBook) → HasAccount self.now n.0 book → result ≡ balance_of book.chart (before_day day book.entries) n.0 }
     {
         self.ledger(n).balance_before(day)
     }

@@ -6,7 +6,7 @@ ghost use Rattle.corr_money.specs.Amounts.{amount_end};
 ghost use Rattle.day_model.specs.Balance.{changed};
 ghost use Rattle.day_model.specs.Chart.{IsSmall};
 ghost use Rattle.corr_ids.specs.Day.{InCentury};
-ghost use Rattle.statement.specs.Index.{HasCode, Rise, balance_at, changed_at, is_before, last_balance, ledger_with, on_day, pushed, undone};
+ghost use Rattle.statement.specs.Index.{HasCode, Rise, balance_at, changed_at, is_of_earlier_day, last_balance, ledger_with, on_day, pushed, undone};
 
 use crate::movement::{Movement, Movements, balance_after};
 use corr_ids::{Bic, Day};
@@ -61,7 +61,7 @@ impl Ledger {
     fn earlier(&self, day: Day) -> usize
         requires { Rise self.now.movements }
         ensures bound { result ≤ length self.now.movements }
-        ensures parted { IsPartitionPoint (λ m. is_before day.0 m ≡ true) (λ m. is_before day.0 m ≡ false) self.now.movements result }
+        ensures parted { IsPartitionPoint (λ m. is_of_earlier_day day.0 m ≡ true) (λ m. is_of_earlier_day day.0 m ≡ false) self.now.movements result }
     {
         self.movements
             .as_slice()

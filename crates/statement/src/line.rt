@@ -2,7 +2,7 @@
 
 ghost use Rattle.std.specs.Prelude.{◌≡◌, All, IfOk, Some, map};
 ghost use Rattle.corr_ids.specs.Day.{InCentury};
-ghost use Rattle.statement.specs.Lines.{kind_of, mark_of, mmdd_of};
+ghost use Rattle.statement.specs.Lines.{kind_of, statement_mark, mmdd_of};
 ghost use Rattle.statement.specs.Running.{line_by};
 
 use crate::movement::Movement;
@@ -16,7 +16,7 @@ use std::alloc::Global;
 
 /// The mark of a side.
 fn mark_of(side: Side) -> Mark
-    ensures { result ≡ mark_of side }
+    ensures { result ≡ statement_mark side }
 {
     match side {
         Side::Credit => Mark::C,

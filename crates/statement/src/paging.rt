@@ -6,8 +6,8 @@ ghost use Rattle.corr_ids.specs.Day.{InCentury};
 ghost use Rattle.day_model.specs.Chart.{IsListed};
 ghost use Rattle.day_model.specs.Legal.{IsLegal};
 ghost use Rattle.statement.specs.Pages.{most_lines, pages_for, pages_of};
-ghost use Rattle.statement.specs.Seen.{Book};
-ghost use Rattle.statement.specs.Valid.{AreAccepted, AreShaped, Closes, Prints};
+ghost use Rattle.statement.specs.Seen.{SeenBook};
+ghost use Rattle.statement.specs.Valid.{AreAccepted, AreShaped, ClosesAtBalance, Prints};
 
 use crate::index::HistoryIndex;
 use crate::ledger::between;
@@ -46,10 +46,10 @@ fn here(movements: &[Movement], first: usize) -> &[Movement]
 /// The statement of an account on a day, from an index of the history: what `pages` gives, in the time of the account's
 /// entries of that day.
 pub fn pages_with(ix: &HistoryIndex, n: AcctNo, day: Day) -> Result<List<Text>, Memory>
-    requires { (book : Book) × Prints ix.now n.0 day book }
-    ensures value { IfOk result (λ texts. (book : Book) → Prints ix.now n.0 day book → texts ≡ pages_of book.chart book.entries n.0 day) }
-    ensures closes { (book : Book) → Prints ix.now n.0 day book → Closes book.chart book.entries n.0 day }
-    ensures accepted { OnOk result ((book : Book) → Prints ix.now n.0 day book → AreAccepted book.chart book.entries n.0 day) }
+    requires { (book : SeenBook) × Prints ix.now n.0 day book }
+    ensures value { IfOk result (λ texts. (book : SeenBook) → Prints ix.now n.0 day book → texts ≡ pages_of book.chart book.entries n.0 day) }
+    ensures closes { (book : SeenBook) → Prints ix.now n.0 day book → ClosesAtBalance book.chart book.entries n.0 day }
+    ensures accepted { OnOk result ((book : SeenBook) → Prints ix.now n.0 day book → AreAccepted book.chart book.entries n.0 day) }
 {
     let alloc = ix.alloc();
     let ledger = ix.ledger(n);
@@ -96,7 +96,7 @@ pub fn pages(
     requires listed { IsListed a.now n.0 }
     requires day { InCentury day }
     ensures value { IfOk result (λ texts. texts ≡ pages_of a.now h.now.entries n.0 day) }
-    ensures closes { Closes a.now h.now.entries n.0 day }
+    ensures closes { ClosesAtBalance a.now h.now.entries n.0 day }
     ensures accepted { OnOk result (AreAccepted a.now h.now.entries n.0 day) }
 {
     let index = HistoryIndex::new(alloc, a, h)?;

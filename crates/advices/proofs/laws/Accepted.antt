@@ -7,7 +7,7 @@ use Rattle.corr_text.specs.First.{first_of}
 use Rattle.corr_ids.specs.Bic.{IsBic}
 use Rattle.corr_ids.specs.declared.bic.Bic.{Bic}
 use Rattle.corr_ids.specs.declared.uetr.Uetr.{Uetr}
-use Rattle.ref_tables.specs.Seen.{Tables, has_head}
+use Rattle.ref_tables.specs.Seen.{Tables, has_head, IsKnown}
 use Rattle.fin_blocks.specs.Sending.{sent_blocks, sent_text}
 use Rattle.fin_blocks.specs.declared.blocks.Blocks.{Blocks}
 use Rattle.fin_fields.specs.Faults.{field_fault}
@@ -23,7 +23,7 @@ use Rattle.mt9_advice.specs.Advice.{mt900_of, mt910_of}
 use Rattle.mt9_advice.specs.declared.credit.Mt910.{Mt910}
 use Rattle.mt9_advice.specs.declared.debit.Mt900.{Mt900}
 use Rattle.fin_message.specs.Heading.{fits_validation, heading_tests, is_type}
-use Rattle.fin_message.specs.Parts.{envelope_of, user_text}
+use Rattle.fin_message.specs.Parts.{envelope_of, subblock_under}
 use Rattle.fin_message.specs.Verdict.{cover_of, credit_of, debit_of, judged, message_in, message_of as read_of, transfer_of}
 use Rattle.fin_message.specs.declared.direction.Direction.TheVariants.{Sent}
 use Rattle.fin_message.specs.declared.message.Message.{Message}
@@ -33,8 +33,8 @@ use Rattle.day_model.specs.Shape.{HasShape, IsOrder}
 use Rattle.day_model.specs.declared.pay.Order.{Order}
 use Rattle.day_model.specs.declared.pay.Order.TheVariants as order
 use Rattle.day_model.specs.declared.pay.Pay.{Pay}
-use Rattle.advices.specs.Messages.{AllReadBack, OrderReadsBack, ReadsBack, message_of, messages_from, order_fields, uetr_block}
-use Rattle.advices.specs.Valid.{AreAccepted, Asks, CameFrom, IsAccepted, IsKnown}
+use Rattle.advices.specs.Messages.{AllReadBack, OrderReadsBack, ReadsBack, order_message, messages_from, order_fields, uetr_block}
+use Rattle.advices.specs.Valid.{AreAccepted, Asks, CameFrom, IsAccepted}
 use Rattle.advices.proofs.laws.Credits.{credit-passes}
 use Rattle.advices.proofs.laws.Debits.{debit-passes}
 use Rattle.advices.proofs.laws.Onward.{cover-onward, pass-onward, transfer-onward}
@@ -51,21 +51,21 @@ module _ (home : Bic) (t : Tables) (mt : ℕ) (to : Bic) (user : List (ℕ × Li
   abbrev sent : Blocks
   sent = sent_blocks home mt to user (fields_text fs)
 
-  heading : is_type mt ≡ true → IsKnown t to → fits_validation mt (user_text 119 user) ≡ true → first_of (heading_tests Sent home t sent) ≡ None
+  heading : is_type mt ≡ true → IsKnown t to → fits_validation mt (subblock_under 119 user) ≡ true → first_of (heading_tests Sent home t sent) ≡ None
   heading known_type known flag = rw (same-bytes home.head, known_type, known, flag) refl
 
-  accepted : (x : Message) → is_type mt ≡ true → IsKnown t to → fits_validation mt (user_text 119 user) ≡ true → message_in t sent ≡ Ok x → IsAccepted home t (sent_text home mt to user (fields_text fs))
+  accepted : (x : Message) → is_type mt ≡ true → IsKnown t to → fits_validation mt (subblock_under 119 user) ≡ true → message_in t sent ≡ Ok x → IsAccepted home t (sent_text home mt to user (fields_text fs))
   unfolding judged
   accepted x known_type known flag says = (x, rw (back.blocks, blocks-accepted home t sent x (heading known_type known flag) back.cut says) refl)
 
 -- ---- by type
 
 -- the validation flag: none in a transfer, that of a cover in a cover
-no-flag : (uetr : Option Uetr) → fits_validation 103 (user_text 119 (uetr_block uetr)) ≡ true
+no-flag : (uetr : Option Uetr) → fits_validation 103 (subblock_under 119 (uetr_block uetr)) ≡ true
 no-flag None = refl
 no-flag (Some u) = refl
 
-cover-flag : (uetr : Option Uetr) → fits_validation 202 (user_text 119 ((119, codes "COV") ∷ uetr_block uetr)) ≡ true
+cover-flag : (uetr : Option Uetr) → fits_validation 202 (subblock_under 119 ((119, codes "COV") ∷ uetr_block uetr)) ≡ true
 cover-flag None = refl
 cover-flag (Some u) = refl
 
@@ -95,7 +95,7 @@ known-bic t None is known = tt
 known-bic t (Some b) is known = (is, known)
 
 module _ (t : Tables) (chart : Chart) (pay : Pay) (place : ℕ) (small : place ≤ 100000) where
-  order-accepted : (m : Message) (k : ℕ) (o : Order) → CameFrom t chart pay m → k ≤ 255 → IsOrder (length pay.legs) o → Asks t m o → OrderReadsBack chart pay place k o → IsAccepted chart.home t (message_of chart pay place k o)
+  order-accepted : (m : Message) (k : ℕ) (o : Order) → CameFrom t chart pay m → k ≤ 255 → IsOrder (length pay.legs) o → Asks t m o → OrderReadsBack chart pay place k o → IsAccepted chart.home t (order_message chart pay place k o)
   order-accepted (message.Transfer envelope text m) k (order.Transfer to skip via) came few is asks back =
       let user = uetr_block pay.uetr in
       let b = sent_blocks chart.home 103 to user (fields_text (order_fields chart pay place k (order.Transfer to skip via))) in
@@ -142,7 +142,7 @@ module _ (t : Tables) (chart : Chart) (pay : Pay) (place : ℕ) (small : place �
       → All (IsAccepted chart.home t) (messages_from chart pay place k os)
   orders-accepted m k [] came few is asks back = λ i d lt. absurd (omega arith)
   orders-accepted m k (o ∷ os) came few is asks back =
-      All-cons (IsAccepted chart.home t) (message_of chart pay place k o) (messages_from chart pay place (k + 1) os)
+      All-cons (IsAccepted chart.home t) (order_message chart pay place k o) (messages_from chart pay place (k + 1) os)
       (order-accepted m k o came (omega (arith, few)) (All-head (IsOrder (length pay.legs)) o os is) (All-head (Asks t m) o os asks) back.0)
       (orders-accepted m (k + 1) os came (omega (arith, few)) (All-tail (IsOrder (length pay.legs)) o os is) (All-tail (Asks t m) o os asks) back.1)
 

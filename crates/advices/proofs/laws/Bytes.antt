@@ -26,7 +26,7 @@ use Rattle.fin_contents.specs.Writing.{ccy_amount_text}
 use Rattle.fin_contents.proofs.laws.Bytes.{and-both, and-three, comma_number-of-x, digits-of-x, letters-of-x}
 use Rattle.fin_contents.proofs.laws.Steps.{checked}
 use Rattle.advices.specs.Fields.{ours}
-use Rattle.advices.specs.Spelled.{IsPlain, IsSpelled}
+use Rattle.advices.specs.Spelled.{IsPlain, IsWritableAmount}
 
 pub joined-plain : (front back : List ℕ) → IsPlain front → IsPlain back → IsPlain (front ++ back)
 joined-plain front back p q = list_all-append (is_in X) front back ∙ rw (p, q) refl
@@ -108,7 +108,7 @@ pub amount-some : (decimals n : ℕ) → decimals ≤ 4 → n < amount_end → 1
 amount-some decimals n few small =
     (comma_number-of-x (amount_text decimals n) (comma-number decimals (amount_text decimals n) (record { 0 = n }) (reads_written decimals n few small))).1
 
-pub ccy_amount-plain : (a : Amount) → IsSpelled a → IsPlain (ccy_amount_text a)
+pub ccy_amount-plain : (a : Amount) → IsWritableAmount a → IsPlain (ccy_amount_text a)
 ccy_amount-plain a is =
     joined-plain a.ccy.0 (amount_text a.decimals a.minor.0) (letters-of-x a.ccy.0 is.letters) (amount-plain a.decimals a.minor.0 is.amount.few is.amount.small)
 

@@ -14,7 +14,7 @@ use Rattle.fin_contents.specs.Plain.{reference_of, texts_of, time_of}
 use Rattle.fin_contents.proofs.laws.Steps.{read-then, told-is}
 use Rattle.fin_parties.specs.declared.party.Party.{Party}
 use Rattle.mt202cov.specs.Message.{content_test, contents_of, field_tests, mt202cov_of}
-use Rattle.mt202cov.specs.Parts.{banks_of, contents_in_parts, customers_of, details_of, message_of, sequence_a_of, sequence_b_of, terms_of}
+use Rattle.mt202cov.specs.Parts.{banks_of, contents_in_parts, customers_of, details_of, cover_of_parts, sequence_a_of, sequence_b_of, terms_of}
 use Rattle.mt202cov.specs.Order.{order_202}
 use Rattle.mt202cov.specs.Rules.{all_rules, c68, c81}
 use Rattle.mt202cov.specs.declared.banks.Banks.{Banks}
@@ -96,7 +96,7 @@ module _ (t : Tables) (fs : List Field) where
       let whole : contents_in_parts t fs found ≡ Ok m = contents-are t fs found ∙ e in
       let a = read-then (sequence_a_of t fs found) _ m whole in
       let b = read-then (sequence_b_of t fs found) _ m a.2 in
-      let same : message_of a.0 b.0 ≡ m = told-is (message_of a.0 b.0) m b.2 in
+      let same : cover_of_parts a.0 b.0 ≡ m = told-is (cover_of_parts a.0 b.0) m b.2 in
       let one = sequence-a-there a.0 a.1 in
       let two = sequence-b-there b.0 b.1 in
       subst (IsThere t fs) same (record { a56 = one.0; a57 = one.1; b56 = two.0; b57 = two.1 })
@@ -160,7 +160,7 @@ module _ (t : Tables) (fs : List Field) where
     contents-fine : (m : Mt202Cov) × (contents_of t fs found ≡ Ok m)
     unfolding contents_in_parts
     contents-fine =
-        let m : Mt202Cov = message_of sequence-a-fine.0 sequence-b-fine.0 in
+        let m : Mt202Cov = cover_of_parts sequence-a-fine.0 sequence-b-fine.0 in
         let whole : contents_in_parts t fs found ≡ Ok m = rw (sequence-a-fine.1, sequence-b-fine.1) refl in
         (m, sym (contents-are t fs found) ∙ whole)
 

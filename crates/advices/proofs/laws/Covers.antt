@@ -29,7 +29,7 @@ use Rattle.advices.specs.Fields.{bank_field, copied, is_named}
 use Rattle.advices.specs.Received.{ordering}
 use Rattle.advices.specs.Cover.{cover_fields}
 use Rattle.advices.specs.Transfer.{account_bank, intermediary, is_there, or_amount, ordered_amount}
-use Rattle.advices.specs.Spelled.{IsSpelled}
+use Rattle.advices.specs.Spelled.{IsWritableAmount}
 use Rattle.advices.specs.Valid.{IsTabled}
 use Rattle.advices.proofs.laws.Banks.{bank-read, ordering-of-transfer}
 use Rattle.advices.proofs.laws.Copies.{SaysNamed, each-says, found-each}
@@ -43,7 +43,7 @@ unfolding form_of
 form-58 = refl
 
 -- 33B: as it came, or what was ordered
-amount-seated : (t : Tables) (a : Amount) (o : Option Field) → IsSpelled a → IsTabled t a → IfSome o (λ f. (is_named 33 (codes "B") f ≡ true) × SaysNamed 33 (codes "B") (ccy_amount_of t) f)
+amount-seated : (t : Tables) (a : Amount) (o : Option Field) → IsWritableAmount a → IsTabled t a → IfSome o (λ f. (is_named 33 (codes "B") f ≡ true) × SaysNamed 33 (codes "B") (ccy_amount_of t) f)
     → Seated order_202 (content_test t) 12 6 (or_amount a (some_field (λ f. f) o))
 amount-seated t a None is tabled h = one-seated order_202 (content_test t) 12 6 33 (codes "B") (ccy_amount_of t) (λ f. refl) refl (ccy_amount_field 33 (Some 66) a) a refl (ordered-made t 33 a is tabled)
 amount-seated t a (Some f) is tabled h =
@@ -67,7 +67,7 @@ cover_segs fs reference related v ordered end skip f52 =
 
 module _ (t : Tables) (r : Received) (fs : List Field) (mt : r.mt ≡ Transfer) (same : r.fields ≡ fs) (none : first_of (tests_103 t fs) ≡ None) (sender : IsBic r.sender) (known : has_head t r.sender.head ≡ true)
     (reference related : List ℕ) (one : reference_of (line_field 20 None reference) ≡ Ok reference) (two : reference_of (line_field 21 None related) ≡ Ok related) (v : Value) (four : value_of t (value_field v) ≡ Ok v)
-    (ordered : Amount) (spelled : IsSpelled ordered) (tabled : IsTabled t ordered) (end : Bic) (end_is : IsBic end) (end_known : has_head t end.head ≡ true) (skip : Skip) where
+    (ordered : Amount) (spelled : IsWritableAmount ordered) (tabled : IsTabled t ordered) (end : Bic) (end_is : IsBic end) (end_known : has_head t end.head ≡ true) (skip : Skip) where
   abbrev Here : ℕ → ℕ → List Field → Type 0
   Here low n s = Seated order_202 (content_test t) low n s
 

@@ -26,7 +26,7 @@ use Rattle.advices.specs.Fields.{bank_field, copied, copied_all, copied_as, is_n
 use Rattle.advices.specs.Pass.{pass_fields, passed_fields}
 use Rattle.advices.specs.Received.{fields_for_52, first_fields, or_bank, ordering, sequence_a, sequence_b}
 use Rattle.advices.specs.Transfer.{account_bank, detail_fields, intermediary, is_passed_on, is_there, or_amount, ordered_amount, party_fields, term_fields, transfer_fields}
-use Rattle.advices.specs.Spelled.{IsCut, IsMoved, IsPlain, IsSpelled}
+use Rattle.advices.specs.Spelled.{IsReceivedWhole, IsMoved, IsPlain, IsWritableAmount}
 use Rattle.advices.proofs.laws.Bytes.{bic-plain, ccy_amount-plain, day-plain, joined-plain}
 
 -- ---- fields that are copied
@@ -95,7 +95,7 @@ value-made v is =
 -- ---- parts
 
 -- the fields of a message that was cut
-cut-fit : (r : Received) → IsCut r → AreFit r.fields
+cut-fit : (r : Received) → IsReceivedWhole r → AreFit r.fields
 cut-fit r s = each-of IsField r.fields s.fields
 
 for_52-fit : (mt : Mt) (fs : List Field) → AreFit fs → AreFit (fields_for_52 mt fs)
@@ -106,7 +106,7 @@ or_bank-fit : (bic : Bic) (fs : List Field) → IsBic bic → AreFit fs → AreF
 or_bank-fit bic [] is all = bank-fit 52 bic (omega arith) is
 or_bank-fit bic (f ∷ fs) is all = all
 
-ordering-fit : (r : Received) → IsCut r → AreFit (ordering r)
+ordering-fit : (r : Received) → IsReceivedWhole r → AreFit (ordering r)
 ordering-fit r s = or_bank-fit r.sender (copied 52 (codes "AD") (fields_for_52 r.mt r.fields)) s.sender (copied-fit 52 (codes "AD") (fields_for_52 r.mt r.fields) (for_52-fit r.mt r.fields (cut-fit r s)))
 
 intermediary-fit : (skip : Skip) (fs : List Field) → AreFit fs → AreFit (intermediary skip fs)
@@ -119,11 +119,11 @@ account_bank-fit Keep fs all = copied-fit 57 (codes "ABCD") fs all
 account_bank-fit Mid fs all = copied-fit 57 (codes "ABCD") fs all
 account_bank-fit Both fs all = tt
 
-or_amount-fit : (a : Amount) (fs : List Field) → IsSpelled a → AreFit fs → AreFit (or_amount a fs)
+or_amount-fit : (a : Amount) (fs : List Field) → IsWritableAmount a → AreFit fs → AreFit (or_amount a fs)
 or_amount-fit a [] is all = made 33 (Some 66) (ccy_amount_text a) (record { two_digits = omega arith; capital = refl }) (ccy_amount-plain a is)
 or_amount-fit a (f ∷ fs) is all = all
 
-ordered-fit : (a : Amount) (fs : List Field) → IsSpelled a → AreFit fs → AreFit (ordered_amount a fs)
+ordered-fit : (a : Amount) (fs : List Field) → IsWritableAmount a → AreFit fs → AreFit (ordered_amount a fs)
 ordered-fit a fs is all = or_amount-fit a (copied 33 (codes "B") fs) is (copied-fit 33 (codes "B") fs all)
 
 via-fit : (via : Option Bic) → IfSome via IsBic → AreFit (some_field (bank_field 53) via)
@@ -135,7 +135,7 @@ no-letter tag two = record { two_digits = two; capital = tt }
 
 -- ---- messages
 
-term-fit : (fs : List Field) (reference : List ℕ) (v : Value) (ordered : Amount) (skip : Skip) → AreFit fs → IsPlain reference → IsMoved v → IsSpelled ordered → Each IsField (term_fields fs reference v ordered skip)
+term-fit : (fs : List Field) (reference : List ℕ) (v : Value) (ordered : Amount) (skip : Skip) → AreFit fs → IsPlain reference → IsMoved v → IsWritableAmount ordered → Each IsField (term_fields fs reference v ordered skip)
 term-fit fs reference v ordered skip all plain is spelled = (
   made 20 None reference (no-letter 20 (omega arith)) plain,
   (
@@ -150,7 +150,7 @@ term-fit fs reference v ordered skip all plain is spelled = (
   ),
 )
 
-party-fit : (r : Received) (skip : Skip) (via : Option Bic) → IsCut r → IfSome via IsBic → Each IsField (party_fields r skip via)
+party-fit : (r : Received) (skip : Skip) (via : Option Bic) → IsReceivedWhole r → IfSome via IsBic → Each IsField (party_fields r skip via)
 party-fit r skip via s is = (
   copied-fit 50 (codes "AFK") r.fields (cut-fit r s),
   (
@@ -171,7 +171,7 @@ detail-fit fs all = (
   ),
 )
 
-pub transfer-fit : (r : Received) (reference : List ℕ) (v : Value) (ordered : Amount) (skip : Skip) (via : Option Bic) → IsCut r → IsPlain reference → IsMoved v → IsSpelled ordered → IfSome via IsBic
+pub transfer-fit : (r : Received) (reference : List ℕ) (v : Value) (ordered : Amount) (skip : Skip) (via : Option Bic) → IsReceivedWhole r → IsPlain reference → IsMoved v → IsWritableAmount ordered → IfSome via IsBic
     → All IsField (transfer_fields r reference v ordered skip via)
 unfolding transfer_fields
 transfer-fit r reference v ordered skip via s plain is spelled to =
@@ -180,7 +180,7 @@ transfer-fit r reference v ordered skip via s plain is spelled to =
     (each-append IsField (term_fields r.fields reference v ordered skip) (party_fields r skip via) (term-fit r.fields reference v ordered skip (cut-fit r s) plain is spelled) (party-fit r skip via s to))
     (detail-fit r.fields (cut-fit r s)))
 
-covered-fit : (r : Received) (ordered : Amount) (skip : Skip) → IsCut r → IsSpelled ordered → Each IsField (covered_fields r ordered skip)
+covered-fit : (r : Received) (ordered : Amount) (skip : Skip) → IsReceivedWhole r → IsWritableAmount ordered → Each IsField (covered_fields r ordered skip)
 covered-fit r ordered skip s spelled = (
   copied-fit 50 (codes "AFK") r.fields (cut-fit r s),
   (
@@ -195,7 +195,7 @@ covered-fit r ordered skip s spelled = (
   ),
 )
 
-pub cover-fit : (r : Received) (reference related : List ℕ) (v : Value) (ordered : Amount) (end : Bic) (skip : Skip) → IsCut r → IsPlain reference → IsPlain related → IsMoved v → IsSpelled ordered → IsBic end
+pub cover-fit : (r : Received) (reference related : List ℕ) (v : Value) (ordered : Amount) (end : Bic) (skip : Skip) → IsReceivedWhole r → IsPlain reference → IsPlain related → IsMoved v → IsWritableAmount ordered → IsBic end
     → All IsField (cover_fields r reference related v ordered end skip)
 unfolding cover_fields
 cover-fit r reference related v ordered end skip s plain other is spelled to =
@@ -211,7 +211,7 @@ both-each (f ∷ fs) back p q = (p.0, both-each fs back p.1 q)
 both-fit : (front back : List Field) → All IsField front → AreFit back → All IsField (front ++ back)
 both-fit front back p q = all-of IsField (front ++ back) (both-each front back (each-of IsField front p) q)
 
-passed-fit : (r : Received) (first : List Field) (reference : List ℕ) (v : Value) (skip : Skip) → IsCut r → AreFit first → IsPlain reference → IsMoved v → Each IsField (passed_fields r first reference v skip)
+passed-fit : (r : Received) (first : List Field) (reference : List ℕ) (v : Value) (skip : Skip) → IsReceivedWhole r → AreFit first → IsPlain reference → IsMoved v → Each IsField (passed_fields r first reference v skip)
 passed-fit r first reference v skip s all plain is = (
   made 20 None reference (no-letter 20 (omega arith)) plain,
   (
@@ -226,14 +226,14 @@ passed-fit r first reference v skip s all plain is = (
   ),
 )
 
-pub pass-fit : (r : Received) (reference : List ℕ) (v : Value) (skip : Skip) → IsCut r → IsPlain reference → IsMoved v → All IsField (pass_fields r reference v skip)
+pub pass-fit : (r : Received) (reference : List ℕ) (v : Value) (skip : Skip) → IsReceivedWhole r → IsPlain reference → IsMoved v → All IsField (pass_fields r reference v skip)
 unfolding pass_fields
 pass-fit r reference v skip s plain is =
     both-fit (joined (passed_fields r (sequence_a r.fields) reference v skip)) (sequence_b r.fields)
     (each-joined IsField (passed_fields r (sequence_a r.fields) reference v skip) (passed-fit r (sequence_a r.fields) reference v skip s (taken-fit (first_fields r.fields) r.fields (cut-fit r s)) plain is))
     (dropped-fit (first_fields r.fields) r.fields (cut-fit r s))
 
-pub debit-fit : (r : Received) (reference account : List ℕ) (v : Value) → IsCut r → IsPlain reference → IsPlain account → IsMoved v → All IsField (debit_fields r reference account v)
+pub debit-fit : (r : Received) (reference account : List ℕ) (v : Value) → IsReceivedWhole r → IsPlain reference → IsPlain account → IsMoved v → All IsField (debit_fields r reference account v)
 unfolding debit_fields
 debit-fit r reference account v s plain id is =
     each-joined IsField ((line_field 20 None reference ∷ []) ∷ copied_as 20 21 r.fields ∷ (line_field 25 None account ∷ []) ∷ (value_field v ∷ []) ∷ []) (
@@ -241,7 +241,7 @@ debit-fit r reference account v s plain id is =
       (copied_as-fit 20 21 r.fields (omega arith) (cut-fit r s), (made 25 None account (no-letter 25 (omega arith)) id, (value-made v is, tt))),
     )
 
-pub credit-fit : (r : Received) (reference account : List ℕ) (v : Value) → IsCut r → IsPlain reference → IsPlain account → IsMoved v → All IsField (credit_fields r reference account v)
+pub credit-fit : (r : Received) (reference account : List ℕ) (v : Value) → IsReceivedWhole r → IsPlain reference → IsPlain account → IsMoved v → All IsField (credit_fields r reference account v)
 unfolding credit_fields
 credit-fit r reference account v s plain id is =
     each-joined IsField ((line_field 20 None reference ∷ []) ∷ copied 21 (codes " ") r.fields ∷ (line_field 25 None account ∷ []) ∷ (value_field v ∷ []) ∷ ordering r ∷ []) (

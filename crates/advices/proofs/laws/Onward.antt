@@ -21,7 +21,7 @@ use Rattle.advices.specs.Cover.{cover_fields}
 use Rattle.advices.specs.Fields.{is_named, ours}
 use Rattle.advices.specs.Legs.{leg_amount, value_of_pay}
 use Rattle.advices.specs.Received.{ordered_of, received_of}
-use Rattle.advices.specs.Spelled.{IsSpelled}
+use Rattle.advices.specs.Spelled.{IsWritableAmount}
 use Rattle.advices.specs.Transfer.{transfer_fields}
 use Rattle.advices.specs.Valid.{CameFrom, CoverReads, IsTabled, PassReads, TransferReads, amount_of}
 use Rattle.advices.proofs.laws.Covers.{cover-fields-pass, cover-parted}
@@ -42,7 +42,7 @@ record Legs (t : Tables) (chart : Chart) (pay : Pay) (money : Amount) : Type 0 w
   of_own : leg_amount chart pay 1 ≡ Some own
   of_sent : leg_amount chart pay 2 ≡ Some sent
   value : value_of t (value_field (value_of_pay pay sent)) ≡ Ok (value_of_pay pay sent)
-  spelled : IsSpelled (ordered_of (received_of pay) own)
+  spelled : IsWritableAmount (ordered_of (received_of pay) own)
   tabled : IsTabled t (ordered_of (received_of pay) own)
   ccy : sent.ccy ≡ money.ccy
   ordered_ccy : (ordered_of (received_of pay) own).ccy ≡ money.ccy

@@ -42,7 +42,7 @@ use Rattle.advices.specs.Legs.{amount_on, leg_account, leg_amount, value_of_pay}
 use Rattle.advices.specs.Messages.{order_fields}
 use Rattle.advices.specs.Pass.{pass_fields}
 use Rattle.advices.specs.Received.{amount_if, amount_in, minor_if, ordered_of, received_of}
-use Rattle.advices.specs.Spelled.{IsCut, IsMoved, IsSpelled}
+use Rattle.advices.specs.Spelled.{IsReceivedWhole, IsMoved, IsWritableAmount}
 use Rattle.advices.specs.Transfer.{transfer_fields}
 use Rattle.advices.proofs.laws.Bytes.{c-plain, ours-plain}
 use Rattle.advices.proofs.laws.Fit.{cover-fit, credit-fit, debit-fit, pass-fit, transfer-fit}
@@ -53,7 +53,7 @@ cut-all : (text : List ℕ) (fault : Option FieldFault) → field_fault text ≡
 cut-all text None e = cut-fit text e
 cut-all text (Some fault) e = λ k d lt. absurd (omega arith)
 
-pub received-cut : (pay : Pay) → HasShape pay → IsCut (received_of pay)
+pub received-cut : (pay : Pay) → HasShape pay → IsReceivedWhole (received_of pay)
 received-cut pay shape = record {
   fields = cut-all pay.text (field_fault pay.text) refl;
   sender = lt-bank (sender_text pay.mir.0) (mir-sender pay.mir.0 (mir-form pay.mir shape.mir));
@@ -75,33 +75,33 @@ amount-small decimals bs m e =
     rw (← same) (below-end (minor_of decimals bs) small.0)
 
 minor-spelled : (decimals : ℕ) (line : List ℕ) (r : Result Minor AmountFault) → decimals ≤ 4 → amount_of decimals (drop 9 line) ≡ r → list_all (is_in A) (take 3 (drop 6 line)) ≡ true
-    → IfSome (option_map (λ (minor : Minor). let a : Amount = record { ccy = record { 0 = take 3 (drop 6 line) }; minor = minor; decimals = decimals } in a) (minor_if r)) IsSpelled
+    → IfSome (option_map (λ (minor : Minor). let a : Amount = record { ccy = record { 0 = take 3 (drop 6 line) }; minor = minor; decimals = decimals } in a) (minor_if r)) IsWritableAmount
 minor-spelled decimals line (Ok m) few e letters = record { amount = record { small = amount-small decimals (drop 9 line) m e; few = few }; letters = letters }
 minor-spelled decimals line (Err fault) few e letters = tt
 
-pub amount_if-spelled : (decimals : ℕ) (line : List ℕ) → decimals ≤ 4 → IfSome (amount_if decimals line) IsSpelled
+pub amount_if-spelled : (decimals : ℕ) (line : List ℕ) → decimals ≤ 4 → IfSome (amount_if decimals line) IsWritableAmount
 amount_if-spelled decimals line few = go (is_dated_amount line) refl
   where
-    go : (b : Bool) → is_dated_amount line ≡ b → IfSome (cond b (option_map (λ (minor : Minor). let a : Amount = record { ccy = record { 0 = take 3 (drop 6 line) }; minor = minor; decimals = decimals } in a) (minor_if (amount_of decimals (drop 9 line)))) None) IsSpelled
+    go : (b : Bool) → is_dated_amount line ≡ b → IfSome (cond b (option_map (λ (minor : Minor). let a : Amount = record { ccy = record { 0 = take 3 (drop 6 line) }; minor = minor; decimals = decimals } in a) (minor_if (amount_of decimals (drop 9 line)))) None) IsWritableAmount
     go false e = tt
     go true e =
         let parts = and-three (nat_le 10 (length line)) (list_all (is_in N) (take 6 line)) (is_ccy_amount (drop 6 line)) e in
         let form = and-three (nat_le 4 (length (drop 6 line))) (list_all (is_in A) (take 3 (drop 6 line))) (list_all (is_in X) (drop 3 (drop 6 line))) parts.2 in
         minor-spelled decimals line (amount_of decimals (drop 9 line)) few refl form.1
 
-line-spelled : (decimals : ℕ) (o : Option (List ℕ)) → decimals ≤ 4 → IfSome (option_and_then (amount_if decimals) o) IsSpelled
+line-spelled : (decimals : ℕ) (o : Option (List ℕ)) → decimals ≤ 4 → IfSome (option_and_then (amount_if decimals) o) IsWritableAmount
 line-spelled decimals None few = tt
 line-spelled decimals (Some line) few = amount_if-spelled decimals line few
 
-field-spelled : (decimals : ℕ) (o : Option Field) → decimals ≤ 4 → IfSome (option_and_then (λ f. option_and_then (amount_if decimals) (one_line f)) o) IsSpelled
+field-spelled : (decimals : ℕ) (o : Option Field) → decimals ≤ 4 → IfSome (option_and_then (λ f. option_and_then (amount_if decimals) (one_line f)) o) IsWritableAmount
 field-spelled decimals None few = tt
 field-spelled decimals (Some f) few = line-spelled decimals (one_line f) few
 
-or-own : (o : Option Amount) (own : Amount) → IfSome o IsSpelled → IsSpelled own → IsSpelled (unwrap_or o own)
+or-own : (o : Option Amount) (own : Amount) → IfSome o IsWritableAmount → IsWritableAmount own → IsWritableAmount (unwrap_or o own)
 or-own None own is other = other
 or-own (Some a) own is other = is
 
-pub ordered-spelled : (r : Received) (own : Amount) → IsSpelled own → IsSpelled (ordered_of r own)
+pub ordered-spelled : (r : Received) (own : Amount) → IsWritableAmount own → IsWritableAmount (ordered_of r own)
 ordered-spelled r own is = or-own (amount_in own.decimals r.fields) own (field-spelled own.decimals (find (is_named 32 (codes "A")) r.fields) is.amount.few) is
 
 -- ---- what is moved
@@ -113,7 +113,7 @@ pub record Moved (chart : Chart) (pay : Pay) (n : ℕ) : Type 0 where
   pub on_account : leg_account chart pay n ≡ Some account
   pub of_amount : leg_amount chart pay n ≡ Some amount
   pub formed : IsFormed account
-  pub spelled : IsSpelled amount
+  pub spelled : IsWritableAmount amount
   pub in_ccy : amount.ccy ≡ account.ccy
   pub in_decimals : amount.decimals ≡ account.decimals
   pub above : 0 < amount.minor.0
@@ -178,7 +178,7 @@ unfolding credit_fields
 credit-some r reference account v e = absurd (cc e)
 
 module _ (chart : Chart) (pay : Pay) (place k : ℕ) (sound : IsChart chart) (fits : FitsAccounts chart pay) (shape : HasShape pay) (small : place < 10 ^ 19) (few : k < 10 ^ 19) where
-  on-day : (amount : Amount) → IsSpelled amount → IsMoved (value_of_pay pay amount)
+  on-day : (amount : Amount) → IsWritableAmount amount → IsMoved (value_of_pay pay amount)
   on-day amount is = record { day = shape.value; amount = is }
 
   two-legs : (n : ℕ) → 1 ≤ n → n ≤ 2 → Moved chart pay n

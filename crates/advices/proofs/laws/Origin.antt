@@ -28,12 +28,12 @@ use Rattle.fin_message.specs.declared.message.Message.TheVariants as message
 use Rattle.mt103.specs.Codes.{instr_of, kind_of, operation_of}
 use Rattle.mt103.specs.Instructions.{d98, e46}
 use Rattle.mt103.specs.Message.{content_test as content_103, contents_of as contents_103, field_tests as tests_103, mt103_of}
-use Rattle.mt103.specs.Parts.{Terms as Terms103, contents_in_parts as parts_103, details_of as details_103, message_of as message_103, parties_of as parties_103, terms_of as terms_103}
+use Rattle.mt103.specs.Parts.{Terms as Terms103, contents_in_parts as parts_103, details_of as details_103, transfer_of_parts, parties_of as parties_103, terms_of as terms_103}
 use Rattle.mt103.proofs.laws.Parts.{contents-are as contents-are-103}
 use Rattle.mt103.specs.Order.{order_103}
 use Rattle.mt103.specs.declared.message.Mt103.{Mt103}
 use Rattle.mt202cov.specs.Message.{content_test as content_202, contents_of as contents_202, field_tests as tests_202, mt202cov_of}
-use Rattle.mt202cov.specs.Parts.{banks_of, contents_in_parts as parts_202, message_of as message_202, sequence_a_of, sequence_b_of, terms_of as terms_202}
+use Rattle.mt202cov.specs.Parts.{banks_of, contents_in_parts as parts_202, cover_of_parts, sequence_a_of, sequence_b_of, terms_of as terms_202}
 use Rattle.mt202cov.proofs.laws.Parts.{contents-are as contents-are-202}
 use Rattle.mt202cov.specs.Order.{order_202}
 use Rattle.mt202cov.specs.Rules.{all_rules as rules_202}
@@ -111,7 +111,7 @@ transfer-value t fs m e =
     let terms = read-then (terms_103 t fs found) _ two.0 whole in
     let parties = read-then (parties_103 t fs found) _ two.0 terms.2 in
     let details = read-then (details_103 t fs found) _ two.0 parties.2 in
-    let made : message_103 terms.0 parties.0 details.0 ≡ two.0 = told-is (message_103 terms.0 parties.0 details.0) two.0 details.2 in
+    let made : transfer_of_parts terms.0 parties.0 details.0 ≡ two.0 = told-is (transfer_of_parts terms.0 parties.0 details.0) two.0 details.2 in
     (terms.0.value, terms-value t fs found terms.0 terms.1, ap (λ (x : Mt103). x.amount) (made ∙ same))
 
 -- ---- the value of a cover
@@ -138,7 +138,7 @@ cover-value t fs m e =
     let all : parts_202 t fs found ≡ Ok two.0 = contents-are-202 t fs found ∙ two.1 in
     let a = read-then (sequence_a_of t fs found) _ two.0 all in
     let b = read-then (sequence_b_of t fs found) _ two.0 a.2 in
-    let made : message_202 a.0 b.0 ≡ two.0 = told-is (message_202 a.0 b.0) two.0 b.2 in
+    let made : cover_of_parts a.0 b.0 ≡ two.0 = told-is (cover_of_parts a.0 b.0) two.0 b.2 in
     let terms = read-then (terms_202 t fs found) _ a.0 a.1 in
     let banks = read-then (banks_of t fs found) _ a.0 terms.2 in
     let notes = read-then (in_option fs found 10 (texts_of 6)) _ a.0 banks.2 in

@@ -16,13 +16,13 @@ use Rattle.fin_blocks.specs.Sending.{IsText, are_subblocks}
 use Rattle.fin_blocks.specs.Text.{crlf, text_in}
 use Rattle.fin_blocks.specs.Text.{ended as with_end}
 use Rattle.fin_fields.specs.Faults.{has_other_byte}
-use Rattle.fin_fields.specs.Writing.{ContinueAll, IsField, ended, fields_text, heading_text, letter_text}
+use Rattle.fin_fields.specs.Writing.{ContinueAll, IsField, ended_lines, fields_text, heading_text, letter_text}
 use Rattle.fin_fields.specs.declared.field.Field.{Field}
 use Rattle.fin_contents.proofs.laws.Bytes.{and-both}
 use Rattle.fin_contents.proofs.laws.Placed.{each-of}
 use Rattle.day_model.specs.declared.pay.Order.{Order}
 use Rattle.day_model.specs.declared.pay.Order.TheVariants.{Transfer, Cover, Pass, Debit, Credit}
-use Rattle.advices.specs.Messages.{uetr_block, user_of}
+use Rattle.advices.specs.Messages.{uetr_block, order_user}
 
 -- ---- lines
 
@@ -86,7 +86,7 @@ abbrev all_lines : List Field → List (List ℕ)
 all_lines [] = []
 all_lines (f ∷ fs) = headed (heading_text f) f.lines ++ all_lines fs
 
-ended-lines : (lines : List (List ℕ)) → ended lines ≡ flat_map with_end lines
+ended-lines : (lines : List (List ℕ)) → ended_lines lines ≡ flat_map with_end lines
 ended-lines [] = refl
 ended-lines (line ∷ lines) = ap (λ (t : List ℕ). line ++ 13 ∷ 10 ∷ t) (ended-lines lines) ∙ sym (append_assoc line crlf (flat_map with_end lines))
 
@@ -94,7 +94,7 @@ flat-append : (a b : List (List ℕ)) → flat_map with_end (a ++ b) ≡ flat_ma
 flat-append [] b = refl
 flat-append (line ∷ a) b = ap (λ (t : List ℕ). with_end line ++ t) (flat-append a b) ∙ sym (append_assoc (with_end line) (flat_map with_end a) (flat_map with_end b))
 
-headed-text : (heading : List ℕ) (lines : List (List ℕ)) → ContinueAll lines → heading ++ ended lines ≡ flat_map with_end (headed heading lines)
+headed-text : (heading : List ℕ) (lines : List (List ℕ)) → ContinueAll lines → heading ++ ended_lines lines ≡ flat_map with_end (headed heading lines)
 headed-text heading [] c = absurd c
 headed-text heading (line ∷ lines) c =
     ap (λ (t : List ℕ). heading ++ (line ++ 13 ∷ 10 ∷ t)) (ended-lines lines)
@@ -205,7 +205,7 @@ of-cover None is = flag-alone
 of-cover (Some u) is = flag-and-uetr u is
 
 -- what block 3 of an order's message holds may stand there
-pub user-fine : (uetr : Option Uetr) (order : Order) → IfSome uetr IsUetr → IsTrue (are_subblocks (user_of uetr order))
+pub user-fine : (uetr : Option Uetr) (order : Order) → IfSome uetr IsUetr → IsTrue (are_subblocks (order_user uetr order))
 user-fine uetr (Transfer to skip via) is = of-transfer uetr is
 user-fine uetr (Cover to end skip) is = of-cover uetr is
 user-fine uetr (Pass to skip) is = of-cover uetr is

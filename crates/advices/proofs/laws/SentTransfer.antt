@@ -31,7 +31,7 @@ use Rattle.mt103_rules.specs.Rules.{all_rules}
 use Rattle.day_model.specs.declared.pay.Skip.{Skip}
 use Rattle.day_model.specs.declared.pay.Skip.TheVariants.{Keep, Mid, Both}
 use Rattle.advices.specs.Fields.{bank_field, copied, copied_all, is_named}
-use Rattle.advices.specs.Transfer.{account_bank, instructions, intermediary, is_there, or_amount, ordered_amount}
+use Rattle.advices.specs.Transfer.{account_bank, passed_instructions, intermediary, is_there, or_amount, ordered_amount}
 use Rattle.advices.proofs.laws.Banks.{bank-read}
 use Rattle.advices.proofs.laws.Copies.{each-says}
 use Rattle.advices.proofs.laws.Finding.{agree, any-field, copied-at, tells_from}
@@ -119,7 +119,7 @@ module _ (t : Tables) (fs : List Field) (reference : List ℕ) (v : Value) (orde
 
     instrs-on : n.instrs ≡ filter (stays (is_some n.p56) (is_some n.p57)) m.instrs
     instrs-on =
-        let left = parted-said order_103 row (content_test t) sent segs p 3 (instructions skip fs) instr_of n.instrs (λ f. refl) refl d.instrs in
+        let left = parted-said order_103 row (content_test t) sent segs p 3 (passed_instructions skip fs) instr_of n.instrs (λ f. refl) refl d.instrs in
         let all = chosen 23 (codes "E") 3 instr_of m.instrs refl c.instrs in
         let some = staying (is_there (intermediary skip fs)) (is_there (account_bank skip fs)) fs (each-says order_103 (content_test t) fs none 23 (codes "E") (3 ∷ []) instr_of refl ((λ f. refl), tt)) in
         left ∙ some ∙ ap (filter (stays (is_there (intermediary skip fs)) (is_there (account_bank skip fs)))) (sym all)

@@ -16,7 +16,7 @@ use Rattle.fin_contents.proofs.laws.Steps.{read-then, told-is}
 use Rattle.mt103.specs.Codes.{charge_of, instr_of, kind_of, operation_of}
 use Rattle.mt103.specs.Instructions.{d98, e46}
 use Rattle.mt103.specs.Message.{content_test, contents_of, field_tests, mt103_of}
-use Rattle.mt103.specs.Parts.{Details, Parties, Terms, contents_in_parts, details_of, message_of, parties_of, terms_of}
+use Rattle.mt103.specs.Parts.{Details, Parties, Terms, contents_in_parts, details_of, transfer_of_parts, parties_of, terms_of}
 use Rattle.mt103.specs.Order.{order_103}
 use Rattle.mt103.specs.declared.message.Mt103.{Mt103}
 use Rattle.mt103.proofs.laws.Parts.{contents-are}
@@ -114,7 +114,7 @@ module _ (t : Tables) (fs : List Field) where
       let a = read-then (terms_of t fs found) _ m whole in
       let b = read-then (parties_of t fs found) _ m a.2 in
       let c = read-then (details_of t fs found) _ m b.2 in
-      let same : message_of a.0 b.0 c.0 ≡ m = told-is (message_of a.0 b.0 c.0) m c.2 in
+      let same : transfer_of_parts a.0 b.0 c.0 ≡ m = told-is (transfer_of_parts a.0 b.0 c.0) m c.2 in
       let r = terms-say a.0 a.1 in
       let s = parties-say b.0 b.1 in
       let u = details-say c.0 c.1 in
@@ -194,7 +194,7 @@ module _ (t : Tables) (fs : List Field) where
     pub contents-fine : (m : Mt103) × (contents_of t fs found ≡ Ok m)
     unfolding contents_in_parts
     contents-fine =
-        let m : Mt103 = message_of terms-fine.0 parties-fine.0 details-fine.0 in
+        let m : Mt103 = transfer_of_parts terms-fine.0 parties-fine.0 details-fine.0 in
         let whole : contents_in_parts t fs found ≡ Ok m = rw (terms-fine.1, parties-fine.1, details-fine.1) refl in
         (m, sym (contents-are t fs found) ∙ whole)
 

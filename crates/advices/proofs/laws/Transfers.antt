@@ -26,8 +26,8 @@ use Rattle.day_model.specs.declared.pay.Skip.{Skip}
 use Rattle.advices.specs.declared.received.Received.{Received}
 use Rattle.advices.specs.Fields.{bank_field, copied, copied_all, is_named}
 use Rattle.advices.specs.Received.{ordering}
-use Rattle.advices.specs.Transfer.{account_bank, instructions, intermediary, is_passed_on, is_there, or_amount, ordered_amount, tells_account_bank, tells_intermediary, transfer_fields}
-use Rattle.advices.specs.Spelled.{IsSpelled}
+use Rattle.advices.specs.Transfer.{account_bank, passed_instructions, intermediary, is_passed_on, is_there, or_amount, ordered_amount, tells_account_bank, tells_intermediary, transfer_fields}
+use Rattle.advices.specs.Spelled.{IsWritableAmount}
 use Rattle.advices.specs.Valid.{IsTabled}
 use Rattle.advices.proofs.laws.Banks.{bank-read, ordering-of-transfer}
 use Rattle.advices.proofs.laws.Copies.{SaysNamed, each-says, found-each}
@@ -46,7 +46,7 @@ via-seated t None h = none-seated order_103 (content_test t) 0 10
 via-seated t (Some b) h = one-seated order_103 (content_test t) 0 10 53 (codes "A") (known_party_of t) (λ f. refl) refl (bank_field 53 b) (party.A None b) refl (bank-read t 53 b form-53 h.0 h.1)
 
 -- 33B: as it came, or what was ordered
-amount-seated : (t : Tables) (a : Amount) (o : Option Field) → IsSpelled a → IsTabled t a → IfSome o (λ f. (is_named 33 (codes "B") f ≡ true) × SaysNamed 33 (codes "B") (ccy_amount_of t) f)
+amount-seated : (t : Tables) (a : Amount) (o : Option Field) → IsWritableAmount a → IsTabled t a → IfSome o (λ f. (is_named 33 (codes "B") f ≡ true) × SaysNamed 33 (codes "B") (ccy_amount_of t) f)
     → Seated order_103 (content_test t) 0 6 (or_amount a (some_field (λ f. f) o))
 amount-seated t a None is tabled h = one-seated order_103 (content_test t) 0 6 33 (codes "B") (ccy_amount_of t) (λ f. refl) refl (ccy_amount_field 33 (Some 66) a) a refl (ordered-made t 33 a is tabled)
 amount-seated t a (Some f) is tabled h =
@@ -63,11 +63,11 @@ there-of tag letters fs f e = rw e refl
 -- the fields of each place of a transfer that is sent, with this 52a
 abbrev pub transfer_segs : List Field → List ℕ → Value → Amount → Skip → Option Bic → Field → List (List Field)
 transfer_segs fs reference v ordered skip via f52 =
-    (line_field 20 None reference ∷ []) ∷ [] ∷ (copied 23 (codes "B") fs) ∷ (instructions skip fs) ∷ (copied 26 (codes "T") fs) ∷ (value_field v ∷ []) ∷ (ordered_amount ordered fs) ∷ (copied 36 (codes " ") fs) ∷ (copied 50 (codes "AFK") fs) ∷ (f52 ∷ []) ∷ (some_field (bank_field 53) via) ∷ [] ∷ [] ∷ (intermediary skip fs) ∷ (account_bank skip fs) ∷ (copied 59 (codes " AF") fs) ∷ (copied 70 (codes " ") fs) ∷ (copied 71 (codes "A") fs) ∷ (copied_all (is_named 71 (codes "F")) fs) ∷ (copied 71 (codes "G") fs) ∷ (copied 72 (codes " ") fs) ∷ (copied 77 (codes "B") fs) ∷ []
+    (line_field 20 None reference ∷ []) ∷ [] ∷ (copied 23 (codes "B") fs) ∷ (passed_instructions skip fs) ∷ (copied 26 (codes "T") fs) ∷ (value_field v ∷ []) ∷ (ordered_amount ordered fs) ∷ (copied 36 (codes " ") fs) ∷ (copied 50 (codes "AFK") fs) ∷ (f52 ∷ []) ∷ (some_field (bank_field 53) via) ∷ [] ∷ [] ∷ (intermediary skip fs) ∷ (account_bank skip fs) ∷ (copied 59 (codes " AF") fs) ∷ (copied 70 (codes " ") fs) ∷ (copied 71 (codes "A") fs) ∷ (copied_all (is_named 71 (codes "F")) fs) ∷ (copied 71 (codes "G") fs) ∷ (copied 72 (codes " ") fs) ∷ (copied 77 (codes "B") fs) ∷ []
 
 module _ (t : Tables) (r : Received) (fs : List Field) (mt : r.mt ≡ Transfer) (same : r.fields ≡ fs) (none : first_of (field_tests t fs) ≡ None) (sender : IsBic r.sender) (known : has_head t r.sender.head ≡ true)
     (reference : List ℕ) (one : reference_of (line_field 20 None reference) ≡ Ok reference) (v : Value) (four : value_of t (value_field v) ≡ Ok v)
-    (ordered : Amount) (spelled : IsSpelled ordered) (tabled : IsTabled t ordered) (skip : Skip) (via : Option Bic) (via_is : IfSome via (λ b. IsBic b × (has_head t b.head ≡ true))) where
+    (ordered : Amount) (spelled : IsWritableAmount ordered) (tabled : IsTabled t ordered) (skip : Skip) (via : Option Bic) (via_is : IfSome via (λ b. IsBic b × (has_head t b.head ≡ true))) where
   abbrev Here : ℕ → List Field → Type 0
   Here n s = Seated order_103 (content_test t) 0 n s
 
@@ -78,7 +78,7 @@ module _ (t : Tables) (r : Received) (fs : List Field) (mt : r.mt ≡ Transfer) 
   s2 : Here 2 (copied 23 (codes "B") fs)
   s2 = copy-seated order_103 (content_test t) fs none order_103 (content_test t) 0 2 23 (codes "B") (2 ∷ []) operation_of refl ((λ f. refl), tt) (λ f. refl) refl
 
-  s3 : Here 3 (instructions skip fs)
+  s3 : Here 3 (passed_instructions skip fs)
   s3 =
       all-seated order_103 (content_test t) 0 3 23 (codes "E") instr_of (λ f. refl) refl (is_passed_on (is_there (intermediary skip fs)) (is_there (account_bank skip fs)))
       (λ f e. passed-named (is_there (intermediary skip fs)) (is_there (account_bank skip fs)) f e) fs refl

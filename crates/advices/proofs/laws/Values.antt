@@ -15,7 +15,7 @@ use Rattle.ref_tables.specs.Seen.{Tables}
 use Rattle.fin_contents.specs.declared.value.Value.{Value}
 use Rattle.fin_contents.specs.Money.{ccy_amount_in, ccy_amount_of, is_ccy_amount, is_dated_amount, value_in, value_of}
 use Rattle.fin_contents.specs.Writing.{ccy_amount_field, ccy_amount_text, value_field}
-use Rattle.advices.specs.Spelled.{IsMoved, IsSpelled}
+use Rattle.advices.specs.Spelled.{IsMoved, IsWritableAmount}
 use Rattle.advices.specs.Valid.{IsTabled}
 use Rattle.advices.proofs.laws.Bytes.{amount-plain, amount-some, day-digits}
 
@@ -26,7 +26,7 @@ record Written (t : Tables) (a : Amount) : Type 0 where
   front : take 3 (ccy_amount_text a) ≡ a.ccy.0
   long : nat_le 4 (length (ccy_amount_text a)) ≡ true
 
-written : (t : Tables) (a : Amount) → IsSpelled a → IsTabled t a → Written t a
+written : (t : Tables) (a : Amount) → IsWritableAmount a → IsTabled t a → Written t a
 unfolding ccy_amount_in
 written t a is tabled =
     let text : List ℕ = amount_text a.decimals a.minor.0 in
@@ -45,7 +45,7 @@ written t a is tabled =
     }
 
 -- 33B
-pub ordered-made : (t : Tables) (tag : ℕ) (a : Amount) → IsSpelled a → IsTabled t a → ccy_amount_of t (ccy_amount_field tag (Some 66) a) ≡ Ok a
+pub ordered-made : (t : Tables) (tag : ℕ) (a : Amount) → IsWritableAmount a → IsTabled t a → ccy_amount_of t (ccy_amount_field tag (Some 66) a) ≡ Ok a
 unfolding ccy_amount_of
 ordered-made t tag a is tabled = let w = written t a is tabled in rw (w.form, w.read) refl
 

@@ -12,7 +12,7 @@ use Rattle.day_model.specs.declared.account.Account.{Account}
 use Rattle.day_model.specs.declared.pay.Side.{Side}
 use Rattle.day_model.specs.declared.pay.Side.TheVariants.{Debit, Credit}
 use Rattle.day_model.specs.declared.entry.Entry.{Entry}
-use Rattle.day_model.specs.Chart.{Chart, account_at, is_ccy}
+use Rattle.day_model.specs.Chart.{Chart, account_at, is_same_ccy}
 use Rattle.day_model.specs.Balance.{is_booked, moved_by}
 use Rattle.day_model.specs.Legal.{IsLegal}
 use Rattle.day_model.specs.Laws.{sum_in, in_ccy, moved_in, entry_in, turnover, DebitsEqualCredits}
@@ -26,7 +26,7 @@ nothing_step false = refl
 sum_in-nothing : (ccy : Ccy) (n : ℕ) (accounts : List Account) → sum_in ccy (λ k. pos 0) n accounts ≡ pos 0
 sum_in-nothing ccy n [] = refl
 sum_in-nothing ccy n (a ∷ accounts) =
-    ap (λ (z : ℤ). (if is_ccy a.ccy ccy then pos 0 else pos 0) +ℤ z) (sum_in-nothing ccy (n + 1) accounts) ∙ nothing_step (is_ccy a.ccy ccy)
+    ap (λ (z : ℤ). (if is_same_ccy a.ccy ccy then pos 0 else pos 0) +ℤ z) (sum_in-nothing ccy (n + 1) accounts) ∙ nothing_step (is_same_ccy a.ccy ccy)
 
 add_step : (b : Bool) (x y : ℕ) (s u : ℤ) → (if b then pos (x + y) else pos 0) +ℤ (s +ℤ u) ≡ ((if b then pos x else pos 0) +ℤ s) +ℤ ((if b then pos y else pos 0) +ℤ u)
 add_step true x y s u = omega (arith, ints)
@@ -35,8 +35,8 @@ add_step false x y s u = omega (arith, ints)
 sum_in-add : (ccy : Ccy) (f g : ℕ → ℕ) (n : ℕ) (accounts : List Account) → sum_in ccy (λ k. pos (f k + g k)) n accounts ≡ sum_in ccy (λ k. pos (f k)) n accounts +ℤ sum_in ccy (λ k. pos (g k)) n accounts
 sum_in-add ccy f g n [] = refl
 sum_in-add ccy f g n (a ∷ accounts) =
-    ap (λ (z : ℤ). (if is_ccy a.ccy ccy then pos (f n + g n) else pos 0) +ℤ z) (sum_in-add ccy f g (n + 1) accounts)
-    ∙ add_step (is_ccy a.ccy ccy) (f n) (g n) (sum_in ccy (λ k. pos (f k)) (n + 1) accounts) (sum_in ccy (λ k. pos (g k)) (n + 1) accounts)
+    ap (λ (z : ℤ). (if is_same_ccy a.ccy ccy then pos (f n + g n) else pos 0) +ℤ z) (sum_in-add ccy f g (n + 1) accounts)
+    ∙ add_step (is_same_ccy a.ccy ccy) (f n) (g n) (sum_in ccy (λ k. pos (f k)) (n + 1) accounts) (sum_in ccy (λ k. pos (g k)) (n + 1) accounts)
 
 -- the sum over the accounts of what the first entries move on each
 abbrev moved_over : Chart → Ccy → Side → List Entry → ℤ

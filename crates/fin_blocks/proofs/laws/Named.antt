@@ -12,7 +12,7 @@ use Rattle.corr_ids.specs.Mir.{IsMir, is_mir, mir_of}
 use Rattle.corr_ids.specs.declared.address.LtAddress.{LtAddress}
 use Rattle.corr_ids.proofs.laws.Spelling.{lt-bank}
 use Rattle.fin_blocks.specs.Blocks.{AreNamed, IsApp, are_last, groups_behind, blocks_of, trailers_of, user_of}
-use Rattle.fin_blocks.specs.Forms.{app_of, basic_in, basic_of, inside, mir_in, received_in, received_of, sent_in, sent_of}
+use Rattle.fin_blocks.specs.Forms.{app_of, basic_in, basic_of, inside, mir_in, received_in, output_form_of, sent_in, input_form_of}
 use Rattle.fin_blocks.specs.Groups.{groups_after, groups_of, next_group}
 use Rattle.fin_blocks.specs.Text.{text_of}
 use Rattle.fin_blocks.specs.declared.basic.Basic.{Basic}
@@ -86,7 +86,7 @@ sent-in-form bs = last-of IsApp _ _ (λ mt. given HasBank IsApp _ _ (bank-again 
 
 app-form : (group : Option (List ℕ)) → IfSome (app_of group) IsApp
 app-form group =
-    either IsApp (received_of group) (sent_of group)
+    either IsApp (output_form_of group) (input_form_of group)
     (last-of IsApp (inside (codes "{2:O") group) received_in received-in-form)
     (last-of IsApp (inside (codes "{2:I") group) sent_in sent-in-form)
 

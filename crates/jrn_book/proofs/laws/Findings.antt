@@ -10,7 +10,7 @@ use Rattle.jrn_file.specs.Reading.{Reading, no_journal, whole, cut, all_of, size
 use Rattle.jrn_codec.specs.Header.{IsHead, head_bytes}
 use Rattle.jrn_codec.specs.Record.{IsEntry, entry_bytes}
 use Rattle.jrn_codec.proofs.laws.Records.{one_entry, one_head}
-use Rattle.jrn_book.specs.Journal.{IsJournal, all_records, records_of}
+use Rattle.jrn_book.specs.Journal.{IsJournal, all_records, entry_records}
 use Rattle.jrn_book.specs.Opening.{Finding, book, no_book, faulty, HasNoHead, IsFaultBehind, IsFaultyAt, IsFound, IsNextOf, IsNoBook, IsNoNext, IsRefusedIn}
 use Rattle.jrn_book.proofs.Following.{legal_front}
 
@@ -37,13 +37,13 @@ cons_on d e short long rest same on = record {
 abbrev Meeting : List Entry → List (List ℕ) → List Entry → List (List ℕ) → Type 0
 Meeting h t i u = ((h ≡ i) × (t ≡ u)) ⊎ (GoesOn h i t ⊎ GoesOn i h u)
 
-meeting : (h i : List Entry) (t u : List (List ℕ)) → All IsEntry h → All IsEntry i → records_of h ++ t ≡ records_of i ++ u → Meeting h t i u
+meeting : (h i : List Entry) (t u : List (List ℕ)) → All IsEntry h → All IsEntry i → entry_records h ++ t ≡ entry_records i ++ u → Meeting h t i u
 meeting [] [] t u eh ei same = inl (refl, same)
-meeting [] (e ∷ i) t u eh ei same = inr (inl (record { entry = e; written = All-head IsEntry e i ei; more = i; is = refl; others = records_of i ++ u; first = same }))
-meeting (d ∷ h) [] t u eh ei same = inr (inr (record { entry = d; written = All-head IsEntry d h eh; more = h; is = refl; others = records_of h ++ t; first = sym same }))
+meeting [] (e ∷ i) t u eh ei same = inr (inl (record { entry = e; written = All-head IsEntry e i ei; more = i; is = refl; others = entry_records i ++ u; first = same }))
+meeting (d ∷ h) [] t u eh ei same = inr (inr (record { entry = d; written = All-head IsEntry d h eh; more = h; is = refl; others = entry_records h ++ t; first = sym same }))
 meeting (d ∷ h) (e ∷ i) t u eh ei same =
     let bytes : entry_bytes d ≡ entry_bytes e = cc (same) in
-    let rest : records_of h ++ t ≡ records_of i ++ u = cc (same) in
+    let rest : entry_records h ++ t ≡ entry_records i ++ u = cc (same) in
     let one : d ≡ e = one_entry d e (All-head IsEntry d h eh) (All-head IsEntry e i ei) bytes in
     elim (meeting h i t u (All-tail IsEntry d h eh) (All-tail IsEntry e i ei) rest) [
       | inl both ↦ inl (λ k. one k ∷ both.0 k, both.1)
@@ -73,7 +73,7 @@ one_end : (all : List (List ℕ)) (c d : Chart) (h i : List Entry) (t u : List (
 one_end all c d h i t u a b =
     let same : all_records c h ++ t ≡ all_records d i ++ u = sym a.is ∙ b.is in
     let heads : head_bytes c ≡ head_bytes d = cc (same) in
-    let rest : records_of h ++ t ≡ records_of i ++ u = cc (same) in
+    let rest : entry_records h ++ t ≡ entry_records i ++ u = cc (same) in
     let chart : c ≡ d = one_head c d a.good.head b.good.head heads in
     elim (meeting h i t u a.good.entries b.good.entries rest) [
       | inl both ↦ (chart, both.0, both.1)

@@ -15,7 +15,7 @@ use Rattle.fin_contents.proofs.laws.Grouped.{eight-apart, six-apart}
 use Rattle.mt103.specs.Codes.{charge_of, instr_of, kind_of, operation_of}
 use Rattle.mt103.specs.Message.{contents_of}
 use Rattle.mt103.specs.Order.{order_103}
-use Rattle.mt103.specs.Parts.{contents_in_parts, contents_into, details_into, details_of, message_of, parties_into, parties_of, terms_into, terms_of, with_details, with_parties, with_terms, Details, Parties, Terms}
+use Rattle.mt103.specs.Parts.{contents_in_parts, contents_into, details_into, details_of, transfer_of_parts, parties_into, parties_of, terms_into, terms_of, with_details, with_parties, with_terms, Details, Parties, Terms}
 use Rattle.corr_text.specs.declared.fault.Fault.{Fault}
 use Rattle.mt103.specs.declared.instruction.Instr.{Instr}
 use Rattle.mt103.specs.declared.message.Mt103.{Mt103}
@@ -37,19 +37,19 @@ unfolding contents_in_parts contents_of terms_of parties_of details_of
 contents-are t fs found =
     eight-apart (in_place order_103 fs found 0 reference_of) (all_from fs 1 time_of 0 found fs) (in_place order_103 fs found 2 operation_of) (all_from fs 3 instr_of 0 found fs)
     (in_option fs found 4 kind_of) (in_place order_103 fs found 5 (value_of t)) (in_option fs found 6 (ccy_amount_of t)) (in_option fs found 7 rate_of)
-    terms (λ (x : Terms). parties_of t fs found >>= λ (y : Parties). details_of t fs found >>= λ (z : Details). Ok (message_of x y z)) _ (λ a0 a1 a2 a3 a4 a5 a6 a7.
+    terms (λ (x : Terms). parties_of t fs found >>= λ (y : Parties). details_of t fs found >>= λ (z : Details). Ok (transfer_of_parts x y z)) _ (λ a0 a1 a2 a3 a4 a5 a6 a7.
     eight-apart (in_place order_103 fs found 8 (known_party_of t)) (in_option fs found 9 (known_party_of t)) (in_option fs found 10 (known_party_of t)) (in_option fs found 11 (known_party_of t))
     (in_option fs found 12 (known_party_of t)) (in_option fs found 13 (known_party_of t)) (in_option fs found 14 (known_party_of t)) (in_place order_103 fs found 15 (known_party_of t))
-    parties (λ (y : Parties). details_of t fs found >>= λ (z : Details). Ok (message_of (terms a0 a1 a2 a3 a4 a5 a6 a7) y z)) _ (λ b0 b1 b2 b3 b4 b5 b6 b7.
+    parties (λ (y : Parties). details_of t fs found >>= λ (z : Details). Ok (transfer_of_parts (terms a0 a1 a2 a3 a4 a5 a6 a7) y z)) _ (λ b0 b1 b2 b3 b4 b5 b6 b7.
     six-apart (in_option fs found 16 (texts_of 4)) (in_place order_103 fs found 17 charge_of) (all_from fs 18 (ccy_amount_of t) 0 found fs) (in_option fs found 19 (ccy_amount_of t))
     (in_option fs found 20 (texts_of 6)) (in_option fs found 21 (texts_of 3))
-    details (λ (z : Details). Ok (message_of (terms a0 a1 a2 a3 a4 a5 a6 a7) (parties b0 b1 b2 b3 b4 b5 b6 b7) z)) _ (λ c0 c1 c2 c3 c4 c5. refl)))
+    details (λ (z : Details). Ok (transfer_of_parts (terms a0 a1 a2 a3 a4 a5 a6 a7) (parties b0 b1 b2 b3 b4 b5 b6 b7) z)) _ (λ c0 c1 c2 c3 c4 c5. refl)))
 
 -- ---- the same in a message that said something else
 
 one-by-one : (m : Mt103) (terms : Result Terms Fault) (parties : Result Parties Fault) (details : Result Details Fault)
     → ((terms >>= λ x. Ok (with_terms m x)) >>= λ (first : Mt103). (parties >>= λ y. Ok (with_parties first y)) >>= λ (second : Mt103). details >>= λ z. Ok (with_details second z))
-    ≡ (terms >>= λ x. parties >>= λ y. details >>= λ z. Ok (message_of x y z))
+    ≡ (terms >>= λ x. parties >>= λ y. details >>= λ z. Ok (transfer_of_parts x y z))
 one-by-one m (Err fault) parties details = refl
 one-by-one m (Ok x) (Err fault) details = refl
 one-by-one m (Ok x) (Ok y) (Err fault) = refl

@@ -9,7 +9,7 @@ use Rattle.std.proofs.lemmas.Option.{none-some, same_Some}
 use Rattle.corr_text.specs.Codes.{code}
 use Rattle.corr_ids.specs.declared.bic.Bic.{Bic}
 use Rattle.corr_ids.specs.declared.envelope.Envelope.{Envelope}
-use Rattle.ref_tables.specs.Seen.{Tables, has_head}
+use Rattle.ref_tables.specs.Seen.{Tables, has_head, IsKnown}
 use Rattle.day_model.specs.Chart.{Chart, account_at, vostro}
 use Rattle.day_model.specs.declared.account.Account.{Account}
 use Rattle.day_model.specs.declared.pay.Leg.{Leg}
@@ -24,7 +24,7 @@ use Rattle.fin_contents.proofs.laws.Steps.{checked, read-then}
 use Rattle.ssi_versions.specs.declared.method.Method.{Method}
 use Rattle.ssi_versions.specs.declared.method.Method.TheVariants as method
 use Rattle.ssi_versions.specs.declared.row.SsiRow.{SsiRow}
-use Rattle.routing.specs.Accounts.{fits}
+use Rattle.routing.specs.Accounts.{fits_amount}
 use Rattle.routing.specs.Route.{is_bank, route_of}
 use Rattle.routing.specs.declared.routed.Routed.{Routed}
 use Rattle.routing.specs.declared.target.Target.{Target}
@@ -39,7 +39,7 @@ use Rattle.pay_plan.specs.Orders.{next_orders, notices_of, orders_by, orders_of,
 use Rattle.pay_plan.specs.Pay.{legs_of, quote_of}
 use Rattle.pay_plan.specs.Plan.{pay_of, plan_of}
 use Rattle.pay_plan.specs.Readable.{IsReadBy}
-use Rattle.pay_plan.specs.Sends.{Follows, IsKnown, IsPayOf}
+use Rattle.pay_plan.specs.Sends.{FollowsMessage, IsPayOf}
 use Rattle.pay_plan.specs.Way.{cover_way, transfer_way, way_of}
 use Rattle.pay_plan.proofs.Parties.{ok-is}
 use Rattle.pay_plan.proofs.Shaped.{AskedForm, TargetForm, asked-form}
@@ -50,67 +50,67 @@ receiver-known : (t : Tables) (bank : Bic) (via : Option Bic) → IsKnown t bank
 receiver-known t bank None h v = h
 receiver-known t bank (Some b) h v = v
 
-one : (t : Tables) (mt : Mt) (x : Order) → Follows t mt x → All (Follows t mt) (x ∷ [])
-one t mt x h = All-cons (Follows t mt) x [] h (All-nil (Follows t mt))
+one : (t : Tables) (mt : Mt) (x : Order) → FollowsMessage t mt x → All (FollowsMessage t mt) (x ∷ [])
+one t mt x h = All-cons (FollowsMessage t mt) x [] h (All-nil (FollowsMessage t mt))
 
-onward : (t : Tables) (bank : Bic) (field : ℕ) (via : Option Bic) → IsKnown t bank → IfSome via (IsKnown t) → All (Follows t mt.Transfer) (next_orders Onward bank field via)
+onward : (t : Tables) (bank : Bic) (field : ℕ) (via : Option Bic) → IsKnown t bank → IfSome via (IsKnown t) → All (FollowsMessage t mt.Transfer) (next_orders Onward bank field via)
 onward t bank field via h v = one t mt.Transfer (order.Transfer (receiver bank via) (skip_of field (is_bank (receiver bank via) bank)) None) (receiver-known t bank via h v, tt)
 
-passed : (t : Tables) (bank : Bic) (field : ℕ) (via : Option Bic) → IsKnown t bank → IfSome via (IsKnown t) → All (Follows t mt.Cover) (next_orders Passed bank field via)
+passed : (t : Tables) (bank : Bic) (field : ℕ) (via : Option Bic) → IsKnown t bank → IfSome via (IsKnown t) → All (FollowsMessage t mt.Cover) (next_orders Passed bank field via)
 passed t bank field via h v = one t mt.Cover (order.Pass (receiver bank via) (skip_of field (is_bank (receiver bank via) bank))) (receiver-known t bank via h v)
 
 -- those that follow a transfer
-after-transfer : (t : Tables) (how : Option Method) (bank : Bic) (field : ℕ) (via : Option Bic) → IsKnown t bank → IfSome via (IsKnown t) → All (Follows t mt.Transfer) (next_orders (transfer_way how) bank field via)
-after-transfer t None bank field via h v = All-nil (Follows t mt.Transfer)
+after-transfer : (t : Tables) (how : Option Method) (bank : Bic) (field : ℕ) (via : Option Bic) → IsKnown t bank → IfSome via (IsKnown t) → All (FollowsMessage t mt.Transfer) (next_orders (transfer_way how) bank field via)
+after-transfer t None bank field via h v = All-nil (FollowsMessage t mt.Transfer)
 after-transfer t (Some method.Book) bank field via h v = onward t bank field via h v
 after-transfer t (Some method.Serial) bank field via h v = onward t bank field via h v
 after-transfer t (Some method.Cover) bank field via h v =
     let y = order.Cover (receiver bank via) bank (skip_of field true) in
-    All-cons (Follows t mt.Transfer) (order.Transfer bank (skip_of field true) via) (y ∷ []) (h, v) (one t mt.Transfer y (receiver-known t bank via h v, h))
+    All-cons (FollowsMessage t mt.Transfer) (order.Transfer bank (skip_of field true) via) (y ∷ []) (h, v) (one t mt.Transfer y (receiver-known t bank via h v, h))
 
 -- those that follow a cover
-after-cover : (t : Tables) (how : Option Method) (bank : Bic) (field : ℕ) (via : Option Bic) → IsKnown t bank → IfSome via (IsKnown t) → All (Follows t mt.Cover) (next_orders (cover_way (Bank bank field) how) bank field via)
+after-cover : (t : Tables) (how : Option Method) (bank : Bic) (field : ℕ) (via : Option Bic) → IsKnown t bank → IfSome via (IsKnown t) → All (FollowsMessage t mt.Cover) (next_orders (cover_way (Bank bank field) how) bank field via)
 after-cover t None bank field via h v = passed t bank field via h v
 after-cover t (Some method.Serial) bank field via h v = passed t bank field via h v
 after-cover t (Some method.Cover) bank field via h v = passed t bank field via h v
 after-cover t (Some method.Book) bank field via h v =
-    elim (field == 58) as (λ b. All (Follows t mt.Cover) (next_orders (cond b Credited Passed) bank field via)) [
+    elim (field == 58) as (λ b. All (FollowsMessage t mt.Cover) (next_orders (cond b Credited Passed) bank field via)) [
       | true ↦ one t mt.Cover (order.Credit bank 2) h
       | false ↦ passed t bank field via h v
     ]
 
-onward-orders : (t : Tables) (mt : Mt) (target : Target) (how : Option Method) (via : Option Bic) → TargetForm t target → IfSome via (IsKnown t) → All (Follows t mt) (orders_by (way_of mt target how) target via)
+onward-orders : (t : Tables) (mt : Mt) (target : Target) (how : Option Method) (via : Option Bic) → TargetForm t target → IfSome via (IsKnown t) → All (FollowsMessage t mt) (orders_by (way_of mt target how) target via)
 onward-orders t mt.Transfer (Bank bank field) how via h v = after-transfer t how bank field via h.1 v
 onward-orders t mt.Cover (Bank bank field) how via h v = after-cover t how bank field via h.1 v
-onward-orders t mt (Customer account) how via h v = All-nil (Follows t mt)
-onward-orders t mt NoBic how via h v = All-nil (Follows t mt)
+onward-orders t mt (Customer account) how via h v = All-nil (FollowsMessage t mt)
+onward-orders t mt NoBic how via h v = All-nil (FollowsMessage t mt)
 
-told : (t : Tables) (mt : Mt) (owner : Bic) → IsKnown t owner → Follows t mt (order.Debit owner 1)
+told : (t : Tables) (mt : Mt) (owner : Bic) → IsKnown t owner → FollowsMessage t mt (order.Debit owner 1)
 told t mt.Transfer owner h = h
 told t mt.Cover owner h = h
 
 -- the notice to the owner of a vostro account
-notices : (t : Tables) (mt : Mt) (x : Account) → (x.kind ≡ vostro → IsKnown t x.owner) → All (Follows t mt) (notices_of x)
+notices : (t : Tables) (mt : Mt) (x : Account) → (x.kind ≡ vostro → IsKnown t x.owner) → All (FollowsMessage t mt) (notices_of x)
 notices t mt x known =
-    elim (x.kind == vostro) as (λ b. (x.kind == vostro ≡ b) → All (Follows t mt) (cond b (order.Debit x.owner 1 ∷ []) [])) [
+    elim (x.kind == vostro) as (λ b. (x.kind == vostro ≡ b) → All (FollowsMessage t mt) (cond b (order.Debit x.owner 1 ∷ []) [])) [
       | true ↦ λ is. one t mt (order.Debit x.owner 1) (told t mt x.owner (known (eqb-true x.kind vostro is)))
-      | false ↦ λ is. All-nil (Follows t mt)
+      | false ↦ λ is. All-nil (FollowsMessage t mt)
     ] refl
 
 all-orders : (t : Tables) (mt : Mt) (target : Target) (how : Option Method) (via : Option Bic) (o : Option Account) → TargetForm t target → IfSome via (IsKnown t)
-    → ((x : Account) → o ≡ Some x → x.kind ≡ vostro → IsKnown t x.owner) → All (Follows t mt) (option_map_or (orders_of (way_of mt target how) target via) o [])
-all-orders t mt target how via None h v owner = All-nil (Follows t mt)
+    → ((x : Account) → o ≡ Some x → x.kind ≡ vostro → IsKnown t x.owner) → All (FollowsMessage t mt) (option_map_or (orders_of (way_of mt target how) target via) o [])
+all-orders t mt target how via None h v owner = All-nil (FollowsMessage t mt)
 all-orders t mt target how via (Some x) h v owner =
-    All-append (Follows t mt) (orders_by (way_of mt target how) target via) (notices_of x) (onward-orders t mt target how via h v) (notices t mt x (owner x refl))
+    All-append (FollowsMessage t mt) (orders_by (way_of mt target how) target via) (notices_of x) (onward-orders t mt target how via h v) (notices t mt x (owner x refl))
 
 -- ---- the accounts
 
-on-account : (chart : Chart) (amount : Asked) (a b : Leg) (x : Account) → a ≡ b → ((y : Account) → account_at chart a.account.0 ≡ Some y → fits amount.amount y ≡ true) → account_at chart b.account.0 ≡ Some x
-    → fits amount.amount x ≡ true
+on-account : (chart : Chart) (amount : Asked) (a b : Leg) (x : Account) → a ≡ b → ((y : Account) → account_at chart a.account.0 ≡ Some y → fits_amount amount.amount y ≡ true) → account_at chart b.account.0 ≡ Some x
+    → fits_amount amount.amount x ≡ true
 on-account chart asked a b x same fit at = fit x (subst (λ (l : Leg). account_at chart l.account.0 ≡ Some x) (sym same) at)
 
 each-fits : (t : Tables) (sender : Bic) (chart : Chart) (way : Way) (asked : Asked) (routed : Routed) (n : ℕ) (leg : Leg) (x : Account) → IsRouted t sender asked.amount chart routed
-    → slice_get (legs_of way asked routed) n ≡ Some leg → account_at chart leg.account.0 ≡ Some x → fits asked.amount x ≡ true
+    → slice_get (legs_of way asked routed) n ≡ Some leg → account_at chart leg.account.0 ≡ Some x → fits_amount asked.amount x ≡ true
 each-fits t sender chart way asked routed zero leg x is at there =
     let debit : Leg = record { account = routed.debit; side = Debit; amount = asked.amount.minor; quote = Theirs asked.reference } in
     on-account chart asked debit leg x (same_Some debit leg at) is.debit there

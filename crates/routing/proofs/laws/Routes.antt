@@ -17,13 +17,13 @@ use Rattle.corr_money.specs.declared.amount.Amount.{Amount}
 use Rattle.ref_tables.specs.Seen.{Tables, has_head}
 use Rattle.day_model.specs.declared.account.Account.{Account}
 use Rattle.day_model.specs.declared.account.AcctNo.{AcctNo}
-use Rattle.day_model.specs.Chart.{Chart, account_at, has_id, is_ccy, is_owned, nostro, number_of_first, vostro}
+use Rattle.day_model.specs.Chart.{Chart, account_at, has_id, is_same_ccy, is_owned, nostro, number_of_first, vostro}
 use Rattle.ssi_versions.specs.declared.method.Method.{Method}
 use Rattle.ssi_versions.specs.declared.method.Method.TheVariants as method
 use Rattle.ssi_versions.specs.declared.row.SsiRow.{SsiRow}
 use Rattle.ssi_versions.specs.Instruction.{instruction_at, is_in_force, naming}
 use Rattle.ssi_versions.specs.Rows.{any_bank, knows_via}
-use Rattle.routing.specs.Accounts.{account_with, fits, named, serves}
+use Rattle.routing.specs.Accounts.{account_with, fits_amount, account_named, serves}
 use Rattle.routing.specs.Route.{booked_credit, carried_credit, credit_by, credit_of, customer_credit, debit_of, is_bank, relation_of, route_of}
 use Rattle.routing.specs.declared.cover.Cover.{Cover}
 use Rattle.routing.specs.declared.cover.Cover.TheVariants as cover
@@ -70,18 +70,18 @@ AccountIs chart P n = (x : Account) → account_at chart n.0 ≡ Some x → P x
 
 -- it fits an amount
 abbrev Fits : Amount → Account → Type 0
-Fits amount x = fits amount x ≡ true
+Fits amount x = fits_amount amount x ≡ true
 
 -- it fits, and a vostro account is this bank's
 record IsOwn (bank : Bic) (amount : Amount) (x : Account) : Type 0 where
-  fit : fits amount x ≡ true
+  fit : fits_amount amount x ≡ true
   owner : x.kind ≡ vostro → x.owner.head ≡ bank.head
 
 -- the kind and the owner of an account that is owned
 owned-parts : (kind : ℕ) (head : List ℕ) (amount : Amount) (x : Account) → is_owned kind head amount.ccy amount.decimals x ≡ true → (eqb x.kind kind ≡ true) × (bytes_eq x.owner.head head ≡ true)
 owned-parts kind head amount x e =
-    let money = and_parts (eqb x.kind kind && bytes_eq x.owner.head head && is_ccy x.ccy amount.ccy) (eqb x.decimals amount.decimals) e in
-    let bank = and_parts (eqb x.kind kind && bytes_eq x.owner.head head) (is_ccy x.ccy amount.ccy) money.0 in
+    let money = and_parts (eqb x.kind kind && bytes_eq x.owner.head head && is_same_ccy x.ccy amount.ccy) (eqb x.decimals amount.decimals) e in
+    let bank = and_parts (eqb x.kind kind && bytes_eq x.owner.head head) (is_same_ccy x.ccy amount.ccy) money.0 in
     and_parts (eqb x.kind kind) (bytes_eq x.owner.head head) bank.0
 
 owned-own : (kind : ℕ) (bank : Bic) (amount : Amount) (x : Account) → is_owned kind bank.head amount.ccy amount.decimals x ≡ true → IsOwn bank amount x
@@ -129,7 +129,7 @@ debit-own : (sender : Bic) (amount : Amount) (c : Cover) (chart : Chart) (n : Ac
 debit-own sender amount cover.Relation chart n e = relation-debit sender amount chart n e
 debit-own sender amount (cover.Bank bank) chart n e = bank-debit bank sender amount chart n (is_bank bank sender || is_bank bank chart.home) e
 debit-own sender amount (cover.Account id) chart n e =
-    let is = given (named id (wanted.Relation sender) amount chart) (code "P32") n e in
+    let is = given (account_named id (wanted.Relation sender) amount chart) (code "P32") n e in
     λ x at. relation-own sender amount x
     (and_parts (has_id id x) (serves (wanted.Relation sender) amount x) (passes (λ y. has_id id y && serves (wanted.Relation sender) amount y) chart n x is at)).1
 debit-own sender amount cover.NoBic chart n e = absurd (cc e)
@@ -145,27 +145,27 @@ record IsCredit (t : Tables) (amount : Amount) (chart : Chart) (credit : Credit)
   fit : AccountIs chart (Fits amount) credit.account
   via : IfSome credit.via (λ b. has_head t b.head ≡ true)
 
-named-fit : (id : List ℕ) (w : Wanted) (amount : Amount) (chart : Chart) (n : AcctNo) → named id w amount chart ≡ Some n → AccountIs chart (Fits amount) n
+named-fit : (id : List ℕ) (w : Wanted) (amount : Amount) (chart : Chart) (n : AcctNo) → account_named id w amount chart ≡ Some n → AccountIs chart (Fits amount) n
 named-fit id w amount chart n is = λ x at.
     serves-fits w amount x (and_parts (has_id id x) (serves w amount x) (passes (λ y. has_id id y && serves w amount y) chart n x is at)).1
 
 customer-is : (t : Tables) (account : Option (List ℕ)) (amount : Amount) (chart : Chart) (credit : Credit) → customer_credit account amount chart ≡ Ok credit → IsCredit t amount chart credit
 customer-is t account amount chart credit e =
     let id = there account (code "P33") _ credit e in
-    let n = there (named id.0 wanted.Customer amount chart) (code "P33") _ credit id.2 in
+    let n = there (account_named id.0 wanted.Customer amount chart) (code "P33") _ credit id.2 in
     let same : record { account = n.0; method = None; via = None } ≡ credit = ok-is _ credit n.2 in
     subst (IsCredit t amount chart) same (record { fit = named-fit id.0 wanted.Customer amount chart n.0 n.1; via = tt })
 
 booked-is : (t : Tables) (bank : Bic) (id : List ℕ) (amount : Amount) (chart : Chart) (credit : Credit) → booked_credit bank id amount chart ≡ Ok credit → IsCredit t amount chart credit
 booked-is t bank id amount chart credit e =
-    let n = there (named id (wanted.Vostro bank) amount chart) (code "P36") _ credit e in
+    let n = there (account_named id (wanted.Vostro bank) amount chart) (code "P36") _ credit e in
     let same : record { account = n.0; method = Some method.Book; via = None } ≡ credit = ok-is _ credit n.2 in
     subst (IsCredit t amount chart) same (record { fit = named-fit id (wanted.Vostro bank) amount chart n.0 n.1; via = tt })
 
 carried-is : (t : Tables) (row : SsiRow) (amount : Amount) (chart : Chart) (credit : Credit) → KnowsVia t row → carried_credit row amount chart ≡ Ok credit → IsCredit t amount chart credit
 carried-is t row amount chart credit known e =
     let via = there row.via (code "P36") _ credit e in
-    let n = there (named row.account (wanted.Nostro via.0) amount chart) (code "P36") _ credit via.2 in
+    let n = there (account_named row.account (wanted.Nostro via.0) amount chart) (code "P36") _ credit via.2 in
     let head = subst (λ (o : Option Bic). IsTrue (knows_via t o)) via.1 known in
     let same : record { account = n.0; method = Some row.method; via = Some via.0 } ≡ credit = ok-is _ credit n.2 in
     subst (IsCredit t amount chart) same (record { fit = named-fit row.account (wanted.Nostro via.0) amount chart n.0 n.1; via = head })
@@ -210,8 +210,8 @@ credit-is t amount value target.NoBic rows chart credit known e = absurd (cc e)
 
 -- what a route for an amount of this sender rests on
 pub record IsRouted (t : Tables) (sender : Bic) (amount : Amount) (chart : Chart) (routed : Routed) : Type 0 where
-  pub debit : (x : Account) → account_at chart routed.debit.0 ≡ Some x → fits amount x ≡ true
-  pub credit : (x : Account) → account_at chart routed.credit.0 ≡ Some x → fits amount x ≡ true
+  pub debit : (x : Account) → account_at chart routed.debit.0 ≡ Some x → fits_amount amount x ≡ true
+  pub credit : (x : Account) → account_at chart routed.credit.0 ≡ Some x → fits_amount amount x ≡ true
   pub owner : (x : Account) → account_at chart routed.debit.0 ≡ Some x → x.kind ≡ vostro → x.owner.head ≡ sender.head
   pub via : IfSome routed.via (λ b. has_head t b.head ≡ true)
 

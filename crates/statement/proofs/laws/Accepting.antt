@@ -28,9 +28,9 @@ use Rattle.mt950.proofs.laws.Pages.{page-reads-back}
 use Rattle.day_model.specs.Chart.{account_at}
 use Rattle.day_model.specs.declared.account.Account.{Account}
 use Rattle.statement.specs.Lines.{lines_on}
-use Rattle.statement.specs.Pages.{page_of, pages_for, pages_from}
-use Rattle.statement.specs.Seen.{Book}
-use Rattle.statement.specs.Valid.{AreAccepted, AreReadBack, Holds, IsAcceptedAs, IsPrintable, ReadsBack}
+use Rattle.statement.specs.Pages.{page_at, pages_for, pages_from}
+use Rattle.statement.specs.Seen.{SeenBook}
+use Rattle.statement.specs.Valid.{AreAccepted, AreReadBack, TablesKnow, IsAcceptedAs, IsPrintable, ReadsBack}
 use Rattle.statement.proofs.laws.Readable.{page-written}
 
 -- ---- the verdict on a page
@@ -62,9 +62,9 @@ page-accepted home to t page back known says =
 
 -- ---- all pages
 
-module _ (book : Book) (n : ℕ) (day : Day) (is : IsPrintable book n day) (t : Tables) (account : Account) (at : account_at book.chart n ≡ Some account) (holds : Holds t account) where
+module _ (book : SeenBook) (n : ℕ) (day : Day) (is : IsPrintable book n day) (t : Tables) (account : Account) (at : account_at book.chart n ≡ Some account) (holds : TablesKnow t account) where
   abbrev page : ℕ → Page950
-  page k = page_of book.chart book.entries n day account k
+  page k = page_at book.chart book.entries n day account k
 
   abbrev count : ℕ
   count = pages_for (length (lines_on n day book.entries))
@@ -85,9 +85,9 @@ module _ (book : Book) (n : ℕ) (day : Day) (is : IsPrintable book n day) (t : 
   statement-accepted back = All-from_recursion Accepted (pages_from page 1 count) (pages-accepted 1 count (omega arith) (recursion_from_All Back (pages_from page 1 count) back))
 
 -- the pages of a statement that read back are accepted
-pub accepted : (book : Book) (n : ℕ) (day : Day) → IsPrintable book n day → AreReadBack book.chart book.entries n day → AreAccepted book.chart book.entries n day
+pub accepted : (book : SeenBook) (n : ℕ) (day : Day) → IsPrintable book n day → AreReadBack book.chart book.entries n day → AreAccepted book.chart book.entries n day
 accepted book n day is back t account at holds =
-    let pages : Option Account → List Page950 = λ o. option_map_or (λ a. pages_from (page_of book.chart book.entries n day a) 1 (pages_for (length (lines_on n day book.entries)))) o [] in
+    let pages : Option Account → List Page950 = λ o. option_map_or (λ a. pages_from (page_at book.chart book.entries n day a) 1 (pages_for (length (lines_on n day book.entries)))) o [] in
     let mine : pages (account_at book.chart n) ≡ pages (Some account) = ap pages at in
     subst (λ (ps : List Page950). All (Accepted book n day is t account at holds) ps) (sym mine)
     (statement-accepted book n day is t account at holds (subst (λ (ps : List Page950). All (Back book n day is t account at holds) ps) mine (back account at)))

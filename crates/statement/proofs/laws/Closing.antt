@@ -15,8 +15,8 @@ use Rattle.mt950.specs.declared.joining.Statement.{Statement}
 use Rattle.mt950.specs.declared.page.Page950.{Page950}
 use Rattle.statement.specs.Legs.{before_day}
 use Rattle.statement.specs.Lines.{Placed, lines_on, up_to_day}
-use Rattle.statement.specs.Pages.{carried, page_of, pages_for, pages_from}
-use Rattle.statement.specs.Valid.{Closes}
+use Rattle.statement.specs.Pages.{carried, page_at, pages_for, pages_from}
+use Rattle.statement.specs.Valid.{ClosesAtBalance}
 use Rattle.statement.proofs.DayParts.{before-is, lines-are, parts, up-to-is}
 use Rattle.statement.proofs.Days.{entry_day, rising}
 use Rattle.statement.proofs.Joined.{all-carried, carried-all, joins, last-page, length-pages, lines-joined, no-gap, same-balance, some-page}
@@ -46,7 +46,7 @@ module _ (chart : Chart) (entries : List Entry) (n : ℕ) (day : Day) (legal : I
 
   module _ (account : Account) where
     abbrev page : ℕ → Page950
-    page k = page_of chart entries n day account k
+    page k = page_at chart entries n day account k
 
     abbrev lines : List Placed
     lines = lines_on n day entries
@@ -94,13 +94,13 @@ module _ (chart : Chart) (entries : List Entry) (n : ℕ) (day : Day) (legal : I
         ∙ joins (page 1) (page count) pages (map (λ p. p.line) lines) (last-is some.0 some.1) (lines-joined chart entries n day account) follow (all-carried chart entries n day account 1 1 count _ refl) (same-balance _ _ adds)
 
 -- the pages of an account's statement close at its fold
-pub closes : (chart : Chart) (entries : List Entry) (n : ℕ) (day : Day) → IsLegal chart entries → IsListed chart n → Closes chart entries n day
+pub closes : (chart : Chart) (entries : List Entry) (n : ℕ) (day : Day) → IsLegal chart entries → IsListed chart n → ClosesAtBalance chart entries n day
 closes chart entries n day legal listed =
     let account = listed_account chart n listed in (
       statement chart entries n day legal account.0,
       record {
         joined =
-            ap (λ (o : Option Account). joined_of (option_map_or (λ a. pages_from (page_of chart entries n day a) 1 (pages_for (length (lines_on n day entries)))) o [])) account.1
+            ap (λ (o : Option Account). joined_of (option_map_or (λ a. pages_from (page_at chart entries n day a) 1 (pages_for (length (lines_on n day entries)))) o [])) account.1
             ∙ joined chart entries n day legal account.0;
         opening = refl;
         lines = refl;

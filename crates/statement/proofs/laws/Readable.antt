@@ -22,12 +22,12 @@ use Rattle.day_model.specs.Chart.{Chart, IsFormed, account_at}
 use Rattle.day_model.specs.declared.account.Account.{Account}
 use Rattle.day_model.specs.declared.entry.Entry.{Entry}
 use Rattle.mt950.specs.Page.{mt950_of}
-use Rattle.mt950.specs.Writing.{IsBalance, IsContinued, IsEntry, IsPage}
+use Rattle.mt950.specs.Writing.{IsBalance, IsContinued, IsWritableLine, IsPage}
 use Rattle.mt950.proofs.laws.Pages.{page-given}
 use Rattle.statement.specs.Index.{HasCode}
 use Rattle.statement.specs.Lines.{Placed, lines_on}
-use Rattle.statement.specs.Pages.{carried, day_before, lines_of_page, page_of, pages_for}
-use Rattle.statement.specs.Seen.{Book}
+use Rattle.statement.specs.Pages.{carried, day_before, lines_of_page, page_at, pages_for}
+use Rattle.statement.specs.Seen.{SeenBook}
 use Rattle.statement.specs.Valid.{IsPrintable}
 use Rattle.statement.proofs.Fine.{IsFine, IsFit, abs-small, after-small, entry-fit, lines-few, lines-fine}
 use Rattle.statement.proofs.Walking.{one-leg}
@@ -81,7 +81,7 @@ few-pages : (lines : ℕ) → lines ≤ 100000 → pages_for lines < 5000
 few-pages zero few = omega arith
 few-pages (suc lines) few = omega (arith, few)
 
-module _ (book : Book) (n : ℕ) (day : Day) (is : IsPrintable book n day) where
+module _ (book : SeenBook) (n : ℕ) (day : Day) (is : IsPrintable book n day) where
   abbrev chart : Chart
   chart = book.chart
 
@@ -125,7 +125,7 @@ module _ (book : Book) (n : ℕ) (day : Day) (is : IsPrintable book n day) where
     page-lines k = all-take _ 25 (drop (25 * (k - 1)) lines) (all-drop _ (25 * (k - 1)) lines all-fine)
 
     -- a page can be written, and is read under such tables
-    pub page-written : (t : Tables) (k : ℕ) → decimals_in t account.ccy.0 ≡ Some account.decimals → k ≤ pages_for (length lines) → IsPage t (page_of chart entries n day account k)
+    pub page-written : (t : Tables) (k : ℕ) → decimals_in t account.ccy.0 ≡ Some account.decimals → k ≤ pages_for (length lines) → IsPage t (page_at chart entries n day account k)
     page-written t k known low =
         let few = pages-few in
         let most = is.chart.rows.few in
@@ -141,16 +141,16 @@ module _ (book : Book) (n : ℕ) (day : Day) (is : IsPrintable book n day) where
           capitals = formed.ccy;
           known = known;
           opening = balance-fine (k == 1) (cond (k == 1) (day_before day) day) (k - 1) (cond_both (k == 1) (day_before day) day InCentury (λ _. century-before day is.century) (λ _. is.century));
-          lines = All-from_recursion (IsEntry account.decimals) _ (all-map (IsFine account.decimals (length entries)) (IsEntry account.decimals) (λ p. p.line) (λ p fine. fine.entry) (lines_of_page k lines) (page-lines k));
+          lines = All-from_recursion (IsWritableLine account.decimals) _ (all-map (IsFine account.decimals (length entries)) (IsWritableLine account.decimals) (λ p. p.line) (λ p fine. fine.entry) (lines_of_page k lines) (page-lines k));
           closing = balance-fine (k == pages_for (length lines)) day k is.century;
           available = tt;
         }
 
     -- so it is one that is read of fields of a text
-    pub page-readable : (k : ℕ) → k ≤ pages_for (length lines) → IsReadable mt950_of (page_of chart entries n day account k)
+    pub page-readable : (k : ℕ) → k ≤ pages_for (length lines) → IsReadable mt950_of (page_at chart entries n day account k)
     page-readable k low =
         let t : Tables = record { bics = []; ccys = (account.ccy.0, account.decimals) ∷ []; countries = [] } in
         let known : decimals_in t account.ccy.0 ≡ Some account.decimals = rw ((bytes_eq-Decides account.ccy.0 account.ccy.0).1 refl) refl in
         let few : IsTrue (few_decimals t.ccys) = rw (le-leb account.decimals 4 formed.decimals) refl in
-        page-given t (page_of chart entries n day account k) few (page-written t k known low)
+        page-given t (page_at chart entries n day account k) few (page-written t k known low)
         (All-from_recursion IsContinued _ (all-map (IsFine account.decimals (length entries)) IsContinued (λ p. p.line) (λ p fine. rw fine.plain tt) (lines_of_page k lines) (page-lines k)))

@@ -1,5 +1,5 @@
 use Rattle.std.proofs.Common.{ℕ, cond, ap, ◌∙◌, arith}
-use Rattle.day_model.specs.Chart.{is_ccy}
+use Rattle.day_model.specs.Chart.{is_same_ccy}
 use Rattle.corr_report.proofs.laws.Rests.{rest_at}
 use Rattle.corr_report.specs.Totals.{part_at, sum_over}
 use Rattle.corr_report.proofs.turnover.sum_of.Goals as goal
@@ -10,7 +10,7 @@ overflow_add-sum c =
     let account = c.get.result.now in
     let rest = rest_at c.args.a.now.accounts l.n account l.auto.n c.get.ensures.value in
     let step = ap (sum_over (part_at c.args.side c.args.pairs.now) c.args.ccy l.n) rest in
-    let here = c.beside-sum.ensures ∙ ap (λ (x : ℕ). cond (is_ccy account.ccy c.args.ccy) x 0) c.part_of_account.ensures in
+    let here = c.beside-sum.ensures ∙ ap (λ (x : ℕ). cond (is_same_ccy account.ccy c.args.ccy) x 0) c.part_of_account.ensures in
     omega (arith, step, l.invariant, here, c.requires.fits)
 
 pub loop-n-preserved : goal.loop-n-preserved
@@ -19,5 +19,5 @@ loop-n-preserved c =
     let account = c.get.result.now in
     let rest = rest_at c.args.a.now.accounts l.n account l.auto.n c.get.ensures.value in
     let step = ap (sum_over (part_at c.args.side c.args.pairs.now) c.args.ccy l.n) rest in
-    let here = c.beside-sum.ensures ∙ ap (λ (x : ℕ). cond (is_ccy account.ccy c.args.ccy) x 0) c.part_of_account.ensures in
+    let here = c.beside-sum.ensures ∙ ap (λ (x : ℕ). cond (is_same_ccy account.ccy c.args.ccy) x 0) c.part_of_account.ensures in
     omega (arith, step, l.invariant, here)

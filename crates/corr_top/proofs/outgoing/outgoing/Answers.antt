@@ -3,7 +3,7 @@ use Rattle.std.specs.Prelude.{min}
 use Rattle.std.proofs.lemmas.List.{length-take}
 use Rattle.std.proofs.lemmas.Option.{slice_get_within}
 use Rattle.corr_report.proofs.laws.Rests.{rest_at}
-use Rattle.corr_top.specs.Out.{sent_of}
+use Rattle.corr_top.specs.Out.{entry_out}
 use Rattle.corr_top.proofs.Adding.{in_front, none_behind, numbered_done, numbered_next}
 use Rattle.corr_top.proofs.Sending.{more-accepted}
 use Rattle.corr_top.proofs.outgoing.outgoing.Goals as goal
@@ -18,7 +18,7 @@ loop-place-preserved c =
     let at = in_front c.args.until c.args.h.now.entries (l.place - 1) c.get.result.now within c.get.ensures in
     record {
       after = omega (arith, l.invariant.after);
-      rest = numbered_next (sent_of chart) l.place _ l.out _ c.get.result.now (drop (l.place - 1) front) (drop (l.place + 1 - 1) front)
+      rest = numbered_next (entry_out chart) l.place _ l.out _ c.get.result.now (drop (l.place - 1) front) (drop (l.place + 1 - 1) front)
           (rest_at front l.place c.get.result.now one at) l.invariant.rest c.in_ok-push_orders.ensures.added;
       accepted = λ i e after below here. more-accepted chart c.args.from front l.place c.get.result.now i e one at l.invariant.accepted c.in_ok-push_orders.ensures.accepted after below here;
     }
@@ -27,7 +27,7 @@ pub returns-clause-text : goal.returns-clause-text
 returns-clause-text c =
     let l = c.loop-place in
     let past : min c.args.until (length c.args.h.now.entries) + 1 ≤ l.place = omega (arith, c.loop-place-test.false, c.min-place-end.ensures, c.len.ensures.count) in
-    numbered_done (sent_of c.args.a.now) l.place _ l.out _ (none_behind c.args.until c.args.h.now.entries l.place past) l.invariant.rest
+    numbered_done (entry_out c.args.a.now) l.place _ l.out _ (none_behind c.args.until c.args.h.now.entries l.place past) l.invariant.rest
 
 pub returns-clause-accepted : goal.returns-clause-accepted
 returns-clause-accepted c = λ i e after at.

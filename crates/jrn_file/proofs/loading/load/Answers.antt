@@ -1,5 +1,6 @@
 use Rattle.std.proofs.Common.{◌≡◌, inl, inr, ℕ, ◌+◌, ◌-◌, ◌*◌, ◌<◌, length, subst, sym, ◌∙◌, arith}
 use Rattle.std.proofs.lemmas.Bool.{cases_lt}
+use Rattle.std.proofs.lemmas.Grind.{common_steps}
 use Rattle.corr_disk.specs.Calls.{CallsMade}
 use Rattle.corr_disk.proofs.laws.Counted.{calls_in_turn, calls_then, calls_within}
 use Rattle.jrn_file.specs.Reading.{cut, opened_of}
@@ -87,8 +88,8 @@ overflow_sub-gate g c =
     c.loop-index.invariant.read piece c.in_ok-take_records.ensures.taken in
     omega (arith, held-within (D.honest old) (D.reads old) (at + n) all held now, c.len.ensures ∙ c.take_records.new.held.ok.0)
 
-pub returns-then-is_none-clause-fault : goal.returns-then-is_none-clause-fault
-returns-then-is_none-clause-fault g c =
+pub returns-then-is_empty-clause-fault : goal.returns-then-is_empty-clause-fault
+returns-then-is_empty-clause-fault g c =
     let D = g.D.Disk in
     let old = c.args.disk.now in
     let at = c.loop-index.index * c.args.piece in
@@ -100,16 +101,16 @@ returns-then-is_none-clause-fault g c =
     let now = read-on (D.honest old) (D.reads old) at c.args.piece n c.loop-index.records.items all c.loop-index.held.items c.read_piece.new.held.items held
     c.loop-index.invariant.read piece c.in_ok-take_records.ensures.taken in
     let shut = subst IsShut c.as_slice.ensures.value c.if-is_closed.ensures.shut in
-    let none = subst (λ l. length l ≡ 0) c.as_slice-then-is_closed.ensures.value c.if-is_none.ensures.none in
+    let none : length all ≡ 0 = grind (arith, common_steps) in
     read-none (D.honest old) (D.reads old) (at + n) all held now shut none
 
-pub returns-then-is_none-clause-untouched : goal.returns-then-is_none-clause-untouched
-returns-then-is_none-clause-untouched g c =
+pub returns-then-is_empty-clause-untouched : goal.returns-then-is_empty-clause-untouched
+returns-then-is_empty-clause-untouched g c =
     let D = g.D.Disk in
     untouched-then D.reads D.may_leave D.moment D.left_since g.met.D.Disk.only_now c.args.disk.now c.loop-index.disk c.read_piece.new.disk c.loop-index.invariant.untouched c.read_piece.ensures.untouched
 
-pub returns-then-is_none-clause-no_more_calls : goal.returns-then-is_none-clause-no_more_calls
-returns-then-is_none-clause-no_more_calls g c told =
+pub returns-then-is_empty-clause-no_more_calls : goal.returns-then-is_empty-clause-no_more_calls
+returns-then-is_empty-clause-no_more_calls g c told =
     let D = g.D.Disk in
     let old = c.args.disk.now in
     let mid = c.loop-index.disk in
@@ -133,7 +134,7 @@ returns-then-is_closed-clause-records g c =
     let now = read-on (D.honest old) (D.reads old) at c.args.piece n c.loop-index.records.items all c.loop-index.held.items c.read_piece.new.held.items held
     c.loop-index.invariant.read piece c.in_ok-take_records.ensures.taken in
     let shut = subst IsShut c.as_slice.ensures.value c.if-is_closed.ensures.shut in
-    let some = subst (λ l. 0 < length l) c.as_slice-then-is_closed.ensures.value c.if-is_none.ensures.some in
+    let some : 0 < length all = grind (arith, common_steps) in
     let P : ℕ → Type 0 = λ k. OfBytes (D.honest old) (D.reads old) (λ bytes. IsReadAs bytes (at + n - k) all) in
     subst P (sym (c.len.ensures ∙ c.take_records.new.held.ok.0)) (read-end (D.honest old) (D.reads old) (at + n) all held now shut some)
 

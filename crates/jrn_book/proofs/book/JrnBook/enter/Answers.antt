@@ -25,7 +25,7 @@ use Rattle.jrn_codec.specs.Record.{entry_bytes}
 use Rattle.jrn_book.specs.Book.{Book, Counts, IsLeftBy, StandsOnDisk}
 use Rattle.jrn_book.specs.Deciding.{HoldsAll}
 use Rattle.jrn_book.specs.Index.{place_in, references_of}
-use Rattle.jrn_book.specs.Journal.{IsBeforeOrNext, IsJournal, records_of}
+use Rattle.jrn_book.specs.Journal.{IsBeforeOrNext, IsJournal, entry_records}
 use Rattle.jrn_book.proofs.Entering.{can_settle, held_with-nil, moments, next_legal, place_of, records_more, records_next, references_more}
 use Rattle.jrn_book.proofs.Staying.{backed, counts_after, disk_after, journal_more, left_by}
 use Rattle.jrn_book.proofs.book.JrnBook.enter.Goals as goal
@@ -52,8 +52,8 @@ returns-in-Err-clause-any_moment g c =
     let is : e ≡ entry_of chart h p day = c.prepare-entry.ensures.entry ∙ ap (λ (x : Pay). entry_of chart h x day) room in
     let r : record_in c.bytes.result.now ≡ entry_bytes e = record_in-frame (entry_bytes e) c.bytes.result.now (c.bytes.ensures ∙ c.prepare-entry.ensures.frame) in
     subst (λ (b : Book g.row.D.Denot). IsTrue (D.honest (disk_of b.file)) → LeavesOnly D.moment D.left_since (disk_of b.file) (disk_of c.append.new.file) (IsBeforeOrNext b.accounts b.history p day)) c.self.view_is
-    (λ honest. moments D.moment D.left_since (disk_of c.self.inside.file) (disk_of c.append.new.file) chart h p day (records_of h ++ record_in c.bytes.result.now ∷ []) (records_next chart h p day e (record_in c.bytes.result.now) new is r)
-    (c.append.ensures.any_moment (head_bytes chart) (records_of h) settled honest))
+    (λ honest. moments D.moment D.left_since (disk_of c.self.inside.file) (disk_of c.append.new.file) chart h p day (entry_records h ++ record_in c.bytes.result.now ∷ []) (records_next chart h p day e (record_in c.bytes.result.now) new is r)
+    (c.append.ensures.any_moment (head_bytes chart) (entry_records h) settled honest))
 
 pub returns-clause-any_moment : goal.returns-clause-any_moment
 returns-clause-any_moment g c =
@@ -70,8 +70,8 @@ returns-clause-any_moment g c =
     let is : e ≡ entry_of chart h p day = c.prepare-entry.ensures.entry ∙ ap (λ (x : Pay). entry_of chart h x day) room in
     let r : record_in c.bytes.result.now ≡ entry_bytes e = record_in-frame (entry_bytes e) c.bytes.result.now (c.bytes.ensures ∙ c.prepare-entry.ensures.frame) in
     subst (λ (b : Book g.row.D.Denot). IsTrue (D.honest (disk_of b.file)) → LeavesOnly D.moment D.left_since (disk_of b.file) (disk_of c.append.new.file) (IsBeforeOrNext b.accounts b.history p day)) c.self.view_is
-    (λ honest. moments D.moment D.left_since (disk_of c.self.inside.file) (disk_of c.append.new.file) chart h p day (records_of h ++ record_in c.bytes.result.now ∷ []) (records_next chart h p day e (record_in c.bytes.result.now) new is r)
-    (c.append.ensures.any_moment (head_bytes chart) (records_of h) settled honest))
+    (λ honest. moments D.moment D.left_since (disk_of c.self.inside.file) (disk_of c.append.new.file) chart h p day (entry_records h ++ record_in c.bytes.result.now ∷ []) (records_next chart h p day e (record_in c.bytes.result.now) new is r)
+    (c.append.ensures.any_moment (head_bytes chart) (entry_records h) settled honest))
 
 pub note-requires-clause-new : goal.note-requires-clause-new
 note-requires-clause-new g c =
@@ -123,7 +123,7 @@ invariant_of-self g c =
     let room : c.in-Some.room ≡ p = same_Some c.in-Some.room p (sym c.in-Some.is ∙ c.take.ensures.value ∙ ap (λ (b : Book g.row.D.Denot). b.room) c.self.view_is ∙ c.requires.room) in
     let is : e ≡ entry_of chart h p day = c.prepare-entry.ensures.entry ∙ ap (λ (x : Pay). entry_of chart h x day) room in
     let r : record_in c.bytes.result.now ≡ entry_bytes e = record_in-frame (entry_bytes e) c.bytes.result.now (c.bytes.ensures ∙ c.prepare-entry.ensures.frame) in
-    let leaves : IsTrue (D.honest (disk_of old)) → LeavesOnly D.moment D.left_since (disk_of old) (disk_of file) (IsBeforeOrAfter (head_bytes chart) (records_of h) (entry_bytes e)) = λ honest. subst (λ (x : List ℕ). LeavesOnly D.moment D.left_since (disk_of old) (disk_of file) (IsBeforeOrAfter (head_bytes chart) (records_of h) x)) r (c.append.ensures.any_moment (head_bytes chart) (records_of h) settled honest) in
+    let leaves : IsTrue (D.honest (disk_of old)) → LeavesOnly D.moment D.left_since (disk_of old) (disk_of file) (IsBeforeOrAfter (head_bytes chart) (entry_records h) (entry_bytes e)) = λ honest. subst (λ (x : List ℕ). LeavesOnly D.moment D.left_since (disk_of old) (disk_of file) (IsBeforeOrAfter (head_bytes chart) (entry_records h) x)) r (c.append.ensures.any_moment (head_bytes chart) (entry_records h) settled honest) in
     let left : (c.len-entries.result ≡ most_entries → ⊥) → IsLeftBy (D.honest (disk_of file)) (D.may_leave (disk_of file)) chart h day = λ ne.
     let few : length h < 100000 = omega (arith, ne, c.len-entries.ensures.count, c.len-entries.ensures.few) in
     let next : IsLegal chart (h ++ e ∷ []) = subst (λ (x : Entry). IsLegal chart (h ++ x ∷ [])) (sym is) (next_legal chart h p day c.self.invariant.0.journal.legal fits latest few new) in
@@ -162,8 +162,8 @@ invariant_of-self-2 g c =
     let is : e ≡ entry_of chart h p day = c.prepare-entry.ensures.entry ∙ ap (λ (x : Pay). entry_of chart h x day) room in
     let next : IsLegal chart (h ++ e ∷ []) = subst (λ (x : Entry). IsLegal chart (h ++ x ∷ [])) (sym is) (next_legal chart h p day c.self.invariant.0.journal.legal fits latest few new) in
     let r : record_in c.bytes.result.now ≡ entry_bytes e = record_in-frame (entry_bytes e) c.bytes.result.now (c.bytes.ensures ∙ c.prepare-entry.ensures.frame) in
-    let records : records_of h ++ record_in c.bytes.result.now ∷ [] ≡ records_of (h ++ e ∷ []) = ap (λ (x : List ℕ). records_of h ++ x ∷ []) r ∙ sym (records_more h e) in
-    let stands = subst (λ (rs : List (List ℕ)). IsSettled D.honest D.reads D.may_leave file (head_bytes chart) rs) records (c.in_default-append.ensures.ok (head_bytes chart) (records_of h) settled) in
+    let records : entry_records h ++ record_in c.bytes.result.now ∷ [] ≡ entry_records (h ++ e ∷ []) = ap (λ (x : List ℕ). entry_records h ++ x ∷ []) r ∙ sym (records_more h e) in
+    let stands = subst (λ (rs : List (List ℕ)). IsSettled D.honest D.reads D.may_leave file (head_bytes chart) rs) records (c.in_default-append.ensures.ok (head_bytes chart) (entry_records h) settled) in
     let now : c.note.new.history.entries ≡ h ++ e ∷ [] = c.note.ensures.history in
     let sides : c.settle_entry.new.sides.pairs ≡ pairs_with (booked_legs e) c.self.inside.sides.pairs =
     ap (λ (s : Sides). s.pairs) c.settle_entry.ensures.sides ∙ ap (λ (s : Sides). pairs_with (booked_legs e) s.pairs) c.prepare-entry.ensures.sides_same in
@@ -210,8 +210,8 @@ returns-clause-durable g c =
     let whole : c.self.inside.failed ≡ None = ap (λ (b : Book g.row.D.Denot). b.failed) c.self.view_is ∙ c.requires.whole in
     let settled = subst (λ f. StandsOnDisk D.honest D.reads D.may_leave f c.self.inside.file chart h) whole c.self.invariant.0.disk in
     let r : record_in c.bytes.result.now ≡ entry_bytes e = record_in-frame (entry_bytes e) c.bytes.result.now (c.bytes.ensures ∙ c.prepare-entry.ensures.frame) in
-    let records : records_of h ++ record_in c.bytes.result.now ∷ [] ≡ records_of (h ++ e ∷ []) = ap (λ (x : List ℕ). records_of h ++ x ∷ []) r ∙ sym (records_more h e) in
-    let stands = subst (λ (rs : List (List ℕ)). IsSettled D.honest D.reads D.may_leave file (head_bytes chart) rs) records (c.in_default-append.ensures.ok (head_bytes chart) (records_of h) settled) in
-    let now : records_of (h ++ e ∷ []) ≡ records_of c.note.new.history.entries = ap records_of (sym c.note.ensures.history) in
-    subst (λ (b : Book g.row.D.Denot). IsSettled D.honest D.reads D.may_leave file (head_bytes b.accounts) (records_of c.note.new.history.entries)) c.self.view_is
+    let records : entry_records h ++ record_in c.bytes.result.now ∷ [] ≡ entry_records (h ++ e ∷ []) = ap (λ (x : List ℕ). entry_records h ++ x ∷ []) r ∙ sym (records_more h e) in
+    let stands = subst (λ (rs : List (List ℕ)). IsSettled D.honest D.reads D.may_leave file (head_bytes chart) rs) records (c.in_default-append.ensures.ok (head_bytes chart) (entry_records h) settled) in
+    let now : entry_records (h ++ e ∷ []) ≡ entry_records c.note.new.history.entries = ap entry_records (sym c.note.ensures.history) in
+    subst (λ (b : Book g.row.D.Denot). IsSettled D.honest D.reads D.may_leave file (head_bytes b.accounts) (entry_records c.note.new.history.entries)) c.self.view_is
     (subst (λ (rs : List (List ℕ)). IsSettled D.honest D.reads D.may_leave file (head_bytes chart) rs) now stands)
