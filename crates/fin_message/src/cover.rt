@@ -31,6 +31,9 @@ pub fn read_cover(
     ensures { Fills result (with_text blocks.now.text out.new) (cover_of t.now blocks.now) }
 {
     let cover = read_mt202cov(alloc, fields, t)?;
-    put(out, Message::Cover(envelope(blocks), Text::from_vec(Vec::new(alloc)), cover));
+    put(
+        out,
+        Message::Cover(envelope(blocks), Text::from_vec(Vec::new(alloc)), cover),
+    );
     Ok(())
 }

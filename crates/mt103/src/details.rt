@@ -34,7 +34,10 @@ pub fn fill_details(
     let info = read_optional(alloc, &Texts { most: 4 }, fields, found, INFO)?;
     put(&mut m.info, or_none(alloc, info));
     m.charge = read_one(alloc, &Charge, &ORDER, fields, found, CHARGE)?;
-    put(&mut m.taken, read_all(alloc, &amount, fields, found, TAKEN)?);
+    put(
+        &mut m.taken,
+        read_all(alloc, &amount, fields, found, TAKEN)?,
+    );
     m.given = read_optional(alloc, &amount, fields, found, GIVEN)?;
     let notes = read_optional(alloc, &Texts { most: 6 }, fields, found, NOTES)?;
     put(&mut m.notes, or_none(alloc, notes));

@@ -31,13 +31,37 @@ pub fn fill_parties(
     ensures kept { OnOk result (m.new.instrs ≡ m.old.instrs) }
 {
     let party = KnownParty { tables };
-    put(&mut m.payer, read_one(alloc, &party, &ORDER, fields, found, PAYER)?);
-    put(&mut m.p52, read_optional(alloc, &party, fields, found, ORDERING)?);
-    put(&mut m.p53, read_optional(alloc, &party, fields, found, SENDERS_BANK)?);
-    put(&mut m.p54, read_optional(alloc, &party, fields, found, RECEIVERS_BANK)?);
-    put(&mut m.p55, read_optional(alloc, &party, fields, found, THIRD_BANK)?);
-    put(&mut m.p56, read_optional(alloc, &party, fields, found, INTERMEDIARY)?);
-    put(&mut m.p57, read_optional(alloc, &party, fields, found, ACCOUNT_BANK)?);
-    put(&mut m.payee, read_one(alloc, &party, &ORDER, fields, found, PAYEE)?);
+    put(
+        &mut m.payer,
+        read_one(alloc, &party, &ORDER, fields, found, PAYER)?,
+    );
+    put(
+        &mut m.p52,
+        read_optional(alloc, &party, fields, found, ORDERING)?,
+    );
+    put(
+        &mut m.p53,
+        read_optional(alloc, &party, fields, found, SENDERS_BANK)?,
+    );
+    put(
+        &mut m.p54,
+        read_optional(alloc, &party, fields, found, RECEIVERS_BANK)?,
+    );
+    put(
+        &mut m.p55,
+        read_optional(alloc, &party, fields, found, THIRD_BANK)?,
+    );
+    put(
+        &mut m.p56,
+        read_optional(alloc, &party, fields, found, INTERMEDIARY)?,
+    );
+    put(
+        &mut m.p57,
+        read_optional(alloc, &party, fields, found, ACCOUNT_BANK)?,
+    );
+    put(
+        &mut m.payee,
+        read_one(alloc, &party, &ORDER, fields, found, PAYEE)?,
+    );
     Ok(())
 }

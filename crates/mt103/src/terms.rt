@@ -33,15 +33,24 @@ pub fn fill_terms(
     ensures few { OnOk result (length m.new.instrs ≤ length fields.now) }
 {
     let amount = CcyAmount { tables };
-    put(&mut m.reference, read_one(alloc, &Reference, &ORDER, fields, found, REFERENCE)?);
+    put(
+        &mut m.reference,
+        read_one(alloc, &Reference, &ORDER, fields, found, REFERENCE)?,
+    );
     put(&mut m.times, read_all(alloc, &Time, fields, found, TIMES)?);
     m.op = read_one(alloc, &Operation, &ORDER, fields, found, OPERATION)?;
-    put(&mut m.instrs, read_all(alloc, &Instruction, fields, found, INSTRUCTIONS)?);
+    put(
+        &mut m.instrs,
+        read_all(alloc, &Instruction, fields, found, INSTRUCTIONS)?,
+    );
     m.kind = read_optional(alloc, &Kind, fields, found, KIND)?;
     let value = read_one(alloc, &ValueDate { tables }, &ORDER, fields, found, VALUE)?;
     m.value = value.day;
     m.amount = value.amount;
     m.ordered = read_optional(alloc, &amount, fields, found, ORDERED)?;
-    put(&mut m.rate, read_optional(alloc, &Rate, fields, found, RATE)?);
+    put(
+        &mut m.rate,
+        read_optional(alloc, &Rate, fields, found, RATE)?,
+    );
     Ok(())
 }

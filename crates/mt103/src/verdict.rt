@@ -37,12 +37,7 @@ fn instructions_fault(instrs: &[Instr]) -> Option<Fault>
 
 /// Puts what the fields of block 4 say into a transfer, whatever it said: the same tests as in `read_mt103`, and the same
 /// promises of what it then says. After a fault it may say anything.
-pub fn fill_mt103(
-    alloc: Global,
-    f: &[Field],
-    t: &RefTables,
-    m: &mut Mt103,
-) -> Result<(), MtFault>
+pub fn fill_mt103(alloc: Global, f: &[Field], t: &RefTables, m: &mut Mt103) -> Result<(), MtFault>
     requires few { length f.now ≤ most_text_lines }
     ensures message { Fills result m.new (mt103_of t.now f.now) }
     ensures few { OnOk result (length m.new.instrs ≤ length f.now) }
