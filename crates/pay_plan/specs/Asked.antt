@@ -9,7 +9,6 @@ use Rattle.routing.specs.declared.cover.Cover.{Cover as HowCovered}
 use Rattle.routing.specs.declared.target.Target.{Target}
 use Rattle.pay_plan.specs.declared.ask.Ask.{Ask}
 use Rattle.pay_plan.specs.declared.ask.Ask.TheVariants.{Transfer, Cover}
-use Rattle.pay_plan.specs.declared.asked.Asked.{Asked as AskedDeclared}
 use Rattle.pay_plan.specs.Cover.{cover_of}
 use Rattle.pay_plan.specs.Target.{cover_target, names_home, transfer_target}
 
@@ -22,17 +21,6 @@ pub record Asked : Type 0 where
   pub last_reference : List ℕ
   pub cover : HowCovered
   pub target : Target
-
-abbrev pub asked_in : AskedDeclared → Asked
-asked_in a = record {
-  mt = a.mt;
-  value = a.value;
-  amount = a.amount;
-  reference = a.reference.now;
-  last_reference = a.last_reference.now;
-  cover = a.cover;
-  target = a.target;
-}
 
 -- a cover whose beneficiary institution is the home bank
 abbrev pub is_for_home : Bic → Ask → Bool

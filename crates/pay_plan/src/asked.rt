@@ -23,9 +23,9 @@ pub struct Asked<'a> {
 }
 
 impl<'a> Model for Asked<'a> {
-    ghost use Rattle.pay_plan.specs.Asked.{Asked, asked_in};
+    ghost use Rattle.pay_plan.specs.Asked.{Asked};
 
     ghost Value = { Asked };
 
-    ghost view = { asked_in };
+    ghost view = { λ a. record { mt = a.mt; value = a.value; amount = a.amount; reference = a.reference.now; last_reference = a.last_reference.now; cover = a.cover; target = a.target } };
 }
