@@ -23,7 +23,7 @@ once (Err fault) m made = refl
 
 apart : {U : Type 0} (said : Result Mt103 Fault) (rules : Mt103 → Result U Fault) (made : Mt103 → Message)
     → (said >>= λ m. rules m >>= λ _. Ok (made m)) ≡ ((said >>= λ m. rules m >>= λ _. Ok m) >>= λ n. Ok (made n))
-apart (Ok m) rules made = once (rules m) m as
+apart (Ok m) rules made = once (rules m) m made
 apart (Err fault) rules made = refl
 
 abbrev carried : Blocks → Mt103 → Message
