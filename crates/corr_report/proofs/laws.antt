@@ -1,2 +1,6 @@
 pub mod Rests
 pub mod Empty
+pub mod Days
+pub mod DayFile
+pub mod Reordered
+pub mod Settled

@@ -49,8 +49,8 @@ use Rattle.corr_top.specs.declared.status.Status.TheVariants as status
 use Rattle.corr_top.specs.declared.tables.TableStop.{TableStop}
 use Rattle.corr_top.specs.declared.tables.TableStop.TheVariants as table
 use Rattle.corr_top.specs.declared.words.Command.{Command}
-use Rattle.corr_top.specs.declared.words.Command.TheVariants.{Run, Plain}
-use Rattle.corr_top.specs.declared.words.Plain.TheVariants.{Init, Query}
+use Rattle.corr_top.specs.declared.words.Command.TheVariants.{Run, Trial, Plain}
+use Rattle.corr_top.specs.declared.words.Plain.TheVariants.{Generate, Init, Query}
 use Rattle.corr_top.specs.Booking.{IsEnteredOn, IsBack, LacksRoomThen, StopsBooking}
 use Rattle.corr_top.specs.Commands.{IsFor, command_steps}
 use Rattle.corr_top.specs.Complete.{HasRoomForAll, IsReady, IsFaultless, IsSure, Told}
@@ -307,10 +307,12 @@ ordered (Run day workers) =
     let three = three_read in
     let five = later Step.messages _ (later Step.day _ (later Step.open_journal _ (later (Step.table names.Ssi) _ three))) in
     (tt, (tt, (tt, (three, (tt, (inl refl, (tt, (record { three = five; ssi = inr (inr (inr (inl refl))); journal = inr (inr (inl refl)); messages = inl refl }, tt))))))))
+ordered (Trial count seed workers) = tt
 ordered (Plain (Init home)) =
     let three = three_read in
     (tt, (tt, (tt, (three, ((later (Step.table names.Accounts) _ three, inl refl), (tt, tt))))))
 ordered (Plain (Query asked)) = (tt, tt)
+ordered (Plain (Generate count seed)) = tt
 
 no_write_fault : {K : Type 0} (sink : sinks.Ghosts K) (old new : K) (report : List ℕ) (from to : K) (out : List ℕ) (then now : ℕ) → (Rose (sink.faults old) (sink.faults new) → ⊥) → (Rose (sink.faults from) (sink.faults to) → ⊥)
     → FailsWriting sink.held sink.faults old new report from to out then now → ⊥
@@ -322,10 +324,12 @@ stopped_memory : {S K D : Type 0} (source : sources.Ghosts S) (d : disks.Ghosts 
     → HasStopped source d command old new s j → s ≡ status.Memory
 stopped_memory source d sink (Run day workers) old new j i s is sound (inl halts) =
     halts_memory source d old new j (record i { home = j.home }) refl (is.0 ∙ sym sound.are_for.0) s [] (command_steps (Run day workers)) (ordered (Run day workers)) tt sound.ready halts
+stopped_memory source d sink (Trial count seed workers) old new j i s is sound (inl halts) = absurd halts
 stopped_memory source d sink (Plain (Init home)) old new j i s is sound (inl halts) =
     halts_memory source d old new j (record i { day = j.day }) (is ∙ sym sound.are_for) refl s [] (command_steps (Plain (Init home))) (ordered (Plain (Init home))) tt sound.ready halts
 stopped_memory source d sink (Plain (Query asked)) old new j i s is sound (inl halts) =
     halts_memory source d old new j (record i { home = j.home; day = j.day }) refl refl s [] (command_steps (Plain (Query asked))) (ordered (Plain (Query asked))) tt sound.ready halts
+stopped_memory source d sink (Plain (Generate count seed)) old new j i s is sound (inl halts) = absurd halts
 stopped_memory source d sink command old new j i s is sound (inr memory) = memory.1
 
 pub done_or_memory : {S K D : Type 0} (source : sources.Ghosts S) (d : disks.Ghosts D) (sink : sinks.Ghosts K) (command : Command) (old new : Room S K D) (s : Status) (i : Inputs) → Ends source d command old new sink s

@@ -18,8 +18,8 @@ use Rattle.corr_top.specs.declared.status.Status.{Status}
 use Rattle.corr_top.specs.declared.tables.TableStop.{TableStop}
 use Rattle.corr_top.specs.declared.tables.TableStop.TheVariants as table
 use Rattle.corr_top.specs.declared.words.Command.{Command}
-use Rattle.corr_top.specs.declared.words.Command.TheVariants.{Run, Plain}
-use Rattle.corr_top.specs.declared.words.Plain.TheVariants.{Init, Query}
+use Rattle.corr_top.specs.declared.words.Command.TheVariants.{Run, Trial, Plain}
+use Rattle.corr_top.specs.declared.words.Plain.TheVariants.{Generate, Init, Query}
 use Rattle.corr_top.specs.declared.writing.Texts.{Texts}
 use Rattle.corr_top.specs.Commands.{KeepsRest, out_in, report_in, command_steps}
 use Rattle.corr_top.specs.Ends.{Ends, HasStopped, HasTexts}
@@ -113,8 +113,10 @@ module _ {S K D : Type 0} (source : sources.Ghosts S) (disk : disks.Ghosts D) (s
     where
       cases : (c : Command) → KeepsRest c old room → KeepsRest c old (record room { report = report; out = out })
       cases (Run day workers) rest = rest
+      cases (Trial count seed workers) rest = rest
       cases (Plain (Init home)) rest = rest
       cases (Plain (Query asked)) rest = rest
+      cases (Plain (Generate count seed)) rest = rest
 
   pub ends_ok : (report out : K) (texts : Texts) (s : Status) → HasTexts source disk command old room (Ok texts) → IsWritten sink room.report report texts.report room.out out texts.out s
       → Ends source disk command old (record room { report = report; out = out }) sink s

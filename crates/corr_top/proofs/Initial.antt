@@ -40,7 +40,7 @@ no_entries chart = record {
   days = λ i j a b less at. absurd (cc at);
 }
 
-new_journal : (chart : Chart) → IsHead chart → IsJournal chart []
+pub new_journal : (chart : Chart) → IsHead chart → IsJournal chart []
 new_journal chart head = record { head = head; entries = All-nil IsEntry; legal = no_entries chart }
 
 module _ {D : Type 0} (d : disks.Ghosts D) (old new : D) (head bytes : List ℕ) (chart : Chart) (given : bytes ≡ head) (is : head ≡ head_bytes chart) where

@@ -13,6 +13,7 @@ pub mod Origins
 pub mod DayDone
 pub mod Journals
 pub mod Asking
+pub mod Generating
 pub mod RunEnds
 pub mod Replying
 pub mod Gathering
@@ -30,3 +31,7 @@ pub mod Fronts
 pub mod Ending
 pub mod Initial
 pub mod Completing
+pub mod Spread
+pub mod Trials
+pub mod Sampling
+pub mod Trying

@@ -18,6 +18,9 @@ pub mod Init
 pub mod Run
 pub mod Statements
 pub mod Query
+pub mod Generate
+pub mod Samples
+pub mod Trial
 pub mod Origin
 pub mod Serving
 pub mod Collecting

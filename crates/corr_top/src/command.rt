@@ -9,11 +9,13 @@ ghost use Rattle.corr_top.specs.Status.{HasLine};
 ghost use Rattle.corr_top.specs.declared.words.Command.{Command as TheCommand};
 ghost use Rattle.corr_top.specs.declared.words.Command.TheVariants.{Plain as PlainCommand};
 
+use crate::generate::generate;
 use crate::init::init;
 use crate::query::query;
 use crate::room::{Done, Room};
 use crate::run::run;
 use crate::status::Status;
+use crate::trial::trial;
 use crate::words::{Command, Plain, spelled};
 use crate::writing::{Texts, write_texts};
 use corr_disk::Disk;
@@ -71,11 +73,12 @@ fn perform<S: Source, K: Sink, D: Disk>(
             let (room, texts) = query(alloc, asked, room);
             end(room, texts)
         }
+        Plain::Generate { count, seed } => end(room, generate(alloc, count, seed)),
     }
 }
 
-/// Does what the words say, for the commands that wait for nobody, and hands the room back: all but `run`, which is `Usage`
-/// to it (docs/operating.md).
+/// Does what the words say, for the commands that wait for nobody, and hands the room back: all but `run` and `trial`,
+/// which are `Usage` to it (docs/operating.md).
 pub fn plain<S: Source, K: Sink, D: Disk>(
     alloc: Global,
     words: &[Text],
@@ -94,7 +97,7 @@ pub fn plain<S: Source, K: Sink, D: Disk>(
 {
     match spelled(words) {
         Some(Command::Plain(command)) => perform(alloc, command, room),
-        Some(Command::Run { .. }) => refuse(room),
+        Some(Command::Run { .. } | Command::Trial { .. }) => refuse(room),
         None => refuse(room),
     }
 }
@@ -106,8 +109,8 @@ pub fn plain<S: Source, K: Sink, D: Disk>(
 /// added, each followed by `$`. Each pay passes the gate once its accounts are held.
 /// `init HOME` makes the journal of the home bank HOME with the accounts of the tables. `send FROM UNTIL` writes the outgoing
 /// messages of the entries at these places, `bookings` a line for each entry, `statements DATE` to `out` what the owners of the
-/// vostro accounts are sent of that day. Other words are `Usage`. Nothing is written but at `Done`, and a front part of both
-/// together at `WriteFault`.
+/// vostro accounts are sent of that day. `generate COUNT SEED` writes a day of messages, made from a number, to `out`, and
+/// `trial COUNT SEED WORKERS` the summary of such a day, run over a journal in memory by 1 to 16 workers; they touch nothing else. Other words are `Usage`. Nothing is written but at `Done`, and a front part of both together at `WriteFault`.
 pub fn corr<R: Wait + Threads + Sync, S: Source, K: Sink, D: Disk + Drop + Send, G: Gate + Sync>(
     rt: &R,
     alloc: Global,
@@ -133,6 +136,13 @@ pub fn corr<R: Wait + Threads + Sync, S: Source, K: Sink, D: Disk + Drop + Send,
             let (room, texts) = run(rt, alloc, day, workers, room, gate);
             end(room, texts)
         }
+        Some(
+            Command::Trial {
+                count,
+                seed,
+                workers,
+            },
+        ) => end(room, trial(rt, alloc, count, seed, workers, gate)),
         None => refuse(room),
     }
 }

@@ -39,13 +39,17 @@ impl From<MakeFault> for Status {
 
 /// What is prepared before the disk is touched: the header of the journal, and the texts, which are empty.
 #[derive(Drop)]
-struct Prepared {
-    head: Text,
-    texts: Texts,
+pub struct Prepared {
+    pub head: Text,
+    pub texts: Texts,
 }
 
 /// Reads the tables, sums the openings, and writes the header of the journal.
-fn prepare<S: Source>(alloc: Global, home: Bic, tables: &mut Tables<S>) -> Result<Prepared, Status>
+pub fn prepare<S: Source>(
+    alloc: Global,
+    home: Bic,
+    tables: &mut Tables<S>,
+) -> Result<Prepared, Status>
     requires { IsBic home }
     ensures fine { IfOk result (λ prepared. (chart : Chart) × HasAccounts S.Source tables.old tables.new home chart
         × IsHead chart × (prepared.head ≡ head_bytes chart) × (prepared.texts.report ≡ []) × (prepared.texts.out ≡ [])) }
@@ -59,7 +63,7 @@ fn prepare<S: Source>(alloc: Global, home: Bic, tables: &mut Tables<S>) -> Resul
 }
 
 /// Makes the journal of this header on a disk, and hands the disk back.
-fn make<D: Disk>(alloc: Global, disk: D, head: &Text) -> (D, Result<(), MakeFault>)
+pub fn make<D: Disk>(alloc: Global, disk: D, head: &Text) -> (D, Result<(), MakeFault>)
     requires { length head.now ≤ most_header_bytes }
     ensures made { MatchResult result.1
         (λ _. (chart : Chart) → head.now ≡ head_bytes chart → IsFree D.Disk disk × IsOnDisk D.Disk result.0 chart [] × HasNotFailed D.Disk disk result.0)

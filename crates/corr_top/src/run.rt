@@ -35,7 +35,6 @@ use corr_report::report;
 use corr_text::{List, Memory, Text};
 use day_model::{Accounts, History, Reply};
 use std::alloc::Global;
-use std::marker::Brand;
 use std::sync::Wait;
 use std::thread::Threads;
 use work_pool::Gate;
@@ -144,7 +143,7 @@ fn run_day<R: Wait + Threads + Sync, S: Source, D: Disk + Drop + Send, G: Gate +
     };
     let count = opened.history().len();
     let messages = messages.as_slice();
-    match serve_all::<Brand, _, _, _>(rt, alloc, directory, opened, workers, messages, gate) {
+    match serve_all(rt, alloc, directory, opened, workers, messages, gate) {
         Ok(day) => end_day(alloc, day, before, count),
         Err((disk, memory)) => (disk, Err(Status::from(memory))),
     }

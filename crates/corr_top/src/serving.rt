@@ -14,6 +14,7 @@ use corr_disk::Disk;
 use corr_text::{Memory, Text};
 use front_word::Pass;
 use std::alloc::Global;
+use std::marker::Brand;
 use std::sync::Wait;
 use std::thread::Threads;
 use work_pool::{Gate, run_jobs};
@@ -48,10 +49,10 @@ fn make_places(alloc: Global, workers: u32, messages: &[Text]) -> Result<Places<
     })
 }
 
-/// Lets 1 to 16 workers serve messages over the books of an opening, and closes the books. `N` names this opening.
+/// What `serve_all` does, where `N` names the opening.
 ///
 /// Where there is no memory for the books, the disk comes back as it was.
-pub fn serve_all<
+fn serve_named<
     N: BooksName + Send + Sync,
     R: Wait + Threads + Sync,
     D: Disk + Drop + Send,
@@ -99,4 +100,24 @@ pub fn serve_all<
         closed,
         served: worked.replies,
     })
+}
+
+/// Lets 1 to 16 workers serve messages over the books of an opening, and closes the books.
+///
+/// Where there is no memory for the books, the disk comes back as it was.
+pub fn serve_all<R: Wait + Threads + Sync, D: Disk + Drop + Send, G: Gate + Sync>(
+    rt: &R,
+    alloc: Global,
+    directory: &Directory,
+    opened: Opened<D>,
+    workers: u32,
+    messages: &[Text],
+    gate: &G,
+) -> Result<ServedDay<D>, (D, Memory)>
+    requires count { (1 ≤ workers) × (workers ≤ 16) }
+    requires short { All (λ m. length m ≤ most_bytes) messages.now }
+    ensures served { IfOk result (λ day. AllServed D.Disk (opening_of D.Disk opened workers) (readings_of directory.now opened.accounts messages.now) day) }
+    ensures disk { IfErr result (λ e. e.0 ≡ disk_of opened.file) }
+{
+    serve_named::<Brand, _, _, _>(rt, alloc, directory, opened, workers, messages, gate)
 }

@@ -4,7 +4,7 @@ ghost use Rattle.std.specs.Prelude.{◌≡◌, ◌≤◌, IfSome};
 ghost use Rattle.std.specs.Option.{option_map};
 ghost use Rattle.std.specs.Str.{bytes_eq};
 ghost use Rattle.day_model.specs.Log.{most_entries};
-ghost use Rattle.corr_top.specs.Commands.{IsSpelled, command_of, init_of, two_places, run_command, send_of, statements_of, workers_of};
+ghost use Rattle.corr_top.specs.Commands.{IsSpelled, command_of, count_of, generate_of, init_of, two_places, run_command, send_of, statements_of, trial_of, workers_of};
 ghost use Rattle.corr_top.specs.declared.words.Command.TheVariants.{Plain as CommandPlain};
 
 use corr_ids::{Bic, Day, day_from_yymmdd, read_bic};
@@ -15,6 +15,8 @@ use corr_text::{Text, digits};
 pub enum Command {
     /// `run DATE WORKERS`: answers the messages of the message file on a day, with so many workers.
     Run { day: Day, workers: u32 },
+    /// `trial COUNT SEED WORKERS`: runs a generated day over a journal in memory, with so many workers.
+    Trial { count: u32, seed: u64, workers: u32 },
     /// A command that waits for nobody.
     Plain(Plain),
 }
@@ -26,6 +28,8 @@ pub enum Plain {
     Init { home: Bic },
     /// A command that reads the journal and prints.
     Query(Query),
+    /// `generate COUNT SEED`: a day of messages, made from a number.
+    Generate { count: u32, seed: u64 },
 }
 
 /// The commands that read the journal and print what it says.
@@ -41,6 +45,9 @@ pub enum Query {
 
 /// The last place of a journal that is full.
 const LAST_PLACE: u64 = 100_000;
+
+/// The most messages of a generated day.
+const MOST_MESSAGES: u64 = 50_000;
 
 /// The most workers of a run.
 const MOST_WORKERS: u64 = 16;
@@ -114,6 +121,43 @@ fn run(date: &[u8], number: &[u8]) -> Option<Command>
     Some(Command::Run { day, workers })
 }
 
+/// A number of messages of a generated day: 1 to 50,000.
+fn count(b: &[u8]) -> Option<u32>
+    ensures value { result ≡ count_of b.now }
+    ensures sound { IfSome result (λ n. (1 ≤ n) × (n ≤ 50000)) }
+{
+    let number = digits(b)?;
+    if number < 1 || number > MOST_MESSAGES {
+        return None;
+    }
+    Some(number as u32)
+}
+
+/// `generate COUNT SEED` with a number of messages and any number.
+fn generate(messages: &[u8], seed: &[u8]) -> Option<Command>
+    ensures value { result ≡ option_map CommandPlain (generate_of messages.now seed.now) }
+    ensures sound { IfSome result IsSpelled }
+{
+    let count = count(messages)?;
+    let seed = digits(seed)?;
+    Some(Command::Plain(Plain::Generate { count, seed }))
+}
+
+/// `trial COUNT SEED WORKERS` with these and a number of workers.
+fn trial(messages: &[u8], seed: &[u8], number: &[u8]) -> Option<Command>
+    ensures value { result ≡ trial_of messages.now seed.now number.now }
+    ensures sound { IfSome result IsSpelled }
+{
+    let count = count(messages)?;
+    let seed = digits(seed)?;
+    let workers = workers(number)?;
+    Some(Command::Trial {
+        count,
+        seed,
+        workers,
+    })
+}
+
 /// The command that the words spell, none where they are no command.
 pub fn spelled(words: &[Text]) -> Option<Command>
     ensures value { result ≡ command_of words.now }
@@ -127,6 +171,12 @@ pub fn spelled(words: &[Text]) -> Option<Command>
         [word, date] if is_word(word.bytes(), b"statements") => statements(date.bytes()),
         [word, from, until] if is_word(word.bytes(), b"send") => send(from.bytes(), until.bytes()),
         [word, date, number] if is_word(word.bytes(), b"run") => run(date.bytes(), number.bytes()),
+        [word, messages, seed] if is_word(word.bytes(), b"generate") => {
+            generate(messages.bytes(), seed.bytes())
+        }
+        [word, messages, seed, number] if is_word(word.bytes(), b"trial") => {
+            trial(messages.bytes(), seed.bytes(), number.bytes())
+        }
         _ => None,
     }
 }

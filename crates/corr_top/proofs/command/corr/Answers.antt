@@ -1,10 +1,11 @@
 use Rattle.std.proofs.Common.{IfSome, rules}
 use Rattle.corr_top.specs.declared.words.Command.{Command}
-use Rattle.corr_top.specs.declared.words.Command.TheVariants.{Run}
+use Rattle.corr_top.specs.declared.words.Command.TheVariants.{Run, Trial}
 use Rattle.corr_top.specs.Commands.{command_of}
 use Rattle.corr_top.specs.Ends.{Ends}
 use Rattle.corr_top.proofs.Completing.{complete_if}
 use Rattle.corr_top.proofs.Ending.{ends_line}
+use Rattle.corr_top.proofs.Generating.{tried_texts}
 use Rattle.corr_top.proofs.command.corr.Goals as goal
 
 pub returns-in-Some-Plain-clause-complete : goal.returns-in-Some-Plain-clause-complete
@@ -21,3 +22,25 @@ pub returns-in-Some-Run-clause-line : goal.returns-in-Some-Run-clause-line
 returns-in-Some-Run-clause-line g c =
     let command = Run c.in-Some-Run.day c.in-Some-Run.workers in
     ends_line g.S.Source g.D.Disk command c.args.room c.end.result.room g.K.Sink c.end.result.status (c.end.ensures.ends command c.args.room c.run-room.ensures.texts)
+
+pub returns-in-Some-Trial-clause-ends : goal.returns-in-Some-Trial-clause-ends
+returns-in-Some-Trial-clause-ends g c =
+    let t = c.in-Some-Trial in
+    let command = Trial t.count t.seed t.workers in
+    let ends = c.end-in-Some-Trial.ensures.ends command c.args.room (tried_texts g.S.Source g.D.Disk t.count t.seed t.workers c.args.room c.trial.result c.trial.ensures) in
+    search (ends, rules)
+
+pub returns-in-Some-Trial-clause-complete : goal.returns-in-Some-Trial-clause-complete
+returns-in-Some-Trial-clause-complete g c =
+    let t = c.in-Some-Trial in
+    let command = Trial t.count t.seed t.workers in
+    let done = c.end-in-Some-Trial.ensures.ends command c.args.room (tried_texts g.S.Source g.D.Disk t.count t.seed t.workers c.args.room c.trial.result c.trial.ensures) in
+    let ends : IfSome (command_of c.args.words.now) (λ command. Ends g.S.Source g.D.Disk command c.args.room c.end-in-Some-Trial.result.room g.K.Sink c.end-in-Some-Trial.result.status) = search (done, rules) in
+    complete_if g.S.Source g.D.Disk g.K.Sink (λ (command : Command). command) (command_of c.args.words.now) c.args.room c.end-in-Some-Trial.result.room c.end-in-Some-Trial.result.status ends
+
+pub returns-in-Some-Trial-clause-line : goal.returns-in-Some-Trial-clause-line
+returns-in-Some-Trial-clause-line g c =
+    let t = c.in-Some-Trial in
+    let command = Trial t.count t.seed t.workers in
+    ends_line g.S.Source g.D.Disk command c.args.room c.end-in-Some-Trial.result.room g.K.Sink c.end-in-Some-Trial.result.status
+    (c.end-in-Some-Trial.ensures.ends command c.args.room (tried_texts g.S.Source g.D.Disk t.count t.seed t.workers c.args.room c.trial.result c.trial.ensures))

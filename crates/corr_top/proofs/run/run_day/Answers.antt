@@ -1,5 +1,4 @@
 use Rattle.std.proofs.Common.{◌≡◌, ◌≤◌, ◌<◌, ℕ, List, ◌++◌, inl, ap, arith, sym, subst, length, ◌∙◌, length-append}
-use Rattle.std.specs.Prelude.{All, slice_index_or}
 use Rattle.std.proofs.lemmas.List.{length-map}
 use Rattle.corr_books.specs.Opening.{Parts, opening_of}
 use Rattle.corr_disk.specs.declared.disk.Disk as disks
@@ -11,7 +10,7 @@ use Rattle.corr_top.specs.Days.{GivesDay}
 use Rattle.corr_top.specs.Message.{message_of, readings_of}
 use Rattle.corr_top.specs.Serving.{AllServed}
 use Rattle.corr_top.proofs.DayDone.{day_ends, few_made, places_in}
-use Rattle.corr_top.proofs.MessageFiles.{all-short}
+use Rattle.corr_top.proofs.MessageFiles.{all-short, all_given}
 use Rattle.corr_top.proofs.run.run_day.Goals as goal
 
 -- the message file was not taken
@@ -25,9 +24,6 @@ returns-in-Err g c =
       stops = q.1;
       same = c.into_disk.ensures;
     })
-
-all_given : (given cut : List (List ℕ)) → given ≡ cut → All (λ m. length m ≤ 16384) cut → (k : ℕ) (d : List ℕ) → k < length given → length (slice_index_or given k d) ≤ 16384
-all_given given cut same short k d within = subst (λ (ms : List (List ℕ)). All (λ m. length m ≤ 16384) ms) (sym same) short k d within
 
 pub serve_all-requires-clause-short : goal.serve_all-requires-clause-short
 serve_all-requires-clause-short g c =

@@ -15,7 +15,7 @@ use Rattle.corr_top.specs.declared.message.NoPay.{NoPay}
 use Rattle.corr_top.specs.Message.{message_of, readings_of}
 use Rattle.corr_top.specs.Serving.{AllServed, starting}
 use Rattle.corr_top.proofs.Workers.{added_of, all_back, none_of, told_of, turn_of, unmapped}
-use Rattle.corr_top.proofs.serving.serve_all.Goals as goal
+use Rattle.corr_top.proofs.serving.serve_named.Goals as goal
 
 -- a list that is mapped twice
 map_twice : {A B C : Type 0} (f : A → B) (g : B → C) (xs : List A) → map (λ x. g (f x)) xs ≡ map g (map f xs)

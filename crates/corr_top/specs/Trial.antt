@@ -1,0 +1,98 @@
+-- The command `trial`: a generated day, run over a journal in memory.
+use Rattle.std.specs.Prelude.{◌≡◌, ◌≤◌, ◌≤ℤ◌, ℕ, List, [], All, length, map, Some, Result, Ok, Err, ℤ, pos, ◌+ℤ◌, ◌-ℤ◌}
+use Rattle.corr_io.specs.InMemory.{Supply}
+use Rattle.corr_report.specs.Generated.{generated_texts}
+use Rattle.corr_report.specs.Summary.{summary_of}
+use Rattle.day_model.specs.declared.account.Account.{Account}
+use Rattle.day_model.specs.declared.entry.Entry.{Entry}
+use Rattle.day_model.specs.declared.entry.Outcome.TheVariants.{Booked}
+use Rattle.day_model.specs.declared.pay.Pay.{Pay}
+use Rattle.day_model.specs.Balance.{credits_of, debits_of}
+use Rattle.day_model.specs.Chart.{Chart, account_at}
+use Rattle.day_model.specs.Legal.{IsLegal}
+use Rattle.day_model.specs.Next.{fold_of}
+use Rattle.ref_tables.specs.Accounts.{account_of}
+use Rattle.ref_tables.specs.Rows.{rows_of}
+use Rattle.ref_tables.specs.Seen.{Tables}
+use Rattle.ref_tables.specs.Tables.{tables_of}
+use Rattle.ssi_versions.specs.Rows.{instruction_of}
+use Rattle.corr_top.specs.declared.directory.Directory.{Directory}
+use Rattle.corr_top.specs.declared.room.Tables.{Tables as Files}
+use Rattle.corr_top.specs.declared.status.Status.{Status}
+use Rattle.corr_top.specs.declared.status.Status.TheVariants as status
+use Rattle.corr_top.specs.declared.writing.Texts.{Texts}
+use Rattle.corr_top.specs.Booking.{IsEnteredOn}
+use Rattle.corr_top.specs.Inputs.{opened}
+use Rattle.corr_top.specs.Message.{pays_in, readings_of}
+use Rattle.corr_top.specs.Samples.{sample_accounts, sample_bics, sample_ccys, sample_countries, sample_day, sample_home, sample_ssi}
+
+-- a source in memory that gives these bytes, and never fails
+abbrev pub gives : List ℕ → Supply
+gives bytes = record { left = bytes; calls = 0; faults = 0; fails = [] }
+
+-- the files of the sample bank
+pub record AreSampleFiles (files : Files Supply) : Type 0 where
+  pub bics : files.bics ≡ gives sample_bics
+  pub ccys : files.ccys ≡ gives sample_ccys
+  pub countries : files.countries ≡ gives sample_countries
+  pub accounts : files.accounts ≡ gives sample_accounts
+  pub ssi : files.ssi ≡ gives sample_ssi
+
+-- the tables of the sample bank
+abbrev pub sample_tables : Tables
+sample_tables = tables_of sample_bics sample_ccys sample_countries
+
+-- what messages are judged and routed by
+unfoldable pub sample_directory : Directory
+sample_directory = record { tables = sample_tables; ssi = map instruction_of (rows_of sample_ssi) }
+
+-- the accounts of its book
+unfoldable pub sample_chart : Chart
+sample_chart = record { home = sample_home; accounts = map opened (map (account_of sample_tables) (rows_of sample_accounts)) }
+
+-- the pays that the messages of a generated day ask for, in their order
+abbrev pub trial_pays : ℕ → ℕ → List Pay
+trial_pays count seed = pays_in (readings_of sample_directory sample_chart (generated_texts count seed))
+
+-- the history that one thread makes of them over a new journal
+abbrev pub trial_history : ℕ → ℕ → List Entry
+trial_history count seed = fold_of sample_chart [] (trial_pays count seed) sample_day
+
+-- the report: its summary
+unfoldable pub trial_report : ℕ → ℕ → List ℕ
+trial_report count seed = summary_of sample_chart (trial_history count seed)
+
+-- an entry is booked
+abbrev pub IsBooked : Entry → Type 0
+IsBooked e = e.outcome ≡ Booked
+
+-- what workers make of a generated day: a legal history over the sample accounts, each entry of one of its pays
+pub record ServesTrial (count seed : ℕ) (accounts : Chart) (entries : List Entry) : Type 0 where
+  pub accounts_are : accounts ≡ sample_chart
+  pub legal : IsLegal sample_chart entries
+  pub each : All (IsEnteredOn sample_day (trial_pays count seed)) entries
+
+-- an account stays within its limits by all its credits alone, and by all its debits alone
+pub record StaysWithin (account : Account) (credits debits : ℕ) : Type 0 where
+  pub floor : account.floor ≤ℤ (account.opening -ℤ pos debits)
+  pub ceil : (account.opening +ℤ pos credits) ≤ℤ account.ceil
+
+-- so each account does by the booked entries of a history: they would be booked in every order
+abbrev pub IsSettled : Chart → List Entry → Type 0
+IsSettled chart entries =
+    (n : ℕ) (account : Account) → 1 ≤ n → account_at chart n ≡ Some account → StaysWithin account (credits_of entries n) (debits_of entries n)
+
+-- each of so many messages has its entry, each entry is booked, and would be in every order
+pub record IsWhole (count : ℕ) (chart : Chart) (entries : List Entry) : Type 0 where
+  pub each : length entries ≡ count
+  pub booked : All IsBooked entries
+  pub settled : IsSettled chart entries
+
+-- the texts of a trial: the summary, and nothing to be sent; one thread books each pay
+abbrev pub IsTrial : ℕ → ℕ → Texts → Type 0
+IsTrial count seed texts = (texts.report ≡ trial_report count seed) × (texts.out ≡ []) × All IsBooked (trial_history count seed)
+
+-- what a trial gives: its texts, or want of memory
+abbrev pub GivesTrial : ℕ → ℕ → Result Texts Status → Type 0
+GivesTrial count seed (Ok texts) = IsTrial count seed texts
+GivesTrial count seed (Err s) = s ≡ status.Memory
