@@ -106,10 +106,10 @@ pub settled_next : (n : ℕ) (chart : Chart) (entries : List Entry) (pairs : Lis
     → pair_at pairs n ≡ Some pair → account_at chart n ≡ Some account → StaysWithin account pair.0 pair.1 → AreSettledTo n chart entries → AreSettledTo (n + 1) chart entries
 settled_next n chart entries pairs account pair from there totals is at within before = λ k x low less found. elim (nat_cases k n) [
   | inl same ↦
-    let pair_is : pair ≡ totals_of n entries = same_Some pair (totals_of n entries) (sym is ∙ totals.each n from there) in
-    let account_is : account ≡ x = same_Some account x (sym at ∙ (ap (λ m. account_at chart m) (sym same) ∙ found)) in
-    let here : StaysWithin x (credits_of entries n) (debits_of entries n) = subst (λ (a : Account). StaysWithin a (credits_of entries n) (debits_of entries n)) account_is (subst (λ (p : Pair). StaysWithin account p.0 p.1) pair_is within) in
-    subst (λ m. StaysWithin x (credits_of entries m) (debits_of entries m)) (sym same) here
+      let pair_is : pair ≡ totals_of n entries = same_Some pair (totals_of n entries) (sym is ∙ totals.each n from there) in
+      let account_is : account ≡ x = same_Some account x (sym at ∙ (ap (λ m. account_at chart m) (sym same) ∙ found)) in
+      let here : StaysWithin x (credits_of entries n) (debits_of entries n) = subst (λ (a : Account). StaysWithin a (credits_of entries n) (debits_of entries n)) account_is (subst (λ (p : Pair). StaysWithin account p.0 p.1) pair_is within) in
+      subst (λ m. StaysWithin x (credits_of entries m) (debits_of entries m)) (sym same) here
   | inr other ↦ before k x low (omega (arith, low, less, other)) found
 ]
 
