@@ -3,10 +3,10 @@
 ghost use Rattle.std.specs.Prelude.{◌≤◌, IfOk, IsSome, length};
 ghost use Rattle.pay_plan.specs.Readable.{IsTransferRead};
 
-use corr_ids::{Bic, Envelope, Mir};
-use corr_money::Ccy;
-use corr_text::{List, Memory, Text};
-use day_model::{Account, Accounts, Pay, rows_hold};
+use crate::given::{FIRST, HOME, OTHER, bank_and_customer};
+use corr_ids::Envelope;
+use corr_text::{List, Text};
+use day_model::{Accounts, Pay};
 use fin_fields::{Field, FieldFault, cut_fields};
 use mt103::{Mt103, read_mt103};
 use pay_plan::{Ask, PlanFault, plan};
@@ -15,44 +15,11 @@ use ssi_versions::Ssi;
 use std::alloc::Global;
 use std::test::Fail;
 
-const HOME: Bic = Bic {
-    head: *b"HOMEUS33",
-    branch: *b"XXX",
-};
-
-const OTHER: Bic = Bic {
-    head: *b"ALPHDEFF",
-    branch: *b"XXX",
-};
-
-fn account(alloc: Global, id: &[u8], kind: u8, owner: Bic) -> Result<Account, Memory> {
-    Ok(Account {
-        id: Text::from_bytes(alloc, id)?,
-        kind,
-        owner,
-        ccy: Ccy(*b"EUR"),
-        decimals: 2,
-        floor: 0,
-        ceil: 9,
-        opening: 0,
-    })
-}
-
-fn book(alloc: Global) -> Result<Accounts, Fail> {
-    let mut rows = List::new(alloc);
-    rows.push(account(alloc, b"V", b'V', OTHER)?)?;
-    rows.push(account(alloc, b"C", b'C', HOME)?)?;
-    if !rows_hold(rows.as_slice()) {
-        return Err("no rows")?;
-    }
-    Ok(Accounts::new(HOME, rows)?)
-}
-
 fn envelope() -> Envelope
     ensures { IsSome result.mir }
 {
     Envelope {
-        mir: Some(Mir(*b"240603ALPHDEFFAXXX0001000001")),
+        mir: Some(FIRST),
         sender: OTHER,
         receiver: HOME,
         uetr: None,
@@ -104,7 +71,7 @@ fn instructions(alloc: Global, tables: &RefTables) -> Result<Ssi, TableFault> {
 }
 
 fn open_desk(alloc: Global) -> Result<Desk, Fail> {
-    let book = book(alloc)?;
+    let book = bank_and_customer(alloc)?;
     let tables = tables(alloc)?;
     let ssi = instructions(alloc, &tables)?;
     Ok(Desk { tables, ssi, book })

@@ -34,11 +34,16 @@ fn fuse(alloc: Global, bytes: &[u8], calls: u64, torn: u64) -> Result<FuseDisk, 
     Ok(FuseDisk::new(alloc, Text::from_bytes(alloc, bytes)?, calls, torn))
 }
 
-// The bytes of a small disk, and how many.
-fn bytes_of<D: Disk>(disk: &mut D) -> Result<([u8; 32], usize), Failed> {
+// The first bytes of a disk, at most 32.
+fn front_of<D: Disk>(alloc: Global, disk: &mut D) -> Result<Text, Fail> {
     let mut bytes = [0; 32];
     let count = disk.read_at(0, &mut bytes)?;
-    Ok((bytes, count))
+    Ok(Text::from_bytes(alloc, &bytes[..count.min(32)])?)
+}
+
+// Makes a journal of the header record H.
+fn make<D: Disk>(alloc: Global, disk: D) -> Result<D, (D, MakeFault)> {
+    create(alloc, disk, b"H")
 }
 
 // Appends, and says that more may be appended.
@@ -71,28 +76,45 @@ fn count(alloc: Global, image: Text) -> Result<Option<usize>, Fail> {
     }
 }
 
+// The disk of a journal of the header record H, with AB appended; none where it doesn't end where it should.
+fn with_ab<D: Disk + Drop>(alloc: Global, disk: D) -> Result<Option<D>, Fail> {
+    let (mut file, records) = open(alloc, disk)?;
+    if file.end() != 6 || records.len() != 1 {
+        return Ok(None);
+    }
+    add(&mut file, AB)?;
+    if file.end() != 13 {
+        return Ok(None);
+    }
+    Ok(Some(file.into_disk()))
+}
+
 #[test]
 fn a_journal_is_made_appended_to_and_opened(rt: HostRuntime) -> Result<(), Fail> {
     let alloc = rt.alloc();
-    let disk = create(alloc, memory(alloc, b"")?, b"H").map_err(|e| e.1)?;
-    let mut disk = disk;
-    let (bytes, count) = bytes_of(&mut disk)?;
-    assert_eq!(rt; &bytes[..count.min(32)], HEAD);
-    let (mut file, records) = open(alloc, disk)?;
-    assert_eq!(rt; (file.end(), records.len()), (6, 1));
-    add(&mut file, AB)?;
-    assert_eq!(rt; file.end(), 13);
-    let mut disk = file.into_disk();
-    let (bytes, count) = bytes_of(&mut disk)?;
-    assert_eq!(rt; &bytes[..count.min(32)], BOTH);
+    let mut disk = make(alloc, memory(alloc, b"")?).map_err(|e| e.1)?;
+    assert_eq!(rt; front_of(alloc, &mut disk)?.bytes(), HEAD);
+    let mut disk = with_ab(alloc, disk)?.ok_or("other places")?;
+    assert_eq!(rt; front_of(alloc, &mut disk)?.bytes(), BOTH);
     let (file, records) = open(alloc, disk)?;
-    assert_eq!(rt; file.end(), 13);
-    assert_eq!(rt; records.len(), 2);
-    let texts: [&[u8]; 2] = [b"H", b"AB"];
-    for (record, text) in records.iter().zip(texts) {
-        assert_eq!(rt; record.bytes(), text);
-    }
+    assert_eq!(rt; (file.end(), records.len()), (13, 2));
+    assert_eq!(rt; records[0].bytes(), b"H".as_slice());
+    assert_eq!(rt; records[1].bytes(), b"AB".as_slice());
     Ok(())
+}
+
+// What an append answers on a disk that passes so many calls after an opening, and how many records it leaves.
+fn append_with(
+    alloc: Global,
+    calls: u64,
+    torn: u64,
+) -> Result<(Result<(), AppendFault>, Option<usize>), Fail>
+    requires { calls < 5 }
+{
+    let (mut file, _) = open(alloc, fuse(alloc, HEAD, calls + 2, torn)?)?;
+    let answer = add(&mut file, AB);
+    let left = count(alloc, file.into_disk().left())?;
+    Ok((answer, left))
 }
 
 // Opening a small file makes two calls of the disk, and appending four.
@@ -100,30 +122,46 @@ fn a_journal_is_made_appended_to_and_opened(rt: HostRuntime) -> Result<(), Fail>
 fn an_append_that_stops_leaves_the_records_before_or_with_the_new_one(
     rt: HostRuntime,
 ) -> Result<(), Fail> {
-    let alloc = rt.alloc();
+    let failed = AppendFault::DiskFault {
+        before: 0,
+        after: 1,
+    };
     for calls in 0..5u64 {
         for torn in 0..12u64 {
-            let (mut file, _) = open(alloc, fuse(alloc, HEAD, calls + 2, torn)?)?;
-            let answer = add(&mut file, AB);
-            assert_eq!(rt; answer.is_ok(), calls == 4);
-            if let Err(fault) = answer {
-                assert_eq!(rt;
-                    fault,
-                    AppendFault::DiskFault {
-                        before: 0,
-                        after: 1
-                    }
-                );
-            }
-            let left = count(alloc, file.into_disk().left())?;
-            match calls {
-                0..=2 => assert_eq!(rt; left, Some(1)),
-                3 => assert_eq!(rt; left, Some(if torn == 0 || torn == 2 { 1 } else { 2 })),
-                _ => assert_eq!(rt; left, Some(2)),
-            }
+            let (answer, left) = append_with(rt.alloc(), calls, torn)?;
+            assert!(rt; answer == if calls == 4 { Ok(()) } else { Err(failed) });
+            let arrived = calls == 4 || calls == 3 && torn != 0 && torn != 2;
+            assert_eq!(rt; left, Some(if arrived { 2 } else { 1 }));
         }
     }
     Ok(())
+}
+
+// Whether a journal is made on an empty disk that passes so many calls, and what it leaves.
+fn make_with(alloc: Global, calls: u64, torn: u64) -> Result<(bool, Text), Fail> {
+    match make(alloc, fuse(alloc, b"", calls, torn)?) {
+        Ok(disk) => Ok((true, disk.left())),
+        Err((disk, fault)) => match fault {
+            MakeFault::DiskFault {
+                before: 0,
+                after: 1,
+            } => Ok((false, disk.left())),
+            fault => Err(fault.into()),
+        },
+    }
+}
+
+// What the disk begins with on which a journal is made, and the first byte that keeps it from being made.
+fn made_over(alloc: Global, bytes: &[u8]) -> Result<(Text, Option<u8>), Fail> {
+    let (mut disk, other) = match make(alloc, memory(alloc, bytes)?) {
+        Ok(disk) => (disk, None),
+        Err((disk, fault)) => match fault {
+            MakeFault::Exists { first } => (disk, Some(first)),
+            fault => return Err(fault.into()),
+        },
+    };
+    let front = front_of(alloc, &mut disk)?;
+    Ok((front, other))
 }
 
 // On an empty disk `create` looks, writes the gate and syncs it, and enters the header: seven calls.
@@ -132,40 +170,33 @@ fn a_create_that_stops_leaves_nothing_or_the_journal(rt: HostRuntime) -> Result<
     let alloc = rt.alloc();
     for calls in 0..8u64 {
         for torn in 0..12u64 {
-            let left = match create(alloc, fuse(alloc, b"", calls, torn)?, b"H") {
-                Ok(disk) => {
-                    assert_eq!(rt; calls, 7);
-                    disk.left()
-                }
-                Err((disk, fault)) => {
-                    assert!(rt;
-                        matches!(
-                            fault,
-                            MakeFault::DiskFault {
-                                before: 0,
-                                after: 1
-                            }
-                        )
-                    );
-                    disk.left()
-                }
-            };
+            let (made, left) = make_with(alloc, calls, torn)?;
+            assert_eq!(rt; made, calls == 7);
             let whole = left.bytes() == HEAD || left.bytes() == b"\xfe\0\0\0\x01H\0".as_slice();
             if !whole {
                 assert!(rt; calls < 7);
-                let again = create(alloc, MemDisk::new(alloc, left), b"H");
-                let mut disk = again.map_err(|e| e.1)?;
-                let (bytes, count) = bytes_of(&mut disk)?;
-                assert!(rt; bytes[..count.min(32)].starts_with(HEAD));
+                let (front, other) = made_over(alloc, left.bytes())?;
+                assert!(rt; other.is_none() && front.bytes().starts_with(HEAD));
             }
         }
     }
     Ok(())
 }
 
+// Where an opening finds damage; none where the bytes are no journal.
+fn damaged_at(alloc: Global, bytes: &[u8]) -> Result<Option<u64>, Fail> {
+    match open_file(alloc, memory(alloc, bytes)?) {
+        Ok(_) => Err("open".into()),
+        Err((_, fault)) => match fault {
+            OpenFault::NotAJournal => Ok(None),
+            OpenFault::Damaged { at } => Ok(Some(at)),
+            fault => Err(fault.into()),
+        },
+    }
+}
+
 #[test]
 fn what_is_no_journal_is_refused(rt: HostRuntime) -> Result<(), Fail> {
-    let alloc = rt.alloc();
     // the bytes, and the place of the damage, if it is one
     let rows: [(&[u8], Option<u64>); 9] = [
         (b"", None),
@@ -179,34 +210,20 @@ fn what_is_no_journal_is_refused(rt: HostRuntime) -> Result<(), Fail> {
         (b"\x01\0\0\0\x01H\x01", Some(6)),
     ];
     for (bytes, place) in rows {
-        match open_file(alloc, memory(alloc, bytes)?) {
-            Ok(_) => assert!(rt; false),
-            Err((_, fault)) => match fault {
-                OpenFault::NotAJournal => assert!(rt; place.is_none()),
-                OpenFault::Damaged { at } => assert_eq!(rt; Some(at), place),
-                fault => return Err(fault.into()),
-            },
-        }
+        assert_eq!(rt; damaged_at(rt.alloc(), bytes)?, place);
     }
     Ok(())
 }
 
 #[test]
 fn the_records_in_front_of_damage_are_read(rt: HostRuntime) -> Result<(), Fail> {
-    let alloc = rt.alloc();
-    let disk = memory(alloc, b"\x01\0\0\0\x01H\x01\0\0\0\x09A\0")?;
-    let (records, ending) = read_file(alloc, disk).map_err(|e| e.1)?;
-    assert_eq!(rt; records.len(), 1);
-    match ending {
-        Ending::Open(_) => assert!(rt; false),
-        Ending::Damaged { at, .. } => assert_eq!(rt; at, 6),
-    }
+    let image = Text::from_bytes(rt.alloc(), b"\x01\0\0\0\x01H\x01\0\0\0\x09A\0")?;
+    assert_eq!(rt; cut_at(rt.alloc(), image)?, Some((6, 1)));
     Ok(())
 }
 
 #[test]
 fn a_journal_is_not_made_over_other_bytes(rt: HostRuntime) -> Result<(), Fail> {
-    let alloc = rt.alloc();
     let rows: [(&[u8], Option<u8>, &[u8]); 5] = [
         (b"\x01\0", Some(1), b"\x01\0"),
         (b"\xff1", Some(255), b"\xff1"),
@@ -215,21 +232,9 @@ fn a_journal_is_not_made_over_other_bytes(rt: HostRuntime) -> Result<(), Fail> {
         (b"\0abcdefghi", None, b"\x01\0\0\0\x01H\0ghi"),
     ];
     for (bytes, other, left) in rows {
-        let mut disk = match create(alloc, memory(alloc, bytes)?, b"H") {
-            Ok(disk) => {
-                assert!(rt; other.is_none());
-                disk
-            }
-            Err((disk, fault)) => {
-                match fault {
-                    MakeFault::Exists { first } => assert_eq!(rt; Some(first), other),
-                    fault => return Err(fault.into()),
-                }
-                disk
-            }
-        };
-        let (bytes, count) = bytes_of(&mut disk)?;
-        assert_eq!(rt; &bytes[..count.min(32)], left);
+        let (front, first) = made_over(rt.alloc(), bytes)?;
+        assert_eq!(rt; front.bytes(), left);
+        assert_eq!(rt; first, other);
     }
     Ok(())
 }
@@ -262,13 +267,10 @@ fn behind_head(alloc: Global, place: usize, bytes: &[u8]) -> Result<Text, Memory
     Ok(Text::from_vec(image))
 }
 
-// The place of the closed gate, and the records behind the header, that a disk gives which passes so many calls; none where it fails.
+// The place of the closed gate and the records that a disk gives which passes so many calls; none where it fails.
 fn read_with(alloc: Global, image: Text, calls: u64) -> Result<Option<(u64, Vec<Text>)>, Fail> {
     match open_file(alloc, FuseDisk::new(alloc, image, calls, 0)) {
-        Ok((file, mut records)) => {
-            records.remove(0);
-            Ok(Some((file.end(), records)))
-        }
+        Ok((file, records)) => Ok(Some((file.end(), records))),
         Err((_, fault)) => match fault {
             OpenFault::DiskFault {
                 before: 0,
@@ -279,30 +281,44 @@ fn read_with(alloc: Global, image: Text, calls: u64) -> Result<Option<(u64, Vec<
     }
 }
 
-fn are_three(records: &[Text]) -> bool {
-    records.len() == 3
-        && records[0].bytes() == b"AB".as_slice()
-        && records[1].bytes().is_empty()
-        && records[2].bytes() == b"ABCDEFGHIJKLM".as_slice()
+// Whether these are a header record of this size and the three behind it.
+fn are_whole(records: &[Text], size: usize) -> bool {
+    records.len() == 4
+        && records[0].bytes().len() == size
+        && records[1].bytes() == b"AB".as_slice()
+        && records[2].bytes().is_empty()
+        && records[3].bytes() == b"ABCDEFGHIJKLM".as_slice()
 }
 
-// A sync, and a read for each piece up to the closed gate: with a call fewer nothing is opened.
+// Whether three records behind a header record that ends at this place are read by a sync and a read for each piece
+// up to the closed gate, and with fewer calls nothing is opened.
+fn is_put_together(alloc: Global, head: usize) -> Result<bool, Fail>
+    requires { (5 ≤ head) × (head ≤ most_disk_bytes) }
+{
+    let gate = (head + 30) as u64;
+    let calls = 2 + gate / PIECE as u64;
+    for passed in 0..calls + 1 {
+        let holds = match read_with(alloc, behind_head(alloc, head, THREE)?, passed)? {
+            Some((end, records)) => {
+                passed == calls && end == gate && are_whole(records.as_slice(), head - 5)
+            }
+            None => passed < calls,
+        };
+        if !holds {
+            return Ok(false);
+        }
+    }
+    Ok(true)
+}
+
+// The edge of the first piece stands at each byte of the three records and of the gate behind them.
 #[test]
 fn records_that_cross_the_edges_of_pieces_are_put_together(rt: HostRuntime) -> Result<(), Fail> {
     let alloc = rt.alloc();
     for crossed in 0..34usize {
-        let head = PIECE - crossed;
-        let gate = (head + 30) as u64;
-        let calls = 2 + gate / PIECE as u64;
-        for passed in 0..calls + 1 {
-            match read_with(alloc, behind_head(alloc, head, THREE)?, passed)? {
-                Some((end, records)) => {
-                    assert!(rt; passed == calls && end == gate && are_three(records.as_slice()))
-                }
-                None => assert!(rt; passed < calls),
-            }
-        }
+        assert!(rt; is_put_together(alloc, PIECE - crossed)?);
     }
+    assert!(rt; is_put_together(alloc, 3 * PIECE - 20)?);
     Ok(())
 }
 
@@ -368,22 +384,28 @@ const FILE: &str = "jrn_file_test.jrn";
 
 const RECORDS: u32 = 1000;
 
+// Whether these are the numbers from 0 on, as records of four bytes.
+fn are_numbers(records: &[Text]) -> bool {
+    for (number, record) in (0..RECORDS).zip(records) {
+        if record.bytes() != number.to_be_bytes().as_slice() {
+            return false;
+        }
+    }
+    records.len() == RECORDS as usize
+}
+
 #[test]
 fn a_thousand_records_on_a_real_file_are_read_back(rt: HostRuntime) -> Result<(), Fail> {
     let alloc = rt.alloc();
     let _ = fs::remove_file(&rt, FILE);
     let disk = FileDisk::new(&rt, Text::from_bytes(alloc, FILE.as_bytes())?);
-    let disk = create(alloc, disk, b"H").map_err(|e| e.1)?;
-    let (mut file, _) = open(alloc, disk)?;
+    let (mut file, _) = open(alloc, make(alloc, disk).map_err(|e| e.1)?)?;
     add_numbers(&mut file)?;
     drop(file);
     let disk = FileDisk::new(&rt, Text::from_bytes(alloc, FILE.as_bytes())?);
     let (file, records) = open(alloc, disk)?;
     assert_eq!(rt; file.end(), 6 + 9 * u64::from(RECORDS));
-    assert_eq!(rt; records.len(), 1 + RECORDS as usize);
-    for (number, record) in (0..RECORDS).zip(records.iter().skip(1)) {
-        assert_eq!(rt; record.bytes(), number.to_be_bytes().as_slice());
-    }
+    assert!(rt; !records.is_empty() && are_numbers(&records[1..]));
     fs::remove_file(&rt, FILE)?;
     Ok(())
 }

@@ -148,6 +148,24 @@ fn take_two<N: Name>(
     same
 }
 
+// The totals of all three accounts, which are held together.
+fn all_totals<N: Name>(rt: &impl Wait, purses: &Purses<N>) -> [(u64, u64); 3]
+    requires { purses.now ≡ 3 }
+{
+    let held = purses
+        .hold()
+        .take(rt, AcctNo(1))
+        .take(rt, AcctNo(2))
+        .take(rt, AcctNo(3));
+    let all = [
+        held.totals(AcctNo(1)),
+        held.totals(AcctNo(2)),
+        held.totals(AcctNo(3)),
+    ];
+    held.give_back();
+    all
+}
+
 // Each thread takes two accounts in rising order, and then the sides.
 fn in_two_threads<N: Name + Send + Sync, R: Threads + Wait + Abort + Sync>(
     rt: &R,
@@ -169,18 +187,7 @@ fn in_two_threads<N: Name + Send + Sync, R: Threads + Wait + Abort + Sync>(
         { take_two(rt, &purses, &desk, AcctNo(2), AcctNo(3)) },
     );
     assert!(rt; one && two);
-    let held = purses
-        .hold()
-        .take(rt, AcctNo(1))
-        .take(rt, AcctNo(2))
-        .take(rt, AcctNo(3));
-    let all = (
-        held.totals(AcctNo(1)),
-        held.totals(AcctNo(2)),
-        held.totals(AcctNo(3)),
-    );
-    held.give_back();
-    assert_eq!(rt; all, ((0, 25_000), (25_000, 0), (0, 0)));
+    assert_eq!(rt; all_totals(rt, &purses), [(0, 25_000), (25_000, 0), (0, 0)]);
     Ok(())
 }
 
@@ -232,40 +239,49 @@ fn is_alone(inside: &AtomicBool) -> bool {
     inside.swap(false, SeqCst) && entered
 }
 
+// How often each of two threads takes the same accounts.
+const ROUNDS: u32 = 1000;
+
 // Holds account 1, then 3, each alone; account 2 is free meanwhile.
 fn hold_one<N: Name>(rt: &impl Wait, purses: &Purses<N>, inside: &Inside) -> bool
     requires { purses.now ≡ 3 }
 {
-    let one = purses.hold().take(rt, AcctNo(1));
-    purses.hold().take(rt, AcctNo(2)).give_back();
-    let first = is_alone(&inside.first);
-    one.give_back();
-    let one = purses.hold().take(rt, AcctNo(3));
-    let third = is_alone(&inside.third);
-    one.give_back();
-    first && third
+    for _ in 0..ROUNDS {
+        let one = purses.hold().take(rt, AcctNo(1));
+        purses.hold().take(rt, AcctNo(2)).give_back();
+        let first = is_alone(&inside.first);
+        one.give_back();
+        let one = purses.hold().take(rt, AcctNo(3));
+        let third = is_alone(&inside.third);
+        one.give_back();
+        if !first || !third {
+            return false;
+        }
+    }
+    true
 }
 
 // Holds accounts 1 and 3, then all three.
 fn hold_more<N: Name>(rt: &impl Wait, purses: &Purses<N>, inside: &Inside) -> bool
     requires { purses.now ≡ 3 }
 {
-    purses.hold().give_back();
-    let two = purses.hold().take(rt, AcctNo(1)).take(rt, AcctNo(3));
-    let pair = is_alone(&inside.first) && is_alone(&inside.third);
-    two.give_back();
-    let three = purses
-        .hold()
-        .take(rt, AcctNo(1))
-        .take(rt, AcctNo(2))
-        .take(rt, AcctNo(3));
-    let all = is_alone(&inside.first) && is_alone(&inside.third);
-    three.give_back();
-    pair && all
+    for _ in 0..ROUNDS {
+        let two = purses.hold().take(rt, AcctNo(1)).take(rt, AcctNo(3));
+        let pair = is_alone(&inside.first) && is_alone(&inside.third);
+        two.give_back();
+        let three = purses
+            .hold()
+            .take(rt, AcctNo(1))
+            .take(rt, AcctNo(2))
+            .take(rt, AcctNo(3));
+        let all = is_alone(&inside.first) && is_alone(&inside.third);
+        three.give_back();
+        if !pair || !all {
+            return false;
+        }
+    }
+    true
 }
-
-// How often each of two threads takes the same accounts.
-const ROUNDS: u32 = 1000;
 
 // An account that is held is taken by no other thread, and one that was given back is.
 fn given_back<N: Name + Send + Sync, R: Threads + Wait + Sync>(
@@ -276,6 +292,7 @@ fn given_back<N: Name + Send + Sync, R: Threads + Wait + Sync>(
     requires { (loose.table ≡ N.table) × (length loose.purses ≡ 3) }
 {
     let purses = loose.lock::<N>(alloc)?;
+    purses.hold().give_back();
     let inside = Inside {
         first: AtomicBool::new(false),
         third: AtomicBool::new(false),
@@ -284,10 +301,10 @@ fn given_back<N: Name + Send + Sync, R: Threads + Wait + Sync>(
         rt,
         || -> bool
             requires { purses ≡ 3 }
-        { (0..ROUNDS).all(|_| hold_one(rt, &purses, &inside)) },
+        { hold_one(rt, &purses, &inside) },
         || -> bool
             requires { purses ≡ 3 }
-        { (0..ROUNDS).all(|_| hold_more(rt, &purses, &inside)) },
+        { hold_more(rt, &purses, &inside) },
     ))
 }
 

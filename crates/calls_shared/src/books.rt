@@ -3,9 +3,8 @@ ghost use Rattle.day_model.specs.Fit.{FitsAccounts};
 ghost use Rattle.day_model.specs.Shape.{HasShape};
 ghost use Rattle.corr_books.specs.Opening.{IsNamed};
 ghost use Rattle.corr_books.specs.Passes.{Belongs};
-ghost use Rattle.corr_books.specs.Telling.{Told};
 
-use corr_books::{Books, BooksName, CloseFault, Closed, Opened, open_books};
+use corr_books::{Books, BooksName, CloseFault, Opened, open_books};
 use corr_disk::{Disk, MemDisk, OnceDisk};
 use corr_ids::{Bic, Day, Mir};
 use corr_money::Ccy;
@@ -54,33 +53,32 @@ fn account(
     })
 }
 
+// Its id, kind, owner, currency, floor and opening.
+type Given = (&'static [u8], u8, [u8; 8], [u8; 3], i64, i64);
+
 fn sample_accounts<R: Abort>(rt: &R, alloc: Global) -> Result<Accounts, Fail> {
     let low = -90_000_000_000;
     let (euro, yen) = (*b"EUR", *b"JPY");
+    let given: [Given; 7] = [
+        (
+            b"VALPHEUR",
+            b'V',
+            *b"ALPHDEFF",
+            euro,
+            -10_000_000,
+            5_000_000,
+        ),
+        (b"VBETAEUR", b'V', *b"BETAFRPP", euro, 0, 1_000_000),
+        (b"CUST1", b'C', *b"HOMEUS33", euro, 0, 0),
+        (b"NCORREUR", b'N', *b"CORRBEBB", euro, low, -6_000_000),
+        (b"VDELTJPY", b'V', *b"DELTJPJT", yen, 0, 9_000_000),
+        (b"NCORRJPY", b'N', *b"CORRBEBB", yen, low, -9_000_000),
+        (b"CUST2", b'C', *b"HOMEUS33", yen, 0, 0),
+    ];
     let mut rows = List::new(alloc);
-    rows.push(account(
-        alloc,
-        b"VALPHEUR",
-        b'V',
-        *b"ALPHDEFF",
-        euro,
-        -10_000_000,
-        5_000_000,
-    )?)?;
-    rows.push(account(alloc, b"VBETAEUR", b'V', *b"BETAFRPP", euro, 0, 1_000_000)?)?;
-    rows.push(account(alloc, b"CUST1", b'C', *b"HOMEUS33", euro, 0, 0)?)?;
-    rows.push(account(
-        alloc,
-        b"NCORREUR",
-        b'N',
-        *b"CORRBEBB",
-        euro,
-        low,
-        -6_000_000,
-    )?)?;
-    rows.push(account(alloc, b"VDELTJPY", b'V', *b"DELTJPJT", yen, 0, 9_000_000)?)?;
-    rows.push(account(alloc, b"NCORRJPY", b'N', *b"CORRBEBB", yen, low, -9_000_000)?)?;
-    rows.push(account(alloc, b"CUST2", b'C', *b"HOMEUS33", yen, 0, 0)?)?;
+    for (id, kind, owner, ccy, floor, opening) in given {
+        rows.push(account(alloc, id, kind, owner, ccy, floor, opening)?)?;
+    }
     assert!(rt; rows_hold(rows.as_slice()));
     let home = Bic {
         head: *b"HOMEUS33",
@@ -92,15 +90,21 @@ fn sample_accounts<R: Abort>(rt: &R, alloc: Global) -> Result<Accounts, Fail> {
 // The record of an entry: amount in minor units from one account to another, booked. The number is that of its reference.
 fn record(alloc: Global, number: u32, debit: u8, credit: u8, amount: u64) -> Result<Text, Memory> {
     let amount = amount.to_be_bytes();
+    let (from, to) = ([0, debit, 0], [0, credit, 1]);
     let mut bytes = Text::from_bytes(alloc, b"240603ALPHDEFFAXXX0001")?;
     put_digits(alloc, u64::from(number), 6, &mut bytes)?;
-    bytes.push(b"\x01\0\0\0\x4d\xa5\0\0\x4d\xa5\0\x02")?;
-    bytes.push(&[0, debit, 0])?;
-    bytes.push(&amount)?;
-    bytes.push(b"\0\x04REF1")?;
-    bytes.push(&[0, credit, 1])?;
-    bytes.push(&amount)?;
-    bytes.push(b"\x01\x01\x01\x04ALPHDEFFXXX\x01\0\0\0\x02\r\n")?;
+    let parts: [&[u8]; 7] = [
+        b"\x01\0\0\0\x4d\xa5\0\0\x4d\xa5\0\x02",
+        &from,
+        &amount,
+        b"\0\x04REF1",
+        &to,
+        &amount,
+        b"\x01\x01\x01\x04ALPHDEFFXXX\x01\0\0\0\x02\r\n",
+    ];
+    for part in parts {
+        bytes.push(part)?;
+    }
     Ok(bytes)
 }
 
@@ -165,13 +169,13 @@ fn is_raised(flag: &AtomicBool) -> bool {
     false
 }
 
-// What two calls answered, and what is left.
+// What two calls answered, and how many entries there are then.
 #[derive(Drop)]
-struct Both<D: Disk> {
+struct Both {
     one: Answer,
     two: Answer,
     in_time: bool,
-    closed: Closed<D>,
+    entries: u32,
 }
 
 fn book_as<N: BooksName, D: Disk, R: Wait, G: Gate>(
@@ -185,14 +189,97 @@ fn book_as<N: BooksName, D: Disk, R: Wait, G: Gate>(
     requires pass { Belongs N.opening pass }
     requires fits { FitsAccounts N.opening.accounts p.now }
     requires shape { HasShape p.now }
-    ensures belongs { Belongs N.opening result.0 }
-    ensures told { Told N.opening p.now pass result.1 result.0 }
+    ensures { Belongs N.opening result.0 }
 {
     let answer = books.book(rt, &mut pass, worker, p, gate);
     (pass, answer)
 }
 
 // A thread for each of two pays. The second one calls once a flag is up, and raises another when it was answered.
+fn book_at_once<
+    N: BooksName + Send + Sync,
+    D: Disk + Drop + Send,
+    R: Threads + Wait + Sync,
+    G: Gate + Sync,
+>(
+    rt: &R,
+    books: &Books<N, D>,
+    passes: (Pass, Pass),
+    first: &Pay,
+    second: &Pay,
+    gate: &G,
+    start: &AtomicBool,
+    answered: &AtomicBool,
+) -> ((Pass, Answer), (Pass, Answer, bool))
+    requires pass { (Belongs N.opening passes.0) × (Belongs N.opening passes.1) }
+    requires fit { (FitsAccounts N.opening.accounts first.now) × (FitsAccounts N.opening.accounts second.now) }
+    requires shape { (HasShape first.now) × (HasShape second.now) }
+    ensures { (Belongs N.opening result.0.0) × (Belongs N.opening result.1.0) }
+{
+    let (front, last) = passes;
+    join(
+        rt,
+        || -> (Pass, Answer)
+            requires pass { Belongs N.opening front }
+            requires fits { FitsAccounts N.opening.accounts first.now }
+            requires shape { HasShape first.now }
+            ensures belongs { Belongs N.opening result.0 }
+        { book_as(rt, books, front, 1, first, gate) },
+        || -> (Pass, Answer, bool)
+            requires pass { Belongs N.opening last }
+            requires fits { FitsAccounts N.opening.accounts second.now }
+            requires shape { HasShape second.now }
+            ensures belongs { Belongs N.opening result.0 }
+        {
+            let in_time = is_raised(start);
+            let (last, two) = book_as(rt, books, last, 2, second, gate);
+            answered.store(true, SeqCst);
+            (last, two, in_time)
+        },
+    )
+}
+
+// Books under a name, and their two passes.
+fn begin<N: BooksName, D: Disk + Drop>(
+    alloc: Global,
+    opened: Opened<D>,
+    made: u32,
+) -> Result<(Books<N, D>, Pass, Pass), Fail>
+    requires named { IsNamed D.Disk N.opening N.table opened made }
+    requires two { made ≡ 2 }
+    ensures { IfOk result (λ r. Belongs N.opening r.1 × Belongs N.opening r.2) }
+{
+    let Ok((books, mut passes)) = opened.books::<N>(alloc, made) else {
+        return Err("no memory".into());
+    };
+    let Some(last) = passes.pop() else {
+        return Err("a pass".into());
+    };
+    let Some(front) = passes.pop() else {
+        return Err("another pass".into());
+    };
+    Ok((books, front, last))
+}
+
+// How many entries there are once books were closed with two passes. Promises nothing; likewise the next.
+fn close<N: BooksName, D: Disk + Drop>(
+    alloc: Global,
+    books: Books<N, D>,
+    front: Pass,
+    last: Pass,
+) -> Result<u32, Fail>
+    requires { (Belongs N.opening front) × (Belongs N.opening last) }
+{
+    let mut passes = Vec::new(alloc);
+    passes.push(front)?;
+    passes.push(last)?;
+    let Ok(closed) = books.close(passes) else {
+        return Err("two passes".into());
+    };
+    Ok(closed.history.len())
+}
+
+// Two threads book on books that have no name yet.
 fn book_both_as<
     N: BooksName + Send + Sync,
     D: Disk + Drop + Send,
@@ -208,51 +295,23 @@ fn book_both_as<
     gate: &G,
     start: &AtomicBool,
     answered: &AtomicBool,
-) -> Result<Both<D>, Fail>
+) -> Result<Both, Fail>
     requires named { IsNamed D.Disk N.opening N.table opened made }
     requires two { made ≡ 2 }
     requires fit { (FitsAccounts opened.accounts first.now) × (FitsAccounts opened.accounts second.now) }
     requires shape { (HasShape first.now) × (HasShape second.now) }
 {
-    let Ok((books, mut passes)) = opened.books::<N>(alloc, made) else {
-        return Err("no memory".into());
-    };
-    let Some(last) = passes.pop() else {
-        return Err("a pass".into());
-    };
-    let Some(front) = passes.pop() else {
-        return Err("another pass".into());
-    };
-    let ((front, one), (last, two, in_time)) = join(
-        rt,
-        || -> (Pass, Answer)
-            requires pass { Belongs N.opening front }
-            requires fits { FitsAccounts N.opening.accounts first.now }
-            requires shape { HasShape first.now }
-            ensures belongs { Belongs N.opening result.0 }
-        { book_as(rt, &books, front, 1, first, gate) },
-        || -> (Pass, Answer, bool)
-            requires pass { Belongs N.opening last }
-            requires fits { FitsAccounts N.opening.accounts second.now }
-            requires shape { HasShape second.now }
-            ensures belongs { Belongs N.opening result.0 }
-        {
-            let in_time = is_raised(start);
-            let (last, two) = book_as(rt, &books, last, 2, second, gate);
-            answered.store(true, SeqCst);
-            (last, two, in_time)
-        },
+    let (books, front, last) = begin::<N, D>(alloc, opened, made)?;
+    let passes = (front, last);
+    let ((front, one), (last, two, in_time)) = book_at_once(
+        rt, &books, passes, first, second, gate, start, answered,
     );
-    passes.push(front)?;
-    passes.push(last)?;
-    let Ok(closed) = books.close(passes) else {
-        return Err("two passes".into());
-    };
+    let entries = close(alloc, books, front, last)?;
     Ok(Both {
         one,
         two,
         in_time,
-        closed,
+        entries,
     })
 }
 
@@ -266,7 +325,7 @@ fn book_both<D: Disk + Drop + Send, R: Threads + Wait + Sync, G: Gate + Sync>(
     gate: &G,
     start: &AtomicBool,
     answered: &AtomicBool,
-) -> Result<Both<D>, Fail>
+) -> Result<Both, Fail>
     requires shape { (HasShape first.now) × (HasShape second.now) }
 {
     let Ok(opened) = open_books(alloc, disk, DAY) else {
@@ -290,7 +349,7 @@ fn two_pays_between_two_accounts_are_booked_in_either_order(rt: HostRuntime) -> 
     let first_came_first = both.one == new(1) && both.two == new(2);
     let second_came_first = both.one == new(2) && both.two == new(1);
     assert!(rt; first_came_first || second_came_first);
-    assert_eq!(rt; both.closed.history.len(), 2);
+    assert_eq!(rt; both.entries, 2);
     Ok(())
 }
 
@@ -318,7 +377,7 @@ fn book_held<R: Threads + Wait + Sync + Abort>(
     rt: &R,
     alloc: Global,
     second: &Pay,
-) -> Result<(Both<MemDisk>, bool), Fail>
+) -> Result<(Both, bool), Fail>
     requires { HasShape second.now }
 {
     let first = pay(alloc, 1, 1, 3, 1_000)?;
@@ -365,6 +424,35 @@ struct Turn {
     entries: u32,
 }
 
+// How many passes books say that they made where they are closed with one of two, and how many entries there are once they
+// were closed with both.
+fn close_late<N: BooksName, D: Disk + Drop>(
+    alloc: Global,
+    books: Books<N, D>,
+    front: Pass,
+    last: Pass,
+) -> Result<(u32, u32), Fail>
+    requires { (Belongs N.opening front) × (Belongs N.opening last) }
+{
+    let mut passes = Vec::new(alloc);
+    passes.push(front)?;
+    let Err(
+        CloseFault {
+            books,
+            mut passes,
+            made,
+        },
+    ) = books.close(passes)
+    else {
+        return Err("one of two passes".into());
+    };
+    passes.push(last)?;
+    let Ok(closed) = books.close(passes) else {
+        return Err("two passes".into());
+    };
+    Ok((made, closed.history.len()))
+}
+
 fn book_turn_as<N: BooksName, D: Disk + Drop, R: Wait>(
     rt: &R,
     alloc: Global,
@@ -378,35 +466,17 @@ fn book_turn_as<N: BooksName, D: Disk + Drop, R: Wait>(
     requires fit { (FitsAccounts opened.accounts first.now) × (FitsAccounts opened.accounts second.now) }
     requires shape { (HasShape first.now) × (HasShape second.now) }
 {
-    let Ok((books, mut passes)) = opened.books::<N>(alloc, made) else {
-        return Err("no memory".into());
-    };
-    let Some(pass) = passes.pop() else {
-        return Err("a pass".into());
-    };
+    let (books, front, pass) = begin::<N, D>(alloc, opened, made)?;
     let (pass, first) = book_as(rt, &books, pass, 1, first, &OpenGate);
     let (pass, second) = book_as(rt, &books, pass, 1, second, &OpenGate);
     let mine = pass.mine().len() as u64;
-    let Err(
-        CloseFault {
-            books,
-            mut passes,
-            made,
-        },
-    ) = books.close(passes)
-    else {
-        return Err("one of two passes".into());
-    };
-    passes.push(pass)?;
-    let Ok(closed) = books.close(passes) else {
-        return Err("two passes".into());
-    };
+    let (made, entries) = close_late(alloc, books, front, pass)?;
     Ok(Turn {
         first,
         second,
         mine,
         made,
-        entries: closed.history.len(),
+        entries,
     })
 }
 

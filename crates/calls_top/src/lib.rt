@@ -1,6 +1,10 @@
-//! The commands over disks that fail or stop, and with workers that meet, each by the top call.
+//! The commands over files, sinks and disks that fail or stop, and with workers that meet, each by the top call.
 #![tactic(auto)]
 
+#[cfg(test)]
+mod commands;
+#[cfg(test)]
+mod faults;
 #[cfg(test)]
 mod gates;
 #[cfg(test)]

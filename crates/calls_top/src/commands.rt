@@ -1,0 +1,182 @@
+//! Commands over files in memory. Calls go through functions that promise nothing: a test then carries none of what a
+//! command promises.
+
+use corr_disk::{Disk, FuseDisk};
+use corr_io::{MemSink, MemSource, Sink, Source};
+use corr_text::{List, Memory, Text};
+use corr_top::{Done, Room, Status, Tables, corr};
+use std::alloc::Global;
+use std::sync::Wait;
+use std::thread::Threads;
+use work_pool::{Gate, OpenGate};
+
+// The bytes of the table files, in the order in which they are read, and of the message file.
+#[derive(Clone, Copy)]
+pub(crate) struct Files {
+    pub(crate) tables: [&'static [u8]; 5],
+    pub(crate) messages: &'static [u8],
+}
+
+// The calls that fail, by their numbers from 1: a read of the file at this place, from 0, the message file last, a write
+// of the report, and one of what is sent. 0 names no call.
+#[derive(Clone, Copy)]
+pub(crate) struct Failing {
+    pub(crate) place: usize,
+    pub(crate) read: u64,
+    pub(crate) report: u64,
+    pub(crate) out: u64,
+}
+
+pub(crate) const WHOLE: Failing = Failing {
+    place: 0,
+    read: 0,
+    report: 0,
+    out: 0,
+};
+
+// How a command ended, what it wrote, the counts of faults of the files, of the report and of what is sent, and its disk.
+#[derive(Drop)]
+pub(crate) struct Ended<D: Disk> {
+    pub(crate) status: Status,
+    pub(crate) report: Text,
+    pub(crate) out: Text,
+    pub(crate) faults: [u64; 8],
+    pub(crate) disk: D,
+}
+
+fn calls(alloc: Global, call: u64) -> Result<List<u64>, Memory> {
+    let mut list = List::new(alloc);
+    list.push(call)?;
+    Ok(list)
+}
+
+fn source(
+    alloc: Global,
+    failing: Failing,
+    place: usize,
+    bytes: &[u8],
+) -> Result<MemSource, Memory> {
+    let read = if failing.place == place {
+        failing.read
+    } else {
+        0
+    };
+    Ok(MemSource::new(Text::from_bytes(alloc, bytes)?, calls(alloc, read)?))
+}
+
+fn tables(alloc: Global, failing: Failing, files: Files) -> Result<Tables<MemSource>, Memory> {
+    let [bics, ccys, countries, accounts, ssi] = files.tables;
+    Ok(Tables {
+        bics: source(alloc, failing, 0, bics)?,
+        ccys: source(alloc, failing, 1, ccys)?,
+        countries: source(alloc, failing, 2, countries)?,
+        accounts: source(alloc, failing, 3, accounts)?,
+        ssi: source(alloc, failing, 4, ssi)?,
+    })
+}
+
+fn sink(alloc: Global, write: u64) -> Result<MemSink, Memory> {
+    Ok(MemSink::new(alloc, calls(alloc, write)?))
+}
+
+fn room<D: Disk + Drop>(
+    alloc: Global,
+    failing: Failing,
+    files: Files,
+    disk: D,
+) -> Result<Room<MemSource, MemSink, D>, Memory> {
+    Ok(Room {
+        tables: tables(alloc, failing, files)?,
+        messages: source(alloc, failing, 5, files.messages)?,
+        received: source(alloc, WHOLE, 6, b"")?,
+        report: sink(alloc, failing.report)?,
+        out: sink(alloc, failing.out)?,
+        disk,
+        disk2: None,
+    })
+}
+
+fn words(alloc: Global, words: &[&[u8]]) -> Result<List<Text>, Memory> {
+    let mut texts = List::new(alloc);
+    for word in words {
+        texts.push(Text::from_bytes(alloc, word)?)?;
+    }
+    Ok(texts)
+}
+
+fn leave<D: Disk + Drop>(
+    alloc: Global,
+    done: Done<MemSource, MemSink, D>,
+) -> Result<Ended<D>, Memory> {
+    let Done { status, room } = done;
+    Ok(Ended {
+        status,
+        report: Text::from_bytes(alloc, room.report.bytes())?,
+        out: Text::from_bytes(alloc, room.out.bytes())?,
+        faults: [
+            room.tables.bics.faults(),
+            room.tables.ccys.faults(),
+            room.tables.countries.faults(),
+            room.tables.accounts.faults(),
+            room.tables.ssi.faults(),
+            room.messages.faults(),
+            room.report.faults(),
+            room.out.faults(),
+        ],
+        disk: room.disk,
+    })
+}
+
+// A command over a disk, whose pays pass a gate.
+pub(crate) fn call_at<R: Wait + Threads + Sync, D: Disk + Drop + Send, G: Gate + Sync>(
+    rt: &R,
+    alloc: Global,
+    command: &[&[u8]],
+    failing: Failing,
+    files: Files,
+    disk: D,
+    gate: &G,
+) -> Result<Ended<D>, Memory> {
+    let texts = words(alloc, command)?;
+    let room = room(alloc, failing, files, disk)?;
+    leave(alloc, corr(rt, alloc, texts.as_slice(), room, gate))
+}
+
+// A command over a disk.
+pub(crate) fn call<R: Wait + Threads + Sync, D: Disk + Drop + Send>(
+    rt: &R,
+    alloc: Global,
+    command: &[&[u8]],
+    failing: Failing,
+    files: Files,
+    disk: D,
+) -> Result<Ended<D>, Memory> {
+    call_at(rt, alloc, command, failing, files, disk, &OpenGate)
+}
+
+// A run of one worker over a disk.
+pub(crate) fn run<R: Wait + Threads + Sync, D: Disk + Drop + Send>(
+    rt: &R,
+    alloc: Global,
+    failing: Failing,
+    files: Files,
+    disk: D,
+) -> Result<Ended<D>, Memory> {
+    call(rt, alloc, &[b"run", b"240603", b"1"], failing, files, disk)
+}
+
+// A disk of these bytes that passes 100 calls.
+pub(crate) fn long_lived(alloc: Global, bytes: &[u8]) -> Result<FuseDisk, Memory> {
+    Ok(FuseDisk::new(alloc, Text::from_bytes(alloc, bytes)?, 100, 0))
+}
+
+// The bytes of a new journal.
+pub(crate) fn journal<R: Wait + Threads + Sync>(
+    rt: &R,
+    alloc: Global,
+    files: Files,
+) -> Result<Text, Memory> {
+    let disk = long_lived(alloc, b"")?;
+    let made = call(rt, alloc, &[b"init", b"HOMEUS33"], WHOLE, files, disk)?;
+    Ok(made.disk.left())
+}
