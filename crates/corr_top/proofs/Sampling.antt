@@ -1,16 +1,17 @@
 -- The bank of a trial: what its files say when they are read, and its journal.
-use Rattle.std.proofs.Common.{◌≡◌, ℕ, ◌+◌, ◌≤◌, List, [], ◌∷◌, ◌++◌, length, map, Option, None, Some, Result, Ok, Err, refl, sym, ap, ◌∙◌, subst, arith, append-nil, length-append}
+use Rattle.std.proofs.Common.{◌≡◌, ℕ, ◌+◌, ◌≤◌, List, [], ◌++◌, length, map, Option, None, Some, Result, Ok, Err, refl, sym, ap, ◌∙◌, subst, arith, append-nil, length-append}
 use Rattle.std.specs.Prelude.{IsTrue, MatchResult}
 use Rattle.corr_books.specs.Finding.{TellsOf}
 use Rattle.corr_books.specs.Opening.{Parts}
 use Rattle.corr_disk.specs.declared.disk.Disk as disks
 use Rattle.corr_ids.specs.declared.bic.Bic.{Bic}
+use Rattle.corr_ids.specs.Bic.{IsBic, is_bic}
 use Rattle.corr_ids.specs.declared.day.Day.{Day}
 use Rattle.corr_io.specs.declared.source.Source as sources
 use Rattle.corr_io.specs.InMemory.{Supply}
 use Rattle.day_model.specs.Chart.{Chart}
 use Rattle.jrn_book.specs.Journal.{IsJournal}
-use Rattle.jrn_book.specs.Opening.{Finding, book}
+use Rattle.jrn_book.specs.Opening.{book}
 use Rattle.jrn_book.proofs.laws.Findings.{one_finding}
 use Rattle.jrn_codec.specs.Header.{head_bytes}
 use Rattle.jrn_file.specs.Reading.{opened_of}
@@ -18,7 +19,6 @@ use Rattle.jrn_file.specs.declared.fault.MakeFault.{MakeFault}
 use Rattle.ref_tables.specs.Accounts.{account_of}
 use Rattle.ref_tables.specs.Rows.{rows_of}
 use Rattle.ref_tables.specs.Tables.{tables_of}
-use Rattle.ref_tables.specs.declared.fault.TableName.{TableName}
 use Rattle.ref_tables.specs.declared.fault.TableName.TheVariants as names
 use Rattle.ssi_versions.specs.Rows.{instruction_of}
 use Rattle.corr_top.specs.declared.directory.Directory.{Directory}
@@ -29,7 +29,7 @@ use Rattle.corr_top.specs.Passing.{IsFine, table_fault, table_file, table_at}
 use Rattle.corr_top.specs.Reading.{IsRead, Took}
 use Rattle.corr_top.specs.Samples.{sample_accounts, sample_bics, sample_ccys, sample_countries, sample_home, sample_ssi}
 use Rattle.corr_top.specs.Tables.{HasAccounts, HasDirectory}
-use Rattle.corr_top.specs.Trial.{AreSampleFiles, gives, sample_chart, sample_directory}
+use Rattle.corr_top.specs.Trial.{AreSampleFiles, IsNewDisk, gives, sample_chart, sample_directory}
 
 -- ---- a file in memory is read whole
 
@@ -91,19 +91,24 @@ module _ (source : sources.Ghosts Supply) (tells : Tells source) (old new : File
       let same : chart_in i ≡ sample_chart = λ k. record { home = bank k; accounts = map opened (map (account_of (tables_of (bics k) (ccys k) (countries k))) (rows_of (accounts k))) } in
       has.chart_is ∙ same
 
+-- its home's BIC meets its grammar
+pub home_formed : IsBic sample_home
+unfolding is_bic
+home_formed = refl
+
 -- ---- its journal
 
--- what was made on a disk, where making it went well
+-- the journal was made on a new disk
 pub made_new : {D : Type 0} (d : disks.Ghosts D) (old new : D) (head : List ℕ) (making : Result (Unit {0}) MakeFault) → making ≡ Ok tt
     → MatchResult making (λ _. (c : Chart) → head ≡ head_bytes c → IsFree d old × IsOnDisk d new c [] × HasNotFailed d old new) (λ fault. (c : Chart) → head ≡ head_bytes c → StopsMaking d old new c fault)
-    → (chart : Chart) → head ≡ head_bytes chart → IsOnDisk d new chart [] × HasNotFailed d old new
-made_new d old new head (Ok done) is made chart written = let m = made chart written in (m.1, m.2)
-made_new d old new head (Err fault) is made chart written = absurd cc
+    → head ≡ head_bytes sample_chart → IsTrue (d.honest new) → d.faults old ≡ 0 → IsNewDisk d new
+made_new d old new head (Ok done) is made written honest sure = let m = made sample_chart written in record { honest = honest; holds = m.1; faults = m.2 ∙ sure }
+made_new d old new head (Err fault) is made written honest sure = absurd cc
 
--- a journal without entries is opened as its accounts and no history
-pub opened_new : {D : Type 0} (d : disks.Ghosts D) (disk : D) (chart : Chart) (day : Day) (parts : Parts D) → IsTrue (d.honest disk) → IsJournal chart [] → IsOnDisk d disk chart []
-    → (IsTrue (d.honest disk) → TellsOf (opened_of (d.reads disk)) day (Ok parts)) → (parts.accounts ≡ chart) × (parts.base ≡ [])
-opened_new d disk chart day parts honest journal on told =
-    let t = told honest refl in
-    let same : book parts.accounts parts.base ≡ book chart [] = sym t.2.0 ∙ one_finding (opened_of (d.reads disk)) t.0 (book chart []) t.1 (journal, on.stands honest) in
+-- a new journal is opened as the accounts and no history
+pub opened_new : {D : Type 0} (d : disks.Ghosts D) (disk : D) (day : Day) (parts : Parts D) → IsNewDisk d disk → IsJournal sample_chart [] → (IsTrue (d.honest disk) → TellsOf (opened_of (d.reads disk)) day (Ok parts))
+    → (parts.accounts ≡ sample_chart) × (parts.base ≡ [])
+opened_new d disk day parts new journal told =
+    let t = told new.honest refl in
+    let same : book parts.accounts parts.base ≡ book sample_chart [] = sym t.2.0 ∙ one_finding (opened_of (d.reads disk)) t.0 (book sample_chart []) t.1 (journal, new.holds.stands new.honest) in
     (cc same, cc same)

@@ -1,31 +1,28 @@
 -- A history in which each of some pays is booked, in whatever order, is that of one thread but for the order.
-use Rattle.std.proofs.Common.{◌≡◌, ◌⊎◌, inl, inr, ℕ, zero, suc, ◌+◌, ◌≤◌, All, Bool, true, false, List, [], ◌∷◌, ◌++◌, length, map, Some, None, ℤ, pos, ◌+ℤ◌, ◌-ℤ◌, ◌≤ℤ◌, refl, sym, ap, ap₂, ◌∙◌, subst, arith}
+use Rattle.std.proofs.Common.{◌≡◌, inl, inr, ℕ, zero, suc, ◌+◌, ◌≤◌, Bool, true, false, List, [], ◌∷◌, ◌++◌, length, map, Some, pos, ◌+ℤ◌, ◌-ℤ◌, ◌≤ℤ◌, refl, sym, ap, ap₂, subst, arith}
 use Rattle.std.specs.Prelude.{is_some, slice_get}
 use Rattle.std.specs.List.{AllByRecursion, position_from}
 use Rattle.std.specs.List.Sorted.{IsPermutation}
-use Rattle.std.specs.Str.{bytes_eq}
-use Rattle.std.proofs.lemmas.Bool.{false≢true}
 use Rattle.std.proofs.lemmas.List.{append-nil, length-map}
 use Rattle.std.proofs.lemmas.List.Sorted.{sum_by-IsPermutation}
-use Rattle.std.proofs.lemmas.Option.{get_or_from_slice_get, none-some, same_Some, slice_get_within}
+use Rattle.std.proofs.lemmas.Option.{none-some, same_Some}
 use Rattle.std.proofs.lemmas.Slice.Eq.{bytes_eq-Decides}
 use Rattle.corr_ids.specs.declared.day.Day.{Day}
 use Rattle.corr_ids.specs.declared.mir.Mir.{Mir}
-use Rattle.day_model.specs.declared.account.Account.{Account}
 use Rattle.day_model.specs.declared.entry.Entry.{Entry}
 use Rattle.day_model.specs.declared.entry.Outcome.{Outcome}
 use Rattle.day_model.specs.declared.entry.Outcome.TheVariants.{Booked}
 use Rattle.day_model.specs.declared.pay.Pay.{Pay}
 use Rattle.day_model.specs.declared.pay.Side.TheVariants.{Debit, Credit}
-use Rattle.day_model.specs.Balance.{credits_of, debits_of, moved_by}
-use Rattle.day_model.specs.Chart.{Chart, account_at}
+use Rattle.day_model.specs.Balance.{moved_by}
+use Rattle.day_model.specs.Chart.{Chart}
 use Rattle.day_model.specs.Fit.{FitsAccounts}
 use Rattle.day_model.specs.Legal.{IsLegal}
-use Rattle.day_model.specs.Next.{entered_at, fold_of, has_mir}
+use Rattle.day_model.specs.Next.{fold_of, has_mir}
 use Rattle.corr_top.specs.Booking.{IsEnteredOn}
 use Rattle.corr_top.specs.Trial.{IsBooked}
-use Rattle.corr_report.proofs.laws.Settled.{AreBorne, AreFresh, IsFresh, booked_on, settled_fold}
-use Rattle.corr_top.proofs.Spread.{AllIn, AreDistinct, Has, Spreads, StandsIn, has_either, spread}
+use Rattle.corr_report.proofs.laws.Settled.{AreBorne, AreFresh, booked_on, settled_fold}
+use Rattle.corr_top.proofs.Spread.{AllIn, AreDistinct, Has, StandsIn, has_either, spread}
 
 -- the reference of an entry
 abbrev pub mir_of : Entry → Mir

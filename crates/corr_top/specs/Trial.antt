@@ -1,5 +1,6 @@
 -- The command `trial`: a generated day, run over a journal in memory.
-use Rattle.std.specs.Prelude.{◌≡◌, ◌≤◌, ◌≤ℤ◌, ℕ, List, [], All, length, map, Some, Result, Ok, Err, ℤ, pos, ◌+ℤ◌, ◌-ℤ◌}
+use Rattle.std.specs.Prelude.{◌≡◌, ◌≤◌, ◌≤ℤ◌, ℕ, List, [], All, IsTrue, length, map, Some, Result, Ok, Err, pos, ◌+ℤ◌, ◌-ℤ◌}
+use Rattle.corr_disk.specs.declared.disk.Disk as disks
 use Rattle.corr_io.specs.InMemory.{Supply}
 use Rattle.corr_report.specs.Generated.{generated_texts}
 use Rattle.corr_report.specs.Summary.{summary_of}
@@ -24,6 +25,7 @@ use Rattle.corr_top.specs.declared.writing.Texts.{Texts}
 use Rattle.corr_top.specs.Booking.{IsEnteredOn}
 use Rattle.corr_top.specs.Inputs.{opened}
 use Rattle.corr_top.specs.Message.{pays_in, readings_of}
+use Rattle.corr_top.specs.OnDisk.{IsOnDisk}
 use Rattle.corr_top.specs.Samples.{sample_accounts, sample_bics, sample_ccys, sample_countries, sample_day, sample_home, sample_ssi}
 
 -- a source in memory that gives these bytes, and never fails
@@ -49,6 +51,12 @@ sample_directory = record { tables = sample_tables; ssi = map instruction_of (ro
 -- the accounts of its book
 unfoldable pub sample_chart : Chart
 sample_chart = record { home = sample_home; accounts = map opened (map (account_of sample_tables) (rows_of sample_accounts)) }
+
+-- a disk that tells its bytes, on which its new journal stands alone, and which hasn't failed
+pub record IsNewDisk {D : Type 0} (d : disks.Ghosts D) (disk : D) : Type 0 where
+  pub honest : IsTrue (d.honest disk)
+  pub holds : IsOnDisk d disk sample_chart []
+  pub faults : d.faults disk ≡ 0
 
 -- the pays that the messages of a generated day ask for, in their order
 abbrev pub trial_pays : ℕ → ℕ → List Pay

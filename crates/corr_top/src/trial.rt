@@ -12,7 +12,7 @@ ghost use Rattle.ssi_versions.specs.InstructionList.{AreInstructions};
 ghost use Rattle.corr_top.specs.MessageFile.{IsMessageFile};
 ghost use Rattle.corr_top.specs.OnDisk.{IsOnDisk};
 ghost use Rattle.corr_top.specs.Samples.{sample_day};
-ghost use Rattle.corr_top.specs.Trial.{AreSampleFiles, GivesTrial, IsBooked, IsSettled, IsTrial, IsWhole, ServesTrial, StaysWithin, gives, sample_chart, sample_directory};
+ghost use Rattle.corr_top.specs.Trial.{AreSampleFiles, GivesTrial, IsBooked, IsNewDisk, IsSettled, IsTrial, IsWhole, ServesTrial, StaysWithin, gives, sample_chart, sample_directory};
 
 use crate::cutting::cut_file;
 use crate::directory::{Directory, read_directory};
@@ -81,9 +81,7 @@ fn sample_head(alloc: Global) -> Result<Text, Memory>
 
 /// A disk in memory with a new journal of the sample bank. Where the disk fails, memory is wanting.
 fn sample_disk(alloc: Global) -> Result<MemDisk, Memory>
-    ensures honest { IfOk result (λ disk. IsTrue (⟦<MemDisk as Disk>⟧.honest disk)) }
-    ensures holds { IfOk result (λ disk. IsOnDisk ⟦<MemDisk as Disk>⟧ disk sample_chart []) }
-    ensures faults { IfOk result (λ disk. ⟦<MemDisk as Disk>⟧.faults disk ≡ 0) }
+    ensures new { IfOk result (IsNewDisk ⟦<MemDisk as Disk>⟧) }
     ensures journal { IfOk result (λ _. IsJournal sample_chart []) }
 {
     let head = sample_head(alloc)?;

@@ -1,5 +1,5 @@
 -- A generated day is a file of its messages, and of no others.
-use Rattle.std.proofs.Common.{◌≡◌, ℕ, zero, suc, ◌+◌, ◌-◌, ◌*◌, ◌<◌, ◌≤◌, ◌==◌, ◌||◌, ◌&&◌, Bool, true, false, List, [], ◌∷◌, ◌++◌, length, take, drop, Some, Result, Ok, nat_le, refl, sym, ap, ◌∙◌, subst, arith, rules, add-one, append_assoc, length-append, cond}
+use Rattle.std.proofs.Common.{◌≡◌, ℕ, zero, suc, ◌+◌, ◌-◌, ◌*◌, ◌<◌, ◌≤◌, Bool, true, false, List, [], ◌∷◌, ◌++◌, length, take, drop, Some, Result, Ok, nat_le, refl, sym, ap, ◌∙◌, subst, arith, add-one, append_assoc, length-append}
 use Rattle.std.specs.Prelude.{codes, not}
 use Rattle.std.specs.Char.{is_ascii_digit}
 use Rattle.std.specs.List.{list_all}
@@ -20,7 +20,7 @@ use Rattle.fin_frame.specs.File.IsFileOf.{start, more}
 use Rattle.fin_frame.proofs.laws.Showing.{cut-comes}
 use Rattle.corr_report.specs.declared.generator.Kind.{Kind}
 use Rattle.corr_report.specs.declared.generator.Kind.TheVariants.{Euros, PassedOn, Yen}
-use Rattle.corr_report.specs.Generated.{bank_of, ccy_of, decimals_of, ended, generated_of, generated_texts, heading_of, kind_of, minor_of, number_at, parties_of, payee_of, sender_of, terms_of, text_of}
+use Rattle.corr_report.specs.Generated.{ccy_of, decimals_of, ended, generated_of, generated_texts, heading_of, kind_of, minor_of, number_at, parties_of, sender_of, terms_of, text_of}
 use Rattle.corr_report.proofs.laws.Days.{generated_more, text_at, texts_more}
 
 -- bytes without braces

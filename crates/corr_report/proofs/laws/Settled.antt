@@ -1,26 +1,23 @@
 -- Where each account bears all debits of some pays, and all their credits, each pay is booked, in whatever order they come.
-use Rattle.std.proofs.Common.{◌≡◌, ◌≢◌, ℕ, ◌+◌, ◌<◌, ◌≤◌, Bool, true, false, List, [], ◌∷◌, ◌++◌, map, length, Option, Some, None, ℤ, pos, ◌+ℤ◌, ◌-ℤ◌, ◌≤ℤ◌, refl, sym, ap, ◌∙◌, subst, arith, cond, eqb, append_assoc}
-use Rattle.std.specs.Prelude.{int_le, is_some, slice_get, sum_by, unwrap_or}
-use Rattle.std.specs.List.{All, AllByRecursion, position_from}
-use Rattle.std.specs.Str.{bytes_eq}
+use Rattle.std.proofs.Common.{◌≡◌, ℕ, ◌+◌, ◌≤◌, Bool, true, false, List, [], ◌∷◌, ◌++◌, map, Some, ℤ, pos, ◌+ℤ◌, ◌-ℤ◌, ◌≤ℤ◌, refl, sym, ap, ◌∙◌, subst, arith, cond, append_assoc}
+use Rattle.std.specs.Prelude.{int_le, is_some, sum_by, unwrap_or}
+use Rattle.std.specs.List.{AllByRecursion}
 use Rattle.std.proofs.lemmas.Bool.{and_from, cond-false, eq-eqb, false≢true}
 use Rattle.std.proofs.lemmas.Int.{ints}
 use Rattle.std.proofs.lemmas.List.{append-nil}
 use Rattle.std.proofs.lemmas.List.Sums.{sum_by-append, sum_by-cons}
 use Rattle.corr_ids.specs.declared.day.Day.{Day}
-use Rattle.corr_ids.specs.declared.mir.Mir.{Mir}
 use Rattle.day_model.specs.declared.account.Account.{Account}
 use Rattle.day_model.specs.declared.entry.Entry.{Entry}
 use Rattle.day_model.specs.declared.entry.Outcome.{Outcome}
 use Rattle.day_model.specs.declared.entry.Outcome.TheVariants.{Booked, Unfunded}
-use Rattle.day_model.specs.declared.pay.Leg.{Leg}
 use Rattle.day_model.specs.declared.pay.Pay.{Pay}
 use Rattle.day_model.specs.declared.pay.Side.{Side}
 use Rattle.day_model.specs.declared.pay.Side.TheVariants.{Debit, Credit}
-use Rattle.day_model.specs.Balance.{balance_of, changed, credits_of, debits_of, is_within, leg_tests, moved, moved_by, opening_of, outcome_of}
-use Rattle.day_model.specs.Chart.{Chart, IsListed, account_at}
+use Rattle.day_model.specs.Balance.{balance_of, changed, credits_of, debits_of, is_within, leg_tests, moved_by, opening_of, outcome_of}
+use Rattle.day_model.specs.Chart.{Chart, account_at}
 use Rattle.day_model.specs.Fit.{FitsAccounts}
-use Rattle.day_model.specs.Next.{entered_at, entry_of, fold_of, has_mir, next_history}
+use Rattle.day_model.specs.Next.{entered_at, entry_of, fold_of, next_history}
 use Rattle.day_model.proofs.laws.Balances.{credits_moved, debits_moved, listed_account}
 use Rattle.day_model.proofs.laws.Fitting.{Transfer, transfer}
 use Rattle.corr_text.specs.First.{first_of, unless}

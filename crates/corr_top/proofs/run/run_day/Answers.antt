@@ -1,4 +1,4 @@
-use Rattle.std.proofs.Common.{◌≡◌, ◌≤◌, ◌<◌, ℕ, List, ◌++◌, inl, ap, arith, sym, subst, length, ◌∙◌, length-append}
+use Rattle.std.proofs.Common.{◌≡◌, ◌≤◌, ℕ, List, ◌++◌, inl, ap, arith, sym, subst, length, ◌∙◌, length-append}
 use Rattle.std.proofs.lemmas.List.{length-map}
 use Rattle.corr_books.specs.Opening.{Parts, opening_of}
 use Rattle.corr_disk.specs.declared.disk.Disk as disks

@@ -1,4 +1,4 @@
-use Rattle.std.proofs.Common.{◌≡◌, ℕ, List, Some, arith, subst}
+use Rattle.std.proofs.Common.{◌≡◌, List, Some, arith, subst}
 use Rattle.day_model.specs.Totals.{Pair, pair_at}
 use Rattle.corr_top.proofs.Trying.{settled_all, settled_next}
 use Rattle.corr_top.proofs.trial.is_settled.Goals as goal

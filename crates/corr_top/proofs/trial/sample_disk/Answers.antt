@@ -8,11 +8,10 @@ use Rattle.corr_top.proofs.trial.sample_disk.Goals as goal
 pub make-disk-requires : goal.make-disk-requires
 make-disk-requires c = subst (λ (h : List ℕ). length h ≤ 1048576) (sym c.in_ok-head.ensures.0) (few_in_head sample_chart c.in_ok-head.ensures.1)
 
-pub returns-in-Ok-clause-holds : goal.returns-in-Ok-clause-holds
-returns-in-Ok-clause-holds c = (made_new _ c.new-empty.result c.make-disk.result.0 c.in_ok-head.head c.make-disk.result.1 c.in-Ok.is c.make-disk.ensures.made sample_chart c.in_ok-head.ensures.0).0
-
-pub returns-in-Ok-clause-faults : goal.returns-in-Ok-clause-faults
-returns-in-Ok-clause-faults c = (made_new _ c.new-empty.result c.make-disk.result.0 c.in_ok-head.head c.make-disk.result.1 c.in-Ok.is c.make-disk.ensures.made sample_chart c.in_ok-head.ensures.0).1 ∙ c.new-empty.ensures.faults
+pub returns-in-Ok-clause-new : goal.returns-in-Ok-clause-new
+returns-in-Ok-clause-new c =
+    made_new _ c.new-empty.result c.make-disk.result.0 c.in_ok-head.head c.make-disk.result.1 c.in-Ok.is c.make-disk.ensures.made c.in_ok-head.ensures.0
+    (c.make-disk.ensures.honest ∙ c.new-empty.ensures.honest) c.new-empty.ensures.faults
 
 pub returns-in-Ok-clause-journal : goal.returns-in-Ok-clause-journal
 returns-in-Ok-clause-journal c = new_journal sample_chart c.in_ok-head.ensures.1

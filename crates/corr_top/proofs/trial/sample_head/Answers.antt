@@ -1,7 +1,7 @@
 use Rattle.std.proofs.Common.{◌∙◌, ap, refl, subst, sym}
 use Rattle.corr_ids.specs.Bic.{IsBic}
 use Rattle.jrn_codec.specs.Header.{IsHead, head_bytes}
-use Rattle.corr_top.proofs.Sampling.{chart_sampled}
+use Rattle.corr_top.proofs.Sampling.{chart_sampled, home_formed}
 use Rattle.corr_top.proofs.trial.sample_head.Goals as goal
 
 pub returns-in-Ok : goal.returns-in-Ok
@@ -11,4 +11,4 @@ returns-in-Ok c =
     (fine.3 ∙ ap head_bytes same, subst IsHead same fine.2)
 
 pub prepare-requires : goal.prepare-requires
-prepare-requires c = subst IsBic (sym c.sample_home.ensures) refl
+prepare-requires c = subst IsBic (sym c.sample_home.ensures) home_formed

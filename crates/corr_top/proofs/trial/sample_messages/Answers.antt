@@ -1,4 +1,4 @@
-use Rattle.std.proofs.Common.{◌∙◌, ◌*◌, ◌≤◌, List, ℕ, ap, arith, length, subst, sym}
+use Rattle.std.proofs.Common.{◌∙◌, ◌*◌, ◌≤◌, List, ℕ, arith, length, subst, sym}
 use Rattle.corr_top.specs.MessageFile.{IsMessageFile}
 use Rattle.corr_report.proofs.laws.DayFile.{day_short}
 use Rattle.corr_top.proofs.trial.sample_messages.Goals as goal
