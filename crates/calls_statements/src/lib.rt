@@ -1,7 +1,9 @@
-//! Each public call of statement once, on a small value.
+//! Each public call of statement and of reconcile once, on a small value.
 #![tactic(auto)]
 
 #[cfg(test)]
 mod given;
+#[cfg(test)]
+mod received;
 #[cfg(test)]
 mod statements;

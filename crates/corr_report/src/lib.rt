@@ -16,3 +16,4 @@ pub use entries::bookings;
 pub use generator::generated;
 pub use replies::{put_reply_line, report};
 pub use summing::summary;
+pub use words::{put_amount, put_balance, put_number, put_word};

@@ -9,29 +9,24 @@ use corr_money::{Minor, put_15d, put_signed, put_total};
 use corr_text::{Memory, Text, put_digits};
 use std::alloc::Global;
 
-/// Adds a space and a word.
-pub(crate) fn put_word(word: &[u8], out: &mut Text) -> Result<(), Memory>
+/// Adds a space and a word. `Memory`: there was no room.
+pub fn put_word(word: &[u8], out: &mut Text) -> Result<(), Memory>
     ensures { OnOk result (out.new ≡ out.old ++ 32 ∷ word.now) }
 {
     out.push(b" ")?;
     out.push(word)
 }
 
-/// Adds a space and a number, with zeros before it up to a width.
-pub(crate) fn put_number(alloc: Global, n: u64, width: u8, out: &mut Text) -> Result<(), Memory>
+/// Adds a space and a number, with zeros before it up to a width. `Memory`: there was no room.
+pub fn put_number(alloc: Global, n: u64, width: u8, out: &mut Text) -> Result<(), Memory>
     ensures { OnOk result (out.new ≡ out.old ++ 32 ∷ padded width n) }
 {
     out.push(b" ")?;
     put_digits(alloc, n, width, out)
 }
 
-/// Adds a space and an amount.
-pub(crate) fn put_amount(
-    alloc: Global,
-    m: Minor,
-    decimals: u8,
-    out: &mut Text,
-) -> Result<(), Memory>
+/// Adds a space and an amount in minor units, with so many decimals. `Memory`: there was no room.
+pub fn put_amount(alloc: Global, m: Minor, decimals: u8, out: &mut Text) -> Result<(), Memory>
     requires decimals { decimals ≤ 4 }
     requires bound { m.0 < amount_end }
     ensures { OnOk result (out.new ≡ out.old ++ 32 ∷ amount_text decimals m.0) }
@@ -40,13 +35,8 @@ pub(crate) fn put_amount(
     put_15d(alloc, m, decimals, out)
 }
 
-/// Adds a space and a balance.
-pub(crate) fn put_balance(
-    alloc: Global,
-    balance: i64,
-    decimals: u8,
-    out: &mut Text,
-) -> Result<(), Memory>
+/// Adds a space and a balance in minor units, with so many decimals; one below 0 has a `-`. `Memory`: there was no room.
+pub fn put_balance(alloc: Global, balance: i64, decimals: u8, out: &mut Text) -> Result<(), Memory>
     requires { decimals ≤ 4 }
     ensures { OnOk result (out.new ≡ out.old ++ 32 ∷ signed_text decimals balance) }
 {

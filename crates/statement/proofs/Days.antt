@@ -1,17 +1,20 @@
 -- Days that never fall: those of entries, and of their movements.
-use Rattle.std.proofs.Common.{◌≡◌, ℕ, zero, suc, ◌<◌, Bool, true, false, List, [], ◌∷◌, ◌++◌, map, Some, refl, sym, ap, ◌∙◌, subst, arith, inl, inr, ◌≤ℤ◌, ℤ, append_assoc}
+use Rattle.std.proofs.Common.{◌≡◌, ℕ, zero, suc, ◌<◌, Bool, true, false, List, [], ◌∷◌, ◌++◌, map, Some, refl, sym, ap, ◌∙◌, subst, arith, inl, inr, pos, ◌+ℤ◌, ◌≤ℤ◌, ℤ, append_assoc}
 use Rattle.std.specs.Prelude.{slice_get, int_lt, int_le}
 use Rattle.std.specs.List.{filter}
 use Rattle.std.proofs.lemmas.Bool.{cases_Bool}
 use Rattle.std.proofs.lemmas.Int.{ints}
 use Rattle.std.proofs.lemmas.List.{append-nil}
+use Rattle.std.proofs.lemmas.List.Elements.{filter_agree}
 use Rattle.std.proofs.lemmas.Option.{none-some, same_Some}
+use Rattle.corr_ids.specs.declared.day.Day.{Day}
 use Rattle.day_model.specs.Balance.{balance_of}
 use Rattle.day_model.specs.Chart.{Chart}
 use Rattle.day_model.specs.declared.entry.Entry.{Entry}
 use Rattle.day_model.specs.declared.pay.Leg.{Leg}
 use Rattle.statement.specs.Index.{last_balance, movement_of, movements_from}
-use Rattle.statement.specs.Legs.{legs_on}
+use Rattle.statement.specs.Legs.{before_day, legs_on}
+use Rattle.statement.specs.Lines.{up_to_day}
 use Rattle.statement.specs.declared.movement.Movement.{Movement}
 use Rattle.statement.proofs.Moves.{entry-last, last-append}
 
@@ -129,3 +132,10 @@ module _ (chart : Chart) (n : ℕ) (test : ℤ → Bool) (down : Down test) wher
             ∙ ap (λ (es : List Entry). balance_of chart es n) (sym (append-nil before) ∙ ap (λ (es : List Entry). before ++ es) (sym (none-from entry_day test down entry.day.0 entries unmet up.0)))
             ∙ rw unmet refl
       ]
+
+-- the entries up to a day are those before the next one
+until : (a day : ℤ) → int_lt a (day +ℤ pos 1) ≡ int_le a day
+until a day = grind (arith, ints)
+
+pub up-to-before : (day : Day) (entries : List Entry) → before_day (record { 0 = day.0 +ℤ pos 1 }) entries ≡ up_to_day day entries
+up-to-before day entries = filter_agree (λ (e : Entry). int_lt e.day.0 (day.0 +ℤ pos 1)) (λ (e : Entry). int_le e.day.0 day.0) (λ e. until e.day.0 day.0) entries

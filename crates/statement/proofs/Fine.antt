@@ -31,9 +31,9 @@ use Rattle.advices.proofs.laws.Bytes.{day-digits}
 use Rattle.mt950.specs.Parts.{is_entry_type}
 use Rattle.mt950.specs.Writing.{IsWritableLine}
 use Rattle.statement.specs.Legs.{HasQuotes, IsByteQuote, before_day, legs_on, quote_text}
-use Rattle.statement.specs.Lines.{Placed, entry_lines, kind_of, line_of, lines_from, mmdd_of}
+use Rattle.statement.specs.Lines.{Placed, entry_lines, kind_of, line_of, lines_from, mmdd_of, up_to_day}
 use Rattle.statement.specs.Pages.{balance_after}
-use Rattle.statement.proofs.DayParts.{before-is, parts}
+use Rattle.statement.proofs.DayParts.{before-is, parts, up-to-is}
 use Rattle.statement.proofs.Days.{entry_day, rising}
 use Rattle.statement.proofs.Walking.{OneLeg}
 use Rattle.statement.proofs.Words.{IsQuoted, dropped, ended, quoted-ours, quoted-own, quoted-theirs}
@@ -165,13 +165,22 @@ abs-small (pos k) small = grind (arith, ints)
 abs-small (negsuc k) small = grind (arith, ints)
 
 module _ (chart : Chart) (entries : List Entry) (n : ℕ) (day : Day) (is : IsChart chart) (legal : IsLegal chart entries) (listed : IsListed chart n) where
-  before-small : IsSmall (balance_of chart (before_day day entries) n)
+  pub before-small : IsSmall (balance_of chart (before_day day entries) n)
   before-small =
       let (earlier, here, later, are) = parts day entries (rising entry_day entries legal.days) in
       let front : take (length earlier) entries ≡ earlier = ap (take (length earlier)) (are.whole ∙ append_assoc earlier here later) ∙ take_at earlier (here ++ later) (length earlier) refl in
       let size = length-append earlier (here ++ later) in
       let whole = ap length (are.whole ∙ append_assoc earlier here later) in
       subst (λ (es : List Entry). IsSmall (balance_of chart es n)) (front ∙ sym (before-is day entries earlier here later are)) (small_at chart entries n (length earlier) is legal listed (omega (arith, size, whole)))
+
+  pub up-to-small : IsSmall (balance_of chart (up_to_day day entries) n)
+  up-to-small =
+      let (earlier, here, later, are) = parts day entries (rising entry_day entries legal.days) in
+      let front : take (length (earlier ++ here)) entries ≡ earlier ++ here = ap (take (length (earlier ++ here))) are.whole ∙ take_at (earlier ++ here) later (length (earlier ++ here)) refl in
+      let size = length-append (earlier ++ here) later in
+      let whole = ap length are.whole in
+      subst (λ (es : List Entry). IsSmall (balance_of chart es n)) (front ∙ sym (up-to-is day entries earlier here later are))
+      (small_at chart entries n (length (earlier ++ here)) is legal listed (omega (arith, size, whole)))
 
   pub after-small : (decimals : ℕ) (ps : List Placed) → AllByRecursion (IsFine decimals (length entries)) ps → IsSmall (balance_after chart entries n day ps)
   after-small decimals [] all = before-small

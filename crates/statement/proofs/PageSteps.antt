@@ -15,10 +15,10 @@ use Rattle.statement.specs.Index.{last_balance, ledger_with, movements_of, on_da
 use Rattle.statement.specs.Legs.{before_day}
 use Rattle.statement.specs.Lines.{lines_on}
 use Rattle.statement.specs.Pages.{balance_after, carried, day_before, lines_of_page, page_at, page_reference, pages_for, pages_from}
-use Rattle.statement.specs.Running.{line_by, page_by}
+use Rattle.statement.specs.Running.{line_by, page_by, placed_by}
 use Rattle.statement.specs.declared.movement.Movement.{Movement}
 use Rattle.statement.proofs.Moves.{last-append}
-use Rattle.statement.proofs.Running.{balance-by, lines-are, moves-tell, placed_by, tells-filter, tells-take}
+use Rattle.statement.proofs.Running.{balance-by, lines-are, moves-tell, tells-filter, tells-take}
 
 map-map : {A B C : Type 0} (f : A → B) (g : B → C) (xs : List A) → map g (map f xs) ≡ map (λ x. g (f x)) xs
 map-map f g [] = refl

@@ -14,12 +14,8 @@ use Rattle.statement.specs.Index.{last_balance, movement_of, movements_from, on_
 use Rattle.statement.specs.Legs.{before_day, legs_on}
 use Rattle.statement.specs.Lines.{Placed, line_of, lines_from}
 use Rattle.statement.specs.Pages.{balance_after}
-use Rattle.statement.specs.Running.{line_by}
+use Rattle.statement.specs.Running.{placed_by}
 use Rattle.statement.specs.declared.movement.Movement.{Movement}
-
--- a movement as a line with its place
-abbrev pub placed_by : Movement → Placed
-placed_by movement = record { place = movement.place; line = line_by movement }
 
 same-day : (a b : Day) → int_eq a.0 b.0 ≡ true → a ≡ b
 same-day a b e = let same : a.0 ≡ b.0 = grind (arith, ints) in λ i. record { 0 = same i }

@@ -1,3 +1,5 @@
 pub mod Accepting
+pub mod Balances
 pub mod Closing
+pub mod Placing
 pub mod Readable

@@ -1,5 +1,5 @@
 -- The lines of an account's statement.
-use Rattle.std.specs.Prelude.{ℕ, ◌+◌, List, [], ◌∷◌, ◌++◌, drop, map, Some, None, codes, int_le, if◌then◌else◌}
+use Rattle.std.specs.Prelude.{ℕ, ◌+◌, ◌≤◌, List, [], ◌∷◌, ◌++◌, drop, map, Some, None, codes, int_le, if◌then◌else◌}
 use Rattle.std.specs.Ordering.{int_eq}
 use Rattle.std.specs.List.{filter}
 use Rattle.corr_text.specs.Digits.{padded}
@@ -70,3 +70,12 @@ lines_from n day place (entry ∷ entries) = entry_lines n day place entry ++ li
 -- the lines of account n on a day: the entries of that day that are booked on it, in the order of the journal
 abbrev pub lines_on : ℕ → Day → List Entry → List Placed
 lines_on n day entries = lines_from n day 1 entries
+
+-- the numbers of what is in a list rise, from this one on
+abbrev pub RiseFrom : {A : Type 0} → (A → ℕ) → ℕ → List A → Type 0
+RiseFrom number low [] = Unit {0}
+RiseFrom number low (x ∷ xs) = (low ≤ number x) × RiseFrom number (number x + 1) xs
+
+-- the places of lines rise
+abbrev pub PlacesFrom : ℕ → List Placed → Type 0
+PlacesFrom low ps = RiseFrom (λ p. p.place) low ps

@@ -9,7 +9,7 @@ use Rattle.mt950.specs.declared.balance.Balance.{Balance}
 use Rattle.mt950.specs.declared.entry.Line61.{Line61}
 use Rattle.mt950.specs.declared.page.Page950.{Page950}
 use Rattle.statement.specs.Index.{last_balance}
-use Rattle.statement.specs.Lines.{kind_of, statement_mark, mmdd_of, own_reference}
+use Rattle.statement.specs.Lines.{Placed, kind_of, statement_mark, mmdd_of, own_reference}
 use Rattle.statement.specs.Pages.{day_before, page_reference}
 use Rattle.statement.specs.declared.ledger.Ledger.{Ledger}
 use Rattle.statement.specs.declared.movement.Movement.{Movement}
@@ -28,6 +28,10 @@ line_by movement = record {
   servicer = Some (own_reference movement.place);
   detail = None;
 }
+
+-- a movement as a line with its place
+abbrev pub placed_by : Movement → Placed
+placed_by movement = record { place = movement.place; line = line_by movement }
 
 -- the opening of a page: of the first page with the day before and the letter F
 abbrev pub opening_by : Heading → ℤ → Balance

@@ -1,15 +1,18 @@
 //! An index of a history by its accounts.
 
 ghost use Rattle.std.specs.Prelude.{◌≡◌, ◌<◌, ◌-◌, [], ◌∷◌, ◌++◌, true, All, IfOk, OnErr, OnOk, Some, length, map, slice_get};
+ghost use Rattle.corr_ids.specs.Day.{InCentury};
 ghost use Rattle.corr_money.specs.Amounts.{amount_end};
 ghost use Rattle.day_model.specs.Balance.{balance_of, is_booked};
 ghost use Rattle.day_model.specs.Chart.{IsChart, IsListed};
 ghost use Rattle.day_model.specs.Legal.{IsLegal};
 ghost use Rattle.statement.specs.Index.{AreLedgersOf, HasAccount, HasCode, IsIndexOf, TakesNext, grown, ledger_with, movement_of};
 ghost use Rattle.statement.specs.Legs.{HasQuotes, IsByteQuote, before_day, legs_on};
+ghost use Rattle.statement.specs.Lines.{lines_on, up_to_day};
+ghost use Rattle.statement.specs.Running.{placed_by};
 ghost use Rattle.statement.specs.Seen.{SeenBook};
 
-use crate::ledger::{Ledger, at, push, undo};
+use crate::ledger::{Ledger, at, day_after, push, undo};
 use crate::movement::Movement;
 use crate::references::quote_text;
 use corr_ids::{Bic, Day};
@@ -145,5 +148,23 @@ impl HistoryIndex {
         ensures { (book : SeenBook) → HasAccount self.now n.0 book → result ≡ balance_of book.chart (before_day day book.entries) n.0 }
     {
         self.ledger(n).balance_before(day)
+    }
+
+    /// The balance of an account by the entries up to a day, in minor units. Takes no memory.
+    pub fn balance_up_to(&self, n: AcctNo, day: Day) -> i64
+        requires account { (book : SeenBook) × HasAccount self.now n.0 book }
+        requires day { InCentury day }
+        ensures { (book : SeenBook) → HasAccount self.now n.0 book → result ≡ balance_of book.chart (up_to_day day book.entries) n.0 }
+    {
+        self.ledger(n).balance_before(day_after(day))
+    }
+
+    /// What is booked on an account on a day, in the order of the journal. Takes no memory.
+    pub fn booked_on(&self, n: AcctNo, day: Day) -> &[Movement]
+        requires account { (book : SeenBook) × HasAccount self.now n.0 book }
+        requires day { InCentury day }
+        ensures { (book : SeenBook) → HasAccount self.now n.0 book → map placed_by result.now ≡ lines_on n.0 day book.entries }
+    {
+        self.ledger(n).on(day)
     }
 }

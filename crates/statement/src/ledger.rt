@@ -92,7 +92,7 @@ impl Ledger {
 }
 
 /// The day after a day.
-fn day_after(day: Day) -> Day
+pub fn day_after(day: Day) -> Day
     requires { InCentury day }
     ensures { result ≡ record { 0 = day.0 +ℤ pos 1 } }
 {

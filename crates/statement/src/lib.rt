@@ -10,4 +10,5 @@ mod paging;
 mod references;
 
 pub use index::HistoryIndex;
+pub use movement::Movement;
 pub use paging::{pages, pages_with};

@@ -21,6 +21,7 @@ use Rattle.fin_contents.specs.Writing.{IsReadable}
 use Rattle.day_model.specs.Chart.{Chart, IsFormed, account_at}
 use Rattle.day_model.specs.declared.account.Account.{Account}
 use Rattle.day_model.specs.declared.entry.Entry.{Entry}
+use Rattle.day_model.proofs.laws.Balances.{listed_account}
 use Rattle.mt950.specs.Page.{mt950_of}
 use Rattle.mt950.specs.Writing.{IsBalance, IsContinued, IsWritableLine, IsPage}
 use Rattle.mt950.proofs.laws.Pages.{page-given}
@@ -53,6 +54,10 @@ all-get : {A : Type 0} (P : A → Type 0) (xs : List A) (i : ℕ) (x : A) → Al
 all-get P [] i x all at = absurd (cc at)
 all-get P (y ∷ xs) zero x all at = subst P (cc at) all.0
 all-get P (y ∷ xs) (suc i) x all at = all-get P xs i x all.1 at
+
+all-written : (decimals most : ℕ) (ps : List Placed) → AllByRecursion (IsFine decimals most) ps → AllByRecursion (λ (p : Placed). IsWritableLine decimals p.line) ps
+all-written decimals most [] all = tt
+all-written decimals most (p ∷ ps) all = (all.0.entry, all-written decimals most ps all.1)
 
 -- ---- days
 
@@ -154,3 +159,9 @@ module _ (book : SeenBook) (n : ℕ) (day : Day) (is : IsPrintable book n day) w
         let few : IsTrue (few_decimals t.ccys) = rw (le-leb account.decimals 4 formed.decimals) refl in
         page-given t (page_at chart entries n day account k) few (page-written t k known low)
         (All-from_recursion IsContinued _ (all-map (IsFine account.decimals (length entries)) IsContinued (λ p. p.line) (λ p fine. rw fine.plain tt) (lines_of_page k lines) (page-lines k)))
+
+-- each line of a day can be written
+pub lines-written : (book : SeenBook) (n : ℕ) (day : Day) → IsPrintable book n day → (decimals : ℕ) × AllByRecursion (λ (p : Placed). IsWritableLine decimals p.line) (lines_on n day book.entries)
+lines-written book n day is =
+    let account = listed_account book.chart n is.listed in
+    (account.0.decimals, all-written account.0.decimals (length book.entries) (lines_on n day book.entries) (all-fine book n day is account.0 account.1))

@@ -1,0 +1,40 @@
+-- The account that a statement is of.
+use Rattle.std.proofs.Common.{◌≡◌, Bool, true, false, cond, List, Option, Some, None, ap, ◌∙◌, arith}
+use Rattle.std.specs.Prelude.{option_and_then, option_map}
+use Rattle.std.specs.List.{position_from}
+use Rattle.std.specs.Option.{option_map_or}
+use Rattle.std.proofs.lemmas.Option.{same_Some}
+use Rattle.day_model.specs.declared.account.Account.{Account}
+use Rattle.day_model.specs.declared.account.AcctNo.{AcctNo}
+use Rattle.day_model.specs.Chart.{Chart, IsListed, account_at, has_id, number_of_first}
+use Rattle.day_model.proofs.laws.Places.{position_from-within}
+use Rattle.mt950.specs.declared.joining.Statement.{Statement}
+use Rattle.reconcile.specs.Breaks.{is_of_statement, nostro_of}
+
+place-of : (t : Account → Bool) (accounts : List Account) (n : AcctNo) → number_of_first t accounts ≡ Some n → position_from t 1 accounts ≡ Some n.0
+place-of t accounts n e =
+    elim (position_from t 1 accounts) as (λ o. option_map (λ k. record { 0 = k }) o ≡ Some n → o ≡ Some n.0) [
+      | Some k ↦ λ h. let s : record { 0 = k } ≡ n = same_Some _ _ h in ap (λ (m : AcctNo). Some m.0) s
+      | None ↦ λ h. cc
+    ] e
+
+-- an account that is found is there
+pub listed : (t : Account → Bool) (chart : Chart) (n : AcctNo) → number_of_first t chart.accounts ≡ Some n → IsListed chart n.0
+listed t chart n e = let w = position_from-within t 1 n.0 chart.accounts (place-of t chart.accounts n e) in (omega arith, omega arith)
+
+module _ (chart : Chart) (s : Statement) where
+  abbrev if-of : AcctNo → Option AcctNo
+  if-of n = cond (option_map_or (is_of_statement s) (account_at chart n.0) false) (Some n) None
+
+  pub nostro-none : number_of_first (has_id s.account) chart.accounts ≡ None → nostro_of chart s ≡ None
+  nostro-none e = ap (option_and_then if-of) e
+
+  nostro-if : (n : AcctNo) (x : Account) (b : Bool) → number_of_first (has_id s.account) chart.accounts ≡ Some n → account_at chart n.0 ≡ Some x → is_of_statement s x ≡ b → nostro_of chart s ≡ cond b (Some n) None
+  nostro-if n x b e at is =
+      ap (option_and_then if-of) e ∙ ap (λ (o : Option Account). cond (option_map_or (is_of_statement s) o false) (Some n) None) at ∙ ap (λ (c : Bool). cond c (Some n) None) is
+
+  pub nostro-other : (n : AcctNo) (x : Account) → number_of_first (has_id s.account) chart.accounts ≡ Some n → account_at chart n.0 ≡ Some x → is_of_statement s x ≡ false → nostro_of chart s ≡ None
+  nostro-other n x e at is = nostro-if n x false e at is
+
+  pub nostro-some : (n : AcctNo) (x : Account) → number_of_first (has_id s.account) chart.accounts ≡ Some n → account_at chart n.0 ≡ Some x → is_of_statement s x ≡ true → nostro_of chart s ≡ Some n
+  nostro-some n x e at is = nostro-if n x true e at is

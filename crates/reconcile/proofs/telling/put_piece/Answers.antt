@@ -1,0 +1,34 @@
+use Rattle.std.proofs.Common.{◌-◌, ◌<◌, length, subst, sym, arith}
+use Rattle.std.proofs.lemmas.Result.{on_ok_weaker}
+use Rattle.fin_contents.specs.Writing.{IsReadable}
+use Rattle.mt950.specs.Joining.{joined_of}
+use Rattle.mt950.specs.Page.{mt950_of}
+use Rattle.reconcile.proofs.Bounded.{page-day, page-decimals}
+use Rattle.reconcile.proofs.Printed.{all-fault, all-joined, meant-fault}
+use Rattle.reconcile.proofs.telling.put_piece.Goals as goal
+
+pub put_heading-requires : goal.put_heading-requires
+put_heading-requires c =
+    let pages = c.args.pages.now in
+    let last = c.index-pages-pages.result in
+    let lt : length pages - 1 < length pages = omega (arith, c.in-len1-up.len_at_least) in
+    page-day last (subst (IsReadable mt950_of) (sym c.index-pages-pages.is) (c.requires.given (length pages - 1) last lt))
+
+pub put_fault-requires : goal.put_fault-requires
+put_fault-requires c =
+    let first = c.first-item.result in
+    let lt : 0 < length c.args.pages.now = omega (arith, c.in-len1-up.len_at_least) in
+    page-decimals first (subst (IsReadable mt950_of) (sym c.first-item.is) (c.requires.given 0 first lt))
+
+pub returns-in-Ok : goal.returns-in-Ok
+returns-in-Ok c =
+    on_ok_weaker c.put_statement.result (λ put book tells.
+    all-joined book.chart book.entries c.args.out.now c.put_heading.new.out c.put_statement.new.out c.args.pages.now c.index-pages-pages.result c.in-len1-up.len_at_least c.index-pages-pages.is
+    c.in-Ok.statement c.in_ok-put_heading.ensures c.in-Ok.ensures.joined (put book tells)) c.put_statement.ensures
+
+pub returns-in_ok-put_fault-in-Err : goal.returns-in_ok-put_fault-in-Err
+returns-in_ok-put_fault-in-Err c =
+    on_ok_weaker c.push.result (λ put book tells.
+    all-fault book.chart book.entries c.args.out.now c.put_heading.new.out c.push.new.self c.args.pages.now c.first-item.result c.index-pages-pages.result c.in-len1-up.len_at_least c.first-item.is c.index-pages-pages.is
+    c.in-Err.fault c.put_fault.new.out c.in_ok-put_heading.ensures (meant-fault (joined_of c.args.pages.now) c.in-Err.fault c.in-Err.ensures.joined c.in_ok-put_fault-in-Err.ensures.told)
+    c.in_ok-put_fault-in-Err.ensures.words put) c.push.ensures.ok

@@ -1,0 +1,58 @@
+-- What is told of the pages that were received.
+use Rattle.std.specs.Prelude.{ℕ, ◌==◌, ◌&&◌, Bool, false, List, [], ◌∷◌, ◌++◌, codes, Option, Some, None, option_and_then, Result, Ok, Err, if◌then◌else◌}
+use Rattle.std.specs.List.{flat_map}
+use Rattle.std.specs.Option.{option_map_or}
+use Rattle.corr_ids.specs.Day.{yymmdd_of}
+use Rattle.corr_report.specs.Lines.{spaced}
+use Rattle.day_model.specs.Chart.{Chart, account_at, has_id, is_same_ccy, nostro, number_of_first}
+use Rattle.day_model.specs.declared.account.Account.{Account}
+use Rattle.day_model.specs.declared.account.AcctNo.{AcctNo}
+use Rattle.day_model.specs.declared.entry.Entry.{Entry}
+use Rattle.mt950.specs.Joining.{joined_of, last_of}
+use Rattle.mt950.specs.declared.joining.PageFault.{PageFault}
+use Rattle.mt950.specs.declared.joining.Statement.{Statement}
+use Rattle.mt950.specs.declared.page.Page950.{Page950}
+use Rattle.reconcile.specs.Comparison.{compared_of, ours_of}
+use Rattle.reconcile.specs.Lines.{compared_lines, fault_words}
+use Rattle.reconcile.specs.Pieces.{pieces_of}
+
+-- a line feed
+abbrev pub line_feed : List ℕ
+line_feed = 10 ∷ []
+
+-- an account is a nostro account in this currency, with these decimals
+abbrev pub is_of_statement : Statement → Account → Bool
+is_of_statement s account = (account.kind == nostro) && is_same_ccy account.ccy s.ccy && (account.decimals == s.decimals)
+
+-- our account of which a statement is: the one with its id, if it is such an account
+abbrev pub nostro_of : Chart → Statement → Option AcctNo
+nostro_of chart s =
+    option_and_then (λ n. if option_map_or (is_of_statement s) (account_at chart n.0) false then Some n else None) (number_of_first (has_id s.account) chart.accounts)
+
+-- its lines against our entries
+abbrev pub statement_lines : Chart → List Entry → Statement → AcctNo → List ℕ
+statement_lines chart entries s n =
+    line_feed ++ compared_lines s.decimals (ours_of n.0 entries s) s.lines (compared_of chart entries n.0 s)
+
+-- what is told of a statement after its name
+abbrev pub statement_text : Chart → List Entry → Statement → List ℕ
+statement_text chart entries s = option_map_or (statement_lines chart entries s) (nostro_of chart s) (spaced (codes "UNKNOWN" ∷ []) ++ line_feed)
+
+-- `STATEMENT NCORREUR 240603`, by the last page
+abbrev pub heading_of : Page950 → List ℕ
+heading_of page = codes "STATEMENT" ++ spaced (page.account ∷ yymmdd_of page.closing.day ∷ [])
+
+-- what is told of the pages after their name, with amounts of so many decimals where they are no statement
+abbrev pub joined_text : Chart → List Entry → ℕ → Result Statement PageFault → List ℕ
+joined_text chart entries decimals (Ok s) = statement_text chart entries s
+joined_text chart entries decimals (Err fault) = fault_words decimals fault ++ line_feed
+
+-- what is told of pages that belong together
+abbrev pub piece_text : Chart → List Entry → List Page950 → List ℕ
+piece_text chart entries [] = []
+piece_text chart entries (page ∷ pages) =
+    heading_of (last_of page pages) ++ joined_text chart entries page.decimals (joined_of (page ∷ pages))
+
+-- what is told of all pages, piece by piece
+abbrev pub breaks_of : Chart → List Entry → List Page950 → List ℕ
+breaks_of chart entries pages = flat_map (piece_text chart entries) (pieces_of pages)
