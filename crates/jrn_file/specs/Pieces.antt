@@ -1,5 +1,5 @@
 -- Bytes that are read piece by piece, and the records that are taken out of them.
-use Rattle.std.specs.Prelude.{◌≡◌, ◌⊎◌, ℕ, ◌+◌, ◌/◌, ◌<◌, ◌≤◌, Bool, IsTrue, List, [], ◌++◌, length, map, take, drop}
+use Rattle.std.specs.Prelude.{◌≡◌, ◌⊎◌, ℕ, ◌+◌, ◌/◌, ◌<◌, ◌≤◌, Bool, IsTrue, List, [], ◌++◌, length, map, take, drop, ◌^◌}
 use Rattle.jrn_file.specs.Journal.{behind_gates, AreOpen}
 
 -- a read that asked for so many bytes from this place on: n more are held, the next of the disk, and fewer only at its end
