@@ -17,14 +17,14 @@ use Rattle.fin_message.specs.Verdict.{ruled_of, transfer_of}
 use Rattle.fin_message.specs.declared.message.Message.{Message}
 use Rattle.fin_message.specs.declared.message.Message.TheVariants.{Transfer}
 
-once : {U : Type 0} (rules : Result U Fault) (m : Mt103) (made : Mt103 → Message) → (rules >>= λ _. Ok (made m)) ≡ ((rules >>= λ _. Ok m) >>= λ n. Ok (made n))
-once (Ok u) m made = refl
-once (Err fault) m made = refl
+once : {U : Type 0} (rules : Result U Fault) (m : Mt103) (whole : Mt103 → Message) → (rules >>= λ _. Ok (whole m)) ≡ ((rules >>= λ _. Ok m) >>= λ n. Ok (whole n))
+once (Ok u) m whole = refl
+once (Err fault) m whole = refl
 
-apart : {U : Type 0} (said : Result Mt103 Fault) (rules : Mt103 → Result U Fault) (made : Mt103 → Message)
-    → (said >>= λ m. rules m >>= λ _. Ok (made m)) ≡ ((said >>= λ m. rules m >>= λ _. Ok m) >>= λ n. Ok (made n))
-apart (Ok m) rules made = once (rules m) m made
-apart (Err fault) rules made = refl
+apart : {U : Type 0} (said : Result Mt103 Fault) (rules : Mt103 → Result U Fault) (whole : Mt103 → Message)
+    → (said >>= λ m. rules m >>= λ _. Ok (whole m)) ≡ ((said >>= λ m. rules m >>= λ _. Ok m) >>= λ n. Ok (whole n))
+apart (Ok m) rules whole = once (rules m) m whole
+apart (Err fault) rules whole = refl
 
 abbrev carried : Blocks → Mt103 → Message
 carried b m = Transfer (envelope_of b) b.text m
@@ -33,10 +33,10 @@ as-ruled : (t : Tables) (b : Blocks) → transfer_of t b ≡ (ruled_of t (envelo
 unfolding transfer_of ruled_of
 as-ruled t b = apart (mt103_of t (fields_of b.text)) (λ m. passed (all_rules (envelope_of b).sender (envelope_of b).receiver t m)) (carried b)
 
-fills-on : {B : Type 0} (result : Result B MtFault) (m : Mt103) (said : Result Mt103 Fault) (made : Mt103 → Message) → Fills result m said → Fills result (made m) (said >>= λ n. Ok (made n))
-fills-on (Ok b) m said made h = rw h refl
-fills-on (Err faults.Memory) m said made h = tt
-fills-on (Err (faults.Bad fault)) m said made h = rw h refl
+fills-on : {B : Type 0} (result : Result B MtFault) (m : Mt103) (said : Result Mt103 Fault) (whole : Mt103 → Message) → Fills result m said → Fills result (whole m) (said >>= λ n. Ok (whole n))
+fills-on (Ok b) m said whole h = rw h refl
+fills-on (Err faults.Memory) m said whole h = tt
+fills-on (Err (faults.Bad fault)) m said whole h = rw h refl
 
 pub carries : {B : Type 0} (t : Tables) (b : Blocks) (result : Result B MtFault) (m : Mt103) → Fills result m (ruled_of t (envelope_of b) (fields_of b.text)) → Fills result (carried b m) (transfer_of t b)
 carries t b result m h =

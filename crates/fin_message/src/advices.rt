@@ -35,7 +35,8 @@ pub fn read_debit(
     Ok(())
 }
 
-/// Puts the confirmation of a credit that a message with these fields says into `out`. `Bad`: the first test of its fields, or its rule.
+/// Puts the confirmation of a credit that a message with these fields says into `out`. `Bad`: the first test of its fields, or
+/// its rule.
 #[inline(never)]
 #[tactic(auto, unfolding(crate::specs::Verdict::credit_of))]
 pub fn read_credit(

@@ -16,7 +16,8 @@ use mt202cov::read_mt202cov;
 use ref_tables::RefTables;
 use std::alloc::Global;
 
-/// Puts the cover that a message with these fields says into `out`, but for its text. `Bad`: the first test of its fields, or the first of its rules.
+/// Puts the cover that a message with these fields says into `out`, but for its text. `Bad`: the first test of its fields, or
+/// the first of its rules.
 #[inline(never)]
 #[tactic(auto, unfolding(crate::specs::Verdict::cover_of))]
 pub fn read_cover(

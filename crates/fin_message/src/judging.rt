@@ -50,7 +50,7 @@ fn read_of_type(
     }
 }
 
-/// Puts the message that blocks say into `out`, but for its text. `Bad`: the first test behind those of the blocks that it
+/// Puts the message that blocks say into `out`, but for its text. `Bad`: the first test after those of the blocks that it
 /// fails.
 #[tactic(auto, unfolding(crate::specs::Verdict::message_of))]
 fn read_parts(
@@ -71,7 +71,7 @@ fn read_parts(
     read_of_type(alloc, t, blocks, fields.as_slice(), out)
 }
 
-/// Puts the message that blocks say into `out`. `Bad`: the first test behind those of the blocks that it fails.
+/// Puts the message that blocks say into `out`. `Bad`: the first test after those of the blocks that it fails.
 fn read_message(
     alloc: Global,
     way: Direction,

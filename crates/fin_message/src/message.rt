@@ -56,7 +56,8 @@ pub fn put_text(text: Text, message: &mut Message)
     ensures { message.new ≡ with_text text message.old }
 {
     match message {
-        Message::Transfer(_, place, _) | Message::Cover(_, place, _) => put(place, text),
+        Message::Transfer(_, place, _) => put(place, text),
+        Message::Cover(_, place, _) => put(place, text),
         Message::Debit(_, _) | Message::Credit(_, _) | Message::Page(_, _) => {}
     }
 }

@@ -16,7 +16,8 @@ use mt950::read_mt950;
 use ref_tables::RefTables;
 use std::alloc::Global;
 
-/// Puts the page of a statement that a message with these fields says into `out`. `Bad`: the first test of its fields, or of its currencies.
+/// Puts the page of a statement that a message with these fields says into `out`. `Bad`: the first test of its fields, or of its
+/// currencies.
 #[inline(never)]
 #[tactic(auto, unfolding(crate::specs::Verdict::page_of))]
 pub fn read_page(

@@ -42,6 +42,7 @@ fn make_transfer(alloc: Global, out: &mut Message)
 }
 
 /// Fills a transfer with what these fields say, and tests its rules.
+#[tactic(auto, unfolding(crate::specs::Verdict::ruled_of))]
 fn fill_transfer(
     alloc: Global,
     t: &RefTables,

@@ -31,37 +31,21 @@ pub fn fill_parties(
     ensures kept { OnOk result (m.new.instrs ≡ m.old.instrs) }
 {
     let party = KnownParty { tables };
-    put(
-        &mut m.payer,
-        read_one(alloc, &party, &ORDER, fields, found, PAYER)?,
-    );
-    put(
-        &mut m.p52,
-        read_optional(alloc, &party, fields, found, ORDERING)?,
-    );
-    put(
-        &mut m.p53,
-        read_optional(alloc, &party, fields, found, SENDERS_BANK)?,
-    );
-    put(
-        &mut m.p54,
-        read_optional(alloc, &party, fields, found, RECEIVERS_BANK)?,
-    );
-    put(
-        &mut m.p55,
-        read_optional(alloc, &party, fields, found, THIRD_BANK)?,
-    );
-    put(
-        &mut m.p56,
-        read_optional(alloc, &party, fields, found, INTERMEDIARY)?,
-    );
-    put(
-        &mut m.p57,
-        read_optional(alloc, &party, fields, found, ACCOUNT_BANK)?,
-    );
-    put(
-        &mut m.payee,
-        read_one(alloc, &party, &ORDER, fields, found, PAYEE)?,
-    );
+    let payer = read_one(alloc, &party, &ORDER, fields, found, PAYER)?;
+    put(&mut m.payer, payer);
+    let p52 = read_optional(alloc, &party, fields, found, ORDERING)?;
+    put(&mut m.p52, p52);
+    let p53 = read_optional(alloc, &party, fields, found, SENDERS_BANK)?;
+    put(&mut m.p53, p53);
+    let p54 = read_optional(alloc, &party, fields, found, RECEIVERS_BANK)?;
+    put(&mut m.p54, p54);
+    let p55 = read_optional(alloc, &party, fields, found, THIRD_BANK)?;
+    put(&mut m.p55, p55);
+    let p56 = read_optional(alloc, &party, fields, found, INTERMEDIARY)?;
+    put(&mut m.p56, p56);
+    let p57 = read_optional(alloc, &party, fields, found, ACCOUNT_BANK)?;
+    put(&mut m.p57, p57);
+    let payee = read_one(alloc, &party, &ORDER, fields, found, PAYEE)?;
+    put(&mut m.payee, payee);
     Ok(())
 }

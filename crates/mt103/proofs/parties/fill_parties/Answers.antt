@@ -19,20 +19,20 @@ seventh-fails : {A0 A1 A2 A3 A4 A5 A6 X B : Type 0} (e : MtFault) (r0 : Result A
 seventh-fails faults.Memory r0 r1 r2 r3 r4 r5 r6 more next a0 a1 a2 a3 a4 a5 h0 h1 h2 h3 h4 h5 h6 = tt
 seventh-fails (faults.Bad fault) r0 r1 r2 r3 r4 r5 r6 more next a0 a1 a2 a3 a4 a5 h0 h1 h2 h3 h4 h5 h6 = rw (h0, h1, h2, h3, h4, h5, h6) refl
 
-pub returns-in_err-read_optional-6-clause-value : goal.returns-in_err-read_optional-6-clause-value
+pub returns-in_err-p57-clause-value : goal.returns-in_err-p57-clause-value
 unfolding parties_into parties_of
-returns-in_err-read_optional-6-clause-value c =
+returns-in_err-p57-clause-value c =
     let t = c.args.tables.now in
     let fs = c.args.fields.now in
     let found = c.args.found.now in
     let party = known_party_of t in
-    let p = err_from_is_err_and c.from_residual-in_err-read_optional-6.result c.from_residual-in_err-read_optional-6.ensures.1 in
+    let p = err_from_is_err_and c.from_residual-in_err-p57.result c.from_residual-in_err-p57.ensures.1 in
     rw (p.1, p.2)
-    (seventh-fails c.in_err-read_optional-6.field-0.0
+    (seventh-fails c.in_err-p57.field-0.0
     (in_place order_103 fs found at_payer party) (in_option fs found at_ordering party) (in_option fs found at_senders_bank party) (in_option fs found at_receivers_bank party)
     (in_option fs found at_third_bank party) (in_option fs found at_intermediary party) (in_option fs found at_account_bank party)
     (λ payer p52 p53 p54 p55 p56 p57. in_place order_103 fs found at_payee party >>= λ payee. Ok (record { payer = payer; p52 = p52; p53 = p53; p54 = p54; p55 = p55; p56 = p56; p57 = p57; payee = payee }))
     (λ (parties : Parties). Ok (with_parties c.args.m.now parties))
-    c.in_ok-read_one.field-0 c.in_ok-read_optional.field-0 c.in_ok-read_optional-2.field-0 c.in_ok-read_optional-3.field-0 c.in_ok-read_optional-4.field-0 c.in_ok-read_optional-5.field-0
-    c.in_ok-read_one.ensures c.in_ok-read_optional.ensures c.in_ok-read_optional-2.ensures c.in_ok-read_optional-3.ensures c.in_ok-read_optional-4.ensures c.in_ok-read_optional-5.ensures
-    c.in_err-read_optional-6.ensures)
+    c.in_ok-payer.payer c.in_ok-p52.p52 c.in_ok-p53.p53 c.in_ok-p54.p54 c.in_ok-p55.p55 c.in_ok-p56.p56
+    c.in_ok-payer.ensures c.in_ok-p52.ensures c.in_ok-p53.ensures c.in_ok-p54.ensures c.in_ok-p55.ensures c.in_ok-p56.ensures
+    c.in_err-p57.ensures)
