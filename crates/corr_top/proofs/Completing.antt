@@ -50,7 +50,7 @@ use Rattle.corr_top.specs.declared.tables.TableStop.{TableStop}
 use Rattle.corr_top.specs.declared.tables.TableStop.TheVariants as table
 use Rattle.corr_top.specs.declared.words.Command.{Command}
 use Rattle.corr_top.specs.declared.words.Command.TheVariants.{Run, Trial, Plain}
-use Rattle.corr_top.specs.declared.words.Plain.TheVariants.{Generate, Init, Query}
+use Rattle.corr_top.specs.declared.words.Plain.TheVariants.{Generate, Init, Query, Reconcile}
 use Rattle.corr_top.specs.Booking.{IsEnteredOn, IsBack, LacksRoomThen, StopsBooking}
 use Rattle.corr_top.specs.Commands.{IsFor, command_steps}
 use Rattle.corr_top.specs.Complete.{HasRoomForAll, IsReady, IsFaultless, IsSure, Told}
@@ -59,7 +59,7 @@ use Rattle.corr_top.specs.Inputs.{Inputs, accounts_in, directory_in, instruction
 use Rattle.corr_top.specs.Message.{pays_in, readings_of}
 use Rattle.corr_top.specs.MessageFile.{IsMessageFile, StopsCutting}
 use Rattle.corr_top.specs.OnDisk.{HoldsJournal, IsFree, StopsMaking, StopsOpening}
-use Rattle.corr_top.specs.Passing.{Bad, Balances, StepIsUntouched, Passes, StopsAt, StopsAtMessages, StopsAtSums, StopsAtTable, table_fault, table_file}
+use Rattle.corr_top.specs.Passing.{Bad, Balances, HasMessages, StepIsUntouched, Passes, StopsAt, StopsAtMessages, StopsAtSums, StopsAtTable, table_fault, table_file}
 use Rattle.corr_top.specs.Reading.{Failed, IsRead, Took}
 use Rattle.corr_top.specs.Steps.{Halts, Step, Walks}
 use Rattle.corr_top.specs.Stops.{status_of_booking, status_of_file, status_of_making, status_of_opening, status_of_sums, status_of_table}
@@ -108,6 +108,7 @@ abbrev Agrees : Inputs → Inputs → Step → Type 0
 Agrees j i (Step.table name) = table_file name j ≡ table_file name i
 Agrees j i Step.open_journal = SameJournal j i
 Agrees j i Step.messages = j.cut ≡ i.cut
+Agrees j i Step.received = j.cut ≡ i.cut
 Agrees j i _ = Unit {0}
 
 abbrev Has : List Step → Step → Type 0
@@ -144,6 +145,7 @@ IsAfter done Step.open_journal = Unit {0}
 IsAfter done Step.day = Has done Step.open_journal
 IsAfter done Step.messages = Unit {0}
 IsAfter done Step.book = HasBooked done
+IsAfter done Step.received = Unit {0}
 
 abbrev AreOrdered : List Step → List Step → Type 0
 AreOrdered done [] = Unit {0}
@@ -274,6 +276,13 @@ module _ {S K D : Type 0} (source : sources.Ghosts S) (d : disks.Ghosts D) (old 
   step_memory s done Step.book after all ready stops =
       let journal = agreed j i done Step.open_journal all after.journal in
       stops.1 ∙ booking_memory d old.disk new.disk j i stops.0 ready.0 ready.1 journal.chart journal.history (same_pays j i done after all) stops.2
+  step_memory s done Step.received after all ready stops = stops.1 ∙ messages_memory source old.received new.received j.messages i.messages i.cut stops.0 ready.0 ready.1 stops.2
+
+  -- the messages of a file that was read are those that were told
+  cut_agrees : (from to : S) → Told source from to i.messages → IsMessageFile i.messages i.cut → HasMessages source from to j.messages j.cut → j.cut ≡ i.cut
+  cut_agrees from to told are had =
+      let same = took_whole source.left source.faults 67108864 from to j.messages i.messages told.told are.short had.took in
+      sym (cut-comes had.are.cut).all ∙ ap (λ (f : List ℕ). with_open (run (at_start []) f).given (run (at_start []) f).held) same ∙ (cut-comes are.cut).all
 
   step_agrees : (step : Step) → IsReady source d old new i step → Passes source d old new j step → Agrees j i step
   step_agrees (Step.table name) ready passes = took_whole source.left source.faults 8388608 _ _ (table_file name j) (table_file name i) ready.0.told (small_table name i ready.1) passes.took
@@ -283,10 +292,9 @@ module _ {S K D : Type 0} (source : sources.Ghosts S) (d : disks.Ghosts D) (old 
       let same = one_finding (opened_of (d.reads old.disk)) (book j.chart j.history) (book i.chart i.history) (passes.journal, passes.stands ready.0.told) (ready.1.journal, ready.1.stands ready.0.told) in
       record { chart = cc; history = cc }
   step_agrees Step.day ready passes = tt
-  step_agrees Step.messages ready passes =
-      let same = took_whole source.left source.faults 67108864 old.messages new.messages j.messages i.messages ready.0.told ready.1.short passes.took in
-      sym (cut-comes passes.are.cut).all ∙ ap (λ (f : List ℕ). with_open (run (at_start []) f).given (run (at_start []) f).held) same ∙ (cut-comes ready.1.cut).all
+  step_agrees Step.messages ready passes = cut_agrees old.messages new.messages ready.0 ready.1 passes
   step_agrees Step.book ready passes = tt
+  step_agrees Step.received ready passes = cut_agrees old.received new.received ready.0 ready.1 passes
 
   halts_memory : (s : Status) (done steps : List Step) → AreOrdered done steps → Walks (Agrees j i) done → Walks (IsReady source d old new i) steps
       → Halts (Passes source d old new j) (StopsAt source d old new j s) (StepIsUntouched d old new) steps → s ≡ status.Memory
@@ -312,6 +320,7 @@ ordered (Plain (Init home)) =
     let three = three_read in
     (tt, (tt, (tt, (three, ((later (Step.table names.Accounts) _ three, inl refl), (tt, tt))))))
 ordered (Plain (Query asked)) = (tt, tt)
+ordered (Plain Reconcile) = (tt, (tt, (tt, (tt, (tt, tt)))))
 ordered (Plain (Generate count seed)) = tt
 
 no_write_fault : {K : Type 0} (sink : sinks.Ghosts K) (old new : K) (report : List ℕ) (from to : K) (out : List ℕ) (then now : ℕ) → (Rose (sink.faults old) (sink.faults new) → ⊥) → (Rose (sink.faults from) (sink.faults to) → ⊥)
@@ -329,6 +338,8 @@ stopped_memory source d sink (Plain (Init home)) old new j i s is sound (inl hal
     halts_memory source d old new j (record i { day = j.day }) (is ∙ sym sound.are_for) refl s [] (command_steps (Plain (Init home))) (ordered (Plain (Init home))) tt sound.ready halts
 stopped_memory source d sink (Plain (Query asked)) old new j i s is sound (inl halts) =
     halts_memory source d old new j (record i { home = j.home; day = j.day }) refl refl s [] (command_steps (Plain (Query asked))) (ordered (Plain (Query asked))) tt sound.ready halts
+stopped_memory source d sink (Plain Reconcile) old new j i s is sound (inl halts) =
+    halts_memory source d old new j (record i { home = j.home; day = j.day }) refl refl s [] (command_steps (Plain Reconcile)) (ordered (Plain Reconcile)) tt sound.ready halts
 stopped_memory source d sink (Plain (Generate count seed)) old new j i s is sound (inl halts) = absurd halts
 stopped_memory source d sink command old new j i s is sound (inr memory) = memory.1
 

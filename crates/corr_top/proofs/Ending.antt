@@ -19,7 +19,7 @@ use Rattle.corr_top.specs.declared.tables.TableStop.{TableStop}
 use Rattle.corr_top.specs.declared.tables.TableStop.TheVariants as table
 use Rattle.corr_top.specs.declared.words.Command.{Command}
 use Rattle.corr_top.specs.declared.words.Command.TheVariants.{Run, Trial, Plain}
-use Rattle.corr_top.specs.declared.words.Plain.TheVariants.{Generate, Init, Query}
+use Rattle.corr_top.specs.declared.words.Plain.TheVariants.{Generate, Init, Query, Reconcile}
 use Rattle.corr_top.specs.declared.writing.Texts.{Texts}
 use Rattle.corr_top.specs.Commands.{KeepsRest, out_in, report_in, command_steps}
 use Rattle.corr_top.specs.Ends.{Ends, HasStopped, HasTexts}
@@ -72,6 +72,7 @@ module _ {S K D : Type 0} (source : sources.Ghosts S) (disk : disks.Ghosts D) (o
   step_line Step.day stops = subst HasLine (sym stops.1) stops.2.century
   step_line Step.messages stops = subst HasLine (sym stops.1) (file_line stops.0)
   step_line Step.book stops = subst HasLine (sym stops.1) (booking_line stops.0)
+  step_line Step.received stops = subst HasLine (sym stops.1) (file_line stops.0)
 
   halts_line : (steps : List Step) → Halts (Passes source disk old new i) (StopsAt source disk old new i s) (StepIsUntouched disk old new) steps → HasLine s
   halts_line [] halts = absurd halts
@@ -116,6 +117,7 @@ module _ {S K D : Type 0} (source : sources.Ghosts S) (disk : disks.Ghosts D) (s
       cases (Trial count seed workers) rest = rest
       cases (Plain (Init home)) rest = rest
       cases (Plain (Query asked)) rest = rest
+      cases (Plain Reconcile) rest = rest
       cases (Plain (Generate count seed)) rest = rest
 
   pub ends_ok : (report out : K) (texts : Texts) (s : Status) → HasTexts source disk command old room (Ok texts) → IsWritten sink room.report report texts.report room.out out texts.out s

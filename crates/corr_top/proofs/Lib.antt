@@ -14,6 +14,8 @@ pub mod DayDone
 pub mod Journals
 pub mod Asking
 pub mod Generating
+pub mod Collected
+pub mod Reconciling
 pub mod RunEnds
 pub mod Replying
 pub mod Gathering

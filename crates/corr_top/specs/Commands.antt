@@ -12,12 +12,13 @@ use Rattle.corr_top.specs.declared.room.Room.{Room}
 use Rattle.corr_top.specs.declared.words.Command.{Command}
 use Rattle.corr_top.specs.declared.words.Command.TheVariants.{Run, Trial, Plain}
 use Rattle.corr_top.specs.declared.words.Plain.{Plain as PlainCommand}
-use Rattle.corr_top.specs.declared.words.Plain.TheVariants.{Init, Query, Generate}
+use Rattle.corr_top.specs.declared.words.Plain.TheVariants.{Init, Query, Reconcile, Generate}
 use Rattle.corr_top.specs.declared.words.Query.TheVariants.{Send, Bookings, Statements}
 use Rattle.corr_top.specs.Init.{InitLeaves, init_steps}
 use Rattle.corr_top.specs.Inputs.{Inputs, new_in, tables_in}
 use Rattle.corr_top.specs.Origin.{AreSentValid}
 use Rattle.corr_top.specs.Query.{QueryLeaves, QuerySends, query_out, query_report, query_steps}
+use Rattle.corr_top.specs.Reconcile.{reconcile_report, reconcile_steps}
 use Rattle.corr_top.specs.Run.{RunLeaves, run_out, run_report, run_steps}
 use Rattle.corr_top.specs.Steps.{Step}
 use Rattle.corr_top.specs.Trial.{IsBooked, trial_history, trial_report}
@@ -63,7 +64,10 @@ send_of from until = option_map (λ places. Query (Send places.0 places.1)) (two
 -- the words of a command; other words are none
 abbrev pub command_of : List (List ℕ) → Option Command
 command_of [] = None
-command_of (word ∷ []) = if bytes_eq word (codes "bookings") then Some (Plain (Query Bookings)) else None
+command_of (word ∷ []) =
+    if bytes_eq word (codes "bookings") then Some (Plain (Query Bookings))
+    else if bytes_eq word (codes "reconcile") then Some (Plain Reconcile)
+    else None
 command_of (word ∷ one ∷ []) =
     if bytes_eq word (codes "init") then option_map Plain (init_of one)
     else if bytes_eq word (codes "statements") then option_map Plain (statements_of one)
@@ -94,6 +98,7 @@ IsSpelled (Plain (Init home)) = IsBic home
 IsSpelled (Plain (Query (Send from until))) = (1 ≤ from) × (from ≤ until) × (until ≤ most_entries)
 IsSpelled (Plain (Query Bookings)) = Unit {0}
 IsSpelled (Plain (Query (Statements day))) = InCentury day
+IsSpelled (Plain Reconcile) = Unit {0}
 IsSpelled (Plain (Generate count seed)) = (1 ≤ count) × (count ≤ 50000)
 
 -- what was read for a command names what its words name
@@ -102,6 +107,7 @@ IsFor (Run day workers) i = (i.day ≡ day) × (i.workers ≡ workers)
 IsFor (Trial count seed workers) i = Unit {0}
 IsFor (Plain (Init home)) i = i.home ≡ home
 IsFor (Plain (Query asked)) i = Unit {0}
+IsFor (Plain Reconcile) i = Unit {0}
 IsFor (Plain (Generate count seed)) i = Unit {0}
 
 -- what a command reads, tests and does before it writes, in this order
@@ -110,6 +116,7 @@ command_steps (Run day workers) = run_steps
 command_steps (Trial count seed workers) = []
 command_steps (Plain (Init home)) = init_steps
 command_steps (Plain (Query asked)) = query_steps
+command_steps (Plain Reconcile) = reconcile_steps
 command_steps (Plain (Generate count seed)) = []
 
 -- its report
@@ -118,6 +125,7 @@ report_in (Run day workers) i = run_report i
 report_in (Trial count seed workers) i = trial_report count seed
 report_in (Plain (Init home)) i = []
 report_in (Plain (Query asked)) i = query_report asked i.chart i.history
+report_in (Plain Reconcile) i = reconcile_report i
 report_in (Plain (Generate count seed)) i = []
 
 -- what it sends
@@ -126,6 +134,7 @@ out_in (Run day workers) i = run_out i
 out_in (Trial count seed workers) i = []
 out_in (Plain (Init home)) i = []
 out_in (Plain (Query asked)) i = query_out asked i.chart i.history
+out_in (Plain Reconcile) i = []
 out_in (Plain (Generate count seed)) i = generated_of count seed
 
 -- What is known of the messages that a command sends: each message of a run passes the tests of a sent message under the tables that it read; each entry of a trial is booked.
@@ -134,6 +143,7 @@ SendsValid (Run day workers) i = AreSentValid (tables_in i) i.chart (length i.hi
 SendsValid (Trial count seed workers) i = All IsBooked (trial_history count seed)
 SendsValid (Plain (Init home)) i = Unit {0}
 SendsValid (Plain (Query asked)) i = QuerySends asked i.chart i.history
+SendsValid (Plain Reconcile) i = Unit {0}
 SendsValid (Plain (Generate count seed)) i = Unit {0}
 
 -- what it leaves on the disk where it comes to its end
@@ -142,6 +152,7 @@ Leaves disk (Run day workers) old new i = RunLeaves disk old new i
 Leaves disk (Trial count seed workers) old new i = new ≡ old
 Leaves disk (Plain (Init home)) old new i = InitLeaves disk old new i
 Leaves disk (Plain (Query asked)) old new i = QueryLeaves disk old new
+Leaves disk (Plain Reconcile) old new i = QueryLeaves disk old new
 Leaves disk (Plain (Generate count seed)) old new i = new ≡ old
 
 -- all sources are as they were, and so is the second disk
@@ -154,4 +165,6 @@ KeepsRest (Run day workers) old new = (new.tables.accounts ≡ old.tables.accoun
 KeepsRest (Trial count seed workers) old new = KeepsSources old new
 KeepsRest (Plain (Init home)) old new = (new.tables.ssi ≡ old.tables.ssi) × (new.messages ≡ old.messages) × (new.received ≡ old.received) × (new.disk2 ≡ old.disk2)
 KeepsRest (Plain (Query asked)) old new = KeepsSources old new
+KeepsRest (Plain Reconcile) old new =
+    (new.tables.accounts ≡ old.tables.accounts) × (new.tables.ssi ≡ old.tables.ssi) × (new.messages ≡ old.messages) × (new.disk2 ≡ old.disk2)
 KeepsRest (Plain (Generate count seed)) old new = KeepsSources old new

@@ -45,6 +45,7 @@ IsReady source disk old new i Step.open_journal = IsSure disk old.disk new.disk 
 IsReady source disk old new i Step.day = IsLatest i.history i.day
 IsReady source disk old new i Step.messages = Told source old.messages new.messages i.messages × IsMessageFile i.messages i.cut
 IsReady source disk old new i Step.book = IsSure disk old.disk new.disk × HasRoomForAll i.chart i.history (pays_of i)
+IsReady source disk old new i Step.received = Told source old.received new.received i.messages × IsMessageFile i.messages i.cut
 
 -- nothing is wrong with what a command reads, and neither a source nor a sink nor the disk failed
 pub record IsFaultless {S K D : Type 0} (source : sources.Ghosts S) (sink : sinks.Ghosts K) (disk : disks.Ghosts D) (command : Command) (old new : Room S K D) (i : Inputs) : Type 0 where

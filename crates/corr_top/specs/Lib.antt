@@ -18,6 +18,7 @@ pub mod Init
 pub mod Run
 pub mod Statements
 pub mod Query
+pub mod Reconcile
 pub mod Generate
 pub mod Samples
 pub mod Trial

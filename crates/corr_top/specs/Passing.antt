@@ -117,6 +117,7 @@ Passes source disk old new i Step.open_journal = HoldsJournal disk old.disk i.ch
 Passes source disk old new i Step.day = IsLatest i.history i.day
 Passes source disk old new i Step.messages = HasMessages source old.messages new.messages i.messages i.cut
 Passes source disk old new i Step.book = AreAnswered i
+Passes source disk old new i Step.received = HasMessages source old.received new.received i.messages i.cut
 
 -- how a command stops there with this status: for a reason that the status tells, by its cause
 abbrev pub StopsAt : {S K D : Type 0} → sources.Ghosts S → disks.Ghosts D → Room S K D → Room S K D → Inputs → Status → Step → Type 0
@@ -128,6 +129,7 @@ StopsAt source disk old new i s Step.open_journal = (stop : OpenFault) × (s ≡
 StopsAt source disk old new i s Step.day = (stop : Day) × (s ≡ status_of_day stop) × IsBack i.history i.day stop × HasNotFailed disk old.disk new.disk
 StopsAt source disk old new i s Step.messages = (stop : FileStop) × (s ≡ status_of_file stop) × StopsAtMessages source old.messages new.messages i.messages stop × HasNotFailed disk old.disk new.disk
 StopsAt source disk old new i s Step.book = (stop : BookStop) × (s ≡ status_of_booking stop) × StopsBooking disk old.disk new.disk i stop
+StopsAt source disk old new i s Step.received = (stop : FileStop) × (s ≡ status_of_file stop) × StopsAtMessages source old.received new.received i.messages stop × HasNotFailed disk old.disk new.disk
 
 -- what a step reads or does is as it was
 abbrev pub StepIsUntouched : {S K D : Type 0} → disks.Ghosts D → Room S K D → Room S K D → Step → Type 0
@@ -138,3 +140,4 @@ StepIsUntouched disk old new Step.open_journal = new.disk ≡ old.disk
 StepIsUntouched disk old new Step.day = Unit {0}
 StepIsUntouched disk old new Step.messages = new.messages ≡ old.messages
 StepIsUntouched disk old new Step.book = IsUnwritten disk old.disk new.disk
+StepIsUntouched disk old new Step.received = new.received ≡ old.received

@@ -12,6 +12,7 @@ ghost use Rattle.corr_top.specs.declared.words.Command.TheVariants.{Plain as Pla
 use crate::generate::generate;
 use crate::init::init;
 use crate::query::query;
+use crate::received::reconcile;
 use crate::room::{Done, Room};
 use crate::run::run;
 use crate::status::Status;
@@ -73,6 +74,10 @@ fn perform<S: Source, K: Sink, D: Disk>(
             let (room, texts) = query(alloc, asked, room);
             end(room, texts)
         }
+        Plain::Reconcile => {
+            let (room, texts) = reconcile(alloc, room);
+            end(room, texts)
+        }
         Plain::Generate { count, seed } => end(room, generate(alloc, count, seed)),
     }
 }
@@ -109,8 +114,11 @@ pub fn plain<S: Source, K: Sink, D: Disk>(
 /// added, each followed by `$`. Each pay passes the gate once its accounts are held.
 /// `init HOME` makes the journal of the home bank HOME with the accounts of the tables. `send FROM UNTIL` writes the outgoing
 /// messages of the entries at these places, `bookings` a line for each entry, `statements DATE` to `out` what the owners of the
-/// vostro accounts are sent of that day. `generate COUNT SEED` writes a day of messages, made from a number, to `out`, and
-/// `trial COUNT SEED WORKERS` the summary of such a day, run over a journal in memory by 1 to 16 workers; they touch nothing else. Other words are `Usage`. Nothing is written but at `Done`, and a front part of both together at `WriteFault`.
+/// vostro accounts are sent of that day. `reconcile` reads the tables of banks, currencies and countries, opens the journal, reads
+/// the received messages, and writes what is told of their statements against the books. `generate COUNT SEED` writes a day of
+/// messages, made from a number, to `out`, and `trial COUNT SEED WORKERS` the summary of such a day, run over a journal in memory by 1
+/// to 16 workers; they touch nothing else. Other words are `Usage`. Nothing is written but at `Done`, and a front part of both
+/// together at `WriteFault`.
 pub fn corr<R: Wait + Threads + Sync, S: Source, K: Sink, D: Disk + Drop + Send, G: Gate + Sync>(
     rt: &R,
     alloc: Global,

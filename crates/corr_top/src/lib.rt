@@ -15,6 +15,7 @@ mod opening;
 mod outgoing;
 mod query;
 mod reading;
+mod received;
 mod room;
 mod run;
 mod samples;

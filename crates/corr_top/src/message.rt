@@ -20,7 +20,7 @@ use pay_plan::{Ask, PlanFault, plan};
 use std::alloc::Global;
 
 /// An advice or a page of a statement: it tells of an account and asks for no pay.
-const P37: Code = Code(*b"P37");
+pub const P37: Code = Code(*b"P37");
 
 /// Why a message gives no pay.
 #[derive(Clone, Copy, Debug, PartialEq, Eq)]
@@ -62,7 +62,7 @@ pub fn reply_for(why: NoPay) -> Reply
 }
 
 /// The reference of a received message.
-fn reference(envelope: &Envelope) -> Mir
+pub fn reference(envelope: &Envelope) -> Mir
     requires { IsSome envelope.now.mir }
     ensures { result ≡ mir_of_envelope envelope.now }
 {

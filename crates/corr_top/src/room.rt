@@ -13,8 +13,8 @@ pub struct Tables<S> {
 }
 
 /// What a command is handed: the table files, the message file, the file of received statements, the sink of its report,
-/// that of the messages that leave, the disk of the journal, and a second disk. The received statements and the second disk
-/// are handed back as they are: no command uses them yet.
+/// that of the messages that leave, the disk of the journal, and a second disk. The second disk is handed back as it is: no
+/// command uses it yet.
 #[derive(Drop)]
 pub struct Room<S, K, D> {
     pub tables: Tables<S>,

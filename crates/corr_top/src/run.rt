@@ -39,8 +39,8 @@ use std::sync::Wait;
 use std::thread::Threads;
 use work_pool::Gate;
 
-/// The messages of the message file, or its first fault.
-fn read_messages<S: Source>(alloc: Global, source: &mut S) -> Result<List<Text>, FileStop>
+/// The messages of a message file, or its first fault.
+pub fn read_messages<S: Source>(alloc: Global, source: &mut S) -> Result<List<Text>, FileStop>
     ensures are { IfOk result (λ cut. (file : List ℕ) × HasMessages S.Source source.old source.new file cut) }
     ensures stopped { IfErr result (λ stop. (file : List ℕ) × StopsAtMessages S.Source source.old source.new file stop) }
 {

@@ -1,10 +1,11 @@
 //! The table files, read and tested.
 
-ghost use Rattle.std.specs.Prelude.{◌≡◌, ℕ, List, Option, None, IfOk, IfErr, map};
+ghost use Rattle.std.specs.Prelude.{◌≡◌, ℕ, List, Option, None, IfOk, IfErr, IsTrue, map};
 ghost use Rattle.ref_tables.specs.AccountList.{AreAccounts};
 ghost use Rattle.ref_tables.specs.Accounts.{account_of, accounts_fault};
 ghost use Rattle.ref_tables.specs.Refusals.{named};
 ghost use Rattle.ref_tables.specs.Rows.{most_table_bytes, rows_of};
+ghost use Rattle.ref_tables.specs.Seen.{few_decimals};
 ghost use Rattle.ref_tables.specs.Tables.{bics_fault, ccys_fault, countries_fault, tables_of};
 ghost use Rattle.ref_tables.specs.declared.fault.TableName.TheVariants as names;
 ghost use Rattle.ssi_versions.specs.InstructionList.{AreInstructions};
@@ -124,6 +125,7 @@ fn read_countries<S: Source>(
     requires ccys { named names.Ccys (ccys_fault ccys.now) ≡ None }
     ensures fine { IfOk result (λ known. (countries : List ℕ) × IsFine S.Source source.old source.new countries (named names.Countries (countries_fault countries))
         × (known ≡ tables_of bics.now ccys.now countries)) }
+    ensures few { IfOk result (λ known. IsTrue (few_decimals known.ccys)) }
     ensures stopped { IfErr result (λ stop. (countries : List ℕ) × StopsAtTable S.Source source.old source.new countries (named names.Countries (countries_fault countries)) stop) }
 {
     let countries = read_table(alloc, source)?;
@@ -133,6 +135,7 @@ fn read_countries<S: Source>(
 /// What the tables of banks, currencies and countries say, each read and tested before the next.
 pub fn read_known<S: Source>(alloc: Global, files: &mut Tables<S>) -> Result<RefTables, TableStop>
     ensures fine { IfOk result (HasKnown S.Source files.old files.new) }
+    ensures few { IfOk result (λ known. IsTrue (few_decimals known.ccys)) }
     ensures stopped { IfErr result (StopsKnown S.Source files.old files.new) }
 {
     let bics = read_bics(alloc, &mut files.bics)?;

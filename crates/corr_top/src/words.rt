@@ -28,6 +28,8 @@ pub enum Plain {
     Init { home: Bic },
     /// A command that reads the journal and prints.
     Query(Query),
+    /// `reconcile`: the statements of the received messages against the books.
+    Reconcile,
     /// `generate COUNT SEED`: a day of messages, made from a number.
     Generate { count: u32, seed: u64 },
 }
@@ -167,6 +169,7 @@ pub fn spelled(words: &[Text]) -> Option<Command>
         [word] if is_word(word.bytes(), b"bookings") => {
             Some(Command::Plain(Plain::Query(Query::Bookings)))
         }
+        [word] if is_word(word.bytes(), b"reconcile") => Some(Command::Plain(Plain::Reconcile)),
         [word, home] if is_word(word.bytes(), b"init") => init(home.bytes()),
         [word, date] if is_word(word.bytes(), b"statements") => statements(date.bytes()),
         [word, from, until] if is_word(word.bytes(), b"send") => send(from.bytes(), until.bytes()),
