@@ -53,7 +53,6 @@ fn put_frame(frame: &mut Buf, body: &[u8]) -> Result<(), Memory>
 }
 
 /// As many bytes as the record of a pay takes at most: its text, 25 for each order, and 148 for what else there is.
-#[tactic(auto, using(jrn_codec::proofs::laws::Records::record_within))]
 fn most_bytes(p: &Pay) -> u64
     requires { HasShape p.now }
     ensures room { longest_record p.now ≤ result }
