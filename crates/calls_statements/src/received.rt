@@ -110,9 +110,9 @@ fn told(alloc: Global, a: &Accounts, h: &History, pages: Vec<Page950>) -> Result
 }
 
 fn is_paired(compared: &Compared) -> bool {
-    compared.pairs.as_slice() == &[(1, 1)]
-        && compared.ours.as_slice() == &[2]
-        && compared.theirs.as_slice() == &[2]
+    compared.pairs.as_slice() == [(1, 1)].as_slice()
+        && compared.ours.as_slice() == [2].as_slice()
+        && compared.theirs.as_slice() == [2].as_slice()
         && compared.opening_gap == 5_001_000
         && compared.closing_gap == 4_877_350
 }

@@ -1,5 +1,5 @@
 -- Received messages against the books: how that ends before anything is written.
-use Rattle.std.proofs.Common.{◌≡◌, inl, inr, ℕ, List, [], ◌∷◌, Result, Ok, Err, refl, ap, subst, sym, ◌∙◌}
+use Rattle.std.proofs.Common.{◌≡◌, inl, inr, List, [], ◌∷◌, Result, Ok, Err, refl, ap, subst, sym, ◌∙◌}
 use Rattle.acct_locks.specs.Holdings.{LooseHand}
 use Rattle.corr_disk.specs.declared.disk.Disk as disks
 use Rattle.corr_io.specs.declared.source.Source as sources

@@ -1,4 +1,4 @@
-use Rattle.std.proofs.Common.{arith, ◌≤ℤ◌}
+use Rattle.std.proofs.Common.{arith}
 use Rattle.std.proofs.lemmas.Int.{ints}
 use Rattle.jrn_book.proofs.laws.Days.{latest_by_last}
 use Rattle.calls_journal.proofs.books.is_latest.Goals as goal
