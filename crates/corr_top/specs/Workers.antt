@@ -2,11 +2,7 @@
 use Rattle.std.specs.Prelude.{Option}
 use Rattle.front_word.specs.Known.{PassKnows}
 use Rattle.corr_top.specs.declared.desk.Halt.{Halt}
-use Rattle.corr_top.specs.declared.desk.Worker.{Worker as WorkerDeclared}
 
 pub record Worker : Type 0 where
   pub pass : PassKnows
   pub halted : Option Halt
-
-abbrev pub worker_in : WorkerDeclared → Worker
-worker_in w = record { pass = w.pass; halted = w.halted }

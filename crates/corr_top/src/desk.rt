@@ -8,6 +8,7 @@ ghost use Rattle.corr_top.specs.Serving.{AnswersMessage, halt_of, served_of, sta
 
 use crate::directory::Directory;
 use crate::message::{Stop, read_message, reply_for};
+use crate::worker::Worker;
 use corr_books::{Books, BooksName};
 use corr_disk::Disk;
 use corr_ids::Mir;
@@ -17,7 +18,6 @@ use fin_message::Message;
 use front_word::Pass;
 use jrn_book::{CommitFault, Committed};
 use std::alloc::Global;
-use std::marker::Model;
 use std::sync::Wait;
 use work_pool::{Desk, Gate};
 
@@ -49,22 +49,6 @@ pub enum Served {
     Full { entries: u32, end: u64, need: u64 },
     /// Its pay was not entered: its worker stopped at this message, or had stopped before it.
     Stopped(Halt),
-}
-
-/// A worker of a run: its pass of the books, why it serves no more, if it doesn't, and where it reads its messages into.
-#[derive(Drop)]
-pub struct Worker {
-    pass: Pass,
-    halted: Option<Halt>,
-    room: Message,
-}
-
-impl Model for Worker {
-    ghost use Rattle.corr_top.specs.Workers.{Worker, worker_in};
-
-    ghost Value = { Worker };
-
-    ghost view = { worker_in };
 }
 
 /// What the workers of a run share: what messages are judged and routed by, and the books into which their pays are entered.

@@ -26,6 +26,7 @@ mod status;
 mod tables;
 mod trial;
 mod words;
+mod worker;
 mod writing;
 
 pub use command::{corr, plain};

@@ -7,8 +7,9 @@ ghost use Rattle.corr_books.specs.Opening.{IsNamed, opening_of};
 ghost use Rattle.corr_top.specs.Message.{readings_of};
 ghost use Rattle.corr_top.specs.Serving.{AllServed};
 
-use crate::desk::{Job, RunDesk, Served, Worker, jobs_of, seat, vacate};
+use crate::desk::{Job, RunDesk, Served, jobs_of, seat, vacate};
 use crate::directory::Directory;
+use crate::worker::Worker;
 use corr_books::{BooksName, Closed, Opened};
 use corr_disk::Disk;
 use corr_text::{Memory, Text};

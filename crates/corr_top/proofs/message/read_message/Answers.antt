@@ -10,6 +10,6 @@ unfolding message_of
 returns-clause-value c =
     let directory = c.args.directory.now in
     let chart = c.args.accounts.now in
-    let message = c.verdict_into.new.room in
+    let message = c.verdict_into.new.out in
     let judged = subst (λ (bank : Bic). verdict_of bank directory.tables c.args.b.now ≡ Ok message) c.home.ensures c.in_ok-verdict_into.ensures.value in
     read_on directory chart (verdict_of chart.home directory.tables c.args.b.now) message c.read_pay.result judged c.read_pay.ensures.value

@@ -1,0 +1,22 @@
+//! A worker of a run.
+
+use crate::desk::Halt;
+use fin_message::Message;
+use front_word::Pass;
+use std::marker::Model;
+
+/// A worker of a run: its pass of the books, why it serves no more, if it doesn't, and where it reads its messages into.
+#[derive(Drop)]
+pub struct Worker {
+    pub pass: Pass,
+    pub halted: Option<Halt>,
+    pub room: Message,
+}
+
+impl Model for Worker {
+    ghost use Rattle.corr_top.specs.Workers.{Worker};
+
+    ghost Value = { Worker };
+
+    ghost view = { λ worker. record { pass = worker.pass; halted = worker.halted } };
+}
