@@ -120,13 +120,13 @@ fn is_paired(compared: &Compared) -> bool {
 // Two entries of 1234,50 against a statement with one line for them: whether it takes the first.
 fn takes_the_first(alloc: Global) -> Result<bool, Fail> {
     let a = accounts(alloc)?;
-    let (h, _index) = grown(alloc, &a, 2, 123_450)?;
+    let given = grown(alloc, &a, 2, 123_450)?;
     if a.count() < 1 {
         return Err("no account".into());
     }
     let pages = [page_in(alloc, VOSTRO)?];
     let statement = joined(alloc, &pages)?;
-    Ok(is_paired(&compared(alloc, &a, &h, &statement)?))
+    Ok(is_paired(&compared(alloc, &a, &given.0, &statement)?))
 }
 
 #[test]
