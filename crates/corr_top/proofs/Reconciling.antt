@@ -67,7 +67,7 @@ module _ {S K D : Type 0} (source : sources.Ghosts S) (d : disks.Ghosts D) (old 
     breaks_texts chart history (Err s) holds unwritten sure (inl stops) =
         let p = has.passed in
         let i = record has.inputs { chart = chart; history = history; messages = stops.1 } in
-        gives_reconcile (Err s) i (inl (inr (p.0, inr (p.1.0, inr (p.1.1.0, inr (holds, inl ((stops.0, stops.2, stops.3, sure), tt)))))))
+        gives_reconcile (Err s) i (inl (inr (p.0, inr (p.1.0, inr (p.1.1.0, inr (holds, inl ((stops.0, stops.2, stops.3, sure, unwritten), tt)))))))
     breaks_texts chart history (Err s) holds unwritten sure (inr memory) =
         let p = has.passed in
         let i = record has.inputs { chart = chart; history = history; messages = memory.0; cut = memory.1 } in

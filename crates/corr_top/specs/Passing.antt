@@ -129,7 +129,7 @@ StopsAt source disk old new i s Step.open_journal = (stop : OpenFault) × (s ≡
 StopsAt source disk old new i s Step.day = (stop : Day) × (s ≡ status_of_day stop) × IsBack i.history i.day stop × HasNotFailed disk old.disk new.disk
 StopsAt source disk old new i s Step.messages = (stop : FileStop) × (s ≡ status_of_file stop) × StopsAtMessages source old.messages new.messages i.messages stop × HasNotFailed disk old.disk new.disk
 StopsAt source disk old new i s Step.book = (stop : BookStop) × (s ≡ status_of_booking stop) × StopsBooking disk old.disk new.disk i stop
-StopsAt source disk old new i s Step.received = (stop : FileStop) × (s ≡ status_of_file stop) × StopsAtMessages source old.received new.received i.messages stop × HasNotFailed disk old.disk new.disk
+StopsAt source disk old new i s Step.received = (stop : FileStop) × (s ≡ status_of_file stop) × StopsAtMessages source old.received new.received i.messages stop × HasNotFailed disk old.disk new.disk × IsUnwritten disk old.disk new.disk
 
 -- what a step reads or does is as it was
 abbrev pub StepIsUntouched : {S K D : Type 0} → disks.Ghosts D → Room S K D → Room S K D → Step → Type 0
