@@ -55,6 +55,16 @@ fn room_behind_a_text_is_no_part_of_it(rt: HostRuntime) -> Result<(), Fail> {
 }
 
 #[test]
+fn a_text_is_refilled(rt: HostRuntime) -> Result<(), Fail> {
+    let mut text = Text::from_bytes(rt.alloc(), b"REF1")?;
+    text.refill(b"A PAYER")?;
+    assert_eq!(rt; text.bytes(), b"A PAYER".as_slice());
+    text.refill(b"X")?;
+    assert_eq!(rt; text.bytes(), b"X".as_slice());
+    Ok(())
+}
+
+#[test]
 fn a_buffer_is_filled_again(rt: HostRuntime) -> Result<(), Fail> {
     let mut buf = Buf::new(rt.alloc());
     assert_eq!(rt; buf.bytes(), b"".as_slice());
@@ -75,6 +85,19 @@ fn a_list_keeps_its_order(rt: HostRuntime) -> Result<(), Fail> {
     list.push(1)?;
     list.push(2)?;
     assert_eq!(rt; list.as_slice(), [3, 1, 2].as_slice());
+    Ok(())
+}
+
+#[test]
+fn a_list_gives_its_last_value(rt: HostRuntime) -> Result<(), Fail> {
+    let mut list = List::new(rt.alloc());
+    list.push(3u64)?;
+    list.push(1)?;
+    assert_eq!(rt; list.pop(), Some(1));
+    list.push(2)?;
+    assert_eq!(rt; list.as_slice(), [3, 2].as_slice());
+    list.clear();
+    assert_eq!(rt; list.pop(), None);
     Ok(())
 }
 

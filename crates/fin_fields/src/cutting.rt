@@ -6,21 +6,16 @@ ghost use Rattle.corr_text.specs.Lines.{lines_of};
 ghost use Rattle.fin_fields.specs.Fields.{Grouped, fields_of, field_begun, grouped, heading_of, so_far, with_line, most_text_lines};
 ghost use Rattle.fin_fields.specs.Headings.{heading_in};
 ghost use Rattle.fin_fields.specs.Writing.{IsField};
-ghost use Rattle.fin_fields.specs.Faults.{faulty_line, field_fault, has_other_byte, is_misplaced, outside_x, TellsFieldFault, TellsLineFault};
+ghost use Rattle.fin_fields.specs.Faults.{faulty_line, field_fault, has_other_byte, is_misplaced, TellsFieldFault, TellsLineFault};
 
 use crate::fault::FieldFault;
 use crate::field::Field;
 use crate::heading::{HeadingLine, heading};
 use crate::outside::first_outside_x;
-use corr_text::{List, Memory, Text, first_line, plain_line};
+use crate::spares::Spares;
+use corr_text::{List, Memory, first_line, plain_line};
 use std::alloc::Global;
 use std::mem;
-
-/// For how many fields there is room at first.
-const ROOM: usize = 8;
-
-/// For how many lines of a field there is room at first.
-const LINE_ROOM: usize = 4;
 
 /// A text cut behind its first line, and whether the lines so far are known to have bytes of set X alone.
 #[derive(Clone, Copy)]
@@ -60,11 +55,15 @@ fn next_line(text: &[u8], plain: bool) -> NextLine<'_>
     }
 }
 
-fn begin_field(alloc: Global, heading: HeadingLine<'_>) -> Result<Field, Memory>
+fn begin_field(
+    alloc: Global,
+    heading: HeadingLine<'_>,
+    spares: &mut Spares,
+) -> Result<Field, Memory>
     ensures { IfOk result (λ f. f ≡ field_begun (heading_in heading.entry) []) }
 {
-    let mut lines = List::with_room(alloc, LINE_ROOM)?;
-    lines.push(Text::from_bytes(alloc, heading.content)?)?;
+    let mut lines = spares.lines(alloc)?;
+    lines.push(spares.text(alloc, heading.content)?)?;
     Ok(Field {
         tag: heading.tag,
         letter: heading.letter,
@@ -86,6 +85,7 @@ fn add_line(
     whole: &mut List<Field>,
     open_field: &mut Field,
     line: &[u8],
+    spares: &mut Spares,
 ) -> Result<bool, Memory>
     ensures taken { IfOk result (λ taken. taken ≡ not (is_misplaced line.now)) }
     ensures added { IfOk result (λ taken. taken ≡ true → (g : Grouped) →
@@ -93,13 +93,13 @@ fn add_line(
 {
     match heading(line) {
         Some(heading) => {
-            let next = begin_field(alloc, heading)?;
+            let next = begin_field(alloc, heading, spares)?;
             whole.push(mem::replace(open_field, next))?;
             Ok(true)
         }
         None if breaks_off(line) => Ok(false),
         None => {
-            open_field.lines.push(Text::from_bytes(alloc, line)?)?;
+            open_field.lines.push(spares.text(alloc, line)?)?;
             Ok(true)
         }
     }
@@ -111,6 +111,7 @@ fn group_lines(
     text: &[u8],
     open_field: Field,
     plain: bool,
+    spares: &mut Spares,
 ) -> Result<ReadLines, FieldFault>
     requires few { length (lines_of text.now) < most_text_lines }
     ensures fields { IfOk result (λ read. read.fields ≡ so_far [] open_field (grouped (lines_of text.now))) }
@@ -118,7 +119,7 @@ fn group_lines(
     ensures sound { IfOk result (λ _. position is_misplaced (lines_of text.now) ≡ None) }
     ensures fault { IfErr result (TellsLineFault (option_map (λ i. i + 2) (position is_misplaced (lines_of text.now)))) }
 {
-    let mut whole = List::with_room(alloc, ROOM)?;
+    let mut whole = spares.fields(alloc)?;
     let mut open_field = open_field;
     let mut rest = text;
     let mut plain = plain;
@@ -126,7 +127,7 @@ fn group_lines(
     while !rest.is_empty() {
         let next = next_line(rest, plain);
         number += 1;
-        if !add_line(alloc, &mut whole, &mut open_field, next.line)? {
+        if !add_line(alloc, &mut whole, &mut open_field, next.line, spares)? {
             return Err(FieldFault::P20 { line: number });
         }
         rest = next.rest;
@@ -140,7 +141,7 @@ fn group_lines(
 }
 
 /// The fields of a text whose lines are none at fault.
-fn read_lines(alloc: Global, text: &[u8]) -> Result<ReadLines, FieldFault>
+fn read_lines(alloc: Global, text: &[u8], spares: &mut Spares) -> Result<ReadLines, FieldFault>
     requires few { length (lines_of text.now) ≤ most_text_lines }
     ensures fields { IfOk result (λ read. read.fields ≡ fields_of text.now) }
     ensures plain { IfOk result (λ read. read.plain ≡ true → list_any has_other_byte (lines_of text.now) ≡ false) }
@@ -153,8 +154,8 @@ fn read_lines(alloc: Global, text: &[u8]) -> Result<ReadLines, FieldFault>
     let first = next_line(text, true);
     match heading(first.line) {
         Some(heading) => {
-            let open_field = begin_field(alloc, heading)?;
-            group_lines(alloc, first.rest, open_field, first.plain)
+            let open_field = begin_field(alloc, heading, spares)?;
+            group_lines(alloc, first.rest, open_field, first.plain, spares)
         }
         None => Err(FieldFault::P20 { line: 1 }),
     }
@@ -172,7 +173,23 @@ pub fn cut_fields(alloc: Global, text: &[u8]) -> Result<List<Field>, FieldFault>
     ensures fit { IfOk result (λ fields. (fields ≢ []) × All IsField fields) }
     ensures fault { IfErr result (TellsFieldFault text.now) }
 {
-    let read = read_lines(alloc, text)?;
+    let mut spares = Spares::new(alloc);
+    cut_fields_with(alloc, text, &mut spares)
+}
+
+/// As `cut_fields`, in memory of fields that are gone, as far as it goes.
+#[inline(never)]
+pub fn cut_fields_with(
+    alloc: Global,
+    text: &[u8],
+    spares: &mut Spares,
+) -> Result<List<Field>, FieldFault>
+    requires { length (lines_of text.now) ≤ most_text_lines }
+    ensures fields { IfOk result (λ fields. (field_fault text.now ≡ None) × (fields ≡ fields_of text.now)) }
+    ensures fit { IfOk result (λ fields. (fields ≢ []) × All IsField fields) }
+    ensures fault { IfErr result (TellsFieldFault text.now) }
+{
+    let read = read_lines(alloc, text, spares)?;
     if read.plain {
         return Ok(read.fields);
     }

@@ -3,6 +3,7 @@ use Rattle.std.specs.Prelude.{ℕ, List, Bool, true, false}
 use Rattle.fin_message.specs.declared.message.Message.{Message}
 use Rattle.fin_message.specs.declared.message.Message.TheVariants.{Cover, Credit, Debit, Page, Transfer}
 
+-- whether it is a transfer
 abbrev pub is_transfer : Message → Bool
 is_transfer (Transfer envelope text transfer) = true
 is_transfer (Cover envelope text cover) = false

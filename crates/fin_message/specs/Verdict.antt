@@ -37,6 +37,10 @@ use Rattle.fin_message.specs.declared.direction.Direction.TheVariants.{Received,
 use Rattle.fin_message.specs.declared.message.Message.{Message}
 use Rattle.fin_message.specs.declared.message.Message.TheVariants.{Cover, Credit, Debit, Page, Transfer}
 
+-- the most bytes of a message that is judged
+abbrev pub most_bytes_judged : ℕ
+most_bytes_judged = 65535
+
 -- why a message is refused: its reference where that is told, and the fault
 abbrev pub Refused : Type 0
 Refused = Option Mir × Fault

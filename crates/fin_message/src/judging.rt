@@ -7,7 +7,7 @@ ghost use Rattle.fin_layout.specs.Reading as mt;
 ghost use Rattle.fin_message.specs.Answers.{Answers, Fills};
 ghost use Rattle.fin_message.specs.Filling.{with_text};
 ghost use Rattle.fin_message.specs.Sound.{IsValid};
-ghost use Rattle.fin_message.specs.Verdict.{judged, message_in, message_of, sent_verdict_of, verdict_of};
+ghost use Rattle.fin_message.specs.Verdict.{judged, message_in, message_of, most_bytes_judged, sent_verdict_of, verdict_of};
 
 use crate::advices::{read_credit, read_debit};
 use crate::cover::read_cover;
@@ -22,7 +22,7 @@ use crate::transfer::read_transfer;
 use corr_ids::Bic;
 use corr_text::let_go;
 use fin_blocks::{Blocks, read_blocks};
-use fin_fields::Field;
+use fin_fields::{Field, Spares};
 use fin_layout::MtFault;
 use ref_tables::RefTables;
 use std::alloc::Global;
@@ -59,6 +59,7 @@ fn read_parts(
     home: &Bic,
     t: &RefTables,
     blocks: &Blocks,
+    spares: &mut Spares,
     out: &mut Message,
 ) -> Result<(), MtFault>
     requires { length (lines_of blocks.now.text) ≤ most_text_lines }
@@ -67,8 +68,10 @@ fn read_parts(
     if let Some(fault) = heading_fault(way, home, t, blocks) {
         return Err(MtFault::Bad(fault));
     }
-    let fields = read_fields(alloc, blocks.text.bytes())?;
-    read_of_type(alloc, t, blocks, fields.as_slice(), out)
+    let fields = read_fields(alloc, blocks.text.bytes(), spares)?;
+    let answer = read_of_type(alloc, t, blocks, fields.as_slice(), out);
+    spares.take_back(fields);
+    answer
 }
 
 /// Puts the message that blocks say into `out`. `Bad`: the first test after those of the blocks that it fails.
@@ -78,12 +81,13 @@ fn read_message(
     home: &Bic,
     t: &RefTables,
     blocks: Blocks,
+    spares: &mut Spares,
     out: &mut Message,
 ) -> Result<(), MtFault>
     requires { length (lines_of blocks.text) ≤ most_text_lines }
     ensures { mt.Fills result out.new (message_of way home.now t.now blocks) }
 {
-    match read_parts(alloc, way, home, t, &blocks, out) {
+    match read_parts(alloc, way, home, t, &blocks, spares, out) {
         Ok(()) => {
             put_text(blocks.text, out);
             Ok(())
@@ -102,14 +106,15 @@ fn judge(
     home: &Bic,
     t: &RefTables,
     m: &[u8],
+    spares: &mut Spares,
     out: &mut Message,
 ) -> Result<(), MessageFault>
-    requires { length m.now ≤ 65535 }
+    requires { length m.now ≤ most_bytes_judged }
     ensures { Fills result out.new (judged way home.now t.now m.now) }
 {
     let blocks = read_blocks(alloc, m)?;
     let mir = mir_of(&blocks.app);
-    match read_message(alloc, way, home, t, blocks, out) {
+    match read_message(alloc, way, home, t, blocks, spares, out) {
         Ok(()) => Ok(()),
         Err(MtFault::Bad(fault)) => Err(MessageFault::Refused { mir, fault }),
         Err(MtFault::Memory) => Err(MessageFault::Memory),
@@ -125,11 +130,12 @@ fn judge_apart(
     t: &RefTables,
     m: &[u8],
 ) -> Result<Message, MessageFault>
-    requires { length m.now ≤ 65535 }
+    requires { length m.now ≤ most_bytes_judged }
     ensures { Answers result (judged way home.now t.now m.now) }
 {
     let mut message = Message::blank(alloc);
-    match judge(alloc, way, home, t, m, &mut message) {
+    let mut spares = Spares::new(alloc);
+    match judge(alloc, way, home, t, m, &mut spares, &mut message) {
         Ok(()) => Ok(message),
         Err(fault) => {
             let_go(message);
@@ -149,27 +155,29 @@ fn judge_apart(
 /// type's reader reads the message of them, it breaks no rule of its type, and it can be written again.
 #[tactic(auto, using(crate::proofs::Judged::sound))]
 pub fn verdict(alloc: Global, m: &[u8], home: &Bic, t: &RefTables) -> Result<Message, MessageFault>
-    requires { length m.now ≤ 65535 }
+    requires { length m.now ≤ most_bytes_judged }
     ensures value { Answers result (verdict_of home.now t.now m.now) }
     ensures sound { IfOk result (IsValid Direction.Received t.now (2 * length m.now)) }
 {
     judge_apart(alloc, Direction::Received, home, t, m)
 }
 
-/// As `verdict`, but what the message says is put into `out`, where another message stood. After a fault it may say anything.
+/// As `verdict`, but what the message says is put into `out`, where another message stood, and its fields are cut in memory of
+/// fields that are gone, as far as it goes. After a fault `out` may say anything.
 #[tactic(auto, using(crate::proofs::Judged::sound_in))]
 pub fn verdict_into(
     alloc: Global,
     m: &[u8],
     home: &Bic,
     t: &RefTables,
+    spares: &mut Spares,
     out: &mut Message,
 ) -> Result<(), MessageFault>
-    requires { length m.now ≤ 65535 }
+    requires { length m.now ≤ most_bytes_judged }
     ensures value { Fills result out.new (verdict_of home.now t.now m.now) }
     ensures sound { OnOk result (IsValid Direction.Received t.now (2 * length m.now) out.new) }
 {
-    judge(alloc, Direction::Received, home, t, m, out)
+    judge(alloc, Direction::Received, home, t, m, spares, out)
 }
 
 /// The same of a message that the home bank sends: block 2 is of input form (else P07) and names the receiver, who is in
@@ -181,7 +189,7 @@ pub fn check_sent(
     home: &Bic,
     t: &RefTables,
 ) -> Result<Message, MessageFault>
-    requires { length m.now ≤ 65535 }
+    requires { length m.now ≤ most_bytes_judged }
     ensures value { Answers result (sent_verdict_of home.now t.now m.now) }
     ensures sound { IfOk result (IsValid Direction.Sent t.now (2 * length m.now)) }
 {

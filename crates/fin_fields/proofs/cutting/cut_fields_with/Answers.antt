@@ -5,7 +5,7 @@ use Rattle.corr_text.specs.Lines.{lines_of}
 use Rattle.fin_fields.proofs.laws.Bounds.{fields-few}
 use Rattle.fin_fields.proofs.Fit.{all-fit, some-fields}
 use Rattle.fin_fields.proofs.Plain.{no-fault, none-outside}
-use Rattle.fin_fields.proofs.cutting.cut_fields.Goals as goal
+use Rattle.fin_fields.proofs.cutting.cut_fields_with.Goals as goal
 
 pub returns-then-read-clause-fields : goal.returns-then-read-clause-fields
 returns-then-read-clause-fields c =
