@@ -1,8 +1,6 @@
 //! Each call once; cases stand in rows (contents.rows). Calls go through functions that promise nothing: a test
 //! then carries none of what a call promises.
 
-ghost use Rattle.std.specs.Prelude.{◌≡◌};
-
 use corr_ids::Day;
 use corr_money::{Amount, Ccy, Minor};
 use corr_text::{List, Memory, Set, Text, is_all_of};

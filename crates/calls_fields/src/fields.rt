@@ -5,8 +5,8 @@ ghost use Rattle.fin_fields.specs.Writing.{IsField};
 
 use corr_text::{List, Set, Text};
 use fin_fields::{
-    Field, FieldFault, Pattern, cut_fields, is_run_of, letter_of, lines_match, matches, nth_of,
-    put_fields, tag_of,
+    Field, FieldFault, Pattern, Spares, cut_fields, cut_fields_with, is_run_of, letter_of,
+    lines_match, matches, nth_of, put_fields, tag_of,
 };
 use std::alloc::Global;
 use std::test::Fail;
@@ -20,6 +20,23 @@ fn cut(alloc: Global, text: &[u8]) -> Result<List<Field>, FieldFault>
         return Err(FieldFault::Memory);
     }
     cut_fields(alloc, text)
+}
+
+// The fields of a short text, in spare memory.
+#[tactic(auto, using(fin_fields::proofs::laws::Bounds::lines_few))]
+fn cut_with(alloc: Global, text: &[u8], spares: &mut Spares) -> Result<List<Field>, FieldFault> {
+    if text.len() > 1000 {
+        return Err(FieldFault::Memory);
+    }
+    cut_fields_with(alloc, text, spares)
+}
+
+// The fields of the second text, in the memory of those of the first.
+fn cut_after(alloc: Global, first: &[u8], second: &[u8]) -> Result<List<Field>, FieldFault> {
+    let mut spares = Spares::new(alloc);
+    let fields = cut_with(alloc, first, &mut spares)?;
+    spares.take_back(fields);
+    cut_with(alloc, second, &mut spares)
 }
 
 // The fields of a text, written again.
@@ -58,5 +75,12 @@ fn a_field_is_cut_and_written(rt: HostRuntime) -> Result<(), Fail> {
         Some(text) => assert_eq!(rt; text.bytes(), b":71A:SHA\r\n".as_slice()),
         None => assert!(rt; false, "a text"),
     }
+    Ok(())
+}
+
+#[test]
+fn fields_are_cut_in_the_memory_of_others(rt: HostRuntime) -> Result<(), Fail> {
+    let fields = cut_after(rt.alloc(), b":20:REF1\n:59:/X\nA PAYEE\n", b":71A:SHA\n")?;
+    assert!(rt; are_sha(fields.as_slice()));
     Ok(())
 }

@@ -1,6 +1,6 @@
 //! Each call once; cases stand in rows (layout.rows).
 
-ghost use Rattle.std.specs.Prelude.{◌≡◌, ◌∷◌, [], slice_get, length};
+ghost use Rattle.std.specs.Prelude.{[], slice_get};
 ghost use Rattle.corr_text.specs.First.{or_fault};
 ghost use Rattle.fin_layout.specs.declared.fault.TheConstants.{P24 as WrongFormat};
 

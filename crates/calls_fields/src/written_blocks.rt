@@ -1,6 +1,5 @@
 //! A message as it is sent on; cases stand in rows (blocks.rows).
 
-ghost use Rattle.std.specs.Prelude.{◌≡◌};
 ghost use Rattle.corr_ids.specs.Bic.{IsBic};
 
 use corr_ids::Bic;

@@ -6,3 +6,4 @@ pub mod Known
 pub mod Leaving
 pub mod Feeding
 pub mod Ending
+pub mod WholeFile

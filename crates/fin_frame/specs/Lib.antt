@@ -1,5 +1,6 @@
 pub mod File
 pub mod Shown
+pub mod Whole
 pub mod Machine
 pub mod Cutting
 pub mod Tidy

@@ -10,10 +10,10 @@ use corr_text::{List, Memory, Text};
 use std::alloc::Global;
 
 /// What a message begins with.
-const LEAD: [u8; 3] = *b"{1:";
+pub(crate) const LEAD: [u8; 3] = *b"{1:";
 
 /// The most bytes of a message.
-const MOST_BYTES: usize = 16384;
+pub(crate) const MOST_BYTES: usize = 16384;
 
 /// How much room a message has at first, for most are short.
 const ROOM: usize = 253;

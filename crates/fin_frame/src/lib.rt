@@ -1,10 +1,12 @@
-//! A file of messages, cut as its bytes come in.
+//! A file of messages, cut as its bytes come in, or at once where it is whole.
 #![tactic(auto)]
 
 mod cutter;
 mod fault;
 mod group;
 mod stage;
+mod whole;
 
 pub use cutter::Cutter;
 pub use fault::FrameFault;
+pub use whole::{Framed, cut_whole};

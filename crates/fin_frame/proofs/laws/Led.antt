@@ -186,7 +186,7 @@ message-over {n} {d} {m} {gap} {messages} {s} (joined message group closed is ot
         ∙ run-over n 1 d r.xs (in_message n 1 (message ++ r.pending) messages (n + length message + length r.pending)) refl refl (omega arith) r.some r.is (omega arith)
 
 -- `$` in a gap
-abbrev limit : Bool → ℕ
+abbrev pub limit : Bool → ℕ
 limit marked = if marked then 0 else 1
 
 pub gap-again : (n : ℕ) (messages : List (List ℕ)) (a b : Bool) (k : ℕ) → n ≡ k → a ≡ b → at_gap n messages a ≡ at_gap k messages b

@@ -115,7 +115,7 @@ shown-comes (shows_long {d} {gap} {messages} file message rest front is over) =
     let failed : (run (run (at_start []) file) message).failed ≡ Some (TooLong (length file)) = message-over is (file-run front) over in
     ap (λ t. t.failed) (run-append (at_start []) (file ++ message) rest ∙ ap (λ t. run t rest) (run-append (at_start []) file message) ∙ run-failed (run (run (at_start []) file) message) (TooLong (length file)) rest failed) ∙ failed
 
-agrees-leads : (xs : List ℕ) → agrees lead xs ≡ true → 2 < length xs → xs ≡ lead ++ drop 3 xs
+pub agrees-leads : (xs : List ℕ) → agrees lead xs ≡ true → 2 < length xs → xs ≡ lead ++ drop 3 xs
 agrees-leads [] same long = absurd (omega arith)
 agrees-leads (a ∷ []) same long = absurd (omega arith)
 agrees-leads (a ∷ b ∷ []) same long = absurd (omega arith)

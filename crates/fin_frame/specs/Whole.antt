@@ -1,0 +1,30 @@
+-- The front of a file as it is read at once: gaps, groups and messages that begin here.
+use Rattle.std.specs.Prelude.{◌≡◌, ◌<◌, ◌⊎◌, ℕ, suc, ◌==◌, ◌||◌, ◌&&◌, not, nat_lt, Bool, false, List, [], ◌∷◌, ◌++◌, length}
+use Rattle.fin_frame.specs.File.{lead, agrees, is_blank, most_bytes, IsGroupTo, IsFileOf, IsCutInto}
+
+-- whether the bytes begin `{1:`
+abbrev pub is_led : List ℕ → Bool
+is_led bytes = nat_lt 2 (length bytes) && agrees lead bytes
+
+-- whether the bytes begin with a group that doesn't begin `{1:`
+abbrev pub has_group : List ℕ → Bool
+has_group [] = false
+has_group (b ∷ bytes) = b == 123 && not (is_led (b ∷ bytes))
+
+-- whether a gap goes on by the first of these bytes, where no `$` may come if it is marked
+abbrev pub goes_on : Bool → List ℕ → Bool
+goes_on marked [] = false
+goes_on marked (b ∷ bytes) = is_blank b || (b == 36 && not marked)
+
+-- The group that the bytes begin with is open at their end, or after more bytes than a message may have.
+pub record IsOpenGroup (bytes : List ℕ) : Type 0 where
+  pub depth : ℕ
+  pub group : List ℕ
+  pub rest : List ℕ
+  pub whole : bytes ≡ group ++ rest
+  pub «open» : IsGroupTo (suc depth) group
+  pub far : (rest ≡ []) ⊎ (most_bytes < length group)
+
+-- no file has a cut in which these bytes stand after some messages and a gap
+abbrev pub CutsNoFile : List ℕ → Type 0
+CutsNoFile bytes = (file gap : List ℕ) (messages others : List (List ℕ)) → IsFileOf file messages gap → IsCutInto (file ++ bytes) others → ⊥

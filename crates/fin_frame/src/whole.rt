@@ -1,0 +1,139 @@
+//! The messages of a whole file, where they stand.
+
+ghost use Rattle.std.specs.Prelude.{◌≡◌, ◌<◌, ◌≤◌, ◌||◌, ◌++◌, ℕ, List, length, take, drop, get_or, nat_lt, true, false, if◌then◌else◌, None, IfOk, IfSome};
+ghost use Rattle.fin_frame.specs.File.{dollars, IsGap, IsGroupTo, IsMessage, IsCutInto};
+ghost use Rattle.fin_frame.specs.Whole.{is_led, has_group, goes_on, IsOpenGroup, CutsNoFile};
+
+use crate::cutter::{LEAD, MOST_BYTES};
+use crate::stage::Stage;
+use crate::{group, stage};
+use corr_text::{List, Memory};
+use std::alloc::Global;
+use std::marker::Model;
+
+/// A message where it stands in its file.
+#[derive(Debug, Drop)]
+pub struct Framed<'a> {
+    bytes: &'a [u8],
+}
+
+impl<'a> Model for Framed<'a> {
+    ghost use Rattle.std.specs.Prelude.{List, ℕ};
+
+    ghost Value = { List ℕ };
+
+    ghost view = { λ framed. framed.bytes.now };
+}
+
+impl<'a> Framed<'a> {
+    /// The bytes of the message, from the `{` of its `{1:` to the `}` of its last group.
+    pub fn bytes(&self) -> &'a [u8]
+        ensures { result.now ≡ self.now }
+    {
+        self.bytes
+    }
+}
+
+/// The messages of a whole file, each where it stands; nothing is copied.
+///
+/// None where the file has no cut into at most `most` messages: it isn't sound, or it has more. `Memory`: there was no
+/// room for the list.
+pub fn cut_whole(
+    alloc: Global,
+    file: &[u8],
+    most: usize,
+) -> Result<Option<List<Framed<'_>>>, Memory>
+    ensures cut { IfOk result (λ found. IfSome found (λ messages. IsCutInto file.now messages × (length messages ≤ most))) }
+    ensures uncut { IfOk result (λ found. found ≡ None → (messages : List (List ℕ)) → IsCutInto file.now messages → most < length messages) }
+{
+    let mut messages = List::new(alloc);
+    let mut rest = after_gap(file, true);
+    while !rest.is_empty() {
+        if !is_led(rest) {
+            return Ok(None);
+        }
+        if messages.as_slice().len() == most {
+            return Ok(None);
+        }
+        let Some(len) = message_len(rest) else {
+            return Ok(None);
+        };
+        let (bytes, after) = rest.split_at(len);
+        messages.push(Framed { bytes })?;
+        rest = after_gap(after, false);
+    }
+    Ok(Some(messages))
+}
+
+/// The bytes after a gap that has no `$` where `marked`.
+fn after_gap(bytes: &[u8], marked: bool) -> &[u8]
+    ensures after { (gap : List ℕ) × (bytes.now ≡ gap ++ result.now) × IsGap (if marked then 0 else 1) gap × (goes_on (marked || nat_lt 0 (dollars gap)) result.now ≡ false) }
+{
+    bytes.split_at(gap_len(bytes, marked)).1
+}
+
+/// How many bytes of a gap are in front, without `$` where `marked`.
+#[inline(never)]
+fn gap_len(bytes: &[u8], marked: bool) -> usize
+    ensures most { result ≤ length bytes.now }
+    ensures gap { IsGap (if marked then 0 else 1) (take result bytes.now) }
+    ensures end { goes_on (marked || nat_lt 0 (dollars (take result bytes.now))) (drop result bytes.now) ≡ false }
+{
+    let mut ended = marked;
+    let mut len = 0;
+    while len < bytes.len() {
+        match stage::between(ended, bytes[len]) {
+            Some(Stage::Between { marked }) => ended = marked,
+            _ => return len,
+        }
+        len += 1;
+    }
+    len
+}
+
+/// Whether the bytes begin `{1:`.
+fn is_led(bytes: &[u8]) -> bool
+    ensures { result ≡ is_led bytes.now }
+{
+    bytes.starts_with(&LEAD)
+}
+
+/// Whether the bytes begin with a group that doesn't begin `{1:`.
+fn has_group(bytes: &[u8]) -> bool
+    ensures { result ≡ has_group bytes.now }
+{
+    !bytes.is_empty() && bytes[0] == b'{' && !is_led(bytes)
+}
+
+/// How long the message is that the bytes begin with. None where it isn't whole, or too long.
+#[inline(never)]
+fn message_len(bytes: &[u8]) -> Option<usize>
+    requires led { is_led bytes.now ≡ true }
+    ensures whole { IfSome result (λ len. (len ≤ length bytes.now) × IsMessage (take len bytes.now) × (has_group (drop len bytes.now) ≡ false)) }
+    ensures none { result ≡ None → CutsNoFile bytes.now }
+{
+    let mut len = group_len(bytes)?;
+    while len <= MOST_BYTES && has_group(&bytes[len..]) {
+        len += group_len(&bytes[len..])?;
+    }
+    if len > MOST_BYTES {
+        return None;
+    }
+    Some(len)
+}
+
+/// How long the group is that the bytes begin with. None where it has no end among the bytes, or none among as many as a
+/// message may have.
+fn group_len(bytes: &[u8]) -> Option<usize>
+    requires some { 0 < length bytes.now }
+    requires begun { get_or bytes.now 0 0 ≡ 123 }
+    ensures whole { IfSome result (λ len. (len ≤ length bytes.now) × IsGroupTo 0 (take len bytes.now)) }
+    ensures none { result ≡ None → IsOpenGroup bytes.now }
+{
+    let reach = bytes.len().min(MOST_BYTES + 1);
+    let (len, left) = group::within(&bytes[1..reach], 1);
+    if left > 0 {
+        return None;
+    }
+    Some(1 + len)
+}
