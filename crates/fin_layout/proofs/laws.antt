@@ -1,4 +1,5 @@
 pub mod FoundField
+pub mod NoneTaken
 pub mod Grouped
 pub mod ReadGroups
 pub mod Fine

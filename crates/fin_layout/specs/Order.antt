@@ -1,5 +1,5 @@
 -- The order of a message type's fields, and the places that fields take in it.
-use Rattle.std.specs.Prelude.{ℕ, ◌+◌, ◌/◌, ◌%◌, ◌==◌, ◌&&◌, not, Bool, List, [], ◌∷◌, drop, position, slice_get, slice_index, Option, Some, None, option_map, option_and_then, unwrap_or, if◌then◌else◌}
+use Rattle.std.specs.Prelude.{ℕ, ◌+◌, ◌/◌, ◌%◌, ◌==◌, ◌&&◌, nat_le, not, Bool, List, [], ◌∷◌, drop, position, slice_get, slice_index, Option, Some, None, option_map, option_and_then, unwrap_or, if◌then◌else◌}
 use Rattle.std.specs.List.{list_any}
 use Rattle.fin_fields.specs.declared.field.Field.{Field}
 use Rattle.fin_fields.specs.Faults.{letter_of}
@@ -34,6 +34,10 @@ missing_from k (p ∷ order) found = if is_missing p k found then Some k else mi
 -- the first field at a place, and its number
 abbrev pub field_in : List Field → List ℕ → ℕ → Option (ℕ × Field)
 field_in fs found place = option_and_then (λ i. option_map (λ f. (i, f)) (slice_get fs i)) (position (λ p. p == place) found)
+
+-- a place from this one to that one, both among them
+abbrev pub is_between : ℕ → ℕ → ℕ → Bool
+is_between first last p = nat_le first p && nat_le p last
 
 -- the tag of a place: two digits where it has several options, else the whole tag
 abbrev pub place_tag : Place → List ℕ

@@ -1,7 +1,8 @@
 //! The field at a place.
 
 ghost use Rattle.std.specs.Prelude.{◌≡◌, ◌<◌, ◌==◌, IfSome, length, option_map, position};
-ghost use Rattle.fin_layout.specs.Order.{field_in};
+ghost use Rattle.std.specs.List.{list_any};
+ghost use Rattle.fin_layout.specs.Order.{field_in, is_between};
 
 use fin_fields::Field;
 
@@ -21,4 +22,11 @@ pub fn find<'a>(fields: &'a [Field], found: &[usize], place: usize) -> Option<(u
         Some(at) if at < fields.len() => Some((at, &fields[at])),
         _ => None,
     }
+}
+
+/// Whether a field takes one of the places from `first` to `last`, both among them. `found` are the places of the fields.
+pub fn takes_any(found: &[usize], first: usize, last: usize) -> bool
+    ensures { result ≡ list_any (is_between first last) found.now }
+{
+    found.iter().any(|place| *place >= first && *place <= last)
 }

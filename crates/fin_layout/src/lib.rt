@@ -13,7 +13,7 @@ mod structure;
 
 pub use content::{Content, refusal};
 pub use fault::{MtFault, P22, P23, P24, Refusal};
-pub use finding::find;
+pub use finding::{find, takes_any};
 pub use naming::{absent, fault_at};
 pub use place::Place;
 pub use placing::{missing, places};

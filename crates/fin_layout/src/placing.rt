@@ -42,7 +42,7 @@ pub fn places(alloc: Global, order: &[Place], fields: &[Field]) -> Result<Vec<us
     ensures value { IfOk result (λ v. v.items ≡ places_from order.now 0 fields.now) }
     ensures few { IfOk result (λ v. length v.items ≤ length fields.now) }
 {
-    let mut found = Vec::new(alloc);
+    let mut found = Vec::with_capacity(alloc, fields.len())?;
     let mut free = 0;
     for f in fields {
         match place_from(order, free, f) {

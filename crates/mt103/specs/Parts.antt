@@ -122,6 +122,7 @@ contents_in_parts t fs found = do
 
 -- ---- parts put into a message, whatever it said
 
+-- the message with these terms, and what it said else
 abbrev pub with_terms : Mt103 → Terms → Mt103
 with_terms m terms = record {
   reference = terms.reference;
@@ -149,11 +150,13 @@ with_terms m terms = record {
   regulatory = m.regulatory;
 }
 
+-- the message with the terms that the fields say
 unfoldable pub terms_into : Tables → List Field → List ℕ → Mt103 → Result Mt103 Fault
 terms_into t fs found m = do
   terms ← terms_of t fs found
   Ok (with_terms m terms)
 
+-- the message with these parties, and what it said else
 abbrev pub with_parties : Mt103 → Parties → Mt103
 with_parties m parties = record {
   reference = m.reference;
@@ -181,11 +184,38 @@ with_parties m parties = record {
   regulatory = m.regulatory;
 }
 
+-- another payer
+abbrev pub with_payer : Mt103 → Party → Mt103
+with_payer m payer = with_parties m (record { payer = payer; p52 = m.p52; p53 = m.p53; p54 = m.p54; p55 = m.p55; p56 = m.p56; p57 = m.p57; payee = m.payee })
+
+-- other banks in 52a to 57a
+abbrev pub with_banks : Mt103 → Option Party → Option Party → Option Party → Option Party → Option Party → Option Party → Mt103
+with_banks m p52 p53 p54 p55 p56 p57 = with_parties m (record { payer = m.payer; p52 = p52; p53 = p53; p54 = p54; p55 = p55; p56 = p56; p57 = p57; payee = m.payee })
+
+-- another payee
+abbrev pub with_payee : Mt103 → Party → Mt103
+with_payee m payee = with_parties m (record { payer = m.payer; p52 = m.p52; p53 = m.p53; p54 = m.p54; p55 = m.p55; p56 = m.p56; p57 = m.p57; payee = payee })
+
+-- what 52a to 57a say
+unfoldable pub banks_into : Tables → List Field → List ℕ → Mt103 → Result Mt103 Fault
+banks_into t fs found m = do
+  p52 ← in_option fs found at_ordering (known_party_of t)
+  p53 ← in_option fs found at_senders_bank (known_party_of t)
+  p54 ← in_option fs found at_receivers_bank (known_party_of t)
+  p55 ← in_option fs found at_third_bank (known_party_of t)
+  p56 ← in_option fs found at_intermediary (known_party_of t)
+  p57 ← in_option fs found at_account_bank (known_party_of t)
+  Ok (with_banks m p52 p53 p54 p55 p56 p57)
+
+-- the payer, the banks, the payee
 unfoldable pub parties_into : Tables → List Field → List ℕ → Mt103 → Result Mt103 Fault
 parties_into t fs found m = do
-  parties ← parties_of t fs found
-  Ok (with_parties m parties)
+  payer ← in_place order_103 fs found at_payer (known_party_of t)
+  banks ← banks_into t fs found (with_payer m payer)
+  payee ← in_place order_103 fs found at_payee (known_party_of t)
+  Ok (with_payee banks payee)
 
+-- the message with these details, and what it said else
 abbrev pub with_details : Mt103 → Details → Mt103
 with_details m details = record {
   reference = m.reference;
@@ -213,6 +243,7 @@ with_details m details = record {
   regulatory = details.regulatory;
 }
 
+-- the message with the details that the fields say
 unfoldable pub details_into : Tables → List Field → List ℕ → Mt103 → Result Mt103 Fault
 details_into t fs found m = do
   details ← details_of t fs found

@@ -1,6 +1,7 @@
 //! MT103, the customer transfer: its fields in their order, what they say, and what is wrong with them.
 #![tactic(auto)]
 
+mod banks;
 mod codes;
 mod details;
 mod instruction;

@@ -5,20 +5,19 @@ ghost use Rattle.fin_fields.specs.Fields.{most_text_lines};
 ghost use Rattle.fin_layout.specs.Reading.{Fills};
 ghost use Rattle.mt103.specs.Parts.{parties_into};
 
+use crate::banks::fill_banks;
 use crate::message::Mt103;
 use crate::order::ORDER;
-use crate::places::{
-    ACCOUNT_BANK, INTERMEDIARY, ORDERING, PAYEE, PAYER, RECEIVERS_BANK, SENDERS_BANK, THIRD_BANK,
-};
+use crate::places::{PAYEE, PAYER};
 use corr_text::put;
 use fin_contents::KnownParty;
 use fin_fields::Field;
-use fin_layout::{MtFault, read_one, read_optional};
+use fin_layout::{MtFault, read_one};
 use ref_tables::RefTables;
 use std::alloc::Global;
 
 /// Puts what fields at these places say in 50a to 59a into a message.
-#[tactic(auto, unfolding(crate::specs::Parts::parties_into, crate::specs::Parts::parties_of))]
+#[tactic(auto, unfolding(crate::specs::Parts::parties_into))]
 pub fn fill_parties(
     alloc: Global,
     tables: &RefTables,
@@ -33,18 +32,7 @@ pub fn fill_parties(
     let party = KnownParty { tables };
     let payer = read_one(alloc, &party, &ORDER, fields, found, PAYER)?;
     put(&mut m.payer, payer);
-    let p52 = read_optional(alloc, &party, fields, found, ORDERING)?;
-    put(&mut m.p52, p52);
-    let p53 = read_optional(alloc, &party, fields, found, SENDERS_BANK)?;
-    put(&mut m.p53, p53);
-    let p54 = read_optional(alloc, &party, fields, found, RECEIVERS_BANK)?;
-    put(&mut m.p54, p54);
-    let p55 = read_optional(alloc, &party, fields, found, THIRD_BANK)?;
-    put(&mut m.p55, p55);
-    let p56 = read_optional(alloc, &party, fields, found, INTERMEDIARY)?;
-    put(&mut m.p56, p56);
-    let p57 = read_optional(alloc, &party, fields, found, ACCOUNT_BANK)?;
-    put(&mut m.p57, p57);
+    fill_banks(alloc, tables, fields, found, m)?;
     let payee = read_one(alloc, &party, &ORDER, fields, found, PAYEE)?;
     put(&mut m.payee, payee);
     Ok(())

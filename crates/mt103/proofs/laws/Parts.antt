@@ -1,11 +1,14 @@
 -- A transfer that is read part by part is what its fields say place by place.
-use Rattle.std.proofs.Common.{◌≡◌, ℕ, List, [], Option, Result, Ok, Err, refl, ◌∙◌}
+use Rattle.std.proofs.Common.{◌≡◌, ℕ, false, List, [], Option, None, Result, Ok, Err, refl, ◌∙◌, arith}
 use Rattle.std.specs.Prelude.{unwrap_or}
+use Rattle.std.specs.List.{list_any}
 use Rattle.corr_text.specs.First.{◌>>=◌}
 use Rattle.corr_money.specs.declared.amount.Amount.{Amount}
 use Rattle.ref_tables.specs.Seen.{Tables}
 use Rattle.fin_fields.specs.declared.field.Field.{Field}
 use Rattle.fin_layout.specs.Contents.{all_from, in_option, in_place}
+use Rattle.fin_layout.specs.Order.{is_between}
+use Rattle.fin_layout.proofs.laws.NoneTaken.{none-taken}
 use Rattle.fin_parties.specs.declared.party.Party.{Party}
 use Rattle.fin_contents.specs.Money.{ccy_amount_of, rate_of, value_of}
 use Rattle.fin_contents.specs.Parties.{known_party_of}
@@ -14,8 +17,8 @@ use Rattle.fin_contents.specs.declared.value.Value.{Value}
 use Rattle.fin_contents.proofs.laws.Grouped.{eight-apart, six-apart}
 use Rattle.mt103.specs.Codes.{charge_of, instr_of, kind_of, operation_of}
 use Rattle.mt103.specs.Message.{contents_of}
-use Rattle.mt103.specs.Order.{order_103}
-use Rattle.mt103.specs.Parts.{contents_in_parts, contents_into, details_into, details_of, transfer_of_parts, parties_into, parties_of, terms_into, terms_of, with_details, with_parties, with_terms, Details, Parties, Terms}
+use Rattle.mt103.specs.Order.{at_account_bank, at_ordering, order_103}
+use Rattle.mt103.specs.Parts.{banks_into, contents_in_parts, contents_into, details_into, details_of, transfer_of_parts, parties_into, parties_of, terms_into, terms_of, with_banks, with_details, with_parties, with_payee, with_payer, with_terms, Details, Parties, Terms}
 use Rattle.corr_text.specs.declared.fault.Fault.{Fault}
 use Rattle.mt103.specs.declared.instruction.Instr.{Instr}
 use Rattle.mt103.specs.declared.message.Mt103.{Mt103}
@@ -47,14 +50,44 @@ contents-are t fs found =
 
 -- ---- the same in a message that said something else
 
-one-by-one : (m : Mt103) (terms : Result Terms Fault) (parties : Result Parties Fault) (details : Result Details Fault)
-    → ((terms >>= λ x. Ok (with_terms m x)) >>= λ (first : Mt103). (parties >>= λ y. Ok (with_parties first y)) >>= λ (second : Mt103). details >>= λ z. Ok (with_details second z))
+-- payer, banks and payee one after another are the parties
+party-by-party : (m : Mt103) (payer : Result Party Fault) (p52 p53 p54 p55 p56 p57 : Result (Option Party) Fault) (payee : Result Party Fault)
+    → (payer >>= λ x. (p52 >>= λ a. p53 >>= λ b. p54 >>= λ c. p55 >>= λ d. p56 >>= λ e. p57 >>= λ f. Ok (with_banks (with_payer m x) a b c d e f)) >>= λ (banks : Mt103). payee >>= λ y. Ok (with_payee banks y))
+    ≡ ((payer >>= λ x. p52 >>= λ a. p53 >>= λ b. p54 >>= λ c. p55 >>= λ d. p56 >>= λ e. p57 >>= λ f. payee >>= λ y. Ok (parties x a b c d e f y)) >>= λ (all : Parties). Ok (with_parties m all))
+party-by-party m (Err fault) p52 p53 p54 p55 p56 p57 payee = refl
+party-by-party m (Ok x) (Err fault) p53 p54 p55 p56 p57 payee = refl
+party-by-party m (Ok x) (Ok a) (Err fault) p54 p55 p56 p57 payee = refl
+party-by-party m (Ok x) (Ok a) (Ok b) (Err fault) p55 p56 p57 payee = refl
+party-by-party m (Ok x) (Ok a) (Ok b) (Ok c) (Err fault) p56 p57 payee = refl
+party-by-party m (Ok x) (Ok a) (Ok b) (Ok c) (Ok d) (Err fault) p57 payee = refl
+party-by-party m (Ok x) (Ok a) (Ok b) (Ok c) (Ok d) (Ok e) (Err fault) payee = refl
+party-by-party m (Ok x) (Ok a) (Ok b) (Ok c) (Ok d) (Ok e) (Ok f) (Err fault) = refl
+party-by-party m (Ok x) (Ok a) (Ok b) (Ok c) (Ok d) (Ok e) (Ok f) (Ok y) = refl
+
+parties-are : (t : Tables) (fs : List Field) (found : List ℕ) (m : Mt103) → parties_into t fs found m ≡ (parties_of t fs found >>= λ all. Ok (with_parties m all))
+unfolding parties_into banks_into parties_of
+parties-are t fs found m =
+    party-by-party m (in_place order_103 fs found 8 (known_party_of t)) (in_option fs found 9 (known_party_of t)) (in_option fs found 10 (known_party_of t)) (in_option fs found 11 (known_party_of t))
+    (in_option fs found 12 (known_party_of t)) (in_option fs found 13 (known_party_of t)) (in_option fs found 14 (known_party_of t)) (in_place order_103 fs found 15 (known_party_of t))
+
+one-by-one : (m : Mt103) (terms : Result Terms Fault) (parties : Result Parties Fault) (details : Result Details Fault) (into : Mt103 → Result Mt103 Fault)
+    → ((first : Mt103) → into first ≡ (parties >>= λ y. Ok (with_parties first y)))
+    → ((terms >>= λ x. Ok (with_terms m x)) >>= λ (first : Mt103). into first >>= λ (second : Mt103). details >>= λ z. Ok (with_details second z))
     ≡ (terms >>= λ x. parties >>= λ y. details >>= λ z. Ok (transfer_of_parts x y z))
-one-by-one m (Err fault) parties details = refl
-one-by-one m (Ok x) (Err fault) details = refl
-one-by-one m (Ok x) (Ok y) (Err fault) = refl
-one-by-one m (Ok x) (Ok y) (Ok z) = refl
+one-by-one m (Err fault) parties details into same = refl
+one-by-one m (Ok x) parties details into same = rw (same (with_terms m x)) (go parties details)
+  where
+    go : (parties : Result Parties Fault) (details : Result Details Fault)
+        → ((parties >>= λ y. Ok (with_parties (with_terms m x) y)) >>= λ (second : Mt103). details >>= λ z. Ok (with_details second z)) ≡ (parties >>= λ y. details >>= λ z. Ok (transfer_of_parts x y z))
+    go (Err fault) details = refl
+    go (Ok y) (Err fault) = refl
+    go (Ok y) (Ok z) = refl
 
 pub into-are : (t : Tables) (fs : List Field) (found : List ℕ) (m : Mt103) → contents_into t fs found m ≡ contents_of t fs found
-unfolding contents_into terms_into parties_into details_into contents_in_parts
-into-are t fs found m = one-by-one m (terms_of t fs found) (parties_of t fs found) (details_of t fs found) ∙ contents-are t fs found
+unfolding contents_into terms_into details_into contents_in_parts
+into-are t fs found m = one-by-one m (terms_of t fs found) (parties_of t fs found) (details_of t fs found) (parties_into t fs found) (parties-are t fs found) ∙ contents-are t fs found
+
+-- where no field takes a place of 52a to 57a, a message has no bank
+pub no-banks : (t : Tables) (fs : List Field) (found : List ℕ) (m : Mt103) → list_any (is_between at_ordering at_account_bank) found ≡ false → banks_into t fs found m ≡ Ok (with_banks m None None None None None None)
+unfolding banks_into
+no-banks t fs found m none = rw (none-taken 9 14 9 (omega arith) (omega arith) fs found none, none-taken 9 14 10 (omega arith) (omega arith) fs found none, none-taken 9 14 11 (omega arith) (omega arith) fs found none, none-taken 9 14 12 (omega arith) (omega arith) fs found none, none-taken 9 14 13 (omega arith) (omega arith) fs found none, none-taken 9 14 14 (omega arith) (omega arith) fs found none) refl
