@@ -15,7 +15,6 @@ use Rattle.fin_layout.proofs.laws.InOrder.{fails-before, in-turn, structure-fail
 use Rattle.mt202cov.specs.Message.{content_test, contents_of, mt202cov_of}
 use Rattle.mt202cov.specs.Parts.{contents_in_parts}
 use Rattle.mt202cov.specs.Rules.{all_rules}
-use Rattle.mt202cov.specs.Steps.{unless_told}
 use Rattle.mt202cov.specs.declared.message.Mt202Cov.{Mt202Cov}
 use Rattle.mt202cov.specs.Order.{order_202}
 use Rattle.mt202cov.proofs.Refused.{contents-refused}
@@ -55,10 +54,11 @@ module _ (t : Tables) (fs : List Field) where
       pub all-pass : first_of (all_rules m) ≡ None → mt202cov_of t fs ≡ Ok m
       all-pass h = from-contents ∙ rw said (passed-on (first_of (all_rules m)) (Ok m) h)
 
-      by-rules : (first : Option Fault) → first_of (all_rules m) ≡ first → Gives (unless_told m first) (mt202cov_of t fs)
-      by-rules None h = all-pass h
-      by-rules (Some fault) h = rules-fail fault h
+    module _ (m : Mt202Cov) (parts : contents_in_parts t fs found ≡ Ok m) where
+      -- the cover that the contents say breaks this rule
+      pub refused : (fault : Fault) → first_of (all_rules m) ≡ Some fault → mt202cov_of t fs ≡ Err fault
+      refused fault h = rules-fail m (sym (contents-are t fs found) ∙ parts) fault h
 
-    -- what the rules leave of the cover that the contents say
-    pub told : (m : Mt202Cov) → contents_in_parts t fs found ≡ Ok m → Gives (unless_told m (first_of (all_rules m))) (mt202cov_of t fs)
-    told m parts = by-rules m (sym (contents-are t fs found) ∙ parts) (first_of (all_rules m)) refl
+      -- it breaks none
+      pub accepted : first_of (all_rules m) ≡ None → mt202cov_of t fs ≡ Ok m
+      accepted h = all-pass m (sym (contents-are t fs found) ∙ parts) h

@@ -1,4 +1,3 @@
-pub mod Steps
 pub mod Rules
 pub mod Message
 pub mod Parts

@@ -11,7 +11,6 @@ mod places;
 mod reading;
 mod rules;
 mod sequences;
-mod steps;
 mod terms;
 mod verdict;
 mod writing;

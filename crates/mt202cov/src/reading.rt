@@ -7,7 +7,7 @@ ghost use Rattle.mt202cov.specs.Parts.{contents_in_parts, cover_of_parts};
 
 use crate::message::Mt202Cov;
 use crate::sequences::{SequenceA, SequenceB, read_sequence_a, read_sequence_b};
-use crate::steps::beside;
+use corr_text::let_go;
 use fin_fields::Field;
 use fin_layout::MtFault;
 use ref_tables::RefTables;
@@ -53,7 +53,11 @@ pub fn read_contents(
     ensures { Gives result (contents_in_parts tables.now fields.now found.now) }
 {
     let a = read_sequence_a(alloc, tables, fields, found)?;
-    let b = read_sequence_b(alloc, tables, fields, found);
-    let (a, b) = beside(a, b)?;
-    Ok(message(a, b))
+    match read_sequence_b(alloc, tables, fields, found) {
+        Ok(b) => Ok(message(a, b)),
+        Err(fault) => {
+            let_go(a);
+            Err(fault)
+        }
+    }
 }

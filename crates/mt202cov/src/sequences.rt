@@ -9,9 +9,8 @@ use crate::banks::{Banks, read_banks};
 use crate::customers::{Customers, read_customers};
 use crate::details::{Details, read_details};
 use crate::places::A_NOTES;
-use crate::steps::beside;
 use crate::terms::{Terms, read_terms};
-use corr_text::{List, Text};
+use corr_text::{List, Text, let_go};
 use fin_contents::{Texts, or_none};
 use fin_fields::Field;
 use fin_layout::{MtFault, read_optional};
@@ -46,15 +45,25 @@ pub fn read_sequence_a(
     ensures { Gives result (sequence_a_of tables.now fields.now found.now) }
 {
     let terms = read_terms(alloc, tables, fields, found)?;
-    let banks = read_banks(alloc, tables, fields, found);
-    let both = beside(terms, banks)?;
-    let notes = read_optional(alloc, &Texts { most: 6 }, fields, found, A_NOTES);
-    let ((terms, banks), notes) = beside(both, notes)?;
-    Ok(SequenceA {
-        terms,
-        banks,
-        notes: or_none(alloc, notes),
-    })
+    let banks = match read_banks(alloc, tables, fields, found) {
+        Ok(banks) => banks,
+        Err(fault) => {
+            let_go(terms);
+            return Err(fault);
+        }
+    };
+    match read_optional(alloc, &Texts { most: 6 }, fields, found, A_NOTES) {
+        Ok(notes) => Ok(SequenceA {
+            terms,
+            banks,
+            notes: or_none(alloc, notes),
+        }),
+        Err(fault) => {
+            let_go(terms);
+            let_go(banks);
+            Err(fault)
+        }
+    }
 }
 
 /// What the fields at the places of sequence B say.
@@ -69,7 +78,11 @@ pub fn read_sequence_b(
     ensures { Gives result (sequence_b_of tables.now fields.now found.now) }
 {
     let customers = read_customers(alloc, tables, fields, found)?;
-    let details = read_details(alloc, tables, fields, found);
-    let (customers, details) = beside(customers, details)?;
-    Ok(SequenceB { customers, details })
+    match read_details(alloc, tables, fields, found) {
+        Ok(details) => Ok(SequenceB { customers, details }),
+        Err(fault) => {
+            let_go(customers);
+            Err(fault)
+        }
+    }
 }

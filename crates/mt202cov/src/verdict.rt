@@ -17,7 +17,7 @@ use crate::message::Mt202Cov;
 use crate::order::ORDER;
 use crate::reading::read_contents;
 use crate::rules::first_rule;
-use crate::steps::unless_told;
+use corr_text::let_go;
 use fin_fields::Field;
 use fin_layout::{MtFault, check_structure};
 use ref_tables::RefTables;
@@ -40,6 +40,11 @@ pub fn read_mt202cov(alloc: Global, f: &[Field], t: &RefTables) -> Result<Mt202C
 {
     let found = check_structure(alloc, &ORDER, f)?;
     let m = read_contents(alloc, t, f, found.as_slice())?;
-    let fault = first_rule(&m);
-    unless_told(m, fault)
+    match first_rule(&m) {
+        Some(fault) => {
+            let_go(m);
+            Err(MtFault::Bad(fault))
+        }
+        None => Ok(m),
+    }
 }

@@ -1,10 +1,10 @@
-use Rattle.std.proofs.Common.{◌∙◌}
+use Rattle.std.proofs.Common.{◌∙◌, Ok, sym}
 use Rattle.std.proofs.lemmas.Result.{err_from_is_err_and}
 use Rattle.fin_contents.proofs.laws.Readable.{given-readable}
 use Rattle.mt202cov.specs.Message.{mt202cov_of}
 use Rattle.mt202cov.proofs.laws.Amount.{given-payable}
 use Rattle.mt202cov.proofs.Complete.{complete}
-use Rattle.mt202cov.proofs.Outcome.{contents-fail, structure-fail, told}
+use Rattle.mt202cov.proofs.Outcome.{accepted, contents-fail, refused, structure-fail}
 use Rattle.mt202cov.proofs.verdict.read_mt202cov.Goals as goal
 
 pub returns-in_err-found-clause-message : goal.returns-in_err-found-clause-message
@@ -23,15 +23,22 @@ returns-in_err-m-clause-message c =
 pub returns-in_err-m-clause-complete : goal.returns-in_err-m-clause-complete
 returns-in_err-m-clause-complete c = complete c.args.t.now c.args.f.now
 
+pub returns-in-Some-clause-message : goal.returns-in-Some-clause-message
+returns-in-Some-clause-message c =
+    refused c.args.t.now c.args.f.now c.as_slice.result.now (c.as_slice.ensures.value ∙ c.in_ok-found.ensures.places) c.in_ok-found.ensures.sound c.in_ok-m.m c.in_ok-m.ensures c.in-Some.fault (sym c.first_rule.ensures ∙ c.in-Some.is)
+
+pub returns-in-Some-clause-complete : goal.returns-in-Some-clause-complete
+returns-in-Some-clause-complete c = complete c.args.t.now c.args.f.now
+
 pub returns-clause-message : goal.returns-clause-message
 returns-clause-message c =
-    rw (c.unless_told.ensures, c.first_rule-fault.ensures) (told c.args.t.now c.args.f.now c.as_slice.result.now (c.as_slice.ensures.value ∙ c.in_ok-found.ensures.places) c.in_ok-found.ensures.sound c.in_ok-m.m c.in_ok-m.ensures)
+    accepted c.args.t.now c.args.f.now c.as_slice.result.now (c.as_slice.ensures.value ∙ c.in_ok-found.ensures.places) c.in_ok-found.ensures.sound c.in_ok-m.m c.in_ok-m.ensures (sym c.first_rule.ensures ∙ c.in-None.is)
 
 pub returns-clause-amount : goal.returns-clause-amount
-returns-clause-amount c = given-payable c.args.t.now c.args.f.now _ (returns-clause-message c)
+returns-clause-amount c = given-payable c.args.t.now c.args.f.now (Ok c.in_ok-m.m) (returns-clause-message c)
 
 pub returns-clause-written : goal.returns-clause-written
-returns-clause-written c = given-readable mt202cov_of c.args.t.now c.args.f.now _ (returns-clause-message c)
+returns-clause-written c = given-readable mt202cov_of c.args.t.now c.args.f.now (Ok c.in_ok-m.m) (returns-clause-message c)
 
 pub returns-clause-complete : goal.returns-clause-complete
 returns-clause-complete c = complete c.args.t.now c.args.f.now
