@@ -1,6 +1,6 @@
 //! What the seats of the table know, and the rule that they keep.
 
-use atomic_table::{Join, Play, Seat, Shared, Split, Table, TableRule};
+use atomic_table::{Join, Play, Seat, Split, Table, TableRule};
 use std::alloc::Global;
 use std::collections::LinkedList;
 use std::marker::{Brand, PhantomData};

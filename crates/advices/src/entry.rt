@@ -1,13 +1,12 @@
 //! The messages of an entry.
 
-ghost use Rattle.std.specs.Prelude.{◌≡◌, ◌≢◌, ◌≤◌, ◌++◌, [], All, IfOk, IfSome, IsTrue, OnOk, length};
+ghost use Rattle.std.specs.Prelude.{◌≡◌, ◌≤◌, IfOk, OnOk, length};
 ghost use Rattle.std.specs.Int.{IsInRange};
 ghost use Rattle.corr_ids.specs.Bic.{IsBic};
 ghost use Rattle.corr_ids.specs.Day.{InCentury};
 ghost use Rattle.day_model.specs.Chart.{IsChart};
 ghost use Rattle.day_model.specs.Fit.{FitsAccounts};
 ghost use Rattle.day_model.specs.Shape.{HasShape, IsOrder};
-ghost use Rattle.fin_fields.specs.Writing.{IsField};
 ghost use Rattle.day_model.specs.Log.{most_entries};
 ghost use Rattle.advices.specs.Messages.{AllReadBack, OrderReadsBack, order_message, messages_from, messages_of, order_fields};
 ghost use Rattle.advices.specs.Received.{received_of};

@@ -1,6 +1,6 @@
 //! The legs of a pay, with their accounts.
 
-ghost use Rattle.std.specs.Prelude.{◌≡◌, ◌≤◌, ◌-◌, Some, length, slice_get};
+ghost use Rattle.std.specs.Prelude.{◌≡◌, ◌-◌, Some, length, slice_get};
 ghost use Rattle.day_model.specs.Chart.{IsChart, IsFormed};
 ghost use Rattle.day_model.specs.Fit.{FitsAccounts};
 ghost use Rattle.day_model.specs.Shape.{IsNumbered};

@@ -1,12 +1,11 @@
 //! The message that a pay came from.
 
-ghost use Rattle.std.specs.Prelude.{◌≡◌, ◌≤◌, ◌++◌, All, IfOk, IfSome, IsTrue, OnOk, find, length, option_map, position};
+ghost use Rattle.std.specs.Prelude.{◌≡◌, ◌≤◌, ◌++◌, All, IfOk, OnOk, length, position};
 ghost use Rattle.corr_ids.specs.Bic.{IsBic};
 ghost use Rattle.corr_ids.specs.Mir.{IsMir};
 ghost use Rattle.fin_fields.specs.Writing.{IsField};
-ghost use Rattle.fin_contents.specs.Writing.{IsAmount};
 ghost use Rattle.advices.specs.Fields.{is_named};
-ghost use Rattle.advices.specs.Received.{amount_if, amount_in, fields_for_52, fields_in, first_fields, is_payer, ordered_of, ordering, received_of, sequence_a, sequence_b};
+ghost use Rattle.advices.specs.Received.{fields_for_52, fields_in, first_fields, is_payer, ordering, received_of, sequence_a, sequence_b};
 ghost use Rattle.day_model.specs.Shape.{most_text};
 
 use crate::copying::{bank_field, copy_field, first_named, is_named};

@@ -1,12 +1,10 @@
 //! Fields as a message that is sent.
 
-ghost use Rattle.std.specs.Prelude.{◌≡◌, ◌≢◌, ◌≤◌, ◌++◌, [], All, IfOk, IfSome, IsTrue, OnOk};
+ghost use Rattle.std.specs.Prelude.{◌≡◌, ◌≢◌, ◌≤◌, ◌++◌, [], All, IfOk, IsTrue, OnOk};
 ghost use Rattle.corr_ids.specs.Bic.{IsBic};
-ghost use Rattle.corr_ids.specs.Uetr.{IsUetr};
-ghost use Rattle.fin_blocks.specs.Sending.{IsText, are_subblocks, sent_text};
+ghost use Rattle.fin_blocks.specs.Sending.{are_subblocks, sent_text};
 ghost use Rattle.fin_fields.specs.Writing.{IsField, fields_text};
 ghost use Rattle.advices.specs.Messages.{ReadsBack, receiver_of, order_type, uetr_block, order_user};
-ghost use Rattle.day_model.specs.Shape.{IsOrder};
 
 use corr_ids::{Bic, Uetr};
 use corr_text::{List, Memory, Text};

@@ -1,12 +1,10 @@
 //! The MT103 that is sent on.
 
-ghost use Rattle.std.specs.Prelude.{◌≡◌, ◌++◌, ◌∷◌, [], IfOk, IfSome, OnOk, codes, find, take};
-ghost use Rattle.std.specs.List.{flat_map};
-ghost use Rattle.corr_ids.specs.Bic.{IsBic};
+ghost use Rattle.std.specs.Prelude.{◌≡◌, ◌++◌, [], IfOk, OnOk, codes};
 ghost use Rattle.fin_layout.specs.Segments.{joined};
 ghost use Rattle.fin_contents.specs.Writing.{IsAmount, IsValue, some_field};
 ghost use Rattle.advices.specs.Fields.{bank_field, copied_all, is_named, kept};
-ghost use Rattle.advices.specs.Transfer.{account_bank, detail_fields, has_code, passed_instructions, intermediary, is_passed_on, is_there, ordered_amount, party_fields, tells_account_bank, tells_intermediary, term_fields, transfer_fields};
+ghost use Rattle.advices.specs.Transfer.{account_bank, detail_fields, has_code, passed_instructions, intermediary, is_passed_on, ordered_amount, party_fields, tells_account_bank, tells_intermediary, term_fields, transfer_fields};
 
 use crate::copying::{bank_field, copy_field, first_named, is_named, push_copied};
 use crate::received::{Received, push_ordering};

@@ -1,6 +1,6 @@
 //! What a disk in memory has been through.
 
-ghost use Rattle.std.specs.Prelude.{◌≡◌, ◌+◌, ◌≤◌, [], ◌∷◌, ◌++◌, Some, length, OnOk, OnErr};
+ghost use Rattle.std.specs.Prelude.{◌≡◌, ◌+◌, ◌≤◌, [], ◌∷◌, Some, length, OnOk, OnErr};
 ghost use Rattle.corr_disk.specs.Disk.{written, most_disk_bytes};
 ghost use Rattle.corr_disk.specs.Past.{History, bytes_after, Settles};
 

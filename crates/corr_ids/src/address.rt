@@ -1,6 +1,6 @@
 //! Addresses of logical terminals.
 
-ghost use Rattle.std.specs.Prelude.{◌≡◌, ◌≤◌, IsTrue, IfSome, length, take, drop};
+ghost use Rattle.std.specs.Prelude.{◌≡◌, IsTrue, IfSome, length};
 ghost use Rattle.corr_ids.specs.Bic.{IsBic};
 ghost use Rattle.corr_ids.specs.Address.{IsLt, address_of, bank_of, is_lt, lt_of};
 

@@ -1,6 +1,6 @@
 //! A source over bytes in memory, with failures to order.
 
-ghost use Rattle.std.specs.Prelude.{◌≡◌, [], ◌++◌, min, length, take, Some, is_ok, is_err, IfOk, if◌then◌else◌};
+ghost use Rattle.std.specs.Prelude.{◌≡◌, [], ◌++◌, min, length, take, Some, is_err, IfOk};
 ghost use Rattle.std.specs.Io.{ReadsAtMost};
 ghost use Rattle.std.specs.Io.KnownBytes.{ReadConsumes};
 ghost use Rattle.corr_text.specs.Faults.{HasCause, counted};

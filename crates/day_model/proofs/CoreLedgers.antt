@@ -1,5 +1,5 @@
 -- A pay that is entered leaves the ledger sound.
-use Rattle.std.proofs.Common.{◌≡◌, ℕ, ◌+◌, ◌-◌, ◌<◌, Bool, true, false, cond, ltb, List, [], ◌∷◌, ◌++◌, Some, refl, sym, ap, ◌∙◌, subst, arith, length, take}
+use Rattle.std.proofs.Common.{◌≡◌, ℕ, ◌+◌, ◌<◌, Bool, true, false, ltb, List, [], ◌∷◌, ◌++◌, Some, refl, sym, ap, ◌∙◌, subst, arith, length, take}
 use Rattle.std.specs.Prelude.{◌||◌, not, slice_get, is_some, if◌then◌else◌}
 use Rattle.std.proofs.lemmas.Bool.{and_parts, and_left, cond-false, ltb-true, not_from_true}
 use Rattle.std.proofs.lemmas.List.{append-nil, get_or_push, length_push, take-append-le, take_all}

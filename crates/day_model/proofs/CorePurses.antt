@@ -1,5 +1,5 @@
 -- Purses stay at their balances.
-use Rattle.std.proofs.Common.{◌≡◌, ◌≢◌, ℕ, zero, suc, ◌+◌, ◌-◌, ◌<◌, ◌≤◌, Bool, true, false, cond, eqb, List, [], ◌∷◌, ◌++◌, Option, Some, get_or, length-append, sym, ap, ◌∙◌, subst, arith, length, take, ℤ, pos, ◌+ℤ◌, ◌-ℤ◌, inl, inr}
+use Rattle.std.proofs.Common.{◌≡◌, ◌≢◌, ℕ, ◌+◌, ◌-◌, ◌<◌, ◌≤◌, Bool, true, false, cond, eqb, List, [], ◌∷◌, ◌++◌, Option, Some, get_or, length-append, sym, ap, ◌∙◌, subst, arith, length, take, ℤ, pos, ◌+ℤ◌, ◌-ℤ◌, inl, inr}
 use Rattle.std.specs.Prelude.{slice_get, unwrap_or, option_map, if◌then◌else◌}
 use Rattle.std.proofs.lemmas.Bool.{cases_eq, eq-eqb, ne_eqb}
 use Rattle.std.proofs.lemmas.Int.{ints}

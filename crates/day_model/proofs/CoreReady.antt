@@ -1,5 +1,5 @@
 -- Where a worker has a job, some worker may go on.
-use Rattle.std.proofs.Common.{◌≡◌, ◌≢◌, ℕ, zero, suc, ◌+◌, ◌-◌, ◌<◌, ◌≤◌, Bool, true, false, cond, eqb, List, Option, Some, None, refl, sym, ap, ◌∙◌, subst, arith, length, inl, inr}
+use Rattle.std.proofs.Common.{◌≡◌, ℕ, zero, suc, ◌+◌, ◌-◌, ◌<◌, ◌≤◌, Bool, true, false, List, Option, Some, None, refl, sym, ap, ◌∙◌, subst, arith, length, inl, inr}
 use Rattle.std.specs.Prelude.{◌⊎◌, ◌||◌, slice_get, is_some, is_none, IfSome}
 use Rattle.std.specs.List.{position_from}
 use Rattle.std.proofs.lemmas.Bool.{and_from, and_parts, cases_Bool, eq-eqb, eqb-true, false≢true, or_left, or_right}
@@ -8,7 +8,7 @@ use Rattle.day_model.specs.declared.core_event.Event.{Event}
 use Rattle.day_model.specs.declared.core_event.Event.TheVariants.{Draw, Take, Commit, GiveBack, Fault}
 use Rattle.day_model.specs.declared.core_job.Job.{Job}
 use Rattle.day_model.specs.declared.core_job.Mark.{Mark}
-use Rattle.day_model.specs.CoreStep.{CoreState, holder_of, holds, is_allowed, is_number, job_at, may_commit, may_give_back, may_take, run_of, wanted_by}
+use Rattle.day_model.specs.CoreStep.{CoreState, holder_of, is_allowed, is_number, job_at, may_commit, may_give_back, may_take, run_of, wanted_by}
 use Rattle.day_model.specs.CoreSound.{AllIdle, HasHeld, IsSound, MayGoOn, NoDeadlock, RunsAreKept, can_go_on, goes_on, is_free}
 use Rattle.day_model.proofs.laws.Growth.{none_passes}
 use Rattle.day_model.proofs.CoreWorkers.{job_there}

@@ -1,5 +1,5 @@
 -- Sums of openings, and the first currency whose openings don't sum to 0.
-use Rattle.std.proofs.Common.{◌≡◌, ◌≢◌, ℕ, zero, suc, ◌+◌, ◌-◌, ◌*◌, ◌<◌, ◌≤◌, Bool, true, false, cond, List, [], ◌∷◌, ◌++◌, Option, Some, None, refl, sym, ap, ◌∙◌, subst, arith, length, take, get_or, ℤ, pos, ◌+ℤ◌, ◌≤ℤ◌, FitsSigned, w64, Ordering, Less, Equal, Greater, inl, inr}
+use Rattle.std.proofs.Common.{◌≡◌, ℕ, zero, suc, ◌+◌, ◌*◌, ◌<◌, ◌≤◌, Bool, true, false, List, [], ◌∷◌, ◌++◌, Option, Some, None, refl, sym, ap, ◌∙◌, subst, arith, length, take, get_or, ℤ, pos, ◌+ℤ◌, ◌≤ℤ◌, FitsSigned, w64, Ordering, Less, Equal, Greater, inl, inr}
 use Rattle.std.specs.Prelude.{◌⊎◌, slice_get, if◌then◌else◌}
 use Rattle.std.proofs.lemmas.Bool.{cases_Bool, false≢true, cond-false, cond_both, cases_lt}
 use Rattle.std.proofs.lemmas.Int.{ints}

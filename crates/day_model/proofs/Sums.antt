@@ -1,5 +1,5 @@
 -- Balances of a currency sum to 0, its debits equal its credits, and totals fit 64 bits.
-use Rattle.std.proofs.Common.{◌≡◌, ◌≢◌, ℕ, zero, suc, ◌+◌, ◌-◌, ◌*◌, ◌^◌, ◌<◌, ◌≤◌, Bool, true, false, cond, List, [], ◌∷◌, Option, Some, None, refl, sym, ap, ◌∙◌, subst, arith, eqb, length, take, get_or, ℤ, pos, ◌+ℤ◌, ◌-ℤ◌, inl, inr}
+use Rattle.std.proofs.Common.{◌≡◌, ◌≢◌, ℕ, zero, suc, ◌+◌, ◌-◌, ◌*◌, ◌<◌, ◌≤◌, Bool, true, false, cond, List, [], ◌∷◌, Option, Some, None, refl, sym, ap, ◌∙◌, subst, arith, eqb, length, take, get_or, ℤ, pos, ◌+ℤ◌, ◌-ℤ◌, inl, inr}
 use Rattle.std.specs.Prelude.{slice_get, sum_by, unwrap_or, option_map, if◌then◌else◌}
 use Rattle.std.proofs.lemmas.Bool.{cases_eq, cases_Bool, eq-eqb, ne_eqb, false≢true, cond-true, cond-false, cond_both}
 use Rattle.std.proofs.lemmas.Int.{ints}

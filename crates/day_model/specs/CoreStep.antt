@@ -1,5 +1,5 @@
 -- The core: workers that enter pays into one ledger, event by event.
-use Rattle.std.specs.Prelude.{ℕ, zero, suc, ◌-◌, ◌+◌, ◌==◌, ◌&&◌, Bool, true, false, not, List, [], ◌∷◌, ◌++◌, Option, Some, None, slice_get, slice_set, is_some, is_none, nat_lt, if◌then◌else◌, option_and_then}
+use Rattle.std.specs.Prelude.{ℕ, ◌-◌, ◌==◌, ◌&&◌, Bool, true, false, List, [], ◌∷◌, ◌++◌, Option, Some, None, slice_get, slice_set, is_some, is_none, nat_lt, if◌then◌else◌, option_and_then}
 use Rattle.std.specs.List.{list_any, position_from}
 use Rattle.std.specs.Option.{option_map_or}
 use Rattle.day_model.specs.declared.account.AcctNo.{AcctNo}

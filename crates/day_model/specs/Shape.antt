@@ -1,5 +1,5 @@
 -- The shape of a pay, whatever the book.
-use Rattle.std.specs.Prelude.{ℕ, ◌≤◌, ◌==◌, ◌&&◌, ◌-◌, not, Bool, false, All, IfSome, IsTrue, List, [], ◌∷◌, length}
+use Rattle.std.specs.Prelude.{ℕ, ◌≤◌, ◌==◌, ◌&&◌, not, Bool, false, All, IfSome, IsTrue, List, [], ◌∷◌, length}
 use Rattle.std.specs.List.{list_all}
 use Rattle.corr_text.specs.declared.set.Set.TheVariants.{X}
 use Rattle.corr_text.specs.Sets.{is_in}

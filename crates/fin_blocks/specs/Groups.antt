@@ -1,5 +1,5 @@
 -- Groups: a `{` up to its matching `}`.
-use Rattle.std.specs.Prelude.{◌≡◌, ℕ, ◌-◌, ◌==◌, List, [], ◌∷◌, Option, Some, None, if◌then◌else◌}
+use Rattle.std.specs.Prelude.{◌≡◌, ℕ, ◌==◌, List, [], ◌∷◌, Option, Some, None, if◌then◌else◌}
 use Rattle.corr_text.specs.Braces.{depth_after}
 
 -- a byte put before the first group; one that is never closed stays none

@@ -1,6 +1,6 @@
 //! What the forms of blocks share.
 
-ghost use Rattle.std.specs.Prelude.{◌≡◌, ◌==◌, ◌&&◌, ◌<◌, ◌≤◌, ◌+◌, IsTrue, option_map, IfSome, length, Some, None};
+ghost use Rattle.std.specs.Prelude.{◌≡◌, ◌==◌, ◌&&◌, ◌<◌, ◌≤◌, IsTrue, option_map, IfSome, length, Some, None};
 ghost use Rattle.corr_text.specs.Digits.{number_of};
 ghost use Rattle.fin_blocks.specs.Forms.{between as between_of, inside as inside_of, is_plain as is_plain_of, is_tagged as is_tagged_of, tagged_of};
 

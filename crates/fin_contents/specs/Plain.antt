@@ -1,5 +1,5 @@
 -- Contents of plain text: what a field says, or the code of what is wrong with it, tested in this order.
-use Rattle.std.specs.Prelude.{ℕ, ◌-◌, ◌==◌, ◌&&◌, ◌||◌, not, Bool, false, List, [], ◌∷◌, length, take, drop, Option, Some, None, Result, Ok, is_some, if◌then◌else◌}
+use Rattle.std.specs.Prelude.{ℕ, ◌==◌, ◌&&◌, ◌||◌, not, Bool, false, List, [], ◌∷◌, length, take, drop, Option, Some, None, Result, Ok, is_some, if◌then◌else◌}
 use Rattle.std.specs.List.{after_first, before_first, list_all, position}
 use Rattle.corr_text.specs.Codes.{code}
 use Rattle.corr_text.specs.First.{check, or_fault, ◌>>=◌}

@@ -1,6 +1,6 @@
 //! Amounts with their currency: fields 33B, 71F and 71G.
 
-ghost use Rattle.std.specs.Prelude.{◌≡◌, ◌≤◌, ◌<◌, ◌^◌, ◌++◌, IfOk, IsTrue, Ok, OnErr, OnOk, length, take};
+ghost use Rattle.std.specs.Prelude.{◌≡◌, ◌≤◌, ◌++◌, IfOk, IsTrue, Ok, OnErr, OnOk, length, take};
 ghost use Rattle.fin_contents.specs.Money.{amount_code, ccy_amount_in, ccy_amount_of, is_ccy_amount, minor_in};
 ghost use Rattle.fin_contents.specs.Writing.{IsAmount, IsHeading, ccy_amount_field, ccy_amount_text};
 ghost use Rattle.fin_fields.specs.Writing.{IsField};

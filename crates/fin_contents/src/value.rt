@@ -2,7 +2,7 @@
 
 ghost use Rattle.std.specs.Prelude.{◌≡◌, ◌≤◌, IfOk, IsTrue, Ok, length};
 ghost use Rattle.fin_contents.specs.Money.{is_dated_amount, value_in, value_of};
-ghost use Rattle.fin_contents.specs.Writing.{IsValue, ccy_amount_text, value_field};
+ghost use Rattle.fin_contents.specs.Writing.{IsValue, value_field};
 ghost use Rattle.fin_fields.specs.Writing.{IsField};
 ghost use Rattle.fin_fields.specs.declared.field.Field.{Field as FieldSeen};
 ghost use Rattle.fin_layout.specs.Reading.{Reads};

@@ -1,13 +1,11 @@
 -- What the answers of a commit tell.
-use Rattle.std.proofs.Common.{◌≡◌, ℕ, ◌+◌, ◌≤◌, Bool, true, false, List, [], ◌∷◌, ◌++◌, length, Option, Some, None, refl, sym, ap, ◌∙◌, subst, arith, cond, inl, inr}
-use Rattle.std.specs.Prelude.{◌⊎◌, IsTrue, IsSome, is_some, OnOk, Ok, Err}
-use Rattle.corr_disk.specs.Calls.{AtMostCalls, CallsMade}
+use Rattle.std.proofs.Common.{◌≡◌, ℕ, ◌+◌, Bool, false, List, [], ◌∷◌, ◌++◌, Option, Some, None, refl, sym, ap, ◌∙◌, subst, arith, cond, inl}
+use Rattle.std.specs.Prelude.{IsTrue, IsSome, is_some, OnOk, Ok, Err}
 use Rattle.corr_disk.specs.Disk.{LeavesOnly}
 use Rattle.corr_ids.specs.declared.day.Day.{Day}
 use Rattle.day_model.specs.declared.pay.Pay.{Pay}
 use Rattle.day_model.specs.declared.entry.Entry.{Entry}
 use Rattle.day_model.specs.Chart.{Chart}
-use Rattle.day_model.specs.Legal.{IsLegal}
 use Rattle.day_model.specs.Next.{entered_at, entry_of, next_history}
 use Rattle.acct_locks.specs.Holdings.{Holding, held_with}
 use Rattle.jrn_file.specs.File.{IsSettled, disk_of, end_of}
@@ -16,10 +14,8 @@ use Rattle.jrn_book.specs.Answers.{Answer, IsAnswered, Shows, calls_disk, failed
 use Rattle.jrn_book.specs.Appending.{Repeats}
 use Rattle.jrn_book.specs.Book.{Book, Counts, HasRisen, IsBook, StandsOnDisk}
 use Rattle.jrn_book.specs.Commits.{Commits}
-use Rattle.jrn_book.specs.Journal.{IsBeforeOrNext, StandsForBook, file_of, entry_records}
-use Rattle.jrn_book.specs.declared.answer.Committed.{Committed}
+use Rattle.jrn_book.specs.Journal.{IsBeforeOrNext, StandsForBook, entry_records}
 use Rattle.jrn_book.specs.declared.answer.Committed.TheVariants.{New, Kept}
-use Rattle.jrn_book.specs.declared.answer.CommitFault.{CommitFault}
 use Rattle.jrn_book.specs.declared.answer.CommitFault.TheVariants.{Conflict, Full, DiskFault, Broken, Memory}
 use Rattle.jrn_book.proofs.Entering.{held_with-nil}
 

@@ -1,5 +1,5 @@
 -- What a new entry adds to a book.
-use Rattle.std.proofs.Common.{◌≡◌, ℕ, ◌+◌, ◌<◌, ◌^◌, All, Bool, true, false, cond, List, [], ◌∷◌, ◌++◌, length, map, get_or, Option, Some, None, refl, sym, ap, ◌∙◌, subst, arith}
+use Rattle.std.proofs.Common.{◌≡◌, ℕ, ◌+◌, ◌<◌, ◌^◌, All, Bool, true, false, cond, List, [], ◌∷◌, ◌++◌, length, get_or, Option, Some, None, refl, sym, ap, ◌∙◌, subst}
 use Rattle.std.specs.Prelude.{◌⊎◌, is_some}
 use Rattle.std.specs.List.{position_from}
 use Rattle.std.specs.Str.{bytes_eq}
@@ -24,7 +24,7 @@ use Rattle.day_model.specs.Totals.{Pair, Fits64, booked_legs, legs_pair, plus, t
 use Rattle.day_model.proofs.laws.Growth.{one_more}
 use Rattle.day_model.proofs.laws.Pairs.{entry_adds_its_legs, legal_totals_fit, plus_nothing}
 use Rattle.acct_locks.specs.Holdings.{CanSettle, Holding, HoldsOnce, held_totals, held_with}
-use Rattle.jrn_file.specs.Journal.{IsFrame, StandsFor, frame_of, record_in}
+use Rattle.jrn_file.specs.Journal.{IsFrame, StandsFor, frame_of}
 use Rattle.jrn_file.proofs.laws.Frames.{record_in-frame}
 use Rattle.jrn_codec.specs.Header.{head_bytes}
 use Rattle.jrn_codec.specs.Record.{entry_bytes}

@@ -1,10 +1,9 @@
 -- What the answers of an opening tell of the bytes.
-use Rattle.std.proofs.Common.{◌≡◌, ℕ, ◌+◌, ◌<◌, ◌^◌, Bool, List, [], ◌∷◌, ◌++◌, length, Option, Some, None, refl, sym, ap, ◌∙◌, subst, arith, inl, inr}
+use Rattle.std.proofs.Common.{◌≡◌, ℕ, ◌+◌, ◌<◌, ◌^◌, Bool, List, ◌∷◌, length, Option, Some, None, sym, ap, subst, arith, inl}
 use Rattle.std.specs.Prelude.{IfSome, IsTrue}
-use Rattle.jrn_file.specs.Faults.{TellsCounts}
 use Rattle.jrn_file.specs.Journal.{journal_bytes}
 use Rattle.jrn_file.specs.Opening.{ReadCause}
-use Rattle.jrn_file.specs.Reading.{Reading, no_journal, whole, cut, opened_of, size_of}
+use Rattle.jrn_file.specs.Reading.{Reading, whole, cut, opened_of, size_of}
 use Rattle.jrn_file.specs.declared.fault.OpenFault.{OpenFault}
 use Rattle.jrn_file.specs.declared.fault.OpenFault.TheVariants.{NotAJournal, Damaged, DiskFault, Memory}
 use Rattle.jrn_book.specs.Opening.{Finding, IsFaultyAt, IsFound, IsNoBook, BookOpenCause, found_by}

@@ -1,15 +1,14 @@
 -- A history that is read record by record.
-use Rattle.std.proofs.Common.{◌≡◌, ℕ, ◌+◌, ◌-◌, ◌<◌, ◌≤◌, ◌^◌, List, [], ◌∷◌, ◌++◌, length, take, drop, get_or, refl, sym, ap, ◌∙◌, subst, arith}
+use Rattle.std.proofs.Common.{◌≡◌, ℕ, ◌+◌, ◌-◌, ◌<◌, ◌^◌, List, [], ◌∷◌, ◌++◌, length, take, drop, get_or, sym, ap, ◌∙◌, subst, arith}
 use Rattle.std.specs.Prelude.{min}
 use Rattle.std.proofs.lemmas.List.{append_assoc, take_more, take-append-drop}
 use Rattle.std.proofs.lemmas.List.Elements.{All-nil}
-use Rattle.day_model.specs.declared.entry.Entry.{Entry}
 use Rattle.day_model.specs.Chart.{Chart}
 use Rattle.day_model.proofs.laws.Growth.{empty_is_legal}
 use Rattle.jrn_file.specs.Reading.{size_of, whole}
 use Rattle.jrn_file.proofs.laws.Sizes.{size_of-append}
 use Rattle.jrn_codec.specs.Header.{IsHead, head_bytes}
-use Rattle.jrn_codec.specs.Record.{IsEntry, entry_bytes}
+use Rattle.jrn_codec.specs.Record.{IsEntry}
 use Rattle.jrn_book.specs.Journal.{IsJournal, all_records, entry_records}
 use Rattle.jrn_book.specs.Opening.{IsFaultyAt, IsNoNext}
 use Rattle.jrn_book.specs.Reading.{IsReadNext, Read}

@@ -1,5 +1,5 @@
 -- What holds of a book after an append.
-use Rattle.std.proofs.Common.{◌≡◌, ℕ, ◌<◌, ◌≤◌, All, Bool, false, List, [], ◌∷◌, ◌++◌, length, Option, None, Some, refl, sym, ap, ◌∙◌, subst, arith}
+use Rattle.std.proofs.Common.{◌≡◌, ℕ, ◌≤◌, Bool, false, List, [], ◌∷◌, ◌++◌, length, Option, None, refl, sym, subst, arith}
 use Rattle.std.specs.Prelude.{◌⊎◌, IsTrue, IfSome, Err}
 use Rattle.std.proofs.lemmas.List.Elements.{All-push}
 use Rattle.corr_disk.specs.Disk.{LeavesOnly}
@@ -10,9 +10,7 @@ use Rattle.day_model.specs.declared.entry.Entry.{Entry}
 use Rattle.day_model.specs.Chart.{Chart}
 use Rattle.day_model.specs.Legal.{IsLegal}
 use Rattle.day_model.specs.Log.{Log, most_entries}
-use Rattle.day_model.specs.Pairs.{pairs_with}
-use Rattle.day_model.specs.Totals.{HasTotals, Pair, booked_legs}
-use Rattle.day_model.proofs.laws.Histories.{has_entry}
+use Rattle.day_model.specs.Totals.{HasTotals}
 use Rattle.acct_locks.specs.Sides.{Sides}
 use Rattle.jrn_file.specs.declared.file.JFile.{JFile}
 use Rattle.jrn_file.specs.File.{IsSettled, disk_of}
@@ -26,7 +24,7 @@ use Rattle.jrn_book.specs.Appending.{ShowsAppend}
 use Rattle.jrn_book.specs.Book.{Counts, IsBacked, IsLeftBy, StandsOnDisk}
 use Rattle.jrn_book.specs.Index.{References, references_of}
 use Rattle.jrn_book.specs.Journal.{IsJournal, entry_records}
-use Rattle.jrn_book.proofs.Entering.{records_more, references_more}
+use Rattle.jrn_book.proofs.Entering.{records_more}
 
 -- the counts after a fault
 pub counts_after : (day : Day) (at_open count end need old new : ℕ) (fault : CommitFault) → at_open ≤ old → ShowsAppend count end need old new (Err fault) → Counts (failed_after None day (Err fault)) at_open new

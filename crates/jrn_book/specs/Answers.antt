@@ -1,12 +1,11 @@
 -- What the answer of a commit tells, and what it leaves.
-use Rattle.std.specs.Prelude.{◌≡◌, ◌≢◌, ◌⊎◌, ℕ, ◌+◌, ◌-◌, ◌<◌, ◌≤◌, Bool, true, false, All, List, [], ◌∷◌, ◌++◌, length, slice_get, Option, Some, None, IsSome, Result, Ok, Err}
+use Rattle.std.specs.Prelude.{◌≡◌, ◌⊎◌, ℕ, ◌+◌, ◌-◌, ◌<◌, ◌≤◌, Bool, true, false, List, [], length, slice_get, Option, Some, None, IsSome, Result, Ok, Err}
 use Rattle.corr_text.specs.Faults.{Rose}
 use Rattle.corr_ids.specs.declared.day.Day.{Day}
 use Rattle.corr_disk.specs.Disk.{most_disk_bytes}
 use Rattle.day_model.specs.declared.pay.Leg.{Leg}
 use Rattle.day_model.specs.declared.pay.Pay.{Pay}
 use Rattle.day_model.specs.declared.entry.Entry.{Entry}
-use Rattle.day_model.specs.declared.entry.Outcome.{Outcome}
 use Rattle.day_model.specs.Balance.{outcome_of}
 use Rattle.day_model.specs.Chart.{Chart}
 use Rattle.day_model.specs.Log.{most_entries}
@@ -14,7 +13,7 @@ use Rattle.day_model.specs.Next.{entered_at, entry_of, next_history}
 use Rattle.day_model.specs.Same.{is_same_pay}
 use Rattle.day_model.specs.Totals.{booked_legs}
 use Rattle.jrn_codec.specs.Record.{entry_bytes}
-use Rattle.jrn_book.specs.Book.{Book, HasRisen}
+use Rattle.jrn_book.specs.Book.{HasRisen}
 use Rattle.jrn_book.specs.declared.answer.Committed.{Committed}
 use Rattle.jrn_book.specs.declared.answer.Committed.TheVariants.{New, Kept}
 use Rattle.jrn_book.specs.declared.answer.CommitFault.{CommitFault}

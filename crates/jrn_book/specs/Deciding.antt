@@ -1,5 +1,5 @@
 -- Decisions by the totals of accounts.
-use Rattle.std.specs.Prelude.{ℕ, ◌+◌, List, [], ◌∷◌, All, Option}
+use Rattle.std.specs.Prelude.{ℕ, List, All, Option}
 use Rattle.corr_text.specs.First.{unless}
 use Rattle.day_model.specs.declared.pay.Leg.{Leg}
 use Rattle.day_model.specs.declared.entry.Outcome.{Outcome}

@@ -1,6 +1,6 @@
 //! A book: accounts and their history over a journal on a disk.
 
-ghost use Rattle.std.specs.Prelude.{◌≡◌, ◌≤◌, None, Some, IsOk, OnOk, IsTrue};
+ghost use Rattle.std.specs.Prelude.{◌≡◌, None, Some, IsOk, OnOk, IsTrue};
 ghost use Rattle.std.specs.Bool.{OnTrue};
 ghost use Rattle.day_model.specs.Chart.{IsChart};
 ghost use Rattle.day_model.specs.Legal.{IsLegal};

@@ -1,6 +1,6 @@
 //! Entering a pay.
 
-ghost use Rattle.std.specs.Prelude.{◌≡◌, ◌+◌, ◌-◌, ◌<◌, ◌≤◌, ◌++◌, ◌∷◌, [], ℕ, All, List, Err, true, false, None, Some, length, slice_get, IsOk, IsTrue, OnErr, OnOk, IfErr, IfOk};
+ghost use Rattle.std.specs.Prelude.{◌≡◌, ◌+◌, ◌<◌, ◌≤◌, ◌++◌, ◌∷◌, [], ℕ, All, List, Err, true, false, None, Some, length, IsTrue, OnOk, IfErr};
 ghost use Rattle.corr_disk.specs.Calls.{AtMostCalls, CallsMade};
 ghost use Rattle.corr_disk.specs.Disk.{LeavesOnly};
 ghost use Rattle.corr_ids.specs.Day.{InCentury};

@@ -5,7 +5,7 @@ ghost use Rattle.corr_text.specs.First.{first_of};
 ghost use Rattle.corr_money.specs.Amounts.{amount_end};
 ghost use Rattle.day_model.specs.declared.entry.Outcome.TheVariants.{Booked};
 ghost use Rattle.day_model.specs.Balance.{changed, is_within, leg_test, leg_tests};
-ghost use Rattle.day_model.specs.Chart.{IsChart, IsListed, IsSmall, account_at};
+ghost use Rattle.day_model.specs.Chart.{IsChart, IsListed, IsSmall};
 ghost use Rattle.day_model.specs.Fit.{legs_fit};
 ghost use Rattle.day_model.specs.Legal.{IsLegal};
 ghost use Rattle.day_model.specs.Pairs.{pairs_with};

@@ -1,6 +1,6 @@
 //! Opening a book.
 
-ghost use Rattle.std.specs.Prelude.{◌≡◌, ◌++◌, ℕ, List, None, length, IfErr, IfOk, IfSome, IsTrue, MatchResult};
+ghost use Rattle.std.specs.Prelude.{◌≡◌, ◌++◌, List, None, length, IfErr, IfOk, IfSome, IsTrue, MatchResult};
 ghost use Rattle.corr_disk.specs.Calls.{AtMostCalls, CallsMade};
 ghost use Rattle.corr_ids.specs.declared.day.Day.{Day as TheDay};
 ghost use Rattle.day_model.specs.declared.pay.Pay.{Pay};

@@ -1,6 +1,6 @@
 //! The records of a journal as a history.
 
-ghost use Rattle.std.specs.Prelude.{◌≡◌, ◌+◌, ◌<◌, ◌≤◌, ◌≤ℤ◌, ◌^◌, ◌++◌, ◌∷◌, [], All, None, length, IfErr, IfOk, IsTrue, OnErr, OnOk};
+ghost use Rattle.std.specs.Prelude.{◌≡◌, ◌+◌, ◌<◌, ◌≤◌, ◌≤ℤ◌, ◌++◌, ◌∷◌, [], All, None, length, IfErr, IfOk, IsTrue, OnOk};
 ghost use Rattle.std.specs.Bool.{OnTrue};
 ghost use Rattle.day_model.specs.Balance.{outcome_of};
 ghost use Rattle.day_model.specs.Fit.{FitsAccounts};
@@ -10,7 +10,7 @@ ghost use Rattle.day_model.specs.Log.{most_entries};
 ghost use Rattle.day_model.specs.Next.{entered_at};
 ghost use Rattle.day_model.specs.Pairs.{PairsFit, pairs_with};
 ghost use Rattle.jrn_codec.specs.Header.{IsHead, head_bytes};
-ghost use Rattle.jrn_codec.specs.Record.{IsEntry, entry_bytes};
+ghost use Rattle.jrn_codec.specs.Record.{IsEntry};
 ghost use Rattle.jrn_file.specs.Reading.{size_of};
 ghost use Rattle.jrn_book.specs.Journal.{IsJournal, all_records, entry_records};
 ghost use Rattle.jrn_book.specs.Following.{Follows};

@@ -1,6 +1,6 @@
 //! Reading entries.
 
-ghost use Rattle.std.specs.Prelude.{◌≡◌, IfOk, length};
+ghost use Rattle.std.specs.Prelude.{◌≡◌, IfOk};
 ghost use Rattle.day_model.specs.declared.entry.Entry.{Entry};
 ghost use Rattle.jrn_codec.specs.Answers.{Gives, IsGiven};
 ghost use Rattle.jrn_codec.specs.Reading.{mark_at, optional_at};

@@ -7,8 +7,6 @@ ghost use Rattle.jrn_codec.specs.Reading.{cut, byte_at, number_at, signed_at, bi
 
 use crate::fault::EntryFault;
 use corr_ids::{Bic, read_bic};
-use corr_text::Text;
-use std::alloc::Global;
 
 pub fn cut(bytes: &[u8], n: usize) -> Result<(&[u8], &[u8]), EntryFault>
     ensures value { Gives (λ x. (x.0.now, x.1.now)) result (cut n bytes.now) }

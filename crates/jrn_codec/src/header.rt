@@ -1,6 +1,6 @@
 //! Reading headers.
 
-ghost use Rattle.std.specs.Prelude.{◌≡◌, IfOk, OnOk};
+ghost use Rattle.std.specs.Prelude.{◌≡◌, IfOk};
 ghost use Rattle.day_model.specs.Chart.{Chart, IsChart};
 ghost use Rattle.jrn_codec.specs.Answers.{Gives, IsGiven};
 ghost use Rattle.jrn_codec.specs.Header.{IsHead, head_bytes};

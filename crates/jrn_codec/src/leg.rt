@@ -1,14 +1,13 @@
 //! Reading legs.
 
 ghost use Rattle.std.specs.Prelude.{◌≡◌, ◌==◌, ◌&&◌};
-ghost use Rattle.std.specs.List.{list_all, list_any, zip};
+ghost use Rattle.std.specs.List.{list_any, zip};
 ghost use Rattle.corr_text.specs.declared.set.Set.TheVariants.{X};
-ghost use Rattle.corr_text.specs.Sets.{is_in};
 ghost use Rattle.corr_text.specs.Slashes.{has_double_slash, has_stray_slash};
 ghost use Rattle.day_model.specs.Shape.{are_legs};
 ghost use Rattle.jrn_codec.specs.Answers.{Gives};
 ghost use Rattle.jrn_codec.specs.Reading.{byte_at, items_at, listed_at, mark_at};
-ghost use Rattle.jrn_codec.specs.RecordReading.{is_account_number, is_reference, leg_at, ours_at, quote_at, side_of, theirs_at};
+ghost use Rattle.jrn_codec.specs.RecordReading.{is_reference, leg_at, ours_at, quote_at, side_of, theirs_at};
 
 use crate::fault::EntryFault;
 use crate::field::{byte_at, short_at, u16_at, u64_at};

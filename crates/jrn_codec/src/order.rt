@@ -1,6 +1,5 @@
 //! Reading orders.
 
-ghost use Rattle.std.specs.Prelude.{◌≡◌};
 ghost use Rattle.jrn_codec.specs.Answers.{Gives};
 ghost use Rattle.jrn_codec.specs.Reading.{bic_at, items_at, listed_at, mark_at, optional_at};
 ghost use Rattle.jrn_codec.specs.RecordReading.{cover_at, credit_at, debit_at, noticed_at, order_at, pass_at, skip_marked, transfer_at};

@@ -1,8 +1,7 @@
 -- What a pay sends, and between which accounts it is booked, under the tables by which its message was read.
-use Rattle.std.specs.Prelude.{◌≡◌, ℕ, true, All, IfSome, IsTrue, List, Some, slice_get}
-use Rattle.corr_ids.specs.declared.bic.Bic.{Bic}
+use Rattle.std.specs.Prelude.{◌≡◌, ℕ, All, IfSome, IsTrue, List, Some, slice_get}
 use Rattle.corr_ids.specs.declared.envelope.Envelope.{Envelope}
-use Rattle.ref_tables.specs.Seen.{Tables, has_head, IsKnown}
+use Rattle.ref_tables.specs.Seen.{Tables, IsKnown}
 use Rattle.day_model.specs.Chart.{Chart, account_at}
 use Rattle.day_model.specs.declared.account.Account.{Account}
 use Rattle.day_model.specs.declared.pay.Leg.{Leg}

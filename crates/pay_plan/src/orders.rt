@@ -1,13 +1,13 @@
 //! The messages that a pay asks for.
 
 ghost use Rattle.std.specs.Prelude.{◌≡◌, ◌++◌, IfOk, OnOk};
-ghost use Rattle.pay_plan.specs.Orders.{next_orders, notices_of, orders_by, orders_of, skip_of};
+ghost use Rattle.pay_plan.specs.Orders.{next_orders, notices_of, orders_of, skip_of};
 
 use crate::way::Way;
 use corr_ids::Bic;
 use corr_text::{List, Memory};
 use day_model::{Account, Kind, Order, Skip};
-use routing::{Routed, Target};
+use routing::Target;
 use std::alloc::Global;
 
 // Which of 56a and 57a the next bank doesn't need: those up to the field that names it, and the one before that where it

@@ -1,5 +1,5 @@
 -- Which faults a csv reader has over rows of any length.
-use Rattle.std.proofs.Common.{◌≡◌, ℕ, Bool, true, false, List, Option, sym, ◌∙◌, subst}
+use Rattle.std.proofs.Common.{◌≡◌, ℕ, true, false, List, Option, sym, ◌∙◌}
 use Rattle.std.proofs.lemmas.Bool.{false≢true}
 use Rattle.csv.specs.Reading.{ExplainsRead, is_flexible}
 use Rattle.csv.specs.declared.reader.Reader.{Reader}

@@ -10,22 +10,11 @@ use Rattle.corr_money.specs.declared.amount.Amount.{Amount}
 use Rattle.day_model.specs.declared.account.Account.{Account}
 use Rattle.day_model.specs.declared.account.AcctNo.{AcctNo}
 use Rattle.day_model.specs.Chart.{AreRows, Chart, IsListed, account_at, customer, has_id, is_same_ccy, is_owned, nostro, number_of_first, vostro}
-use Rattle.day_model.proofs.laws.Places.{position_from-within}
+use Rattle.day_model.proofs.laws.Places.{listed, place-of}
 use Rattle.routing.specs.Accounts.{fits_amount, fits_at, account_named, serves}
 use Rattle.routing.specs.declared.ledger.Wanted.{Wanted}
 use Rattle.routing.specs.declared.ledger.Wanted.TheVariants.{Customer, Relation, Vostro, Nostro}
 use Rattle.routing.proofs.Numbers.{StandsAt, found, none-both, none-such, some-both}
-
--- the place of a numbered account, from 1
-place-of : (t : Account → Bool) (accounts : List Account) (n : AcctNo) → number_of_first t accounts ≡ Some n → position_from t 1 accounts ≡ Some n.0
-place-of t accounts n e =
-    elim (position_from t 1 accounts) as (λ o. option_map (λ k. record { 0 = k }) o ≡ Some n → o ≡ Some n.0) [
-      | Some k ↦ λ h. let s : record { 0 = k } ≡ n = same_Some _ _ h in ap (λ (m : AcctNo). Some m.0) s
-      | None ↦ λ h. cc
-    ] e
-
-pub listed : (t : Account → Bool) (chart : Chart) (n : AcctNo) → number_of_first t chart.accounts ≡ Some n → IsListed chart n.0
-listed t chart n e = let w = position_from-within t 1 n.0 chart.accounts (place-of t chart.accounts n e) in (omega arith, omega arith)
 
 pub stands : (t : Account → Bool) (chart : Chart) (n : AcctNo) → number_of_first t chart.accounts ≡ Some n → StandsAt t chart.accounts (n.0 - 1)
 stands t chart n e =

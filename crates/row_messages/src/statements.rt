@@ -1,6 +1,6 @@
 //! Calls of mt950.
 
-ghost use Rattle.std.specs.Prelude.{◌≡◌, ◌+◌, ◌≤◌, All, IfOk, IsTrue, OnOk, length};
+ghost use Rattle.std.specs.Prelude.{◌≡◌, All, IfOk, IsTrue, length};
 ghost use Rattle.corr_ids.specs.Day.{InCentury};
 ghost use Rattle.fin_contents.specs.Writing.{IsReadable};
 ghost use Rattle.mt950.specs.Joining.{IsSmallLine, IsAddable};

@@ -1,5 +1,5 @@
 -- What a pay that fits has.
-use Rattle.std.proofs.Common.{◌≡◌, ◌≢◌, ℕ, zero, suc, ◌<◌, true, false, List, [], ◌∷◌, Some, refl, ap, subst, leb, ltb, eqb, cond}
+use Rattle.std.proofs.Common.{◌≡◌, ◌≢◌, ℕ, zero, suc, ◌<◌, true, List, [], ◌∷◌, Some, refl, ap, subst, leb, ltb, eqb}
 use Rattle.std.specs.Prelude.{not, ◌&&◌, length, slice_get}
 use Rattle.std.proofs.lemmas.Bool.{and_parts, leb-true, ltb-true, eqb-true, eqb-false, not-true, false≢true}
 use Rattle.std.proofs.lemmas.Option.{same_Some, none-some}

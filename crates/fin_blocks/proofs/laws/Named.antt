@@ -16,8 +16,6 @@ use Rattle.fin_blocks.specs.Forms.{app_of, basic_in, basic_of, inside, mir_in, r
 use Rattle.fin_blocks.specs.Groups.{groups_after, groups_of, next_group}
 use Rattle.fin_blocks.specs.Text.{text_of}
 use Rattle.fin_blocks.specs.declared.basic.Basic.{Basic}
-use Rattle.fin_blocks.specs.declared.blocks.App.{App}
-use Rattle.fin_blocks.specs.declared.blocks.App.TheVariants.{Received, Sent}
 use Rattle.fin_blocks.specs.declared.blocks.Blocks.{Blocks}
 use Rattle.fin_blocks.specs.declared.fault.BlockFault.TheVariants as fault
 

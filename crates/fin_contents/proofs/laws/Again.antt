@@ -6,7 +6,6 @@ use Rattle.std.proofs.lemmas.Bool.{le-leb}
 use Rattle.std.proofs.lemmas.Bool.Decides.{nat_tests}
 use Rattle.std.proofs.lemmas.List.{drop_at, length-append, length-take-le, take_at}
 use Rattle.std.specs.Str.{bytes_eq}
-use Rattle.corr_text.specs.First.{◌>>=◌}
 use Rattle.corr_text.specs.Sets.{is_in}
 use Rattle.corr_text.specs.Slashes.{has_stray_slash}
 use Rattle.corr_text.specs.declared.set.Set.TheVariants.{X, N, A}

@@ -1,5 +1,5 @@
 -- What a reader gives of fields of a text can be written.
-use Rattle.std.proofs.Common.{◌≡◌, List, Result, Ok, Err}
+use Rattle.std.proofs.Common.{List, Result, Ok, Err}
 use Rattle.std.specs.Prelude.{IfOk, IsTrue}
 use Rattle.std.specs.List.{All}
 use Rattle.corr_text.specs.declared.fault.Fault.{Fault}

@@ -7,11 +7,11 @@ use Rattle.day_model.specs.declared.entry.Entry.{Entry}
 use Rattle.day_model.specs.Chart.{Chart}
 use Rattle.day_model.specs.Legal.{IsLegal}
 use Rattle.jrn_file.specs.Reading.{Reading, no_journal, whole, cut, all_of, size_of}
-use Rattle.jrn_codec.specs.Header.{IsHead, head_bytes}
+use Rattle.jrn_codec.specs.Header.{head_bytes}
 use Rattle.jrn_codec.specs.Record.{IsEntry, entry_bytes}
 use Rattle.jrn_codec.proofs.laws.Records.{one_entry, one_head}
 use Rattle.jrn_book.specs.Journal.{IsJournal, all_records, entry_records}
-use Rattle.jrn_book.specs.Opening.{Finding, book, no_book, faulty, HasNoHead, IsFaultBehind, IsFaultyAt, IsFound, IsNextOf, IsNoBook, IsNoNext, IsRefusedIn}
+use Rattle.jrn_book.specs.Opening.{Finding, book, no_book, faulty, HasNoHead, IsFound, IsNextOf, IsRefusedIn}
 use Rattle.jrn_book.proofs.Following.{legal_front}
 
 -- this history goes on in that one, with an entry whose record is the first of the rest

@@ -1,6 +1,5 @@
-use Rattle.std.proofs.Common.{◌≡◌, ◌+◌, ◌-◌, ◌≤◌, List, [], ◌∷◌, ◌++◌, w64, ℕ, Some, get_or, pos, ◌+ℤ◌, ◌-ℤ◌, length, sym, ap, ◌∙◌, subst, arith, ℤ}
+use Rattle.std.proofs.Common.{◌≡◌, ◌+◌, ◌-◌, List, [], ◌∷◌, ◌++◌, w64, ℕ, get_or, sym, ap, ◌∙◌, subst, arith, ℤ}
 use Rattle.std.proofs.lemmas.Int.{to_z-of_z}
-use Rattle.day_model.specs.Balance.{balance_of}
 use Rattle.day_model.specs.Chart.{IsListed, IsSmall}
 use Rattle.day_model.specs.Totals.{Pair}
 use Rattle.day_model.proofs.CorePurses.{balance_by_pair, opened_more, small_now}

@@ -1,9 +1,7 @@
 use Rattle.std.proofs.Common.{◌≡◌, ◌+◌, refl, sym, ap, ◌∙◌, subst, arith, ℤ, ◌+ℤ◌, to_z, of_z, w64}
-use Rattle.std.specs.Prelude.{slice_get}
 use Rattle.std.proofs.lemmas.Int.{to_z-of_z}
 use Rattle.std.proofs.lemmas.Option.{slice_get_read}
 use Rattle.day_model.specs.declared.account.Account.{Account}
-use Rattle.day_model.specs.Chart.{opening_sum}
 use Rattle.day_model.proofs.Openings.{IsNear, opening_in, near_more, near_fits, opening_sum_more}
 use Rattle.day_model.proofs.gap.sum_of.Goals as goal
 

@@ -1,4 +1,4 @@
-use Rattle.std.proofs.Common.{◌≡◌, ◌∙◌, ℕ, ◌≤◌, subst, sym}
+use Rattle.std.proofs.Common.{◌∙◌, ℕ, ◌≤◌, subst, sym}
 use Rattle.day_model.specs.Totals.{totals_of}
 use Rattle.jrn_book.proofs.ByTotals.{pair_here, small_by, test_by}
 use Rattle.jrn_book.proofs.deciding.pair_outcome.Goals as goal

@@ -1,5 +1,4 @@
 use Rattle.std.proofs.Common.{pos, ap, arith, length}
-use Rattle.day_model.specs.declared.entry.Entry.{Entry}
 use Rattle.day_model.specs.declared.entry.Outcome.TheVariants.{Unfunded}
 use Rattle.jrn_codec.proofs.laws.Records.{record_within}
 use Rattle.jrn_book.proofs.room.most_bytes.Goals as goal

@@ -1,6 +1,7 @@
 use Rattle.std.proofs.Common.{sym, ◌∙◌}
 use Rattle.day_model.specs.Chart.{has_id}
-use Rattle.routing.proofs.Fitting.{listed, named-None, named-Some, named-other, named-Fits}
+use Rattle.day_model.proofs.laws.Places.{listed}
+use Rattle.routing.proofs.Fitting.{named-None, named-Some, named-other, named-Fits}
 use Rattle.routing.proofs.ledger.named.Goals as goal
 
 pub returns-in_err-n-clause-value : goal.returns-in_err-n-clause-value

@@ -1,6 +1,5 @@
 use Rattle.std.proofs.Common.{◌≡◌, false, Option, Some, None, rules, subst, sym}
 use Rattle.std.specs.Prelude.{IsOk, IsSome, is_some, Result, Ok, Err}
-use Rattle.day_model.specs.declared.entry.Entry.{Entry}
 use Rattle.jrn_book.specs.Answers.{Answer}
 use Rattle.jrn_book.specs.Appending.{Repeats}
 use Rattle.jrn_book.specs.Book.{Book, IsBook}

@@ -1,6 +1,5 @@
-use Rattle.std.proofs.Common.{◌≡◌, ◌-◌, ◌<◌, ◌≤◌, ◌+◌, ◌∙◌, List, length, Some, ap, arith, refl, subst, sym}
+use Rattle.std.proofs.Common.{◌≡◌, ◌-◌, ◌∙◌, length, Some, ap, arith, refl, sym}
 use Rattle.std.specs.Prelude.{slice_get}
-use Rattle.day_model.specs.declared.entry.Entry.{Entry}
 use Rattle.day_model.specs.Next.{has_mir}
 use Rattle.day_model.proofs.laws.Places.{position_from-within}
 use Rattle.jrn_book.specs.Book.{Book}

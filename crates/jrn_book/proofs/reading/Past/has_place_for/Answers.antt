@@ -1,4 +1,4 @@
-use Rattle.std.proofs.Common.{◌≡◌, Bool, ℕ, true, false, Option, Some, None, rules, refl, ap, ◌∙◌, subst, sym}
+use Rattle.std.proofs.Common.{◌≡◌, Bool, ℕ, true, false, Option, Some, None, rules, refl, ap, ◌∙◌, subst}
 use Rattle.std.specs.Prelude.{is_none}
 use Rattle.std.specs.Bool.{OnTrue}
 use Rattle.day_model.specs.Next.{entered_at}
