@@ -5,7 +5,7 @@ ghost use Rattle.day_model.specs.Legal.{IsLegal};
 ghost use Rattle.corr_report.specs.Bookings.{AreInCentury};
 
 use crate::given::{FIRST, customers, history_of, pay};
-use corr_report::{bookings, generated, put_reply_line, report, summary};
+use corr_report::{bookings, generated, reply_line, report, summary};
 use corr_text::{Memory, Text};
 use day_model::{Accounts, History, Reply};
 use std::alloc::Global;
@@ -29,9 +29,7 @@ fn told(alloc: Global, a: &Accounts, h: &History) -> Result<Text, Memory>
     requires legal { IsLegal a.now h.now.entries }
     requires one { length h.now.entries ≡ 1 }
 {
-    let mut out = Text::from_bytes(alloc, b"")?;
-    put_reply_line(alloc, a, h, 7, &ENTERED, &mut out)?;
-    Ok(out)
+    reply_line(alloc, a, h, 7, &ENTERED)
 }
 
 // The bookings of a history.

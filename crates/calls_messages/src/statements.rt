@@ -7,7 +7,7 @@ ghost use Rattle.ref_tables.specs.Seen.{few_decimals};
 use crate::cutting::{cut, let_go, tables};
 use corr_text::{Memory, Text};
 use fin_fields::FieldFault;
-use mt950::{Line61, PageFault, join_pages, put_mt950, read_mt950};
+use mt950::{Line61, Mark, PageFault, join_pages, put_mt950, read_mt950};
 use ref_tables::RefTables;
 use std::alloc::Global;
 use std::test::Fail;
@@ -122,5 +122,11 @@ fn a_page_opens_where_the_one_before_closed(rt: HostRuntime) -> Result<(), Fail>
         opening: 100,
     };
     assert!(rt; misjoined(rt.alloc(), &tables, first, second)? == Some(want));
+    Ok(())
+}
+
+#[test]
+fn the_letters_of_a_mark(rt: HostRuntime) -> Result<(), Fail> {
+    assert!(rt; Mark::RC.letters() == b"RC".as_slice());
     Ok(())
 }

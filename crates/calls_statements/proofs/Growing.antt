@@ -1,6 +1,6 @@
 -- A history with one entry more, and its index.
-use Rattle.std.proofs.Common.{◌≡◌, ℕ, zero, suc, ◌<◌, ◌≤◌, false, List, [], ◌∷◌, ◌++◌, length, Some, sym, subst, arith, inl, inr, pos, ◌≤ℤ◌}
-use Rattle.std.specs.Prelude.{All, is_some, slice_get}
+use Rattle.std.proofs.Common.{◌≡◌, ◌<◌, false, List, [], ◌∷◌, ◌++◌, length, sym, subst, arith, inl, inr, pos, ◌≤ℤ◌}
+use Rattle.std.specs.Prelude.{is_some}
 use Rattle.std.proofs.lemmas.Int.{ints}
 use Rattle.std.proofs.lemmas.List.Elements.{All-append, All-cons, All-nil}
 use Rattle.day_model.specs.Balance.{outcome_of}

@@ -1,6 +1,6 @@
 //! Currencies in byte order.
 
-ghost use Rattle.std.specs.Prelude.{◌≡◌, ◌≤◌, [], ◌∷◌, IfOk, OnOk, length};
+ghost use Rattle.std.specs.Prelude.{◌≡◌, ◌≤◌, [], IfOk, OnOk};
 ghost use Rattle.std.specs.List.{All, list_any, position};
 ghost use Rattle.day_model.specs.Chart.{is_same_ccy};
 ghost use Rattle.corr_report.specs.Totals.{currencies_of, entered};

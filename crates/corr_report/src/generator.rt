@@ -1,7 +1,7 @@
 //! A day of messages, made from a number.
 
 ghost use Rattle.std.specs.Prelude.{◌≡◌, ◌≤◌, ◌++◌, codes, IfOk, OnOk};
-ghost use Rattle.corr_report.specs.Generated.{bank_of, ccy_of, decimals_of, generated_of, heading_of, kind_of, minor_of, next_number, parties_of, payee_of, sender_of, terms_of, text_of};
+ghost use Rattle.corr_report.specs.Generated.{generated_bank, generated_ccy, generated_decimals, generated_of, generated_heading, generated_kind, generated_minor, most_generated, next_number, generated_parties, generated_payee, generated_sender, generated_terms, generated_text};
 
 use corr_money::{Minor, put_15d};
 use corr_text::{Memory, Text, put_digits};
@@ -31,15 +31,15 @@ fn next_number(x: u64) -> u64
 }
 
 fn minor_of(x: u64) -> u64
-    ensures value { result ≡ minor_of x }
+    ensures value { result ≡ generated_minor x }
     ensures small { result ≤ 100 }
 {
     (x >> 33) % 100 + 1
 }
 
-#[tactic(auto, unfolding(crate::specs::Generated::kind_of))]
+#[tactic(auto, unfolding(crate::specs::Generated::generated_kind))]
 fn kind_of(i: u32) -> Kind
-    ensures { result ≡ kind_of i }
+    ensures { result ≡ generated_kind i }
 {
     match i % 3 {
         0 => Kind::Euros,
@@ -49,7 +49,7 @@ fn kind_of(i: u32) -> Kind
 }
 
 fn sender_of(kind: Kind) -> &'static [u8]
-    ensures { result.now ≡ sender_of kind }
+    ensures { result.now ≡ generated_sender kind }
 {
     match kind {
         Kind::Euros | Kind::PassedOn => b"ALPHDEFF",
@@ -58,7 +58,7 @@ fn sender_of(kind: Kind) -> &'static [u8]
 }
 
 fn ccy_of(kind: Kind) -> &'static [u8]
-    ensures { result.now ≡ ccy_of kind }
+    ensures { result.now ≡ generated_ccy kind }
 {
     match kind {
         Kind::Euros | Kind::PassedOn => b"EUR",
@@ -67,7 +67,7 @@ fn ccy_of(kind: Kind) -> &'static [u8]
 }
 
 fn decimals_of(kind: Kind) -> u8
-    ensures value { result ≡ decimals_of kind }
+    ensures value { result ≡ generated_decimals kind }
     ensures few { result ≤ 4 }
 {
     match kind {
@@ -77,7 +77,7 @@ fn decimals_of(kind: Kind) -> u8
 }
 
 fn payee_of(kind: Kind) -> &'static [u8]
-    ensures { result.now ≡ payee_of kind }
+    ensures { result.now ≡ generated_payee kind }
 {
     match kind {
         Kind::Euros => b"CUST1",
@@ -87,7 +87,7 @@ fn payee_of(kind: Kind) -> &'static [u8]
 }
 
 fn bank_of(kind: Kind) -> &'static [u8]
-    ensures { result.now ≡ bank_of kind }
+    ensures { result.now ≡ generated_bank kind }
 {
     match kind {
         Kind::PassedOn => b":57A:BETAFRPP\r\n",
@@ -96,7 +96,7 @@ fn bank_of(kind: Kind) -> &'static [u8]
 }
 
 fn put_heading(alloc: Global, i: u32, kind: Kind, out: &mut Text) -> Result<(), Memory>
-    ensures { OnOk result (out.new ≡ out.old ++ heading_of i kind) }
+    ensures { OnOk result (out.new ≡ out.old ++ generated_heading i kind) }
 {
     out.push(b"{1:F01HOMEUS33AXXX0001")?;
     put_digits(alloc, i as u64, 6, out)?;
@@ -110,7 +110,7 @@ fn put_heading(alloc: Global, i: u32, kind: Kind, out: &mut Text) -> Result<(), 
 
 fn put_terms(alloc: Global, i: u32, kind: Kind, minor: u64, out: &mut Text) -> Result<(), Memory>
     requires { minor ≤ 100 }
-    ensures { OnOk result (out.new ≡ out.old ++ terms_of i kind minor) }
+    ensures { OnOk result (out.new ≡ out.old ++ generated_terms i kind minor) }
 {
     out.push(b":20:G")?;
     put_digits(alloc, i as u64, 6, out)?;
@@ -122,7 +122,7 @@ fn put_terms(alloc: Global, i: u32, kind: Kind, minor: u64, out: &mut Text) -> R
 }
 
 fn put_parties(kind: Kind, out: &mut Text) -> Result<(), Memory>
-    ensures { OnOk result (out.new ≡ out.old ++ parties_of kind) }
+    ensures { OnOk result (out.new ≡ out.old ++ generated_parties kind) }
 {
     out.push(b":50K:A PAYER\r\n")?;
     out.push(bank_of(kind))?;
@@ -133,10 +133,10 @@ fn put_parties(kind: Kind, out: &mut Text) -> Result<(), Memory>
 }
 
 /// Adds the `i`-th message, with an amount in minor units, and `$`.
-#[tactic(auto, unfolding(crate::specs::Generated::text_of))]
+#[tactic(auto, unfolding(crate::specs::Generated::generated_text))]
 fn put_message(alloc: Global, i: u32, minor: u64, out: &mut Text) -> Result<(), Memory>
     requires { minor ≤ 100 }
-    ensures { OnOk result (out.new ≡ out.old ++ (text_of i minor ++ codes "$")) }
+    ensures { OnOk result (out.new ≡ out.old ++ (generated_text i minor ++ codes "$")) }
 {
     let kind = kind_of(i);
     put_heading(alloc, i, kind, out)?;
@@ -152,7 +152,7 @@ fn put_message(alloc: Global, i: u32, minor: u64, out: &mut Text) -> Result<(), 
 ///
 /// `count` is at most 50,000. `Memory`: there was no room for the text.
 pub fn generated(alloc: Global, count: u32, seed: u64) -> Result<Text, Memory>
-    requires { count ≤ 50000 }
+    requires { count ≤ most_generated }
     ensures { IfOk result (λ text. text ≡ generated_of count seed) }
 {
     let mut out = Text::from_bytes(alloc, b"")?;

@@ -16,6 +16,9 @@ use corr_text::{Fault, Memory, Text, put_digits};
 use day_model::{Accounts, History, Reply};
 use std::alloc::Global;
 
+/// For how many bytes a line there is room at first.
+const LINE_ROOM: usize = 64;
+
 fn tag(tag: &[u8; 3]) -> &[u8]
     ensures { result.now ≡ tag_text tag.now }
 {
@@ -72,10 +75,8 @@ fn put_reply(
     }
 }
 
-/// Adds the line of the `n`-th message: its number, its message's MIR or 28 dashes, and what became of it.
-///
-/// The history is legal for the accounts, and has the place that the reply names. `Memory`: there was no room.
-pub fn put_reply_line(
+/// Adds the line of the `n`-th message.
+fn put_reply_line(
     alloc: Global,
     a: &Accounts,
     h: &History,
@@ -91,6 +92,25 @@ pub fn put_reply_line(
     put_mir(reply, out)?;
     put_reply(alloc, a, h, reply, out)?;
     out.push(b"\n")
+}
+
+/// The line of the `n`-th message, as in the report: its number, its message's MIR or 28 dashes, and what became of it.
+///
+/// The history is legal for the accounts, and has the place that the reply names. `Memory`: there was no room for the line.
+pub fn reply_line(
+    alloc: Global,
+    a: &Accounts,
+    h: &History,
+    n: u64,
+    reply: &Reply,
+) -> Result<Text, Memory>
+    requires legal { IsLegal a.now h.now.entries }
+    requires place { NamesPlace h.now.entries reply.now }
+    ensures { IfOk result (λ line. line ≡ reply_line a.now h.now.entries n reply.now) }
+{
+    let mut line = Text::from_bytes(alloc, b"")?;
+    put_reply_line(alloc, a, h, n, reply, &mut line)?;
+    Ok(line)
 }
 
 /// Adds the counts of messages and entries.
@@ -123,7 +143,7 @@ pub fn report(alloc: Global, a: &Accounts, h: &History, replies: &[Reply]) -> Re
     // the currencies of its totals are those of the accounts, each once, in byte order
     ensures currencies { OnOk result (AreCurrencies a.now.accounts (currencies_of [] a.now.accounts)) }
 {
-    let mut out = Text::from_bytes(alloc, b"")?;
+    let mut out = Text::with_room(alloc, b"", replies.len().saturating_mul(LINE_ROOM))?;
     for (at, reply) in replies.iter().enumerate() {
         put_reply_line(alloc, a, h, at as u64 + 1, reply, &mut out)?;
     }

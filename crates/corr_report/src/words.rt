@@ -1,47 +1,68 @@
 //! The words of a line.
 
-ghost use Rattle.std.specs.Prelude.{◌≡◌, ◌<◌, ◌≤◌, ◌++◌, ◌∷◌, OnOk};
+ghost use Rattle.std.specs.Prelude.{◌≡◌, ◌<◌, ◌≤◌, ◌++◌, ◌∷◌, OnErr, OnOk};
 ghost use Rattle.std.specs.Fmt.{decimal};
 ghost use Rattle.corr_text.specs.Digits.{padded};
 ghost use Rattle.corr_money.specs.Amounts.{amount_end, amount_text, signed_text};
 
 use corr_money::{Minor, put_15d, put_signed, put_total};
-use corr_text::{Memory, Text, put_digits};
+use corr_text::{Decimal, Memory, Text};
 use std::alloc::Global;
 
-/// Adds a space and a word. `Memory`: there was no room.
+/// Adds a space and a word.
+///
+/// `Memory`: there was no room; then nothing was added.
 pub fn put_word(word: &[u8], out: &mut Text) -> Result<(), Memory>
-    ensures { OnOk result (out.new ≡ out.old ++ 32 ∷ word.now) }
+    ensures ok { OnOk result (out.new ≡ out.old ++ 32 ∷ word.now) }
+    ensures err { OnErr result (out.new ≡ out.old) }
 {
-    out.push(b" ")?;
-    out.push(word)
+    out.push_all(&[b" ", word])
 }
 
-/// Adds a space and a number, with zeros before it up to a width. `Memory`: there was no room.
-pub fn put_number(alloc: Global, n: u64, width: u8, out: &mut Text) -> Result<(), Memory>
-    ensures { OnOk result (out.new ≡ out.old ++ 32 ∷ padded width n) }
+/// Adds a space and a number, with zeros before it up to a width.
+///
+/// `Memory`: there was no room; then nothing was added.
+pub fn put_number(_alloc: Global, n: u64, width: u8, out: &mut Text) -> Result<(), Memory>
+    ensures ok { OnOk result (out.new ≡ out.old ++ 32 ∷ padded width n) }
+    ensures err { OnErr result (out.new ≡ out.old) }
 {
-    out.push(b" ")?;
-    put_digits(alloc, n, width, out)
+    let mut decimal = Decimal::new();
+    put_word(decimal.padded(n, width), out)
 }
 
-/// Adds a space and an amount in minor units, with so many decimals. `Memory`: there was no room.
+/// Adds a space and an amount in minor units, with so many decimals.
+///
+/// `Memory`: there was no room; then nothing was added.
 pub fn put_amount(alloc: Global, m: Minor, decimals: u8, out: &mut Text) -> Result<(), Memory>
     requires decimals { decimals ≤ 4 }
     requires bound { m.0 < amount_end }
-    ensures { OnOk result (out.new ≡ out.old ++ 32 ∷ amount_text decimals m.0) }
+    ensures ok { OnOk result (out.new ≡ out.old ++ 32 ∷ amount_text decimals m.0) }
+    ensures err { OnErr result (out.new ≡ out.old) }
 {
+    let before = out.bytes().len();
     out.push(b" ")?;
-    put_15d(alloc, m, decimals, out)
+    if put_15d(alloc, m, decimals, out).is_err() {
+        out.truncate(before);
+        return Err(Memory);
+    }
+    Ok(())
 }
 
-/// Adds a space and a balance in minor units, with so many decimals; one below 0 has a `-`. `Memory`: there was no room.
+/// Adds a space and a balance in minor units, with so many decimals; one below 0 has a `-`.
+///
+/// `Memory`: there was no room; then nothing was added.
 pub fn put_balance(alloc: Global, balance: i64, decimals: u8, out: &mut Text) -> Result<(), Memory>
     requires { decimals ≤ 4 }
-    ensures { OnOk result (out.new ≡ out.old ++ 32 ∷ signed_text decimals balance) }
+    ensures ok { OnOk result (out.new ≡ out.old ++ 32 ∷ signed_text decimals balance) }
+    ensures err { OnErr result (out.new ≡ out.old) }
 {
+    let before = out.bytes().len();
     out.push(b" ")?;
-    put_signed(alloc, balance, decimals, out)
+    if put_signed(alloc, balance, decimals, out).is_err() {
+        out.truncate(before);
+        return Err(Memory);
+    }
+    Ok(())
 }
 
 /// Adds a space and a total.

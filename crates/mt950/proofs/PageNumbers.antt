@@ -1,5 +1,5 @@
 -- Numbers of up to five digits, and field 28C.
-use Rattle.std.proofs.Common.{◌≡◌, ℕ, ◌+◌, ◌-◌, ◌^◌, ◌<◌, ◌≤◌, ◌==◌, ◌&&◌, Bool, true, false, cond, List, [], ◌∷◌, ◌++◌, length, replicate, position, Option, Some, None, option_map, option_and_then, Result, Ok, refl, sym, ap, ◌∙◌, arith, rules, nat_le, nat_lt}
+use Rattle.std.proofs.Common.{◌≡◌, ℕ, ◌-◌, ◌^◌, ◌<◌, ◌≤◌, Bool, true, false, cond, List, [], ◌∷◌, ◌++◌, length, replicate, position, Option, Some, None, option_map, Ok, refl, ap, arith, rules, nat_le}
 use Rattle.std.specs.Prelude.{IfSome, is_some}
 use Rattle.std.specs.Char.{is_ascii_digit}
 use Rattle.std.specs.Fmt.{decimal}

@@ -4,6 +4,7 @@ ghost use Rattle.std.specs.Prelude.{◌≡◌, ◌<◌, ◌≤◌, IfOk, option_
 ghost use Rattle.corr_money.specs.Amounts.{amount_end};
 ghost use Rattle.fin_layout.specs.Reading.{Reads};
 ghost use Rattle.mt950.specs.Entry.{effect_of, line_of};
+ghost use Rattle.mt950.specs.Writing.{mark_text};
 
 use crate::parts::{detail_in, parts_in};
 use corr_ids::{Day, day_from_yymmdd};
@@ -21,6 +22,20 @@ pub enum Mark {
     D,
     RC,
     RD,
+}
+
+impl Mark {
+    /// The letters of the mark, as field 61 and a report of breaks write it: C, D, RC or RD.
+    pub fn letters(self) -> &'static [u8]
+        ensures { result.now ≡ mark_text self }
+    {
+        match self {
+            Mark::C => b"C",
+            Mark::D => b"D",
+            Mark::RC => b"RC",
+            Mark::RD => b"RD",
+        }
+    }
 }
 
 /// A statement line.

@@ -7,11 +7,11 @@ ghost use Rattle.fin_fields.specs.Fields.{fields_of};
 ghost use Rattle.fin_fields.specs.Writing.{fields_text};
 ghost use Rattle.fin_fields.specs.declared.field.Field.{Field as FieldSeen};
 ghost use Rattle.mt950.specs.Page.{mt950_of};
-ghost use Rattle.mt950.specs.Writing.{IsBalance, IsWritableLine, balance_field, balance_mark, detail_lines, fields_950, funds_text, balance_letter, line_field_61, line_text, mark_text, number_field, page_text, part_text, servicer_text};
+ghost use Rattle.mt950.specs.Writing.{IsBalance, IsWritableLine, balance_field, balance_mark, detail_lines, fields_950, funds_text, balance_letter, line_field_61, line_text, number_field, page_text, part_text, servicer_text};
 ghost use Rattle.ref_tables.specs.Seen.{Tables};
 
 use crate::balance::Balance;
-use crate::entry::{Line61, Mark};
+use crate::entry::Line61;
 use crate::page::Page950;
 use corr_ids::put_yymmdd;
 use corr_money::{Amount, Ccy, Minor, put_15d};
@@ -80,18 +80,6 @@ fn put_balance(
     line_field(alloc, tag, letter, line.bytes())
 }
 
-/// The letters of a mark.
-fn mark_text(mark: Mark) -> &'static [u8]
-    ensures { result.now ≡ mark_text mark }
-{
-    match mark {
-        Mark::C => b"C",
-        Mark::D => b"D",
-        Mark::RC => b"RC",
-        Mark::RD => b"RD",
-    }
-}
-
 fn put_entry(entry: Option<[u8; 4]>, out: &mut Text) -> Result<(), Memory>
     ensures { OnOk result (out.new ≡ out.old ++ part_text entry) }
 {
@@ -127,7 +115,7 @@ fn put_first_line(alloc: Global, decimals: u8, line: &Line61) -> Result<Text, Me
     let mut out = Text::from_bytes(alloc, b"")?;
     put_yymmdd(line.value, &mut out)?;
     put_entry(line.entry, &mut out)?;
-    out.push(mark_text(line.mark))?;
+    out.push(line.mark.letters())?;
     put_funds(line.funds, &mut out)?;
     put_15d(alloc, line.amount, decimals, &mut out)?;
     out.push(&line.kind)?;

@@ -36,7 +36,7 @@ use Rattle.statement.specs.declared.index.HistoryIndex.{HistoryIndex}
 use Rattle.statement.specs.declared.movement.Movement.{Movement}
 use Rattle.statement.proofs.laws.Balances.{small-before, small-up-to}
 use Rattle.statement.proofs.laws.Readable.{lines-written}
-use Rattle.reconcile.specs.Bounds.{CanBeKeyed, Compares, IsLine, IsReceived, Tells}
+use Rattle.reconcile.specs.Bounds.{CanBeKeyed, Compares, IsLine, IsReceived, IsIndexFor}
 use Rattle.reconcile.proofs.Tests.{middle}
 
 short-run : (most : ℕ) (text : List ℕ) → (nat_le 1 (length text) && nat_le (length text) most && list_all (is_in X) text) ≡ true → length text ≤ most
@@ -143,7 +143,7 @@ module _ (index : HistoryIndex) (n : ℕ) (s : Statement) (book : SeenBook) (is 
       (small-up-to book.chart book.entries n s.day is.has.is.chart is.has.is.legal is.has.listed) is.received.sound.closing
 
 -- a statement of an account that is listed can be compared with the book
-pub compares : (index : HistoryIndex) (chart : Chart) (n : ℕ) (s : Statement) (book : SeenBook) → Tells index chart book → IsListed chart n → IsReceived s → Compares index n s book
+pub compares : (index : HistoryIndex) (chart : Chart) (n : ℕ) (s : Statement) (book : SeenBook) → IsIndexFor index chart book → IsListed chart n → IsReceived s → Compares index n s book
 compares index chart n s book tells listed received = record {
   has = record { is = tells.is; listed = subst (λ (c : Chart). IsListed c n) (sym tells.same) listed };
   shaped = tells.shaped;

@@ -11,7 +11,7 @@ use Rattle.std.proofs.lemmas.Slice.Eq.{bytes_eq-Decides}
 use Rattle.mt950.specs.Entry.{effect_of}
 use Rattle.mt950.specs.declared.entry.Line61.{Line61}
 use Rattle.statement.specs.Lines.{Placed, PlacesFrom}
-use Rattle.reconcile.specs.Pairing.{matches, pairs_of, partner_of, says_same}
+use Rattle.reconcile.specs.Pairing.{matches, pairs_of, line_partner, says_same}
 use Rattle.reconcile.specs.Rule.{IsFirstFree, IsFree, IsPairing}
 use Rattle.reconcile.proofs.Counting.{count-lt, kept-at, kept-from, nth}
 use Rattle.reconcile.proofs.Partners.{IsTaken, in-order, pair-taken, taken-pair}
@@ -75,7 +75,7 @@ same-lines line other a lines = filter_agree (says_same other) (says_same line) 
 
 -- so the partner of the other line is told by the entries and the lines of this one
 other-partner : (line other : Line61) → says_same line other ≡ true → (ours : List Placed) (ahead : List Line61)
-    → partner_of ours ahead other ≡ slice_get (filter (matches line) ours) (length (filter (says_same line) ahead))
+    → line_partner ours ahead other ≡ slice_get (filter (matches line) ours) (length (filter (says_same line) ahead))
 other-partner line other e ours ahead =
     let a = alike line other e in
     ap (λ (ps : List Placed). slice_get ps (length (filter (says_same other) ahead))) (same-entries line other a ours)
@@ -128,7 +128,7 @@ module _ (low : ℕ) (ours : List Placed) (theirs : List Line61) (up : PlacesFro
       elim (cases_lt kept.0 (ahead_of line (k - 1))) [
         | inl lt ↦
             let n = nth (says_same line) theirs (k - 1) kept.0 lt in
-            let partner : partner_of ours (take n.place theirs) n.item ≡ Some other =
+            let partner : line_partner ours (take n.place theirs) n.item ≡ Some other =
             other-partner line n.item n.holds ours (take n.place theirs) ∙ ap (slice_get (own line)) n.count ∙ kept.1 in
             let below = n.below in
             absurd (free.untaken (1 + n.place) (omega (arith, below)) (taken-pair ours [] 1 theirs n.place n.item other n.there partner))
@@ -177,7 +177,7 @@ module _ (low : ℕ) (ours : List Placed) (theirs : List Line61) (up : PlacesFro
       let within = slice_get_within (own free.line) late.0 placed late.2 in
       let le = late.1 in
       let first : Placed = get_or (own free.line) (ahead_of free.line (k - 1)) placed in
-      let partner : partner_of ours (take (k - 1) theirs) free.line ≡ Some first = slice_get-get_or (own free.line) (ahead_of free.line (k - 1)) placed (omega (arith, within, le)) in
+      let partner : line_partner ours (take (k - 1) theirs) free.line ≡ Some first = slice_get-get_or (own free.line) (ahead_of free.line (k - 1)) placed (omega (arith, within, le)) in
       let low_k = free.from_one in
       let number : 1 + (k - 1) ≡ k = omega (arith, low_k) in
       none first.place (subst (λ (x : ℕ). Contains pairs (first.place, x)) number (taken-pair ours [] 1 theirs (k - 1) free.line first free.there partner))

@@ -12,8 +12,8 @@ use Rattle.std.proofs.lemmas.List.Elements.{filter-append}
 use Rattle.std.proofs.lemmas.Option.{none-some, same_Some, slice_get_read, slice_get_within}
 use Rattle.std.proofs.lemmas.Slice.Eq.{bytes_eq-Decides}
 use Rattle.mt950.specs.declared.page.Page950.{Page950}
-use Rattle.reconcile.specs.Gathering.{Gathers, account_of, is_open, open_at, place_after, place_in, room_in}
-use Rattle.reconcile.specs.Pieces.{begins, goes_on, is_of, pieces_of}
+use Rattle.reconcile.specs.Gathering.{Gathers, page_account, is_open, open_at, place_after, place_for_page, room_in}
+use Rattle.reconcile.specs.Pieces.{begins_piece, goes_on, is_of, pieces_of}
 use Rattle.reconcile.specs.declared.grouping.Gathered.{Gathered}
 use Rattle.reconcile.proofs.Growing.{begun, extended, pieces-more}
 use Rattle.reconcile.proofs.Keyed.{short-eq}
@@ -83,23 +83,23 @@ bytes-same a b e = (bytes_eq-Decides a b).1 e
 
 -- a piece to which a page goes: a new one, or the open one of its account
 abbrev pub IsFor : Page950 → List Page950 → Type 0
-IsFor p was = (was ≡ []) ⊎ (is_open (account_of p) was ≡ true)
+IsFor p was = (was ≡ []) ⊎ (is_open (page_account p) was ≡ true)
 
-open-more : (a : List ℕ) (was : List Page950) (p : Page950) → IsFor p was → is_open a (was ++ p ∷ []) ≡ (bytes_eq a (account_of p) && goes_on (Some p))
+open-more : (a : List ℕ) (was : List Page950) (p : Page950) → IsFor p was → is_open a (was ++ p ∷ []) ≡ (bytes_eq a (page_account p) && goes_on (Some p))
 open-more a [] p own = refl
 open-more a (w ∷ ws) p (inl e) = absurd (cc e)
 open-more a (w ∷ ws) p (inr e) =
-    let same : account_of p ≡ account_of w = same-bytes (account_of p) (account_of w) (two (bytes_eq (account_of p) (account_of w)) (goes_on (last_or None (w ∷ ws))) e).0 in
+    let same : page_account p ≡ page_account w = same-bytes (page_account p) (page_account w) (two (bytes_eq (page_account p) (page_account w)) (goes_on (last_or None (w ∷ ws))) e).0 in
     λ i. bytes_eq a (sym same i) && goes_on (last-append (Some w) ws p i)
 
-own-account : (a : List ℕ) (was : List Page950) (p : Page950) → IsFor p was → is_open a was ≡ true → a ≡ account_of p
+own-account : (a : List ℕ) (was : List Page950) (p : Page950) → IsFor p was → is_open a was ≡ true → a ≡ page_account p
 own-account a [] p own opens = absurd (cc opens)
 own-account a (w ∷ ws) p (inl e) opens = absurd (cc e)
 own-account a (w ∷ ws) p (inr e) opens =
-    same-bytes a (account_of w) (two (bytes_eq a (account_of w)) (goes_on (last_or None (w ∷ ws))) opens).0
-    ∙ sym (same-bytes (account_of p) (account_of w) (two (bytes_eq (account_of p) (account_of w)) (goes_on (last_or None (w ∷ ws))) e).0)
+    same-bytes a (page_account w) (two (bytes_eq a (page_account w)) (goes_on (last_or None (w ∷ ws))) opens).0
+    ∙ sym (same-bytes (page_account p) (page_account w) (two (bytes_eq (page_account p) (page_account w)) (goes_on (last_or None (w ∷ ws))) e).0)
 
-not-extended : (p : Page950) (piece : List Page950) → is_open (account_of p) piece ≡ false → extended p piece ≡ piece
+not-extended : (p : Page950) (piece : List Page950) → is_open (page_account p) piece ≡ false → extended p piece ≡ piece
 not-extended p piece e = ap (λ (b : Bool). cond b (piece ++ p ∷ []) piece) e
 
 -- ---- a page more
@@ -110,7 +110,7 @@ pub record Fits (front : List Page950) (old : Gathered) (p : Page950) (room : Li
   pub own : IsFor p was
   pub noted : (a : List ℕ) (i : ℕ) → open_at old a ≡ Some i → (piece : List Page950) × (slice_get room i ≡ Some piece) × (is_open a piece ≡ true)
   pub every : (a : List ℕ) (i : ℕ) (piece : List Page950) → slice_get room i ≡ Some piece → is_open a piece ≡ true → open_at old a ≡ Some i
-  pub placed : (i : ℕ) → open_at old (account_of p) ≡ Some i → i ≡ at
+  pub placed : (i : ℕ) → open_at old (page_account p) ≡ Some i → i ≡ at
   pub are : set room at (was ++ p ∷ []) ≡ pieces_of (front ++ p ∷ [])
 
 module _ (front : List Page950) (old : Gathered) (p : Page950) (so : Gathers front old) where
@@ -118,11 +118,11 @@ module _ (front : List Page950) (old : Gathered) (p : Page950) (so : Gathers fro
   pieces = old.pieces.items
 
   abbrev account : List ℕ
-  account = account_of p
+  account = page_account p
 
   grown : (o : Option ℕ) → open_at old account ≡ o → pieces_of (front ++ p ∷ []) ≡ map (extended p) pieces ++ begun (is_none o) p
   grown o e =
-      pieces-more front p ∙ ap (λ (ps : List (List Page950)). map (extended p) ps ++ begun (begins front p) p) (sym so.are)
+      pieces-more front p ∙ ap (λ (ps : List (List Page950)). map (extended p) ps ++ begun (begins_piece front p) p) (sym so.are)
       ∙ ap (λ (b : Bool). map (extended p) pieces ++ begun b p) (so.begin p ∙ ap is_none e)
 
   fits-open : (i : ℕ) → open_at old account ≡ Some i → (was : List Page950) × Fits front old p pieces i was
@@ -165,7 +165,7 @@ module _ (front : List Page950) (old : Gathered) (p : Page950) (so : Gathers fro
         ])));
   }
 
-  pub fits : (o : Option ℕ) → open_at old account ≡ o → (was : List Page950) × Fits front old p (room_in o pieces) (place_in o pieces) was
+  pub fits : (o : Option ℕ) → open_at old account ≡ o → (was : List Page950) × Fits front old p (room_in o pieces) (place_for_page o pieces) was
   fits None e = ([], fits-new e)
   fits (Some i) e = fits-open i e
 
@@ -231,40 +231,40 @@ module _ (front : List Page950) (old : Gathered) (p : Page950) (so : Gathers fro
     ends true = refl
     ends false = refl
 
-    begin-more : (q : Page950) (b : Bool) → bytes_eq account (account_of q) ≡ b
-        → cond (goes_on (last_or None (filter (is_of q) front ++ cond b (p ∷ []) []))) false true ≡ is_none (cond b (place_after p.closing.last at) (open_at old (account_of q)))
+    begin-more : (q : Page950) (b : Bool) → bytes_eq account (page_account q) ≡ b
+        → cond (goes_on (last_or None (filter (is_of q) front ++ cond b (p ∷ []) []))) false true ≡ is_none (cond b (place_after p.closing.last at) (open_at old (page_account q)))
     begin-more q true e = ap (λ (o : Option Page950). cond (goes_on o) false true) (last-append None (filter (is_of q) front) p) ∙ ends p.closing.last
     begin-more q false e = ap (λ (ps : List Page950). cond (goes_on (last_or None ps)) false true) (append-nil (filter (is_of q) front)) ∙ so.begin q
 
-    begin : (q : Page950) → begins (front ++ p ∷ []) q ≡ is_none (open_at new (account_of q))
+    begin : (q : Page950) → begins_piece (front ++ p ∷ []) q ≡ is_none (open_at new (page_account q))
     begin q =
-        let same : bytes_eq account (account_of q) ≡ is_of q p = short-eq 36 p.account q.account in
+        let same : bytes_eq account (page_account q) ≡ is_of q p = short-eq 36 p.account q.account in
         ap (λ (ps : List Page950). cond (goes_on (last_or None ps)) false true) (filter-append (is_of q) front (p ∷ []))
         ∙ begin-more q (is_of q p) same
-        ∙ ap (λ (b : Bool). is_none (cond b (place_after p.closing.last at) (open_at old (account_of q)))) (sym same)
-        ∙ ap is_none (sym (notes (account_of q)))
+        ∙ ap (λ (b : Bool). is_none (cond b (place_after p.closing.last at) (open_at old (page_account q)))) (sym same)
+        ∙ ap is_none (sym (notes (page_account q)))
 
     pub gathers : Gathers (front ++ p ∷ []) new
     gathers = record { are = put ∙ fit.are; noted = noted; every = every; begin = begin }
 
 -- a page that is put at the place for it
 pub gathered-more : (front : List Page950) (old : Gathered) (p : Page950) (so : Gathers front old) (new : Gathered) (room : List (List Page950)) (at : ℕ) (item : List Page950)
-    → at ≡ place_in (open_at old (account_of p)) old.pieces.items → room ≡ room_in (open_at old (account_of p)) old.pieces.items → item ≡ get_or room at item
-    → new.pieces.items ≡ set room at (item ++ p ∷ []) → ((other : List ℕ) → open_at new other ≡ cond (bytes_eq (account_of p) other) (place_after p.closing.last at) (open_at old other))
+    → at ≡ place_for_page (open_at old (page_account p)) old.pieces.items → room ≡ room_in (open_at old (page_account p)) old.pieces.items → item ≡ get_or room at item
+    → new.pieces.items ≡ set room at (item ++ p ∷ []) → ((other : List ℕ) → open_at new other ≡ cond (bytes_eq (page_account p) other) (place_after p.closing.last at) (open_at old other))
     → Gathers (front ++ p ∷ []) new
 gathered-more front old p so new room at item place is read put notes =
-    let (was, fit) = fits front old p so (open_at old (account_of p)) refl in
+    let (was, fit) = fits front old p so (open_at old (page_account p)) refl in
     let there : Fits front old p room at was =
-    subst (λ (r : List (List Page950)). Fits front old p r at was) (sym is) (subst (λ (k : ℕ). Fits front old p (room_in (open_at old (account_of p)) old.pieces.items) k was) (sym place) fit) in
+    subst (λ (r : List (List Page950)). Fits front old p r at was) (sym is) (subst (λ (k : ℕ). Fits front old p (room_in (open_at old (page_account p)) old.pieces.items) k was) (sym place) fit) in
     let within : at < length room = slice_get_within room at was there.there in
     let same : item ≡ was = same_Some item was (sym (slice_get_read room (length room) at item refl within read) ∙ there.there) in
     gathers front old p so new room at was there (put ∙ ap (λ (x : List Page950). set room at (x ++ p ∷ [])) same) notes
 
 -- there is such a place
-pub place-within : (front : List Page950) (old : Gathered) (p : Page950) (so : Gathers front old) → place_in (open_at old (account_of p)) old.pieces.items < length (room_in (open_at old (account_of p)) old.pieces.items)
+pub place-within : (front : List Page950) (old : Gathered) (p : Page950) (so : Gathers front old) → place_for_page (open_at old (page_account p)) old.pieces.items < length (room_in (open_at old (page_account p)) old.pieces.items)
 place-within front old p so =
-    let (was, fit) = fits front old p so (open_at old (account_of p)) refl in
-    slice_get_within (room_in (open_at old (account_of p)) old.pieces.items) (place_in (open_at old (account_of p)) old.pieces.items) was fit.there
+    let (was, fit) = fits front old p so (open_at old (page_account p)) refl in
+    slice_get_within (room_in (open_at old (page_account p)) old.pieces.items) (place_for_page (open_at old (page_account p)) old.pieces.items) was fit.there
 
 -- the first page of all
 pub none-gathered : (g : Gathered) → g.pieces.items ≡ [] → g.places.entries ≡ [] → Gathers [] g
@@ -272,5 +272,5 @@ none-gathered g none empty = record {
   are = none;
   noted = λ a i e. absurd (none-some i (sym (ap (λ entries. lookup (bytes_eq a) entries) empty) ∙ e));
   every = λ a i piece at opens. absurd (none-some piece (sym (ap (λ (ps : List (List Page950)). slice_get ps i) none) ∙ at));
-  begin = λ q. ap (λ entries. is_none (lookup (bytes_eq (account_of q)) entries)) (sym empty);
+  begin = λ q. ap (λ entries. is_none (lookup (bytes_eq (page_account q)) entries)) (sym empty);
 }

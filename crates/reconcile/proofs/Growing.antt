@@ -5,13 +5,13 @@ use Rattle.std.specs.Str.{bytes_eq}
 use Rattle.std.proofs.lemmas.List.{append-nil}
 use Rattle.std.proofs.lemmas.List.Elements.{filter-append}
 use Rattle.mt950.specs.declared.page.Page950.{Page950}
-use Rattle.reconcile.specs.Gathering.{account_of, is_open}
-use Rattle.reconcile.specs.Pieces.{begins, goes_on, is_of, piece_of, pieces_from, pieces_of, until_closed}
+use Rattle.reconcile.specs.Gathering.{page_account, is_open}
+use Rattle.reconcile.specs.Pieces.{begins_piece, goes_on, is_of, piece_of, pieces_from, pieces_of, until_closed}
 use Rattle.reconcile.proofs.Keyed.{short-eq}
 
 -- the piece with the page, where it is the open one of its account
 abbrev pub extended : Page950 → List Page950 → List Page950
-extended p piece = cond (is_open (account_of p) piece) (piece ++ p ∷ []) piece
+extended p piece = cond (is_open (page_account p) piece) (piece ++ p ∷ []) piece
 
 -- the piece that the page begins, where it begins one
 abbrev pub begun : Bool → Page950 → List (List Page950)
@@ -59,7 +59,7 @@ until-more : (q : Page950) (fs : List Page950) (p : Page950) → until_closed (q
 until-more q [] p = next-one q.closing.last q p refl
 until-more q (r ∷ fs) p = next-more q.closing.last q r p (until_closed (r ∷ fs ++ p ∷ [])) (cond r.closing.last [] (until_closed fs)) refl (until-more r fs p)
 
-grown : (b : Bool) (q : Page950) (fs : List Page950) (p : Page950) → bytes_eq (account_of p) (account_of q) ≡ b → until_closed (q ∷ fs ++ cond b (p ∷ []) []) ≡ extended p (until_closed (q ∷ fs))
+grown : (b : Bool) (q : Page950) (fs : List Page950) (p : Page950) → bytes_eq (page_account p) (page_account q) ≡ b → until_closed (q ∷ fs ++ cond b (p ∷ []) []) ≡ extended p (until_closed (q ∷ fs))
 grown true q fs p e =
     until-more q fs p ∙ ap (λ (x : Bool). cond (x && going (until_closed (q ∷ fs))) (until_closed (q ∷ fs) ++ p ∷ []) (until_closed (q ∷ fs))) (sym e)
 grown false q fs p e =
@@ -82,12 +82,12 @@ both : (b : Bool) (p : Page950) (big small : List Page950) (more rest new : List
 both true p big small more rest new e f = λ i. e i ∷ f i
 both false p big small more rest new e f = f
 
-pieces-from-more : (ahead rest : List Page950) (p : Page950) → pieces_from ahead (rest ++ p ∷ []) ≡ map (extended p) (pieces_from ahead rest) ++ begun (begins (ahead ++ rest) p) p
-pieces-from-more ahead [] p = begun-last (begins ahead p) p ∙ ap (λ (ps : List Page950). begun (begins ps p) p) (sym (append-nil ahead))
+pieces-from-more : (ahead rest : List Page950) (p : Page950) → pieces_from ahead (rest ++ p ∷ []) ≡ map (extended p) (pieces_from ahead rest) ++ begun (begins_piece (ahead ++ rest) p) p
+pieces-from-more ahead [] p = begun-last (begins_piece ahead p) p ∙ ap (λ (ps : List Page950). begun (begins_piece ps p) p) (sym (append-nil ahead))
 pieces-from-more ahead (q ∷ rest) p =
-    both (begins ahead q) p (piece_of q (rest ++ p ∷ [])) (piece_of q rest) (pieces_from (ahead ++ q ∷ []) (rest ++ p ∷ [])) (pieces_from (ahead ++ q ∷ []) rest) (begun (begins (ahead ++ q ∷ rest) p) p)
+    both (begins_piece ahead q) p (piece_of q (rest ++ p ∷ [])) (piece_of q rest) (pieces_from (ahead ++ q ∷ []) (rest ++ p ∷ [])) (pieces_from (ahead ++ q ∷ []) rest) (begun (begins_piece (ahead ++ q ∷ rest) p) p)
     (piece-more q rest p)
-    (pieces-from-more (ahead ++ q ∷ []) rest p ∙ ap (λ (ps : List Page950). map (extended p) (pieces_from (ahead ++ q ∷ []) rest) ++ begun (begins ps p) p) (append_assoc ahead (q ∷ []) rest))
+    (pieces-from-more (ahead ++ q ∷ []) rest p ∙ ap (λ (ps : List Page950). map (extended p) (pieces_from (ahead ++ q ∷ []) rest) ++ begun (begins_piece ps p) p) (append_assoc ahead (q ∷ []) rest))
 
-pub pieces-more : (front : List Page950) (p : Page950) → pieces_of (front ++ p ∷ []) ≡ map (extended p) (pieces_of front) ++ begun (begins front p) p
+pub pieces-more : (front : List Page950) (p : Page950) → pieces_of (front ++ p ∷ []) ≡ map (extended p) (pieces_of front) ++ begun (begins_piece front p) p
 pieces-more front p = pieces-from-more [] front p

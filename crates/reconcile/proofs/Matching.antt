@@ -10,7 +10,7 @@ use Rattle.statement.specs.Lines.{Placed}
 use Rattle.statement.specs.Running.{placed_by}
 use Rattle.statement.specs.declared.movement.Movement.{Movement}
 use Rattle.reconcile.specs.Keys.{is_key, taken_by}
-use Rattle.reconcile.specs.Pairing.{matches, partner_of, places_of, says_same}
+use Rattle.reconcile.specs.Pairing.{matches, line_partner, places_of, says_same}
 use Rattle.reconcile.specs.Waiting.{WithoutFirst, has_key, places_with, waiting_for}
 use Rattle.reconcile.specs.declared.key.Key.{Key}
 use Rattle.reconcile.specs.declared.waiting.Waiting.{Waiting}
@@ -46,7 +46,7 @@ first-left (suc n) (x ∷ xs) = first-left n xs
 
 -- the first that waits for a line is its partner
 pub first-is-partner : (entries : List Movement) (ahead : List Line61) (waiting : Waiting) (line : Line61) → AreLeft entries ahead waiting
-    → slice_get (waiting_for waiting (taken_by line)) 0 ≡ option_map (λ placed. placed.place) (partner_of (map placed_by entries) ahead line)
+    → slice_get (waiting_for waiting (taken_by line)) 0 ≡ option_map (λ placed. placed.place) (line_partner (map placed_by entries) ahead line)
 first-is-partner entries ahead waiting line left =
     let own : List Placed = filter (matches line) (map placed_by entries) in
     ap (λ (ps : List ℕ). slice_get ps 0) (left (taken_by line))

@@ -1,26 +1,12 @@
 -- The account that a statement is of.
-use Rattle.std.proofs.Common.{◌≡◌, Bool, true, false, cond, List, Option, Some, None, ap, ◌∙◌, arith}
-use Rattle.std.specs.Prelude.{option_and_then, option_map}
-use Rattle.std.specs.List.{position_from}
+use Rattle.std.proofs.Common.{◌≡◌, Bool, true, false, cond, Option, Some, None, ap, ◌∙◌}
+use Rattle.std.specs.Prelude.{option_and_then}
 use Rattle.std.specs.Option.{option_map_or}
-use Rattle.std.proofs.lemmas.Option.{same_Some}
 use Rattle.day_model.specs.declared.account.Account.{Account}
 use Rattle.day_model.specs.declared.account.AcctNo.{AcctNo}
-use Rattle.day_model.specs.Chart.{Chart, IsListed, account_at, has_id, number_of_first}
-use Rattle.day_model.proofs.laws.Places.{position_from-within}
+use Rattle.day_model.specs.Chart.{Chart, account_at, has_id, number_of_first}
 use Rattle.mt950.specs.declared.joining.Statement.{Statement}
 use Rattle.reconcile.specs.Breaks.{is_of_statement, nostro_of}
-
-place-of : (t : Account → Bool) (accounts : List Account) (n : AcctNo) → number_of_first t accounts ≡ Some n → position_from t 1 accounts ≡ Some n.0
-place-of t accounts n e =
-    elim (position_from t 1 accounts) as (λ o. option_map (λ k. record { 0 = k }) o ≡ Some n → o ≡ Some n.0) [
-      | Some k ↦ λ h. let s : record { 0 = k } ≡ n = same_Some _ _ h in ap (λ (m : AcctNo). Some m.0) s
-      | None ↦ λ h. cc
-    ] e
-
--- an account that is found is there
-pub listed : (t : Account → Bool) (chart : Chart) (n : AcctNo) → number_of_first t chart.accounts ≡ Some n → IsListed chart n.0
-listed t chart n e = let w = position_from-within t 1 n.0 chart.accounts (place-of t chart.accounts n e) in (omega arith, omega arith)
 
 module _ (chart : Chart) (s : Statement) where
   abbrev if-of : AcctNo → Option AcctNo

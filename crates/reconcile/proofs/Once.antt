@@ -9,7 +9,7 @@ use Rattle.std.proofs.lemmas.List.Sorted.{IsPermutation-append_right, IsPermutat
 use Rattle.std.proofs.lemmas.Option.{none-some, same_Some, slice_get-map}
 use Rattle.mt950.specs.declared.entry.Line61.{Line61}
 use Rattle.statement.specs.Lines.{Placed, PlacesFrom, RiseFrom}
-use Rattle.reconcile.specs.Pairing.{alone, alone_from, is_paired, matches, numbers_of, ours_left, pair_with, pairs_from, pairs_of, partner_of, places_of, says_same, theirs_left}
+use Rattle.reconcile.specs.Pairing.{alone, alone_from, is_paired, matches, line_numbers, ours_left, pair_with, line_pairs_from, pairs_of, line_partner, places_of, says_same, theirs_left}
 use Rattle.reconcile.proofs.Counting.{kept-at, kept-from}
 use Rattle.reconcile.proofs.First.{apart, contains-at}
 use Rattle.reconcile.proofs.Partners.{in-order, pair-taken}
@@ -23,12 +23,12 @@ line-once k None ps ns rs h = IsPermutation-trans _ _ _ (IsPermutation-middle (m
 line-once k (Some placed) ps ns rs h = IsPermutation-cons k _ _ h
 
 lines-from-once : (ours : List Placed) (ahead : List Line61) (k : ℕ) (lines : List Line61)
-    → IsPermutation (map (λ p. p.1) (pairs_from ours ahead k lines) ++ alone_from ours ahead k lines) (range_with_len k (length lines))
+    → IsPermutation (map (λ p. p.1) (line_pairs_from ours ahead k lines) ++ alone_from ours ahead k lines) (range_with_len k (length lines))
 lines-from-once ours ahead k [] = IsPermutation-refl []
 lines-from-once ours ahead k (line ∷ lines) =
-    line-once k (partner_of ours ahead line) (pairs_from ours (ahead ++ line ∷ []) (k + 1) lines) (alone_from ours (ahead ++ line ∷ []) (k + 1) lines) (range_with_len (k + 1) (length lines)) (lines-from-once ours (ahead ++ line ∷ []) (k + 1) lines)
+    line-once k (line_partner ours ahead line) (line_pairs_from ours (ahead ++ line ∷ []) (k + 1) lines) (alone_from ours (ahead ++ line ∷ []) (k + 1) lines) (range_with_len (k + 1) (length lines)) (lines-from-once ours (ahead ++ line ∷ []) (k + 1) lines)
 
-pub lines-once : (ours : List Placed) (theirs : List Line61) → IsPermutation (map (λ pair. pair.1) (pairs_of ours theirs) ++ theirs_left ours theirs) (numbers_of theirs)
+pub lines-once : (ours : List Placed) (theirs : List Line61) → IsPermutation (map (λ pair. pair.1) (pairs_of ours theirs) ++ theirs_left ours theirs) (line_numbers theirs)
 lines-once ours theirs = lines-from-once ours [] 1 theirs
 
 -- ---- entries: numbers that rise, taken out one by one

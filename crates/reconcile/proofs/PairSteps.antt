@@ -8,7 +8,7 @@ use Rattle.statement.specs.Lines.{Placed}
 use Rattle.statement.specs.Running.{placed_by}
 use Rattle.statement.specs.declared.movement.Movement.{Movement}
 use Rattle.reconcile.specs.Keys.{taken_by}
-use Rattle.reconcile.specs.Pairing.{alone, alone_from, pair_with, pairs_from, pairs_of, partner_of, theirs_left}
+use Rattle.reconcile.specs.Pairing.{alone, alone_from, pair_with, line_pairs_from, pairs_of, line_partner, theirs_left}
 use Rattle.reconcile.specs.Waiting.{AllWait, WithoutFirst, waiting_for}
 use Rattle.reconcile.specs.declared.waiting.Waiting.{Waiting}
 use Rattle.reconcile.proofs.Matching.{AreLeft, first-is-partner, left-after}
@@ -16,7 +16,7 @@ use Rattle.reconcile.proofs.Matching.{AreLeft, first-is-partner, left-after}
 -- the first so many lines took their entries: what waits, the pairs and the lines without an entry so far
 pub record ArePaired (entries : List Movement) (lines : List Line61) (at : ℕ) (waiting : Waiting) (pairs : List (ℕ × ℕ)) (theirs : List ℕ) : Type 0 where
   pub left : AreLeft entries (take at lines) waiting
-  pub pairs_so_far : pairs ++ pairs_from (map placed_by entries) (take at lines) (at + 1) (drop at lines) ≡ pairs_of (map placed_by entries) lines
+  pub pairs_so_far : pairs ++ line_pairs_from (map placed_by entries) (take at lines) (at + 1) (drop at lines) ≡ pairs_of (map placed_by entries) lines
   pub theirs_so_far : theirs ++ alone_from (map placed_by entries) (take at lines) (at + 1) (drop at lines) ≡ theirs_left (map placed_by entries) lines
 
 pub none-paired : (entries : List Movement) (lines : List Line61) (waiting : Waiting) → AllWait entries waiting → ArePaired entries lines 0 waiting [] []
@@ -49,10 +49,10 @@ module _ (entries : List Movement) (lines : List Line61) (at : ℕ) (line : Line
   ahead = take at lines
 
   abbrev partner : Option Placed
-  partner = partner_of ours ahead line
+  partner = line_partner ours ahead line
 
   abbrev pairs_after : List (ℕ × ℕ)
-  pairs_after = pairs_from ours (take (at + 1) lines) (at + 1 + 1) (drop (at + 1) lines)
+  pairs_after = line_pairs_from ours (take (at + 1) lines) (at + 1 + 1) (drop (at + 1) lines)
 
   abbrev alone_after : List ℕ
   alone_after = alone_from ours (take (at + 1) lines) (at + 1 + 1) (drop (at + 1) lines)
@@ -63,10 +63,10 @@ module _ (entries : List Movement) (lines : List Line61) (at : ℕ) (line : Line
   next-back : drop at lines ≡ line ∷ drop (at + 1) lines
   next-back = drop_more lines at line lt ∙ ap (λ (x : Line61). x ∷ drop (at + 1) lines) (sym is)
 
-  pairs-split : pairs_from ours ahead (at + 1) (drop at lines) ≡ pair_with (at + 1) partner ++ pairs_after
+  pairs-split : line_pairs_from ours ahead (at + 1) (drop at lines) ≡ pair_with (at + 1) partner ++ pairs_after
   pairs-split =
-      ap (pairs_from ours ahead (at + 1)) next-back
-      ∙ ap (λ (ls : List Line61). pair_with (at + 1) partner ++ pairs_from ours ls (at + 1 + 1) (drop (at + 1) lines)) (sym next-front)
+      ap (line_pairs_from ours ahead (at + 1)) next-back
+      ∙ ap (λ (ls : List Line61). pair_with (at + 1) partner ++ line_pairs_from ours ls (at + 1 + 1) (drop (at + 1) lines)) (sym next-front)
 
   alone-split : alone_from ours ahead (at + 1) (drop at lines) ≡ alone (at + 1) partner ++ alone_after
   alone-split =
@@ -110,6 +110,6 @@ pub pairs-end : (entries : List Movement) (lines : List Line61) (at : ℕ) (wait
 pairs-end entries lines at waiting pairs theirs le so =
     let ours : List Placed = map placed_by entries in
     let none : drop at lines ≡ [] = drop_all at lines le in (
-      sym (append-nil pairs) ∙ ap (λ (ls : List Line61). pairs ++ pairs_from ours (take at lines) (at + 1) ls) (sym none) ∙ so.pairs_so_far,
+      sym (append-nil pairs) ∙ ap (λ (ls : List Line61). pairs ++ line_pairs_from ours (take at lines) (at + 1) ls) (sym none) ∙ so.pairs_so_far,
       sym (append-nil theirs) ∙ ap (λ (ls : List Line61). theirs ++ alone_from ours (take at lines) (at + 1) ls) (sym none) ∙ so.theirs_so_far,
     )

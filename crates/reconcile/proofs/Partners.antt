@@ -7,7 +7,7 @@ use Rattle.std.proofs.lemmas.List.Elements.{Contains-append_cases, Contains-appe
 use Rattle.std.proofs.lemmas.Option.{none-some, same_Some}
 use Rattle.mt950.specs.declared.entry.Line61.{Line61}
 use Rattle.statement.specs.Lines.{Placed, RiseFrom}
-use Rattle.reconcile.specs.Pairing.{pair_with, pairs_from, partner_of}
+use Rattle.reconcile.specs.Pairing.{pair_with, line_pairs_from, line_partner}
 use Rattle.reconcile.proofs.Rising.{rise-later, rises}
 
 pub contains-none : {A : Type 0} (x : A) → Contains [] x → ⊥
@@ -30,11 +30,11 @@ pub record IsTaken (ours : List Placed) (ahead : List Line61) (k : ℕ) (lines :
   pub placed : Placed
   pub number : l ≡ k + at
   pub there : slice_get lines at ≡ Some line
-  pub partner : partner_of ours (ahead ++ take at lines) line ≡ Some placed
+  pub partner : line_partner ours (ahead ++ take at lines) line ≡ Some placed
   pub same : placed.place ≡ place
 
 module _ (ours : List Placed) where
-  here-taken : (ahead : List Line61) (k : ℕ) (line : Line61) (lines : List Line61) (place l : ℕ) (partner : Option Placed) → partner_of ours ahead line ≡ partner → Contains (pair_with k partner) (place, l)
+  here-taken : (ahead : List Line61) (k : ℕ) (line : Line61) (lines : List Line61) (place l : ℕ) (partner : Option Placed) → line_partner ours ahead line ≡ partner → Contains (pair_with k partner) (place, l)
       → IsTaken ours ahead k (line ∷ lines) place l
   here-taken ahead k line lines place l None e c = absurd (contains-none (place, l) c)
   here-taken ahead k line lines place l (Some placed) e c =
@@ -46,7 +46,7 @@ module _ (ours : List Placed) where
         placed = placed;
         number = omega (arith, number);
         there = refl;
-        partner = ap (λ (ls : List Line61). partner_of ours ls line) (append-nil ahead) ∙ e;
+        partner = ap (λ (ls : List Line61). line_partner ours ls line) (append-nil ahead) ∙ e;
         same = ap (λ (p : ℕ × ℕ). p.0) pair;
       }
 
@@ -59,37 +59,37 @@ module _ (ours : List Placed) where
         placed = t.placed;
         number = omega (arith, number);
         there = t.there;
-        partner = ap (λ (ls : List Line61). partner_of ours ls t.line) (sym (append_assoc ahead (line ∷ []) (take t.at lines))) ∙ t.partner;
+        partner = ap (λ (ls : List Line61). line_partner ours ls t.line) (sym (append_assoc ahead (line ∷ []) (take t.at lines))) ∙ t.partner;
         same = t.same;
       }
 
   -- each pair is so
-  pub pair-taken : (ahead : List Line61) (k : ℕ) (lines : List Line61) (place l : ℕ) → Contains (pairs_from ours ahead k lines) (place, l) → IsTaken ours ahead k lines place l
+  pub pair-taken : (ahead : List Line61) (k : ℕ) (lines : List Line61) (place l : ℕ) → Contains (line_pairs_from ours ahead k lines) (place, l) → IsTaken ours ahead k lines place l
   pair-taken ahead k [] place l c = absurd (contains-none (place, l) c)
   pair-taken ahead k (line ∷ lines) place l c =
-      let partner : Option Placed = partner_of ours ahead line in
-      elim (Contains-append_cases (pair_with k partner) (pairs_from ours (ahead ++ line ∷ []) (k + 1) lines) (place, l) c) [
+      let partner : Option Placed = line_partner ours ahead line in
+      elim (Contains-append_cases (pair_with k partner) (line_pairs_from ours (ahead ++ line ∷ []) (k + 1) lines) (place, l) c) [
         | inl here ↦ here-taken ahead k line lines place l partner refl here
         | inr there ↦ after-taken ahead k line lines place l (pair-taken (ahead ++ line ∷ []) (k + 1) lines place l there)
       ]
 
   -- and each line with a partner is in a pair
-  pub taken-pair : (ahead : List Line61) (k : ℕ) (lines : List Line61) (at : ℕ) (line : Line61) (placed : Placed) → slice_get lines at ≡ Some line → partner_of ours (ahead ++ take at lines) line ≡ Some placed
-      → Contains (pairs_from ours ahead k lines) (placed.place, k + at)
+  pub taken-pair : (ahead : List Line61) (k : ℕ) (lines : List Line61) (at : ℕ) (line : Line61) (placed : Placed) → slice_get lines at ≡ Some line → line_partner ours (ahead ++ take at lines) line ≡ Some placed
+      → Contains (line_pairs_from ours ahead k lines) (placed.place, k + at)
   taken-pair ahead k [] at line placed there partner = absurd (none-some line there)
   taken-pair ahead k (first ∷ lines) zero line placed there partner =
       let same : first ≡ line = same_Some first line there in
-      let own : partner_of ours ahead first ≡ Some placed = ap (partner_of ours ahead) same ∙ ap (λ (ls : List Line61). partner_of ours ls line) (sym (append-nil ahead)) ∙ partner in
+      let own : line_partner ours ahead first ≡ Some placed = ap (line_partner ours ahead) same ∙ ap (λ (ls : List Line61). line_partner ours ls line) (sym (append-nil ahead)) ∙ partner in
       let number : k ≡ k + 0 = omega arith in
       let c : Contains (pair_with k (Some placed)) (placed.place, k) = contains-first (placed.place, k) [] in
-      subst (λ (n : ℕ). Contains (pairs_from ours ahead k (first ∷ lines)) (placed.place, n)) number
-      (Contains-append_left (pair_with k (partner_of ours ahead first)) (pairs_from ours (ahead ++ first ∷ []) (k + 1) lines) (placed.place, k)
+      subst (λ (n : ℕ). Contains (line_pairs_from ours ahead k (first ∷ lines)) (placed.place, n)) number
+      (Contains-append_left (pair_with k (line_partner ours ahead first)) (line_pairs_from ours (ahead ++ first ∷ []) (k + 1) lines) (placed.place, k)
       (subst (λ (o : Option Placed). Contains (pair_with k o) (placed.place, k)) (sym own) c))
   taken-pair ahead k (first ∷ lines) (suc at) line placed there partner =
       let number : k + 1 + at ≡ k + suc at = omega arith in
-      let after : partner_of ours ((ahead ++ first ∷ []) ++ take at lines) line ≡ Some placed = ap (λ (ls : List Line61). partner_of ours ls line) (append_assoc ahead (first ∷ []) (take at lines)) ∙ partner in
-      subst (λ (n : ℕ). Contains (pairs_from ours ahead k (first ∷ lines)) (placed.place, n)) number
-      (Contains-append_right (pair_with k (partner_of ours ahead first)) (pairs_from ours (ahead ++ first ∷ []) (k + 1) lines) (placed.place, k + 1 + at)
+      let after : line_partner ours ((ahead ++ first ∷ []) ++ take at lines) line ≡ Some placed = ap (λ (ls : List Line61). line_partner ours ls line) (append_assoc ahead (first ∷ []) (take at lines)) ∙ partner in
+      subst (λ (n : ℕ). Contains (line_pairs_from ours ahead k (first ∷ lines)) (placed.place, n)) number
+      (Contains-append_right (pair_with k (line_partner ours ahead first)) (line_pairs_from ours (ahead ++ first ∷ []) (k + 1) lines) (placed.place, k + 1 + at)
       (taken-pair (ahead ++ first ∷ []) (k + 1) lines at line placed there after))
 
   -- ---- the numbers of pairs rise
@@ -101,9 +101,9 @@ module _ (ours : List Placed) where
   one-number k None ps up = rise-later (λ (p : ℕ × ℕ). p.1) k (k + 1) ps (omega arith) up
   one-number k (Some placed) ps up = (omega arith, up)
 
-  numbers-rise : (ahead : List Line61) (k : ℕ) (lines : List Line61) → NumbersFrom k (pairs_from ours ahead k lines)
+  numbers-rise : (ahead : List Line61) (k : ℕ) (lines : List Line61) → NumbersFrom k (line_pairs_from ours ahead k lines)
   numbers-rise ahead k [] = tt
-  numbers-rise ahead k (line ∷ lines) = one-number k (partner_of ours ahead line) (pairs_from ours (ahead ++ line ∷ []) (k + 1) lines) (numbers-rise (ahead ++ line ∷ []) (k + 1) lines)
+  numbers-rise ahead k (line ∷ lines) = one-number k (line_partner ours ahead line) (line_pairs_from ours (ahead ++ line ∷ []) (k + 1) lines) (numbers-rise (ahead ++ line ∷ []) (k + 1) lines)
 
-  pub in-order : (lines : List Line61) (i j : ℕ) (p q : ℕ × ℕ) → i < j → slice_get (pairs_from ours [] 1 lines) i ≡ Some p → slice_get (pairs_from ours [] 1 lines) j ≡ Some q → p.1 < q.1
-  in-order lines i j p q lt e f = rises (λ (p : ℕ × ℕ). p.1) 1 (pairs_from ours [] 1 lines) i j p q (numbers-rise [] 1 lines) lt e f
+  pub in-order : (lines : List Line61) (i j : ℕ) (p q : ℕ × ℕ) → i < j → slice_get (line_pairs_from ours [] 1 lines) i ≡ Some p → slice_get (line_pairs_from ours [] 1 lines) j ≡ Some q → p.1 < q.1
+  in-order lines i j p q lt e f = rises (λ (p : ℕ × ℕ). p.1) 1 (line_pairs_from ours [] 1 lines) i j p q (numbers-rise [] 1 lines) lt e f

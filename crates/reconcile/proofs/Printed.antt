@@ -26,7 +26,7 @@ use Rattle.statement.specs.declared.movement.Movement.{Movement}
 use Rattle.reconcile.specs.Breaks.{heading_of, joined_text, line_feed, nostro_of, piece_text, statement_lines, statement_text}
 use Rattle.reconcile.specs.Comparison.{compared_of, ours_of, placed_at}
 use Rattle.reconcile.specs.Lines.{compared_lines, fault_words}
-use Rattle.reconcile.specs.Pairing.{alone, alone_from, partner_of, theirs_left}
+use Rattle.reconcile.specs.Pairing.{alone, alone_from, line_partner, theirs_left}
 use Rattle.reconcile.specs.declared.comparing.Compared.{Compared}
 use Rattle.reconcile.proofs.Rising.{rises}
 use Rattle.reconcile.proofs.Tests.{above, below, itself}
@@ -132,7 +132,7 @@ module _ (ours : List Placed) where
   alone-low : (low : ℕ) (ahead : List Line61) (k : ℕ) (lines : List Line61) → low ≤ k → AllByRecursion (λ n. low ≤ n) (alone_from ours ahead k lines)
   alone-low low ahead k [] le = tt
   alone-low low ahead k (line ∷ lines) le =
-      alone-next low k (partner_of ours ahead line) (alone_from ours (ahead ++ line ∷ []) (k + 1) lines) le (alone-low low (ahead ++ line ∷ []) (k + 1) lines (omega (arith, le)))
+      alone-next low k (line_partner ours ahead line) (alone_from ours (ahead ++ line ∷ []) (k + 1) lines) le (alone-low low (ahead ++ line ∷ []) (k + 1) lines (omega (arith, le)))
 
   -- the lines in no pair are numbered from 1
   pub theirs-numbered : (lines : List Line61) → All (λ n. 1 ≤ n) (theirs_left ours lines)

@@ -7,7 +7,7 @@ use Rattle.fin_contents.specs.Writing.{IsReadable}
 use Rattle.mt950.specs.Joining.{most_pages}
 use Rattle.mt950.specs.Page.{mt950_of}
 use Rattle.mt950.specs.declared.page.Page950.{Page950}
-use Rattle.reconcile.specs.Pieces.{begins, is_of, piece_of, pieces_from, pieces_of, until_closed}
+use Rattle.reconcile.specs.Pieces.{begins_piece, is_of, piece_of, pieces_from, pieces_of, until_closed}
 
 -- so many pages at most, each of which was read
 pub record CanBeJoined (pages : List Page950) : Type 0 where
@@ -63,7 +63,7 @@ begun-joins false piece rest one all = all
 pieces-from-join : (ahead ps : List Page950) → length ps ≤ most_pages → AllByRecursion (IsReadable mt950_of) ps → AllByRecursion CanBeJoined (pieces_from ahead ps)
 pieces-from-join ahead [] few all = tt
 pieces-from-join ahead (p ∷ ps) few all =
-    begun-joins (begins ahead p) (piece_of p ps) (pieces_from (ahead ++ p ∷ []) ps) (piece-joins p ps few all) (pieces-from-join (ahead ++ p ∷ []) ps (omega (arith, few)) all.1)
+    begun-joins (begins_piece ahead p) (piece_of p ps) (pieces_from (ahead ++ p ∷ []) ps) (piece-joins p ps few all) (pieces-from-join (ahead ++ p ∷ []) ps (omega (arith, few)) all.1)
 
 -- so each piece may be joined
 pub pieces-join : (pages : List Page950) → length pages ≤ most_pages → All (IsReadable mt950_of) pages → All CanBeJoined (pieces_of pages)

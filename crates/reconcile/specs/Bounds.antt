@@ -38,7 +38,7 @@ pub record Compares (index : HistoryIndex) (n : ℕ) (s : Statement) (book : See
   pub received : IsReceived s
 
 -- an index is that of a book of these accounts, whose pays can be written down
-pub record Tells (index : HistoryIndex) (chart : Chart) (book : SeenBook) : Type 0 where
+pub record IsIndexFor (index : HistoryIndex) (chart : Chart) (book : SeenBook) : Type 0 where
   pub is : IsIndexOf index book
   pub shaped : AreShaped book.entries
   pub same : book.chart ≡ chart

@@ -6,21 +6,21 @@ use Rattle.std.specs.Option.{is_none}
 use Rattle.std.specs.Str.{bytes_eq}
 use Rattle.mt950.specs.declared.page.Page950.{Page950}
 use Rattle.reconcile.specs.Keys.{short_of}
-use Rattle.reconcile.specs.Pieces.{begins, goes_on, pieces_of}
+use Rattle.reconcile.specs.Pieces.{begins_piece, goes_on, pieces_of}
 use Rattle.reconcile.specs.declared.grouping.Gathered.{Gathered}
 
 -- a page's account, as the map keeps it
-abbrev pub account_of : Page950 → List ℕ
-account_of page = short_of 36 page.account
+abbrev pub page_account : Page950 → List ℕ
+page_account page = short_of 36 page.account
 
 -- the place of the piece that the next page of an account belongs to, where one is open
 abbrev pub open_at : Gathered → List ℕ → Option ℕ
 open_at gathered account = lookup (bytes_eq account) gathered.places.entries
 
 -- the place for its next page: that one, or the end
-abbrev pub place_in : Option ℕ → List (List Page950) → ℕ
-place_in None pieces = length pieces
-place_in (Some at) pieces = at
+abbrev pub place_for_page : Option ℕ → List (List Page950) → ℕ
+place_for_page None pieces = length pieces
+place_for_page (Some at) pieces = at
 
 -- the pieces with room for it
 abbrev pub room_in : Option ℕ → List (List Page950) → List (List Page950)
@@ -34,11 +34,11 @@ place_after last at = if last then None else Some at
 -- a piece is of an account, and goes on
 abbrev pub is_open : List ℕ → List Page950 → Bool
 is_open account [] = false
-is_open account (page ∷ pages) = bytes_eq account (account_of page) && goes_on (last_or None (page ∷ pages))
+is_open account (page ∷ pages) = bytes_eq account (page_account page) && goes_on (last_or None (page ∷ pages))
 
 -- the pieces of pages are there, the open ones are noted, and no others; so a page begins a piece just where none is noted
 pub record Gathers (front : List Page950) (gathered : Gathered) : Type 0 where
   pub are : gathered.pieces.items ≡ pieces_of front
   pub noted : (account : List ℕ) (at : ℕ) → open_at gathered account ≡ Some at → (piece : List Page950) × (slice_get gathered.pieces.items at ≡ Some piece) × (is_open account piece ≡ true)
   pub every : (account : List ℕ) (at : ℕ) (piece : List Page950) → slice_get gathered.pieces.items at ≡ Some piece → is_open account piece ≡ true → open_at gathered account ≡ Some at
-  pub begin : (page : Page950) → begins front page ≡ is_none (open_at gathered (account_of page))
+  pub begin : (page : Page950) → begins_piece front page ≡ is_none (open_at gathered (page_account page))

@@ -21,25 +21,25 @@ says_same line other =
 
 -- The place of the entry that a line takes after others: of those that match it the one that has as many ahead of it as there are lines
 -- ahead of this one that say the same.
-abbrev pub partner_of : List Placed → List Line61 → Line61 → Option Placed
-partner_of ours ahead line = slice_get (filter (matches line) ours) (length (filter (says_same line) ahead))
+abbrev pub line_partner : List Placed → List Line61 → Line61 → Option Placed
+line_partner ours ahead line = slice_get (filter (matches line) ours) (length (filter (says_same line) ahead))
 
 -- a line with a number and its entry, where it has one
 abbrev pub pair_with : ℕ → Option Placed → List (ℕ × ℕ)
 pair_with k partner = option_to_list (option_map (λ placed. (placed.place, k)) partner)
 
 -- the pairs of lines, of which the first has number k and stands after others
-abbrev pub pairs_from : List Placed → List Line61 → ℕ → List Line61 → List (ℕ × ℕ)
-pairs_from ours ahead k [] = []
-pairs_from ours ahead k (line ∷ lines) = pair_with k (partner_of ours ahead line) ++ pairs_from ours (ahead ++ line ∷ []) (k + 1) lines
+abbrev pub line_pairs_from : List Placed → List Line61 → ℕ → List Line61 → List (ℕ × ℕ)
+line_pairs_from ours ahead k [] = []
+line_pairs_from ours ahead k (line ∷ lines) = pair_with k (line_partner ours ahead line) ++ line_pairs_from ours (ahead ++ line ∷ []) (k + 1) lines
 
 -- the pairs of all lines: places of entries and numbers of lines, in the order of the lines
 abbrev pub pairs_of : List Placed → List Line61 → List (ℕ × ℕ)
-pairs_of ours theirs = pairs_from ours [] 1 theirs
+pairs_of ours theirs = line_pairs_from ours [] 1 theirs
 
 -- the numbers of lines, from 1
-abbrev pub numbers_of : List Line61 → List ℕ
-numbers_of lines = range_with_len 1 (length lines)
+abbrev pub line_numbers : List Line61 → List ℕ
+line_numbers lines = range_with_len 1 (length lines)
 
 -- the places of entries
 abbrev pub places_of : List Placed → List ℕ
@@ -61,7 +61,7 @@ alone k (Some placed) = []
 -- the numbers of lines without an entry, where the first line has number k and stands after others
 abbrev pub alone_from : List Placed → List Line61 → ℕ → List Line61 → List ℕ
 alone_from ours ahead k [] = []
-alone_from ours ahead k (line ∷ lines) = alone k (partner_of ours ahead line) ++ alone_from ours (ahead ++ line ∷ []) (k + 1) lines
+alone_from ours ahead k (line ∷ lines) = alone k (line_partner ours ahead line) ++ alone_from ours (ahead ++ line ∷ []) (k + 1) lines
 
 -- the numbers of all lines without an entry
 abbrev pub theirs_left : List Placed → List Line61 → List ℕ

@@ -19,8 +19,8 @@ goes_on None = false
 goes_on (Some page) = if page.closing.last then false else true
 
 -- a page begins a piece where the pages of its account ahead of it don't go on
-abbrev pub begins : List Page950 → Page950 → Bool
-begins ahead page = if goes_on (last_or None (filter (is_of page) ahead)) then false else true
+abbrev pub begins_piece : List Page950 → Page950 → Bool
+begins_piece ahead page = if goes_on (last_or None (filter (is_of page) ahead)) then false else true
 
 -- the piece that a page begins: it and those of its account after it, up to and with the first that closes the statement
 abbrev pub piece_of : Page950 → List Page950 → List Page950
@@ -30,7 +30,7 @@ piece_of page after = until_closed (page ∷ filter (is_of page) after)
 abbrev pub pieces_from : List Page950 → List Page950 → List (List Page950)
 pieces_from ahead [] = []
 pieces_from ahead (page ∷ after) =
-    (if begins ahead page then piece_of page after ∷ [] else []) ++ pieces_from (ahead ++ page ∷ []) after
+    (if begins_piece ahead page then piece_of page after ∷ [] else []) ++ pieces_from (ahead ++ page ∷ []) after
 
 -- the pieces of pages, in the order of their first pages
 abbrev pub pieces_of : List Page950 → List (List Page950)

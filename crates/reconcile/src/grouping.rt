@@ -1,11 +1,11 @@
 //! The pages that were received, put together as statements.
 
-ghost use Rattle.std.specs.Prelude.{◌≡◌, ◌<◌, ◌≤◌, ◌∷◌, [], ◌++◌, All, IfOk, List, OnOk, Some, ℕ, cond, length};
+ghost use Rattle.std.specs.Prelude.{◌≡◌, ◌∷◌, [], ◌++◌, All, IfOk, List, OnOk, Some, ℕ, cond};
 ghost use Rattle.std.specs.Str.{bytes_eq};
 ghost use Rattle.fin_contents.specs.Writing.{IsReadable};
 ghost use Rattle.mt950.specs.Page.{mt950_of};
 ghost use Rattle.mt950.specs.declared.page.Page950.{Page950 as PageOf};
-ghost use Rattle.reconcile.specs.Gathering.{Gathers, open_at, place_after, place_in, room_in};
+ghost use Rattle.reconcile.specs.Gathering.{Gathers, open_at, place_after, place_for_page, room_in};
 ghost use Rattle.reconcile.specs.Pieces.{pieces_of};
 
 use crate::key::short;
@@ -24,7 +24,7 @@ struct Gathered {
 impl Gathered {
     /// The place of the piece that the next page of an account belongs to: the open one, or a new one at the end.
     fn place_for(&mut self, alloc: Global, account: &[u8; 36]) -> Result<usize, Memory>
-        ensures place { IfOk result (λ at. at ≡ place_in (open_at self.old account.now) self.old.pieces.items) }
+        ensures place { IfOk result (λ at. at ≡ place_for_page (open_at self.old account.now) self.old.pieces.items) }
         ensures room { OnOk result (self.new.pieces.items ≡ room_in (open_at self.old account.now) self.old.pieces.items) }
         ensures noted { self.new.places ≡ self.old.places }
     {

@@ -5,7 +5,6 @@ ghost use Rattle.std.specs.List.{Contains};
 ghost use Rattle.std.specs.Option.{option_copied, option_map};
 ghost use Rattle.corr_money.specs.Amounts.{amount_end};
 ghost use Rattle.mt950.specs.Joining.{told};
-ghost use Rattle.mt950.specs.Writing.{mark_text};
 ghost use Rattle.mt950.specs.declared.joining.PageFault.TheVariants as fault;
 ghost use Rattle.statement.specs.Lines.{PlacesFrom};
 ghost use Rattle.statement.specs.Running.{placed_by};
@@ -17,7 +16,7 @@ use crate::comparing::Compared;
 use corr_report::{put_amount, put_balance, put_number, put_word};
 use corr_text::{Memory, Text};
 use day_model::Side;
-use mt950::{Line61, Mark, PageFault};
+use mt950::{Line61, PageFault};
 use statement::Movement;
 use std::alloc::Global;
 
@@ -28,18 +27,6 @@ fn side_text(side: Side) -> &'static [u8]
     match side {
         Side::Credit => b"C",
         Side::Debit => b"D",
-    }
-}
-
-/// The letters of a mark.
-fn mark_text(mark: Mark) -> &'static [u8]
-    ensures { result.now ≡ mark_text mark }
-{
-    match mark {
-        Mark::C => b"C",
-        Mark::D => b"D",
-        Mark::RC => b"RC",
-        Mark::RD => b"RD",
     }
 }
 
@@ -124,7 +111,7 @@ fn put_line(
 {
     out.push(b"THEIRS")?;
     put_number(alloc, number as u64, 5, out)?;
-    put_word(mark_text(line.mark), out)?;
+    put_word(line.mark.letters(), out)?;
     put_amount(alloc, line.amount, decimals, out)?;
     put_word(line.reference.bytes(), out)?;
     out.push(b"\n")

@@ -1,6 +1,6 @@
 //! What is told of the pages that were received.
 
-ghost use Rattle.std.specs.Prelude.{◌≡◌, ◌≤◌, ◌++◌, ◌∷◌, [], All, IfOk, IfSome, OnOk, length};
+ghost use Rattle.std.specs.Prelude.{◌≡◌, ◌≤◌, ◌++◌, All, IfOk, IfSome, OnOk, length};
 ghost use Rattle.corr_ids.specs.Day.{InCentury};
 ghost use Rattle.day_model.specs.Chart.{IsListed};
 ghost use Rattle.day_model.specs.Legal.{IsLegal};
@@ -9,7 +9,7 @@ ghost use Rattle.mt950.specs.Joining.{most_pages};
 ghost use Rattle.mt950.specs.Page.{mt950_of};
 ghost use Rattle.statement.specs.Seen.{SeenBook};
 ghost use Rattle.statement.specs.Valid.{AreShaped};
-ghost use Rattle.reconcile.specs.Bounds.{IsReceived, Tells};
+ghost use Rattle.reconcile.specs.Bounds.{IsReceived, IsIndexFor};
 ghost use Rattle.reconcile.specs.Breaks.{breaks_of, heading_of, is_of_statement, nostro_of, piece_text, statement_text};
 
 use crate::comparing::compare_with;
@@ -50,9 +50,9 @@ fn put_statement(
     s: &Statement,
     out: &mut Text,
 ) -> Result<(), Memory>
-    requires book { (book : SeenBook) × Tells ix.now a.now book }
+    requires book { (book : SeenBook) × IsIndexFor ix.now a.now book }
     requires received { IsReceived s.now }
-    ensures { OnOk result ((book : SeenBook) → Tells ix.now a.now book → out.new ≡ out.old ++ statement_text book.chart book.entries s.now) }
+    ensures { OnOk result ((book : SeenBook) → IsIndexFor ix.now a.now book → out.new ≡ out.old ++ statement_text book.chart book.entries s.now) }
 {
     let Some(n) = nostro(a, s) else {
         return out.push(b" UNKNOWN\n");
@@ -90,10 +90,10 @@ fn put_piece(
     pages: &[Page950],
     out: &mut Text,
 ) -> Result<(), Memory>
-    requires book { (book : SeenBook) × Tells ix.now a.now book }
+    requires book { (book : SeenBook) × IsIndexFor ix.now a.now book }
     requires few { length pages.now ≤ most_pages }
     requires given { All (IsReadable mt950_of) pages.now }
-    ensures { OnOk result ((book : SeenBook) → Tells ix.now a.now book → out.new ≡ out.old ++ piece_text book.chart book.entries pages.now) }
+    ensures { OnOk result ((book : SeenBook) → IsIndexFor ix.now a.now book → out.new ≡ out.old ++ piece_text book.chart book.entries pages.now) }
 {
     let [first, ..] = pages else {
         return Ok(());

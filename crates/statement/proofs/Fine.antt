@@ -31,7 +31,7 @@ use Rattle.advices.proofs.laws.Bytes.{day-digits}
 use Rattle.mt950.specs.Parts.{is_entry_type}
 use Rattle.mt950.specs.Writing.{IsWritableLine}
 use Rattle.statement.specs.Legs.{HasQuotes, IsByteQuote, before_day, legs_on, quote_text}
-use Rattle.statement.specs.Lines.{Placed, entry_lines, kind_of, line_of, lines_from, mmdd_of, up_to_day}
+use Rattle.statement.specs.Lines.{Placed, entry_lines, transaction_type, entry_line, lines_from, mmdd_of, up_to_day}
 use Rattle.statement.specs.Pages.{balance_after}
 use Rattle.statement.proofs.DayParts.{before-is, parts, up-to-is}
 use Rattle.statement.proofs.Days.{entry_day, rising}
@@ -74,11 +74,11 @@ entry-fit chart n entry fits shape quotes one =
 
 -- ---- a line
 
-kind-four : (mt : Mt) → length (kind_of mt) ≡ 4
+kind-four : (mt : Mt) → length (transaction_type mt) ≡ 4
 kind-four Transfer = refl
 kind-four Cover = refl
 
-kind-is : (mt : Mt) → is_entry_type (kind_of mt) ≡ true
+kind-is : (mt : Mt) → is_entry_type (transaction_type mt) ≡ true
 kind-is Transfer = refl
 kind-is Cover = refl
 
@@ -96,7 +96,7 @@ pub record IsFine (decimals most : ℕ) (p : Placed) : Type 0 where
   pub plain : p.line.detail ≡ None
 
 module _ (n : ℕ) (day : Day) (decimals most : ℕ) (few : decimals ≤ 4) (century : InCentury day) (bound : most ≤ 100000) where
-  line-fine : (place : ℕ) (entry : Entry) (leg : Leg) → place ≤ most → InCentury entry.pay.value → IsSound leg → IsFine decimals most (record { place = place; line = line_of day place entry leg })
+  line-fine : (place : ℕ) (entry : Entry) (leg : Leg) → place ≤ most → InCentury entry.pay.value → IsSound leg → IsFine decimals most (record { place = place; line = entry_line day place entry leg })
   line-fine place entry leg low value sound =
       let small : place ≤ 100000 = omega (arith, low, bound) in
       let quoted = quote-quoted place leg.quote small sound.quote sound.byte in
@@ -118,7 +118,7 @@ module _ (n : ℕ) (day : Day) (decimals most : ℕ) (few : decimals ≤ 4) (cen
         plain = refl;
       }
 
-  legs-fine : (place : ℕ) (entry : Entry) (legs : List Leg) → place ≤ most → InCentury entry.pay.value → AllByRecursion IsSound legs → AllByRecursion (IsFine decimals most) (map (λ leg. record { place = place; line = line_of day place entry leg }) legs)
+  legs-fine : (place : ℕ) (entry : Entry) (legs : List Leg) → place ≤ most → InCentury entry.pay.value → AllByRecursion IsSound legs → AllByRecursion (IsFine decimals most) (map (λ leg. record { place = place; line = entry_line day place entry leg }) legs)
   legs-fine place entry [] low value all = tt
   legs-fine place entry (leg ∷ legs) low value all = (line-fine place entry leg low value all.0, legs-fine place entry legs low value all.1)
 
@@ -131,7 +131,7 @@ module _ (n : ℕ) (day : Day) (decimals most : ℕ) (few : decimals ≤ 4) (cen
   lines-fine place [] low all = tt
   lines-fine place (e ∷ entries) low all =
       let here = legs-fine place e (legs_on n e) (omega (arith, low)) all.0.value all.0.legs in
-      let this = cond_both (int_eq e.day.0 day.0) (map (λ leg. record { place = place; line = line_of day place e leg }) (legs_on n e)) [] (AllByRecursion (IsFine decimals most)) (λ _. here) (λ _. tt) in
+      let this = cond_both (int_eq e.day.0 day.0) (map (λ leg. record { place = place; line = entry_line day place e leg }) (legs_on n e)) [] (AllByRecursion (IsFine decimals most)) (λ _. here) (λ _. tt) in
       both-fine (entry_lines n day place e) (lines_from n day (place + 1) entries) this (lines-fine (place + 1) entries (omega (arith, low)) all.1)
 
 -- there is one line at most for each entry
@@ -145,7 +145,7 @@ module _ (n : ℕ) (day : Day) where
 
   entry-few : (place : ℕ) (entry : Entry) → OneLeg n entry → length (entry_lines n day place entry) ≤ 1
   entry-few place entry one =
-      let f : Leg → Placed = λ leg. record { place = place; line = line_of day place entry leg } in
+      let f : Leg → Placed = λ leg. record { place = place; line = entry_line day place entry leg } in
       let few = legs-few entry one in
       let same = length-map (legs_on n entry) f in
       cond_both (int_eq entry.day.0 day.0) (map f (legs_on n entry)) [] (λ (ls : List Placed). length ls ≤ 1) (λ _. omega (arith, few, same)) (λ _. omega arith)

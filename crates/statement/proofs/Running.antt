@@ -12,7 +12,7 @@ use Rattle.day_model.specs.declared.entry.Entry.{Entry}
 use Rattle.day_model.specs.declared.pay.Leg.{Leg}
 use Rattle.statement.specs.Index.{last_balance, movement_of, movements_from, on_day}
 use Rattle.statement.specs.Legs.{before_day, legs_on}
-use Rattle.statement.specs.Lines.{Placed, line_of, lines_from}
+use Rattle.statement.specs.Lines.{Placed, entry_line, lines_from}
 use Rattle.statement.specs.Pages.{balance_after}
 use Rattle.statement.specs.Running.{placed_by}
 use Rattle.statement.specs.declared.movement.Movement.{Movement}
@@ -22,12 +22,12 @@ same-day a b e = let same : a.0 ≡ b.0 = grind (arith, ints) in λ i. record { 
 
 module _ (chart : Chart) (n : ℕ) (day : Day) where
   legs-here : (before : List Entry) (entry : Entry) (legs : List Leg) (more : List Movement) → int_eq entry.day.0 day.0 ≡ true
-      → map placed_by (on_day day (map (movement_of chart n before entry) legs ++ more)) ≡ map (λ leg. record { place = length before + 1; line = line_of day (length before + 1) entry leg }) legs ++ map placed_by (on_day day more)
+      → map placed_by (on_day day (map (movement_of chart n before entry) legs ++ more)) ≡ map (λ leg. record { place = length before + 1; line = entry_line day (length before + 1) entry leg }) legs ++ map placed_by (on_day day more)
   legs-here before entry [] more e = refl
   legs-here before entry (leg ∷ legs) more e =
       let same : entry.day ≡ day = same-day entry.day day e in
-      let line : placed_by (movement_of chart n before entry leg) ≡ record { place = length before + 1; line = line_of day (length before + 1) entry leg } =
-      ap (λ (d : Day). record { place = length before + 1; line = line_of d (length before + 1) entry leg }) same in
+      let line : placed_by (movement_of chart n before entry leg) ≡ record { place = length before + 1; line = entry_line day (length before + 1) entry leg } =
+      ap (λ (d : Day). record { place = length before + 1; line = entry_line d (length before + 1) entry leg }) same in
       rw e (λ i. line i ∷ legs-here before entry legs more e i)
 
   legs-away : (before : List Entry) (entry : Entry) (legs : List Leg) (more : List Movement) → int_eq entry.day.0 day.0 ≡ false
@@ -45,7 +45,7 @@ module _ (chart : Chart) (n : ℕ) (day : Day) where
       elim (cases_Bool (int_eq entry.day.0 day.0)) [
         | inl met ↦
             legs-here before entry legs more met
-            ∙ ap (λ (ls : List Placed). map (λ leg. record { place = length before + 1; line = line_of day (length before + 1) entry leg }) legs ++ ls) rest
+            ∙ ap (λ (ls : List Placed). map (λ leg. record { place = length before + 1; line = entry_line day (length before + 1) entry leg }) legs ++ ls) rest
             ∙ rw met refl
         | inr unmet ↦ ap (map placed_by) (legs-away before entry legs more unmet) ∙ rest ∙ rw unmet refl
       ]

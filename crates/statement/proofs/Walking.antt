@@ -18,7 +18,7 @@ use Rattle.day_model.proofs.laws.Fitting.{transfer}
 use Rattle.mt950.specs.Entry.{effect_of, signed_amount}
 use Rattle.mt950.specs.Joining.{effects_of}
 use Rattle.statement.specs.Legs.{before_day, legs_on}
-use Rattle.statement.specs.Lines.{Placed, entry_lines, line_of, lines_from, statement_mark}
+use Rattle.statement.specs.Lines.{Placed, entry_lines, entry_line, lines_from, statement_mark}
 use Rattle.statement.specs.Pages.{balance_after}
 use Rattle.statement.proofs.Legs.{one-moves, unmoved}
 
@@ -110,7 +110,7 @@ module _ (chart : Chart) (entries : List Entry) (n : ℕ) where
       let place : length (before ++ e ∷ []) + 1 ≡ length before + 1 + 1 = omega (arith, length-append before (e ∷ [])) in
       let rest : Leads (balance_of chart (before ++ e ∷ []) n) (lines_from n day (length (before ++ e ∷ []) + 1) here) (balance_of chart ((before ++ e ∷ []) ++ here) n) =
       lines-lead day (before ++ e ∷ []) here after (whole ∙ ap (λ (es : List Entry). es ++ after) next) on.1 legs.1 in
-      let lines : entry_lines n day (length before + 1) e ≡ map (λ leg. record { place = length before + 1; line = line_of day (length before + 1) e leg }) (legs_on n e) = rw on.0 refl in
+      let lines : entry_lines n day (length before + 1) e ≡ map (λ leg. record { place = length before + 1; line = entry_line day (length before + 1) e leg }) (legs_on n e) = rw on.0 refl in
       let more : List Placed = lines_from n day (length before + 1 + 1) here in
       let same : lines_from n day (length (before ++ e ∷ []) + 1) here ≡ more = ap (λ (k : ℕ). lines_from n day k here) place in
       let end : balance_of chart (before ++ e ∷ here) n ≡ balance_of chart ((before ++ e ∷ []) ++ here) n = ap (λ (es : List Entry). balance_of chart es n) next in
@@ -119,7 +119,7 @@ module _ (chart : Chart) (entries : List Entry) (n : ℕ) where
             leads-as _ _ _ _ _ _ (sym (unmoved chart before e n none)) (rw (lines, none) (sym same)) end rest
         | inr one ↦
             let leg : Leg = one.0 in
-            let line : Placed = record { place = length before + 1; line = line_of day (length before + 1) e leg } in
+            let line : Placed = record { place = length before + 1; line = entry_line day (length before + 1) e leg } in
             let front : take (length before + 1) entries ≡ before ++ e ∷ [] =
             ap (take (length before + 1)) (whole ∙ ap (λ (es : List Entry). es ++ after) next ∙ append_assoc (before ++ e ∷ []) here after)
             ∙ take_at (before ++ e ∷ []) (here ++ after) (length before + 1) (length-append before (e ∷ [])) in

@@ -30,23 +30,23 @@ statement_mark Credit = mark.C
 statement_mark Debit = mark.D
 
 -- the type of the transaction by the message that asked for it
-abbrev pub kind_of : Mt → List ℕ
-kind_of Transfer = codes "S103"
-kind_of Cover = codes "S202"
+abbrev pub transaction_type : Mt → List ℕ
+transaction_type Transfer = codes "S103"
+transaction_type Cover = codes "S202"
 
 -- the reference of the entry at a place, as `P00000001`
 abbrev pub own_reference : ℕ → List ℕ
 own_reference place = 80 ∷ padded 8 place
 
 -- a leg of the entry at a place as a line of a day
-abbrev pub line_of : Day → ℕ → Entry → Leg → Line61
-line_of day place entry leg = record {
+abbrev pub entry_line : Day → ℕ → Entry → Leg → Line61
+entry_line day place entry leg = record {
   value = entry.pay.value;
   entry = Some (mmdd_of day);
   mark = statement_mark leg.side;
   funds = None;
   amount = leg.amount;
-  kind = kind_of entry.pay.mt;
+  kind = transaction_type entry.pay.mt;
   reference = quote_text place leg.quote;
   servicer = Some (own_reference place);
   detail = None;
@@ -60,7 +60,7 @@ pub record Placed : Type 0 where
 -- the lines of the entry at a place on a day
 abbrev pub entry_lines : ℕ → Day → ℕ → Entry → List Placed
 entry_lines n day place entry =
-    if int_eq entry.day.0 day.0 then map (λ leg. record { place = place; line = line_of day place entry leg }) (legs_on n entry) else []
+    if int_eq entry.day.0 day.0 then map (λ leg. record { place = place; line = entry_line day place entry leg }) (legs_on n entry) else []
 
 -- those of entries in turn, the first of which stands at this place
 abbrev pub lines_from : ℕ → Day → ℕ → List Entry → List Placed

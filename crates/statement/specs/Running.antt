@@ -9,7 +9,7 @@ use Rattle.mt950.specs.declared.balance.Balance.{Balance}
 use Rattle.mt950.specs.declared.entry.Line61.{Line61}
 use Rattle.mt950.specs.declared.page.Page950.{Page950}
 use Rattle.statement.specs.Index.{last_balance}
-use Rattle.statement.specs.Lines.{Placed, kind_of, statement_mark, mmdd_of, own_reference}
+use Rattle.statement.specs.Lines.{Placed, transaction_type, statement_mark, mmdd_of, own_reference}
 use Rattle.statement.specs.Pages.{day_before, page_reference}
 use Rattle.statement.specs.declared.ledger.Ledger.{Ledger}
 use Rattle.statement.specs.declared.movement.Movement.{Movement}
@@ -23,7 +23,7 @@ line_by movement = record {
   mark = statement_mark movement.side;
   funds = None;
   amount = movement.amount;
-  kind = kind_of movement.mt;
+  kind = transaction_type movement.mt;
   reference = movement.reference;
   servicer = Some (own_reference movement.place);
   detail = None;

@@ -2,7 +2,7 @@
 
 ghost use Rattle.std.specs.Prelude.{◌≡◌, All, IfOk, Some, map};
 ghost use Rattle.corr_ids.specs.Day.{InCentury};
-ghost use Rattle.statement.specs.Lines.{kind_of, statement_mark, mmdd_of};
+ghost use Rattle.statement.specs.Lines.{transaction_type, statement_mark, mmdd_of};
 ghost use Rattle.statement.specs.Running.{line_by};
 
 use crate::movement::Movement;
@@ -26,7 +26,7 @@ fn mark_of(side: Side) -> Mark
 
 /// The type of the transaction by the message that asked for it.
 fn kind_of(mt: Mt) -> [u8; 4]
-    ensures { result ≡ kind_of mt }
+    ensures { result ≡ transaction_type mt }
 {
     match mt {
         Mt::Transfer => *b"S103",

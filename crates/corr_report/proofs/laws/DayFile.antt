@@ -20,7 +20,7 @@ use Rattle.fin_frame.specs.File.IsFileOf.{start, more}
 use Rattle.fin_frame.proofs.laws.Showing.{cut-comes}
 use Rattle.corr_report.specs.declared.generator.Kind.{Kind}
 use Rattle.corr_report.specs.declared.generator.Kind.TheVariants.{Euros, PassedOn, Yen}
-use Rattle.corr_report.specs.Generated.{ccy_of, decimals_of, ended, generated_of, generated_texts, heading_of, kind_of, minor_of, number_at, parties_of, sender_of, terms_of, text_of}
+use Rattle.corr_report.specs.Generated.{generated_ccy, generated_decimals, with_line_end, generated_of, generated_texts, generated_heading, generated_kind, generated_minor, most_generated, generated_number, generated_parties, generated_sender, generated_terms, generated_text}
 use Rattle.corr_report.proofs.laws.Days.{generated_more, text_at, texts_more}
 
 -- bytes without braces
@@ -46,11 +46,11 @@ first : List ℕ → List ℕ
 first p = codes "{1:F01HOMEUS33AXXX0001" ++ (p ++ codes "}")
 
 second : Kind → List ℕ → List ℕ
-second kind p = codes "{2:O1031200240603" ++ (sender_of kind ++ (codes "AXXX0001" ++ (p ++ codes "2406031205N}")))
+second kind p = codes "{2:O1031200240603" ++ (generated_sender kind ++ (codes "AXXX0001" ++ (p ++ codes "2406031205N}")))
 
 fields : Kind → List ℕ → List ℕ → List ℕ
 fields kind p a =
-    codes "{4:" ++ 13 ∷ 10 ∷ codes ":20:G" ++ (p ++ (13 ∷ 10 ∷ codes ":23B:CRED" ++ 13 ∷ 10 ∷ codes ":32A:240603" ++ (ccy_of kind ++ (a ++ (13 ∷ 10 ∷ parties_of kind ++ codes "-}")))))
+    codes "{4:" ++ 13 ∷ 10 ∷ codes ":20:G" ++ (p ++ (13 ∷ 10 ∷ codes ":23B:CRED" ++ 13 ∷ 10 ∷ codes ":32A:240603" ++ (generated_ccy kind ++ (a ++ (13 ∷ 10 ∷ generated_parties kind ++ codes "-}")))))
 
 first_group : (p : List ℕ) → IsQuiet p → IsGroupTo 0 (first p)
 unfolding first
@@ -63,7 +63,7 @@ second_group PassedOn p q = (refl, quiet_skip 0 p (codes "2406031205N}") q)
 second_group Yen p q = (refl, quiet_skip 0 p (codes "2406031205N}") q)
 
 fields_group : (kind : Kind) (p a : List ℕ) → IsQuiet p → IsQuiet a → IsGroupTo 0 (fields kind p a)
-unfolding fields parties_of
+unfolding fields generated_parties
 fields_group Euros p a q r = (refl, quiet_skip 0 p _ q ∙ quiet_skip 0 a _ r)
 fields_group PassedOn p a q r = (refl, quiet_skip 0 p _ q ∙ quiet_skip 0 a _ r)
 fields_group Yen p a q r = (refl, quiet_skip 0 p _ q ∙ quiet_skip 0 a _ r)
@@ -88,16 +88,16 @@ regroup : (l1 p r1 r2 s l3 r4 r5 e l5 l6 l7 y a q z : List ℕ)
 regroup l1 p r1 r2 s l3 r4 r5 e l5 l6 l7 y a q z = simp append_assoc
 
 parts : (kind : Kind) (p a : List ℕ)
-    → ended (codes "{1:F01HOMEUS33AXXX0001" ++ p ++ codes "}{2:O1031200240603" ++ sender_of kind ++ codes "AXXX0001" ++ p ++ codes "2406031205N}{4:")
-    ++ (ended (codes ":20:G" ++ p) ++ ended (codes ":23B:CRED") ++ ended (codes ":32A:240603" ++ ccy_of kind ++ a)) ++ parties_of kind ++ codes "-}"
+    → with_line_end (codes "{1:F01HOMEUS33AXXX0001" ++ p ++ codes "}{2:O1031200240603" ++ generated_sender kind ++ codes "AXXX0001" ++ p ++ codes "2406031205N}{4:")
+    ++ (with_line_end (codes ":20:G" ++ p) ++ with_line_end (codes ":23B:CRED") ++ with_line_end (codes ":32A:240603" ++ generated_ccy kind ++ a)) ++ generated_parties kind ++ codes "-}"
     ≡ first p ++ second kind p ++ fields kind p a
 unfolding first second fields
 parts kind p a =
-    regroup (codes "{1:F01HOMEUS33AXXX0001") p (codes "}") (codes "{2:O1031200240603") (sender_of kind) (codes "AXXX0001") (codes "2406031205N}") (codes "{4:") (13 ∷ 10 ∷ []) (codes ":20:G") (codes ":23B:CRED") (codes ":32A:240603") (ccy_of kind) a (parties_of kind) (codes "-}")
+    regroup (codes "{1:F01HOMEUS33AXXX0001") p (codes "}") (codes "{2:O1031200240603") (generated_sender kind) (codes "AXXX0001") (codes "2406031205N}") (codes "{4:") (13 ∷ 10 ∷ []) (codes ":20:G") (codes ":23B:CRED") (codes ":32A:240603") (generated_ccy kind) a (generated_parties kind) (codes "-}")
 
-text_is : (i minor : ℕ) → text_of i minor ≡ first (padded 6 i) ++ second (kind_of i) (padded 6 i) ++ fields (kind_of i) (padded 6 i) (amount_text (decimals_of (kind_of i)) minor)
-unfolding text_of heading_of terms_of
-text_is i minor = parts (kind_of i) (padded 6 i) (amount_text (decimals_of (kind_of i)) minor)
+text_is : (i minor : ℕ) → generated_text i minor ≡ first (padded 6 i) ++ second (generated_kind i) (padded 6 i) ++ fields (generated_kind i) (padded 6 i) (amount_text (generated_decimals (generated_kind i)) minor)
+unfolding generated_text generated_heading generated_terms
+text_is i minor = parts (generated_kind i) (padded 6 i) (amount_text (generated_decimals (generated_kind i)) minor)
 
 -- ---- their lengths
 
@@ -115,7 +115,7 @@ second_length PassedOn p = let e = length-append p (codes "2406031205N}") in ome
 second_length Yen p = let e = length-append p (codes "2406031205N}") in omega (arith, e)
 
 fields_length : (kind : Kind) (p a : List ℕ) → length (fields kind p a) ≤ 300 + length p + length a
-unfolding fields parties_of
+unfolding fields generated_parties
 fields_length Euros p a = simp length-append (omega arith)
 fields_length PassedOn p a = simp length-append (omega arith)
 fields_length Yen p a = simp length-append (omega arith)
@@ -142,7 +142,7 @@ pub record Quiet (bs : List ℕ) (most : ℕ) : Type 0 where
   pub quiet : IsQuiet bs
   pub short : length bs ≤ most
 
-number_quiet : (i : ℕ) → i ≤ 50000 → Quiet (padded 6 i) 19
+number_quiet : (i : ℕ) → i ≤ most_generated → Quiet (padded 6 i) 19
 number_quiet i few =
     let read = number_of-padded 6 i (omega arith) (omega arith) in
     let digits = number_digits (padded 6 i) i read in
@@ -190,37 +190,37 @@ amount_quiet decimals n few small =
     let short : nat_le (length (amount_text decimals n)) 15 ≡ true = short_amount decimals (amount_text decimals n) (record { 0 = n }) (reads_written decimals n few small) in
     record { quiet = quiet_amount decimals n few small; short = grind (arith, nat_tests) }
 
-few_decimals : (kind : Kind) → decimals_of kind ≤ 4
+few_decimals : (kind : Kind) → generated_decimals kind ≤ 4
 few_decimals Euros = omega arith
 few_decimals PassedOn = omega arith
 few_decimals Yen = omega arith
 
-text_short : (seed i : ℕ) → i ≤ 50000 → length (text_at seed i) ≤ 600
+text_short : (seed i : ℕ) → i ≤ most_generated → length (text_at seed i) ≤ 600
 text_short seed i few =
     let p = padded 6 i in
-    let kind = kind_of i in
-    let a = amount_text (decimals_of kind) (minor_of (number_at seed i)) in
+    let kind = generated_kind i in
+    let a = amount_text (generated_decimals kind) (generated_minor (generated_number seed i)) in
     let number = number_quiet i few in
-    let amount = amount_quiet (decimals_of kind) (minor_of (number_at seed i)) (few_decimals kind) (omega arith) in
+    let amount = amount_quiet (generated_decimals kind) (generated_minor (generated_number seed i)) (few_decimals kind) (omega arith) in
     let e = length-append (first p ++ second kind p) (fields kind p a) in
     let f = length-append (first p) (second kind p) in
-    omega (arith, ap length (text_is i (minor_of (number_at seed i))), e, f, first_length p, second_length kind p, fields_length kind p a, number.short, amount.short)
+    omega (arith, ap length (text_is i (generated_minor (generated_number seed i))), e, f, first_length p, second_length kind p, fields_length kind p a, number.short, amount.short)
 
-message_is : (seed i : ℕ) → i ≤ 50000 → IsMessage (text_at seed i)
+message_is : (seed i : ℕ) → i ≤ most_generated → IsMessage (text_at seed i)
 message_is seed i few =
     let p = padded 6 i in
-    let kind = kind_of i in
-    let a = amount_text (decimals_of kind) (minor_of (number_at seed i)) in
+    let kind = generated_kind i in
+    let a = amount_text (generated_decimals kind) (generated_minor (generated_number seed i)) in
     let number = number_quiet i few in
-    let amount = amount_quiet (decimals_of kind) (minor_of (number_at seed i)) (few_decimals kind) (omega arith) in
-    subst IsMessage (sym (text_is i (minor_of (number_at seed i)))) (message_of kind p a number.quiet amount.quiet, short_message kind p a number.short amount.short)
+    let amount = amount_quiet (generated_decimals kind) (generated_minor (generated_number seed i)) (few_decimals kind) (omega arith) in
+    subst IsMessage (sym (text_is i (generated_minor (generated_number seed i)))) (message_of kind p a number.quiet amount.quiet, short_message kind p a number.short amount.short)
 
 -- ---- the day
 
 dollar : IsGap 1 (codes "$")
 dollar = (refl, omega arith)
 
-pub day_file : (count seed : ℕ) → count ≤ 50000 → IsCutInto (generated_of count seed) (generated_texts count seed)
+pub day_file : (count seed : ℕ) → count ≤ most_generated → IsCutInto (generated_of count seed) (generated_texts count seed)
 day_file zero seed few = ([], start (refl, omega arith))
 day_file (suc count) seed few =
     let next : count + 1 ≡ suc count = add-one count in
@@ -236,11 +236,11 @@ day_file (suc count) seed few =
           (subst (λ (ts : List (List ℕ)). IsFileOf (generated_of count seed ++ text_at seed (suc count) ++ codes "$") ts (codes "$")) (sym texts) grown),
     )
 
-pub day_cut : (count seed : ℕ) (cut : List (List ℕ)) → count ≤ 50000 → IsCutInto (generated_of count seed) cut → cut ≡ generated_texts count seed
+pub day_cut : (count seed : ℕ) (cut : List (List ℕ)) → count ≤ most_generated → IsCutInto (generated_of count seed) cut → cut ≡ generated_texts count seed
 day_cut count seed cut few is = sym (cut-comes is).all ∙ (cut-comes (day_file count seed few)).all
 
 -- a day takes at most 601 bytes a message
-pub day_short : (count seed : ℕ) → count ≤ 50000 → length (generated_of count seed) ≤ count * 601
+pub day_short : (count seed : ℕ) → count ≤ most_generated → length (generated_of count seed) ≤ count * 601
 day_short zero seed few = omega arith
 day_short (suc count) seed few =
     let next : count + 1 ≡ suc count = add-one count in

@@ -5,11 +5,11 @@ use Rattle.std.specs.List.{flat_map}
 use Rattle.std.proofs.lemmas.List.{append-nil}
 use Rattle.std.proofs.lemmas.Grind.{flat_map-append}
 use Rattle.std.proofs.lemmas.List.FromFn.{map-range_with_len_more}
-use Rattle.corr_report.specs.Generated.{generated_of, generated_texts, minor_of, number_at, text_of}
+use Rattle.corr_report.specs.Generated.{generated_of, generated_texts, generated_minor, generated_number, generated_text}
 
 -- the i-th message of a day
 abbrev pub text_at : ℕ → ℕ → List ℕ
-text_at seed i = text_of i (minor_of (number_at seed i))
+text_at seed i = generated_text i (generated_minor (generated_number seed i))
 
 pub texts_more : (count i seed : ℕ) → 1 + count ≡ i → generated_texts (count + 1) seed ≡ generated_texts count seed ++ text_at seed i ∷ []
 texts_more count i seed at = map-range_with_len_more (text_at seed) 1 count i at

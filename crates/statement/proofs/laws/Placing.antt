@@ -1,6 +1,5 @@
 -- The places of the lines of a day rise.
 use Rattle.std.proofs.Common.{ℕ, ◌+◌, ◌≤◌, List, [], ◌∷◌, ◌++◌, map, arith, inl, inr}
-use Rattle.std.specs.Prelude.{if◌then◌else◌}
 use Rattle.std.specs.Ordering.{int_eq}
 use Rattle.std.specs.List.{AllByRecursion}
 use Rattle.std.proofs.lemmas.Bool.{cond_both}
@@ -10,7 +9,7 @@ use Rattle.day_model.specs.Legal.{IsLegal}
 use Rattle.day_model.specs.declared.entry.Entry.{Entry}
 use Rattle.day_model.specs.declared.pay.Leg.{Leg}
 use Rattle.statement.specs.Legs.{legs_on}
-use Rattle.statement.specs.Lines.{Placed, PlacesFrom, entry_lines, line_of, lines_from, lines_on}
+use Rattle.statement.specs.Lines.{Placed, PlacesFrom, entry_line, lines_from, lines_on}
 use Rattle.statement.proofs.Walking.{OneLeg, one-leg}
 use Rattle.statement.proofs.laws.Closing.{all-at}
 
@@ -20,7 +19,7 @@ places-later low more (p ∷ ps) le up = (omega (arith, le, up.0), up.1)
 
 module _ (n : ℕ) (day : Day) where
   abbrev of_legs : ℕ → Entry → List Leg → List Placed
-  of_legs place entry legs = map (λ leg. record { place = place; line = line_of day place entry leg }) legs
+  of_legs place entry legs = map (λ leg. record { place = place; line = entry_line day place entry leg }) legs
 
   entry-places : (place : ℕ) (entry : Entry) (more : List Placed) → OneLeg n entry → PlacesFrom (place + 1) more → PlacesFrom place (of_legs place entry (legs_on n entry) ++ more)
   entry-places place entry more one up =

@@ -4,7 +4,7 @@ use Rattle.std.specs.List.{flat_map}
 use Rattle.std.proofs.lemmas.List.{take_all}
 use Rattle.mt950.specs.declared.page.Page950.{Page950}
 use Rattle.statement.specs.Seen.{SeenBook}
-use Rattle.reconcile.specs.Bounds.{Tells}
+use Rattle.reconcile.specs.Bounds.{IsIndexFor}
 use Rattle.reconcile.specs.Breaks.{piece_text}
 use Rattle.reconcile.proofs.Printed.{more-lines}
 use Rattle.reconcile.proofs.Within.{CanBeJoined, pieces-join}
@@ -29,7 +29,7 @@ loop-piece-preserved c =
     let a = c.args.a.now in
     let entries = c.args.h.now.entries in
     let book : SeenBook = record { chart = a; entries = entries } in
-    let tells : Tells c.in_ok-index.index a book = record { is = c.in_ok-index.ensures; shaped = c.requires.shaped; same = refl } in
+    let tells : IsIndexFor c.in_ok-index.index a book = record { is = c.in_ok-index.ensures; shaped = c.requires.shaped; same = refl } in
     more-lines (piece_text a entries) c.deref-piece-items.result.now c.loop-piece.piece-index c.piece-item.result [] c.loop-piece.out c.put_piece.new.out c.piece-item.is c.loop-piece-test.true c.loop-piece.invariant
     (c.in_ok-put_piece.ensures book tells ∙ ap (λ (piece : List Page950). c.loop-piece.out ++ piece_text a entries piece) c.as_slice.ensures)
 

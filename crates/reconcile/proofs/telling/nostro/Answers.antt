@@ -1,6 +1,7 @@
 use Rattle.std.proofs.Common.{◌≡◌, List, ℕ, Some, None, sym, ◌∙◌, ap}
 use Rattle.day_model.specs.Chart.{has_id, number_of_first}
-use Rattle.reconcile.proofs.Nostro.{listed, nostro-none, nostro-other, nostro-some}
+use Rattle.day_model.proofs.laws.Places.{listed}
+use Rattle.reconcile.proofs.Nostro.{nostro-none, nostro-other, nostro-some}
 use Rattle.reconcile.proofs.telling.nostro.Goals as goal
 
 pub returns-in_err-n-clause-value : goal.returns-in_err-n-clause-value

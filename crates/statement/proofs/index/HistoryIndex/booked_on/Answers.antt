@@ -1,8 +1,7 @@
-use Rattle.std.proofs.Common.{◌≡◌, [], List, map, ap, ◌∙◌}
+use Rattle.std.proofs.Common.{[], map, ap, ◌∙◌}
 use Rattle.statement.specs.Index.{on_day}
 use Rattle.statement.specs.Running.{placed_by}
 use Rattle.statement.specs.declared.ledger.Ledger.{Ledger}
-use Rattle.statement.specs.declared.movement.Movement.{Movement}
 use Rattle.statement.proofs.Adding.{kept, kept-rise}
 use Rattle.statement.proofs.Running.{lines-are}
 use Rattle.statement.proofs.index.HistoryIndex.booked_on.Goals as goal
