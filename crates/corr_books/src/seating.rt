@@ -5,6 +5,7 @@ ghost use Rattle.jrn_file.specs.File.{disk_of};
 ghost use Rattle.corr_books.specs.Opening.{IsNamed};
 ghost use Rattle.corr_books.specs.Passes.{AreNew};
 ghost use Rattle.corr_books.specs.Taking.{AreMade};
+ghost use Rattle.work_pool.specs.Served.{most_workers};
 
 use crate::books::Books;
 use crate::copying::copy_accounts;
@@ -60,7 +61,7 @@ impl<D: Disk> Opened<D> {
         made: u32,
     ) -> Result<(Books<N, D>, Vec<Pass>), (D, Memory)>
         requires named { IsNamed D.Disk N.opening N.table self made }
-        requires count { (1 ≤ made) × (made ≤ 16) }
+        requires count { (1 ≤ made) × (made ≤ most_workers) }
         ensures passes { IfOk result (λ r. AreNew N.opening r.1.items) }
         ensures disk { IfErr result (λ e. e.0 ≡ disk_of self.file) }
     {

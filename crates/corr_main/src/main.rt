@@ -6,7 +6,7 @@ ghost use Rattle.corr_top.specs.Status.{HasLine};
 
 use corr_disk::FileDisk;
 use corr_io::{StdSink, StdSource};
-use corr_text::{Memory, Text};
+use corr_text::{Memory, Text, let_go};
 use corr_top::{Room, Status, Tables, corr, put_status_line};
 use std::env::{Env, FillError};
 use std::fs::File;
@@ -147,8 +147,7 @@ fn run(
     };
     let done = corr(waiter, rt.alloc(), words, room, &OpenGate);
     let status = done.status;
-    // as one step: the checker counts each part of a value that ends with the function
-    drop(done);
+    let_go(done);
     status
 }
 

@@ -15,7 +15,7 @@ use Rattle.mt950.specs.Page.{mt950_of}
 use Rattle.ref_tables.specs.Seen.{Tables}
 use Rattle.corr_top.specs.declared.received.Read.{Read}
 use Rattle.corr_top.specs.declared.received.Read.TheVariants as read
-use Rattle.corr_top.specs.Reconcile.{Collects, all_received, other_line, other_lines, pages_in, received_of}
+use Rattle.corr_top.specs.Reconcile.{Collects, all_received, other_line, other_lines, pages_in, read_from}
 
 module _ (chart : Chart) (entries : List Entry) (t : Tables) (messages : List (List ℕ)) (old : List ℕ) where
   -- what the messages from the next one on are
@@ -29,18 +29,18 @@ module _ (chart : Chart) (entries : List Entry) (t : Tables) (messages : List (L
     pub joined : All (IsReadable mt950_of) pages
     pub few : length pages ≤ at
 
-  next_is : (at : ℕ) (d : List ℕ) (r : Read) → at < length messages → r ≡ received_of chart.home t (get_or messages at d) → rest_from at ≡ r ∷ rest_from (at + 1)
+  next_is : (at : ℕ) (d : List ℕ) (r : Read) → at < length messages → r ≡ read_from chart.home t (get_or messages at d) → rest_from at ≡ r ∷ rest_from (at + 1)
   next_is at d r within is = ap (λ (ms : List (List ℕ)). all_received chart.home t ms) (drop_more messages at d within) ∙ ap (λ (s : Read). s ∷ rest_from (at + 1)) (sym is)
 
   -- what was judged is what the next message is
-  pub judged_here : (at : ℕ) (bank : Bic) (bs m : List ℕ) (judged r : Read) → judged ≡ received_of bank t bs → judged ≡ r → bank ≡ chart.home → bs ≡ m → m ≡ get_or messages at m
-      → r ≡ received_of chart.home t (get_or messages at m)
+  pub judged_here : (at : ℕ) (bank : Bic) (bs m : List ℕ) (judged r : Read) → judged ≡ read_from bank t bs → judged ≡ r → bank ≡ chart.home → bs ≡ m → m ≡ get_or messages at m
+      → r ≡ read_from chart.home t (get_or messages at m)
   judged_here at bank bs m judged r value is home bytes there =
-      sym is ∙ (value ∙ (ap (λ (b : Bic). received_of b t bs) home ∙ ap (λ (x : List ℕ). received_of chart.home t x) (bytes ∙ there)))
+      sym is ∙ (value ∙ (ap (λ (b : Bic). read_from b t bs) home ∙ ap (λ (x : List ℕ). read_from chart.home t x) (bytes ∙ there)))
 
   -- a message that is no page adds its line
   pub other_more : (at : ℕ) (d : List ℕ) (out new : List ℕ) (pages : List Page950) (told : Reply) → at < length messages → HasCollected at out pages
-      → read.Other told ≡ received_of chart.home t (get_or messages at d) → new ≡ out ++ reply_line chart entries (at + 1) told → HasCollected (at + 1) new pages
+      → read.Other told ≡ read_from chart.home t (get_or messages at d) → new ≡ out ++ reply_line chart entries (at + 1) told → HasCollected (at + 1) new pages
   other_more at d out new pages told within before is line =
       let next = next_is at d (read.Other told) within is in
       let rest = numbered (other_line chart entries) (at + 1 + 1) (rest_from (at + 1)) in
@@ -54,7 +54,7 @@ module _ (chart : Chart) (entries : List Entry) (t : Tables) (messages : List (L
 
   -- a page is collected
   pub page_more : (at : ℕ) (d : List ℕ) (out : List ℕ) (pages new : List Page950) (page : Page950) → at < length messages → HasCollected at out pages
-      → read.Page page ≡ received_of chart.home t (get_or messages at d) → IsReadable mt950_of page → new ≡ pages ++ page ∷ [] → HasCollected (at + 1) out new
+      → read.Page page ≡ read_from chart.home t (get_or messages at d) → IsReadable mt950_of page → new ≡ pages ++ page ∷ [] → HasCollected (at + 1) out new
   page_more at d out pages new page within before is readable pushed =
       let next = next_is at d (read.Page page) within is in
       let long = length-append pages (page ∷ []) in

@@ -58,7 +58,7 @@ use Rattle.corr_top.specs.Ends.{Ends, HasStopped}
 use Rattle.corr_top.specs.Inputs.{Inputs, accounts_in, directory_in, instructions_in, opened, pays_of, tables_in}
 use Rattle.corr_top.specs.Message.{pays_in, readings_of}
 use Rattle.corr_top.specs.MessageFile.{IsMessageFile, StopsCutting}
-use Rattle.corr_top.specs.OnDisk.{HoldsJournal, IsFree, StopsMaking, StopsOpening}
+use Rattle.corr_top.specs.OnDisk.{HoldsJournal, IsMakeable, StopsMaking, StopsOpening}
 use Rattle.corr_top.specs.Passing.{Bad, Balances, HasMessages, StepIsUntouched, Passes, StopsAt, StopsAtMessages, StopsAtSums, StopsAtTable, table_fault, table_file}
 use Rattle.corr_top.specs.Reading.{Failed, IsRead, Took}
 use Rattle.corr_top.specs.Steps.{Halts, Step, Walks}
@@ -203,7 +203,7 @@ sums_memory : (j i : Inputs) (stop : AccountsFault) → accounts_in j ≡ accoun
 sums_memory j i (accounts.Unbalanced ccy d n) same balanced stops = let gap = stops.0.is_gap in absurd (gap.off (sym gap.sum_is ∙ ap (opening_sum ccy) same ∙ balanced ccy))
 sums_memory j i accounts.Memory same balanced stops = refl
 
-making_memory : {D : Type 0} (d : disks.Ghosts D) (old new : D) (chart : Chart) (stop : MakeFault) → IsSure d old new → IsFree d old → StopsMaking d old new chart stop → status_of_making stop ≡ status.Memory
+making_memory : {D : Type 0} (d : disks.Ghosts D) (old new : D) (chart : Chart) (stop : MakeFault) → IsSure d old new → IsMakeable d old → StopsMaking d old new chart stop → status_of_making stop ≡ status.Memory
 making_memory d old new chart (making.Exists first) sure free stops = absurd (free sure.told first (stops.cause.1 sure.told))
 making_memory d old new chart (making.DiskFault b a) sure free stops = absurd (sure.sound (tells_rose (d.faults old) b a (d.faults new) stops.cause))
 making_memory d old new chart making.Memory sure free stops = refl

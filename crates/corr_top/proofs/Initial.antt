@@ -23,7 +23,7 @@ use Rattle.corr_top.specs.declared.writing.Texts.{Texts}
 use Rattle.corr_top.specs.Commands.{out_in, report_in}
 use Rattle.corr_top.specs.Ends.{HasTexts}
 use Rattle.corr_top.specs.Inputs.{chart_in}
-use Rattle.corr_top.specs.OnDisk.{HasNotFailed, IsFree, IsOnDisk, IsUnwritten, StopsMaking}
+use Rattle.corr_top.specs.OnDisk.{HasNotFailed, IsMakeable, IsOnDisk, IsUnwritten, StopsMaking}
 use Rattle.corr_top.specs.Passing.{StepIsUntouched, Passes, StopsAt}
 use Rattle.corr_top.specs.Steps.{Step}
 use Rattle.corr_top.specs.Stops.{status_of_making}
@@ -45,8 +45,8 @@ new_journal chart head = record { head = head; entries = All-nil IsEntry; legal 
 
 module _ {D : Type 0} (d : disks.Ghosts D) (old new : D) (head bytes : List ℕ) (chart : Chart) (given : bytes ≡ head) (is : head ≡ head_bytes chart) where
   -- a journal of this header was made
-  pub made : d.honest new ≡ d.honest old → (IsTrue (d.honest old) → StandsFor (d.reads new) bytes []) → (IsTrue (d.honest old) → Only (d.reads new) (d.may_leave new)) → d.faults new ≡ d.faults old → IsFree d old
-      → IsFree d old × IsOnDisk d new chart [] × HasNotFailed d old new
+  pub made : d.honest new ≡ d.honest old → (IsTrue (d.honest old) → StandsFor (d.reads new) bytes []) → (IsTrue (d.honest old) → Only (d.reads new) (d.may_leave new)) → d.faults new ≡ d.faults old → IsMakeable d old
+      → IsMakeable d old × IsOnDisk d new chart [] × HasNotFailed d old new
   made honest stands durable kept free = (
     free,
     record { stands = λ h. subst (λ (b : List ℕ). StandsFor (d.reads new) b []) (given ∙ is) (stands (sym honest ∙ h)); durable = λ h. durable (sym honest ∙ h) },
@@ -77,7 +77,7 @@ module _ {S K D : Type 0} (source : sources.Ghosts S) (d : disks.Ghosts D) (home
 
   -- they were, and the journal was made or it wasn't
   pub init_texts : (chart : Chart) (head : List ℕ) (making : Result (Unit {0}) MakeFault) (texts : Texts) → HasAccounts source old.tables new.tables home chart → IsHead chart → head ≡ head_bytes chart → new ≡ record old { tables = new.tables; disk = new.disk }
-      → MatchResult making (λ _. (c : Chart) → head ≡ head_bytes c → IsFree d old.disk × IsOnDisk d new.disk c [] × HasNotFailed d old.disk new.disk) (λ fault. (c : Chart) → head ≡ head_bytes c → StopsMaking d old.disk new.disk c fault)
+      → MatchResult making (λ _. (c : Chart) → head ≡ head_bytes c → IsMakeable d old.disk × IsOnDisk d new.disk c [] × HasNotFailed d old.disk new.disk) (λ fault. (c : Chart) → head ≡ head_bytes c → StopsMaking d old.disk new.disk c fault)
       → texts.report ≡ [] → texts.out ≡ []
       → MatchResult making (λ _. HasTexts source d (Plain (Init home)) old new (Ok texts)) (λ fault. HasTexts source d (Plain (Init home)) old new (Err (status_of_making fault)))
   unfolding report_in out_in

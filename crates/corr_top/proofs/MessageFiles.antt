@@ -18,10 +18,16 @@ use Rattle.fin_frame.proofs.laws.Led.Rests.{rests_apart, rests_behind}
 use Rattle.fin_frame.proofs.laws.Running.{run-append, run-failed}
 use Rattle.fin_frame.proofs.laws.Showing.{begun-comes, cut-comes, ends-come, shown-comes}
 use Rattle.fin_frame.proofs.laws.Tracking.{begun-more}
+use Rattle.corr_io.specs.declared.source.Source as sources
 use Rattle.corr_top.specs.declared.cutting.FileStop.{FileStop}
 use Rattle.corr_top.specs.declared.cutting.FileStop.TheVariants as stop_of
 use Rattle.corr_top.specs.Feeding.{HasPassed, StopsFeeding, StopsInPieces}
-use Rattle.corr_top.specs.MessageFile.{IsMessageFile, IsPassed, IsPast, IsTooLarge, IsUncut, StopsCutting}
+use Rattle.corr_top.specs.MessageFile.{IsMessageFile, IsPassed, IsPast, IsTooLarge, IsUncut, StopsCutting, most_message_bytes}
+use Rattle.corr_top.specs.Passing.{StopsAtMessages}
+use Rattle.corr_top.specs.Reading.{IsStopped, Took}
+use Rattle.corr_top.specs.Stops.{file_stop_of_read}
+use Rattle.corr_top.specs.declared.reading.ReadStop.{ReadStop}
+use Rattle.corr_top.specs.declared.reading.ReadStop.TheVariants as reading
 
 -- ---- limits
 
@@ -110,6 +116,21 @@ cut-at-end c file fed rest given all so_far whole none ends =
     let same = whole-so fed rest file whole none in
     let cut = (subst (λ o. EndsInput o (Ok tt) fed all) so_far.sound ends).cut in
     subst (λ f. IsMessageFile f all) same (message-file fed all cut so_far.within)
+
+-- ---- how taking a file stops
+
+-- a file that couldn't be read stops its command so, whatever its bytes are
+pub stops_reading : {S : Type 0} (source : sources.Ghosts S) (old new : S) (bytes : List ℕ) (stop : ReadStop) → IsStopped source.faults old new stop → StopsAtMessages source old new bytes (file_stop_of_read stop)
+stops_reading source old new bytes (reading.Fault then now) stopped = stopped
+stops_reading source old new bytes reading.Memory stopped = stopped
+
+-- a file that was read stops its command as cutting it stops
+pub stops_cutting : {S : Type 0} (source : sources.Ghosts S) (old new : S) (bytes : List ℕ) (stop : FileStop) → Took source.left source.faults most_message_bytes old new bytes → StopsCutting bytes stop
+    → StopsAtMessages source old new bytes stop
+stops_cutting source old new bytes (stop_of.TooLarge count messages) took stops = (took, stops)
+stops_cutting source old new bytes (stop_of.Framing at) took stops = (took, stops)
+stops_cutting source old new bytes stop_of.Memory took stops = took.kept
+stops_cutting source old new bytes (stop_of.Fault then now) took stops = absurd stops
 
 -- ---- the messages of a file are short
 

@@ -47,7 +47,7 @@ use Rattle.advices.specs.Valid.{Asks, CameFrom, IsInMoney, IsTextOf, amount_of}
 use Rattle.corr_top.specs.declared.directory.Directory.{Directory}
 use Rattle.corr_top.specs.Asks.{asks_cover, asks_transfer}
 use Rattle.corr_top.specs.Booking.{IsEnteredOn}
-use Rattle.corr_top.specs.Message.{message_of, pay_in, pays_in, readings_of, refused, unrouted}
+use Rattle.corr_top.specs.Message.{pay_asked_of, pay_in, pays_in, readings_of, refused, unrouted}
 use Rattle.corr_top.specs.Origin.{AreSentValid, SendsAccepted}
 use Rattle.corr_top.specs.Serving.{HasPayShape}
 use Rattle.corr_top.proofs.Senders.{AsksWell, IsGood, verdict-good}
@@ -161,8 +161,8 @@ module _ (directory : Directory) (chart : Chart) (are : AreInstructions director
   origin-of (message.Page envelope page) good e = absurd (cc e)
 
   -- the pay of a message's bytes
-  bytes-origin : (bs : List ℕ) → message_of directory chart bs ≡ Ok pay → HasOrigin directory.tables chart pay
-  unfolding message_of
+  bytes-origin : (bs : List ℕ) → pay_asked_of directory chart bs ≡ Ok pay → HasOrigin directory.tables chart pay
+  unfolding pay_asked_of
   bytes-origin bs e =
       let m = read-then (refused (verdict_of chart.home directory.tables bs)) _ pay e in
       origin-of m.0 (verdict-good chart.home directory.tables bs m.0 (valid (verdict_of chart.home directory.tables bs) m.0 m.1)) m.2
@@ -175,13 +175,13 @@ first-or (suc n) p pay rest at = inr (n, at)
 
 -- some message asks for each
 read-from : (directory : Directory) (chart : Chart) (cut : List (List ℕ)) (n : ℕ) (pay : Pay) → slice_get (pays_in (readings_of directory chart cut)) n ≡ Some pay
-    → (bs : List ℕ) × (message_of directory chart bs ≡ Ok pay)
+    → (bs : List ℕ) × (pay_asked_of directory chart bs ≡ Ok pay)
 read-from directory chart [] n pay at = absurd (none-some pay at)
 read-from directory chart (m ∷ ms) n pay at =
     let rest = pays_in (readings_of directory chart ms) in
-    elim (message_of directory chart m) as (λ r. message_of directory chart m ≡ r → slice_get (cons_option (result_ok r) rest) n ≡ Some pay → (bs : List ℕ) × (message_of directory chart bs ≡ Ok pay)) [
+    elim (pay_asked_of directory chart m) as (λ r. pay_asked_of directory chart m ≡ r → slice_get (cons_option (result_ok r) rest) n ≡ Some pay → (bs : List ℕ) × (pay_asked_of directory chart bs ≡ Ok pay)) [
       | Ok p ↦ λ is here. elim (first-or n p pay rest here) [
-        | inl same ↦ (m, subst (λ (y : Pay). message_of directory chart m ≡ Ok y) same is)
+        | inl same ↦ (m, subst (λ (y : Pay). pay_asked_of directory chart m ≡ Ok y) same is)
         | inr later ↦ read-from directory chart ms later.0 pay later.1
       ]
       | Err why ↦ λ is here. read-from directory chart ms n pay here

@@ -24,12 +24,12 @@ use Rattle.ssi_versions.specs.Rows.{instruction_of}
 use Rattle.corr_top.specs.declared.directory.Directory.{Directory}
 use Rattle.corr_top.specs.declared.room.Tables.{Tables as Files}
 use Rattle.corr_top.specs.Inputs.{Inputs, chart_in, directory_in, opened}
-use Rattle.corr_top.specs.OnDisk.{HasNotFailed, IsFree, IsOnDisk, StopsMaking}
+use Rattle.corr_top.specs.OnDisk.{HasNotFailed, IsMakeable, IsOnDisk, StopsMaking}
 use Rattle.corr_top.specs.Passing.{IsFine, table_fault, table_file, table_at}
 use Rattle.corr_top.specs.Reading.{IsRead, Took}
 use Rattle.corr_top.specs.Samples.{sample_accounts, sample_bics, sample_ccys, sample_countries, sample_home, sample_ssi}
 use Rattle.corr_top.specs.Tables.{HasAccounts, HasDirectory}
-use Rattle.corr_top.specs.Trial.{AreSampleFiles, IsNewDisk, gives, sample_chart, sample_directory}
+use Rattle.corr_top.specs.Trial.{AreSampleFiles, IsNewDisk, supply_of, sample_chart, sample_directory}
 
 -- ---- a file in memory is read whole
 
@@ -45,7 +45,7 @@ abbrev pub Tells : sources.Ghosts Supply → Type 0
 Tells source = (s : Supply) → source.left s ≡ Some s.left
 
 module _ (source : sources.Ghosts Supply) (tells : Tells source) (old new : Files Supply) (are : AreSampleFiles old) where
-  read_as : (from to : Supply) (bytes file : List ℕ) → from ≡ gives file → length file ≤ 8388608 → Took source.left source.faults 8388608 from to bytes → bytes ≡ file
+  read_as : (from to : Supply) (bytes file : List ℕ) → from ≡ supply_of file → length file ≤ 8388608 → Took source.left source.faults 8388608 from to bytes → bytes ≡ file
   read_as from to bytes file is short took =
       whole_of 8388608 (source.left to) bytes file short (subst (λ o. IsRead 8388608 o (source.left to) bytes) (tells from ∙ ap (λ (s : Supply). Some s.left) is) took.read)
 
@@ -100,7 +100,7 @@ home_formed = refl
 
 -- the journal was made on a new disk
 pub made_new : {D : Type 0} (d : disks.Ghosts D) (old new : D) (head : List ℕ) (making : Result (Unit {0}) MakeFault) → making ≡ Ok tt
-    → MatchResult making (λ _. (c : Chart) → head ≡ head_bytes c → IsFree d old × IsOnDisk d new c [] × HasNotFailed d old new) (λ fault. (c : Chart) → head ≡ head_bytes c → StopsMaking d old new c fault)
+    → MatchResult making (λ _. (c : Chart) → head ≡ head_bytes c → IsMakeable d old × IsOnDisk d new c [] × HasNotFailed d old new) (λ fault. (c : Chart) → head ≡ head_bytes c → StopsMaking d old new c fault)
     → head ≡ head_bytes sample_chart → IsTrue (d.honest new) → d.faults old ≡ 0 → IsNewDisk d new
 made_new d old new head (Ok done) is made written honest sure = let m = made sample_chart written in record { honest = honest; holds = m.1; faults = m.2 ∙ sure }
 made_new d old new head (Err fault) is made written honest sure = absurd cc

@@ -4,12 +4,13 @@ use Rattle.std.specs.Prelude.{slice_get}
 use Rattle.std.proofs.lemmas.List.{length-map}
 use Rattle.std.proofs.lemmas.List.Elements.{All-append, All-nil}
 use Rattle.std.proofs.lemmas.List.FromFn.{length-map-range_with_len}
+use Rattle.std.proofs.lemmas.List.Sorted.{length_permutation}
 use Rattle.std.proofs.lemmas.Option.{same_Some, slice_get-get_or, slice_get_within}
 use Rattle.corr_books.specs.Closing.{LeavesClosed}
 use Rattle.corr_books.specs.Opening.{Opening}
 use Rattle.corr_disk.specs.declared.disk.Disk as disks
 use Rattle.corr_ids.specs.declared.day.Day.{Day}
-use Rattle.corr_report.specs.Generated.{generated_texts, minor_of, number_at, text_of}
+use Rattle.corr_report.specs.Generated.{generated_texts, generated_minor, generated_number, generated_text}
 use Rattle.corr_report.specs.Summary.{summary_of}
 use Rattle.corr_text.specs.Faults.{Rose}
 use Rattle.day_model.specs.declared.account.Account.{Account}
@@ -23,11 +24,11 @@ use Rattle.corr_top.specs.declared.directory.Directory.{Directory}
 use Rattle.corr_top.specs.declared.message.NoPay.{NoPay}
 use Rattle.corr_top.specs.declared.writing.Texts.{Texts}
 use Rattle.corr_top.specs.Booking.{IsEnteredOn}
-use Rattle.corr_top.specs.Message.{message_of, pays_in, readings_of}
+use Rattle.corr_top.specs.Message.{pay_asked_of, pays_in, readings_of}
 use Rattle.corr_top.specs.OnDisk.{IsOnDisk}
 use Rattle.corr_top.specs.Samples.{sample_day}
 use Rattle.corr_top.specs.Serving.{HasServed}
-use Rattle.corr_top.specs.Trial.{IsBooked, IsSettled, IsTrial, IsWhole, ServesTrial, StaysWithin, sample_chart, sample_directory, trial_history, trial_pays, trial_report}
+use Rattle.corr_top.specs.Trial.{BooksEach, IsBooked, IsBearable, IsTrial, IsWhole, ServesTrial, StaysWithin, sample_chart, sample_directory, trial_history, trial_pays, trial_report}
 use Rattle.corr_report.proofs.laws.Reordered.{summary_reordered}
 use Rattle.corr_top.proofs.Replying.{all_one, get_all}
 use Rattle.corr_report.proofs.laws.Settled.{AreBorne, booked_on}
@@ -51,20 +52,20 @@ nat_cases (suc k) (suc n) = elim (nat_cases k n) [
 few_pays : (count seed : ℕ) → length (trial_pays count seed) ≤ count
 few_pays count seed =
     let readings = readings_of sample_directory sample_chart (generated_texts count seed) in
-    let each = length-map (generated_texts count seed) (message_of sample_directory sample_chart) in
-    let texts = length-map-range_with_len (λ i. text_of i (minor_of (number_at seed i))) 1 count in
+    let each = length-map (generated_texts count seed) (pay_asked_of sample_directory sample_chart) in
+    let texts = length-map-range_with_len (λ i. generated_text i (generated_minor (generated_number seed i))) 1 count in
     omega (arith, few readings, each, texts)
 
 all_booked : (day : Day) (pays : List Pay) → All IsBooked (map (booked_on day) pays)
 all_booked day [] = All-nil IsBooked
 all_booked day (pay ∷ pays) = All-append IsBooked (booked_on day pay ∷ []) (map (booked_on day) pays) (all_one IsBooked (booked_on day pay) refl) (all_booked day pays)
 
--- what a trial reports, and that one thread books each pay
+-- what a trial reports, and that one thread books each message
 pub record IsTried (count seed : ℕ) (entries : List Entry) : Type 0 where
   pub report : summary_of sample_chart entries ≡ trial_report count seed
-  pub booked : All IsBooked (trial_history count seed)
+  pub books : BooksEach count seed
 
-pub tried : (count seed : ℕ) (entries : List Entry) → ServesTrial count seed sample_chart entries → length entries ≡ count → All IsBooked entries → IsSettled sample_chart entries → IsTried count seed entries
+pub tried : (count seed : ℕ) (entries : List Entry) → ServesTrial count seed sample_chart entries → length entries ≡ count → All IsBooked entries → IsBearable sample_chart entries → IsTried count seed entries
 unfolding trial_report
 tried count seed entries serves whole booked settled =
     let pays = trial_pays count seed in
@@ -73,7 +74,10 @@ tried count seed entries serves whole booked settled =
     (omega (arith, few_pays count seed, whole)) borne in
     record {
       report = sym (summary_reordered sample_chart entries (trial_history count seed) r.moved);
-      booked = subst (All IsBooked) (sym r.fold_is) (all_booked sample_day pays);
+      books = record {
+        each = length_permutation entries (trial_history count seed) r.moved ∙ whole;
+        booked = subst (All IsBooked) (sym r.fold_is) (all_booked sample_day pays);
+      };
     }
 
 -- so the texts of its whole history are those of a trial
@@ -82,8 +86,8 @@ pub trial_told : (count seed : ℕ) (accounts : Chart) (entries : List Entry) (t
 trial_told count seed accounts entries texts serves whole report out =
     let is = serves.accounts_are in
     let known = subst (λ (c : Chart). ServesTrial count seed c entries) is serves in
-    let t = tried count seed entries known whole.each whole.booked (subst (λ (c : Chart). IsSettled c entries) is whole.settled) in
-    (report ∙ (ap (λ (c : Chart). summary_of c entries) is ∙ t.report), out, t.booked)
+    let t = tried count seed entries known whole.each whole.booked (subst (λ (c : Chart). IsBearable c entries) is whole.settled) in
+    (report ∙ (ap (λ (c : Chart). summary_of c entries) is ∙ t.report), out, t.books)
 
 -- the entries ahead of a place are booked
 abbrev pub AreBookedTo : ℕ → List Entry → Type 0
@@ -113,7 +117,7 @@ settled_next n chart entries pairs account pair from there totals is at within b
   | inr other ↦ before k x low (omega (arith, low, less, other)) found
 ]
 
-pub settled_all : (n : ℕ) (chart : Chart) (entries : List Entry) → length chart.accounts + 1 ≤ n → AreSettledTo n chart entries → IsSettled chart entries
+pub settled_all : (n : ℕ) (chart : Chart) (entries : List Entry) → length chart.accounts + 1 ≤ n → AreSettledTo n chart entries → IsBearable chart entries
 settled_all n chart entries past before = λ k account low at. before k account low (omega (arith, past, low, slice_get_within chart.accounts (k - 1) account at)) at
 
 -- ---- workers over a new journal of the sample bank

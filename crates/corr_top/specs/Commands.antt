@@ -1,5 +1,5 @@
 -- The commands: which words spell them, what each reads, what it writes, and what it leaves on the disk.
-use Rattle.std.specs.Prelude.{ℕ, ◌≡◌, ◌≤◌, ◌+◌, ◌&&◌, nat_le, All, List, [], ◌∷◌, length, Option, Some, None, codes, option_and_then, if◌then◌else◌}
+use Rattle.std.specs.Prelude.{ℕ, ◌≡◌, ◌≤◌, ◌+◌, ◌&&◌, nat_le, List, [], ◌∷◌, length, Option, Some, None, codes, option_and_then, if◌then◌else◌}
 use Rattle.std.specs.Option.{option_map}
 use Rattle.std.specs.Str.{bytes_eq}
 use Rattle.corr_disk.specs.declared.disk.Disk as disks
@@ -7,7 +7,8 @@ use Rattle.corr_text.specs.Digits.{number_of}
 use Rattle.corr_ids.specs.Bic.{IsBic, bic_of}
 use Rattle.corr_ids.specs.Day.{InCentury, day_of}
 use Rattle.day_model.specs.Log.{most_entries}
-use Rattle.corr_report.specs.Generated.{generated_of}
+use Rattle.corr_report.specs.Generated.{generated_of, most_generated}
+use Rattle.work_pool.specs.Served.{most_workers}
 use Rattle.corr_top.specs.declared.room.Room.{Room}
 use Rattle.corr_top.specs.declared.words.Command.{Command}
 use Rattle.corr_top.specs.declared.words.Command.TheVariants.{Run, Trial, Plain}
@@ -21,7 +22,7 @@ use Rattle.corr_top.specs.Query.{QueryLeaves, QuerySends, query_out, query_repor
 use Rattle.corr_top.specs.Reconcile.{reconcile_report, reconcile_steps}
 use Rattle.corr_top.specs.Run.{RunLeaves, run_out, run_report, run_steps}
 use Rattle.corr_top.specs.Steps.{Step}
-use Rattle.corr_top.specs.Trial.{IsBooked, trial_history, trial_report}
+use Rattle.corr_top.specs.Trial.{BooksEach, trial_report}
 
 -- two places of a journal, the second not before the first
 abbrev pub two_places : List ℕ → List ℕ → Option (ℕ × ℕ)
@@ -30,7 +31,7 @@ two_places from until =
 
 -- a number of workers
 abbrev pub workers_of : List ℕ → Option ℕ
-workers_of number = option_and_then (λ n. if nat_le 1 n && nat_le n 16 then Some n else None) (number_of number)
+workers_of number = option_and_then (λ n. if nat_le 1 n && nat_le n most_workers then Some n else None) (number_of number)
 
 -- `run DATE WORKERS` with a day of the calendar and 1 to 16 workers
 abbrev pub run_command : List ℕ → List ℕ → Option Command
@@ -46,7 +47,7 @@ statements_of date = option_map (λ day. Query (Statements day)) (day_of date)
 
 -- a number of messages of a generated day
 abbrev pub count_of : List ℕ → Option ℕ
-count_of number = option_and_then (λ n. if nat_le 1 n && nat_le n 50000 then Some n else None) (number_of number)
+count_of number = option_and_then (λ n. if nat_le 1 n && nat_le n most_generated then Some n else None) (number_of number)
 
 -- `generate COUNT SEED` with 1 to 50,000 messages and any number
 abbrev pub generate_of : List ℕ → List ℕ → Option PlainCommand
@@ -92,14 +93,14 @@ plain_of words = option_and_then plain_in (command_of words)
 
 -- what the words name is in its range: days of 1980 to 2079, 1 to 16 workers, a BIC, two places, 1 to 50,000 messages
 abbrev pub IsSpelled : Command → Type 0
-IsSpelled (Run day workers) = InCentury day × (1 ≤ workers) × (workers ≤ 16)
-IsSpelled (Trial count seed workers) = (1 ≤ count) × (count ≤ 50000) × (1 ≤ workers) × (workers ≤ 16)
+IsSpelled (Run day workers) = InCentury day × (1 ≤ workers) × (workers ≤ most_workers)
+IsSpelled (Trial count seed workers) = (1 ≤ count) × (count ≤ most_generated) × (1 ≤ workers) × (workers ≤ most_workers)
 IsSpelled (Plain (Init home)) = IsBic home
 IsSpelled (Plain (Query (Send from until))) = (1 ≤ from) × (from ≤ until) × (until ≤ most_entries)
 IsSpelled (Plain (Query Bookings)) = Unit {0}
 IsSpelled (Plain (Query (Statements day))) = InCentury day
 IsSpelled (Plain Reconcile) = Unit {0}
-IsSpelled (Plain (Generate count seed)) = (1 ≤ count) × (count ≤ 50000)
+IsSpelled (Plain (Generate count seed)) = (1 ≤ count) × (count ≤ most_generated)
 
 -- what was read for a command names what its words name
 abbrev pub IsFor : Command → Inputs → Type 0
@@ -137,10 +138,10 @@ out_in (Plain (Query asked)) i = query_out asked i.chart i.history
 out_in (Plain Reconcile) i = []
 out_in (Plain (Generate count seed)) i = generated_of count seed
 
--- What is known of the messages that a command sends: each message of a run passes the tests of a sent message under the tables that it read; each entry of a trial is booked.
+-- What is known of the messages that a command sends: each message of a run passes the tests of a sent message under the tables that it read; each message of a trial is booked.
 abbrev pub SendsValid : Command → Inputs → Type 0
 SendsValid (Run day workers) i = AreSentValid (tables_in i) i.chart (length i.history + 1) (new_in i)
-SendsValid (Trial count seed workers) i = All IsBooked (trial_history count seed)
+SendsValid (Trial count seed workers) i = BooksEach count seed
 SendsValid (Plain (Init home)) i = Unit {0}
 SendsValid (Plain (Query asked)) i = QuerySends asked i.chart i.history
 SendsValid (Plain Reconcile) i = Unit {0}

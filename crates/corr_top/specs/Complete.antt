@@ -17,7 +17,7 @@ use Rattle.corr_top.specs.declared.words.Command.{Command}
 use Rattle.corr_top.specs.Commands.{IsFor, command_steps}
 use Rattle.corr_top.specs.Inputs.{Inputs, pays_of}
 use Rattle.corr_top.specs.MessageFile.{IsMessageFile}
-use Rattle.corr_top.specs.OnDisk.{HoldsJournal, IsFree}
+use Rattle.corr_top.specs.OnDisk.{HoldsJournal, IsMakeable}
 use Rattle.corr_top.specs.Passing.{Balances, table_fault, table_file, table_at}
 use Rattle.corr_top.specs.Steps.{Step, Walks}
 
@@ -40,7 +40,7 @@ pub record HasRoomForAll (chart : Chart) (history : List Entry) (pays : List Pay
 abbrev pub IsReady : {S K D : Type 0} → sources.Ghosts S → disks.Ghosts D → Room S K D → Room S K D → Inputs → Step → Type 0
 IsReady source disk old new i (Step.table name) = Told source (table_at name old.tables) (table_at name new.tables) (table_file name i) × (table_fault name i ≡ None)
 IsReady source disk old new i Step.sums = Balances i
-IsReady source disk old new i Step.make = IsSure disk old.disk new.disk × IsFree disk old.disk
+IsReady source disk old new i Step.make = IsSure disk old.disk new.disk × IsMakeable disk old.disk
 IsReady source disk old new i Step.open_journal = IsSure disk old.disk new.disk × HoldsJournal disk old.disk i.chart i.history
 IsReady source disk old new i Step.day = IsLatest i.history i.day
 IsReady source disk old new i Step.messages = Told source old.messages new.messages i.messages × IsMessageFile i.messages i.cut

@@ -40,14 +40,14 @@ pay_in directory chart (message.Credit envelope advice) = unrouted envelope (Err
 pay_in directory chart (message.Page envelope page) = unrouted envelope (Err (code "P37"))
 
 -- the pay that a message asks for, or why it gives none
-unfoldable pub message_of : Directory → Chart → List ℕ → Result Pay NoPay
-message_of directory chart bs = do
+unfoldable pub pay_asked_of : Directory → Chart → List ℕ → Result Pay NoPay
+pay_asked_of directory chart bs = do
   valid ← refused (verdict_of chart.home directory.tables bs)
   pay_in directory chart valid
 
 -- each message of a list of them
 abbrev pub readings_of : Directory → Chart → List (List ℕ) → List (Result Pay NoPay)
-readings_of directory chart messages = map (message_of directory chart) messages
+readings_of directory chart messages = map (pay_asked_of directory chart) messages
 
 -- the pays among them, in their order
 abbrev pub pays_in : List (Result Pay NoPay) → List Pay

@@ -39,8 +39,8 @@ module _ {D : Type 0} (d : outside.Ghosts D) where
   HasNotFailed old new = d.faults new ≡ d.faults old
 
   -- nothing stands on it but what a journal may be made over
-  abbrev pub IsFree : D → Type 0
-  IsFree disk = IsTrue (d.honest disk) → (first : ℕ) → IsOther (d.reads disk) first → ⊥
+  abbrev pub IsMakeable : D → Type 0
+  IsMakeable disk = IsTrue (d.honest disk) → (first : ℕ) → IsOther (d.reads disk) first → ⊥
 
   -- How the making of these accounts' journal stops: by its cause. Where something else stands nothing is written, and a crash at any moment leaves a disk on which nothing is made yet, or the new journal.
   pub record StopsMaking (old new : D) (chart : Chart) (fault : MakeFault) : Type 0 where

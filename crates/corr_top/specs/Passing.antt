@@ -30,7 +30,7 @@ use Rattle.corr_top.specs.declared.tables.TableStop.TheVariants as table
 use Rattle.corr_top.specs.Booking.{AreAnswered, IsBack, StopsBooking}
 use Rattle.corr_top.specs.Inputs.{Inputs, accounts_in, chart_in, tables_in}
 use Rattle.corr_top.specs.MessageFile.{IsMessageFile, StopsCutting, most_message_bytes}
-use Rattle.corr_top.specs.OnDisk.{HasNotFailed, HoldsJournal, IsFree, IsUnwritten, StopsMaking, StopsOpening}
+use Rattle.corr_top.specs.OnDisk.{HasNotFailed, HoldsJournal, IsMakeable, IsUnwritten, StopsMaking, StopsOpening}
 use Rattle.corr_top.specs.Reading.{Failed, Took}
 use Rattle.corr_top.specs.Steps.{Step}
 use Rattle.corr_top.specs.Stops.{status_of_booking, status_of_day, status_of_file, status_of_making, status_of_opening, status_of_sums, status_of_table}
@@ -112,7 +112,7 @@ StopsAtMessages source old new bytes file.Memory = source.faults new ≡ source.
 abbrev pub Passes : {S K D : Type 0} → sources.Ghosts S → disks.Ghosts D → Room S K D → Room S K D → Inputs → Step → Type 0
 Passes source disk old new i (Step.table name) = IsFine source (table_at name old.tables) (table_at name new.tables) (table_file name i) (table_fault name i)
 Passes source disk old new i Step.sums = Balances i
-Passes source disk old new i Step.make = IsFree disk old.disk
+Passes source disk old new i Step.make = IsMakeable disk old.disk
 Passes source disk old new i Step.open_journal = HoldsJournal disk old.disk i.chart i.history
 Passes source disk old new i Step.day = IsLatest i.history i.day
 Passes source disk old new i Step.messages = HasMessages source old.messages new.messages i.messages i.cut

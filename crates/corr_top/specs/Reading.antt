@@ -5,6 +5,10 @@ use Rattle.corr_text.specs.Faults.{Rose}
 use Rattle.corr_top.specs.declared.reading.ReadStop.{ReadStop}
 use Rattle.corr_top.specs.declared.reading.ReadStop.TheVariants.{Fault, Memory}
 
+-- the most bytes that one read asks for
+abbrev pub chunk_bytes : ℕ
+chunk_bytes = 65536
+
 -- these bytes were read: all that was left, or one more than the limit where more was left
 pub record IsRead (limit : ℕ) (before after : Option (List ℕ)) (bytes : List ℕ) : Type 0 where
   pub taken : Consumes before after bytes

@@ -56,8 +56,8 @@ judged_as (Ok valid) = read_as valid
 judged_as (Err refusal) = read.Other (reply.Refused refusal.0 refusal.1)
 
 -- what a received message is
-abbrev pub received_of : Bic → Tables → List ℕ → Read
-received_of home t bs = judged_as (verdict_of home t bs)
+abbrev pub read_from : Bic → Tables → List ℕ → Read
+read_from home t bs = judged_as (verdict_of home t bs)
 
 -- it can be told: a page can be joined with others, since `read_mt950` gives it of some fields, and a reply names no place
 abbrev pub CanBeTold : Read → Type 0
@@ -78,7 +78,7 @@ other_line chart entries n (read.Other told) = reply_line chart entries n told
 
 -- what the messages are
 abbrev pub all_received : Bic → Tables → List (List ℕ) → List Read
-all_received home t messages = map (received_of home t) messages
+all_received home t messages = map (read_from home t) messages
 
 -- a line for each message that is no page, with its number
 abbrev pub other_lines : Chart → List Entry → List Read → List ℕ
@@ -102,7 +102,7 @@ break_report chart entries t messages =
 abbrev pub reconcile_report : Inputs → List ℕ
 reconcile_report i = break_report i.chart i.history (tables_in i) i.cut
 
--- ---- the part of the command behind the opening of the journal
+-- ---- the part of the command after the opening of the journal
 
 module _ {S : Type 0} (source : sources.Ghosts S) (chart : Chart) (entries : List Entry) (t : Tables) (old new : S) where
   -- the texts over the received messages, or why there are none

@@ -29,16 +29,16 @@ use Rattle.corr_top.specs.OnDisk.{IsOnDisk}
 use Rattle.corr_top.specs.Samples.{sample_accounts, sample_bics, sample_ccys, sample_countries, sample_day, sample_home, sample_ssi}
 
 -- a source in memory that gives these bytes, and never fails
-abbrev pub gives : List ℕ → Supply
-gives bytes = record { left = bytes; calls = 0; faults = 0; fails = [] }
+abbrev pub supply_of : List ℕ → Supply
+supply_of bytes = record { left = bytes; calls = 0; faults = 0; fails = [] }
 
 -- the files of the sample bank
 pub record AreSampleFiles (files : Files Supply) : Type 0 where
-  pub bics : files.bics ≡ gives sample_bics
-  pub ccys : files.ccys ≡ gives sample_ccys
-  pub countries : files.countries ≡ gives sample_countries
-  pub accounts : files.accounts ≡ gives sample_accounts
-  pub ssi : files.ssi ≡ gives sample_ssi
+  pub bics : files.bics ≡ supply_of sample_bics
+  pub ccys : files.ccys ≡ supply_of sample_ccys
+  pub countries : files.countries ≡ supply_of sample_countries
+  pub accounts : files.accounts ≡ supply_of sample_accounts
+  pub ssi : files.ssi ≡ supply_of sample_ssi
 
 -- the tables of the sample bank
 abbrev pub sample_tables : Tables
@@ -86,19 +86,24 @@ pub record StaysWithin (account : Account) (credits debits : ℕ) : Type 0 where
   pub ceil : (account.opening +ℤ pos credits) ≤ℤ account.ceil
 
 -- so each account does by the booked entries of a history: they would be booked in every order
-abbrev pub IsSettled : Chart → List Entry → Type 0
-IsSettled chart entries =
+abbrev pub IsBearable : Chart → List Entry → Type 0
+IsBearable chart entries =
     (n : ℕ) (account : Account) → 1 ≤ n → account_at chart n ≡ Some account → StaysWithin account (credits_of entries n) (debits_of entries n)
 
 -- each of so many messages has its entry, each entry is booked, and would be in every order
 pub record IsWhole (count : ℕ) (chart : Chart) (entries : List Entry) : Type 0 where
   pub each : length entries ≡ count
   pub booked : All IsBooked entries
-  pub settled : IsSettled chart entries
+  pub settled : IsBearable chart entries
 
--- the texts of a trial: the summary, and nothing to be sent; one thread books each pay
+-- one thread makes an entry for each of so many messages, and books it
+pub record BooksEach (count seed : ℕ) : Type 0 where
+  pub each : length (trial_history count seed) ≡ count
+  pub booked : All IsBooked (trial_history count seed)
+
+-- the texts of a trial: the summary, and nothing to be sent; one thread books each message
 abbrev pub IsTrial : ℕ → ℕ → Texts → Type 0
-IsTrial count seed texts = (texts.report ≡ trial_report count seed) × (texts.out ≡ []) × All IsBooked (trial_history count seed)
+IsTrial count seed texts = (texts.report ≡ trial_report count seed) × (texts.out ≡ []) × BooksEach count seed
 
 -- what a trial gives: its texts, or want of memory
 abbrev pub GivesTrial : ℕ → ℕ → Result Texts Status → Type 0

@@ -1,17 +1,20 @@
 //! The message file, cut into its messages.
 
-ghost use Rattle.std.specs.Prelude.{◌≡◌, ◌+◌, ◌≤◌, ◌<◌, ◌^◌, ℕ, List, ◌++◌, None, IfOk, IfErr, OnOk, length};
+ghost use Rattle.std.specs.Prelude.{◌≡◌, ◌+◌, ◌≤◌, ◌<◌, ◌^◌, ℕ, List, ◌++◌, None, IfOk, IfErr, IfSome, OnOk, length};
 ghost use Rattle.corr_top.specs.Feeding.{HasPassed, StopsFeeding, StopsInPieces};
-ghost use Rattle.corr_top.specs.MessageFile.{IsMessageFile, StopsCutting};
+ghost use Rattle.corr_top.specs.MessageFile.{IsMessageFile, StopsCutting, most_message_bytes};
+ghost use Rattle.corr_top.specs.Passing.{StopsAtMessages};
+ghost use Rattle.corr_top.specs.Reading.{Took};
 
-use crate::reading::ReadStop;
+use crate::reading::{ReadStop, read_whole};
 use crate::status::Status;
-use corr_text::{List, Text};
-use fin_frame::{Cutter, FrameFault};
+use corr_io::Source;
+use corr_text::{List, Memory, Text};
+use fin_frame::{Cutter, FrameFault, Framed, cut_whole};
 use std::alloc::Global;
 
 /// The most bytes of a message file: 64 MiB.
-pub const FILE_LIMIT: usize = 67_108_864;
+const FILE_LIMIT: usize = 67_108_864;
 
 /// The most messages of a message file.
 const MESSAGE_LIMIT: u32 = 50_000;
@@ -57,6 +60,16 @@ impl From<ReadStop> for FileStop {
             ReadStop::Fault { before, after } => FileStop::Fault { before, after },
             ReadStop::Memory => FileStop::Memory,
         }
+    }
+}
+
+impl From<Memory> for FileStop {
+    ghost use Rattle.corr_top.specs.declared.cutting.FileStop.TheVariants.{Memory as NoMemory};
+
+    ghost from_gives = { λ _ stop. stop ≡ NoMemory };
+
+    fn from(_e: Memory) -> FileStop {
+        FileStop::Memory
     }
 }
 
@@ -122,16 +135,60 @@ fn cut_in_pieces(alloc: Global, file: &[u8], size: usize) -> Result<List<Text>, 
     Ok(messages)
 }
 
-/// The messages of a file, or its first fault: `TooLarge` at its first byte past a limit, or `Framing`.
-pub fn cut_file(alloc: Global, file: &[u8]) -> Result<List<Text>, FileStop>
+/// Why a file that is no message file is none, as pieces of `size` bytes show.
+fn stop_in_pieces(alloc: Global, file: &[u8], size: usize) -> FileStop
+    requires short { length file.now ≤ 67108865 }
+    requires some { 0 < size }
+    requires none { (messages : List (List ℕ)) → IsMessageFile file.now messages → ⊥ }
+    ensures { StopsInPieces size file.now result }
+{
+    match cut_in_pieces(alloc, file, size) {
+        Err(stop) => stop,
+        Ok(_) => unreachable!(),
+    }
+}
+
+/// Why a file that is no message file is none: its first byte past a limit, or its first fault.
+fn first_stop(alloc: Global, file: &[u8]) -> FileStop
+    requires short { length file.now ≤ 67108865 }
+    requires none { (messages : List (List ℕ)) → IsMessageFile file.now messages → ⊥ }
+    ensures { StopsCutting file.now result }
+{
+    match stop_in_pieces(alloc, file, PIECE) {
+        // a limit is passed somewhere in a piece: pieces of one byte find where
+        FileStop::TooLarge { .. } => stop_in_pieces(alloc, file, 1),
+        stop => stop,
+    }
+}
+
+/// The messages of a file within its limits, each where it stands. None where it is no message file.
+fn cut_sound(alloc: Global, file: &[u8]) -> Result<Option<List<Framed<'_>>>, Memory>
+    ensures found { IfOk result (λ found. IfSome found (IsMessageFile file.now)) }
+    ensures none { IfOk result (λ found. found ≡ None → (messages : List (List ℕ)) → IsMessageFile file.now messages → ⊥) }
+{
+    if file.len() > FILE_LIMIT {
+        return Ok(None);
+    }
+    cut_whole(alloc, file, MESSAGE_LIMIT as usize)
+}
+
+/// The messages of a file, each where it stands, or its first fault: `TooLarge` at its first byte past a limit, or `Framing`.
+pub fn cut_file(alloc: Global, file: &[u8]) -> Result<List<Framed<'_>>, FileStop>
     requires { length file.now ≤ 67108865 }
     ensures ok { IfOk result (IsMessageFile file.now) }
     ensures stopped { IfErr result (StopsCutting file.now) }
 {
-    match cut_in_pieces(alloc, file, PIECE) {
-        Ok(messages) => Ok(messages),
-        // a limit is passed somewhere in a piece: pieces of one byte find where
-        Err(FileStop::TooLarge { .. }) => cut_in_pieces(alloc, file, 1),
-        Err(stop) => Err(stop),
+    match cut_sound(alloc, file) {
+        Ok(Some(messages)) => Ok(messages),
+        Ok(None) => Err(first_stop(alloc, file)),
+        Err(memory) => Err(FileStop::from(memory)),
     }
+}
+
+/// The bytes of a message file, one more than its limit at most.
+pub fn read_file<S: Source>(alloc: Global, source: &mut S) -> Result<Text, FileStop>
+    ensures read { IfOk result (Took S.left S.faults most_message_bytes source.old source.new) }
+    ensures stopped { IfErr result (λ stop. (file : List ℕ) → StopsAtMessages S.Source source.old source.new file stop) }
+{
+    Ok(read_whole(alloc, source, FILE_LIMIT)?)
 }

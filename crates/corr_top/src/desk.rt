@@ -3,7 +3,7 @@
 ghost use Rattle.std.specs.Prelude.{◌≡◌, ◌≤◌, [], All, IfOk, length, map, vec_capacity, vec_len};
 ghost use Rattle.fin_frame.specs.File.{most_bytes};
 ghost use Rattle.corr_books.specs.Passes.{Belongs};
-ghost use Rattle.corr_top.specs.Message.{message_of};
+ghost use Rattle.corr_top.specs.Message.{pay_asked_of};
 ghost use Rattle.corr_top.specs.Serving.{AnswersMessage, halt_of, served_of, starting};
 
 use crate::directory::Directory;
@@ -12,8 +12,10 @@ use crate::worker::Worker;
 use corr_books::{Books, BooksName};
 use corr_disk::Disk;
 use corr_ids::Mir;
-use corr_text::{Memory, Text, let_go};
+use corr_text::{Memory, let_go};
 use day_model::Reply;
+use fin_fields::Spares;
+use fin_frame::Framed;
 use fin_message::Message;
 use front_word::Pass;
 use jrn_book::{CommitFault, Committed};
@@ -21,10 +23,10 @@ use std::alloc::Global;
 use std::sync::Wait;
 use work_pool::{Desk, Gate};
 
-/// A message to be answered, of at most 16,384 bytes.
+/// A message to be answered, of at most 16,384 bytes, where it stands in its file.
 #[derive(Clone, Copy, Debug, Drop)]
 pub struct Job<'a> {
-    text: &'a Text,
+    text: &'a [u8],
     ghost short: { length text.now ≤ most_bytes },
 }
 
@@ -60,13 +62,15 @@ pub struct RunDesk<'a, N: BooksName, D: Disk> {
 }
 
 /// A job for each message, in their order.
-pub fn jobs_of(alloc: Global, messages: &[Text]) -> Result<Vec<Job<'_>>, Memory>
+pub fn jobs_of<'a>(alloc: Global, messages: &'a [Framed<'_>]) -> Result<Vec<Job<'a>>, Memory>
     requires short { All (λ m. length m ≤ most_bytes) messages.now }
     ensures { IfOk result (λ jobs. map (λ job. job.text.now) jobs.items ≡ messages.now) }
 {
     let mut jobs = Vec::with_capacity(alloc, messages.len())?;
-    for text in messages {
-        jobs.push(Job { text })?;
+    for message in messages {
+        jobs.push(Job {
+            text: message.bytes(),
+        })?;
     }
     Ok(jobs)
 }
@@ -82,6 +86,7 @@ pub fn seat(alloc: Global, workers: &mut Vec<Worker>, passes: Vec<Pass>)
             pass,
             halted: None,
             room: Message::blank(alloc),
+            spares: Spares::new(alloc),
         });
     }
 }
@@ -95,6 +100,7 @@ pub fn vacate(passes: &mut Vec<Pass>, workers: Vec<Worker>)
     for worker in workers {
         passes.push_reserved(worker.pass);
         let_go(worker.room);
+        let_go(worker.spares);
     }
 }
 
@@ -130,6 +136,7 @@ impl<'a, N: BooksName, D: Disk> RunDesk<'a, N, D> {
         rt: &R,
         pass: &mut Pass,
         room: &mut Message,
+        spares: &mut Spares,
         worker: u32,
         text: &[u8],
         gate: &G,
@@ -137,10 +144,10 @@ impl<'a, N: BooksName, D: Disk> RunDesk<'a, N, D> {
         requires pass { Belongs N.opening pass.old }
         requires short { length text.now ≤ most_bytes }
         ensures pass { Belongs N.opening pass.new }
-        ensures answered { AnswersMessage N.opening (message_of self.now.directory.now N.opening.accounts text.now) pass.old pass.new result }
+        ensures answered { AnswersMessage N.opening (pay_asked_of self.now.directory.now N.opening.accounts text.now) pass.old pass.new result }
     {
         let accounts = self.books.accounts();
-        match read_message(self.alloc, self.directory, accounts, text, room) {
+        match read_message(self.alloc, self.directory, accounts, text, room, spares) {
             Ok(pay) => as_served(pay.mir, self.books.book(rt, pass, worker, &pay, gate)),
             Err(Stop::NoPay(why)) => Served::Reply(reply_for(why)),
             Err(Stop::Memory) => Served::Stopped(Halt::Memory),
@@ -151,7 +158,7 @@ impl<'a, N: BooksName, D: Disk> RunDesk<'a, N, D> {
 impl<'a, N: BooksName + Send + Sync, D: Disk + Drop + Send> Desk for RunDesk<'a, N, D> {
     ghost use Rattle.corr_books.specs.Passes.{Belongs};
     ghost use Rattle.corr_top.specs.Serving.{Serves};
-    ghost use Rattle.corr_top.specs.Message.{message_of};
+    ghost use Rattle.corr_top.specs.Message.{pay_asked_of};
 
     type Pass = Worker;
 
@@ -161,7 +168,7 @@ impl<'a, N: BooksName + Send + Sync, D: Disk + Drop + Send> Desk for RunDesk<'a,
 
     ghost takes = { λ _ worker. Belongs N.opening worker.pass };
 
-    ghost serves = { λ desk old job new served. Serves N.opening (message_of desk.directory.now N.opening.accounts job.text.now) old new served };
+    ghost serves = { λ desk old job new served. Serves N.opening (pay_asked_of desk.directory.now N.opening.accounts job.text.now) old new served };
 
     /// Answers the message, unless the worker has stopped. It stops where the disk failed and where memory ran out: so a
     /// worker enters what stands ahead of a message before what stands behind it, or nothing behind it.
@@ -180,8 +187,9 @@ impl<'a, N: BooksName + Send + Sync, D: Disk + Drop + Send> Desk for RunDesk<'a,
             rt,
             &mut pass.pass,
             &mut pass.room,
+            &mut pass.spares,
             worker,
-            job.text.bytes(),
+            job.text,
             gate,
         );
         pass.halted = halt_of(&made);

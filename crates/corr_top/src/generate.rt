@@ -1,6 +1,7 @@
 //! The command `generate`: a day of messages, made from a number.
 
 ghost use Rattle.std.specs.Prelude.{◌≤◌};
+ghost use Rattle.corr_report.specs.Generated.{most_generated};
 ghost use Rattle.corr_top.specs.Generate.{GivesGenerated};
 
 use crate::status::Status;
@@ -11,7 +12,7 @@ use std::alloc::Global;
 
 /// A day of so many messages, made from a number. Nothing is reported.
 pub fn generate(alloc: Global, count: u32, seed: u64) -> Result<Texts, Status>
-    requires { count ≤ 50000 }
+    requires { count ≤ most_generated }
     ensures { GivesGenerated count seed result }
 {
     Ok(Texts {

@@ -8,13 +8,14 @@ ghost use Rattle.fin_message.specs.Sound.{Goes, HasEnvelope, TextSays, lines_in}
 ghost use Rattle.fin_message.specs.declared.direction.Direction.TheVariants.{Received};
 ghost use Rattle.pay_plan.specs.Plan.{mir_of_envelope, plan_of};
 ghost use Rattle.pay_plan.specs.Readable.{IsSomeReading, IsWritable};
-ghost use Rattle.corr_top.specs.Message.{message_of, pay_in, reply_for, unrouted};
+ghost use Rattle.corr_top.specs.Message.{pay_asked_of, pay_in, reply_for, unrouted};
 ghost use Rattle.corr_top.specs.Replies.{ReadsAs};
 
 use crate::directory::Directory;
 use corr_ids::{Envelope, Mir};
 use corr_text::{Code, Fault, Text};
 use day_model::{Accounts, Pay, Reply};
+use fin_fields::Spares;
 use fin_message::{Message, MessageFault, verdict_into};
 use pay_plan::{Ask, PlanFault, plan};
 use std::alloc::Global;
@@ -143,20 +144,22 @@ fn read_pay(
     }
 }
 
-/// The pay that a message of at most 16,384 bytes asks for, or why it gives none. `room` is where the message is read into.
-#[tactic(auto, unfolding(crate::specs::Message::message_of))]
+/// The pay that a message of at most 16,384 bytes asks for, or why it gives none. `room` is where the message is read into,
+/// `spares` the memory of fields read before.
+#[tactic(auto, unfolding(crate::specs::Message::pay_asked_of))]
 pub fn read_message(
     alloc: Global,
     directory: &Directory,
     accounts: &Accounts,
     b: &[u8],
     room: &mut Message,
+    spares: &mut Spares,
 ) -> Result<Pay, Stop>
     requires { length b.now ≤ most_bytes }
-    ensures value { ReadsAs result (message_of directory.now accounts.now b.now) }
+    ensures value { ReadsAs result (pay_asked_of directory.now accounts.now b.now) }
     ensures fits { IfOk result (FitsAccounts accounts.now) }
     ensures shape { IfOk result HasShape }
 {
-    verdict_into(alloc, b, accounts.home(), &directory.tables, room)?;
+    verdict_into(alloc, b, accounts.home(), &directory.tables, spares, room)?;
     read_pay(alloc, directory, accounts, room)
 }

@@ -1,7 +1,7 @@
 //! A source, read whole or past a limit.
 
 ghost use Rattle.std.specs.Prelude.{◌≡◌, ◌+◌, ◌<◌, ◌^◌, vec_len, IfOk, IfErr};
-ghost use Rattle.corr_top.specs.Reading.{IsStopped, Took};
+ghost use Rattle.corr_top.specs.Reading.{IsStopped, Took, chunk_bytes};
 
 use corr_io::Source;
 use corr_text::{Memory, Text};
@@ -38,7 +38,7 @@ impl From<AllocError> for ReadStop {
 }
 
 fn make_chunk(alloc: Global) -> Result<Vec<u8>, AllocError>
-    ensures { IfOk result (λ v. vec_len v ≡ CHUNK) }
+    ensures { IfOk result (λ v. vec_len v ≡ chunk_bytes) }
 {
     vec![in alloc; 0u8; CHUNK]
 }

@@ -1,7 +1,8 @@
 //! The command `reconcile`: statements that were received, against the books.
 
-ghost use Rattle.std.specs.Prelude.{◌≡◌, ◌≤◌, All, IfOk, IsTrue, length};
+ghost use Rattle.std.specs.Prelude.{◌≡◌, ◌≤◌, ◌++◌, All, IfOk, IsTrue, OnOk, length};
 ghost use Rattle.fin_frame.specs.File.{most_bytes};
+ghost use Rattle.corr_report.specs.Report.{NamesPlace, reply_line};
 ghost use Rattle.day_model.specs.Legal.{IsLegal};
 ghost use Rattle.fin_contents.specs.Writing.{IsReadable};
 ghost use Rattle.fin_message.specs.Sound.{CanBeWritten, Goes};
@@ -10,23 +11,25 @@ ghost use Rattle.jrn_book.specs.Journal.{IsJournal};
 ghost use Rattle.mt950.specs.Page.{mt950_of};
 ghost use Rattle.ref_tables.specs.Seen.{few_decimals};
 ghost use Rattle.corr_top.specs.Ends.{HasTexts};
-ghost use Rattle.corr_top.specs.Reconcile.{CanBeTold, Collects, GivesBreaks, break_report, envelope_in, read_as, received_of};
+ghost use Rattle.corr_top.specs.MessageFile.{most_messages};
+ghost use Rattle.corr_top.specs.Reconcile.{CanBeTold, Collects, GivesBreaks, break_report, envelope_in, read_as, read_from};
 ghost use Rattle.corr_top.specs.declared.words.Command.TheVariants.{Plain as PlainCommand};
 ghost use Rattle.corr_top.specs.declared.words.Plain.TheVariants as plain;
 
+use crate::cutting::{cut_file, read_file};
 use crate::message::{P37, reference};
 use crate::opening::{close_journal, open_journal};
 use crate::room::Room;
-use crate::run::read_messages;
 use crate::status::Status;
 use crate::tables::read_known;
 use crate::writing::Texts;
 use corr_disk::Disk;
 use corr_ids::{Bic, Envelope};
 use corr_io::{Sink, Source};
-use corr_report::put_reply_line;
-use corr_text::{Memory, Text};
+use corr_report::reply_line;
+use corr_text::{Memory, Text, let_go};
 use day_model::{Accounts, History, Reply};
+use fin_frame::Framed;
 use fin_message::{Message, MessageFault, verdict};
 use mt950::Page950;
 use reconcile::breaks;
@@ -64,8 +67,7 @@ fn kind_of(message: Message) -> Read
         Message::Page(_, page) => Read::Page(page),
         message => {
             let mir = reference(envelope(&message));
-            // as one step: the checker counts each part of a value that ends with the function
-            drop(message);
+            let_go(message);
             Read::Other(Reply::Unrouted { mir, code: P37 })
         }
     }
@@ -75,7 +77,7 @@ fn kind_of(message: Message) -> Read
 fn judge(alloc: Global, home: &Bic, tables: &RefTables, message: &[u8]) -> Result<Read, Memory>
     requires decimals { IsTrue (few_decimals tables.now.ccys) }
     requires short { length message.now ≤ most_bytes }
-    ensures value { IfOk result (λ read. read ≡ received_of home.now tables.now message.now) }
+    ensures value { IfOk result (λ read. read ≡ read_from home.now tables.now message.now) }
     ensures sound { IfOk result CanBeTold }
 {
     match verdict(alloc, message, home, tables) {
@@ -85,18 +87,35 @@ fn judge(alloc: Global, home: &Bic, tables: &RefTables, message: &[u8]) -> Resul
     }
 }
 
+/// Adds the line of the `n`-th message.
+fn put_reply_line(
+    alloc: Global,
+    a: &Accounts,
+    h: &History,
+    n: u64,
+    reply: &Reply,
+    report: &mut Text,
+) -> Result<(), Memory>
+    requires legal { IsLegal a.now h.now.entries }
+    requires place { NamesPlace h.now.entries reply.now }
+    ensures { OnOk result (report.new ≡ report.old ++ reply_line a.now h.now.entries n reply.now) }
+{
+    let line = reply_line(alloc, a, h, n, reply)?;
+    report.push(line.bytes())
+}
+
 /// Reads the messages, adds a line for each that is no page of a statement, and collects the pages.
 fn collect(
     alloc: Global,
     tables: &RefTables,
     a: &Accounts,
     h: &History,
-    messages: &[Text],
+    messages: &[Framed<'_>],
     report: &mut Text,
 ) -> Result<Vec<Page950>, Memory>
     requires decimals { IsTrue (few_decimals tables.now.ccys) }
     requires legal { IsLegal a.now h.now.entries }
-    requires few { length messages.now ≤ 50000 }
+    requires few { length messages.now ≤ most_messages }
     requires short { All (λ m. length m ≤ most_bytes) messages.now }
     ensures value { IfOk result (λ pages. Collects a.now h.now.entries tables.now messages.now report.old report.new pages.items) }
     ensures joined { IfOk result (λ pages. All (IsReadable mt950_of) pages.items) }
@@ -118,11 +137,11 @@ fn report_breaks(
     tables: &RefTables,
     a: &Accounts,
     h: &History,
-    messages: &[Text],
+    messages: &[Framed<'_>],
 ) -> Result<Text, Memory>
     requires decimals { IsTrue (few_decimals tables.now.ccys) }
     requires journal { IsJournal a.now h.now.entries }
-    requires few { length messages.now ≤ 50000 }
+    requires few { length messages.now ≤ most_messages }
     requires short { All (λ m. length m ≤ most_bytes) messages.now }
     ensures { IfOk result (λ text. text ≡ break_report a.now h.now.entries tables.now messages.now) }
 {
@@ -144,7 +163,8 @@ fn tell_breaks<S: Source>(
     requires journal { IsJournal a.now h.now.entries }
     ensures { GivesBreaks S.Source a.now h.now.entries tables.now source.old source.new result }
 {
-    let messages = read_messages(alloc, source)?;
+    let file = read_file(alloc, source)?;
+    let messages = cut_file(alloc, file.bytes())?;
     Ok(Texts {
         report: report_breaks(alloc, tables, a, h, messages.as_slice())?,
         out: Text::from_bytes(alloc, b"")?,

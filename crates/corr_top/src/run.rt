@@ -1,28 +1,27 @@
 //! The command `run`: every message of a file is answered, the report is made, and the next messages are made.
 
-ghost use Rattle.std.specs.Prelude.{◌≡◌, ◌≤◌, ◌+◌, ℕ, All, List, IfErr, IfOk, OnOk, length};
+ghost use Rattle.std.specs.Prelude.{◌≡◌, ◌≤◌, ◌+◌, All, List, IfOk, OnOk, length};
 ghost use Rattle.corr_ids.specs.Bic.{IsBic};
 ghost use Rattle.corr_ids.specs.Day.{InCentury};
 ghost use Rattle.corr_report.specs.Report.{NamesPlace, report_of};
 ghost use Rattle.day_model.specs.Legal.{IsLegal};
 ghost use Rattle.jrn_book.specs.Journal.{IsJournal};
 ghost use Rattle.ssi_versions.specs.InstructionList.{AreInstructions};
+ghost use Rattle.work_pool.specs.Served.{most_workers};
 ghost use Rattle.corr_top.specs.Days.{GivesDay, GivesServed, GivesTexts};
 ghost use Rattle.corr_top.specs.Ends.{HasTexts};
 ghost use Rattle.corr_top.specs.Origin.{SendsAccepted};
 ghost use Rattle.corr_top.specs.MessageFile.{most_messages};
 ghost use Rattle.corr_top.specs.Out.{sent_from};
-ghost use Rattle.corr_top.specs.Passing.{HasMessages, StopsAtMessages};
 ghost use Rattle.corr_top.specs.Serving.{HasPayShape, are_replies};
 ghost use Rattle.corr_top.specs.declared.words.Command.TheVariants.{Run};
 ghost use Rattle.day_model.specs.declared.reply.Reply.{Reply as TheReply};
 
 use crate::answers::all_replies;
-use crate::cutting::{FILE_LIMIT, FileStop, cut_file};
+use crate::cutting::{cut_file, read_file};
 use crate::desk::Served;
 use crate::directory::{Directory, read_directory};
 use crate::outgoing::outgoing;
-use crate::reading::read_whole;
 use crate::room::Room;
 use crate::serving::{ServedDay, serve_all};
 use crate::status::Status;
@@ -32,21 +31,12 @@ use corr_disk::Disk;
 use corr_ids::Day;
 use corr_io::{Sink, Source};
 use corr_report::report;
-use corr_text::{List, Memory, Text};
+use corr_text::Memory;
 use day_model::{Accounts, History, Reply};
 use std::alloc::Global;
 use std::sync::Wait;
 use std::thread::Threads;
 use work_pool::Gate;
-
-/// The messages of a message file, or its first fault.
-pub fn read_messages<S: Source>(alloc: Global, source: &mut S) -> Result<List<Text>, FileStop>
-    ensures are { IfOk result (λ cut. (file : List ℕ) × HasMessages S.Source source.old source.new file cut) }
-    ensures stopped { IfErr result (λ stop. (file : List ℕ) × StopsAtMessages S.Source source.old source.new file stop) }
-{
-    let file = read_whole(alloc, source, FILE_LIMIT)?;
-    cut_file(alloc, file.bytes())
-}
 
 /// The report of replies, and the outgoing messages of the entries behind the first `count`.
 fn make_texts(
@@ -132,12 +122,16 @@ fn run_day<R: Wait + Threads + Sync, S: Source, D: Disk + Drop + Send, G: Gate +
     gate: &G,
 ) -> (D, Result<Texts, Status>)
     requires instructions { AreInstructions directory.now.tables directory.now.ssi }
-    requires workers { (1 ≤ workers) × (workers ≤ 16) }
+    requires workers { (1 ≤ workers) × (workers ≤ most_workers) }
     requires journal { IsJournal opened.accounts opened.base }
     requires count { before ≡ opened.at_open }
     ensures { GivesDay S.Source D.Disk directory.now workers source.old source.new opened result.0 result.1 }
 {
-    let messages = match read_messages(alloc, source) {
+    let file = match read_file(alloc, source) {
+        Ok(file) => file,
+        Err(stop) => return (opened.into_disk(), Err(Status::from(stop))),
+    };
+    let messages = match cut_file(alloc, file.bytes()) {
         Ok(messages) => messages,
         Err(stop) => return (opened.into_disk(), Err(Status::from(stop))),
     };
@@ -160,7 +154,7 @@ pub fn run<R: Wait + Threads + Sync, S: Source, K: Sink, D: Disk + Drop + Send, 
     gate: &G,
 ) -> (Room<S, K, D>, Result<Texts, Status>)
     requires day { InCentury day }
-    requires workers { (1 ≤ workers) × (workers ≤ 16) }
+    requires workers { (1 ≤ workers) × (workers ≤ most_workers) }
     ensures texts { HasTexts S.Source D.Disk (Run day workers) room result.0 result.1 }
     ensures honest { D.honest result.0.disk ≡ D.honest room.disk }
 {

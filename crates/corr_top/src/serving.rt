@@ -4,6 +4,7 @@ ghost use Rattle.std.specs.Prelude.{◌≡◌, ◌≤◌, [], All, IfErr, IfOk, 
 ghost use Rattle.fin_frame.specs.File.{most_bytes};
 ghost use Rattle.jrn_file.specs.File.{disk_of};
 ghost use Rattle.corr_books.specs.Opening.{IsNamed, opening_of};
+ghost use Rattle.work_pool.specs.Served.{most_workers};
 ghost use Rattle.corr_top.specs.Message.{readings_of};
 ghost use Rattle.corr_top.specs.Serving.{AllServed};
 
@@ -12,7 +13,8 @@ use crate::directory::Directory;
 use crate::worker::Worker;
 use corr_books::{BooksName, Closed, Opened};
 use corr_disk::Disk;
-use corr_text::{Memory, Text};
+use corr_text::Memory;
+use fin_frame::Framed;
 use front_word::Pass;
 use std::alloc::Global;
 use std::marker::Brand;
@@ -37,7 +39,11 @@ struct Places<'a> {
 }
 
 /// The jobs of messages, and room for so many workers.
-fn make_places(alloc: Global, workers: u32, messages: &[Text]) -> Result<Places<'_>, Memory>
+fn make_places<'a>(
+    alloc: Global,
+    workers: u32,
+    messages: &'a [Framed<'_>],
+) -> Result<Places<'a>, Memory>
     requires short { All (λ m. length m ≤ most_bytes) messages.now }
     ensures jobs { IfOk result (λ places. map (λ job. job.text.now) places.jobs.items ≡ messages.now) }
     ensures workers { IfOk result (λ places. (places.workers.items ≡ []) × (workers ≤ vec_capacity places.workers)) }
@@ -64,11 +70,11 @@ fn serve_named<
     directory: &Directory,
     opened: Opened<D>,
     workers: u32,
-    messages: &[Text],
+    messages: &[Framed<'_>],
     gate: &G,
 ) -> Result<ServedDay<D>, (D, Memory)>
     requires named { IsNamed D.Disk N.opening N.table opened workers }
-    requires count { (1 ≤ workers) × (workers ≤ 16) }
+    requires count { (1 ≤ workers) × (workers ≤ most_workers) }
     requires short { All (λ m. length m ≤ most_bytes) messages.now }
     ensures served { IfOk result (λ day. AllServed D.Disk (opening_of D.Disk opened workers) (readings_of directory.now opened.accounts messages.now) day) }
     ensures disk { IfErr result (λ e. e.0 ≡ disk_of opened.file) }
@@ -112,10 +118,10 @@ pub fn serve_all<R: Wait + Threads + Sync, D: Disk + Drop + Send, G: Gate + Sync
     directory: &Directory,
     opened: Opened<D>,
     workers: u32,
-    messages: &[Text],
+    messages: &[Framed<'_>],
     gate: &G,
 ) -> Result<ServedDay<D>, (D, Memory)>
-    requires count { (1 ≤ workers) × (workers ≤ 16) }
+    requires count { (1 ≤ workers) × (workers ≤ most_workers) }
     requires short { All (λ m. length m ≤ most_bytes) messages.now }
     ensures served { IfOk result (λ day. AllServed D.Disk (opening_of D.Disk opened workers) (readings_of directory.now opened.accounts messages.now) day) }
     ensures disk { IfErr result (λ e. e.0 ≡ disk_of opened.file) }

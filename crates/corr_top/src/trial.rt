@@ -1,7 +1,7 @@
 //! The command `trial`: a generated day, run over a journal in memory.
 
 ghost use Rattle.std.specs.Prelude.{◌≡◌, ◌≤◌, ◌⊎◌, [], All, IfOk, IsTrue, Some, length};
-ghost use Rattle.corr_report.specs.Generated.{generated_of};
+ghost use Rattle.corr_report.specs.Generated.{most_generated};
 ghost use Rattle.corr_report.specs.Summary.{summary_of};
 ghost use Rattle.corr_text.specs.Faults.{Rose};
 ghost use Rattle.day_model.specs.Legal.{IsLegal};
@@ -9,10 +9,11 @@ ghost use Rattle.day_model.specs.Totals.{pair_at};
 ghost use Rattle.jrn_book.specs.Journal.{IsJournal};
 ghost use Rattle.jrn_codec.specs.Header.{IsHead, head_bytes};
 ghost use Rattle.ssi_versions.specs.InstructionList.{AreInstructions};
+ghost use Rattle.work_pool.specs.Served.{most_workers};
 ghost use Rattle.corr_top.specs.MessageFile.{IsMessageFile};
 ghost use Rattle.corr_top.specs.OnDisk.{IsOnDisk};
 ghost use Rattle.corr_top.specs.Samples.{sample_day};
-ghost use Rattle.corr_top.specs.Trial.{AreSampleFiles, GivesTrial, IsBooked, IsNewDisk, IsSettled, IsTrial, IsWhole, ServesTrial, StaysWithin, gives, sample_chart, sample_directory};
+ghost use Rattle.corr_top.specs.Trial.{AreSampleFiles, GivesTrial, IsBooked, IsNewDisk, IsBearable, IsTrial, IsWhole, ServesTrial, StaysWithin, supply_of, sample_chart, sample_directory};
 
 use crate::cutting::cut_file;
 use crate::directory::{Directory, read_directory};
@@ -31,6 +32,7 @@ use corr_io::MemSource;
 use corr_report::{generated, summary};
 use corr_text::{List, Memory, Text};
 use day_model::{Account, Accounts, AcctNo, Entry, History, Outcome, totals};
+use fin_frame::Framed;
 use std::alloc::Global;
 use std::sync::Wait;
 use std::thread::Threads;
@@ -38,7 +40,7 @@ use work_pool::Gate;
 
 /// A source of these bytes, which never fails.
 fn source(alloc: Global, bytes: &[u8]) -> Result<MemSource, Memory>
-    ensures { IfOk result (λ source. source ≡ gives bytes.now) }
+    ensures { IfOk result (λ source. source ≡ supply_of bytes.now) }
 {
     Ok(MemSource::new(Text::from_bytes(alloc, bytes)?, List::new(alloc)))
 }
@@ -107,13 +109,12 @@ fn sample_books(alloc: Global) -> Result<Opened<MemDisk>, Memory>
     }
 }
 
-/// The messages of a generated day, cut from its text.
-fn sample_messages(alloc: Global, count: u32, seed: u64) -> Result<List<Text>, Memory>
-    requires { count ≤ 50000 }
-    ensures { IfOk result (IsMessageFile (generated_of count seed)) }
+/// The messages of a day, each where it stands in its text. Where it can't be cut, memory is wanting.
+fn cut_day(alloc: Global, text: &[u8]) -> Result<List<Framed<'_>>, Memory>
+    requires { length text.now ≤ 67108865 }
+    ensures { IfOk result (IsMessageFile text.now) }
 {
-    let day = generated(alloc, count, seed)?;
-    match cut_file(alloc, day.bytes()) {
+    match cut_file(alloc, text) {
         Ok(messages) => Ok(messages),
         Err(_) => Err(Memory),
     }
@@ -129,14 +130,15 @@ fn run_trial<R: Wait + Threads + Sync, G: Gate + Sync>(
     workers: u32,
     gate: &G,
 ) -> Result<Closed<MemDisk>, Memory>
-    requires count { count ≤ 50000 }
-    requires workers { (1 ≤ workers) × (workers ≤ 16) }
+    requires count { count ≤ most_generated }
+    requires workers { (1 ≤ workers) × (workers ≤ most_workers) }
     ensures served { IfOk result (λ closed. ServesTrial count seed closed.accounts closed.history.entries) }
     ensures journal { IfOk result (λ closed. Rose 0 (⟦<MemDisk as Disk>⟧.faults closed.disk) ⊎ IsOnDisk ⟦<MemDisk as Disk>⟧ closed.disk sample_chart closed.history.entries) }
 {
     let directory = sample_directory(alloc)?;
     let opened = sample_books(alloc)?;
-    let messages = sample_messages(alloc, count, seed)?;
+    let text = generated(alloc, count, seed)?;
+    let messages = cut_day(alloc, text.bytes())?;
     let messages = messages.as_slice();
     match serve_all(rt, alloc, &directory, opened, workers, messages, gate) {
         Ok(day) => {
@@ -190,7 +192,7 @@ fn is_within(account: &Account, credits: u64, debits: u64) -> bool
 /// Whether the entries of a history would be booked in every order: each account bears all of them.
 fn is_settled(alloc: Global, a: &Accounts, h: &History) -> Result<bool, Memory>
     requires { IsLegal a.now h.now.entries }
-    ensures { IfOk result (λ settled. IsTrue settled → IsSettled a.now h.now.entries) }
+    ensures { IfOk result (λ settled. IsTrue settled → IsBearable a.now h.now.entries) }
 {
     let pairs = totals(alloc, a, h)?;
     for n in 1..a.count() + 1 {
@@ -234,8 +236,8 @@ fn trial_texts<R: Wait + Threads + Sync, G: Gate + Sync>(
     workers: u32,
     gate: &G,
 ) -> Result<Texts, Memory>
-    requires count { count ≤ 50000 }
-    requires workers { (1 ≤ workers) × (workers ≤ 16) }
+    requires count { count ≤ most_generated }
+    requires workers { (1 ≤ workers) × (workers ≤ most_workers) }
     ensures { IfOk result (IsTrial count seed) }
 {
     let closed = run_trial(rt, alloc, count, seed, workers, gate)?;
@@ -258,8 +260,8 @@ pub fn trial<R: Wait + Threads + Sync, G: Gate + Sync>(
     workers: u32,
     gate: &G,
 ) -> Result<Texts, Status>
-    requires count { count ≤ 50000 }
-    requires workers { (1 ≤ workers) × (workers ≤ 16) }
+    requires count { count ≤ most_generated }
+    requires workers { (1 ≤ workers) × (workers ≤ most_workers) }
     ensures { GivesTrial count seed result }
 {
     match trial_texts(rt, alloc, count, seed, workers, gate) {

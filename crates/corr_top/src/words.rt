@@ -3,7 +3,9 @@
 ghost use Rattle.std.specs.Prelude.{◌≡◌, ◌≤◌, IfSome};
 ghost use Rattle.std.specs.Option.{option_map};
 ghost use Rattle.std.specs.Str.{bytes_eq};
+ghost use Rattle.corr_report.specs.Generated.{most_generated};
 ghost use Rattle.day_model.specs.Log.{most_entries};
+ghost use Rattle.work_pool.specs.Served.{most_workers};
 ghost use Rattle.corr_top.specs.Commands.{IsSpelled, command_of, count_of, generate_of, init_of, two_places, run_command, send_of, statements_of, trial_of, workers_of};
 ghost use Rattle.corr_top.specs.declared.words.Command.TheVariants.{Plain as CommandPlain};
 
@@ -104,7 +106,7 @@ fn statements(date: &[u8]) -> Option<Command>
 /// A number of workers: 1 to 16.
 fn workers(b: &[u8]) -> Option<u32>
     ensures value { result ≡ workers_of b.now }
-    ensures sound { IfSome result (λ n. (1 ≤ n) × (n ≤ 16)) }
+    ensures sound { IfSome result (λ n. (1 ≤ n) × (n ≤ most_workers)) }
 {
     let number = digits(b)?;
     if number < 1 || number > MOST_WORKERS {
@@ -126,7 +128,7 @@ fn run(date: &[u8], number: &[u8]) -> Option<Command>
 /// A number of messages of a generated day: 1 to 50,000.
 fn count(b: &[u8]) -> Option<u32>
     ensures value { result ≡ count_of b.now }
-    ensures sound { IfSome result (λ n. (1 ≤ n) × (n ≤ 50000)) }
+    ensures sound { IfSome result (λ n. (1 ≤ n) × (n ≤ most_generated)) }
 {
     let number = digits(b)?;
     if number < 1 || number > MOST_MESSAGES {

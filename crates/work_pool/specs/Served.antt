@@ -1,6 +1,10 @@
 -- How jobs are dealt to passes, and what their serves make of the passes. Jobs have the numbers from 1 in their order.
 use Rattle.std.specs.Prelude.{◌≡◌, ℕ, ◌-◌, ◌%◌, ◌<◌, ◌≤◌, List, [], ◌∷◌, Some, length, slice_get}
 
+-- the most workers that run at once
+abbrev pub most_workers : ℕ
+most_workers = 16
+
 -- each number is less than those behind it
 abbrev pub AreRising : List ℕ → Type 0
 AreRising numbers = (i j m n : ℕ) → i < j → slice_get numbers i ≡ Some m → slice_get numbers j ≡ Some n → m < n

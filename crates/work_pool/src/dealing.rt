@@ -1,6 +1,7 @@
 //! Jobs are dealt out, and workers seated.
 
-ghost use Rattle.std.specs.Prelude.{◌≡◌, ◌<◌, ◌≤◌, ◌-◌, [], length, IfOk, vec_len, vec_capacity};
+ghost use Rattle.std.specs.Prelude.{◌≡◌, ◌<◌, ◌≤◌, [], IfOk, vec_len, vec_capacity};
+ghost use Rattle.work_pool.specs.Served.{most_workers};
 ghost use Rattle.work_pool.specs.Tasks.{AreInHands, AreSeated};
 
 use crate::hand::Hand;
@@ -46,7 +47,7 @@ pub fn seat_all<P: Drop, J: Drop, R: Drop>(
     requires empty { seats.old.items ≡ [] }
     requires room { vec_len passes ≤ vec_capacity seats.old }
     requires hands { vec_len hands ≡ vec_len passes }
-    requires few { vec_len passes ≤ 16 }
+    requires few { vec_len passes ≤ most_workers }
     ensures { AreSeated passes.items hands.items seats.new.items }
 {
     let mut hands = hands.into_iter();

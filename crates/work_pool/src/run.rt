@@ -1,7 +1,7 @@
 //! Runs workers over jobs.
 
 ghost use Rattle.std.specs.Prelude.{◌≡◌, ◌<◌, ◌≤◌, length, map, IfOk, OnErr, vec_len};
-ghost use Rattle.work_pool.specs.Served.{AllTaken, AreServed};
+ghost use Rattle.work_pool.specs.Served.{AllTaken, AreServed, most_workers};
 ghost use Rattle.work_pool.specs.Tasks.{ServedHand, ServedSeats};
 
 use crate::collecting::{collect, vacate};
@@ -50,7 +50,7 @@ pub fn run_jobs<K: Desk + Sync, G: Gate + Sync, R: Wait + Threads + Sync>(
     jobs: Vec<K::Job>,
     gate: &G,
 ) -> Worked<K>
-    requires passes { (1 ≤ vec_len passes) × (vec_len passes ≤ 16) }
+    requires passes { (1 ≤ vec_len passes) × (vec_len passes ≤ most_workers) }
     requires taken { AllTaken (K.takes desk.now) passes.items }
     ensures served { IfOk result.replies (λ replies. AreServed (K.serves desk.now) passes.items jobs.items result.passes.items replies.items) }
     ensures none { OnErr result.replies (result.passes.items ≡ passes.items) }

@@ -1,5 +1,5 @@
 use Rattle.std.proofs.Common.{◌≡◌, map, take}
 use Rattle.corr_top.proofs.desk.jobs_of.Given as goal
 
-abbrev pub invariant-loop-text : goal.invariant-loop-text
-invariant-loop-text l = map (λ job. job.text.now) l.jobs.items ≡ take l.text-index l.messages
+abbrev pub invariant-loop-message : goal.invariant-loop-message
+invariant-loop-message l = map (λ job. job.text.now) l.jobs.items ≡ take l.message-index l.messages

@@ -1,12 +1,12 @@
 use Rattle.std.proofs.Common.{◌≡◌, Ok, subst}
 use Rattle.corr_ids.specs.declared.bic.Bic.{Bic}
 use Rattle.fin_message.specs.Verdict.{verdict_of}
-use Rattle.corr_top.specs.Message.{message_of}
+use Rattle.corr_top.specs.Message.{pay_asked_of}
 use Rattle.corr_top.proofs.Routes.{read_on}
 use Rattle.corr_top.proofs.message.read_message.Goals as goal
 
 pub returns-clause-value : goal.returns-clause-value
-unfolding message_of
+unfolding pay_asked_of
 returns-clause-value c =
     let directory = c.args.directory.now in
     let chart = c.args.accounts.now in

@@ -1,4 +1,4 @@
-use Rattle.std.proofs.Common.{◌≡◌, ◌≤◌, ℕ, List, ◌++◌, inl, ap, arith, sym, subst, length, ◌∙◌, length-append}
+use Rattle.std.proofs.Common.{◌≡◌, ◌≤◌, ℕ, List, [], ◌++◌, inl, ap, arith, sym, subst, length, ◌∙◌, length-append}
 use Rattle.std.proofs.lemmas.List.{length-map}
 use Rattle.corr_books.specs.Opening.{Parts, opening_of}
 use Rattle.corr_disk.specs.declared.disk.Disk as disks
@@ -7,28 +7,41 @@ use Rattle.day_model.specs.declared.entry.Entry.{Entry}
 use Rattle.corr_top.specs.declared.directory.Directory.{Directory}
 use Rattle.corr_top.specs.declared.serving.ServedDay.{ServedDay}
 use Rattle.corr_top.specs.Days.{GivesDay}
-use Rattle.corr_top.specs.Message.{message_of, readings_of}
+use Rattle.corr_top.specs.Message.{pay_asked_of, readings_of}
+use Rattle.corr_top.specs.MessageFile.{IsMessageFile, StopsCutting}
+use Rattle.corr_top.specs.Passing.{HasMessages}
 use Rattle.corr_top.specs.Serving.{AllServed}
 use Rattle.corr_top.proofs.DayDone.{day_ends, few_made, places_in}
-use Rattle.corr_top.proofs.MessageFiles.{all-short, all_given}
+use Rattle.corr_top.proofs.MessageFiles.{all-short, all_given, stops_cutting}
 use Rattle.corr_top.proofs.run.run_day.Goals as goal
 
--- the message file was not taken
+-- the message file was not read
 pub returns-in-Err : goal.returns-in-Err
 returns-in-Err g c =
-    let q = c.in-Err.ensures.stopped in
     inl (record {
       stop = c.in-Err.stop;
-      bytes = q.0;
+      bytes = [];
       status_is = c.from.ensures;
-      stops = q.1;
+      stops = c.in-Err.ensures.stopped [];
       same = c.into_disk.ensures;
+    })
+
+-- it is no message file
+pub returns-in-Err-cut_file : goal.returns-in-Err-cut_file
+returns-in-Err-cut_file g c =
+    let stop = c.in-Err-cut_file.stop in
+    let bytes = c.in-Ok.file in
+    inl (record {
+      stop = stop;
+      bytes = bytes;
+      status_is = c.from-in-Err-cut_file.ensures;
+      stops = stops_cutting g.S.Source c.args.source.now c.read_file.new.source bytes stop c.in-Ok.ensures.read (subst (λ (bs : List ℕ). StopsCutting bs stop) c.bytes.ensures c.in-Err-cut_file.ensures.stopped);
+      same = c.into_disk-in-Err-cut_file.ensures;
     })
 
 pub serve_all-requires-clause-short : goal.serve_all-requires-clause-short
 serve_all-requires-clause-short g c =
-    let has = c.in-Ok.ensures.are in
-    λ _ _. all_given c.as_slice-messages.result.now c.in-Ok.messages c.as_slice-messages.ensures (all-short has.0 c.in-Ok.messages has.1.are)
+    λ _ _. all_given c.as_slice-messages.result.now c.in-Ok-cut_file.messages c.as_slice-messages.ensures (all-short c.bytes.result.now c.in-Ok-cut_file.messages c.in-Ok-cut_file.ensures.ok)
 
 -- what became of the messages of the file
 served_file : {S D : Type 0} (source : sources.Ghosts S) (d : disks.Ghosts D) (directory : Directory) (workers : ℕ) (opened : Parts D) (given cut : List (List ℕ)) (day : ServedDay D) → given ≡ cut
@@ -51,18 +64,20 @@ end_day-requires-clause-few g c =
     let opened = c.args.opened in
     let given = c.as_slice-messages.result.now in
     let all = c.in-Ok-serve_all.ensures.served in
-    let short : length given ≤ 50000 = subst (λ (ms : List (List ℕ)). length ms ≤ 50000) (sym c.as_slice-messages.ensures) c.in-Ok.ensures.are.1.are.few in (
+    let short : length given ≤ 50000 = subst (λ (ms : List (List ℕ)). length ms ≤ 50000) (sym c.as_slice-messages.ensures) c.in-Ok-cut_file.ensures.ok.few in (
       no_longer_than c.len-count.result opened.base all.left.added c.in-Ok-serve_all.day.closed.history.entries (counted_is c.len-count.result c.history.result.now.entries opened.base c.len-count.ensures.count c.history.ensures) all.left.is,
-      few_made g.D.Disk (opening_of g.D.Disk opened c.args.workers) (readings_of c.args.directory.now opened.accounts given) c.in-Ok-serve_all.day all 50000 (let l = length-map given (message_of c.args.directory.now opened.accounts) in omega (arith, l, short)),
+      few_made g.D.Disk (opening_of g.D.Disk opened c.args.workers) (readings_of c.args.directory.now opened.accounts given) c.in-Ok-serve_all.day all 50000 (let l = length-map given (pay_asked_of c.args.directory.now opened.accounts) in omega (arith, l, short)),
     )
 
 pub returns-in-Ok-serve_all : goal.returns-in-Ok-serve_all
 returns-in-Ok-serve_all g c =
     let opened = c.args.opened in
     let directory = c.args.directory.now in
-    let has = c.in-Ok.ensures.are in
+    let file = c.in-Ok.file in
+    let cut = c.in-Ok-cut_file.messages in
+    let has : HasMessages g.S.Source c.args.source.now c.read_file.new.source file cut = record { took = c.in-Ok.ensures.read; are = subst (λ (bs : List ℕ). IsMessageFile bs cut) c.bytes.ensures c.in-Ok-cut_file.ensures.ok } in
     let day = c.in-Ok-serve_all.day in
-    let all = served_file g.S.Source g.D.Disk directory c.args.workers opened c.as_slice-messages.result.now c.in-Ok.messages day c.as_slice-messages.ensures c.in-Ok-serve_all.ensures.served in
-    subst (λ (x : g.row.D.Denot). GivesDay g.S.Source g.D.Disk directory c.args.workers c.args.source.now c.read_messages.new.source opened x c.end_day.result.1) (sym c.end_day.ensures.disk)
-    (day_ends g.S.Source g.D.Disk directory c.args.workers c.args.source.now c.read_messages.new.source opened has.0 c.in-Ok.messages has.1 c.requires.instructions c.requires.journal.head.book
+    let all = served_file g.S.Source g.D.Disk directory c.args.workers opened c.as_slice-messages.result.now cut day c.as_slice-messages.ensures c.in-Ok-serve_all.ensures.served in
+    subst (λ (x : g.row.D.Denot). GivesDay g.S.Source g.D.Disk directory c.args.workers c.args.source.now c.read_file.new.source opened x c.end_day.result.1) (sym c.end_day.ensures.disk)
+    (day_ends g.S.Source g.D.Disk directory c.args.workers c.args.source.now c.read_file.new.source opened file cut has c.requires.instructions c.requires.journal.head.book
     c.len-count.result c.args.before c.requires.count (counted_is c.len-count.result c.history.result.now.entries opened.base c.len-count.ensures.count c.history.ensures) day all c.end_day.result.1 c.end_day.ensures.texts)

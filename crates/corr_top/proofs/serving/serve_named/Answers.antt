@@ -12,7 +12,7 @@ use Rattle.jrn_book.specs.Journal.{IsJournal}
 use Rattle.corr_top.specs.declared.desk.Job.{Job}
 use Rattle.corr_top.specs.Workers.{Worker}
 use Rattle.corr_top.specs.declared.message.NoPay.{NoPay}
-use Rattle.corr_top.specs.Message.{message_of, readings_of}
+use Rattle.corr_top.specs.Message.{pay_asked_of, readings_of}
 use Rattle.corr_top.specs.Serving.{AllServed, starting}
 use Rattle.corr_top.proofs.Workers.{added_of, all_back, none_of, told_of, turn_of, unmapped}
 use Rattle.corr_top.proofs.serving.serve_named.Goals as goal
@@ -47,7 +47,7 @@ vacate-requires-clause-room g c =
     let count = c.in-Ok-books.ensures.passes.count in
     let made = ap (λ (x : Opening). x.made) c.requires.named.opening_is in
     let worked = c.run_jobs-worked in
-    let reading = λ (job : Job). message_of c.args.directory.now o.accounts job.text.now in
+    let reading = λ (job : Job). pay_asked_of c.args.directory.now o.accounts job.text.now in
     let back = all_back o reading c.in-Ok.places.jobs.items (λ v. v.items) c.in-Ok-books.made.1.items c.seat.new.workers.items worked.result.passes.items c.seat.ensures worked.result.replies worked.ensures.served worked.ensures.none in
     omega (arith, count, made, back, c.in-Ok.ensures.passes.1)
 
@@ -64,7 +64,7 @@ unreachable-requires g c =
     let o = g.N.BooksName.opening in
     let count = c.in-Ok-books.ensures.passes.count in
     let worked = c.run_jobs-worked in
-    let reading = λ (job : Job). message_of c.args.directory.now o.accounts job.text.now in
+    let reading = λ (job : Job). pay_asked_of c.args.directory.now o.accounts job.text.now in
     let after = worked.result.passes.items in
     let back = all_back o reading c.in-Ok.places.jobs.items (λ v. v.items) c.in-Ok-books.made.1.items c.seat.new.workers.items after c.seat.ensures worked.result.replies worked.ensures.served worked.ensures.none in
     let given : length c.vacate.new.passes.items ≡ length after = ap length c.vacate.ensures ∙ length-map after (λ (w : Worker). w.pass) in
@@ -75,7 +75,7 @@ returns-clause-served g c =
     let o = g.N.BooksName.opening in
     let named = c.requires.named.opening_is in
     let directory = c.args.directory.now in
-    let reading = λ (job : Job). message_of directory o.accounts job.text.now in
+    let reading = λ (job : Job). pay_asked_of directory o.accounts job.text.now in
     let jobs = c.in-Ok.places.jobs.items in
     let news = c.in-Ok-books.made.1.items in
     let new = c.in-Ok-books.ensures.passes in
@@ -89,8 +89,8 @@ returns-clause-served g c =
     let faults = g.D.Disk.faults closed.disk in
     let closes = subst (λ (ps : List PassKnows). Closes o history faults ps) c.vacate.ensures ends.closes in
     let read : map reading jobs ≡ readings_of directory c.args.opened.accounts c.args.messages.now =
-    map_twice (λ (job : Job). job.text.now) (message_of directory o.accounts) jobs ∙ ap (λ (texts : List (List ℕ)). map (message_of directory o.accounts) texts) c.in-Ok.ensures.jobs
-    ∙ ap (λ (x : Opening). map (message_of directory x.accounts) c.args.messages.now) named in
+    map_twice (λ (job : Job). job.text.now) (pay_asked_of directory o.accounts) jobs ∙ ap (λ (texts : List (List ℕ)). map (pay_asked_of directory o.accounts) texts) c.in-Ok.ensures.jobs
+    ∙ ap (λ (x : Opening). map (pay_asked_of directory x.accounts) c.args.messages.now) named in
     let all : AllServed g.D.Disk o (map reading jobs) (record { closed = closed; served = replies }) =
     record {
       left = record {

@@ -1,4 +1,5 @@
 use Rattle.std.proofs.Common.{◌≡◌, ◌+◌, ◌≤◌, ◌++◌, length, map, vec_capacity}
+use Rattle.work_pool.specs.Served.{most_workers}
 use Rattle.work_pool.proofs.dealing.seat_all.Given as goal
 
 abbrev pub invariant-loop-pass : goal.invariant-loop-pass
@@ -7,5 +8,5 @@ invariant-loop-pass g l = record {
   hands : map (λ seat. seat.hand) l.seats.items ++ l.hands.rest.items ≡ l.fn.hands.items;
   even : length l.hands.rest.items ≡ length l.pass-iterator.rest.items;
   room : length l.seats.items + length l.pass-iterator.rest.items ≤ vec_capacity l.seats;
-  few : length l.seats.items + length l.pass-iterator.rest.items ≤ 16;
+  few : length l.seats.items + length l.pass-iterator.rest.items ≤ most_workers;
 }
