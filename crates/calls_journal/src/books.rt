@@ -1,6 +1,6 @@
 //! Calls go through functions that promise little: a test then carries none of what a book promises.
 
-ghost use Rattle.std.specs.Prelude.{◌≡◌, ◌⊎◌, ◌<◌, ◌^◌, All, IfOk, length};
+ghost use Rattle.std.specs.Prelude.{◌≡◌, ◌⊎◌, ◌<◌, All, IfOk};
 ghost use Rattle.std.specs.Bool.{OnTrue};
 ghost use Rattle.acct_locks.specs.Holdings.{HoldsOnce};
 ghost use Rattle.day_model.specs.Laws.{IsLatest};

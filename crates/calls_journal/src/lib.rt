@@ -1,10 +1,8 @@
-//! The public calls of the journal and its book, over disks in memory and a real file, and of the locks of its accounts.
+//! The public calls of the journal's book, over disks in memory, of its records, and of the locks of its accounts.
 #![tactic(auto)]
 
 #[cfg(test)]
 mod books;
-#[cfg(test)]
-mod files;
 #[cfg(test)]
 mod locks;
 #[cfg(test)]

@@ -316,6 +316,55 @@ fn locks_that_are_given_back_are_free(rt: HostRuntime) -> Result<(), Fail> {
     Ok(())
 }
 
+// How often a thread looks for a sign that another gives.
+const LOOKS: u32 = 1_000_000;
+
+// Whether a sign is given while a thread looks for it.
+fn is_given(sign: &AtomicBool) -> bool {
+    for _ in 0..LOOKS {
+        if sign.load(SeqCst) {
+            return true;
+        }
+        yield_now();
+    }
+    false
+}
+
+// Takes an account and gives it back, twice, and then gives a sign.
+fn take_twice<N: Name>(rt: &impl Wait, purses: &Purses<N>, sign: &AtomicBool)
+    requires { purses.now ≡ 3 }
+{
+    purses.hold().take(rt, AcctNo(1)).give_back();
+    purses.hold().take(rt, AcctNo(1)).give_back();
+    sign.store(true, SeqCst);
+}
+
+// A thread takes an account again that it gave back. Where it waits for it, the other thread ends the program.
+fn taken_twice<N: Name + Send + Sync, R: Threads + Wait + Abort + Sync>(
+    rt: &R,
+    alloc: Global,
+    loose: Loose,
+) -> Result<(), Fail>
+    requires { (loose.table ≡ N.table) × (length loose.purses ≡ 3) }
+{
+    let purses = loose.lock::<N>(alloc)?;
+    let sign = AtomicBool::new(false);
+    join(
+        rt,
+        ||
+            requires { purses ≡ 3 }
+        { take_twice(rt, &purses, &sign) },
+        || { assert!(rt; is_given(&sign)) },
+    );
+    Ok(())
+}
+
+#[test]
+fn an_account_is_taken_again(rt: HostRuntime) -> Result<(), Fail> {
+    let (loose, _) = opened(&rt, rt.alloc())?;
+    taken_twice::<Brand, _>(&rt, rt.alloc(), loose)
+}
+
 // The first and the last account are taken whatever their totals are, the least and the greatest too.
 fn taken_at_the_ends<N: Name, R: Wait + Abort>(
     rt: &R,

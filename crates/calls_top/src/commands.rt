@@ -10,11 +10,12 @@ use std::sync::Wait;
 use std::thread::Threads;
 use work_pool::{Gate, OpenGate};
 
-// The bytes of the table files, in the order in which they are read, and of the message file.
+// The bytes of the table files, in the order in which they are read, of the message file, and of the file of received statements.
 #[derive(Clone, Copy)]
 pub(crate) struct Files {
     pub(crate) tables: [&'static [u8]; 5],
     pub(crate) messages: &'static [u8],
+    pub(crate) received: &'static [u8],
 }
 
 // The calls that fail, by their numbers from 1: a read of the file at this place, from 0, the message file last, a write
@@ -88,7 +89,7 @@ fn room<D: Disk + Drop>(
     Ok(Room {
         tables: tables(alloc, failing, files)?,
         messages: source(alloc, failing, 5, files.messages)?,
-        received: source(alloc, WHOLE, 6, b"")?,
+        received: source(alloc, WHOLE, 6, files.received)?,
         report: sink(alloc, failing.report)?,
         out: sink(alloc, failing.out)?,
         disk,
@@ -125,6 +126,16 @@ fn leave<D: Disk + Drop>(
         ],
         disk: room.disk,
     })
+}
+
+// Whether a command wrote this.
+pub(crate) fn wrote<D: Disk + Drop>(ended: &Ended<D>, report: &[u8], out: &[u8]) -> bool {
+    ended.report.bytes() == report && ended.out.bytes() == out
+}
+
+// Whether a command came to its end, and wrote this.
+pub(crate) fn is_done<D: Disk + Drop>(ended: &Ended<D>, report: &[u8], out: &[u8]) -> bool {
+    ended.status == Status::Done && wrote(ended, report, out)
 }
 
 // A command over a disk, whose pays pass a gate.
@@ -179,4 +190,15 @@ pub(crate) fn journal<R: Wait + Threads + Sync>(
     let disk = long_lived(alloc, b"")?;
     let made = call(rt, alloc, &[b"init", b"HOMEUS33"], WHOLE, files, disk)?;
     Ok(made.disk.left())
+}
+
+// The bytes of a new journal with the entries of a run of one worker.
+pub(crate) fn booked<R: Wait + Threads + Sync>(
+    rt: &R,
+    alloc: Global,
+    files: Files,
+) -> Result<Text, Memory> {
+    let journal = journal(rt, alloc, files)?;
+    let ended = run(rt, alloc, WHOLE, files, long_lived(alloc, journal.bytes())?)?;
+    Ok(ended.disk.left())
 }

@@ -18,6 +18,7 @@ const FILES: Files = Files {
         b"EUR,ALPHDEFF,BOOK,,VALPH,240101,791231\n",
     ],
     messages: b"{1:F01HOMEUS33AXXX0001000007}{2:O1031200240603ALPHDEFFAXXX00010000012406031205N}{4:\r\n:20:REF1\r\n:23B:CRED\r\n:32A:240603EUR9,5\r\n:50K:A PAYER\r\n:59:/CUST\r\nA PAYEE\r\n:71A:SHA\r\n-}",
+    received: b"",
 };
 
 // The counts of faults where that at one place is 1, and each other 0.

@@ -1,4 +1,4 @@
-//! The commands over files, sinks and disks that fail or stop, and with workers that meet, each by the top call.
+//! The commands over files, sinks and disks, also such that fail or stop, and with workers that meet, each by the top call.
 #![tactic(auto)]
 
 #[cfg(test)]
@@ -7,5 +7,7 @@ mod commands;
 mod faults;
 #[cfg(test)]
 mod gates;
+#[cfg(test)]
+mod reports;
 #[cfg(test)]
 mod stops;

@@ -1,6 +1,6 @@
 //! Disks that fail once or stop.
 
-use crate::commands::{Ended, Files, WHOLE, call, journal, long_lived, run};
+use crate::commands::{Ended, Files, WHOLE, booked, call, is_done, journal, run, wrote};
 use corr_disk::{Disk, FuseDisk, MemDisk, OnceDisk};
 use corr_text::{Memory, Text};
 use corr_top::Status;
@@ -18,6 +18,7 @@ const FILES: Files = Files {
         b"EUR,ALPHDEFF,BOOK,,VALPHEUR,240101,791231\n",
     ],
     messages: b"{1:F01HOMEUS33AXXX0001000007}{2:O1031200240603ALPHDEFFAXXX00010000012406031205N}{4:\r\n:20:REF1\r\n:23B:CRED\r\n:32A:240603EUR1234,5\r\n:50K:A PAYER\r\n:59:/CUST1\r\nA PAYEE\r\n:71A:SHA\r\n-}",
+    received: b"",
 };
 
 const REPORT: &[u8] =
@@ -29,10 +30,6 @@ const SENT: &[u8] =
 const STATEMENT: &[u8] =
     b"{1:F01HOMEUS33AXXX0000000000}{2:I950ALPHDEFFXXXXN}{4:\r\n:20:S2406030001P0001\r\n:25:VALPHEUR\r\n:28C:155/1\r\n:60F:C240602EUR50000,00\r\n:61:2406030603D1234,50S103REF1//P00000001\r\n:62F:C240603EUR48765,50\r\n-}$";
 
-fn wrote<D: Disk + Drop>(ended: &Ended<D>, report: &[u8], out: &[u8]) -> bool {
-    ended.report.bytes() == report && ended.out.bytes() == out
-}
-
 // Whether a command told that its disk failed, and wrote nothing.
 fn is_refused<D: Disk + Drop>(ended: &Ended<D>) -> bool {
     let fault = Status::DiskFault {
@@ -40,11 +37,6 @@ fn is_refused<D: Disk + Drop>(ended: &Ended<D>) -> bool {
         after: 1,
     };
     ended.status == fault && wrote(ended, b"", b"")
-}
-
-// Whether a command came to its end, and wrote this.
-fn is_done<D: Disk + Drop>(ended: &Ended<D>, report: &[u8], out: &[u8]) -> bool {
-    ended.status == Status::Done && wrote(ended, report, out)
 }
 
 // Whether the run over a disk that fails at this call alone is refused.
@@ -130,13 +122,6 @@ fn statements<R: Wait + Threads + Sync, D: Disk + Drop + Send>(
     call(rt, alloc, &[b"statements", b"240603"], WHOLE, FILES, disk)
 }
 
-// The bytes of a journal with the entry of the message.
-fn booked<R: Wait + Threads + Sync>(rt: &R, alloc: Global) -> Result<Text, Memory> {
-    let journal = journal(rt, alloc, FILES)?;
-    let ended = run(rt, alloc, WHOLE, FILES, long_lived(alloc, journal.bytes())?)?;
-    Ok(ended.disk.left())
-}
-
 // Whether nothing is sent of a journal whose first read fails.
 fn is_unread<R: Wait + Threads + Sync>(
     rt: &R,
@@ -160,7 +145,7 @@ fn is_stated<R: Wait + Threads + Sync>(
 #[test]
 fn statements_are_sent_of_a_journal_that_can_be_read(rt: HostRuntime) -> Result<(), Fail> {
     let alloc = rt.alloc();
-    let journal = booked(&rt, alloc)?;
+    let journal = booked(&rt, alloc, FILES)?;
     assert!(rt; is_unread(&rt, alloc, journal.copy(alloc)?)?);
     assert!(rt; is_stated(&rt, alloc, journal)?);
     Ok(())

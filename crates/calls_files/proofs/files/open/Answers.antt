@@ -1,4 +1,4 @@
-use Rattle.calls_journal.proofs.files.open.Goals as goal
+use Rattle.calls_files.proofs.files.open.Goals as goal
 
 pub returns-in-Ok : goal.returns-in-Ok
 returns-in-Ok g c =

@@ -1,5 +1,5 @@
 use Rattle.jrn_file.specs.File.{IsOpen}
-use Rattle.calls_journal.proofs.files.add_numbers.Given as goal
+use Rattle.calls_files.proofs.files.add_numbers.Given as goal
 
 abbrev pub invariant-loop-number : goal.invariant-loop-number
 invariant-loop-number g l = IsOpen g.D.Disk.honest g.D.Disk.reads g.D.Disk.may_leave l.file

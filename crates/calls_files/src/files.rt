@@ -1,9 +1,11 @@
+//! The file of a journal, over disks in memory and a real file.
+
 ghost use Rattle.std.specs.Prelude.{◌<◌, ◌≤◌, IfOk, OnOk};
 ghost use Rattle.corr_disk.specs.Disk.{most_disk_bytes};
 ghost use Rattle.jrn_file.specs.File.{IsOpen};
 ghost use Rattle.jrn_file.specs.Journal.{IsFrame};
 
-use corr_disk::{Disk, Failed, FileDisk, FuseDisk, MemDisk};
+use corr_disk::{Disk, FileDisk, FuseDisk, MemDisk};
 use corr_text::{Memory, Text};
 use jrn_file::{AppendFault, Ending, JFile, MakeFault, OpenFault, create, open_file, read_file};
 use std::alloc::Global;
@@ -354,7 +356,7 @@ fn is_refused(alloc: Global, head: usize, left: usize) -> Result<bool, Fail>
 }
 
 #[test]
-fn a_journal_that_is_cut_short_is_refused_whatever_the_pieces(rt: HostRuntime) -> Result<(), Fail> {
+fn a_journal_that_is_cut_short_is_refused(rt: HostRuntime) -> Result<(), Fail> {
     let alloc = rt.alloc();
     for len in 0..6usize {
         assert_eq!(rt;
@@ -364,10 +366,54 @@ fn a_journal_that_is_cut_short_is_refused_whatever_the_pieces(rt: HostRuntime) -
     }
     for left in 0..31usize {
         assert!(rt; is_refused(alloc, 6, left)?);
-        for crossed in 0..34usize {
-            assert!(rt; is_refused(alloc, PIECE - crossed, left)?);
+    }
+    Ok(())
+}
+
+// Whether a journal is refused where it is cut short, whatever is left of three records, if its header ends at least `first` and
+// fewer than `end` bytes before the edge of a piece.
+fn are_refused(alloc: Global, first: usize, end: usize) -> Result<bool, Fail>
+    requires { end ≤ 34 }
+{
+    for left in 0..31usize {
+        for crossed in first..end {
+            if !is_refused(alloc, PIECE - crossed, left)? {
+                return Ok(false);
+            }
         }
     }
+    Ok(true)
+}
+
+#[test]
+fn a_journal_whose_header_ends_up_to_8_bytes_before_an_edge_is_refused_where_it_is_cut_short(
+    rt: HostRuntime,
+) -> Result<(), Fail> {
+    assert!(rt; are_refused(rt.alloc(), 0, 9)?);
+    Ok(())
+}
+
+#[test]
+fn a_journal_whose_header_ends_9_to_17_bytes_before_an_edge_is_refused_where_it_is_cut_short(
+    rt: HostRuntime,
+) -> Result<(), Fail> {
+    assert!(rt; are_refused(rt.alloc(), 9, 18)?);
+    Ok(())
+}
+
+#[test]
+fn a_journal_whose_header_ends_18_to_25_bytes_before_an_edge_is_refused_where_it_is_cut_short(
+    rt: HostRuntime,
+) -> Result<(), Fail> {
+    assert!(rt; are_refused(rt.alloc(), 18, 26)?);
+    Ok(())
+}
+
+#[test]
+fn a_journal_whose_header_ends_26_to_33_bytes_before_an_edge_is_refused_where_it_is_cut_short(
+    rt: HostRuntime,
+) -> Result<(), Fail> {
+    assert!(rt; are_refused(rt.alloc(), 26, 34)?);
     Ok(())
 }
 

@@ -1,0 +1,5 @@
+//! The public calls of a journal's file, over disks in memory and a real file.
+#![tactic(auto)]
+
+#[cfg(test)]
+mod files;
