@@ -4,7 +4,7 @@ use Rattle.std.specs.Prelude.{nat_le}
 use Rattle.std.proofs.lemmas.Bool.Decides.{nat_tests}
 use Rattle.std.proofs.lemmas.Grind.{common_steps}
 use Rattle.corr_disk.specs.Disk.{written, Torn}
-use Rattle.corr_disk.specs.Past.{Step, Image}
+use Rattle.corr_disk.specs.Past.{DiskStep, Image}
 use Rattle.corr_disk.specs.Tearing.{arrived, torn_write, left_of}
 use Rattle.corr_disk.proofs.Steps.{part_is_torn}
 
@@ -22,7 +22,7 @@ torn_write-torn torn at piece image = torn_if (nat_le at (length image)) (λ le.
     torn_if true le = part_is_torn at (length piece) (arrived torn piece) image (le refl) (length-arrived torn piece)
     torn_if false le = nothing_is_torn at (length piece) image
 
-pub left_is_image : (torn : ℕ) (first : List ℕ) (steps : List Step) → Image first steps (left_of torn first steps)
+pub left_is_image : (torn : ℕ) (first : List ℕ) (steps : List DiskStep) → Image first steps (left_of torn first steps)
 left_is_image torn first [] = refl
 left_is_image torn first (None ∷ earlier) = refl
 left_is_image torn first (Some write ∷ earlier) =

@@ -4,45 +4,45 @@ use Rattle.corr_disk.specs.Disk.{written, Torn}
 use Rattle.corr_disk.specs.declared.past.Write.{Write}
 
 -- a write of a piece at a place, or a sync
-abbrev pub Step : Type 0
-Step = Option (ℕ × List ℕ)
+abbrev pub DiskStep : Type 0
+DiskStep = Option (ℕ × List ℕ)
 
 -- the bytes that it began with, and the steps since, the newest first
 pub record History : Type 0 where
   pub first : List ℕ
-  pub steps : List Step
+  pub steps : List DiskStep
 
 -- what a read gives
-abbrev pub bytes_after : List ℕ → List Step → List ℕ
+abbrev pub bytes_after : List ℕ → List DiskStep → List ℕ
 bytes_after first [] = first
 bytes_after first (None ∷ earlier) = bytes_after first earlier
 bytes_after first (Some write ∷ earlier) = written write.0 write.1 (bytes_after first earlier)
 
 -- what a crash may leave: all that was written, or since the last sync each write torn
-abbrev pub Image : List ℕ → List Step → List ℕ → Type 0
+abbrev pub Image : List ℕ → List DiskStep → List ℕ → Type 0
 Image first [] c = c ≡ first
 Image first (None ∷ earlier) c = c ≡ bytes_after first earlier
 Image first (Some write ∷ earlier) c =
     (c ≡ bytes_after first (Some write ∷ earlier)) ⊎ ((d : List ℕ) × Image first earlier d × Torn write.0 (length write.1) d c)
 
 -- what a crash at some moment from that one on might have left; the moment is the number of steps
-abbrev pub LeftSince : List ℕ → List Step → ℕ → List ℕ → Type 0
+abbrev pub LeftSince : List ℕ → List DiskStep → ℕ → List ℕ → Type 0
 LeftSince first [] t c = c ≡ first
 LeftSince first (step ∷ earlier) t c = Image first (step ∷ earlier) c ⊎ ((t ≤ length earlier) × LeftSince first earlier t c)
 
 -- a sync is a new step, unless the newest step is one
-abbrev pub Settles : List Step → List Step → Type 0
-Settles old new = (new ≡ None ∷ old) ⊎ ((earlier : List Step) × (old ≡ None ∷ earlier) × (new ≡ old))
+abbrev pub Settles : List DiskStep → List DiskStep → Type 0
+Settles old new = (new ≡ None ∷ old) ⊎ ((earlier : List DiskStep) × (old ≡ None ∷ earlier) × (new ≡ old))
 
 -- a sync before, where there was one
-abbrev pub after_sync : Bool → List Step → List Step
+abbrev pub after_sync : Bool → List DiskStep → List DiskStep
 after_sync true steps = None ∷ steps
 after_sync false steps = steps
 
 -- the steps with this write as the newest
-abbrev pub noted : List Step → Write → List Step
+abbrev pub noted : List DiskStep → Write → List DiskStep
 noted steps write = Some (write.at, write.piece) ∷ after_sync write.after_sync steps
 
 -- the steps of these writes, the oldest first, and of a sync where there was one since
-abbrev pub steps_of : List Write → Bool → List Step
+abbrev pub steps_of : List Write → Bool → List DiskStep
 steps_of writes synced = after_sync synced (fold noted [] writes)

@@ -3,8 +3,7 @@
 ghost use Rattle.std.specs.Prelude.{◌≡◌, ◌≢◌, ◌≤◌, ◌++◌, IsTrue, IfSome, OnOk, OnErr, length, take, Some};
 ghost use Rattle.corr_ids.specs.Bic.{IsBic, bic_of, bic_text, branch_of, is_bic};
 
-use crate::form::{all_letters, all_of_c};
-use corr_text::{Memory, Text};
+use corr_text::{Memory, Set, Text, is_all_of};
 
 /// A bank identifier (BIC, ISO 9362): its first eight characters and its branch, `XXX` for the head office.
 #[derive(Clone, Copy, Debug, PartialEq, Eq)]
@@ -19,7 +18,7 @@ fn has_bic_form(b: &[u8]) -> bool
     ensures long { IsTrue result → 8 ≤ length b.now }
     ensures full { IsTrue result → length b.now ≢ 8 → length b.now ≡ 11 }
 {
-    (b.len() == 8 || b.len() == 11) && all_letters(&b[..6]) && all_of_c(&b[6..])
+    (b.len() == 8 || b.len() == 11) && is_all_of(Set::A, &b[..6]) && is_all_of(Set::C, &b[6..])
 }
 
 fn head(b: &[u8]) -> [u8; 8]

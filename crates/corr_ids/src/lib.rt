@@ -7,7 +7,6 @@ mod address;
 mod bic;
 mod day;
 mod envelope;
-mod form;
 mod mir;
 mod uetr;
 

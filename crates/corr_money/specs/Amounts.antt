@@ -14,6 +14,10 @@ use Rattle.corr_money.specs.declared.fault.AmountFault.TheVariants.{T40, T43, C0
 abbrev pub amount_end : ℕ
 amount_end = 100000000000000
 
+-- a currency has at most so many decimals
+abbrev pub most_decimals : ℕ
+most_decimals = 4
+
 -- the comma before the decimals
 abbrev pub is_comma : ℕ → Bool
 is_comma b = b == 44

@@ -4,7 +4,7 @@ ghost use Rattle.std.specs.Prelude.{◌≡◌, ◌==◌, ◌<◌, ◌≤◌, ◌
 ghost use Rattle.std.specs.List.{list_all, position};
 ghost use Rattle.std.specs.Char.{is_ascii_digit};
 ghost use Rattle.std.specs.Str.Parse.{digits_value, digits_value_after};
-ghost use Rattle.corr_money.specs.Amounts.{amount_end, amount_of, is_comma, is_comma_number};
+ghost use Rattle.corr_money.specs.Amounts.{amount_end, amount_of, is_comma, is_comma_number, most_decimals};
 
 use crate::amount::Minor;
 use crate::fault::AmountFault;
@@ -41,7 +41,7 @@ fn minor(whole: &[u8], written: &[u8], decimals: u8) -> u64
     requires written { IsTrue (list_all is_ascii_digit written.now) }
     requires short { length whole.now ≤ 15 }
     requires few { length written.now ≤ decimals }
-    requires most { decimals ≤ 4 }
+    requires most { decimals ≤ most_decimals }
     ensures { result ≡ digits_value 10 (whole.now ++ written.now ++ replicate (decimals - length written.now) 48) }
 {
     let missing = &b"0000"[..decimals as usize - written.len()];
@@ -67,7 +67,7 @@ pub fn is_comma_number(b: &[u8]) -> bool
 /// below 10^14 minor units.
 #[tactic(auto, unfolding(crate::specs::Amounts::amount_of, crate::specs::Amounts::is_comma_number, crate::specs::Amounts::minor_of))]
 pub fn read_15d(b: &[u8], decimals: u8) -> Result<Minor, AmountFault>
-    requires { decimals ≤ 4 }
+    requires { decimals ≤ most_decimals }
     ensures value { result ≡ amount_of decimals b.now }
     ensures bound { IfOk result (λ m. m.0 < amount_end) }
 {
@@ -85,9 +85,9 @@ pub fn read_15d(b: &[u8], decimals: u8) -> Result<Minor, AmountFault>
     if written.len() > decimals as usize {
         return Err(AmountFault::C03);
     }
-    let minor = minor(whole, written, decimals);
-    if minor >= END {
+    let amount = minor(whole, written, decimals);
+    if amount >= END {
         return Err(AmountFault::TooLarge);
     }
-    Ok(Minor(minor))
+    Ok(Minor(amount))
 }

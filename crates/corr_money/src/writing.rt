@@ -1,7 +1,7 @@
 //! Amounts that are written.
 
 ghost use Rattle.std.specs.Prelude.{◌≡◌, ◌++◌, ◌<◌, ◌≤◌, OnOk, OnErr, Ok};
-ghost use Rattle.corr_money.specs.Amounts.{amount_end, amount_of, amount_text, minor_of, signed_minor_of, signed_text};
+ghost use Rattle.corr_money.specs.Amounts.{amount_end, amount_of, amount_text, minor_of, signed_minor_of, signed_text, most_decimals};
 
 use crate::amount::Minor;
 use corr_text::{Decimal, Memory, Text};
@@ -10,7 +10,7 @@ use std::alloc::Global;
 /// Adds a sign and a number of minor units: its digits with a comma before the last `decimals` of them.
 #[tactic(auto, unfolding(crate::specs::Amounts::amount_text))]
 fn put_amount(sign: &[u8], n: u64, decimals: u8, out: &mut Text) -> Result<(), Memory>
-    requires { decimals ≤ 4 }
+    requires { decimals ≤ most_decimals }
     ensures ok { OnOk result (out.new ≡ out.old ++ sign.now ++ amount_text decimals n) }
     ensures err { OnErr result (out.new ≡ out.old) }
 {
@@ -25,7 +25,7 @@ fn put_amount(sign: &[u8], n: u64, decimals: u8, out: &mut Text) -> Result<(), M
 ///
 /// `Memory`: there was no room; then nothing was added.
 pub fn put_15d(_alloc: Global, m: Minor, decimals: u8, out: &mut Text) -> Result<(), Memory>
-    requires decimals { decimals ≤ 4 }
+    requires decimals { decimals ≤ most_decimals }
     requires bound { m.0 < amount_end }
     ensures ok { OnOk result (out.new ≡ out.old ++ amount_text decimals m.0) }
     ensures read_back { amount_of decimals (amount_text decimals m.0) ≡ Ok m }
@@ -39,7 +39,7 @@ pub fn put_15d(_alloc: Global, m: Minor, decimals: u8, out: &mut Text) -> Result
 /// `Memory`: there was no room; then nothing was added.
 #[tactic(auto, using(crate::proofs::laws::Written::printing), unfolding(crate::specs::Amounts::signed_text))]
 pub fn put_signed(_alloc: Global, v: i64, decimals: u8, out: &mut Text) -> Result<(), Memory>
-    requires { decimals ≤ 4 }
+    requires { decimals ≤ most_decimals }
     ensures ok { OnOk result (out.new ≡ out.old ++ signed_text decimals v) }
     ensures number { signed_minor_of decimals (signed_text decimals v) ≡ v }
     ensures err { OnErr result (out.new ≡ out.old) }
@@ -53,7 +53,7 @@ pub fn put_signed(_alloc: Global, v: i64, decimals: u8, out: &mut Text) -> Resul
 /// `Memory`: there was no room; then nothing was added.
 #[tactic(auto, using(crate::proofs::laws::Written::printing))]
 pub fn put_total(_alloc: Global, v: u64, decimals: u8, out: &mut Text) -> Result<(), Memory>
-    requires { decimals ≤ 4 }
+    requires { decimals ≤ most_decimals }
     ensures ok { OnOk result (out.new ≡ out.old ++ amount_text decimals v) }
     ensures number { minor_of decimals (amount_text decimals v) ≡ v }
     ensures err { OnErr result (out.new ≡ out.old) }

@@ -28,10 +28,14 @@ took-fault fault s all now rest took later =
 pub took-later : (old s : State) (piece taken rest : List ℕ) → piece ≡ taken ++ rest → s ≡ run old taken → run s rest ≡ run old piece
 took-later old s piece taken rest parts is = ap (λ t. run t rest) is ∙ sym (run-append old taken rest) ∙ ap (λ x. run old x) (sym parts)
 
-pub took-err : (fault : FrameFault) (old s now : State) (piece taken rest : List ℕ) → HasTaken (Err fault) s rest now → piece ≡ taken ++ rest → s ≡ run old taken → s.failed ≡ None → HasTakenAll (Err fault) old piece now
-took-err (Stray at) old s now piece taken rest took parts is sound = took-fault (Stray at) s (run old piece) now rest took (took-later old s piece taken rest parts is)
-took-err (TooLong at) old s now piece taken rest took parts is sound = took-fault (TooLong at) s (run old piece) now rest took (took-later old s piece taken rest parts is)
-took-err (Unbalanced at) old s now piece taken rest took parts is sound = took-fault (Unbalanced at) s (run old piece) now rest took (took-later old s piece taken rest parts is)
+pub took-err : (fault : FrameFault) (old s now : State) (piece taken rest : List ℕ) → HasTaken (Err fault) s rest now → piece ≡ taken ++ rest
+    → s ≡ run old taken → s.failed ≡ None → HasTakenAll (Err fault) old piece now
+took-err (Stray at) old s now piece taken rest took parts is sound =
+    took-fault (Stray at) s (run old piece) now rest took (took-later old s piece taken rest parts is)
+took-err (TooLong at) old s now piece taken rest took parts is sound =
+    took-fault (TooLong at) s (run old piece) now rest took (took-later old s piece taken rest parts is)
+took-err (Unbalanced at) old s now piece taken rest took parts is sound =
+    took-fault (Unbalanced at) s (run old piece) now rest took (took-later old s piece taken rest parts is)
 took-err Memory old s now piece taken rest took parts is sound = (
   taken,
   (rest, parts),
@@ -39,7 +43,8 @@ took-err Memory old s now piece taken rest took parts is sound = (
 )
 
 -- bytes taken before, and those that were taken now
-pub took-on : (old s now : State) (n : ℕ) (piece taken rest : List ℕ) → piece ≡ taken ++ rest → s ≡ run old taken → now ≡ run s (take n rest) → (piece ≡ (taken ++ take n rest) ++ drop n rest) × (now ≡ run old (taken ++ take n rest))
+pub took-on : (old s now : State) (n : ℕ) (piece taken rest : List ℕ) → piece ≡ taken ++ rest → s ≡ run old taken → now ≡ run s (take n rest)
+    → (piece ≡ (taken ++ take n rest) ++ drop n rest) × (now ≡ run old (taken ++ take n rest))
 took-on old s now n piece taken rest parts is took = (
   parts ∙ ap (λ x. taken ++ x) (sym (take-append-drop n rest)) ∙ sym (append_assoc taken (take n rest) (drop n rest)),
   took ∙ ap (λ t. run t (take n rest)) is ∙ sym (run-append old taken (take n rest)),
@@ -52,17 +57,21 @@ with_given given s = record s { given = given }
 shifted : (c : Cutter) (out : List (List ℕ)) (piece : List ℕ) → run (state_of c out) piece ≡ after out (run (state_of c []) piece)
 shifted c out piece = ap (λ g. run (state_of c g) piece) (sym (append-nil out)) ∙ run-after out (state_of c []) piece
 
-further : (c : Cutter) (fed piece : List ℕ) (given : List (List ℕ)) → WasFed c fed given → c.failed ≡ None → run (at_start []) (fed ++ piece) ≡ after given (run (state_of c []) piece)
-further c fed piece given was sound = run-append (at_start []) fed piece ∙ ap (λ t. run t piece) (sym (stands-so c fed given was sound)) ∙ shifted c given piece
+further : (c : Cutter) (fed piece : List ℕ) (given : List (List ℕ)) → WasFed c fed given → c.failed ≡ None
+    → run (at_start []) (fed ++ piece) ≡ after given (run (state_of c []) piece)
+further c fed piece given was sound =
+    run-append (at_start []) fed piece ∙ ap (λ t. run t piece) (sym (stands-so c fed given was sound)) ∙ shifted c given piece
 
 abbrev Fed : List (List ℕ) → List (List ℕ) → Cutter → List ℕ → List (List ℕ) → Type 0
 Fed out out' c fed given = (gained : List (List ℕ)) × (out' ≡ out ++ gained) × WasFed c fed (given ++ gained)
 
-pub fed-ok : (c c' : Cutter) (out out' : List (List ℕ)) (fed : List ℕ) (given : List (List ℕ)) (piece : List ℕ) → WasFed c fed given → c.failed ≡ None → c'.failed ≡ None → state_of c' out' ≡ run (state_of c out) piece → Fed out out' c' (fed ++ piece) given
+pub fed-ok : (c c' : Cutter) (out out' : List (List ℕ)) (fed : List ℕ) (given : List (List ℕ)) (piece : List ℕ) → WasFed c fed given → c.failed ≡ None
+    → c'.failed ≡ None → state_of c' out' ≡ run (state_of c out) piece → Fed out out' c' (fed ++ piece) given
 fed-ok c c' out out' fed given piece was sound sound' same =
     let r = run (state_of c []) piece in
     let there : state_of c' out' ≡ after out r = same ∙ shifted c out piece in
-    let moved : state_of c' (given ++ r.given) ≡ run (at_start []) (fed ++ piece) = ap (with_given (given ++ r.given)) there ∙ sym (further c fed piece given was sound) in
+    let moved : state_of c' (given ++ r.given) ≡ run (at_start []) (fed ++ piece) =
+    ap (with_given (given ++ r.given)) there ∙ sym (further c fed piece given was sound) in
     let counted : c'.fed ≡ length (fed ++ piece) =
     (let ran : (run (state_of c out) piece).fed ≡ c.fed + length piece = run-fed (state_of c out) piece (sym (ap (λ t. t.failed) same) ∙ sound') in
     let before : c.fed ≡ length fed = was.count sound in
@@ -70,11 +79,15 @@ fed-ok c c' out out' fed given piece was sound sound' same =
     omega (arith, length-append fed piece)) in (
       r.given,
       ap (λ t. t.given) there,
-      was-fed c' (fed ++ piece) (given ++ r.given) (λ e. counted) (subst (λ o. IsAfter o (state_of c' (given ++ r.given)) (fed ++ piece)) (sym sound') moved),
+      was-fed c' (fed ++ piece) (given ++ r.given) (λ e. counted)
+          (subst (λ o. IsAfter o (state_of c' (given ++ r.given)) (fed ++ piece)) (sym sound') moved),
     )
 
 -- a fault that the bytes show: the messages up to it are given
-fed-fault : (fault : FrameFault) (c c' d : Cutter) (out out' : List (List ℕ)) (fed : List ℕ) (given : List (List ℕ)) (piece : List ℕ) → WasFed c fed given → c.failed ≡ None → ((x : List (List ℕ)) → state_of d x ≡ fails fault (state_of c' x)) → run (state_of c out) piece ≡ fails fault (state_of c' out') → (out' ≡ out ++ (run (state_of c []) piece).given) × (state_of d (given ++ (run (state_of c []) piece).given) ≡ run (at_start []) (fed ++ piece))
+fed-fault : (fault : FrameFault) (c c' d : Cutter) (out out' : List (List ℕ)) (fed : List ℕ) (given : List (List ℕ)) (piece : List ℕ)
+    → WasFed c fed given → c.failed ≡ None → ((x : List (List ℕ)) → state_of d x ≡ fails fault (state_of c' x))
+    → run (state_of c out) piece ≡ fails fault (state_of c' out')
+    → (out' ≡ out ++ (run (state_of c []) piece).given) × (state_of d (given ++ (run (state_of c []) piece).given) ≡ run (at_start []) (fed ++ piece))
 fed-fault fault c c' d out out' fed given piece was sound stored took =
     let r = run (state_of c []) piece in
     let there : fails fault (state_of c' out') ≡ after out r = sym took ∙ shifted c out piece in
@@ -83,22 +96,28 @@ fed-fault fault c c' d out out' fed given piece was sound stored took =
 counts-none : (fault : FrameFault) (d : Cutter) (n : ℕ) → d.failed ≡ Some fault → d.failed ≡ None → d.fed ≡ n
 counts-none fault d n failed sound = absurd (let e : Some fault ≡ None = sym failed ∙ sound in cc)
 
-pub fed-err : (fault : FrameFault) (c c' d : Cutter) (out out' : List (List ℕ)) (fed : List ℕ) (given : List (List ℕ)) (piece : List ℕ) → WasFed c fed given → c.failed ≡ None → ((x : List (List ℕ)) → state_of d x ≡ fails fault (state_of c' x)) → HasTakenAll (Err fault) (state_of c out) piece (state_of c' out') → Fed out out' d (fed ++ piece) given
+-- a fault that the bytes show: all of them were taken
+fed-shown : (fault : FrameFault) (c c' d : Cutter) (out out' : List (List ℕ)) (fed : List ℕ) (given : List (List ℕ)) (piece : List ℕ)
+    → WasFed c fed given → c.failed ≡ None → ((x : List (List ℕ)) → state_of d x ≡ fails fault (state_of c' x))
+    → run (state_of c out) piece ≡ fails fault (state_of c' out')
+    → ((s : State) (bytes : List ℕ) → s ≡ run (at_start []) bytes → IsAfter (Some fault) s bytes) → Fed out out' d (fed ++ piece) given
+fed-shown fault c c' d out out' fed given piece was sound stored took is_after =
+    let both = fed-fault fault c c' d out out' fed given piece was sound stored took in
+    let failed : d.failed ≡ Some fault = ap (λ t. t.failed) (stored []) in
+    let gained = (run (state_of c []) piece).given in
+    let s = state_of d (given ++ gained) in
+    let after_all : IsAfter d.failed s (fed ++ piece) = subst (λ o. IsAfter o s (fed ++ piece)) (sym failed) (is_after s (fed ++ piece) both.1) in
+    (gained, both.0, was-fed d (fed ++ piece) (given ++ gained) (counts-none fault d (length (fed ++ piece)) failed) after_all)
+
+pub fed-err : (fault : FrameFault) (c c' d : Cutter) (out out' : List (List ℕ)) (fed : List ℕ) (given : List (List ℕ)) (piece : List ℕ)
+    → WasFed c fed given → c.failed ≡ None → ((x : List (List ℕ)) → state_of d x ≡ fails fault (state_of c' x))
+    → HasTakenAll (Err fault) (state_of c out) piece (state_of c' out') → Fed out out' d (fed ++ piece) given
 fed-err (Stray at) c c' d out out' fed given piece was sound stored took =
-    let both = fed-fault (Stray at) c c' d out out' fed given piece was sound stored took in
-    let failed : d.failed ≡ Some (Stray at) = ap (λ t. t.failed) (stored []) in
-    let gained = (run (state_of c []) piece).given in
-    (gained, both.0, was-fed d (fed ++ piece) (given ++ gained) (counts-none (Stray at) d (length (fed ++ piece)) failed) (subst (λ o. IsAfter o (state_of d (given ++ gained)) (fed ++ piece)) (sym failed) both.1))
+    fed-shown (Stray at) c c' d out out' fed given piece was sound stored took (λ s bytes e. e)
 fed-err (TooLong at) c c' d out out' fed given piece was sound stored took =
-    let both = fed-fault (TooLong at) c c' d out out' fed given piece was sound stored took in
-    let failed : d.failed ≡ Some (TooLong at) = ap (λ t. t.failed) (stored []) in
-    let gained = (run (state_of c []) piece).given in
-    (gained, both.0, was-fed d (fed ++ piece) (given ++ gained) (counts-none (TooLong at) d (length (fed ++ piece)) failed) (subst (λ o. IsAfter o (state_of d (given ++ gained)) (fed ++ piece)) (sym failed) both.1))
+    fed-shown (TooLong at) c c' d out out' fed given piece was sound stored took (λ s bytes e. e)
 fed-err (Unbalanced at) c c' d out out' fed given piece was sound stored took =
-    let both = fed-fault (Unbalanced at) c c' d out out' fed given piece was sound stored took in
-    let failed : d.failed ≡ Some (Unbalanced at) = ap (λ t. t.failed) (stored []) in
-    let gained = (run (state_of c []) piece).given in
-    (gained, both.0, was-fed d (fed ++ piece) (given ++ gained) (counts-none (Unbalanced at) d (length (fed ++ piece)) failed) (subst (λ o. IsAfter o (state_of d (given ++ gained)) (fed ++ piece)) (sym failed) both.1))
+    fed-shown (Unbalanced at) c c' d out out' fed given piece was sound stored took (λ s bytes e. e)
 fed-err Memory c c' d out out' fed given piece was sound stored took =
     let front = took.0 in
     let begins = took.1 in
@@ -112,11 +131,16 @@ fed-err Memory c c' d out out' fed given piece was sound stored took =
       given = sym (ap (λ t. t.given) ahead);
       begun = ap (λ t. t.begun) (stored []) ∙ come.begun ∙ ap (λ t. t.begun) beside ∙ sym (ap (λ t. t.begun) ahead);
     } in
-    let all : Begins (fed ++ front) (fed ++ piece) = (begins.0, ap (λ x. fed ++ x) begins.1 ∙ sym (append_assoc fed front begins.0)) in
-    (r.given, come.given ∙ ap (λ t. t.given) beside, was-fed d (fed ++ piece) (given ++ r.given) (counts-none Memory d (length (fed ++ piece)) failed) (subst (λ o. IsAfter o (state_of d (given ++ r.given)) (fed ++ piece)) (sym failed) (fed ++ front, all, there)))
+    let all : Begins (fed ++ front) (fed ++ piece) = (begins.0, ap (λ x. fed ++ x) begins.1 ∙ sym (append_assoc fed front begins.0)) in (
+      r.given,
+      come.given ∙ ap (λ t. t.given) beside,
+      was-fed d (fed ++ piece) (given ++ r.given) (counts-none Memory d (length (fed ++ piece)) failed)
+          (subst (λ o. IsAfter o (state_of d (given ++ r.given)) (fed ++ piece)) (sym failed) (fed ++ front, all, there)),
+    )
 
 -- after a fault nothing more is known
-pub fed-again : (fault : FrameFault) (c : Cutter) (out : List (List ℕ)) (fed : List ℕ) (given : List (List ℕ)) (piece : List ℕ) → WasFed c fed given → c.failed ≡ Some fault → Fed out out c (fed ++ piece) given
+pub fed-again : (fault : FrameFault) (c : Cutter) (out : List (List ℕ)) (fed : List ℕ) (given : List (List ℕ)) (piece : List ℕ) → WasFed c fed given
+    → c.failed ≡ Some fault → Fed out out c (fed ++ piece) given
 fed-again fault c out fed given piece was failed =
     let before : Knows (Some fault) fed given c.begun = subst (λ o. Knows o fed given c.begun) failed was.knows in
     let kept : WasFed c (fed ++ piece) given = record {

@@ -15,7 +15,8 @@ left_open-more zero (x ∷ xs) b e is some = cc
 left_open-more (suc d) (x ∷ xs) b e is some = left_open-more (depth_after (suc d) x) xs b e is some
 
 -- the same over the front of a slice
-pub left_open-take : (d : ℕ) (xs : List ℕ) (i e : ℕ) → i < length xs → left_open d (take i xs) ≡ Some e → 0 < e → left_open d (take (i + 1) xs) ≡ Some (depth_after e (get_or xs i 0))
+pub left_open-take : (d : ℕ) (xs : List ℕ) (i e : ℕ) → i < length xs → left_open d (take i xs) ≡ Some e → 0 < e
+    → left_open d (take (i + 1) xs) ≡ Some (depth_after e (get_or xs i 0))
 left_open-take d xs i e lt is some = rw (take_more xs i 0 lt) (left_open-more d (take i xs) (get_or xs i 0) e is some)
 
 pub depth_after-le : (d b : ℕ) → depth_after d b ≤ d + 1
@@ -37,7 +38,8 @@ left_open-others d xs i (suc n) e le is some others =
     let before = left_open-others d xs i n e (omega (arith, le)) is some (λ k low high. others k low (omega (arith, high))) in
     let same : (i + n) + 1 ≡ i + suc n = omega arith in
     subst (λ k. left_open d (take k xs) ≡ Some e) same
-    (left_open-take d xs (i + n) e (omega (arith, le)) before some ∙ ap Some (depth_after-other e (get_or xs (i + n) 0) (others (i + n) (omega arith) (omega arith))))
+    (left_open-take d xs (i + n) e (omega (arith, le)) before some
+    ∙ ap Some (depth_after-other e (get_or xs (i + n) 0) (others (i + n) (omega arith) (omega arith))))
 
 -- the front up to the next brace
 pub left_open-to : (d : ℕ) (xs : List ℕ) (i j e : ℕ) → left_open d (take i xs) ≡ Some e → 0 < e → i ≤ j → j ≤ length xs

@@ -29,27 +29,32 @@ comes-by : (stage : Stage) (held : Option (List ℕ)) (given : List (List ℕ)) 
 comes-by stage held given s t same there = subst (λ x. Comes stage held given x) (sym same) there
 
 -- behind a gap that stands apart
-gap-so : {n : ℕ} {messages : List (List ℕ)} {gap : List ℕ} {s : State} → Rests n messages gap s → stands_apart messages gap ≡ true → s ≡ at_gap n messages (is_marked messages gap)
+gap-so : {n : ℕ} {messages : List (List ℕ)} {gap : List ℕ} {s : State} → Rests n messages gap s → stands_apart messages gap ≡ true
+    → s ≡ at_gap n messages (is_marked messages gap)
 gap-so (rests_apart n messages gap far) apart = refl
 gap-so (rests_behind n from messages message) apart =
     absurd (let e : false ≡ true = sym (ap (λ x. x || false) (no-more-joined messages message)) ∙ apart in cc)
 
 -- behind one or two bytes of a `{1:` that stands apart
-opens : (k n : ℕ) (messages : List (List ℕ)) (marked : Bool) → k ≤ 1 → Comes (Opening (suc k)) None messages (run (at_gap n messages marked) (take (suc k) lead))
+opens : (k n : ℕ) (messages : List (List ℕ)) (marked : Bool) → k ≤ 1
+    → Comes (Opening (suc k)) None messages (run (at_gap n messages marked) (take (suc k) lead))
 opens zero n messages marked le = record { at = refl; open_is = refl; gave = refl; sound = refl }
 opens (suc zero) n messages marked le = record { at = refl; open_is = refl; gave = refl; sound = refl }
 opens (suc (suc k)) n messages marked le = absurd (omega arith)
 
 -- behind a whole message and up to two bytes of `{1:`
-follows : (k from n : ℕ) (message : List ℕ) (messages : List (List ℕ)) → k ≤ 2 → Comes (Behind from k) (Some message) messages (run (in_message from 0 message messages n) (take k lead))
+follows : (k from n : ℕ) (message : List ℕ) (messages : List (List ℕ)) → k ≤ 2
+    → Comes (Behind from k) (Some message) messages (run (in_message from 0 message messages n) (take k lead))
 follows zero from n message messages le = record { at = refl; open_is = refl; gave = refl; sound = refl }
 follows (suc zero) from n message messages le = record { at = refl; open_is = refl; gave = refl; sound = refl }
 follows (suc (suc zero)) from n message messages le = record { at = refl; open_is = refl; gave = refl; sound = refl }
 follows (suc (suc (suc k))) from n message messages le = absurd (omega arith)
 
-leaves-come : {bytes : List ℕ} {given : List (List ℕ)} {stage : Stage} {held : Option (List ℕ)} → LeavesOff bytes given stage held → Comes stage held given (run (at_start []) bytes)
+leaves-come : {bytes : List ℕ} {given : List (List ℕ)} {stage : Stage} {held : Option (List ℕ)} → LeavesOff bytes given stage held
+    → Comes stage held given (run (at_start []) bytes)
 leaves-come (leaves_between file gap given front far) =
-    comes-by (Between (is_marked given gap)) None given (run (at_start []) file) (at_gap (length file) given (is_marked given gap)) (gap-so (file-run front) far)
+    comes-by (Between (is_marked given gap)) None given (run (at_start []) file) (at_gap (length file) given (is_marked given gap))
+    (gap-so (file-run front) far)
     (record { at = refl; open_is = refl; gave = refl; sound = refl })
 leaves-come (leaves_opening file gap given n front far le) =
     let s = at_gap (length file) given (is_marked given gap) in
@@ -64,7 +69,8 @@ leaves-come (leaves_inside file gap message given d front inside fits) =
 leaves-come (leaves_behind file gap message given n front closed le) =
     let s = in_message (length file) 0 message given (length file + length message) in
     comes-by (Behind (length file) n) (Some message) given (run (at_start []) (file ++ message ++ take n lead)) (run s (take n lead))
-    (run-append (at_start []) (file ++ message) (take n lead) ∙ ap (λ t. run t (take n lead)) (run-append (at_start []) file message ∙ message-run closed.0 (file-run front) closed.1))
+    (run-append (at_start []) (file ++ message) (take n lead)
+    ∙ ap (λ t. run t (take n lead)) (run-append (at_start []) file message ∙ message-run closed.0 (file-run front) closed.1))
     (follows n (length file) (length file + length message) message given le)
 
 -- ---- what bytes show is one
@@ -105,11 +111,14 @@ stands-so c fed given was sound =
     let counted : s.fed ≡ 0 + length fed = run-fed (at_start []) fed there.sound in
     let count : c.fed ≡ length fed = was.count sound in
     let fed_same : c.fed ≡ s.fed = omega arith in
-    state-same (state_of c given) s (sym there.at) (sym there.open_is) fed_same (begun-same fed c.begun s.begun known.2 (have-begun fed)) (sound ∙ sym there.sound) (sym there.gave)
+    state-same (state_of c given) s (sym there.at) (sym there.open_is) fed_same (begun-same fed c.begun s.begun known.2 (have-begun fed))
+    (sound ∙ sym there.sound) (sym there.gave)
 
 -- ---- after a fault
 
-still-shown : (fault : FrameFault) (fed piece : List ℕ) (given : List (List ℕ)) (begun : ℕ) → IsShown fault fed given × AreWhole fed given × HaveBegun fed begun → IsShown fault (fed ++ piece) given × AreWhole (fed ++ piece) given × HaveBegun (fed ++ piece) begun
+still-shown : (fault : FrameFault) (fed piece : List ℕ) (given : List (List ℕ)) (begun : ℕ)
+    → IsShown fault fed given × AreWhole fed given × HaveBegun fed begun
+    → IsShown fault (fed ++ piece) given × AreWhole (fed ++ piece) given × HaveBegun (fed ++ piece) begun
 still-shown fault fed piece given begun known =
     let s = run (at_start []) fed in
     let failed : s.failed ≡ Some fault = shown-comes known.0.shown in
@@ -117,10 +126,12 @@ still-shown fault fed piece given begun known =
     let gave : s.given ≡ given = whole-same fed s.given given (are-whole fed) known.1 in
     let count : s.begun ≡ begun = begun-same fed s.begun begun (have-begun fed) known.2 in
     subst (λ n. IsShown fault (fed ++ piece) given × AreWhole (fed ++ piece) given × HaveBegun (fed ++ piece) n) count
-    (subst (λ g. IsShown fault (fed ++ piece) g × AreWhole (fed ++ piece) g × HaveBegun (fed ++ piece) s.begun) gave (knows-fault (fed ++ piece) s fault failed same))
+    (subst (λ g. IsShown fault (fed ++ piece) g × AreWhole (fed ++ piece) g × HaveBegun (fed ++ piece) s.begun) gave
+    (knows-fault (fed ++ piece) s fault failed same))
 
 -- what is known at a fault stays so, whatever is fed
-pub knows-again : (fault : FrameFault) (fed piece : List ℕ) (given : List (List ℕ)) (begun : ℕ) → Knows (Some fault) fed given begun → Knows (Some fault) (fed ++ piece) given begun
+pub knows-again : (fault : FrameFault) (fed piece : List ℕ) (given : List (List ℕ)) (begun : ℕ) → Knows (Some fault) fed given begun
+    → Knows (Some fault) (fed ++ piece) given begun
 knows-again (Stray at) fed piece given begun known = still-shown (Stray at) fed piece given begun known
 knows-again (TooLong at) fed piece given begun known = still-shown (TooLong at) fed piece given begun known
 knows-again (Unbalanced at) fed piece given begun known = still-shown (Unbalanced at) fed piece given begun known

@@ -51,7 +51,9 @@ goes-grows : (s : State) (from d b : ℕ) → Goes s (grows from d (b ∷ []) s)
 goes-grows s from d b = record { fed = inl refl; begun = omega arith; given = begins-self s.given }
 
 goes-within : (s : State) (from d b : ℕ) → Goes s (within from d s b)
-goes-within s from d b = choose (Goes s) (nat_le most_bytes (length (held_bytes s))) (fails (TooLong from) s) (grows from (depth_after d b) (b ∷ []) s) (goes-fails s _) (goes-grows s from _ b)
+goes-within s from d b =
+    choose (Goes s) (nat_le most_bytes (length (held_bytes s))) (fails (TooLong from) s) (grows from (depth_after d b) (b ∷ []) s) (goes-fails s _)
+    (goes-grows s from _ b)
 
 goes-resumes : (s : State) (from matched b : ℕ) → Goes s (within from 1 (resumes from matched s) b)
 goes-resumes s from matched b =
@@ -72,7 +74,8 @@ goes-at (Opening matched) s b =
     (choose (Goes s) (matched == 2) (begins s) (to (Opening (matched + 1)) s) (goes-begins s) (goes-to s _)) (goes-fails s _)
 goes-at (Within from d) s b = goes-within s from d b
 goes-at (Behind from matched) s b =
-    choose (Goes s) (b == get_or lead matched 0) (cond (matched == 2) (begins s) (to (Behind from (matched + 1)) s)) (cond (matched == 0) (next_close s b) (within from 1 (resumes from matched s) b))
+    choose (Goes s) (b == get_or lead matched 0) (cond (matched == 2) (begins s) (to (Behind from (matched + 1)) s))
+    (cond (matched == 0) (next_close s b) (within from 1 (resumes from matched s) b))
     (choose (Goes s) (matched == 2) (begins s) (to (Behind from (matched + 1)) s) (goes-begins s) (goes-to s _))
     (choose (Goes s) (matched == 0) (next_close s b) (within from 1 (resumes from matched s) b) (goes-close s b) (goes-resumes s from matched b))
 
@@ -96,9 +99,11 @@ pub run-fed : (s : State) (xs : List ℕ) → (run s xs).failed ≡ None → (ru
 run-fed s [] sound = omega arith
 run-fed s (x ∷ xs) sound = counted (next-goes s x).fed (run-fed (next s x) xs sound)
   where
-    counted : ((next s x).fed ≡ s.fed + 1) ⊎ ((fault : FrameFault) × ((next s x).failed ≡ Some fault)) → (run (next s x) xs).fed ≡ (next s x).fed + length xs → (run (next s x) xs).fed ≡ s.fed + length (x ∷ xs)
+    counted : ((next s x).fed ≡ s.fed + 1) ⊎ ((fault : FrameFault) × ((next s x).failed ≡ Some fault))
+        → (run (next s x) xs).fed ≡ (next s x).fed + length xs → (run (next s x) xs).fed ≡ s.fed + length (x ∷ xs)
     counted (inl one) rest = omega arith
-    counted (inr failed) rest = let still : run (next s x) xs ≡ next s x = run-failed (next s x) failed.0 xs failed.1 in cc (ap (λ t. t.failed) still, failed.1, sound)
+    counted (inr failed) rest =
+        let still : run (next s x) xs ≡ next s x = run-failed (next s x) failed.0 xs failed.1 in cc (ap (λ t. t.failed) still, failed.1, sound)
 
 -- Messages that were given before don't matter.
 abbrev pub after : List (List ℕ) → State → State
@@ -120,13 +125,16 @@ after-moves front s None = refl
 after-moves front s (Some stage) = refl
 
 after-close : (front : List (List ℕ)) (s : State) (b : ℕ) → next_close (after front s) b ≡ after front (next_close s b)
-after-close front s b = after-choice front (is_gap_byte b) (to (Between (b == 36)) (gives s)) (fails (Stray s.fed) s) _ _ (given-is (to (Between (b == 36)) (gives s)) _ _ (with_open-after front s.given s.held)) refl
+after-close front s b =
+    after-choice front (is_gap_byte b) (to (Between (b == 36)) (gives s)) (fails (Stray s.fed) s) _ _
+    (given-is (to (Between (b == 36)) (gives s)) _ _ (with_open-after front s.given s.held)) refl
 
 after-begins : (front : List (List ℕ)) (s : State) → begins (after front s) ≡ after front (begins s)
 after-begins front s = given-is (begins s) _ _ (with_open-after front s.given s.held)
 
 after-within : (front : List (List ℕ)) (s : State) (from d b : ℕ) → within from d (after front s) b ≡ after front (within from d s b)
-after-within front s from d b = after-choice front (nat_le most_bytes (length (held_bytes s))) (fails (TooLong from) s) (grows from (depth_after d b) (b ∷ []) s) _ _ refl refl
+after-within front s from d b =
+    after-choice front (nat_le most_bytes (length (held_bytes s))) (fails (TooLong from) s) (grows from (depth_after d b) (b ∷ []) s) _ _ refl refl
 
 after-at : (front : List (List ℕ)) (stage : Stage) (s : State) (b : ℕ) → next_at stage (after front s) b ≡ after front (next_at stage s b)
 after-at front (Between marked) s b = after-moves front s (stage_between marked b)
@@ -135,9 +143,11 @@ after-at front (Opening matched) s b =
     (after-choice front (matched == 2) (begins s) (to (Opening (matched + 1)) s) _ _ (after-begins front s) refl) refl
 after-at front (Within from d) s b = after-within front s from d b
 after-at front (Behind from matched) s b =
-    after-choice front (b == get_or lead matched 0) (cond (matched == 2) (begins s) (to (Behind from (matched + 1)) s)) (cond (matched == 0) (next_close s b) (within from 1 (resumes from matched s) b)) _ _
+    after-choice front (b == get_or lead matched 0) (cond (matched == 2) (begins s) (to (Behind from (matched + 1)) s))
+    (cond (matched == 0) (next_close s b) (within from 1 (resumes from matched s) b)) _ _
     (after-choice front (matched == 2) (begins s) (to (Behind from (matched + 1)) s) _ _ (after-begins front s) refl)
-    (after-choice front (matched == 0) (next_close s b) (within from 1 (resumes from matched s) b) _ _ (after-close front s b) (after-within front (resumes from matched s) from 1 b))
+    (after-choice front (matched == 0) (next_close s b) (within from 1 (resumes from matched s) b) _ _ (after-close front s b)
+    (after-within front (resumes from matched s) from 1 b))
 
 after-next : (front : List (List ℕ)) (s : State) (b : ℕ) → next (after front s) b ≡ after front (next s b)
 after-next front s b = after-choice front (is_some s.failed) s (next_at s.stage s b) _ _ refl (after-at front s.stage s b)

@@ -11,7 +11,7 @@ use Rattle.fin_frame.specs.Shown.Shows.{stray as shows_stray, long as shows_long
 use Rattle.fin_frame.specs.Shown.EndsWithin.{inside as ends_inside, behind as ends_behind, apart as ends_apart}
 use Rattle.fin_frame.specs.Shown.HasBegun.{begun as has_begun}
 use Rattle.fin_frame.specs.Machine.{State, at_start, run, stage_between}
-use Rattle.fin_frame.specs.Whole.{is_led, has_group, goes_on, IsOpenGroup, CutsNoFile}
+use Rattle.fin_frame.specs.Whole.{is_led, has_group, gap_goes_on, IsOpenGroup, CutsNoFile}
 use Rattle.fin_frame.specs.declared.fault.FrameFault.{FrameFault}
 use Rattle.fin_frame.specs.declared.fault.FrameFault.TheVariants.{TooLong}
 use Rattle.fin_frame.specs.declared.stage.Stage.TheVariants.{Between}
@@ -39,7 +39,8 @@ gap-on marked m n b gap so stage = by-brace (eqb_tells b 123)
     both : dollars (gap ++ b ∷ []) ≡ dollars gap + dollars (b ∷ [])
     both = dollars-append gap (b ∷ [])
 
-    by-mark : (m : Bool) → m ≡ (marked || nat_lt 0 (dollars gap)) → stage_between m 36 ≡ Some (Between n) → b ≡ 36 → (b == 36) ≡ true → EndsGap marked n (gap ++ b ∷ [])
+    by-mark : (m : Bool) → m ≡ (marked || nat_lt 0 (dollars gap)) → stage_between m 36 ≡ Some (Between n) → b ≡ 36 → (b == 36) ≡ true
+        → EndsGap marked n (gap ++ b ∷ [])
     by-mark true marks stage same is = cc
     by-mark false marks stage same is =
         let parts = or-none marked (nat_lt 0 (dollars gap)) (sym marks) in
@@ -81,8 +82,8 @@ is-false true never = absurd (never refl)
 is-false false never = refl
 
 -- a byte that no gap goes on by
-pub gap-stops : (m : Bool) (b : ℕ) (bytes : List ℕ) → ((n : Bool) → stage_between m b ≡ Some (Between n) → ⊥) → goes_on m (b ∷ bytes) ≡ false
-gap-stops m b bytes never = is-false (goes_on m (b ∷ bytes)) (λ on. by-byte (or-parts (is_blank b) (b == 36 && not m) on))
+pub gap-stops : (m : Bool) (b : ℕ) (bytes : List ℕ) → ((n : Bool) → stage_between m b ≡ Some (Between n) → ⊥) → gap_goes_on m (b ∷ bytes) ≡ false
+gap-stops m b bytes never = is-false (gap_goes_on m (b ∷ bytes)) (λ on. by-byte (or-parts (is_blank b) (b == 36 && not m) on))
   where
     by-byte : (is_blank b ≡ true) ⊎ ((b == 36 && not m) ≡ true) → ⊥
     by-byte (inl blank) = never m (blank-stage b m blank)
@@ -94,7 +95,8 @@ gap-stops m b bytes never = is-false (goes_on m (b ∷ bytes)) (λ on. by-byte (
 
 -- what has no cut
 
-no-cut-shown : {bytes : List ℕ} {messages : List (List ℕ)} {fault : FrameFault} (others : List (List ℕ)) → Shows bytes messages fault → IsCutInto bytes others → ⊥
+no-cut-shown : {bytes : List ℕ} {messages : List (List ℕ)} {fault : FrameFault} (others : List (List ℕ)) → Shows bytes messages fault
+    → IsCutInto bytes others → ⊥
 no-cut-shown {bytes} {messages} {fault} others shown cut = let e : Some fault ≡ None = sym (shown-comes shown) ∙ (cut-comes cut).sound in cc
 
 no-cut-ends : {bytes : List ℕ} {at : ℕ} (others : List (List ℕ)) → EndsWithin bytes at → IsCutInto bytes others → ⊥
@@ -105,7 +107,8 @@ no-cut-ends {bytes} {at} others ends cut =
 -- a message that is too long
 pub long-message : {d : ℕ} (message rest : List ℕ) → IsMessageTo d message → most_bytes < length message → CutsNoFile (message ++ rest)
 long-message message rest is over = λ file gap messages others front cut.
-    no-cut-shown others (subst (λ x. Shows x messages (TooLong (length file))) (append_assoc file message rest) (shows_long file message rest front is over)) cut
+    no-cut-shown others
+    (subst (λ x. Shows x messages (TooLong (length file))) (append_assoc file message rest) (shows_long file message rest front is over)) cut
 
 -- a message that doesn't end
 open-message : {d : ℕ} (message rest : List ℕ) → IsMessageTo (suc d) message → (rest ≡ []) ⊎ (most_bytes < length message) → CutsNoFile (message ++ rest)
@@ -117,12 +120,15 @@ open-message message rest is (inr over) = long-message message rest is over
 -- a front of `{1:` at the end, directly after a message
 behind-message : (n : ℕ) (message : List ℕ) → IsMessage message → n ≤ 1 → CutsNoFile (message ++ take (suc n) lead)
 behind-message n message is le = λ file gap messages others front cut.
-    no-cut-ends others (subst (λ x. EndsWithin x (length file)) (append_assoc file message (take (suc n) lead)) (ends_behind n file message front is le)) cut
+    no-cut-ends others
+    (subst (λ x. EndsWithin x (length file)) (append_assoc file message (take (suc n) lead)) (ends_behind n file message front is le)) cut
 
 -- a group
 
 -- one that is open after as many bytes as a message may have, or at the end
-pub open-group : (bytes inside : List ℕ) (reach len left : ℕ) → 0 < length bytes → get_or bytes 0 0 ≡ 123 → 0 < reach → inside ≡ drop 1 (take reach bytes) → left_open 1 (take len inside) ≡ Some left → 0 < left → (left ≡ 0) ⊎ (len ≡ length inside) → reach ≤ length bytes → (reach < length bytes → most_bytes < reach) → IsOpenGroup bytes
+pub open-group : (bytes inside : List ℕ) (reach len left : ℕ) → 0 < length bytes → get_or bytes 0 0 ≡ 123 → 0 < reach
+    → inside ≡ drop 1 (take reach bytes) → left_open 1 (take len inside) ≡ Some left → 0 < left → (left ≡ 0) ⊎ (len ≡ length inside) → reach ≤ length bytes
+    → (reach < length bytes → most_bytes < reach) → IsOpenGroup bytes
 open-group [] inside reach len left some begun deep is opens more ends fits far = absurd (omega arith)
 open-group (b ∷ bytes) inside zero len left some begun deep is opens more ends fits far = absurd (omega arith)
 open-group (b ∷ bytes) inside (suc reach) len zero some begun deep is opens more ends fits far = absurd (omega arith)
@@ -139,7 +145,8 @@ open-group (b ∷ bytes) inside (suc reach) len (suc left) some begun deep is op
     all-of (inl none) = absurd (omega arith)
     all-of (inr all) = omega arith
 
-    by-size : ((nat_le (length bytes) reach ≡ true) × (length bytes ≤ reach)) ⊎ ((nat_le (length bytes) reach ≡ false) × (reach < length bytes)) → (drop reach bytes ≡ []) ⊎ (most_bytes < length (b ∷ inside))
+    by-size : ((nat_le (length bytes) reach ≡ true) × (length bytes ≤ reach)) ⊎ ((nat_le (length bytes) reach ≡ false) × (reach < length bytes))
+        → (drop reach bytes ≡ []) ⊎ (most_bytes < length (b ∷ inside))
     by-size (inl all) = inl (drop_all reach bytes all.1)
     by-size (inr cut) =
         let size : length inside ≡ reach = ap length is ∙ length-take-le reach bytes (omega (arith, cut.1)) in
@@ -175,7 +182,8 @@ pub first-open : (bytes : List ℕ) → is_led bytes ≡ true → IsOpenGroup by
 first-open bytes led o =
     let parts = and-parts (nat_lt 2 (length bytes)) (agrees lead bytes) led in
     subst (λ x. CutsNoFile x) (sym o.whole)
-    (open-message o.group o.rest (message_head o.«open» (begins-so bytes o.group o.rest o.whole led (far-long o.far (ltb-true 2 (length bytes) parts.0)))) o.far)
+    (open-message o.group o.rest
+    (message_head o.«open» (begins-so bytes o.group o.rest o.whole led (far-long o.far (ltb-true 2 (length bytes) parts.0)))) o.far)
   where
     far-long : (o.rest ≡ []) ⊎ (most_bytes < length o.group) → 2 < length bytes → 2 < length o.group
     far-long (inl none) long =
@@ -187,11 +195,13 @@ first-open bytes led o =
 -- the next group of a message
 
 -- a group that doesn't begin `{1:`, or the front of one that is cut off
-other-group : (inside rest : List ℕ) → is_led (123 ∷ inside ++ rest) ≡ false → (agrees lead (123 ∷ inside) ≡ false) ⊎ ((n : ℕ) × (n ≤ 1) × (123 ∷ inside ≡ take (suc n) lead))
+other-group : (inside rest : List ℕ) → is_led (123 ∷ inside ++ rest) ≡ false
+    → (agrees lead (123 ∷ inside) ≡ false) ⊎ ((n : ℕ) × (n ≤ 1) × (123 ∷ inside ≡ take (suc n) lead))
 other-group [] rest other = inr (0, omega arith, refl)
 other-group (b ∷ []) rest other = by-byte (eqb_tells 49 b)
   where
-    by-byte : (((49 == b) ≡ true) × (49 ≡ b)) ⊎ (((49 == b) ≡ false) × (49 ≢ b)) → (agrees lead (123 ∷ b ∷ []) ≡ false) ⊎ ((n : ℕ) × (n ≤ 1) × (123 ∷ b ∷ [] ≡ take (suc n) lead))
+    by-byte : (((49 == b) ≡ true) × (49 ≡ b)) ⊎ (((49 == b) ≡ false) × (49 ≢ b))
+        → (agrees lead (123 ∷ b ∷ []) ≡ false) ⊎ ((n : ℕ) × (n ≤ 1) × (123 ∷ b ∷ [] ≡ take (suc n) lead))
     by-byte (inl same) = inr (1, omega arith, ap (λ x. 123 ∷ x ∷ []) (sym same.1))
     by-byte (inr differ) = inl (ap (λ t. t && true) differ.0)
 other-group (b ∷ c ∷ inside) rest other =
@@ -202,11 +212,15 @@ group-other [] has = cc
 group-other (b ∷ bytes) has = not-false (is_led (b ∷ bytes)) (and-parts (b == 123) (not (is_led (b ∷ bytes))) has).1
 
 -- the message goes on by this group, unless it is the front of a `{1:` that is cut off
-next-so : {d : ℕ} (message bytes group rest : List ℕ) → IsMessageTo 0 message → has_group bytes ≡ true → bytes ≡ group ++ rest → IsGroupTo d group → IsMessageTo d (message ++ group) ⊎ ((n : ℕ) × (n ≤ 1) × (group ≡ take (suc n) lead))
+next-so : {d : ℕ} (message bytes group rest : List ℕ) → IsMessageTo 0 message → has_group bytes ≡ true → bytes ≡ group ++ rest → IsGroupTo d group
+    → IsMessageTo d (message ++ group) ⊎ ((n : ℕ) × (n ≤ 1) × (group ≡ take (suc n) lead))
 next-so message bytes [] rest closed has whole is = absurd is
-next-so {d} message bytes (b ∷ inside) rest closed has whole is = by-front (other-group inside rest (subst (λ x. is_led (x ∷ inside ++ rest) ≡ false) is.0 (subst (λ x. is_led x ≡ false) whole (group-other bytes has))))
+next-so {d} message bytes (b ∷ inside) rest closed has whole is =
+    by-front
+    (other-group inside rest (subst (λ x. is_led (x ∷ inside ++ rest) ≡ false) is.0 (subst (λ x. is_led x ≡ false) whole (group-other bytes has))))
   where
-    by-front : (agrees lead (123 ∷ inside) ≡ false) ⊎ ((n : ℕ) × (n ≤ 1) × (123 ∷ inside ≡ take (suc n) lead)) → IsMessageTo d (message ++ b ∷ inside) ⊎ ((n : ℕ) × (n ≤ 1) × (b ∷ inside ≡ take (suc n) lead))
+    by-front : (agrees lead (123 ∷ inside) ≡ false) ⊎ ((n : ℕ) × (n ≤ 1) × (123 ∷ inside ≡ take (suc n) lead))
+        → IsMessageTo d (message ++ b ∷ inside) ⊎ ((n : ℕ) × (n ≤ 1) × (b ∷ inside ≡ take (suc n) lead))
     by-front (inl other) = inl (message_next message (b ∷ inside) closed is (subst (λ x. agrees lead (x ∷ inside) ≡ false) (sym is.0) other))
     by-front (inr part) = inr (part.0, part.1, ap (λ x. x ∷ inside) is.0 ∙ part.2)
 
@@ -215,7 +229,8 @@ front-open zero le is = one-open is.1
 front-open (suc zero) le is = one-open is.1
 front-open (suc (suc n)) le is = omega arith
 
-pub next-group : (message bytes group rest : List ℕ) → IsMessageTo 0 message → has_group bytes ≡ true → bytes ≡ group ++ rest → IsGroupTo 0 group → IsMessageTo 0 (message ++ group)
+pub next-group : (message bytes group rest : List ℕ) → IsMessageTo 0 message → has_group bytes ≡ true → bytes ≡ group ++ rest → IsGroupTo 0 group
+    → IsMessageTo 0 (message ++ group)
 next-group message bytes group rest closed has whole is = by-front (next-so message bytes group rest closed has whole is)
   where
     by-front : IsMessageTo 0 (message ++ group) ⊎ ((n : ℕ) × (n ≤ 1) × (group ≡ take (suc n) lead)) → IsMessageTo 0 (message ++ group)
@@ -228,9 +243,11 @@ front-short (suc zero) le = omega arith
 front-short (suc (suc n)) le = absurd (omega arith)
 
 pub next-open : (message bytes : List ℕ) → IsMessage message → has_group bytes ≡ true → IsOpenGroup bytes → CutsNoFile (message ++ bytes)
-next-open message bytes is has o = subst (λ x. CutsNoFile (message ++ x)) (sym o.whole) (by-front (next-so message bytes o.group o.rest is.0 has o.whole o.«open») o.far)
+next-open message bytes is has o =
+    subst (λ x. CutsNoFile (message ++ x)) (sym o.whole) (by-front (next-so message bytes o.group o.rest is.0 has o.whole o.«open») o.far)
   where
-    by-front : IsMessageTo (suc o.depth) (message ++ o.group) ⊎ ((n : ℕ) × (n ≤ 1) × (o.group ≡ take (suc n) lead)) → (o.rest ≡ []) ⊎ (most_bytes < length o.group) → CutsNoFile (message ++ (o.group ++ o.rest))
+    by-front : IsMessageTo (suc o.depth) (message ++ o.group) ⊎ ((n : ℕ) × (n ≤ 1) × (o.group ≡ take (suc n) lead))
+        → (o.rest ≡ []) ⊎ (most_bytes < length o.group) → CutsNoFile (message ++ (o.group ++ o.rest))
     by-front (inl on) (inl none) = subst (λ x. CutsNoFile x) (append_assoc message o.group o.rest) (open-message (message ++ o.group) o.rest on (inl none))
     by-front (inl on) (inr over) =
         let size : length (message ++ o.group) ≡ length message + length o.group = length-append message o.group in
@@ -239,12 +256,15 @@ next-open message bytes is has o = subst (λ x. CutsNoFile (message ++ x)) (sym 
         let same : take (suc part.0) lead ≡ o.group ++ o.rest = sym part.2 ∙ sym (append-nil o.group) ∙ ap (λ x. o.group ++ x) (sym none) in
         subst (λ x. CutsNoFile (message ++ x)) same (behind-message part.0 message is part.1)
     by-front (inr part) (inr over) =
-        absurd (let short : length (take (suc part.0) lead) ≤ 2 = front-short part.0 part.1 in let size : length o.group ≡ length (take (suc part.0) lead) = ap length part.2 in omega arith)
+        absurd
+        (let short : length (take (suc part.0) lead) ≤ 2 = front-short part.0 part.1 in
+        let size : length o.group ≡ length (take (suc part.0) lead) = ap length part.2 in omega arith)
 
 -- after a gap
 
 -- where no message can begin
-pub no-message : (front gap rest : List ℕ) (messages others : List (List ℕ)) → IsFileOf front messages gap → 0 < length rest → is_led rest ≡ false → goes_on (is_marked messages gap) rest ≡ false → (has_group rest ≡ true → stands_apart messages gap ≡ true) → IsCutInto (front ++ rest) others → ⊥
+pub no-message : (front gap rest : List ℕ) (messages others : List (List ℕ)) → IsFileOf front messages gap → 0 < length rest → is_led rest ≡ false
+    → gap_goes_on (is_marked messages gap) rest ≡ false → (has_group rest ≡ true → stands_apart messages gap ≡ true) → IsCutInto (front ++ rest) others → ⊥
 no-message front gap [] messages others is some other stops apart cut = omega arith
 no-message front gap (b ∷ rest) messages others is some other stops apart cut = by-brace (eqb_tells b 123)
   where
@@ -254,9 +274,11 @@ no-message front gap (b ∷ rest) messages others is some other stops apart cut 
     strays : cannot_follow messages gap (b ∷ rest) ≡ true → ⊥
     strays wrong = no-cut-shown others (shows_stray front (b ∷ rest) is wrong) cut
 
-    by-group : (b == 123) ≡ true → b ≡ 123 → stands_apart messages gap ≡ true → (agrees lead (123 ∷ rest) ≡ false) ⊎ ((n : ℕ) × (n ≤ 1) × (123 ∷ rest ≡ take (suc n) lead)) → ⊥
+    by-group : (b == 123) ≡ true → b ≡ 123 → stands_apart messages gap ≡ true
+        → (agrees lead (123 ∷ rest) ≡ false) ⊎ ((n : ℕ) × (n ≤ 1) × (123 ∷ rest ≡ take (suc n) lead)) → ⊥
     by-group brace same far (inl differ) =
-        let wrong : cannot_follow messages gap (123 ∷ rest) ≡ true = both-true (stands_apart messages gap) (not (agrees lead (123 ∷ rest))) far (not-true (agrees lead (123 ∷ rest)) differ) in
+        let wrong : cannot_follow messages gap (123 ∷ rest) ≡ true =
+        both-true (stands_apart messages gap) (not (agrees lead (123 ∷ rest))) far (not-true (agrees lead (123 ∷ rest)) differ) in
         strays (subst (λ x. cannot_follow messages gap (x ∷ rest) ≡ true) (sym same) wrong)
     by-group brace same far (inr part) =
         let there : front ++ take (suc part.0) lead ≡ front ++ b ∷ rest = ap (λ x. front ++ x) (sym part.2 ∙ ap (λ x. x ∷ rest) (sym same)) in
@@ -284,14 +306,16 @@ pub record HasCome (file rest : List ℕ) (messages : List (List ℕ)) : Type 0 
   pub gap : List ℕ
   pub whole : file ≡ front ++ rest
   pub is : IsFileOf front messages gap
-  pub stops : goes_on (is_marked messages gap) rest ≡ false
+  pub stops : gap_goes_on (is_marked messages gap) rest ≡ false
   pub apart : has_group rest ≡ true → stands_apart messages gap ≡ true
 
-pub come-first : (file gap rest : List ℕ) → file ≡ gap ++ rest → IsGap 0 gap → goes_on true rest ≡ false → HasCome file rest []
+pub come-first : (file gap rest : List ℕ) → file ≡ gap ++ rest → IsGap 0 gap → gap_goes_on true rest ≡ false → HasCome file rest []
 come-first file gap rest whole is stops = record { front = gap; gap = gap; whole = whole; is = file_start is; stops = stops; apart = λ has. refl }
 
 -- one message more, and the gap after it
-pub come-on : (file message after gap rest : List ℕ) (messages : List (List ℕ)) → HasCome file (message ++ after) messages → IsMessage message → has_group after ≡ false → after ≡ gap ++ rest → IsGap 1 gap → goes_on (nat_lt 0 (dollars gap)) rest ≡ false → HasCome file rest (messages ++ message ∷ [])
+pub come-on : (file message after gap rest : List ℕ) (messages : List (List ℕ)) → HasCome file (message ++ after) messages → IsMessage message
+    → has_group after ≡ false → after ≡ gap ++ rest → IsGap 1 gap → gap_goes_on (nat_lt 0 (dollars gap)) rest ≡ false
+    → HasCome file rest (messages ++ message ∷ [])
 come-on file message after gap rest messages come is other parts gapped stops = record {
   front = come.front ++ message ++ gap;
   gap = gap;
@@ -299,7 +323,7 @@ come-on file message after gap rest messages come is other parts gapped stops = 
       come.whole ∙ ap (λ x. come.front ++ (message ++ x)) parts
       ∙ sym (append_assoc come.front message (gap ++ rest)) ∙ sym (append_assoc (come.front ++ message) gap rest);
   is = file_more come.front message gap messages come.is is gapped;
-  stops = ap (λ t. goes_on (t || nat_lt 0 (dollars gap)) rest) (no-more-joined messages message) ∙ stops;
+  stops = ap (λ t. gap_goes_on (t || nat_lt 0 (dollars gap)) rest) (no-more-joined messages message) ∙ stops;
   apart = by-gap gap parts;
 }
   where
@@ -308,7 +332,8 @@ come-on file message after gap rest messages come is other parts gapped stops = 
     by-gap (b ∷ gap) parts has = or-true (no_more (messages ++ message ∷ []))
 
 -- nothing but a message can come there
-pub come-lost : (file rest : List ℕ) (messages others : List (List ℕ)) → HasCome file rest messages → 0 < length rest → is_led rest ≡ false → IsCutInto file others → ⊥
+pub come-lost : (file rest : List ℕ) (messages others : List (List ℕ)) → HasCome file rest messages → 0 < length rest → is_led rest ≡ false
+    → IsCutInto file others → ⊥
 come-lost file rest messages others come some other cut =
     no-message come.front come.gap rest messages others come.is some other come.stops come.apart (subst (λ x. IsCutInto x others) come.whole cut)
 
@@ -328,11 +353,13 @@ rests-begun : {n : ℕ} {messages : List (List ℕ)} {gap : List ℕ} {s : State
 rests-begun (rests_apart n messages gap far) = refl
 rests-begun (rests_behind n from messages message) = sym (length-append messages (message ∷ []))
 
-pub come-more : (file rest : List ℕ) (messages others : List (List ℕ)) → HasCome file rest messages → is_led rest ≡ true → IsCutInto file others → length messages < length others
+pub come-more : (file rest : List ℕ) (messages others : List (List ℕ)) → HasCome file rest messages → is_led rest ≡ true → IsCutInto file others
+    → length messages < length others
 come-more file rest messages others come led cut =
     let whole : come.front ++ lead ++ drop 3 rest ≡ file =
     append_assoc come.front lead (drop 3 rest) ∙ ap (λ x. come.front ++ x) (sym (led-bytes rest led)) ∙ sym come.whole in
-    let begun : HasBegun file (length messages + 1) = subst (λ x. HasBegun x (length messages + 1)) whole (has_begun come.front (drop 3 rest) messages come.is) in
+    let begun : HasBegun file (length messages + 1) =
+    subst (λ x. HasBegun x (length messages + 1)) whole (has_begun come.front (drop 3 rest) messages come.is) in
     let least : length messages + 1 ≤ (run (at_start []) file).begun = begun-comes begun in
     let all : (run (at_start []) file).begun ≡ length others = rests-begun (file-run cut.1) in
     omega arith

@@ -12,9 +12,9 @@ has_group [] = false
 has_group (b ∷ bytes) = b == 123 && not (is_led (b ∷ bytes))
 
 -- whether a gap goes on by the first of these bytes, where no `$` may come if it is marked
-abbrev pub goes_on : Bool → List ℕ → Bool
-goes_on marked [] = false
-goes_on marked (b ∷ bytes) = is_blank b || (b == 36 && not marked)
+abbrev pub gap_goes_on : Bool → List ℕ → Bool
+gap_goes_on marked [] = false
+gap_goes_on marked (b ∷ bytes) = is_blank b || (b == 36 && not marked)
 
 -- The group that the bytes begin with is open at their end, or after more bytes than a message may have.
 pub record IsOpenGroup (bytes : List ℕ) : Type 0 where

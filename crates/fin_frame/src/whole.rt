@@ -2,7 +2,7 @@
 
 ghost use Rattle.std.specs.Prelude.{◌≡◌, ◌<◌, ◌≤◌, ◌||◌, ◌++◌, ℕ, List, length, take, drop, get_or, nat_lt, true, false, if◌then◌else◌, None, IfOk, IfSome};
 ghost use Rattle.fin_frame.specs.File.{dollars, IsGap, IsGroupTo, IsMessage, IsCutInto};
-ghost use Rattle.fin_frame.specs.Whole.{is_led, has_group, goes_on, IsOpenGroup, CutsNoFile};
+ghost use Rattle.fin_frame.specs.Whole.{is_led, has_group, gap_goes_on, IsOpenGroup, CutsNoFile};
 
 use crate::cutter::{LEAD, MOST_BYTES};
 use crate::stage::Stage;
@@ -67,7 +67,7 @@ pub fn cut_whole(
 
 /// The bytes after a gap that has no `$` where `marked`.
 fn after_gap(bytes: &[u8], marked: bool) -> &[u8]
-    ensures after { (gap : List ℕ) × (bytes.now ≡ gap ++ result.now) × IsGap (if marked then 0 else 1) gap × (goes_on (marked || nat_lt 0 (dollars gap)) result.now ≡ false) }
+    ensures after { (gap : List ℕ) × (bytes.now ≡ gap ++ result.now) × IsGap (if marked then 0 else 1) gap × (gap_goes_on (marked || nat_lt 0 (dollars gap)) result.now ≡ false) }
 {
     bytes.split_at(gap_len(bytes, marked)).1
 }
@@ -77,7 +77,7 @@ fn after_gap(bytes: &[u8], marked: bool) -> &[u8]
 fn gap_len(bytes: &[u8], marked: bool) -> usize
     ensures most { result ≤ length bytes.now }
     ensures gap { IsGap (if marked then 0 else 1) (take result bytes.now) }
-    ensures end { goes_on (marked || nat_lt 0 (dollars (take result bytes.now))) (drop result bytes.now) ≡ false }
+    ensures end { gap_goes_on (marked || nat_lt 0 (dollars (take result bytes.now))) (drop result bytes.now) ≡ false }
 {
     let mut ended = marked;
     let mut len = 0;

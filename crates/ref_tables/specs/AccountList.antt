@@ -1,7 +1,7 @@
 -- What holds of the accounts that a table gives.
 use Rattle.std.specs.Prelude.{◌≡◌, ◌≢◌, ◌≤◌, ◌<◌, ℕ, List, length, slice_get, Some, ◌≤ℤ◌, unsigned_abs, IsTrue}
 use Rattle.corr_ids.specs.Bic.{bic_of}
-use Rattle.corr_money.specs.Amounts.{amount_end}
+use Rattle.corr_money.specs.Amounts.{amount_end, most_decimals}
 use Rattle.ref_tables.specs.Columns.{is_account_id, is_ccy, is_kind}
 use Rattle.ref_tables.specs.Rows.{most_rows}
 use Rattle.ref_tables.specs.Seen.{Tables, has_head, decimals_in}
@@ -17,7 +17,7 @@ pub record IsAccount (home : List ℕ) (t : Tables) (a : AccountRow) : Type 0 wh
   pub owner_fit : IsTrue (owner_fits home a)
   pub ccy : IsTrue (is_ccy a.ccy.0)
   pub decimals : decimals_in t a.ccy.0 ≡ Some a.decimals
-  pub few_decimals : a.decimals ≤ 4
+  pub few_decimals : a.decimals ≤ most_decimals
   pub floor_small : unsigned_abs a.floor < amount_end
   pub ceil_small : unsigned_abs a.ceil < amount_end
   pub opening_small : unsigned_abs a.opening < amount_end

@@ -4,6 +4,7 @@ use Rattle.std.specs.List.{list_all}
 use Rattle.std.specs.Map.{lookup}
 use Rattle.std.specs.Str.{bytes_eq}
 use Rattle.corr_ids.specs.declared.bic.Bic.{Bic}
+use Rattle.corr_money.specs.Amounts.{most_decimals}
 
 -- banks by head, with their branches; currencies by code, with their decimals; countries by code, and whether they are listed
 pub record Tables : Type 0 where
@@ -29,4 +30,4 @@ is_listed_country t country = unwrap_or (lookup (bytes_eq country) t.countries) 
 
 -- each currency has at most 4 decimals
 abbrev pub few_decimals : List (List ℕ × ℕ) → Bool
-few_decimals ccys = list_all (λ c. nat_le c.1 4) ccys
+few_decimals ccys = list_all (λ c. nat_le c.1 most_decimals) ccys

@@ -1,6 +1,7 @@
 //! The table of accounts.
 
 ghost use Rattle.std.specs.Prelude.{◌≡◌, ◌≤◌, ◌<◌, [], IfErr, IfOk, OnOk, All, None, Some, length, map, position};
+ghost use Rattle.corr_money.specs.Amounts.{most_decimals};
 ghost use Rattle.csv.specs.Records.{fields_of};
 ghost use Rattle.ref_tables.specs.AccountList.{AreAccounts};
 ghost use Rattle.ref_tables.specs.Accounts.{account_fault, account_of, accounts_fault, clashes, form_fault, is_balance, owner_fits, same_relation, standing_fault, within_limits};
@@ -8,7 +9,7 @@ ghost use Rattle.ref_tables.specs.Refusals.{Tells, against, first_bad_row, named
 ghost use Rattle.ref_tables.specs.Rows.{cell, rows_of, most_rows};
 
 use crate::account::AccountRow;
-use crate::columns::{ccy, is_account_id, kind, signed};
+use crate::columns;
 use crate::fault::{TableFault, TableName, Why, bad};
 use crate::rows::{cell, read_rows};
 use crate::tables::RefTables;
@@ -30,21 +31,21 @@ fn read_columns(t: &RefTables, row: &ByteRecord, id: Text) -> Result<AccountRow,
     requires { id ≡ cell 0 (fields_of row.now) }
     ensures sound { OnOk result (form_fault (fields_of row.now) ≡ None) }
     ensures value { IfOk result (λ a. a ≡ account_of t.now (fields_of row.now)) }
-    ensures few { IfOk result (λ a. a.decimals ≤ 4) }
+    ensures few { IfOk result (λ a. a.decimals ≤ most_decimals) }
     ensures bad { IfErr result (λ why. form_fault (fields_of row.now) ≡ Some why) }
 {
     if row.len() != 7 {
         return Err(Why::Columns);
     }
-    if !is_account_id(cell(row, 0)) {
+    if !columns::is_account_id(cell(row, 0)) {
         return Err(Why::Value { col: 1 });
     }
-    let kind = kind(cell(row, 1)).ok_or(Why::Value { col: 2 })?;
+    let kind = columns::kind(cell(row, 1)).ok_or(Why::Value { col: 2 })?;
     let owner = read_bic(cell(row, 2)).ok_or(Why::Value { col: 3 })?;
-    let ccy = ccy(cell(row, 3)).ok_or(Why::Value { col: 4 })?;
-    let floor = signed(cell(row, 4)).ok_or(Why::Value { col: 5 })?;
-    let ceil = signed(cell(row, 5)).ok_or(Why::Value { col: 6 })?;
-    let opening = signed(cell(row, 6)).ok_or(Why::Value { col: 7 })?;
+    let ccy = columns::ccy(cell(row, 3)).ok_or(Why::Value { col: 4 })?;
+    let floor = columns::signed(cell(row, 4)).ok_or(Why::Value { col: 5 })?;
+    let ceil = columns::signed(cell(row, 5)).ok_or(Why::Value { col: 6 })?;
+    let opening = columns::signed(cell(row, 6)).ok_or(Why::Value { col: 7 })?;
     Ok(AccountRow {
         id,
         kind,
@@ -130,7 +131,7 @@ fn read_row(
     requires few { length earlier.now < most_rows }
     ensures sound { OnOk result (account_fault home.now.head t.now earlier.now (fields_of row.now) ≡ None) }
     ensures value { IfOk result (λ a. a ≡ account_of t.now (fields_of row.now)) }
-    ensures few { IfOk result (λ a. a.decimals ≤ 4) }
+    ensures few { IfOk result (λ a. a.decimals ≤ most_decimals) }
     ensures bad { IfErr result (λ why. account_fault home.now.head t.now earlier.now (fields_of row.now) ≡ Some why) }
 {
     let account = read_columns(t, row, id)?;
@@ -151,7 +152,7 @@ fn enter_rows(
     ensures ok { IfOk result (λ v.
         (first_bad_row (against (account_of t.now) (account_fault home.now.head t.now)) [] (map fields_of rows.now) ≡ None)
         × (v.items ≡ map (account_of t.now) (map fields_of rows.now))
-        × All (λ a. a.decimals ≤ 4) v.items) }
+        × All (λ a. a.decimals ≤ most_decimals) v.items) }
     ensures bad { IfErr result (Tells (named TableName.Accounts
         (first_bad_row (against (account_of t.now) (account_fault home.now.head t.now)) [] (map fields_of rows.now)))) }
 {

@@ -2,7 +2,7 @@
 
 ghost use Rattle.ref_tables.specs.Tables.{ccy_fault, ccy_of};
 
-use crate::columns::{ccy, decimals};
+use crate::columns;
 use crate::fault::Why;
 use crate::keyed::{KeyedRow, unseen};
 use crate::rows::cell;
@@ -21,10 +21,10 @@ impl KeyedRow<3, u8> for CurrencyRow {
         if row.len() != 2 {
             return Err(Why::Columns);
         }
-        let Some(ccy) = ccy(cell(row, 0)) else {
+        let Some(ccy) = columns::ccy(cell(row, 0)) else {
             return Err(Why::Value { col: 1 });
         };
-        let Some(decimals) = decimals(cell(row, 1)) else {
+        let Some(decimals) = columns::decimals(cell(row, 1)) else {
             return Err(Why::Value { col: 2 });
         };
         unseen(seen, &ccy.0)?;

@@ -1,6 +1,7 @@
 //! The tables of banks, currencies and countries.
 
 ghost use Rattle.std.specs.Prelude.{◌≡◌, ◌≤◌, IfErr, IfOk, IfSome, IsTrue, None};
+ghost use Rattle.corr_money.specs.Amounts.{most_decimals};
 ghost use Rattle.ref_tables.specs.Refusals.{Tells};
 ghost use Rattle.ref_tables.specs.Seen.{decimals_in, few_decimals, has_head, is_listed_country};
 ghost use Rattle.ref_tables.specs.Tables.{tables_fault, tables_of};
@@ -55,7 +56,7 @@ impl RefTables {
     #[tactic(auto, using(crate::proofs::laws::Decimals::lookup_few))]
     pub fn decimals(&self, c: Ccy) -> Option<u8>
         ensures value { result ≡ decimals_in self.now c.0 }
-        ensures few { IfSome result (λ d. d ≤ 4) }
+        ensures few { IfSome result (λ d. d ≤ most_decimals) }
     {
         self.ccys.get(&c.0).copied()
     }

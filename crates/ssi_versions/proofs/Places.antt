@@ -11,7 +11,7 @@ use Rattle.std.proofs.lemmas.Slice.Eq.{bytes_eq-Decides}
 use Rattle.corr_ids.specs.declared.day.Day.{Day}
 use Rattle.corr_money.specs.declared.amount.Ccy.{Ccy}
 use Rattle.ssi_versions.specs.declared.row.SsiRow.{SsiRow}
-use Rattle.ssi_versions.specs.Index.{IsIndexOf, NotesPlace, has_key, holds_at, key_of, noted, places_of}
+use Rattle.ssi_versions.specs.Index.{IsPlaceIndexOf, NotesPlace, has_bank_key, holds_at, key_by_bank, places_under, places_where}
 use Rattle.ssi_versions.specs.Instruction.{is_asked, is_in_force, naming}
 use Rattle.ssi_versions.specs.Rows.{overlaps, shares_a_day}
 
@@ -44,16 +44,16 @@ one-more H k ps o false false at inside rest = rest
 
 -- where each item that meets a test has the key, the first place of the key whose item meets it is the first of all
 find-places : {A : Type 0} (same meets : A → Bool) → ((x : A) → meets x ≡ true → same x ≡ true) → (whole : List A) (k : ℕ) (xs : List A) → GoesOn whole k xs
-    → find (holds_at meets whole) (places_of same k xs) ≡ position_from meets k xs
-unfolding places_of
+    → find (holds_at meets whole) (places_where same k xs) ≡ position_from meets k xs
+unfolding places_where
 find-places same meets inside whole k [] h = refl
 find-places same meets inside whole k (x ∷ xs) h =
     let at = passes meets whole k x (stands whole k x xs h) in
     let rest = find-places same meets inside whole (k + 1) xs (goes-on whole k x xs h) in
-    one-more (holds_at meets whole) k (places_of same (k + 1) xs) (position_from meets (k + 1) xs) (same x) (meets x) at (inside x) rest
+    one-more (holds_at meets whole) k (places_where same (k + 1) xs) (position_from meets (k + 1) xs) (same x) (meets x) at (inside x) rest
 
 pub first_place : {A : Type 0} (same meets : A → Bool) → ((x : A) → meets x ≡ true → same x ≡ true) → (xs : List A)
-    → find (holds_at meets xs) (places_of same 0 xs) ≡ position meets xs
+    → find (holds_at meets xs) (places_where same 0 xs) ≡ position meets xs
 first_place same meets inside xs = find-places same meets inside xs 0 xs (whole-is xs) ∙ sym (position_from-zero meets xs)
 
 taken : {A : Type 0} (G : ℕ → Option A) (k : ℕ) (x : A) (o : Option ℕ) (p : Option A) (m : Bool) → G k ≡ Some x → option_and_then G o ≡ p → option_and_then G (cond m (Some k) o) ≡ cond m (Some x) p
@@ -67,7 +67,7 @@ item-at meets whole k (x ∷ xs) h =
 
 -- the item at that place is the first that meets the test
 pub first_item : {A : Type 0} (same meets : A → Bool) → ((x : A) → meets x ≡ true → same x ≡ true) → (xs : List A)
-    → option_and_then (slice_get xs) (find (holds_at meets xs) (places_of same 0 xs)) ≡ find meets xs
+    → option_and_then (slice_get xs) (find (holds_at meets xs) (places_where same 0 xs)) ≡ find meets xs
 first_item same meets inside xs =
     ap (option_and_then (slice_get xs)) (find-places same meets inside xs 0 xs (whole-is xs)) ∙ item-at meets xs 0 xs (whole-is xs)
 
@@ -85,25 +85,25 @@ added k ps qs tail true e = ap (λ z. k ∷ z) e
 added k ps qs tail false e = e
 
 -- an item at the end has the place after the others
-places-push : {A : Type 0} (test : A → Bool) (k : ℕ) (xs : List A) (x : A) → places_of test k (xs ++ x ∷ []) ≡ places_of test k xs ++ cond (test x) ((k + length xs) ∷ []) []
-unfolding places_of
+places-push : {A : Type 0} (test : A → Bool) (k : ℕ) (xs : List A) (x : A) → places_where test k (xs ++ x ∷ []) ≡ places_where test k xs ++ cond (test x) ((k + length xs) ∷ []) []
+unfolding places_where
 places-push test k [] x =
     let same : k ≡ k + 0 = omega arith in
     ap (λ (n : ℕ). cond (test x) (n ∷ []) []) same
 places-push test k (y ∷ ys) x =
     let next : k + 1 + length ys ≡ k + length (y ∷ ys) = omega arith in
     let rest = places-push test (k + 1) ys x in
-    added k (places_of test (k + 1) ys) _ (cond (test x) ((k + length (y ∷ ys)) ∷ []) []) (test y) (rw next at rest)
+    added k (places_where test (k + 1) ys) _ (cond (test x) ((k + length (y ∷ ys)) ∷ []) []) (test y) (rw next at rest)
 
 -- the same from the first place on
-pushed : {A : Type 0} (test : A → Bool) (xs : List A) (x : A) (b : Bool) → test x ≡ b → places_of test 0 (xs ++ x ∷ []) ≡ places_of test 0 xs ++ cond b (length xs ∷ []) []
+pushed : {A : Type 0} (test : A → Bool) (xs : List A) (x : A) (b : Bool) → test x ≡ b → places_where test 0 (xs ++ x ∷ []) ≡ places_where test 0 xs ++ cond b (length xs ∷ []) []
 pushed test xs x b e =
     let same : 0 + length xs ≡ length xs = omega arith in
-    places-push test 0 xs x ∙ ap (λ (n : ℕ). places_of test 0 xs ++ cond (test x) (n ∷ []) []) same ∙ ap (λ (c : Bool). places_of test 0 xs ++ cond c (length xs ∷ []) []) e
+    places-push test 0 xs x ∙ ap (λ (n : ℕ). places_where test 0 xs ++ cond (test x) (n ∷ []) []) same ∙ ap (λ (c : Bool). places_where test 0 xs ++ cond c (length xs ∷ []) []) e
 
 -- no row, no place
-pub index_none : (groups : List (List ℕ × List ℕ)) → groups ≡ [] → IsIndexOf [] groups
-unfolding places_of
+pub index_none : (groups : List (List ℕ × List ℕ)) → groups ≡ [] → IsPlaceIndexOf [] groups
+unfolding places_where
 index_none groups e key = rw e refl
 
 back : (a b : List ℕ) (r : Bool) → bytes_eq a b ≡ r → bytes_eq b a ≡ false → r ≡ false
@@ -113,23 +113,23 @@ back a b false e apart = refl
 same-bytes : (a : List ℕ) → bytes_eq a a ≡ true
 same-bytes a = (bytes_eq-Decides a a).1 refl
 
-module _ (rows : List SsiRow) (r : SsiRow) (old new : List (List ℕ × List ℕ)) (index : IsIndexOf rows old) where
-  own : noted old (key_of r.ccy.0 r.bank) ++ length rows ∷ [] ≡ places_of (has_key (key_of r.ccy.0 r.bank)) 0 (rows ++ r ∷ [])
+module _ (rows : List SsiRow) (r : SsiRow) (old new : List (List ℕ × List ℕ)) (index : IsPlaceIndexOf rows old) where
+  own : places_under old (key_by_bank r.ccy.0 r.bank) ++ length rows ∷ [] ≡ places_where (has_bank_key (key_by_bank r.ccy.0 r.bank)) 0 (rows ++ r ∷ [])
   own =
-      ap (λ (ps : List ℕ). ps ++ length rows ∷ []) (index (key_of r.ccy.0 r.bank))
-      ∙ sym (pushed (has_key (key_of r.ccy.0 r.bank)) rows r true (same-bytes (key_of r.ccy.0 r.bank)))
+      ap (λ (ps : List ℕ). ps ++ length rows ∷ []) (index (key_by_bank r.ccy.0 r.bank))
+      ∙ sym (pushed (has_bank_key (key_by_bank r.ccy.0 r.bank)) rows r true (same-bytes (key_by_bank r.ccy.0 r.bank)))
 
-  noted-now : (key : List ℕ) (b : Bool) → bytes_eq (key_of r.ccy.0 r.bank) key ≡ b
-      → (if b then noted old (key_of r.ccy.0 r.bank) ++ length rows ∷ [] else noted old key) ≡ places_of (has_key key) 0 (rows ++ r ∷ [])
+  noted-now : (key : List ℕ) (b : Bool) → bytes_eq (key_by_bank r.ccy.0 r.bank) key ≡ b
+      → (if b then places_under old (key_by_bank r.ccy.0 r.bank) ++ length rows ∷ [] else places_under old key) ≡ places_where (has_bank_key key) 0 (rows ++ r ∷ [])
   noted-now key true e =
-      subst (λ (k : List ℕ). noted old (key_of r.ccy.0 r.bank) ++ length rows ∷ [] ≡ places_of (has_key k) 0 (rows ++ r ∷ [])) ((bytes_eq-Decides (key_of r.ccy.0 r.bank) key).0 e) own
+      subst (λ (k : List ℕ). places_under old (key_by_bank r.ccy.0 r.bank) ++ length rows ∷ [] ≡ places_where (has_bank_key k) 0 (rows ++ r ∷ [])) ((bytes_eq-Decides (key_by_bank r.ccy.0 r.bank) key).0 e) own
   noted-now key false e =
-      let apart = back key (key_of r.ccy.0 r.bank) (bytes_eq key (key_of r.ccy.0 r.bank)) refl e in
-      index key ∙ sym (pushed (has_key key) rows r false apart ∙ append-nil (places_of (has_key key) 0 rows))
+      let apart = back key (key_by_bank r.ccy.0 r.bank) (bytes_eq key (key_by_bank r.ccy.0 r.bank)) refl e in
+      index key ∙ sym (pushed (has_bank_key key) rows r false apart ∙ append-nil (places_where (has_bank_key key) 0 rows))
 
   -- one more row, and its place
-  pub index_more : (place : ℕ) → place ≡ length rows → NotesPlace old new (key_of r.ccy.0 r.bank) place → IsIndexOf (rows ++ r ∷ []) new
-  index_more place e put key = put key ∙ rw e (noted-now key (bytes_eq (key_of r.ccy.0 r.bank) key) refl)
+  pub index_more : (place : ℕ) → place ≡ length rows → NotesPlace old new (key_by_bank r.ccy.0 r.bank) place → IsPlaceIndexOf (rows ++ r ∷ []) new
+  index_more place e put key = put key ∙ rw e (noted-now key (bytes_eq (key_by_bank r.ccy.0 r.bank) key) refl)
 
 value-or : (b : Bool) (xs : List ℕ) (o : Option (List ℕ)) → unwrap_or (cond b (Some xs) o) [] ≡ cond b xs (unwrap_or o [])
 value-or true xs o = refl
@@ -137,10 +137,10 @@ value-or false xs o = refl
 
 -- what the groups are after a write at a key
 pub notes_place : (old new : List (List ℕ × List ℕ)) (key : List ℕ) (place : ℕ)
-    → ((other : List ℕ) → lookup (bytes_eq other) new ≡ cond (bytes_eq key other) (Some (noted old key ++ place ∷ [])) (lookup (bytes_eq other) old))
+    → ((other : List ℕ) → lookup (bytes_eq other) new ≡ cond (bytes_eq key other) (Some (places_under old key ++ place ∷ [])) (lookup (bytes_eq other) old))
     → NotesPlace old new key place
 notes_place old new key place put other =
-    ap (λ (o : Option (List ℕ)). unwrap_or o []) (put other) ∙ value-or (bytes_eq key other) (noted old key ++ place ∷ []) (lookup (bytes_eq other) old)
+    ap (λ (o : Option (List ℕ)). unwrap_or o []) (put other) ∙ value-or (bytes_eq key other) (places_under old key ++ place ∷ []) (lookup (bytes_eq other) old)
 
 both : (a b : Bool) → (a && b) ≡ true → (a ≡ true) × (b ≡ true)
 both true b e = (refl, e)
@@ -151,18 +151,18 @@ first-two true true c e = (refl, refl)
 first-two true false c e = absurd (cc e)
 first-two false b c e = absurd (cc e)
 
-same-key : (ccy bank : List ℕ) (r : SsiRow) → bytes_eq ccy r.ccy.0 ≡ true → bytes_eq bank r.bank ≡ true → has_key (key_of ccy bank) r ≡ true
+same-key : (ccy bank : List ℕ) (r : SsiRow) → bytes_eq ccy r.ccy.0 ≡ true → bytes_eq bank r.bank ≡ true → has_bank_key (key_by_bank ccy bank) r ≡ true
 same-key ccy bank r c b =
-    (bytes_eq-Decides (key_of ccy bank) (key_of r.ccy.0 r.bank)).1 (ap (λ (x : List ℕ). key_of x bank) ((bytes_eq-Decides ccy r.ccy.0).0 c) ∙ ap (key_of r.ccy.0) ((bytes_eq-Decides bank r.bank).0 b))
+    (bytes_eq-Decides (key_by_bank ccy bank) (key_by_bank r.ccy.0 r.bank)).1 (ap (λ (x : List ℕ). key_by_bank x bank) ((bytes_eq-Decides ccy r.ccy.0).0 c) ∙ ap (key_by_bank r.ccy.0) ((bytes_eq-Decides bank r.bank).0 b))
 
 -- a row that overlaps another has its key
-pub overlaps-key : (a r : SsiRow) → overlaps a r ≡ true → has_key (key_of a.ccy.0 a.bank) r ≡ true
+pub overlaps-key : (a r : SsiRow) → overlaps a r ≡ true → has_bank_key (key_by_bank a.ccy.0 a.bank) r ≡ true
 overlaps-key a r e =
     let parts = first-two (bytes_eq a.ccy.0 r.ccy.0) (bytes_eq a.bank r.bank) (shares_a_day a r) e in
     same-key a.ccy.0 a.bank r parts.0 parts.1
 
 -- a row that is asked for has the key of what is asked
-pub asked-key : (ccy : Ccy) (bank : List ℕ) (day : Day) (r : SsiRow) → is_asked ccy bank day r ≡ true → has_key (key_of ccy.0 bank) r ≡ true
+pub asked-key : (ccy : Ccy) (bank : List ℕ) (day : Day) (r : SsiRow) → is_asked ccy bank day r ≡ true → has_bank_key (key_by_bank ccy.0 bank) r ≡ true
 asked-key ccy bank day r e =
     let first = both (is_in_force ccy day r) (bytes_eq bank r.bank) e in
     let second = first-two (bytes_eq ccy.0 r.ccy.0) (int_le r.from.0 day.0) (int_lt day.0 r.until.0) first.0 in
@@ -170,15 +170,15 @@ asked-key ccy bank day r e =
 
 -- the first row that is asked for, by the places of its key
 pub asked_row : (ccy : Ccy) (bank : List ℕ) (day : Day) (rows : List SsiRow)
-    → option_and_then (slice_get rows) (find (holds_at (is_asked ccy bank day) rows) (places_of (has_key (key_of ccy.0 bank)) 0 rows)) ≡ naming bank (filter (is_in_force ccy day) rows)
+    → option_and_then (slice_get rows) (find (holds_at (is_asked ccy bank day) rows) (places_where (has_bank_key (key_by_bank ccy.0 bank)) 0 rows)) ≡ naming bank (filter (is_in_force ccy day) rows)
 asked_row ccy bank day rows =
-    first_item (has_key (key_of ccy.0 bank)) (is_asked ccy bank day) (λ r e. asked-key ccy bank day r e) rows ∙ sym (find-filter (λ r. bytes_eq bank r.bank) (is_in_force ccy day) rows)
+    first_item (has_bank_key (key_by_bank ccy.0 bank)) (is_asked ccy bank day) (λ r e. asked-key ccy bank day r e) rows ∙ sym (find-filter (λ r. bytes_eq bank r.bank) (is_in_force ccy day) rows)
 
 module _ (rows : List SsiRow) (groups : List (List ℕ × List ℕ)) (key : List ℕ) where
   -- the places that the index has for a key
-  pub places-some : (places : List ℕ) → IsIndexOf rows groups → Some places ≡ lookup (bytes_eq key) groups → places ≡ places_of (has_key key) 0 rows
+  pub places-some : (places : List ℕ) → IsPlaceIndexOf rows groups → Some places ≡ lookup (bytes_eq key) groups → places ≡ places_where (has_bank_key key) 0 rows
   places-some places index e = ap (λ (o : Option (List ℕ)). unwrap_or o []) e ∙ index key
 
   -- no row has a key that the index has not
-  pub places-none : IsIndexOf rows groups → None ≡ lookup (bytes_eq key) groups → [] ≡ places_of (has_key key) 0 rows
+  pub places-none : IsPlaceIndexOf rows groups → None ≡ lookup (bytes_eq key) groups → [] ≡ places_where (has_bank_key key) 0 rows
   places-none index e = ap (λ (o : Option (List ℕ)). unwrap_or o []) e ∙ index key

@@ -19,35 +19,35 @@ abbrev pub tail_of : List ℕ → List ℕ
 tail_of bank = if length bank == 11 then drop 8 bank else replicate 3 0
 
 -- the key of a currency and a bank
-abbrev pub key_of : List ℕ → List ℕ → List ℕ
-key_of ccy bank = ccy ++ (head_of bank ++ tail_of bank)
+abbrev pub key_by_bank : List ℕ → List ℕ → List ℕ
+key_by_bank ccy bank = ccy ++ (head_of bank ++ tail_of bank)
 
 -- the row is of the currency and the bank of this key, or of a bank whose text shares it
-abbrev pub has_key : List ℕ → SsiRow → Bool
-has_key key r = bytes_eq key (key_of r.ccy.0 r.bank)
+abbrev pub has_bank_key : List ℕ → SsiRow → Bool
+has_bank_key key r = bytes_eq key (key_by_bank r.ccy.0 r.bank)
 
 -- the places of the items that pass, where the first item stands at this place
-unfoldable pub places_of : {A : Type 0} → (A → Bool) → ℕ → List A → List ℕ
-places_of test at [] = []
-places_of test at (x ∷ xs) = if test x then at ∷ places_of test (at + 1) xs else places_of test (at + 1) xs
+unfoldable pub places_where : {A : Type 0} → (A → Bool) → ℕ → List A → List ℕ
+places_where test at [] = []
+places_where test at (x ∷ xs) = if test x then at ∷ places_where test (at + 1) xs else places_where test (at + 1) xs
 
 -- there is an item at this place, and it passes
 abbrev pub holds_at : {A : Type 0} → (A → Bool) → List A → ℕ → Bool
 holds_at test xs i = option_map_or test (slice_get xs i) false
 
 -- the places that are noted for a key
-abbrev pub noted : List (List ℕ × List ℕ) → List ℕ → List ℕ
-noted groups key = unwrap_or (lookup (bytes_eq key) groups) []
+abbrev pub places_under : List (List ℕ × List ℕ) → List ℕ → List ℕ
+places_under groups key = unwrap_or (lookup (bytes_eq key) groups) []
 
 -- one more place is noted for this key
 abbrev pub NotesPlace : List (List ℕ × List ℕ) → List (List ℕ × List ℕ) → List ℕ → ℕ → Type 0
-NotesPlace old new key place = (other : List ℕ) → noted new other ≡ (if bytes_eq key other then noted old key ++ place ∷ [] else noted old other)
+NotesPlace old new key place = (other : List ℕ) → places_under new other ≡ (if bytes_eq key other then places_under old key ++ place ∷ [] else places_under old other)
 
 -- for each key the places of its rows are noted
-abbrev pub IsIndexOf : List SsiRow → List (List ℕ × List ℕ) → Type 0
-IsIndexOf rows groups = (key : List ℕ) → noted groups key ≡ places_of (has_key key) 0 rows
+abbrev pub IsPlaceIndexOf : List SsiRow → List (List ℕ × List ℕ) → Type 0
+IsPlaceIndexOf rows groups = (key : List ℕ) → places_under groups key ≡ places_where (has_bank_key key) 0 rows
 
 -- the table: instructions in form, and their index
 pub record IsTable (rows : List SsiRow) (groups : List (List ℕ × List ℕ)) : Type 0 where
   pub form : All IsInForm rows
-  pub index : IsIndexOf rows groups
+  pub index : IsPlaceIndexOf rows groups

@@ -2,7 +2,7 @@
 
 ghost use Rattle.std.specs.Prelude.{◌≡◌, ◌++◌, OnOk, find, slice_get};
 ghost use Rattle.std.specs.Option.{option_and_then, option_copied};
-ghost use Rattle.ssi_versions.specs.Index.{NotesPlace, head_of, holds_at, key_of, tail_of};
+ghost use Rattle.ssi_versions.specs.Index.{NotesPlace, head_of, holds_at, key_by_bank, tail_of};
 ghost use Rattle.ssi_versions.specs.Rows.{overlaps, shares_a_day};
 ghost use Rattle.ssi_versions.specs.Instruction.{is_asked, is_in_force};
 
@@ -46,7 +46,7 @@ fn bank_key(bank: &[u8]) -> [u8; 11]
 
 /// What the rows of a currency and a bank's text are noted under.
 pub fn key(ccy: Ccy, bank: &[u8]) -> [u8; 14]
-    ensures { result ≡ key_of ccy.0 bank.now }
+    ensures { result ≡ key_by_bank ccy.0 bank.now }
 {
     let mut key = [0; 14];
     key[..3].copy_from_slice(&ccy.0);

@@ -6,13 +6,13 @@ ghost use Rattle.ref_tables.specs.Refusals.{Tells, against, first_bad_row, named
 ghost use Rattle.ref_tables.specs.Rows.{cell};
 ghost use Rattle.ssi_versions.specs.Rows.{form_fault, instruction_fault, instruction_of, knows_bank, knows_via, standing_fault, most_instructions};
 
-use crate::columns::{is_bank, method, via};
+use crate::columns;
 use crate::row::SsiRow;
 use crate::ssi::Ssi;
 use corr_ids::{Bic, day_from_yymmdd, read_bic};
 use corr_text::Text;
 use csv::ByteRecord;
-use ref_tables::{RefTables, TableFault, TableName, Why, bad, ccy, cell, is_account_id};
+use ref_tables::{RefTables, TableFault, TableName, Why, bad, cell, is_account_id};
 use std::alloc::Global;
 
 // The instruction that a row says, whose bank and account are these texts.
@@ -26,12 +26,12 @@ fn read_columns(row: &ByteRecord, bank: Text, account: Text) -> Result<SsiRow, W
     if row.len() != 7 {
         return Err(Why::Columns);
     }
-    let ccy = ccy(cell(row, 0)).ok_or(Why::Value { col: 1 })?;
-    if !is_bank(cell(row, 1)) {
+    let ccy = ref_tables::ccy(cell(row, 0)).ok_or(Why::Value { col: 1 })?;
+    if !columns::is_bank(cell(row, 1)) {
         return Err(Why::Value { col: 2 });
     }
-    let method = method(cell(row, 2)).ok_or(Why::Value { col: 3 })?;
-    let via = via(method, cell(row, 3)).ok_or(Why::Value { col: 4 })?;
+    let method = columns::method(cell(row, 2)).ok_or(Why::Value { col: 3 })?;
+    let via = columns::via(method, cell(row, 3)).ok_or(Why::Value { col: 4 })?;
     if !is_account_id(cell(row, 4)) {
         return Err(Why::Value { col: 5 });
     }

@@ -4,7 +4,7 @@ ghost use Rattle.std.specs.Prelude.{◌≡◌, ◌++◌, ◌∷◌, [], IfErr, I
 ghost use Rattle.std.specs.Option.{option_copied};
 ghost use Rattle.ref_tables.specs.Refusals.{Tells, named};
 ghost use Rattle.ref_tables.specs.Rows.{rows_of};
-ghost use Rattle.ssi_versions.specs.Index.{has_key, key_of, places_of};
+ghost use Rattle.ssi_versions.specs.Index.{has_bank_key, key_by_bank, places_where};
 ghost use Rattle.ssi_versions.specs.Instruction.{instruction_at, is_in_force, naming};
 ghost use Rattle.ssi_versions.specs.InstructionList.{AreInstructions, IsInForm};
 ghost use Rattle.ssi_versions.specs.Rows.{instruction_of, overlaps, ssi_fault};
@@ -74,7 +74,7 @@ impl Ssi {
 
     // Where the rows of a currency and a bank's text stand, and perhaps rows of other banks.
     fn places(&self, ccy: Ccy, bank: &[u8]) -> &[usize]
-        ensures { result.now ≡ places_of (has_key (key_of ccy.0 bank.now)) 0 self.now }
+        ensures { result.now ≡ places_where (has_bank_key (key_by_bank ccy.0 bank.now)) 0 self.now }
     {
         match self.groups.get(&index::key(ccy, bank)) {
             Some(places) => places.as_slice(),

@@ -164,9 +164,10 @@ pub record Parted (c : Civil) : Type 0 where
   pub month_in : c.month ≤ 99
   pub day_in : c.day ≤ 99
 
-pub parted : (d : Day) → InCentury d → Parted (civil_of d)
+-- the year, month and day of a day of the century lie in their ranges
+pub in_parts : (d : Day) → InCentury d → Parted (civil_of d)
 unfolding offset
-parted d century =
+in_parts d century =
     let h = counted (offset d) in
     let high = year_bound (offset d) (civil_of d) (offset_bound d century) h in
     record {

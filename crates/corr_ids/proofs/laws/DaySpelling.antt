@@ -6,7 +6,7 @@ use Rattle.std.proofs.lemmas.Bool.Decides.{nat_tests}
 use Rattle.jiff_core.specs.Calendar.{days_from_civil}
 use Rattle.corr_ids.specs.declared.day.Day.{Day}
 use Rattle.corr_ids.specs.Day.{Civil, InCentury, civil_day, civil_of, day_of, digits_of, is_civil, pair_of, year_of, yymmdd_of}
-use Rattle.corr_ids.proofs.laws.Century.{century_from, civil-again, civil_is, parted}
+use Rattle.corr_ids.proofs.laws.Century.{century_from, civil-again, civil_is, in_parts}
 use Rattle.corr_ids.proofs.laws.Civil.{date_from}
 use Rattle.corr_ids.proofs.laws.Spelling.{some_if}
 
@@ -22,7 +22,7 @@ pub day-again : (d : Day) → InCentury d → day_of (yymmdd_of d) ≡ Some d
 unfolding day_of
 day-again d century =
     let c : Civil = civil_of d in
-    let parts = parted d century in
+    let parts = in_parts d century in
     rw (pair-again (c.year % 100) (omega arith), pair-again c.month parts.month_in, pair-again c.day parts.day_in, year-again c.year parts.year_in) (civil-again d century)
 
 -- two digits that were read are spelled so again, and so is a year

@@ -18,6 +18,7 @@ use Rattle.corr_ids.specs.Address.{is_lt, address_of, bank_of, lt_text, IsLt}
 use Rattle.corr_ids.specs.Mir.{is_mir, IsMir, sender_text}
 use Rattle.corr_ids.specs.Day.{day_of}
 
+-- what is given only if a test holds and is given: the test holds, and it is that value
 pub some_if : {A : Type 0} (t : Bool) (x y : A) → cond t (Some x) None ≡ Some y → (t ≡ true) × (x ≡ y)
 some_if true x y e = (refl, cc e)
 some_if false x y e = absurd (cc e)
@@ -89,6 +90,7 @@ short-again b h short =
     let p = bic-parts b h in
     rw (p.eight, p.letters, p.rest, take_all 8 b.head (omega (arith, p.eight)), ← short) refl
 
+-- a BIC as it is printed is read as itself
 pub bic-printed : (b : Bic) → IsBic b → bic_of (bic_text b) ≡ Some b
 bic-printed b h =
     elim (cases_Bool (bytes_eq b.branch (codes "XXX"))) [
@@ -148,6 +150,7 @@ terminal-again b terminal h c =
       behind,
     ) refl
 
+-- the text of a terminal's address has the form of one
 pub lt-form : (a : LtAddress) → IsLt a → is_lt (lt_text a) ≡ true
 lt-form a h = (some_if (is_lt (lt_text a)) (address_of (lt_text a)) a h).0
 
@@ -157,5 +160,6 @@ unfolding is_mir
 mir-sender bs h =
     (and_parts (length bs == 28) (is_some (day_of (take 6 bs))) (is_lt (sender_text bs)) (list_all is_ascii_digit (drop 18 bs)) h).2
 
+-- a reference has the form of one
 pub mir-form : (m : Mir) → IsMir m → is_mir m.0 ≡ true
 mir-form m h = (some_if (is_mir m.0) m m h).0

@@ -78,6 +78,7 @@ reads_spelled decimals n xs ys s =
     let small : nat_lt n amount_end ≡ true = lt-ltb n amount_end s.small in
     rw (whole, written, at, inside, some, s.before, s.behind, short, few, none, append-nil (xs ++ ys), s.value, small) refl
 
+-- an amount as it is printed is read as itself
 pub reads_written : (decimals n : ℕ) → decimals ≤ 4 → n < amount_end → amount_of decimals (amount_text decimals n) ≡ Ok (record { 0 = n })
 unfolding amount_text
 reads_written decimals n most small =

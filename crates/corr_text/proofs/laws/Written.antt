@@ -16,6 +16,7 @@ and-false : (b : Bool) → (b && false) ≡ false
 and-false true = refl
 and-false false = refl
 
+-- a line that is ended by CR LF is cut off as itself
 pub line-again : (line rest : List ℕ) → list_all is_inner line ≡ true → lines_of (line ++ 13 ∷ 10 ∷ rest) ≡ line ∷ lines_of rest
 line-again [] rest inner = refl
 line-again (b ∷ bs) rest inner =

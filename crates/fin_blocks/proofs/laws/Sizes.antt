@@ -249,5 +249,6 @@ blocks-sized m =
 pub text_lines : (m : List ℕ) (b : Blocks) → blocks_of m ≡ Ok b → length (lines_of b.text) ≤ length m
 text_lines m b e = (subst (λ r. IfOk r (λ x. Sized (length m) x.text)) e (blocks-sized m)).lines
 
+-- block 4 has at most twice the bytes of the message, since a line feed alone becomes CR LF
 pub text_bytes : (m : List ℕ) (b : Blocks) → blocks_of m ≡ Ok b → length b.text ≤ 2 * length m
 text_bytes m b e = (subst (λ r. IfOk r (λ x. Sized (length m) x.text)) e (blocks-sized m)).bytes

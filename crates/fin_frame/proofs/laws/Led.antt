@@ -20,21 +20,32 @@ at_gap n messages marked = record { stage = Between marked; held = None; fed = n
 
 -- in a message that begins at from and leaves d groups left, behind these messages
 abbrev pub in_message : ℕ → ℕ → List ℕ → List (List ℕ) → ℕ → State
-in_message from d message messages n = record { stage = landed from d; held = Some message; fed = n; begun = length messages + 1; failed = None; given = messages }
+in_message from d message messages n = record {
+  stage = landed from d;
+  held = Some message;
+  fed = n;
+  begun = length messages + 1;
+  failed = None;
+  given = messages;
+}
 
 -- the machine behind a file: in a gap, or directly behind the last message
 pub data Rests : ℕ → List (List ℕ) → List ℕ → State → Type 0 where
-  rests_apart : (n : ℕ) (messages : List (List ℕ)) (gap : List ℕ) → stands_apart messages gap ≡ true → Rests n messages gap (at_gap n messages (is_marked messages gap))
+  rests_apart : (n : ℕ) (messages : List (List ℕ)) (gap : List ℕ) → stands_apart messages gap ≡ true
+      → Rests n messages gap (at_gap n messages (is_marked messages gap))
   rests_behind : (n from : ℕ) (messages : List (List ℕ)) (message : List ℕ) → Rests n (messages ++ message ∷ []) [] (in_message from 0 message messages n)
 
 -- `{1:` begins a message
 pub lead-run : {n : ℕ} {messages : List (List ℕ)} {gap : List ℕ} {s : State} → Rests n messages gap s → run s lead ≡ in_message n 1 lead messages (n + 3)
 lead-run (rests_apart n messages gap apart) =
-    state-same _ (in_message n 1 lead messages (n + 3)) (ap (λ k. Within k 1) (let e : (n + 1 + 1) - 2 ≡ n = omega arith in e)) refl (omega arith) refl refl refl
+    state-same _ (in_message n 1 lead messages (n + 3)) (ap (λ k. Within k 1) (let e : (n + 1 + 1) - 2 ≡ n = omega arith in e)) refl
+    (omega arith) refl refl refl
 lead-run (rests_behind n from messages message) =
-    state-same _ (in_message n 1 lead (messages ++ message ∷ []) (n + 3)) (ap (λ k. Within k 1) (let e : (n + 1 + 1) - 2 ≡ n = omega arith in e)) refl (omega arith) (let e = length-append messages (message ∷ []) in omega arith) refl refl
+    state-same _ (in_message n 1 lead (messages ++ message ∷ []) (n + 3)) (ap (λ k. Within k 1) (let e : (n + 1 + 1) - 2 ≡ n = omega arith in e)) refl
+    (omega arith) (let e = length-append messages (message ∷ []) in omega arith) refl refl
 
-pub in-message-same : (from d : ℕ) (messages : List (List ℕ)) (m m' : List ℕ) (n n' : ℕ) → m ≡ m' → n ≡ n' → in_message from d m messages n ≡ in_message from d m' messages n'
+pub in-message-same : (from d : ℕ) (messages : List (List ℕ)) (m m' : List ℕ) (n n' : ℕ) → m ≡ m' → n ≡ n'
+    → in_message from d m messages n ≡ in_message from d m' messages n'
 in-message-same from d messages m m' n n' same count = ap (λ x. in_message from d x messages n) same ∙ ap (λ x. in_message from d m' messages x) count
 
 pub leads : (g : List ℕ) → take 3 g ≡ lead → g ≡ lead ++ drop 3 g
@@ -47,36 +58,47 @@ message-leads (joined message group closed is other) =
     subst (λ x. x ++ group ≡ lead ++ drop 3 (x ++ group)) (sym (message-leads closed)) refl
 
 -- bytes within the open message, for which there is room
-inner-run : (from d : ℕ) (m xs : List ℕ) (messages : List (List ℕ)) (n : ℕ) → 0 < length xs → left_open 1 xs ≡ Some d → length m + length xs ≤ most_bytes → run (in_message from 1 m messages n) xs ≡ in_message from d (m ++ xs) messages (n + length xs)
+inner-run : (from d : ℕ) (m xs : List ℕ) (messages : List (List ℕ)) (n : ℕ) → 0 < length xs → left_open 1 xs ≡ Some d
+    → length m + length xs ≤ most_bytes → run (in_message from 1 m messages n) xs ≡ in_message from d (m ++ xs) messages (n + length xs)
 inner-run from d m xs messages n some is room = run-within from 1 d xs (in_message from 1 m messages n) refl refl (omega arith) some is room
 
 -- the first of bytes for which there is no room, where the others come to that
-over-rest : (from d e x k : ℕ) (xs : List ℕ) (s : State) → depth_after (suc d) x ≡ k → left_open k xs ≡ Some e → length (held_bytes s) < most_bytes → most_bytes < length (held_bytes s) + length (x ∷ xs) → ((k : ℕ) → depth_after (suc d) x ≡ suc k → 0 < length xs → (run (grows from (depth_after (suc d) x) (x ∷ []) s) xs).failed ≡ Some (TooLong from)) → (run (grows from (depth_after (suc d) x) (x ∷ []) s) xs).failed ≡ Some (TooLong from)
+over-rest : (from d e x k : ℕ) (xs : List ℕ) (s : State) → depth_after (suc d) x ≡ k → left_open k xs ≡ Some e → length (held_bytes s) < most_bytes
+    → most_bytes < length (held_bytes s) + length (x ∷ xs)
+    → ((k : ℕ) → depth_after (suc d) x ≡ suc k → 0 < length xs → (run (grows from (depth_after (suc d) x) (x ∷ []) s) xs).failed ≡ Some (TooLong from))
+    → (run (grows from (depth_after (suc d) x) (x ∷ []) s) xs).failed ≡ Some (TooLong from)
 over-rest from d e x k [] s nests is room over again = absurd (omega arith)
 over-rest from d e x zero (y ∷ ys) s nests is room over again = cc
 over-rest from d e x (suc k) (y ∷ ys) s nests is room over again = again k nests (omega arith)
 
-over-step : (from d e x : ℕ) (xs : List ℕ) (s : State) → s.failed ≡ None → s.stage ≡ Within from (suc d) → left_open (depth_after (suc d) x) xs ≡ Some e → most_bytes < length (held_bytes s) + length (x ∷ xs) → ((k : ℕ) → length (held_bytes s) < most_bytes → depth_after (suc d) x ≡ suc k → 0 < length xs → (run (grows from (depth_after (suc d) x) (x ∷ []) s) xs).failed ≡ Some (TooLong from)) → (run (next s x) xs).failed ≡ Some (TooLong from)
+over-step : (from d e x : ℕ) (xs : List ℕ) (s : State) → s.failed ≡ None → s.stage ≡ Within from (suc d)
+    → left_open (depth_after (suc d) x) xs ≡ Some e → most_bytes < length (held_bytes s) + length (x ∷ xs)
+    → ((k : ℕ) → length (held_bytes s) < most_bytes → depth_after (suc d) x ≡ suc k → 0 < length xs
+    → (run (grows from (depth_after (suc d) x) (x ∷ []) s) xs).failed ≡ Some (TooLong from)) → (run (next s x) xs).failed ≡ Some (TooLong from)
 over-step from d e x xs s sound stage is over again = by-room (leb_tells most_bytes (length (held_bytes s)))
   where
     here : next s x ≡ within from (suc d) s x
     here = rw (sound, stage) refl
 
-    by-room : ((nat_le most_bytes (length (held_bytes s)) ≡ true) × (most_bytes ≤ length (held_bytes s))) ⊎ ((nat_le most_bytes (length (held_bytes s)) ≡ false) × (length (held_bytes s) < most_bytes)) → (run (next s x) xs).failed ≡ Some (TooLong from)
+    by-room : ((nat_le most_bytes (length (held_bytes s)) ≡ true) × (most_bytes ≤ length (held_bytes s)))
+        ⊎ ((nat_le most_bytes (length (held_bytes s)) ≡ false) × (length (held_bytes s) < most_bytes)) → (run (next s x) xs).failed ≡ Some (TooLong from)
     by-room (inl full) =
         let failed : next s x ≡ fails (TooLong from) s = here ∙ within-full from (suc d) s x full.1 in
         ap (λ t. (run t xs).failed) failed ∙ ap (λ t. t.failed) (run-failed (fails (TooLong from) s) (TooLong from) xs refl)
     by-room (inr room) =
-        ap (λ t. (run t xs).failed) (here ∙ within-room from (suc d) s x room.1) ∙ over-rest from d e x (depth_after (suc d) x) xs s refl is room.1 over (λ k nests some. again k room.1 nests some)
+        ap (λ t. (run t xs).failed) (here ∙ within-room from (suc d) s x room.1)
+        ∙ over-rest from d e x (depth_after (suc d) x) xs s refl is room.1 over (λ k nests some. again k room.1 nests some)
 
 -- bytes within the open message, for which there is no room
-pub run-over : (from d e : ℕ) (xs : List ℕ) (s : State) → s.failed ≡ None → s.stage ≡ Within from d → 0 < d → 0 < length xs → left_open d xs ≡ Some e → most_bytes < length (held_bytes s) + length xs → (run s xs).failed ≡ Some (TooLong from)
+pub run-over : (from d e : ℕ) (xs : List ℕ) (s : State) → s.failed ≡ None → s.stage ≡ Within from d → 0 < d → 0 < length xs → left_open d xs ≡ Some e
+    → most_bytes < length (held_bytes s) + length xs → (run s xs).failed ≡ Some (TooLong from)
 run-over from d e [] s sound stage deep some is over = absurd (omega arith)
 run-over from zero e (x ∷ xs) s sound stage deep some is over = absurd (omega arith)
 run-over from (suc d) e (x ∷ xs) s sound stage deep some is over =
     over-step from d e x xs s sound stage is over (λ k room nests more.
     let grown : length (held_bytes s ++ x ∷ []) ≡ length (held_bytes s) + 1 = length-append (held_bytes s) (x ∷ []) in
-    run-over from (suc k) e xs (grows from (depth_after (suc d) x) (x ∷ []) s) sound (ap (λ n. landed from n) nests) (omega arith) more (subst (λ n. left_open n xs ≡ Some e) nests is) (omega arith))
+    run-over from (suc k) e xs (grows from (depth_after (suc d) x) (x ∷ []) s) sound (ap (λ n. landed from n) nests) (omega arith) more
+    (subst (λ n. left_open n xs ≡ Some e) nests is) (omega arith))
 
 -- A group behind the open message that doesn't begin `{1:`: from some byte on it is known to be the message's.
 record Resumed (from : ℕ) (m g : List ℕ) (messages : List (List ℕ)) (n d : ℕ) : Type 0 where
@@ -87,7 +109,8 @@ record Resumed (from : ℕ) (m g : List ℕ) (messages : List (List ℕ)) (n d :
   is : left_open 1 xs ≡ Some d
   ran : run (in_message from 0 m messages n) g ≡ run (in_message from 1 (m ++ pending) messages (n + length pending)) xs
 
-resumed-third : (from n d e : ℕ) (m more : List ℕ) (messages : List (List ℕ)) → (e ≡ 58 → ⊥) → left_open 1 (e ∷ more) ≡ Some d → Resumed from m (123 ∷ 49 ∷ e ∷ more) messages n d
+resumed-third : (from n d e : ℕ) (m more : List ℕ) (messages : List (List ℕ)) → (e ≡ 58 → ⊥) → left_open 1 (e ∷ more) ≡ Some d
+    → Resumed from m (123 ∷ 49 ∷ e ∷ more) messages n d
 resumed-third from n d e m more messages other is = record {
   pending = 123 ∷ 49 ∷ [];
   xs = e ∷ more;
@@ -100,7 +123,8 @@ resumed-third from n d e m more messages other is = record {
       ∙ ap (λ t. run t (e ∷ more)) (in-message-same from 1 messages (m ++ 123 ∷ 49 ∷ []) (m ++ 123 ∷ 49 ∷ []) (n + 1 + 1) (n + 2) refl (omega arith));
 }
 
-resumed-second : (from n d c : ℕ) (m more : List ℕ) (messages : List (List ℕ)) → (c ≡ 49 → ⊥) → left_open 1 (c ∷ more) ≡ Some d → Resumed from m (123 ∷ c ∷ more) messages n d
+resumed-second : (from n d c : ℕ) (m more : List ℕ) (messages : List (List ℕ)) → (c ≡ 49 → ⊥) → left_open 1 (c ∷ more) ≡ Some d
+    → Resumed from m (123 ∷ c ∷ more) messages n d
 resumed-second from n d c m more messages other is = record {
   pending = 123 ∷ [];
   xs = c ∷ more;
@@ -112,7 +136,8 @@ resumed-second from n d c m more messages other is = record {
       run-resumed from 1 s (c ∷ more) refl refl (omega arith) (omega arith) other;
 }
 
-resumed-behind-1 : (from n d : ℕ) (m more : List ℕ) (messages : List (List ℕ)) → left_open 1 more ≡ Some d → agrees (58 ∷ []) more ≡ false → Resumed from m (123 ∷ 49 ∷ more) messages n d
+resumed-behind-1 : (from n d : ℕ) (m more : List ℕ) (messages : List (List ℕ)) → left_open 1 more ≡ Some d → agrees (58 ∷ []) more ≡ false
+    → Resumed from m (123 ∷ 49 ∷ more) messages n d
 resumed-behind-1 from n d m [] messages is other = cc
 resumed-behind-1 from n d m (e ∷ more) messages is other = by-third (eqb_tells 58 e)
   where
@@ -120,7 +145,8 @@ resumed-behind-1 from n d m (e ∷ more) messages is other = by-third (eqb_tells
     by-third (inl same) = absurd (let t : true ≡ false = sym (ap (λ b. b && true) same.0) ∙ other in cc)
     by-third (inr differ) = resumed-third from n d e m more messages (λ q. differ.1 (sym q)) is
 
-resumed-behind : (from n d : ℕ) (m inside : List ℕ) (messages : List (List ℕ)) → left_open 1 inside ≡ Some d → agrees (49 ∷ 58 ∷ []) inside ≡ false → Resumed from m (123 ∷ inside) messages n d
+resumed-behind : (from n d : ℕ) (m inside : List ℕ) (messages : List (List ℕ)) → left_open 1 inside ≡ Some d → agrees (49 ∷ 58 ∷ []) inside ≡ false
+    → Resumed from m (123 ∷ inside) messages n d
 resumed-behind from n d m [] messages is other = cc
 resumed-behind from n d m (c ∷ more) messages is other = by-second (eqb_tells 49 c)
   where
@@ -138,16 +164,19 @@ group-resumed from n d m (b ∷ inside) messages is other =
     subst (λ x. Resumed from m (x ∷ inside) messages n d) (sym is.0) (resumed-behind from n d m inside messages is.1 rest)
 
 -- a message's bytes as far as they leave d groups left
-pub message-run : {n d : ℕ} {m gap : List ℕ} {messages : List (List ℕ)} {s : State} → IsMessageTo d m → Rests n messages gap s → length m ≤ most_bytes → run s m ≡ in_message n d m messages (n + length m)
+pub message-run : {n d : ℕ} {m gap : List ℕ} {messages : List (List ℕ)} {s : State} → IsMessageTo d m → Rests n messages gap s → length m ≤ most_bytes
+    → run s m ≡ in_message n d m messages (n + length m)
 message-run {n} {d} {m} {gap} {messages} {s} (head is begin) rests room = by-rest (drop 3 m) (leads m begin)
   where
     by-rest : (r : List ℕ) → m ≡ lead ++ r → run s m ≡ in_message n d m messages (n + length m)
     by-rest r whole =
         let left : left_open 1 r ≡ Some d = (subst (λ x. IsGroupTo d x) whole is).1 in
         let size : length (lead ++ r) ≡ length m = ap length (sym whole) in
-        ap (λ x. run s x) whole ∙ opened r left (omega arith) ∙ in-message-same n d messages (lead ++ r) m (n + length (lead ++ r)) (n + length m) (sym whole) (ap (λ k. n + k) size)
+        ap (λ x. run s x) whole ∙ opened r left (omega arith)
+        ∙ in-message-same n d messages (lead ++ r) m (n + length (lead ++ r)) (n + length m) (sym whole) (ap (λ k. n + k) size)
       where
-        opened : (r : List ℕ) → left_open 1 r ≡ Some d → length (lead ++ r) ≤ most_bytes → run s (lead ++ r) ≡ in_message n d (lead ++ r) messages (n + length (lead ++ r))
+        opened : (r : List ℕ) → left_open 1 r ≡ Some d → length (lead ++ r) ≤ most_bytes
+            → run s (lead ++ r) ≡ in_message n d (lead ++ r) messages (n + length (lead ++ r))
         opened [] left fits = let one : 1 ≡ d = cc in lead-run rests ∙ ap (λ k. in_message n k lead messages (n + 3)) one
         opened (x ∷ xs) left fits =
             run-append s lead (x ∷ xs) ∙ ap (λ t. run t (x ∷ xs)) (lead-run rests)
@@ -161,10 +190,12 @@ message-run {n} {d} {m} {gap} {messages} {s} (joined message group closed is oth
     let same : (message ++ r.pending) ++ r.xs ≡ message ++ group = append_assoc message r.pending r.xs ∙ ap (λ x. message ++ x) (sym r.whole) in
     run-append s message group ∙ ap (λ t. run t group) (message-run closed rests (omega arith))
     ∙ r.ran ∙ inner-run n d (message ++ r.pending) r.xs messages (n + length message + length r.pending) r.some r.is (omega arith)
-    ∙ in-message-same n d messages ((message ++ r.pending) ++ r.xs) (message ++ group) (n + length message + length r.pending + length r.xs) (n + length (message ++ group)) same (omega arith)
+    ∙ in-message-same n d messages ((message ++ r.pending) ++ r.xs) (message ++ group) (n + length message + length r.pending + length r.xs)
+    (n + length (message ++ group)) same (omega arith)
 
 -- a message's bytes past what it may have
-pub message-over : {n d : ℕ} {m gap : List ℕ} {messages : List (List ℕ)} {s : State} → IsMessageTo d m → Rests n messages gap s → most_bytes < length m → (run s m).failed ≡ Some (TooLong n)
+pub message-over : {n d : ℕ} {m gap : List ℕ} {messages : List (List ℕ)} {s : State} → IsMessageTo d m → Rests n messages gap s → most_bytes < length m
+    → (run s m).failed ≡ Some (TooLong n)
 message-over {n} {d} {m} {gap} {messages} {s} (head is begin) rests over =
     let whole : m ≡ lead ++ drop 3 m = leads m begin in
     let size : length m ≡ length lead + length (drop 3 m) = ap length whole ∙ length-append lead (drop 3 m) in
@@ -172,9 +203,12 @@ message-over {n} {d} {m} {gap} {messages} {s} (head is begin) rests over =
     ap (λ x. (run s x).failed) whole
     ∙ ap (λ t. t.failed) (run-append s lead (drop 3 m) ∙ ap (λ t. run t (drop 3 m)) (lead-run rests))
     ∙ run-over n 1 d (drop 3 m) (in_message n 1 lead messages (n + 3)) refl refl (omega arith) (omega arith) within_it (omega arith)
-message-over {n} {d} {m} {gap} {messages} {s} (joined message group closed is other) rests over = by-size (leb_tells (length message) most_bytes) (message-over closed rests)
+message-over {n} {d} {m} {gap} {messages} {s} (joined message group closed is other) rests over =
+    by-size (leb_tells (length message) most_bytes) (message-over closed rests)
   where
-    by-size : ((nat_le (length message) most_bytes ≡ true) × (length message ≤ most_bytes)) ⊎ ((nat_le (length message) most_bytes ≡ false) × (most_bytes < length message)) → (most_bytes < length message → (run s message).failed ≡ Some (TooLong n)) → (run s (message ++ group)).failed ≡ Some (TooLong n)
+    by-size : ((nat_le (length message) most_bytes ≡ true) × (length message ≤ most_bytes))
+        ⊎ ((nat_le (length message) most_bytes ≡ false) × (most_bytes < length message))
+        → (most_bytes < length message → (run s message).failed ≡ Some (TooLong n)) → (run s (message ++ group)).failed ≡ Some (TooLong n)
     by-size (inr long) again =
         ap (λ t. t.failed) (run-append s message group ∙ run-failed (run s message) (TooLong n) group (again long.1)) ∙ again long.1
     by-size (inl fits) again =
@@ -183,7 +217,8 @@ message-over {n} {d} {m} {gap} {messages} {s} (joined message group closed is ot
         let parts : length group ≡ length r.pending + length r.xs = ap length r.whole ∙ length-append r.pending r.xs in
         let held : length (message ++ r.pending) ≡ length message + length r.pending = length-append message r.pending in
         ap (λ t. t.failed) (run-append s message group ∙ ap (λ t. run t group) (message-run closed rests fits.1) ∙ r.ran)
-        ∙ run-over n 1 d r.xs (in_message n 1 (message ++ r.pending) messages (n + length message + length r.pending)) refl refl (omega arith) r.some r.is (omega arith)
+        ∙ run-over n 1 d r.xs (in_message n 1 (message ++ r.pending) messages (n + length message + length r.pending)) refl refl
+        (omega arith) r.some r.is (omega arith)
 
 -- `$` in a gap
 abbrev pub limit : Bool → ℕ
@@ -221,7 +256,11 @@ blank-stage b marked is = by-byte (or-parts (b == 10 || b == 13) (b == 32) is)
     by-byte (inl two) = by-two (or-parts (b == 10) (b == 13) two)
     by-byte (inr same) = at 32 refl same
 
-gap-step : (b : ℕ) (gap : List ℕ) (n : ℕ) (messages : List (List ℕ)) (marked : Bool) → list_all is_gap_byte (b ∷ gap) ≡ true → dollars (b ∷ gap) ≤ limit marked → (((b == 36) ≡ true) × (b ≡ 36)) ⊎ (((b == 36) ≡ false) × (b ≢ 36)) → ((marked : Bool) → list_all is_gap_byte gap ≡ true → dollars gap ≤ limit marked → run (at_gap (n + 1) messages marked) gap ≡ at_gap ((n + 1) + length gap) messages (marked || nat_lt 0 (dollars gap))) → run (at_gap n messages marked) (b ∷ gap) ≡ at_gap (n + length (b ∷ gap)) messages (marked || nat_lt 0 (dollars (b ∷ gap)))
+gap-step : (b : ℕ) (gap : List ℕ) (n : ℕ) (messages : List (List ℕ)) (marked : Bool) → list_all is_gap_byte (b ∷ gap) ≡ true
+    → dollars (b ∷ gap) ≤ limit marked → (((b == 36) ≡ true) × (b ≡ 36)) ⊎ (((b == 36) ≡ false) × (b ≢ 36))
+    → ((marked : Bool) → list_all is_gap_byte gap ≡ true → dollars gap ≤ limit marked
+    → run (at_gap (n + 1) messages marked) gap ≡ at_gap ((n + 1) + length gap) messages (marked || nat_lt 0 (dollars gap)))
+    → run (at_gap n messages marked) (b ∷ gap) ≡ at_gap (n + length (b ∷ gap)) messages (marked || nat_lt 0 (dollars (b ∷ gap)))
 gap-step b gap n messages marked all few (inr other) again =
     let parts = and-parts (is_gap_byte b) (list_all is_gap_byte gap) all in
     let blank : is_blank b ≡ true = other-way (is_blank b) (b == 36) parts.0 other.0 in
@@ -241,10 +280,12 @@ gap-step b gap n messages false all few (inl same) again =
     let parts = and-parts (is_gap_byte b) (list_all is_gap_byte gap) all in
     let step : next (at_gap n messages false) b ≡ at_gap (n + 1) messages true = ap (λ x. next (at_gap n messages false) x) same.1 in
     ap (λ t. run t gap) step ∙ again true parts.1 (omega arith)
-    ∙ gap-again (n + 1 + length gap) messages true _ (n + length (b ∷ gap)) (omega arith) (sym (ap (λ k. nat_lt 0 k) counted ∙ some-test (dollars gap + 1) (omega arith)))
+    ∙ gap-again (n + 1 + length gap) messages true _ (n + length (b ∷ gap)) (omega arith)
+    (sym (ap (λ k. nat_lt 0 k) counted ∙ some-test (dollars gap + 1) (omega arith)))
 
 -- the bytes of a gap
-pub gap-run : (gap : List ℕ) (n : ℕ) (messages : List (List ℕ)) (marked : Bool) → list_all is_gap_byte gap ≡ true → dollars gap ≤ limit marked → run (at_gap n messages marked) gap ≡ at_gap (n + length gap) messages (marked || nat_lt 0 (dollars gap))
+pub gap-run : (gap : List ℕ) (n : ℕ) (messages : List (List ℕ)) (marked : Bool) → list_all is_gap_byte gap ≡ true → dollars gap ≤ limit marked
+    → run (at_gap n messages marked) gap ≡ at_gap (n + length gap) messages (marked || nat_lt 0 (dollars gap))
 gap-run [] n messages true all few = gap-again n messages true true (n + 0) (omega arith) refl
 gap-run [] n messages false all few = gap-again n messages false false (n + 0) (omega arith) refl
 gap-run (b ∷ gap) n messages marked all few = gap-step b gap n messages marked all few (eqb_tells b 36) (gap-run gap (n + 1) messages)
@@ -258,15 +299,18 @@ or-true true = refl
 or-true false = refl
 
 -- a byte of a gap behind the open message
-pub close-step : (from n b : ℕ) (m : List ℕ) (messages : List (List ℕ)) → is_gap_byte b ≡ true → next (in_message from 0 m messages n) b ≡ at_gap (n + 1) (messages ++ m ∷ []) (b == 36)
+pub close-step : (from n b : ℕ) (m : List ℕ) (messages : List (List ℕ)) → is_gap_byte b ≡ true
+    → next (in_message from 0 m messages n) b ≡ at_gap (n + 1) (messages ++ m ∷ []) (b == 36)
 close-step from n b m messages is =
     let s = in_message from 0 m messages n in
     let other : (b == 123) ≡ false = other-test b 123 (λ e. let t : is_gap_byte 123 ≡ true = subst (λ x. is_gap_byte x ≡ true) e is in cc) in
     let closes : next s b ≡ next_close s b = ap (λ t. cond t (to (Behind from 1) s) (next_close s b)) other in
     closes ∙ close-gap s b is
-    ∙ state-same (to (Between (b == 36)) (gives s)) (at_gap (n + 1) (messages ++ m ∷ []) (b == 36)) refl refl refl (let e = length-append messages (m ∷ []) in omega arith) refl refl
+    ∙ state-same (to (Between (b == 36)) (gives s)) (at_gap (n + 1) (messages ++ m ∷ []) (b == 36)) refl refl refl
+    (let e = length-append messages (m ∷ []) in omega arith) refl refl
 
-pub marked-joined : (b : ℕ) (gap : List ℕ) (messages : List (List ℕ)) (m : List ℕ) → ((b == 36) || nat_lt 0 (dollars gap)) ≡ is_marked (messages ++ m ∷ []) (b ∷ gap)
+pub marked-joined : (b : ℕ) (gap : List ℕ) (messages : List (List ℕ)) (m : List ℕ)
+    → ((b == 36) || nat_lt 0 (dollars gap)) ≡ is_marked (messages ++ m ∷ []) (b ∷ gap)
 marked-joined b gap messages m = by-byte (eqb_tells b 36) ∙ sym (ap (λ t. t || nat_lt 0 (dollars (b ∷ gap))) (no-more-joined messages m))
   where
     by-byte : (((b == 36) ≡ true) × (b ≡ 36)) ⊎ (((b == 36) ≡ false) × (b ≢ 36)) → ((b == 36) || nat_lt 0 (dollars gap)) ≡ nat_lt 0 (dollars (b ∷ gap))
@@ -278,21 +322,26 @@ marked-joined b gap messages m = by-byte (eqb_tells b 36) ∙ sym (ap (λ t. t |
         ap (λ t. t || nat_lt 0 (dollars gap)) other.0 ∙ ap (λ k. nat_lt 0 k) (sym counted)
 
 -- a gap, or nothing, behind the open message
-pub rests-behind : (from n : ℕ) (m gap : List ℕ) (messages : List (List ℕ)) → IsGap 1 gap → Rests (n + length gap) (messages ++ m ∷ []) gap (run (in_message from 0 m messages n) gap)
-rests-behind from n m [] messages is = let e : n ≡ n + 0 = omega arith in subst (λ k. Rests k (messages ++ m ∷ []) [] (in_message from 0 m messages n)) e (at-once)
+pub rests-behind : (from n : ℕ) (m gap : List ℕ) (messages : List (List ℕ)) → IsGap 1 gap
+    → Rests (n + length gap) (messages ++ m ∷ []) gap (run (in_message from 0 m messages n) gap)
+rests-behind from n m [] messages is =
+    let e : n ≡ n + 0 = omega arith in subst (λ k. Rests k (messages ++ m ∷ []) [] (in_message from 0 m messages n)) e (at-once)
   where
     at-once : Rests n (messages ++ m ∷ []) [] (in_message from 0 m messages n)
     at-once = rests_behind n from messages m
 rests-behind from n m (b ∷ gap) messages is =
     let parts = and-parts (is_gap_byte b) (list_all is_gap_byte gap) is.0 in
     let few : dollars gap ≤ limit (b == 36) = fewer b gap is.1 (eqb_tells b 36) in
-    let there : run (in_message from 0 m messages n) (b ∷ gap) ≡ at_gap (n + length (b ∷ gap)) (messages ++ m ∷ []) (is_marked (messages ++ m ∷ []) (b ∷ gap)) =
+    let there :
+    run (in_message from 0 m messages n) (b ∷ gap) ≡ at_gap (n + length (b ∷ gap)) (messages ++ m ∷ []) (is_marked (messages ++ m ∷ []) (b ∷ gap)) =
     ap (λ t. run t gap) (close-step from n b m messages parts.0)
     ∙ gap-run gap (n + 1) (messages ++ m ∷ []) (b == 36) parts.1 few
     ∙ gap-again (n + 1 + length gap) (messages ++ m ∷ []) _ _ (n + length (b ∷ gap)) (omega arith) (marked-joined b gap messages m) in
-    subst (λ t. Rests (n + length (b ∷ gap)) (messages ++ m ∷ []) (b ∷ gap) t) (sym there) (rests_apart (n + length (b ∷ gap)) (messages ++ m ∷ []) (b ∷ gap) (or-true (no_more (messages ++ m ∷ []))))
+    subst (λ t. Rests (n + length (b ∷ gap)) (messages ++ m ∷ []) (b ∷ gap) t) (sym there)
+    (rests_apart (n + length (b ∷ gap)) (messages ++ m ∷ []) (b ∷ gap) (or-true (no_more (messages ++ m ∷ []))))
   where
-    fewer : (b : ℕ) (gap : List ℕ) → dollars (b ∷ gap) ≤ 1 → (((b == 36) ≡ true) × (b ≡ 36)) ⊎ (((b == 36) ≡ false) × (b ≢ 36)) → dollars gap ≤ limit (b == 36)
+    fewer : (b : ℕ) (gap : List ℕ) → dollars (b ∷ gap) ≤ 1 → (((b == 36) ≡ true) × (b ≡ 36)) ⊎ (((b == 36) ≡ false) × (b ≢ 36))
+        → dollars gap ≤ limit (b == 36)
     fewer b gap few (inl same) =
         let counted : dollars (b ∷ gap) ≡ dollars gap + 1 = rw same.0 refl in
         subst (λ t. dollars gap ≤ limit t) (sym same.0) (omega arith)
@@ -303,12 +352,15 @@ rests-behind from n m (b ∷ gap) messages is =
 -- a file leads into its last gap, or behind its last message
 pub file-run : {file gap : List ℕ} {messages : List (List ℕ)} → IsFileOf file messages gap → Rests (length file) messages gap (run (at_start []) file)
 file-run {file} (file_start is) =
-    let there : run (at_start []) file ≡ at_gap (length file) [] true = gap-run file 0 [] true is.0 is.1 ∙ gap-again (0 + length file) [] true true (length file) (omega arith) refl in
+    let there : run (at_start []) file ≡ at_gap (length file) [] true =
+    gap-run file 0 [] true is.0 is.1 ∙ gap-again (0 + length file) [] true true (length file) (omega arith) refl in
     subst (λ t. Rests (length file) [] file t) (sym there) (rests_apart (length file) [] file refl)
 file-run (file_more file message gap messages front is gapped) =
-    let sizes : length (file ++ message ++ gap) ≡ (length file + length message) + length gap = length-append (file ++ message) gap ∙ ap (λ k. k + length gap) (length-append file message) in
+    let sizes : length (file ++ message ++ gap) ≡ (length file + length message) + length gap =
+    length-append (file ++ message) gap ∙ ap (λ k. k + length gap) (length-append file message) in
     let there : run (at_start []) (file ++ message ++ gap) ≡ run (in_message (length file) 0 message messages (length file + length message)) gap =
-    run-append (at_start []) (file ++ message) gap ∙ ap (λ t. run t gap) (run-append (at_start []) file message ∙ message-run is.0 (file-run front) is.1) in
+    run-append (at_start []) (file ++ message) gap
+    ∙ ap (λ t. run t gap) (run-append (at_start []) file message ∙ message-run is.0 (file-run front) is.1) in
     subst (λ t. Rests (length (file ++ message ++ gap)) (messages ++ message ∷ []) gap t) (sym there)
     (subst (λ k. Rests k (messages ++ message ∷ []) gap (run (in_message (length file) 0 message messages (length file + length message)) gap)) (sym sizes)
     (rests-behind (length file) (length file + length message) message gap messages gapped))

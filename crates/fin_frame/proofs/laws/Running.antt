@@ -25,10 +25,12 @@ gt-test m n e = grind (arith, nat_tests)
 pub lt-test : (m n : ℕ) → m < n → nat_lt m n ≡ true
 lt-test m n e = grind (arith, nat_tests)
 
+-- bytes in two pieces are cut as the two pieces one after the other
 pub run-append : (s : State) (xs ys : List ℕ) → run s (xs ++ ys) ≡ run (run s xs) ys
 run-append s [] ys = refl
 run-append s (x ∷ xs) ys = run-append (next s x) xs ys
 
+-- after a fault nothing changes
 pub run-failed : (s : State) (fault : FrameFault) (xs : List ℕ) → s.failed ≡ Some fault → run s xs ≡ s
 run-failed s fault [] e = refl
 run-failed s fault (x ∷ xs) e =
@@ -55,7 +57,8 @@ pub within-room : (from d : ℕ) (s : State) (b : ℕ) → length (held_bytes s)
 within-room from d s b room = rw (gt-test most_bytes (length (held_bytes s)) room) refl
 
 -- bytes within groups go on as their braces say, as far as there is room
-pub run-grows : (from d e : ℕ) (front bytes : List ℕ) (s : State) → s.failed ≡ None → left_open d bytes ≡ Some e → length (held_bytes s) + length front + length bytes ≤ most_bytes → run (grows from d front s) bytes ≡ grows from e (front ++ bytes) s
+pub run-grows : (from d e : ℕ) (front bytes : List ℕ) (s : State) → s.failed ≡ None → left_open d bytes ≡ Some e
+    → length (held_bytes s) + length front + length bytes ≤ most_bytes → run (grows from d front s) bytes ≡ grows from e (front ++ bytes) s
 run-grows from d e front [] s sound is room =
     let same : d ≡ e = cc in
     ap (λ n. grows from n front s) same ∙ ap (λ xs. grows from e xs s) (sym (append-nil front))
@@ -64,14 +67,16 @@ run-grows from (suc d) e front (b ∷ bytes) s sound is room =
     let here : next (grows from (suc d) front s) b ≡ within from (suc d) (grows from (suc d) front s) b = rw sound refl in
     let size : length (held_bytes s ++ front) ≡ length (held_bytes s) + length front = length-append _ _ in
     let has : length (held_bytes s ++ front) < most_bytes = omega arith in
-    let step : next (grows from (suc d) front s) b ≡ grows from (depth_after (suc d) b) (front ++ b ∷ []) s = here ∙ within-room from (suc d) (grows from (suc d) front s) b has ∙ grows-grows from (suc d) (depth_after (suc d) b) front (b ∷ []) s in
+    let step : next (grows from (suc d) front s) b ≡ grows from (depth_after (suc d) b) (front ++ b ∷ []) s =
+    here ∙ within-room from (suc d) (grows from (suc d) front s) b has ∙ grows-grows from (suc d) (depth_after (suc d) b) front (b ∷ []) s in
     let longer : length (front ++ b ∷ []) ≡ length front + 1 = length-append front (b ∷ []) in
     ap (λ t. run t bytes) step
     ∙ run-grows from (depth_after (suc d) b) e (front ++ b ∷ []) bytes s sound is (omega arith)
     ∙ ap (λ xs. grows from e xs s) (append_assoc front (b ∷ []) bytes)
 
 -- the same from a state within a group
-pub run-within : (from d e : ℕ) (bytes : List ℕ) (s : State) → s.failed ≡ None → s.stage ≡ Within from d → 0 < d → 0 < length bytes → left_open d bytes ≡ Some e → length (held_bytes s) + length bytes ≤ most_bytes → run s bytes ≡ grows from e bytes s
+pub run-within : (from d e : ℕ) (bytes : List ℕ) (s : State) → s.failed ≡ None → s.stage ≡ Within from d → 0 < d → 0 < length bytes
+    → left_open d bytes ≡ Some e → length (held_bytes s) + length bytes ≤ most_bytes → run s bytes ≡ grows from e bytes s
 run-within from d e [] s sound stage deep some is room = absurd (omega arith)
 run-within from zero e (b ∷ bytes) s sound stage deep some is room = absurd (omega arith)
 run-within from (suc d) e (b ∷ bytes) s sound stage deep some is room =
@@ -85,17 +90,20 @@ pub within-full : (from d : ℕ) (s : State) (b : ℕ) → most_bytes ≤ length
 within-full from d s b full = rw (le-test most_bytes (length (held_bytes s)) full) refl
 
 -- `{1:` goes on
-pub opening-more : (matched : ℕ) (s : State) (b : ℕ) → b ≡ get_or lead matched 0 → (matched ≡ 2 → ⊥) → next_opening matched s b ≡ to (Opening (matched + 1)) s
+pub opening-more : (matched : ℕ) (s : State) (b : ℕ) → b ≡ get_or lead matched 0 → (matched ≡ 2 → ⊥)
+    → next_opening matched s b ≡ to (Opening (matched + 1)) s
 opening-more matched s b is not-last = rw (same-test b (get_or lead matched 0) is, other-test matched 2 not-last) refl
 
-pub behind-more : (from matched : ℕ) (s : State) (b : ℕ) → b ≡ get_or lead matched 0 → (matched ≡ 2 → ⊥) → next_behind from matched s b ≡ to (Behind from (matched + 1)) s
+pub behind-more : (from matched : ℕ) (s : State) (b : ℕ) → b ≡ get_or lead matched 0 → (matched ≡ 2 → ⊥)
+    → next_behind from matched s b ≡ to (Behind from (matched + 1)) s
 behind-more from matched s b is not-last = rw (same-test b (get_or lead matched 0) is, other-test matched 2 not-last) refl
 
 pub behind-last : (from : ℕ) (s : State) → next_behind from 2 s 58 ≡ begins s
 behind-last from s = refl
 
 -- `{1:` doesn't go on: its bytes are the open message's
-pub behind-resumes : (from matched : ℕ) (s : State) (b : ℕ) → (b ≡ get_or lead matched 0 → ⊥) → 0 < matched → next_behind from matched s b ≡ within from 1 (resumes from matched s) b
+pub behind-resumes : (from matched : ℕ) (s : State) (b : ℕ) → (b ≡ get_or lead matched 0 → ⊥) → 0 < matched
+    → next_behind from matched s b ≡ within from 1 (resumes from matched s) b
 behind-resumes from matched s b isnt some = rw (other-test b (get_or lead matched 0) isnt, other-test matched 0 (λ e. omega arith)) refl
 
 -- a byte that ends the open message
@@ -115,7 +123,8 @@ state-same s t stage held fed begun failed given =
     ∙ ap (λ x. made t.stage t.held t.fed t.begun t.failed x) given
 
 -- the bytes after `{` or `{1` show that these are the open message's
-pub run-resumed : (from matched : ℕ) (s : State) (xs : List ℕ) → s.failed ≡ None → s.stage ≡ Behind from matched → 0 < matched → 0 < length xs → (get_or xs 0 0 ≡ get_or lead matched 0 → ⊥) → run s xs ≡ run (resumes from matched s) xs
+pub run-resumed : (from matched : ℕ) (s : State) (xs : List ℕ) → s.failed ≡ None → s.stage ≡ Behind from matched → 0 < matched → 0 < length xs
+    → (get_or xs 0 0 ≡ get_or lead matched 0 → ⊥) → run s xs ≡ run (resumes from matched s) xs
 run-resumed from matched s [] sound stage begun some other = absurd (omega arith)
 run-resumed from matched s (x ∷ xs) sound stage begun some other =
     let there : next s x ≡ next_behind from matched s x = rw (sound, stage) refl in
@@ -127,7 +136,9 @@ take-first zero xs n some = absurd (omega arith)
 take-first (suc n) [] n-some some = absurd (omega arith)
 take-first (suc n) (x ∷ xs) n-some some = (omega arith, refl)
 
-pub took-resumed : (from matched : ℕ) (r : Result ℕ FrameFault) (s : State) (rest : List ℕ) (now : State) → s.failed ≡ None → s.stage ≡ Behind from matched → 0 < matched → 0 < length rest → (get_or rest 0 0 ≡ get_or lead matched 0 → ⊥) → HasTaken r (resumes from matched s) rest now → HasTaken r s rest now
+pub took-resumed : (from matched : ℕ) (r : Result ℕ FrameFault) (s : State) (rest : List ℕ) (now : State) → s.failed ≡ None
+    → s.stage ≡ Behind from matched → 0 < matched → 0 < length rest → (get_or rest 0 0 ≡ get_or lead matched 0 → ⊥)
+    → HasTaken r (resumes from matched s) rest now → HasTaken r s rest now
 took-resumed from matched (Ok n) s rest now sound stage begun some other took =
     let first = take-first n rest took.0 some in
     (took.0, took.1, took.2 ∙ sym (run-resumed from matched s (take n rest) sound stage begun first.0 (λ e. other (sym first.1 ∙ e))))
@@ -143,7 +154,8 @@ took-resumed from matched (Err (Unbalanced at)) s rest now sound stage begun som
     run-resumed from matched s (take 1 rest) sound stage begun first.0 (λ e. other (sym first.1 ∙ e)) ∙ took
 
 -- one byte
-pub took-one : (r : Result ℕ FrameFault) (s after : State) (rest : List ℕ) (now : State) → 0 < length rest → after ≡ next s (get_or rest 0 0) → HasTakenByte r s after now → HasTaken r s rest now
+pub took-one : (r : Result ℕ FrameFault) (s after : State) (rest : List ℕ) (now : State) → 0 < length rest → after ≡ next s (get_or rest 0 0)
+    → HasTakenByte r s after now → HasTaken r s rest now
 took-one (Ok n) s after rest now some is took =
     let one : n ≡ 1 = took.0 in
     let ran : run s (take n rest) ≡ after = ap (λ k. run s (take k rest)) one ∙ run-first s rest some ∙ sym is in
@@ -154,11 +166,14 @@ took-one (Err (TooLong at)) s after rest now some is took = run-first s rest som
 took-one (Err (Unbalanced at)) s after rest now some is took = run-first s rest some ∙ sym is ∙ took
 
 -- the answer of a call that took bytes within groups
-pub took-within : (from d e len reach : ℕ) (rest : List ℕ) (s now : State) → s.failed ≡ None → s.stage ≡ Within from d → 0 < d → 0 < reach → reach ≤ length rest → length (held_bytes s) + reach ≤ most_bytes → len ≤ reach → left_open d (take len rest) ≡ Some e → (e ≡ 0) ⊎ (len ≡ reach) → now ≡ grows from e (take len rest) s → HasTaken (Ok len) s rest now
+pub took-within : (from d e len reach : ℕ) (rest : List ℕ) (s now : State) → s.failed ≡ None → s.stage ≡ Within from d → 0 < d → 0 < reach
+    → reach ≤ length rest → length (held_bytes s) + reach ≤ most_bytes → len ≤ reach → left_open d (take len rest) ≡ Some e → (e ≡ 0) ⊎ (len ≡ reach)
+    → now ≡ grows from e (take len rest) s → HasTaken (Ok len) s rest now
 took-within from d e len reach rest s now sound stage deep some fits room most is end same =
     let size : length (take len rest) ≡ len = length-take-le len rest (omega arith) in
     let progress : 0 < len = progress-of d e len reach rest deep some is end in
-    let ran : run s (take len rest) ≡ grows from e (take len rest) s = run-within from d e (take len rest) s sound stage deep (omega arith) is (omega arith) in
+    let ran : run s (take len rest) ≡ grows from e (take len rest) s =
+    run-within from d e (take len rest) s sound stage deep (omega arith) is (omega arith) in
     (progress, omega arith, same ∙ sym ran)
   where
     progress-of : (d e len reach : ℕ) (rest : List ℕ) → 0 < d → 0 < reach → left_open d (take len rest) ≡ Some e → (e ≡ 0) ⊎ (len ≡ reach) → 0 < len

@@ -48,6 +48,7 @@ whole-more added (whole_some file message rest messages front is over) =
             let same : agrees lead ((b ∷ rest) ++ added) ≡ true = agrees-long lead (b ∷ rest) (omega arith) parts.1 in
             ap (λ t. is_gap_byte b || t) (ap (λ t. t && agrees lead ((b ∷ rest) ++ added)) longer ∙ same) ∙ or-true (is_gap_byte b)
 
+-- a message that has begun has begun whatever follows
 pub begun-more : {bytes : List ℕ} {n : ℕ} (added : List ℕ) → HasBegun bytes n → HasBegun (bytes ++ added) n
 begun-more added (has_begun file rest messages front) =
     subst (λ x. HasBegun x (length messages + 1)) (sym (append_assoc (file ++ lead) rest added)) (has_begun file (rest ++ added) messages front)
@@ -79,19 +80,26 @@ choice-more false x x' y f e = e
 pub both-true : (a b : Bool) → a ≡ true → b ≡ true → (a && b) ≡ true
 both-true a b p q = ap (λ t. t && b) p ∙ q
 
-follow-more : (messages : List (List ℕ)) (gap rest added : List ℕ) → cannot_follow messages gap rest ≡ true → cannot_follow messages gap (rest ++ added) ≡ true
+follow-more : (messages : List (List ℕ)) (gap rest added : List ℕ) → cannot_follow messages gap rest ≡ true
+    → cannot_follow messages gap (rest ++ added) ≡ true
 follow-more messages gap [] added wrong = cc
 follow-more messages gap (b ∷ rest) added wrong =
-    choice-more (b == 123) (stands_apart messages gap && not (agrees lead (b ∷ rest))) (stands_apart messages gap && not (agrees lead (b ∷ rest ++ added))) (if b == 36 then no_more messages || nat_lt 0 (dollars gap) else not (is_blank b))
+    choice-more (b == 123) (stands_apart messages gap && not (agrees lead (b ∷ rest)))
+    (stands_apart messages gap && not (agrees lead (b ∷ rest ++ added)))
+    (if b == 36 then no_more messages || nat_lt 0 (dollars gap) else not (is_blank b))
     (λ e. let parts = and-parts (stands_apart messages gap) (not (agrees lead (b ∷ rest))) e in
-    both-true (stands_apart messages gap) (not (agrees lead (b ∷ rest ++ added))) parts.0 (not-true (agrees lead (b ∷ rest ++ added)) (agrees-other lead (b ∷ rest) added (not-false (agrees lead (b ∷ rest)) parts.1))))
+    both-true (stands_apart messages gap) (not (agrees lead (b ∷ rest ++ added))) parts.0
+    (not-true (agrees lead (b ∷ rest ++ added)) (agrees-other lead (b ∷ rest) added (not-false (agrees lead (b ∷ rest)) parts.1))))
     wrong
 
-pub shown-more : {bytes : List ℕ} {messages : List (List ℕ)} {fault : FrameFault} (added : List ℕ) → Shows bytes messages fault → Shows (bytes ++ added) messages fault
+pub shown-more : {bytes : List ℕ} {messages : List (List ℕ)} {fault : FrameFault} (added : List ℕ) → Shows bytes messages fault
+    → Shows (bytes ++ added) messages fault
 shown-more {bytes} {messages} added (shows_stray {gap} file rest front wrong) =
-    subst (λ x. Shows x messages (Stray (length file))) (sym (append_assoc file rest added)) (shows_stray file (rest ++ added) front (follow-more messages gap rest added wrong))
+    subst (λ x. Shows x messages (Stray (length file))) (sym (append_assoc file rest added))
+    (shows_stray file (rest ++ added) front (follow-more messages gap rest added wrong))
 shown-more {bytes} {messages} added (shows_long file message rest front is over) =
-    subst (λ x. Shows x messages (TooLong (length file))) (sym (append_assoc (file ++ message) rest added)) (shows_long file message (rest ++ added) front is over)
+    subst (λ x. Shows x messages (TooLong (length file))) (sym (append_assoc (file ++ message) rest added))
+    (shows_long file message (rest ++ added) front is over)
 
 -- messages and gaps grow by a byte
 
@@ -99,7 +107,8 @@ pub dollars-append : (xs ys : List ℕ) → dollars (xs ++ ys) ≡ dollars xs + 
 dollars-append [] ys = omega arith
 dollars-append (x ∷ xs) ys = by-byte (x == 36) (dollars-append xs ys)
   where
-    by-byte : (t : Bool) → dollars (xs ++ ys) ≡ dollars xs + dollars ys → cond t (dollars (xs ++ ys) + 1) (dollars (xs ++ ys)) ≡ cond t (dollars xs + 1) (dollars xs) + dollars ys
+    by-byte : (t : Bool) → dollars (xs ++ ys) ≡ dollars xs + dollars ys
+        → cond t (dollars (xs ++ ys) + 1) (dollars (xs ++ ys)) ≡ cond t (dollars xs + 1) (dollars xs) + dollars ys
     by-byte true e = omega arith
     by-byte false e = e
 
@@ -130,7 +139,8 @@ gap-more most b gap is byte few =
 abbrev pub room_of : List (List ℕ) → ℕ
 room_of messages = if no_more messages then 0 else 1
 
-pub file-more : {file gap : List ℕ} {messages : List (List ℕ)} (b : ℕ) → IsFileOf file messages gap → is_gap_byte b ≡ true → dollars (gap ++ b ∷ []) ≤ room_of messages → IsFileOf (file ++ b ∷ []) messages (gap ++ b ∷ [])
+pub file-more : {file gap : List ℕ} {messages : List (List ℕ)} (b : ℕ) → IsFileOf file messages gap → is_gap_byte b ≡ true
+    → dollars (gap ++ b ∷ []) ≤ room_of messages → IsFileOf (file ++ b ∷ []) messages (gap ++ b ∷ [])
 file-more {file} b (file_start is) byte few = file_start (gap-more 0 b file is byte few)
 file-more b (file_more file message gap messages front is gapped) byte few =
     let room : dollars (gap ++ b ∷ []) ≤ 1 = at-most (no_more (messages ++ message ∷ [])) few in
@@ -150,39 +160,63 @@ last-more added (inr last) = inr (begun-more added last)
 
 -- in the second or third byte of a `{1:` that stands apart
 abbrev pub in_opening : ℕ → List (List ℕ) → ℕ → State
-in_opening n messages matched = record { stage = Opening matched; held = None; fed = n + matched; begun = length messages; failed = None; given = messages }
+in_opening n messages matched = record {
+  stage = Opening matched;
+  held = None;
+  fed = n + matched;
+  begun = length messages;
+  failed = None;
+  given = messages;
+}
 
 -- behind a whole group of the open message and bytes of `{1:`
 abbrev pub in_behind : ℕ → List ℕ → List (List ℕ) → ℕ → ℕ → State
-in_behind from message messages n matched = record { stage = Behind from matched; held = Some message; fed = n + matched; begun = length messages + 1; failed = None; given = messages }
+in_behind from message messages n matched = record {
+  stage = Behind from matched;
+  held = Some message;
+  fed = n + matched;
+  begun = length messages + 1;
+  failed = None;
+  given = messages;
+}
 
 -- where the machine is, and how the bytes are made up
 pub data Tracks : List ℕ → State → Type 0 where
-  tracks_gap : (file gap : List ℕ) (messages : List (List ℕ)) → IsFileOf file messages gap → stands_apart messages gap ≡ true → Tracks file (at_gap (length file) messages (is_marked messages gap))
-  tracks_opening : (file gap : List ℕ) (messages : List (List ℕ)) (matched : ℕ) → IsFileOf file messages gap → stands_apart messages gap ≡ true → matched ≤ 1 → Tracks (file ++ take (suc matched) lead) (in_opening (length file) messages (suc matched))
-  tracks_message : (file gap message : List ℕ) (messages : List (List ℕ)) (d : ℕ) → IsFileOf file messages gap → IsMessageTo d message → length message ≤ most_bytes → Tracks (file ++ message) (in_message (length file) d message messages (length file + length message))
-  tracks_behind : (file gap message : List ℕ) (messages : List (List ℕ)) (matched : ℕ) → IsFileOf file messages gap → IsMessage message → matched ≤ 1 → Tracks (file ++ message ++ take (suc matched) lead) (in_behind (length file) message messages (length file + length message) (suc matched))
-  tracks_failed : (bytes : List ℕ) (s : State) (messages : List (List ℕ)) (fault : FrameFault) → Shows bytes messages fault → s.failed ≡ Some fault → Begins s.given messages → ShowWhole bytes s.given → LastBegun bytes s.begun → Tracks bytes s
+  tracks_gap : (file gap : List ℕ) (messages : List (List ℕ)) → IsFileOf file messages gap → stands_apart messages gap ≡ true
+      → Tracks file (at_gap (length file) messages (is_marked messages gap))
+  tracks_opening : (file gap : List ℕ) (messages : List (List ℕ)) (matched : ℕ) → IsFileOf file messages gap → stands_apart messages gap ≡ true
+      → matched ≤ 1 → Tracks (file ++ take (suc matched) lead) (in_opening (length file) messages (suc matched))
+  tracks_message : (file gap message : List ℕ) (messages : List (List ℕ)) (d : ℕ) → IsFileOf file messages gap → IsMessageTo d message
+      → length message ≤ most_bytes → Tracks (file ++ message) (in_message (length file) d message messages (length file + length message))
+  tracks_behind : (file gap message : List ℕ) (messages : List (List ℕ)) (matched : ℕ) → IsFileOf file messages gap → IsMessage message → matched ≤ 1
+      → Tracks (file ++ message ++ take (suc matched) lead) (in_behind (length file) message messages (length file + length message) (suc matched))
+  tracks_failed : (bytes : List ℕ) (s : State) (messages : List (List ℕ)) (fault : FrameFault) → Shows bytes messages fault → s.failed ≡ Some fault
+      → Begins s.given messages → ShowWhole bytes s.given → LastBegun bytes s.begun → Tracks bytes s
 
-pub moved : {bytes bytes' : List ℕ} {s s' : State} → bytes ≡ bytes' → s ≡ s' → Tracks bytes s → Tracks bytes' s'
-moved {bytes} {bytes'} {s} {s'} same there t = subst (λ x. Tracks bytes' x) there (subst (λ x. Tracks x s) same t)
+pub tracks-moved : {bytes bytes' : List ℕ} {s s' : State} → bytes ≡ bytes' → s ≡ s' → Tracks bytes s → Tracks bytes' s'
+tracks-moved {bytes} {bytes'} {s} {s'} same there t = subst (λ x. Tracks bytes' x) there (subst (λ x. Tracks x s) same t)
 
 -- the messages of a file are whole where what follows shows it
-whole-before : {file gap : List ℕ} {messages : List (List ℕ)} (rest : List ℕ) → IsFileOf file messages gap → is_over rest ≡ true → ShowWhole (file ++ rest) messages
+whole-before : {file gap : List ℕ} {messages : List (List ℕ)} (rest : List ℕ) → IsFileOf file messages gap → is_over rest ≡ true
+    → ShowWhole (file ++ rest) messages
 whole-before rest (file_start is) over = whole_none
 whole-before rest (file_more file message gap messages front is gapped) over =
-    subst (λ x. ShowWhole x (messages ++ message ∷ [])) (sym (append_assoc (file ++ message) gap rest)) (whole_some file message (gap ++ rest) messages front is (over-gap gap gapped.0))
+    subst (λ x. ShowWhole x (messages ++ message ∷ [])) (sym (append_assoc (file ++ message) gap rest))
+    (whole_some file message (gap ++ rest) messages front is (over-gap gap gapped.0))
   where
     over-gap : (gap : List ℕ) → list_all is_gap_byte gap ≡ true → is_over (gap ++ rest) ≡ true
     over-gap [] all = over
-    over-gap (b ∷ gap) all = ap (λ t. t || (nat_lt 2 (length ((b ∷ gap) ++ rest)) && agrees lead ((b ∷ gap) ++ rest))) (and-parts (is_gap_byte b) (list_all is_gap_byte gap) all).0
+    over-gap (b ∷ gap) all =
+        ap (λ t. t || (nat_lt 2 (length ((b ∷ gap) ++ rest)) && agrees lead ((b ∷ gap) ++ rest)))
+        (and-parts (is_gap_byte b) (list_all is_gap_byte gap) all).0
 
 whole-at-gap : {file gap : List ℕ} {messages : List (List ℕ)} → IsFileOf file messages gap → stands_apart messages gap ≡ true → ShowWhole file messages
 whole-at-gap (file_start is) far = whole_none
 whole-at-gap (file_more file message [] messages front is gapped) far =
     absurd (let f : false ≡ true = sym (ap (λ x. x || false) (no-more-joined messages message)) ∙ far in cc)
 whole-at-gap (file_more file message (b ∷ gap) messages front is gapped) far =
-    whole_some file message (b ∷ gap) messages front is (ap (λ t. t || (nat_lt 2 (length (b ∷ gap)) && agrees lead (b ∷ gap))) (and-parts (is_gap_byte b) (list_all is_gap_byte gap) gapped.0).0)
+    whole_some file message (b ∷ gap) messages front is
+    (ap (λ t. t || (nat_lt 2 (length (b ∷ gap)) && agrees lead (b ∷ gap))) (and-parts (is_gap_byte b) (list_all is_gap_byte gap) gapped.0).0)
 
 pub lead-over : (m : List ℕ) → m ≡ lead ++ drop 3 m → is_over m ≡ true
 lead-over m whole = ap is_over whole ∙ ap (λ t. t && true) (lt-test 2 (length (lead ++ drop 3 m)) (omega arith))
@@ -191,20 +225,26 @@ begun-at-gap : {file gap : List ℕ} {messages : List (List ℕ)} → IsFileOf f
 begun-at-gap (file_start is) = inl refl
 begun-at-gap (file_more file message gap messages front is gapped) =
     let whole : file ++ lead ++ (drop 3 message ++ gap) ≡ file ++ message ++ gap =
-    append_assoc file lead (drop 3 message ++ gap) ∙ ap (λ x. file ++ x) (sym (append_assoc lead (drop 3 message) gap)) ∙ ap (λ x. file ++ (x ++ gap)) (sym (message-leads is.0)) ∙ sym (append_assoc file message gap) in
+    append_assoc file lead (drop 3 message ++ gap) ∙ ap (λ x. file ++ x) (sym (append_assoc lead (drop 3 message) gap))
+    ∙ ap (λ x. file ++ (x ++ gap)) (sym (message-leads is.0)) ∙ sym (append_assoc file message gap) in
     let count : length messages + 1 ≡ length (messages ++ message ∷ []) = sym (length-append messages (message ∷ [])) in
-    inr (subst (λ x. HasBegun x (length (messages ++ message ∷ []))) whole (subst (λ n. HasBegun (file ++ lead ++ (drop 3 message ++ gap)) n) count (has_begun file (drop 3 message ++ gap) messages front)))
+    inr
+    (subst (λ x. HasBegun x (length (messages ++ message ∷ []))) whole
+    (subst (λ n. HasBegun (file ++ lead ++ (drop 3 message ++ gap)) n) count (has_begun file (drop 3 message ++ gap) messages front)))
 
-begun-in-message : {d : ℕ} {file gap message : List ℕ} {messages : List (List ℕ)} → IsFileOf file messages gap → IsMessageTo d message → HasBegun (file ++ message) (length messages + 1)
+begun-in-message : {d : ℕ} {file gap message : List ℕ} {messages : List (List ℕ)} → IsFileOf file messages gap → IsMessageTo d message
+    → HasBegun (file ++ message) (length messages + 1)
 begun-in-message {d} {file} {gap} {message} {messages} front is =
-    let whole : file ++ lead ++ drop 3 message ≡ file ++ message = append_assoc file lead (drop 3 message) ∙ ap (λ x. file ++ x) (sym (message-leads is)) in
+    let whole : file ++ lead ++ drop 3 message ≡ file ++ message =
+    append_assoc file lead (drop 3 message) ∙ ap (λ x. file ++ x) (sym (message-leads is)) in
     subst (λ x. HasBegun x (length messages + 1)) whole (has_begun file (drop 3 message) messages front)
 
 pub tracks-whole : {bytes : List ℕ} {s : State} → Tracks bytes s → ShowWhole bytes s.given
 tracks-whole (tracks_gap file gap messages front far) = whole-at-gap front far
 tracks-whole (tracks_opening file gap messages matched front far le) = whole-more (take (suc matched) lead) (whole-at-gap front far)
 tracks-whole (tracks_message file gap message messages d front is fits) = whole-before message front (lead-over message (message-leads is))
-tracks-whole (tracks_behind file gap message messages matched front is le) = whole-more (take (suc matched) lead) (whole-before message front (lead-over message (message-leads is.0)))
+tracks-whole (tracks_behind file gap message messages matched front is le) =
+    whole-more (take (suc matched) lead) (whole-before message front (lead-over message (message-leads is.0)))
 tracks-whole (tracks_failed bytes s messages fault shown failed begins whole last) = whole
 
 pub tracks-begun : {bytes : List ℕ} {s : State} → Tracks bytes s → LastBegun bytes s.begun

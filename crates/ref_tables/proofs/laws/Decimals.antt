@@ -26,6 +26,7 @@ found true true d rest later e h k = grind (arith, nat_tests)
 found b false d rest later e h k = absurd (cc h)
 found false true d rest later e h k = k h
 
+-- a currency that is found in a table of few decimals has few
 pub lookup_few : (test : List ℕ → Bool) (ccys : List (List ℕ × ℕ)) → IsTrue (few_decimals ccys) → IfSome (lookup test ccys) (λ d. d ≤ 4)
 lookup_few test [] all = tt
 lookup_few test (c ∷ ccys) all = found (test c.0) (nat_le c.1 4) c.1 (few_decimals ccys) (lookup test ccys) refl all (λ h. lookup_few test ccys h)

@@ -33,6 +33,7 @@ starts entry test rows = record { same = refl; none = record { later = refl } }
 
 module _ {E : Type 0} {entry : Cells → E} {test : List E → Cells → Option Why} {rows : List Cells} {i : ℕ} {entries : List E} (e : Entered entry test rows i entries)
     (row : Cells) (at : get_or rows i row ≡ row) (lt : i < length rows) where
+  -- a row that passes is entered after those before it
   pub enters : (new : List E) → test entries row ≡ None → new ≡ entries ++ entry row ∷ [] → Entered entry test rows (i + 1) new
   enters new fine added =
       let fine' : against entry test (take i rows) (get_or rows i row) ≡ None = rw (at, ← e.same) fine in
@@ -41,12 +42,14 @@ module _ {E : Type 0} {entry : Cells → E} {test : List E → Cells → Option 
         none = goes-on (against entry test) rows i row e.none lt fine';
       }
 
+  -- a row that fails is the first bad one, after the entries so far
   pub refuses : (w : Why) → test entries row ≡ Some w → first_bad_row (against entry test) [] rows ≡ Some (length entries + 1, w)
   refuses w bad =
       let bad' : against entry test (take i rows) (get_or rows i row) ≡ Some w = rw (at, ← e.same) bad in
       let len : length entries ≡ i = ap length e.same ∙ simp length-map (length-take-le i rows (omega arith)) in
       rw len (stops (against entry test) rows i row w e.none lt bad')
 
+-- once the rows are through none is bad, and each has its entry
 pub all-entered : {E : Type 0} {entry : Cells → E} {test : List E → Cells → Option Why} {rows : List Cells} {i : ℕ} {entries : List E} → Entered entry test rows i entries → length rows ≤ i
     → (first_bad_row (against entry test) [] rows ≡ None) × (entries ≡ map entry rows)
 all-entered {entry = entry} {rows = rows} {i = i} e le = (ends _ rows i e.none le, e.same ∙ ap (map entry) (take_all i rows le))

@@ -19,10 +19,12 @@ pub next-holds : {F : Type 0} (b : Bool) (fault : F) (more : List (Option F)) �
 next-holds true fault more e = (refl, e)
 next-holds false fault more e = absurd (cc e)
 
+-- where neither of two faults is there, each is missing
 pub both-none : {F : Type 0} (o rest : Option F) → option_or o rest ≡ None → (o ≡ None) × (rest ≡ None)
 both-none None rest e = (refl, e)
 both-none (Some x) rest e = absurd (cc e)
 
+-- what is changed and missing was missing
 pub map-none : {A B : Type 0} (f : A → B) (o : Option A) → option_map f o ≡ None → o ≡ None
 map-none f None e = refl
 map-none f (Some x) e = absurd (cc e)

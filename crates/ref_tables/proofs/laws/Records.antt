@@ -57,18 +57,18 @@ starts-after cfg st.InComment c = choose _ (goes-on st.StartRecord act.Skip refl
 starts-after cfg st.AfterCr c = choose _ (goes-on st.StartRecord act.Skip refl) (start-record cfg c)
 
 -- what a record leaves: no more bytes than there were, and a state in which none has begun
-pub record Leaves (xs : List ℕ) (p : Read) : Type 0 where
+pub record LeavesRest (xs : List ℕ) (p : Read) : Type 0 where
   pub short : length p.2 ≤ length xs
   pub fresh : ends_at_end p.1 ≡ false
 
-at-end : (b : Bool) (r p : Read) → r.1 ≡ st.StartRecord → r.2 ≡ [] → cond b (Some r) None ≡ Some p → Leaves [] p
+at-end : (b : Bool) (r p : Read) → r.1 ≡ st.StartRecord → r.2 ≡ [] → cond b (Some r) None ≡ Some p → LeavesRest [] p
 at-end true r p s none e =
     let same : r ≡ p = cc e in
     record { short = rw (← same, none) (omega arith); fresh = rw (← same, s) refl }
 at-end false r p s none e = absurd (cc e)
 
 at-step : (b : Bool) (next : Option Read) (r p : Read) (c : ℕ) (rest : List ℕ) → (b ≡ true → ends_at_end r.1 ≡ false) → r.2 ≡ rest
-    → (next ≡ Some p → Leaves rest p) → cond b (Some r) next ≡ Some p → Leaves (c ∷ rest) p × (length p.2 ≤ length rest)
+    → (next ≡ Some p → LeavesRest rest p) → cond b (Some r) next ≡ Some p → LeavesRest (c ∷ rest) p × (length p.2 ≤ length rest)
 at-step true next r p c rest fresh same later e =
     let one : r ≡ p = cc e in
     (record { short = rw (← one, same) (omega arith); fresh = rw (← one) (fresh refl) }, rw (← one, same) (omega arith))
@@ -76,7 +76,7 @@ at-step false next r p c rest fresh same later e =
     let l = later e in
     (record { short = omega (arith, l.short); fresh = l.fresh }, l.short)
 
-pub leaves : (cfg : Config) (s : State) (fields : List (List ℕ)) (field xs : List ℕ) (p : Read) → next_record cfg s fields field xs ≡ Some p → Leaves xs p
+pub leaves : (cfg : Config) (s : State) (fields : List (List ℕ)) (field xs : List ℕ) (p : Read) → next_record cfg s fields field xs ≡ Some p → LeavesRest xs p
 unfolding next_record
 leaves cfg s fields field [] p e = at-end (ends_at_end s) (fields ++ (field ∷ []), st.StartRecord, []) p refl refl e
 leaves cfg s fields field (c ∷ rest) p e =
@@ -93,23 +93,23 @@ takes cfg s (c ∷ rest) p fresh e =
     omega (arith, l)
 
 -- as many records as were read take as many bytes at least, and enough are left to count for the others
-pub counted : (cfg : Config) (s : State) (xs : List ℕ) (rows : List (List (List ℕ))) (s2 : State) (ys : List ℕ) (n : ℕ) → ends_at_end s ≡ false → Reached cfg s xs rows s2 ys → length xs < n
+pub rows_counted : (cfg : Config) (s : State) (xs : List ℕ) (rows : List (List (List ℕ))) (s2 : State) (ys : List ℕ) (n : ℕ) → ends_at_end s ≡ false → Reached cfg s xs rows s2 ys → length xs < n
     → (k : ℕ) × (records_from cfg n s xs ≡ rows ++ records_from cfg (suc k) s2 ys)
 unfolding Reached records_from
-counted cfg s xs [] s2 ys zero fresh h lt = absurd (omega arith)
-counted cfg s xs [] s2 ys (suc n) fresh h lt = (n, rw (h.0, h.1) refl)
-counted cfg s xs (r ∷ rows) s2 ys zero fresh h lt = absurd (omega arith)
-counted cfg s xs (r ∷ rows) s2 ys (suc n) fresh h lt =
+rows_counted cfg s xs [] s2 ys zero fresh h lt = absurd (omega arith)
+rows_counted cfg s xs [] s2 ys (suc n) fresh h lt = (n, rw (h.0, h.1) refl)
+rows_counted cfg s xs (r ∷ rows) s2 ys zero fresh h lt = absurd (omega arith)
+rows_counted cfg s xs (r ∷ rows) s2 ys (suc n) fresh h lt =
     let p = h.0 in
     let shorter = takes cfg s xs p fresh h.1 in
-    let later = counted cfg p.1 p.2 rows s2 ys n ((leaves cfg s [] [] xs p h.1).fresh) h.3 (omega (arith, shorter)) in
+    let later = rows_counted cfg p.1 p.2 rows s2 ys n ((leaves cfg s [] [] xs p h.1).fresh) h.3 (omega (arith, shorter)) in
     (later.0, rw (h.1, h.2) (ap (λ (t : List (List (List ℕ))). p.0 ∷ t) later.1))
 
 -- what was read so far begins the records
 pub records-begin : (xs : List ℕ) (rows : List (List (List ℕ))) (s : State) (ys : List ℕ) → Reached default_config st.StartRecord xs rows s ys
     → (more : List (List (List ℕ))) × (records default_config xs ≡ rows ++ more)
 records-begin xs rows s ys h =
-    let c = counted default_config st.StartRecord xs rows s ys (length xs + 1) refl h (omega arith) in
+    let c = rows_counted default_config st.StartRecord xs rows s ys (length xs + 1) refl h (omega arith) in
     (records_from default_config (suc c.0) s ys, c.1)
 
 -- and is all of them where no record is left
@@ -117,7 +117,7 @@ pub records-end : (xs : List ℕ) (rows : List (List (List ℕ))) (s : State) (y
     → records default_config xs ≡ rows
 unfolding records_from
 records-end xs rows s ys h none =
-    let c = counted default_config st.StartRecord xs rows s ys (length xs + 1) refl h (omega arith) in
+    let c = rows_counted default_config st.StartRecord xs rows s ys (length xs + 1) refl h (omega arith) in
     c.1 ∙ rw none (append-nil rows)
 
 up_to-cond : {A : Type 0} (b : Bool) (o p : Option A) (e : Bool) → b ≡ e → cond b o p ≡ cond e o p
@@ -144,6 +144,7 @@ up_to_some most all xs e = go (nat_le (length all) most) refl e
     go true h e = (sym (cc e), le_from_test (length all) most h)
     go false h e = absurd (cc e)
 
+-- rows that are given are those of the file, and no more than the limit
 pub rows_within_some : (most : ℕ) (file : List ℕ) (rows : List Cells) → Some rows ≡ rows_within most file → (rows_of file ≡ rows) × (length rows ≤ most)
 rows_within_some most file rows e = go (nat_le (length file) 8388608) e
   where

@@ -10,17 +10,22 @@ loop-rest-init c =
     let a = c.after_gap-rest.ensures.after in
     record {
       few = subst (λ x. length x ≤ c.args.most) (sym c.new-messages.ensures) (omega arith);
-      come = subst (λ x. HasCome c.args.file.now c.after_gap-rest.result.now x) (sym c.new-messages.ensures) (come-first c.args.file.now a.0 c.after_gap-rest.result.now a.1 a.2 a.3);
+      come = subst (λ x. HasCome c.args.file.now c.after_gap-rest.result.now x) (sym c.new-messages.ensures)
+          (come-first c.args.file.now a.0 c.after_gap-rest.result.now a.1 a.2 a.3);
     }
 
 pub returns-then-not-is_led-clause-uncut : goal.returns-then-not-is_led-clause-uncut
 returns-then-not-is_led-clause-uncut c = λ none others cut.
     let some : 0 < length c.loop-rest.rest.now = grind (arith, nat_tests, c.is_empty.ensures, c.loop-rest-test.true) in
-    absurd (come-lost c.args.file.now c.loop-rest.rest.now c.loop-rest.messages others c.loop-rest.invariant.come some (sym c.is_led.ensures ∙ c.if-not-is_led.true) cut)
+    absurd
+    (come-lost c.args.file.now c.loop-rest.rest.now c.loop-rest.messages others c.loop-rest.invariant.come some
+    (sym c.is_led.ensures ∙ c.if-not-is_led.true) cut)
 
 pub returns-then-as_slice-most-clause-uncut : goal.returns-then-as_slice-most-clause-uncut
 returns-then-as_slice-most-clause-uncut c = λ none others cut.
-    let least : length c.loop-rest.messages < length others = come-more c.args.file.now c.loop-rest.rest.now c.loop-rest.messages others c.loop-rest.invariant.come (sym c.is_led.ensures ∙ c.if-not-is_led.false) cut in
+    let least : length c.loop-rest.messages < length others =
+    come-more c.args.file.now c.loop-rest.rest.now c.loop-rest.messages others c.loop-rest.invariant.come
+    (sym c.is_led.ensures ∙ c.if-not-is_led.false) cut in
     omega (arith, least, c.if-as_slice-most.true, ap length c.as_slice.ensures)
 
 pub returns-in_default-clause-uncut : goal.returns-in_default-clause-uncut
@@ -36,7 +41,8 @@ loop-rest-smaller c =
     let after = c.split_at.result.1.now in
     let is : IsMessage message = subst (λ x. IsMessage x) (sym s.front) w.1 in
     let whole : length c.loop-rest.rest.now ≡ length message + length after = ap length s.by_index.0 ∙ length-append message after in
-    let parts : length after ≡ length a.0 + length c.after_gap-rest-in-loop-rest.result.now = ap length a.1 ∙ length-append a.0 c.after_gap-rest-in-loop-rest.result.now in
+    let parts : length after ≡ length a.0 + length c.after_gap-rest-in-loop-rest.result.now =
+    ap length a.1 ∙ length-append a.0 c.after_gap-rest-in-loop-rest.result.now in
     omega (arith, whole, parts, message-some is.0)
 
 pub loop-rest-preserved : goal.loop-rest-preserved

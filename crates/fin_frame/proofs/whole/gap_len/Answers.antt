@@ -13,7 +13,8 @@ loop-len-preserved c =
     let bytes = c.args.bytes.now in
     let len = c.loop-len.len in
     let now = c.in-Some-Between.marked in
-    let stage : stage_between c.loop-len.ended (get_or bytes len 0) ≡ Some (Between now) = sym c.between.ensures.stage ∙ c.in-Some-Between.is ∙ ap (λ x. Some x) c.in-Some-Between.field-0-is in
+    let stage : stage_between c.loop-len.ended (get_or bytes len 0) ≡ Some (Between now) =
+    sym c.between.ensures.stage ∙ c.in-Some-Between.is ∙ ap (λ x. Some x) c.in-Some-Between.field-0-is in
     record {
       most = omega (arith, c.loop-len-test.true);
       come =

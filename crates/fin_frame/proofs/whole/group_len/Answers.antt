@@ -11,5 +11,6 @@ returns-then-left-gt0-clause-none c = λ none.
     let w = c.within-len.ensures in
     let more : 1 + (reach - 1) ≡ reach = omega (arith, c.min-reach.ensures, c.requires.some) in
     let is : inside ≡ drop 1 (take reach bytes) = sym (drop-take 1 (reach - 1) bytes) ∙ ap (λ n. drop 1 (take n bytes)) more in
-    open-group bytes inside reach c.within-len.result.0 c.within-len.result.1 c.requires.some c.requires.begun (omega (arith, more)) is w.«open» c.if-left-gt0.true w.end
+    open-group bytes inside reach c.within-len.result.0 c.within-len.result.1 c.requires.some c.requires.begun
+    (omega (arith, more)) is w.«open» c.if-left-gt0.true w.end
     (omega (arith, c.min-reach.ensures)) (λ lt. omega (arith, c.min-reach.ensures, lt))

@@ -35,11 +35,13 @@ loop-len-preserved c =
     let after = take (length bytes - len) (drop len bytes) in
     let w = c.in_ok-len-2.ensures.whole in
     let has : has_group after ≡ true = sym c.has_group.ensures ∙ c.if-has_group.true in
-    let same : take len bytes ++ take n after ≡ take (len + n) bytes = ap (λ x. take len bytes ++ take n x) (take_rest bytes len) ∙ sym (take-add len n bytes) in
+    let same : take len bytes ++ take n after ≡ take (len + n) bytes =
+    ap (λ x. take len bytes ++ take n x) (take_rest bytes len) ∙ sym (take-add len n bytes) in
     let size : length after ≡ length bytes - len = ap length (take_rest bytes len) ∙ length-drop len bytes in
     record {
       most = omega (arith, w.0, size, c.loop-len.invariant.most);
-      message = subst (λ x. IsMessageTo 0 x) same (next-group (take len bytes) after (take n after) (drop n after) c.loop-len.invariant.message has (sym (take-append-drop n after)) w.1);
+      message = subst (λ x. IsMessageTo 0 x) same
+          (next-group (take len bytes) after (take n after) (drop n after) c.loop-len.invariant.message has (sym (take-append-drop n after)) w.1);
     }
 
 pub returns-then-len-gt-MOST_BYTES-clause-none : goal.returns-then-len-gt-MOST_BYTES-clause-none
@@ -47,4 +49,5 @@ returns-then-len-gt-MOST_BYTES-clause-none c = λ none.
     let len = c.loop-len.len in
     let bytes = c.args.bytes.now in
     let size : length (take len bytes) ≡ len = length-take-le len bytes c.loop-len.invariant.most in
-    subst (λ x. CutsNoFile x) (take-append-drop len bytes) (long-message (take len bytes) (drop len bytes) c.loop-len.invariant.message (omega (arith, size, c.if-len-gt-MOST_BYTES.true)))
+    subst (λ x. CutsNoFile x) (take-append-drop len bytes)
+    (long-message (take len bytes) (drop len bytes) c.loop-len.invariant.message (omega (arith, size, c.if-len-gt-MOST_BYTES.true)))

@@ -8,5 +8,8 @@ use Rattle.fin_frame.proofs.cutter.Cutter.close.Goals as goal
 
 pub returns-in_ok-give-in-10-clause-took : goal.returns-in_ok-give-in-10-clause-took
 returns-in_ok-give-in-10-clause-took c =
-    let gap : is_gap_byte c.args.b ≡ true = grind (arith, nat_tests, c.in-10.is) in
-    (refl, c.pass.ensures.to c.give.new.out ∙ ap (to (Between (c.args.b == 36))) c.in_ok-give-in-10.ensures.ok ∙ sym (close-gap (state_of c.args.self.now c.args.out.now) c.args.b gap))
+    let gap : is_gap_byte c.args.b ≡ true = grind (arith, nat_tests, c.in-10.is) in (
+      refl,
+      c.pass.ensures.to c.give.new.out ∙ ap (to (Between (c.args.b == 36))) c.in_ok-give-in-10.ensures.ok
+          ∙ sym (close-gap (state_of c.args.self.now c.args.out.now) c.args.b gap),
+    )

@@ -8,4 +8,5 @@ returns-in-Some-unbalanced-clause-ends c fed given was =
 
 pub returns-clause-ends : goal.returns-clause-ends
 returns-clause-ends c fed given was =
-    ends-whole c.args.self c.args.out.now c.give.new.out fed given was c.in_default.is (sym c.unbalanced.ensures ∙ c.in_default-unbalanced.is) (ap (λ t. t.given) c.in_ok-give.ensures.ok)
+    ends-whole c.args.self c.args.out.now c.give.new.out fed given was c.in_default.is (sym c.unbalanced.ensures ∙ c.in_default-unbalanced.is)
+    (ap (λ t. t.given) c.in_ok-give.ensures.ok)

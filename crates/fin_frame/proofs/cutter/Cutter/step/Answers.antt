@@ -9,4 +9,5 @@ returns-in-Between-clause-took c =
     let s = state_of c.args.self.now c.args.out.now in
     let b = get_or c.args.rest.now 0 0 in
     let there : next s b ≡ next_at (Between c.in-Between.marked) s b = next-sound s b c.requires.sound ∙ ap (λ stage. next_at stage s b) c.in-Between.is in
-    took-one c.between.result s (next_at (Between c.in-Between.marked) s b) c.args.rest.now (state_of c.between.new.self c.args.out.now) c.requires.some (sym there) (c.between.ensures.took c.args.out.now)
+    took-one c.between.result s (next_at (Between c.in-Between.marked) s b) c.args.rest.now (state_of c.between.new.self c.args.out.now) c.requires.some
+    (sym there) (c.between.ensures.took c.args.out.now)

@@ -8,7 +8,10 @@ pub returns-in_err-len-clause-took : goal.returns-in_err-len-clause-took
 returns-in_err-len-clause-took c =
     let p = err_from_is_err_and c.from_residual.result c.from_residual.ensures.1 in
     let before = c.loop-rest.invariant in
-    rw (p.1, p.2) (took-err c.in_err-len.field-0.0 (state_of c.args.self.now c.args.out.now) (state_of c.loop-rest.self c.loop-rest.out) (state_of c.step.new.self c.step.new.out) c.args.piece.now before.come.0 c.loop-rest.rest.now c.in_err-len.ensures.took before.come.1 before.come.2 before.sound)
+    rw (p.1, p.2)
+    (took-err c.in_err-len.field-0.0 (state_of c.args.self.now c.args.out.now) (state_of c.loop-rest.self c.loop-rest.out)
+    (state_of c.step.new.self c.step.new.out) c.args.piece.now before.come.0 c.loop-rest.rest.now c.in_err-len.ensures.took before.come.1 before.come.2
+    before.sound)
 
 pub loop-rest-init : goal.loop-rest-init
 loop-rest-init c = record { sound = c.requires.sound; size = refl; come = ([], refl, refl); later = refl }
