@@ -7,3 +7,4 @@ pub mod Back
 pub mod Placed
 pub mod Readable
 pub mod Grouped
+pub mod PartyPlaces

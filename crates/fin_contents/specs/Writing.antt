@@ -3,7 +3,7 @@ use Rattle.std.specs.Prelude.{◌≡◌, ℕ, ◌<◌, ◌≤◌, true, List, []
 use Rattle.std.specs.Char.{is_ascii_uppercase}
 use Rattle.corr_text.specs.declared.fault.Fault.{Fault}
 use Rattle.corr_ids.specs.Day.{InCentury, yymmdd_of}
-use Rattle.corr_money.specs.Amounts.{amount_end, amount_text}
+use Rattle.corr_money.specs.Amounts.{amount_end, amount_text, most_decimals}
 use Rattle.corr_money.specs.declared.amount.Amount.{Amount}
 use Rattle.ref_tables.specs.Seen.{Tables, few_decimals}
 use Rattle.fin_fields.specs.declared.field.Field.{Field}
@@ -26,7 +26,7 @@ line_field tag letter line = lines_field tag letter (line ∷ [])
 -- an amount that can be written: below 10^14 minor units of a currency with at most 4 decimals
 pub record IsAmount (a : Amount) : Type 0 where
   pub small : a.minor.0 < amount_end
-  pub few : a.decimals ≤ 4
+  pub few : a.decimals ≤ most_decimals
 
 -- 33B, 71F, 71G: the currency, and the amount with all its decimals
 abbrev pub ccy_amount_text : Amount → List ℕ

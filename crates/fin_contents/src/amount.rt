@@ -1,6 +1,7 @@
 //! Amounts with their currency: fields 33B, 71F and 71G.
 
 ghost use Rattle.std.specs.Prelude.{◌≡◌, ◌≤◌, ◌++◌, IfOk, IsTrue, Ok, OnErr, OnOk, length, take};
+ghost use Rattle.corr_money.specs.Amounts.{most_decimals};
 ghost use Rattle.fin_contents.specs.Money.{amount_code, ccy_amount_in, ccy_amount_of, is_ccy_amount, minor_in};
 ghost use Rattle.fin_contents.specs.Writing.{IsAmount, IsHeading, ccy_amount_field, ccy_amount_text};
 ghost use Rattle.fin_fields.specs.Writing.{IsField};
@@ -12,7 +13,7 @@ use crate::codes::{C03, P27, T40, T43, T52};
 use crate::line::{line_field, one_line};
 use corr_money::{Amount, AmountFault, Ccy, Minor, put_15d, read_15d};
 use corr_text::{Code, Memory, Set, Text, is_all_of};
-use fin_fields::Field;
+use fin_fields::{Field, FieldLines};
 use fin_layout::{Content, P24, Refusal};
 use ref_tables::RefTables;
 use std::alloc::Global;
@@ -48,7 +49,7 @@ fn amount_code(e: AmountFault) -> Code
 ///
 /// Example: with two decimals `1234,5` is 123450, and `1234` is T40.
 pub fn minor_in(decimals: u8, b: &[u8]) -> Result<Minor, Code>
-    requires { decimals ≤ 4 }
+    requires { decimals ≤ most_decimals }
     ensures { result ≡ minor_in decimals b.now }
 {
     match read_15d(b, decimals) {
@@ -57,7 +58,7 @@ pub fn minor_in(decimals: u8, b: &[u8]) -> Result<Minor, Code>
     }
 }
 
-fn ccy(line: &[u8]) -> Ccy
+fn leading_ccy(line: &[u8]) -> Ccy
     requires { 3 ≤ length line.now }
     ensures { result ≡ record { 0 = take 3 line.now } }
 {
@@ -73,7 +74,7 @@ pub fn ccy_amount_in(tables: &RefTables, line: &[u8]) -> Result<Amount, Code>
     requires { 4 ≤ length line.now }
     ensures { result ≡ ccy_amount_in tables.now line.now }
 {
-    let ccy = ccy(line);
+    let ccy = leading_ccy(line);
     let Some(decimals) = tables.decimals(ccy) else {
         return Err(T52);
     };
@@ -88,7 +89,7 @@ pub fn ccy_amount_in(tables: &RefTables, line: &[u8]) -> Result<Amount, Code>
 }
 
 #[tactic(auto, unfolding(crate::specs::Money::ccy_amount_of))]
-fn read_ccy_amount(tables: &RefTables, f: &Field) -> Result<Amount, Refusal>
+fn read_ccy_amount(tables: &RefTables, f: &FieldLines<'_>) -> Result<Amount, Refusal>
     ensures { Reads result (ccy_amount_of tables.now f.now) }
 {
     let Some(line) = one_line(f) else {
@@ -108,7 +109,7 @@ impl Content for CcyAmount<'_> {
 
     ghost meaning = { λ c f. ccy_amount_of c.tables.now f };
 
-    fn read(&self, _alloc: Global, f: &Field) -> Result<Amount, Refusal> {
+    fn read(&self, _alloc: Global, f: &FieldLines<'_>) -> Result<Amount, Refusal> {
         read_ccy_amount(self.tables, f)
     }
 }

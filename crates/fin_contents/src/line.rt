@@ -6,14 +6,14 @@ ghost use Rattle.fin_contents.specs.Plain.{is_slash, one_line, sized};
 ghost use Rattle.fin_contents.specs.Writing.{line_field};
 
 use corr_text::{List, Memory, Text};
-use fin_fields::Field;
+use fin_fields::{Field, FieldLines};
 use std::alloc::Global;
 
 /// The line of a field that has one line; none of any other field.
-pub fn one_line(f: &Field) -> Option<&[u8]>
+pub fn one_line<'a>(f: &FieldLines<'a>) -> Option<&'a [u8]>
     ensures { option_map (λ b. b.now) result ≡ one_line f.now }
 {
-    match f.lines.as_slice() {
+    match f.lines() {
         [line] => Some(line.bytes()),
         _ => None,
     }

@@ -10,9 +10,9 @@ ghost use Rattle.ref_tables.specs.Seen.{Tables};
 
 use crate::codes::P25;
 use corr_text::Memory;
-use fin_fields::Field;
+use fin_fields::{Field, FieldLines};
 use fin_layout::{Content, P24, Refusal};
-use fin_parties::{Party, PartyFault, put_party, read_party};
+use fin_parties::{Party, PartyFault, put_party, read_party_lines};
 use ref_tables::RefTables;
 use std::alloc::Global;
 
@@ -33,10 +33,10 @@ fn is_known(tables: &RefTables, p: &Party) -> bool
 }
 
 #[tactic(auto, unfolding(crate::specs::Parties::known_party_of))]
-fn read_known_party(alloc: Global, tables: &RefTables, f: &Field) -> Result<Party, Refusal>
+fn read_known_party(alloc: Global, tables: &RefTables, f: &FieldLines<'_>) -> Result<Party, Refusal>
     ensures { Reads result (known_party_of tables.now f.now) }
 {
-    let p = match read_party(alloc, f) {
+    let p = match read_party_lines(alloc, f) {
         Ok(p) => p,
         Err(PartyFault::P24) => return Err(Refusal::Bad(P24)),
         Err(PartyFault::Memory) => return Err(Refusal::Memory),
@@ -52,7 +52,7 @@ impl Content for KnownParty<'_> {
 
     ghost meaning = { λ c f. known_party_of c.tables.now f };
 
-    fn read(&self, alloc: Global, f: &Field) -> Result<Party, Refusal> {
+    fn read(&self, alloc: Global, f: &FieldLines<'_>) -> Result<Party, Refusal> {
         read_known_party(alloc, self.tables, f)
     }
 }

@@ -11,7 +11,7 @@ use crate::codes::{T40, T43};
 use crate::line::{line_field, one_line};
 use corr_money::is_comma_number;
 use corr_text::{Memory, Set, Text, is_all_of};
-use fin_fields::Field;
+use fin_fields::{Field, FieldLines};
 use fin_layout::{Content, P24, Refusal};
 use std::alloc::Global;
 
@@ -24,7 +24,7 @@ const LENGTH: usize = 12;
 pub struct Rate;
 
 #[tactic(auto, unfolding(crate::specs::Money::rate_of))]
-fn read_rate(alloc: Global, f: &Field) -> Result<Text, Refusal>
+fn read_rate(alloc: Global, f: &FieldLines<'_>) -> Result<Text, Refusal>
     ensures { Reads result (rate_of f.now) }
 {
     let Some(line) = one_line(f) else {
@@ -47,7 +47,7 @@ impl Content for Rate {
 
     ghost meaning = { λ _ f. rate_of f };
 
-    fn read(&self, alloc: Global, f: &Field) -> Result<Text, Refusal> {
+    fn read(&self, alloc: Global, f: &FieldLines<'_>) -> Result<Text, Refusal> {
         read_rate(alloc, f)
     }
 }

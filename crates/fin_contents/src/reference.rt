@@ -12,7 +12,7 @@ ghost use Rattle.fin_layout.specs.Reading.{Reads};
 use crate::codes::T26;
 use crate::line::{line_field, one_line};
 use corr_text::{Memory, Set, Text};
-use fin_fields::{Field, is_run_of};
+use fin_fields::{Field, FieldLines, is_run_of};
 use fin_layout::{Content, P24, Refusal};
 use std::alloc::Global;
 
@@ -50,7 +50,7 @@ fn has_stray_slash(line: &[u8]) -> bool
 }
 
 #[tactic(auto, unfolding(crate::specs::Plain::reference_of))]
-fn read_reference(alloc: Global, f: &Field) -> Result<Text, Refusal>
+fn read_reference(alloc: Global, f: &FieldLines<'_>) -> Result<Text, Refusal>
     ensures { Reads result (reference_of f.now) }
 {
     let Some(line) = one_line(f) else {
@@ -70,7 +70,7 @@ impl Content for Reference {
 
     ghost meaning = { λ _ f. reference_of f };
 
-    fn read(&self, alloc: Global, f: &Field) -> Result<Text, Refusal> {
+    fn read(&self, alloc: Global, f: &FieldLines<'_>) -> Result<Text, Refusal> {
         read_reference(alloc, f)
     }
 }

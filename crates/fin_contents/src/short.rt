@@ -9,7 +9,7 @@ ghost use Rattle.fin_layout.specs.Reading.{Reads};
 
 use crate::line::{line_field, one_line};
 use corr_text::{Memory, Set, Text};
-use fin_fields::{Field, is_run_of};
+use fin_fields::{Field, FieldLines, is_run_of};
 use fin_layout::{Content, P24, Refusal};
 use std::alloc::Global;
 
@@ -20,7 +20,7 @@ pub struct ShortLine {
 }
 
 #[tactic(auto, unfolding(crate::specs::Plain::short_line_of))]
-fn read_short_line(alloc: Global, most: u8, f: &Field) -> Result<Text, Refusal>
+fn read_short_line(alloc: Global, most: u8, f: &FieldLines<'_>) -> Result<Text, Refusal>
     ensures { Reads result (short_line_of most f.now) }
 {
     match one_line(f) {
@@ -34,7 +34,7 @@ impl Content for ShortLine {
 
     ghost meaning = { λ c f. short_line_of c.most f };
 
-    fn read(&self, alloc: Global, f: &Field) -> Result<Text, Refusal> {
+    fn read(&self, alloc: Global, f: &FieldLines<'_>) -> Result<Text, Refusal> {
         read_short_line(alloc, self.most, f)
     }
 }

@@ -8,7 +8,7 @@ ghost use Rattle.fin_fields.specs.declared.field.Field.{Field as FieldSeen};
 ghost use Rattle.fin_layout.specs.Reading.{Reads};
 
 use corr_text::{List, Memory, Text, copy_texts};
-use fin_fields::{Field, Pattern, matches};
+use fin_fields::{Field, FieldLines, Pattern, copy_lines, lines_match};
 use fin_layout::{Content, P24, Refusal};
 use std::alloc::Global;
 
@@ -19,13 +19,13 @@ pub struct Texts {
 }
 
 #[tactic(auto, unfolding(crate::specs::Plain::texts_of))]
-fn read_texts(alloc: Global, most: u8, f: &Field) -> Result<List<Text>, Refusal>
+fn read_texts(alloc: Global, most: u8, f: &FieldLines<'_>) -> Result<List<Text>, Refusal>
     ensures { Reads result (texts_of most f.now) }
 {
-    if !matches(f, Pattern::Lines { max: most, len: 35 }) {
+    if !lines_match(f.lines(), Pattern::Lines { max: most, len: 35 }) {
         return Err(Refusal::Bad(P24));
     }
-    Ok(copy_texts(alloc, f.lines.as_slice())?)
+    Ok(copy_lines(alloc, f.lines())?)
 }
 
 impl Content for Texts {
@@ -33,7 +33,7 @@ impl Content for Texts {
 
     ghost meaning = { λ c f. texts_of c.most f };
 
-    fn read(&self, alloc: Global, f: &Field) -> Result<List<Text>, Refusal> {
+    fn read(&self, alloc: Global, f: &FieldLines<'_>) -> Result<List<Text>, Refusal> {
         read_texts(alloc, self.most, f)
     }
 }

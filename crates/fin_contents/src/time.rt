@@ -9,7 +9,7 @@ ghost use Rattle.fin_layout.specs.Reading.{Reads};
 
 use crate::line::{first_slash, line_field, one_line};
 use corr_text::{Memory, Set, Text, is_all_of};
-use fin_fields::{Field, is_run_of};
+use fin_fields::{Field, FieldLines, is_run_of};
 use fin_layout::{Content, P24, Refusal};
 use std::alloc::Global;
 
@@ -42,7 +42,7 @@ fn is_time(line: &[u8]) -> bool
 }
 
 #[tactic(auto, unfolding(crate::specs::Plain::time_of))]
-fn read_time(alloc: Global, f: &Field) -> Result<Text, Refusal>
+fn read_time(alloc: Global, f: &FieldLines<'_>) -> Result<Text, Refusal>
     ensures { Reads result (time_of f.now) }
 {
     match one_line(f) {
@@ -56,7 +56,7 @@ impl Content for Time {
 
     ghost meaning = { λ _ f. time_of f };
 
-    fn read(&self, alloc: Global, f: &Field) -> Result<Text, Refusal> {
+    fn read(&self, alloc: Global, f: &FieldLines<'_>) -> Result<Text, Refusal> {
         read_time(alloc, f)
     }
 }

@@ -15,7 +15,7 @@ use crate::metal::is_metal;
 use corr_ids::{Day, day_from_yymmdd, put_yymmdd};
 use corr_money::Amount;
 use corr_text::{Code, Memory, Set, Text, is_all_of};
-use fin_fields::Field;
+use fin_fields::{Field, FieldLines};
 use fin_layout::{Content, P24, Refusal};
 use ref_tables::RefTables;
 use std::alloc::Global;
@@ -64,7 +64,7 @@ fn value_in(tables: &RefTables, line: &[u8]) -> Result<Value, Code>
 }
 
 #[tactic(auto, unfolding(crate::specs::Money::value_of))]
-fn read_value(tables: &RefTables, f: &Field) -> Result<Value, Refusal>
+fn read_value(tables: &RefTables, f: &FieldLines<'_>) -> Result<Value, Refusal>
     ensures { Reads result (value_of tables.now f.now) }
 {
     let Some(line) = one_line(f) else {
@@ -84,7 +84,7 @@ impl Content for ValueDate<'_> {
 
     ghost meaning = { λ c f. value_of c.tables.now f };
 
-    fn read(&self, _alloc: Global, f: &Field) -> Result<Value, Refusal> {
+    fn read(&self, _alloc: Global, f: &FieldLines<'_>) -> Result<Value, Refusal> {
         read_value(self.tables, f)
     }
 }

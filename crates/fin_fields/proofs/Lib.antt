@@ -4,3 +4,4 @@ pub mod Texts
 pub mod ReadBack
 pub mod Fit
 pub mod Plain
+pub mod Formats

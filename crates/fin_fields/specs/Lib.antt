@@ -1,4 +1,5 @@
 pub mod Fields
+pub mod Lent
 pub mod Headings
 pub mod Faults
 pub mod Patterns

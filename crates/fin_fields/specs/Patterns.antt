@@ -20,3 +20,15 @@ abbrev pub meets : Pattern → List (List ℕ) → Bool
 meets (Lines max len) lines = nat_le 1 (length lines) && nat_le (length lines) max && list_all (is_run (is_in X) len) lines
 meets (Fixed set len) lines = is_one_line (λ line. nat_eq (length line) len && list_all (is_in set) line) lines
 meets (UpTo set len) lines = is_one_line (is_run (is_in set) len) lines
+
+-- how many lines a pattern has
+abbrev pub fits_count : Pattern → ℕ → Bool
+fits_count (Lines max len) count = nat_le 1 count && nat_le count max
+fits_count (Fixed set len) count = nat_eq count 1
+fits_count (UpTo set len) count = nat_eq count 1
+
+-- what each of its lines is
+abbrev pub fits_line : Pattern → List ℕ → Bool
+fits_line (Lines max len) line = is_run (is_in X) len line
+fits_line (Fixed set len) line = nat_eq (length line) len && list_all (is_in set) line
+fits_line (UpTo set len) line = is_run (is_in set) len line

@@ -10,12 +10,16 @@ ghost use Rattle.fin_fields.specs.Faults.{faulty_line, field_fault, has_other_by
 
 use crate::fault::FieldFault;
 use crate::field::Field;
+use crate::field_lines::FieldLines;
 use crate::heading::{HeadingLine, heading};
+use crate::lending::own_fields;
 use crate::outside::first_outside_x;
-use crate::spares::Spares;
 use corr_text::{List, Memory, first_line, plain_line};
 use std::alloc::Global;
 use std::mem;
+
+/// For how many fields there is room at first.
+const ROOM: usize = 8;
 
 /// A text cut behind its first line, and whether the lines so far are known to have bytes of set X alone.
 #[derive(Clone, Copy)]
@@ -27,8 +31,8 @@ struct NextLine<'a> {
 
 /// The fields of lines, and whether these are known to have bytes of set X alone.
 #[derive(Drop)]
-struct ReadLines {
-    fields: List<Field>,
+struct ReadLines<'a> {
+    fields: List<FieldLines<'a>>,
     plain: bool,
 }
 
@@ -55,20 +59,10 @@ fn next_line(text: &[u8], plain: bool) -> NextLine<'_>
     }
 }
 
-fn begin_field(
-    alloc: Global,
-    heading: HeadingLine<'_>,
-    spares: &mut Spares,
-) -> Result<Field, Memory>
-    ensures { IfOk result (λ f. f ≡ field_begun (heading_in heading.entry) []) }
+fn begin_field(heading: HeadingLine<'_>) -> FieldLines<'_>
+    ensures { result ≡ field_begun (heading_in heading.entry) [] }
 {
-    let mut lines = spares.lines(alloc)?;
-    lines.push(spares.text(alloc, heading.content)?)?;
-    Ok(Field {
-        tag: heading.tag,
-        letter: heading.letter,
-        lines,
-    })
+    FieldLines::of_line(heading.tag, heading.letter, heading.content)
 }
 
 /// Whether a line that begins no field may not continue one either.
@@ -80,12 +74,11 @@ fn breaks_off(line: &[u8]) -> bool
 }
 
 /// Takes the next line, unless it is misplaced: it begins a new field, or continues the open one.
-fn add_line(
+fn add_line<'a>(
     alloc: Global,
-    whole: &mut List<Field>,
-    open_field: &mut Field,
-    line: &[u8],
-    spares: &mut Spares,
+    whole: &mut List<FieldLines<'a>>,
+    open_field: &mut FieldLines<'a>,
+    line: &'a [u8],
 ) -> Result<bool, Memory>
     ensures taken { IfOk result (λ taken. taken ≡ not (is_misplaced line.now)) }
     ensures added { IfOk result (λ taken. taken ≡ true → (g : Grouped) →
@@ -93,33 +86,31 @@ fn add_line(
 {
     match heading(line) {
         Some(heading) => {
-            let next = begin_field(alloc, heading, spares)?;
-            whole.push(mem::replace(open_field, next))?;
+            whole.push(mem::replace(open_field, begin_field(heading)))?;
             Ok(true)
         }
         None if breaks_off(line) => Ok(false),
         None => {
-            open_field.lines.push(spares.text(alloc, line)?)?;
+            open_field.add(alloc, line)?;
             Ok(true)
         }
     }
 }
 
 /// The fields of the lines behind the first, which began `open_field`.
-fn group_lines(
+fn group_lines<'a>(
     alloc: Global,
-    text: &[u8],
-    open_field: Field,
+    text: &'a [u8],
+    open_field: FieldLines<'a>,
     plain: bool,
-    spares: &mut Spares,
-) -> Result<ReadLines, FieldFault>
+) -> Result<ReadLines<'a>, FieldFault>
     requires few { length (lines_of text.now) < most_text_lines }
-    ensures fields { IfOk result (λ read. read.fields ≡ so_far [] open_field (grouped (lines_of text.now))) }
+    ensures fields { IfOk result (λ read. read.fields ≡ so_far [] open_field.entry (grouped (lines_of text.now))) }
     ensures plain { IfOk result (λ read. read.plain ≡ true → (plain ≡ true) × (list_any has_other_byte (lines_of text.now) ≡ false)) }
     ensures sound { IfOk result (λ _. position is_misplaced (lines_of text.now) ≡ None) }
     ensures fault { IfErr result (TellsLineFault (option_map (λ i. i + 2) (position is_misplaced (lines_of text.now)))) }
 {
-    let mut whole = spares.fields(alloc)?;
+    let mut whole = List::with_room(alloc, ROOM)?;
     let mut open_field = open_field;
     let mut rest = text;
     let mut plain = plain;
@@ -127,7 +118,7 @@ fn group_lines(
     while !rest.is_empty() {
         let next = next_line(rest, plain);
         number += 1;
-        if !add_line(alloc, &mut whole, &mut open_field, next.line, spares)? {
+        if !add_line(alloc, &mut whole, &mut open_field, next.line)? {
             return Err(FieldFault::P20 { line: number });
         }
         rest = next.rest;
@@ -141,7 +132,7 @@ fn group_lines(
 }
 
 /// The fields of a text whose lines are none at fault.
-fn read_lines(alloc: Global, text: &[u8], spares: &mut Spares) -> Result<ReadLines, FieldFault>
+fn read_lines(alloc: Global, text: &[u8]) -> Result<ReadLines<'_>, FieldFault>
     requires few { length (lines_of text.now) ≤ most_text_lines }
     ensures fields { IfOk result (λ read. read.fields ≡ fields_of text.now) }
     ensures plain { IfOk result (λ read. read.plain ≡ true → list_any has_other_byte (lines_of text.now) ≡ false) }
@@ -153,11 +144,26 @@ fn read_lines(alloc: Global, text: &[u8], spares: &mut Spares) -> Result<ReadLin
     }
     let first = next_line(text, true);
     match heading(first.line) {
-        Some(heading) => {
-            let open_field = begin_field(alloc, heading, spares)?;
-            group_lines(alloc, first.rest, open_field, first.plain, spares)
-        }
+        Some(heading) => group_lines(alloc, first.rest, begin_field(heading), first.plain),
         None => Err(FieldFault::P20 { line: 1 }),
+    }
+}
+
+/// Cuts the lines of block 4 into fields as `cut_fields` does; the lines stay in the text.
+#[inline(never)]
+pub fn cut_lines(alloc: Global, text: &[u8]) -> Result<List<FieldLines<'_>>, FieldFault>
+    requires { length (lines_of text.now) ≤ most_text_lines }
+    ensures fields { IfOk result (λ fields. (field_fault text.now ≡ None) × (fields ≡ fields_of text.now)) }
+    ensures fit { IfOk result (λ fields. (fields ≢ []) × All IsField fields) }
+    ensures fault { IfErr result (TellsFieldFault text.now) }
+{
+    let read = read_lines(alloc, text)?;
+    if read.plain {
+        return Ok(read.fields);
+    }
+    match first_outside_x(read.fields.as_slice()) {
+        Some(fault) => Err(fault),
+        None => Ok(read.fields),
     }
 }
 
@@ -166,35 +172,12 @@ fn read_lines(alloc: Global, text: &[u8], spares: &mut Spares) -> Result<ReadLin
 /// P20 comes with the first line, from 1, that begins with `:` without this form, begins with `-`, is empty, or is the
 /// first and begins no field, and with line 0 where there is no line. P21 comes, where no line is at fault, with the
 /// first field that has a byte outside X (docs/messages.md, "Fields"). `put_fields` takes the fields that are cut.
-#[inline(never)]
 pub fn cut_fields(alloc: Global, text: &[u8]) -> Result<List<Field>, FieldFault>
     requires { length (lines_of text.now) ≤ most_text_lines }
     ensures fields { IfOk result (λ fields. (field_fault text.now ≡ None) × (fields ≡ fields_of text.now)) }
     ensures fit { IfOk result (λ fields. (fields ≢ []) × All IsField fields) }
     ensures fault { IfErr result (TellsFieldFault text.now) }
 {
-    let mut spares = Spares::new(alloc);
-    cut_fields_with(alloc, text, &mut spares)
-}
-
-/// As `cut_fields`, in memory of fields that are gone, as far as it goes.
-#[inline(never)]
-pub fn cut_fields_with(
-    alloc: Global,
-    text: &[u8],
-    spares: &mut Spares,
-) -> Result<List<Field>, FieldFault>
-    requires { length (lines_of text.now) ≤ most_text_lines }
-    ensures fields { IfOk result (λ fields. (field_fault text.now ≡ None) × (fields ≡ fields_of text.now)) }
-    ensures fit { IfOk result (λ fields. (fields ≢ []) × All IsField fields) }
-    ensures fault { IfErr result (TellsFieldFault text.now) }
-{
-    let read = read_lines(alloc, text, spares)?;
-    if read.plain {
-        return Ok(read.fields);
-    }
-    match first_outside_x(read.fields.as_slice()) {
-        Some(fault) => Err(fault),
-        None => Ok(read.fields),
-    }
+    let fields = cut_lines(alloc, text)?;
+    Ok(own_fields(alloc, fields.as_slice())?)
 }

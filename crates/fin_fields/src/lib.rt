@@ -4,17 +4,21 @@
 mod cutting;
 mod fault;
 mod field;
+mod field_lines;
 mod heading;
+mod lending;
+mod line;
 mod outside;
 mod pattern;
-mod spares;
 mod tag;
 mod writing;
 
-pub use cutting::{cut_fields, cut_fields_with};
+pub use cutting::{cut_fields, cut_lines};
 pub use fault::FieldFault;
 pub use field::Field;
+pub use field_lines::FieldLines;
+pub use lending::{lend_field, lend_fields, own_fields};
+pub use line::{Line, copy_lines};
 pub use pattern::{Pattern, is_run_of, lines_match, matches};
-pub use spares::Spares;
 pub use tag::{letter_of, nth_of, tag_of};
 pub use writing::put_fields;

@@ -6,9 +6,10 @@ ghost use Rattle.fin_fields.specs.Faults.{has_other_byte, is_outside_x, outside_
 ghost use Rattle.fin_fields.specs.Fields.{most_text_lines};
 
 use crate::fault::FieldFault;
-use crate::field::Field;
+use crate::field_lines::FieldLines;
+use crate::line::Line;
 use crate::tag::{nth_of, tag_of};
-use corr_text::{Text, is_x};
+use corr_text::is_x;
 
 fn has_byte_outside_x(line: &[u8]) -> bool
     ensures { result ≡ has_other_byte line.now }
@@ -16,22 +17,20 @@ fn has_byte_outside_x(line: &[u8]) -> bool
     line.iter().any(|b| !is_x(*b))
 }
 
-fn lines_outside_x(lines: &[Text]) -> bool
+fn lines_outside_x(lines: &[Line<'_>]) -> bool
     ensures { result ≡ list_any has_other_byte lines.now }
 {
     lines.iter().any(|line| has_byte_outside_x(line.bytes()))
 }
 
-fn first_place(fields: &[Field]) -> Option<usize>
+fn first_place(fields: &[FieldLines<'_>]) -> Option<usize>
     ensures { result ≡ position is_outside_x fields.now }
 {
-    fields
-        .iter()
-        .position(|f| lines_outside_x(f.lines.as_slice()))
+    fields.iter().position(|f| lines_outside_x(f.lines()))
 }
 
 /// The fault of the first field with a byte outside X, none where there is no such field.
-pub fn first_outside_x(fields: &[Field]) -> Option<FieldFault>
+pub fn first_outside_x(fields: &[FieldLines<'_>]) -> Option<FieldFault>
     requires few { length fields.now ≤ most_text_lines }
     ensures { result ≡ outside_x fields.now }
 {

@@ -1,3 +1,4 @@
 pub mod laws
 pub mod PlacedSoFar
 pub mod InTurn
+pub mod TakenInTurn

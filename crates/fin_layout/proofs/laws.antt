@@ -6,3 +6,4 @@ pub mod Fine
 pub mod ReadBack
 pub mod InOrder
 pub mod Passed
+pub mod PlaceByPlace

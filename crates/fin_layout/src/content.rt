@@ -8,7 +8,7 @@ ghost use Rattle.fin_layout.specs.Reading.{Reads};
 
 use crate::fault::Refusal;
 use corr_text::{Code, Memory};
-use fin_fields::Field;
+use fin_fields::FieldLines;
 use std::alloc::Global;
 
 /// A kind of content, as a reference or an amount: what a field of it says.
@@ -20,12 +20,16 @@ pub trait Content {
     ghost meaning: { Self → FieldSeen → Result Self.Value CodeSeen };
 
     /// Reads a field. `Bad` comes exactly where the content is wrong, with the code of the first test that it fails.
-    fn read(&self, alloc: Global, f: &Field) -> Result<Self::Value, Refusal>
+    fn read(&self, alloc: Global, f: &FieldLines<'_>) -> Result<Self::Value, Refusal>
         ensures { Reads result (meaning self.now f.now) };
 }
 
 /// The code of what is wrong with a field of some kind of content, none where nothing is.
-pub fn refusal<C: Content>(alloc: Global, content: &C, f: &Field) -> Result<Option<Code>, Memory>
+pub fn refusal<C: Content>(
+    alloc: Global,
+    content: &C,
+    f: &FieldLines<'_>,
+) -> Result<Option<Code>, Memory>
     ensures { IfOk result (λ o. o ≡ fault_of (C.meaning content.now f.now)) }
 {
     match content.read(alloc, f) {

@@ -4,7 +4,7 @@ ghost use Rattle.std.specs.Prelude.{◌≡◌, ◌<◌, ◌==◌, IfSome, length
 ghost use Rattle.std.specs.List.{list_any};
 ghost use Rattle.fin_layout.specs.Order.{field_in, is_between};
 
-use fin_fields::Field;
+use fin_fields::FieldLines;
 
 fn position_of(found: &[usize], place: usize) -> Option<usize>
     ensures { result ≡ position (λ p. p == place) found.now }
@@ -14,7 +14,11 @@ fn position_of(found: &[usize], place: usize) -> Option<usize>
 
 /// The first field that takes a place, and which of the fields it is, from 0; none where no field takes it. `found` are
 /// the places of the fields.
-pub fn find<'a>(fields: &'a [Field], found: &[usize], place: usize) -> Option<(usize, &'a Field)>
+pub fn find<'a, 't>(
+    fields: &'a [FieldLines<'t>],
+    found: &[usize],
+    place: usize,
+) -> Option<(usize, &'a FieldLines<'t>)>
     ensures value { option_map (λ x. (x.0, x.1.now)) result ≡ field_in fields.now found.now place }
     ensures within { IfSome result (λ x. x.0 < length fields.now) }
 {

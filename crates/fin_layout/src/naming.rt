@@ -7,10 +7,10 @@ ghost use Rattle.fin_layout.specs.Naming.{absent, fault_at};
 use crate::fault::P23;
 use crate::place::{Place, place_tag};
 use corr_text::{Code, Fault};
-use fin_fields::{Field, nth_of, tag_of};
+use fin_fields::{FieldLines, nth_of, tag_of};
 
 /// A fault of the field at `at`, from 0: the code, the field's tag with its letter, and which of that tag it is, from 1.
-pub fn fault_at(fields: &[Field], at: usize, code: Code) -> Fault
+pub fn fault_at(fields: &[FieldLines<'_>], at: usize, code: Code) -> Fault
     requires few { length fields.now ≤ most_text_lines }
     requires within { at < length fields.now }
     ensures { result ≡ fault_at fields.now at code }

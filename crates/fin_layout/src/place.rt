@@ -4,7 +4,7 @@ ghost use Rattle.std.specs.Prelude.{◌≡◌, ◌==◌};
 ghost use Rattle.std.specs.List.{list_any};
 ghost use Rattle.fin_layout.specs.Order.{fits, place_tag};
 
-use fin_fields::{Field, letter_of};
+use fin_fields::{FieldLines, letter_of};
 
 /// One place in the order of a message type's fields.
 ///
@@ -69,10 +69,10 @@ fn is_option(options: &[u8; 4], letter: u8) -> bool
 }
 
 /// Whether a field may stand at a place: it has the place's number and one of its letters.
-pub fn fits(p: &Place, f: &Field) -> bool
+pub fn fits(p: &Place, f: &FieldLines<'_>) -> bool
     ensures { result ≡ fits p.now f.now }
 {
-    p.tag == f.tag && is_option(&p.options, letter_of(f))
+    p.tag == f.tag() && is_option(&p.options, letter_of(f))
 }
 
 /// The tag of a place: two digits and a space where it has several options, else the whole tag.

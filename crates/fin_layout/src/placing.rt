@@ -1,21 +1,22 @@
 //! The places that fields take.
 
-ghost use Rattle.std.specs.Prelude.{◌≡◌, ◌≤◌, ◌<◌, IfOk, IfSome, length, position};
-ghost use Rattle.fin_layout.specs.Order.{fits, free_after, is_missing, missing_from, place_from, places_from};
+ghost use Rattle.std.specs.Prelude.{◌≡◌, ◌≤◌, ◌<◌, ◌+◌, [], IfOk, IfSome, length, option_map, position};
+ghost use Rattle.std.specs.List.{slice_range};
+ghost use Rattle.fin_layout.specs.Order.{Rising, fits, free_after, is_missing, missing_from, place_from, places_from};
 
 use crate::place::{Place, fits};
 use corr_text::Memory;
-use fin_fields::Field;
+use fin_fields::FieldLines;
 use std::alloc::Global;
 
-fn first_fit(order: &[Place], f: &Field) -> Option<usize>
+fn first_fit(order: &[Place], f: &FieldLines<'_>) -> Option<usize>
     ensures value { result ≡ position (λ p. fits p f.now) order.now }
     ensures within { IfSome result (λ k. k < length order.now) }
 {
     order.iter().position(|p| fits(p, f))
 }
 
-fn place_from(order: &[Place], free: usize, f: &Field) -> Option<usize>
+fn place_from(order: &[Place], free: usize, f: &FieldLines<'_>) -> Option<usize>
     requires { free ≤ length order.now }
     ensures value { result ≡ place_from order.now free f.now }
     ensures within { IfSome result (λ k. k < length order.now) }
@@ -38,7 +39,11 @@ fn free_after(order: &[Place], at: usize) -> usize
 ///
 /// A field takes the first place behind that of the field before it which allows it, or that same place where more than
 /// one field may stand there.
-pub fn places(alloc: Global, order: &[Place], fields: &[Field]) -> Result<Vec<usize>, Memory>
+pub fn places(
+    alloc: Global,
+    order: &[Place],
+    fields: &[FieldLines<'_>],
+) -> Result<Vec<usize>, Memory>
     ensures value { IfOk result (λ v. v.items ≡ places_from order.now 0 fields.now) }
     ensures few { IfOk result (λ v. length v.items ≤ length fields.now) }
 {
@@ -73,4 +78,37 @@ pub fn missing(order: &[Place], found: &[usize]) -> Option<usize>
         }
     }
     None
+}
+
+// The first place from `from` on and before `until` that a field must take.
+fn first_due(order: &[Place], from: usize, until: usize) -> Option<usize>
+    requires ordered { from ≤ until }
+    requires there { until ≤ length order.now }
+    ensures value { result ≡ option_map (λ k. from + k) (missing_from 0 (slice_range order.now from until) []) }
+    ensures within { IfSome result (λ k. k < until) }
+{
+    match missing(&order[from..until], &[]) {
+        Some(at) => Some(from + at),
+        None => None,
+    }
+}
+
+/// The first place that a field must take and none of the places in `found` is, where `found` are places that fields take
+/// in turn; none where there is no such place.
+pub(crate) fn missing_in_turn(order: &[Place], found: &[usize]) -> Option<usize>
+    requires { Rising order.now 0 found.now }
+    ensures value { result ≡ missing_from 0 order.now found.now }
+    ensures within { IfSome result (λ k. k < length order.now) }
+{
+    let mut free = 0;
+    for at in found {
+        if *at < free {
+            continue;
+        }
+        if let Some(due) = first_due(order, free, *at) {
+            return Some(due);
+        }
+        free = *at + 1;
+    }
+    first_due(order, free, order.len())
 }

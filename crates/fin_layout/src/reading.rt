@@ -11,10 +11,10 @@ use crate::finding::find;
 use crate::naming::{absent, fault_at};
 use crate::place::Place;
 use corr_text::List;
-use fin_fields::Field;
+use fin_fields::FieldLines;
 use std::alloc::Global;
 
-fn locate<T>(fields: &[Field], at: usize, read: Result<T, Refusal>) -> Result<T, MtFault>
+fn locate<T>(fields: &[FieldLines<'_>], at: usize, read: Result<T, Refusal>) -> Result<T, MtFault>
     requires few { length fields.now ≤ most_text_lines }
     requires within { at < length fields.now }
     ensures { result ≡ placed fields.now at read }
@@ -32,7 +32,7 @@ pub fn read_one<C: Content>(
     alloc: Global,
     content: &C,
     order: &[Place],
-    fields: &[Field],
+    fields: &[FieldLines<'_>],
     found: &[usize],
     place: usize,
 ) -> Result<C::Value, MtFault>
@@ -50,7 +50,7 @@ pub fn read_one<C: Content>(
 pub fn read_optional<C: Content>(
     alloc: Global,
     content: &C,
-    fields: &[Field],
+    fields: &[FieldLines<'_>],
     found: &[usize],
     place: usize,
 ) -> Result<Option<C::Value>, MtFault>
@@ -67,7 +67,7 @@ pub fn read_optional<C: Content>(
 pub fn read_all<C: Content>(
     alloc: Global,
     content: &C,
-    fields: &[Field],
+    fields: &[FieldLines<'_>],
     found: &[usize],
     place: usize,
 ) -> Result<List<C::Value>, MtFault>

@@ -10,8 +10,8 @@ ghost use Rattle.fin_layout.specs.Tests.{structure_tests};
 use crate::fault::{MtFault, P22};
 use crate::naming::{absent, fault_at};
 use crate::place::Place;
-use crate::placing::{missing, places};
-use fin_fields::Field;
+use crate::placing::{missing_in_turn, places};
+use fin_fields::FieldLines;
 use std::alloc::Global;
 
 /// The place of each field.
@@ -21,7 +21,7 @@ use std::alloc::Global;
 pub fn check_structure(
     alloc: Global,
     order: &[Place],
-    fields: &[Field],
+    fields: &[FieldLines<'_>],
 ) -> Result<Vec<usize>, MtFault>
     requires few { length fields.now ≤ most_text_lines }
     ensures fault { IfErr result (Tells (first_of (structure_tests order.now fields.now))) }
@@ -33,7 +33,7 @@ pub fn check_structure(
     if found.len() != fields.len() {
         return Err(MtFault::Bad(fault_at(fields, found.len(), P22)));
     }
-    if let Some(at) = missing(order, found.as_slice()) {
+    if let Some(at) = missing_in_turn(order, found.as_slice()) {
         return Err(MtFault::Bad(absent(order, at)));
     }
     Ok(found)

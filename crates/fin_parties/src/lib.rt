@@ -13,5 +13,5 @@ mod writing;
 pub use fault::PartyFault;
 pub use line::account_of;
 pub use party::Party;
-pub use reading::read_party;
+pub use reading::{read_party, read_party_lines};
 pub use writing::put_party;

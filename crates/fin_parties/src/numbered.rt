@@ -4,8 +4,8 @@ ghost use Rattle.std.specs.Prelude.{◌≡◌, nat_le};
 ghost use Rattle.std.specs.List.{list_all, zip};
 ghost use Rattle.fin_parties.specs.Party.{are_numbered, is_numbered, number_in};
 
-use corr_text::{Set, Text};
-use fin_fields::is_run_of;
+use corr_text::Set;
+use fin_fields::{Line, is_run_of};
 
 fn is_numbered(line: &[u8]) -> bool
     ensures { result ≡ is_numbered line.now }
@@ -16,7 +16,7 @@ fn is_numbered(line: &[u8]) -> bool
     }
 }
 
-fn all_numbered(lines: &[Text]) -> bool
+fn all_numbered(lines: &[Line<'_>]) -> bool
     ensures { result ≡ list_all is_numbered lines.now }
 {
     lines.iter().all(|line| is_numbered(line.bytes()))
@@ -32,14 +32,14 @@ fn number(line: &[u8]) -> u8
 }
 
 // Whether each line is numbered no higher than the one at its place in `next`.
-fn rises_to(lines: &[Text], next: &[Text]) -> bool
+fn rises_to(lines: &[Line<'_>], next: &[Line<'_>]) -> bool
     ensures { result ≡ list_all (λ p. nat_le (number_in p.0) (number_in p.1)) (zip lines.now next.now) }
 {
     lines.iter().zip(next.iter()).all(|(line, next)| number(line.bytes()) <= number(next.bytes()))
 }
 
 /// Whether lines are one to four lines `1!n/33x`, the first numbered 1, none numbered lower than the one before it.
-pub fn are_numbered(lines: &[Text]) -> bool
+pub fn are_numbered(lines: &[Line<'_>]) -> bool
     ensures { result ≡ are_numbered lines.now }
 {
     match lines {

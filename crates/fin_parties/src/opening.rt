@@ -5,7 +5,7 @@ ghost use Rattle.fin_parties.specs.Party.{opens, parts_of};
 ghost use Rattle.fin_parties.specs.Parts.{parts_in};
 
 use crate::line::{has_slash, is_account_line, is_party_line};
-use corr_text::Text;
+use fin_fields::Line;
 
 /// What a first line is that begins with a slash.
 #[derive(Clone, Copy)]
@@ -18,7 +18,7 @@ pub enum Opening {
 #[derive(Clone, Copy)]
 pub struct Parts<'a> {
     pub first: Option<&'a [u8]>,
-    pub rest: &'a [Text],
+    pub rest: &'a [Line<'a>],
 }
 
 fn opens(opening: Opening, line: &[u8]) -> bool
@@ -31,7 +31,7 @@ fn opens(opening: Opening, line: &[u8]) -> bool
 }
 
 /// The parts of a field's lines, none where the first begins with a slash and has another format.
-pub fn parts_of(opening: Opening, lines: &[Text]) -> Option<Parts<'_>>
+pub fn parts_of<'a>(opening: Opening, lines: &'a [Line<'a>]) -> Option<Parts<'a>>
     ensures { option_map parts_in result ≡ parts_of opening lines.now }
 {
     match lines {

@@ -12,8 +12,10 @@ use crate::numbered::are_numbered;
 use crate::opening::{Opening, parts_of};
 use crate::party::Party;
 use corr_ids::read_bic;
-use corr_text::{Memory, Set, Text, copy_texts};
-use fin_fields::{Field, Pattern, is_run_of, lines_match};
+use corr_text::{Memory, Set, Text};
+use fin_fields::{
+    Field, FieldLines, Line, Pattern, copy_lines, is_run_of, lend_field, lines_match,
+};
 use std::alloc::Global;
 
 fn is_line(line: &[u8]) -> bool
@@ -22,7 +24,7 @@ fn is_line(line: &[u8]) -> bool
     is_run_of(Set::X, 35, line)
 }
 
-fn is_name(lines: &[Text]) -> bool
+fn is_name(lines: &[Line<'_>]) -> bool
     ensures { result ≡ is_name lines.now }
 {
     match lines {
@@ -52,7 +54,7 @@ fn copy_account(alloc: Global, line: Option<&[u8]>) -> Result<Option<Text>, Memo
 }
 
 #[inline(never)]
-fn read_bic_party(alloc: Global, opening: Opening, lines: &[Text]) -> Result<Party, PartyFault>
+fn read_bic_party(alloc: Global, opening: Opening, lines: &[Line<'_>]) -> Result<Party, PartyFault>
     ensures { ReadsParty (behind_first opening bic_party lines.now) result }
 {
     let Some(parts) = parts_of(opening, lines) else {
@@ -71,7 +73,7 @@ fn read_bic_party(alloc: Global, opening: Opening, lines: &[Text]) -> Result<Par
 }
 
 #[inline(never)]
-fn read_place_party(alloc: Global, lines: &[Text]) -> Result<Party, PartyFault>
+fn read_place_party(alloc: Global, lines: &[Line<'_>]) -> Result<Party, PartyFault>
     ensures { ReadsParty (behind_first PartyLine place_party lines.now) result }
 {
     let Some(parts) = parts_of(Opening::PartyLine, lines) else {
@@ -91,7 +93,7 @@ fn read_place_party(alloc: Global, lines: &[Text]) -> Result<Party, PartyFault>
 }
 
 #[inline(never)]
-fn read_account_party(alloc: Global, lines: &[Text]) -> Result<Party, PartyFault>
+fn read_account_party(alloc: Global, lines: &[Line<'_>]) -> Result<Party, PartyFault>
     ensures { ReadsParty (account_party lines.now) result }
 {
     match lines {
@@ -102,7 +104,7 @@ fn read_account_party(alloc: Global, lines: &[Text]) -> Result<Party, PartyFault
     }
 }
 
-fn is_listing(listing: Listing, lines: &[Text]) -> bool
+fn is_listing(listing: Listing, lines: &[Line<'_>]) -> bool
     ensures { result ≡ is_listing listing lines.now }
 {
     match listing {
@@ -116,7 +118,7 @@ fn read_listed_party(
     alloc: Global,
     opening: Opening,
     listing: Listing,
-    lines: &[Text],
+    lines: &[Line<'_>],
 ) -> Result<Party, PartyFault>
     ensures { ReadsParty (behind_first opening (listed_party listing) lines.now) result }
 {
@@ -126,7 +128,7 @@ fn read_listed_party(
     if !is_listing(listing, parts.rest) {
         return Err(PartyFault::P24);
     }
-    let listed = copy_texts(alloc, parts.rest)?;
+    let listed = copy_lines(alloc, parts.rest)?;
     match listing {
         Listing::Institution => Ok(Party::D {
             line: copy_line(alloc, parts.first)?,
@@ -144,20 +146,20 @@ fn read_listed_party(
 }
 
 #[inline(never)]
-fn read_payer_party(alloc: Global, lines: &[Text]) -> Result<Party, PartyFault>
+fn read_payer_party(alloc: Global, lines: &[Line<'_>]) -> Result<Party, PartyFault>
     ensures { ReadsParty (payer_party lines.now) result }
 {
     match lines {
         [line, rest @ ..] if is_line(line.bytes()) && are_numbered(rest) => Ok(Party::F {
             line: Some(line.copy(alloc)?),
-            lines: copy_texts(alloc, rest)?,
+            lines: copy_lines(alloc, rest)?,
         }),
         _ => Err(PartyFault::P24),
     }
 }
 
 #[tactic(auto, unfolding(crate::specs::Party::party_in))]
-fn read_lines(alloc: Global, form: Form, lines: &[Text]) -> Result<Party, PartyFault>
+fn read_lines(alloc: Global, form: Form, lines: &[Line<'_>]) -> Result<Party, PartyFault>
     ensures { ReadsParty (party_in form lines.now) result }
 {
     match form {
@@ -172,17 +174,25 @@ fn read_lines(alloc: Global, form: Form, lines: &[Text]) -> Result<Party, PartyF
     }
 }
 
+/// As `read_party`, of a field whose lines stay in a text.
+#[tactic(auto, unfolding(crate::specs::Party::party_of))]
+pub fn read_party_lines(alloc: Global, f: &FieldLines<'_>) -> Result<Party, PartyFault>
+    ensures party { IfOk result (λ p. party_of f.now ≡ Some p) }
+    ensures fault { IfErr result (TellsPartyFault (party_of f.now)) }
+{
+    match form_of(f.tag(), f.letter()) {
+        Some(form) => read_lines(alloc, form, f.lines()),
+        None => Err(PartyFault::P24),
+    }
+}
+
 /// The party that a field names, by the grammar of its tag and letter.
 ///
 /// P24 comes exactly where the field isn't in that grammar (docs/messages.md, "Parties"): 52A to 58A, 53B, 54B, 55B, 57B,
 /// 56C, 57C, 52D to 58D, 50A, 50F, 50K, 59, 59A and 59F have one. Whether a BIC is known is not tested.
-#[tactic(auto, unfolding(crate::specs::Party::party_of))]
 pub fn read_party(alloc: Global, f: &Field) -> Result<Party, PartyFault>
     ensures party { IfOk result (λ p. party_of f.now ≡ Some p) }
     ensures fault { IfErr result (TellsPartyFault (party_of f.now)) }
 {
-    match form_of(f.tag, f.letter) {
-        Some(form) => read_lines(alloc, form, f.lines.as_slice()),
-        None => Err(PartyFault::P24),
-    }
+    read_party_lines(alloc, &lend_field(alloc, f)?)
 }

@@ -40,6 +40,7 @@ use Rattle.fin_contents.proofs.laws.Steps.{checked, is-only, read-then, there}
 
 -- ---- contents that keep their lines
 
+-- a field that is read as a reference is that one line
 pub reference-kept : (f : Field) (x : List ℕ) → reference_of f ≡ Ok x → f.lines ≡ x ∷ []
 unfolding reference_of
 reference-kept f x e =
@@ -49,10 +50,12 @@ reference-kept f x e =
     let same : line.0 ≡ x = cc plain.1 in
     is-only f.lines line.0 line.1 ∙ ap (λ (y : List ℕ). y ∷ []) same
 
+-- a reference that was read, written as a field, is read as itself
 pub reference-again : (tag : ℕ) (letter : Option ℕ) (f : Field) (x : List ℕ) → reference_of f ≡ Ok x → reference_of (line_field tag letter x) ≡ Ok x
 unfolding reference_of
 reference-again tag letter f x e = ap (λ (ls : List (List ℕ)). reference_of (lines_field tag letter ls)) (sym (reference-kept f x e)) ∙ e
 
+-- a field that is read as a time indication is that one line
 pub time-kept : (f : Field) (x : List ℕ) → time_of f ≡ Ok x → f.lines ≡ x ∷ []
 unfolding time_of
 time-kept f x e =
@@ -61,10 +64,12 @@ time-kept f x e =
     let same : line.0 ≡ x = cc is.1 in
     is-only f.lines line.0 line.1 ∙ ap (λ (y : List ℕ). y ∷ []) same
 
+-- a time indication that was read, written as a field, is read as itself
 pub time-again : (tag : ℕ) (letter : Option ℕ) (f : Field) (x : List ℕ) → time_of f ≡ Ok x → time_of (line_field tag letter x) ≡ Ok x
 unfolding time_of
 time-again tag letter f x e = ap (λ (ls : List (List ℕ)). time_of (lines_field tag letter ls)) (sym (time-kept f x e)) ∙ e
 
+-- a field that is read as a rate is that one line
 pub rate-kept : (f : Field) (x : List ℕ) → rate_of f ≡ Ok x → f.lines ≡ x ∷ []
 unfolding rate_of
 rate-kept f x e =
@@ -75,10 +80,12 @@ rate-kept f x e =
     let same : line.0 ≡ x = cc short.1 in
     is-only f.lines line.0 line.1 ∙ ap (λ (y : List ℕ). y ∷ []) same
 
+-- a rate that was read, written as a field, is read as itself
 pub rate-again : (tag : ℕ) (letter : Option ℕ) (f : Field) (x : List ℕ) → rate_of f ≡ Ok x → rate_of (line_field tag letter x) ≡ Ok x
 unfolding rate_of
 rate-again tag letter f x e = ap (λ (ls : List (List ℕ)). rate_of (lines_field tag letter ls)) (sym (rate-kept f x e)) ∙ e
 
+-- a field that is read as a short line is that line
 pub short_line-kept : (most : ℕ) (f : Field) (x : List ℕ) → short_line_of most f ≡ Ok x → f.lines ≡ x ∷ []
 unfolding short_line_of
 short_line-kept most f x e =
@@ -87,20 +94,24 @@ short_line-kept most f x e =
     let same : line.0 ≡ x = cc run.1 in
     is-only f.lines line.0 line.1 ∙ ap (λ (y : List ℕ). y ∷ []) same
 
+-- a short line that was read, written as a field, is read as itself
 pub short_line-again : (most tag : ℕ) (letter : Option ℕ) (f : Field) (x : List ℕ) → short_line_of most f ≡ Ok x → short_line_of most (line_field tag letter x) ≡ Ok x
 unfolding short_line_of
 short_line-again most tag letter f x e = ap (λ (ls : List (List ℕ)). short_line_of most (lines_field tag letter ls)) (sym (short_line-kept most f x e)) ∙ e
 
+-- a field that is read as lines of text is those lines
 pub texts-kept : (most : ℕ) (f : Field) (lines : List (List ℕ)) → texts_of most f ≡ Ok lines → f.lines ≡ lines
 unfolding texts_of
 texts-kept most f lines e = cc (checked (meets (Lines most 35) f.lines) _ _ lines e).1
 
+-- lines of text that were read, written as a field, are read as themselves
 pub texts-again : (most tag : ℕ) (letter : Option ℕ) (f : Field) (lines : List (List ℕ)) → texts_of most f ≡ Ok lines → texts_of most (lines_field tag letter lines) ≡ Ok lines
 unfolding texts_of
 texts-again most tag letter f lines e = ap (λ (ls : List (List ℕ)). texts_of most (lines_field tag letter ls)) (sym (texts-kept most f lines e)) ∙ e
 
 -- ---- amounts
 
+-- an amount that is read with codes for its faults is read without them
 pub coded-ok : (r : Result Minor AmountFault) (minor : Minor) → coded r ≡ Ok minor → r ≡ Ok minor
 coded-ok (Ok m) minor e = ap Ok (cc e)
 coded-ok (Err fault) minor e = absurd (cc e)
@@ -111,6 +122,7 @@ pub record AmountRead (t : Tables) (line : List ℕ) (a : Amount) : Type 0 where
   pub known : decimals_in t (take 3 line) ≡ Some a.decimals
   pub minor : amount_of a.decimals (drop 3 line) ≡ Ok a.minor
 
+-- what a line says that is read as an amount: its currency, the decimals of the table, and the number
 pub amount-read : (t : Tables) (line : List ℕ) (a : Amount) → ccy_amount_in t line ≡ Ok a → AmountRead t line a
 unfolding ccy_amount_in
 amount-read t line a e =
@@ -146,6 +158,7 @@ amount-is t line a few e =
       few = some-few (decimals_in t (take 3 line)) a.decimals read.known (lookup_few (bytes_eq (take 3 line)) t.ccys few);
     }
 
+-- an amount that a field says under tables of few decimals can be written
 pub ccy_amount-is : (t : Tables) (f : Field) (a : Amount) → IsTrue (few_decimals t.ccys) → ccy_amount_of t f ≡ Ok a → IsAmount a
 unfolding ccy_amount_of
 ccy_amount-is t f a few e =
@@ -191,6 +204,7 @@ amount-written t line a is form e =
     let letters = amount-letters t line a form e in
     amount-spelled t a is letters.0 letters.1 (ap (λ (x : List ℕ). decimals_in t x) read.ccy ∙ read.known)
 
+-- an amount that was read, written as a field, is read as itself
 pub ccy_amount-again : (tag : ℕ) (letter : Option ℕ) (t : Tables) (f : Field) (a : Amount) → IsAmount a → ccy_amount_of t f ≡ Ok a → ccy_amount_of t (ccy_amount_field tag letter a) ≡ Ok a
 unfolding ccy_amount_of
 ccy_amount-again tag letter t f a is e =
@@ -230,6 +244,7 @@ value-day t f v e =
     let form = checked (is_dated_amount line.0) _ _ v line.2 in
     (day-named (take 6 line.0) v.day (value-read t line.0 v form.1).day).0
 
+-- so can a value date with its amount
 pub value-is : (t : Tables) (f : Field) (v : Value) → IsTrue (few_decimals t.ccys) → value_of t f ≡ Ok v → IsValue v
 unfolding value_of
 value-is t f v few e =
@@ -251,6 +266,7 @@ value-payable t f v e =
     let amount = amount-read t (drop 6 line.0) v.amount read.amount in
     record { above = positive v.amount.minor.0 read.some; below = (small-amount v.amount.decimals (drop 3 (drop 6 line.0)) v.amount.minor amount.minor).1 }
 
+-- an amount that stands at a place of 32A is one that can be paid
 pub place-payable : (t : Tables) (order : List Place) (fs : List Field) (found : List ℕ) (k : ℕ) (v : Value) → in_place order fs found k (value_of t) ≡ Ok v → IsPayable v.amount
 place-payable t order fs found k v e = let f = must-ok order fs k (value_of t) (field_in fs found k) v e in value-payable t f.0 v f.1
 
@@ -276,6 +292,7 @@ value-written t line date v is spelled six form e =
     let long : nat_le 10 (length (date ++ text)) ≡ true = rw (length-append date text, six) (dated (length text) four) in
     (rw (long, front, digits, back, amount.form) refl, rw (front, day, back, metal, amount.read, read.some) refl)
 
+-- a value date with its amount that was read, written as a field, is read as itself
 pub value-again : (t : Tables) (f : Field) (v : Value) → IsValue v → value_of t f ≡ Ok v → value_of t (value_field v) ≡ Ok v
 unfolding value_of
 value-again t f v is e =

@@ -11,15 +11,18 @@ use Rattle.corr_text.specs.declared.set.Set.TheVariants.{X}
 use Rattle.corr_money.specs.Amounts.{decimals_of, is_comma, is_comma_number, whole_of}
 use Rattle.fin_fields.specs.Faults.{has_other_byte}
 
+-- two tests that hold together hold each
 pub and-both : (a b : Bool) → (a && b) ≡ true → (a ≡ true) × (b ≡ true)
 and-both a b e = grind (arith, nat_tests)
 
+-- and so do three
 pub and-three : (a b c : Bool) → (a && b && c) ≡ true → (a ≡ true) × (b ≡ true) × (c ≡ true)
 and-three a b c e = grind (arith, nat_tests)
 
 and-four : (a b c d : Bool) → (a && b && c && d) ≡ true → (a ≡ true) × (b ≡ true) × (c ≡ true) × (d ≡ true)
 and-four a b c d e = grind (arith, nat_tests)
 
+-- a line of X has no byte outside of it
 pub all-of-x : (line : List ℕ) → list_all (is_in X) line ≡ true → has_other_byte line ≡ false
 all-of-x [] e = refl
 all-of-x (b ∷ line) e =
@@ -32,12 +35,14 @@ digit-third false true digit mark e = refl
 digit-third false false true mark e = refl
 digit-third false false false mark e = absurd (cc e)
 
+-- digits are characters of X
 pub digits-of-x : (bs : List ℕ) → list_all is_ascii_digit bs ≡ true → list_all (is_in X) bs ≡ true
 digits-of-x [] e = refl
 digits-of-x (b ∷ bs) e =
     let both = and-both (is_ascii_digit b) (list_all is_ascii_digit bs) e in
     rw (digit-third (is_ascii_uppercase b) (is_ascii_lowercase b) (is_ascii_digit b) (list_any (λ m. b == m) marks) both.0) (digits-of-x bs both.1)
 
+-- and so are capital letters
 pub letters-of-x : (bs : List ℕ) → list_all is_ascii_uppercase bs ≡ true → list_all (is_in X) bs ≡ true
 letters-of-x [] e = refl
 letters-of-x (b ∷ bs) e =

@@ -42,11 +42,13 @@ ccy_amount-of-x line e =
     let parts = and-three (nat_le 4 (length line)) (list_all (is_in A) (take 3 line)) (list_all (is_in X) (drop 3 line)) e in
     parts-of-x 3 line (letters-of-x (take 3 line) parts.1) parts.2
 
+-- a date, a currency and an amount are characters of X
 pub dated_amount-of-x : (line : List ℕ) → is_dated_amount line ≡ true → list_all (is_in X) line ≡ true
 dated_amount-of-x line e =
     let parts = and-three (nat_le 10 (length line)) (list_all (is_in N) (take 6 line)) (is_ccy_amount (drop 6 line)) e in
     parts-of-x 6 line (digits-of-x (take 6 line) parts.1) (ccy_amount-of-x (drop 6 line) parts.2)
 
+-- a currency and an amount that were read, written as a field, can stand in a text
 pub ccy_amount-fit : (tag : ℕ) (letter : Option ℕ) (t : Tables) (f : Field) (a : Amount) → IsHeading tag letter → IsAmount a → ccy_amount_of t f ≡ Ok a → IsField (ccy_amount_field tag letter a)
 unfolding ccy_amount_of
 ccy_amount-fit tag letter t f a h is e =
@@ -54,6 +56,7 @@ ccy_amount-fit tag letter t f a h is e =
     let form = checked (is_ccy_amount (ccy_amount_text a)) _ (ccy_amount_in t (ccy_amount_text a)) a again in
     line-fit tag letter (ccy_amount_text a) h (all-of-x (ccy_amount_text a) (ccy_amount-of-x (ccy_amount_text a) form.0))
 
+-- so can a value date with its amount
 pub value-fit : (t : Tables) (f : Field) (v : Value) → IsValue v → value_of t f ≡ Ok v → IsField (value_field v)
 unfolding value_of
 value-fit t f v is e =

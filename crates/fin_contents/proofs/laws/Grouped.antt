@@ -3,9 +3,9 @@ use Rattle.std.proofs.Common.{◌≡◌, Result, Ok, Err, refl}
 use Rattle.corr_text.specs.First.{◌>>=◌}
 
 -- one step before others
-pub joined : {A B C F : Type 0} (r : Result A F) (f : A → Result B F) (g : B → Result C F) → ((r >>= f) >>= g) ≡ (r >>= λ x. f x >>= g)
-joined (Ok x) f g = refl
-joined (Err e) f g = refl
+pub steps-joined : {A B C F : Type 0} (r : Result A F) (f : A → Result B F) (g : B → Result C F) → ((r >>= f) >>= g) ≡ (r >>= λ x. f x >>= g)
+steps-joined (Ok x) f g = refl
+steps-joined (Err e) f g = refl
 
 -- steps that go on alike
 pub alike : {A B F : Type 0} (r : Result A F) (f g : A → Result B F) → ((x : A) → f x ≡ g x) → (r >>= f) ≡ (r >>= g)

@@ -18,10 +18,11 @@ use Rattle.fin_layout.proofs.laws.Fine.{field-nil, second, unshifted}
 
 -- ---- what holds of each field at its place
 
-abbrev pub Holds : (ℕ → Field → Type 0) → List ℕ → List Field → Type 0
-Holds Q [] fs = Unit {0}
-Holds Q (q ∷ found) [] = Unit {0}
-Holds Q (q ∷ found) (f ∷ fs) = Q q f × Holds Q found fs
+-- each field has the property of the place that it stands at
+abbrev pub HoldsInPlaces : (ℕ → Field → Type 0) → List ℕ → List Field → Type 0
+HoldsInPlaces Q [] fs = Unit {0}
+HoldsInPlaces Q (q ∷ found) [] = Unit {0}
+HoldsInPlaces Q (q ∷ found) (f ∷ fs) = Q q f × HoldsInPlaces Q found fs
 
 -- it has this property, and may stand at that place
 pub record Stands (order : List Place) (P : Field → Type 0) (k : ℕ) (f : Field) : Type 0 where
@@ -35,20 +36,20 @@ fitting-from order free k f (Some j) at e d =
     let place : free + j ≡ k = cc e in
     rw (← place, ← get_or-drop) (first.1)
 
-stands-on : (order : List Place) (P : Field → Type 0) (free : ℕ) (f : Field) (fs : List Field) (more : ℕ → List ℕ) (o : Option ℕ) → o ≡ place_from order free f → P f → ((k : ℕ) → Holds (Stands order P) (more k) fs)
-    → Holds (Stands order P) (unwrap_or (option_map (λ k. k ∷ more k) o) []) (f ∷ fs)
+stands-on : (order : List Place) (P : Field → Type 0) (free : ℕ) (f : Field) (fs : List Field) (more : ℕ → List ℕ) (o : Option ℕ) → o ≡ place_from order free f → P f → ((k : ℕ) → HoldsInPlaces (Stands order P) (more k) fs)
+    → HoldsInPlaces (Stands order P) (unwrap_or (option_map (λ k. k ∷ more k) o) []) (f ∷ fs)
 stands-on order P free f fs more None at is later = tt
 stands-on order P free f fs more (Some k) at is later = (record { fitting = fitting-from order free k f (position (λ p. fits p f) (drop free order)) refl (sym at); has = is }, later k)
 
 -- fields that take places stand there
-pub stand : (order : List Place) (P : Field → Type 0) (free : ℕ) (fs : List Field) → All P fs → Holds (Stands order P) (places_from order free fs) fs
+pub stand : (order : List Place) (P : Field → Type 0) (free : ℕ) (fs : List Field) → All P fs → HoldsInPlaces (Stands order P) (places_from order free fs) fs
 unfolding places_from
 stand order P free [] all = tt
 stand order P free (f ∷ fs) all =
     stands-on order P free f fs (λ k. places_from order (free_after order k) fs) (place_from order free f) refl (All-head P f fs all)
     (λ k. stand order P (free_after order k) fs (All-tail P f fs all))
 
-holds-at : (Q : ℕ → Field → Type 0) (k : ℕ) (found : List ℕ) (fs : List Field) (n : ℕ) (f : Field) → Holds Q found fs → field_in fs found k ≡ Some (n, f) → Q k f
+holds-at : (Q : ℕ → Field → Type 0) (k : ℕ) (found : List ℕ) (fs : List Field) (n : ℕ) (f : Field) → HoldsInPlaces Q found fs → field_in fs found k ≡ Some (n, f) → Q k f
 holds-at Q k [] fs n f h at = absurd (cc at)
 holds-at Q k (q ∷ found) [] n f h at = absurd (cc (sym (field-nil (q ∷ found) k) ∙ at))
 holds-at Q k (q ∷ found) (g ∷ fs) n f h at =
@@ -86,26 +87,26 @@ all-step true (Err f) others here xs e = absurd (cc e)
 all-step false first others here xs e = inr e
 
 module _ {A : Type 0} (Q : ℕ → Field → Type 0) (whole : List Field) (k : ℕ) (read : Field → Result A Code) where
-  must-say : (order : List Place) (found : List ℕ) (o : Option (ℕ × Field)) (x : A) → Holds Q found whole → o ≡ field_in whole found k → must_read order whole k read o ≡ Ok x → Said (Q k) read x
+  must-say : (order : List Place) (found : List ℕ) (o : Option (ℕ × Field)) (x : A) → HoldsInPlaces Q found whole → o ≡ field_in whole found k → must_read order whole k read o ≡ Ok x → Said (Q k) read x
   must-say order found None x h at e = absurd (cc e)
   must-say order found (Some (n, f)) x h at e = record { field = f; says = located-ok whole n (read f) x e; holds = holds-at Q k found whole n f h (sym at) }
 
   -- at a mandatory place
-  pub said-one : (order : List Place) (found : List ℕ) (x : A) → Holds Q found whole → in_place order whole found k read ≡ Ok x → Said (Q k) read x
+  pub said-one : (order : List Place) (found : List ℕ) (x : A) → HoldsInPlaces Q found whole → in_place order whole found k read ≡ Ok x → Said (Q k) read x
   said-one order found x h e = must-say order found (field_in whole found k) x h refl e
 
-  may-say : (found : List ℕ) (o : Option (ℕ × Field)) (x : A) → Holds Q found whole → o ≡ field_in whole found k → may_read whole read o ≡ Ok (Some x) → Said (Q k) read x
+  may-say : (found : List ℕ) (o : Option (ℕ × Field)) (x : A) → HoldsInPlaces Q found whole → o ≡ field_in whole found k → may_read whole read o ≡ Ok (Some x) → Said (Q k) read x
   may-say found None x h at e = absurd (cc e)
   may-say found (Some (n, f)) x h at e =
       record { field = f; says = located-ok whole n (read f) x (some-ok (located whole n (read f)) x e); holds = holds-at Q k found whole n f h (sym at) }
 
   -- at an optional place
-  pub said-option : (found : List ℕ) (o : Option A) → Holds Q found whole → in_option whole found k read ≡ Ok o → IfSome o (Said (Q k) read)
+  pub said-option : (found : List ℕ) (o : Option A) → HoldsInPlaces Q found whole → in_option whole found k read ≡ Ok o → IfSome o (Said (Q k) read)
   said-option found None h e = tt
   said-option found (Some x) h e = may-say found (field_in whole found k) x h refl e
 
   -- at a place of several fields
-  pub said-all : (i : ℕ) (found : List ℕ) (fs : List Field) (xs : List A) → Holds Q found fs → all_from whole k read i found fs ≡ Ok xs → AllByRecursion (Said (Q k) read) xs
+  pub said-all : (i : ℕ) (found : List ℕ) (fs : List Field) (xs : List A) → HoldsInPlaces Q found fs → all_from whole k read i found fs ≡ Ok xs → AllByRecursion (Said (Q k) read) xs
   unfolding all_from
   said-all i [] fs [] h e = tt
   said-all i [] fs (x ∷ xs) h e = absurd (cc e)

@@ -38,6 +38,7 @@ one-more : (line : List ℕ) (h : Option Heading) (g : Grouped) (n : ℕ) → le
 one-more line None g n le = omega arith
 one-more line (Some h) g n le = omega arith
 
+-- lines give at most as many fields
 pub fields-few : (lines : List (List ℕ)) → length (grouped lines).fields ≤ length lines
 fields-few [] = omega arith
 fields-few (line ∷ lines) = omega (arith, one-more line (heading_of line) (grouped lines) (length lines) (fields-few lines))
@@ -53,6 +54,7 @@ line-more true return b lines n le = omega arith
 line-more false true b lines n le = omega arith
 line-more false false b lines n le = with_byte-few b lines n le
 
+-- a text has at most as many lines as bytes
 pub lines_few : (text : List ℕ) → length (lines_of text) ≤ length text
 lines_few [] = omega arith
 lines_few (b ∷ bs) = line-more (b == 10) ((b == 13) && begins_with 10 bs) b (lines_of bs) (length bs) (lines_few bs)

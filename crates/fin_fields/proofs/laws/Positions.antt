@@ -5,6 +5,7 @@ use Rattle.std.proofs.lemmas.List.Sums.{fails_before_first}
 use Rattle.std.proofs.lemmas.List.Elements.{All-head, All-tail}
 use Rattle.std.specs.List.{All, position_or_len}
 
+-- an item that passes at the head has place 0
 pub position-here : {X : Type 0} (p : X → Bool) (x : X) (xs : List X) → p x ≡ true → position p (x ∷ xs) ≡ Some 0
 position-here p x xs h =
     let at : position_or_len p (x ∷ xs) ≡ 0 = rw h refl in
@@ -23,9 +24,11 @@ one-later false false n e = refl
 one-later true false n e = absurd (cc e)
 one-later false true n e = absurd (cc e)
 
+-- after an item that doesn't pass each place is one more
 pub position-later : {X : Type 0} (p : X → Bool) (x : X) (xs : List X) → p x ≡ false → position p (x ∷ xs) ≡ option_map (λ i. i + 1) (position p xs)
 position-later p x xs h = rw h (one-later _ _ (position_or_len p xs) (ltb-suc (position_or_len p xs) (length xs)))
 
+-- where no item passes there is no place
 pub position-none : {X : Type 0} (p : X → Bool) (xs : List X) → All (λ x. p x ≡ false) xs → position p xs ≡ None
 position-none p [] none = refl
 position-none p (x ∷ xs) none =

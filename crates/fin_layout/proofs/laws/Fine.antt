@@ -16,14 +16,17 @@ use Rattle.fin_layout.specs.declared.fault.MtFault.{MtFault}
 use Rattle.fin_layout.specs.declared.fault.MtFault.TheVariants as faults
 use Rattle.fin_layout.proofs.laws.FoundField.{field-here, field-later, shifted}
 
+-- where no test fails neither the first does nor one of the rest
 pub first-none : {A : Type 0} (o : Option A) (more : List (Option A)) → first_of (o ∷ more) ≡ None → (o ≡ None) × (first_of more ≡ None)
 first-none None more h = (refl, h)
 first-none (Some x) more h = absurd (cc h)
 
+-- what is changed and missing was missing
 pub map-none : {A B : Type 0} (g : A → B) (o : Option A) → option_map g o ≡ None → o ≡ None
 map-none g None h = refl
 map-none g (Some x) h = absurd (cc h)
 
+-- a test without a fault holds
 pub holds-none : {F : Type 0} (b : Bool) (fault : F) → unless b fault ≡ None → b ≡ true
 holds-none true fault h = refl
 holds-none false fault h = absurd (cc h)
@@ -36,6 +39,7 @@ pub record AllHold (order : List Place) (test : ℕ → Field → Option Code) (
   pub complete : missing_from 0 order found ≡ None
   pub contents : first_of (contents_from test fs 0 found fs) ≡ None
 
+-- fields without a fault stand in their places with contents that pass
 pub all-hold : (order : List Place) (test : ℕ → Field → Option Code) (fs : List Field) → first_of (tests order test fs) ≡ None → AllHold order test fs (places_from order 0 fs)
 all-hold order test fs none =
     let found = places_from order 0 fs in
@@ -56,6 +60,7 @@ none-later : (b : Bool) (k : ℕ) (o : Option ℕ) → cond b (Some k) o ≡ Non
 none-later true k o h = absurd (cc h)
 none-later false k o h = h
 
+-- where nothing is missing each place that must be taken is
 pub taken-from : (order : List Place) (j n k : ℕ) (p : Place) (found : List ℕ) → k ≡ j + n → missing_from j order found ≡ None → slice_get order n ≡ Some p → p.must ≡ true → list_any (λ q. q == k) found ≡ true
 unfolding missing_from
 taken-from [] j n k p found at h e m = absurd (cc e)
@@ -68,31 +73,35 @@ taken-from (x ∷ order) j (suc n) k p found at h e m =
 
 -- ---- the field that is found passed its test
 
+-- a field that is found one item later was found
 pub unshifted : (o : Option (ℕ × Field)) (n : ℕ) (f : Field) → option_map (shifted 1) o ≡ Some (n, f) → (m : ℕ) × (o ≡ Some (m, f))
 unshifted None n f h = absurd (cc h)
 unshifted (Some (m, g)) n f h =
     let pair : shifted 1 (m, g) ≡ (n, f) = cc h in
     (m, ap (λ (x : Field). Some (m, x)) (ap (λ (x : ℕ × Field). x.1) pair))
 
-abbrev pub numbered : ℕ → Field → ℕ × Field
-numbered n f = (n, f)
+abbrev pub numbered_field : ℕ → Field → ℕ × Field
+numbered_field n f = (n, f)
 
 abbrev pub found_at : ℕ → Field → Option (ℕ × Field)
 found_at n f = Some (n, f)
 
+-- fields that are found alike are the same
 pub second : (m n : ℕ) (g f : Field) → found_at m g ≡ found_at n f → g ≡ f
 second m n g f h =
-    let pair : numbered m g ≡ numbered n f = cc h in
+    let pair : numbered_field m g ≡ numbered_field n f = cc h in
     ap (λ (x : ℕ × Field). x.1) pair
 
-nil-get : (o : Option ℕ) → option_and_then {U = ℕ × Field} (λ i. option_map (λ (f : Field). numbered i f) (slice_get [] i)) o ≡ None
+nil-get : (o : Option ℕ) → option_and_then {U = ℕ × Field} (λ i. option_map (λ (f : Field). numbered_field i f) (slice_get [] i)) o ≡ None
 nil-get None = refl
 nil-get (Some i) = refl
 
+-- without fields none stands at a place
 pub field-nil : (found : List ℕ) (k : ℕ) → field_in [] found k ≡ None
 field-nil found k = nil-get (position (λ p. p == k) found)
 
 module _ (test : ℕ → Field → Option Code) (whole : List Field) where
+  -- where no content fails, the field of a place has passed its test
   pub tested : (k i : ℕ) (found : List ℕ) (fs : List Field) (n : ℕ) (f : Field) → first_of (contents_from test whole i found fs) ≡ None → field_in fs found k ≡ Some (n, f) → test k f ≡ None
   unfolding contents_from
   tested k i [] fs n f none at = absurd (cc at)
@@ -111,6 +120,7 @@ module _ (test : ℕ → Field → Option Code) (whole : List Field) where
             tested k (i + 1) found fs u.0 f h.1 u.1
       ]
 
+-- a place that is taken has a field
 pub present : (k : ℕ) (found : List ℕ) (fs : List Field) → list_any (λ q. q == k) found ≡ true → length found ≡ length fs → (n : ℕ) × (f : Field) × (field_in fs found k ≡ Some (n, f))
 present k [] fs h len = absurd (cc h)
 present k (q ∷ found) [] h len = absurd (omega (arith, len))
@@ -128,6 +138,7 @@ present k (q ∷ found) (g ∷ fs) h len =
 abbrev pub IsTestOf : {A : Type 0} → (ℕ → Field → Option Code) → ℕ → (Field → Result A Code) → Type 0
 IsTestOf test k read = (f : Field) → test k f ≡ fault_of (read f)
 
+-- a content without a fault is read
 pub read-none : {A : Type 0} (r : Result A Code) → fault_of r ≡ None → (x : A) × (r ≡ Ok x)
 read-none (Ok x) h = (x, refl)
 read-none (Err c) h = absurd (cc h)
@@ -188,9 +199,11 @@ module _ {A : Type 0} {order : List Place} {test : ℕ → Field → Option Code
 
 -- ---- the verdict of tests in a row of steps
 
+-- an error that tells the first test that fails is that of the message
 pub passed-fails : {A : Type 0} (first : Option Fault) (next : Result A Fault) (e : MtFault) → Tells first e → Fails e (unless_fault first >>= λ _. next)
 passed-fails first next faults.Memory h = tt
 passed-fails first next (faults.Bad fault) h = rw h refl
 
+-- where no test fails the message is what comes after the tests
 pub passed-on : {A : Type 0} (first : Option Fault) (next : Result A Fault) → first ≡ None → (unless_fault first >>= λ _. next) ≡ next
 passed-on first next h = rw h refl

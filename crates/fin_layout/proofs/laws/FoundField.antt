@@ -11,12 +11,15 @@ use Rattle.fin_layout.specs.Segments.{places_of, joined}
 slice_get-later : {X : Type 0} (x : X) (xs : List X) (i : ℕ) → slice_get (x ∷ xs) (i + 1) ≡ slice_get xs i
 slice_get-later x xs i = rw add-one refl
 
+-- a field that is found so many items later
 abbrev pub shifted : ℕ → ℕ × Field → ℕ × Field
 shifted n x = (x.0 + n, x.1)
 
+-- a field at the head that stands at the place is the one that is found
 pub field-here : (f : Field) (fs : List Field) (q k : ℕ) (found : List ℕ) → (q == k) ≡ true → field_in (f ∷ fs) (q ∷ found) k ≡ Some (0, f)
 field-here f fs q k found h = rw (position-here (λ r. r == k) q found h) refl
 
+-- after a field at another place the one that is found stands one item later
 pub field-later : (f : Field) (fs : List Field) (q k : ℕ) (found : List ℕ) → (q == k) ≡ false → field_in (f ∷ fs) (q ∷ found) k ≡ option_map (shifted 1) (field_in fs found k)
 field-later f fs q k found h = rw (position-later (λ r. r == k) q found h) (go (position (λ r. r == k) found))
   where

@@ -94,6 +94,7 @@ seg-places order d low j free (f ∷ more) rest from le s =
           )
     ]
 
+-- fields that are written place by place stand at those places
 pub grouped-places : (order : List Place) (d : Place) (low j free : ℕ) (segs : List (List Field)) → low ≤ free → free ≤ j → Segments order low j segs → places_from order free (joined segs) ≡ places_of j segs
 unfolding places_from
 grouped-places order d low j free [] from le h = refl
@@ -107,6 +108,7 @@ grouped-places order d low j free (s ∷ ss) from le h =
     ] in
     here.1.places ∙ ap (λ (t : List ℕ). replicate (length s) j ++ t) (grouped-places order d next (j + 1) here.0 ss reached here.1.high more)
 
+-- each field has one place
 pub length-places_of : (j : ℕ) (segs : List (List Field)) → length (places_of j segs) ≡ length (joined segs)
 length-places_of j [] = refl
 length-places_of j (s ∷ ss) = simp (length-append, length-replicate) (ap (λ n. length s + n) (length-places_of (j + 1) ss))

@@ -35,7 +35,7 @@ use Rattle.corr_text.specs.declared.fault.Fault.{Fault}
 use Rattle.fin_fields.specs.declared.field.Field.{Field}
 use Rattle.fin_layout.specs.declared.place.Place.{Place}
 use Rattle.fin_layout.specs.Naming.{absent, fault_at}
-use Rattle.fin_layout.specs.Order.{field_in, fits, free_after, missing_from, place_from, places_from}
+use Rattle.fin_layout.specs.Order.{field_in, fits, free_after, missing_from, place_from, places_from, Rising}
 use Rattle.fin_layout.specs.Contents.{all_from, in_option, in_place}
 use Rattle.fin_layout.specs.Reading.{Fails, Tells}
 use Rattle.fin_layout.specs.declared.fault.MtFault.{MtFault}
@@ -46,11 +46,6 @@ use Rattle.fin_layout.proofs.laws.Grouped.{free_after-bounds}
 use Rattle.fin_layout.proofs.laws.Fine.{IsTestOf, field-nil, first-none, holds-none, map-none, passed-fails, passed-on, present, read-none, second, taken-from, unshifted}
 
 -- ---- places never fall
-
--- the places that fields take in turn, where the places below `low` are behind
-abbrev pub Rising : List Place → ℕ → List ℕ → Type 0
-Rising order low [] = Unit {0}
-Rising order low (q ∷ found) = (low ≤ q) × (q < length order) × Rising order (free_after order q) found
 
 place-within : (order : List Place) (free k : ℕ) (f : Field) → place_from order free f ≡ Some k → (free ≤ k) × (k < length order)
 place-within order free k f e = go (drop free order) refl (position (λ p. fits p f) (drop free order)) refl e
@@ -68,7 +63,7 @@ rising-on : (order : List Place) (free : ℕ) (f : Field) (more : ℕ → List �
 rising-on order free f more None e later = tt
 rising-on order free f more (Some k) e later = let within = place-within order free k f e in (within.0, within.1, later k)
 
-places-rise : (order : List Place) (free : ℕ) (fs : List Field) → Rising order free (places_from order free fs)
+pub places-rise : (order : List Place) (free : ℕ) (fs : List Field) → Rising order free (places_from order free fs)
 unfolding places_from
 places-rise order free [] = tt
 places-rise order free (f ∷ fs) = rising-on order free f (λ k. places_from order (free_after order k) fs) (place_from order free f) refl (λ k. places-rise order (free_after order k) fs)

@@ -11,6 +11,7 @@ located-ok : {A : Type 0} (fs : List Field) (i : ℕ) (r : Result A Code) (x : A
 located-ok fs i (Ok y) x e = ap Ok (cc e)
 located-ok fs i (Err c) x e = absurd (cc e)
 
+-- a content that must be there and is read has a field that says it
 pub must-ok : {A : Type 0} (order : List Place) (fs : List Field) (k : ℕ) (read : Field → Result A Code) (o : Option (ℕ × Field)) (x : A) → must_read order fs k read o ≡ Ok x → (f : Field) × (read f ≡ Ok x)
 must-ok order fs k read None x e = absurd (cc e)
 must-ok order fs k read (Some (i, f)) x e = (f, located-ok fs i (read f) x e)

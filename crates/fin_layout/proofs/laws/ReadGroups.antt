@@ -47,6 +47,7 @@ module _ {A : Type 0} (whole : List Field) (k : ℕ) (read : Field → Result A 
       regroup-front x xs (Ok ys) = refl
       regroup-front x xs (Err e) = refl
 
+-- of fields that are written place by place, those of a repeated place are read in their order
 pub grouped-all : {A : Type 0} (whole : List Field) (read : Field → Result A Code) (segs : List (List Field)) (j n i k : ℕ) (seg : List Field) (xs : List A) → k ≡ j + n → slice_get segs n ≡ Some seg → ReadsAll read seg xs
     → all_from whole k read i (places_of j segs) (joined segs) ≡ Ok xs
 grouped-all whole read [] j n i k seg xs at e h = absurd (cc e)

@@ -218,12 +218,14 @@ letter-of-party tag CustomerK lines p e = (form-kept CustomerK lines p refl e).l
 letter-of-party tag PayerF lines p e = (form-kept PayerF lines p refl e).letter tag
 letter-of-party tag PayeeF lines p e = (form-kept PayeeF lines p refl e).letter tag
 
+-- a party's option is the letter of the field that it was read from
 pub letter-kept : (f : Field) (p : Party) → party_of f ≡ Some p → party_letter f.tag p ≡ f.letter
 unfolding party_of
 letter-kept f p e =
     let w = chained (λ form. party_in form f.lines) (form_of f.tag f.letter) p e in
     letter-of-party f.tag w.0 f.lines p w.2 ∙ letter-of-form f.tag f.letter w.0 w.1
 
+-- a party that was read, written as a field, is read as itself
 pub party-again : (f : Field) (p : Party) → party_of f ≡ Some p → party_of (party_field f.tag p) ≡ Some p
 unfolding party_of
 party-again f p e =
@@ -279,6 +281,7 @@ lines-stand CustomerK lines p e s = kept-stand CustomerK lines p refl e s
 lines-stand PayerF lines p e s = kept-stand PayerF lines p refl e s
 lines-stand PayeeF lines p e s = kept-stand PayeeF lines p refl e s
 
+-- a party that was read, written as a field, can stand in a text
 pub party-fit : (f : Field) (p : Party) → party_of f ≡ Some p → IsField f → IsField (party_field f.tag p)
 unfolding party_of
 party-fit f p e is =

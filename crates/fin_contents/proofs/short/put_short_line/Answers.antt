@@ -2,14 +2,14 @@ use Rattle.std.proofs.Common.{[], ◌∷◌, None, ap, arith}
 use Rattle.fin_contents.specs.Writing.{line_field}
 use Rattle.fin_contents.proofs.laws.Again.{short_line-again, short_line-kept}
 use Rattle.fin_contents.proofs.laws.Fit.{kept-fit}
-use Rattle.fin_contents.proofs.laws.Steps.{written}
+use Rattle.fin_contents.proofs.laws.Steps.{field-written}
 use Rattle.fin_contents.proofs.short.put_short_line.Goals as goal
 
 pub returns-clause-again : goal.returns-clause-again
 returns-clause-again c =
-    written c.line_field.result _ _ _ c.line_field.ensures (ap (line_field c.args.tag None) c.bytes.ensures) (λ most read e. short_line-again most c.args.tag None read c.args.line.now e)
+    field-written c.line_field.result _ _ _ c.line_field.ensures (ap (line_field c.args.tag None) c.bytes.ensures) (λ most read e. short_line-again most c.args.tag None read c.args.line.now e)
 
 pub returns-clause-fit : goal.returns-clause-fit
 returns-clause-fit c =
-    written c.line_field.result _ _ _ c.line_field.ensures (ap (line_field c.args.tag None) c.bytes.ensures)
+    field-written c.line_field.result _ _ _ c.line_field.ensures (ap (line_field c.args.tag None) c.bytes.ensures)
     (λ most read e is small. kept-fit c.args.tag None read (c.args.line.now ∷ []) (record { two_digits = omega arith; capital = tt }) (short_line-kept most read c.args.line.now e) is)

@@ -1,0 +1,127 @@
+//! A field whose lines stay in the text.
+
+ghost use Rattle.std.specs.Prelude.{◌≡◌, ◌++◌, [], ◌∷◌, IfOk, OnErr, OnOk};
+ghost use Rattle.fin_fields.specs.Lent.{lines_in};
+
+use crate::field::Field;
+use crate::line::{Line, copy_lines};
+use corr_text::{List, Memory};
+use std::alloc::Global;
+use std::marker::Model;
+use std::slice;
+
+/// For how many lines there is room where a field gets a second one.
+const LINE_ROOM: usize = 4;
+
+/// The lines of a field: one in its place, or a list.
+#[derive(Debug, Drop)]
+enum Lines<'a> {
+    One(Line<'a>),
+    Listed(List<Line<'a>>),
+}
+
+/// A field whose lines stay in the text that they were cut from. Contracts see it as the `Field` of the same tag, letter and
+/// lines.
+#[derive(Debug, Drop)]
+pub struct FieldLines<'a> {
+    tag: u8,
+    letter: Option<u8>,
+    lines: Lines<'a>,
+}
+
+impl<'a> Model for FieldLines<'a> {
+    ghost use Rattle.fin_fields.specs.declared.field.Field.{Field};
+
+    ghost Value = { Field };
+
+    ghost use Rattle.fin_fields.specs.Lent.{lines_in};
+
+    ghost view = { λ f. record { tag = f.tag; letter = f.letter; lines = lines_in f.lines } };
+}
+
+/// Adds a line after the others; where there is no room, nothing is added.
+fn add_to<'a>(alloc: Global, lines: &mut Lines<'a>, line: &'a [u8]) -> Result<(), Memory>
+    ensures ok { OnOk result (lines_in lines.new ≡ lines_in lines.old ++ line.now ∷ []) }
+    ensures err { OnErr result (lines_in lines.new ≡ lines_in lines.old) }
+{
+    match lines {
+        Lines::Listed(all) => all.push(Line::of(line)),
+        Lines::One(first) => {
+            let first = first.bytes();
+            let mut all = List::with_room(alloc, LINE_ROOM)?;
+            all.push(Line::of(first))?;
+            all.push(Line::of(line))?;
+            *lines = Lines::Listed(all);
+            Ok(())
+        }
+    }
+}
+
+impl<'a> FieldLines<'a> {
+    /// A field of one line.
+    pub fn of_line(tag: u8, letter: Option<u8>, line: &'a [u8]) -> FieldLines<'a>
+        ensures { result ≡ record { tag = tag; letter = letter; lines = line.now ∷ [] } }
+    {
+        FieldLines {
+            tag,
+            letter,
+            lines: Lines::One(Line::of(line)),
+        }
+    }
+
+    /// The field of this tag and letter with the lines of a list.
+    pub fn of_lines(tag: u8, letter: Option<u8>, lines: List<Line<'a>>) -> FieldLines<'a>
+        ensures { result ≡ record { tag = tag; letter = letter; lines = lines.entry } }
+    {
+        FieldLines {
+            tag,
+            letter,
+            lines: Lines::Listed(lines),
+        }
+    }
+
+    /// Adds a line after the others.
+    ///
+    /// `Memory`: there was no room for it; then nothing was added.
+    pub fn add(&mut self, alloc: Global, line: &'a [u8]) -> Result<(), Memory>
+        ensures ok { OnOk result (self.new ≡ record self.old { lines = self.old.lines ++ line.now ∷ [] }) }
+        ensures err { OnErr result (self.new ≡ self.old) }
+    {
+        add_to(alloc, &mut self.lines, line)
+    }
+
+    /// The field's number.
+    pub fn tag(&self) -> u8
+        ensures { result ≡ self.now.tag }
+    {
+        self.tag
+    }
+
+    /// The field's letter, if it has one.
+    pub fn letter(&self) -> Option<u8>
+        ensures { result ≡ self.now.letter }
+    {
+        self.letter
+    }
+
+    /// The field's lines.
+    pub fn lines(&self) -> &[Line<'a>]
+        ensures { result.now ≡ self.now.lines }
+    {
+        match &self.lines {
+            Lines::One(line) => slice::from_ref(line),
+            Lines::Listed(lines) => lines.as_slice(),
+        }
+    }
+
+    /// The field with lines of its own.
+    pub fn to_owned(&self, alloc: Global) -> Result<Field, Memory>
+        ensures { IfOk result (λ f. f ≡ self.now) }
+    {
+        Ok(Field {
+            tag: self.tag(),
+            letter: self.letter(),
+            lines: copy_lines(alloc, self.lines())?,
+        })
+    }
+}

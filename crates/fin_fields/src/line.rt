@@ -1,0 +1,55 @@
+//! Lines that stay in the text that they were cut from.
+
+ghost use Rattle.std.specs.Prelude.{◌≡◌, IfOk};
+
+use corr_text::{List, Memory, Text};
+use std::alloc::Global;
+use std::marker::Model;
+
+/// A line of a text that something else holds: its bytes, without the line's end.
+#[derive(Debug, Drop)]
+pub struct Line<'a> {
+    bytes: &'a [u8],
+}
+
+impl<'a> Model for Line<'a> {
+    ghost use Rattle.std.specs.Prelude.{List, ℕ};
+
+    ghost Value = { List ℕ };
+
+    ghost view = { λ l. l.bytes.now };
+}
+
+impl<'a> Line<'a> {
+    /// These bytes as a line.
+    pub fn of(bytes: &'a [u8]) -> Line<'a>
+        ensures { result ≡ bytes.now }
+    {
+        Line { bytes }
+    }
+
+    /// The bytes.
+    pub fn bytes(&self) -> &'a [u8]
+        ensures { result.now ≡ self.now }
+    {
+        self.bytes
+    }
+
+    /// The line as a text of its own.
+    pub fn copy(&self, alloc: Global) -> Result<Text, Memory>
+        ensures { IfOk result (λ t. t ≡ self.now) }
+    {
+        Text::from_bytes(alloc, self.bytes())
+    }
+}
+
+/// Lines as texts of their own, in their order.
+pub fn copy_lines(alloc: Global, lines: &[Line<'_>]) -> Result<List<Text>, Memory>
+    ensures { IfOk result (λ copies. copies ≡ lines.now) }
+{
+    let mut copies = List::with_room(alloc, lines.len())?;
+    for line in lines {
+        copies.push(line.copy(alloc)?)?;
+    }
+    Ok(copies)
+}
