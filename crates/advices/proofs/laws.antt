@@ -12,6 +12,7 @@ pub mod Banks
 pub mod Debits
 pub mod Credits
 pub mod Seats
+pub mod TakenOver
 pub mod Transfers
 pub mod Covers
 pub mod Ordered

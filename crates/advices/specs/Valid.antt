@@ -52,16 +52,16 @@ IsTextOf pay (message.Credit envelope advice) = ⊥
 IsTextOf pay (message.Page envelope page) = ⊥
 
 -- the amount of a message's 32A; a page has none, and zero stands in its place
-abbrev pub amount_of : Message → Amount
-amount_of (message.Transfer envelope text transfer) = transfer.amount
-amount_of (message.Cover envelope text cover) = cover.amount
-amount_of (message.Debit envelope advice) = advice.amount
-amount_of (message.Credit envelope advice) = advice.amount
-amount_of (message.Page envelope page) = record { ccy = page.ccy; minor = record { 0 = 0 }; decimals = page.decimals }
+abbrev pub amount_32a : Message → Amount
+amount_32a (message.Transfer envelope text transfer) = transfer.amount
+amount_32a (message.Cover envelope text cover) = cover.amount
+amount_32a (message.Debit envelope advice) = advice.amount
+amount_32a (message.Credit envelope advice) = advice.amount
+amount_32a (message.Page envelope page) = record { ccy = page.ccy; minor = record { 0 = 0 }; decimals = page.decimals }
 
 -- a message that passes the tests of its lines, its fields and its contents under these tables and breaks no rule, and
 -- whose text the pay keeps
-pub record IsReceived (t : Tables) (pay : Pay) (m : Message) : Type 0 where
+pub record WasReceivedAs (t : Tables) (pay : Pay) (m : Message) : Type 0 where
   pub said : IsSaid t m
   pub rules : KeepsRules t m
   pub kept : IsTextOf pay m
@@ -77,8 +77,8 @@ pub record CameFrom (t : Tables) (chart : Chart) (pay : Pay) (m : Message) : Typ
   pub accounts : IsChart chart
   pub fits : FitsAccounts chart pay
   pub shape : HasShape pay
-  pub received : IsReceived t pay m
-  pub money : (n : ℕ) (account : Account) → leg_account chart pay n ≡ Some account → IsInMoney account (amount_of m)
+  pub received : WasReceivedAs t pay m
+  pub money : (n : ℕ) (account : Account) → leg_account chart pay n ≡ Some account → IsInMoney account (amount_32a m)
   pub sender : has_head t (bank_of (sender_of pay.mir)).head ≡ true
 
 -- ---- the laws

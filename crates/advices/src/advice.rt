@@ -15,7 +15,7 @@ use std::alloc::Global;
 #[tactic(auto, unfolding(crate::specs::Advice::debit_fields))]
 pub fn debit_fields(
     alloc: Global,
-    received: &Received,
+    received: &Received<'_>,
     reference: &Text,
     account: &Text,
     value: &Value,
@@ -36,7 +36,7 @@ pub fn debit_fields(
 #[tactic(auto, unfolding(crate::specs::Advice::credit_fields))]
 pub fn credit_fields(
     alloc: Global,
-    received: &Received,
+    received: &Received<'_>,
     reference: &Text,
     account: &Text,
     value: &Value,

@@ -6,12 +6,12 @@ ghost use Rattle.fin_fields.specs.Faults.{letter_of};
 ghost use Rattle.advices.specs.Fields.{bank_field, copied, copied_as, is_named};
 
 use corr_ids::{Bic, put_bic};
-use corr_text::{List, Memory, Text, copy_texts};
+use corr_text::{List, Memory, Text};
 use fin_contents::line_field;
-use fin_fields::{Field, letter_of};
+use fin_fields::{Field, FieldLines, copy_lines, letter_of};
 use std::alloc::Global;
 
-fn has_letter(f: &Field, letters: &[u8]) -> bool
+fn has_letter(f: &FieldLines<'_>, letters: &[u8]) -> bool
     ensures { result ≡ list_any (λ letter. letter == letter_of f.now) letters.now }
 {
     let letter = letter_of(f);
@@ -19,34 +19,27 @@ fn has_letter(f: &Field, letters: &[u8]) -> bool
 }
 
 /// Whether a field has this tag and one of these letters; a space stands for no letter.
-pub fn is_named(f: &Field, tag: u8, letters: &[u8]) -> bool
+pub fn is_named(f: &FieldLines<'_>, tag: u8, letters: &[u8]) -> bool
     ensures { result ≡ is_named tag letters.now f.now }
 {
-    f.tag == tag && has_letter(f, letters)
+    f.tag() == tag && has_letter(f, letters)
 }
 
 /// The first field of this tag and one of these letters.
-pub fn first_named<'a>(fields: &'a [Field], tag: u8, letters: &[u8]) -> Option<&'a Field>
+pub fn first_named<'a, 't>(
+    fields: &'a [FieldLines<'t>],
+    tag: u8,
+    letters: &[u8],
+) -> Option<&'a FieldLines<'t>>
     ensures { option_map (λ f. f.now) result ≡ find (is_named tag letters.now) fields.now }
 {
     fields.iter().find(|f| is_named(f, tag, letters))
 }
 
-/// The same field once more.
-pub fn copy_field(alloc: Global, f: &Field) -> Result<Field, Memory>
-    ensures { IfOk result (λ copy. copy ≡ f.now) }
-{
-    Ok(Field {
-        tag: f.tag,
-        letter: f.letter,
-        lines: copy_texts(alloc, f.lines.as_slice())?,
-    })
-}
-
 /// Adds the first field of this tag and one of these letters, where there is one.
 pub fn push_copied(
     alloc: Global,
-    fields: &[Field],
+    fields: &[FieldLines<'_>],
     tag: u8,
     letters: &[u8],
     out: &mut List<Field>,
@@ -54,7 +47,7 @@ pub fn push_copied(
     ensures { OnOk result (out.new ≡ out.old ++ copied tag letters.now fields.now) }
 {
     match first_named(fields, tag, letters) {
-        Some(f) => out.push(copy_field(alloc, f)?),
+        Some(f) => out.push(f.to_owned(alloc)?),
         None => Ok(()),
     }
 }
@@ -62,7 +55,7 @@ pub fn push_copied(
 /// Adds the lines of the first field of this tag, where there is one, as a field of another tag.
 pub fn push_copied_as(
     alloc: Global,
-    fields: &[Field],
+    fields: &[FieldLines<'_>],
     tag: u8,
     other: u8,
     out: &mut List<Field>,
@@ -73,7 +66,7 @@ pub fn push_copied_as(
         Some(f) => out.push(Field {
             tag: other,
             letter: None,
-            lines: copy_texts(alloc, f.lines.as_slice())?,
+            lines: copy_lines(alloc, f.lines())?,
         }),
         None => Ok(()),
     }

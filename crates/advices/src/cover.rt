@@ -50,7 +50,7 @@ fn push_covering(
 // The second sequence: 50a to 33B, as the transfer has them.
 fn push_covered(
     alloc: Global,
-    received: &Received,
+    received: &Received<'_>,
     ordered: &Amount,
     skip: Skip,
     out: &mut List<Field>,
@@ -73,7 +73,7 @@ fn push_covered(
 #[tactic(auto, unfolding(crate::specs::Cover::cover_fields))]
 pub fn cover_fields(
     alloc: Global,
-    received: &Received,
+    received: &Received<'_>,
     reference: &Text,
     related: &Text,
     value: &Value,

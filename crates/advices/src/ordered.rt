@@ -1,7 +1,7 @@
 //! The amount that a received message orders.
 
 ghost use Rattle.std.specs.Prelude.{◌≡◌, ◌<◌, ◌≤◌, IfSome, IsTrue, drop, length, take};
-ghost use Rattle.corr_money.specs.Amounts.{amount_end, amount_of};
+ghost use Rattle.corr_money.specs.Amounts.{amount_end, amount_of, most_decimals};
 ghost use Rattle.fin_contents.specs.Money.{is_ccy_amount, is_dated_amount};
 ghost use Rattle.advices.specs.Received.{amount_if, amount_in, minor_if, ordered_of};
 ghost use Rattle.advices.specs.Spelled.{IsWritableAmount};
@@ -11,7 +11,7 @@ use crate::received::Received;
 use corr_money::{Amount, Ccy, Minor, read_15d};
 use corr_text::{Set, is_all_of};
 use fin_contents::one_line;
-use fin_fields::Field;
+use fin_fields::FieldLines;
 
 fn is_ccy_amount(line: &[u8]) -> bool
     ensures value { result ≡ is_ccy_amount line.now }
@@ -37,7 +37,7 @@ fn ccy_at(line: &[u8]) -> Ccy
 }
 
 fn minor_if(decimals: u8, b: &[u8]) -> Option<Minor>
-    requires { decimals ≤ 4 }
+    requires { decimals ≤ most_decimals }
     ensures value { result ≡ minor_if (amount_of decimals b.now) }
     ensures bound { IfSome result (λ m. m.0 < amount_end) }
 {
@@ -49,7 +49,7 @@ fn minor_if(decimals: u8, b: &[u8]) -> Option<Minor>
 
 /// The currency and the amount of a line of 32A's form, where the amount reads with so many decimals.
 fn amount_if(decimals: u8, line: &[u8]) -> Option<Amount>
-    requires { decimals ≤ 4 }
+    requires { decimals ≤ most_decimals }
     ensures value { result ≡ amount_if decimals line.now }
     ensures spelled { IfSome result IsWritableAmount }
 {
@@ -64,8 +64,8 @@ fn amount_if(decimals: u8, line: &[u8]) -> Option<Amount>
     })
 }
 
-fn amount_in(decimals: u8, fields: &[Field]) -> Option<Amount>
-    requires { decimals ≤ 4 }
+fn amount_in(decimals: u8, fields: &[FieldLines<'_>]) -> Option<Amount>
+    requires { decimals ≤ most_decimals }
     ensures value { result ≡ amount_in decimals fields.now }
     ensures spelled { IfSome result IsWritableAmount }
 {
@@ -74,7 +74,7 @@ fn amount_in(decimals: u8, fields: &[Field]) -> Option<Amount>
 }
 
 /// What was ordered: the currency and the amount of 32A, and where it has none those of the account.
-pub fn ordered_of(received: &Received, own: &Amount) -> Amount
+pub fn ordered_of(received: &Received<'_>, own: &Amount) -> Amount
     requires { IsWritableAmount own.now }
     ensures value { result ≡ ordered_of received.now own.now }
     ensures spelled { IsWritableAmount result }

@@ -6,20 +6,20 @@ ghost use Rattle.fin_contents.specs.Writing.{IsValue};
 ghost use Rattle.advices.specs.Pass.{pass_fields, passed_fields};
 ghost use Rattle.advices.specs.Received.{sequence_b};
 
-use crate::copying::{copy_field, push_copied};
+use crate::copying::push_copied;
 use crate::received::{Received, push_ordering, sequence_a, sequence_b};
 use crate::transfer::{push_account_bank, push_intermediary};
 use corr_text::{List, Memory, Text};
 use day_model::Skip;
 use fin_contents::{Value, put_reference, put_value};
-use fin_fields::Field;
+use fin_fields::{Field, FieldLines};
 use std::alloc::Global;
 
 // The first sequence: 20 to 72.
 fn push_passed(
     alloc: Global,
-    received: &Received,
-    first: &[Field],
+    received: &Received<'_>,
+    first: &[FieldLines<'_>],
     reference: &Text,
     value: &Value,
     skip: Skip,
@@ -38,11 +38,11 @@ fn push_passed(
     push_copied(alloc, first, 72, b" ", out)
 }
 
-fn push_all(alloc: Global, fields: &[Field], out: &mut List<Field>) -> Result<(), Memory>
+fn push_all(alloc: Global, fields: &[FieldLines<'_>], out: &mut List<Field>) -> Result<(), Memory>
     ensures { OnOk result (out.new ≡ out.old ++ fields.now) }
 {
     for f in fields {
-        out.push(copy_field(alloc, f)?)?;
+        out.push(f.to_owned(alloc)?)?;
     }
     Ok(())
 }
@@ -52,7 +52,7 @@ fn push_all(alloc: Global, fields: &[Field], out: &mut List<Field>) -> Result<()
 #[tactic(auto, unfolding(crate::specs::Pass::pass_fields))]
 pub fn pass_fields(
     alloc: Global,
-    received: &Received,
+    received: &Received<'_>,
     reference: &Text,
     value: &Value,
     skip: Skip,

@@ -6,18 +6,18 @@ ghost use Rattle.fin_contents.specs.Writing.{IsAmount, IsValue, some_field};
 ghost use Rattle.advices.specs.Fields.{bank_field, copied_all, is_named, kept};
 ghost use Rattle.advices.specs.Transfer.{account_bank, detail_fields, has_code, passed_instructions, intermediary, is_passed_on, ordered_amount, party_fields, tells_account_bank, tells_intermediary, term_fields, transfer_fields};
 
-use crate::copying::{bank_field, copy_field, first_named, is_named, push_copied};
+use crate::copying::{bank_field, first_named, is_named, push_copied};
 use crate::received::{Received, push_ordering};
 use corr_ids::Bic;
 use corr_money::Amount;
 use corr_text::{List, Memory, Text};
 use day_model::Skip;
 use fin_contents::{Value, put_ccy_amount, put_reference, put_value};
-use fin_fields::Field;
+use fin_fields::{Field, FieldLines};
 use std::alloc::Global;
 
 /// 56a, where it is passed on.
-pub fn intermediary(fields: &[Field], skip: Skip) -> Option<&Field>
+pub fn intermediary<'a, 't>(fields: &'a [FieldLines<'t>], skip: Skip) -> Option<&'a FieldLines<'t>>
     ensures { some_field (λ f. f.now) result ≡ intermediary skip fields.now }
 {
     match skip {
@@ -27,7 +27,7 @@ pub fn intermediary(fields: &[Field], skip: Skip) -> Option<&Field>
 }
 
 /// 57a, where it is passed on.
-pub fn account_bank(fields: &[Field], skip: Skip) -> Option<&Field>
+pub fn account_bank<'a, 't>(fields: &'a [FieldLines<'t>], skip: Skip) -> Option<&'a FieldLines<'t>>
     ensures { some_field (λ f. f.now) result ≡ account_bank skip fields.now }
 {
     match skip {
@@ -39,14 +39,14 @@ pub fn account_bank(fields: &[Field], skip: Skip) -> Option<&Field>
 /// Adds 56a, where it is passed on.
 pub fn push_intermediary(
     alloc: Global,
-    fields: &[Field],
+    fields: &[FieldLines<'_>],
     skip: Skip,
     out: &mut List<Field>,
 ) -> Result<(), Memory>
     ensures { OnOk result (out.new ≡ out.old ++ intermediary skip fields.now) }
 {
     match intermediary(fields, skip) {
-        Some(f) => out.push(copy_field(alloc, f)?),
+        Some(f) => out.push(f.to_owned(alloc)?),
         None => Ok(()),
     }
 }
@@ -54,40 +54,40 @@ pub fn push_intermediary(
 /// Adds 57a, where it is passed on.
 pub fn push_account_bank(
     alloc: Global,
-    fields: &[Field],
+    fields: &[FieldLines<'_>],
     skip: Skip,
     out: &mut List<Field>,
 ) -> Result<(), Memory>
     ensures { OnOk result (out.new ≡ out.old ++ account_bank skip fields.now) }
 {
     match account_bank(fields, skip) {
-        Some(f) => out.push(copy_field(alloc, f)?),
+        Some(f) => out.push(f.to_owned(alloc)?),
         None => Ok(()),
     }
 }
 
-fn has_code(f: &Field, code: &[u8; 4]) -> bool
+fn has_code(f: &FieldLines<'_>, code: &[u8; 4]) -> bool
     ensures { result ≡ has_code code.now f.now }
 {
-    match f.lines.as_slice() {
+    match f.lines() {
         [line, ..] => line.bytes().starts_with(code),
         [] => false,
     }
 }
 
-fn tells_intermediary(f: &Field) -> bool
+fn tells_intermediary(f: &FieldLines<'_>) -> bool
     ensures { result ≡ tells_intermediary f.now }
 {
     has_code(f, b"TELI") || has_code(f, b"PHOI")
 }
 
-fn tells_account_bank(f: &Field) -> bool
+fn tells_account_bank(f: &FieldLines<'_>) -> bool
     ensures { result ≡ tells_account_bank f.now }
 {
     has_code(f, b"TELE") || has_code(f, b"PHON")
 }
 
-fn is_passed_on(f: &Field, has_56: bool, has_57: bool) -> bool
+fn is_passed_on(f: &FieldLines<'_>, has_56: bool, has_57: bool) -> bool
     ensures { result ≡ is_passed_on has_56 has_57 f.now }
 {
     is_named(f, 23, b"E")
@@ -97,7 +97,7 @@ fn is_passed_on(f: &Field, has_56: bool, has_57: bool) -> bool
 
 fn push_if_passed_on(
     alloc: Global,
-    f: &Field,
+    f: &FieldLines<'_>,
     has_56: bool,
     has_57: bool,
     out: &mut List<Field>,
@@ -105,7 +105,7 @@ fn push_if_passed_on(
     ensures { OnOk result (out.new ≡ out.old ++ kept (is_passed_on has_56 has_57) f.now) }
 {
     if is_passed_on(f, has_56, has_57) {
-        return out.push(copy_field(alloc, f)?);
+        return out.push(f.to_owned(alloc)?);
     }
     Ok(())
 }
@@ -113,7 +113,7 @@ fn push_if_passed_on(
 // 23E, without what asks to tell a bank that the message doesn't name.
 fn push_instructions(
     alloc: Global,
-    fields: &[Field],
+    fields: &[FieldLines<'_>],
     skip: Skip,
     out: &mut List<Field>,
 ) -> Result<(), Memory>
@@ -130,7 +130,7 @@ fn push_instructions(
 /// Adds 33B, and what was ordered where there is none.
 pub fn push_ordered(
     alloc: Global,
-    fields: &[Field],
+    fields: &[FieldLines<'_>],
     ordered: &Amount,
     out: &mut List<Field>,
 ) -> Result<(), Memory>
@@ -138,7 +138,7 @@ pub fn push_ordered(
     ensures { OnOk result (out.new ≡ out.old ++ ordered_amount ordered.now fields.now) }
 {
     match first_named(fields, 33, b"B") {
-        Some(f) => out.push(copy_field(alloc, f)?),
+        Some(f) => out.push(f.to_owned(alloc)?),
         None => out.push(put_ccy_amount(alloc, 33, Some(b'B'), ordered)?),
     }
 }
@@ -146,7 +146,7 @@ pub fn push_ordered(
 // 20 to 36.
 fn push_terms(
     alloc: Global,
-    fields: &[Field],
+    fields: &[FieldLines<'_>],
     reference: &Text,
     value: &Value,
     ordered: &Amount,
@@ -178,7 +178,7 @@ fn push_via(alloc: Global, via: &Option<Bic>, out: &mut List<Field>) -> Result<(
 // 50a to 59a.
 fn push_parties(
     alloc: Global,
-    received: &Received,
+    received: &Received<'_>,
     skip: Skip,
     via: &Option<Bic>,
     out: &mut List<Field>,
@@ -194,7 +194,11 @@ fn push_parties(
     push_copied(alloc, fields, 59, b" AF", out)
 }
 
-fn push_charges(alloc: Global, fields: &[Field], out: &mut List<Field>) -> Result<(), Memory>
+fn push_charges(
+    alloc: Global,
+    fields: &[FieldLines<'_>],
+    out: &mut List<Field>,
+) -> Result<(), Memory>
     ensures { OnOk result (out.new ≡ out.old ++ copied_all (is_named 71 (codes "F")) fields.now) }
 {
     for f in fields {
@@ -203,17 +207,21 @@ fn push_charges(alloc: Global, fields: &[Field], out: &mut List<Field>) -> Resul
     Ok(())
 }
 
-fn push_if_charge(alloc: Global, f: &Field, out: &mut List<Field>) -> Result<(), Memory>
+fn push_if_charge(alloc: Global, f: &FieldLines<'_>, out: &mut List<Field>) -> Result<(), Memory>
     ensures { OnOk result (out.new ≡ out.old ++ kept (is_named 71 (codes "F")) f.now) }
 {
     if is_named(f, 71, b"F") {
-        return out.push(copy_field(alloc, f)?);
+        return out.push(f.to_owned(alloc)?);
     }
     Ok(())
 }
 
 // 70 to 77B.
-fn push_details(alloc: Global, fields: &[Field], out: &mut List<Field>) -> Result<(), Memory>
+fn push_details(
+    alloc: Global,
+    fields: &[FieldLines<'_>],
+    out: &mut List<Field>,
+) -> Result<(), Memory>
     ensures { OnOk result (out.new ≡ out.old ++ joined (detail_fields fields.now)) }
 {
     push_copied(alloc, fields, 70, b" ", out)?;
@@ -229,7 +237,7 @@ fn push_details(alloc: Global, fields: &[Field], out: &mut List<Field>) -> Resul
 #[tactic(auto, unfolding(crate::specs::Transfer::transfer_fields))]
 pub fn transfer_fields(
     alloc: Global,
-    received: &Received,
+    received: &Received<'_>,
     reference: &Text,
     value: &Value,
     ordered: &Amount,

@@ -42,7 +42,7 @@ use Rattle.fin_message.specs.Answers.{Answers, Fills}
 use Rattle.fin_message.specs.Heading.{at_block, has_form, heading_tests, is_type}
 use Rattle.fin_message.specs.Parts.{envelope_of, envelope_with, has_trailer, partner_of, type_of, uetr_in}
 use Rattle.fin_message.specs.Sound.{CanBeWritten, Goes, HasAmount, HasEnvelope, HasPartner, IsEnvelope, IsOfForm, TextSays, IsSaid, IsValid, KeepsRules, lines_in, partner_in}
-use Rattle.fin_message.specs.Verdict.{Refused, blocks_in, cover_of, credit_of, debit_of, judged, line_test, message_in, message_of, page_of, told_of, told_of_fields, transfer_of}
+use Rattle.fin_message.specs.Verdict.{Refused, blocks_in, cover_in, credit_in, debit_in, judged, line_test, message_in, message_of, page_in, told_of, told_of_fields, transfer_in}
 use Rattle.fin_message.specs.declared.direction.Direction.{Direction}
 use Rattle.fin_message.specs.declared.direction.Direction.TheVariants.{Received, Sent}
 use Rattle.fin_message.specs.declared.fault.MessageFault.{MessageFault}
@@ -132,8 +132,8 @@ record Says (way : Direction) (t : Tables) (text : List ℕ) (x : Message) : Typ
   lines : (lines_in x ≡ text) ⊎ (lines_in x ≡ [])
 
 module _ (way : Direction) (t : Tables) (b : Blocks) (e : HeadingHolds way t b) (f : IsEnvelope (envelope_of b)) (cut : field_fault b.text ≡ None) where
-  transfer-says : IfOk (transfer_of t b) (Says way t b.text)
-  unfolding transfer_of
+  transfer-says : IfOk (transfer_in t b) (Says way t b.text)
+  unfolding transfer_in
   transfer-says =
       let P : Message → Type 0 = Says way t b.text in
       let rules = λ (transfer : Mt103). all_rules (envelope_of b).sender (envelope_of b).receiver t transfer in
@@ -151,8 +151,8 @@ module _ (way : Direction) (t : Tables) (b : Blocks) (e : HeadingHolds way t b) 
         lines = inl refl;
       }))
 
-  cover-says : IfOk (cover_of t b) (Says way t b.text)
-  unfolding cover_of
+  cover-says : IfOk (cover_in t b) (Says way t b.text)
+  unfolding cover_in
   cover-says =
       then (Says way t b.text) (mt202cov_of t (fields_of b.text)) _ (λ cover read.
       record {
@@ -167,8 +167,8 @@ module _ (way : Direction) (t : Tables) (b : Blocks) (e : HeadingHolds way t b) 
         lines = inl refl;
       })
 
-  debit-says : IfOk (debit_of t b) (Says way t b.text)
-  unfolding debit_of
+  debit-says : IfOk (debit_in t b) (Says way t b.text)
+  unfolding debit_in
   debit-says =
       then (Says way t b.text) (mt900_of t (fields_of b.text)) _ (λ advice read.
       record {
@@ -183,8 +183,8 @@ module _ (way : Direction) (t : Tables) (b : Blocks) (e : HeadingHolds way t b) 
         lines = inr refl;
       })
 
-  credit-says : IfOk (credit_of t b) (Says way t b.text)
-  unfolding credit_of
+  credit-says : IfOk (credit_in t b) (Says way t b.text)
+  unfolding credit_in
   credit-says =
       then (Says way t b.text) (mt910_of t (fields_of b.text)) _ (λ advice read.
       record {
@@ -199,8 +199,8 @@ module _ (way : Direction) (t : Tables) (b : Blocks) (e : HeadingHolds way t b) 
         lines = inr refl;
       })
 
-  page-says : IfOk (page_of t b) (Says way t b.text)
-  unfolding page_of
+  page-says : IfOk (page_in t b) (Says way t b.text)
+  unfolding page_in
   page-says =
       then (Says way t b.text) (mt950_of t (fields_of b.text)) _ (λ page read.
       record {
@@ -223,10 +223,10 @@ type-says : (way : Direction) (t : Tables) (b : Blocks) → HeadingHolds way t b
 type-says way t b e f cut =
     let P : Message → Type 0 = Says way t b.text in
     let mt = type_of b.app in
-    either-ok P (mt == 103) (transfer_of t b) _ (transfer-says way t b e f cut)
-    (either-ok P (mt == 202) (cover_of t b) _ (cover-says way t b e f cut)
-    (either-ok P (mt == 900) (debit_of t b) _ (debit-says way t b e f cut)
-    (either-ok P (mt == 910) (credit_of t b) _ (credit-says way t b e f cut) (page-says way t b e f cut))))
+    either-ok P (mt == 103) (transfer_in t b) _ (transfer-says way t b e f cut)
+    (either-ok P (mt == 202) (cover_in t b) _ (cover-says way t b e f cut)
+    (either-ok P (mt == 900) (debit_in t b) _ (debit-says way t b e f cut)
+    (either-ok P (mt == 910) (credit_in t b) _ (credit-says way t b e f cut) (page-says way t b e f cut))))
 
 lines-short : (lines text : List ℕ) (n : ℕ) → (lines ≡ text) ⊎ (lines ≡ []) → length text ≤ n → length lines ≤ n
 lines-short lines text n (inl e) le = subst (λ (l : List ℕ). length l ≤ n) (sym e) le

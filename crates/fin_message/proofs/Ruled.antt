@@ -13,7 +13,7 @@ use Rattle.mt103.specs.declared.message.Mt103.{Mt103}
 use Rattle.mt103_rules.specs.Rules.{all_rules}
 use Rattle.ref_tables.specs.Seen.{Tables}
 use Rattle.fin_message.specs.Parts.{envelope_of}
-use Rattle.fin_message.specs.Verdict.{ruled_of, transfer_of}
+use Rattle.fin_message.specs.Verdict.{ruled_of, transfer_in}
 use Rattle.fin_message.specs.declared.message.Message.{Message}
 use Rattle.fin_message.specs.declared.message.Message.TheVariants.{Transfer}
 
@@ -29,8 +29,8 @@ apart (Err fault) rules whole = refl
 abbrev carried : Blocks → Mt103 → Message
 carried b m = Transfer (envelope_of b) b.text m
 
-as-ruled : (t : Tables) (b : Blocks) → transfer_of t b ≡ (ruled_of t (envelope_of b) (fields_of b.text) >>= λ m. Ok (carried b m))
-unfolding transfer_of ruled_of
+as-ruled : (t : Tables) (b : Blocks) → transfer_in t b ≡ (ruled_of t (envelope_of b) (fields_of b.text) >>= λ m. Ok (carried b m))
+unfolding transfer_in ruled_of
 as-ruled t b = apart (mt103_of t (fields_of b.text)) (λ m. passed (all_rules (envelope_of b).sender (envelope_of b).receiver t m)) (carried b)
 
 fills-on : {B : Type 0} (result : Result B MtFault) (m : Mt103) (said : Result Mt103 Fault) (whole : Mt103 → Message) → Fills result m said → Fills result (whole m) (said >>= λ n. Ok (whole n))
@@ -38,6 +38,6 @@ fills-on (Ok b) m said whole h = rw h refl
 fills-on (Err faults.Memory) m said whole h = tt
 fills-on (Err (faults.Bad fault)) m said whole h = rw h refl
 
-pub carries : {B : Type 0} (t : Tables) (b : Blocks) (result : Result B MtFault) (m : Mt103) → Fills result m (ruled_of t (envelope_of b) (fields_of b.text)) → Fills result (carried b m) (transfer_of t b)
+pub carries : {B : Type 0} (t : Tables) (b : Blocks) (result : Result B MtFault) (m : Mt103) → Fills result m (ruled_of t (envelope_of b) (fields_of b.text)) → Fills result (carried b m) (transfer_in t b)
 carries t b result m h =
     subst (λ meant. Fills result (carried b m) meant) (sym (as-ruled t b)) (fills-on result m (ruled_of t (envelope_of b) (fields_of b.text)) (carried b) h)

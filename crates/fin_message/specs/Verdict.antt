@@ -87,45 +87,45 @@ ruled_of t envelope fields = do
   Ok transfer
 
 -- an MT103: its fields, then its rules
-unfoldable pub transfer_of : Tables → Blocks → Result Message Fault
-transfer_of t b = do
+unfoldable pub transfer_in : Tables → Blocks → Result Message Fault
+transfer_in t b = do
   transfer ← mt103_of t (fields_of b.text)
   let envelope = envelope_of b
   _ ← passed (all_rules envelope.sender envelope.receiver t transfer)
   Ok (Transfer envelope b.text transfer)
 
 -- an MT202 COV: its fields and its rules
-unfoldable pub cover_of : Tables → Blocks → Result Message Fault
-cover_of t b = do
+unfoldable pub cover_in : Tables → Blocks → Result Message Fault
+cover_in t b = do
   cover ← mt202cov_of t (fields_of b.text)
   Ok (Cover (envelope_of b) b.text cover)
 
 -- an MT900: its fields
-unfoldable pub debit_of : Tables → Blocks → Result Message Fault
-debit_of t b = do
+unfoldable pub debit_in : Tables → Blocks → Result Message Fault
+debit_in t b = do
   advice ← mt900_of t (fields_of b.text)
   Ok (Debit (envelope_of b) advice)
 
 -- an MT910: its fields and its rule
-unfoldable pub credit_of : Tables → Blocks → Result Message Fault
-credit_of t b = do
+unfoldable pub credit_in : Tables → Blocks → Result Message Fault
+credit_in t b = do
   advice ← mt910_of t (fields_of b.text)
   Ok (Credit (envelope_of b) advice)
 
 -- an MT950: its fields and its currencies
-unfoldable pub page_of : Tables → Blocks → Result Message Fault
-page_of t b = do
+unfoldable pub page_in : Tables → Blocks → Result Message Fault
+page_in t b = do
   page ← mt950_of t (fields_of b.text)
   Ok (Page (envelope_of b) page)
 
 -- the message by its type; behind P11 the last type is 950
 abbrev pub message_in : Tables → Blocks → Result Message Fault
 message_in t b =
-    if type_of b.app == 103 then transfer_of t b
-    else if type_of b.app == 202 then cover_of t b
-    else if type_of b.app == 900 then debit_of t b
-    else if type_of b.app == 910 then credit_of t b
-    else page_of t b
+    if type_of b.app == 103 then transfer_in t b
+    else if type_of b.app == 202 then cover_in t b
+    else if type_of b.app == 900 then debit_in t b
+    else if type_of b.app == 910 then credit_in t b
+    else page_in t b
 
 -- the tests behind those of the blocks, in their order
 unfoldable pub message_of : Direction → Bic → Tables → Blocks → Result Message Fault

@@ -9,7 +9,7 @@ ghost use Rattle.fin_message.specs.Verdict.{line_test};
 
 use crate::codes::{P20, P21};
 use corr_text::{Fault, List};
-use fin_fields::{Field, FieldFault, Spares, cut_fields_with};
+use fin_fields::{FieldFault, FieldLines, cut_lines};
 use fin_layout::MtFault;
 use std::alloc::Global;
 
@@ -33,14 +33,14 @@ fn refuse(fault: FieldFault) -> MtFault
 
 /// The fields of a text. `Bad`: the first line that is none of a field (P20), else the first field with a character
 /// outside X (P21).
-pub fn read_fields(alloc: Global, text: &[u8], spares: &mut Spares) -> Result<List<Field>, MtFault>
+pub fn read_fields(alloc: Global, text: &[u8]) -> Result<List<FieldLines<'_>>, MtFault>
     requires { length (lines_of text.now) ≤ most_text_lines }
     ensures value { IfOk result (λ fields. fields ≡ fields_of text.now) }
     ensures few { IfOk result (λ fields. length fields ≤ most_text_lines) }
     ensures sound { OnOk result (line_test text.now ≡ None) }
     ensures fault { IfErr result (Tells (line_test text.now)) }
 {
-    match cut_fields_with(alloc, text, spares) {
+    match cut_lines(alloc, text) {
         Ok(fields) => Ok(fields),
         Err(fault) => Err(refuse(fault)),
     }

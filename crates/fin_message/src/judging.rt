@@ -22,7 +22,7 @@ use crate::transfer::read_transfer;
 use corr_ids::Bic;
 use corr_text::let_go;
 use fin_blocks::{Blocks, read_blocks};
-use fin_fields::{Field, Spares};
+use fin_fields::FieldLines;
 use fin_layout::MtFault;
 use ref_tables::RefTables;
 use std::alloc::Global;
@@ -33,7 +33,7 @@ fn read_of_type(
     alloc: Global,
     t: &RefTables,
     blocks: &Blocks,
-    fields: &[Field],
+    fields: &[FieldLines<'_>],
     out: &mut Message,
 ) -> Result<(), MtFault>
     requires few { length fields.now ≤ most_text_lines }
@@ -59,7 +59,6 @@ fn read_parts(
     home: &Bic,
     t: &RefTables,
     blocks: &Blocks,
-    spares: &mut Spares,
     out: &mut Message,
 ) -> Result<(), MtFault>
     requires { length (lines_of blocks.now.text) ≤ most_text_lines }
@@ -68,10 +67,8 @@ fn read_parts(
     if let Some(fault) = heading_fault(way, home, t, blocks) {
         return Err(MtFault::Bad(fault));
     }
-    let fields = read_fields(alloc, blocks.text.bytes(), spares)?;
-    let answer = read_of_type(alloc, t, blocks, fields.as_slice(), out);
-    spares.take_back(fields);
-    answer
+    let fields = read_fields(alloc, blocks.text.bytes())?;
+    read_of_type(alloc, t, blocks, fields.as_slice(), out)
 }
 
 /// Puts the message that blocks say into `out`. `Bad`: the first test after those of the blocks that it fails.
@@ -81,13 +78,12 @@ fn read_message(
     home: &Bic,
     t: &RefTables,
     blocks: Blocks,
-    spares: &mut Spares,
     out: &mut Message,
 ) -> Result<(), MtFault>
     requires { length (lines_of blocks.text) ≤ most_text_lines }
     ensures { mt.Fills result out.new (message_of way home.now t.now blocks) }
 {
-    match read_parts(alloc, way, home, t, &blocks, spares, out) {
+    match read_parts(alloc, way, home, t, &blocks, out) {
         Ok(()) => {
             put_text(blocks.text, out);
             Ok(())
@@ -106,7 +102,6 @@ fn judge(
     home: &Bic,
     t: &RefTables,
     m: &[u8],
-    spares: &mut Spares,
     out: &mut Message,
 ) -> Result<(), MessageFault>
     requires { length m.now ≤ most_bytes_judged }
@@ -114,7 +109,7 @@ fn judge(
 {
     let blocks = read_blocks(alloc, m)?;
     let mir = mir_of(&blocks.app);
-    match read_message(alloc, way, home, t, blocks, spares, out) {
+    match read_message(alloc, way, home, t, blocks, out) {
         Ok(()) => Ok(()),
         Err(MtFault::Bad(fault)) => Err(MessageFault::Refused { mir, fault }),
         Err(MtFault::Memory) => Err(MessageFault::Memory),
@@ -134,8 +129,7 @@ fn judge_apart(
     ensures { Answers result (judged way home.now t.now m.now) }
 {
     let mut message = Message::blank(alloc);
-    let mut spares = Spares::new(alloc);
-    match judge(alloc, way, home, t, m, &mut spares, &mut message) {
+    match judge(alloc, way, home, t, m, &mut message) {
         Ok(()) => Ok(message),
         Err(fault) => {
             let_go(message);
@@ -162,22 +156,20 @@ pub fn verdict(alloc: Global, m: &[u8], home: &Bic, t: &RefTables) -> Result<Mes
     judge_apart(alloc, Direction::Received, home, t, m)
 }
 
-/// As `verdict`, but what the message says is put into `out`, where another message stood, and its fields are cut in memory of
-/// fields that are gone, as far as it goes. After a fault `out` may say anything.
+/// As `verdict`, but what the message says is put into `out`, where another message stood. After a fault it may say anything.
 #[tactic(auto, using(crate::proofs::Judged::sound_in))]
 pub fn verdict_into(
     alloc: Global,
     m: &[u8],
     home: &Bic,
     t: &RefTables,
-    spares: &mut Spares,
     out: &mut Message,
 ) -> Result<(), MessageFault>
     requires { length m.now ≤ most_bytes_judged }
     ensures value { Fills result out.new (verdict_of home.now t.now m.now) }
     ensures sound { OnOk result (IsValid Direction.Received t.now (2 * length m.now) out.new) }
 {
-    judge(alloc, Direction::Received, home, t, m, spares, out)
+    judge(alloc, Direction::Received, home, t, m, out)
 }
 
 /// The same of a message that the home bank sends: block 2 is of input form (else P07) and names the receiver, who is in

@@ -79,19 +79,19 @@ pub fn envelope(blocks: &Blocks) -> Envelope
     ensures { result ≡ envelope_of blocks.now }
 {
     let home = bank(blocks.own);
-    let partner = partner(&blocks.app);
+    let other = partner(&blocks.app);
     let uetr = transaction(blocks);
     match blocks.app {
         App::Received { mir, .. } => Envelope {
             mir: Some(mir),
-            sender: partner,
+            sender: other,
             receiver: home,
             uetr,
         },
         App::Sent { .. } => Envelope {
             mir: None,
             sender: home,
-            receiver: partner,
+            receiver: other,
             uetr,
         },
     }

@@ -4,14 +4,14 @@ ghost use Rattle.std.specs.Prelude.{◌≡◌, ◌≤◌, IsTrue, length};
 ghost use Rattle.fin_fields.specs.Fields.{fields_of, most_text_lines};
 ghost use Rattle.fin_layout.specs.Reading.{Fills};
 ghost use Rattle.fin_message.specs.Filling.{is_transfer, with_text};
-ghost use Rattle.fin_message.specs.Verdict.{ruled_of, transfer_of};
+ghost use Rattle.fin_message.specs.Verdict.{ruled_of, transfer_in};
 
 use crate::message::Message;
 use crate::parts::envelope as envelope_of;
 use corr_ids::Envelope;
 use corr_text::put;
 use fin_blocks::Blocks;
-use fin_fields::Field;
+use fin_fields::FieldLines;
 use fin_layout::MtFault;
 use mt103::{Mt103, fill_mt103};
 use mt103_rules::first_rule;
@@ -46,7 +46,7 @@ fn make_transfer(alloc: Global, out: &mut Message)
 fn fill_transfer(
     alloc: Global,
     t: &RefTables,
-    fields: &[Field],
+    fields: &[FieldLines<'_>],
     envelope: &Envelope,
     transfer: &mut Mt103,
 ) -> Result<(), MtFault>
@@ -62,17 +62,17 @@ fn fill_transfer(
 
 /// Puts the transfer that a message with these fields says into `out`, but for its text. `Bad`: the first test of its fields,
 /// or the first of its rules; then `out` may say anything.
-#[tactic(auto, unfolding(crate::specs::Verdict::transfer_of))]
+#[tactic(auto, unfolding(crate::specs::Verdict::transfer_in))]
 pub fn read_transfer(
     alloc: Global,
     t: &RefTables,
     blocks: &Blocks,
-    fields: &[Field],
+    fields: &[FieldLines<'_>],
     out: &mut Message,
 ) -> Result<(), MtFault>
     requires few { length fields.now ≤ most_text_lines }
     requires same { fields.now ≡ fields_of blocks.now.text }
-    ensures { Fills result (with_text blocks.now.text out.new) (transfer_of t.now blocks.now) }
+    ensures { Fills result (with_text blocks.now.text out.new) (transfer_in t.now blocks.now) }
 {
     make_transfer(alloc, out);
     match out {

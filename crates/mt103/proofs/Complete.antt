@@ -14,7 +14,7 @@ use Rattle.mt103.specs.Message.{content_test, contents_of, field_tests}
 use Rattle.mt103.specs.Parts.{Details, Parties, Terms, contents_in_parts, details_of, transfer_of_parts, parties_of, terms_of}
 use Rattle.mt103.specs.declared.message.Mt103.{Mt103}
 use Rattle.mt103.specs.Order.{order_103}
-use Rattle.mt103.proofs.Says.{details-said, parties-said, terms-said}
+use Rattle.mt103.proofs.Says.{DetailsSay, PartiesSay, TermsSay, details-said, parties-said, terms-said}
 use Rattle.mt103.proofs.laws.Parts.{contents-are}
 
 module _ (t : Tables) (fs : List Field) (found : List ℕ) (hold : AllHold order_103 (content_test t) fs found) where
@@ -28,7 +28,10 @@ module _ (t : Tables) (fs : List Field) (found : List ℕ) (hold : AllHold order
       let x5 = must-fine hold 5 (value_of t) (λ f. refl) _ refl refl in
       let x6 = may-fine hold 6 (ccy_amount_of t) (λ f. refl) in
       let x7 = may-fine hold 7 rate_of (λ f. refl) in
-      (record { reference = x0.0; times = x1.0; op = x2.0; instrs = x3.0; kind = x4.0; value = x5.0; ordered = x6.0; rate = x7.0 }, terms-said t fs found _ (record { reference = x0.1; times = x1.1; op = x2.1; instrs = x3.1; kind = x4.1; value = x5.1; ordered = x6.1; rate = x7.1 }))
+      let x : Terms = record { reference = x0.0; times = x1.0; op = x2.0; instrs = x3.0; kind = x4.0; value = x5.0; ordered = x6.0; rate = x7.0 } in
+      let say : TermsSay t fs found x =
+      record { reference = x0.1; times = x1.1; op = x2.1; instrs = x3.1; kind = x4.1; value = x5.1; ordered = x6.1; rate = x7.1 } in
+      (x, terms-said t fs found x say)
 
   parties-fine : (x : Parties) × (parties_of t fs found ≡ Ok x)
   parties-fine =
@@ -40,7 +43,10 @@ module _ (t : Tables) (fs : List Field) (found : List ℕ) (hold : AllHold order
       let x13 = may-fine hold 13 (known_party_of t) (λ f. refl) in
       let x14 = may-fine hold 14 (known_party_of t) (λ f. refl) in
       let x15 = must-fine hold 15 (known_party_of t) (λ f. refl) _ refl refl in
-      (record { payer = x8.0; p52 = x9.0; p53 = x10.0; p54 = x11.0; p55 = x12.0; p56 = x13.0; p57 = x14.0; payee = x15.0 }, parties-said t fs found _ (record { payer = x8.1; p52 = x9.1; p53 = x10.1; p54 = x11.1; p55 = x12.1; p56 = x13.1; p57 = x14.1; payee = x15.1 }))
+      let x : Parties = record { payer = x8.0; p52 = x9.0; p53 = x10.0; p54 = x11.0; p55 = x12.0; p56 = x13.0; p57 = x14.0; payee = x15.0 } in
+      let say : PartiesSay t fs found x =
+      record { payer = x8.1; p52 = x9.1; p53 = x10.1; p54 = x11.1; p55 = x12.1; p56 = x13.1; p57 = x14.1; payee = x15.1 } in
+      (x, parties-said t fs found x say)
 
   details-fine : (x : Details) × (details_of t fs found ≡ Ok x)
   details-fine =
@@ -50,7 +56,23 @@ module _ (t : Tables) (fs : List Field) (found : List ℕ) (hold : AllHold order
       let x19 = may-fine hold 19 (ccy_amount_of t) (λ f. refl) in
       let x20 = may-fine hold 20 (texts_of 6) (λ f. refl) in
       let x21 = may-fine hold 21 (texts_of 3) (λ f. refl) in
-      (record { info = unwrap_or x16.0 []; charge = x17.0; taken = x18.0; given = x19.0; notes = unwrap_or x20.0 []; regulatory = unwrap_or x21.0 [] }, details-said t fs found _ (record { info = record { said = x16.0; read = x16.1; same = refl }; charge = x17.1; taken = x18.1; given = x19.1; notes = record { said = x20.0; read = x20.1; same = refl }; regulatory = record { said = x21.0; read = x21.1; same = refl } }))
+      let x : Details = record {
+        info = unwrap_or x16.0 [];
+        charge = x17.0;
+        taken = x18.0;
+        given = x19.0;
+        notes = unwrap_or x20.0 [];
+        regulatory = unwrap_or x21.0 [];
+      } in
+      let say : DetailsSay t fs found x = record {
+        info = record { said = x16.0; read = x16.1; same = refl };
+        charge = x17.1;
+        taken = x18.1;
+        given = x19.1;
+        notes = record { said = x20.0; read = x20.1; same = refl };
+        regulatory = record { said = x21.0; read = x21.1; same = refl };
+      } in
+      (x, details-said t fs found x say)
 
   contents-fine : (m : Mt103) × (contents_of t fs found ≡ Ok m)
   unfolding contents_in_parts

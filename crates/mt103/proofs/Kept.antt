@@ -15,7 +15,7 @@ use Rattle.fin_contents.specs.Plain.{one_line, sized}
 use Rattle.fin_contents.specs.Writing.{line_field, lines_field}
 use Rattle.fin_contents.proofs.laws.Bytes.{and-both}
 use Rattle.fin_contents.proofs.laws.Steps.{checked, is-only, there}
-use Rattle.mt103.specs.Codes.{charge_of, charges, code_in, instr_of, is_instruction, is_word_of, kind_of, operation_of, operations, takes_text, text_in, word_of}
+use Rattle.mt103.specs.Codes.{charge_of, charges, code_in, instr_of, is_instruction, is_word_of, kind_of, operation_of, operations, takes_text, instruction_text, word_of}
 use Rattle.mt103.specs.Writing.{instr_field, text_behind}
 use Rattle.mt103.specs.declared.instruction.Instr.{Instr}
 
@@ -63,7 +63,7 @@ pub kind-again : (f : Field) (kind : List ℕ) → kind_of f ≡ Ok kind → kin
 unfolding kind_of
 kind-again f kind e = ap (λ (ls : List (List ℕ)). kind_of (lines_field 26 (Some 84) ls)) (sym (kind-kept f kind e)) ∙ e
 
-text-kept : (rest : List ℕ) (text : Option (List ℕ)) → text_in rest ≡ Some text → rest ≡ text_behind text
+text-kept : (rest : List ℕ) (text : Option (List ℕ)) → instruction_text rest ≡ Some text → rest ≡ text_behind text
 text-kept [] text e =
     let same : None ≡ text = cc e in
     rw (← same) refl
@@ -80,7 +80,7 @@ unfolding instr_of
 instr-kept f i e =
     let line = there (one_line f) _ _ i e in
     let code = there (code_in line.0) _ _ i line.2 in
-    let text = there (text_in (drop 4 line.0)) _ _ i code.2 in
+    let text = there (instruction_text (drop 4 line.0)) _ _ i code.2 in
     let known = checked (is_instruction code.0) _ _ i text.2 in
     let plain = checked (is_none text.0 || takes_text code.0) _ _ i known.1 in
     let same : record { code = code.0; text = text.0 } ≡ i = cc plain.1 in

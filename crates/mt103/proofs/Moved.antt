@@ -15,7 +15,7 @@ use Rattle.fin_contents.specs.Writing.{IsAmount, ccy_amount_field, line_field, l
 use Rattle.fin_contents.proofs.laws.Again.{ccy_amount-again, rate-again, reference-again, texts-again, time-again, value-again}
 use Rattle.fin_contents.proofs.laws.Back.{all-moved, each-all, each-weaker, lines-moved, one-moved, option-moved, some-all, some-weaker}
 use Rattle.fin_contents.proofs.laws.Placed.{each-of, party-again-at}
-use Rattle.fin_contents.proofs.laws.Said.{Holds, Stands, stand}
+use Rattle.fin_contents.proofs.laws.Said.{HoldsInPlaces, Stands, stand}
 use Rattle.mt103.specs.Codes.{charge_of, instr_of, kind_of, operation_of}
 use Rattle.mt103.specs.Message.{contents_of}
 use Rattle.mt103.specs.Parts.{Details, Parties, Terms, transfer_of_parts}
@@ -43,7 +43,7 @@ module _ (t : Tables) (fs : List Field) (a : Terms) (b : Parties) (c : Details) 
   abbrev At : ℕ → Field → Type 0
   At k f = Stands order_103 Any k f
 
-  here : Holds At found fs
+  here : HoldsInPlaces At found fs
   here = stand order_103 Any 0 fs (λ k d lt. tt)
 
   terms-moved : TermsSay t fs found a → TermsSay t (joined segs) (places_of 0 segs) a

@@ -31,8 +31,8 @@ instructions =
     ∷ codes "PHOB" ∷ codes "TELB" ∷ codes "PHON" ∷ codes "TELE" ∷ codes "PHOI" ∷ codes "TELI" ∷ []
 
 -- those of them that may have a text
-abbrev pub with_text : List (List ℕ)
-with_text =
+abbrev pub codes_with_text : List (List ℕ)
+codes_with_text =
     codes "PHON" ∷ codes "PHOB" ∷ codes "PHOI" ∷ codes "TELE" ∷ codes "TELB" ∷ codes "TELI" ∷ codes "HOLD" ∷ codes "REPA" ∷ []
 
 -- one line, which is a word of so many bytes of a list, or else this code
@@ -64,9 +64,9 @@ abbrev pub code_in : List ℕ → Option (List ℕ)
 code_in line = if nat_le 4 (length line) && list_all (is_in C) (take 4 line) then Some (take 4 line) else None
 
 -- what follows a code: nothing, or `/30x`
-abbrev pub text_in : List ℕ → Option (Option (List ℕ))
-text_in [] = Some None
-text_in (slash ∷ text) = if (slash == 47) && is_run (is_in X) 30 text then Some (Some text) else None
+abbrev pub instruction_text : List ℕ → Option (Option (List ℕ))
+instruction_text [] = Some None
+instruction_text (slash ∷ text) = if (slash == 47) && is_run (is_in X) 30 text then Some (Some text) else None
 
 -- a code of 23E
 unfoldable pub is_instruction : List ℕ → Bool
@@ -74,14 +74,14 @@ is_instruction word = is_word_of instructions word
 
 -- a code that may have a text
 unfoldable pub takes_text : List ℕ → Bool
-takes_text word = is_word_of with_text word
+takes_text word = is_word_of codes_with_text word
 
 -- 23E: `4!c[/30x]`
 unfoldable pub instr_of : Field → Result Instr Code
 instr_of f = do
   line ← or_fault (one_line f) (code "P24")
   word ← or_fault (code_in line) (code "P24")
-  text ← or_fault (text_in (drop 4 line)) (code "P24")
+  text ← or_fault (instruction_text (drop 4 line)) (code "P24")
   _ ← check (is_instruction word) (code "P28")
   _ ← check (is_none text || takes_text word) (code "D97")
   Ok (record { code = word; text = text })

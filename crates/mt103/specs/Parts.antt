@@ -243,11 +243,29 @@ with_details m details = record {
   regulatory = details.regulatory;
 }
 
--- the message with the details that the fields say
+-- other information in 70 and another 71A
+abbrev pub with_info : Mt103 → List (List ℕ) → List ℕ → Mt103
+with_info m info charge = with_details m (record { info = info; charge = charge; taken = m.taken; given = m.given; notes = m.notes; regulatory = m.regulatory })
+
+-- other closing fields: 71F to 77B
+abbrev pub with_closing : Mt103 → List Amount → Option Amount → List (List ℕ) → List (List ℕ) → Mt103
+with_closing m taken given notes regulatory = with_details m (record { info = m.info; charge = m.charge; taken = taken; given = given; notes = notes; regulatory = regulatory })
+
+-- what 71F to 77B say
+unfoldable pub closing_into : Tables → List Field → List ℕ → Mt103 → Result Mt103 Fault
+closing_into t fs found m = do
+  taken ← all_from fs at_taken (ccy_amount_of t) 0 found fs
+  given ← in_option fs found at_given (ccy_amount_of t)
+  notes ← in_option fs found at_notes (texts_of 6)
+  regulatory ← in_option fs found at_regulatory (texts_of 3)
+  Ok (with_closing m taken given (unwrap_or notes []) (unwrap_or regulatory []))
+
+-- 70 and 71A, then the closing fields
 unfoldable pub details_into : Tables → List Field → List ℕ → Mt103 → Result Mt103 Fault
 details_into t fs found m = do
-  details ← details_of t fs found
-  Ok (with_details m details)
+  info ← in_option fs found at_info (texts_of 4)
+  charge ← in_place order_103 fs found at_charge charge_of
+  closing_into t fs found (with_info m (unwrap_or info []) charge)
 
 -- one part after another
 unfoldable pub contents_into : Tables → List Field → List ℕ → Mt103 → Result Mt103 Fault

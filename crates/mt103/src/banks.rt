@@ -11,7 +11,7 @@ use crate::places::{
 };
 use corr_text::put;
 use fin_contents::KnownParty;
-use fin_fields::Field;
+use fin_fields::FieldLines;
 use fin_layout::{MtFault, read_optional, takes_any};
 use ref_tables::RefTables;
 use std::alloc::Global;
@@ -20,7 +20,7 @@ use std::alloc::Global;
 fn read_banks(
     alloc: Global,
     tables: &RefTables,
-    fields: &[Field],
+    fields: &[FieldLines<'_>],
     found: &[usize],
     m: &mut Mt103,
 ) -> Result<(), MtFault>
@@ -60,7 +60,7 @@ fn clear_banks(m: &mut Mt103)
 pub fn fill_banks(
     alloc: Global,
     tables: &RefTables,
-    fields: &[Field],
+    fields: &[FieldLines<'_>],
     found: &[usize],
     m: &mut Mt103,
 ) -> Result<(), MtFault>

@@ -5,23 +5,24 @@ ghost use Rattle.fin_fields.specs.Fields.{most_text_lines};
 ghost use Rattle.fin_layout.specs.Reading.{Fills};
 ghost use Rattle.mt103.specs.Parts.{details_into};
 
+use crate::closing::fill_closing;
 use crate::message::Mt103;
 use crate::order::ORDER;
-use crate::places::{CHARGE, GIVEN, INFO, NOTES, REGULATORY, TAKEN};
+use crate::places::{CHARGE, INFO};
 use crate::word::Charge;
 use corr_text::put;
-use fin_contents::{CcyAmount, Texts, or_none};
-use fin_fields::Field;
-use fin_layout::{MtFault, read_all, read_one, read_optional};
+use fin_contents::{Texts, or_none};
+use fin_fields::FieldLines;
+use fin_layout::{MtFault, read_one, read_optional};
 use ref_tables::RefTables;
 use std::alloc::Global;
 
 /// Puts what fields at these places say in 70 to 77B into a message.
-#[tactic(auto, unfolding(crate::specs::Parts::details_into, crate::specs::Parts::details_of))]
+#[tactic(auto, unfolding(crate::specs::Parts::details_into))]
 pub fn fill_details(
     alloc: Global,
     tables: &RefTables,
-    fields: &[Field],
+    fields: &[FieldLines<'_>],
     found: &[usize],
     m: &mut Mt103,
 ) -> Result<(), MtFault>
@@ -30,18 +31,8 @@ pub fn fill_details(
     ensures value { Fills result m.new (details_into tables.now fields.now found.now m.old) }
     ensures kept { OnOk result (m.new.instrs ≡ m.old.instrs) }
 {
-    let amount = CcyAmount { tables };
     let info = read_optional(alloc, &Texts { most: 4 }, fields, found, INFO)?;
     put(&mut m.info, or_none(alloc, info));
     m.charge = read_one(alloc, &Charge, &ORDER, fields, found, CHARGE)?;
-    put(
-        &mut m.taken,
-        read_all(alloc, &amount, fields, found, TAKEN)?,
-    );
-    m.given = read_optional(alloc, &amount, fields, found, GIVEN)?;
-    let notes = read_optional(alloc, &Texts { most: 6 }, fields, found, NOTES)?;
-    put(&mut m.notes, or_none(alloc, notes));
-    let regulatory = read_optional(alloc, &Texts { most: 3 }, fields, found, REGULATORY)?;
-    put(&mut m.regulatory, or_none(alloc, regulatory));
-    Ok(())
+    fill_closing(alloc, tables, fields, found, m)
 }

@@ -1,13 +1,13 @@
 //! Instructions: field 23E.
 
 ghost use Rattle.std.specs.Prelude.{◌≡◌, ◌≤◌, ◌||◌, IfOk, IfSome, is_none, length, option_map};
-ghost use Rattle.mt103.specs.Codes.{code_in, instr_of, is_instruction, takes_text, text_in};
+ghost use Rattle.mt103.specs.Codes.{code_in, instr_of, is_instruction, takes_text, instruction_text};
 ghost use Rattle.fin_layout.specs.Reading.{Reads};
 
 use crate::codes::{D97, P28};
 use corr_text::{Memory, Set, Text, is_all_of};
 use fin_contents::{array_of, one_line};
-use fin_fields::{Field, is_run_of};
+use fin_fields::{FieldLines, is_run_of};
 use fin_layout::{Content, P24, Refusal};
 use std::alloc::Global;
 
@@ -62,7 +62,7 @@ fn code_in(line: &[u8]) -> Option<[u8; 4]>
 
 // The text behind a code, none where there is another form.
 fn text_in(rest: &[u8]) -> Option<Option<&[u8]>>
-    ensures { option_map (option_map (λ b. b.now)) result ≡ text_in rest.now }
+    ensures { option_map (option_map (λ b. b.now)) result ≡ instruction_text rest.now }
 {
     match rest {
         [] => Some(None),
@@ -91,7 +91,7 @@ fn copy_text(alloc: Global, text: Option<&[u8]>) -> Result<Option<Text>, Memory>
 }
 
 #[tactic(auto, unfolding(crate::specs::Codes::instr_of))]
-fn read_instr(alloc: Global, f: &Field) -> Result<Instr, Refusal>
+fn read_instr(alloc: Global, f: &FieldLines<'_>) -> Result<Instr, Refusal>
     ensures { Reads result (instr_of f.now) }
 {
     let Some(line) = one_line(f) else {
@@ -120,7 +120,7 @@ impl Content for Instruction {
 
     ghost meaning = { λ _ f. instr_of f };
 
-    fn read(&self, alloc: Global, f: &Field) -> Result<Instr, Refusal> {
+    fn read(&self, alloc: Global, f: &FieldLines<'_>) -> Result<Instr, Refusal> {
         read_instr(alloc, f)
     }
 }

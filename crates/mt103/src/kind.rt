@@ -5,7 +5,7 @@ ghost use Rattle.fin_layout.specs.Reading.{Reads};
 
 use corr_text::{Set, is_all_of};
 use fin_contents::{array_of, one_line};
-use fin_fields::Field;
+use fin_fields::FieldLines;
 use fin_layout::{Content, P24, Refusal};
 use std::alloc::Global;
 
@@ -14,7 +14,7 @@ use std::alloc::Global;
 pub struct Kind;
 
 #[tactic(auto, unfolding(crate::specs::Codes::kind_of))]
-fn read_kind(f: &Field) -> Result<[u8; 3], Refusal>
+fn read_kind(f: &FieldLines<'_>) -> Result<[u8; 3], Refusal>
     ensures { Reads result (kind_of f.now) }
 {
     let Some(line) = one_line(f) else {
@@ -31,7 +31,7 @@ impl Content for Kind {
 
     ghost meaning = { λ _ f. kind_of f };
 
-    fn read(&self, _alloc: Global, f: &Field) -> Result<[u8; 3], Refusal> {
+    fn read(&self, _alloc: Global, f: &FieldLines<'_>) -> Result<[u8; 3], Refusal> {
         read_kind(f)
     }
 }

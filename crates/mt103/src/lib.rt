@@ -2,6 +2,7 @@
 #![tactic(auto)]
 
 mod banks;
+mod closing;
 mod codes;
 mod details;
 mod instruction;

@@ -11,7 +11,7 @@ use crate::order::ORDER;
 use crate::places::{PAYEE, PAYER};
 use corr_text::put;
 use fin_contents::KnownParty;
-use fin_fields::Field;
+use fin_fields::FieldLines;
 use fin_layout::{MtFault, read_one};
 use ref_tables::RefTables;
 use std::alloc::Global;
@@ -21,7 +21,7 @@ use std::alloc::Global;
 pub fn fill_parties(
     alloc: Global,
     tables: &RefTables,
-    fields: &[Field],
+    fields: &[FieldLines<'_>],
     found: &[usize],
     m: &mut Mt103,
 ) -> Result<(), MtFault>

@@ -9,7 +9,7 @@ use crate::details::fill_details;
 use crate::message::Mt103;
 use crate::parties::fill_parties;
 use crate::terms::fill_terms;
-use fin_fields::Field;
+use fin_fields::FieldLines;
 use fin_layout::MtFault;
 use ref_tables::RefTables;
 use std::alloc::Global;
@@ -19,7 +19,7 @@ use std::alloc::Global;
 pub fn fill_contents(
     alloc: Global,
     tables: &RefTables,
-    fields: &[Field],
+    fields: &[FieldLines<'_>],
     found: &[usize],
     m: &mut Mt103,
 ) -> Result<(), MtFault>

@@ -13,7 +13,7 @@ use crate::places::{INSTRUCTIONS, KIND, OPERATION, ORDERED, RATE, REFERENCE, TIM
 use crate::word::Operation;
 use corr_text::put;
 use fin_contents::{CcyAmount, Rate, Reference, Time, ValueDate};
-use fin_fields::Field;
+use fin_fields::FieldLines;
 use fin_layout::{MtFault, read_all, read_one, read_optional};
 use ref_tables::RefTables;
 use std::alloc::Global;
@@ -23,7 +23,7 @@ use std::alloc::Global;
 pub fn fill_terms(
     alloc: Global,
     tables: &RefTables,
-    fields: &[Field],
+    fields: &[FieldLines<'_>],
     found: &[usize],
     m: &mut Mt103,
 ) -> Result<(), MtFault>

@@ -20,7 +20,7 @@ use crate::misfit::{d98, e46};
 use crate::order::ORDER;
 use crate::reading::fill_contents;
 use corr_text::{Fault, let_go};
-use fin_fields::Field;
+use fin_fields::{Field, FieldLines, lend_fields};
 use fin_layout::{MtFault, check_structure};
 use ref_tables::RefTables;
 use std::alloc::Global;
@@ -37,7 +37,12 @@ fn instructions_fault(instrs: &[Instr]) -> Option<Fault>
 
 /// Puts what the fields of block 4 say into a transfer, whatever it said: the same tests as in `read_mt103`, and the same
 /// promises of what it then says. After a fault it may say anything.
-pub fn fill_mt103(alloc: Global, f: &[Field], t: &RefTables, m: &mut Mt103) -> Result<(), MtFault>
+pub fn fill_mt103(
+    alloc: Global,
+    f: &[FieldLines<'_>],
+    t: &RefTables,
+    m: &mut Mt103,
+) -> Result<(), MtFault>
     requires few { length f.now ≤ most_text_lines }
     ensures message { Fills result m.new (mt103_of t.now f.now) }
     ensures few { OnOk result (length m.new.instrs ≤ length f.now) }
@@ -61,6 +66,7 @@ pub fn fill_mt103(alloc: Global, f: &[Field], t: &RefTables, m: &mut Mt103) -> R
 /// the first 23E whose code stands before an earlier one's in the list of codes. Where no test of the fields fails they say
 /// a message (`complete`), so there is no other refusal. The amount of 32A is above zero and below 10^14 minor units
 /// (`amount`). `put_mt103` takes what fields of a text say (`written`). The rules of the transfer are not tested here.
+#[tactic(auto, using(crate::proofs::Complete::complete))]
 pub fn read_mt103(alloc: Global, f: &[Field], t: &RefTables) -> Result<Mt103, MtFault>
     requires few { length f.now ≤ most_text_lines }
     ensures message { Gives result (mt103_of t.now f.now) }
@@ -70,8 +76,9 @@ pub fn read_mt103(alloc: Global, f: &[Field], t: &RefTables) -> Result<Mt103, Mt
     ensures complete { first_of (field_tests t.now f.now) ≡ None
         → (m : Mt103Seen) × (contents_of t.now f.now (places_from order_103 0 f.now) ≡ Ok m) }
 {
+    let lent = lend_fields(alloc, f)?;
     let mut m = blank(alloc);
-    match fill_mt103(alloc, f, t, &mut m) {
+    match fill_mt103(alloc, lent.as_slice(), t, &mut m) {
         Ok(()) => Ok(m),
         Err(fault) => {
             let_go(m);

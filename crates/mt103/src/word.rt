@@ -7,7 +7,7 @@ ghost use Rattle.fin_layout.specs.Reading.{Reads};
 use crate::codes::{T08, T36};
 use corr_text::Code;
 use fin_contents::{array_of, one_line};
-use fin_fields::Field;
+use fin_fields::FieldLines;
 use fin_layout::{Content, Refusal};
 use std::alloc::Global;
 
@@ -40,7 +40,7 @@ fn is_word_of<const N: usize>(words: &[[u8; N]], word: &[u8; N]) -> bool
 fn read_word<const N: usize>(
     words: &[[u8; N]],
     refusal: Code,
-    f: &Field,
+    f: &FieldLines<'_>,
 ) -> Result<[u8; N], Refusal>
     ensures { Reads result (word_of N words.now refusal f.now) }
 {
@@ -58,7 +58,7 @@ impl Content for Operation {
 
     ghost meaning = { λ _ f. operation_of f };
 
-    fn read(&self, _alloc: Global, f: &Field) -> Result<[u8; 4], Refusal> {
+    fn read(&self, _alloc: Global, f: &FieldLines<'_>) -> Result<[u8; 4], Refusal> {
         read_word(&OPERATIONS, T36, f)
     }
 }
@@ -68,7 +68,7 @@ impl Content for Charge {
 
     ghost meaning = { λ _ f. charge_of f };
 
-    fn read(&self, _alloc: Global, f: &Field) -> Result<[u8; 3], Refusal> {
+    fn read(&self, _alloc: Global, f: &FieldLines<'_>) -> Result<[u8; 3], Refusal> {
         read_word(&CHARGES, T08, f)
     }
 }

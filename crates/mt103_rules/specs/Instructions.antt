@@ -9,10 +9,10 @@ abbrev pub has_instr : List ℕ → List Instr → Bool
 has_instr code instrs = list_any (λ i. bytes_eq i.code code) instrs
 
 -- a priority payment may have this instruction
-abbrev pub is_priority : Instr → Bool
-is_priority i =
+abbrev pub is_priority_instruction : Instr → Bool
+is_priority_instruction i =
     bytes_eq i.code (codes "SDVA") || bytes_eq i.code (codes "TELB") || bytes_eq i.code (codes "PHOB") || bytes_eq i.code (codes "INTC")
 
 -- where the first stands that it may not have, from 0
 abbrev pub first_barred : List Instr → Option ℕ
-first_barred instrs = position (λ i. not (is_priority i)) instrs
+first_barred instrs = position (λ i. not (is_priority_instruction i)) instrs

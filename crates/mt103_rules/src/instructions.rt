@@ -2,7 +2,7 @@
 
 ghost use Rattle.std.specs.Prelude.{◌≡◌, ◌≤◌, ◌<◌, ◌||◌, IfSome, codes, length};
 ghost use Rattle.fin_fields.specs.Fields.{most_text_lines};
-ghost use Rattle.mt103_rules.specs.Instructions.{first_barred, has_instr, is_priority};
+ghost use Rattle.mt103_rules.specs.Instructions.{first_barred, has_instr, is_priority_instruction};
 ghost use Rattle.mt103_rules.specs.Rules.{e01, e02, e18, e44, e45};
 
 use crate::broken::broken;
@@ -14,7 +14,7 @@ use mt103::{Instr, Mt103};
 
 // Whether a priority payment (SPRI) may have this instruction.
 fn is_priority(instr: &Instr) -> bool
-    ensures { result ≡ is_priority instr.now }
+    ensures { result ≡ is_priority_instruction instr.now }
 {
     instr.code == *b"SDVA"
         || instr.code == *b"TELB"

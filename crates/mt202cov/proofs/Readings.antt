@@ -1,6 +1,7 @@
 -- What is read at the places of a cover's fields, and the cover that it makes.
-use Rattle.std.proofs.Common.{◌≡◌, ℕ, List, [], Option, Ok, refl, sym, ◌∙◌}
+use Rattle.std.proofs.Common.{◌≡◌, ℕ, List, [], Option, Result, Ok, refl, sym, ◌∙◌}
 use Rattle.std.specs.Prelude.{unwrap_or}
+use Rattle.corr_text.specs.declared.fault.Code.{Code}
 use Rattle.ref_tables.specs.Seen.{Tables}
 use Rattle.fin_fields.specs.declared.field.Field.{Field}
 use Rattle.fin_layout.specs.Contents.{all_from, in_option, in_place}
@@ -50,8 +51,15 @@ pub record Readings (t : Tables) (fs : List Field) (found : List ℕ) (m : Mt202
 -- ---- from a cover to what its places say
 
 module _ (t : Tables) (fs : List Field) (found : List ℕ) where
+  -- what a place says, where a field must stand there, and where one may
+  abbrev Must : {A : Type 0} → ℕ → (Field → Result A Code) → A → Type 0
+  Must k read x = in_place order_202 fs found k read ≡ Ok x
+
+  abbrev May : {A : Type 0} → ℕ → (Field → Result A Code) → Option A → Type 0
+  May k read o = in_option fs found k read ≡ Ok o
+
   terms-read : (x : Terms) → terms_of t fs found ≡ Ok x
-      → (in_place order_202 fs found 0 reference_of ≡ Ok x.reference) × (in_place order_202 fs found 1 reference_of ≡ Ok x.related) × (all_from fs 2 time_of 0 found fs ≡ Ok x.times) × (in_place order_202 fs found 3 (value_of t) ≡ Ok x.value)
+      → Must 0 reference_of x.reference × Must 1 reference_of x.related × (all_from fs 2 time_of 0 found fs ≡ Ok x.times) × Must 3 (value_of t) x.value
   unfolding terms_of
   terms-read x e =
       let r0 = read-then (in_place order_202 fs found 0 reference_of) _ x e in
@@ -62,7 +70,8 @@ module _ (t : Tables) (fs : List Field) (found : List ℕ) where
       rw (← same) (r0.1, r1.1, r2.1, r3.1)
 
   banks-read : (x : Banks) → banks_of t fs found ≡ Ok x
-      → (in_option fs found 4 (known_party_of t) ≡ Ok x.p52) × (in_option fs found 5 (known_party_of t) ≡ Ok x.p53) × (in_option fs found 6 (known_party_of t) ≡ Ok x.p54) × (in_option fs found 7 (known_party_of t) ≡ Ok x.p56) × (in_option fs found 8 (known_party_of t) ≡ Ok x.p57) × (in_place order_202 fs found 9 (known_party_of t) ≡ Ok x.p58)
+      → May 4 (known_party_of t) x.p52 × May 5 (known_party_of t) x.p53 × May 6 (known_party_of t) x.p54 × May 7 (known_party_of t) x.p56
+      × May 8 (known_party_of t) x.p57 × Must 9 (known_party_of t) x.p58
   unfolding banks_of
   banks-read x e =
       let r0 = read-then (in_option fs found 4 (known_party_of t)) _ x e in
@@ -75,7 +84,8 @@ module _ (t : Tables) (fs : List Field) (found : List ℕ) where
       rw (← same) (r0.1, r1.1, r2.1, r3.1, r4.1, r5.1)
 
   customers-read : (x : Customers) → customers_of t fs found ≡ Ok x
-      → (in_place order_202 fs found 11 (known_party_of t) ≡ Ok x.payer) × (in_option fs found 12 (known_party_of t) ≡ Ok x.p52) × (in_option fs found 13 (known_party_of t) ≡ Ok x.p56) × (in_option fs found 14 (known_party_of t) ≡ Ok x.p57) × (in_place order_202 fs found 15 (known_party_of t) ≡ Ok x.payee)
+      → Must 11 (known_party_of t) x.payer × May 12 (known_party_of t) x.p52 × May 13 (known_party_of t) x.p56 × May 14 (known_party_of t) x.p57
+      × Must 15 (known_party_of t) x.payee
   unfolding customers_of
   customers-read x e =
       let r0 = read-then (in_place order_202 fs found 11 (known_party_of t)) _ x e in
@@ -87,7 +97,7 @@ module _ (t : Tables) (fs : List Field) (found : List ℕ) where
       rw (← same) (r0.1, r1.1, r2.1, r3.1, r4.1)
 
   details-read : (x : Details) → details_of t fs found ≡ Ok x
-      → LinesRead fs found 16 4 x.info × LinesRead fs found 17 6 x.notes × (in_option fs found 18 (ccy_amount_of t) ≡ Ok x.ordered)
+      → LinesRead fs found 16 4 x.info × LinesRead fs found 17 6 x.notes × May 18 (ccy_amount_of t) x.ordered
   unfolding details_of
   details-read x e =
       let r0 = read-then (in_option fs found 16 (texts_of 4)) _ x e in
@@ -96,7 +106,8 @@ module _ (t : Tables) (fs : List Field) (found : List ℕ) where
       let same : record { info = unwrap_or r0.0 []; notes = unwrap_or r1.0 []; ordered = r2.0 } ≡ x = cc r2.2 in
       rw (← same) ((r0.0, r0.1, refl), (r1.0, r1.1, refl), r2.1)
 
-  sequence_a-read : (x : SequenceA) → sequence_a_of t fs found ≡ Ok x → (terms_of t fs found ≡ Ok x.terms) × (banks_of t fs found ≡ Ok x.banks) × LinesRead fs found 10 6 x.notes
+  sequence_a-read : (x : SequenceA) → sequence_a_of t fs found ≡ Ok x
+      → (terms_of t fs found ≡ Ok x.terms) × (banks_of t fs found ≡ Ok x.banks) × LinesRead fs found 10 6 x.notes
   unfolding sequence_a_of
   sequence_a-read x e =
       let r0 = read-then (terms_of t fs found) _ x e in
@@ -160,5 +171,7 @@ module _ (t : Tables) (fs : List Field) (found : List ℕ) where
       let (a, ea, sa) = r.a_notes in
       let (i, ei, si) = r.info in
       let (b, eb, sb) = r.b_notes in
-      let parts : contents_in_parts t fs found ≡ Ok m = rw (r.reference, r.related, r.times, r.value, r.a52, r.a53, r.a54, r.a56, r.a57, r.a58, ea, r.payer, r.b52, r.b56, r.b57, r.payee, ei, eb, r.ordered) (rw (sa, si, sb) refl) in
+      let parts : contents_in_parts t fs found ≡ Ok m =
+      rw (r.reference, r.related, r.times, r.value, r.a52, r.a53, r.a54, r.a56, r.a57, r.a58, ea)
+      (rw (r.payer, r.b52, r.b56, r.b57, r.payee, ei, eb, r.ordered) (rw (sa, si, sb) refl)) in
       sym (contents-are t fs found) ∙ parts

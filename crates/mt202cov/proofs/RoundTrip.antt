@@ -55,7 +55,10 @@ read-again t fs m amounts e =
     let segs = in-segments t fs found Anything h m r in
     let placed = grouped-places order_202 any 0 0 0 (segments m) (omega arith) (omega arith) segs in
     let back = said-by t (joined (segments m)) (places_of 0 (segments m)) m (reread t fs found Anything h m r amounts) in
-    let none = none-missing (places_of 0 (segments m)) (grouped-taken (segments m) 0 0 _ [] refl) (grouped-taken (segments m) 0 1 _ [] refl) (grouped-taken (segments m) 0 3 _ [] refl) (grouped-taken (segments m) 0 9 _ [] refl) (grouped-taken (segments m) 0 11 _ [] refl) (grouped-taken (segments m) 0 15 _ [] refl) in
+    let none =
+    none-missing (places_of 0 (segments m)) (grouped-taken (segments m) 0 0 _ [] refl) (grouped-taken (segments m) 0 1 _ [] refl)
+    (grouped-taken (segments m) 0 3 _ [] refl) (grouped-taken (segments m) 0 9 _ [] refl) (grouped-taken (segments m) 0 11 _ [] refl)
+    (grouped-taken (segments m) 0 15 _ [] refl) in
     let sound = grouped-structure order_202 any (segments m) segs none in
     all-pass t (joined (segments m)) (places_of 0 (segments m)) (sym placed) sound m back a.rules
 
@@ -68,9 +71,11 @@ module _ (m : Mt202Cov) (is : IsReadable mt202cov_of m) where
       let h = stand order_202 IsField 0 is.fields is.fit in
       let r = readings is.tables is.fields found m a.contents in
       let value = said-one (Stands order_202 IsField) is.fields 3 (value_of is.tables) order_202 found (value_said m) h r.value in
+      let ordered = said-option (Stands order_202 IsField) is.fields 18 (ccy_amount_of is.tables) found m.ordered h r.ordered in
       record {
         value = value-is is.tables value.field (value_said m) is.few value.says;
-        ordered = some-weaker (Said (Stands order_202 IsField 18) (ccy_amount_of is.tables)) IsAmount m.ordered (said-option (Stands order_202 IsField) is.fields 18 (ccy_amount_of is.tables) found m.ordered h r.ordered) (λ x s. ccy_amount-is is.tables s.field x is.few s.says);
+        ordered = some-weaker (Said (Stands order_202 IsField 18) (ccy_amount_of is.tables)) IsAmount m.ordered ordered
+            (λ x s. ccy_amount-is is.tables s.field x is.few s.says);
       }
 
   -- and its fields may stand in a text

@@ -10,7 +10,7 @@ use crate::places::{
     A_ACCOUNT_BANK, A_INTERMEDIARY, A_ORDERING, A_RECEIVERS_BANK, A_SENDERS_BANK, BENEFICIARY,
 };
 use fin_contents::KnownParty;
-use fin_fields::Field;
+use fin_fields::FieldLines;
 use fin_layout::{MtFault, read_one, read_optional};
 use fin_parties::Party;
 use ref_tables::RefTables;
@@ -32,7 +32,7 @@ pub struct Banks {
 pub fn read_banks(
     alloc: Global,
     tables: &RefTables,
-    fields: &[Field],
+    fields: &[FieldLines<'_>],
     found: &[usize],
 ) -> Result<Banks, MtFault>
     requires { length fields.now ≤ most_text_lines }

@@ -8,7 +8,7 @@ ghost use Rattle.mt202cov.specs.Parts.{customers_of};
 use crate::order::ORDER;
 use crate::places::{B_ACCOUNT_BANK, B_INTERMEDIARY, B_ORDERING, PAYEE, PAYER};
 use fin_contents::KnownParty;
-use fin_fields::Field;
+use fin_fields::FieldLines;
 use fin_layout::{MtFault, read_one, read_optional};
 use fin_parties::Party;
 use ref_tables::RefTables;
@@ -29,7 +29,7 @@ pub struct Customers {
 pub fn read_customers(
     alloc: Global,
     tables: &RefTables,
-    fields: &[Field],
+    fields: &[FieldLines<'_>],
     found: &[usize],
 ) -> Result<Customers, MtFault>
     requires { length fields.now ≤ most_text_lines }

@@ -9,7 +9,7 @@ use crate::places::{B_NOTES, INFO, ORDERED};
 use corr_money::Amount;
 use corr_text::{List, Text};
 use fin_contents::{CcyAmount, Texts, or_none};
-use fin_fields::Field;
+use fin_fields::FieldLines;
 use fin_layout::{MtFault, read_optional};
 use ref_tables::RefTables;
 use std::alloc::Global;
@@ -27,7 +27,7 @@ pub struct Details {
 pub fn read_details(
     alloc: Global,
     tables: &RefTables,
-    fields: &[Field],
+    fields: &[FieldLines<'_>],
     found: &[usize],
 ) -> Result<Details, MtFault>
     requires { length fields.now ≤ most_text_lines }

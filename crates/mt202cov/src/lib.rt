@@ -18,5 +18,5 @@ mod writing;
 pub use codes::{C68, C81};
 pub use message::Mt202Cov;
 pub use order::ORDER;
-pub use verdict::read_mt202cov;
+pub use verdict::{read_mt202cov, read_mt202cov_lines};
 pub use writing::put_mt202cov;

@@ -8,7 +8,7 @@ ghost use Rattle.mt202cov.specs.Parts.{contents_in_parts, cover_of_parts};
 use crate::message::Mt202Cov;
 use crate::sequences::{SequenceA, SequenceB, read_sequence_a, read_sequence_b};
 use corr_text::let_go;
-use fin_fields::Field;
+use fin_fields::FieldLines;
 use fin_layout::MtFault;
 use ref_tables::RefTables;
 use std::alloc::Global;
@@ -45,7 +45,7 @@ fn message(a: SequenceA, b: SequenceB) -> Mt202Cov
 pub fn read_contents(
     alloc: Global,
     tables: &RefTables,
-    fields: &[Field],
+    fields: &[FieldLines<'_>],
     found: &[usize],
 ) -> Result<Mt202Cov, MtFault>
     requires few { length fields.now ≤ most_text_lines }

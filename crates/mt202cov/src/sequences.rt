@@ -12,7 +12,7 @@ use crate::places::A_NOTES;
 use crate::terms::{Terms, read_terms};
 use corr_text::{List, Text, let_go};
 use fin_contents::{Texts, or_none};
-use fin_fields::Field;
+use fin_fields::FieldLines;
 use fin_layout::{MtFault, read_optional};
 use ref_tables::RefTables;
 use std::alloc::Global;
@@ -37,7 +37,7 @@ pub struct SequenceB {
 pub fn read_sequence_a(
     alloc: Global,
     tables: &RefTables,
-    fields: &[Field],
+    fields: &[FieldLines<'_>],
     found: &[usize],
 ) -> Result<SequenceA, MtFault>
     requires few { length fields.now ≤ most_text_lines }
@@ -71,7 +71,7 @@ pub fn read_sequence_a(
 pub fn read_sequence_b(
     alloc: Global,
     tables: &RefTables,
-    fields: &[Field],
+    fields: &[FieldLines<'_>],
     found: &[usize],
 ) -> Result<SequenceB, MtFault>
     requires { length fields.now ≤ most_text_lines }

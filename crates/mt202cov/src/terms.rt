@@ -9,7 +9,7 @@ use crate::order::ORDER;
 use crate::places::{REFERENCE, RELATED, TIMES, VALUE};
 use corr_text::{List, Text};
 use fin_contents::{Reference, Time, Value, ValueDate};
-use fin_fields::Field;
+use fin_fields::FieldLines;
 use fin_layout::{MtFault, read_all, read_one};
 use ref_tables::RefTables;
 use std::alloc::Global;
@@ -28,7 +28,7 @@ pub struct Terms {
 pub fn read_terms(
     alloc: Global,
     tables: &RefTables,
-    fields: &[Field],
+    fields: &[FieldLines<'_>],
     found: &[usize],
 ) -> Result<Terms, MtFault>
     requires few { length fields.now ≤ most_text_lines }

@@ -18,7 +18,7 @@ use crate::order::ORDER;
 use crate::reading::read_contents;
 use crate::rules::first_rule;
 use corr_text::let_go;
-use fin_fields::Field;
+use fin_fields::{Field, FieldLines, lend_fields};
 use fin_layout::{MtFault, check_structure};
 use ref_tables::RefTables;
 use std::alloc::Global;
@@ -30,7 +30,25 @@ use std::alloc::Global;
 /// where 56a stands without 57a in sequence A, and C68 where it does in sequence B. Where no test of the fields fails they
 /// say a cover (`complete`), so there is no other refusal. The amount of a cover is above zero and below 10^14 minor units
 /// (`amount`). `put_mt202cov` takes what fields of a text say (`written`).
+#[tactic(auto, using(crate::proofs::Complete::complete))]
 pub fn read_mt202cov(alloc: Global, f: &[Field], t: &RefTables) -> Result<Mt202Cov, MtFault>
+    requires { length f.now ≤ most_text_lines }
+    ensures message { Gives result (mt202cov_of t.now f.now) }
+    ensures amount { IfOk result (λ m. IsPayable m.amount) }
+    ensures written { IsTrue (few_decimals t.now.ccys) → All IsField f.now → IfOk result (IsReadable mt202cov_of) }
+    ensures complete { first_of (field_tests t.now f.now) ≡ None
+        → (m : Mt202CovSeen) × (contents_of t.now f.now (places_from order_202 0 f.now) ≡ Ok m) }
+{
+    let lent = lend_fields(alloc, f)?;
+    read_mt202cov_lines(alloc, lent.as_slice(), t)
+}
+
+/// As `read_mt202cov`, of fields whose lines stay in a text.
+pub fn read_mt202cov_lines(
+    alloc: Global,
+    f: &[FieldLines<'_>],
+    t: &RefTables,
+) -> Result<Mt202Cov, MtFault>
     requires { length f.now ≤ most_text_lines }
     ensures message { Gives result (mt202cov_of t.now f.now) }
     ensures amount { IfOk result (λ m. IsPayable m.amount) }

@@ -47,20 +47,31 @@ digits-alone : (bs : List ℕ) → list_all is_ascii_digit bs ≡ true → Fail 
 digits-alone [] e = tt
 digits-alone (b ∷ bs) e = let p = both (is_ascii_digit b) (list_all is_ascii_digit bs) e in (digit-goes b p.0, digits-alone bs p.1)
 
-begun : (whole more text : List ℕ) → text ≡ whole ++ more → 0 < length whole → list_all is_ascii_digit whole ≡ true → Fail ends_amount more → list_all (is_in X) text ≡ true → IsAmountText text
+begun : (whole more text : List ℕ) → text ≡ whole ++ more → 0 < length whole → list_all is_ascii_digit whole ≡ true → Fail ends_amount more
+    → list_all (is_in X) text ≡ true → IsAmountText text
 begun [] more text e some digits later x = absurd (omega (arith, some))
 begun (b ∷ bs) more text e some digits later x =
-    record { first = b; rest = bs ++ more; same = e; digit = (both (is_ascii_digit b) (list_all is_ascii_digit bs) digits).0; goes = rw e (digits-go (b ∷ bs) more digits later); of_x = x }
+    record {
+      first = b;
+      rest = bs ++ more;
+      same = e;
+      digit = (both (is_ascii_digit b) (list_all is_ascii_digit bs) digits).0;
+      goes = rw e (digits-go (b ∷ bs) more digits later);
+      of_x = x;
+    }
 
 comma-number-text : (bs : List ℕ) → is_comma_number bs ≡ true → IsAmountText bs
 unfolding is_comma_number
 comma-number-text bs e =
-    let parts = and-four (is_some (position is_comma bs)) (nat_lt 0 (length (whole_of bs))) (list_all is_ascii_digit (whole_of bs)) (list_all is_ascii_digit (decimals_of bs)) e in
+    let parts =
+    and-four (is_some (position is_comma bs)) (nat_lt 0 (length (whole_of bs))) (list_all is_ascii_digit (whole_of bs))
+    (list_all is_ascii_digit (decimals_of bs)) e in
     let within = found-within (position_or_len is_comma bs) (length bs) parts.0 in
     let comma = get_or bs (position_or_len is_comma bs) 0 in
     let some : 0 < length (whole_of bs) = grind (arith, nat_tests) in
     let split : bs ≡ whole_of bs ++ comma ∷ decimals_of bs = split_at_first is_comma bs 0 within in
-    begun (whole_of bs) (comma ∷ decimals_of bs) bs split some parts.2 (comma-goes comma (passes_at_first is_comma bs 0 within), digits-alone (decimals_of bs) parts.3) (comma_number-of-x bs e).0
+    begun (whole_of bs) (comma ∷ decimals_of bs) bs split some parts.2
+    (comma-goes comma (passes_at_first is_comma bs 0 within), digits-alone (decimals_of bs) parts.3) (comma_number-of-x bs e).0
 
 pub amount-text : (decimals n : ℕ) → decimals ≤ 4 → n < amount_end → IsAmountText (amount_text decimals n)
 amount-text decimals n few small =

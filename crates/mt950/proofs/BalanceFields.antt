@@ -10,7 +10,7 @@ use Rattle.corr_text.specs.Sets.{is_in}
 use Rattle.corr_text.specs.declared.set.Set.TheVariants.{A, N, X}
 use Rattle.corr_ids.specs.Day.{Civil, InCentury, civil_of, day_of, digits_of, yymmdd_of}
 use Rattle.corr_ids.specs.declared.day.Day.{Day}
-use Rattle.corr_ids.proofs.laws.Century.{parted}
+use Rattle.corr_ids.proofs.laws.Century.{in_parts}
 use Rattle.corr_ids.proofs.laws.DaySpelling.{day-again, day-named}
 use Rattle.corr_money.specs.Amounts.{amount_end}
 use Rattle.corr_money.specs.declared.amount.Amount.{Amount}
@@ -27,7 +27,7 @@ use Rattle.fin_contents.specs.Writing.{ccy_amount_text}
 use Rattle.fin_contents.proofs.laws.Again.{AmountWritten, amount-letters, amount-read, amount-spelled, small-amount}
 use Rattle.fin_contents.proofs.laws.Bytes.{and-three}
 use Rattle.fin_contents.proofs.laws.Steps.{checked, read-then, there}
-use Rattle.mt950.specs.Balances.{is_balance, is_last, signed_by, stated_in, stated_of}
+use Rattle.mt950.specs.Balances.{is_balance_text, is_last, signed_by, stated_in, stated_of}
 use Rattle.mt950.specs.Writing.{IsBalance, balance_amount, balance_field, balance_mark}
 use Rattle.mt950.specs.declared.balance.Balance.{Balance}
 use Rattle.mt950.specs.declared.balance.Stated.{Stated}
@@ -41,7 +41,8 @@ pair-digits n h =
     let ones : is_ascii_digit (48 + n % 10) ≡ true = grind (arith, nat_tests) in
     rw (tens, ones) refl
 
-six-digits : (a b c d e f : ℕ) → list_all is_ascii_digit (a ∷ b ∷ []) ≡ true → list_all is_ascii_digit (c ∷ d ∷ []) ≡ true → list_all is_ascii_digit (e ∷ f ∷ []) ≡ true
+six-digits : (a b c d e f : ℕ) → list_all is_ascii_digit (a ∷ b ∷ []) ≡ true → list_all is_ascii_digit (c ∷ d ∷ []) ≡ true
+    → list_all is_ascii_digit (e ∷ f ∷ []) ≡ true
     → list_all is_ascii_digit (a ∷ b ∷ c ∷ d ∷ e ∷ f ∷ []) ≡ true
 six-digits a b c d e f p q r =
     let one = both (is_ascii_digit a) (is_ascii_digit b && true) p in
@@ -53,11 +54,12 @@ six-digits a b c d e f p q r =
 pub date-digits : (d : Day) → InCentury d → list_all (is_in N) (yymmdd_of d) ≡ true
 date-digits d century =
     let c : Civil = civil_of d in
-    let parts = parted d century in
+    let parts = in_parts d century in
     let year : c.year % 100 ≤ 99 = omega arith in
     let month : c.month ≤ 99 = omega (arith, parts.month_in) in
     let day : c.day ≤ 99 = omega (arith, parts.day_in) in
-    six-digits (48 + c.year % 100 / 10) (48 + c.year % 100 % 10) (48 + c.month / 10) (48 + c.month % 10) (48 + c.day / 10) (48 + c.day % 10) (pair-digits (c.year % 100) year) (pair-digits c.month month) (pair-digits c.day day)
+    six-digits (48 + c.year % 100 / 10) (48 + c.year % 100 % 10) (48 + c.month / 10) (48 + c.month % 10) (48 + c.day / 10) (48 + c.day % 10)
+    (pair-digits (c.year % 100) year) (pair-digits c.month month) (pair-digits c.day day)
 
 -- ---- what is written
 
@@ -91,19 +93,23 @@ dated-written t date a six digits w =
     let long : nat_le 10 (length (date ++ text)) ≡ true = rw (length-append date text, six) (dated (length text) four) in
     record { form = rw (long, front, digits, back, w.form) refl; front = front; rest = back }
 
-line-again : (t : Tables) (last : Bool) (mark : ℕ) (signed : ℤ) (day : Day) (date : List ℕ) (a : Amount) → day_of date ≡ Some day → DatedWritten date a → ccy_amount_in t (ccy_amount_text a) ≡ Ok a → signed_by mark a.minor.0 ≡ signed
-    → stated_in t last (mark ∷ (date ++ ccy_amount_text a)) ≡ Ok (record { balance = record { last = last; day = day; signed = signed }; ccy = a.ccy; decimals = a.decimals })
+line-again : (t : Tables) (last : Bool) (mark : ℕ) (signed : ℤ) (day : Day) (date : List ℕ) (a : Amount) → day_of date ≡ Some day → DatedWritten date a
+    → ccy_amount_in t (ccy_amount_text a) ≡ Ok a → signed_by mark a.minor.0 ≡ signed
+    → stated_in t last (mark ∷ (date ++ ccy_amount_text a))
+    ≡ Ok (record { balance = record { last = last; day = day; signed = signed }; ccy = a.ccy; decimals = a.decimals })
 unfolding stated_in
 line-again t last mark signed day date a named w read sign = rw (w.front, named, w.rest, read, sign) refl
 
-pub dated-form : (t : Tables) (ccy : Ccy) (decimals : ℕ) (b : Balance) → IsBalance decimals b → length ccy.0 ≡ 3 → list_all (is_in A) ccy.0 ≡ true → decimals_in t ccy.0 ≡ Some decimals → is_dated_amount (yymmdd_of b.day ++ ccy_amount_text (balance_amount ccy decimals b)) ≡ true
+pub dated-form : (t : Tables) (ccy : Ccy) (decimals : ℕ) (b : Balance) → IsBalance decimals b → length ccy.0 ≡ 3 → list_all (is_in A) ccy.0 ≡ true
+    → decimals_in t ccy.0 ≡ Some decimals → is_dated_amount (yymmdd_of b.day ++ ccy_amount_text (balance_amount ccy decimals b)) ≡ true
 dated-form t ccy decimals b is three letters known =
     let a : Amount = balance_amount ccy decimals b in
     let amount = amount-spelled t a (record { small = is.small; few = is.few }) three letters known in
     (dated-written t (yymmdd_of b.day) a refl (date-digits b.day is.day) amount).form
 
 -- a balance that is written is read, in a currency of three letters that the table has with its decimals
-pub stated-again : (t : Tables) (tag : ℕ) (letter : Option ℕ) (ccy : Ccy) (decimals : ℕ) (b : Balance) → IsBalance decimals b → length ccy.0 ≡ 3 → list_all (is_in A) ccy.0 ≡ true → decimals_in t ccy.0 ≡ Some decimals → is_last letter ≡ b.last
+pub stated-again : (t : Tables) (tag : ℕ) (letter : Option ℕ) (ccy : Ccy) (decimals : ℕ) (b : Balance) → IsBalance decimals b → length ccy.0 ≡ 3
+    → list_all (is_in A) ccy.0 ≡ true → decimals_in t ccy.0 ≡ Some decimals → is_last letter ≡ b.last
     → stated_of t (balance_field tag letter ccy decimals b) ≡ Ok (record { balance = b; ccy = ccy; decimals = decimals })
 unfolding stated_of
 stated-again t tag letter ccy decimals b is three letters known last =
@@ -133,13 +139,19 @@ abs-by : (b : Bool) (n : ℕ) → unsigned_abs (cond b (neg_ℤ (pos n)) (pos n)
 abs-by true n = abs-neg n
 abs-by false n = refl
 
-line-read : (t : Tables) (last : Bool) (mark : ℕ) (dated : List ℕ) (s : Stated) → is_dated_amount dated ≡ true → stated_in t last (mark ∷ dated) ≡ Ok s → StatedRead t last s
+line-read : (t : Tables) (last : Bool) (mark : ℕ) (dated : List ℕ) (s : Stated) → is_dated_amount dated ≡ true → stated_in t last (mark ∷ dated) ≡ Ok s
+    → StatedRead t last s
 unfolding stated_in
 line-read t last mark dated s form e =
     let parts = and-three (nat_le 10 (length dated)) (list_all (is_in N) (take 6 dated)) (is_ccy_amount (drop 6 dated)) form in
     let day = there (day_of (take 6 dated)) _ _ s e in
     let amount = read-then (ccy_amount_in t (drop 6 dated)) _ s day.2 in
-    let same : record { balance = record { last = last; day = day.0; signed = signed_by mark amount.0.minor.0 }; ccy = amount.0.ccy; decimals = amount.0.decimals } ≡ s = cc amount.2 in
+    let same : record {
+      balance = record { last = last; day = day.0; signed = signed_by mark amount.0.minor.0 };
+      ccy = amount.0.ccy;
+      decimals = amount.0.decimals;
+    } ≡ s =
+    cc amount.2 in
     let read = amount-read t (drop 6 dated) amount.0 amount.1 in
     let letters = amount-letters t (drop 6 dated) amount.0 parts.2 amount.1 in
     let size : unsigned_abs (signed_by mark amount.0.minor.0) ≡ amount.0.minor.0 = abs-by (mark == 68) amount.0.minor.0 in
@@ -153,7 +165,7 @@ line-read t last mark dated s form e =
       known = ap (λ (x : List ℕ). decimals_in t x) read.ccy ∙ read.known;
     })
 
-balance-read : (t : Tables) (last : Bool) (line : List ℕ) (s : Stated) → is_balance line ≡ true → stated_in t last line ≡ Ok s → StatedRead t last s
+balance-read : (t : Tables) (last : Bool) (line : List ℕ) (s : Stated) → is_balance_text line ≡ true → stated_in t last line ≡ Ok s → StatedRead t last s
 balance-read t last [] s form e = absurd (cc form)
 balance-read t last (mark ∷ dated) s form e = line-read t last mark dated s (both ((mark == 67) || (mark == 68)) (is_dated_amount dated) form).1 e
 
@@ -161,7 +173,7 @@ pub stated-read : (t : Tables) (f : Field) (s : Stated) → stated_of t f ≡ Ok
 unfolding stated_of
 stated-read t f s e =
     let line = there (one_line f) _ _ s e in
-    let form = checked (is_balance line.0) _ _ s line.2 in
+    let form = checked (is_balance_text line.0) _ _ s line.2 in
     balance-read t (is_last f.letter) line.0 s form.0 form.1
 
 -- an amount behind a mark is below the end of amounts
@@ -171,7 +183,8 @@ amount-small t line a e = (small-amount a.decimals (drop 3 line) a.minor (amount
 pub ruleset small_amounts = (arith, amount-small)
 
 -- the currency of a balance at a place is in the table with its decimals
-pub place-known : (t : Tables) (order : List Place) (fs : List Field) (found : List ℕ) (k : ℕ) (s : Stated) → in_place order fs found k (stated_of t) ≡ Ok s → decimals_in t s.ccy.0 ≡ Some s.decimals
+pub place-known : (t : Tables) (order : List Place) (fs : List Field) (found : List ℕ) (k : ℕ) (s : Stated)
+    → in_place order fs found k (stated_of t) ≡ Ok s → decimals_in t s.ccy.0 ≡ Some s.decimals
 place-known t order fs found k s e =
     let f = must-ok order fs k (stated_of t) (field_in fs found k) s e in
     (stated-read t f.0 s f.1).known

@@ -15,7 +15,8 @@ use Rattle.mt950.specs.Page.{content_test, decimals_with, entry_decimals, said_o
 use Rattle.mt950.specs.declared.said.Said.{Said}
 use Rattle.mt950.proofs.Says.{says-said}
 
-pub complete_950 : (t : Tables) (fs : List Field) → first_of (tests_950 t fs) ≡ None → (said : Said) × (said_of t fs (places_from order_950 0 fs) ≡ Ok said)
+pub complete_950 : (t : Tables) (fs : List Field) → first_of (tests_950 t fs) ≡ None
+    → (said : Said) × (said_of t fs (places_from order_950 0 fs) ≡ Ok said)
 complete_950 t fs none =
     let found = places_from order_950 0 fs in
     let decimals : ℕ = entry_decimals t fs found in
@@ -28,6 +29,26 @@ complete_950 t fs none =
     let closing = must-fine hold 5 (stated_of t) (λ f. refl) _ refl refl in
     let available = may-fine hold 6 (stated_of t) (λ f. refl) in
     let same : decimals ≡ opening.0.decimals = ap decimals_with opening.1 in
-    let read : all_from fs 4 (line_of opening.0.decimals) 0 found fs ≡ Ok lines.0 = ap (λ (d : ℕ). all_from fs 4 (line_of d) 0 found fs) (sym same) ∙ lines.1 in
-    let said : Said = record { reference = reference.0; account = account.0; numbers = numbers.0; opening = opening.0; lines = lines.0; closing = closing.0; available = available.0 } in
-    (said, says-said t fs found said (record { reference = reference.1; account = account.1; numbers = numbers.1; opening = opening.1; lines = read; closing = closing.1; available = available.1 }))
+    let read : all_from fs 4 (line_of opening.0.decimals) 0 found fs ≡ Ok lines.0 =
+    ap (λ (d : ℕ). all_from fs 4 (line_of d) 0 found fs) (sym same) ∙ lines.1 in
+    let said : Said = record {
+      reference = reference.0;
+      account = account.0;
+      numbers = numbers.0;
+      opening = opening.0;
+      lines = lines.0;
+      closing = closing.0;
+      available = available.0;
+    } in (
+      said,
+      says-said t fs found said
+          (record {
+            reference = reference.1;
+            account = account.1;
+            numbers = numbers.1;
+            opening = opening.1;
+            lines = read;
+            closing = closing.1;
+            available = available.1;
+          }),
+    )

@@ -65,7 +65,8 @@ page-of-x : (page : Option ℕ) → IfSome page (λ k. k < 100000) → list_all 
 page-of-x None small = refl
 page-of-x (Some k) small = decimal-of-x k small
 
-mark-of-x : (signed : ℤ) (date rest : List ℕ) → list_all (is_in X) (date ++ rest) ≡ true → list_all (is_in X) ((balance_mark signed ++ date) ++ rest) ≡ true
+mark-of-x : (signed : ℤ) (date rest : List ℕ) → list_all (is_in X) (date ++ rest) ≡ true
+    → list_all (is_in X) ((balance_mark signed ++ date) ++ rest) ≡ true
 mark-of-x (pos n) date rest e =
     let plain : is_negative (pos n) ≡ false = grind (arith, nat_tests) in
     rw plain e
@@ -77,7 +78,8 @@ line-mark-of-x D = refl
 line-mark-of-x RC = refl
 line-mark-of-x RD = refl
 
-entry-of-x : (entry : Option (List ℕ)) → IfSome entry (λ entry. (length entry ≡ 4) × IsTrue (list_all (is_in N) entry)) → list_all (is_in X) (part_text entry) ≡ true
+entry-of-x : (entry : Option (List ℕ)) → IfSome entry (λ entry. (length entry ≡ 4) × IsTrue (list_all (is_in N) entry))
+    → list_all (is_in X) (part_text entry) ≡ true
 entry-of-x None e = refl
 entry-of-x (Some entry) e = digits-of-x entry e.1
 
@@ -121,7 +123,8 @@ kind-of-x (b ∷ rest) e =
       | inr p ↦ letter-of-x b rest p.0 (c-of-x rest p.1)
     ]
 
-servicer-of-x : (servicer : Option (List ℕ)) → IfSome servicer (λ text. IsTrue (is_run (is_in X) 16 text)) → list_all (is_in X) (servicer_text servicer) ≡ true
+servicer-of-x : (servicer : Option (List ℕ)) → IfSome servicer (λ text. IsTrue (is_run (is_in X) 16 text))
+    → list_all (is_in X) (servicer_text servicer) ≡ true
 servicer-of-x None e = refl
 servicer-of-x (Some text) e = run-of-x 16 text e
 
@@ -134,7 +137,8 @@ line-of-x decimals line is =
     let behind_mark : List ℕ = funds_text line.funds ++ behind_funds in
     let behind_entry : List ℕ = mark_text line.mark ++ behind_mark in
     let behind_date : List ℕ = part_text line.entry ++ behind_entry in
-    subst (λ (text : List ℕ). list_all (is_in X) text ≡ true) (sym (line-nested decimals line)) (x-append (yymmdd_of line.value) behind_date (digits-of-x (yymmdd_of line.value) (date-digits line.value is.value))
+    subst (λ (text : List ℕ). list_all (is_in X) text ≡ true) (sym (line-nested decimals line))
+    (x-append (yymmdd_of line.value) behind_date (digits-of-x (yymmdd_of line.value) (date-digits line.value is.value))
     (x-append (part_text line.entry) behind_entry (entry-of-x line.entry is.entry)
     (x-append (mark_text line.mark) behind_mark (line-mark-of-x line.mark)
     (x-append (funds_text line.funds) behind_funds (funds-of-x line.funds is.funds)
@@ -148,54 +152,56 @@ letter-capital : (last : Bool) → is_ascii_uppercase (balance_letter last) ≡ 
 letter-capital true = refl
 letter-capital false = refl
 
-detail-bytes : (detail : Option (List ℕ)) → IfSome detail (λ text. IsTrue (is_run (is_in X) 34 text)) → All (λ line. has_other_byte line ≡ false) (detail_lines detail)
+detail-bytes : (detail : Option (List ℕ)) → IfSome detail (λ text. IsTrue (is_run (is_in X) 34 text))
+    → All (λ line. has_other_byte line ≡ false) (detail_lines detail)
 detail-bytes None is = λ k d lt. absurd (omega arith)
-detail-bytes (Some detail) is = All-cons (λ line. has_other_byte line ≡ false) detail [] (all-of-x detail (run-of-x 34 detail is)) (λ k d lt. absurd (omega arith))
+detail-bytes (Some detail) is =
+    All-cons (λ line. has_other_byte line ≡ false) detail [] (all-of-x detail (run-of-x 34 detail is)) (λ k d lt. absurd (omega arith))
 
-line-field-fit : (decimals : ℕ) (line : Line61) → IsWritableLine decimals line → All Continues (detail_lines line.detail) → IsField (line_field_61 decimals line)
+line-field-fit : (decimals : ℕ) (line : Line61) → IsWritableLine decimals line → All Continues (detail_lines line.detail)
+    → IsField (line_field_61 decimals line)
 line-field-fit decimals line is more = record {
   tag = omega arith;
   letter = tt;
   lines = more;
-  bytes = All-cons (λ line. has_other_byte line ≡ false) (line_text decimals line) (detail_lines line.detail) (all-of-x (line_text decimals line) (line-of-x decimals line is)) (detail-bytes line.detail is.detail);
+  bytes = All-cons (λ line. has_other_byte line ≡ false) (line_text decimals line) (detail_lines line.detail)
+      (all-of-x (line_text decimals line) (line-of-x decimals line is)) (detail-bytes line.detail is.detail);
 }
 
 module _ (t : Tables) (p : Page950) (is : IsPage t p) where
-  balance-fit : (tag : ℕ) (letter : Option ℕ) (b : Balance) → IsHeading tag letter → IsBalance p.decimals b → IsField (balance_field tag letter p.ccy p.decimals b)
+  balance-fit : (tag : ℕ) (letter : Option ℕ) (b : Balance) → IsHeading tag letter → IsBalance p.decimals b
+      → IsField (balance_field tag letter p.ccy p.decimals b)
   balance-fit tag letter b heading h =
       let form = dated-form t p.ccy p.decimals b h is.three is.capitals is.known in
-      line-fit tag letter (balance_text p.ccy p.decimals b) heading (all-of-x (balance_text p.ccy p.decimals b) (mark-of-x b.signed (yymmdd_of b.day) (ccy_amount_text (balance_amount p.ccy p.decimals b)) (dated_amount-of-x (yymmdd_of b.day ++ ccy_amount_text (balance_amount p.ccy p.decimals b)) form)))
+      line-fit tag letter (balance_text p.ccy p.decimals b) heading
+      (all-of-x (balance_text p.ccy p.decimals b)
+      (mark-of-x b.signed (yymmdd_of b.day) (ccy_amount_text (balance_amount p.ccy p.decimals b))
+      (dated_amount-of-x (yymmdd_of b.day ++ ccy_amount_text (balance_amount p.ccy p.decimals b)) form)))
 
   number-fit : IsField (number_field p.number p.page)
   number-fit =
       let text : List ℕ = decimal p.number ++ page_text p.page in
-      line-fit 28 (Some 67) text (record { two_digits = omega arith; capital = refl }) (all-of-x text (x-append (decimal p.number) (page_text p.page) (decimal-of-x p.number is.number) (page-of-x p.page is.page)))
+      line-fit 28 (Some 67) text (record { two_digits = omega arith; capital = refl })
+      (all-of-x text (x-append (decimal p.number) (page_text p.page) (decimal-of-x p.number is.number) (page-of-x p.page is.page)))
 
   -- a page whose further lines may continue a field
   page-fit : AllByRecursion (λ line. IsField (line_field_61 p.decimals line)) p.lines → All IsField (joined (segments_950 p))
   page-fit lines =
-      each-joined IsField (segments_950 p) (
-        (line-fit 20 None p.reference (record { two_digits = omega arith; capital = tt }) (all-of-x p.reference (run-of-x 16 p.reference is.reference)), tt),
-        (
-          (line-fit 25 None p.account (record { two_digits = omega arith; capital = tt }) (all-of-x p.account (run-of-x 35 p.account is.account)), tt),
-          (
-            (number-fit, tt),
-            (
-              (balance-fit 60 (Some (balance_letter p.opening.last)) p.opening (record { two_digits = omega arith; capital = letter-capital p.opening.last }) is.opening, tt),
-              (
-                all-each IsField (line_field_61 p.decimals) p.lines lines,
-                (
-                  (balance-fit 62 (Some (balance_letter p.closing.last)) p.closing (record { two_digits = omega arith; capital = letter-capital p.closing.last }) is.closing, tt),
-                  (
-                    some-each IsField (balance_field 64 None p.ccy p.decimals) p.available (some-weaker _ _ p.available is.available (λ (b : Balance) h. balance-fit 64 None b (record { two_digits = omega arith; capital = tt }) h.0)),
-                    tt,
-                  ),
-                ),
-              ),
-            ),
-          ),
-        ),
-      )
+      let plain : (tag : ℕ) → tag ≤ 99 → IsHeading tag None = λ tag le. record { two_digits = le; capital = tt } in
+      let reference = line-fit 20 None p.reference (plain 20 (omega arith)) (all-of-x p.reference (run-of-x 16 p.reference is.reference)) in
+      let account = line-fit 25 None p.account (plain 25 (omega arith)) (all-of-x p.account (run-of-x 35 p.account is.account)) in
+      let opening = balance-fit 60 (Some (balance_letter p.opening.last)) p.opening (marked 60 p.opening.last (omega arith)) is.opening in
+      let each_line = all-each IsField (line_field_61 p.decimals) p.lines lines in
+      let closing = balance-fit 62 (Some (balance_letter p.closing.last)) p.closing (marked 62 p.closing.last (omega arith)) is.closing in
+      let available =
+      some-each IsField (balance_field 64 None p.ccy p.decimals) p.available
+      (some-weaker _ _ p.available is.available (λ (b : Balance) h. balance-fit 64 None b (plain 64 (omega arith)) h.0)) in
+      each-joined IsField (segments_950 p)
+      ((reference, tt), ((account, tt), ((number-fit, tt), ((opening, tt), (each_line, ((closing, tt), (available, tt)))))))
+    where
+      -- the letter of a balance tells the last page of a day
+      marked : (tag : ℕ) (last : Bool) → tag ≤ 99 → IsHeading tag (Some (balance_letter last))
+      marked tag last le = record { two_digits = le; capital = letter-capital last }
 
 -- ---- a page that can be written, whose further lines may continue a field
 
@@ -203,20 +209,24 @@ detail-continues : (detail : Option (List ℕ)) → IfSome detail Continues → 
 detail-continues None h = λ k d lt. absurd (omega arith)
 detail-continues (Some detail) h = All-cons Continues detail [] h (λ k d lt. absurd (omega arith))
 
-lines-continued : (decimals : ℕ) (lines : List Line61) → AllByRecursion (IsWritableLine decimals) lines → AllByRecursion IsContinued lines → AllByRecursion (λ line. IsField (line_field_61 decimals line)) lines
+lines-continued : (decimals : ℕ) (lines : List Line61) → AllByRecursion (IsWritableLine decimals) lines → AllByRecursion IsContinued lines
+    → AllByRecursion (λ line. IsField (line_field_61 decimals line)) lines
 lines-continued decimals [] is on = tt
-lines-continued decimals (line ∷ lines) is on = (line-field-fit decimals line is.0 (detail-continues line.detail on.0), lines-continued decimals lines is.1 on.1)
+lines-continued decimals (line ∷ lines) is on =
+    (line-field-fit decimals line is.0 (detail-continues line.detail on.0), lines-continued decimals lines is.1 on.1)
 
 pub page-fits : (t : Tables) (p : Page950) → IsPage t p → All IsContinued p.lines → All IsField (fields_950 p)
 unfolding fields_950
-page-fits t p is on = page-fit t p is (lines-continued p.decimals p.lines (each-of (IsWritableLine p.decimals) p.lines is.lines) (each-of IsContinued p.lines on))
+page-fits t p is on =
+    page-fit t p is (lines-continued p.decimals p.lines (each-of (IsWritableLine p.decimals) p.lines is.lines) (each-of IsContinued p.lines on))
 
 -- ---- a page that was read of the fields of a text
 
 abbrev LinesFit : Page950 → Type 0
 LinesFit p = AllByRecursion (λ line. IsField (line_field_61 p.decimals line)) p.lines
 
-line-fits : (decimals : ℕ) (line : Line61) → decimals ≤ 4 → SaidAt (Stands order_950 IsField 4) (line_of decimals) line → IsField (line_field_61 decimals line)
+line-fits : (decimals : ℕ) (line : Line61) → decimals ≤ 4 → SaidAt (Stands order_950 IsField 4) (line_of decimals) line
+    → IsField (line_field_61 decimals line)
 line-fits decimals line few at =
     let read = line-read decimals at.field line few at.says in
     line-field-fit decimals line read.is (subst ContinueAll read.lines at.holds.has.lines)
@@ -227,8 +237,10 @@ lines-fit p r =
     let few : f.said.opening.decimals ≤ 4 = subst (λ (n : ℕ). n ≤ 4) (sym (ap (λ (q : Page950). q.decimals) f.same)) (few-decimals p r) in
     let here = places_from order_950 0 r.fields in
     let fit : LinesFit (page_of f.said) =
-    each-weaker (SaidAt (Stands order_950 IsField 4) (line_of f.said.opening.decimals)) (λ line. IsField (line_field_61 f.said.opening.decimals line)) f.said.lines
-    (said-all (Stands order_950 IsField) r.fields 4 (line_of f.said.opening.decimals) 0 here r.fields f.said.lines (stand order_950 IsField 0 r.fields r.fit) f.says.lines) (λ (line : Line61) at. line-fits f.said.opening.decimals line few at) in
+    each-weaker (SaidAt (Stands order_950 IsField 4) (line_of f.said.opening.decimals))
+    (λ line. IsField (line_field_61 f.said.opening.decimals line)) f.said.lines
+    (said-all (Stands order_950 IsField) r.fields 4 (line_of f.said.opening.decimals) 0 here r.fields f.said.lines
+    (stand order_950 IsField 0 r.fields r.fit) f.says.lines) (λ (line : Line61) at. line-fits f.said.opening.decimals line few at) in
     subst LinesFit f.same fit
 
 pub fit-950 : (p : Page950) → IsReadable mt950_of p → All IsField (fields_950 p)
@@ -244,7 +256,8 @@ pub again-950 : (t : Tables) (fs : List Field) (p : Page950) → IsReadable mt95
 again-950 t fs p r e = pages-read-back t p (page-is t fs p (few-decimals p r) e)
 
 -- a text that is written of these fields reads as the page
-pub text-950 : {E : Type 0} (p : Page950) (written : Result (List ℕ) E) (fields : List Field) → IsReadable mt950_of p → fields ≡ fields_950 p → IfOk written (λ text. text ≡ fields_text fields) → fields_of (fields_text fields) ≡ fields
+pub text-950 : {E : Type 0} (p : Page950) (written : Result (List ℕ) E) (fields : List Field) → IsReadable mt950_of p → fields ≡ fields_950 p
+    → IfOk written (λ text. text ≡ fields_text fields) → fields_of (fields_text fields) ≡ fields
     → IfOk written (λ text. (t : Tables) (fs : List Field) → mt950_of t fs ≡ Ok p → mt950_of t (fields_of text) ≡ Ok p)
 text-950 p (Err e) fields r same text back = tt
 text-950 p (Ok text) fields r same is back = λ t fs e. rw (is, back, same) (again-950 t fs p r e)

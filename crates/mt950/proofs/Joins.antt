@@ -34,11 +34,15 @@ stops : {F : Type 0} (b : Bool) (fault : F) (more : List (Option F)) → b ≡ f
 stops b fault more e = rw e refl
 
 module _ (first : Page950) (count : ℕ) (pages : List Page950) (at : ℕ) where
-  pub gap-more : (page : Page950) → page ≡ get_or pages at page → at < length pages → follows first count at page ≡ true → first_gap first count at (drop at pages) ≡ first_gap first count (at + 1) (drop (at + 1) pages)
-  gap-more page is lt holds = rw (drop_more pages at page lt, ← is) (goes-on (follows first count at page) (at + 1) (gap_tests first count (at + 1) (drop (at + 1) pages)) holds)
+  pub gap-more : (page : Page950) → page ≡ get_or pages at page → at < length pages → follows first count at page ≡ true
+      → first_gap first count at (drop at pages) ≡ first_gap first count (at + 1) (drop (at + 1) pages)
+  gap-more page is lt holds =
+      rw (drop_more pages at page lt, ← is) (goes-on (follows first count at page) (at + 1) (gap_tests first count (at + 1) (drop (at + 1) pages)) holds)
 
-  pub gap-here : (page : Page950) → page ≡ get_or pages at page → at < length pages → follows first count at page ≡ false → first_gap first count at (drop at pages) ≡ Some (at + 1)
-  gap-here page is lt fails = rw (drop_more pages at page lt, ← is) (stops (follows first count at page) (at + 1) (gap_tests first count (at + 1) (drop (at + 1) pages)) fails)
+  pub gap-here : (page : Page950) → page ≡ get_or pages at page → at < length pages → follows first count at page ≡ false
+      → first_gap first count at (drop at pages) ≡ Some (at + 1)
+  gap-here page is lt fails =
+      rw (drop_more pages at page lt, ← is) (stops (follows first count at page) (at + 1) (gap_tests first count (at + 1) (drop (at + 1) pages)) fails)
 
   pub gap-end : length pages ≤ at → first_gap first count at (drop at pages) ≡ None
   gap-end le = rw (drop_all at pages le) refl
@@ -47,18 +51,23 @@ module _ (closing : ℤ) (pages : List Page950) (at : ℕ) where
   pub carried-more : (page : Page950) → page ≡ get_or pages at page → at < length pages → int_eq page.opening.signed closing ≡ true
       → first_of (carried_tests (at + 1) closing (drop at pages)) ≡ first_of (carried_tests (at + 1 + 1) page.closing.signed (drop (at + 1) pages))
   carried-more page is lt holds =
-      rw (drop_more pages at page lt, ← is) (goes-on (int_eq page.opening.signed closing) (NotCarried (at + 1) closing page.opening.signed) (carried_tests (at + 1 + 1) page.closing.signed (drop (at + 1) pages)) holds)
+      rw (drop_more pages at page lt, ← is)
+      (goes-on (int_eq page.opening.signed closing) (NotCarried (at + 1) closing page.opening.signed)
+      (carried_tests (at + 1 + 1) page.closing.signed (drop (at + 1) pages)) holds)
 
   pub carried-here : (page : Page950) → page ≡ get_or pages at page → at < length pages → int_eq page.opening.signed closing ≡ false
       → first_of (carried_tests (at + 1) closing (drop at pages)) ≡ Some (NotCarried (at + 1) closing page.opening.signed)
   carried-here page is lt fails =
-      rw (drop_more pages at page lt, ← is) (stops (int_eq page.opening.signed closing) (NotCarried (at + 1) closing page.opening.signed) (carried_tests (at + 1 + 1) page.closing.signed (drop (at + 1) pages)) fails)
+      rw (drop_more pages at page lt, ← is)
+      (stops (int_eq page.opening.signed closing) (NotCarried (at + 1) closing page.opening.signed)
+      (carried_tests (at + 1 + 1) page.closing.signed (drop (at + 1) pages)) fails)
 
   pub carried-end : length pages ≤ at → first_of (carried_tests (at + 1) closing (drop at pages)) ≡ None
   carried-end le = rw (drop_all at pages le) refl
 
 -- one line more
-pub effects-more : (lines : List Line61) (i : ℕ) (line : Line61) → line ≡ get_or lines i line → i < length lines → effects_of (drop i lines) ≡ effect_of line +ℤ effects_of (drop (i + 1) lines)
+pub effects-more : (lines : List Line61) (i : ℕ) (line : Line61) → line ≡ get_or lines i line → i < length lines
+    → effects_of (drop i lines) ≡ effect_of line +ℤ effects_of (drop (i + 1) lines)
 effects-more lines i line is lt = rw (drop_more lines i line lt, ← is) refl
 
 pub effects-end : (lines : List Line61) (i : ℕ) → length lines ≤ i → effects_of (drop i lines) ≡ pos 0
@@ -99,7 +108,15 @@ last-is first (p ∷ q ∷ pages) x some is =
 
 module _ (first : Page950) (pages : List Page950) where
   abbrev statement_of : List Line61 → Page950 → Statement
-  statement_of lines last = record { account = first.account; ccy = first.ccy; decimals = first.decimals; opening = first.opening.signed; lines = lines; closing = last.closing.signed; day = last.closing.day }
+  statement_of lines last = record {
+    account = first.account;
+    ccy = first.ccy;
+    decimals = first.decimals;
+    opening = first.opening.signed;
+    lines = lines;
+    closing = last.closing.signed;
+    day = last.closing.day;
+  }
 
   -- what is told behind the gaps
   abbrev behind_gaps : Result Statement PageFault
@@ -129,25 +146,34 @@ module _ (first : Page950) (pages : List Page950) where
     pub carried-told : (fault : PageFault) → balances ≡ Err fault → Refuses told (joined_with first pages) fault
     carried-told fault e = told-refuses (joined_with first pages) fault (no-gap ∙ stops-at balances behind_balances fault e)
 
-    module _ (v : Unit {0}) (carried : balances ≡ Ok v) (lines : List Line61) (all : lines ≡ lines_of_pages pages) (last : Page950) (is : last_of first pages ≡ last) where
+    module _ (v : Unit {0}) (carried : balances ≡ Ok v) (lines : List Line61) (all : lines ≡ lines_of_pages pages) (last : Page950)
+        (is : last_of first pages ≡ last) where
       to-sum : joined_with first pages ≡ (sum_test first.opening.signed lines last.closing.signed >>= λ _. Ok (statement_of lines last))
       to-sum = no-gap ∙ (goes-past balances behind_balances v carried ∙ rw (is, ← all) refl)
 
-      pub sum-told : (fault : PageFault) → sum_test first.opening.signed lines last.closing.signed ≡ Err fault → Refuses told (joined_with first pages) fault
-      sum-told fault e = told-refuses (joined_with first pages) fault (to-sum ∙ stops-at (sum_test first.opening.signed lines last.closing.signed) (Ok (statement_of lines last)) fault e)
+      pub sum-told : (fault : PageFault) → sum_test first.opening.signed lines last.closing.signed ≡ Err fault
+          → Refuses told (joined_with first pages) fault
+      sum-told fault e =
+          told-refuses (joined_with first pages) fault
+          (to-sum ∙ stops-at (sum_test first.opening.signed lines last.closing.signed) (Ok (statement_of lines last)) fault e)
 
-      pub joined-so : (w : Unit {0}) → sum_test first.opening.signed lines last.closing.signed ≡ Ok w → joined_with first pages ≡ Ok (statement_of lines last)
+      pub joined-so : (w : Unit {0}) → sum_test first.opening.signed lines last.closing.signed ≡ Ok w
+          → joined_with first pages ≡ Ok (statement_of lines last)
       joined-so w e = to-sum ∙ goes-past (sum_test first.opening.signed lines last.closing.signed) (Ok (statement_of lines last)) w e
 
 -- ---- the lines of pages that were read are small
 
 page-small : (p : Page950) → IsReadable mt950_of p → All IsSmallLine p.lines
-page-small p r = all-of IsSmallLine p.lines (each-weaker (IsWritableLine p.decimals) IsSmallLine p.lines (each-of (IsWritableLine p.decimals) p.lines (readable-is p r).lines) (λ (line : Line61) is. is.small))
+page-small p r =
+    all-of IsSmallLine p.lines
+    (each-weaker (IsWritableLine p.decimals) IsSmallLine p.lines (each-of (IsWritableLine p.decimals) p.lines (readable-is p r).lines)
+    (λ (line : Line61) is. is.small))
 
 pub pages-small : (pages : List Page950) → All (IsReadable mt950_of) pages → All IsSmallLine (lines_of_pages pages)
 pages-small [] given = λ k d lt. absurd (omega arith)
 pages-small (p ∷ pages) given =
-    All-append IsSmallLine p.lines (lines_of_pages pages) (page-small p (All-head (IsReadable mt950_of) p pages given)) (pages-small pages (All-tail (IsReadable mt950_of) p pages given))
+    All-append IsSmallLine p.lines (lines_of_pages pages) (page-small p (All-head (IsReadable mt950_of) p pages given))
+    (pages-small pages (All-tail (IsReadable mt950_of) p pages given))
 
 pub ruleset small_pages = (arith, pages-small)
 
@@ -159,7 +185,8 @@ got s = Ok s
 got-is : (x y : Statement) → got x ≡ got y → x ≡ y
 got-is x y e = cc e
 
-last-readable : (page : Page950) (pages : List Page950) → IsReadable mt950_of page → AllByRecursion (IsReadable mt950_of) pages → IsReadable mt950_of (last_of page pages)
+last-readable : (page : Page950) (pages : List Page950) → IsReadable mt950_of page → AllByRecursion (IsReadable mt950_of) pages
+    → IsReadable mt950_of (last_of page pages)
 last-readable page [] is given = is
 last-readable page (next ∷ pages) is given = last-readable next pages given.0 given.1
 
@@ -173,10 +200,15 @@ module _ (first : Page950) (pages : List Page950) where
       let closing = (last_of first pages).closing.signed in
       let past_gaps = read-then (gaps first pages) (λ _. behind_gaps first pages) s e in
       let past_balances = read-then (balances first pages) (λ _. behind_balances first pages) s past_gaps.2 in
-      let added = checked (int_eq (first.opening.signed +ℤ effects_of lines) closing) (DoesNotAdd first.opening.signed (held (effects_of lines)) closing) (Ok (statement_of first pages lines (last_of first pages))) s past_balances.2 in
-      (got-is (statement_of first pages lines (last_of first pages)) s added.1, (Decides-int_eq (first.opening.signed +ℤ effects_of lines) closing).0 added.0)
+      let added =
+      checked (int_eq (first.opening.signed +ℤ effects_of lines) closing) (DoesNotAdd first.opening.signed (held (effects_of lines)) closing)
+      (Ok (statement_of first pages lines (last_of first pages))) s past_balances.2 in (
+        got-is (statement_of first pages lines (last_of first pages)) s added.1,
+        (Decides-int_eq (first.opening.signed +ℤ effects_of lines) closing).0 added.0,
+      )
 
-pub joined-sound : (pages : List Page950) (first : Page950) (r : Result Statement PageFault) → All (IsReadable mt950_of) pages → 1 ≤ length pages → first ≡ get_or pages 0 first → Joins r (joined_with first pages) → IfOk r IsAddable
+pub joined-sound : (pages : List Page950) (first : Page950) (r : Result Statement PageFault) → All (IsReadable mt950_of) pages → 1 ≤ length pages
+    → first ≡ get_or pages 0 first → Joins r (joined_with first pages) → IfOk r IsAddable
 joined-sound pages first (Err e) given some is joins = tt
 joined-sound [] first (Ok s) given some is joins = absurd (omega (arith, some))
 joined-sound (p ∷ pages) first (Ok s) given some same joins =

@@ -15,7 +15,7 @@ use Rattle.fin_contents.specs.Money.{coded, minor_in}
 use Rattle.fin_contents.proofs.laws.Again.{coded-ok, small-amount}
 use Rattle.fin_contents.proofs.laws.Steps.{read-then, there}
 use Rattle.mt950.specs.Entry.{line_of}
-use Rattle.mt950.specs.Parts.{LineParts, detail_in, parts_in}
+use Rattle.mt950.specs.Parts.{LineParts, detail_in, line_parts}
 use Rattle.mt950.specs.Writing.{IsWritableLine, detail_lines, funds_text, line_field_61, line_text, mark_text, part_text, servicer_text}
 use Rattle.mt950.specs.declared.entry.Line61.{Line61}
 use Rattle.mt950.proofs.Amount.{amount-text}
@@ -39,8 +39,15 @@ parts_of decimals line = record {
 }
 
 -- each part in front of those behind it
-pub line-nested : (decimals : ℕ) (line : Line61) → line_text decimals line ≡ yymmdd_of line.value ++ (part_text line.entry ++ (mark_text line.mark ++ (funds_text line.funds ++ (amount_text decimals line.amount.0 ++ (line.kind ++ (line.reference ++ servicer_text line.servicer))))))
-line-nested decimals line = nested (yymmdd_of line.value) (part_text line.entry) (mark_text line.mark) (funds_text line.funds) (amount_text decimals line.amount.0) line.kind line.reference (servicer_text line.servicer)
+pub line-nested : (decimals : ℕ) (line : Line61)
+    → line_text decimals line
+    ≡ yymmdd_of line.value
+    ++ (part_text line.entry
+    ++ (mark_text line.mark
+    ++ (funds_text line.funds ++ (amount_text decimals line.amount.0 ++ (line.kind ++ (line.reference ++ servicer_text line.servicer))))))
+line-nested decimals line =
+    nested (yymmdd_of line.value) (part_text line.entry) (mark_text line.mark) (funds_text line.funds)
+    (amount_text decimals line.amount.0) line.kind line.reference (servicer_text line.servicer)
   where
     nested : (a b c d e f g h : List ℕ) → a ++ b ++ c ++ d ++ e ++ f ++ g ++ h ≡ a ++ (b ++ (c ++ (d ++ (e ++ (f ++ (g ++ h))))))
     nested a b c d e f g h = simp append_assoc
@@ -48,7 +55,7 @@ line-nested decimals line = nested (yymmdd_of line.value) (part_text line.entry)
 nonempty : (text rest : List ℕ) (first : ℕ) → text ≡ first ∷ rest → 0 < length text
 nonempty text rest first e = rw e (omega arith)
 
-parts-again : (decimals : ℕ) (line : Line61) → IsWritableLine decimals line → parts_in (line_text decimals line) ≡ Some (parts_of decimals line)
+parts-again : (decimals : ℕ) (line : Line61) → IsWritableLine decimals line → line_parts (line_text decimals line) ≡ Some (parts_of decimals line)
 parts-again decimals line is =
     let text : List ℕ = amount_text decimals line.amount.0 in
     let amount = amount-text decimals line.amount.0 is.few is.small in
@@ -75,7 +82,8 @@ parts-again decimals line is =
       references = references-again line.reference line.servicer is.reference is.ended is.servicer;
     }))
 
-detail-again : (first : List ℕ) (detail : Option (List ℕ)) → IfSome detail (λ text. IsTrue (is_run (is_in X) 34 text)) → detail_in (first ∷ detail_lines detail) ≡ Some (first, detail)
+detail-again : (first : List ℕ) (detail : Option (List ℕ)) → IfSome detail (λ text. IsTrue (is_run (is_in X) 34 text))
+    → detail_in (first ∷ detail_lines detail) ≡ Some (first, detail)
 detail-again first None is = refl
 detail-again first (Some detail) is = rw is refl
 
@@ -83,7 +91,8 @@ detail-again first (Some detail) is = rw is refl
 pub line-again : (decimals : ℕ) (line : Line61) → IsWritableLine decimals line → line_of decimals (line_field_61 decimals line) ≡ Ok line
 unfolding line_of
 line-again decimals line is =
-    let minor : minor_in decimals (amount_text decimals line.amount.0) ≡ Ok line.amount = ap coded (reads_written decimals line.amount.0 is.few is.small) in
+    let minor : minor_in decimals (amount_text decimals line.amount.0) ≡ Ok line.amount =
+    ap coded (reads_written decimals line.amount.0 is.few is.small) in
     rw (detail-again (line_text decimals line) line.detail is.detail, parts-again decimals line is, day-again line.value is.value, minor) refl
 
 -- ---- what is read
@@ -94,7 +103,8 @@ pub record LineRead (decimals : ℕ) (f : Field) (line : Line61) : Type 0 where
   pub first : List ℕ
   pub lines : f.lines ≡ first ∷ detail_lines line.detail
 
-detail-read : (lines : List (List ℕ)) (first : List ℕ) (detail : Option (List ℕ)) → detail_in lines ≡ Some (first, detail) → (lines ≡ first ∷ detail_lines detail) × IfSome detail (λ text. IsTrue (is_run (is_in X) 34 text))
+detail-read : (lines : List (List ℕ)) (first : List ℕ) (detail : Option (List ℕ)) → detail_in lines ≡ Some (first, detail)
+    → (lines ≡ first ∷ detail_lines detail) × IfSome detail (λ text. IsTrue (is_run (is_in X) 34 text))
 detail-read [] first detail e = absurd (cc e)
 detail-read (l ∷ []) first detail e =
     let pair : (l, None) ≡ (first, detail) = cc e in
@@ -102,24 +112,39 @@ detail-read (l ∷ []) first detail e =
 detail-read (l ∷ m ∷ []) first detail e =
     let s = some-if (is_run (is_in X) 34 m) (Some (l, Some m)) (first, detail) e in
     let pair : (l, Some m) ≡ (first, detail) = cc s.1 in
-    subst (λ (x : List ℕ × Option (List ℕ)). (l ∷ m ∷ [] ≡ x.0 ∷ detail_lines x.1) × IfSome x.1 (λ text. IsTrue (is_run (is_in X) 34 text))) pair (refl, s.0)
+    subst (λ (x : List ℕ × Option (List ℕ)). (l ∷ m ∷ [] ≡ x.0 ∷ detail_lines x.1) × IfSome x.1 (λ text. IsTrue (is_run (is_in X) 34 text))) pair
+    (refl, s.0)
 detail-read (l ∷ m ∷ n ∷ more) first detail e = absurd (cc e)
 
 pub line-read : (decimals : ℕ) (f : Field) (line : Line61) → decimals ≤ 4 → line_of decimals f ≡ Ok line → LineRead decimals f line
 unfolding line_of
 line-read decimals f line few e =
     let lines = there (detail_in f.lines) _ _ line e in
-    let parts = there (parts_in lines.0.0) _ _ line lines.2 in
+    let parts = there (line_parts lines.0.0) _ _ line lines.2 in
     let value = there (day_of parts.0.date) _ _ line parts.2 in
     let amount = read-then (minor_in decimals parts.0.amount) _ line value.2 in
-    let same : record { value = value.0; entry = parts.0.entry; mark = parts.0.mark; funds = parts.0.funds; amount = amount.0; kind = parts.0.kind; reference = parts.0.reference; servicer = parts.0.servicer; detail = lines.0.1 } ≡ line = cc amount.2 in
+    let same : record {
+      value = value.0;
+      entry = parts.0.entry;
+      mark = parts.0.mark;
+      funds = parts.0.funds;
+      amount = amount.0;
+      kind = parts.0.kind;
+      reference = parts.0.reference;
+      servicer = parts.0.servicer;
+      detail = lines.0.1;
+    } ≡ line =
+    cc amount.2 in
     let detail = detail-read f.lines lines.0.0 lines.0.1 lines.1 in
     let cut = parts-cut lines.0.0 parts.0 parts.1 in
     let kind = kind-read cut.behind_amount parts.0.kind cut.behind_kind cut.kind in
     let references = references-read cut.behind_kind parts.0.reference parts.0.servicer cut.references in
     let small = (small-amount decimals parts.0.amount amount.0 (coded-ok _ amount.0 amount.1)).1 in
-    let entry : IfSome parts.0.entry (λ entry. (length entry ≡ 4) × IsTrue (list_all (is_in N) entry)) = subst (λ (x : Option (List ℕ) × List ℕ). IfSome x.0 (λ entry. (length entry ≡ 4) × IsTrue (list_all (is_in N) entry))) cut.entry (entry-read cut.behind_date) in
-    let funds : IfSome parts.0.funds (λ letter. is_ascii_uppercase letter ≡ true) = subst (λ (x : Option ℕ × List ℕ). IfSome x.0 (λ letter. is_ascii_uppercase letter ≡ true)) cut.funds (funds-read cut.behind_mark) in
+    let entry : IfSome parts.0.entry (λ entry. (length entry ≡ 4) × IsTrue (list_all (is_in N) entry)) =
+    subst (λ (x : Option (List ℕ) × List ℕ). IfSome x.0 (λ entry. (length entry ≡ 4) × IsTrue (list_all (is_in N) entry))) cut.entry
+    (entry-read cut.behind_date) in
+    let funds : IfSome parts.0.funds (λ letter. is_ascii_uppercase letter ≡ true) =
+    subst (λ (x : Option ℕ × List ℕ). IfSome x.0 (λ letter. is_ascii_uppercase letter ≡ true)) cut.funds (funds-read cut.behind_mark) in
     rw (← same) (record {
       is = record {
         value = (day-named parts.0.date value.0 value.1).0;

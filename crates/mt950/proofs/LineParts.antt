@@ -9,7 +9,7 @@ use Rattle.std.proofs.lemmas.List.{append-nil, drop_at, length-append, length-ta
 use Rattle.corr_text.specs.Sets.{is_in}
 use Rattle.corr_text.specs.declared.set.Set.TheVariants.{X, N, C as capital_or_digit}
 use Rattle.fin_fields.specs.Patterns.{is_run}
-use Rattle.mt950.specs.Parts.{LineParts, amount_part, are_references, date_in, double_slash_in, entry_date_part, funds_in, is_entry_type, kind_in, mark_in, parts_in, references_in, split_references}
+use Rattle.mt950.specs.Parts.{LineParts, amount_part, are_references, date_in, double_slash_in, entry_date_part, funds_in, is_entry_type, kind_in, mark_in, line_parts, references_in, split_references}
 use Rattle.mt950.specs.Writing.{IsEnded, funds_text, mark_text, part_text, servicer_text}
 use Rattle.mt950.specs.declared.entry.Mark.{Mark}
 use Rattle.mt950.specs.declared.entry.Mark.TheVariants.{C, D, RC, RD}
@@ -44,7 +44,9 @@ entry-none D rest = letter-first 68 rest refl
 entry-none RC rest = letter-first 82 (67 ∷ rest) refl
 entry-none RD rest = letter-first 82 (68 ∷ rest) refl
 
-pub entry-again : (entry : Option (List ℕ)) (mark : Mark) (rest : List ℕ) → IfSome entry (λ entry. (length entry ≡ 4) × IsTrue (list_all (is_in N) entry)) → entry_date_part (part_text entry ++ (mark_text mark ++ rest)) ≡ (entry, mark_text mark ++ rest)
+pub entry-again : (entry : Option (List ℕ)) (mark : Mark) (rest : List ℕ)
+    → IfSome entry (λ entry. (length entry ≡ 4) × IsTrue (list_all (is_in N) entry))
+    → entry_date_part (part_text entry ++ (mark_text mark ++ rest)) ≡ (entry, mark_text mark ++ rest)
 entry-again None mark rest is = entry-none mark rest
 entry-again (Some entry) mark rest is = entry-some entry (mark_text mark ++ rest) is.0 is.1
 
@@ -59,11 +61,13 @@ digit-first b rest digit =
     let other : is_ascii_uppercase b ≡ false = grind (arith, nat_tests) in
     rw other refl
 
-pub funds-again : (funds : Option ℕ) (b : ℕ) (rest : List ℕ) → IfSome funds (λ letter. is_ascii_uppercase letter ≡ true) → is_ascii_digit b ≡ true → funds_in (funds_text funds ++ b ∷ rest) ≡ (funds, b ∷ rest)
+pub funds-again : (funds : Option ℕ) (b : ℕ) (rest : List ℕ) → IfSome funds (λ letter. is_ascii_uppercase letter ≡ true) → is_ascii_digit b ≡ true
+    → funds_in (funds_text funds ++ b ∷ rest) ≡ (funds, b ∷ rest)
 funds-again None b rest up digit = digit-first b rest digit
 funds-again (Some letter) b rest up digit = rw up refl
 
-pub amount-again : (text rest : List ℕ) (b : ℕ) → Fail ends_amount text → 0 < length text → ends_amount b ≡ true → amount_part (text ++ b ∷ rest) ≡ Some (text, b ∷ rest)
+pub amount-again : (text rest : List ℕ) (b : ℕ) → Fail ends_amount text → 0 < length text → ends_amount b ≡ true
+    → amount_part (text ++ b ∷ rest) ≡ Some (text, b ∷ rest)
 amount-again text rest b goes some ends =
     let at : position ends_amount (text ++ b ∷ rest) ≡ Some (length text) = position-behind ends_amount text b rest goes ends in
     let front : take (length text) (text ++ b ∷ rest) ≡ text = take_at text (b ∷ rest) (length text) refl in
@@ -90,7 +94,8 @@ kind-again kind rest four is =
 abbrev Split : Type 0
 Split = List ℕ × Option (List ℕ)
 
-references-by : (rest : List ℕ) (split : Split) → split_references rest (double_slash_in rest) ≡ split → are_references split ≡ true → references_in rest ≡ Some split
+references-by : (rest : List ℕ) (split : Split) → split_references rest (double_slash_in rest) ≡ split → are_references split ≡ true
+    → references_in rest ≡ Some split
 references-by rest split e is = rw (e, is) refl
 
 after-two : (reference text : List ℕ) → drop (length reference + 2) (reference ++ 47 ∷ 47 ∷ text) ≡ text
@@ -99,7 +104,8 @@ after-two (b ∷ bs) text =
     let more : length (b ∷ bs) + 2 ≡ suc (length bs + 2) = omega arith in
     rw more (after-two bs text)
 
-pub references-again : (reference : List ℕ) (servicer : Option (List ℕ)) → IsTrue (is_run (is_in X) 16 reference) → IsEnded reference servicer → IfSome servicer (λ text. IsTrue (is_run (is_in X) 16 text)) → references_in (reference ++ servicer_text servicer) ≡ Some (reference, servicer)
+pub references-again : (reference : List ℕ) (servicer : Option (List ℕ)) → IsTrue (is_run (is_in X) 16 reference) → IsEnded reference servicer
+    → IfSome servicer (λ text. IsTrue (is_run (is_in X) 16 text)) → references_in (reference ++ servicer_text servicer) ≡ Some (reference, servicer)
 references-again reference None run ended is =
     let all : reference ++ [] ≡ reference = append-nil reference in
     let form : are_references (reference, None) ≡ true = rw run refl in
@@ -128,19 +134,29 @@ pub record Cut (line : List ℕ) (p : LineParts) : Type 0 where
   pub kind : kind_in behind_amount ≡ Some (p.kind, behind_kind)
   pub references : references_in behind_kind ≡ Some (p.reference, p.servicer)
 
-pub cut-parts : (line : List ℕ) (p : LineParts) → Cut line p → parts_in line ≡ Some p
-unfolding parts_in
+pub cut-parts : (line : List ℕ) (p : LineParts) → Cut line p → line_parts line ≡ Some p
+unfolding line_parts
 cut-parts line p c = rw (c.date, c.entry, c.mark, c.funds, c.amount, c.kind, c.references) refl
 
-pub parts-cut : (line : List ℕ) (p : LineParts) → parts_in line ≡ Some p → Cut line p
-unfolding parts_in
+pub parts-cut : (line : List ℕ) (p : LineParts) → line_parts line ≡ Some p → Cut line p
+unfolding line_parts
 parts-cut line p e =
     let date = and-then (date_in line) _ p e in
     let mark = and-then (mark_in (entry_date_part date.0.1).1) _ p date.2 in
     let amount = and-then (amount_part (funds_in mark.0.1).1) _ p mark.2 in
     let kind = and-then (kind_in amount.0.1) _ p amount.2 in
     let references = and-then (references_in kind.0.1) _ p kind.2 in
-    let same : record { date = date.0.0; entry = (entry_date_part date.0.1).0; mark = mark.0.0; funds = (funds_in mark.0.1).0; amount = amount.0.0; kind = kind.0.0; reference = references.0.0; servicer = references.0.1 } ≡ p = cc references.2 in
+    let same : record {
+      date = date.0.0;
+      entry = (entry_date_part date.0.1).0;
+      mark = mark.0.0;
+      funds = (funds_in mark.0.1).0;
+      amount = amount.0.0;
+      kind = kind.0.0;
+      reference = references.0.0;
+      servicer = references.0.1;
+    } ≡ p =
+    cc references.2 in
     rw (← same) (record {
       behind_date = date.0.1;
       behind_entry = (entry_date_part date.0.1).1;
@@ -160,7 +176,8 @@ parts-cut line p e =
 -- ---- what was read
 
 entry-by : (b : Bool) (rest : List ℕ) → (nat_le 4 (length rest) && list_all (is_in N) (take 4 rest)) ≡ b
-    → IfSome (cond {A = Option (List ℕ) × List ℕ} b (Some (take 4 rest), drop 4 rest) (None, rest)).0 (λ entry. (length entry ≡ 4) × IsTrue (list_all (is_in N) entry))
+    → IfSome (cond {A = Option (List ℕ) × List ℕ} b (Some (take 4 rest), drop 4 rest) (None, rest)).0
+    (λ entry. (length entry ≡ 4) × IsTrue (list_all (is_in N) entry))
 entry-by false rest e = tt
 entry-by true rest e =
     let p = both (nat_le 4 (length rest)) (list_all (is_in N) (take 4 rest)) e in
@@ -170,7 +187,8 @@ entry-by true rest e =
 pub entry-read : (rest : List ℕ) → IfSome (entry_date_part rest).0 (λ entry. (length entry ≡ 4) × IsTrue (list_all (is_in N) entry))
 entry-read rest = entry-by (nat_le 4 (length rest) && list_all (is_in N) (take 4 rest)) rest refl
 
-funds-by : (b : Bool) (letter : ℕ) (rest : List ℕ) → is_ascii_uppercase letter ≡ b → IfSome (cond {A = Option ℕ × List ℕ} b (Some letter, rest) (None, letter ∷ rest)).0 (λ letter. is_ascii_uppercase letter ≡ true)
+funds-by : (b : Bool) (letter : ℕ) (rest : List ℕ) → is_ascii_uppercase letter ≡ b
+    → IfSome (cond {A = Option ℕ × List ℕ} b (Some letter, rest) (None, letter ∷ rest)).0 (λ letter. is_ascii_uppercase letter ≡ true)
 funds-by true letter rest e = e
 funds-by false letter rest e = tt
 
@@ -193,13 +211,15 @@ pub record AreReferences (reference : List ℕ) (servicer : Option (List ℕ)) :
   pub ended : IsEnded reference servicer
   pub behind : IfSome servicer (λ text. IsTrue (is_run (is_in X) 16 text))
 
-split-read : (rest : List ℕ) (o : Option ℕ) → double_slash_in rest ≡ o → are_references (split_references rest o) ≡ true → AreReferences (split_references rest o).0 (split_references rest o).1
+split-read : (rest : List ℕ) (o : Option ℕ) → double_slash_in rest ≡ o → are_references (split_references rest o) ≡ true
+    → AreReferences (split_references rest o).0 (split_references rest o).1
 split-read rest None at e = record { run = (both (is_run (is_in X) 16 rest) true e).0; ended = at; behind = tt }
 split-read rest (Some n) at e =
     let p = both (is_run (is_in X) 16 (take n rest)) (is_run (is_in X) 16 (drop (n + 2) rest)) e in
     record { run = p.0; ended = ended-there rest n at; behind = p.1 }
 
-pub references-read : (rest reference : List ℕ) (servicer : Option (List ℕ)) → references_in rest ≡ Some (reference, servicer) → AreReferences reference servicer
+pub references-read : (rest reference : List ℕ) (servicer : Option (List ℕ)) → references_in rest ≡ Some (reference, servicer)
+    → AreReferences reference servicer
 references-read rest reference servicer e =
     let split : Split = split_references rest (double_slash_in rest) in
     let s = some-if (are_references split) (Some split) (reference, servicer) e in

@@ -21,7 +21,8 @@ use Rattle.mt950.proofs.Refused.{refused}
 abbrev ruled : Said → Result Page950 Fault
 ruled said = passed (currency_rules said) >>= λ _. Ok (page_of said)
 
-stopped : {A : Type 0} (os : List (Option Fault)) (fault : Fault) (next : Result A Fault) → first_of os ≡ Some fault → (passed os >>= λ _. next) ≡ Err fault
+stopped : {A : Type 0} (os : List (Option Fault)) (fault : Fault) (next : Result A Fault) → first_of os ≡ Some fault
+    → (passed os >>= λ _. next) ≡ Err fault
 stopped os fault next e = rw e refl
 
 gone-on : {A : Type 0} (os : List (Option Fault)) (next : Result A Fault) → first_of os ≡ None → (passed os >>= λ _. next) ≡ next
@@ -40,7 +41,9 @@ module _ (t : Tables) (fs : List Field) where
 
   as-said : first_of (structure_tests order_950 fs) ≡ None → mt950_of t fs ≡ (said >>= ruled)
   unfolding mt950_of
-  as-said sound = in-turn order_950 (content_test t (entry_decimals t fs there)) fs (said >>= ruled) sound (λ fault lies. fails-before said ruled fault (refused t fs there fault lies))
+  as-said sound =
+      in-turn order_950 (content_test t (entry_decimals t fs there)) fs (said >>= ruled) sound
+      (λ fault lies. fails-before said ruled fault (refused t fs there fault lies))
 
   module _ (found : List ℕ) (sound : first_of (structure_tests order_950 fs) ≡ None) (same : found ≡ places_from order_950 0 fs) where
     pub said-fails : (e : MtFault) → Fails e (said_of t fs found) → Fails e (mt950_of t fs)

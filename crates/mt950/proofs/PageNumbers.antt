@@ -80,19 +80,22 @@ few-again n small =
 alone-again : (n : ℕ) → n < 100000 → numbers_in (decimal n) ≡ Some (record { number = n; page = None })
 unfolding numbers_in
 alone-again n small =
-    let none : position is_slash (decimal n) ≡ None = position-none is_slash (decimal n) (all-of (λ b. is_slash b ≡ false) (decimal n) (decimal-other n small)) in
+    let none : position is_slash (decimal n) ≡ None =
+    position-none is_slash (decimal n) (all-of (λ b. is_slash b ≡ false) (decimal n) (decimal-other n small)) in
     rw (none, few-again n small) refl
 
 paged-again : (n k : ℕ) → n < 100000 → k < 100000 → numbers_in (decimal n ++ 47 ∷ decimal k) ≡ Some (record { number = n; page = Some k })
 unfolding numbers_in
 paged-again n k small few =
     let other = decimal-other n small in
-    let at : position is_slash (decimal n ++ 47 ∷ decimal k) ≡ Some (length (decimal n)) = position-behind is_slash (decimal n) 47 (decimal k) other refl in
+    let at : position is_slash (decimal n ++ 47 ∷ decimal k) ≡ Some (length (decimal n)) =
+    position-behind is_slash (decimal n) 47 (decimal k) other refl in
     let front : before_first is_slash (decimal n ++ 47 ∷ decimal k) ≡ decimal n = before-it is_slash (decimal n) 47 (decimal k) other refl in
     let back : after_first is_slash (decimal n ++ 47 ∷ decimal k) ≡ decimal k = behind-it is_slash (decimal n) 47 (decimal k) other refl in
     rw (at, front, back, few-again n small, few-again k few) refl
 
-pub numbers-again : (n : ℕ) (page : Option ℕ) → n < 100000 → IfSome page (λ k. k < 100000) → numbers_of (number_field n page) ≡ Ok (record { number = n; page = page })
+pub numbers-again : (n : ℕ) (page : Option ℕ) → n < 100000 → IfSome page (λ k. k < 100000)
+    → numbers_of (number_field n page) ≡ Ok (record { number = n; page = page })
 unfolding numbers_of
 numbers-again n None small few = rw (append-nil (decimal n), alone-again n small) refl
 numbers-again n (Some k) small few = rw (paged-again n k small few) refl
@@ -127,7 +130,8 @@ paged-few bs page x e =
     let k = mapped (paged n.0) (few_digits_of page) x n.2 in
     rw (← k.2) (record { number = few-bound bs n.0 n.1; page = few-bound page k.0 k.1 })
 
-either : (b : Bool) (o p : Option Numbers) (x : Numbers) → ((y : Numbers) → o ≡ Some y → AreFew y) → ((y : Numbers) → p ≡ Some y → AreFew y) → cond b o p ≡ Some x → AreFew x
+either : (b : Bool) (o p : Option Numbers) (x : Numbers) → ((y : Numbers) → o ≡ Some y → AreFew y) → ((y : Numbers) → p ≡ Some y → AreFew y)
+    → cond b o p ≡ Some x → AreFew x
 either true o p x h k e = h x e
 either false o p x h k e = k x e
 

@@ -19,7 +19,7 @@ use Rattle.fin_contents.specs.Plain.{one_line, reference_of, short_line_of}
 use Rattle.fin_contents.specs.Writing.{IsReadable}
 use Rattle.fin_contents.proofs.laws.Back.{each-weaker, some-weaker}
 use Rattle.fin_contents.proofs.laws.Placed.{all-of}
-use Rattle.fin_contents.proofs.laws.Said.{Holds, Said as SaidAt, Stands, said-all, said-one, said-option, stand}
+use Rattle.fin_contents.proofs.laws.Said.{HoldsInPlaces, Said as SaidAt, Stands, said-all, said-one, said-option, stand}
 use Rattle.fin_contents.proofs.laws.Steps.{checked, read-then, there}
 use Rattle.mt950.specs.Balances.{is_last, stated_of}
 use Rattle.mt950.specs.Entry.{line_of}
@@ -42,7 +42,7 @@ use Rattle.mt950.proofs.Says.{Says, said-says}
 abbrev Any : Field → Type 0
 Any f = Unit {0}
 
-stand-any : (fs : List Field) → Holds (Stands order_950 Any) (places_from order_950 0 fs) fs
+stand-any : (fs : List Field) → HoldsInPlaces (Stands order_950 Any) (places_from order_950 0 fs) fs
 stand-any fs = stand order_950 Any 0 fs (λ k d lt. tt)
 
 -- ---- what the fields of a page that was read say
@@ -61,7 +61,12 @@ found t fs p e =
     let said = read-then (said_of t fs (places_from order_950 0 fs)) _ p tests.2 in
     let rules = read-then (passed (currency_rules said.0)) _ p said.2 in
     let same : page_of said.0 ≡ p = cc rules.2 in
-    record { said = said.0; says = said-says t fs (places_from order_950 0 fs) said.0 said.1; rules = passed-none (currency_rules said.0) rules.0 rules.1; same = same }
+    record {
+      said = said.0;
+      says = said-says t fs (places_from order_950 0 fs) said.0 said.1;
+      rules = passed-none (currency_rules said.0) rules.0 rules.1;
+      same = same;
+    }
 
 pub passes-950 : (t : Tables) (fs : List Field) (p : Page950) → mt950_of t fs ≡ Ok p → first_of (tests_950 t fs) ≡ None
 unfolding mt950_of
@@ -124,12 +129,15 @@ module _ (t : Tables) (fs : List Field) (s : Said) (says : Says t fs (places_fro
 
   available-read : (x : Stated) → SaidAt (At 6) (stated_of t) x → IsBalance s.opening.decimals x.balance × (x.balance.last ≡ false)
   available-read x at =
-      let read = stated-read t at.field x at.says in
-      (record { day = read.day; small = read.small; few = few }, read.last_is ∙ fits-letter (row_64.tag == at.field.tag) at.field.letter (at.holds.fitting row_64))
+      let read = stated-read t at.field x at.says in (
+        record { day = read.day; small = read.small; few = few },
+        read.last_is ∙ fits-letter (row_64.tag == at.field.tag) at.field.letter (at.holds.fitting row_64),
+      )
 
   lines-read : AllByRecursion (IsWritableLine s.opening.decimals) s.lines
   lines-read =
-      each-weaker (SaidAt (At 4) (line_of s.opening.decimals)) (IsWritableLine s.opening.decimals) s.lines (said-all At fs 4 (line_of s.opening.decimals) 0 here fs s.lines (stand-any fs) says.lines)
+      each-weaker (SaidAt (At 4) (line_of s.opening.decimals)) (IsWritableLine s.opening.decimals) s.lines
+      (said-all At fs 4 (line_of s.opening.decimals) 0 here fs s.lines (stand-any fs) says.lines)
       (λ (x : Line61) at. (line-read s.opening.decimals at.field x few at.says).is)
 
   said-is : IsPage t (page_of s)
@@ -153,7 +161,8 @@ module _ (t : Tables) (fs : List Field) (s : Said) (says : Says t fs (places_fro
         opening = record { day = opening.day; small = opening.small; few = few };
         lines = all-of (IsWritableLine s.opening.decimals) s.lines lines-read;
         closing = record { day = closing.day; small = closing.small; few = few };
-        available = some-mapped (λ (x : Stated). x.balance) _ s.available (some-weaker _ _ s.available (said-option At fs 6 (stated_of t) here s.available (stand-any fs) says.available) available-read);
+        available = some-mapped (λ (x : Stated). x.balance) _ s.available
+            (some-weaker _ _ s.available (said-option At fs 6 (stated_of t) here s.available (stand-any fs) says.available) available-read);
       }
 
 -- a page that was read can be written
@@ -167,9 +176,12 @@ page-is t fs p few e =
 pub few-decimals : (p : Page950) → IsReadable mt950_of p → p.decimals ≤ 4
 few-decimals p r =
     let f = found r.tables r.fields p r.says in
-    let at = said-one (Stands order_950 Any) r.fields 3 (stated_of r.tables) order_950 (places_from order_950 0 r.fields) f.said.opening (stand-any r.fields) f.says.opening in
+    let at =
+    said-one (Stands order_950 Any) r.fields 3 (stated_of r.tables) order_950 (places_from order_950 0 r.fields) f.said.opening
+    (stand-any r.fields) f.says.opening in
     let read = stated-read r.tables at.field f.said.opening at.says in
-    let few : f.said.opening.decimals ≤ 4 = subst (λ (o : Option ℕ). IfSome o (λ d. d ≤ 4)) read.known (lookup_few (bytes_eq f.said.opening.ccy.0) r.tables.ccys r.few) in
+    let few : f.said.opening.decimals ≤ 4 =
+    subst (λ (o : Option ℕ). IfSome o (λ d. d ≤ 4)) read.known (lookup_few (bytes_eq f.said.opening.ccy.0) r.tables.ccys r.few) in
     subst (λ (n : ℕ). n ≤ 4) (ap (λ (q : Page950). q.decimals) f.same) few
 
 pub readable-is : (p : Page950) (r : IsReadable mt950_of p) → IsPage r.tables p

@@ -17,7 +17,8 @@ use Rattle.mt950.specs.declared.number.Numbers.{Numbers}
 use Rattle.mt950.specs.declared.said.Said.{Said}
 
 -- the lines are read with the decimals of the opening, where there is one
-with-decimals : {B : Type 0} (r : Result Stated Fault) (next : ℕ → Stated → Result B Fault) → (r >>= λ s. next s.decimals s) ≡ (r >>= λ s. next (decimals_with r) s)
+with-decimals : {B : Type 0} (r : Result Stated Fault) (next : ℕ → Stated → Result B Fault)
+    → (r >>= λ s. next s.decimals s) ≡ (r >>= λ s. next (decimals_with r) s)
 with-decimals (Ok s) next = refl
 with-decimals (Err fault) next = refl
 
@@ -28,7 +29,16 @@ module _ (t : Tables) (fs : List Field) (found : List ℕ) (fault : Fault) where
       all_from fs 4 (line_of decimals) 0 found fs >>= λ lines.
       in_place order_950 fs found 5 (stated_of t) >>= λ closing.
       in_option fs found 6 (stated_of t) >>= λ available.
-      Ok (record { reference = reference; account = account; numbers = numbers; opening = opening; lines = lines; closing = closing; available = available })
+      Ok
+      (record {
+        reference = reference;
+        account = account;
+        numbers = numbers;
+        opening = opening;
+        lines = lines;
+        closing = closing;
+        available = available;
+      })
 
   pub refused : LiesFrom order_950 (content_test t (entry_decimals t fs found)) fs found fault 0 → said_of t fs found ≡ Err fault
   unfolding said_of

@@ -33,7 +33,8 @@ some-later : (a b : ℕ) (bs : List ℕ) (n : ℕ) → are_slashes (a, b) ≡ fa
 some-later a b bs n e at = later a b bs e ∙ ap (option_map (λ i. i + 1)) at
 
 -- two slashes behind a reference that has none, and doesn't end with one, are the first
-pub ends-it : (reference text : List ℕ) → double_slash_in (reference ++ 47 ∷ []) ≡ None → double_slash_in (reference ++ 47 ∷ 47 ∷ text) ≡ Some (length reference)
+pub ends-it : (reference text : List ℕ) → double_slash_in (reference ++ 47 ∷ []) ≡ None
+    → double_slash_in (reference ++ 47 ∷ 47 ∷ text) ≡ Some (length reference)
 ends-it [] text none = here 47 47 text refl
 ends-it (a ∷ []) text none =
     let s = none-here a 47 [] none in
@@ -56,7 +57,8 @@ slash-first b (c ∷ cs) at =
     ]
 
 -- a byte before the first two slashes, and the slash that ends the reference
-front-none : (a b : ℕ) (bs : List ℕ) (n : ℕ) → are_slashes (a, b) ≡ false → double_slash_in (b ∷ bs) ≡ Some n → double_slash_in (take n (b ∷ bs) ++ 47 ∷ []) ≡ None → double_slash_in (a ∷ take n (b ∷ bs) ++ 47 ∷ []) ≡ None
+front-none : (a b : ℕ) (bs : List ℕ) (n : ℕ) → are_slashes (a, b) ≡ false → double_slash_in (b ∷ bs) ≡ Some n
+    → double_slash_in (take n (b ∷ bs) ++ 47 ∷ []) ≡ None → double_slash_in (a ∷ take n (b ∷ bs) ++ 47 ∷ []) ≡ None
 front-none a b bs zero unmet at rest =
     let slash : (b == 47) ≡ true = slash-first b bs at in
     let other : are_slashes (a, 47) ≡ false = grind (arith, nat_tests) in

@@ -24,9 +24,9 @@ is_last None = false
 is_last (Some letter) = letter == 70
 
 -- the mark C or D, then `6!n3!a` and 1 or more of X
-abbrev pub is_balance : List ℕ → Bool
-is_balance [] = false
-is_balance (mark ∷ dated) = ((mark == credit) || (mark == debit)) && is_dated_amount dated
+abbrev pub is_balance_text : List ℕ → Bool
+is_balance_text [] = false
+is_balance_text (mark ∷ dated) = ((mark == credit) || (mark == debit)) && is_dated_amount dated
 
 -- an amount with its mark: below 0 where it is D
 abbrev pub signed_by : ℕ → ℕ → ℤ
@@ -43,5 +43,5 @@ stated_in t last line = do
 unfoldable pub stated_of : Tables → Field → Result Stated Code
 stated_of t f = do
   line ← or_fault (one_line f) (code "P24")
-  _ ← check (is_balance line) (code "P24")
+  _ ← check (is_balance_text line) (code "P24")
   stated_in t (is_last f.letter) line

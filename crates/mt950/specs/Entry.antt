@@ -6,7 +6,7 @@ use Rattle.corr_text.specs.declared.fault.Code.{Code}
 use Rattle.corr_ids.specs.Day.{day_of}
 use Rattle.fin_fields.specs.declared.field.Field.{Field}
 use Rattle.fin_contents.specs.Money.{minor_in}
-use Rattle.mt950.specs.Parts.{detail_in, parts_in}
+use Rattle.mt950.specs.Parts.{detail_in, line_parts}
 use Rattle.mt950.specs.declared.entry.Line61.{Line61}
 use Rattle.mt950.specs.declared.entry.Mark.{Mark}
 use Rattle.mt950.specs.declared.entry.Mark.TheVariants.{C, D, RC, RD}
@@ -15,7 +15,7 @@ use Rattle.mt950.specs.declared.entry.Mark.TheVariants.{C, D, RC, RD}
 unfoldable pub line_of : ℕ → Field → Result Line61 Code
 line_of decimals f = do
   lines ← or_fault (detail_in f.lines) (code "P24")
-  parts ← or_fault (parts_in lines.0) (code "P24")
+  parts ← or_fault (line_parts lines.0) (code "P24")
   value ← or_fault (day_of parts.date) (code "T50")
   amount ← minor_in decimals parts.amount
   Ok (record { value = value; entry = parts.entry; mark = parts.mark; funds = parts.funds; amount = amount; kind = parts.kind; reference = parts.reference; servicer = parts.servicer; detail = lines.1 })

@@ -6,7 +6,7 @@ use Rattle.std.specs.Str.{bytes_eq}
 use Rattle.corr_text.specs.Answers as answers
 use Rattle.corr_text.specs.First.{check, first_of, unless, ◌>>=◌}
 use Rattle.corr_ids.specs.Day.{InCentury}
-use Rattle.corr_money.specs.Amounts.{amount_end}
+use Rattle.corr_money.specs.Amounts.{amount_end, most_decimals}
 use Rattle.mt950.specs.Entry.{effect_of}
 use Rattle.mt950.specs.declared.entry.Line61.{Line61}
 use Rattle.mt950.specs.declared.joining.PageFault.{PageFault}
@@ -91,7 +91,7 @@ lines_of_pages pages = flat_map (λ page. page.lines) pages
 -- a statement whose balances and lines may be added, compared and printed: 4 decimals at most, a day from 1980 to 2079, balances
 -- and amounts below 10^14, and the lines give the closing
 pub record IsAddable (s : Statement) : Type 0 where
-  pub few : s.decimals ≤ 4
+  pub few : s.decimals ≤ most_decimals
   pub opening : unsigned_abs s.opening < amount_end
   pub lines : All IsSmallLine s.lines
   pub closing : unsigned_abs s.closing < amount_end

@@ -87,8 +87,8 @@ pub record LineParts : Type 0 where
   pub servicer : Option (List ℕ)
 
 -- the parts of a first line, none where it has another form
-unfoldable pub parts_in : List ℕ → Option LineParts
-parts_in line = do
+unfoldable pub line_parts : List ℕ → Option LineParts
+line_parts line = do
   date ← date_in line
   let entry = entry_date_part date.1
   mark ← mark_in entry.1

@@ -8,7 +8,7 @@ use Rattle.corr_text.specs.Sets.{is_in}
 use Rattle.corr_text.specs.Slashes.{has_stray_slash}
 use Rattle.corr_text.specs.declared.set.Set.TheVariants.{A, N, X}
 use Rattle.corr_ids.specs.Day.{InCentury, yymmdd_of}
-use Rattle.corr_money.specs.Amounts.{amount_end, amount_text}
+use Rattle.corr_money.specs.Amounts.{amount_end, amount_text, most_decimals}
 use Rattle.corr_money.specs.declared.amount.Amount.{Amount}
 use Rattle.corr_money.specs.declared.amount.Ccy.{Ccy}
 use Rattle.ref_tables.specs.Seen.{Tables, decimals_in}
@@ -113,7 +113,7 @@ fields_950 p = joined (segments_950 p)
 pub record IsBalance (decimals : ℕ) (b : Balance) : Type 0 where
   pub day : InCentury b.day
   pub small : unsigned_abs b.signed < amount_end
-  pub few : decimals ≤ 4
+  pub few : decimals ≤ most_decimals
 
 -- a reference that two slashes end where the servicer's stands behind it: it has none itself, and doesn't end with one then
 abbrev pub IsEnded : List ℕ → Option (List ℕ) → Type 0
@@ -126,7 +126,7 @@ pub record IsWritableLine (decimals : ℕ) (line : Line61) : Type 0 where
   pub entry : IfSome line.entry (λ entry. (length entry ≡ 4) × IsTrue (list_all (is_in N) entry))
   pub funds : IfSome line.funds (λ letter. is_ascii_uppercase letter ≡ true)
   pub small : line.amount.0 < amount_end
-  pub few : decimals ≤ 4
+  pub few : decimals ≤ most_decimals
   pub four : length line.kind ≡ 4
   pub kind : IsTrue (is_entry_type line.kind)
   pub reference : IsTrue (is_run (is_in X) 16 line.reference)

@@ -3,13 +3,13 @@
 ghost use Rattle.std.specs.Prelude.{◌≡◌, ◌<◌, ◌≤◌, IsTrue, length};
 ghost use Rattle.corr_money.specs.Amounts.{amount_end};
 ghost use Rattle.fin_layout.specs.Reading.{Reads};
-ghost use Rattle.mt950.specs.Balances.{is_balance, signed_by, stated_in, stated_of};
+ghost use Rattle.mt950.specs.Balances.{is_balance_text, signed_by, stated_in, stated_of};
 
 use corr_ids::{Day, day_from_yymmdd};
 use corr_money::{Ccy, Minor};
 use corr_text::Code;
 use fin_contents::{T50, ccy_amount_in, is_dated_amount, one_line};
-use fin_fields::Field;
+use fin_fields::FieldLines;
 use fin_layout::{Content, P24, Refusal};
 use ref_tables::RefTables;
 use std::alloc::Global;
@@ -41,7 +41,7 @@ pub struct StatedBalance<'a> {
 }
 
 fn is_balance(line: &[u8]) -> bool
-    ensures value { result ≡ is_balance line.now }
+    ensures value { result ≡ is_balance_text line.now }
     ensures long { IsTrue result → 11 ≤ length line.now }
 {
     match line {
@@ -64,7 +64,7 @@ fn signed(mark: u8, minor: Minor) -> i64
 
 #[tactic(auto, using(crate::proofs::BalanceFields::small_amounts), unfolding(crate::specs::Balances::stated_in))]
 fn stated_in(tables: &RefTables, last: bool, line: &[u8]) -> Result<Stated, Code>
-    requires { IsTrue (is_balance line.now) }
+    requires { IsTrue (is_balance_text line.now) }
     ensures { result ≡ stated_in tables.now last line.now }
 {
     let Some(day) = day_from_yymmdd(&line[1..7]) else {
@@ -83,7 +83,7 @@ fn stated_in(tables: &RefTables, last: bool, line: &[u8]) -> Result<Stated, Code
 }
 
 #[tactic(auto, unfolding(crate::specs::Balances::stated_of))]
-fn read_stated(tables: &RefTables, f: &Field) -> Result<Stated, Refusal>
+fn read_stated(tables: &RefTables, f: &FieldLines<'_>) -> Result<Stated, Refusal>
     ensures { Reads result (stated_of tables.now f.now) }
 {
     let Some(line) = one_line(f) else {
@@ -92,7 +92,7 @@ fn read_stated(tables: &RefTables, f: &Field) -> Result<Stated, Refusal>
     if !is_balance(line) {
         return Err(Refusal::Bad(P24));
     }
-    match stated_in(tables, f.letter == Some(b'F'), line) {
+    match stated_in(tables, f.letter() == Some(b'F'), line) {
         Ok(stated) => Ok(stated),
         Err(code) => Err(Refusal::Bad(code)),
     }
@@ -103,7 +103,7 @@ impl Content for StatedBalance<'_> {
 
     ghost meaning = { λ c f. stated_of c.tables.now f };
 
-    fn read(&self, _alloc: Global, f: &Field) -> Result<Stated, Refusal> {
+    fn read(&self, _alloc: Global, f: &FieldLines<'_>) -> Result<Stated, Refusal> {
         read_stated(self.tables, f)
     }
 }

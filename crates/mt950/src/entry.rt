@@ -1,7 +1,7 @@
 //! Statement lines: field 61.
 
 ghost use Rattle.std.specs.Prelude.{◌≡◌, ◌<◌, ◌≤◌, IfOk, option_map};
-ghost use Rattle.corr_money.specs.Amounts.{amount_end};
+ghost use Rattle.corr_money.specs.Amounts.{amount_end, most_decimals};
 ghost use Rattle.fin_layout.specs.Reading.{Reads};
 ghost use Rattle.mt950.specs.Entry.{effect_of, line_of};
 ghost use Rattle.mt950.specs.Writing.{mark_text};
@@ -11,7 +11,7 @@ use corr_ids::{Day, day_from_yymmdd};
 use corr_money::Minor;
 use corr_text::{Memory, Text};
 use fin_contents::{T50, minor_in};
-use fin_fields::Field;
+use fin_fields::FieldLines;
 use fin_layout::{P24, Refusal};
 use std::alloc::Global;
 
@@ -83,11 +83,11 @@ fn copy_text(alloc: Global, text: &Option<Text>) -> Result<Option<Text>, Memory>
 
 /// What a field says as a statement line in a currency of so many decimals, as `StatementLine` tells it.
 #[tactic(auto, unfolding(crate::specs::Entry::line_of))]
-pub fn read_line(alloc: Global, decimals: u8, f: &Field) -> Result<Line61, Refusal>
-    requires { decimals ≤ 4 }
+pub fn read_line(alloc: Global, decimals: u8, f: &FieldLines<'_>) -> Result<Line61, Refusal>
+    requires { decimals ≤ most_decimals }
     ensures { Reads result (line_of decimals f.now) }
 {
-    let Some((line, detail)) = detail_in(f.lines.as_slice()) else {
+    let Some((line, detail)) = detail_in(f.lines()) else {
         return Err(Refusal::Bad(P24));
     };
     let Some(parts) = parts_in(line) else {

@@ -21,6 +21,6 @@ pub use entry::{Line61, Mark};
 pub use joining::{PageFault, Statement, join_pages};
 pub use order::ORDER;
 pub use page::Page950;
-pub use reading::read_mt950;
+pub use reading::{read_mt950, read_mt950_lines};
 pub use rules::C27;
 pub use writing::put_mt950;

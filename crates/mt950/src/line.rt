@@ -1,9 +1,10 @@
 //! The kind of content of field 61.
 
 ghost use Rattle.std.specs.Prelude.{◌≤◌};
+ghost use Rattle.corr_money.specs.Amounts.{most_decimals};
 
 use crate::entry::{Line61, read_line};
-use fin_fields::Field;
+use fin_fields::FieldLines;
 use fin_layout::{Content, Refusal};
 use std::alloc::Global;
 
@@ -16,7 +17,7 @@ use std::alloc::Global;
 #[derive(Clone, Copy)]
 pub struct StatementLine {
     pub decimals: u8,
-    ghost few: { decimals ≤ 4 },
+    ghost few: { decimals ≤ most_decimals },
 }
 
 impl Content for StatementLine {
@@ -26,7 +27,7 @@ impl Content for StatementLine {
 
     ghost meaning = { λ c f. line_of c.decimals f };
 
-    fn read(&self, alloc: Global, f: &Field) -> Result<Line61, Refusal> {
+    fn read(&self, alloc: Global, f: &FieldLines<'_>) -> Result<Line61, Refusal> {
         read_line(alloc, self.decimals, f)
     }
 }

@@ -6,7 +6,7 @@ ghost use Rattle.mt950.specs.Number.{few_digits_of, numbers_in, numbers_of};
 
 use corr_text::digits;
 use fin_contents::{first_slash, one_line};
-use fin_fields::Field;
+use fin_fields::FieldLines;
 use fin_layout::{Content, P24, Refusal};
 use std::alloc::Global;
 
@@ -51,7 +51,7 @@ fn numbers_in(line: &[u8]) -> Option<Numbers>
 }
 
 #[tactic(auto, unfolding(crate::specs::Number::numbers_of))]
-fn read_numbers(f: &Field) -> Result<Numbers, Refusal>
+fn read_numbers(f: &FieldLines<'_>) -> Result<Numbers, Refusal>
     ensures { Reads result (numbers_of f.now) }
 {
     let Some(line) = one_line(f) else {
@@ -68,7 +68,7 @@ impl Content for StatementNumber {
 
     ghost meaning = { λ _ f. numbers_of f };
 
-    fn read(&self, _alloc: Global, f: &Field) -> Result<Numbers, Refusal> {
+    fn read(&self, _alloc: Global, f: &FieldLines<'_>) -> Result<Numbers, Refusal> {
         read_numbers(f)
     }
 }

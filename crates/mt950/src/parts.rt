@@ -7,12 +7,12 @@ ghost use Rattle.fin_fields.specs.Patterns.{is_run};
 ghost use Rattle.std.specs.Char.{is_ascii_digit};
 ghost use Rattle.std.specs.List.{zip};
 ghost use Rattle.corr_money.specs.Amounts.{is_comma};
-ghost use Rattle.mt950.specs.Parts.{amount_part, date_in, detail_in, double_slash_in, entry_date_part, funds_in, is_entry_type, kind_in, mark_in, parts_in, references_in, reversal_in, split_references};
+ghost use Rattle.mt950.specs.Parts.{amount_part, date_in, detail_in, double_slash_in, entry_date_part, funds_in, is_entry_type, kind_in, mark_in, line_parts, references_in, reversal_in, split_references};
 
 use crate::entry::Mark;
-use corr_text::{Set, Text, is_all_of};
+use corr_text::{Set, is_all_of};
 use fin_contents::array_of;
-use fin_fields::is_run_of;
+use fin_fields::{Line, is_run_of};
 
 /// The parts of a line in their order. Its date, its amount and its references are not yet read.
 #[derive(Clone, Copy)]
@@ -183,9 +183,9 @@ fn references_in(rest: &[u8]) -> Option<(&[u8], Option<&[u8]>)>
 }
 
 /// The parts of a first line; none where it has another form.
-#[tactic(auto, unfolding(crate::specs::Parts::parts_in))]
+#[tactic(auto, unfolding(crate::specs::Parts::line_parts))]
 pub fn parts_in(line: &[u8]) -> Option<Parts<'_>>
-    ensures { option_map (λ p. record { date = p.date.now; entry = p.entry; mark = p.mark; funds = p.funds; amount = p.amount.now; kind = p.kind; reference = p.reference.now; servicer = option_map (λ b. b.now) p.servicer }) result ≡ parts_in line.now }
+    ensures { option_map (λ p. record { date = p.date.now; entry = p.entry; mark = p.mark; funds = p.funds; amount = p.amount.now; kind = p.kind; reference = p.reference.now; servicer = option_map (λ b. b.now) p.servicer }) result ≡ line_parts line.now }
 {
     let (date, rest) = date_in(line)?;
     let (entry, rest) = entry_in(rest);
@@ -207,7 +207,7 @@ pub fn parts_in(line: &[u8]) -> Option<Parts<'_>>
 }
 
 /// The first line and the further one, which is 1 to 34 of X; none of other lines.
-pub fn detail_in(lines: &[Text]) -> Option<(&[u8], Option<&[u8]>)>
+pub fn detail_in<'a>(lines: &[Line<'a>]) -> Option<(&'a [u8], Option<&'a [u8]>)>
     ensures { option_map (λ x. (x.0.now, option_map (λ b. b.now) x.1)) result ≡ detail_in lines.now }
 {
     match lines {

@@ -16,7 +16,7 @@ use crate::order::ORDER;
 use crate::page::{Page950, page_of};
 use crate::rules::currency_fault;
 use crate::said::read_said;
-use fin_fields::Field;
+use fin_fields::{Field, FieldLines, lend_fields};
 use fin_layout::{MtFault, check_structure};
 use ref_tables::RefTables;
 use std::alloc::Global;
@@ -30,6 +30,23 @@ use std::alloc::Global;
 /// fields of a text say (`written`).
 #[tactic(auto, using(crate::proofs::Complete::complete_950))]
 pub fn read_mt950(alloc: Global, f: &[Field], t: &RefTables) -> Result<Page950, MtFault>
+    requires few { length f.now ≤ most_text_lines }
+    ensures message { Gives result (mt950_of t.now f.now) }
+    ensures written { IsTrue (few_decimals t.now.ccys) → All IsField f.now → IfOk result (IsReadable mt950_of) }
+    ensures complete { first_of (tests_950 t.now f.now) ≡ None
+        → (said : SaidSeen) × (said_of t.now f.now (places_from order_950 0 f.now) ≡ Ok said) }
+{
+    let lent = lend_fields(alloc, f)?;
+    read_mt950_lines(alloc, lent.as_slice(), t)
+}
+
+/// As `read_mt950`, of fields whose lines stay in a text.
+#[tactic(auto, using(crate::proofs::Complete::complete_950))]
+pub fn read_mt950_lines(
+    alloc: Global,
+    f: &[FieldLines<'_>],
+    t: &RefTables,
+) -> Result<Page950, MtFault>
     requires few { length f.now ≤ most_text_lines }
     ensures message { Gives result (mt950_of t.now f.now) }
     ensures written { IsTrue (few_decimals t.now.ccys) → All IsField f.now → IfOk result (IsReadable mt950_of) }

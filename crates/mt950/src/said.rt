@@ -17,7 +17,7 @@ use crate::order::ORDER;
 use crate::places::{ACCOUNT, AVAILABLE, CLOSING, LINES, NUMBER, OPENING, REFERENCE};
 use corr_text::{List, Text};
 use fin_contents::{Reference, ShortLine};
-use fin_fields::Field;
+use fin_fields::FieldLines;
 use fin_layout::{MtFault, read_all, read_one, read_optional};
 use ref_tables::RefTables;
 use std::alloc::Global;
@@ -39,7 +39,7 @@ fn read_lines(
     alloc: Global,
     tables: &RefTables,
     opening: &Stated,
-    fields: &[Field],
+    fields: &[FieldLines<'_>],
     found: &[usize],
 ) -> Result<List<Line61>, MtFault>
     requires few { length fields.now ≤ most_text_lines }
@@ -58,7 +58,7 @@ fn read_lines(
 pub fn read_said(
     alloc: Global,
     tables: &RefTables,
-    fields: &[Field],
+    fields: &[FieldLines<'_>],
     found: &[usize],
 ) -> Result<Said, MtFault>
     requires few { length fields.now ≤ most_text_lines }

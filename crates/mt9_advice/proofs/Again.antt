@@ -15,7 +15,7 @@ use Rattle.fin_contents.specs.Writing.{IsValue, line_field, lines_field, lines_f
 use Rattle.fin_contents.proofs.laws.Again.{reference-again, short_line-again, texts-again, value-again}
 use Rattle.fin_contents.proofs.laws.Back.{lines-moved, one-moved, option-moved, some-all}
 use Rattle.fin_contents.proofs.laws.Placed.{party-again-at}
-use Rattle.fin_contents.proofs.laws.Said.{Holds, Stands}
+use Rattle.fin_contents.proofs.laws.Said.{HoldsInPlaces, Stands}
 use Rattle.fin_contents.proofs.laws.Steps.{checked, is-only, read-then, there}
 use Rattle.mt9_advice.specs.Advice.{contents_900, contents_910, is_stamp, stamp_of}
 use Rattle.mt9_advice.specs.Parts.{booking_of, mt900, mt910, parts_900, parts_910}
@@ -50,7 +50,8 @@ pub record SaysBooking (order : List Place) (t : Tables) (fs : List Field) (foun
   pub at : in_option fs found 3 stamp_of ≡ Ok b.at
   pub value : in_place order fs found 4 (value_of t) ≡ Ok b.value
 
-booking-said : (order : List Place) (t : Tables) (fs : List Field) (found : List ℕ) (b : Booking) → booking_of order t fs found ≡ Ok b → SaysBooking order t fs found b
+booking-said : (order : List Place) (t : Tables) (fs : List Field) (found : List ℕ) (b : Booking) → booking_of order t fs found ≡ Ok b
+    → SaysBooking order t fs found b
 unfolding booking_of
 booking-said order t fs found b e =
     let one = read-then (in_place order fs found 0 reference_of) _ b e in
@@ -61,15 +62,28 @@ booking-said order t fs found b e =
     let same : record { reference = one.0; related = two.0; account = three.0; at = four.0; value = five.0 } ≡ b = cc five.2 in
     rw (← same) (record { reference = one.1; related = two.1; account = three.1; at = four.1; value = five.1 })
 
-booking-says : (order : List Place) (t : Tables) (fs : List Field) (found : List ℕ) (b : Booking) → SaysBooking order t fs found b → booking_of order t fs found ≡ Ok b
+booking-says : (order : List Place) (t : Tables) (fs : List Field) (found : List ℕ) (b : Booking) → SaysBooking order t fs found b
+    → booking_of order t fs found ≡ Ok b
 unfolding booking_of
 booking-says order t fs found b s = rw (s.reference, s.related, s.account, s.at, s.value) refl
 
 abbrev pub booking_900 : Mt900 → Booking
-booking_900 m = record { reference = m.reference; related = m.related; account = m.account; at = m.at; value = record { day = m.value; amount = m.amount } }
+booking_900 m = record {
+  reference = m.reference;
+  related = m.related;
+  account = m.account;
+  at = m.at;
+  value = record { day = m.value; amount = m.amount };
+}
 
 abbrev pub booking_910 : Mt910 → Booking
-booking_910 m = record { reference = m.reference; related = m.related; account = m.account; at = m.at; value = record { day = m.value; amount = m.amount } }
+booking_910 m = record {
+  reference = m.reference;
+  related = m.related;
+  account = m.account;
+  at = m.at;
+  value = record { day = m.value; amount = m.amount };
+}
 
 -- the fields of an MT900 say so
 pub record Says900 (t : Tables) (fs : List Field) (found : List ℕ) (m : Mt900) : Type 0 where
@@ -116,7 +130,16 @@ said-910 t fs found m e =
     let four = read-then (in_option fs found 7 (known_party_of t)) _ m three.2 in
     let five = read-then (in_option fs found 8 (texts_of 6)) _ m four.2 in
     let same : mt910 one.0 two.0 three.0 four.0 (unwrap_or five.0 []) ≡ m = cc five.2 in
-    rw (← same) (record { booking = booking-said order_910 t fs found one.0 one.1; payer = two.1; p52 = three.1; p56 = four.1; lines = five.0; notes = five.1; same = refl })
+    rw (← same)
+    (record {
+      booking = booking-said order_910 t fs found one.0 one.1;
+      payer = two.1;
+      p52 = three.1;
+      p56 = four.1;
+      lines = five.0;
+      notes = five.1;
+      same = refl;
+    })
 
 pub says-910 : (t : Tables) (fs : List Field) (found : List ℕ) (m : Mt910) → Says910 t fs found m → contents_910 t fs found ≡ Ok m
 unfolding parts_910
@@ -127,29 +150,40 @@ says-910 t fs found m s =
 
 -- ---- and so do the fields that it is written as
 
-module _ (order : List Place) (t : Tables) (fs : List Field) (found : List ℕ) (h : Holds (Stands order (λ _. Unit {0})) found fs) where
+module _ (order : List Place) (t : Tables) (fs : List Field) (found : List ℕ) (h : HoldsInPlaces (Stands order (λ _. Unit {0})) found fs) where
   booking-moved : (b : Booking) (more : List (List Field)) → IsValue b.value → SaysBooking order t fs found b
-      → SaysBooking order t (joined (booking_fields b.reference b.related b.account b.at b.value ++ more)) (places_of 0 (booking_fields b.reference b.related b.account b.at b.value ++ more)) b
+      → SaysBooking order t (joined (booking_fields b.reference b.related b.account b.at b.value ++ more))
+      (places_of 0 (booking_fields b.reference b.related b.account b.at b.value ++ more)) b
   booking-moved b more is s =
       let segs = booking_fields b.reference b.related b.account b.at b.value ++ more in
       record {
-        reference = one-moved (Stands order (λ _. Unit {0})) fs found h segs 0 order reference_of (line_field 20 None) b.reference (λ f _ e. reference-again 20 None f b.reference e) refl s.reference;
-        related = one-moved (Stands order (λ _. Unit {0})) fs found h segs 1 order (short_line_of 16) (line_field 21 None) b.related (λ f _ e. short_line-again 16 21 None f b.related e) refl s.related;
-        account = one-moved (Stands order (λ _. Unit {0})) fs found h segs 2 order (short_line_of 35) (line_field 25 None) b.account (λ f _ e. short_line-again 35 25 None f b.account e) refl s.account;
-        at = option-moved (Stands order (λ _. Unit {0})) fs found h segs 3 stamp_of (line_field 13 (Some 68)) b.at (some-all _ b.at (λ x f _ e. stamp-again f x e)) refl s.at;
-        value = one-moved (Stands order (λ _. Unit {0})) fs found h segs 4 order (value_of t) value_field b.value (λ f _ e. value-again t f b.value is e) refl s.value;
+        reference = one-moved (Stands order (λ _. Unit {0})) fs found h segs 0 order reference_of (line_field 20 None) b.reference
+            (λ f _ e. reference-again 20 None f b.reference e) refl s.reference;
+        related = one-moved (Stands order (λ _. Unit {0})) fs found h segs 1 order (short_line_of 16) (line_field 21 None) b.related
+            (λ f _ e. short_line-again 16 21 None f b.related e) refl s.related;
+        account = one-moved (Stands order (λ _. Unit {0})) fs found h segs 2 order (short_line_of 35) (line_field 25 None) b.account
+            (λ f _ e. short_line-again 35 25 None f b.account e) refl s.account;
+        at = option-moved (Stands order (λ _. Unit {0})) fs found h segs 3 stamp_of (line_field 13 (Some 68)) b.at
+            (some-all _ b.at (λ x f _ e. stamp-again f x e)) refl s.at;
+        value = one-moved (Stands order (λ _. Unit {0})) fs found h segs 4 order (value_of t) value_field b.value
+            (λ f _ e. value-again t f b.value is e) refl s.value;
       }
 
-  party-moved : (segs : List (List Field)) (k tag : ℕ) (d : Place) (o : Option Party) → (get_or order k d).tag ≡ tag → slice_get segs k ≡ Some (some_field (party_field tag) o) → in_option fs found k (known_party_of t) ≡ Ok o
+  party-moved : (segs : List (List Field)) (k tag : ℕ) (d : Place) (o : Option Party) → (get_or order k d).tag ≡ tag
+      → slice_get segs k ≡ Some (some_field (party_field tag) o) → in_option fs found k (known_party_of t) ≡ Ok o
       → in_option (joined segs) (places_of 0 segs) k (known_party_of t) ≡ Ok o
   party-moved segs k tag d o at seg e =
-      option-moved (Stands order (λ _. Unit {0})) fs found h segs k (known_party_of t) (party_field tag) o (some-all _ o (λ p. party-again-at order (λ _. Unit {0}) k tag d at t p)) seg e
+      option-moved (Stands order (λ _. Unit {0})) fs found h segs k (known_party_of t) (party_field tag) o
+      (some-all _ o (λ p. party-again-at order (λ _. Unit {0}) k tag d at t p)) seg e
 
-pub moved-900 : (t : Tables) (fs : List Field) (found : List ℕ) (d : Place) (m : Mt900) → Holds (Stands order_900 (λ _. Unit {0})) found fs → IsValue (record { day = m.value; amount = m.amount }) → Says900 t fs found m
+pub moved-900 : (t : Tables) (fs : List Field) (found : List ℕ) (d : Place) (m : Mt900) → HoldsInPlaces (Stands order_900 (λ _. Unit {0})) found fs
+    → IsValue (record { day = m.value; amount = m.amount }) → Says900 t fs found m
     → Says900 t (joined (segments_900 m)) (places_of 0 (segments_900 m)) m
 moved-900 t fs found d m h is s =
     let segs = segments_900 m in
-    let notes = lines-moved (Stands order_900 (λ _. Unit {0})) fs found h segs 6 72 None (texts_of 6) s.lines (λ lines f _ e. texts-again 6 72 None f lines e) (rw (s.same) refl) s.notes in
+    let notes =
+    lines-moved (Stands order_900 (λ _. Unit {0})) fs found h segs 6 72 None (texts_of 6) s.lines (λ lines f _ e. texts-again 6 72 None f lines e)
+    (rw (s.same) refl) s.notes in
     record {
       booking = booking-moved order_900 t fs found h (booking_900 m) (some_field (party_field 52) m.p52 ∷ lines_fields 72 None m.notes ∷ []) is s.booking;
       p52 = party-moved order_900 t fs found h segs 5 52 d m.p52 refl refl s.p52;
@@ -158,13 +192,18 @@ moved-900 t fs found d m h is s =
       same = notes.2 ∙ s.same;
     }
 
-pub moved-910 : (t : Tables) (fs : List Field) (found : List ℕ) (d : Place) (m : Mt910) → Holds (Stands order_910 (λ _. Unit {0})) found fs → IsValue (record { day = m.value; amount = m.amount }) → Says910 t fs found m
+pub moved-910 : (t : Tables) (fs : List Field) (found : List ℕ) (d : Place) (m : Mt910) → HoldsInPlaces (Stands order_910 (λ _. Unit {0})) found fs
+    → IsValue (record { day = m.value; amount = m.amount }) → Says910 t fs found m
     → Says910 t (joined (segments_910 m)) (places_of 0 (segments_910 m)) m
 moved-910 t fs found d m h is s =
     let segs = segments_910 m in
-    let notes = lines-moved (Stands order_910 (λ _. Unit {0})) fs found h segs 8 72 None (texts_of 6) s.lines (λ lines f _ e. texts-again 6 72 None f lines e) (rw (s.same) refl) s.notes in
+    let notes =
+    lines-moved (Stands order_910 (λ _. Unit {0})) fs found h segs 8 72 None (texts_of 6) s.lines (λ lines f _ e. texts-again 6 72 None f lines e)
+    (rw (s.same) refl) s.notes in
     record {
-      booking = booking-moved order_910 t fs found h (booking_910 m) (some_field (party_field 50) m.payer ∷ some_field (party_field 52) m.p52 ∷ some_field (party_field 56) m.p56 ∷ lines_fields 72 None m.notes ∷ []) is s.booking;
+      booking = booking-moved order_910 t fs found h (booking_910 m)
+          (some_field (party_field 50) m.payer ∷ some_field (party_field 52) m.p52 ∷ some_field (party_field 56) m.p56 ∷ lines_fields 72 None m.notes ∷ [])
+          is s.booking;
       payer = party-moved order_910 t fs found h segs 5 50 d m.payer refl refl s.payer;
       p52 = party-moved order_910 t fs found h segs 6 52 d m.p52 refl refl s.p52;
       p56 = party-moved order_910 t fs found h segs 7 56 d m.p56 refl refl s.p56;

@@ -19,7 +19,8 @@ use Rattle.mt9_advice.specs.Order.{order_900, order_910}
 use Rattle.mt9_advice.proofs.Again.{SaysBooking, says-900, says-910}
 use Rattle.mt9_advice.proofs.Refused.{begun}
 
-booking-fine : (rest : List Place) (last : ℕ) (t : Tables) (fs : List Field) (found : List ℕ) → AllHold (begun rest) (content_test last t) fs found → (b : Booking) × SaysBooking (begun rest) t fs found b
+booking-fine : (rest : List Place) (last : ℕ) (t : Tables) (fs : List Field) (found : List ℕ) → AllHold (begun rest) (content_test last t) fs found
+    → (b : Booking) × SaysBooking (begun rest) t fs found b
 booking-fine rest last t fs found hold =
     let reference = must-fine hold 0 reference_of (λ f. refl) _ refl refl in
     let related = must-fine hold 1 (short_line_of 16) (λ f. refl) _ refl refl in
@@ -30,7 +31,8 @@ booking-fine rest last t fs found hold =
       record { reference = reference.1; related = related.1; account = account.1; at = at.1; value = value.1 },
     )
 
-pub complete_900 : (t : Tables) (fs : List Field) → first_of (tests_900 t fs) ≡ None → (m : Mt900) × (contents_900 t fs (places_from order_900 0 fs) ≡ Ok m)
+pub complete_900 : (t : Tables) (fs : List Field) → first_of (tests_900 t fs) ≡ None
+    → (m : Mt900) × (contents_900 t fs (places_from order_900 0 fs) ≡ Ok m)
 complete_900 t fs none =
     let found = places_from order_900 0 fs in
     let hold = all-hold order_900 (content_test 6 t) fs none in
@@ -40,7 +42,8 @@ complete_900 t fs none =
     let m = mt900 b.0 p52.0 (unwrap_or notes.0 []) in
     (m, says-900 t fs found m (record { booking = b.1; p52 = p52.1; lines = notes.0; notes = notes.1; same = refl }))
 
-pub complete_910 : (t : Tables) (fs : List Field) → first_of (tests_910 t fs) ≡ None → (m : Mt910) × (contents_910 t fs (places_from order_910 0 fs) ≡ Ok m)
+pub complete_910 : (t : Tables) (fs : List Field) → first_of (tests_910 t fs) ≡ None
+    → (m : Mt910) × (contents_910 t fs (places_from order_910 0 fs) ≡ Ok m)
 complete_910 t fs none =
     let found = places_from order_910 0 fs in
     let hold = all-hold order_910 (content_test 8 t) fs none in

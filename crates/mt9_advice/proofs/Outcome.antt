@@ -42,10 +42,13 @@ module _ (t : Tables) (fs : List Field) where
 
   pub as-contents-910 : first_of (structure_tests order_910 fs) ≡ None → mt910_of t fs ≡ (said_910 >>= ruled)
   unfolding mt910_of
-  as-contents-910 sound = in-turn order_910 (content_test 8 t) fs (said_910 >>= ruled) sound (λ fault lies. fails-before said_910 ruled fault (refused-910 t fs (places_from order_910 0 fs) fault lies))
+  as-contents-910 sound =
+      in-turn order_910 (content_test 8 t) fs (said_910 >>= ruled) sound
+      (λ fault lies. fails-before said_910 ruled fault (refused-910 t fs (places_from order_910 0 fs) fault lies))
 
   -- what is read of an MT900 at the places of its fields
-  pub gives-900 : (found : List ℕ) (r : Result Mt900 MtFault) → first_of (structure_tests order_900 fs) ≡ None → found ≡ places_from order_900 0 fs → Gives r (parts_900 t fs found) → Gives r (mt900_of t fs)
+  pub gives-900 : (found : List ℕ) (r : Result Mt900 MtFault) → first_of (structure_tests order_900 fs) ≡ None → found ≡ places_from order_900 0 fs
+      → Gives r (parts_900 t fs found) → Gives r (mt900_of t fs)
   gives-900 found r sound same h =
       let said : Gives r (contents_900 t fs found) = subst (λ (x : Result Mt900 Fault). Gives r x) (contents-are-900 t fs found) h in
       rw (as-contents-900 sound, ← same) said

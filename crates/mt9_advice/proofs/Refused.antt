@@ -24,7 +24,8 @@ module _ (t : Tables) (fs : List Field) (found : List ℕ) (fault : Fault) where
   abbrev Lies : List Place → ℕ → ℕ → Type 0
   Lies order last k = LiesFrom order (content_test last t) fs found fault k
 
-  booking-refused : {B : Type 0} (rest : List Place) (last : ℕ) → Lies (begun rest) last 0 → (next : Booking → Result B Fault) → ((b : Booking) → Lies (begun rest) last 5 → next b ≡ Err fault) → (booking_of (begun rest) t fs found >>= next) ≡ Err fault
+  booking-refused : {B : Type 0} (rest : List Place) (last : ℕ) → Lies (begun rest) last 0 → (next : Booking → Result B Fault)
+      → ((b : Booking) → Lies (begun rest) last 5 → next b ≡ Err fault) → (booking_of (begun rest) t fs found >>= next) ≡ Err fault
   unfolding booking_of
   booking-refused rest last l0 next on =
       one-in l0 reference_of (λ f. refl) refl _ refl refl _ next (λ _ l1.

@@ -9,7 +9,7 @@ use crate::places::{ACCOUNT, REFERENCE, RELATED, STAMP, VALUE};
 use crate::stamp::Stamp;
 use corr_text::Text;
 use fin_contents::{Reference, ShortLine, Value, ValueDate};
-use fin_fields::Field;
+use fin_fields::FieldLines;
 use fin_layout::{MtFault, Place, read_one, read_optional};
 use ref_tables::RefTables;
 use std::alloc::Global;
@@ -30,7 +30,7 @@ pub fn read_booking(
     alloc: Global,
     order: &[Place],
     tables: &RefTables,
-    fields: &[Field],
+    fields: &[FieldLines<'_>],
     found: &[usize],
 ) -> Result<Booking, MtFault>
     requires few { length fields.now ≤ most_text_lines }

@@ -21,7 +21,7 @@ use corr_ids::Day;
 use corr_money::Amount;
 use corr_text::{Code, Fault, List, Text};
 use fin_contents::{KnownParty, Texts, or_none};
-use fin_fields::Field;
+use fin_fields::{Field, FieldLines, lend_fields};
 use fin_layout::{MtFault, check_structure, read_optional};
 use fin_parties::Party;
 use ref_tables::RefTables;
@@ -82,7 +82,7 @@ fn message(
 fn read_credit(
     alloc: Global,
     tables: &RefTables,
-    fields: &[Field],
+    fields: &[FieldLines<'_>],
     found: &[usize],
 ) -> Result<Booking, MtFault>
     requires few { length fields.now ≤ most_text_lines }
@@ -95,7 +95,7 @@ fn read_credit(
 fn read_contents(
     alloc: Global,
     tables: &RefTables,
-    fields: &[Field],
+    fields: &[FieldLines<'_>],
     found: &[usize],
 ) -> Result<Mt910, MtFault>
     requires few { length fields.now ≤ most_text_lines }
@@ -131,6 +131,24 @@ fn c06(m: &Mt910) -> Option<Fault>
 /// (`written`).
 #[tactic(auto, using(crate::proofs::Complete::complete_910))]
 pub fn read_mt910(alloc: Global, f: &[Field], t: &RefTables) -> Result<Mt910, MtFault>
+    requires few { length f.now ≤ most_text_lines }
+    ensures message { Gives result (mt910_of t.now f.now) }
+    ensures amount { IfOk result (λ m. IsPayable m.amount) }
+    ensures written { IsTrue (few_decimals t.now.ccys) → All IsField f.now → IfOk result (IsReadable mt910_of) }
+    ensures complete { first_of (tests_910 t.now f.now) ≡ None
+        → (m : Mt910Seen) × (contents_910 t.now f.now (places_from order_910 0 f.now) ≡ Ok m) }
+{
+    let lent = lend_fields(alloc, f)?;
+    read_mt910_lines(alloc, lent.as_slice(), t)
+}
+
+/// As `read_mt910`, of fields whose lines stay in a text.
+#[tactic(auto, using(crate::proofs::Complete::complete_910))]
+pub fn read_mt910_lines(
+    alloc: Global,
+    f: &[FieldLines<'_>],
+    t: &RefTables,
+) -> Result<Mt910, MtFault>
     requires few { length f.now ≤ most_text_lines }
     ensures message { Gives result (mt910_of t.now f.now) }
     ensures amount { IfOk result (λ m. IsPayable m.amount) }

@@ -21,7 +21,7 @@ use corr_ids::Day;
 use corr_money::Amount;
 use corr_text::{List, Text};
 use fin_contents::{KnownParty, Texts, or_none};
-use fin_fields::Field;
+use fin_fields::{Field, FieldLines, lend_fields};
 use fin_layout::{MtFault, check_structure, read_optional};
 use fin_parties::Party;
 use ref_tables::RefTables;
@@ -67,7 +67,7 @@ fn message(booking: Booking, p52: Option<Party>, notes: List<Text>) -> Mt900
 fn read_contents(
     alloc: Global,
     tables: &RefTables,
-    fields: &[Field],
+    fields: &[FieldLines<'_>],
     found: &[usize],
 ) -> Result<Mt900, MtFault>
     requires few { length fields.now ≤ most_text_lines }
@@ -87,6 +87,24 @@ fn read_contents(
 /// what fields of a text say (`written`).
 #[tactic(auto, using(crate::proofs::Complete::complete_900))]
 pub fn read_mt900(alloc: Global, f: &[Field], t: &RefTables) -> Result<Mt900, MtFault>
+    requires few { length f.now ≤ most_text_lines }
+    ensures message { Gives result (mt900_of t.now f.now) }
+    ensures amount { IfOk result (λ m. IsPayable m.amount) }
+    ensures written { IsTrue (few_decimals t.now.ccys) → All IsField f.now → IfOk result (IsReadable mt900_of) }
+    ensures complete { first_of (tests_900 t.now f.now) ≡ None
+        → (m : Mt900Seen) × (contents_900 t.now f.now (places_from order_900 0 f.now) ≡ Ok m) }
+{
+    let lent = lend_fields(alloc, f)?;
+    read_mt900_lines(alloc, lent.as_slice(), t)
+}
+
+/// As `read_mt900`, of fields whose lines stay in a text.
+#[tactic(auto, using(crate::proofs::Complete::complete_900))]
+pub fn read_mt900_lines(
+    alloc: Global,
+    f: &[FieldLines<'_>],
+    t: &RefTables,
+) -> Result<Mt900, MtFault>
     requires few { length f.now ≤ most_text_lines }
     ensures message { Gives result (mt900_of t.now f.now) }
     ensures amount { IfOk result (λ m. IsPayable m.amount) }

@@ -10,7 +10,7 @@ mod places;
 mod stamp;
 mod writing;
 
-pub use credit::{C06, Mt910, read_mt910};
-pub use debit::{Mt900, read_mt900};
+pub use credit::{C06, Mt910, read_mt910, read_mt910_lines};
+pub use debit::{Mt900, read_mt900, read_mt900_lines};
 pub use order::{ORDER_900, ORDER_910};
 pub use writing::{put_mt900, put_mt910};

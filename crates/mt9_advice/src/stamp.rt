@@ -6,7 +6,7 @@ ghost use Rattle.mt9_advice.specs.Advice.{is_stamp, stamp_of};
 
 use corr_text::{Set, Text, is_all_of};
 use fin_contents::{is_clock, one_line};
-use fin_fields::Field;
+use fin_fields::FieldLines;
 use fin_layout::{Content, P24, Refusal};
 use std::alloc::Global;
 
@@ -24,7 +24,7 @@ fn is_stamp(line: &[u8]) -> bool
 }
 
 #[tactic(auto, unfolding(crate::specs::Advice::stamp_of))]
-fn read_stamp(alloc: Global, f: &Field) -> Result<Text, Refusal>
+fn read_stamp(alloc: Global, f: &FieldLines<'_>) -> Result<Text, Refusal>
     ensures { Reads result (stamp_of f.now) }
 {
     match one_line(f) {
@@ -38,7 +38,7 @@ impl Content for Stamp {
 
     ghost meaning = { λ _ f. stamp_of f };
 
-    fn read(&self, alloc: Global, f: &Field) -> Result<Text, Refusal> {
+    fn read(&self, alloc: Global, f: &FieldLines<'_>) -> Result<Text, Refusal> {
         read_stamp(alloc, f)
     }
 }

@@ -24,7 +24,7 @@ use Rattle.mt9_advice.specs.declared.credit.Mt910.{Mt910}
 use Rattle.mt9_advice.specs.declared.debit.Mt900.{Mt900}
 use Rattle.fin_message.specs.Heading.{fits_validation, heading_tests, is_type}
 use Rattle.fin_message.specs.Parts.{envelope_of, subblock_under}
-use Rattle.fin_message.specs.Verdict.{cover_of, credit_of, debit_of, judged, message_in, message_of as read_of, transfer_of}
+use Rattle.fin_message.specs.Verdict.{cover_in, credit_in, debit_in, judged, message_in, message_of as read_of, transfer_in}
 use Rattle.fin_message.specs.declared.direction.Direction.TheVariants.{Sent}
 use Rattle.fin_message.specs.declared.message.Message.{Message}
 use Rattle.fin_message.specs.declared.message.Message.TheVariants as message
@@ -43,7 +43,8 @@ use Rattle.advices.proofs.laws.TransferRules.{same-bytes}
 -- ---- the verdict
 
 -- blocks that pass their tests, lines that are cut without fault, and what they say
-blocks-accepted : (home : Bic) (t : Tables) (b : Blocks) (x : Message) → first_of (heading_tests Sent home t b) ≡ None → field_fault b.text ≡ None → message_in t b ≡ Ok x → read_of Sent home t b ≡ Ok x
+blocks-accepted : (home : Bic) (t : Tables) (b : Blocks) (x : Message) → first_of (heading_tests Sent home t b) ≡ None → field_fault b.text ≡ None
+    → message_in t b ≡ Ok x → read_of Sent home t b ≡ Ok x
 unfolding read_of
 blocks-accepted home t b x heading cut says = rw (heading, cut) says
 
@@ -54,7 +55,8 @@ module _ (home : Bic) (t : Tables) (mt : ℕ) (to : Bic) (user : List (ℕ × Li
   heading : is_type mt ≡ true → IsKnown t to → fits_validation mt (subblock_under 119 user) ≡ true → first_of (heading_tests Sent home t sent) ≡ None
   heading known_type known flag = rw (same-bytes home.head, known_type, known, flag) refl
 
-  accepted : (x : Message) → is_type mt ≡ true → IsKnown t to → fits_validation mt (subblock_under 119 user) ≡ true → message_in t sent ≡ Ok x → IsAccepted home t (sent_text home mt to user (fields_text fs))
+  accepted : (x : Message) → is_type mt ≡ true → IsKnown t to → fits_validation mt (subblock_under 119 user) ≡ true → message_in t sent ≡ Ok x
+      → IsAccepted home t (sent_text home mt to user (fields_text fs))
   unfolding judged
   accepted x known_type known flag says = (x, rw (back.blocks, blocks-accepted home t sent x (heading known_type known flag) back.cut says) refl)
 
@@ -71,21 +73,27 @@ cover-flag (Some u) = refl
 
 module _ (home : Bic) (t : Tables) (to : Bic) (fs : List Field) where
   transfer-says : (user : List (ℕ × List ℕ)) (n : Mt103) → fields_of (fields_text fs) ≡ fs → mt103_of t fs ≡ Ok n
-      → first_of (all_rules (envelope_of (sent_blocks home 103 to user (fields_text fs))).sender (envelope_of (sent_blocks home 103 to user (fields_text fs))).receiver t n) ≡ None
+      → first_of
+      (all_rules (envelope_of (sent_blocks home 103 to user (fields_text fs))).sender
+      (envelope_of (sent_blocks home 103 to user (fields_text fs))).receiver t n) ≡ None
       → (x : Message) × (message_in t (sent_blocks home 103 to user (fields_text fs)) ≡ Ok x)
-  unfolding transfer_of
-  transfer-says user n cut read rules = (message.Transfer (envelope_of (sent_blocks home 103 to user (fields_text fs))) (fields_text fs) n, rw (cut, read, rules) refl)
+  unfolding transfer_in
+  transfer-says user n cut read rules =
+      (message.Transfer (envelope_of (sent_blocks home 103 to user (fields_text fs))) (fields_text fs) n, rw (cut, read, rules) refl)
 
-  cover-says : (user : List (ℕ × List ℕ)) (n : Mt202Cov) → fields_of (fields_text fs) ≡ fs → mt202cov_of t fs ≡ Ok n → (x : Message) × (message_in t (sent_blocks home 202 to user (fields_text fs)) ≡ Ok x)
-  unfolding cover_of
+  cover-says : (user : List (ℕ × List ℕ)) (n : Mt202Cov) → fields_of (fields_text fs) ≡ fs → mt202cov_of t fs ≡ Ok n
+      → (x : Message) × (message_in t (sent_blocks home 202 to user (fields_text fs)) ≡ Ok x)
+  unfolding cover_in
   cover-says user n cut read = (message.Cover (envelope_of (sent_blocks home 202 to user (fields_text fs))) (fields_text fs) n, rw (cut, read) refl)
 
-  debit-says : (n : Mt900) → fields_of (fields_text fs) ≡ fs → mt900_of t fs ≡ Ok n → (x : Message) × (message_in t (sent_blocks home 900 to [] (fields_text fs)) ≡ Ok x)
-  unfolding debit_of
+  debit-says : (n : Mt900) → fields_of (fields_text fs) ≡ fs → mt900_of t fs ≡ Ok n
+      → (x : Message) × (message_in t (sent_blocks home 900 to [] (fields_text fs)) ≡ Ok x)
+  unfolding debit_in
   debit-says n cut read = (message.Debit (envelope_of (sent_blocks home 900 to [] (fields_text fs))) n, rw (cut, read) refl)
 
-  credit-says : (n : Mt910) → fields_of (fields_text fs) ≡ fs → mt910_of t fs ≡ Ok n → (x : Message) × (message_in t (sent_blocks home 910 to [] (fields_text fs)) ≡ Ok x)
-  unfolding credit_of
+  credit-says : (n : Mt910) → fields_of (fields_text fs) ≡ fs → mt910_of t fs ≡ Ok n
+      → (x : Message) × (message_in t (sent_blocks home 910 to [] (fields_text fs)) ≡ Ok x)
+  unfolding credit_in
   credit-says n cut read = (message.Credit (envelope_of (sent_blocks home 910 to [] (fields_text fs))) n, rw (cut, read) refl)
 
 -- ---- by order
@@ -95,11 +103,14 @@ known-bic t None is known = tt
 known-bic t (Some b) is known = (is, known)
 
 module _ (t : Tables) (chart : Chart) (pay : Pay) (place : ℕ) (small : place ≤ 100000) where
-  order-accepted : (m : Message) (k : ℕ) (o : Order) → CameFrom t chart pay m → k ≤ 255 → IsOrder (length pay.legs) o → Asks t m o → OrderReadsBack chart pay place k o → IsAccepted chart.home t (order_message chart pay place k o)
+  order-accepted : (m : Message) (k : ℕ) (o : Order) → CameFrom t chart pay m → k ≤ 255 → IsOrder (length pay.legs) o → Asks t m o
+      → OrderReadsBack chart pay place k o → IsAccepted chart.home t (order_message chart pay place k o)
   order-accepted (message.Transfer envelope text m) k (order.Transfer to skip via) came few is asks back =
       let user = uetr_block pay.uetr in
       let b = sent_blocks chart.home 103 to user (fields_text (order_fields chart pay place k (order.Transfer to skip via))) in
-      let n = transfer-onward t chart pay envelope text m place k to skip via came small few (known-bic t via is.1 asks.1) (envelope_of b).sender (envelope_of b).receiver in
+      let n =
+      transfer-onward t chart pay envelope text m place k to skip via came small few (known-bic t via is.1 asks.1) (envelope_of b).sender
+      (envelope_of b).receiver in
       let says = transfer-says chart.home t to (order_fields chart pay place k (order.Transfer to skip via)) user n.0 back.fields n.1 n.2 in
       accepted chart.home t 103 to user (order_fields chart pay place k (order.Transfer to skip via)) back says.0 refl asks.0 (no-flag pay.uetr) says.1
   order-accepted (message.Transfer envelope text m) k (order.Cover to end skip) came few is asks back =
@@ -138,7 +149,8 @@ module _ (t : Tables) (chart : Chart) (pay : Pay) (place : ℕ) (small : place �
   order-accepted (message.Page envelope m) k o came few is asks back = absurd came.received.kept
 
   -- and so those of orders in turn
-  pub orders-accepted : (m : Message) (k : ℕ) (os : List Order) → CameFrom t chart pay m → k + length os ≤ 256 → All (IsOrder (length pay.legs)) os → All (Asks t m) os → AllReadBack chart pay place k os
+  pub orders-accepted : (m : Message) (k : ℕ) (os : List Order) → CameFrom t chart pay m → k + length os ≤ 256 → All (IsOrder (length pay.legs)) os
+      → All (Asks t m) os → AllReadBack chart pay place k os
       → All (IsAccepted chart.home t) (messages_from chart pay place k os)
   orders-accepted m k [] came few is asks back = λ i d lt. absurd (omega arith)
   orders-accepted m k (o ∷ os) came few is asks back =
@@ -149,10 +161,12 @@ module _ (t : Tables) (chart : Chart) (pay : Pay) (place : ℕ) (small : place �
 -- ---- the answers of the code
 
 -- under any tables, what is read back of a pay of this shape is accepted
-pub texts-accepted : {E : Type 0} (chart : Chart) (pay : Pay) (place : ℕ) (r : Result (List (List ℕ)) E) → place ≤ 100000 → HasShape pay → IfOk r (λ texts. texts ≡ messages_from chart pay place 1 pay.orders)
+pub texts-accepted : {E : Type 0} (chart : Chart) (pay : Pay) (place : ℕ) (r : Result (List (List ℕ)) E) → place ≤ 100000 → HasShape pay
+    → IfOk r (λ texts. texts ≡ messages_from chart pay place 1 pay.orders)
     → OnOk r (AllReadBack chart pay place 1 pay.orders) → IfOk r (AreAccepted chart pay)
 texts-accepted chart pay place (Ok texts) small shape same back =
-    λ t m came asks. subst (All (IsAccepted chart.home t)) (sym same) (orders-accepted t chart pay place small m 1 pay.orders came (omega (arith, shape.few_orders)) shape.each_order asks back)
+    λ t m came asks. subst (All (IsAccepted chart.home t)) (sym same)
+    (orders-accepted t chart pay place small m 1 pay.orders came (omega (arith, shape.few_orders)) shape.each_order asks back)
 texts-accepted chart pay place (Err e) small shape same back = tt
 
 -- and so is nothing

@@ -40,10 +40,12 @@ no-slash (b ∷ bs) e = letter-other b (and-both (is_ascii_uppercase b) (list_al
 
 bic-letters : (bs : List ℕ) → is_bic bs ≡ true → begins_with 47 bs ≡ false
 unfolding is_bic
-bic-letters bs e = no-slash bs (and-three ((length bs == 8) || (length bs == 11)) (list_all is_ascii_uppercase (take 6 bs)) (list_all is_c_byte (drop 6 bs)) e).1
+bic-letters bs e =
+    no-slash bs (and-three ((length bs == 8) || (length bs == 11)) (list_all is_ascii_uppercase (take 6 bs)) (list_all is_c_byte (drop 6 bs)) e).1
 
 -- option A names the bank of the BIC, whose head the tables hold
-pub bank-read : (t : Tables) (tag : ℕ) (b : Bic) → form_of tag (Some 65) ≡ Some BankA → IsBic b → has_head t b.head ≡ true → known_party_of t (bank_field tag b) ≡ Ok (party.A None b)
+pub bank-read : (t : Tables) (tag : ℕ) (b : Bic) → form_of tag (Some 65) ≡ Some BankA → IsBic b → has_head t b.head ≡ true
+    → known_party_of t (bank_field tag b) ≡ Ok (party.A None b)
 unfolding known_party_of party_of party_in
 bank-read t tag b form is known =
     let printed = bic-printed b is in
@@ -64,22 +66,34 @@ pub record OneBank (t : Tables) (fs : List Field) : Type 0 where
   pub named : is_named 52 (codes "AD") field ≡ true
   pub says : known_party_of t field ≡ Ok bank
 
-or-bank : (t : Tables) (sender : Bic) (o : Option Field) → IsBic sender → has_head t sender.head ≡ true → IfSome o (λ f. (is_named 52 (codes "AD") f ≡ true) × SaysNamed 52 (codes "AD") (known_party_of t) f)
+or-bank : (t : Tables) (sender : Bic) (o : Option Field) → IsBic sender → has_head t sender.head ≡ true
+    → IfSome o (λ f. (is_named 52 (codes "AD") f ≡ true) × SaysNamed 52 (codes "AD") (known_party_of t) f)
     → OneBank t (or_bank sender (some_field (λ f. f) o))
-or-bank t sender None is known h = record { field = bank_field 52 sender; bank = party.A None sender; same = refl; named = refl; says = bank-read t 52 sender form-52 is known }
+or-bank t sender None is known h = record {
+  field = bank_field 52 sender;
+  bank = party.A None sender;
+  same = refl;
+  named = refl;
+  says = bank-read t 52 sender form-52 is known;
+}
 or-bank t sender (Some f) is known h = let says = h.1 h.0 in record { field = f; bank = says.0; same = refl; named = h.0; says = says.1 }
 
 -- among the fields where it is looked for
-found-bank : (t : Tables) (r : Received) (fs : List Field) → fields_for_52 r.mt r.fields ≡ fs → IsBic r.sender → has_head t r.sender.head ≡ true → AllByRecursion (SaysNamed 52 (codes "AD") (known_party_of t)) fs → OneBank t (ordering r)
+found-bank : (t : Tables) (r : Received) (fs : List Field) → fields_for_52 r.mt r.fields ≡ fs → IsBic r.sender → has_head t r.sender.head ≡ true
+    → AllByRecursion (SaysNamed 52 (codes "AD") (known_party_of t)) fs → OneBank t (ordering r)
 found-bank t r fs at is known all =
-    rw at (or-bank t r.sender (find (is_named 52 (codes "AD")) fs) is known (found-each (SaysNamed 52 (codes "AD") (known_party_of t)) (is_named 52 (codes "AD")) fs all))
+    rw at
+    (or-bank t r.sender (find (is_named 52 (codes "AD")) fs) is known
+    (found-each (SaysNamed 52 (codes "AD") (known_party_of t)) (is_named 52 (codes "AD")) fs all))
 
-pub ordering-of-cover : (t : Tables) (r : Received) (fs : List Field) → r.mt ≡ Cover → r.fields ≡ fs → first_of (tests_202 t fs) ≡ None → IsBic r.sender → has_head t r.sender.head ≡ true → OneBank t (ordering r)
+pub ordering-of-cover : (t : Tables) (r : Received) (fs : List Field) → r.mt ≡ Cover → r.fields ≡ fs → first_of (tests_202 t fs) ≡ None
+    → IsBic r.sender → has_head t r.sender.head ≡ true → OneBank t (ordering r)
 ordering-of-cover t r fs mt same none is known =
     let all = each-says order_202 (content_202 t) fs none 52 (codes "AD") (4 ∷ 12 ∷ []) (known_party_of t) refl ((λ f. refl), ((λ f. refl), tt)) in
     found-bank t r (sequence_a fs) (rw (mt, same) refl) is known (taken-each (SaysNamed 52 (codes "AD") (known_party_of t)) (first_fields fs) fs all)
 
-pub ordering-of-transfer : (t : Tables) (r : Received) (fs : List Field) → r.mt ≡ Transfer → r.fields ≡ fs → first_of (tests_103 t fs) ≡ None → IsBic r.sender → has_head t r.sender.head ≡ true → OneBank t (ordering r)
+pub ordering-of-transfer : (t : Tables) (r : Received) (fs : List Field) → r.mt ≡ Transfer → r.fields ≡ fs → first_of (tests_103 t fs) ≡ None
+    → IsBic r.sender → has_head t r.sender.head ≡ true → OneBank t (ordering r)
 ordering-of-transfer t r fs mt same none is known =
     let all = each-says order_103 (content_103 t) fs none 52 (codes "AD") (9 ∷ []) (known_party_of t) refl ((λ f. refl), tt) in
     found-bank t r fs (rw (mt, same) refl) is known all

@@ -15,7 +15,7 @@ use Rattle.corr_ids.specs.Bic.{IsBic, bic_text, is_bic}
 use Rattle.corr_ids.specs.Day.{InCentury, civil_of, digits_of, yymmdd_of}
 use Rattle.corr_ids.specs.declared.bic.Bic.{Bic}
 use Rattle.corr_ids.specs.declared.day.Day.{Day}
-use Rattle.corr_ids.proofs.laws.Century.{parted}
+use Rattle.corr_ids.proofs.laws.Century.{in_parts}
 use Rattle.corr_ids.proofs.laws.Spelling.{bic-printed, some_if}
 use Rattle.corr_money.specs.Amounts.{amount_end, amount_of, amount_text, is_comma_number}
 use Rattle.corr_money.specs.declared.amount.Amount.{Amount}
@@ -42,9 +42,11 @@ digits-again (b ∷ bs) e =
 number-digits : (bs : List ℕ) (n : ℕ) → number_of bs ≡ Some n → all_ascii_digits bs ≡ true
 number-digits bs n e = grind (arith, nat_tests)
 
+-- a number below 10^19 is written in digits alone
 pub decimal-digits : (n : ℕ) → n < 10 ^ 19 → list_all is_ascii_digit (decimal n) ≡ true
 decimal-digits n small = digits-again (decimal n) (number-digits (decimal n) n (number_of-decimal n small))
 
+-- so is one that is padded with zeros
 pub padded-digits : (width n : ℕ) → n < 10 ^ 19 → width ≤ 19 → list_all is_ascii_digit (padded width n) ≡ true
 padded-digits width n small narrow = digits-again (padded width n) (number-digits (padded width n) n (number_of-padded width n small narrow))
 
@@ -75,13 +77,14 @@ two-digits n e =
     let ones : n % 10 ≤ 9 = omega arith in
     rw (digit-of (n / 10) tens, digit-of (n % 10) ones) refl
 
-joined-digits : (front back : List ℕ) → list_all is_ascii_digit front ≡ true → list_all is_ascii_digit back ≡ true → list_all is_ascii_digit (front ++ back) ≡ true
+joined-digits : (front back : List ℕ) → list_all is_ascii_digit front ≡ true → list_all is_ascii_digit back ≡ true
+    → list_all is_ascii_digit (front ++ back) ≡ true
 joined-digits front back p q = list_all-append is_ascii_digit front back ∙ rw (p, q) refl
 
 -- the six digits of a day
 pub day-digits : (d : Day) → InCentury d → list_all is_ascii_digit (yymmdd_of d) ≡ true
 day-digits d century =
-    let p = parted d century in
+    let p = in_parts d century in
     let c = civil_of d in
     let year : c.year % 100 ≤ 99 = omega arith in
     joined-digits (digits_of (c.year % 100)) (digits_of c.month ++ digits_of c.day) (two-digits (c.year % 100) year)
@@ -89,10 +92,11 @@ day-digits d century =
 
 pub day-plain : (d : Day) → InCentury d → IsPlain (yymmdd_of d)
 day-plain d century =
-    let p = parted d century in
+    let p = in_parts d century in
     let year : (civil_of d).year % 100 ≤ 99 = omega arith in
     joined-plain (digits_of ((civil_of d).year % 100) ++ digits_of (civil_of d).month) (digits_of (civil_of d).day)
-    (joined-plain (digits_of ((civil_of d).year % 100)) (digits_of (civil_of d).month) (two-plain ((civil_of d).year % 100) year) (two-plain (civil_of d).month p.month_in))
+    (joined-plain (digits_of ((civil_of d).year % 100)) (digits_of (civil_of d).month) (two-plain ((civil_of d).year % 100) year)
+    (two-plain (civil_of d).month p.month_in))
     (two-plain (civil_of d).day p.day_in)
 
 comma-number : (decimals : ℕ) (bs : List ℕ) (m : Minor) → amount_of decimals bs ≡ Ok m → is_comma_number bs ≡ true
@@ -110,7 +114,8 @@ amount-some decimals n few small =
 
 pub ccy_amount-plain : (a : Amount) → IsWritableAmount a → IsPlain (ccy_amount_text a)
 ccy_amount-plain a is =
-    joined-plain a.ccy.0 (amount_text a.decimals a.minor.0) (letters-of-x a.ccy.0 is.letters) (amount-plain a.decimals a.minor.0 is.amount.few is.amount.small)
+    joined-plain a.ccy.0 (amount_text a.decimals a.minor.0) (letters-of-x a.ccy.0 is.letters)
+    (amount-plain a.decimals a.minor.0 is.amount.few is.amount.small)
 
 -- ---- banks and accounts
 
@@ -123,6 +128,7 @@ c-byte b e = both (is_ascii_uppercase b) (is_ascii_lowercase b) (is_ascii_digit 
     both false false true mark h = refl
     both false false false mark h = absurd (cc h)
 
+-- capital letters and digits hold no brace
 pub c-plain : (bs : List ℕ) → list_all is_c_byte bs ≡ true → IsPlain bs
 c-plain [] e = refl
 c-plain (b ∷ bs) e =
@@ -133,7 +139,8 @@ bic-form : (bs : List ℕ) → is_bic bs ≡ true → IsPlain bs
 unfolding is_bic
 bic-form bs e =
     let parts = and-three ((length bs == 8) || (length bs == 11)) (list_all is_ascii_uppercase (take 6 bs)) (list_all is_c_byte (drop 6 bs)) e in
-    sym (ap (list_all (is_in X)) (take-append-drop 6 bs)) ∙ joined-plain (take 6 bs) (drop 6 bs) (letters-of-x (take 6 bs) parts.1) (c-plain (drop 6 bs) parts.2)
+    sym (ap (list_all (is_in X)) (take-append-drop 6 bs))
+    ∙ joined-plain (take 6 bs) (drop 6 bs) (letters-of-x (take 6 bs) parts.1) (c-plain (drop 6 bs) parts.2)
 
 pub bic-plain : (b : Bic) → IsBic b → IsPlain (bic_text b)
 bic-plain b is = bic-form (bic_text b) (some_if (is_bic (bic_text b)) _ b (bic-printed b is)).0

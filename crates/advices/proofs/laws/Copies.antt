@@ -14,7 +14,7 @@ use Rattle.fin_layout.specs.Order.{fits, places_from}
 use Rattle.fin_layout.specs.Tests.{contents_from, tests}
 use Rattle.fin_layout.proofs.laws.Fine.{IsTestOf, all-hold, first-none, map-none, read-none}
 use Rattle.fin_contents.proofs.laws.Bytes.{and-both}
-use Rattle.fin_contents.proofs.laws.Said.{Holds, Stands, stand}
+use Rattle.fin_contents.proofs.laws.Said.{HoldsInPlaces, Stands, stand}
 use Rattle.advices.specs.Fields.{is_named}
 use Rattle.advices.proofs.laws.Finding.{any-field, apart-named, is_apart}
 
@@ -25,7 +25,8 @@ record PassesAt (order : List Place) (test : ℕ → Field → Option Code) (f :
   fitting : (d : Place) → fits (get_or order place d) f ≡ true
   passes : test place f ≡ None
 
-each-at : (order : List Place) (test : ℕ → Field → Option Code) (whole : List Field) (i : ℕ) (found : List ℕ) (fs : List Field) → Holds (Stands order (λ _. Unit {0})) found fs
+each-at : (order : List Place) (test : ℕ → Field → Option Code) (whole : List Field) (i : ℕ) (found : List ℕ) (fs : List Field)
+    → HoldsInPlaces (Stands order (λ _. Unit {0})) found fs
     → first_of (contents_from test whole i found fs) ≡ None → length found ≡ length fs → AllByRecursion (PassesAt order test) fs
 unfolding contents_from
 each-at order test whole i found [] h none long = tt
@@ -43,7 +44,8 @@ abbrev pub only_from : ℕ → List ℕ → List ℕ → ℕ → List Place → 
 only_from tag letters ks j [] = true
 only_from tag letters ks j (p ∷ order) = (list_any (λ k. k == j) ks || is_apart tag letters p) && only_from tag letters ks (j + 1) order
 
-among : (tag : ℕ) (letters ks : List ℕ) (j q : ℕ) (order : List Place) (f : Field) → only_from tag letters ks j order ≡ true → ((d : Place) → fits (get_or order q d) f ≡ true) → is_named tag letters f ≡ true
+among : (tag : ℕ) (letters ks : List ℕ) (j q : ℕ) (order : List Place) (f : Field) → only_from tag letters ks j order ≡ true
+    → ((d : Place) → fits (get_or order q d) f ≡ true) → is_named tag letters f ≡ true
     → list_any (λ k. k == j + q) ks ≡ true
 among tag letters ks j q [] f only fit named =
     absurd (cc (and-both (f.tag == f.tag) false (fit (record { tag = f.tag; options = []; many = false; must = false }))).1)
@@ -61,18 +63,21 @@ among tag letters ks j (suc q) (p ∷ order) f only fit named =
     let same : j + suc q ≡ j + 1 + q = omega arith in
     ap (λ (n : ℕ). list_any (λ k. k == n) ks) same ∙ among tag letters ks (j + 1) q order f later fit named
 
-placed : (tag : ℕ) (letters ks : List ℕ) (order : List Place) (f : Field) (q : ℕ) → only_from tag letters ks 0 order ≡ true → ((d : Place) → fits (get_or order q d) f ≡ true) → is_named tag letters f ≡ true
+placed : (tag : ℕ) (letters ks : List ℕ) (order : List Place) (f : Field) (q : ℕ) → only_from tag letters ks 0 order ≡ true
+    → ((d : Place) → fits (get_or order q d) f ≡ true) → is_named tag letters f ≡ true
     → list_any (λ k. k == q) ks ≡ true
 placed tag letters ks order f q only fit named =
     let same : q ≡ 0 + q = omega arith in
     ap (λ (n : ℕ). list_any (λ k. k == n) ks) same ∙ among tag letters ks 0 q order f only fit named
 
 -- a test of each of these places is that of a reading
-test-of : {A : Type 0} (test : ℕ → Field → Option Code) (read : Field → Result A Code) (ks : List ℕ) (q : ℕ) (f : Field) → AllByRecursion (λ k. IsTestOf test k read) ks → list_any (λ k. k == q) ks ≡ true → test q f ≡ fault_of (read f)
+test-of : {A : Type 0} (test : ℕ → Field → Option Code) (read : Field → Result A Code) (ks : List ℕ) (q : ℕ) (f : Field)
+    → AllByRecursion (λ k. IsTestOf test k read) ks → list_any (λ k. k == q) ks ≡ true → test q f ≡ fault_of (read f)
 test-of test read [] q f of some = absurd (cc some)
 test-of test read (k ∷ ks) q f of some = go (k == q) refl some (λ h. test-of test read ks q f of.1 h)
   where
-    go : (b : Bool) → (k == q) ≡ b → (b || list_any (λ k. k == q) ks) ≡ true → (list_any (λ k. k == q) ks ≡ true → test q f ≡ fault_of (read f)) → test q f ≡ fault_of (read f)
+    go : (b : Bool) → (k == q) ≡ b → (b || list_any (λ k. k == q) ks) ≡ true → (list_any (λ k. k == q) ks ≡ true → test q f ≡ fault_of (read f))
+        → test q f ≡ fault_of (read f)
     go true e h later = let same : k ≡ q = eqb-true k q e in rw (← same) (of.0 f)
     go false e h later = later h
 
@@ -84,7 +89,8 @@ each-weaker : (P R : Field → Type 0) (fs : List Field) → ((f : Field) → P 
 each-weaker P R [] more h = tt
 each-weaker P R (f ∷ fs) more h = (more f h.0, each-weaker P R fs more h.1)
 
-pub each-says : {A : Type 0} (order : List Place) (test : ℕ → Field → Option Code) (fs : List Field) → first_of (tests order test fs) ≡ None → (tag : ℕ) (letters ks : List ℕ) (read : Field → Result A Code)
+pub each-says : {A : Type 0} (order : List Place) (test : ℕ → Field → Option Code) (fs : List Field) → first_of (tests order test fs) ≡ None
+    → (tag : ℕ) (letters ks : List ℕ) (read : Field → Result A Code)
     → only_from tag letters ks 0 order ≡ true → AllByRecursion (λ k. IsTestOf test k read) ks → AllByRecursion (SaysNamed tag letters read) fs
 each-says order test fs none tag letters ks read only of =
     let hold = all-hold order test fs none in
@@ -106,6 +112,7 @@ pub found-each : (P : Field → Type 0) (test : Field → Bool) (fs : List Field
 found-each P test [] all = tt
 found-each P test (f ∷ fs) all = go (test f) refl (found-each P test fs all.1)
   where
-    go : (b : Bool) → test f ≡ b → IfSome (find test fs) (λ g. (test g ≡ true) × P g) → IfSome (cond b (Some f) (find test fs)) (λ g. (test g ≡ true) × P g)
+    go : (b : Bool) → test f ≡ b → IfSome (find test fs) (λ g. (test g ≡ true) × P g)
+        → IfSome (cond b (Some f) (find test fs)) (λ g. (test g ≡ true) × P g)
     go true e later = (e, all.0)
     go false e later = later

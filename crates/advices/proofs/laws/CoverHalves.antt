@@ -15,7 +15,7 @@ use Rattle.fin_layout.proofs.laws.Fine.{all-hold, present, taken-from}
 use Rattle.fin_layout.proofs.laws.Grouped.{free_after-bounds, grouped-places}
 use Rattle.fin_contents.specs.Writing.{some_field}
 use Rattle.fin_contents.proofs.laws.Bytes.{and-both}
-use Rattle.fin_contents.proofs.laws.Said.{Holds, Stands, stand}
+use Rattle.fin_contents.proofs.laws.Said.{HoldsInPlaces, Stands, stand}
 use Rattle.mt202cov.specs.Message.{content_test, field_tests}
 use Rattle.mt202cov.specs.Order.{order_202}
 use Rattle.advices.specs.Fields.{copied, is_named}
@@ -28,11 +28,13 @@ use Rattle.advices.proofs.laws.Sequences.{Apart, Passing, above-apart, at-back, 
 -- the places before 50a, and the others
 abbrev pub order_a : List Place
 order_a =
-    one 20 bare ∷ one 21 bare ∷ any 13 (codes "CCCC") ∷ one 32 (codes "AAAA") ∷ may 52 (codes "ADDD") ∷ may 53 (codes "ABDD") ∷ may 54 (codes "ABDD") ∷ may 56 (codes "ADDD") ∷ may 57 (codes "ABDD") ∷ one 58 (codes "ADDD") ∷ may 72 bare ∷ []
+    one 20 bare ∷ one 21 bare ∷ any 13 (codes "CCCC") ∷ one 32 (codes "AAAA") ∷ may 52 (codes "ADDD") ∷ may 53 (codes "ABDD") ∷ may 54 (codes "ABDD")
+    ∷ may 56 (codes "ADDD") ∷ may 57 (codes "ABDD") ∷ one 58 (codes "ADDD") ∷ may 72 bare ∷ []
 
 abbrev order_b : List Place
 order_b =
-    one 50 (codes "AFKK") ∷ may 52 (codes "ADDD") ∷ may 56 (codes "ACDD") ∷ may 57 (codes "ABCD") ∷ one 59 (codes " AFF") ∷ may 70 bare ∷ may 72 bare ∷ may 33 (codes "BBBB") ∷ []
+    one 50 (codes "AFKK") ∷ may 52 (codes "ADDD") ∷ may 56 (codes "ACDD") ∷ may 57 (codes "ABCD") ∷ one 59 (codes " AFF") ∷ may 70 bare ∷ may 72 bare
+    ∷ may 33 (codes "BBBB") ∷ []
 
 two-orders : order_202 ≡ order_a ++ order_b
 two-orders = refl
@@ -43,21 +45,26 @@ place-11 : (free k : ℕ) (payer : Field) → is_named 50 (codes "AFK") payer �
 unfolding places_from
 place-11 free k payer is at =
     let alone : places_from order_202 free (payer ∷ []) ≡ k ∷ [] = rw at refl in
-    let stands = subst (λ (ps : List ℕ). Holds (Stands order_202 (λ _. Unit {0})) ps (payer ∷ [])) alone (stand order_202 (λ _. Unit {0}) free (payer ∷ []) (any-field (payer ∷ []))) in
+    let stands =
+    subst (λ (ps : List ℕ). HoldsInPlaces (Stands order_202 (λ _. Unit {0})) ps (payer ∷ [])) alone
+    (stand order_202 (λ _. Unit {0}) free (payer ∷ []) (any-field (payer ∷ []))) in
     let told = told-at 50 (codes "AFK") 11 0 k order_202 payer refl (stands.0.fitting) in
     let same : 0 + k ≡ 11 = eqb-true (0 + k) 11 (sym told ∙ is) in
     omega (arith, same)
 
 -- where it takes a place, that is its own
-payer-at : (free : ℕ) (payer : Field) (b : List Field) → is_named 50 (codes "AFK") payer ≡ true → length (places_from order_202 free (payer ∷ b)) ≡ length (payer ∷ b) → place_from order_202 free payer ≡ Some 11
+payer-at : (free : ℕ) (payer : Field) (b : List Field) → is_named 50 (codes "AFK") payer ≡ true
+    → length (places_from order_202 free (payer ∷ b)) ≡ length (payer ∷ b) → place_from order_202 free payer ≡ Some 11
 unfolding places_from
 payer-at free payer b is e = go (place_from order_202 free payer) refl e
   where
-    go : (o : Option ℕ) → place_from order_202 free payer ≡ o → length (from_place (λ k. places_from order_202 (free_after order_202 k) b) o) ≡ length (payer ∷ b) → place_from order_202 free payer ≡ Some 11
+    go : (o : Option ℕ) → place_from order_202 free payer ≡ o
+        → length (from_place (λ k. places_from order_202 (free_after order_202 k) b) o) ≡ length (payer ∷ b) → place_from order_202 free payer ≡ Some 11
     go None h e = absurd (omega (arith, e))
     go (Some k) h e = h ∙ ap (λ (n : ℕ). Some n) (place-11 free k payer is h)
 
-pub payer-places : (free : ℕ) (payer : Field) (b : List Field) → place_from order_202 free payer ≡ Some 11 → places_from order_202 free (payer ∷ b) ≡ 11 ∷ places_from order_202 12 b
+pub payer-places : (free : ℕ) (payer : Field) (b : List Field) → place_from order_202 free payer ≡ Some 11
+    → places_from order_202 free (payer ∷ b) ≡ 11 ∷ places_from order_202 12 b
 unfolding places_from
 payer-places free payer b h = rw h refl
 
@@ -70,7 +77,8 @@ pub payer-behind : (free : ℕ) (payer : Field) → is_named 50 (codes "AFK") pa
 unfolding places_from
 payer-behind free payer is le =
     only-place (place_from order_202 free payer)
-    (grouped-places order_202 row 0 11 free ((payer ∷ []) ∷ []) (omega arith) le (one-named order_202 0 11 50 (codes "AFK") payer refl is, (0, inl (omega arith), tt)))
+    (grouped-places order_202 row 0 11 free ((payer ∷ []) ∷ []) (omega arith) le
+    (one-named order_202 0 11 50 (codes "AFK") payer refl is, (0, inl (omega arith), tt)))
 
 before-11 : (q fa : ℕ) → fa ≤ 11 → free_after order_202 q ≤ fa → q < 11
 before-11 q fa low h =
@@ -96,7 +104,8 @@ fits-named p f fit =
 
 -- ---- the halves
 
-module _ (t : Tables) (a b : List Field) (payer : Field) (is : is_named 50 (codes "AFK") payer ≡ true) (none : first_of (field_tests t (a ++ payer ∷ b)) ≡ None) where
+module _ (t : Tables) (a b : List Field) (payer : Field) (is : is_named 50 (codes "AFK") payer ≡ true)
+    (none : first_of (field_tests t (a ++ payer ∷ b)) ≡ None) where
   abbrev found : List ℕ
   found = places_from order_202 0 (a ++ payer ∷ b)
 
@@ -121,7 +130,8 @@ module _ (t : Tables) (a b : List Field) (payer : Field) (is : is_named 50 (code
   long-back : length (places_from order_202 fa (payer ∷ b)) ≡ length (payer ∷ b)
   long-back =
       let one : length (pa ++ places_from order_202 fa (payer ∷ b)) ≡ length (a ++ payer ∷ b) = sym (ap length parts) ∙ long in
-      let two : length pa + length (places_from order_202 fa (payer ∷ b)) ≡ length a + length (payer ∷ b) = sym (length-append pa (places_from order_202 fa (payer ∷ b))) ∙ one ∙ length-append a (payer ∷ b) in
+      let two : length pa + length (places_from order_202 fa (payer ∷ b)) ≡ length a + length (payer ∷ b) =
+      sym (length-append pa (places_from order_202 fa (payer ∷ b))) ∙ one ∙ length-append a (payer ∷ b) in
       omega (arith, two, long-a)
 
   at-11 : place_from order_202 fa payer ≡ Some 11
@@ -155,13 +165,13 @@ module _ (t : Tables) (a b : List Field) (payer : Field) (is : is_named 50 (code
   pub at-b : (k : ℕ) → 11 ≤ k → at_place (a ++ payer ∷ b) found k ≡ at_place (payer ∷ b) (11 ∷ pb) k
   at-b k le = ap (λ (ps : List ℕ). at_place (a ++ payer ∷ b) ps k) halves ∙ at-back k a (payer ∷ b) pa (11 ∷ pb) long-a (apart-front k le)
 
-  contents : Holds (Passing (content_test t)) pa a × Holds (Passing (content_test t)) (11 ∷ pb) (payer ∷ b)
+  contents : HoldsInPlaces (Passing (content_test t)) pa a × HoldsInPlaces (Passing (content_test t)) (11 ∷ pb) (payer ∷ b)
   contents =
       holds-parts (Passing (content_test t)) a (payer ∷ b) pa (11 ∷ pb) long-a
-      (subst (λ (ps : List ℕ). Holds (Passing (content_test t)) ps (a ++ payer ∷ b)) halves
+      (subst (λ (ps : List ℕ). HoldsInPlaces (Passing (content_test t)) ps (a ++ payer ∷ b)) halves
       (contents-hold (content_test t) (a ++ payer ∷ b) 0 found (a ++ payer ∷ b) (all-hold order_202 (content_test t) (a ++ payer ∷ b) none).contents))
 
-  pub back-passes : Holds (Passing (content_test t)) (11 ∷ pb) (payer ∷ b)
+  pub back-passes : HoldsInPlaces (Passing (content_test t)) (11 ∷ pb) (payer ∷ b)
   back-passes = contents.1
 
   taken : (k : ℕ) (p : Place) → slice_get order_202 k ≡ Some p → p.must ≡ true → list_any (λ q. q == k) (pa ++ 11 ∷ pb) ≡ true
@@ -180,23 +190,26 @@ module _ (t : Tables) (a b : List Field) (payer : Field) (is : is_named 50 (code
 
   -- ---- the names of the front half
 
-  standing : Holds (Stands order_202 (λ _. Unit {0})) pa a
+  standing : HoldsInPlaces (Stands order_202 (λ _. Unit {0})) pa a
   standing = stand order_202 (λ _. Unit {0}) 0 a (any-field a)
 
-  agree-front : (tag : ℕ) (letters : List ℕ) (k : ℕ) (ps : List ℕ) (fs : List Field) → tells_from tag letters k 0 order_a ≡ true → AllByRecursion (λ q. q < 11) ps → Holds (Stands order_202 (λ _. Unit {0})) ps fs
-      → Holds (Agrees (is_named tag letters) k) ps fs
+  agree-front : (tag : ℕ) (letters : List ℕ) (k : ℕ) (ps : List ℕ) (fs : List Field) → tells_from tag letters k 0 order_a ≡ true
+      → AllByRecursion (λ q. q < 11) ps → HoldsInPlaces (Stands order_202 (λ _. Unit {0})) ps fs
+      → HoldsInPlaces (Agrees (is_named tag letters) k) ps fs
   agree-front tag letters k [] fs tells lt h = tt
   agree-front tag letters k (q ∷ ps) [] tells lt h = tt
   agree-front tag letters k (q ∷ ps) (f ∷ fs) tells lt h =
       let same : 0 + q ≡ q = omega arith in
-      let in_a : (d : Place) → fits (get_or order_a q d) f ≡ true = λ d. subst (λ (p : Place). fits p f ≡ true) (get_or_append_left order_a order_b d q lt.0) (h.0.fitting d) in
+      let in_a : (d : Place) → fits (get_or order_a q d) f ≡ true =
+      λ d. subst (λ (p : Place). fits p f ≡ true) (get_or_append_left order_a order_b d q lt.0) (h.0.fitting d) in
       (told-at tag letters k 0 q order_a f tells in_a ∙ ap (λ (n : ℕ). n == k) same, agree-front tag letters k ps fs tells lt.1 h.1)
 
   pub named-a : (tag : ℕ) (letters : List ℕ) (k : ℕ) → tells_from tag letters k 0 order_a ≡ true → find (is_named tag letters) a ≡ at_place a pa k
   named-a tag letters k tells = find-at (is_named tag letters) k pa a (agree-front tag letters k pa a tells below standing) long-a
 
   -- a field of the front half stands at its place, and passes
-  place-seated : (k tag : ℕ) (letters : List ℕ) (o : Option Field) → at_place a pa k ≡ o → is_named tag letters ≡ is_named (get_or order_202 k row).tag (get_or order_202 k row).options → first_for tag letters order_202 k ≡ true
+  place-seated : (k tag : ℕ) (letters : List ℕ) (o : Option Field) → at_place a pa k ≡ o
+      → is_named tag letters ≡ is_named (get_or order_202 k row).tag (get_or order_202 k row).options → first_for tag letters order_202 k ≡ true
       → Seated order_202 (content_test t) 0 k (some_field (λ f. f) o)
   place-seated k tag letters None at same is = none-seated order_202 (content_test t) 0 k
   place-seated k tag letters (Some f) at same is =
@@ -206,6 +219,7 @@ module _ (t : Tables) (a b : List Field) (payer : Field) (is : is_named 50 (code
       let place : k ≡ 0 + k = omega arith in
       record { placed = one-named order_202 0 k tag letters f is named; passing = (subst (λ (n : ℕ). content_test t n f ≡ None) place passes, tt) }
 
-  pub copy-seated-a : (tag : ℕ) (letters : List ℕ) (k : ℕ) (options : List ℕ) → tells_from tag letters k 0 order_a ≡ true → is_named tag options ≡ is_named (get_or order_202 k row).tag (get_or order_202 k row).options → first_for tag options order_202 k ≡ true
+  pub copy-seated-a : (tag : ℕ) (letters : List ℕ) (k : ℕ) (options : List ℕ) → tells_from tag letters k 0 order_a ≡ true
+      → is_named tag options ≡ is_named (get_or order_202 k row).tag (get_or order_202 k row).options → first_for tag options order_202 k ≡ true
       → Seated order_202 (content_test t) 0 k (copied tag letters a)
   copy-seated-a tag letters k options tells same is = rw (named-a tag letters k tells) (place-seated k tag options (at_place a pa k) refl same is)

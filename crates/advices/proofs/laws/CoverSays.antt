@@ -48,7 +48,8 @@ module _ (t : Tables) (fs : List Field) where
   abbrev found : List ℕ
   found = places_from order_202 0 fs
 
-  banks-there : (x : Banks) → banks_of t fs found ≡ Ok x → (in_option fs found 7 (known_party_of t) ≡ Ok x.p56) × (in_option fs found 8 (known_party_of t) ≡ Ok x.p57)
+  banks-there : (x : Banks) → banks_of t fs found ≡ Ok x
+      → (in_option fs found 7 (known_party_of t) ≡ Ok x.p56) × (in_option fs found 8 (known_party_of t) ≡ Ok x.p57)
   unfolding banks_of
   banks-there x e =
       let a = read-then (in_option fs found 4 (known_party_of t)) _ x e in
@@ -60,7 +61,8 @@ module _ (t : Tables) (fs : List Field) where
       let same : record { p52 = a.0; p53 = b.0; p54 = c.0; p56 = d.0; p57 = g.0; p58 = h.0 } ≡ x = told-is _ x h.2 in
       rw (← same) (d.1, g.1)
 
-  customers-there : (x : Customers) → customers_of t fs found ≡ Ok x → (in_option fs found 13 (known_party_of t) ≡ Ok x.p56) × (in_option fs found 14 (known_party_of t) ≡ Ok x.p57)
+  customers-there : (x : Customers) → customers_of t fs found ≡ Ok x
+      → (in_option fs found 13 (known_party_of t) ≡ Ok x.p56) × (in_option fs found 14 (known_party_of t) ≡ Ok x.p57)
   unfolding customers_of
   customers-there x e =
       let a = read-then (in_place order_202 fs found 11 (known_party_of t)) _ x e in
@@ -71,7 +73,8 @@ module _ (t : Tables) (fs : List Field) where
       let same : record { payer = a.0; p52 = b.0; p56 = c.0; p57 = d.0; payee = g.0 } ≡ x = told-is _ x g.2 in
       rw (← same) (c.1, d.1)
 
-  sequence-a-there : (x : SequenceA) → sequence_a_of t fs found ≡ Ok x → (in_option fs found 7 (known_party_of t) ≡ Ok x.banks.p56) × (in_option fs found 8 (known_party_of t) ≡ Ok x.banks.p57)
+  sequence-a-there : (x : SequenceA) → sequence_a_of t fs found ≡ Ok x
+      → (in_option fs found 7 (known_party_of t) ≡ Ok x.banks.p56) × (in_option fs found 8 (known_party_of t) ≡ Ok x.banks.p57)
   unfolding sequence_a_of
   sequence-a-there x e =
       let terms = read-then (terms_of t fs found) _ x e in
@@ -79,16 +82,22 @@ module _ (t : Tables) (fs : List Field) where
       let notes = read-then (in_option fs found 10 (texts_of 6)) _ x banks.2 in
       let made : SequenceA = record { terms = terms.0; banks = banks.0; notes = unwrap_or notes.0 [] } in
       let same : made ≡ x = told-is made x notes.2 in
-      subst (λ (y : SequenceA). (in_option fs found 7 (known_party_of t) ≡ Ok y.banks.p56) × (in_option fs found 8 (known_party_of t) ≡ Ok y.banks.p57)) same (banks-there banks.0 banks.1)
+      subst
+      (λ (y : SequenceA). (in_option fs found 7 (known_party_of t) ≡ Ok y.banks.p56) × (in_option fs found 8 (known_party_of t) ≡ Ok y.banks.p57)) same
+      (banks-there banks.0 banks.1)
 
-  sequence-b-there : (x : SequenceB) → sequence_b_of t fs found ≡ Ok x → (in_option fs found 13 (known_party_of t) ≡ Ok x.customers.p56) × (in_option fs found 14 (known_party_of t) ≡ Ok x.customers.p57)
+  sequence-b-there : (x : SequenceB) → sequence_b_of t fs found ≡ Ok x
+      → (in_option fs found 13 (known_party_of t) ≡ Ok x.customers.p56) × (in_option fs found 14 (known_party_of t) ≡ Ok x.customers.p57)
   unfolding sequence_b_of
   sequence-b-there x e =
       let customers = read-then (customers_of t fs found) _ x e in
       let details = read-then (details_of t fs found) _ x customers.2 in
       let made : SequenceB = record { customers = customers.0; details = details.0 } in
       let same : made ≡ x = told-is made x details.2 in
-      subst (λ (y : SequenceB). (in_option fs found 13 (known_party_of t) ≡ Ok y.customers.p56) × (in_option fs found 14 (known_party_of t) ≡ Ok y.customers.p57)) same (customers-there customers.0 customers.1)
+      subst
+      (λ (y : SequenceB).
+      (in_option fs found 13 (known_party_of t) ≡ Ok y.customers.p56) × (in_option fs found 14 (known_party_of t) ≡ Ok y.customers.p57)) same
+      (customers-there customers.0 customers.1)
 
   contents-there : (m : Mt202Cov) → contents_of t fs found ≡ Ok m → IsThere t fs m
   unfolding contents_in_parts
@@ -172,7 +181,8 @@ module _ (t : Tables) (fs : List Field) where
     none-told m k x e = none-of x ∙ ap (λ (b : Bool). not b) (told m k x e) ∙ sym (none-of (at_place fs found k))
 
     -- so they are read as a cover where the two rules are kept
-    pub cover-reads : lacks (at_place fs found 7) (at_place fs found 8) ≡ false → lacks (at_place fs found 13) (at_place fs found 14) ≡ false → (m : Mt202Cov) × (mt202cov_of t fs ≡ Ok m)
+    pub cover-reads : lacks (at_place fs found 7) (at_place fs found 8) ≡ false → lacks (at_place fs found 13) (at_place fs found 14) ≡ false
+        → (m : Mt202Cov) × (mt202cov_of t fs ≡ Ok m)
     unfolding mt202cov_of
     cover-reads one two =
         let m = contents-fine.0 in
@@ -183,7 +193,8 @@ module _ (t : Tables) (fs : List Field) where
         (m, rw (none, contents-fine.1, kept) refl)
 
   -- and one that was read kept them
-  pub cover-kept : (m : Mt202Cov) → mt202cov_of t fs ≡ Ok m → (lacks (at_place fs found 7) (at_place fs found 8) ≡ false) × (lacks (at_place fs found 13) (at_place fs found 14) ≡ false)
+  pub cover-kept : (m : Mt202Cov) → mt202cov_of t fs ≡ Ok m
+      → (lacks (at_place fs found 7) (at_place fs found 8) ≡ false) × (lacks (at_place fs found 13) (at_place fs found 14) ≡ false)
   unfolding mt202cov_of
   cover-kept m e =
       let none = fields-pass t fs m e in

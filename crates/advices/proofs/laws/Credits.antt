@@ -1,12 +1,12 @@
 -- The notice of a credit passes the tests of an MT910.
-use Rattle.std.proofs.Common.{◌≡◌, ℕ, ◌≤◌, true, List, [], ◌∷◌, length, Some, None, Ok, refl, sym, ◌∙◌, arith, inl}
+use Rattle.std.proofs.Common.{◌≡◌, ℕ, ◌≤◌, true, List, [], ◌∷◌, length, Some, None, Ok, refl, sym, ◌∙◌, arith}
 use Rattle.std.specs.Prelude.{codes, find}
 use Rattle.corr_text.specs.First.{first_of}
 use Rattle.ref_tables.specs.Seen.{Tables}
 use Rattle.fin_fields.specs.Fields.{fields_of}
 use Rattle.fin_fields.specs.declared.field.Field.{Field}
 use Rattle.fin_layout.specs.Order.{places_from}
-use Rattle.fin_layout.specs.Segments.{Segments, joined}
+use Rattle.fin_layout.specs.Segments.{joined}
 use Rattle.fin_layout.proofs.laws.Grouped.{grouped-places}
 use Rattle.fin_parties.specs.declared.party.Party.{Party}
 use Rattle.fin_contents.specs.declared.value.Value.{Value}
@@ -34,10 +34,11 @@ use Rattle.advices.specs.Valid.{CreditPasses}
 use Rattle.advices.proofs.laws.Banks.{ordering-of-cover}
 use Rattle.advices.proofs.laws.Bytes.{c-plain}
 use Rattle.advices.proofs.laws.Finding.{found-passes, must-copy}
-use Rattle.advices.proofs.laws.Fitted.{Fine, fitted, no-field, one-named, row}
+use Rattle.advices.proofs.laws.Fitted.{fitted, row}
 use Rattle.advices.proofs.laws.Made.{line-read, ours-read, reference-line}
-use Rattle.advices.proofs.laws.Orders.{moved, received-cut}
+use Rattle.advices.proofs.laws.Orders.{leg-moved, received-cut}
 use Rattle.advices.proofs.laws.Origin.{given, like-tabled}
+use Rattle.advices.proofs.laws.Seats.{AllSeated, Seated, ◌▸◌, no-more, none-seated, one-seated}
 use Rattle.advices.proofs.laws.Values.{value-made}
 
 -- what the fields say
@@ -45,7 +46,8 @@ abbrev booked : List ℕ → List ℕ → List ℕ → Value → Booking
 booked reference related account v = record { reference = reference; related = related; account = account; at = None; value = v }
 
 module _ (t : Tables) (reference related account : List ℕ) (v : Value) (f21 f52 : Field) (bank : Party)
-    (one : reference_of (line_field 20 None reference) ≡ Ok reference) (is_21 : is_named 21 (codes " ") f21 ≡ true) (two : short_line_of 16 f21 ≡ Ok related)
+    (one : reference_of (line_field 20 None reference) ≡ Ok reference) (is_21 : is_named 21 (codes " ") f21 ≡ true)
+    (two : short_line_of 16 f21 ≡ Ok related)
     (three : short_line_of 35 (line_field 25 None account) ≡ Ok account) (four : value_of t (value_field v) ≡ Ok v)
     (is_52 : is_named 52 (codes "AD") f52 ≡ true) (five : known_party_of t f52 ≡ Ok bank) where
   -- the field of each place
@@ -55,19 +57,36 @@ module _ (t : Tables) (reference related account : List ℕ) (v : Value) (f21 f5
   abbrev found : List ℕ
   found = 0 ∷ 1 ∷ 2 ∷ 4 ∷ 6 ∷ []
 
-  placed : Segments order_910 0 0 segs
-  placed =
-      (one-named order_910 0 0 20 (codes " ") (line_field 20 None reference) refl refl, (0, inl (omega arith), (one-named order_910 0 1 21 (codes " ") f21 refl is_21, (0, inl (omega arith), (one-named order_910 0 2 25 (codes " ") (line_field 25 None account) refl refl, (0, inl (omega arith), (no-field order_910 0 3, (0, inl (omega arith), (one-named order_910 0 4 32 (codes "A") (value_field v) refl refl, (0, inl (omega arith), (no-field order_910 0 5, (0, inl (omega arith), (one-named order_910 0 6 52 (codes "AD") f52 refl is_52, (0, inl (omega arith), (no-field order_910 0 7, (0, inl (omega arith), (no-field order_910 0 8, (0, inl (omega arith), tt))))))))))))))))))
+  abbrev Here : ℕ → List Field → Type 0
+  Here n fs = Seated order_910 (content_test 8 t) 0 n fs
 
-  fine : Fine (content_test 8 t) 0 segs
-  fine =
-      ((rw one refl, tt), ((rw two refl, tt), ((rw three refl, tt), (tt, ((rw four refl, tt), (tt, ((rw five refl, tt), (tt, (tt, tt)))))))))
+  s0 : Here 0 (line_field 20 None reference ∷ [])
+  s0 = one-seated order_910 (content_test 8 t) 0 0 20 (codes " ") reference_of (λ f. refl) refl (line_field 20 None reference) reference refl one
+
+  s1 : Here 1 (f21 ∷ [])
+  s1 = one-seated order_910 (content_test 8 t) 0 1 21 (codes " ") (short_line_of 16) (λ f. refl) refl f21 related is_21 two
+
+  s2 : Here 2 (line_field 25 None account ∷ [])
+  s2 = one-seated order_910 (content_test 8 t) 0 2 25 (codes " ") (short_line_of 35) (λ f. refl) refl (line_field 25 None account) account refl three
+
+  s4 : Here 4 (value_field v ∷ [])
+  s4 = one-seated order_910 (content_test 8 t) 0 4 32 (codes "A") (value_of t) (λ f. refl) refl (value_field v) v refl four
+
+  s6 : Here 6 (f52 ∷ [])
+  s6 = one-seated order_910 (content_test 8 t) 0 6 52 (codes "AD") (known_party_of t) (λ f. refl) refl f52 bank is_52 five
+
+  -- at 13D, 50a, 56a and 72 there is none
+  no : (n : ℕ) → Here n []
+  no n = none-seated order_910 (content_test 8 t) 0 n
+
+  seated : AllSeated order_910 (content_test 8 t) 0 0 segs
+  seated = s0 ▸ s1 ▸ s2 ▸ no 3 ▸ s4 ▸ no 5 ▸ s6 ▸ no 7 ▸ no 8 ▸ no-more order_910 (content_test 8 t) 0 9
 
   pub passes : first_of (tests_910 t (joined segs)) ≡ None
-  passes = fitted order_910 row (content_test 8 t) segs placed refl fine
+  passes = fitted order_910 row (content_test 8 t) segs seated.placed refl seated.passing
 
   places : places_from order_910 0 (joined segs) ≡ found
-  places = grouped-places order_910 row 0 0 0 segs (omega arith) (omega arith) placed
+  places = grouped-places order_910 row 0 0 0 segs (omega arith) (omega arith) seated.placed
 
   says : booking_of order_910 t (joined segs) found ≡ Ok (booked reference related account v)
   unfolding booking_of
@@ -85,13 +104,15 @@ module _ (t : Tables) (reference related account : List ℕ) (v : Value) (f21 f5
   reads = rw (passes, places, contents) refl
 
 -- the fields that are sent are these
-five-fields : (r : Received) (fs : List Field) (reference account : List ℕ) (v : Value) (f21 f52 : Field) → r.fields ≡ fs → find (is_named 21 (codes " ")) fs ≡ Some f21 → ordering r ≡ f52 ∷ []
+five-fields : (r : Received) (fs : List Field) (reference account : List ℕ) (v : Value) (f21 f52 : Field) → r.fields ≡ fs
+    → find (is_named 21 (codes " ")) fs ≡ Some f21 → ordering r ≡ f52 ∷ []
     → credit_fields r reference account v ≡ line_field 20 None reference ∷ f21 ∷ line_field 25 None account ∷ value_field v ∷ f52 ∷ []
 unfolding credit_fields
 five-fields r fs reference account v f21 f52 same found bank = rw (bank, same, found) refl
 
 -- the tests that the received cover passed
-cover-tests : (t : Tables) (pay : Pay) (cover : Mt202Cov) (text : List ℕ) → text ≡ pay.text → Say tests_202 mt202cov_of t text cover → first_of (tests_202 t (fields_of pay.text)) ≡ None
+cover-tests : (t : Tables) (pay : Pay) (cover : Mt202Cov) (text : List ℕ) → text ≡ pay.text → Say tests_202 mt202cov_of t text cover
+    → first_of (tests_202 t (fields_of pay.text)) ≡ None
 cover-tests t pay cover text same said = rw (← same) (said.tests)
 
 pub credit-passes : CreditPasses
@@ -100,7 +121,7 @@ credit-passes t chart pay envelope text cover place k leg to came small few numb
     let fs = fields_of pay.text in
     let kept = came.received.kept in
     let g = given t pay m came.received in
-    let on = moved chart pay leg came.accounts came.fits numbered in
+    let on = leg-moved chart pay leg came.accounts came.fits numbered in
     let money = came.money leg on.account on.on_account in
     let tabled = like-tabled t cover.amount on.amount (on.in_ccy ∙ money.ccy) (on.in_decimals ∙ money.decimals) g.tabled in
     let v = value_of_pay pay on.amount in
@@ -115,7 +136,6 @@ credit-passes t chart pay envelope text cover place k leg to came small few numb
     let three = line-read 35 25 on.account.id on.formed.id_given short (c-plain on.account.id on.formed.id_plain) in
     let four = value-made t v (record { day = came.shape.value; amount = on.spelled }) tabled on.above in
     let same = five-fields r fs (ours place k) on.account.id v related.0 bank.field g.fields related.2 bank.same in
-    rw (on.on_account, on.of_amount, same) (
-      passes t (ours place k) related.1 on.account.id v related.0 bank.field bank.bank one is_21 two three four bank.named bank.says,
-      (mt910 (booked (ours place k) related.1 on.account.id v) None (Some bank.bank) None [], reads t (ours place k) related.1 on.account.id v related.0 bank.field bank.bank one is_21 two three four bank.named bank.says),
-    )
+    let tests = passes t (ours place k) related.1 on.account.id v related.0 bank.field bank.bank one is_21 two three four bank.named bank.says in
+    let read = reads t (ours place k) related.1 on.account.id v related.0 bank.field bank.bank one is_21 two three four bank.named bank.says in
+    rw (on.on_account, on.of_amount, same) (tests, (mt910 (booked (ours place k) related.1 on.account.id v) None (Some bank.bank) None [], read))

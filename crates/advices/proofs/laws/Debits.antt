@@ -21,11 +21,11 @@ use Rattle.advices.specs.Advice.{debit_fields}
 use Rattle.advices.specs.Fields.{is_named, ours}
 use Rattle.advices.specs.Legs.{value_of_pay}
 use Rattle.advices.specs.Received.{received_of}
-use Rattle.advices.specs.Valid.{DebitPasses, amount_of}
+use Rattle.advices.specs.Valid.{DebitPasses, amount_32a}
 use Rattle.advices.proofs.laws.Bytes.{c-plain}
 use Rattle.advices.proofs.laws.Fitted.{all-pass}
 use Rattle.advices.proofs.laws.Made.{line-read, ours-read, reference-short}
-use Rattle.advices.proofs.laws.Orders.{moved}
+use Rattle.advices.proofs.laws.Orders.{leg-moved}
 use Rattle.advices.proofs.laws.Origin.{given, like-tabled}
 use Rattle.advices.proofs.laws.Values.{value-made}
 
@@ -76,7 +76,8 @@ module _ (t : Tables) (reference related account : List ℕ) (v : Value)
 -- ---- the fields that are sent
 
 -- they are four: the second has the line of the received 20
-four-fields : (r : Received) (fs : List Field) (reference account : List ℕ) (v : Value) (f : Field) (x : List ℕ) → r.fields ≡ fs → find (is_named 20 (codes " ")) fs ≡ Some f → f.lines ≡ x ∷ []
+four-fields : (r : Received) (fs : List Field) (reference account : List ℕ) (v : Value) (f : Field) (x : List ℕ) → r.fields ≡ fs
+    → find (is_named 20 (codes " ")) fs ≡ Some f → f.lines ≡ x ∷ []
     → debit_fields r reference account v ≡ line_field 20 None reference ∷ line_field 21 None x ∷ line_field 25 None account ∷ value_field v ∷ []
 unfolding debit_fields
 four-fields r fs reference account v f x same found lines = rw (same, found, lines) refl
@@ -84,16 +85,17 @@ four-fields r fs reference account v f x same found lines = rw (same, found, lin
 pub debit-passes : DebitPasses
 debit-passes t chart pay m place k leg to came small few numbered =
     let g = given t pay m came.received in
-    let on = moved chart pay leg came.accounts came.fits numbered in
+    let on = leg-moved chart pay leg came.accounts came.fits numbered in
     let money = came.money leg on.account on.on_account in
-    let tabled = like-tabled t (amount_of m) on.amount (on.in_ccy ∙ money.ccy) (on.in_decimals ∙ money.decimals) g.tabled in
+    let tabled = like-tabled t (amount_32a m) on.amount (on.in_ccy ∙ money.ccy) (on.in_decimals ∙ money.decimals) g.tabled in
     let v = value_of_pay pay on.amount in
     let one = ours-read place k small few 20 in
     let two = reference-short 21 g.field g.reference g.says in
     let short : length on.account.id ≤ 35 = omega (arith, on.formed.id_short) in
     let three = line-read 35 25 on.account.id on.formed.id_given short (c-plain on.account.id on.formed.id_plain) in
     let four = value-made t v (record { day = came.shape.value; amount = on.spelled }) tabled on.above in
-    let same = four-fields (received_of pay) _ (ours place k) on.account.id v g.field g.reference g.fields g.found (reference-kept g.field g.reference g.says) in
+    let same =
+    four-fields (received_of pay) _ (ours place k) on.account.id v g.field g.reference g.fields g.found (reference-kept g.field g.reference g.says) in
     rw (on.on_account, on.of_amount, same) (
       passes t (ours place k) g.reference on.account.id v one two three four,
       (mt900 (booked (ours place k) g.reference on.account.id v) None [], reads t (ours place k) g.reference on.account.id v one two three four),

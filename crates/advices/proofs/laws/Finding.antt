@@ -13,7 +13,7 @@ use Rattle.fin_layout.specs.Tests.{tests}
 use Rattle.fin_layout.proofs.laws.Fine.{IsTestOf, all-hold, field-nil, present, read-none, taken-from, tested}
 use Rattle.fin_layout.proofs.laws.FoundField.{field-here, field-later, shifted}
 use Rattle.fin_contents.proofs.laws.Bytes.{and-both}
-use Rattle.fin_contents.proofs.laws.Said.{Holds, Stands, stand}
+use Rattle.fin_contents.proofs.laws.Said.{HoldsInPlaces, Stands, stand}
 use Rattle.advices.specs.Fields.{is_named}
 
 -- ---- names and places
@@ -44,7 +44,8 @@ picked test x (o ∷ options) all some =
     let both = and-both (test o) (list_all test options) all in
     go (o == x) refl some both.0 (λ h. picked test x options both.1 h)
   where
-    go : (b : Bool) → (o == x) ≡ b → (b || list_any (λ o. o == x) options) ≡ true → test o ≡ true → (list_any (λ o. o == x) options ≡ true → test x ≡ true) → test x ≡ true
+    go : (b : Bool) → (o == x) ≡ b → (b || list_any (λ o. o == x) options) ≡ true → test o ≡ true
+        → (list_any (λ o. o == x) options ≡ true → test x ≡ true) → test x ≡ true
     go true at h here later = let same : o ≡ x = eqb-true o x at in rw (← same) here
     go false at h here later = later h
 
@@ -55,7 +56,8 @@ named-for tag letters p f is fit =
     let one : p.tag ≡ tag = eqb-true p.tag tag place.0 in
     let two : p.tag ≡ f.tag = eqb-true p.tag f.tag field.0 in
     let same : (f.tag == tag) ≡ true = ap (λ (n : ℕ). n == tag) (sym two) ∙ place.0 in
-    let some : list_any (λ letter. letter == letter_of f) letters ≡ true = picked (λ o. list_any (λ letter. letter == o) letters) (letter_of f) p.options place.1 field.1 in
+    let some : list_any (λ letter. letter == letter_of f) letters ≡ true =
+    picked (λ o. list_any (λ letter. letter == o) letters) (letter_of f) p.options place.1 field.1 in
     rw (same, some) refl
 
 pub not-true : (b : Bool) → not b ≡ true → b ≡ false
@@ -69,14 +71,17 @@ apart-named tag letters p f is fit =
     let same : (f.tag == tag) ≡ (p.tag == tag) = ap (λ (n : ℕ). n == tag) (sym two) in
     rw same (go (p.tag == tag) is field.1)
   where
-    go : (b : Bool) → (not b || lacks_letters letters p.options) ≡ true → list_any (λ o. o == letter_of f) p.options ≡ true → (b && list_any (λ letter. letter == letter_of f) letters) ≡ false
+    go : (b : Bool) → (not b || lacks_letters letters p.options) ≡ true → list_any (λ o. o == letter_of f) p.options ≡ true
+        → (b && list_any (λ letter. letter == letter_of f) letters) ≡ false
     go false h some = refl
     go true h some =
-        let none : not (list_any (λ letter. letter == letter_of f) letters) ≡ true = picked (λ o. not (list_any (λ letter. letter == o) letters)) (letter_of f) p.options h some in
+        let none : not (list_any (λ letter. letter == letter_of f) letters) ≡ true =
+        picked (λ o. not (list_any (λ letter. letter == o) letters)) (letter_of f) p.options h some in
         not-true (list_any (λ letter. letter == letter_of f) letters) none
 
 -- a field at a place of the order has the name just where the place is that of the name
-pub told-at : (tag : ℕ) (letters : List ℕ) (k j q : ℕ) (order : List Place) (f : Field) → tells_from tag letters k j order ≡ true → ((d : Place) → fits (get_or order q d) f ≡ true)
+pub told-at : (tag : ℕ) (letters : List ℕ) (k j q : ℕ) (order : List Place) (f : Field) → tells_from tag letters k j order ≡ true
+    → ((d : Place) → fits (get_or order q d) f ≡ true)
     → is_named tag letters f ≡ (j + q == k)
 told-at tag letters k j q [] f tells fit =
     absurd (cc (and-both (f.tag == f.tag) false (fit (record { tag = f.tag; options = []; many = false; must = false }))).1)
@@ -97,15 +102,17 @@ told-at tag letters k j (suc q) (p ∷ order) f tells fit =
 abbrev pub Agrees : (Field → Bool) → ℕ → ℕ → Field → Type 0
 Agrees test k q f = test f ≡ (q == k)
 
-holds-more : (Q R : ℕ → Field → Type 0) (found : List ℕ) (fs : List Field) → ((q : ℕ) (f : Field) → Q q f → R q f) → Holds Q found fs → Holds R found fs
+holds-more : (Q R : ℕ → Field → Type 0) (found : List ℕ) (fs : List Field) → ((q : ℕ) (f : Field) → Q q f → R q f) → HoldsInPlaces Q found fs → HoldsInPlaces R found fs
 holds-more Q R [] fs more h = tt
 holds-more Q R (q ∷ found) [] more h = tt
 holds-more Q R (q ∷ found) (f ∷ fs) more h = (more q f h.0, holds-more Q R found fs more h.1)
 
-pub agree : (tag : ℕ) (letters : List ℕ) (k : ℕ) (order : List Place) (found : List ℕ) (fs : List Field) → tells_from tag letters k 0 order ≡ true → Holds (Stands order (λ _. Unit {0})) found fs
-    → Holds (Agrees (is_named tag letters) k) found fs
+pub agree : (tag : ℕ) (letters : List ℕ) (k : ℕ) (order : List Place) (found : List ℕ) (fs : List Field) → tells_from tag letters k 0 order ≡ true
+    → HoldsInPlaces (Stands order (λ _. Unit {0})) found fs
+    → HoldsInPlaces (Agrees (is_named tag letters) k) found fs
 agree tag letters k order found fs tells h =
-    holds-more (Stands order (λ _. Unit {0})) (Agrees (is_named tag letters) k) found fs (λ q f s. let same : 0 + q ≡ q = omega arith in told-at tag letters k 0 q order f tells s.fitting ∙ ap (λ (n : ℕ). n == k) same) h
+    holds-more (Stands order (λ _. Unit {0})) (Agrees (is_named tag letters) k) found fs
+    (λ q f s. let same : 0 + q ≡ q = omega arith in told-at tag letters k 0 q order f tells s.fitting ∙ ap (λ (n : ℕ). n == k) same) h
 
 -- ---- the first that passes a test
 
@@ -117,7 +124,8 @@ pub same-field : (o : Option (ℕ × Field)) → option_map field_of o ≡ optio
 same-field None = refl
 same-field (Some x) = refl
 
-pub find-at : (test : Field → Bool) (k : ℕ) (found : List ℕ) (fs : List Field) → Holds (Agrees test k) found fs → length found ≡ length fs → find test fs ≡ option_map field_of (field_in fs found k)
+pub find-at : (test : Field → Bool) (k : ℕ) (found : List ℕ) (fs : List Field) → HoldsInPlaces (Agrees test k) found fs → length found ≡ length fs
+    → find test fs ≡ option_map field_of (field_in fs found k)
 find-at test k found [] h long = rw (field-nil found k) refl
 find-at test k [] (f ∷ fs) h long = absurd (omega (arith, long))
 find-at test k (q ∷ found) (f ∷ fs) h long =
@@ -144,7 +152,8 @@ found-passes test (g ∷ fs) f e = go (test g) refl e (λ h. found-passes test f
 pub any-field : (fs : List Field) → All (λ _. Unit {0}) fs
 any-field fs = λ k d lt. tt
 
-module _ (order : List Place) (test : ℕ → Field → Option Code) (fs : List Field) (none : first_of (tests order test fs) ≡ None) (tag : ℕ) (letters : List ℕ) (k : ℕ) (tells : tells_from tag letters k 0 order ≡ true) where
+module _ (order : List Place) (test : ℕ → Field → Option Code) (fs : List Field) (none : first_of (tests order test fs) ≡ None) (tag : ℕ)
+    (letters : List ℕ) (k : ℕ) (tells : tells_from tag letters k 0 order ≡ true) where
   pub copied-at : find (is_named tag letters) fs ≡ option_map field_of (field_in fs (places_from order 0 fs) k)
   copied-at =
       let found = places_from order 0 fs in
@@ -152,7 +161,8 @@ module _ (order : List Place) (test : ℕ → Field → Option Code) (fs : List 
       find-at (is_named tag letters) k found fs (agree tag letters k order found fs tells (stand order (λ _. Unit {0}) 0 fs (any-field fs))) hold.whole
 
   -- a field of a mandatory place is found, and says what is wanted of it
-  pub must-copy : {A : Type 0} (read : Field → Result A Code) (p : Place) → IsTestOf test k read → slice_get order k ≡ Some p → p.must ≡ true → (f : Field) × (x : A) × (find (is_named tag letters) fs ≡ Some f) × (read f ≡ Ok x)
+  pub must-copy : {A : Type 0} (read : Field → Result A Code) (p : Place) → IsTestOf test k read → slice_get order k ≡ Some p → p.must ≡ true
+      → (f : Field) × (x : A) × (find (is_named tag letters) fs ≡ Some f) × (read f ≡ Ok x)
   must-copy read p of at must =
       let found = places_from order 0 fs in
       let hold = all-hold order test fs none in
@@ -160,12 +170,14 @@ module _ (order : List Place) (test : ℕ → Field → Option Code) (fs : List 
       let fine = read-none (read there.1) (sym (of there.1) ∙ tested test fs k 0 found fs there.0 there.1 hold.contents there.2) in
       (there.1, fine.0, copied-at ∙ ap (option_map field_of) there.2, fine.1)
 
-  may-say : {A : Type 0} (read : Field → Result A Code) (o : Option (ℕ × Field)) → IsTestOf test k read → field_in fs (places_from order 0 fs) k ≡ o → IfSome (option_map field_of o) (λ f. (x : A) × (read f ≡ Ok x))
+  may-say : {A : Type 0} (read : Field → Result A Code) (o : Option (ℕ × Field)) → IsTestOf test k read → field_in fs (places_from order 0 fs) k ≡ o
+      → IfSome (option_map field_of o) (λ f. (x : A) × (read f ≡ Ok x))
   may-say read None of at = tt
   may-say read (Some (n, f)) of at =
       let hold = all-hold order test fs none in
       read-none (read f) (sym (of f) ∙ tested test fs k 0 (places_from order 0 fs) fs n f hold.contents at)
 
   -- one of an optional place says it where it is found
-  pub may-copy : {A : Type 0} (read : Field → Result A Code) → IsTestOf test k read → IfSome (find (is_named tag letters) fs) (λ f. (x : A) × (read f ≡ Ok x))
+  pub may-copy : {A : Type 0} (read : Field → Result A Code) → IsTestOf test k read
+      → IfSome (find (is_named tag letters) fs) (λ f. (x : A) × (read f ≡ Ok x))
   may-copy read of = rw copied-at (may-say read (field_in fs (places_from order 0 fs) k) of refl)

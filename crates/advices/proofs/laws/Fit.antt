@@ -31,12 +31,14 @@ use Rattle.advices.proofs.laws.Bytes.{bic-plain, ccy_amount-plain, day-plain, jo
 
 -- ---- fields that are copied
 
-found-one : (P : Field → Type 0) (write : Field → Field) (f : Field) (o : Option Field) (b : Bool) → P (write f) → AllByRecursion P (some_field write o) → AllByRecursion P (some_field write (cond b (Some f) o))
+found-one : (P : Field → Type 0) (write : Field → Field) (f : Field) (o : Option Field) (b : Bool) → P (write f)
+    → AllByRecursion P (some_field write o) → AllByRecursion P (some_field write (cond b (Some f) o))
 found-one P write f o true here later = (here, tt)
 found-one P write f o false here later = later
 
 -- what holds of each field holds of the first that passes a test
-found-each : (P : Field → Type 0) (test : Field → Bool) (write : Field → Field) (fs : List Field) → ((f : Field) → P f → P (write f)) → AllByRecursion P fs → AllByRecursion P (some_field write (find test fs))
+found-each : (P : Field → Type 0) (test : Field → Bool) (write : Field → Field) (fs : List Field) → ((f : Field) → P f → P (write f))
+    → AllByRecursion P fs → AllByRecursion P (some_field write (find test fs))
 found-each P test write [] also all = tt
 found-each P test write (f ∷ fs) also all = found-one P write f (find test fs) (test f) (also f all.0) (found-each P test write fs also all.1)
 
@@ -107,7 +109,9 @@ or_bank-fit bic [] is all = bank-fit 52 bic (omega arith) is
 or_bank-fit bic (f ∷ fs) is all = all
 
 ordering-fit : (r : Received) → IsReceivedWhole r → AreFit (ordering r)
-ordering-fit r s = or_bank-fit r.sender (copied 52 (codes "AD") (fields_for_52 r.mt r.fields)) s.sender (copied-fit 52 (codes "AD") (fields_for_52 r.mt r.fields) (for_52-fit r.mt r.fields (cut-fit r s)))
+ordering-fit r s =
+    or_bank-fit r.sender (copied 52 (codes "AD") (fields_for_52 r.mt r.fields)) s.sender
+    (copied-fit 52 (codes "AD") (fields_for_52 r.mt r.fields) (for_52-fit r.mt r.fields (cut-fit r s)))
 
 intermediary-fit : (skip : Skip) (fs : List Field) → AreFit fs → AreFit (intermediary skip fs)
 intermediary-fit Keep fs all = copied-fit 56 (codes "ACD") fs all
@@ -135,7 +139,8 @@ no-letter tag two = record { two_digits = two; capital = tt }
 
 -- ---- messages
 
-term-fit : (fs : List Field) (reference : List ℕ) (v : Value) (ordered : Amount) (skip : Skip) → AreFit fs → IsPlain reference → IsMoved v → IsWritableAmount ordered → Each IsField (term_fields fs reference v ordered skip)
+term-fit : (fs : List Field) (reference : List ℕ) (v : Value) (ordered : Amount) (skip : Skip) → AreFit fs → IsPlain reference → IsMoved v
+    → IsWritableAmount ordered → Each IsField (term_fields fs reference v ordered skip)
 term-fit fs reference v ordered skip all plain is spelled = (
   made 20 None reference (no-letter 20 (omega arith)) plain,
   (
@@ -155,7 +160,13 @@ party-fit r skip via s is = (
   copied-fit 50 (codes "AFK") r.fields (cut-fit r s),
   (
     ordering-fit r s,
-    (via-fit via is, (intermediary-fit skip r.fields (cut-fit r s), (account_bank-fit skip r.fields (cut-fit r s), (copied-fit 59 (codes " AF") r.fields (cut-fit r s), tt)))),
+    (
+      via-fit via is,
+      (
+        intermediary-fit skip r.fields (cut-fit r s),
+        (account_bank-fit skip r.fields (cut-fit r s), (copied-fit 59 (codes " AF") r.fields (cut-fit r s), tt)),
+      ),
+    ),
   ),
 )
 
@@ -171,13 +182,15 @@ detail-fit fs all = (
   ),
 )
 
-pub transfer-fit : (r : Received) (reference : List ℕ) (v : Value) (ordered : Amount) (skip : Skip) (via : Option Bic) → IsReceivedWhole r → IsPlain reference → IsMoved v → IsWritableAmount ordered → IfSome via IsBic
+pub transfer-fit : (r : Received) (reference : List ℕ) (v : Value) (ordered : Amount) (skip : Skip) (via : Option Bic) → IsReceivedWhole r
+    → IsPlain reference → IsMoved v → IsWritableAmount ordered → IfSome via IsBic
     → All IsField (transfer_fields r reference v ordered skip via)
 unfolding transfer_fields
 transfer-fit r reference v ordered skip via s plain is spelled to =
     each-joined IsField (term_fields r.fields reference v ordered skip ++ party_fields r skip via ++ detail_fields r.fields)
     (each-append IsField (term_fields r.fields reference v ordered skip ++ party_fields r skip via) (detail_fields r.fields)
-    (each-append IsField (term_fields r.fields reference v ordered skip) (party_fields r skip via) (term-fit r.fields reference v ordered skip (cut-fit r s) plain is spelled) (party-fit r skip via s to))
+    (each-append IsField (term_fields r.fields reference v ordered skip) (party_fields r skip via)
+    (term-fit r.fields reference v ordered skip (cut-fit r s) plain is spelled) (party-fit r skip via s to))
     (detail-fit r.fields (cut-fit r s)))
 
 covered-fit : (r : Received) (ordered : Amount) (skip : Skip) → IsReceivedWhole r → IsWritableAmount ordered → Each IsField (covered_fields r ordered skip)
@@ -189,19 +202,28 @@ covered-fit r ordered skip s spelled = (
       intermediary-fit skip r.fields (cut-fit r s),
       (
         account_bank-fit skip r.fields (cut-fit r s),
-        (copied-fit 59 (codes " AF") r.fields (cut-fit r s), (copied-fit 70 (codes " ") r.fields (cut-fit r s), (copied-fit 72 (codes " ") r.fields (cut-fit r s), (ordered-fit ordered r.fields spelled (cut-fit r s), tt)))),
+        (
+          copied-fit 59 (codes " AF") r.fields (cut-fit r s),
+          (
+            copied-fit 70 (codes " ") r.fields (cut-fit r s),
+            (copied-fit 72 (codes " ") r.fields (cut-fit r s), (ordered-fit ordered r.fields spelled (cut-fit r s), tt)),
+          ),
+        ),
       ),
     ),
   ),
 )
 
-pub cover-fit : (r : Received) (reference related : List ℕ) (v : Value) (ordered : Amount) (end : Bic) (skip : Skip) → IsReceivedWhole r → IsPlain reference → IsPlain related → IsMoved v → IsWritableAmount ordered → IsBic end
+pub cover-fit : (r : Received) (reference related : List ℕ) (v : Value) (ordered : Amount) (end : Bic) (skip : Skip) → IsReceivedWhole r
+    → IsPlain reference → IsPlain related → IsMoved v → IsWritableAmount ordered → IsBic end
     → All IsField (cover_fields r reference related v ordered end skip)
 unfolding cover_fields
 cover-fit r reference related v ordered end skip s plain other is spelled to =
     each-joined IsField (covering_fields reference related v end ++ covered_fields r ordered skip)
-    (each-append IsField (covering_fields reference related v end) (covered_fields r ordered skip)
-    (made 20 None reference (no-letter 20 (omega arith)) plain, (made 21 None related (no-letter 21 (omega arith)) other, (value-made v is, (bank-fit 58 end (omega arith) to, tt))))
+    (each-append IsField (covering_fields reference related v end) (covered_fields r ordered skip) (
+      made 20 None reference (no-letter 20 (omega arith)) plain,
+      (made 21 None related (no-letter 21 (omega arith)) other, (value-made v is, (bank-fit 58 end (omega arith) to, tt))),
+    )
     (covered-fit r ordered skip s spelled))
 
 both-each : (front back : List Field) → AreFit front → AreFit back → AreFit (front ++ back)
@@ -211,7 +233,8 @@ both-each (f ∷ fs) back p q = (p.0, both-each fs back p.1 q)
 both-fit : (front back : List Field) → All IsField front → AreFit back → All IsField (front ++ back)
 both-fit front back p q = all-of IsField (front ++ back) (both-each front back (each-of IsField front p) q)
 
-passed-fit : (r : Received) (first : List Field) (reference : List ℕ) (v : Value) (skip : Skip) → IsReceivedWhole r → AreFit first → IsPlain reference → IsMoved v → Each IsField (passed_fields r first reference v skip)
+passed-fit : (r : Received) (first : List Field) (reference : List ℕ) (v : Value) (skip : Skip) → IsReceivedWhole r → AreFit first → IsPlain reference
+    → IsMoved v → Each IsField (passed_fields r first reference v skip)
 passed-fit r first reference v skip s all plain is = (
   made 20 None reference (no-letter 20 (omega arith)) plain,
   (
@@ -220,20 +243,26 @@ passed-fit r first reference v skip s all plain is = (
       value-made v is,
       (
         ordering-fit r s,
-        (intermediary-fit skip first all, (account_bank-fit skip first all, (copied-fit 58 (codes "AD") first all, (copied-fit 72 (codes " ") first all, tt)))),
+        (
+          intermediary-fit skip first all,
+          (account_bank-fit skip first all, (copied-fit 58 (codes "AD") first all, (copied-fit 72 (codes " ") first all, tt))),
+        ),
       ),
     ),
   ),
 )
 
-pub pass-fit : (r : Received) (reference : List ℕ) (v : Value) (skip : Skip) → IsReceivedWhole r → IsPlain reference → IsMoved v → All IsField (pass_fields r reference v skip)
+pub pass-fit : (r : Received) (reference : List ℕ) (v : Value) (skip : Skip) → IsReceivedWhole r → IsPlain reference → IsMoved v
+    → All IsField (pass_fields r reference v skip)
 unfolding pass_fields
 pass-fit r reference v skip s plain is =
     both-fit (joined (passed_fields r (sequence_a r.fields) reference v skip)) (sequence_b r.fields)
-    (each-joined IsField (passed_fields r (sequence_a r.fields) reference v skip) (passed-fit r (sequence_a r.fields) reference v skip s (taken-fit (first_fields r.fields) r.fields (cut-fit r s)) plain is))
+    (each-joined IsField (passed_fields r (sequence_a r.fields) reference v skip)
+    (passed-fit r (sequence_a r.fields) reference v skip s (taken-fit (first_fields r.fields) r.fields (cut-fit r s)) plain is))
     (dropped-fit (first_fields r.fields) r.fields (cut-fit r s))
 
-pub debit-fit : (r : Received) (reference account : List ℕ) (v : Value) → IsReceivedWhole r → IsPlain reference → IsPlain account → IsMoved v → All IsField (debit_fields r reference account v)
+pub debit-fit : (r : Received) (reference account : List ℕ) (v : Value) → IsReceivedWhole r → IsPlain reference → IsPlain account → IsMoved v
+    → All IsField (debit_fields r reference account v)
 unfolding debit_fields
 debit-fit r reference account v s plain id is =
     each-joined IsField ((line_field 20 None reference ∷ []) ∷ copied_as 20 21 r.fields ∷ (line_field 25 None account ∷ []) ∷ (value_field v ∷ []) ∷ []) (
@@ -241,10 +270,15 @@ debit-fit r reference account v s plain id is =
       (copied_as-fit 20 21 r.fields (omega arith) (cut-fit r s), (made 25 None account (no-letter 25 (omega arith)) id, (value-made v is, tt))),
     )
 
-pub credit-fit : (r : Received) (reference account : List ℕ) (v : Value) → IsReceivedWhole r → IsPlain reference → IsPlain account → IsMoved v → All IsField (credit_fields r reference account v)
+pub credit-fit : (r : Received) (reference account : List ℕ) (v : Value) → IsReceivedWhole r → IsPlain reference → IsPlain account → IsMoved v
+    → All IsField (credit_fields r reference account v)
 unfolding credit_fields
 credit-fit r reference account v s plain id is =
-    each-joined IsField ((line_field 20 None reference ∷ []) ∷ copied 21 (codes " ") r.fields ∷ (line_field 25 None account ∷ []) ∷ (value_field v ∷ []) ∷ ordering r ∷ []) (
+    each-joined IsField
+    ((line_field 20 None reference ∷ []) ∷ copied 21 (codes " ") r.fields ∷ (line_field 25 None account ∷ []) ∷ (value_field v ∷ []) ∷ ordering r ∷ []) (
       made 20 None reference (no-letter 20 (omega arith)) plain,
-      (copied-fit 21 (codes " ") r.fields (cut-fit r s), (made 25 None account (no-letter 25 (omega arith)) id, (value-made v is, (ordering-fit r s, tt)))),
+      (
+        copied-fit 21 (codes " ") r.fields (cut-fit r s),
+        (made 25 None account (no-letter 25 (omega arith)) id, (value-made v is, (ordering-fit r s, tt))),
+      ),
     )

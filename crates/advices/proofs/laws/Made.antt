@@ -50,7 +50,8 @@ double-other (b ∷ bs) (c ∷ cs) e =
     let both = and-both (is_other b) (list_all is_other bs) e in
     go (b == 47) both.0 (double-other bs cs both.1)
   where
-    go : (x : Bool) → not x ≡ true → list_any (λ p. (p.0 == 47) && (p.1 == 47)) (zip bs cs) ≡ false → ((x && (c == 47)) || list_any (λ p. (p.0 == 47) && (p.1 == 47)) (zip bs cs)) ≡ false
+    go : (x : Bool) → not x ≡ true → list_any (λ p. (p.0 == 47) && (p.1 == 47)) (zip bs cs) ≡ false
+        → ((x && (c == 47)) || list_any (λ p. (p.0 == 47) && (p.1 == 47)) (zip bs cs)) ≡ false
     go true h later = absurd (cc h)
     go false h later = later
 
@@ -72,7 +73,10 @@ module _ (place k : ℕ) (small : place ≤ 100000) (few : k ≤ 255) where
   ours-other : list_all is_other (ours place k) ≡ true
   ours-other =
       list_all-append is_other (padded 8 place) (75 ∷ decimal k)
-      ∙ rw (digits-other (padded 8 place) (padded-digits 8 place (omega (arith, small)) (omega arith)), digits-other (decimal k) (decimal-digits k (omega (arith, few)))) refl
+      ∙ rw (
+        digits-other (padded 8 place) (padded-digits 8 place (omega (arith, small)) (omega arith)),
+        digits-other (decimal k) (decimal-digits k (omega (arith, few))),
+      ) refl
 
   ours-long : length (ours place k) ≡ 10 + length (decimal k)
   ours-long =
@@ -92,7 +96,8 @@ module _ (place k : ℕ) (small : place ≤ 100000) (few : k ≤ 255) where
 
 -- ---- a line that is no longer than wanted
 
-pub line-read : (most tag : ℕ) (line : List ℕ) → 1 ≤ length line → length line ≤ most → IsPlain line → short_line_of most (line_field tag None line) ≡ Ok line
+pub line-read : (most tag : ℕ) (line : List ℕ) → 1 ≤ length line → length line ≤ most → IsPlain line
+    → short_line_of most (line_field tag None line) ≡ Ok line
 unfolding short_line_of
 line-read most tag line some short plain =
     rw (le-leb 1 (length line) some, le-leb (length line) most short, plain) refl

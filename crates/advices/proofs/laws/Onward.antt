@@ -23,10 +23,10 @@ use Rattle.advices.specs.Legs.{leg_amount, value_of_pay}
 use Rattle.advices.specs.Received.{ordered_of, received_of}
 use Rattle.advices.specs.Spelled.{IsWritableAmount}
 use Rattle.advices.specs.Transfer.{transfer_fields}
-use Rattle.advices.specs.Valid.{CameFrom, CoverReads, IsTabled, PassReads, TransferReads, amount_of}
+use Rattle.advices.specs.Valid.{CameFrom, CoverReads, IsTabled, PassReads, TransferReads, amount_32a}
 use Rattle.advices.proofs.laws.Covers.{cover-fields-pass, cover-parted}
 use Rattle.advices.proofs.laws.Made.{ours-read}
-use Rattle.advices.proofs.laws.Orders.{moved, ordered-spelled, received-cut}
+use Rattle.advices.proofs.laws.Orders.{leg-moved, ordered-spelled, received-cut}
 use Rattle.advices.proofs.laws.Ordered.{ordered-ccy, ordered-tabled}
 use Rattle.advices.proofs.laws.Origin.{given, like-tabled}
 use Rattle.advices.proofs.laws.Passes.{pass-fields-read}
@@ -47,16 +47,16 @@ record Legs (t : Tables) (chart : Chart) (pay : Pay) (money : Amount) : Type 0 w
   ccy : sent.ccy ≡ money.ccy
   ordered_ccy : (ordered_of (received_of pay) own).ccy ≡ money.ccy
 
-legs : (t : Tables) (chart : Chart) (pay : Pay) (m : Message) → CameFrom t chart pay m → Legs t chart pay (amount_of m)
+legs : (t : Tables) (chart : Chart) (pay : Pay) (m : Message) → CameFrom t chart pay m → Legs t chart pay (amount_32a m)
 legs t chart pay m came =
     let g = given t pay m came.received in
     let two : length pay.legs ≡ 2 = two_legs chart pay.legs (transfer chart pay.legs came.fits) in
-    let first = moved chart pay 1 came.accounts came.fits (omega arith, omega (arith, two)) in
-    let second = moved chart pay 2 came.accounts came.fits (omega arith, omega (arith, two)) in
+    let first = leg-moved chart pay 1 came.accounts came.fits (omega arith, omega (arith, two)) in
+    let second = leg-moved chart pay 2 came.accounts came.fits (omega arith, omega (arith, two)) in
     let money = came.money 1 first.account first.on_account in
     let moneys = came.money 2 second.account second.on_account in
-    let like = like-tabled t (amount_of m) first.amount (first.in_ccy ∙ money.ccy) (first.in_decimals ∙ money.decimals) g.tabled in
-    let likes = like-tabled t (amount_of m) second.amount (second.in_ccy ∙ moneys.ccy) (second.in_decimals ∙ moneys.decimals) g.tabled in
+    let like = like-tabled t (amount_32a m) first.amount (first.in_ccy ∙ money.ccy) (first.in_decimals ∙ money.decimals) g.tabled in
+    let likes = like-tabled t (amount_32a m) second.amount (second.in_ccy ∙ moneys.ccy) (second.in_decimals ∙ moneys.decimals) g.tabled in
     let decimals = first.in_decimals ∙ money.decimals ∙ sym (ap (λ (a : Amount). a.decimals) g.same) in
     let found : find (is_named 32 (codes "A")) (received_of pay).fields ≡ Some g.dated = ap (find (is_named 32 (codes "A"))) g.fields ∙ g.found_32 in
     record {
@@ -69,20 +69,24 @@ legs t chart pay m came =
       tabled = ordered-tabled t (received_of pay) first.amount g.dated g.value found g.says_32 decimals like;
       ccy = second.in_ccy ∙ moneys.ccy;
       ordered_ccy =
-          let same : g.value.amount.ccy ≡ (amount_of m).ccy = ap (λ (a : Amount). a.ccy) g.same in
+          let same : g.value.amount.ccy ≡ (amount_32a m).ccy = ap (λ (a : Amount). a.ccy) g.same in
           ordered-ccy t (received_of pay) first.amount g.dated g.value found g.says_32 (first.in_ccy ∙ money.ccy ∙ sym same) ∙ same;
     }
 
-transfer-tests : (t : Tables) (pay : Pay) (m : Mt103) (text : List ℕ) → text ≡ pay.text → Say tests_103 mt103_of t text m → first_of (tests_103 t (fields_of pay.text)) ≡ None
+transfer-tests : (t : Tables) (pay : Pay) (m : Mt103) (text : List ℕ) → text ≡ pay.text → Say tests_103 mt103_of t text m
+    → first_of (tests_103 t (fields_of pay.text)) ≡ None
 transfer-tests t pay m text same said = rw (← same) (said.tests)
 
-transfer-read : (t : Tables) (pay : Pay) (m : Mt103) (text : List ℕ) → text ≡ pay.text → Say tests_103 mt103_of t text m → mt103_of t (fields_of pay.text) ≡ Ok m
+transfer-read : (t : Tables) (pay : Pay) (m : Mt103) (text : List ℕ) → text ≡ pay.text → Say tests_103 mt103_of t text m
+    → mt103_of t (fields_of pay.text) ≡ Ok m
 transfer-read t pay m text same said = subst (λ (bs : List ℕ). mt103_of t (fields_of bs) ≡ Ok m) same said.says
 
-cover-tests : (t : Tables) (pay : Pay) (m : Mt202Cov) (text : List ℕ) → text ≡ pay.text → Say tests_202 mt202cov_of t text m → first_of (tests_202 t (fields_of pay.text)) ≡ None
+cover-tests : (t : Tables) (pay : Pay) (m : Mt202Cov) (text : List ℕ) → text ≡ pay.text → Say tests_202 mt202cov_of t text m
+    → first_of (tests_202 t (fields_of pay.text)) ≡ None
 cover-tests t pay m text same said = rw (← same) (said.tests)
 
-cover-read : (t : Tables) (pay : Pay) (m : Mt202Cov) (text : List ℕ) → text ≡ pay.text → Say tests_202 mt202cov_of t text m → mt202cov_of t (fields_of pay.text) ≡ Ok m
+cover-read : (t : Tables) (pay : Pay) (m : Mt202Cov) (text : List ℕ) → text ≡ pay.text → Say tests_202 mt202cov_of t text m
+    → mt202cov_of t (fields_of pay.text) ≡ Ok m
 cover-read t pay m text same said = subst (λ (bs : List ℕ). mt202cov_of t (fields_of bs) ≡ Ok m) same said.says
 
 -- ---- they are read, and break no rule
@@ -102,7 +106,8 @@ transfer-onward t chart pay envelope text m place k to skip via came small few v
     let parted = transfer-parted t r fs kept.0 g.fields none is came.sender (ours place k) one v l.value ordered l.spelled l.tabled skip via via_is in
     let pass = transfer-fields-pass t r fs kept.0 g.fields none is came.sender (ours place k) one v l.value ordered l.spelled l.tabled skip via via_is in
     rw (l.of_own, l.of_sent)
-    (transfer-reads t fs (ours place k) v ordered skip via parted.0 (transfer_fields r (ours place k) v ordered skip via) none pass parted.1 l.value (ordered-made t 33 ordered l.spelled l.tabled) via_is
+    (transfer-reads t fs (ours place k) v ordered skip via parted.0 (transfer_fields r (ours place k) v ordered skip via) none pass parted.1 l.value
+    (ordered-made t 33 ordered l.spelled l.tabled) via_is
     m (transfer-read t pay m text kept.1 came.received.said) l.ccy l.ordered_ccy envelope.sender envelope.receiver sender receiver came.received.rules)
 
 pub cover-onward : CoverReads
@@ -118,10 +123,15 @@ cover-onward t chart pay envelope text m place k to end skip came small few end_
     let two = ours-read place 1 small (omega arith) 21 in
     let v = value_of_pay pay l.sent in
     let ordered = ordered_of r l.own in
-    let parted = cover-parted t r fs kept.0 g.fields none is came.sender (ours place k) (ours place 1) one two v l.value ordered l.spelled l.tabled end end_is end_known skip in
-    let pass = cover-fields-pass t r fs kept.0 g.fields none is came.sender (ours place k) (ours place 1) one two v l.value ordered l.spelled l.tabled end end_is end_known skip in
+    let parted =
+    cover-parted t r fs kept.0 g.fields none is came.sender (ours place k)
+    (ours place 1) one two v l.value ordered l.spelled l.tabled end end_is end_known skip in
+    let pass =
+    cover-fields-pass t r fs kept.0 g.fields none is came.sender (ours place k)
+    (ours place 1) one two v l.value ordered l.spelled l.tabled end end_is end_known skip in
     rw (l.of_own, l.of_sent)
-    (sent-cover-reads t fs (ours place k) (ours place 1) v ordered end skip parted.0 (cover_fields r (ours place k) (ours place 1) v ordered end skip) none pass parted.1
+    (sent-cover-reads t fs (ours place k) (ours place 1) v ordered end skip parted.0
+    (cover_fields r (ours place k) (ours place 1) v ordered end skip) none pass parted.1
     m (transfer-read t pay m text kept.1 came.received.said) envelope.sender envelope.receiver came.received.rules)
 
 pub pass-onward : PassReads
@@ -132,4 +142,5 @@ pass-onward t chart pay envelope text m place k to skip came small few =
     let none = cover-tests t pay m text kept.1 came.received.said in
     let read = cover-read t pay m text kept.1 came.received.said in
     rw (l.of_sent)
-    (pass-fields-read t (received_of pay) (fields_of pay.text) m kept.0 g.fields none read (received-cut pay came.shape).sender came.sender (ours place k) (ours-read place k small few 20) (value_of_pay pay l.sent) l.value skip)
+    (pass-fields-read t (received_of pay) (fields_of pay.text) m kept.0 g.fields none read (received-cut pay came.shape).sender came.sender
+    (ours place k) (ours-read place k small few 20) (value_of_pay pay l.sent) l.value skip)

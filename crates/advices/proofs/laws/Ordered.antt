@@ -37,24 +37,38 @@ value-ccy t line v e =
     let same : record { day = day.0; amount = amount.0 } ≡ v = cc some.1 in
     sym (ap (λ (x : Value). x.amount.ccy.0) same) ∙ amount-ccy t (drop 6 line) amount.0 amount.1
 
-field-line : (t : Tables) (f : Field) (v : Value) → value_of t f ≡ Ok v → (line : List ℕ) × (one_line f ≡ Some line) × (v.amount.ccy.0 ≡ take 3 (drop 6 line))
+field-line : (t : Tables) (f : Field) (v : Value) → value_of t f ≡ Ok v
+    → (line : List ℕ) × (one_line f ≡ Some line) × (v.amount.ccy.0 ≡ take 3 (drop 6 line))
 unfolding value_of
 field-line t f v e =
     let line = there (one_line f) _ _ v e in
     let form = checked (is_dated_amount line.0) _ _ v line.2 in
     (line.0, line.1, value-ccy t line.0 v form.1)
 
-module _ (t : Tables) (own : Amount) (v : Value) (line : List ℕ) (ccy : v.amount.ccy.0 ≡ take 3 (drop 6 line)) (same : own.decimals ≡ v.amount.decimals) (is : IsTabled t v.amount) (tabled : IsTabled t own) where
-  of-minor : (r : Result Minor AmountFault) → IsTabled t (unwrap_or (option_map (λ (minor : Minor). let a : Amount = record { ccy = record { 0 = take 3 (drop 6 line) }; minor = minor; decimals = own.decimals } in a) (minor_if r)) own)
+module _ (t : Tables) (own : Amount) (v : Value) (line : List ℕ) (ccy : v.amount.ccy.0 ≡ take 3 (drop 6 line))
+    (same : own.decimals ≡ v.amount.decimals) (is : IsTabled t v.amount) (tabled : IsTabled t own) where
+  of-minor : (r : Result Minor AmountFault)
+      → IsTabled t
+      (unwrap_or
+      (option_map
+      (λ (minor : Minor). let a : Amount = record { ccy = record { 0 = take 3 (drop 6 line) }; minor = minor; decimals = own.decimals } in a)
+      (minor_if r)) own)
   of-minor (Err fault) = tabled
   of-minor (Ok minor) = record { three = rw (← ccy) (is.three); known = rw (← ccy, same) (is.known); metal = rw (← ccy) (is.metal) }
 
-  of-line : (b : Bool) → IsTabled t (unwrap_or (cond b (option_map (λ (minor : Minor). let a : Amount = record { ccy = record { 0 = take 3 (drop 6 line) }; minor = minor; decimals = own.decimals } in a) (minor_if (amount_of own.decimals (drop 9 line)))) None) own)
+  of-line : (b : Bool)
+      → IsTabled t
+      (unwrap_or
+      (cond b
+      (option_map
+      (λ (minor : Minor). let a : Amount = record { ccy = record { 0 = take 3 (drop 6 line) }; minor = minor; decimals = own.decimals } in a)
+      (minor_if (amount_of own.decimals (drop 9 line)))) None) own)
   of-line false = tabled
   of-line true = of-minor (amount_of own.decimals (drop 9 line))
 
 -- the first 32A reads as a value whose currency has the account's decimals
-pub ordered-tabled : (t : Tables) (r : Received) (own : Amount) (f : Field) (v : Value) → find (is_named 32 (codes "A")) r.fields ≡ Some f → value_of t f ≡ Ok v → own.decimals ≡ v.amount.decimals → IsTabled t own → IsTabled t (ordered_of r own)
+pub ordered-tabled : (t : Tables) (r : Received) (own : Amount) (f : Field) (v : Value) → find (is_named 32 (codes "A")) r.fields ≡ Some f
+    → value_of t f ≡ Ok v → own.decimals ≡ v.amount.decimals → IsTabled t own → IsTabled t (ordered_of r own)
 ordered-tabled t r own f v at says same tabled =
     let line = field-line t f v says in
     rw (at, line.1) (of-line t own v line.0 line.2 same (field-tabled t f v says) tabled (is_dated_amount line.0))
@@ -62,16 +76,26 @@ ordered-tabled t r own f v at says same tabled =
 -- ---- its currency
 
 module _ (own : Amount) (v : Value) (line : List ℕ) (ccy : v.amount.ccy.0 ≡ take 3 (drop 6 line)) (same : own.ccy ≡ v.amount.ccy) where
-  minor-ccy : (r : Result Minor AmountFault) → (unwrap_or (option_map (λ (minor : Minor). let a : Amount = record { ccy = record { 0 = take 3 (drop 6 line) }; minor = minor; decimals = own.decimals } in a) (minor_if r)) own).ccy ≡ v.amount.ccy
+  minor-ccy : (r : Result Minor AmountFault)
+      → (unwrap_or
+      (option_map
+      (λ (minor : Minor). let a : Amount = record { ccy = record { 0 = take 3 (drop 6 line) }; minor = minor; decimals = own.decimals } in a)
+      (minor_if r)) own).ccy ≡ v.amount.ccy
   minor-ccy (Err fault) = same
   minor-ccy (Ok minor) = ap (λ (bs : List ℕ). let c : Ccy = record { 0 = bs } in c) (sym ccy)
 
-  line-ccy : (b : Bool) → (unwrap_or (cond b (option_map (λ (minor : Minor). let a : Amount = record { ccy = record { 0 = take 3 (drop 6 line) }; minor = minor; decimals = own.decimals } in a) (minor_if (amount_of own.decimals (drop 9 line)))) None) own).ccy ≡ v.amount.ccy
+  line-ccy : (b : Bool)
+      → (unwrap_or
+      (cond b
+      (option_map
+      (λ (minor : Minor). let a : Amount = record { ccy = record { 0 = take 3 (drop 6 line) }; minor = minor; decimals = own.decimals } in a)
+      (minor_if (amount_of own.decimals (drop 9 line)))) None) own).ccy ≡ v.amount.ccy
   line-ccy false = same
   line-ccy true = minor-ccy (amount_of own.decimals (drop 9 line))
 
 -- it is that of the first 32A, where the account has it too
-pub ordered-ccy : (t : Tables) (r : Received) (own : Amount) (f : Field) (v : Value) → find (is_named 32 (codes "A")) r.fields ≡ Some f → value_of t f ≡ Ok v → own.ccy ≡ v.amount.ccy → (ordered_of r own).ccy ≡ v.amount.ccy
+pub ordered-ccy : (t : Tables) (r : Received) (own : Amount) (f : Field) (v : Value) → find (is_named 32 (codes "A")) r.fields ≡ Some f
+    → value_of t f ≡ Ok v → own.ccy ≡ v.amount.ccy → (ordered_of r own).ccy ≡ v.amount.ccy
 ordered-ccy t r own f v at says same =
     let line = field-line t f v says in
     rw (at, line.1) (line-ccy own v line.0 line.2 same (is_dated_amount line.0))

@@ -74,26 +74,38 @@ amount-small decimals bs m e =
     let same : record { 0 = minor_of decimals bs } ≡ m = cc small.1 in
     rw (← same) (below-end (minor_of decimals bs) small.0)
 
-minor-spelled : (decimals : ℕ) (line : List ℕ) (r : Result Minor AmountFault) → decimals ≤ 4 → amount_of decimals (drop 9 line) ≡ r → list_all (is_in A) (take 3 (drop 6 line)) ≡ true
-    → IfSome (option_map (λ (minor : Minor). let a : Amount = record { ccy = record { 0 = take 3 (drop 6 line) }; minor = minor; decimals = decimals } in a) (minor_if r)) IsWritableAmount
-minor-spelled decimals line (Ok m) few e letters = record { amount = record { small = amount-small decimals (drop 9 line) m e; few = few }; letters = letters }
+minor-spelled : (decimals : ℕ) (line : List ℕ) (r : Result Minor AmountFault) → decimals ≤ 4 → amount_of decimals (drop 9 line) ≡ r
+    → list_all (is_in A) (take 3 (drop 6 line)) ≡ true
+    → IfSome
+    (option_map (λ (minor : Minor). let a : Amount = record { ccy = record { 0 = take 3 (drop 6 line) }; minor = minor; decimals = decimals } in a)
+    (minor_if r)) IsWritableAmount
+minor-spelled decimals line (Ok m) few e letters = record {
+  amount = record { small = amount-small decimals (drop 9 line) m e; few = few };
+  letters = letters;
+}
 minor-spelled decimals line (Err fault) few e letters = tt
 
 pub amount_if-spelled : (decimals : ℕ) (line : List ℕ) → decimals ≤ 4 → IfSome (amount_if decimals line) IsWritableAmount
 amount_if-spelled decimals line few = go (is_dated_amount line) refl
   where
-    go : (b : Bool) → is_dated_amount line ≡ b → IfSome (cond b (option_map (λ (minor : Minor). let a : Amount = record { ccy = record { 0 = take 3 (drop 6 line) }; minor = minor; decimals = decimals } in a) (minor_if (amount_of decimals (drop 9 line)))) None) IsWritableAmount
+    go : (b : Bool) → is_dated_amount line ≡ b
+        → IfSome
+        (cond b
+        (option_map (λ (minor : Minor). let a : Amount = record { ccy = record { 0 = take 3 (drop 6 line) }; minor = minor; decimals = decimals } in a)
+        (minor_if (amount_of decimals (drop 9 line)))) None) IsWritableAmount
     go false e = tt
     go true e =
         let parts = and-three (nat_le 10 (length line)) (list_all (is_in N) (take 6 line)) (is_ccy_amount (drop 6 line)) e in
-        let form = and-three (nat_le 4 (length (drop 6 line))) (list_all (is_in A) (take 3 (drop 6 line))) (list_all (is_in X) (drop 3 (drop 6 line))) parts.2 in
+        let form =
+        and-three (nat_le 4 (length (drop 6 line))) (list_all (is_in A) (take 3 (drop 6 line))) (list_all (is_in X) (drop 3 (drop 6 line))) parts.2 in
         minor-spelled decimals line (amount_of decimals (drop 9 line)) few refl form.1
 
 line-spelled : (decimals : ℕ) (o : Option (List ℕ)) → decimals ≤ 4 → IfSome (option_and_then (amount_if decimals) o) IsWritableAmount
 line-spelled decimals None few = tt
 line-spelled decimals (Some line) few = amount_if-spelled decimals line few
 
-field-spelled : (decimals : ℕ) (o : Option Field) → decimals ≤ 4 → IfSome (option_and_then (λ f. option_and_then (amount_if decimals) (one_line f)) o) IsWritableAmount
+field-spelled : (decimals : ℕ) (o : Option Field) → decimals ≤ 4
+    → IfSome (option_and_then (λ f. option_and_then (amount_if decimals) (one_line f)) o) IsWritableAmount
 field-spelled decimals None few = tt
 field-spelled decimals (Some f) few = line-spelled decimals (one_line f) few
 
@@ -102,7 +114,8 @@ or-own None own is other = other
 or-own (Some a) own is other = is
 
 pub ordered-spelled : (r : Received) (own : Amount) → IsWritableAmount own → IsWritableAmount (ordered_of r own)
-ordered-spelled r own is = or-own (amount_in own.decimals r.fields) own (field-spelled own.decimals (find (is_named 32 (codes "A")) r.fields) is.amount.few) is
+ordered-spelled r own is =
+    or-own (amount_in own.decimals r.fields) own (field-spelled own.decimals (find (is_named 32 (codes "A")) r.fields) is.amount.few) is
 
 -- ---- what is moved
 
@@ -132,8 +145,8 @@ of-two d c above equal (suc (suc i)) leg at = absurd (cc at)
 leg-above : (chart : Chart) (legs : List Leg) (i : ℕ) (leg : Leg) → LegsFit chart legs → slice_get legs i ≡ Some leg → 0 < leg.amount.0
 leg-above chart legs i leg t at = of-two t.debit t.credit t.above t.equal i leg (subst (λ (ls : List Leg). slice_get ls i ≡ Some leg) t.legs_are at)
 
-pub moved : (chart : Chart) (pay : Pay) (n : ℕ) → IsChart chart → FitsAccounts chart pay → IsNumbered (length pay.legs) n → Moved chart pay n
-moved chart pay n sound fits numbered =
+pub leg-moved : (chart : Chart) (pay : Pay) (n : ℕ) → IsChart chart → FitsAccounts chart pay → IsNumbered (length pay.legs) n → Moved chart pay n
+leg-moved chart pay n sound fits numbered =
     let (leg, at) = there pay.legs (n - 1) (omega (arith, numbered.0, numbered.1)) in
     let leg_is = leg_sound chart pay.legs (n - 1) leg (transfer chart pay.legs fits) at in
     let (account, own) = there chart.accounts (leg.account.0 - 1) (omega (arith, leg_is.listed.0, leg_is.listed.1)) in
@@ -157,11 +170,13 @@ pub record AreWritable (fs : List Field) : Type 0 where
   pub some : fs ≢ []
   pub fit : All IsField fs
 
-transfer-some : (r : Received) (reference : List ℕ) (v : Value) (ordered : Amount) (skip : Skip) (via : Option Bic) → transfer_fields r reference v ordered skip via ≢ []
+transfer-some : (r : Received) (reference : List ℕ) (v : Value) (ordered : Amount) (skip : Skip) (via : Option Bic)
+    → transfer_fields r reference v ordered skip via ≢ []
 unfolding transfer_fields
 transfer-some r reference v ordered skip via e = absurd (cc e)
 
-cover-some : (r : Received) (reference related : List ℕ) (v : Value) (ordered : Amount) (end : Bic) (skip : Skip) → cover_fields r reference related v ordered end skip ≢ []
+cover-some : (r : Received) (reference related : List ℕ) (v : Value) (ordered : Amount) (end : Bic) (skip : Skip)
+    → cover_fields r reference related v ordered end skip ≢ []
 unfolding cover_fields
 cover-some r reference related v ordered end skip e = absurd (cc e)
 
@@ -177,7 +192,8 @@ credit-some : (r : Received) (reference account : List ℕ) (v : Value) → cred
 unfolding credit_fields
 credit-some r reference account v e = absurd (cc e)
 
-module _ (chart : Chart) (pay : Pay) (place k : ℕ) (sound : IsChart chart) (fits : FitsAccounts chart pay) (shape : HasShape pay) (small : place < 10 ^ 19) (few : k < 10 ^ 19) where
+module _ (chart : Chart) (pay : Pay) (place k : ℕ) (sound : IsChart chart) (fits : FitsAccounts chart pay) (shape : HasShape pay)
+    (small : place < 10 ^ 19) (few : k < 10 ^ 19) where
   on-day : (amount : Amount) → IsWritableAmount amount → IsMoved (value_of_pay pay amount)
   on-day amount is = record { day = shape.value; amount = is }
 
@@ -185,7 +201,7 @@ module _ (chart : Chart) (pay : Pay) (place k : ℕ) (sound : IsChart chart) (fi
   two-legs n from to =
       let t = transfer chart pay.legs fits in
       let two : length pay.legs ≡ 2 = ap length t.legs_are in
-      moved chart pay n sound fits (from, rw two to)
+      leg-moved chart pay n sound fits (from, rw two to)
 
   pub order-writable : (order : Order) → IsOrder (length pay.legs) order → AreWritable (order_fields chart pay place k order)
   order-writable (Transfer to skip via) o =
@@ -196,7 +212,8 @@ module _ (chart : Chart) (pay : Pay) (place k : ℕ) (sound : IsChart chart) (fi
       let ordered = ordered_of r one.amount in
       rw (one.of_amount, two.of_amount) (record {
         some = transfer-some r (ours place k) v ordered skip via;
-        fit = transfer-fit r (ours place k) v ordered skip via (received-cut pay shape) (ours-plain place k small few) (on-day two.amount two.spelled) (ordered-spelled r one.amount one.spelled) o.1;
+        fit = transfer-fit r (ours place k) v ordered skip via (received-cut pay shape) (ours-plain place k small few) (on-day two.amount two.spelled)
+            (ordered-spelled r one.amount one.spelled) o.1;
       })
   order-writable (Cover to end skip) o =
       let r = received_of pay in
@@ -206,7 +223,8 @@ module _ (chart : Chart) (pay : Pay) (place k : ℕ) (sound : IsChart chart) (fi
       let ordered = ordered_of r one.amount in
       rw (one.of_amount, two.of_amount) (record {
         some = cover-some r (ours place k) (ours place 1) v ordered end skip;
-        fit = cover-fit r (ours place k) (ours place 1) v ordered end skip (received-cut pay shape) (ours-plain place k small few) (ours-plain place 1 small (omega arith)) (on-day two.amount two.spelled) (ordered-spelled r one.amount one.spelled) o.1;
+        fit = cover-fit r (ours place k) (ours place 1) v ordered end skip (received-cut pay shape) (ours-plain place k small few)
+            (ours-plain place 1 small (omega arith)) (on-day two.amount two.spelled) (ordered-spelled r one.amount one.spelled) o.1;
       })
   order-writable (Pass to skip) o =
       let r = received_of pay in
@@ -218,17 +236,19 @@ module _ (chart : Chart) (pay : Pay) (place k : ℕ) (sound : IsChart chart) (fi
       })
   order-writable (Debit to leg) o =
       let r = received_of pay in
-      let m = moved chart pay leg sound fits o.1 in
+      let m = leg-moved chart pay leg sound fits o.1 in
       let v = value_of_pay pay m.amount in
       rw (m.on_account, m.of_amount) (record {
         some = debit-some r (ours place k) m.account.id v;
-        fit = debit-fit r (ours place k) m.account.id v (received-cut pay shape) (ours-plain place k small few) (c-plain m.account.id m.formed.id_plain) (on-day m.amount m.spelled);
+        fit = debit-fit r (ours place k) m.account.id v (received-cut pay shape) (ours-plain place k small few) (c-plain m.account.id m.formed.id_plain)
+            (on-day m.amount m.spelled);
       })
   order-writable (Credit to leg) o =
       let r = received_of pay in
-      let m = moved chart pay leg sound fits o.1 in
+      let m = leg-moved chart pay leg sound fits o.1 in
       let v = value_of_pay pay m.amount in
       rw (m.on_account, m.of_amount) (record {
         some = credit-some r (ours place k) m.account.id v;
-        fit = credit-fit r (ours place k) m.account.id v (received-cut pay shape) (ours-plain place k small few) (c-plain m.account.id m.formed.id_plain) (on-day m.amount m.spelled);
+        fit = credit-fit r (ours place k) m.account.id v (received-cut pay shape) (ours-plain place k small few) (c-plain m.account.id m.formed.id_plain)
+            (on-day m.amount m.spelled);
       })

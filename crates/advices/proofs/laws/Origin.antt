@@ -21,7 +21,7 @@ use Rattle.fin_contents.specs.declared.value.Value.{Value}
 use Rattle.fin_contents.specs.Money.{ccy_amount_in, ccy_amount_of, is_ccy_amount, is_dated_amount, is_metal, minor_in, rate_of, value_in, value_of}
 use Rattle.fin_contents.specs.Plain.{one_line, reference_of, texts_of, time_of}
 use Rattle.fin_contents.proofs.laws.Bytes.{and-three}
-use Rattle.fin_contents.proofs.laws.Steps.{checked, read-then, there, told, told-is}
+use Rattle.fin_contents.proofs.laws.Steps.{checked, read-then, there, told_ok, told-is}
 use Rattle.fin_message.specs.Sound.{Say}
 use Rattle.fin_message.specs.declared.message.Message.{Message}
 use Rattle.fin_message.specs.declared.message.Message.TheVariants as message
@@ -43,7 +43,7 @@ use Rattle.mt202cov.specs.declared.terms.Terms.{Terms as Terms202}
 use Rattle.day_model.specs.declared.pay.Pay.{Pay}
 use Rattle.advices.specs.Fields.{is_named}
 use Rattle.advices.specs.Received.{fields_in}
-use Rattle.advices.specs.Valid.{IsReceived, IsTabled, amount_of}
+use Rattle.advices.specs.Valid.{WasReceivedAs, IsTabled, amount_32a}
 use Rattle.advices.proofs.laws.Finding.{copied-at, field_of, must-copy, not-true}
 
 -- ---- the currency of 32A
@@ -51,7 +51,8 @@ use Rattle.advices.proofs.laws.Finding.{copied-at, field_of, must-copy, not-true
 three-of : (n : ℕ) → nat_le 4 n ≡ true → 3 ≤ n
 three-of n e = grind (arith, nat_tests)
 
-amount-tabled : (t : Tables) (line : List ℕ) (a : Amount) → is_ccy_amount line ≡ true → is_metal (take 3 line) ≡ false → ccy_amount_in t line ≡ Ok a → IsTabled t a
+amount-tabled : (t : Tables) (line : List ℕ) (a : Amount) → is_ccy_amount line ≡ true → is_metal (take 3 line) ≡ false → ccy_amount_in t line ≡ Ok a
+    → IsTabled t a
 unfolding ccy_amount_in
 amount-tabled t line a form metal e =
     let parts = and-three (nat_le 4 (length line)) (list_all (is_in A) (take 3 line)) (list_all (is_in X) (drop 3 line)) form in
@@ -84,7 +85,8 @@ like-tabled t a b ccy decimals is = record { three = rw ccy is.three; known = rw
 
 -- ---- the value of a transfer
 
-terms-value : (t : Tables) (fs : List Field) (found : List ℕ) (terms : Terms103) → terms_103 t fs found ≡ Ok terms → in_place order_103 fs found 5 (value_of t) ≡ Ok terms.value
+terms-value : (t : Tables) (fs : List Field) (found : List ℕ) (terms : Terms103) → terms_103 t fs found ≡ Ok terms
+    → in_place order_103 fs found 5 (value_of t) ≡ Ok terms.value
 unfolding terms_103
 terms-value t fs found terms e =
     let one = read-then (in_place order_103 fs found 0 reference_of) _ terms e in
@@ -95,11 +97,13 @@ terms-value t fs found terms e =
     let six = read-then (in_place order_103 fs found 5 (value_of t)) _ terms five.2 in
     let seven = read-then (in_option fs found 6 (ccy_amount_of t)) _ terms six.2 in
     let eight = read-then (in_option fs found 7 rate_of) _ terms seven.2 in
-    let made : Terms103 = record { reference = one.0; times = two.0; op = three.0; instrs = four.0; kind = five.0; value = six.0; ordered = seven.0; rate = eight.0 } in
+    let made : Terms103 =
+    record { reference = one.0; times = two.0; op = three.0; instrs = four.0; kind = five.0; value = six.0; ordered = seven.0; rate = eight.0 } in
     let same : made ≡ terms = told-is made terms eight.2 in
-    six.1 ∙ ap (λ (x : Terms103). told x.value) same
+    six.1 ∙ ap (λ (x : Terms103). told_ok x.value) same
 
-transfer-value : (t : Tables) (fs : List Field) (m : Mt103) → mt103_of t fs ≡ Ok m → (v : Value) × (in_place order_103 fs (places_from order_103 0 fs) 5 (value_of t) ≡ Ok v) × (v.amount ≡ m.amount)
+transfer-value : (t : Tables) (fs : List Field) (m : Mt103) → mt103_of t fs ≡ Ok m
+    → (v : Value) × (in_place order_103 fs (places_from order_103 0 fs) 5 (value_of t) ≡ Ok v) × (v.amount ≡ m.amount)
 unfolding mt103_of parts_103
 transfer-value t fs m e =
     let found = places_from order_103 0 fs in
@@ -116,7 +120,8 @@ transfer-value t fs m e =
 
 -- ---- the value of a cover
 
-cover-terms-value : (t : Tables) (fs : List Field) (found : List ℕ) (terms : Terms202) → terms_202 t fs found ≡ Ok terms → in_place order_202 fs found 3 (value_of t) ≡ Ok terms.value
+cover-terms-value : (t : Tables) (fs : List Field) (found : List ℕ) (terms : Terms202) → terms_202 t fs found ≡ Ok terms
+    → in_place order_202 fs found 3 (value_of t) ≡ Ok terms.value
 unfolding terms_202
 cover-terms-value t fs found terms e =
     let one = read-then (in_place order_202 fs found 0 reference_of) _ terms e in
@@ -125,9 +130,10 @@ cover-terms-value t fs found terms e =
     let four = read-then (in_place order_202 fs found 3 (value_of t)) _ terms three.2 in
     let made : Terms202 = record { reference = one.0; related = two.0; times = three.0; value = four.0 } in
     let same : made ≡ terms = told-is made terms four.2 in
-    four.1 ∙ ap (λ (x : Terms202). told x.value) same
+    four.1 ∙ ap (λ (x : Terms202). told_ok x.value) same
 
-cover-value : (t : Tables) (fs : List Field) (m : Mt202Cov) → mt202cov_of t fs ≡ Ok m → (v : Value) × (in_place order_202 fs (places_from order_202 0 fs) 3 (value_of t) ≡ Ok v) × (v.amount ≡ m.amount)
+cover-value : (t : Tables) (fs : List Field) (m : Mt202Cov) → mt202cov_of t fs ≡ Ok m
+    → (v : Value) × (in_place order_202 fs (places_from order_202 0 fs) 3 (value_of t) ≡ Ok v) × (v.amount ≡ m.amount)
 unfolding mt202cov_of parts_202 sequence_a_of
 cover-value t fs m e =
     let found = places_from order_202 0 fs in
@@ -143,8 +149,11 @@ cover-value t fs m e =
     let banks = read-then (banks_of t fs found) _ a.0 terms.2 in
     let notes = read-then (in_option fs found 10 (texts_of 6)) _ a.0 banks.2 in
     let whole : SequenceA = record { terms = terms.0; banks = banks.0; notes = unwrap_or notes.0 [] } in
-    let parts : whole ≡ a.0 = told-is whole a.0 notes.2 in
-    (terms.0.value, cover-terms-value t fs found terms.0 terms.1, ap (λ (x : SequenceA). x.terms.value.amount) parts ∙ ap (λ (x : Mt202Cov). x.amount) (made ∙ same))
+    let parts : whole ≡ a.0 = told-is whole a.0 notes.2 in (
+      terms.0.value,
+      cover-terms-value t fs found terms.0 terms.1,
+      ap (λ (x : SequenceA). x.terms.value.amount) parts ∙ ap (λ (x : Mt202Cov). x.amount) (made ∙ same),
+    )
 
 -- ---- of a pay
 
@@ -167,7 +176,8 @@ located-read fs i (Ok y) x e = ap Ok (cc e)
 located-read fs i (Err c) x e = absurd (cc e)
 
 -- the field of a place that was read
-pub found-read : {A : Type 0} (order : List Place) (fs : List Field) (k : ℕ) (read : Field → Result A Code) (o : Option (ℕ × Field)) (x : A) → must_read order fs k read o ≡ Ok x → (f : Field) × (option_map field_of o ≡ Some f) × (read f ≡ Ok x)
+pub found-read : {A : Type 0} (order : List Place) (fs : List Field) (k : ℕ) (read : Field → Result A Code) (o : Option (ℕ × Field)) (x : A)
+    → must_read order fs k read o ≡ Ok x → (f : Field) × (option_map field_of o ≡ Some f) × (read f ≡ Ok x)
 found-read order fs k read None x e = absurd (cc e)
 found-read order fs k read (Some (n, f)) x e = (f, refl, located-read fs n (read f) x e)
 
@@ -219,7 +229,7 @@ of-cover t pay m s =
       tabled = tabled-by t value.0.amount m.amount value.2 (field-tabled t f.0 value.0 f.2);
     }
 
-pub given : (t : Tables) (pay : Pay) (m : Message) → IsReceived t pay m → Given t pay (amount_of m)
+pub given : (t : Tables) (pay : Pay) (m : Message) → WasReceivedAs t pay m → Given t pay (amount_32a m)
 given t pay (message.Transfer envelope text transfer) r = let same = r.kept.1 in of-transfer t pay transfer (rw (← same) r.said)
 given t pay (message.Cover envelope text cover) r = let same = r.kept.1 in of-cover t pay cover (rw (← same) r.said)
 given t pay (message.Debit envelope advice) r = absurd r.kept

@@ -12,7 +12,7 @@ use Rattle.fin_layout.specs.Segments.{joined, places_of}
 use Rattle.fin_layout.proofs.laws.FoundField.{grouped-field, grouped-none}
 use Rattle.fin_layout.proofs.laws.ReadGroups.{ReadsAll, grouped-all}
 use Rattle.fin_contents.specs.Writing.{some_field}
-use Rattle.fin_contents.proofs.laws.Said.{Holds}
+use Rattle.fin_contents.proofs.laws.Said.{HoldsInPlaces}
 use Rattle.fin_contents.proofs.laws.Steps.{read-then, told-is}
 use Rattle.advices.specs.Fields.{copied_all, kept}
 use Rattle.advices.proofs.laws.Finding.{Agrees, field_of}
@@ -51,11 +51,12 @@ ok_of (Ok x) = Some x
 ok_of (Err c) = None
 
 -- what a field says, where there is one
-abbrev pub said : {A : Type 0} → (Field → Result A Code) → Option Field → Option A
-said read None = None
-said read (Some f) = ok_of (read f)
+abbrev pub said_in : {A : Type 0} → (Field → Result A Code) → Option Field → Option A
+said_in read None = None
+said_in read (Some f) = ok_of (read f)
 
-may-said : {A : Type 0} (fs : List Field) (read : Field → Result A Code) (o : Option (ℕ × Field)) (x : Option A) → may_read fs read o ≡ Ok x → x ≡ said read (option_map field_of o)
+may-said : {A : Type 0} (fs : List Field) (read : Field → Result A Code) (o : Option (ℕ × Field)) (x : Option A) → may_read fs read o ≡ Ok x
+    → x ≡ said_in read (option_map field_of o)
 may-said {A} fs read None x e = sym (told-is None x e)
 may-said {A} fs read (Some (n, f)) x e = go (read f) e
   where
@@ -63,10 +64,12 @@ may-said {A} fs read (Some (n, f)) x e = go (read f) e
     go (Ok y) e = sym (told-is (Some y) x e)
     go (Err c) e = absurd (cc e)
 
-pub option-said : {A : Type 0} (fs : List Field) (found : List ℕ) (k : ℕ) (read : Field → Result A Code) (x : Option A) → in_option fs found k read ≡ Ok x → x ≡ said read (at_place fs found k)
+pub option-said : {A : Type 0} (fs : List Field) (found : List ℕ) (k : ℕ) (read : Field → Result A Code) (x : Option A)
+    → in_option fs found k read ≡ Ok x → x ≡ said_in read (at_place fs found k)
 option-said fs found k read x e = may-said fs read (field_in fs found k) x e
 
-may-there : {A : Type 0} (fs : List Field) (read : Field → Result A Code) (o : Option (ℕ × Field)) (x : Option A) → may_read fs read o ≡ Ok x → is_some x ≡ is_some (option_map field_of o)
+may-there : {A : Type 0} (fs : List Field) (read : Field → Result A Code) (o : Option (ℕ × Field)) (x : Option A) → may_read fs read o ≡ Ok x
+    → is_some x ≡ is_some (option_map field_of o)
 may-there {A} fs read None x e = ap (λ (y : Option A). is_some y) (sym (told-is None x e))
 may-there {A} fs read (Some (n, f)) x e = go (read f) e
   where
@@ -75,15 +78,18 @@ may-there {A} fs read (Some (n, f)) x e = go (read f) e
     go (Err c) e = absurd (cc e)
 
 -- something is said just where there is a field
-pub option-there : {A : Type 0} (fs : List Field) (found : List ℕ) (k : ℕ) (read : Field → Result A Code) (x : Option A) → in_option fs found k read ≡ Ok x → is_some x ≡ is_some (at_place fs found k)
+pub option-there : {A : Type 0} (fs : List Field) (found : List ℕ) (k : ℕ) (read : Field → Result A Code) (x : Option A)
+    → in_option fs found k read ≡ Ok x → is_some x ≡ is_some (at_place fs found k)
 option-there fs found k read x e = may-there fs read (field_in fs found k) x e
 
 -- two messages say the same where they have the same field
-pub same-option : {A : Type 0} (fs gs : List Field) (found held : List ℕ) (k j : ℕ) (read : Field → Result A Code) (x y : Option A) → in_option fs found k read ≡ Ok x → in_option gs held j read ≡ Ok y
+pub same-option : {A : Type 0} (fs gs : List Field) (found held : List ℕ) (k j : ℕ) (read : Field → Result A Code) (x y : Option A)
+    → in_option fs found k read ≡ Ok x → in_option gs held j read ≡ Ok y
     → at_place gs held j ≡ at_place fs found k → y ≡ x
-same-option fs gs found held k j read x y e h same = option-said gs held j read y h ∙ ap (said read) same ∙ sym (option-said fs found k read x e)
+same-option fs gs found held k j read x y e h same = option-said gs held j read y h ∙ ap (said_in read) same ∙ sym (option-said fs found k read x e)
 
-pub same-place : {A : Type 0} (order other : List Place) (fs gs : List Field) (found held : List ℕ) (k j : ℕ) (read : Field → Result A Code) (x y : A) → in_place order fs found k read ≡ Ok x → in_place other gs held j read ≡ Ok y
+pub same-place : {A : Type 0} (order other : List Place) (fs gs : List Field) (found held : List ℕ) (k j : ℕ) (read : Field → Result A Code) (x y : A)
+    → in_place order fs found k read ≡ Ok x → in_place other gs held j read ≡ Ok y
     → at_place gs held j ≡ at_place fs found k → y ≡ x
 same-place {A} order other fs gs found held k j read x y e h same =
     let f = found-read order fs k read (field_in fs found k) x e in
@@ -106,27 +112,31 @@ all_said read [] = []
 all_said read (f ∷ fs) = some_first (ok_of (read f)) (all_said read fs)
 
 -- a field says something
-abbrev pub Says : {A : Type 0} → (Field → Result A Code) → Field → Type 0
-Says {A} read f = (x : A) × (read f ≡ Ok x)
+abbrev pub SaysSome : {A : Type 0} → (Field → Result A Code) → Field → Type 0
+SaysSome {A} read f = (x : A) × (read f ≡ Ok x)
 
-reads-all : {A : Type 0} (read : Field → Result A Code) (fs : List Field) → AllByRecursion (Says read) fs → ReadsAll read fs (all_said read fs)
+reads-all : {A : Type 0} (read : Field → Result A Code) (fs : List Field) → AllByRecursion (SaysSome read) fs → ReadsAll read fs (all_said read fs)
 reads-all {A} read [] h = tt
 reads-all {A} read (f ∷ fs) h = go (read f) refl h.0 (reads-all read fs h.1)
   where
-    go : (r : Result A Code) → read f ≡ r → ((x : A) × (r ≡ Ok x)) → ReadsAll read fs (all_said read fs) → ReadsAll read (f ∷ fs) (some_first (ok_of r) (all_said read fs))
+    go : (r : Result A Code) → read f ≡ r → ((x : A) × (r ≡ Ok x)) → ReadsAll read fs (all_said read fs)
+        → ReadsAll read (f ∷ fs) (some_first (ok_of r) (all_said read fs))
     go (Ok y) e s later = (e, later)
     go (Err c) e s later = absurd (cc s.1)
 
-pub group-said : {A : Type 0} (read : Field → Result A Code) (segs : List (List Field)) (n : ℕ) (s : List Field) (xs : List A) → slice_get segs n ≡ Some s → AllByRecursion (Says read) s
+pub group-said : {A : Type 0} (read : Field → Result A Code) (segs : List (List Field)) (n : ℕ) (s : List Field) (xs : List A)
+    → slice_get segs n ≡ Some s → AllByRecursion (SaysSome read) s
     → all_from (joined segs) n read 0 (places_of 0 segs) (joined segs) ≡ Ok xs → xs ≡ all_said read s
 group-said read segs n s xs at h e =
     told-is xs (all_said read s) (sym e ∙ grouped-all (joined segs) read segs 0 n 0 n s (all_said read s) (omega arith) at (reads-all read s h))
 
-said-first : {A : Type 0} (read : Field → Result A Code) (f : Field) (fs : List Field) (x : A) (xs : List A) → read f ≡ Ok x → xs ≡ all_said read fs → x ∷ xs ≡ some_first (ok_of (read f)) (all_said read fs)
+said-first : {A : Type 0} (read : Field → Result A Code) (f : Field) (fs : List Field) (x : A) (xs : List A) → read f ≡ Ok x → xs ≡ all_said read fs
+    → x ∷ xs ≡ some_first (ok_of (read f)) (all_said read fs)
 said-first {A} read f fs x xs reads later = rw reads (ap (λ (ys : List A). x ∷ ys) later)
 
 -- in a message whose fields pass a test just where they stand at the place
-pub chosen-said : {A : Type 0} (whole : List Field) (k : ℕ) (read : Field → Result A Code) (chosen : Field → Bool) (i : ℕ) (found : List ℕ) (fs : List Field) (xs : List A) → Holds (Agrees chosen k) found fs → length found ≡ length fs
+pub chosen-said : {A : Type 0} (whole : List Field) (k : ℕ) (read : Field → Result A Code) (chosen : Field → Bool) (i : ℕ) (found : List ℕ)
+    (fs : List Field) (xs : List A) → HoldsInPlaces (Agrees chosen k) found fs → length found ≡ length fs
     → all_from whole k read i found fs ≡ Ok xs → xs ≡ all_said read (copied_all chosen fs)
 unfolding all_from
 chosen-said {A} whole k read chosen i [] [] xs h long e = sym (told-is [] xs e)
@@ -136,7 +146,8 @@ chosen-said {A} whole k read chosen i (q ∷ found) (f ∷ fs) xs h long e =
     rw h.0 (go (q == k) (λ ys later. chosen-said whole k read chosen (i + 1) found fs ys h.1 (omega (arith, long)) later) e)
   where
     go : (b : Bool) → ((ys : List A) → all_from whole k read (i + 1) found fs ≡ Ok ys → ys ≡ all_said read (copied_all chosen fs))
-        → cond b (located whole i (read f) >>= λ x. all_from whole k read (i + 1) found fs >>= λ ys. Ok (x ∷ ys)) (all_from whole k read (i + 1) found fs) ≡ Ok xs
+        → cond b (located whole i (read f) >>= λ x. all_from whole k read (i + 1) found fs >>= λ ys. Ok (x ∷ ys)) (all_from whole k read (i + 1) found fs)
+        ≡ Ok xs
         → xs ≡ all_said read (cond b (f ∷ []) [] ++ flat_map (kept chosen) fs)
     go true later e =
         let one = read-then (located whole i (read f)) _ xs e in

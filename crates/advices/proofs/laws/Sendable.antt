@@ -92,7 +92,8 @@ ended-lines (line ∷ lines) = ap (λ (t : List ℕ). line ++ 13 ∷ 10 ∷ t) (
 
 flat-append : (a b : List (List ℕ)) → flat_map with_end (a ++ b) ≡ flat_map with_end a ++ flat_map with_end b
 flat-append [] b = refl
-flat-append (line ∷ a) b = ap (λ (t : List ℕ). with_end line ++ t) (flat-append a b) ∙ sym (append_assoc (with_end line) (flat_map with_end a) (flat_map with_end b))
+flat-append (line ∷ a) b =
+    ap (λ (t : List ℕ). with_end line ++ t) (flat-append a b) ∙ sym (append_assoc (with_end line) (flat_map with_end a) (flat_map with_end b))
 
 headed-text : (heading : List ℕ) (lines : List (List ℕ)) → ContinueAll lines → heading ++ ended_lines lines ≡ flat_map with_end (headed heading lines)
 headed-text heading [] c = absurd c
@@ -160,7 +161,8 @@ is_open b = not (b == 123) && not (b == 125)
 mark-open : (mark b : ℕ) → is_open mark ≡ true → fits_mark mark b ≡ true → is_open b ≡ true
 mark-open mark b fine e = grind (arith, nat_tests)
 
-marks-open : (bs marks : List ℕ) → length bs ≡ length marks → list_all is_open marks ≡ true → list_all (λ p. fits_mark p.1 p.0) (zip bs marks) ≡ true → list_all is_open bs ≡ true
+marks-open : (bs marks : List ℕ) → length bs ≡ length marks → list_all is_open marks ≡ true → list_all (λ p. fits_mark p.1 p.0) (zip bs marks) ≡ true
+    → list_all is_open bs ≡ true
 marks-open [] marks same fine e = refl
 marks-open (b ∷ bs) [] same fine e = absurd (cc same)
 marks-open (b ∷ bs) (m ∷ marks) same safe e =

@@ -23,14 +23,15 @@ use Rattle.advices.specs.Transfer.{account_bank, intermediary}
 use Rattle.advices.proofs.laws.CoverSays.{cover-reads, lacks}
 use Rattle.advices.proofs.laws.Covers.{cover_segs}
 use Rattle.advices.proofs.laws.Finding.{copied-at}
-use Rattle.advices.proofs.laws.Fitted.{Parted, row}
+use Rattle.advices.proofs.laws.Fitted.{IsPartedInto, row}
 use Rattle.advices.proofs.laws.Said.{at_place, first, first-some, option-there}
 use Rattle.advices.proofs.laws.Parted.{parted-at}
 use Rattle.advices.proofs.laws.TransferRules.{c81-of}
 use Rattle.advices.proofs.laws.TransferSays.{read-says}
 
 -- whatever is passed on, 56a stands with 57a where it did
-pub lacks-passed : (skip : Skip) (fs : List Field) → lacks (find (is_named 56 (codes "ACD")) fs) (find (is_named 57 (codes "ABCD")) fs) ≡ false → lacks (first (intermediary skip fs)) (first (account_bank skip fs)) ≡ false
+pub lacks-passed : (skip : Skip) (fs : List Field) → lacks (find (is_named 56 (codes "ACD")) fs) (find (is_named 57 (codes "ABCD")) fs) ≡ false
+    → lacks (first (intermediary skip fs)) (first (account_bank skip fs)) ≡ false
 lacks-passed Keep fs e = rw (first-some (find (is_named 56 (codes "ACD")) fs), first-some (find (is_named 57 (codes "ABCD")) fs)) e
 lacks-passed Mid fs e = refl
 lacks-passed Both fs e = refl
@@ -41,8 +42,10 @@ none-there None (Some y) e = absurd (cc e)
 none-there (Some x) None e = absurd (cc e)
 none-there (Some x) (Some y) e = refl
 
-module _ (t : Tables) (fs : List Field) (reference related : List ℕ) (v : Value) (ordered : Amount) (end : Bic) (skip : Skip) (f52 : Field) (sent : List Field)
-    (none : first_of (tests_103 t fs) ≡ None) (pass : first_of (field_tests t sent) ≡ None) (p : Parted order_202 (content_test t) sent (cover_segs fs reference related v ordered end skip f52))
+module _ (t : Tables) (fs : List Field) (reference related : List ℕ) (v : Value) (ordered : Amount) (end : Bic) (skip : Skip) (f52 : Field)
+    (sent : List Field)
+    (none : first_of (tests_103 t fs) ≡ None) (pass : first_of (field_tests t sent) ≡ None)
+    (p : IsPartedInto order_202 (content_test t) sent (cover_segs fs reference related v ordered end skip f52))
     (m : Mt103) (read : mt103_of t fs ≡ Ok m) where
   abbrev segs : List (List Field)
   segs = cover_segs fs reference related v ordered end skip f52
@@ -51,7 +54,8 @@ module _ (t : Tables) (fs : List Field) (reference related : List ℕ) (v : Valu
   held = places_from order_202 0 sent
 
   -- the transfer that came had 57a where it had 56a
-  had : (sender receiver : Bic) → first_of (all_rules sender receiver t m) ≡ None → lacks (find (is_named 56 (codes "ACD")) fs) (find (is_named 57 (codes "ABCD")) fs) ≡ false
+  had : (sender receiver : Bic) → first_of (all_rules sender receiver t m) ≡ None
+      → lacks (find (is_named 56 (codes "ACD")) fs) (find (is_named 57 (codes "ABCD")) fs) ≡ false
   had sender receiver rules =
       let s = read-says t fs m read in
       let found = places_from order_103 0 fs in

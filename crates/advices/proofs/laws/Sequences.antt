@@ -17,7 +17,7 @@ use Rattle.fin_layout.specs.Tests.{contents_from}
 use Rattle.fin_layout.proofs.laws.Fine.{field-nil, first-none, map-none}
 use Rattle.fin_layout.proofs.laws.FoundField.{field-here, field-later}
 use Rattle.fin_layout.proofs.laws.Grouped.{free_after-bounds}
-use Rattle.fin_contents.proofs.laws.Said.{Holds}
+use Rattle.fin_contents.proofs.laws.Said.{HoldsInPlaces}
 use Rattle.advices.proofs.laws.Finding.{field_of, same-field}
 use Rattle.advices.proofs.laws.Said.{at_place}
 
@@ -28,9 +28,21 @@ abbrev pub free_behind : List Place → ℕ → List ℕ → ℕ
 free_behind order free [] = free
 free_behind order free (k ∷ ks) = free_behind order (free_after order k) ks
 
+-- what these leave free of `free`, where they stand one after the other
+abbrev left_free : List Place → ℕ → List Field → ℕ
+left_free order free xs = free_behind order free (places_from order free xs)
+
 -- the places of a field and of those behind it
 abbrev pub from_place : (ℕ → List ℕ) → Option ℕ → List ℕ
 from_place more o = unwrap_or (option_map (λ k. k ∷ more k) o) []
+
+-- the places of fields that stand after place k
+abbrev after_place : List Place → List Field → ℕ → List ℕ
+after_place order xs k = places_from order (free_after order k) xs
+
+-- what places from `low` on leave free is after each of them
+abbrev IsBehind : List Place → ℕ → List ℕ → Type 0
+IsBehind order low ks = AllByRecursion (λ q. free_after order q ≤ free_behind order low ks) ks
 
 pub places-append : (order : List Place) (free : ℕ) (xs ys : List Field) → length (places_from order free xs) ≡ length xs
     → places_from order free (xs ++ ys) ≡ places_from order free xs ++ places_from order (free_behind order free (places_from order free xs)) ys
@@ -38,21 +50,25 @@ unfolding places_from
 places-append order free [] ys e = refl
 places-append order free (x ∷ xs) ys e = go (λ k h. places-append order (free_after order k) xs ys h) (place_from order free x) e
   where
-    go : ((k : ℕ) → length (places_from order (free_after order k) xs) ≡ length xs
-        → places_from order (free_after order k) (xs ++ ys) ≡ places_from order (free_after order k) xs ++ places_from order (free_behind order (free_after order k) (places_from order (free_after order k) xs)) ys)
-        → (o : Option ℕ) → length (from_place (λ k. places_from order (free_after order k) xs) o) ≡ length (x ∷ xs)
-        → from_place (λ k. places_from order (free_after order k) (xs ++ ys)) o
-        ≡ from_place (λ k. places_from order (free_after order k) xs) o ++ places_from order (free_behind order free (from_place (λ k. places_from order (free_after order k) xs) o)) ys
+    go : ((k : ℕ) → length (after_place order xs k) ≡ length xs
+        → after_place order (xs ++ ys) k
+        ≡ after_place order xs k ++ places_from order (free_behind order (free_after order k) (after_place order xs k)) ys)
+        → (o : Option ℕ) → length (from_place (after_place order xs) o) ≡ length (x ∷ xs)
+        → from_place (after_place order (xs ++ ys)) o
+        ≡ from_place (after_place order xs) o ++ places_from order (free_behind order free (from_place (after_place order xs) o)) ys
     go later None e = absurd (omega (arith, e))
     go later (Some k) e = ap (λ (ps : List ℕ). k ∷ ps) (later k (omega (arith, e)))
 
 -- where each field takes a place, so does each of the front part
-pub full-front : (order : List Place) (free : ℕ) (xs ys : List Field) → length (places_from order free (xs ++ ys)) ≡ length (xs ++ ys) → length (places_from order free xs) ≡ length xs
+pub full-front : (order : List Place) (free : ℕ) (xs ys : List Field) → length (places_from order free (xs ++ ys)) ≡ length (xs ++ ys)
+    → length (places_from order free xs) ≡ length xs
 unfolding places_from
 full-front order free [] ys e = refl
 full-front order free (x ∷ xs) ys e = go (λ k h. full-front order (free_after order k) xs ys h) (place_from order free x) e
   where
-    go : ((k : ℕ) → length (places_from order (free_after order k) (xs ++ ys)) ≡ length (xs ++ ys) → length (places_from order (free_after order k) xs) ≡ length xs) → (o : Option ℕ) → length (from_place (λ k. places_from order (free_after order k) (xs ++ ys)) o) ≡ length (x ∷ (xs ++ ys)) → length (from_place (λ k. places_from order (free_after order k) xs) o) ≡ length (x ∷ xs)
+    go : ((k : ℕ) → length (after_place order (xs ++ ys) k) ≡ length (xs ++ ys) → length (after_place order xs k) ≡ length xs) → (o : Option ℕ)
+        → length (from_place (after_place order (xs ++ ys)) o) ≡ length (x ∷ (xs ++ ys))
+        → length (from_place (after_place order xs) o) ≡ length (x ∷ xs)
     go later None e = absurd (omega (arith, e))
     go later (Some k) e = let front = later k (omega (arith, e)) in omega (arith, front)
 
@@ -70,19 +86,21 @@ unfolding places_from
 places-above order free [] = tt
 places-above order free (x ∷ xs) = go (λ k. places-above order (free_after order k) xs) (place_from order free x) refl
   where
-    go : ((k : ℕ) → AllByRecursion (λ q. free_after order k ≤ q) (places_from order (free_after order k) xs)) → (o : Option ℕ) → place_from order free x ≡ o → AllByRecursion (λ k. free ≤ k) (from_place (λ k. places_from order (free_after order k) xs) o)
+    go : ((k : ℕ) → AllByRecursion (λ q. free_after order k ≤ q) (after_place order xs k)) → (o : Option ℕ) → place_from order free x ≡ o
+        → AllByRecursion (λ k. free ≤ k) (from_place (after_place order xs) o)
     go later None e = tt
     go later (Some k) e =
         let above : free ≤ k = place-above free k (position (λ p. fits p x) (drop free order)) e in
         let bounds = free_after-bounds order k in
-        (above, each-more (λ q. free_after order k ≤ q) (λ q. free ≤ q) (places_from order (free_after order k) xs) (λ q h. omega (arith, h, bounds.0, above)) (later k))
+        (above, each-more (λ q. free_after order k ≤ q) (λ q. free ≤ q) (after_place order xs k) (λ q h. omega (arith, h, bounds.0, above)) (later k))
 
-behind-above : (order : List Place) (free : ℕ) (xs : List Field) → free ≤ free_behind order free (places_from order free xs)
+behind-above : (order : List Place) (free : ℕ) (xs : List Field) → free ≤ left_free order free xs
 unfolding places_from
 behind-above order free [] = omega arith
 behind-above order free (x ∷ xs) = go (λ k. behind-above order (free_after order k) xs) (place_from order free x) refl
   where
-    go : ((k : ℕ) → free_after order k ≤ free_behind order (free_after order k) (places_from order (free_after order k) xs)) → (o : Option ℕ) → place_from order free x ≡ o → free ≤ free_behind order free (from_place (λ k. places_from order (free_after order k) xs) o)
+    go : ((k : ℕ) → free_after order k ≤ left_free order (free_after order k) xs) → (o : Option ℕ) → place_from order free x ≡ o
+        → free ≤ free_behind order free (from_place (after_place order xs) o)
     go later None e = omega arith
     go later (Some k) e =
         let above : free ≤ k = place-above free k (position (λ p. fits p x) (drop free order)) e in
@@ -91,12 +109,14 @@ behind-above order free (x ∷ xs) = go (λ k. behind-above order (free_after or
         omega (arith, above, bounds.0, behind)
 
 -- and what they leave free is behind each of their places
-pub places-behind : (order : List Place) (free : ℕ) (xs : List Field) → AllByRecursion (λ k. free_after order k ≤ free_behind order free (places_from order free xs)) (places_from order free xs)
+pub places-behind : (order : List Place) (free : ℕ) (xs : List Field)
+    → AllByRecursion (λ k. free_after order k ≤ free_behind order free (places_from order free xs)) (places_from order free xs)
 unfolding places_from
 places-behind order free [] = tt
 places-behind order free (x ∷ xs) = go (λ k. places-behind order (free_after order k) xs) (place_from order free x)
   where
-    go : ((k : ℕ) → AllByRecursion (λ q. free_after order q ≤ free_behind order (free_after order k) (places_from order (free_after order k) xs)) (places_from order (free_after order k) xs)) → (o : Option ℕ) → AllByRecursion (λ k. free_after order k ≤ free_behind order free (from_place (λ k. places_from order (free_after order k) xs) o)) (from_place (λ k. places_from order (free_after order k) xs) o)
+    go : ((k : ℕ) → IsBehind order (free_after order k) (after_place order xs k)) → (o : Option ℕ)
+        → IsBehind order free (from_place (after_place order xs) o)
     go later None = tt
     go later (Some k) = (behind-above order (free_after order k) xs, later k)
 
@@ -107,12 +127,15 @@ repeated-below j (suc n) most ks lt h = (lt, repeated-below j n most ks lt h)
 
 pub groups-below : (j most : ℕ) (segs : List (List Field)) → j + length segs ≤ most → AllByRecursion (λ k. k < most) (places_of j segs)
 groups-below j most [] le = tt
-groups-below j most (s ∷ segs) le = repeated-below j (length s) most (places_of (j + 1) segs) (omega (arith, le)) (groups-below (j + 1) most segs (omega (arith, le)))
+groups-below j most (s ∷ segs) le =
+    repeated-below j (length s) most (places_of (j + 1) segs) (omega (arith, le)) (groups-below (j + 1) most segs (omega (arith, le)))
 
 -- leave free what is behind them
 pub behind-below : (order : List Place) (free most : ℕ) (ks : List ℕ) → free ≤ most → AllByRecursion (λ k. k < most) ks → free_behind order free ks ≤ most
 behind-below order free most [] le h = le
-behind-below order free most (k ∷ ks) le h = let bounds = free_after-bounds order k in behind-below order (free_after order k) most ks (omega (arith, bounds.1, h.0)) h.1
+behind-below order free most (k ∷ ks) le h =
+    let bounds = free_after-bounds order k in
+    behind-below order (free_after order k) most ks (omega (arith, bounds.1, h.0)) h.1
 
 -- ---- apart from a place
 
@@ -167,7 +190,7 @@ at-back k (x ∷ xs) ys [] py e h = absurd (omega (arith, e))
 at-back k (x ∷ xs) ys (q ∷ px) py e h = at-later x (xs ++ ys) q k (px ++ py) h.0 ∙ at-back k xs ys px py (omega (arith, e)) h.1
 
 -- what holds of each field at its place
-pub hold-at : (Q : ℕ → Field → Type 0) (k : ℕ) (found : List ℕ) (fs : List Field) (f : Field) → Holds Q found fs → at_place fs found k ≡ Some f → Q k f
+pub hold-at : (Q : ℕ → Field → Type 0) (k : ℕ) (found : List ℕ) (fs : List Field) (f : Field) → HoldsInPlaces Q found fs → at_place fs found k ≡ Some f → Q k f
 hold-at Q k [] fs f h at = absurd (cc at)
 hold-at Q k (q ∷ found) [] f h at = absurd (cc (sym (ap (option_map field_of) (field-nil (q ∷ found) k)) ∙ at))
 hold-at Q k (q ∷ found) (g ∷ fs) f h at =
@@ -180,13 +203,15 @@ hold-at Q k (q ∷ found) (g ∷ fs) f h at =
       | inr other ↦ hold-at Q k found fs f h.1 (sym (at-later g fs q k found other) ∙ at)
     ]
 
-pub holds-both : (Q : ℕ → Field → Type 0) (xs ys : List Field) (px py : List ℕ) → length px ≡ length xs → Holds Q px xs → Holds Q py ys → Holds Q (px ++ py) (xs ++ ys)
+pub holds-both : (Q : ℕ → Field → Type 0) (xs ys : List Field) (px py : List ℕ) → length px ≡ length xs → HoldsInPlaces Q px xs → HoldsInPlaces Q py ys
+    → HoldsInPlaces Q (px ++ py) (xs ++ ys)
 holds-both Q [] ys [] py e a b = b
 holds-both Q [] ys (q ∷ px) py e a b = absurd (omega (arith, e))
 holds-both Q (x ∷ xs) ys [] py e a b = absurd (omega (arith, e))
 holds-both Q (x ∷ xs) ys (q ∷ px) py e a b = (a.0, holds-both Q xs ys px py (omega (arith, e)) a.1 b)
 
-pub holds-parts : (Q : ℕ → Field → Type 0) (xs ys : List Field) (px py : List ℕ) → length px ≡ length xs → Holds Q (px ++ py) (xs ++ ys) → Holds Q px xs × Holds Q py ys
+pub holds-parts : (Q : ℕ → Field → Type 0) (xs ys : List Field) (px py : List ℕ) → length px ≡ length xs → HoldsInPlaces Q (px ++ py) (xs ++ ys)
+    → HoldsInPlaces Q px xs × HoldsInPlaces Q py ys
 holds-parts Q [] ys [] py e h = (tt, h)
 holds-parts Q [] ys (q ∷ px) py e h = absurd (omega (arith, e))
 holds-parts Q (x ∷ xs) ys [] py e h = absurd (omega (arith, e))
@@ -198,7 +223,8 @@ holds-parts Q (x ∷ xs) ys (q ∷ px) py e h = let later = holds-parts Q xs ys 
 abbrev pub Passing : (ℕ → Field → Option Code) → ℕ → Field → Type 0
 Passing test k f = test k f ≡ None
 
-pub contents-hold : (test : ℕ → Field → Option Code) (whole : List Field) (i : ℕ) (found : List ℕ) (fs : List Field) → first_of (contents_from test whole i found fs) ≡ None → Holds (Passing test) found fs
+pub contents-hold : (test : ℕ → Field → Option Code) (whole : List Field) (i : ℕ) (found : List ℕ) (fs : List Field)
+    → first_of (contents_from test whole i found fs) ≡ None → HoldsInPlaces (Passing test) found fs
 unfolding contents_from
 contents-hold test whole i [] fs e = tt
 contents-hold test whole i (q ∷ found) [] e = tt
@@ -206,7 +232,8 @@ contents-hold test whole i (q ∷ found) (f ∷ fs) e =
     let both = first-none (option_map (fault_at whole i) (test q f)) (contents_from test whole (i + 1) found fs) e in
     (map-none (fault_at whole i) (test q f) both.0, contents-hold test whole (i + 1) found fs both.1)
 
-pub hold-contents : (test : ℕ → Field → Option Code) (whole : List Field) (i : ℕ) (found : List ℕ) (fs : List Field) → Holds (Passing test) found fs → first_of (contents_from test whole i found fs) ≡ None
+pub hold-contents : (test : ℕ → Field → Option Code) (whole : List Field) (i : ℕ) (found : List ℕ) (fs : List Field) → HoldsInPlaces (Passing test) found fs
+    → first_of (contents_from test whole i found fs) ≡ None
 unfolding contents_from
 hold-contents test whole i [] fs h = refl
 hold-contents test whole i (q ∷ found) [] h = refl
@@ -236,10 +263,12 @@ or-other true b e h = refl
 or-other false b e h = absurd (cc (sym h ∙ e))
 
 pub taken-in-back : (k : ℕ) (px py : List ℕ) → Apart k px → list_any (λ q. q == k) (px ++ py) ≡ true → list_any (λ q. q == k) py ≡ true
-taken-in-back k px py h e = or-true (list_any (λ q. q == k) px) (list_any (λ q. q == k) py) (none-apart k px h) (sym (list_any-append (λ q. q == k) px py) ∙ e)
+taken-in-back k px py h e =
+    or-true (list_any (λ q. q == k) px) (list_any (λ q. q == k) py) (none-apart k px h) (sym (list_any-append (λ q. q == k) px py) ∙ e)
 
 pub taken-in-front : (k : ℕ) (px py : List ℕ) → Apart k py → list_any (λ q. q == k) (px ++ py) ≡ true → list_any (λ q. q == k) px ≡ true
-taken-in-front k px py h e = or-other (list_any (λ q. q == k) px) (list_any (λ q. q == k) py) (none-apart k py h) (sym (list_any-append (λ q. q == k) px py) ∙ e)
+taken-in-front k px py h e =
+    or-other (list_any (λ q. q == k) px) (list_any (λ q. q == k) py) (none-apart k py h) (sym (list_any-append (λ q. q == k) px py) ∙ e)
 
 -- ---- where the first of a kind stands
 
@@ -260,7 +289,8 @@ split-at test (g ∷ fs) f e = go (test g) (split-at test fs f) refl e
     go : (b : Bool) → (find test fs ≡ Some f → IsSplit test fs f) → test g ≡ b → cond b (Some g) (find test fs) ≡ Some f → IsSplit test (g ∷ fs) f
     go true later h e =
         let same : g ≡ f = cc e in
-        subst (IsSplit test (g ∷ fs)) same (record { front = []; back = fs; whole = refl; place = 0; at = position-here test g fs h; before = refl; behind = refl })
+        subst (IsSplit test (g ∷ fs)) same
+        (record { front = []; back = fs; whole = refl; place = 0; at = position-here test g fs h; before = refl; behind = refl })
     go false later h e =
         let s = later e in
         record {

@@ -1,5 +1,5 @@
 -- The rules of a transfer: one that is sent on breaks none, since the one that came broke none.
-use Rattle.std.proofs.Common.{◌≡◌, ℕ, ◌==◌, ◌&&◌, ◌||◌, ◌⊎◌, not, Bool, true, false, cond, List, [], ◌∷◌, length, option_map, Option, Some, None, refl, arith, inl, inr}
+use Rattle.std.proofs.Common.{◌≡◌, ℕ, ◌==◌, ◌&&◌, ◌||◌, ◌⊎◌, not, Bool, true, false, cond, List, [], ◌∷◌, ◌++◌, length, option_map, Option, Some, None, refl, arith, inl, inr}
 use Rattle.std.specs.Prelude.{codes, filter, is_none, is_some}
 use Rattle.std.specs.List.{list_any}
 use Rattle.std.specs.Str.{bytes_eq}
@@ -14,7 +14,7 @@ use Rattle.ref_tables.specs.Seen.{Tables}
 use Rattle.fin_layout.proofs.laws.Fine.{first-none, map-none}
 use Rattle.fin_parties.specs.declared.party.Party.{Party}
 use Rattle.mt103.specs.declared.message.Mt103.{Mt103}
-use Rattle.mt103_rules.specs.Instructions.{has_instr, is_priority}
+use Rattle.mt103_rules.specs.Instructions.{has_instr, is_priority_instruction}
 use Rattle.mt103_rules.specs.Parties.{has_account, is_b, is_bare_b, is_bare_d, is_d, is_uncleared_c}
 use Rattle.mt103_rules.specs.Rules.{all_rules, amount_rules, c02, c81, charge_rules, contact_rules, d49, d50, d51, d75, e01, e02, e03, e04, e05, e06, e07, e09, e10, e13, e15_given, e15_taken, e16, e17, e18, e44, e45, has_level, institution_rules, is_foreign, is_given, is_listed_bank, is_op, is_standard, level_rules}
 use Rattle.day_model.specs.declared.pay.Skip.{Skip}
@@ -84,6 +84,22 @@ all-none : (os : List (Option Fault)) → AllNone os → first_of os ≡ None
 all-none [] e = refl
 all-none (o ∷ os) e = rw (e.0) (all-none os e.1)
 
+both-none : (os more : List (Option Fault)) → AllNone os → AllNone more → AllNone (os ++ more)
+both-none [] more h k = k
+both-none (o ∷ os) more h k = (h.0, both-none os more h.1 k)
+
+none-parts : (os more : List (Option Fault)) → AllNone (os ++ more) → AllNone os × AllNone more
+none-parts [] more h = (tt, h)
+none-parts (o ∷ os) more h = let parts = none-parts os more h.1 in ((h.0, parts.0), parts.1)
+
+-- where no test of what came fails, none fails of what is sent
+record Kept (came sent : List (Option Fault)) : Type 0 where
+  on : AllNone came → AllNone sent
+
+kept-both : {came sent more further : List (Option Fault)} → Kept came sent → Kept more further → Kept (came ++ more) (sent ++ further)
+kept-both {came = came} {sent = sent} {more = more} {further = further} first second =
+    record { on = λ h. let parts = none-parts came more h in both-none sent further (first.on parts.0) (second.on parts.1) }
+
 pub same-bytes : (bs : List ℕ) → bytes_eq bs bs ≡ true
 same-bytes bs = (bytes_eq-Decides bs bs).1 refl
 
@@ -110,7 +126,8 @@ either-false true one two x y e = if-false one x e
 either-false false one two x y e = if-false two y e
 
 -- where this is told of the one place, it is told of the other
-told-on : {X : Type 0} (b : Bool) (told : ℕ → X) (came sent : Option ℕ) → (came ≡ None → sent ≡ None) → cond b (option_map told came) None ≡ None → cond b (option_map told sent) None ≡ None
+told-on : {X : Type 0} (b : Bool) (told : ℕ → X) (came sent : Option ℕ) → (came ≡ None → sent ≡ None) → cond b (option_map told came) None ≡ None
+    → cond b (option_map told sent) None ≡ None
 told-on true told came sent on e = rw (on (map-none told came e)) refl
 told-on false told came sent on e = refl
 
@@ -128,10 +145,12 @@ and-any false p q xs e = and-false (list_any q (filter p xs))
 
 module _ (skip : Skip) (m n : Mt103) (s : IsSentOn skip m n) where
   -- 36 and 33B
-  rate-fits : cond (is_foreign m m.ordered) (is_none m.rate) (is_some m.rate) ≡ false → cond (is_foreign n n.ordered) (is_none n.rate) (is_some n.rate) ≡ false
+  rate-fits : cond (is_foreign m m.ordered) (is_none m.rate) (is_some m.rate) ≡ false
+      → cond (is_foreign n n.ordered) (is_none n.rate) (is_some n.rate) ≡ false
   rate-fits e = go s.ordered.same
     where
-      go : ((m.ordered ≡ Some s.ordered.amount) ⊎ ((m.ordered ≡ None) × (s.ordered.amount.ccy ≡ m.amount.ccy))) → cond (is_foreign n n.ordered) (is_none n.rate) (is_some n.rate) ≡ false
+      go : ((m.ordered ≡ Some s.ordered.amount) ⊎ ((m.ordered ≡ None) × (s.ordered.amount.ccy ≡ m.amount.ccy)))
+          → cond (is_foreign n n.ordered) (is_none n.rate) (is_some n.rate) ≡ false
       go (inl came) = rw (s.ordered.there, s.ccy, s.rate) (rw came at e)
       go (inr new) =
           let no_rate : is_some m.rate ≡ false = rw (new.0) at e in
@@ -148,7 +167,7 @@ module _ (skip : Skip) (m n : Mt103) (s : IsSentOn skip m n) where
   -- levels of service
   e01-on : e01 m ≡ None → e01 n ≡ None
   unfolding e01
-  e01-on e = rw (s.op, s.instrs) (told-on _ _ _ _ (none-kept (stays (is_some n.p56) (is_some n.p57)) (λ i. not (is_priority i)) m.instrs) e)
+  e01-on e = rw (s.op, s.instrs) (told-on _ _ _ _ (none-kept (stays (is_some n.p56) (is_some n.p57)) (λ i. not (is_priority_instruction i)) m.instrs) e)
 
   e02-on : e02 m ≡ None → e02 n ≡ None
   unfolding e02
@@ -222,7 +241,8 @@ module _ (skip : Skip) (m n : Mt103) (s : IsSentOn skip m n) where
   e18-on : e18 m ≡ None → e18 n ≡ None
   unfolding e18
   e18-on e =
-      rw (s.payee, s.instrs) (if-false _ _ (and-any (has_account m.payee) (stays (is_some n.p56) (is_some n.p57)) (λ i. bytes_eq i.code (codes "CHQB")) m.instrs (if-true _ _ e)))
+      let still = and-any (has_account m.payee) (stays (is_some n.p56) (is_some n.p57)) (λ i. bytes_eq i.code (codes "CHQB")) m.instrs (if-true _ _ e) in
+      rw (s.payee, s.instrs) (if-false _ _ still)
 
   e13-on : e13 m ≡ None → e13 n ≡ None
   unfolding e13
@@ -253,13 +273,18 @@ module _ (skip : Skip) (m n : Mt103) (s : IsSentOn skip m n) where
       go (Some a) e = rw (s.ccy) e
 
   -- whom to tell
+
+  -- an instruction of the one code or the other is among those that are sent where 56a and 57a are there or not
+  abbrev tells : List ℕ → List ℕ → Bool → Bool → Bool
+  tells one other has_56 has_57 = has_instr one (filter (stays has_56 has_57) m.instrs) || has_instr other (filter (stays has_56 has_57) m.instrs)
+
   e44-on : e44 n ≡ None
   unfolding e44
   e44-on = if-false _ _ (rw (s.instrs) (go (is_some n.p56) n.p56 refl))
     where
       go : (b : Bool) (p : Option Party) → is_some p ≡ b
-          → ((has_instr (codes "TELI") (filter (stays b (is_some n.p57)) m.instrs) || has_instr (codes "PHOI") (filter (stays b (is_some n.p57)) m.instrs)) && is_none p) ≡ false
-      go b (Some x) e = and-false (has_instr (codes "TELI") (filter (stays b (is_some n.p57)) m.instrs) || has_instr (codes "PHOI") (filter (stays b (is_some n.p57)) m.instrs))
+          → (tells (codes "TELI") (codes "PHOI") b (is_some n.p57) && is_none p) ≡ false
+      go b (Some x) e = and-false (tells (codes "TELI") (codes "PHOI") b (is_some n.p57))
       go true None e = absurd (cc e)
       go false None e = rw (none-tells-56 (is_some n.p57) m.instrs) refl
 
@@ -268,23 +293,59 @@ module _ (skip : Skip) (m n : Mt103) (s : IsSentOn skip m n) where
   e45-on = if-false _ _ (rw (s.instrs) (go (is_some n.p57) n.p57 refl))
     where
       go : (b : Bool) (p : Option Party) → is_some p ≡ b
-          → ((has_instr (codes "TELE") (filter (stays (is_some n.p56) b) m.instrs) || has_instr (codes "PHON") (filter (stays (is_some n.p56) b) m.instrs)) && is_none p) ≡ false
-      go b (Some x) e = and-false (has_instr (codes "TELE") (filter (stays (is_some n.p56) b) m.instrs) || has_instr (codes "PHON") (filter (stays (is_some n.p56) b) m.instrs))
+          → (tells (codes "TELE") (codes "PHON") (is_some n.p56) b && is_none p) ≡ false
+      go b (Some x) e = and-false (tells (codes "TELE") (codes "PHON") (is_some n.p56) b)
       go true None e = absurd (cc e)
       go false None e = rw (none-tells-57 (is_some n.p56) m.instrs) refl
 
   -- ---- all
 
-  pub rules-kept : (t : Tables) (sender receiver : Bic) (from to : Bic) → first_of (all_rules sender receiver t m) ≡ None → first_of (all_rules from to t n) ≡ None
+  amounts-kept : (t : Tables) (sender receiver from to : Bic) → Kept (amount_rules sender receiver t m) (amount_rules from to t n)
+  unfolding amount_rules
+  amounts-kept t sender receiver from to = record { on = λ h. (d75-on h.0, (d49-on t from to, tt)) }
+
+  levels-kept : Kept (level_rules m) (level_rules n)
+  unfolding level_rules
+  levels-kept = record {
+    on = λ h.
+        let (e01, (e02, (e03, (e04, (e05, (e07, (e10, end))))))) = h in
+        (e01-on e01, (e02-on e02, (e03-on, (e04-on, (e05-on, (e07-on, (e10-on e10, tt)))))));
+  }
+
+  institutions-kept : Kept (institution_rules m) (institution_rules n)
+  unfolding institution_rules
+  institutions-kept = record {
+    on = λ h.
+        let (e06, (c81, (e16, (e17, (e09, end))))) = h in
+        (e06-on, (c81-on c81, (e16-on e16, (e17-on e17, (e09-on e09, tt)))));
+  }
+
+  charges-kept : Kept (charge_rules m) (charge_rules n)
+  unfolding charge_rules
+  charges-kept = record {
+    on = λ h.
+        let (e18, (e13, (d50, (taken, (given, (d51, (c02, end))))))) = h in
+        (e18-on e18, (e13-on e13, (d50-on d50, (e15-taken-on taken, (e15-given-on given, (d51-on, (c02-on c02, tt)))))));
+  }
+
+  contacts-kept : Kept (contact_rules m) (contact_rules n)
+  unfolding contact_rules
+  contacts-kept = record { on = λ h. (e44-on, (e45-on, tt)) }
+
+  pub rules-kept : (t : Tables) (sender receiver : Bic) (from to : Bic) → first_of (all_rules sender receiver t m) ≡ None
+      → first_of (all_rules from to t n) ≡ None
   unfolding all_rules amount_rules level_rules institution_rules charge_rules contact_rules
   rules-kept t sender receiver from to e =
-      let (d75, (d49, (e01, (e02, (e03, (e04, (e05, (e07, (e10, (e06, (c81, (e16, (e17, (e09, (e18, (e13, (d50, (e15_taken, (e15_given, (d51, (c02, (e44, (e45, end))))))))))))))))))))))) = none-all (all_rules sender receiver t m) e in
-      all-none (all_rules from to t n)
-      (d75-on d75, (d49-on t from to, (e01-on e01, (e02-on e02, (e03-on, (e04-on, (e05-on, (e07-on, (e10-on e10, (e06-on, (c81-on c81, (e16-on e16, (e17-on e17, (e09-on e09, (e18-on e18, (e13-on e13, (d50-on d50, (e15-taken-on e15_taken, (e15-given-on e15_given, (d51-on, (c02-on c02, (e44-on, (e45-on, tt)))))))))))))))))))))))
+      let later = kept-both levels-kept (kept-both institutions-kept (kept-both charges-kept contacts-kept)) in
+      let kept = kept-both (amounts-kept t sender receiver from to) later in
+      all-none (all_rules from to t n) (kept.on (none-all (all_rules sender receiver t m) e))
 
 -- a transfer that breaks no rule has 57a where it has 56a
 pub c81-of : (t : Tables) (sender receiver : Bic) (m : Mt103) → first_of (all_rules sender receiver t m) ≡ None → (is_some m.p56 && is_none m.p57) ≡ false
 unfolding all_rules amount_rules level_rules institution_rules charge_rules contact_rules c81
 c81-of t sender receiver m e =
-    let (d75, (d49, (e01, (e02, (e03, (e04, (e05, (e07, (e10, (e06, (c81, more))))))))))) = none-all (all_rules sender receiver t m) e in
+    let after_levels = institution_rules m ++ charge_rules m ++ contact_rules m in
+    let all = none-parts (amount_rules sender receiver t m) (level_rules m ++ after_levels) (none-all (all_rules sender receiver t m) e) in
+    let later = none-parts (level_rules m) after_levels all.1 in
+    let (e06, (c81, more)) = (none-parts (institution_rules m) (charge_rules m ++ contact_rules m) later.1).0 in
     if-true _ _ c81

@@ -77,7 +77,8 @@ module _ (t : Tables) (fs : List Field) where
       let v = read-then (in_place order_103 fs found 5 (value_of t)) _ x k.2 in
       let o = read-then (in_option fs found 6 (ccy_amount_of t)) _ x v.2 in
       let r = read-then (in_option fs found 7 rate_of) _ x o.2 in
-      let same : record { reference = a.0; times = b.0; op = c.0; instrs = d.0; kind = k.0; value = v.0; ordered = o.0; rate = r.0 } ≡ x = told-is _ x r.2 in
+      let same : record { reference = a.0; times = b.0; op = c.0; instrs = d.0; kind = k.0; value = v.0; ordered = o.0; rate = r.0 } ≡ x =
+      told-is _ x r.2 in
       rw (← same) (record { op = c.1; instrs = d.1; value = v.1; ordered = o.1; rate = r.1 })
 
   parties-say : (x : Parties) → parties_of t fs found ≡ Ok x → PartiesSay t fs x
@@ -103,7 +104,8 @@ module _ (t : Tables) (fs : List Field) where
       let d = read-then (in_option fs found 19 (ccy_amount_of t)) _ x c.2 in
       let n = read-then (in_option fs found 20 (texts_of 6)) _ x d.2 in
       let r = read-then (in_option fs found 21 (texts_of 3)) _ x n.2 in
-      let same : record { info = unwrap_or a.0 []; charge = b.0; taken = c.0; given = d.0; notes = unwrap_or n.0 []; regulatory = unwrap_or r.0 [] } ≡ x = told-is _ x r.2 in
+      let same : record { info = unwrap_or a.0 []; charge = b.0; taken = c.0; given = d.0; notes = unwrap_or n.0 []; regulatory = unwrap_or r.0 [] } ≡ x =
+      told-is _ x r.2 in
       rw (← same) (record { charge = b.1; taken = c.1; given = d.1 })
 
   -- of the whole
@@ -161,8 +163,10 @@ module _ (t : Tables) (fs : List Field) where
         let k = may-fine hold 4 kind_of (λ f. refl) in
         let v = must-fine hold 5 (value_of t) (λ f. refl) _ refl refl in
         let o = may-fine hold 6 (ccy_amount_of t) (λ f. refl) in
-        let r = may-fine hold 7 rate_of (λ f. refl) in
-        (record { reference = a.0; times = b.0; op = c.0; instrs = d.0; kind = k.0; value = v.0; ordered = o.0; rate = r.0 }, rw (a.1, b.1, c.1, d.1, k.1, v.1, o.1, r.1) refl)
+        let r = may-fine hold 7 rate_of (λ f. refl) in (
+          record { reference = a.0; times = b.0; op = c.0; instrs = d.0; kind = k.0; value = v.0; ordered = o.0; rate = r.0 },
+          rw (a.1, b.1, c.1, d.1, k.1, v.1, o.1, r.1) refl,
+        )
 
     parties-fine : (x : Parties) × (parties_of t fs found ≡ Ok x)
     unfolding parties_of
@@ -175,8 +179,10 @@ module _ (t : Tables) (fs : List Field) where
         let g = may-fine hold 12 (known_party_of t) (λ f. refl) in
         let h = may-fine hold 13 (known_party_of t) (λ f. refl) in
         let i = may-fine hold 14 (known_party_of t) (λ f. refl) in
-        let j = must-fine hold 15 (known_party_of t) (λ f. refl) _ refl refl in
-        (record { payer = a.0; p52 = b.0; p53 = c.0; p54 = d.0; p55 = g.0; p56 = h.0; p57 = i.0; payee = j.0 }, rw (a.1, b.1, c.1, d.1, g.1, h.1, i.1, j.1) refl)
+        let j = must-fine hold 15 (known_party_of t) (λ f. refl) _ refl refl in (
+          record { payer = a.0; p52 = b.0; p53 = c.0; p54 = d.0; p55 = g.0; p56 = h.0; p57 = i.0; payee = j.0 },
+          rw (a.1, b.1, c.1, d.1, g.1, h.1, i.1, j.1) refl,
+        )
 
     details-fine : (x : Details) × (details_of t fs found ≡ Ok x)
     unfolding details_of
@@ -187,8 +193,10 @@ module _ (t : Tables) (fs : List Field) where
         let c = many-fine hold 18 (ccy_amount_of t) (λ f. refl) in
         let d = may-fine hold 19 (ccy_amount_of t) (λ f. refl) in
         let n = may-fine hold 20 (texts_of 6) (λ f. refl) in
-        let r = may-fine hold 21 (texts_of 3) (λ f. refl) in
-        (record { info = unwrap_or a.0 []; charge = b.0; taken = c.0; given = d.0; notes = unwrap_or n.0 []; regulatory = unwrap_or r.0 [] }, rw (a.1, b.1, c.1, d.1, n.1, r.1) refl)
+        let r = may-fine hold 21 (texts_of 3) (λ f. refl) in (
+          record { info = unwrap_or a.0 []; charge = b.0; taken = c.0; given = d.0; notes = unwrap_or n.0 []; regulatory = unwrap_or r.0 [] },
+          rw (a.1, b.1, c.1, d.1, n.1, r.1) refl,
+        )
 
     -- they say something
     pub contents-fine : (m : Mt103) × (contents_of t fs found ≡ Ok m)

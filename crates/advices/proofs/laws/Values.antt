@@ -35,7 +35,8 @@ written t a is tabled =
     let minor : amount_of a.decimals text ≡ Ok a.minor = reads_written a.decimals a.minor.0 is.amount.few is.amount.small in
     let plain = amount-plain a.decimals a.minor.0 is.amount.few is.amount.small in
     let some = amount-some a.decimals a.minor.0 is.amount.few is.amount.small in
-    let long : nat_le 4 (length (a.ccy.0 ++ text)) ≡ true = le-leb 4 (length (a.ccy.0 ++ text)) (omega (arith, length-append a.ccy.0 text, tabled.three, some)) in
+    let long : nat_le 4 (length (a.ccy.0 ++ text)) ≡ true =
+    le-leb 4 (length (a.ccy.0 ++ text)) (omega (arith, length-append a.ccy.0 text, tabled.three, some)) in
     let letters : list_all (is_in A) a.ccy.0 ≡ true = is.letters in
     record {
       form = rw (long, front, letters, back, plain) refl;
@@ -62,8 +63,10 @@ value-read t v date spelled six is tabled some =
     let w = written t v.amount is.amount tabled in
     let front : take 6 (date ++ ccy_amount_text v.amount) ≡ date = take_at date (ccy_amount_text v.amount) 6 six in
     let back : drop 6 (date ++ ccy_amount_text v.amount) ≡ ccy_amount_text v.amount = drop_at date (ccy_amount_text v.amount) 6 six in
-    let total : length (date ++ ccy_amount_text v.amount) ≡ 6 + length (ccy_amount_text v.amount) = omega (arith, length-append date (ccy_amount_text v.amount), six) in
-    let long : nat_le 10 (length (date ++ ccy_amount_text v.amount)) ≡ true = ap (nat_le 10) total ∙ dated-long (length (ccy_amount_text v.amount)) w.long in
+    let total : length (date ++ ccy_amount_text v.amount) ≡ 6 + length (ccy_amount_text v.amount) =
+    omega (arith, length-append date (ccy_amount_text v.amount), six) in
+    let long : nat_le 10 (length (date ++ ccy_amount_text v.amount)) ≡ true =
+    ap (nat_le 10) total ∙ dated-long (length (ccy_amount_text v.amount)) w.long in
     let digits : list_all (is_in N) date ≡ true = ap (λ (x : List ℕ). list_all (is_in N) x) spelled ∙ day-digits v.day is.day in
     let day : day_of date ≡ Some v.day = ap (λ (x : List ℕ). day_of x) spelled ∙ day-again v.day is.day in (
       rw (long, front, digits, back, w.form) refl,

@@ -11,6 +11,7 @@ use Rattle.mt103.specs.Order.{order_103}
 use Rattle.mt103.proofs.RoundTrip.{is-read}
 use Rattle.mt103.proofs.Says.{contents-say}
 
+-- the amount of a message that is read can be paid
 pub amount-payable : (t : Tables) (fs : List Field) (m : Mt103) → mt103_of t fs ≡ Ok m → IsPayable m.amount
 amount-payable t fs m e =
     let say = contents-say t fs (places_from order_103 0 fs) m (is-read t fs m e).contents in

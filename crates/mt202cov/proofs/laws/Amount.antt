@@ -15,6 +15,7 @@ use Rattle.mt202cov.specs.Order.{order_202}
 use Rattle.mt202cov.proofs.Readings.{readings}
 use Rattle.mt202cov.proofs.RoundTrip.{accepted}
 
+-- the amount of a message that is read can be paid
 pub amount-payable : (t : Tables) (fs : List Field) (m : Mt202Cov) → mt202cov_of t fs ≡ Ok m → IsPayable m.amount
 amount-payable t fs m e =
     let found : List ℕ = places_from order_202 0 fs in

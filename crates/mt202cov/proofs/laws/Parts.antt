@@ -11,7 +11,7 @@ use Rattle.fin_contents.specs.Money.{ccy_amount_of, value_of}
 use Rattle.fin_contents.specs.Parties.{known_party_of}
 use Rattle.fin_contents.specs.Plain.{reference_of, texts_of, time_of}
 use Rattle.fin_contents.specs.declared.value.Value.{Value}
-use Rattle.fin_contents.proofs.laws.Grouped.{alike, five-apart, four-apart, joined, six-apart, three-apart}
+use Rattle.fin_contents.proofs.laws.Grouped.{alike, five-apart, four-apart, steps-joined, six-apart, three-apart}
 use Rattle.mt202cov.specs.Message.{contents_of}
 use Rattle.mt202cov.specs.Order.{order_202}
 use Rattle.mt202cov.specs.Parts.{banks_of, contents_in_parts, customers_of, details_of, cover_of_parts, sequence_a_of, sequence_b_of, terms_of}
@@ -40,24 +40,25 @@ sequence_a terms banks notes = record { terms = terms; banks = banks; notes = un
 abbrev sequence_b : Customers → Details → SequenceB
 sequence_b customers details = record { customers = customers; details = details }
 
+-- reading part by part gives what reading place by place gives
 pub contents-are : (t : Tables) (fs : List Field) (found : List ℕ) → contents_in_parts t fs found ≡ contents_of t fs found
 unfolding contents_in_parts contents_of sequence_a_of sequence_b_of terms_of banks_of customers_of details_of
 contents-are t fs found =
-    joined (terms_of t fs found) _ _ ∙
+    steps-joined (terms_of t fs found) _ _ ∙
     four-apart (in_place order_202 fs found 0 reference_of) (in_place order_202 fs found 1 reference_of) (all_from fs 2 time_of 0 found fs) (in_place order_202 fs found 3 (value_of t))
     terms (λ (x : Terms). (banks_of t fs found >>= λ (y : Banks). in_option fs found 10 (texts_of 6) >>= λ n. Ok (sequence_a x y n)) >>= λ (a : SequenceA). sequence_b_of t fs found >>= λ (b : SequenceB). Ok (cover_of_parts a b)) _ (λ a0 a1 a2 a3.
     let x : Terms = terms a0 a1 a2 a3 in
-    joined (banks_of t fs found) _ _ ∙
+    steps-joined (banks_of t fs found) _ _ ∙
     six-apart (in_option fs found 4 (known_party_of t)) (in_option fs found 5 (known_party_of t)) (in_option fs found 6 (known_party_of t)) (in_option fs found 7 (known_party_of t)) (in_option fs found 8 (known_party_of t)) (in_place order_202 fs found 9 (known_party_of t))
     banks (λ (y : Banks). (in_option fs found 10 (texts_of 6) >>= λ n. Ok (sequence_a x y n)) >>= λ (a : SequenceA). sequence_b_of t fs found >>= λ (b : SequenceB). Ok (cover_of_parts a b)) _ (λ b0 b1 b2 b3 b4 b5.
     let y : Banks = banks b0 b1 b2 b3 b4 b5 in
-    joined (in_option fs found 10 (texts_of 6)) _ _ ∙
+    steps-joined (in_option fs found 10 (texts_of 6)) _ _ ∙
     alike (in_option fs found 10 (texts_of 6)) _ _ (λ n.
     let a : SequenceA = sequence_a x y n in
-    joined (customers_of t fs found) _ _ ∙
+    steps-joined (customers_of t fs found) _ _ ∙
     five-apart (in_place order_202 fs found 11 (known_party_of t)) (in_option fs found 12 (known_party_of t)) (in_option fs found 13 (known_party_of t)) (in_option fs found 14 (known_party_of t)) (in_place order_202 fs found 15 (known_party_of t))
     customers (λ (z : Customers). (details_of t fs found >>= λ (d : Details). Ok (sequence_b z d)) >>= λ (b : SequenceB). Ok (cover_of_parts a b)) _ (λ c0 c1 c2 c3 c4.
     let z : Customers = customers c0 c1 c2 c3 c4 in
-    joined (details_of t fs found) _ _ ∙
+    steps-joined (details_of t fs found) _ _ ∙
     three-apart (in_option fs found 16 (texts_of 4)) (in_option fs found 17 (texts_of 6)) (in_option fs found 18 (ccy_amount_of t))
     details (λ (d : Details). Ok (cover_of_parts a (sequence_b z d))) _ (λ d0 d1 d2. refl)))))

@@ -18,15 +18,25 @@ use Rattle.mt9_advice.specs.declared.booking.Booking.{Booking}
 abbrev booking : List ℕ → List ℕ → List ℕ → Option (List ℕ) → Value → Booking
 booking reference related account at value = record { reference = reference; related = related; account = account; at = at; value = value }
 
+-- reading an MT900 part by part gives what reading place by place gives
 pub contents-are-900 : (t : Tables) (fs : List Field) (found : List ℕ) → parts_900 t fs found ≡ contents_900 t fs found
 unfolding parts_900 contents_900 booking_of
 contents-are-900 t fs found =
-    five-apart (in_place order_900 fs found 0 reference_of) (in_place order_900 fs found 1 (short_line_of 16)) (in_place order_900 fs found 2 (short_line_of 35)) (in_option fs found 3 stamp_of) (in_place order_900 fs found 4 (value_of t))
-    booking (λ (b : Booking). in_option fs found 5 (known_party_of t) >>= λ p52. in_option fs found 6 (texts_of 6) >>= λ notes. Ok (mt900 b p52 (unwrap_or notes []))) _ (λ a0 a1 a2 a3 a4. refl)
+    five-apart (in_place order_900 fs found 0 reference_of) (in_place order_900 fs found 1 (short_line_of 16))
+    (in_place order_900 fs found 2 (short_line_of 35)) (in_option fs found 3 stamp_of) (in_place order_900 fs found 4 (value_of t))
+    booking
+    (λ (b : Booking).
+    in_option fs found 5 (known_party_of t) >>= λ p52. in_option fs found 6 (texts_of 6) >>= λ notes. Ok (mt900 b p52 (unwrap_or notes []))) _
+    (λ a0 a1 a2 a3 a4. refl)
 
+-- the same of an MT910
 pub contents-are-910 : (t : Tables) (fs : List Field) (found : List ℕ) → parts_910 t fs found ≡ contents_910 t fs found
 unfolding parts_910 contents_910 booking_of
 contents-are-910 t fs found =
-    five-apart (in_place order_910 fs found 0 reference_of) (in_place order_910 fs found 1 (short_line_of 16)) (in_place order_910 fs found 2 (short_line_of 35)) (in_option fs found 3 stamp_of) (in_place order_910 fs found 4 (value_of t))
-    booking (λ (b : Booking). in_option fs found 5 (known_party_of t) >>= λ payer. in_option fs found 6 (known_party_of t) >>= λ p52. in_option fs found 7 (known_party_of t) >>= λ p56. in_option fs found 8 (texts_of 6) >>= λ notes.
+    five-apart (in_place order_910 fs found 0 reference_of) (in_place order_910 fs found 1 (short_line_of 16))
+    (in_place order_910 fs found 2 (short_line_of 35)) (in_option fs found 3 stamp_of) (in_place order_910 fs found 4 (value_of t))
+    booking
+    (λ (b : Booking). in_option fs found 5 (known_party_of t) >>=
+    λ payer.
+    in_option fs found 6 (known_party_of t) >>= λ p52. in_option fs found 7 (known_party_of t) >>= λ p56. in_option fs found 8 (texts_of 6) >>= λ notes.
     Ok (mt910 b payer p52 p56 (unwrap_or notes []))) _ (λ a0 a1 a2 a3 a4. refl)

@@ -8,10 +8,14 @@ put_message-requires-clause-user c = rw (c.as_slice.ensures, c.in_ok-user.ensure
 
 pub put_message-requires-clause-some : goal.put_message-requires-clause-some
 put_message-requires-clause-some c =
-    let w = order-writable c.args.a.now c.args.pay.now c.args.place c.args.k c.in_ok-fields.ensures.sound c.requires.fits c.requires.shape (omega (arith, c.requires.place)) (omega (arith, c.requires.k)) c.args.order.now c.requires.order in
+    let w =
+    order-writable c.args.a.now c.args.pay.now c.args.place c.args.k c.in_ok-fields.ensures.sound c.requires.fits c.requires.shape
+    (omega (arith, c.requires.place)) (omega (arith, c.requires.k)) c.args.order.now c.requires.order in
     rw (c.as_slice-2.ensures, c.in_ok-fields.ensures.value) (w.some)
 
 pub put_message-requires-clause-fit : goal.put_message-requires-clause-fit
 put_message-requires-clause-fit c =
-    let w = order-writable c.args.a.now c.args.pay.now c.args.place c.args.k c.in_ok-fields.ensures.sound c.requires.fits c.requires.shape (omega (arith, c.requires.place)) (omega (arith, c.requires.k)) c.args.order.now c.requires.order in
+    let w =
+    order-writable c.args.a.now c.args.pay.now c.args.place c.args.k c.in_ok-fields.ensures.sound c.requires.fits c.requires.shape
+    (omega (arith, c.requires.place)) (omega (arith, c.requires.k)) c.args.order.now c.requires.order in
     rw (c.as_slice-2.ensures, c.in_ok-fields.ensures.value) (w.fit)

@@ -12,5 +12,5 @@ unfolding message_of
 returns c =
     let heading : first_of (heading_tests c.args.way c.args.home.now c.args.t.now c.args.blocks.now) ≡ None = cc in
     let lines : line_test c.args.blocks.now.text ≡ None = subst (λ text. line_test text ≡ None) c.bytes.ensures c.in_ok-fields.ensures.sound in
-    let filled = left_in (with_text c.args.blocks.now.text c.read_of_type-answer.new.out) c.read_of_type-answer.result in
-    passed_on _ _ (message_in c.args.t.now c.args.blocks.now) filled heading lines c.read_of_type-answer.ensures
+    let filled = left_in (with_text c.args.blocks.now.text c.read_of_type.new.out) c.read_of_type.result in
+    passed_on _ _ (message_in c.args.t.now c.args.blocks.now) filled heading lines c.read_of_type.ensures

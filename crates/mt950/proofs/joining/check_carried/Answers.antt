@@ -10,15 +10,22 @@ pub returns-then-not-opens_at : goal.returns-then-not-opens_at
 returns-then-not-opens_at c =
     let opening : SFits w64 c.index-pages-at.result.opening.signed = search rules in
     let told =
-    sym (ap unless_page_fault (c.loop-at.invariant ∙ carried-here (to_z w64 c.loop-at.closing-bits) c.args.pages.now c.loop-at.at c.index-pages-at.result c.index-pages-at.is c.loop-at-test.true (sym c.opens_at.ensures ∙ c.if-not-opens_at.true))) in
+    sym
+    (ap unless_page_fault
+    (c.loop-at.invariant
+    ∙ carried-here (to_z w64 c.loop-at.closing-bits) c.args.pages.now c.loop-at.at c.index-pages-at.result c.index-pages-at.is c.loop-at-test.true
+    (sym c.opens_at.ensures ∙ c.if-not-opens_at.true))) in
     simp to_z-of_z told
 
 pub loop-at-preserved : goal.loop-at-preserved
 loop-at-preserved c =
     let closing : SFits w64 c.index-pages-at.result.closing.signed = search rules in
     let more =
-    c.loop-at.invariant ∙ carried-more (to_z w64 c.loop-at.closing-bits) c.args.pages.now c.loop-at.at c.index-pages-at.result c.index-pages-at.is c.loop-at-test.true (sym c.opens_at.ensures ∙ c.if-not-opens_at.false) in
+    c.loop-at.invariant
+    ∙ carried-more (to_z w64 c.loop-at.closing-bits) c.args.pages.now c.loop-at.at c.index-pages-at.result c.index-pages-at.is c.loop-at-test.true
+    (sym c.opens_at.ensures ∙ c.if-not-opens_at.false) in
     simp to_z-of_z more
 
 pub returns : goal.returns
-returns c = sym (ap unless_page_fault (c.loop-at.invariant ∙ carried-end (to_z w64 c.loop-at.closing-bits) c.args.pages.now c.loop-at.at c.loop-at-test.false))
+returns c =
+    sym (ap unless_page_fault (c.loop-at.invariant ∙ carried-end (to_z w64 c.loop-at.closing-bits) c.args.pages.now c.loop-at.at c.loop-at-test.false))

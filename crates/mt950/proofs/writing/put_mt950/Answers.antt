@@ -15,7 +15,8 @@ pub fields_950-requires-clause-closing : goal.fields_950-requires-clause-closing
 fields_950-requires-clause-closing c = (readable-is c.args.p.now c.requires).closing
 
 pub fields_950-requires-clause-available : goal.fields_950-requires-clause-available
-fields_950-requires-clause-available c = some-weaker _ (IsBalance c.args.p.now.decimals) c.args.p.now.available (readable-is c.args.p.now c.requires).available (λ b h. h.0)
+fields_950-requires-clause-available c =
+    some-weaker _ (IsBalance c.args.p.now.decimals) c.args.p.now.available (readable-is c.args.p.now c.requires).available (λ b h. h.0)
 
 pub put_fields-requires-clause-some : goal.put_fields-requires-clause-some
 put_fields-requires-clause-some c = λ e. some-950 c.args.p.now (sym (c.as_slice.ensures ∙ c.in_ok-fields.ensures) ∙ e)
@@ -24,4 +25,6 @@ pub put_fields-requires-clause-fit : goal.put_fields-requires-clause-fit
 put_fields-requires-clause-fit c = rw (c.as_slice.ensures, c.in_ok-fields.ensures) (fit-950 c.args.p.now c.requires)
 
 pub returns-clause-again : goal.returns-clause-again
-returns-clause-again c = text-950 c.args.p.now c.put_fields.result c.as_slice.result.now c.requires (c.as_slice.ensures ∙ c.in_ok-fields.ensures) c.put_fields.ensures.text c.put_fields.ensures.again
+returns-clause-again c =
+    text-950 c.args.p.now c.put_fields.result c.as_slice.result.now c.requires
+    (c.as_slice.ensures ∙ c.in_ok-fields.ensures) c.put_fields.ensures.text c.put_fields.ensures.again

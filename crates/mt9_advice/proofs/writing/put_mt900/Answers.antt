@@ -12,4 +12,6 @@ pub put_fields-requires-clause-fit : goal.put_fields-requires-clause-fit
 put_fields-requires-clause-fit c = rw (c.as_slice.ensures, c.in_ok-fields.ensures) (fit-900 c.args.m.now c.requires)
 
 pub returns-clause-again : goal.returns-clause-again
-returns-clause-again c = text-900 c.args.m.now c.put_fields.result c.as_slice.result.now c.requires (c.as_slice.ensures ∙ c.in_ok-fields.ensures) c.put_fields.ensures.text c.put_fields.ensures.again
+returns-clause-again c =
+    text-900 c.args.m.now c.put_fields.result c.as_slice.result.now c.requires
+    (c.as_slice.ensures ∙ c.in_ok-fields.ensures) c.put_fields.ensures.text c.put_fields.ensures.again

@@ -4,7 +4,7 @@ use Rattle.fin_contents.proofs.laws.Readable.{given-readable}
 use Rattle.mt9_advice.specs.Advice.{mt900_of}
 use Rattle.mt9_advice.proofs.laws.Amount.{given-payable-900}
 use Rattle.mt9_advice.proofs.Outcome.{gives-900, structure-900}
-use Rattle.mt9_advice.proofs.debit.read_mt900.Goals as goal
+use Rattle.mt9_advice.proofs.debit.read_mt900_lines.Goals as goal
 
 pub returns-in_err-found-clause-message : goal.returns-in_err-found-clause-message
 returns-in_err-found-clause-message c =
@@ -13,7 +13,9 @@ returns-in_err-found-clause-message c =
     rw (p.1, p.2) fails
 
 pub returns-clause-message : goal.returns-clause-message
-returns-clause-message c = gives-900 c.args.t.now c.args.f.now c.as_slice.result.now c.read_contents.result c.in_ok-found.ensures.sound (c.as_slice.ensures.value ∙ c.in_ok-found.ensures.places) c.read_contents.ensures
+returns-clause-message c =
+    gives-900 c.args.t.now c.args.f.now c.as_slice.result.now c.read_contents.result c.in_ok-found.ensures.sound
+    (c.as_slice.ensures.value ∙ c.in_ok-found.ensures.places) c.read_contents.ensures
 
 pub returns-clause-amount : goal.returns-clause-amount
 returns-clause-amount c = given-payable-900 c.args.t.now c.args.f.now _ (returns-clause-message c)

@@ -5,7 +5,7 @@ use Rattle.mt202cov.specs.Message.{mt202cov_of}
 use Rattle.mt202cov.proofs.laws.Amount.{given-payable}
 use Rattle.mt202cov.proofs.Complete.{complete}
 use Rattle.mt202cov.proofs.Outcome.{accepted, contents-fail, refused, structure-fail}
-use Rattle.mt202cov.proofs.verdict.read_mt202cov.Goals as goal
+use Rattle.mt202cov.proofs.verdict.read_mt202cov_lines.Goals as goal
 
 pub returns-in_err-found-clause-message : goal.returns-in_err-found-clause-message
 returns-in_err-found-clause-message c =
