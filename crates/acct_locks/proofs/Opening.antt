@@ -5,7 +5,7 @@ use Rattle.atomic_table.specs.Seated.{TableId}
 use Rattle.acct_locks.specs.declared.seats.View.{View}
 use Rattle.acct_locks.specs.declared.seats.View.TheVariants.{Book, Purse, Spent}
 use Rattle.day_model.specs.Totals.{Pair, pair_at}
-use Rattle.acct_locks.specs.Seats.{IsIn, IsBook, pairs_in, away_in, handed_out}
+use Rattle.acct_locks.specs.Seats.{IsIn, IsBookSeat, pairs_in, away_in, handed_out}
 use Rattle.acct_locks.specs.Holdings.{AwayUpTo, Holding, purse_at, purses_from}
 use Rattle.acct_locks.proofs.Places.{pair_same}
 
@@ -21,8 +21,8 @@ away_more n m (x ∷ xs) le a = (omega (arith, a.0), away_more n m xs le a.1)
 before : (k : ℕ) → 0 < k → (n : ℕ) × (n + 1 ≡ k)
 before k pos = (k - 1, omega arith)
 
-pub handed_next : (v : View) (k : ℕ) (p : Pair) → IsBook v → ((n : ℕ) → n + 1 ≡ k → AwayUpTo n (away_in v)) → 0 < k → pair_at (pairs_in v) k ≡ Some p
-    → IsBook (handed_out k p v) × (pairs_in (handed_out k p v) ≡ pairs_in v) × AwayUpTo k (away_in (handed_out k p v))
+pub handed_next : (v : View) (k : ℕ) (p : Pair) → IsBookSeat v → ((n : ℕ) → n + 1 ≡ k → AwayUpTo n (away_in v)) → 0 < k → pair_at (pairs_in v) k ≡ Some p
+    → IsBookSeat (handed_out k p v) × (pairs_in (handed_out k p v) ≡ pairs_in v) × AwayUpTo k (away_in (handed_out k p v))
 handed_next (Book ps aw back) k p isb away pos at =
     let b = before k pos in
     (tt, pair_same ps k p at, (omega arith, away_more b.0 k aw (omega arith) (away b.0 b.1)))

@@ -34,9 +34,9 @@ KeepsRight (Book pairs away (Some back)) = pair_at pairs back.0 ≡ Some back.1
 KeepsRight v = Unit {0}
 
 -- the view is the book's
-abbrev pub IsBook : View → Type 0
-IsBook (Book pairs away back) = Unit {0}
-IsBook v = ⊥
+abbrev pub IsBookSeat : View → Type 0
+IsBookSeat (Book pairs away back) = Unit {0}
+IsBookSeat v = ⊥
 
 -- the view is a purse's
 abbrev pub IsPurse : View → Type 0
@@ -56,9 +56,9 @@ away_in v = []
 -- the seat has the book's view v, and all others fit it
 pub record KeptBy (words : List ℕ) (views : List View) (seat : ℕ) (v : View) : Type 0 where
   pub zero_word : words ≡ 0 ∷ []
-  pub is_book : IsBook v
+  pub is_book : IsBookSeat v
   pub there : get_elem? views seat ≡ some v
-  pub one_book : (j : ℕ) (w : View) → get_elem? views j ≡ some w → IsBook w → j ≡ seat
+  pub one_book : (j : ℕ) (w : View) → get_elem? views j ≡ some w → IsBookSeat w → j ≡ seat
   pub one_purse : (i j n : ℕ) (p q : Pair) → get_elem? views i ≡ some (Purse n p) → get_elem? views j ≡ some (Purse n q) → i ≡ j
   pub is_away : (j n : ℕ) (p : Pair) → get_elem? views j ≡ some (Purse n p) → IsIn n (away_in v)
   pub agrees : (j n : ℕ) (p : Pair) → get_elem? views j ≡ some (Purse n p) → pair_at (pairs_in v) n ≡ Some p

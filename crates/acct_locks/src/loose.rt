@@ -3,7 +3,7 @@
 ghost use Rattle.std.specs.Prelude.{◌≡◌, ◌<◌, ◌^◌, ◌+◌, ℕ, [], length, Some, IfOk};
 ghost use Rattle.day_model.specs.Legal.{IsLegal};
 ghost use Rattle.day_model.specs.Totals.{HasTotals, pair_at};
-ghost use Rattle.acct_locks.specs.Seats.{IsBook, pairs_in, away_in};
+ghost use Rattle.acct_locks.specs.Seats.{IsBookSeat, pairs_in, away_in};
 ghost use Rattle.acct_locks.specs.Holdings.{AwayUpTo, purse_at, purses_of};
 
 use crate::name::Name;
@@ -41,10 +41,10 @@ impl Model for Loose {
 // The purse of the next account.
 fn next_purse(seat_table: &SeatTable, seat: &mut SeatOf, number: u32, pair: (u64, u64)) -> Purse
     requires table { (seat.old.table_id ≡ seat_table.now.shared.table_id) × (seat_table.now.shared.table_id.words ≡ 1) }
-    requires seat { IsBook seat.old.me.0 × (seat.old.me.1 ≡ []) }
+    requires seat { IsBookSeat seat.old.me.0 × (seat.old.me.1 ≡ []) }
     requires next { (0 < number) × ((n : ℕ) → n + 1 ≡ number → AwayUpTo n (away_in seat.old.me.0)) }
     requires pair { pair_at (pairs_in seat.old.me.0) number ≡ Some pair }
-    ensures book { (seat.new.table_id ≡ seat.old.table_id) × IsBook seat.new.me.0 × (seat.new.me.1 ≡ []) × (pairs_in seat.new.me.0 ≡ pairs_in seat.old.me.0) × AwayUpTo number (away_in seat.new.me.0) }
+    ensures book { (seat.new.table_id ≡ seat.old.table_id) × IsBookSeat seat.new.me.0 × (seat.new.me.1 ≡ []) × (pairs_in seat.new.me.0 ≡ pairs_in seat.old.me.0) × AwayUpTo number (away_in seat.new.me.0) }
     ensures purse { result ≡ purse_at seat_table.now.shared.table_id number pair }
 {
     let purse = hand_out(seat_table, seat, number, pair);

@@ -15,11 +15,11 @@ pub struct BookSides {
 impl Model for BookSides {
     ghost use Rattle.std.specs.Prelude.{◌≡◌, []};
     ghost use Rattle.acct_locks.specs.Sides.{Sides};
-    ghost use Rattle.acct_locks.specs.Seats.{IsBook, pairs_in};
+    ghost use Rattle.acct_locks.specs.Seats.{IsBookSeat, pairs_in};
 
     ghost Value = { Sides };
 
     ghost view = { λ b. record { table = b.seat.table_id; pairs = pairs_in b.seat.me.0 } };
 
-    ghost invariant = { λ b. IsBook b.seat.me.0 × (b.seat.me.1 ≡ []) };
+    ghost invariant = { λ b. IsBookSeat b.seat.me.0 × (b.seat.me.1 ≡ []) };
 }

@@ -2,7 +2,7 @@
 
 ghost use Rattle.std.specs.Prelude.{◌≡◌, ◌<◌, ◌≤◌, [], length, IfOk, None};
 ghost use Rattle.acct_locks.specs.declared.seats.View.TheVariants.{Book, Purse};
-ghost use Rattle.acct_locks.specs.Seats.{IsBook, IsPurse, IsIn, pairs_in, away_in, handed_out, took_back, KeepsRight};
+ghost use Rattle.acct_locks.specs.Seats.{IsBookSeat, IsPurse, IsIn, pairs_in, away_in, handed_out, took_back, KeepsRight};
 
 use crate::seats::{HandOut, Handing, Look, SeatOf, SeatTable, TakeBack};
 use corr_text::Memory;
@@ -25,7 +25,7 @@ fn hand_out_as<K: Handing>(
 ) -> SeatOf
     requires picked { (K.account ≡ number) × (K.pair ≡ pair) }
     requires table { (book.old.table_id ≡ seat_table.now.shared.table_id) × (0 < seat_table.now.shared.table_id.words) }
-    requires seat { IsBook book.old.me.0 }
+    requires seat { IsBookSeat book.old.me.0 }
     requires home { ¬ IsIn number (away_in book.old.me.0) }
     requires there { (0 < number) × (number ≤ length (pairs_in book.old.me.0)) }
     ensures book { (book.new.table_id ≡ book.old.table_id) × (book.new.me ≡ (handed_out number pair book.old.me.0, book.old.me.1)) }
@@ -42,7 +42,7 @@ pub(crate) fn hand_out(
     pair: (u64, u64),
 ) -> SeatOf
     requires table { (book.old.table_id ≡ seat_table.now.shared.table_id) × (0 < seat_table.now.shared.table_id.words) }
-    requires seat { IsBook book.old.me.0 }
+    requires seat { IsBookSeat book.old.me.0 }
     requires home { ¬ IsIn number (away_in book.old.me.0) }
     requires there { (0 < number) × (number ≤ length (pairs_in book.old.me.0)) }
     ensures book { (book.new.table_id ≡ book.old.table_id) × (book.new.me ≡ (handed_out number pair book.old.me.0, book.old.me.1)) }
@@ -54,7 +54,7 @@ pub(crate) fn hand_out(
 /// Takes a purse's seat back. The look tells that it had the pair of the book's list.
 pub(crate) fn take_back(seat_table: &SeatTable, book: &mut SeatOf, purse: SeatOf)
     requires table { (book.old.table_id ≡ seat_table.now.shared.table_id) × (purse.table_id ≡ seat_table.now.shared.table_id) × (0 < seat_table.now.shared.table_id.words) }
-    requires seat { IsBook book.old.me.0 × (book.old.me.1 ≡ []) }
+    requires seat { IsBookSeat book.old.me.0 × (book.old.me.1 ≡ []) }
     requires purse { IsPurse purse.me.0 × (purse.me.1 ≡ []) }
     ensures book { (book.new.table_id ≡ book.old.table_id) × (book.new.me ≡ (took_back book.old.me.0 purse.me.0, [])) }
     ensures right { KeepsRight book.new.me.0 }

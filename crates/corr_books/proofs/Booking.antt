@@ -15,7 +15,7 @@ use Rattle.day_model.specs.Balance.{outcome_of}
 use Rattle.day_model.specs.Laws.{IsLatest}
 use Rattle.day_model.specs.Legal.{IsLegal}
 use Rattle.day_model.specs.Next.{entered_at, entry_of, next_history}
-use Rattle.day_model.proofs.laws.Growth.{pushed}
+use Rattle.day_model.proofs.laws.Growth.{in_pushed}
 use Rattle.front_word.specs.declared.view.Act.{Act}
 use Rattle.front_word.specs.Known.{WriterKnows, PassKnows}
 use Rattle.front_word.specs.Rule.{OwedPast, IsNumber}
@@ -50,7 +50,7 @@ latest_more history e day latest same i d at =
     (λ (t : (i ≡ length history) × (e ≡ d)).
     let s : d.day ≡ day = ap (λ (x : Entry). x.day) (sym t.1) ∙ same in
     subst (λ (x : Day). x.0 ≤ℤ day.0) (sym s) (omega (arith, ints)))
-    (pushed history e i d at)
+    (in_pushed history e i d at)
 
 module _ {D : Type 0} (disk : disks.Ghosts D) (o : Opening) (purses : TableId) (b b' : Book D) (w : WriterKnows) (number : ℕ) (pay : Pay) where
   -- what stands behind the lock, before and after

@@ -23,10 +23,10 @@ use Rattle.corr_books.specs.Closing.{Closes, IsOwned, IsPart, LeavesClosed}
 use Rattle.corr_books.specs.Opening.{Opening}
 use Rattle.corr_books.specs.Passes.{AllBelong}
 use Rattle.corr_books.specs.Stand.{AreCounts, IsStand, StandKnows}
-use Rattle.corr_books.specs.Taking.{AreTaken, IsTaken}
+use Rattle.corr_books.specs.Taking.{AreTaken, IsTakenBack}
 
 -- a pass that was taken back knows all of its entries
-part_of : (w : WriterKnows) (p : PassKnows) → IsTaken w p → IsPart w.acts p
+part_of : (w : WriterKnows) (p : PassKnows) → IsTakenBack w p → IsPart w.acts p
 part_of w p t = record {
   known = t.known;
   own = λ i a at tag. dite (dec_lt i (length p.known))

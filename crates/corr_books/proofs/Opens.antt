@@ -13,8 +13,8 @@ use Rattle.jrn_file.specs.Reading.{Reading}
 use Rattle.jrn_file.specs.declared.fault.OpenFault.{OpenFault}
 use Rattle.corr_books.specs.declared.opening.BooksFault.{BooksFault}
 use Rattle.corr_books.specs.declared.opening.BooksFault.TheVariants.{Open, DateBack}
-use Rattle.corr_books.specs.Finding.{BeginsNot, Opened, RefusesAs, ShowsBack, TellsOf}
-use Rattle.corr_books.specs.Opening.{Parts, parts_of}
+use Rattle.corr_books.specs.Finding.{BeginsNot, OpenedBooks, RefusesAs, ShowsBack, TellsOf}
+use Rattle.corr_books.specs.Opening.{Parts, parts_from}
 
 -- a list ends with its last element
 pub ends_at : (xs : List Entry) (k : ℕ) (e : Entry) → slice_get xs k ≡ Some e → suc k ≡ length xs → xs ≡ take k xs ++ e ∷ []
@@ -30,22 +30,22 @@ tells_refused reading (Some finding) is bytes = (finding, is, refl)
 
 module _ {D : Type 0} (b : Book D) (day : Day) where
   -- the parts of the answer are the book's
-  abbrev AreParts : Opened D → Type 0
-  AreParts answer = IfOk answer (λ o. o ≡ parts_of b day o.word)
+  abbrev AreParts : OpenedBooks D → Type 0
+  AreParts answer = IfOk answer (λ o. o ≡ parts_from b day o.word)
 
-  abbrev Latest : Opened D → Type 0
+  abbrev Latest : OpenedBooks D → Type 0
   Latest answer = IfOk answer (λ _. IsLatest b.history day)
 
   -- or they were not begun, and the disk comes back
-  abbrev NotBegun : Opened D → Type 0
+  abbrev NotBegun : OpenedBooks D → Type 0
   NotBegun answer = IfErr answer (λ e. (e.0 ≡ disk_of b.file) × BeginsNot b.history day e.1)
 
-  same_book : (o : Parts D) → o ≡ parts_of b day o.word → book b.accounts b.history ≡ book o.accounts o.base
+  same_book : (o : Parts D) → o ≡ parts_from b day o.word → book b.accounts b.history ≡ book o.accounts o.base
   same_book o parts =
       let accounts : b.accounts ≡ o.accounts = ap (λ (p : Parts D). p.accounts) (sym parts) in
       let base : b.history ≡ o.base = ap (λ (p : Parts D). p.base) (sym parts) in λ i. book (accounts i) (base i)
 
-  latest_of : (o : Parts D) → o ≡ parts_of b day o.word → IsLatest b.history day → IsLatest o.base day
+  latest_of : (o : Parts D) → o ≡ parts_from b day o.word → IsLatest b.history day → IsLatest o.base day
   latest_of o parts latest = subst (λ (h : List Entry). IsLatest h day) (ap (λ (p : Parts D). p.base) (sym parts)) latest
 
   refuses : (fault : BooksFault) → BeginsNot b.history day fault → RefusesAs day fault (book b.accounts b.history)
@@ -53,17 +53,17 @@ module _ {D : Type 0} (b : Book D) (day : Day) where
   refuses (DateBack last) back = back
 
   -- what is told of the bytes of a book
-  pub tells : (reading : Reading) (answer : Opened D) → AreParts answer → Latest answer → NotBegun answer → IsFound reading (book b.accounts b.history) → TellsOf reading day answer
+  pub tells : (reading : Reading) (answer : OpenedBooks D) → AreParts answer → Latest answer → NotBegun answer → IsFound reading (book b.accounts b.history) → TellsOf reading day answer
   tells reading (Ok o) parts latest left found = λ _. (book b.accounts b.history, found, (same_book o parts, latest_of o parts latest))
   tells reading (Err e) parts latest left found = λ _. (book b.accounts b.history, found, refuses e.1 left.1)
 
   -- no entry of the parts is later
-  pub latest_in : (answer : Opened D) → AreParts answer → Latest answer → IfOk answer (λ o. IsLatest o.base day)
+  pub latest_in : (answer : OpenedBooks D) → AreParts answer → Latest answer → IfOk answer (λ o. IsLatest o.base day)
   latest_in (Ok o) parts latest = latest_of o parts latest
   latest_in (Err e) parts latest = tt
 
   -- the parts are those of a journal
-  pub journal_in : (answer : Opened D) → AreParts answer → IsJournal b.accounts b.history → IfOk answer (λ o. IsJournal o.accounts o.base)
+  pub journal_in : (answer : OpenedBooks D) → AreParts answer → IsJournal b.accounts b.history → IfOk answer (λ o. IsJournal o.accounts o.base)
   journal_in (Ok o) parts journal = subst (λ (p : Parts D). IsJournal p.accounts p.base) (sym parts) journal
   journal_in (Err e) parts journal = tt
 
@@ -72,6 +72,6 @@ module _ {D : Type 0} (b : Book D) (day : Day) where
   back_of reading honest (DateBack last) begins journal found = record { accounts = b.accounts; history = b.history; journal = journal; found = found; back = begins }
 
   -- a day that is before that of the last entry is refused for the journal that was opened
-  pub shows_back : (reading : Reading) (honest : Bool) (answer : Opened D) → NotBegun answer → IsJournal b.accounts b.history → (IsTrue honest → IsFound reading (book b.accounts b.history)) → IfErr answer (λ e. ShowsBack reading honest day e.1)
+  pub shows_back : (reading : Reading) (honest : Bool) (answer : OpenedBooks D) → NotBegun answer → IsJournal b.accounts b.history → (IsTrue honest → IsFound reading (book b.accounts b.history)) → IfErr answer (λ e. ShowsBack reading honest day e.1)
   shows_back reading honest (Ok o) left journal found = tt
   shows_back reading honest (Err e) left journal found = back_of reading honest e.1 left.1 journal found

@@ -7,7 +7,7 @@ use Rattle.front_word.specs.Known.{WriterKnows, PassKnows, HasPlaces}
 use Rattle.front_word.specs.Rule.{OwedPast, Among, IsDistinct}
 use Rattle.front_word.proofs.laws.Prefixes.{prefix_self, prefix_trans, prefix_get, get_below, get_last}
 use Rattle.corr_books.proofs.Counting.{among_more, distinct_more}
-use Rattle.corr_books.specs.Taking.{IsTaken, AreTaken}
+use Rattle.corr_books.specs.Taking.{IsTakenBack, AreTaken}
 
 -- none was taken back yet
 pub none_taken : (w : WriterKnows) (passes : List PassKnows) → w.back ≡ [] → AreTaken w passes w passes
@@ -34,7 +34,7 @@ one_taken w w' w'' passes left rest p t is none same known owed new mark places 
   writer = same ∙ ap (λ (x : WriterKnows). record x { back = p.number ∷ w'.back }) t.writer ∙ ap (λ (b : List ℕ). record w { back = b }) (sym back);
   begin = prefix_trans rest left passes (p ∷ [], sym is) t.begin;
   done = λ k q at past. dite (ℕ_discrete k (length rest))
-      (λ e. let same_pass : p ≡ q = cc (last_left w w' passes left rest p t is, at, e) in subst (IsTaken w) same_pass mine)
+      (λ e. let same_pass : p ≡ q = cc (last_left w w' passes left rest p t is, at, e) in subst (IsTakenBack w) same_pass mine)
       (λ ne. let l = ap length is ∙ length-append rest (p ∷ []) in t.done k q at (omega arith));
   back = subst IsDistinct (sym back) (distinct_more p.number w'.back new t.back);
   count = let l = ap length is ∙ length-append rest (p ∷ []) in let c = t.count in let b = ap length back in omega arith;
@@ -47,7 +47,7 @@ one_taken w w' w'' passes left rest p t is none same known owed new mark places 
     back : w''.back ≡ p.number ∷ w'.back
     back = ap (λ (x : WriterKnows). x.back) same
 
-    mine : IsTaken w p
+    mine : IsTakenBack w p
     mine = record {
       known = subst (λ (x : WriterKnows). IsPrefix p.known x.acts) t.writer known;
       owed = subst (λ (o : Option ℕ). OwedPast w.acts (length p.known) p.number o) none (subst (λ (x : WriterKnows). OwedPast x.acts (length p.known) p.number x.owed) t.writer owed);

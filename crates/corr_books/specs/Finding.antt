@@ -13,8 +13,8 @@ use Rattle.corr_books.specs.declared.opening.BooksFault.TheVariants.{Open, DateB
 use Rattle.corr_books.specs.Opening.{Parts}
 
 -- what opening books answers: their parts, or the disk and a fault
-abbrev pub Opened : Type 0 → Type 0
-Opened D = Result (Parts D) (D × BooksFault)
+abbrev pub OpenedBooks : Type 0 → Type 0
+OpenedBooks D = Result (Parts D) (D × BooksFault)
 
 -- the last entry has this day
 pub record EndsOn (history : List Entry) (last : Day) : Type 0 where
@@ -36,7 +36,7 @@ RefusesAs day (DateBack last) no_book = ⊥
 RefusesAs day (DateBack last) (faulty at) = ⊥
 
 -- An answer is what the bytes give: books of the accounts and the history that they hold, of which no entry has a later day; or a refusal.
-abbrev pub OpensAs : {D : Type 0} → Day → Opened D → Finding → Type 0
+abbrev pub OpensAs : {D : Type 0} → Day → OpenedBooks D → Finding → Type 0
 OpensAs day (Ok parts) finding = (finding ≡ book parts.accounts parts.base) × IsLatest parts.base day
 OpensAs day (Err refused) finding = RefusesAs day refused.1 finding
 
@@ -46,16 +46,16 @@ is_of_bytes (Open fault) = is_some (found_by fault)
 is_of_bytes (DateBack last) = true
 
 -- so does the answer
-abbrev pub tells_bytes : {D : Type 0} → Opened D → Bool
+abbrev pub tells_bytes : {D : Type 0} → OpenedBooks D → Bool
 tells_bytes (Ok parts) = true
 tells_bytes (Err refused) = is_of_bytes refused.1
 
 -- where the answer comes of the bytes, it is what they give
-abbrev pub TellsOf : {D : Type 0} → Reading → Day → Opened D → Type 0
+abbrev pub TellsOf : {D : Type 0} → Reading → Day → OpenedBooks D → Type 0
 TellsOf reading day answer = IsTrue (tells_bytes answer) → (finding : Finding) × IsFound reading finding × OpensAs day answer finding
 
 -- whatever the bytes give is the answer, unless the disk or memory failed
-abbrev pub IsGivenBy : {D : Type 0} → Reading → Day → Opened D → Type 0
+abbrev pub IsGivenBy : {D : Type 0} → Reading → Day → OpenedBooks D → Type 0
 IsGivenBy reading day answer = (finding : Finding) → IsFound reading finding → OpensAs day answer finding
 
 -- the journal that was opened, whose last entry has this day, which is after the day of the books

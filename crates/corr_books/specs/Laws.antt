@@ -49,5 +49,5 @@ BaseStands = (o : Opening) (history : List Entry) (faults : ℕ) (passes : List 
     → Closes o history faults passes → HasAt o.base place entry → HasAt history place entry
 
 -- an entry keeps its place where one more is added: so whatever a crash leaves has it too
-abbrev pub PlacesStay : Type 0
-PlacesStay = (history : List Entry) (more : Entry) (place : ℕ) (entry : Entry) → HasAt history place entry → HasAt (history ++ more ∷ []) place entry
+abbrev pub OneMoreKeepsPlaces : Type 0
+OneMoreKeepsPlaces = (history : List Entry) (more : Entry) (place : ℕ) (entry : Entry) → HasAt history place entry → HasAt (history ++ more ∷ []) place entry

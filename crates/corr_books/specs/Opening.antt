@@ -43,8 +43,8 @@ pub record Parts (D : Type 0) : Type 0 where
   pub purses : TableId
 
 -- those of a book that was just opened, for a day, with a word of this table
-abbrev pub parts_of : {D : Type 0} → Book D → Day → TableId → Parts D
-parts_of book day word = record {
+abbrev pub parts_from : {D : Type 0} → Book D → Day → TableId → Parts D
+parts_from book day word = record {
   accounts = book.accounts;
   base = book.history;
   day = day;
@@ -56,8 +56,8 @@ parts_of book day word = record {
 
 module _ {D : Type 0} (disk : disks.Ghosts D) where
   -- the opening of these parts, with so many passes
-  abbrev pub opening_of : Parts D → ℕ → Opening
-  opening_of parts made = record {
+  abbrev pub opening_with : Parts D → ℕ → Opening
+  opening_with parts made = record {
     accounts = parts.accounts;
     base = parts.base;
     day = parts.day;
@@ -69,5 +69,5 @@ module _ {D : Type 0} (disk : disks.Ghosts D) where
 
   -- these parts, with so many passes, are what the name names
   pub record IsNamed (opening : Opening) (purses : TableId) (parts : Parts D) (made : ℕ) : Type 0 where
-    pub opening_is : opening ≡ opening_of parts made
+    pub opening_is : opening ≡ opening_with parts made
     pub purses_are : purses ≡ parts.purses

@@ -10,7 +10,7 @@ pub record AreMade (w : WriterKnows) (count : ℕ) (passes : List PassKnows) : T
   pub each : (k : ℕ) (p : PassKnows) → slice_get passes k ≡ Some p → p ≡ newcomer (record w { made = k }) p.spare
 
 -- what is known of a pass that was taken back
-pub record IsTaken (w : WriterKnows) (p : PassKnows) : Type 0 where
+pub record IsTakenBack (w : WriterKnows) (p : PassKnows) : Type 0 where
   pub known : IsPrefix p.known w.acts
   pub owed : OwedPast w.acts (length p.known) p.number None
   pub places : HasPlaces p.base p.number p.known p.mine
@@ -20,7 +20,7 @@ pub record IsTaken (w : WriterKnows) (p : PassKnows) : Type 0 where
 pub record AreTaken (w : WriterKnows) (passes : List PassKnows) (w' : WriterKnows) (left : List PassKnows) : Type 0 where
   pub writer : w' ≡ record w { back = w'.back }
   pub begin : IsPrefix left passes
-  pub done : (k : ℕ) (p : PassKnows) → slice_get passes k ≡ Some p → length left ≤ k → IsTaken w p
+  pub done : (k : ℕ) (p : PassKnows) → slice_get passes k ≡ Some p → length left ≤ k → IsTakenBack w p
   pub back : IsDistinct w'.back
   pub count : length w'.back + length left ≡ length passes
   pub owners : (n : ℕ) → Among n w'.back → (k : ℕ) × (p : PassKnows) × (slice_get passes k ≡ Some p) × (p.number ≡ n)

@@ -10,7 +10,7 @@ use Rattle.day_model.specs.Legal.{IsLegal}
 use Rattle.day_model.specs.Next.{entered_at}
 use Rattle.front_word.specs.declared.view.Act.{Act}
 use Rattle.front_word.specs.Known.{PassKnows, with_place}
-use Rattle.jrn_book.specs.Answers.{Answer, HasRoom, IsAnswered, IsFull, StandsAt, need_of}
+use Rattle.jrn_book.specs.Answers.{Answer, HasRoomFor, IsAnswered, IsFull, StandsAt, need_of}
 use Rattle.jrn_book.specs.Book.{HasRisen}
 use Rattle.jrn_book.specs.Journal.{file_of}
 use Rattle.jrn_book.specs.declared.answer.Committed.TheVariants.{New, Kept}
@@ -42,7 +42,7 @@ NothingAdded old new = (i : ℕ) (a : Act) → slice_get new.known i ≡ Some a 
 pub record ShowsRoom (o : Opening) (pay : Pay) (history : List Entry) : Type 0 where
   pub end : ℕ
   pub end_is : end + 1 ≡ length (file_of o.accounts history)
-  pub room : HasRoom history end (need_of o.accounts history pay o.day)
+  pub room : HasRoomFor history end (need_of o.accounts history pay o.day)
 
 -- The place is past all that the pass knew. There stands the pay with the day of the books and the outcome that the entries before it give, tagged with this pass; no other such entry was added. There was room for it behind the entries before it.
 pub record IsAdded (o : Opening) (pay : Pay) (old new : PassKnows) (place : ℕ) (outcome : Outcome) : Type 0 where

@@ -1,6 +1,6 @@
 //! What calls of books told stands when they are closed.
 
-ghost use Rattle.corr_books.specs.Laws.{BaseStands, KeptStands, NewStands, PlacesStay};
+ghost use Rattle.corr_books.specs.Laws.{BaseStands, KeptStands, NewStands, OneMoreKeepsPlaces};
 
 /// What `book` told stands in the history of `close`, where the pass that was told so is given back, or one that knows no less: the
 /// entry of a `New`, and the same pay of a `Kept`, at their places. What stood at the opening stands there too. One entry more
@@ -9,5 +9,5 @@ pub fn told_stands()
     ensures new { NewStands }
     ensures kept { KeptStands }
     ensures base { BaseStands }
-    ensures places { PlacesStay }
+    ensures places { OneMoreKeepsPlaces }
 {}

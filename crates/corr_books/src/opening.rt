@@ -11,7 +11,7 @@ ghost use Rattle.jrn_file.specs.File.{disk_of};
 ghost use Rattle.jrn_file.specs.Reading.{opened_of};
 ghost use Rattle.jrn_file.specs.Untouched.{IsUntouched};
 ghost use Rattle.corr_books.specs.Finding.{BeginsNot, BooksCause, IsDateBack, IsGivenBy, ShowsBack, TellsOf};
-ghost use Rattle.corr_books.specs.Opening.{parts_of};
+ghost use Rattle.corr_books.specs.Opening.{parts_from};
 
 use crate::naming::Beginning;
 use acct_locks::Loose;
@@ -53,11 +53,11 @@ impl<D: Disk> Model for Opened<D> {
     ghost use Rattle.day_model.specs.Laws.{IsLatest};
     ghost use Rattle.front_word.specs.Known.{beginner};
     ghost use Rattle.jrn_book.specs.Opening.{HasPurses, IsNewBook};
-    ghost use Rattle.corr_books.specs.Opening.{Parts, parts_of};
+    ghost use Rattle.corr_books.specs.Opening.{Parts, parts_from};
 
     ghost Value = { Parts D };
 
-    ghost view = { λ o. parts_of o.book o.day o.front };
+    ghost view = { λ o. parts_from o.book o.day o.front };
 
     ghost invariant = { λ o. IsNewBook D.honest D.reads D.may_leave D.faults o.book × HasPurses o.book o.loose
         × (o.writer ≡ beginner o.front o.book.history) × InCentury o.day × IsLatest o.book.history o.day };
@@ -108,7 +108,7 @@ fn begin_books<D: Disk>(
     requires century { InCentury day }
     requires opened { IsNewBook D.honest D.reads D.may_leave D.faults book }
     requires purses { HasPurses book loose }
-    ensures parts { IfOk result (λ o. o ≡ parts_of book day o.word) }
+    ensures parts { IfOk result (λ o. o ≡ parts_from book day o.word) }
     ensures latest { IfOk result (λ _. IsLatest book.history day) }
     ensures disk { IfErr result (λ e. (e.0 ≡ disk_of book.file) × BeginsNot book.history day e.1) }
 {

@@ -12,7 +12,7 @@ use Rattle.day_model.specs.declared.core_job.Job.{Job}
 use Rattle.day_model.specs.Chart.{Chart}
 use Rattle.day_model.specs.Fit.{FitsAccounts}
 use Rattle.day_model.specs.CoreStep.{also_holding, has_held, holder_of, holds, job_at, least_unheld, lesser, wanted_by, worker_at}
-use Rattle.day_model.specs.CoreSound.{HasHeld, HoldsLeast, has_account}
+use Rattle.day_model.specs.CoreSound.{HasHeld, HoldsLeast, has_leg_on}
 use Rattle.day_model.proofs.laws.Fitting.{transfer}
 use Rattle.day_model.proofs.laws.Growth.{none_passes}
 use Rattle.day_model.proofs.CoreWorkers.{job_there, worker_at-from_one}
@@ -60,7 +60,8 @@ lesser_second n k = elim (cases_Bool (ltb k n)) [
 ]
 
 -- what a job wants is its own, and not held
-own_among : (job : Job) (legs : List Leg) (n : ℕ) → least_unheld job legs ≡ Some n → (list_any (λ (leg : Leg). eqb leg.account.0 n) legs ≡ true) × (holds job n ≡ false)
+own_among : (job : Job) (legs : List Leg) (n : ℕ) → least_unheld job legs ≡ Some n
+    → (list_any (λ (leg : Leg). eqb leg.account.0 n) legs ≡ true) × (holds job n ≡ false)
 own_among job [] n e = absurd (none-some n e)
 own_among job (leg ∷ legs) n e =
     let least = least_unheld job legs in
@@ -69,20 +70,25 @@ own_among job (leg ∷ legs) n e =
           let rest = own_among job legs n (sym (cond-true (holds job leg.account.0) least (Some (lesser leg.account.0 least)) held) ∙ e) in
           (or_right (eqb leg.account.0 n) (list_any (λ (x : Leg). eqb x.account.0 n) legs) rest.0, rest.1)
       | inr free ↦
-          let is : lesser leg.account.0 least ≡ n = same_Some (lesser leg.account.0 least) n (sym (cond-false (holds job leg.account.0) least (Some (lesser leg.account.0 least)) free) ∙ e) in
+          let is : lesser leg.account.0 least ≡ n =
+          same_Some (lesser leg.account.0 least) n (sym (cond-false (holds job leg.account.0) least (Some (lesser leg.account.0 least)) free) ∙ e) in
           elim (lesser_is leg.account.0 n least is) [
-            | inl here ↦ (or_left (eqb leg.account.0 n) (list_any (λ (x : Leg). eqb x.account.0 n) legs) (eq-eqb leg.account.0 n here), subst (λ (m : ℕ). holds job m ≡ false) here free)
+            | inl here ↦ (
+              or_left (eqb leg.account.0 n) (list_any (λ (x : Leg). eqb x.account.0 n) legs) (eq-eqb leg.account.0 n here),
+              subst (λ (m : ℕ). holds job m ≡ false) here free,
+            )
             | inr later ↦
                 let rest = own_among job legs n later in
                 (or_right (eqb leg.account.0 n) (list_any (λ (x : Leg). eqb x.account.0 n) legs) rest.0, rest.1)
           ]
     ]
 
-pub wanted_own : (job : Job) (n : ℕ) → wanted_by job ≡ Some n → (has_account job.pay n ≡ true) × (holds job n ≡ false)
+pub wanted_own : (job : Job) (n : ℕ) → wanted_by job ≡ Some n → (has_leg_on job.pay n ≡ true) × (holds job n ≡ false)
 wanted_own job n e = own_among job job.pay.legs n e
 
 -- where an account isn't held, some account no greater is wanted
-wants_among : (job : Job) (legs : List Leg) (n : ℕ) → list_any (λ (leg : Leg). eqb leg.account.0 n) legs ≡ true → holds job n ≡ false → (m : ℕ) × (least_unheld job legs ≡ Some m) × (m ≤ n)
+wants_among : (job : Job) (legs : List Leg) (n : ℕ) → list_any (λ (leg : Leg). eqb leg.account.0 n) legs ≡ true → holds job n ≡ false
+    → (m : ℕ) × (least_unheld job legs ≡ Some m) × (m ≤ n)
 wants_among job [] n own free = absurd (false≢true own)
 wants_among job (leg ∷ legs) n own free =
     let least = least_unheld job legs in
@@ -97,12 +103,13 @@ wants_among job (leg ∷ legs) n own free =
           elim (cases_Bool (holds job leg.account.0)) [
             | inl held ↦ (rest.0, cond-true (holds job leg.account.0) least (Some (lesser leg.account.0 least)) held ∙ rest.1, rest.2)
             | inr unheld ↦
-                let second : lesser leg.account.0 least ≤ rest.0 = subst (λ (o : Option ℕ). lesser leg.account.0 o ≤ rest.0) (sym rest.1) (lesser_second leg.account.0 rest.0) in
+                let second : lesser leg.account.0 least ≤ rest.0 =
+                subst (λ (o : Option ℕ). lesser leg.account.0 o ≤ rest.0) (sym rest.1) (lesser_second leg.account.0 rest.0) in
                 (lesser leg.account.0 least, cond-false (holds job leg.account.0) least (Some (lesser leg.account.0 least)) unheld, omega (arith, rest.2))
           ]
     ]
 
-pub wanted_least : (job : Job) (n m : ℕ) → wanted_by job ≡ Some n → has_account job.pay m ≡ true → holds job m ≡ false → n ≤ m
+pub wanted_least : (job : Job) (n m : ℕ) → wanted_by job ≡ Some n → has_leg_on job.pay m ≡ true → holds job m ≡ false → n ≤ m
 wanted_least job n m e own free =
     let w = wants_among job job.pay.legs m own free in
     let is : n ≡ w.0 = same_Some n w.0 (sym e ∙ w.1) in
@@ -113,7 +120,7 @@ pub least_after : (job : Job) (account : AcctNo) → wanted_by job ≡ Some acco
 least_after job account wanted before = record {
   own = λ n held. elim (held_after account job n held) [
     | inl old ↦ before.own n old
-    | inr new ↦ subst (λ (m : ℕ). has_account job.pay m ≡ true) new (wanted_own job account.0 wanted).0
+    | inr new ↦ subst (λ (m : ℕ). has_leg_on job.pay m ≡ true) new (wanted_own job account.0 wanted).0
   ];
   least = λ m n held own free.
       let unheld = unheld_after account job n free in
@@ -127,17 +134,19 @@ least_after job account wanted before = record {
 }
 
 -- each account of a pay that fits is listed
-pub account_listed : (chart : Chart) (pay : Pay) (n : ℕ) → FitsAccounts chart pay → has_account pay n ≡ true → n ≤ length chart.accounts
+pub account_listed : (chart : Chart) (pay : Pay) (n : ℕ) → FitsAccounts chart pay → has_leg_on pay n ≡ true → n ≤ length chart.accounts
 account_listed chart pay n fits own =
     let t = transfer chart pay.legs fits in
-    let there : (eqb t.debit.account.0 n || (eqb t.credit.account.0 n || false)) ≡ true = subst (λ (ls : List Leg). list_any (λ (leg : Leg). eqb leg.account.0 n) ls ≡ true) t.legs_are own in
+    let there : (eqb t.debit.account.0 n || (eqb t.credit.account.0 n || false)) ≡ true =
+    subst (λ (ls : List Leg). list_any (λ (leg : Leg). eqb leg.account.0 n) ls ≡ true) t.legs_are own in
     elim (or_cases (eqb t.debit.account.0 n) (eqb t.credit.account.0 n || false) there) [
       | inl debit ↦ let is = eqb-true t.debit.account.0 n debit in omega (arith, t.debit_listed.1)
       | inr credit ↦ let is = eqb-true t.credit.account.0 n (no_other (eqb t.credit.account.0 n) credit) in omega (arith, t.credit_listed.1)
     ]
 
 -- the first place that passes
-pub position_at : {A : Type 0} (t : A → Bool) (i k : ℕ) (xs : List A) → position_from t i xs ≡ Some k → (j : ℕ) × (x : A) × (k ≡ i + j) × (slice_get xs j ≡ Some x) × (t x ≡ true)
+pub position_at : {A : Type 0} (t : A → Bool) (i k : ℕ) (xs : List A) → position_from t i xs ≡ Some k
+    → (j : ℕ) × (x : A) × (k ≡ i + j) × (slice_get xs j ≡ Some x) × (t x ≡ true)
 position_at t i k [] e = absurd (none-some k e)
 position_at t i k (x ∷ xs) e =
     elim (cases_Bool (t x)) [
@@ -149,7 +158,8 @@ position_at t i k (x ∷ xs) e =
           (suc rest.0, rest.1, omega (arith, rest.2), rest.3, rest.4)
     ]
 
-pub position_least : {A : Type 0} (t : A → Bool) (i k j : ℕ) (xs : List A) (x : A) → position_from t i xs ≡ Some k → slice_get xs j ≡ Some x → t x ≡ true → k ≤ i + j
+pub position_least : {A : Type 0} (t : A → Bool) (i k j : ℕ) (xs : List A) (x : A) → position_from t i xs ≡ Some k → slice_get xs j ≡ Some x
+    → t x ≡ true → k ≤ i + j
 position_least t i k j [] x e at passed = absurd (none-some x at)
 position_least t i k zero (y ∷ xs) x e at passed =
     let here : t y ≡ true = ap t (same_Some y x at) ∙ passed in

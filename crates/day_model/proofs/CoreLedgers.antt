@@ -13,7 +13,7 @@ use Rattle.day_model.specs.Balance.{is_booked, outcome_of}
 use Rattle.day_model.specs.Next.{entered_at, entry_of, next_history}
 use Rattle.day_model.specs.CoreLedger.{AreAtBalance, CanAddAll, IsSoundLedger, LedgerState, is_entered, ledger_after, mark_of, may_enter}
 use Rattle.day_model.proofs.laws.Fitting.{transfer}
-use Rattle.day_model.proofs.laws.Growth.{enters, next_begins, one_more, still, still_latest}
+use Rattle.day_model.proofs.laws.Growth.{enters_new, next_begins, one_pay_more, still, still_latest}
 use Rattle.day_model.proofs.CorePurses.{can_add_all, purses_more, purses_with}
 
 pub can_add_now : (ledger : LedgerState) (pay : Pay) → IsSoundLedger ledger → FitsAccounts ledger.chart pay → CanAddAll ledger.purses pay.legs
@@ -30,8 +30,15 @@ with_pay ledger pay entered booked = record ledger {
   purses = if entered then ledger.purses else purses_with booked ledger.purses pay.legs;
 }
 
-with_pay_sound : (ledger : LedgerState) (pay : Pay) (entered booked : Bool) → IsSoundLedger ledger → FitsAccounts ledger.chart pay → is_entered ledger pay ≡ entered → is_booked (outcome_of ledger.chart ledger.entries pay) ≡ booked → (entered ≡ false → length ledger.entries < 100000) → IsSoundLedger (with_pay ledger pay entered booked)
-with_pay_sound ledger pay true booked sound fits is out room = record { chart = sound.chart; legal = sound.legal; latest = sound.latest; purses = sound.purses }
+with_pay_sound : (ledger : LedgerState) (pay : Pay) (entered booked : Bool) → IsSoundLedger ledger → FitsAccounts ledger.chart pay
+    → is_entered ledger pay ≡ entered → is_booked (outcome_of ledger.chart ledger.entries pay) ≡ booked
+    → (entered ≡ false → length ledger.entries < 100000) → IsSoundLedger (with_pay ledger pay entered booked)
+with_pay_sound ledger pay true booked sound fits is out room = record {
+  chart = sound.chart;
+  legal = sound.legal;
+  latest = sound.latest;
+  purses = sound.purses;
+}
 with_pay_sound ledger pay false booked sound fits is out room =
     let e : Entry = entry_of ledger.chart ledger.entries pay ledger.day in
     let n : ℕ = length ledger.entries in
@@ -42,7 +49,7 @@ with_pay_sound ledger pay false booked sound fits is out room =
     let after : take (n + 1) more ≡ more = take_all (n + 1) more (omega arith) in
     record {
       chart = sound.chart;
-      legal = one_more ledger.chart ledger.entries pay ledger.day sound.legal fits sound.latest (room refl) is;
+      legal = one_pay_more ledger.chart ledger.entries pay ledger.day sound.legal fits sound.latest (room refl) is;
       latest = still_latest ledger.chart ledger.entries pay ledger.day false sound.latest;
       purses = subst (λ (es : List Entry). AreAtBalance ledger.chart es (purses_with booked ledger.purses pay.legs)) after
           (purses_more ledger.chart more ledger.purses n e booked (transfer ledger.chart pay.legs fits) at out
@@ -54,22 +61,30 @@ has_room ledger pay may new =
     let parts = and_parts (not ledger.broken) (is_entered ledger pay || ltb (length ledger.entries) 100000) may in
     ltb-true (length ledger.entries) 100000 (subst (λ (b : Bool). (b || ltb (length ledger.entries) 100000) ≡ true) new parts.1)
 
-by_entering : (ledger : LedgerState) (pay : Pay) (b : Bool) → may_enter ledger pay ≡ b → IsSoundLedger ledger → FitsAccounts ledger.chart pay → IsSoundLedger (if b then with_pay ledger pay (is_entered ledger pay) (is_booked (outcome_of ledger.chart ledger.entries pay)) else ledger)
-by_entering ledger pay true may sound fits = with_pay_sound ledger pay (is_entered ledger pay) (is_booked (outcome_of ledger.chart ledger.entries pay)) sound fits refl refl (has_room ledger pay may)
+by_entering : (ledger : LedgerState) (pay : Pay) (b : Bool) → may_enter ledger pay ≡ b → IsSoundLedger ledger → FitsAccounts ledger.chart pay
+    → IsSoundLedger (if b then with_pay ledger pay (is_entered ledger pay) (is_booked (outcome_of ledger.chart ledger.entries pay)) else ledger)
+by_entering ledger pay true may sound fits =
+    with_pay_sound ledger pay (is_entered ledger pay) (is_booked (outcome_of ledger.chart ledger.entries pay)) sound fits refl refl
+    (has_room ledger pay may)
 by_entering ledger pay false may sound fits = sound
 
-pub ledger_after_sound : (ledger : LedgerState) (pay : Pay) → IsSoundLedger ledger → FitsAccounts ledger.chart pay → IsSoundLedger (ledger_after ledger pay)
+pub ledger_after_sound : (ledger : LedgerState) (pay : Pay) → IsSoundLedger ledger → FitsAccounts ledger.chart pay
+    → IsSoundLedger (ledger_after ledger pay)
 ledger_after_sound ledger pay sound fits = by_entering ledger pay (may_enter ledger pay) refl sound fits
 
-entries_by : (ledger : LedgerState) (pay : Pay) (b : Bool) → (more : List Entry) × ((if b then next_history ledger.chart ledger.entries pay ledger.day else ledger.entries) ≡ ledger.entries ++ more)
+entries_by : (ledger : LedgerState) (pay : Pay) (b : Bool)
+    → (more : List Entry) × ((if b then next_history ledger.chart ledger.entries pay ledger.day else ledger.entries) ≡ ledger.entries ++ more)
 entries_by ledger pay true = next_begins ledger.chart ledger.entries pay ledger.day
 entries_by ledger pay false = ([], sym (append-nil ledger.entries))
 
-ledger_entries : (ledger : LedgerState) (pay : Pay) (b : Bool) → (if b then with_pay ledger pay (is_entered ledger pay) (is_booked (outcome_of ledger.chart ledger.entries pay)) else ledger).entries ≡ (if b then next_history ledger.chart ledger.entries pay ledger.day else ledger.entries)
+ledger_entries : (ledger : LedgerState) (pay : Pay) (b : Bool)
+    → (if b then with_pay ledger pay (is_entered ledger pay) (is_booked (outcome_of ledger.chart ledger.entries pay)) else ledger).entries
+    ≡ (if b then next_history ledger.chart ledger.entries pay ledger.day else ledger.entries)
 ledger_entries ledger pay true = refl
 ledger_entries ledger pay false = refl
 
-ledger_chart_by : (ledger : LedgerState) (pay : Pay) (b : Bool) → (if b then with_pay ledger pay (is_entered ledger pay) (is_booked (outcome_of ledger.chart ledger.entries pay)) else ledger).chart ≡ ledger.chart
+ledger_chart_by : (ledger : LedgerState) (pay : Pay) (b : Bool)
+    → (if b then with_pay ledger pay (is_entered ledger pay) (is_booked (outcome_of ledger.chart ledger.entries pay)) else ledger).chart ≡ ledger.chart
 ledger_chart_by ledger pay true = refl
 ledger_chart_by ledger pay false = refl
 
@@ -88,11 +103,14 @@ entered_still ledger pay other e =
     let grown = ledger_begins ledger pay in
     subst (λ (es : List Entry). is_some (entered_at other.mir es) ≡ true) (sym grown.1) (still other.mir ledger.entries grown.0 e)
 
-marks_by : (ledger : LedgerState) (pay : Pay) (b : Bool) → may_enter ledger pay ≡ b → ◌≡◌ {A = Mark} (if b then Entered else Refused) Entered → is_entered (ledger_after ledger pay) pay ≡ true
+marks_by : (ledger : LedgerState) (pay : Pay) (b : Bool) → may_enter ledger pay ≡ b → ◌≡◌ {A = Mark} (if b then Entered else Refused) Entered
+    → is_entered (ledger_after ledger pay) pay ≡ true
 marks_by ledger pay true may is =
     let grown : (ledger_after ledger pay).entries ≡ next_history ledger.chart ledger.entries pay ledger.day =
-    ledger_entries ledger pay (may_enter ledger pay) ∙ ap (λ (b : Bool). if b then next_history ledger.chart ledger.entries pay ledger.day else ledger.entries) may in
-    subst (λ (es : List Entry). is_some (entered_at pay.mir es) ≡ true) (sym grown) (enters ledger.chart ledger.entries pay ledger.day (is_entered ledger pay) refl)
+    ledger_entries ledger pay (may_enter ledger pay)
+    ∙ ap (λ (b : Bool). if b then next_history ledger.chart ledger.entries pay ledger.day else ledger.entries) may in
+    subst (λ (es : List Entry). is_some (entered_at pay.mir es) ≡ true) (sym grown)
+    (enters_new ledger.chart ledger.entries pay ledger.day (is_entered ledger pay) refl)
 marks_by ledger pay false may is = cc
 
 -- a pay that is marked entered is

@@ -9,7 +9,7 @@ use Rattle.day_model.specs.declared.core_event.Event.TheVariants.{Draw, Take, Co
 use Rattle.day_model.specs.declared.core_job.Job.{Job}
 use Rattle.day_model.specs.declared.core_job.Mark.{Mark}
 use Rattle.day_model.specs.CoreStep.{CoreState, holder_of, is_allowed, is_number, job_at, may_commit, may_give_back, may_take, run_of, wanted_by}
-use Rattle.day_model.specs.CoreSound.{AllIdle, HasHeld, IsSound, MayGoOn, NoDeadlock, RunsAreKept, can_go_on, goes_on, is_free}
+use Rattle.day_model.specs.CoreSound.{AllIdle, HasHeld, IsSound, MayGoOn, NoDeadlock, RunsAreKept, can_go_on, goes_on_with_job, is_free}
 use Rattle.day_model.proofs.laws.Growth.{none_passes}
 use Rattle.day_model.proofs.CoreWorkers.{job_there}
 use Rattle.day_model.proofs.CoreHoldings.{account_listed, holder_held, job_here, no_holder, position_at, position_least, wanted_own}
@@ -20,16 +20,19 @@ unmarked None e = refl
 unmarked (Some mark) e = absurd (false≢true (sym e))
 
 -- a job that may go on has an event that is allowed
-unmarked_event : (s : CoreState) (w : ℕ) (job : Job) (wanted : Option ℕ) → job_at s.workers w ≡ Some job → wanted_by job ≡ wanted → is_some job.mark ≡ false → is_free s.workers wanted ≡ true → MayGoOn s w
+unmarked_event : (s : CoreState) (w : ℕ) (job : Job) (wanted : Option ℕ) → job_at s.workers w ≡ Some job → wanted_by job ≡ wanted
+    → is_some job.mark ≡ false → is_free s.workers wanted ≡ true → MayGoOn s w
 unmarked_event s w job None at is waiting free = record {
   event = Commit w;
   its_own = eq-eqb w w refl;
-  allowed = subst (λ (o : Option Job). may_commit o ≡ true) (sym at) (and_from (is_none (wanted_by job)) (is_none job.mark) (ap (λ (o : Option ℕ). is_none o) is) (unmarked job.mark waiting));
+  allowed = subst (λ (o : Option Job). may_commit o ≡ true) (sym at)
+      (and_from (is_none (wanted_by job)) (is_none job.mark) (ap (λ (o : Option ℕ). is_none o) is) (unmarked job.mark waiting));
 }
 unmarked_event s w job (Some n) at is waiting free = record {
   event = Take w (record { 0 = n });
   its_own = eq-eqb w w refl;
-  allowed = subst (λ (o : Option Job). may_take s.workers n o ≡ true) (sym at) (and_from (is_number (wanted_by job) n) (is_none (holder_of s.workers n)) (ap (λ (o : Option ℕ). is_number o n) is ∙ eq-eqb n n refl) free);
+  allowed = subst (λ (o : Option Job). may_take s.workers n o ≡ true) (sym at)
+      (and_from (is_number (wanted_by job) n) (is_none (holder_of s.workers n)) (ap (λ (o : Option ℕ). is_number o n) is ∙ eq-eqb n n refl) free);
 }
 
 or_second : (b c : Bool) → b ≡ false → (b || c) ≡ true → c ≡ true
@@ -53,7 +56,8 @@ record GoesOn (s : CoreState) (w : ℕ) : Type 0 where
   at : job_at s.workers w ≡ Some job
   can : can_go_on s.workers (Some job) ≡ true
 
-free_of_number : (workers : List (Option Job)) (o : Option ℕ) (n : ℕ) → is_number o n ≡ true → is_none (holder_of workers n) ≡ true → is_free workers o ≡ true
+free_of_number : (workers : List (Option Job)) (o : Option ℕ) (n : ℕ) → is_number o n ≡ true → is_none (holder_of workers n) ≡ true
+    → is_free workers o ≡ true
 free_of_number workers None n is free = refl
 free_of_number workers (Some m) n is free = subst (λ (k : ℕ). is_none (holder_of workers k) ≡ true) (sym (eqb-true m n is)) free
 
@@ -76,7 +80,8 @@ committing s v w None is at may = absurd (false≢true may)
 committing s v w (Some job) is at may = record {
   job = job;
   at = ap (job_at s.workers) (sym is) ∙ at;
-  can = or_right (is_some job.mark) (is_free s.workers (wanted_by job)) (free_of_none s.workers (wanted_by job) (and_parts (is_none (wanted_by job)) (is_none job.mark) may).0);
+  can = or_right (is_some job.mark) (is_free s.workers (wanted_by job))
+      (free_of_none s.workers (wanted_by job) (and_parts (is_none (wanted_by job)) (is_none job.mark) may).0);
 }
 
 giving_back : (s : CoreState) (v w : ℕ) (o : Option Job) → v ≡ w → job_at s.workers v ≡ o → may_give_back o ≡ true → GoesOn s w
@@ -87,7 +92,7 @@ giving_back s v w (Some job) is at may = record {
   can = or_left (is_some job.mark) (is_free s.workers (wanted_by job)) may;
 }
 
-by_event : (s : CoreState) (w : ℕ) (event : Event) → goes_on w event ≡ true → is_allowed s event ≡ true → GoesOn s w
+by_event : (s : CoreState) (w : ℕ) (event : Event) → goes_on_with_job w event ≡ true → is_allowed s event ≡ true → GoesOn s w
 by_event s w (Draw v pay) own may = absurd (false≢true own)
 by_event s w (Take v account) own may = taking s v w account.0 (job_at s.workers v) (eqb-true v w own) refl may
 by_event s w (Commit v) own may = committing s v w (job_at s.workers v) (eqb-true v w own) refl may
@@ -106,7 +111,8 @@ option_cases None = inl refl
 option_cases (Some n) = inr (n, refl)
 
 -- a worker that wants an account goes on, or the account's holder does, or what that one wants is greater: the numbers end
-waits : (fuel : ℕ) (s : CoreState) (w : ℕ) (job : Job) (n : ℕ) → IsSound s → job_at s.workers w ≡ Some job → wanted_by job ≡ Some n → length s.ledger.chart.accounts < n + fuel → Someone s
+waits : (fuel : ℕ) (s : CoreState) (w : ℕ) (job : Job) (n : ℕ) → IsSound s → job_at s.workers w ≡ Some job → wanted_by job ≡ Some n
+    → length s.ledger.chart.accounts < n + fuel → Someone s
 waits zero s w job n sound at wants below =
     let listed = account_listed s.ledger.chart job.pay n (sound.jobs w job at).fits (wanted_own job n wants).0 in
     absurd (omega arith)
@@ -122,7 +128,8 @@ waits (suc fuel) s w job n sound at wants below =
           elim (cases_Bool (is_some k.mark)) [
             | inl committed ↦ (v, record { job = k; at = held.1; can = or_left (is_some k.mark) (is_free s.workers (wanted_by k)) committed })
             | inr waiting ↦ elim (option_cases (wanted_by k)) [
-              | inl all ↦ (v, record { job = k; at = held.1; can = or_right (is_some k.mark) (is_free s.workers (wanted_by k)) (ap (is_free s.workers) all) })
+              | inl all ↦
+                  (v, record { job = k; at = held.1; can = or_right (is_some k.mark) (is_free s.workers (wanted_by k)) (ap (is_free s.workers) all) })
               | inr more ↦
                   let own = wanted_own k more.0 more.1 in
                   let greater : n < more.0 = (sound.jobs v k held.1).least.least n more.0 held.2 own.0 own.1 in
@@ -157,7 +164,8 @@ pub ready_may : (s : CoreState) (w : ℕ) → position_from (can_go_on s.workers
 ready_may s w e =
     let found = position_at (can_go_on s.workers) 1 w s.workers e in
     let job = job_of_ready s.workers found.1 found.4 in
-    let here : job_at s.workers w ≡ Some job.0 = ap (job_at s.workers) found.2 ∙ job_here s.workers found.0 job.0 (found.3 ∙ ap (λ (x : Option Job). Some x) job.1) in
+    let here : job_at s.workers w ≡ Some job.0 =
+    ap (job_at s.workers) found.2 ∙ job_here s.workers found.0 job.0 (found.3 ∙ ap (λ (x : Option Job). Some x) job.1) in
     event_of_job s w job.0 here (ap (can_go_on s.workers) (sym job.1) ∙ found.4)
 
 pub ready_least : (s : CoreState) (w v : ℕ) → position_from (can_go_on s.workers) 1 s.workers ≡ Some w → MayGoOn s v → w ≤ v
@@ -175,7 +183,9 @@ none_ready s sound e = λ i worker at. idle_by i worker at worker refl
     idle_by i worker at (Some job) is =
         let found = someone s (1 + i) job sound (job_here s.workers i job (at ∙ ap (λ (x : Option Job). Some x) is)) in
         let t = job_there s.workers found.0 found.1.job found.1.at in
-        absurd (false≢true (sym (none_passes (can_go_on s.workers) 1 (found.0 - 1) s.workers (Some found.1.job) (ap (λ (o : Option ℕ). is_some o) e) t.at) ∙ found.1.can))
+        absurd
+        (false≢true
+        (sym (none_passes (can_go_on s.workers) 1 (found.0 - 1) s.workers (Some found.1.job) (ap (λ (o : Option ℕ). is_some o) e) t.at) ∙ found.1.can))
 
 pub idle_none : (s : CoreState) (w : ℕ) → AllIdle s.workers → position_from (can_go_on s.workers) 1 s.workers ≡ Some w → ⊥
 idle_none s w idle e =

@@ -32,7 +32,8 @@ record IsNewJob (ledger : LedgerState) (workers : List (Option Job)) (w : ℕ) (
   sound : (job : Job) → new ≡ Some job → IsSoundJob ledger job
   alone : (job : Job) (n v : ℕ) → new ≡ Some job → holds job n ≡ true → HasHeld workers v n → v ≡ w
 
-changed_sound : (ledger : LedgerState) (workers : List (Option Job)) (w : ℕ) (old new : Option Job) → AreSoundJobs ledger workers → worker_at workers w ≡ Some old → IsNewJob ledger workers w new → AreSoundJobs ledger (with_worker workers w new)
+changed_sound : (ledger : LedgerState) (workers : List (Option Job)) (w : ℕ) (old new : Option Job) → AreSoundJobs ledger workers
+    → worker_at workers w ≡ Some old → IsNewJob ledger workers w new → AreSoundJobs ledger (with_worker workers w new)
 changed_sound ledger workers w old new before at is = record {
   few = let size : length (with_worker workers w new) ≡ length workers = length-set workers (w - 1) new in let few = before.few in omega arith;
   jobs = λ v job here. elim (job_after workers w v old new job at here) [
@@ -54,18 +55,21 @@ changed_sound ledger workers w old new before at is = record {
 jobs_of : (s : CoreState) → IsSound s → AreSoundJobs s.ledger s.workers
 jobs_of s sound = record { few = sound.few; jobs = sound.jobs; apart = sound.apart }
 
-with_jobs : (ledger : LedgerState) (workers : List (Option Job)) → IsSoundLedger ledger → AreSoundJobs ledger workers → IsSound (record { ledger = ledger; workers = workers })
+with_jobs : (ledger : LedgerState) (workers : List (Option Job)) → IsSoundLedger ledger → AreSoundJobs ledger workers
+    → IsSound (record { ledger = ledger; workers = workers })
 with_jobs ledger workers first second = record { ledger = first; few = second.few; jobs = second.jobs; apart = second.apart }
 
 -- a job of another ledger with these accounts, in which what was entered is
-other_ledger : (ledger new : LedgerState) (job : Job) → new.chart ≡ ledger.chart → ((pay : Pay) → is_entered ledger pay ≡ true → is_entered new pay ≡ true) → IsSoundJob ledger job → IsSoundJob new job
+other_ledger : (ledger new : LedgerState) (job : Job) → new.chart ≡ ledger.chart
+    → ((pay : Pay) → is_entered ledger pay ≡ true → is_entered new pay ≡ true) → IsSoundJob ledger job → IsSoundJob new job
 other_ledger ledger new job chart still sound = record {
   fits = subst (λ c. FitsAccounts c job.pay) (sym chart) sound.fits;
   least = sound.least;
   entered = λ is. still job.pay (sound.entered is);
 }
 
-drawn_sound : (s : CoreState) (w : ℕ) (pay : Pay) → IsSound s → worker_at s.workers w ≡ Some None → FitsAccounts s.ledger.chart pay → IsSound (after s (Draw w pay))
+drawn_sound : (s : CoreState) (w : ℕ) (pay : Pay) → IsSound s → worker_at s.workers w ≡ Some None → FitsAccounts s.ledger.chart pay
+    → IsSound (after s (Draw w pay))
 drawn_sound s w pay sound at fits =
     with_jobs s.ledger (with_worker s.workers w (Some (drawn pay))) sound.ledger
     (changed_sound s.ledger s.workers w None (Some (drawn pay)) (jobs_of s sound) at (record {
@@ -86,10 +90,12 @@ nobody : (o : Option ℕ) → is_none o ≡ true → is_some o ≡ false
 nobody None e = refl
 nobody (Some n) e = absurd (false≢true e)
 
-with_job-at : (workers : List (Option Job)) (w : ℕ) (job : Job) (change : Job → Job) → job_at workers w ≡ Some job → with_job workers w change ≡ with_worker workers w (Some (change job))
+with_job-at : (workers : List (Option Job)) (w : ℕ) (job : Job) (change : Job → Job) → job_at workers w ≡ Some job
+    → with_job workers w change ≡ with_worker workers w (Some (change job))
 with_job-at workers w job change at = ap (λ (o : Option Job). option_map_or (λ j. with_worker workers w (Some (change j))) o workers) at
 
-taken_sound : (s : CoreState) (w : ℕ) (account : AcctNo) (job : Job) → IsSound s → job_at s.workers w ≡ Some job → may_take s.workers account.0 (Some job) ≡ true → IsSound (record s { workers = with_worker s.workers w (Some (also_holding account job)) })
+taken_sound : (s : CoreState) (w : ℕ) (account : AcctNo) (job : Job) → IsSound s → job_at s.workers w ≡ Some job
+    → may_take s.workers account.0 (Some job) ≡ true → IsSound (record s { workers = with_worker s.workers w (Some (also_holding account job)) })
 taken_sound s w account job sound at may =
     let parts = and_parts (is_number (wanted_by job) account.0) (is_none (holder_of s.workers account.0)) may in
     let wanted = is_wanted (wanted_by job) account.0 parts.0 in
@@ -128,14 +134,16 @@ committed_sound s w job sound at =
       jobs = λ v other here. other_ledger s.ledger ledger other chart (λ pay is. entered_still s.ledger job.pay pay is) (sound.jobs v other here);
       apart = sound.apart;
     } in
-    subst (λ (ws : List (Option Job)). IsSound (record { ledger = ledger; workers = ws })) (sym (with_job-at s.workers w job (marked mark) at)) (with_jobs ledger (with_worker s.workers w (Some (marked mark job))) (ledger_after_sound s.ledger job.pay sound.ledger old.fits)
+    subst (λ (ws : List (Option Job)). IsSound (record { ledger = ledger; workers = ws })) (sym (with_job-at s.workers w job (marked mark) at))
+    (with_jobs ledger (with_worker s.workers w (Some (marked mark job))) (ledger_after_sound s.ledger job.pay sound.ledger old.fits)
     (changed_sound ledger s.workers w (Some job) (Some (marked mark job)) before (worker_of_job s.workers w job at) (record {
       sound = λ new is. subst (λ (j : Job). IsSoundJob ledger j) (same_Some (marked mark job) new is) (record {
         fits = subst (λ c. FitsAccounts c job.pay) (sym chart) old.fits;
         least = record { own = old.least.own; least = old.least.least };
         entered = λ now. entered_now s.ledger job.pay (same_Some mark Entered now);
       });
-      alone = λ new n v is held there. sound.apart v w n there (job, at, subst (λ (j : Job). holds j n ≡ true) (sym (same_Some (marked mark job) new is)) held);
+      alone = λ new n v is held there.
+          sound.apart v w n there (job, at, subst (λ (j : Job). holds j n ≡ true) (sym (same_Some (marked mark job) new is)) held);
     })))
 
 faulty_sound : (s : CoreState) → IsSound s → IsSound (after s Fault)
@@ -149,9 +157,12 @@ faulty_sound s sound =
     })
 
 -- the events of a worker with a job
-take_cases : (s : CoreState) (w : ℕ) (account : AcctNo) (o : Option Job) → job_at s.workers w ≡ o → may_take s.workers account.0 o ≡ true → IsSound s → IsSound (after s (Take w account))
+take_cases : (s : CoreState) (w : ℕ) (account : AcctNo) (o : Option Job) → job_at s.workers w ≡ o → may_take s.workers account.0 o ≡ true → IsSound s
+    → IsSound (after s (Take w account))
 take_cases s w account None at may sound = absurd (false≢true may)
-take_cases s w account (Some job) at may sound = subst (λ (ws : List (Option Job)). IsSound (record { ledger = s.ledger; workers = ws })) (sym (with_job-at s.workers w job (also_holding account) at)) (taken_sound s w account job sound at may)
+take_cases s w account (Some job) at may sound =
+    subst (λ (ws : List (Option Job)). IsSound (record { ledger = s.ledger; workers = ws })) (sym (with_job-at s.workers w job (also_holding account) at))
+    (taken_sound s w account job sound at may)
 
 commit_cases : (s : CoreState) (w : ℕ) (o : Option Job) → job_at s.workers w ≡ o → IsSound s → IsSound (option_map_or (after_commit s w) o s)
 commit_cases s w None at sound = sound
@@ -174,7 +185,8 @@ after_sound s (GiveBack w) may sound = give_back_cases s w (job_at s.workers w) 
 after_sound s Fault may sound = faulty_sound s sound
 
 pub step_sound : (s : CoreState) (event : Event) → IsSound s → IsSound (step_of s event)
-step_sound s event sound = cond_both (is_allowed s event) (after s event) s (λ (x : CoreState). IsSound x) (λ may. after_sound s event may sound) (λ _. sound)
+step_sound s event sound =
+    cond_both (is_allowed s event) (after s event) s (λ (x : CoreState). IsSound x) (λ may. after_sound s event may sound) (λ _. sound)
 
 -- how the ledger grows
 record Grows (old new : LedgerState) : Type 0 where
@@ -196,7 +208,9 @@ after_grows s (GiveBack w) = grows_not s.ledger s.ledger refl refl
 after_grows s Fault = grows_not s.ledger (record s.ledger { broken = true }) refl refl
 
 step_grows : (s : CoreState) (event : Event) → Grows s.ledger (step_of s event).ledger
-step_grows s event = cond_both (is_allowed s event) (after s event) s (λ (x : CoreState). Grows s.ledger x.ledger) (λ _. after_grows s event) (λ _. grows_not s.ledger s.ledger refl refl)
+step_grows s event =
+    cond_both (is_allowed s event) (after s event) s (λ (x : CoreState). Grows s.ledger x.ledger) (λ _. after_grows s event)
+    (λ _. grows_not s.ledger s.ledger refl refl)
 
 pub run_sound : (s : CoreState) (events : List Event) → IsSound s → IsSound (run_of s events)
 run_sound s [] sound = sound
@@ -226,7 +240,8 @@ after_broken s (GiveBack w) broken = refl
 after_broken s Fault broken = ap (λ (b : Bool). record s.ledger { broken = b }) (sym broken)
 
 step_broken : (s : CoreState) (event : Event) → s.ledger.broken ≡ true → (step_of s event).ledger ≡ s.ledger
-step_broken s event broken = cond_both (is_allowed s event) (after s event) s (λ (x : CoreState). x.ledger ≡ s.ledger) (λ _. after_broken s event broken) (λ _. refl)
+step_broken s event broken =
+    cond_both (is_allowed s event) (after s event) s (λ (x : CoreState). x.ledger ≡ s.ledger) (λ _. after_broken s event broken) (λ _. refl)
 
 run_broken : (s : CoreState) (events : List Event) → s.ledger.broken ≡ true → (run_of s events).ledger ≡ s.ledger
 run_broken s [] broken = refl
@@ -238,7 +253,8 @@ pub fault_freezes : (s : CoreState) (events : List Event) → (run_of (step_of s
 fault_freezes s events = ap (λ (l : LedgerState). l.entries) (run_broken (step_of s Fault) events refl)
 
 -- workers without a job
-pub idle_sound : (ledger : LedgerState) (workers : List (Option Job)) → IsSoundLedger ledger → length workers < 2 ^ 32 → AllIdle workers → IsSound (record { ledger = ledger; workers = workers })
+pub idle_sound : (ledger : LedgerState) (workers : List (Option Job)) → IsSoundLedger ledger → length workers < 2 ^ 32 → AllIdle workers
+    → IsSound (record { ledger = ledger; workers = workers })
 idle_sound ledger workers sound few idle =
     let none : (w : ℕ) (job : Job) → job_at workers w ≡ Some job → ⊥ = λ w job at.
     let t = there workers w (Some job) (worker_of_job workers w job at) in

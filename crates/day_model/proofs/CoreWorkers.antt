@@ -8,7 +8,7 @@ use Rattle.std.proofs.lemmas.Option.{slice_get-get_or, slice_get_past, slice_get
 use Rattle.day_model.specs.declared.core_job.Job.{Job}
 use Rattle.day_model.specs.CoreStep.{worker_at, job_at, with_worker, is_idle}
 use Rattle.day_model.specs.CoreSound.{AllIdle}
-use Rattle.day_model.proofs.laws.Growth.{pushed}
+use Rattle.day_model.proofs.laws.Growth.{in_pushed}
 
 -- a list after one element was changed
 pub slice_get-set_same : {A : Type 0} (xs : List A) (i : ℕ) (y : A) → i < length xs → slice_get (slice_set xs i y) i ≡ Some y
@@ -20,7 +20,8 @@ pub slice_get-set_other : {A : Type 0} (xs : List A) (i j : ℕ) (y : A) → j �
 slice_get-set_other {A = A} xs i j y ne =
     let size = length-set xs i y in
     elim (cases_lt j (length xs)) [
-      | inl lt ↦ slice_get-get_or (set xs i y) j y (omega arith) ∙ ap (λ (z : A). Some z) (get_or-set_other xs i j y y ne) ∙ sym (slice_get-get_or xs j y lt)
+      | inl lt ↦ slice_get-get_or (set xs i y) j y (omega arith) ∙ ap (λ (z : A). Some z) (get_or-set_other xs i j y y ne)
+          ∙ sym (slice_get-get_or xs j y lt)
       | inr past ↦ slice_get_past (set xs i y) j (omega arith) ∙ sym (slice_get_past xs j past)
     ]
 
@@ -58,38 +59,47 @@ pub job_there : (workers : List (Option Job)) (n : ℕ) (job : Job) → job_at w
 job_there workers n job e = there workers n (Some job) (worker_of_job workers n job e)
 
 -- one worker changed
-worker_after_same : (workers : List (Option Job)) (n : ℕ) (old new : Option Job) → worker_at workers n ≡ Some old → worker_at (with_worker workers n new) n ≡ Some new
+worker_after_same : (workers : List (Option Job)) (n : ℕ) (old new : Option Job) → worker_at workers n ≡ Some old
+    → worker_at (with_worker workers n new) n ≡ Some new
 worker_after_same workers n old new e =
     let t = there workers n old e in
     worker_at-from_one (with_worker workers n new) n t.from_one ∙ slice_get-set_same workers (n - 1) new (omega (arith, t.from_one, t.within))
 
-worker_after_other : (workers : List (Option Job)) (n m : ℕ) (old new : Option Job) → worker_at workers n ≡ Some old → m ≢ n → worker_at (with_worker workers n new) m ≡ worker_at workers m
+worker_after_other : (workers : List (Option Job)) (n m : ℕ) (old new : Option Job) → worker_at workers n ≡ Some old → m ≢ n
+    → worker_at (with_worker workers n new) m ≡ worker_at workers m
 worker_after_other workers n m old new e ne =
     let t = there workers n old e in
     elim (cases_lt 0 m) [
       | inl from ↦
           let other : m - 1 ≢ n - 1 = λ is. ne (omega (arith, t.from_one)) in
-          worker_at-from_one (with_worker workers n new) m (omega arith) ∙ slice_get-set_other workers (n - 1) (m - 1) new other ∙ sym (worker_at-from_one workers m (omega arith))
+          worker_at-from_one (with_worker workers n new) m (omega arith) ∙ slice_get-set_other workers (n - 1) (m - 1) new other
+          ∙ sym (worker_at-from_one workers m (omega arith))
       | inr none ↦ worker_at-zero (with_worker workers n new) m none ∙ sym (worker_at-zero workers m none)
     ]
 
 -- a job after the change is the new one, or one of another worker
-pub job_after : (workers : List (Option Job)) (n m : ℕ) (old new : Option Job) (job : Job) → worker_at workers n ≡ Some old → job_at (with_worker workers n new) m ≡ Some job → ((m ≡ n) × (new ≡ Some job)) ⊎ (job_at workers m ≡ Some job)
+pub job_after : (workers : List (Option Job)) (n m : ℕ) (old new : Option Job) (job : Job) → worker_at workers n ≡ Some old
+    → job_at (with_worker workers n new) m ≡ Some job → ((m ≡ n) × (new ≡ Some job)) ⊎ (job_at workers m ≡ Some job)
 job_after workers n m old new job e is =
     elim (cases_eq m n) [
       | inl same ↦
-          let at : worker_at (with_worker workers n new) n ≡ Some (Some job) = ap (λ (k : ℕ). worker_at (with_worker workers n new) k) (sym same) ∙ worker_of_job (with_worker workers n new) m job is in
+          let at : worker_at (with_worker workers n new) n ≡ Some (Some job) =
+          ap (λ (k : ℕ). worker_at (with_worker workers n new) k) (sym same) ∙ worker_of_job (with_worker workers n new) m job is in
           inl (same, same_Some new (Some job) (sym (worker_after_same workers n old new e) ∙ at))
-      | inr other ↦ inr (ap (λ (o : Option (Option Job)). option_and_then (λ (x : Option Job). x) o) (sym (worker_after_other workers n m old new e other)) ∙ is)
+      | inr other ↦ inr
+          (ap (λ (o : Option (Option Job)). option_and_then (λ (x : Option Job). x) o) (sym (worker_after_other workers n m old new e other)) ∙ is)
     ]
 
 -- a worker without a job is left as it is
-pub untouched : (workers : List (Option Job)) (n : ℕ) (worker : Option Job) (change : Job → List (Option Job)) → 1 ≤ n → worker ≡ get_or workers (n - 1) worker → worker ≡ None → slice_set workers (n - 1) worker ≡ option_map_or change (job_at workers n) workers
+pub untouched : (workers : List (Option Job)) (n : ℕ) (worker : Option Job) (change : Job → List (Option Job)) → 1 ≤ n
+    → worker ≡ get_or workers (n - 1) worker → worker ≡ None → slice_set workers (n - 1) worker ≡ option_map_or change (job_at workers n) workers
 untouched workers n worker change from is none =
     let same : slice_set workers (n - 1) worker ≡ workers = ap (λ (x : Option Job). slice_set workers (n - 1) x) is ∙ set-get_or workers (n - 1) worker in
     let idle : job_at workers n ≡ None = elim (cases_lt (n - 1) (length workers)) [
-      | inl lt ↦ ap (λ (o : Option (Option Job)). option_and_then (λ (x : Option Job). x) o) (worker_at-from_one workers n from ∙ slice_get_read workers (length workers) (n - 1) worker refl lt is) ∙ none
-      | inr past ↦ ap (λ (o : Option (Option Job)). option_and_then (λ (x : Option Job). x) o) (worker_at-from_one workers n from ∙ slice_get_past workers (n - 1) past)
+      | inl lt ↦ ap (λ (o : Option (Option Job)). option_and_then (λ (x : Option Job). x) o)
+          (worker_at-from_one workers n from ∙ slice_get_read workers (length workers) (n - 1) worker refl lt is) ∙ none
+      | inr past ↦ ap (λ (o : Option (Option Job)). option_and_then (λ (x : Option Job). x) o)
+          (worker_at-from_one workers n from ∙ slice_get_past workers (n - 1) past)
     ] in
     same ∙ ap (λ (o : Option Job). option_map_or change o workers) (sym idle)
 
@@ -103,7 +113,7 @@ idle_there workers n e = there workers n None (idle_is (worker_at workers n) e)
 
 -- one idle worker more
 pub idle_more : (workers : List (Option Job)) → AllIdle workers → AllIdle (workers ++ None ∷ [])
-idle_more workers idle = λ i job at. elim (pushed workers None i job at) [
+idle_more workers idle = λ i job at. elim (in_pushed workers None i job at) [
   | inl old ↦ idle i job old
   | inr new ↦ sym new.1
 ]

@@ -26,7 +26,8 @@ opening_sum-append ccy (x ∷ xs) a =
     let rest = opening_sum-append ccy xs a in
     ap (λ (z : ℤ). opening_in ccy x +ℤ z) rest ∙ omega (arith, ints)
 
-pub opening_sum_more : (ccy : Ccy) (rows : List Account) (i : ℕ) (a : Account) → a ≡ get_or rows i a → i < length rows → opening_sum ccy (take (i + 1) rows) ≡ opening_sum ccy (take i rows) +ℤ opening_in ccy a
+pub opening_sum_more : (ccy : Ccy) (rows : List Account) (i : ℕ) (a : Account) → a ≡ get_or rows i a → i < length rows
+    → opening_sum ccy (take (i + 1) rows) ≡ opening_sum ccy (take i rows) +ℤ opening_in ccy a
 opening_sum_more ccy rows i a at lt =
     ap (opening_sum ccy) (take_more rows i a lt ∙ ap (λ (x : Account). take i rows ++ x ∷ []) (sym at)) ∙ opening_sum-append ccy (take i rows) a
 
@@ -41,7 +42,8 @@ small_opening ccy a limits =
     let high = limits.ceil_small.1 in
     let above = limits.above_floor in
     let below = limits.below_ceil in
-    cond_both (is_same_ccy a.ccy ccy) a.opening (pos 0) (IsNear 1) (λ _. record { low = omega (arith, ints); high = omega (arith, ints) }) (λ _. record { low = omega (arith, ints); high = omega (arith, ints) })
+    cond_both (is_same_ccy a.ccy ccy) a.opening (pos 0) (IsNear 1) (λ _. record { low = omega (arith, ints); high = omega (arith, ints) })
+    (λ _. record { low = omega (arith, ints); high = omega (arith, ints) })
 
 pub near_more : (ccy : Ccy) (i : ℕ) (z : ℤ) (a : Account) → IsLimited a → IsNear i z → IsNear (i + 1) (z +ℤ opening_in ccy a)
 near_more ccy i z a limits near =
@@ -69,7 +71,8 @@ has_or_zero ccy (x ∷ rows) =
       | inl here ↦ inl (0, x, refl, same_ccy x.ccy ccy here)
       | inr apart ↦ elim (has_or_zero ccy rows) [
         | inl (k, a, at, is) ↦ inl (suc k, a, at, is)
-        | inr none ↦ inr (ap (λ (z : ℤ). z +ℤ opening_sum ccy rows) (cond-false (is_same_ccy x.ccy ccy) x.opening (pos 0) apart) ∙ ap (λ (z : ℤ). pos 0 +ℤ z) none)
+        | inr none ↦ inr
+            (ap (λ (z : ℤ). z +ℤ opening_sum ccy rows) (cond-false (is_same_ccy x.ccy ccy) x.opening (pos 0) apart) ∙ ap (λ (z : ℤ). pos 0 +ℤ z) none)
       ]
     ]
 
@@ -100,14 +103,17 @@ before_before : (c d e : Ccy) → is_before c d ≡ true → is_before d e ≡ t
 before_before c d e p q = ap is_lt (nat_list_cmp_total.trans c.0 d.0 e.0 (is_less (slice_cmp nat_cmp c.0 d.0) p) (is_less (slice_cmp nat_cmp d.0 e.0) q))
 
 -- place k is before i, or i itself
-cases_place : {P : Type 0} (rows : List Account) (i k : ℕ) (row a : Account) → k < i + 1 → slice_get rows i ≡ Some row → slice_get rows k ≡ Some a → (k < i → P) → (row ≡ a → P) → P
+cases_place : {P : Type 0} (rows : List Account) (i k : ℕ) (row a : Account) → k < i + 1 → slice_get rows i ≡ Some row → slice_get rows k ≡ Some a
+    → (k < i → P) → (row ≡ a → P) → P
 cases_place rows i k row a lt here at earlier last =
     elim (cases_lt k i) [
       | inl before ↦ earlier before
       | inr past ↦ let same : i ≡ k = omega arith in last (same_Some row a (sym here ∙ ap (slice_get rows) same ∙ at))
     ]
 
-new_leads : (rows : List Account) (i : ℕ) (row : Account) (gap : Gap) → slice_get rows i ≡ Some row → IsGapOf rows row gap → ((k : ℕ) (a : Account) → k < i → slice_get rows k ≡ Some a → is_before a.ccy gap.ccy ≡ true → opening_sum a.ccy rows ≡ pos 0) → Leads rows (i + 1) gap
+new_leads : (rows : List Account) (i : ℕ) (row : Account) (gap : Gap) → slice_get rows i ≡ Some row → IsGapOf rows row gap
+    → ((k : ℕ) (a : Account) → k < i → slice_get rows k ≡ Some a → is_before a.ccy gap.ccy ≡ true → opening_sum a.ccy rows ≡ pos 0)
+    → Leads rows (i + 1) gap
 new_leads rows i row gap here is_gap before = record {
   place = i;
   account = row;
@@ -118,7 +124,8 @@ new_leads rows i row gap here is_gap before = record {
       (λ same. absurd (not_itself gap.ccy (subst (λ (c : Ccy). is_before c gap.ccy ≡ true) (ap (λ (x : Account). x.ccy) (sym same) ∙ is_gap.ccy) b)));
 }
 
-old_leads : (rows : List Account) (i : ℕ) (row : Account) (gap : Gap) → Leads rows i gap → slice_get rows i ≡ Some row → (is_before row.ccy gap.ccy ≡ true → opening_sum row.ccy rows ≡ pos 0) → Leads rows (i + 1) gap
+old_leads : (rows : List Account) (i : ℕ) (row : Account) (gap : Gap) → Leads rows i gap → slice_get rows i ≡ Some row
+    → (is_before row.ccy gap.ccy ≡ true → opening_sum row.ccy rows ≡ pos 0) → Leads rows (i + 1) gap
 old_leads rows i row gap old here last = record {
   place = old.place;
   account = old.account;
@@ -129,22 +136,27 @@ old_leads rows i row gap old here last = record {
       (λ same. subst (λ (x : Account). opening_sum x.ccy rows ≡ pos 0) same (last (subst (λ (x : Account). is_before x.ccy gap.ccy ≡ true) (sym same) b)));
 }
 
-chosen : (rows : List Account) (i : ℕ) (row : Account) (gap other : Gap) (b : Bool) → is_before other.ccy gap.ccy ≡ b → Leads rows i gap → slice_get rows i ≡ Some row → IsGapOf rows row other → SoFar rows (i + 1) (if b then Some other else Some gap)
+chosen : (rows : List Account) (i : ℕ) (row : Account) (gap other : Gap) (b : Bool) → is_before other.ccy gap.ccy ≡ b → Leads rows i gap
+    → slice_get rows i ≡ Some row → IsGapOf rows row other → SoFar rows (i + 1) (if b then Some other else Some gap)
 chosen rows i row gap other true is old here new =
     new_leads rows i row other here new (λ k a lt at b. old.first k a lt at (before_before a.ccy other.ccy gap.ccy b is))
 chosen rows i row gap other false is old here new =
     old_leads rows i row gap old here (λ b. absurd (false≢true (sym is ∙ subst (λ (c : Ccy). is_before c gap.ccy ≡ true) new.ccy b)))
 
 -- one account more
-pub so_far_more : (rows : List Account) (i : ℕ) (row : Account) (first second : Option Gap) → SoFar rows i first → slice_get rows i ≡ Some row → GapOf rows row second → SoFar rows (i + 1) (earlier_of first second)
-so_far_more rows i row None None old here none = λ k a lt at. cases_place rows i k row a lt here at (λ early. old k a early at) (λ same. subst (λ (x : Account). opening_sum x.ccy rows ≡ pos 0) same none)
+pub so_far_more : (rows : List Account) (i : ℕ) (row : Account) (first second : Option Gap) → SoFar rows i first → slice_get rows i ≡ Some row
+    → GapOf rows row second → SoFar rows (i + 1) (earlier_of first second)
+so_far_more rows i row None None old here none =
+    λ k a lt at.
+    cases_place rows i k row a lt here at (λ early. old k a early at) (λ same. subst (λ (x : Account). opening_sum x.ccy rows ≡ pos 0) same none)
 so_far_more rows i row None (Some other) old here new = new_leads rows i row other here new (λ k a lt at b. old k a lt at)
 so_far_more rows i row (Some gap) None old here none = old_leads rows i row gap old here (λ b. none)
 so_far_more rows i row (Some gap) (Some other) old here new = chosen rows i row gap other (is_before other.ccy gap.ccy) refl old here new
 
 -- ---- an account whose currency was summed before
 
-found_before : (rows : List Account) (i : ℕ) (ccy : Ccy) → list_any (λ r. is_same_ccy r.ccy ccy) (take i rows) ≡ true → (k : ℕ) × (a : Account) × (k < i) × (slice_get rows k ≡ Some a) × (a.ccy ≡ ccy)
+found_before : (rows : List Account) (i : ℕ) (ccy : Ccy) → list_any (λ r. is_same_ccy r.ccy ccy) (take i rows) ≡ true
+    → (k : ℕ) × (a : Account) × (k < i) × (slice_get rows k ≡ Some a) × (a.ccy ≡ ccy)
 found_before [] zero ccy h = absurd (false≢true h)
 found_before [] (suc i) ccy h = absurd (false≢true h)
 found_before (x ∷ rows) zero ccy h = absurd (false≢true h)
@@ -154,7 +166,8 @@ found_before (x ∷ rows) (suc i) ccy h =
       | inr apart ↦ let f = found_before rows i ccy (rw apart at h) in (suc f.0, f.1, omega (arith, f.2), f.3, f.4)
     ]
 
-summed : (rows : List Account) (i : ℕ) (row : Account) (first : Option Gap) → SoFar rows i first → slice_get rows i ≡ Some row → (k : ℕ) (a : Account) → k < i → slice_get rows k ≡ Some a → a.ccy ≡ row.ccy → SoFar rows (i + 1) first
+summed : (rows : List Account) (i : ℕ) (row : Account) (first : Option Gap) → SoFar rows i first → slice_get rows i ≡ Some row → (k : ℕ) (a : Account)
+    → k < i → slice_get rows k ≡ Some a → a.ccy ≡ row.ccy → SoFar rows (i + 1) first
 summed rows i row None old here k a lt at same = λ j b below there.
     cases_place rows i j row b below here there (λ early. old j b early there)
     (λ last. subst (λ (x : Account). opening_sum x.ccy rows ≡ pos 0) last (subst (λ (c : Ccy). opening_sum c rows ≡ pos 0) same (old k a lt at)))
@@ -162,7 +175,8 @@ summed rows i row (Some gap) old here k a lt at same =
     old_leads rows i row gap old here
     (λ b. subst (λ (c : Ccy). opening_sum c rows ≡ pos 0) same (old.first k a lt at (subst (λ (c : Ccy). is_before c gap.ccy ≡ true) (sym same) b)))
 
-pub so_far_known : (rows : List Account) (i : ℕ) (row : Account) (first : Option Gap) → SoFar rows i first → slice_get rows i ≡ Some row → list_any (λ r. is_same_ccy r.ccy row.ccy) (take i rows) ≡ true → SoFar rows (i + 1) first
+pub so_far_known : (rows : List Account) (i : ℕ) (row : Account) (first : Option Gap) → SoFar rows i first → slice_get rows i ≡ Some row
+    → list_any (λ r. is_same_ccy r.ccy row.ccy) (take i rows) ≡ true → SoFar rows (i + 1) first
 so_far_known rows i row first old here known =
     let f = found_before rows i row.ccy known in summed rows i row first old here f.0 f.1 f.2 f.3 f.4
 
@@ -180,7 +194,10 @@ so_far_all rows i (Some gap) end old = record {
   is_gap = old.is_gap;
   first = λ c b.
       elim (has_or_zero c rows) [
-        | inl (k, a, at, is) ↦ let lt = slice_get_within rows k a at in subst (λ (d : Ccy). opening_sum d rows ≡ pos 0) is (old.first k a (omega arith) at (subst (λ (d : Ccy). is_before d gap.ccy ≡ true) (sym is) b))
+        | inl (k, a, at, is) ↦
+            let lt = slice_get_within rows k a at in
+            let before : is_before a.ccy gap.ccy ≡ true = subst (λ (d : Ccy). is_before d gap.ccy ≡ true) (sym is) b in
+            subst (λ (d : Ccy). opening_sum d rows ≡ pos 0) is (old.first k a (omega arith) at before)
         | inr zero_sum ↦ zero_sum
       ];
 }

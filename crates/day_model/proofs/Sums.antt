@@ -29,11 +29,14 @@ sum_in-same ccy f g n (a ∷ accounts) same =
     ap (λ (z : ℤ). (if is_same_ccy a.ccy ccy then z else pos 0) +ℤ sum_in ccy f (n + 1) accounts) (same n)
     ∙ ap (λ (z : ℤ). (if is_same_ccy a.ccy ccy then g n else pos 0) +ℤ z) (sum_in-same ccy f g (n + 1) accounts same)
 
-plus_step : (b : Bool) (x y z s u v : ℤ) → (if b then (x +ℤ y) -ℤ z else pos 0) +ℤ ((s +ℤ u) -ℤ v) ≡ (((if b then x else pos 0) +ℤ s) +ℤ ((if b then y else pos 0) +ℤ u)) -ℤ ((if b then z else pos 0) +ℤ v)
+plus_step : (b : Bool) (x y z s u v : ℤ)
+    → (if b then (x +ℤ y) -ℤ z else pos 0) +ℤ ((s +ℤ u) -ℤ v)
+    ≡ (((if b then x else pos 0) +ℤ s) +ℤ ((if b then y else pos 0) +ℤ u)) -ℤ ((if b then z else pos 0) +ℤ v)
 plus_step true x y z s u v = omega (arith, ints)
 plus_step false x y z s u v = omega (arith, ints)
 
-sum_in-plus : (ccy : Ccy) (f g h : ℕ → ℤ) (n : ℕ) (accounts : List Account) → sum_in ccy (λ k. (f k +ℤ g k) -ℤ h k) n accounts ≡ (sum_in ccy f n accounts +ℤ sum_in ccy g n accounts) -ℤ sum_in ccy h n accounts
+sum_in-plus : (ccy : Ccy) (f g h : ℕ → ℤ) (n : ℕ) (accounts : List Account)
+    → sum_in ccy (λ k. (f k +ℤ g k) -ℤ h k) n accounts ≡ (sum_in ccy f n accounts +ℤ sum_in ccy g n accounts) -ℤ sum_in ccy h n accounts
 sum_in-plus ccy f g h n [] = refl
 sum_in-plus ccy f g h n (a ∷ accounts) =
     ap (λ (z : ℤ). (if is_same_ccy a.ccy ccy then (f n +ℤ g n) -ℤ h n else pos 0) +ℤ z) (sum_in-plus ccy f g h (n + 1) accounts)
@@ -47,7 +50,8 @@ sum_in-none ccy m amount n (a ∷ accounts) lt =
     rw (ne_eqb m n other, rest) (cond_both (is_same_ccy a.ccy ccy) (pos 0) (pos 0) (λ (z : ℤ). z +ℤ pos 0 ≡ pos 0) (λ _. refl) (λ _. refl))
 
 -- an amount on one account counts in its currency alone
-sum_in-one : (ccy : Ccy) (m amount n : ℕ) (accounts : List Account) → n ≤ m → m < n + length accounts → sum_in ccy (λ k. pos (cond (eqb m k) amount 0)) n accounts ≡ pos (cond (in_ccy ccy (slice_get accounts (m - n))) amount 0)
+sum_in-one : (ccy : Ccy) (m amount n : ℕ) (accounts : List Account) → n ≤ m → m < n + length accounts
+    → sum_in ccy (λ k. pos (cond (eqb m k) amount 0)) n accounts ≡ pos (cond (in_ccy ccy (slice_get accounts (m - n))) amount 0)
 sum_in-one ccy m amount n [] le lt = absurd (omega arith)
 sum_in-one ccy m amount n (a ∷ accounts) le lt =
     elim (cases_eq m n) [
@@ -67,7 +71,9 @@ sum_in-one ccy m amount n (a ∷ accounts) le lt =
           ])
     ]
 
-sum_in-openings : (ccy : Ccy) (f : ℕ → ℤ) (n : ℕ) (accounts : List Account) → ((j : ℕ) → f (n + j) ≡ unwrap_or (option_map (λ account. account.opening) (slice_get accounts j)) (pos 0)) → sum_in ccy f n accounts ≡ opening_sum ccy accounts
+sum_in-openings : (ccy : Ccy) (f : ℕ → ℤ) (n : ℕ) (accounts : List Account)
+    → ((j : ℕ) → f (n + j) ≡ unwrap_or (option_map (λ account. account.opening) (slice_get accounts j)) (pos 0))
+    → sum_in ccy f n accounts ≡ opening_sum ccy accounts
 sum_in-openings ccy f n [] is = refl
 sum_in-openings ccy f n (a ∷ accounts) is =
     let here : f n ≡ a.opening = ap f (omega arith) ∙ is 0 in
@@ -75,61 +81,79 @@ sum_in-openings ccy f n (a ∷ accounts) is =
     rw (here, rest) refl
 
 same_in_ccy : (ccy : Ccy) (a b : Option Account) → same_ccy a b ≡ true → in_ccy ccy a ≡ in_ccy ccy b
-same_in_ccy ccy (Some a) (Some b) e = let digits : a.ccy.0 ≡ b.ccy.0 = (bytes_eq-Decides a.ccy.0 b.ccy.0).0 e in ap (λ (bs : List ℕ). bytes_eq bs ccy.0) digits
+same_in_ccy ccy (Some a) (Some b) e =
+    let digits : a.ccy.0 ≡ b.ccy.0 = (bytes_eq-Decides a.ccy.0 b.ccy.0).0 e in ap (λ (bs : List ℕ). bytes_eq bs ccy.0) digits
 same_in_ccy ccy (Some a) None e = absurd (false≢true e)
 same_in_ccy ccy None b e = absurd (false≢true e)
 
 -- a pay that fits moves as much on the one side as on the other
-pub even_debit : (chart : Chart) (ccy : Ccy) (legs : List Leg) (t : Transfer chart legs) → sum_by (moved_in chart ccy Debit) legs ≡ cond (in_ccy ccy (account_at chart t.debit.account.0)) t.debit.amount.0 0
+pub even_debit : (chart : Chart) (ccy : Ccy) (legs : List Leg) (t : Transfer chart legs)
+    → sum_by (moved_in chart ccy Debit) legs ≡ cond (in_ccy ccy (account_at chart t.debit.account.0)) t.debit.amount.0 0
 even_debit chart ccy legs t = rw (t.legs_are, t.debit_side, t.credit_side) (omega arith)
 
-pub even_credit : (chart : Chart) (ccy : Ccy) (legs : List Leg) (t : Transfer chart legs) → sum_by (moved_in chart ccy Credit) legs ≡ cond (in_ccy ccy (account_at chart t.credit.account.0)) t.credit.amount.0 0
+pub even_credit : (chart : Chart) (ccy : Ccy) (legs : List Leg) (t : Transfer chart legs)
+    → sum_by (moved_in chart ccy Credit) legs ≡ cond (in_ccy ccy (account_at chart t.credit.account.0)) t.credit.amount.0 0
 even_credit chart ccy legs t = rw (t.legs_are, t.debit_side, t.credit_side) (omega arith)
 
-even : (chart : Chart) (ccy : Ccy) (legs : List Leg) (t : Transfer chart legs) → cond (in_ccy ccy (account_at chart t.debit.account.0)) t.debit.amount.0 0 ≡ cond (in_ccy ccy (account_at chart t.credit.account.0)) t.credit.amount.0 0
+even : (chart : Chart) (ccy : Ccy) (legs : List Leg) (t : Transfer chart legs)
+    → cond (in_ccy ccy (account_at chart t.debit.account.0)) t.debit.amount.0 0
+    ≡ cond (in_ccy ccy (account_at chart t.credit.account.0)) t.credit.amount.0 0
 even chart ccy legs t =
     ap (λ (b : Bool). cond b t.debit.amount.0 0) (same_in_ccy ccy (account_at chart t.debit.account.0) (account_at chart t.credit.account.0) t.one_ccy)
     ∙ ap (λ (x : ℕ). cond (in_ccy ccy (account_at chart t.credit.account.0)) x 0) t.equal
 
 pub even_entry : (chart : Chart) (ccy : Ccy) (e : Entry) → Transfer chart e.pay.legs → entry_in chart ccy Debit e ≡ entry_in chart ccy Credit e
-even_entry chart ccy e t = ap (λ (x : ℕ). cond (is_booked e.outcome) x 0) (even_debit chart ccy e.pay.legs t ∙ even chart ccy e.pay.legs t ∙ sym (even_credit chart ccy e.pay.legs t))
+even_entry chart ccy e t =
+    ap (λ (x : ℕ). cond (is_booked e.outcome) x 0)
+    (even_debit chart ccy e.pay.legs t ∙ even chart ccy e.pay.legs t ∙ sym (even_credit chart ccy e.pay.legs t))
 
 -- what an entry moves over the accounts of a currency
-sum_credits : (chart : Chart) (ccy : Ccy) (e : Entry) → Transfer chart e.pay.legs → sum_in ccy (λ k. pos (moved_by Credit k e)) 1 chart.accounts ≡ pos (entry_in chart ccy Credit e)
+sum_credits : (chart : Chart) (ccy : Ccy) (e : Entry) → Transfer chart e.pay.legs
+    → sum_in ccy (λ k. pos (moved_by Credit k e)) 1 chart.accounts ≡ pos (entry_in chart ccy Credit e)
 sum_credits chart ccy e t =
     elim (cases_Bool (is_booked e.outcome)) [
       | inl booked ↦
-          let moves : (k : ℕ) → pos (moved_by Credit k e) ≡ pos (cond (eqb t.credit.account.0 k) t.credit.amount.0 0) = λ k. ap (λ (x : ℕ). pos x) (booked_moves Credit k e booked ∙ credits_moved chart e.pay.legs k t) in
+          let moves : (k : ℕ) → pos (moved_by Credit k e) ≡ pos (cond (eqb t.credit.account.0 k) t.credit.amount.0 0) =
+          λ k. ap (λ (x : ℕ). pos x) (booked_moves Credit k e booked ∙ credits_moved chart e.pay.legs k t) in
           sum_in-same ccy (λ k. pos (moved_by Credit k e)) (λ k. pos (cond (eqb t.credit.account.0 k) t.credit.amount.0 0)) 1 chart.accounts moves
           ∙ sum_in-one ccy t.credit.account.0 t.credit.amount.0 1 chart.accounts t.credit_listed.0 (omega (arith, t.credit_listed.1))
-          ∙ ap (λ (x : ℕ). pos x) (sym (even_credit chart ccy e.pay.legs t) ∙ sym (cond-true (is_booked e.outcome) (sum_by (moved_in chart ccy Credit) e.pay.legs) 0 booked))
+          ∙ ap (λ (x : ℕ). pos x)
+          (sym (even_credit chart ccy e.pay.legs t) ∙ sym (cond-true (is_booked e.outcome) (sum_by (moved_in chart ccy Credit) e.pay.legs) 0 booked))
       | inr out ↦
-          sum_in-same ccy (λ k. pos (moved_by Credit k e)) (λ k. pos (cond (eqb 0 k) 0 0)) 1 chart.accounts (λ k. ap (λ (x : ℕ). pos x) (unmoved Credit k e out ∙ sym (cond_both (eqb 0 k) 0 0 (λ (x : ℕ). x ≡ 0) (λ _. refl) (λ _. refl))))
+          sum_in-same ccy (λ k. pos (moved_by Credit k e)) (λ k. pos (cond (eqb 0 k) 0 0)) 1 chart.accounts
+          (λ k. ap (λ (x : ℕ). pos x) (unmoved Credit k e out ∙ sym (cond_both (eqb 0 k) 0 0 (λ (x : ℕ). x ≡ 0) (λ _. refl) (λ _. refl))))
           ∙ sum_in-none ccy 0 0 1 chart.accounts (omega arith)
           ∙ ap (λ (x : ℕ). pos x) (sym (cond-false (is_booked e.outcome) (sum_by (moved_in chart ccy Credit) e.pay.legs) 0 out))
     ]
 
-sum_debits : (chart : Chart) (ccy : Ccy) (e : Entry) → Transfer chart e.pay.legs → sum_in ccy (λ k. pos (moved_by Debit k e)) 1 chart.accounts ≡ pos (entry_in chart ccy Debit e)
+sum_debits : (chart : Chart) (ccy : Ccy) (e : Entry) → Transfer chart e.pay.legs
+    → sum_in ccy (λ k. pos (moved_by Debit k e)) 1 chart.accounts ≡ pos (entry_in chart ccy Debit e)
 sum_debits chart ccy e t =
     elim (cases_Bool (is_booked e.outcome)) [
       | inl booked ↦
-          let moves : (k : ℕ) → pos (moved_by Debit k e) ≡ pos (cond (eqb t.debit.account.0 k) t.debit.amount.0 0) = λ k. ap (λ (x : ℕ). pos x) (booked_moves Debit k e booked ∙ debits_moved chart e.pay.legs k t) in
+          let moves : (k : ℕ) → pos (moved_by Debit k e) ≡ pos (cond (eqb t.debit.account.0 k) t.debit.amount.0 0) =
+          λ k. ap (λ (x : ℕ). pos x) (booked_moves Debit k e booked ∙ debits_moved chart e.pay.legs k t) in
           sum_in-same ccy (λ k. pos (moved_by Debit k e)) (λ k. pos (cond (eqb t.debit.account.0 k) t.debit.amount.0 0)) 1 chart.accounts moves
           ∙ sum_in-one ccy t.debit.account.0 t.debit.amount.0 1 chart.accounts t.debit_listed.0 (omega (arith, t.debit_listed.1))
-          ∙ ap (λ (x : ℕ). pos x) (sym (even_debit chart ccy e.pay.legs t) ∙ sym (cond-true (is_booked e.outcome) (sum_by (moved_in chart ccy Debit) e.pay.legs) 0 booked))
+          ∙ ap (λ (x : ℕ). pos x)
+          (sym (even_debit chart ccy e.pay.legs t) ∙ sym (cond-true (is_booked e.outcome) (sum_by (moved_in chart ccy Debit) e.pay.legs) 0 booked))
       | inr out ↦
-          sum_in-same ccy (λ k. pos (moved_by Debit k e)) (λ k. pos (cond (eqb 0 k) 0 0)) 1 chart.accounts (λ k. ap (λ (x : ℕ). pos x) (unmoved Debit k e out ∙ sym (cond_both (eqb 0 k) 0 0 (λ (x : ℕ). x ≡ 0) (λ _. refl) (λ _. refl))))
+          sum_in-same ccy (λ k. pos (moved_by Debit k e)) (λ k. pos (cond (eqb 0 k) 0 0)) 1 chart.accounts
+          (λ k. ap (λ (x : ℕ). pos x) (unmoved Debit k e out ∙ sym (cond_both (eqb 0 k) 0 0 (λ (x : ℕ). x ≡ 0) (λ _. refl) (λ _. refl))))
           ∙ sum_in-none ccy 0 0 1 chart.accounts (omega arith)
           ∙ ap (λ (x : ℕ). pos x) (sym (cond-false (is_booked e.outcome) (sum_by (moved_in chart ccy Debit) e.pay.legs) 0 out))
     ]
 
-pub sum_moved : (side : Side) (chart : Chart) (ccy : Ccy) (e : Entry) → Transfer chart e.pay.legs → sum_in ccy (λ k. pos (moved_by side k e)) 1 chart.accounts ≡ pos (entry_in chart ccy side e)
+pub sum_moved : (side : Side) (chart : Chart) (ccy : Ccy) (e : Entry) → Transfer chart e.pay.legs
+    → sum_in ccy (λ k. pos (moved_by side k e)) 1 chart.accounts ≡ pos (entry_in chart ccy side e)
 sum_moved Debit chart ccy e t = sum_debits chart ccy e t
 sum_moved Credit chart ccy e t = sum_credits chart ccy e t
 
-cancel_at : (chart : Chart) (entries : List Entry) (ccy : Ccy) (i : ℕ) → IsChart chart → IsLegal chart entries → i ≤ length entries → sum_in ccy (balance_of chart (take i entries)) 1 chart.accounts ≡ pos 0
+cancel_at : (chart : Chart) (entries : List Entry) (ccy : Ccy) (i : ℕ) → IsChart chart → IsLegal chart entries → i ≤ length entries
+    → sum_in ccy (balance_of chart (take i entries)) 1 chart.accounts ≡ pos 0
 cancel_at chart entries ccy zero sound legal le =
-    sum_in-openings ccy (balance_of chart (take 0 entries)) 1 chart.accounts (λ j. let at : (1 + j) - 1 ≡ j = omega arith in rw at (omega (arith, ints))) ∙ sound.balanced ccy
+    sum_in-openings ccy (balance_of chart (take 0 entries)) 1 chart.accounts
+    (λ j. let at : (1 + j) - 1 ≡ j = omega arith in rw at (omega (arith, ints))) ∙ sound.balanced ccy
 cancel_at chart entries ccy (suc i) sound legal le =
     elim (slice_get_cases entries i).1 [
       | inl found ↦
@@ -141,7 +165,9 @@ cancel_at chart entries ccy (suc i) sound legal le =
           let same : entry_in chart ccy Debit e ≡ entry_in chart ccy Credit e = even_entry chart ccy e t in
           let next : suc i ≡ i + 1 = omega arith in
           ap (λ (k : ℕ). sum_in ccy (balance_of chart (take k entries)) 1 chart.accounts) next
-          ∙ sum_in-same ccy (balance_of chart (take (i + 1) entries)) (λ n. (balance_of chart (take i entries) n +ℤ pos (moved_by Credit n e)) -ℤ pos (moved_by Debit n e)) 1 chart.accounts (λ n. balance_more chart entries n i e found.2)
+          ∙ sum_in-same ccy (balance_of chart (take (i + 1) entries))
+          (λ n. (balance_of chart (take i entries) n +ℤ pos (moved_by Credit n e)) -ℤ pos (moved_by Debit n e)) 1 chart.accounts
+          (λ n. balance_more chart entries n i e found.2)
           ∙ sum_in-plus ccy (balance_of chart (take i entries)) (λ n. pos (moved_by Credit n e)) (λ n. pos (moved_by Debit n e)) 1 chart.accounts
           ∙ rw (before, credits, debits, same) (omega (arith, ints))
       | inr past ↦ absurd (omega (arith, past.0))
@@ -149,16 +175,20 @@ cancel_at chart entries ccy (suc i) sound legal le =
 
 pub balances_cancel : (chart : Chart) (entries : List Entry) → IsChart chart → IsLegal chart entries → BalancesCancel chart entries
 balances_cancel chart entries sound legal ccy =
-    subst (λ (es : List Entry). sum_in ccy (balance_of chart es) 1 chart.accounts ≡ pos 0) (take_all (length entries) entries (omega arith)) (cancel_at chart entries ccy (length entries) sound legal (omega arith))
+    subst (λ (es : List Entry). sum_in ccy (balance_of chart es) 1 chart.accounts ≡ pos 0) (take_all (length entries) entries (omega arith))
+    (cancel_at chart entries ccy (length entries) sound legal (omega arith))
 
 -- one entry moves less than 10^14 on one side of an account
 moved_small : (chart : Chart) (n : ℕ) (e : Entry) → Transfer chart e.pay.legs → (moved_by Credit n e < amount_end) × (moved_by Debit n e < amount_end)
 moved_small chart n e t = (
-  cond_both (is_booked e.outcome) (sum_by (moved Credit n) e.pay.legs) 0 (λ (x : ℕ). x < amount_end) (λ _. credits_small chart e.pay.legs n t) (λ _. omega arith),
-  cond_both (is_booked e.outcome) (sum_by (moved Debit n) e.pay.legs) 0 (λ (x : ℕ). x < amount_end) (λ _. debits_small chart e.pay.legs n t) (λ _. omega arith),
+  cond_both (is_booked e.outcome) (sum_by (moved Credit n) e.pay.legs) 0 (λ (x : ℕ). x < amount_end) (λ _. credits_small chart e.pay.legs n t)
+      (λ _. omega arith),
+  cond_both (is_booked e.outcome) (sum_by (moved Debit n) e.pay.legs) 0 (λ (x : ℕ). x < amount_end) (λ _. debits_small chart e.pay.legs n t)
+      (λ _. omega arith),
 )
 
-totals_at : (chart : Chart) (entries : List Entry) (n i : ℕ) → IsLegal chart entries → i ≤ length entries → (credits_of (take i entries) n ≤ i * amount_end) × (debits_of (take i entries) n ≤ i * amount_end)
+totals_at : (chart : Chart) (entries : List Entry) (n i : ℕ) → IsLegal chart entries → i ≤ length entries
+    → (credits_of (take i entries) n ≤ i * amount_end) × (debits_of (take i entries) n ≤ i * amount_end)
 totals_at chart entries n zero legal le = (omega arith, omega arith)
 totals_at chart entries n (suc i) legal le =
     elim (slice_get_cases entries i).1 [
@@ -181,6 +211,7 @@ totals_fit chart entries n legal =
     let all = take_all (length entries) entries (omega arith) in
     let at = totals_at chart entries n (length entries) legal (omega arith) in
     let short = legal.short in
-    let credits : credits_of entries n ≤ length entries * amount_end = subst (λ (es : List Entry). credits_of es n ≤ length entries * amount_end) all at.0 in
+    let credits : credits_of entries n ≤ length entries * amount_end =
+    subst (λ (es : List Entry). credits_of es n ≤ length entries * amount_end) all at.0 in
     let debits : debits_of entries n ≤ length entries * amount_end = subst (λ (es : List Entry). debits_of es n ≤ length entries * amount_end) all at.1 in
     (omega arith, omega arith)

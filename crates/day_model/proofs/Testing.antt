@@ -23,10 +23,13 @@ all_at p (y ∷ xs) zero x all at = subst (λ z. p z ≡ true) (same_Some y x at
 all_at p (y ∷ xs) (suc i) x all at = all_at p xs i x (and_parts (p y) (list_all p xs) all).1 at
 
 -- each is apart from every later one
-apart_at : (xs : List Account) (i j : ℕ) (a b : Account) → all_apart xs ≡ true → i < j → slice_get xs i ≡ Some a → slice_get xs j ≡ Some b → apart a b ≡ true
+apart_at : (xs : List Account) (i j : ℕ) (a b : Account) → all_apart xs ≡ true → i < j → slice_get xs i ≡ Some a → slice_get xs j ≡ Some b
+    → apart a b ≡ true
 apart_at [] i j a b all lt ati atj = absurd (none-some a ati)
 apart_at (x ∷ xs) i zero a b all lt ati atj = absurd (omega arith)
-apart_at (x ∷ xs) zero (suc j) a b all lt ati atj = all_at (apart a) xs j b (subst (λ (z : Account). list_all (apart z) xs ≡ true) (same_Some x a ati) (and_parts (list_all (apart x) xs) (all_apart xs) all).0) atj
+apart_at (x ∷ xs) zero (suc j) a b all lt ati atj =
+    all_at (apart a) xs j b
+    (subst (λ (z : Account). list_all (apart z) xs ≡ true) (same_Some x a ati) (and_parts (list_all (apart x) xs) (all_apart xs) all).0) atj
 apart_at (x ∷ xs) (suc i) (suc j) a b all lt ati atj = apart_at xs i j a b (and_parts (list_all (apart x) xs) (all_apart xs) all).1 (omega arith) ati atj
 
 same_bic : (o : Option Bic) (b : Bic) → is_same_bic o b ≡ true → o ≡ Some b
@@ -40,12 +43,18 @@ same_bic None b e = absurd (false≢true e)
 bic_same : (o : Option Bic) (b : Bic) → o ≡ Some b → is_same_bic o b ≡ true
 bic_same o b e =
     subst (λ (x : Option Bic). is_same_bic x b ≡ true) (sym e)
-    (and_from (bytes_eq b.head b.head) (bytes_eq b.branch b.branch) ((bytes_eq-Decides b.head b.head).1 refl) ((bytes_eq-Decides b.branch b.branch).1 refl))
+    (and_from (bytes_eq b.head b.head) (bytes_eq b.branch b.branch) ((bytes_eq-Decides b.head b.head).1 refl)
+    ((bytes_eq-Decides b.branch b.branch).1 refl))
 
 formed : (a : Account) → is_formed a ≡ true → IsFormed a
 formed a e =
-    let decimals = and_parts (leb 1 (length a.id) && leb (length a.id) 34 && list_all is_c_byte a.id && is_kind a.kind && reads_itself a.owner && list_all is_ascii_uppercase a.ccy.0) (leb a.decimals 4) e in
-    let ccy = and_parts (leb 1 (length a.id) && leb (length a.id) 34 && list_all is_c_byte a.id && is_kind a.kind && reads_itself a.owner) (list_all is_ascii_uppercase a.ccy.0) decimals.0 in
+    let decimals =
+    and_parts
+    (leb 1 (length a.id) && leb (length a.id) 34 && list_all is_c_byte a.id && is_kind a.kind && reads_itself a.owner
+    && list_all is_ascii_uppercase a.ccy.0) (leb a.decimals 4) e in
+    let ccy =
+    and_parts (leb 1 (length a.id) && leb (length a.id) 34 && list_all is_c_byte a.id && is_kind a.kind && reads_itself a.owner)
+    (list_all is_ascii_uppercase a.ccy.0) decimals.0 in
     let owner = and_parts (leb 1 (length a.id) && leb (length a.id) 34 && list_all is_c_byte a.id && is_kind a.kind) (reads_itself a.owner) ccy.0 in
     let kind = and_parts (leb 1 (length a.id) && leb (length a.id) 34 && list_all is_c_byte a.id) (is_kind a.kind) owner.0 in
     let plain = and_parts (leb 1 (length a.id) && leb (length a.id) 34) (list_all is_c_byte a.id) kind.0 in
@@ -68,7 +77,8 @@ before x y z p q = omega (arith, ints)
 
 limited : (a : Account) → has_limits a ≡ true → IsLimited a
 limited a e =
-    let high = and_parts (int_le (negsuc 99999999999998) a.floor && int_le a.ceil (pos 99999999999999) && int_le a.floor a.opening) (int_le a.opening a.ceil) e in
+    let high =
+    and_parts (int_le (negsuc 99999999999998) a.floor && int_le a.ceil (pos 99999999999999) && int_le a.floor a.opening) (int_le a.opening a.ceil) e in
     let low = and_parts (int_le (negsuc 99999999999998) a.floor && int_le a.ceil (pos 99999999999999)) (int_le a.floor a.opening) high.0 in
     let ends = and_parts (int_le (negsuc 99999999999998) a.floor) (int_le a.ceil (pos 99999999999999)) low.0 in
     let least = below (negsuc 99999999999998) a.floor ends.0 in
@@ -103,8 +113,14 @@ parted a b e =
     let first = and_parts (not (bytes_eq a.id b.id)) (not bank) last.0 in
     record {
       ids = λ is. false≢true (sym (not-true (bytes_eq a.id b.id) first.0) ∙ same_bytes a.id b.id is);
-      banks = λ is. false≢true (sym (not-true bank first.1) ∙ and_from (not (eqb a.kind customer) && eqb a.kind b.kind && bytes_eq a.owner.head b.owner.head) (is_same_ccy a.ccy b.ccy) (and_from (not (eqb a.kind customer) && eqb a.kind b.kind) (bytes_eq a.owner.head b.owner.head) (and_from (not (eqb a.kind customer)) (eqb a.kind b.kind) (not_from_false (eqb a.kind customer) (ne_eqb a.kind customer is.bank)) (eq-eqb a.kind b.kind is.kind)) (same_bytes a.owner.head b.owner.head is.head)) (same_bytes a.ccy.0 b.ccy.0 (ap (λ (c : Ccy). c.0) is.ccy)));
-      decimals = λ is. eqb-true _ _ (same_decimals (is_same_ccy a.ccy b.ccy) (eqb a.decimals b.decimals) last.1 (same_bytes a.ccy.0 b.ccy.0 (ap (λ (c : Ccy). c.0) is)));
+      banks = λ is. false≢true
+          (sym (not-true bank first.1)
+          ∙ and_from (not (eqb a.kind customer) && eqb a.kind b.kind && bytes_eq a.owner.head b.owner.head) (is_same_ccy a.ccy b.ccy)
+          (and_from (not (eqb a.kind customer) && eqb a.kind b.kind) (bytes_eq a.owner.head b.owner.head)
+          (and_from (not (eqb a.kind customer)) (eqb a.kind b.kind) (not_from_false (eqb a.kind customer) (ne_eqb a.kind customer is.bank))
+          (eq-eqb a.kind b.kind is.kind)) (same_bytes a.owner.head b.owner.head is.head)) (same_bytes a.ccy.0 b.ccy.0 (ap (λ (c : Ccy). c.0) is.ccy)));
+      decimals = λ is. eqb-true _ _
+          (same_decimals (is_same_ccy a.ccy b.ccy) (eqb a.decimals b.decimals) last.1 (same_bytes a.ccy.0 b.ccy.0 (ap (λ (c : Ccy). c.0) is)));
     }
 
 pub rows_sound : (accounts : List Account) → rows_fit accounts ≡ true → AreRows accounts
@@ -126,7 +142,9 @@ rows_sound accounts e =
         | inl same ↦ same
         | inr other ↦ elim other [
           | inl lt ↦ absurd ((parted a b (apart_at accounts i j a b split.1 lt ati atj)).banks is)
-          | inr gt ↦ absurd ((parted b a (apart_at accounts j i b a split.1 gt atj ati)).banks (record { bank = λ z. is.bank (is.kind ∙ z); kind = sym is.kind; head = sym is.head; ccy = sym is.ccy }))
+          | inr gt ↦ absurd
+              ((parted b a (apart_at accounts j i b a split.1 gt atj ati)).banks
+              (record { bank = λ z. is.bank (is.kind ∙ z); kind = sym is.kind; head = sym is.head; ccy = sym is.ccy }))
         ]
       ];
       decimals = λ i j a b ati atj is. elim (cases_order i j) [
@@ -144,28 +162,41 @@ all_pass p [] each = refl
 all_pass p (x ∷ xs) each = and_from (p x) (list_all p xs) (each 0 x refl) (all_pass p xs (λ i y at. each (suc i) y at))
 
 -- where each is apart from every later one, all are
-all_apart_from : (xs : List Account) → ((i j : ℕ) (a b : Account) → i < j → slice_get xs i ≡ Some a → slice_get xs j ≡ Some b → apart a b ≡ true) → all_apart xs ≡ true
+all_apart_from : (xs : List Account) → ((i j : ℕ) (a b : Account) → i < j → slice_get xs i ≡ Some a → slice_get xs j ≡ Some b → apart a b ≡ true)
+    → all_apart xs ≡ true
 all_apart_from [] each = refl
 all_apart_from (x ∷ xs) each =
-    and_from (list_all (apart x) xs) (all_apart xs) (all_pass (apart x) xs (λ j b at. each 0 (suc j) x b (omega arith) refl at)) (all_apart_from xs (λ i j a b lt ati atj. each (suc i) (suc j) a b (omega arith) ati atj))
+    and_from (list_all (apart x) xs) (all_apart xs) (all_pass (apart x) xs (λ j b at. each 0 (suc j) x b (omega arith) refl at))
+    (all_apart_from xs (λ i j a b lt ati atj. each (suc i) (suc j) a b (omega arith) ati atj))
 
 formed_passes : (a : Account) → IsFormed a → is_formed a ≡ true
 formed_passes a f =
     let sizes = and_from (leb 1 (length a.id)) (leb (length a.id) 34) (le-leb _ _ f.id_given) (le-leb _ _ f.id_short) in
     let plain = and_from (leb 1 (length a.id) && leb (length a.id) 34) (list_all is_c_byte a.id) sizes f.id_plain in
     let kind = and_from (leb 1 (length a.id) && leb (length a.id) 34 && list_all is_c_byte a.id) (is_kind a.kind) plain f.kind in
-    let owner = and_from (leb 1 (length a.id) && leb (length a.id) 34 && list_all is_c_byte a.id && is_kind a.kind) (reads_itself a.owner) kind (bic_same (bic_of (a.owner.head ++ a.owner.branch)) a.owner f.owner) in
-    let ccy = and_from (leb 1 (length a.id) && leb (length a.id) 34 && list_all is_c_byte a.id && is_kind a.kind && reads_itself a.owner) (list_all is_ascii_uppercase a.ccy.0) owner f.ccy in
-    and_from (leb 1 (length a.id) && leb (length a.id) 34 && list_all is_c_byte a.id && is_kind a.kind && reads_itself a.owner && list_all is_ascii_uppercase a.ccy.0) (leb a.decimals 4) ccy (le-leb _ _ f.decimals)
+    let owner =
+    and_from (leb 1 (length a.id) && leb (length a.id) 34 && list_all is_c_byte a.id && is_kind a.kind) (reads_itself a.owner) kind
+    (bic_same (bic_of (a.owner.head ++ a.owner.branch)) a.owner f.owner) in
+    let ccy =
+    and_from (leb 1 (length a.id) && leb (length a.id) 34 && list_all is_c_byte a.id && is_kind a.kind && reads_itself a.owner)
+    (list_all is_ascii_uppercase a.ccy.0) owner f.ccy in
+    and_from
+    (leb 1 (length a.id) && leb (length a.id) 34 && list_all is_c_byte a.id && is_kind a.kind && reads_itself a.owner
+    && list_all is_ascii_uppercase a.ccy.0) (leb a.decimals 4) ccy (le-leb _ _ f.decimals)
 
 not_above : (x y : ℤ) → x ≤ℤ y → int_le x y ≡ true
 not_above x y e = grind (arith, ints)
 
 limits_pass : (a : Account) → IsLimited a → has_limits a ≡ true
 limits_pass a l =
-    let ends = and_from (int_le (negsuc 99999999999998) a.floor) (int_le a.ceil (pos 99999999999999)) (not_above (negsuc 99999999999998) a.floor l.floor_small.0) (not_above a.ceil (pos 99999999999999) l.ceil_small.1) in
-    let low = and_from (int_le (negsuc 99999999999998) a.floor && int_le a.ceil (pos 99999999999999)) (int_le a.floor a.opening) ends (not_above a.floor a.opening l.above_floor) in
-    and_from (int_le (negsuc 99999999999998) a.floor && int_le a.ceil (pos 99999999999999) && int_le a.floor a.opening) (int_le a.opening a.ceil) low (not_above a.opening a.ceil l.below_ceil)
+    let ends =
+    and_from (int_le (negsuc 99999999999998) a.floor) (int_le a.ceil (pos 99999999999999)) (not_above (negsuc 99999999999998) a.floor l.floor_small.0)
+    (not_above a.ceil (pos 99999999999999) l.ceil_small.1) in
+    let low =
+    and_from (int_le (negsuc 99999999999998) a.floor && int_le a.ceil (pos 99999999999999)) (int_le a.floor a.opening) ends
+    (not_above a.floor a.opening l.above_floor) in
+    and_from (int_le (negsuc 99999999999998) a.floor && int_le a.ceil (pos 99999999999999) && int_le a.floor a.opening) (int_le a.opening a.ceil) low
+    (not_above a.opening a.ceil l.below_ceil)
 
 not_of : (b : Bool) → (b ≡ true → ⊥) → not b ≡ true
 not_of true fails = absurd (fails refl)
@@ -178,7 +209,8 @@ either false d so = refl
 ccy_of : (c d : Ccy) → is_same_ccy c d ≡ true → c ≡ d
 ccy_of c d e = let digits : c.0 ≡ d.0 = (bytes_eq-Decides c.0 d.0).0 e in ap (λ (bs : List ℕ). record { 0 = bs }) digits
 
-same_bank : (a b : Account) → (not (eqb a.kind customer) && eqb a.kind b.kind && bytes_eq a.owner.head b.owner.head && is_same_ccy a.ccy b.ccy) ≡ true → IsSameBank a b
+same_bank : (a b : Account) → (not (eqb a.kind customer) && eqb a.kind b.kind && bytes_eq a.owner.head b.owner.head && is_same_ccy a.ccy b.ccy) ≡ true
+    → IsSameBank a b
 same_bank a b e =
     let ccy = and_parts (not (eqb a.kind customer) && eqb a.kind b.kind && bytes_eq a.owner.head b.owner.head) (is_same_ccy a.ccy b.ccy) e in
     let head = and_parts (not (eqb a.kind customer) && eqb a.kind b.kind) (bytes_eq a.owner.head b.owner.head) ccy.0 in
@@ -193,17 +225,23 @@ same_bank a b e =
 apart_from : (a b : Account) → Apart a b → apart a b ≡ true
 apart_from a b p =
     let bank : Bool = not (eqb a.kind customer) && eqb a.kind b.kind && bytes_eq a.owner.head b.owner.head && is_same_ccy a.ccy b.ccy in
-    let first = and_from (not (bytes_eq a.id b.id)) (not bank) (not_of (bytes_eq a.id b.id) (λ is. p.ids ((bytes_eq-Decides a.id b.id).0 is))) (not_of bank (λ is. p.banks (same_bank a b is))) in
-    and_from (not (bytes_eq a.id b.id) && not bank) (not (is_same_ccy a.ccy b.ccy) || eqb a.decimals b.decimals) first (either (is_same_ccy a.ccy b.ccy) (eqb a.decimals b.decimals) (λ is. eq-eqb a.decimals b.decimals (p.decimals (ccy_of a.ccy b.ccy is))))
+    let first =
+    and_from (not (bytes_eq a.id b.id)) (not bank) (not_of (bytes_eq a.id b.id) (λ is. p.ids ((bytes_eq-Decides a.id b.id).0 is)))
+    (not_of bank (λ is. p.banks (same_bank a b is))) in
+    and_from (not (bytes_eq a.id b.id) && not bank) (not (is_same_ccy a.ccy b.ccy) || eqb a.decimals b.decimals) first
+    (either (is_same_ccy a.ccy b.ccy) (eqb a.decimals b.decimals) (λ is. eq-eqb a.decimals b.decimals (p.decimals (ccy_of a.ccy b.ccy is))))
 
 later : (i j : ℕ) → i < j → i ≡ j → ⊥
 later i j lt is = omega arith
 
 pub rows_complete : (accounts : List Account) → AreRows accounts → rows_fit accounts ≡ true
 rows_complete accounts rows =
-    let each = all_pass is_row accounts (λ i a at. and_from (is_formed a) (has_limits a) (formed_passes a (rows.formed i a at)) (limits_pass a (rows.limited i a at))) in
+    let each =
+    all_pass is_row accounts
+    (λ i a at. and_from (is_formed a) (has_limits a) (formed_passes a (rows.formed i a at)) (limits_pass a (rows.limited i a at))) in
     let ends = and_from (leb (length accounts) 1000) (list_all is_row accounts) (le-leb _ _ rows.few) each in
-    and_from (leb (length accounts) 1000 && list_all is_row accounts) (all_apart accounts) ends (all_apart_from accounts (λ i j a b lt ati atj. apart_from a b (record {
+    and_from (leb (length accounts) 1000 && list_all is_row accounts) (all_apart accounts) ends
+    (all_apart_from accounts (λ i j a b lt ati atj. apart_from a b (record {
       ids = λ is. later i j lt (rows.ids i j a b ati atj is);
       banks = λ is. later i j lt (rows.banks i j a b ati atj is);
       decimals = λ is. rows.decimals i j a b ati atj is;

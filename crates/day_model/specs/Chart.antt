@@ -6,7 +6,7 @@ use Rattle.std.specs.Char.{is_ascii_uppercase}
 use Rattle.corr_text.specs.Sets.{is_c_byte}
 use Rattle.corr_ids.specs.Bic.{IsBic}
 use Rattle.corr_ids.specs.declared.bic.Bic.{Bic}
-use Rattle.corr_money.specs.Amounts.{amount_end}
+use Rattle.corr_money.specs.Amounts.{amount_end, most_decimals}
 use Rattle.corr_money.specs.declared.amount.Ccy.{Ccy}
 use Rattle.day_model.specs.declared.account.Account.{Account}
 use Rattle.day_model.specs.declared.account.AcctNo.{AcctNo}
@@ -77,7 +77,11 @@ pub record IsFormed (account : Account) : Type 0 where
   pub kind : IsTrue (is_kind account.kind)
   pub owner : IsBic account.owner
   pub ccy : IsTrue (list_all is_ascii_uppercase account.ccy.0)
-  pub decimals : account.decimals ≤ 4
+  pub decimals : account.decimals ≤ most_decimals
+
+-- an account's currency has three characters
+abbrev pub HasCode : Account → Type 0
+HasCode account = length account.ccy.0 ≡ 3
 
 -- below 10^14 in size
 abbrev pub IsSmall : ℤ → Type 0

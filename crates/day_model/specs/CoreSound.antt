@@ -23,13 +23,13 @@ pub record IsFirstState (chart : Chart) (entries : List Entry) (workers : ℕ) (
   pub idle : AllIdle s.workers
 
 -- a leg of the pay is on account n
-abbrev pub has_account : Pay → ℕ → Bool
-has_account pay n = list_any (λ leg. leg.account.0 == n) pay.legs
+abbrev pub has_leg_on : Pay → ℕ → Bool
+has_leg_on pay n = list_any (λ leg. leg.account.0 == n) pay.legs
 
 -- what a job holds are the least of its accounts
 pub record HoldsLeast (job : Job) : Type 0 where
-  pub own : (n : ℕ) → holds job n ≡ true → has_account job.pay n ≡ true
-  pub least : (m n : ℕ) → holds job m ≡ true → has_account job.pay n ≡ true → holds job n ≡ false → m < n
+  pub own : (n : ℕ) → holds job n ≡ true → has_leg_on job.pay n ≡ true
+  pub least : (m n : ℕ) → holds job m ≡ true → has_leg_on job.pay n ≡ true → holds job n ≡ false → m < n
 
 -- the job of a worker holds account n
 abbrev pub HasHeld : List (Option Job) → ℕ → ℕ → Type 0
@@ -49,17 +49,17 @@ pub record IsSound (s : CoreState) : Type 0 where
   pub apart : (v w n : ℕ) → HasHeld s.workers v n → HasHeld s.workers w n → v ≡ w
 
 -- an event by which a worker goes on with its job
-abbrev pub goes_on : ℕ → Event → Bool
-goes_on worker (Draw w pay) = false
-goes_on worker (Take w account) = w == worker
-goes_on worker (Commit w) = w == worker
-goes_on worker (GiveBack w) = w == worker
-goes_on worker Fault = false
+abbrev pub goes_on_with_job : ℕ → Event → Bool
+goes_on_with_job worker (Draw w pay) = false
+goes_on_with_job worker (Take w account) = w == worker
+goes_on_with_job worker (Commit w) = w == worker
+goes_on_with_job worker (GiveBack w) = w == worker
+goes_on_with_job worker Fault = false
 
 -- an event of this worker is allowed
 pub record MayGoOn (s : CoreState) (worker : ℕ) : Type 0 where
   pub event : Event
-  pub its_own : goes_on worker event ≡ true
+  pub its_own : goes_on_with_job worker event ≡ true
   pub allowed : is_allowed s event ≡ true
 
 -- nobody holds the account, or there is none to hold

@@ -6,7 +6,7 @@ use Rattle.std.specs.Char.{is_ascii_uppercase}
 use Rattle.corr_text.specs.Sets.{is_c_byte}
 use Rattle.corr_ids.specs.Bic.{bic_of}
 use Rattle.corr_ids.specs.declared.bic.Bic.{Bic}
-use Rattle.corr_money.specs.Amounts.{amount_end}
+use Rattle.corr_money.specs.Amounts.{amount_end, most_decimals}
 use Rattle.day_model.specs.declared.account.Account.{Account}
 use Rattle.day_model.specs.Chart.{is_same_ccy, is_kind, customer, most_accounts}
 
@@ -23,7 +23,7 @@ reads_itself b = is_same_bic (bic_of (b.head ++ b.branch)) b
 abbrev pub is_formed : Account → Bool
 is_formed a =
     nat_le 1 (length a.id) && nat_le (length a.id) 34 && list_all is_c_byte a.id && is_kind a.kind && reads_itself a.owner
-    && list_all is_ascii_uppercase a.ccy.0 && nat_le a.decimals 4
+    && list_all is_ascii_uppercase a.ccy.0 && nat_le a.decimals most_decimals
 
 -- floor, opening and ceiling are in order and small
 abbrev pub has_limits : Account → Bool

@@ -97,11 +97,11 @@ pub fn decide(a: &Accounts, h: &History, p: &Pay) -> Outcome
     ensures next { StaysLegal a.now h.now.entries p.now }
 {
     for (at, leg) in p.legs.as_slice().iter().enumerate() {
-        let balance = balance(a, h, leg.account);
-        if !may_hold(a.get(leg.account), after_leg(balance, leg)) {
+        let before = balance(a, h, leg.account);
+        if !may_hold(a.get(leg.account), after_leg(before, leg)) {
             return Outcome::Unfunded {
                 leg: at as u8 + 1,
-                balance,
+                balance: before,
             };
         }
     }

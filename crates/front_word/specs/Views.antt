@@ -53,8 +53,8 @@ abbrev pub new_pass : View → View
 new_pass v = record v { role = Pass; number = v.made + 1; seen = 0; made = 0; owed = None; back = []; kept = nothing_kept }
 
 -- a pass has read a note of the writer
-abbrev pub told : View → View → View
-told p c = record p {
+abbrev pub having_read : View → View → View
+having_read p c = record p {
   known = longer p.known c.known;
   mark = max p.mark c.mark;
   kept = record { own = p.known; other = c.known; own_mark = p.mark; other_mark = c.mark; other_seen = 0; number = p.number; of_pass = Own; owed = c.owed };

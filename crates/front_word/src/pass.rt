@@ -3,7 +3,7 @@
 ghost use Rattle.std.specs.Prelude.{◌≡◌, ◌+◌, ◌<◌, ◌≤◌, ◌⊎◌, length, Some, None, OnOk};
 ghost use mathlib.Core.List.{IsPrefix};
 ghost use Rattle.front_word.specs.declared.view.Role.TheVariants.{Writer as WriterRole, Pass as PassRole};
-ghost use Rattle.front_word.specs.Views.{told, heard, having_seen, writer_note, pass_note};
+ghost use Rattle.front_word.specs.Views.{having_read, heard, having_seen, writer_note, pass_note};
 ghost use Rattle.front_word.specs.Rule.{IsKept, OwedPast};
 ghost use Rattle.front_word.specs.Known.{HasRoom, having_met, places_in};
 
@@ -100,11 +100,11 @@ fn exchange_notes(f: &Front, pass: &mut Seat<(), View>, writer: &mut Seat<(), Vi
     requires writer { f.now ≡ writer.old.table_id }
     requires pass_role { pass.old.me.0.role ≡ PassRole }
     requires writer_role { writer.old.me.0.role ≡ WriterRole }
-    ensures pass { (pass.new.table_id ≡ pass.old.table_id) × (pass.new.me.1 ≡ pass.old.me.1) × (pass.new.me.0 ≡ having_seen result (told pass.old.me.0 (writer_note writer.old.me.0))) }
-    ensures writer { (writer.new.table_id ≡ writer.old.table_id) × (writer.new.me.1 ≡ writer.old.me.1) × (writer.new.me.0 ≡ heard writer.old.me.0 (pass_note (told pass.old.me.0 (writer_note writer.old.me.0)))) }
-    ensures later { length (told pass.old.me.0 (writer_note writer.old.me.0)).known ≤ result }
-    ensures pass_kept { IsKept (told pass.old.me.0 (writer_note writer.old.me.0)) }
-    ensures writer_kept { IsKept (heard writer.old.me.0 (pass_note (told pass.old.me.0 (writer_note writer.old.me.0)))) }
+    ensures pass { (pass.new.table_id ≡ pass.old.table_id) × (pass.new.me.1 ≡ pass.old.me.1) × (pass.new.me.0 ≡ having_seen result (having_read pass.old.me.0 (writer_note writer.old.me.0))) }
+    ensures writer { (writer.new.table_id ≡ writer.old.table_id) × (writer.new.me.1 ≡ writer.old.me.1) × (writer.new.me.0 ≡ heard writer.old.me.0 (pass_note (having_read pass.old.me.0 (writer_note writer.old.me.0)))) }
+    ensures later { length (having_read pass.old.me.0 (writer_note writer.old.me.0)).known ≤ result }
+    ensures pass_kept { IsKept (having_read pass.old.me.0 (writer_note writer.old.me.0)) }
+    ensures writer_kept { IsKept (heard writer.old.me.0 (pass_note (having_read pass.old.me.0 (writer_note writer.old.me.0)))) }
 {
     let shared = &f.table.shared;
     let note = shared.split_seat::<ToPass>(writer);

@@ -108,9 +108,9 @@ impl Split<View> for ToPass {
 }
 
 impl Join<View> for ToPass {
-    ghost use Rattle.front_word.specs.Views.{told, spent_view};
+    ghost use Rattle.front_word.specs.Views.{having_read, spent_view};
 
-    ghost both = { told };
+    ghost both = { having_read };
 
     ghost spent = { spent_view };
 }

@@ -10,7 +10,7 @@ use Rattle.day_model.specs.Next.{entered_at, entry_of, next_history}
 use Rattle.acct_locks.specs.Holdings.{Holding, held_with}
 use Rattle.jrn_file.specs.File.{IsSettled, disk_of, end_of}
 use Rattle.jrn_codec.specs.Header.{head_bytes}
-use Rattle.jrn_book.specs.Answers.{Answer, IsAnswered, Shows, calls_disk, failed_after, history_after, legs_entered}
+use Rattle.jrn_book.specs.Answers.{Answer, IsAnswered, AnswerShows, calls_disk, failed_after, history_after, legs_entered}
 use Rattle.jrn_book.specs.Appending.{Repeats}
 use Rattle.jrn_book.specs.Book.{Book, Counts, HasRisen, IsBook, StandsOnDisk}
 use Rattle.jrn_book.specs.Commits.{Commits}
@@ -52,7 +52,7 @@ module _ {D : Type 0} (honest : D → Bool) (reads : D → List ℕ) (may_leave 
   -- an answer that leaves the book as it was, but for its room
   module _ (old : Book D) (is : IsBook honest reads may_leave faults old) (held : List Holding) (pay : Pay) (day : Day) where
     rests_with : (answer : Answer) (room : Option Pay)
-        → Shows old.accounts old.history pay day (end_of old.file) old.failed old.at_open (faults (disk_of old.file)) (faults (disk_of old.file)) answer
+        → AnswerShows old.accounts old.history pay day (end_of old.file) old.failed old.at_open (faults (disk_of old.file)) (faults (disk_of old.file)) answer
         → old.history ≡ history_after old.accounts old.history pay day answer
         → legs_entered old.accounts old.history pay day answer ≡ []
         → old.failed ≡ failed_after old.failed day answer

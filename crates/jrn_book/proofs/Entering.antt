@@ -21,7 +21,7 @@ use Rattle.day_model.specs.Laws.{IsLatest}
 use Rattle.day_model.specs.Legal.{IsLegal}
 use Rattle.day_model.specs.Next.{entered_at, entry_of, has_mir, next_history}
 use Rattle.day_model.specs.Totals.{Pair, Fits64, booked_legs, legs_pair, plus, totals_of}
-use Rattle.day_model.proofs.laws.Growth.{one_more}
+use Rattle.day_model.proofs.laws.Growth.{one_pay_more}
 use Rattle.day_model.proofs.laws.Pairs.{entry_adds_its_legs, legal_totals_fit, plus_nothing}
 use Rattle.acct_locks.specs.Holdings.{CanSettle, Holding, HoldsOnce, held_totals, held_with}
 use Rattle.jrn_file.specs.Journal.{IsFrame, StandsFor, frame_of}
@@ -38,7 +38,7 @@ next_new chart history pay day new = ap (λ (o : Option ℕ). cond (is_some o) h
 
 -- which is legal
 pub next_legal : (chart : Chart) (history : List Entry) (pay : Pay) (day : Day) → IsLegal chart history → FitsAccounts chart pay → IsLatest history day → length history < 100000 → entered_at pay.mir history ≡ None → IsLegal chart (history ++ entry_of chart history pay day ∷ [])
-next_legal chart history pay day legal fits latest few new = one_more chart history pay day legal fits latest few (ap is_some new)
+next_legal chart history pay day legal fits latest few new = one_pay_more chart history pay day legal fits latest few (ap is_some new)
 
 -- the records and the references of a history with an entry more
 pub records_more : (history : List Entry) (e : Entry) → entry_records (history ++ e ∷ []) ≡ entry_records history ++ entry_bytes e ∷ []

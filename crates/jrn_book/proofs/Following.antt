@@ -12,8 +12,8 @@ use Rattle.day_model.specs.Balance.{outcome_of}
 use Rattle.day_model.specs.Chart.{Chart}
 use Rattle.day_model.specs.Legal.{IsLegal}
 use Rattle.day_model.specs.Next.{entry_of, has_mir}
-use Rattle.day_model.proofs.laws.Growth.{one_more}
-use Rattle.jrn_book.specs.Following.{Follows}
+use Rattle.day_model.proofs.laws.Growth.{one_pay_more}
+use Rattle.jrn_book.specs.Following.{MayStandNext}
 
 -- an element stays where others are added, and the added one stands at the end
 get_stays : {A : Type 0} (xs ys : List A) (k : ℕ) (x : A) → slice_get xs k ≡ Some x → slice_get (xs ++ ys) k ≡ Some x
@@ -47,11 +47,11 @@ one_mir : (a b : Mir) → a.0 ≡ b.0 → a ≡ b
 one_mir a b same = λ i. record { 0 = same i }
 
 -- an entry may stand next
-pub next_is_legal : (chart : Chart) (history : List Entry) (e : Entry) → IsLegal chart history → Follows chart history e → IsLegal chart (history ++ e ∷ [])
+pub next_is_legal : (chart : Chart) (history : List Entry) (e : Entry) → IsLegal chart history → MayStandNext chart history e → IsLegal chart (history ++ e ∷ [])
 next_is_legal chart history e legal follows =
     let is : entry_of chart history e.pay e.day ≡ e = λ i. record { pay = e.pay; day = e.day; outcome = (sym follows.decided) i } in
     subst (λ (x : Entry). IsLegal chart (history ++ x ∷ [])) is
-    (one_more chart history e.pay e.day legal follows.fits follows.latest follows.few (ap is_some follows.new))
+    (one_pay_more chart history e.pay e.day legal follows.fits follows.latest follows.few (ap is_some follows.new))
 
 -- and only then
 module _ (chart : Chart) (history : List Entry) (e : Entry) (legal : IsLegal chart (history ++ e ∷ [])) where
@@ -65,7 +65,7 @@ module _ (chart : Chart) (history : List Entry) (e : Entry) (legal : IsLegal cha
       absurd (omega (arith, within, legal.single k (length history) x e (get_stays history (e ∷ []) k x at) there same))
   is_other k x at false is = refl
 
-  pub legal_follows : Follows chart history e
+  pub legal_follows : MayStandNext chart history e
   legal_follows = record {
     few = omega (arith, legal.short, length-append history (e ∷ []));
     fits = legal.fits (length history) e there;

@@ -35,7 +35,7 @@ abbrev pub need_of : Chart → List Entry → Pay → Day → ℕ
 need_of chart history pay day = length (entry_bytes (entry_of chart history pay day)) + 6
 
 -- there is room for the entry in the history, and behind this place in the file
-pub record HasRoom (history : List Entry) (end need : ℕ) : Type 0 where
+pub record HasRoomFor (history : List Entry) (end need : ℕ) : Type 0 where
   pub entries : length history < most_entries
   pub bytes : end + need ≤ most_disk_bytes
 
@@ -44,22 +44,22 @@ abbrev pub IsFull : List Entry → ℕ → ℕ → Type 0
 IsFull history end need = (length history ≡ most_entries) ⊎ (most_disk_bytes < end + need)
 
 -- What an answer to a pay on a day tells of the history before it, the place `end` of the closed gate, and the disk's count of faults at the opening, before the call and after it. Each case says that those before it in the order don't hold: a commit failed before, memory is wanting, the reference is entered, there is no room, the disk failed.
-abbrev pub Shows : Chart → List Entry → Pay → Day → ℕ → Option Day → ℕ → ℕ → ℕ → Answer → Type 0
-Shows chart history pay day end failed at_open old new (Err (Broken from now)) =
+abbrev pub AnswerShows : Chart → List Entry → Pay → Day → ℕ → Option Day → ℕ → ℕ → ℕ → Answer → Type 0
+AnswerShows chart history pay day end failed at_open old new (Err (Broken from now)) =
     IsSome failed × (from ≡ at_open) × (now ≡ new) × HasRisen from now × (new ≡ old)
-Shows chart history pay day end failed at_open old new (Err Memory) = (failed ≡ None) × (new ≡ old)
-Shows chart history pay day end failed at_open old new (Ok (Kept place outcome)) =
+AnswerShows chart history pay day end failed at_open old new (Err Memory) = (failed ≡ None) × (new ≡ old)
+AnswerShows chart history pay day end failed at_open old new (Ok (Kept place outcome)) =
     (failed ≡ None) × (stands : StandsAt history pay place true) × (stands.entry.outcome ≡ outcome) × (new ≡ old)
-Shows chart history pay day end failed at_open old new (Err (Conflict place)) =
+AnswerShows chart history pay day end failed at_open old new (Err (Conflict place)) =
     (failed ≡ None) × StandsAt history pay place false × (new ≡ old)
-Shows chart history pay day end failed at_open old new (Err (Full entries at need)) =
+AnswerShows chart history pay day end failed at_open old new (Err (Full entries at need)) =
     (failed ≡ None) × (entered_at pay.mir history ≡ None) × (entries ≡ length history) × (at ≡ end)
     × (need ≡ need_of chart history pay day) × IsFull history at need × (new ≡ old)
-Shows chart history pay day end failed at_open old new (Err (DiskFault before after)) =
-    (failed ≡ None) × (entered_at pay.mir history ≡ None) × HasRoom history end (need_of chart history pay day)
+AnswerShows chart history pay day end failed at_open old new (Err (DiskFault before after)) =
+    (failed ≡ None) × (entered_at pay.mir history ≡ None) × HasRoomFor history end (need_of chart history pay day)
     × (before ≡ old) × (after ≡ new) × Rose before after
-Shows chart history pay day end failed at_open old new (Ok (New place outcome)) =
-    (failed ≡ None) × (entered_at pay.mir history ≡ None) × HasRoom history end (need_of chart history pay day)
+AnswerShows chart history pay day end failed at_open old new (Ok (New place outcome)) =
+    (failed ≡ None) × (entered_at pay.mir history ≡ None) × HasRoomFor history end (need_of chart history pay day)
     × (place ≡ length history + 1) × (outcome ≡ outcome_of chart history pay) × (new ≡ old)
 
 -- the history after an answer

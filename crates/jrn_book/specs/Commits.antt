@@ -8,14 +8,14 @@ use Rattle.day_model.specs.Legal.{IsLegal}
 use Rattle.acct_locks.specs.Holdings.{Holding, held_with}
 use Rattle.jrn_file.specs.File.{IsSettled, disk_of, end_of}
 use Rattle.jrn_codec.specs.Header.{head_bytes}
-use Rattle.jrn_book.specs.Answers.{Answer, IsAnswered, Shows, calls_disk, failed_after, history_after, legs_entered}
+use Rattle.jrn_book.specs.Answers.{Answer, IsAnswered, AnswerShows, calls_disk, failed_after, history_after, legs_entered}
 use Rattle.jrn_book.specs.Book.{Book}
 use Rattle.jrn_book.specs.Journal.{IsBeforeOrNext, file_of, entry_records}
 
 -- The answer to a pay on a day, the book before and after, and what is held before and after: each part is a clause of `commit`.
 pub record Commits {D : Type 0} (honest : D → Bool) (reads : D → List ℕ) (may_leave : D → List ℕ → Type 0) (moment : D → ℕ) (left_since : D → ℕ → List ℕ → Type 0)
     (faults : D → ℕ) (plan : D → ℕ → Option Bool) (old new : Book D) (held after : List Holding) (pay : Pay) (day : Day) (answer : Answer) : Type 0 where
-  pub shows : Shows old.accounts old.history pay day (end_of old.file) old.failed old.at_open (faults (disk_of old.file)) (faults (disk_of new.file)) answer
+  pub shows : AnswerShows old.accounts old.history pay day (end_of old.file) old.failed old.at_open (faults (disk_of old.file)) (faults (disk_of new.file)) answer
   pub entries : new.history ≡ history_after old.accounts old.history pay day answer
   pub purses : after ≡ held_with (legs_entered old.accounts old.history pay day answer) held
   pub same : new ≡ record old { history = new.history; file = new.file; failed = new.failed; room = new.room }

@@ -9,7 +9,7 @@ use Rattle.day_model.specs.Log.{most_entries}
 use Rattle.day_model.specs.Next.{entered_at}
 
 -- what an entry meets that may stand next
-pub record Follows (chart : Chart) (history : List Entry) (e : Entry) : Type 0 where
+pub record MayStandNext (chart : Chart) (history : List Entry) (e : Entry) : Type 0 where
   pub few : length history < most_entries
   pub fits : FitsAccounts chart e.pay
   pub new : entered_at e.pay.mir history ≡ None

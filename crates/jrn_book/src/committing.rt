@@ -20,7 +20,7 @@ ghost use Rattle.jrn_file.specs.File.{IsOpen, IsSettled, disk_of, end_of};
 ghost use Rattle.jrn_file.specs.Journal.{IsBeforeOrAfter, IsFrame, frame_of, record_in};
 ghost use Rattle.jrn_codec.specs.Header.{head_bytes};
 ghost use Rattle.jrn_codec.specs.Record.{IsEntry, entry_bytes, most_record_bytes};
-ghost use Rattle.jrn_book.specs.Answers.{IsAnswered, Shows, calls_disk, failed_after, history_after, legs_entered};
+ghost use Rattle.jrn_book.specs.Answers.{IsAnswered, AnswerShows, calls_disk, failed_after, history_after, legs_entered};
 ghost use Rattle.jrn_book.specs.Book.{Counts};
 ghost use Rattle.jrn_book.specs.Commits.{Commits};
 ghost use Rattle.jrn_book.specs.Appending.{Repeats, ShowsAppend};
@@ -154,7 +154,7 @@ impl<D: Disk> JrnBook<D> {
         requires latest { IsLatest self.old.history day }
 
         // The answer, and what it tells.
-        ensures shows { Shows self.old.accounts self.old.history p.now day (end_of self.old.file) self.old.failed self.old.at_open (D.faults (disk_of self.old.file)) (D.faults (disk_of self.new.file)) result }
+        ensures shows { AnswerShows self.old.accounts self.old.history p.now day (end_of self.old.file) self.old.failed self.old.at_open (D.faults (disk_of self.old.file)) (D.faults (disk_of self.new.file)) result }
 
         // The history grows by a new entry, its legs are added to the held purses, and nothing else changes.
         ensures history { self.new.history ≡ history_after self.old.accounts self.old.history p.now day result }
@@ -244,7 +244,7 @@ impl<D: Disk> JrnBook<D> {
         requires table { self.old.table ≡ H.table held.old }
         requires century { InCentury day }
         requires latest { IsLatest self.old.history day }
-        ensures shows { Shows self.old.accounts self.old.history p.now day (end_of self.old.file) self.old.failed self.old.at_open (D.faults (disk_of self.old.file)) (D.faults (disk_of self.new.file)) result }
+        ensures shows { AnswerShows self.old.accounts self.old.history p.now day (end_of self.old.file) self.old.failed self.old.at_open (D.faults (disk_of self.old.file)) (D.faults (disk_of self.new.file)) result }
         ensures history { self.new.history ≡ history_after self.old.accounts self.old.history p.now day result }
         ensures held { H.held held.new ≡ held_with (legs_entered self.old.accounts self.old.history p.now day result) (H.held held.old) }
         ensures purses { (H.table held.new ≡ H.table held.old) × (H.count held.new ≡ H.count held.old) }

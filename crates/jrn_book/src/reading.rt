@@ -13,7 +13,7 @@ ghost use Rattle.jrn_codec.specs.Header.{IsHead, head_bytes};
 ghost use Rattle.jrn_codec.specs.Record.{IsEntry};
 ghost use Rattle.jrn_file.specs.Reading.{size_of};
 ghost use Rattle.jrn_book.specs.Journal.{IsJournal, all_records, entry_records};
-ghost use Rattle.jrn_book.specs.Following.{Follows};
+ghost use Rattle.jrn_book.specs.Following.{MayStandNext};
 ghost use Rattle.jrn_book.specs.Reading.{ReadsRecord, RefusesHead, RefusesRecords};
 
 use crate::committing::{MOST_ENTRIES, note};
@@ -116,7 +116,7 @@ impl Past {
         ensures few { OnTrue result (length self.now.history < most_entries) }
         ensures fits { OnTrue result (FitsAccounts self.now.accounts e.now.pay) }
         ensures new { OnTrue result (entered_at e.now.pay.mir self.now.history ≡ None) }
-        ensures all { Follows self.now.accounts self.now.history e.now → IsTrue result }
+        ensures all { MayStandNext self.now.accounts self.now.history e.now → IsTrue result }
     {
         self.history.len() < MOST_ENTRIES
             && self.accounts.fits(&e.pay)

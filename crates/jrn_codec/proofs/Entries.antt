@@ -25,11 +25,11 @@ use Rattle.jrn_codec.specs.declared.entry.Stamp.{Stamp}
 use Rattle.jrn_codec.specs.declared.entry.Fate.{Fate}
 use Rattle.jrn_codec.specs.declared.fault.EntryFault.{EntryFault}
 use Rattle.jrn_codec.specs.declared.fault.EntryFault.TheVariants as faults
-use Rattle.jrn_codec.specs.Answers.{Gives, IsGiven}
+use Rattle.jrn_codec.specs.Answers.{AnswersRead, IsGiven}
 use Rattle.jrn_codec.specs.Spelling.{optional_bytes, listed_bytes, long_bytes}
 use Rattle.jrn_codec.specs.Record.{IsEntry, IsOutcome, mt_mark, day_bytes, outcome_bytes, stamp_bytes, fate_bytes, leg_bytes, order_bytes, entry_bytes}
 use Rattle.jrn_codec.specs.Reading.{mark_at, optional_at, listed_at, long_at}
-use Rattle.jrn_codec.specs.RecordReading.{mt_of, uetr_at, day_at, outcome_at, leg_at, order_at, stamp_at, fate_at, is_whole_pay, entry_with, entry_of}
+use Rattle.jrn_codec.specs.RecordReading.{mt_of, uetr_at, day_at, outcome_at, leg_at, order_at, stamp_at, fate_at, is_whole_pay, entry_with, entry_read}
 use Rattle.jrn_codec.proofs.Fields.{IsBytes, IsField, step, resume, tested, joined5}
 use Rattle.jrn_codec.proofs.Parts.{mark_field, optional_field, listed_field, long_field}
 use Rattle.jrn_codec.proofs.Marks.{mt_marks}
@@ -157,8 +157,8 @@ whole_parts legs text rest e =
     let c = both (are_legs legs) (nat_le (length text) 32768) a.0 in
     record { legs_are = c.0; short = le_true (length text) 32768 c.1; ended = nil_from_length rest (eqb-true (length rest) 0 a.1) }
 
-entry_takes : (bytes : List ℕ) (e : Entry) → IsBytes bytes → entry_of bytes ≡ Some e → IsEntry e × (bytes ≡ entry_bytes e)
-unfolding entry_of
+entry_takes : (bytes : List ℕ) (e : Entry) → IsBytes bytes → entry_read bytes ≡ Some e → IsEntry e × (bytes ≡ entry_bytes e)
+unfolding entry_read
 entry_takes bytes e b read =
     let stamp = step stamp_field entry_stamp bytes e b read in
     let fate = step fate_field (entry_fate stamp.value) stamp.rest e stamp.bytes_on stamp.on in
@@ -205,8 +205,8 @@ legs_few (debit ∷ []) e = absurd cc
 legs_few (debit ∷ credit ∷ []) e = omega arith
 legs_few (debit ∷ credit ∷ third ∷ legs) e = absurd cc
 
-entry_again : (e : Entry) → IsEntry e → entry_of (entry_bytes e) ≡ Some e
-unfolding entry_of
+entry_again : (e : Entry) → IsEntry e → entry_read (entry_bytes e) ≡ Some e
+unfolding entry_read
 entry_again e h =
     let stamp : Stamp = record { mir = e.pay.mir; mt = e.pay.mt; uetr = e.pay.uetr } in
     let fate : Fate = record { day = e.day; value = e.pay.value; outcome = e.outcome } in
@@ -218,7 +218,7 @@ entry_again e h =
     ap (λ (s : List ℕ). (stamped stamp ++ fated fate) ++ (lists ++ s)) (sym (append-nil (long_bytes e.pay.text))) ∙ sym (joined5 (stamped stamp) (fated fate) (listed_bytes leg_bytes e.pay.legs) (listed_bytes order_bytes e.pay.orders) text) in
     let few : length e.pay.text < 2 ^ 32 = omega (arith, h.pay.text) in
     let whole : is_whole_pay e.pay.legs e.pay.text [] ≡ true = rw (h.pay.legs, true_le (length e.pay.text) 32768 h.pay.text) refl in
-    ap entry_of regrouped
+    ap entry_read regrouped
     ∙ resume stamp_field entry_stamp stamp (fated fate ++ legs) (Some e) (h.pay.mir, h.pay.uetr)
     (resume fate_field (entry_fate stamp) fate legs (Some e) (h.day, h.pay.value, h.outcome)
     (resume (listed_field leg_field) (entry_legs stamp fate) e.pay.legs orders (Some e) (legs_few e.pay.legs h.pay.legs, legs_fit e.pay.legs h.pay.legs h.pay.each_leg)
@@ -228,14 +228,14 @@ entry_again e h =
 
 -- ---- what the reader answers
 
-pub is_found : (bytes : List ℕ) (r : Result Entry EntryFault) → IsBytes bytes → Gives (λ e. e) r (entry_of bytes) → IfOk r (λ e. IsEntry e × (bytes ≡ entry_bytes e))
+pub is_found : (bytes : List ℕ) (r : Result Entry EntryFault) → IsBytes bytes → AnswersRead (λ e. e) r (entry_read bytes) → IfOk r (λ e. IsEntry e × (bytes ≡ entry_bytes e))
 is_found bytes (Ok e) b given = entry_takes bytes e b given
 is_found bytes (Err e) b given = tt
 
-is_read : (e : Entry) (r : Result Entry EntryFault) → Gives (λ x. x) r (Some e) → IsGiven e r
+is_read : (e : Entry) (r : Result Entry EntryFault) → AnswersRead (λ x. x) r (Some e) → IsGiven e r
 is_read e (Ok x) given = sym (same_Some e x given)
 is_read e (Err faults.NoEntry) given = absurd cc
 is_read e (Err faults.Memory) given = tt
 
-pub is_only : (bytes : List ℕ) (r : Result Entry EntryFault) → Gives (λ e. e) r (entry_of bytes) → (e : Entry) → IsEntry e → bytes ≡ entry_bytes e → IsGiven e r
-is_only bytes r given e h is = is_read e r (subst (λ (o : Option Entry). Gives (λ x. x) r o) (ap entry_of is ∙ entry_again e h) given)
+pub is_only : (bytes : List ℕ) (r : Result Entry EntryFault) → AnswersRead (λ e. e) r (entry_read bytes) → (e : Entry) → IsEntry e → bytes ≡ entry_bytes e → IsGiven e r
+is_only bytes r given e h is = is_read e r (subst (λ (o : Option Entry). AnswersRead (λ x. x) r o) (ap entry_read is ∙ entry_again e h) given)

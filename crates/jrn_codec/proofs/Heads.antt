@@ -13,15 +13,15 @@ use Rattle.std.proofs.lemmas.List.Elements.{All-from_recursion, recursion_from_A
 use Rattle.corr_ids.specs.Bic.{IsBic}
 use Rattle.corr_ids.specs.declared.bic.Bic.{Bic}
 use Rattle.day_model.specs.declared.account.Account.{Account}
-use Rattle.day_model.specs.Chart.{Chart, IsChart, IsFormed, IsLimited, IsSmall}
+use Rattle.day_model.specs.Chart.{Chart, IsChart, IsFormed, IsLimited, IsSmall, HasCode}
 use Rattle.jrn_codec.specs.declared.header.Limits.{Limits}
 use Rattle.jrn_codec.specs.declared.fault.EntryFault.{EntryFault}
 use Rattle.jrn_codec.specs.declared.fault.EntryFault.TheVariants as faults
-use Rattle.jrn_codec.specs.Answers.{Fails, IsGiven}
+use Rattle.jrn_codec.specs.Answers.{FailsToRead, IsGiven}
 use Rattle.jrn_codec.specs.Spelling.{signed_bytes, bic_bytes, short_bytes}
-use Rattle.jrn_codec.specs.Header.{version, title_bytes, account_bytes, head_bytes, HasCode, IsHead}
+use Rattle.jrn_codec.specs.Header.{version, title_bytes, account_bytes, head_bytes, IsHead}
 use Rattle.jrn_codec.specs.Reading.{cut, byte_at, number_at, signed_at, bic_at, items_at}
-use Rattle.jrn_codec.specs.HeaderReading.{limits_at, account_at, chart_of, head_of}
+use Rattle.jrn_codec.specs.HeaderReading.{limits_at, account_read, chart_read, header_read}
 use Rattle.jrn_codec.proofs.Fields.{IsBytes, IsField, step, resume, tested, cut_field, byte_field, field16, signed64_field}
 use Rattle.jrn_codec.proofs.Parts.{short_field, items_take, items_again}
 use Rattle.jrn_codec.proofs.Identifiers.{bic_field}
@@ -116,8 +116,8 @@ account_kind id kind = option_and_then (account_owner id kind.0) (bic_at kind.1)
 abbrev account_id : List ℕ × List ℕ → Option (Account × List ℕ)
 account_id id = option_and_then (account_kind id.0) (byte_at id.1)
 
-account_takes : (bytes : List ℕ) (a : Account) (rest : List ℕ) → IsBytes bytes → account_at bytes ≡ Some (a, rest) → (bytes ≡ account_bytes a ++ rest) × FitsRow a
-unfolding account_at account_bytes
+account_takes : (bytes : List ℕ) (a : Account) (rest : List ℕ) → IsBytes bytes → account_read bytes ≡ Some (a, rest) → (bytes ≡ account_bytes a ++ rest) × FitsRow a
+unfolding account_read account_bytes
 account_takes bytes a rest b e =
     let id = step short_field account_id bytes (a, rest) b e in
     let kind = step byte_field (account_kind id.value) id.rest (a, rest) id.bytes_on id.on in
@@ -134,21 +134,21 @@ account_takes bytes a rest b e =
     subst (λ (x : Account × List ℕ). (bytes ≡ account_bytes x.0 ++ x.1) × FitsRow x.0) (same_Some (made, limits.rest) (a, rest) limits.on)
     (whole, record { owner = owner.fits; code = ccy.fits; limits = limits.fits })
 
-account_again : (a : Account) (rest : List ℕ) → FitsRow a → account_at (account_bytes a ++ rest) ≡ Some (a, rest)
-unfolding account_at account_bytes
+account_again : (a : Account) (rest : List ℕ) → FitsRow a → account_read (account_bytes a ++ rest) ≡ Some (a, rest)
+unfolding account_read account_bytes
 account_again a rest fits =
     let limits : List ℕ = limits_bytes (limits_of a) ++ rest in
     let ccy : List ℕ = a.ccy.0 ++ (a.decimals ∷ limits) in
     let owner : List ℕ = bic_bytes a.owner ++ ccy in
     let regrouped : account_bytes a ++ rest ≡ short_bytes a.id ++ (a.kind ∷ owner) =
     sym (row_parts (short_bytes a.id) a.kind (bic_bytes a.owner) a.ccy.0 a.decimals (signed_bytes w64 a.floor) (signed_bytes w64 a.ceil) (signed_bytes w64 a.opening) rest) in
-    ap account_at regrouped
+    ap account_read regrouped
     ∙ resume short_field account_id a.id (a.kind ∷ owner) (Some (a, rest)) tt
     (resume bic_field (account_owner a.id a.kind) a.owner ccy (Some (a, rest)) fits.owner
     (resume (cut_field 3) (account_ccy a.id a.kind a.owner) a.ccy.0 (a.decimals ∷ limits) (Some (a, rest)) fits.code
     (resume limits_field (account_limits a.id a.kind a.owner a.ccy.0 a.decimals) (limits_of a) rest (Some (a, rest)) fits.limits refl)))
 
-account_field : IsField account_bytes account_at FitsRow
+account_field : IsField account_bytes account_read FitsRow
 account_field = record { takes = account_takes; again = account_again }
 
 -- ---- the whole header
@@ -166,7 +166,7 @@ abbrev chart_accounts : Bic → List Account × List ℕ → Option Chart
 chart_accounts home accounts = cond (length accounts.1 == 0) (Some (record { home = home; accounts = accounts.0 })) None
 
 abbrev chart_count : Bic → ℕ × List ℕ → Option Chart
-chart_count home count = option_and_then (chart_accounts home) (items_at account_at count.0 count.1)
+chart_count home count = option_and_then (chart_accounts home) (items_at account_read count.0 count.1)
 
 abbrev chart_home : Bic × List ℕ → Option Chart
 chart_home home = option_and_then (chart_count home.0) (number_at w16 home.1)
@@ -179,12 +179,12 @@ pub record IsRows (chart : Chart) : Type 0 where
   pub home : IsBic chart.home
   pub codes : All HasCode chart.accounts
 
-chart_takes : (bytes : List ℕ) (chart : Chart) → IsBytes bytes → chart_of bytes ≡ Some chart → (bytes ≡ chart_bytes chart) × IsRows chart
-unfolding chart_of
+chart_takes : (bytes : List ℕ) (chart : Chart) → IsBytes bytes → chart_read bytes ≡ Some chart → (bytes ≡ chart_bytes chart) × IsRows chart
+unfolding chart_read
 chart_takes bytes chart b e =
     let home = step bic_field chart_home bytes chart b e in
     let count = step field16 (chart_count home.value) home.rest chart home.bytes_on home.on in
-    option_and_then_some (chart_accounts home.value) (items_at account_at count.value count.rest) chart count.on (λ accounts is on.
+    option_and_then_some (chart_accounts home.value) (items_at account_read count.value count.rest) chart count.on (λ accounts is on.
     let more = items_take account_field count.value count.rest accounts.0 accounts.1 count.bytes_on is in
     let made : Chart = record { home = home.value; accounts = accounts.0 } in
     let t = tested (length accounts.1 == 0) made chart on in
@@ -199,11 +199,11 @@ chart_takes bytes chart b e =
 titled : (a b c d : List ℕ) → a ++ (b ++ c ++ d) ≡ (a ++ b ++ c) ++ d
 titled a b c d = simp append_assoc
 
-head_takes : (bytes : List ℕ) (chart : Chart) → IsBytes bytes → head_of bytes ≡ Some chart → (bytes ≡ head_bytes chart) × IsRows chart
-unfolding head_of title_bytes
+head_takes : (bytes : List ℕ) (chart : Chart) → IsBytes bytes → header_read bytes ≡ Some chart → (bytes ≡ head_bytes chart) × IsRows chart
+unfolding header_read title_bytes
 head_takes bytes chart b e =
-    let mark = step (cut_field 6) (λ mark. cond (bytes_eq mark.0 version) (chart_of mark.1) None) bytes chart b e in
-    let c = chosen (bytes_eq mark.value version) (chart_of mark.rest) chart mark.on in
+    let mark = step (cut_field 6) (λ mark. cond (bytes_eq mark.0 version) (chart_read mark.1) None) bytes chart b e in
+    let c = chosen (bytes_eq mark.value version) (chart_read mark.rest) chart mark.on in
     let t = chart_takes mark.rest chart mark.bytes_on c.1 in
     let is : mark.value ≡ version = (bytes_eq-Decides mark.value version).0 c.0 in
     let whole : bytes ≡ version ++ chart_bytes chart = mark.parts ∙ ap (λ (s : List ℕ). s ++ mark.rest) is ∙ ap (λ (s : List ℕ). version ++ s) t.0 in
@@ -235,42 +235,42 @@ rows_fit (a ∷ accounts) h codes =
     let first = h 0 a refl in
     (row_fits a first.0 first.1 codes.0, rows_fit accounts (λ i x e. h (suc i) x e) codes.1)
 
-chart_again : (chart : Chart) → IsHead chart → chart_of (chart_bytes chart) ≡ Some chart
-unfolding chart_of
+chart_again : (chart : Chart) → IsHead chart → chart_read (chart_bytes chart) ≡ Some chart
+unfolding chart_read
 chart_again chart h =
     let accounts : List ℕ = flat_map account_bytes chart.accounts ++ [] in
     let rows = rows_fit chart.accounts (λ i a e. (h.book.rows.formed i a e, h.book.rows.limited i a e)) (recursion_from_All HasCode chart.accounts h.codes) in
     let regrouped : chart_bytes chart ≡ bic_bytes chart.home ++ (to_be_bytes w16 (length chart.accounts) ++ accounts) = simp (append_assoc, append-nil) in
-    ap chart_of regrouped
+    ap chart_read regrouped
     ∙ resume bic_field chart_home chart.home (to_be_bytes w16 (length chart.accounts) ++ accounts) (Some chart) h.home
     (resume field16 (chart_count chart.home) (length chart.accounts) accounts (Some chart) (omega (arith, h.book.rows.few))
     (ap (option_and_then (chart_accounts chart.home)) (items_again account_field chart.accounts [] rows)))
 
-head_again : (chart : Chart) → IsHead chart → head_of (head_bytes chart) ≡ Some chart
-unfolding head_of title_bytes
+head_again : (chart : Chart) → IsHead chart → header_read (head_bytes chart) ≡ Some chart
+unfolding header_read title_bytes
 head_again chart h =
     let regrouped : head_bytes chart ≡ version ++ chart_bytes chart = sym (titled version (bic_bytes chart.home) (to_be_bytes w16 (length chart.accounts)) (flat_map account_bytes chart.accounts)) in
-    ap head_of regrouped ∙ resume (cut_field 6) (λ mark. cond (bytes_eq mark.0 version) (chart_of mark.1) None) version (chart_bytes chart) (Some chart) refl (chart_again chart h)
+    ap header_read regrouped ∙ resume (cut_field 6) (λ mark. cond (bytes_eq mark.0 version) (chart_read mark.1) None) version (chart_bytes chart) (Some chart) refl (chart_again chart h)
 
 -- ---- what the reader answers
 
-found_rows : (bytes : List ℕ) (chart : Chart) → IsBytes bytes → head_of bytes ≡ Some chart → IsChart chart → IsHead chart × (bytes ≡ head_bytes chart)
+found_rows : (bytes : List ℕ) (chart : Chart) → IsBytes bytes → header_read bytes ≡ Some chart → IsChart chart → IsHead chart × (bytes ≡ head_bytes chart)
 found_rows bytes chart b e book =
     let t = head_takes bytes chart b e in
     (record { home = t.1.home; book = book; codes = t.1.codes }, t.0)
 
-read_again : (bytes : List ℕ) (chart : Chart) → IsHead chart → bytes ≡ head_bytes chart → head_of bytes ≡ Some chart
-read_again bytes chart h e = ap head_of e ∙ head_again chart h
+read_again : (bytes : List ℕ) (chart : Chart) → IsHead chart → bytes ≡ head_bytes chart → header_read bytes ≡ Some chart
+read_again bytes chart h e = ap header_read e ∙ head_again chart h
 
-pub is_found : (bytes : List ℕ) (rows : Chart) (r : Result Chart EntryFault) → IsBytes bytes → head_of bytes ≡ Some rows → IfOk r (λ a. (a ≡ rows) × IsChart a) → IfOk r (λ a. IsHead a × (bytes ≡ head_bytes a))
+pub is_found : (bytes : List ℕ) (rows : Chart) (r : Result Chart EntryFault) → IsBytes bytes → header_read bytes ≡ Some rows → IfOk r (λ a. (a ≡ rows) × IsChart a) → IfOk r (λ a. IsHead a × (bytes ≡ head_bytes a))
 is_found bytes rows (Ok a) b e h = found_rows bytes a b (e ∙ ap (λ (x : Chart). Some x) (sym h.0)) h.1
 is_found bytes rows (Err fault) b e h = tt
 
-pub is_only : (bytes : List ℕ) (rows : Chart) (r : Result Chart EntryFault) → head_of bytes ≡ Some rows → (IsChart rows → IsGiven rows r) → (chart : Chart) → IsHead chart → bytes ≡ head_bytes chart → IsGiven chart r
+pub is_only : (bytes : List ℕ) (rows : Chart) (r : Result Chart EntryFault) → header_read bytes ≡ Some rows → (IsChart rows → IsGiven rows r) → (chart : Chart) → IsHead chart → bytes ≡ head_bytes chart → IsGiven chart r
 is_only bytes rows r e only chart h is =
     let same = same_Some rows chart (sym e ∙ read_again bytes chart h is) in
     subst (λ (x : Chart). IsGiven x r) same (only (subst IsChart (sym same) h.book))
 
-pub is_refused : (bytes : List ℕ) (fault : EntryFault) → Fails fault (head_of bytes) → (chart : Chart) → IsHead chart → bytes ≡ head_bytes chart → IsGiven {X = Chart} chart (Err fault)
+pub is_refused : (bytes : List ℕ) (fault : EntryFault) → FailsToRead fault (header_read bytes) → (chart : Chart) → IsHead chart → bytes ≡ head_bytes chart → IsGiven {X = Chart} chart (Err fault)
 is_refused bytes faults.NoEntry none chart h is = none-some chart (sym none ∙ read_again bytes chart h is)
 is_refused bytes faults.Memory none chart h is = tt

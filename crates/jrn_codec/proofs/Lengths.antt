@@ -24,11 +24,11 @@ use Rattle.day_model.specs.declared.entry.Outcome.{Outcome}
 use Rattle.day_model.specs.declared.entry.Outcome.TheVariants.{Booked, Unfunded}
 use Rattle.day_model.specs.declared.entry.Entry.{Entry}
 use Rattle.day_model.specs.declared.account.Account.{Account}
-use Rattle.day_model.specs.Chart.{Chart, IsFormed}
+use Rattle.day_model.specs.Chart.{Chart, IsFormed, HasCode}
 use Rattle.day_model.specs.Shape.{HasShape, IsLeg, IsOrder, IsQuote, are_legs}
 use Rattle.jrn_codec.specs.Spelling.{signed_bytes, bic_bytes, short_bytes, optional_bytes, long_bytes, listed_bytes}
 use Rattle.jrn_codec.specs.Record.{skip_mark, mt_mark, day_bytes, outcome_bytes, quote_bytes, posting_bytes, leg_bytes, order_bytes, stamp_bytes, fate_bytes, front_bytes, back_bytes, entry_bytes}
-use Rattle.jrn_codec.specs.Header.{version, column_bytes, balance_bytes, account_bytes, title_bytes, head_bytes, HasCode, IsHead}
+use Rattle.jrn_codec.specs.Header.{version, column_bytes, balance_bytes, account_bytes, title_bytes, head_bytes, IsHead}
 use Rattle.jrn_codec.specs.Reading.{cut, spelled_at}
 use Rattle.jrn_codec.proofs.Identifiers.{bic_field, mir_field, uetr_field}
 

@@ -4,7 +4,7 @@ use Rattle.std.specs.Prelude.{option_and_then}
 use Rattle.std.proofs.lemmas.List.{append-nil}
 use Rattle.jrn_codec.specs.declared.fault.EntryFault.{EntryFault}
 use Rattle.jrn_codec.specs.declared.fault.EntryFault.TheVariants as faults
-use Rattle.jrn_codec.specs.Answers.{Fails}
+use Rattle.jrn_codec.specs.Answers.{FailsToRead}
 use Rattle.jrn_codec.specs.Reading.{items_at}
 
 -- what was read before, and what is still read
@@ -23,8 +23,8 @@ goes_on {A} read front count i bytes x after total lt h so_far =
     let one : with_front front (items_at read (count - i) bytes) ≡ with_front (front ++ x ∷ []) (items_at read (count - (i + 1)) after) = rw (k, h) (regroup front x (items_at read (count - (i + 1)) after)) in
     sym one ∙ so_far
 
-pub ends : {A : Type 0} (read : List ℕ → Option (A × List ℕ)) (e : EntryFault) (front : List A) (count i : ℕ) (bytes : List ℕ) (total : Option (List A × List ℕ)) → i < count → Fails e (read bytes)
-    → with_front front (items_at read (count - i) bytes) ≡ total → Fails e total
+pub ends : {A : Type 0} (read : List ℕ → Option (A × List ℕ)) (e : EntryFault) (front : List A) (count i : ℕ) (bytes : List ℕ) (total : Option (List A × List ℕ)) → i < count → FailsToRead e (read bytes)
+    → with_front front (items_at read (count - i) bytes) ≡ total → FailsToRead e total
 unfolding items_at
 ends read faults.Memory front count i bytes total lt h so_far = tt
 ends read faults.NoEntry front count i bytes total lt h so_far =

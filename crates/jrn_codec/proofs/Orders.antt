@@ -11,7 +11,7 @@ use Rattle.day_model.specs.Shape.{IsNumbered, IsOrder}
 use Rattle.jrn_codec.specs.Spelling.{bic_bytes, optional_bytes}
 use Rattle.jrn_codec.specs.Record.{order_bytes, skip_mark}
 use Rattle.jrn_codec.specs.Reading.{byte_at, bic_at, mark_at, optional_at}
-use Rattle.jrn_codec.specs.RecordReading.{skip_marked, transfer_at, cover_at, pass_at, is_numbered, noticed_at, debit_at, credit_at, order_at}
+use Rattle.jrn_codec.specs.RecordReading.{skip_marked, transfer_at, cover_at, pass_at, is_leg_number, noticed_at, debit_at, credit_at, order_at}
 use Rattle.jrn_codec.proofs.Fields.{IsBytes, IsField, step, resume, tested, differs, byte_field}
 use Rattle.jrn_codec.proofs.Parts.{mark_field, optional_field}
 use Rattle.jrn_codec.proofs.Marks.{skip_marks}
@@ -97,7 +97,7 @@ abbrev notice_bytes : Bic × ℕ → List ℕ
 notice_bytes notice = bic_bytes notice.0 ++ notice.1 ∷ []
 
 abbrev notice_leg : ℕ → Bic → ℕ × List ℕ → Option ((Bic × ℕ) × List ℕ)
-notice_leg legs to leg = cond (is_numbered legs leg.0) (Some ((to, leg.0), leg.1)) None
+notice_leg legs to leg = cond (is_leg_number legs leg.0) (Some ((to, leg.0), leg.1)) None
 
 abbrev notice_to : ℕ → Bic × List ℕ → Option ((Bic × ℕ) × List ℕ)
 notice_to legs to = option_and_then (notice_leg legs to.0) (byte_at to.1)
@@ -107,7 +107,7 @@ unfolding noticed_at
 notice_takes legs bytes notice rest b e =
     let to = step bic_field (notice_to legs) bytes (notice, rest) b e in
     let leg = step byte_field (notice_leg legs to.value) to.rest (notice, rest) to.bytes_on to.on in
-    let t = tested (is_numbered legs leg.value) ((to.value, leg.value), leg.rest) (notice, rest) leg.on in
+    let t = tested (is_leg_number legs leg.value) ((to.value, leg.value), leg.rest) (notice, rest) leg.on in
     let p = both (nat_le 1 leg.value) (nat_le leg.value legs) t.0 in
     let whole : bytes ≡ notice_bytes (to.value, leg.value) ++ leg.rest = to.parts ∙ ap (λ (s : List ℕ). bic_bytes to.value ++ s) leg.parts ∙ simp append_assoc in
     subst (λ (x : (Bic × ℕ) × List ℕ). (bytes ≡ notice_bytes x.0 ++ x.1) × IsNotice legs x.0) t.1 (whole, (to.fits, (le_true 1 leg.value p.0, le_true leg.value legs p.1)))

@@ -4,14 +4,14 @@ use Rattle.jrn_codec.specs.declared.fault.EntryFault.{EntryFault}
 use Rattle.jrn_codec.specs.declared.fault.EntryFault.TheVariants.{NoEntry, Memory}
 
 -- no entry exactly where reading gives nothing; want of memory tells nothing
-abbrev pub Fails : {Y : Type 0} → EntryFault → Option Y → Type 0
-Fails NoEntry read = read ≡ None
-Fails Memory read = Unit {0}
+abbrev pub FailsToRead : {Y : Type 0} → EntryFault → Option Y → Type 0
+FailsToRead NoEntry read = read ≡ None
+FailsToRead Memory read = Unit {0}
 
 -- what a reader answers, seen by view, is what reading gives, unless memory ran out
-abbrev pub Gives : {X Y : Type 0} → (X → Y) → Result X EntryFault → Option Y → Type 0
-Gives view (Ok x) read = read ≡ Some (view x)
-Gives view (Err e) read = Fails e read
+abbrev pub AnswersRead : {X Y : Type 0} → (X → Y) → Result X EntryFault → Option Y → Type 0
+AnswersRead view (Ok x) read = read ≡ Some (view x)
+AnswersRead view (Err e) read = FailsToRead e read
 
 -- Ok with this value, unless memory ran out
 abbrev pub IsGiven : {X : Type 0} → X → Result X EntryFault → Type 0

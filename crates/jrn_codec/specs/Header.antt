@@ -4,7 +4,7 @@ use Rattle.std.specs.List.{flat_map}
 use Rattle.std.specs.Int.{w16, w64, to_be_bytes}
 use Rattle.corr_ids.specs.Bic.{IsBic}
 use Rattle.day_model.specs.declared.account.Account.{Account}
-use Rattle.day_model.specs.Chart.{Chart, IsChart}
+use Rattle.day_model.specs.Chart.{Chart, IsChart, HasCode}
 use Rattle.jrn_codec.specs.Spelling.{signed_bytes, bic_bytes, short_bytes}
 
 -- the first six bytes
@@ -30,10 +30,6 @@ title_bytes chart = version ++ bic_bytes chart.home ++ to_be_bytes w16 (length c
 -- the title, then each account
 abbrev pub head_bytes : Chart → List ℕ
 head_bytes chart = title_bytes chart ++ flat_map account_bytes chart.accounts
-
--- a currency is three characters
-abbrev pub HasCode : Account → Type 0
-HasCode a = length a.ccy.0 ≡ 3
 
 -- what has a header: accounts of a book, whose openings sum to 0, and a home bank with a BIC
 pub record IsHead (chart : Chart) : Type 0 where

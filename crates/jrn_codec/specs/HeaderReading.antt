@@ -18,8 +18,8 @@ limits_at bytes = do
   Some (record { floor = floor.0; ceil = ceil.0; opening = opening.0 }, opening.1)
 
 -- an account, whatever its columns are
-unfoldable pub account_at : List ℕ → Option (Account × List ℕ)
-account_at bytes = do
+unfoldable pub account_read : List ℕ → Option (Account × List ℕ)
+account_read bytes = do
   id ← short_at bytes
   kind ← byte_at id.1
   owner ← bic_at kind.1
@@ -41,15 +41,15 @@ account_at bytes = do
   )
 
 -- the home bank and its accounts, behind the version
-unfoldable pub chart_of : List ℕ → Option Chart
-chart_of bytes = do
+unfoldable pub chart_read : List ℕ → Option Chart
+chart_read bytes = do
   home ← bic_at bytes
   count ← number_at w16 home.1
-  accounts ← items_at account_at count.0 count.1
+  accounts ← items_at account_read count.0 count.1
   if length accounts.1 == 0 then Some (record { home = home.0; accounts = accounts.0 }) else None
 
 -- the rows that all of the bytes spell, whether or not they are accounts of a book
-unfoldable pub head_of : List ℕ → Option Chart
-head_of bytes = do
+unfoldable pub header_read : List ℕ → Option Chart
+header_read bytes = do
   mark ← cut 6 bytes
-  if bytes_eq mark.0 version then chart_of mark.1 else None
+  if bytes_eq mark.0 version then chart_read mark.1 else None

@@ -57,8 +57,8 @@ abbrev pub is_account_number : ℕ → Bool
 is_account_number n = nat_le 1 n && nat_le n most_accounts
 
 -- one of so many legs
-abbrev pub is_numbered : ℕ → ℕ → Bool
-is_numbered legs n = nat_le 1 n && nat_le n legs
+abbrev pub is_leg_number : ℕ → ℕ → Bool
+is_leg_number legs n = nat_le 1 n && nat_le n legs
 
 -- a reference, and its bytes
 abbrev pub mir_at : List ℕ → Option (Mir × List ℕ)
@@ -146,7 +146,7 @@ unfoldable pub noticed_at : ℕ → List ℕ → Option ((Bic × ℕ) × List �
 noticed_at legs bytes = do
   to ← bic_at bytes
   leg ← byte_at to.1
-  if is_numbered legs leg.0 then Some ((to.0, leg.0), leg.1) else None
+  if is_leg_number legs leg.0 then Some ((to.0, leg.0), leg.1) else None
 
 -- what a notice of a debit adds
 unfoldable pub debit_at : ℕ → List ℕ → Option (Order × List ℕ)
@@ -205,8 +205,8 @@ entry_with stamp fate legs orders text = record {
 }
 
 -- the entry that all of the bytes spell
-unfoldable pub entry_of : List ℕ → Option Entry
-entry_of bytes = do
+unfoldable pub entry_read : List ℕ → Option Entry
+entry_read bytes = do
   stamp ← stamp_at bytes
   fate ← fate_at stamp.1
   legs ← listed_at leg_at fate.1

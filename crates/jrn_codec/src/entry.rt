@@ -2,10 +2,10 @@
 
 ghost use Rattle.std.specs.Prelude.{◌≡◌, IfOk};
 ghost use Rattle.day_model.specs.declared.entry.Entry.{Entry};
-ghost use Rattle.jrn_codec.specs.Answers.{Gives, IsGiven};
+ghost use Rattle.jrn_codec.specs.Answers.{AnswersRead, IsGiven};
 ghost use Rattle.jrn_codec.specs.Reading.{mark_at, optional_at};
 ghost use Rattle.jrn_codec.specs.Record.{IsEntry, entry_bytes};
-ghost use Rattle.jrn_codec.specs.RecordReading.{day_at, entry_of, entry_with, fate_at, in_century, is_whole_pay, mir_at, mt_of, outcome_at, stamp_at, uetr_at, unfunded_at};
+ghost use Rattle.jrn_codec.specs.RecordReading.{day_at, entry_read, entry_with, fate_at, in_century, is_whole_pay, mir_at, mt_of, outcome_at, stamp_at, uetr_at, unfunded_at};
 
 use crate::fault::EntryFault;
 use crate::field::{byte_at, cut, i32_at, i64_at, long_at};
@@ -34,7 +34,7 @@ pub struct Fate {
 
 #[tactic(auto, unfolding(crate::specs::Reading::spelled_at))]
 fn mir_at(bytes: &[u8]) -> Result<(Mir, &[u8]), EntryFault>
-    ensures { Gives (λ x. (x.0, x.1.now)) result (mir_at bytes.now) }
+    ensures { AnswersRead (λ x. (x.0, x.1.now)) result (mir_at bytes.now) }
 {
     let (front, rest) = cut(bytes, 28)?;
     match read_mir(front) {
@@ -45,7 +45,7 @@ fn mir_at(bytes: &[u8]) -> Result<(Mir, &[u8]), EntryFault>
 
 #[tactic(auto, unfolding(crate::specs::Reading::spelled_at))]
 fn some_uetr_at(bytes: &[u8]) -> Result<(Uetr, &[u8]), EntryFault>
-    ensures { Gives (λ x. (x.0, x.1.now)) result (uetr_at bytes.now) }
+    ensures { AnswersRead (λ x. (x.0, x.1.now)) result (uetr_at bytes.now) }
 {
     let (front, rest) = cut(bytes, 36)?;
     match read_uetr(front) {
@@ -56,7 +56,7 @@ fn some_uetr_at(bytes: &[u8]) -> Result<(Uetr, &[u8]), EntryFault>
 
 #[tactic(auto, unfolding(crate::specs::Reading::optional_at))]
 fn uetr_at(bytes: &[u8]) -> Result<(Option<Uetr>, &[u8]), EntryFault>
-    ensures { Gives (λ x. (x.0, x.1.now)) result (optional_at uetr_at bytes.now) }
+    ensures { AnswersRead (λ x. (x.0, x.1.now)) result (optional_at uetr_at bytes.now) }
 {
     match bytes {
         [0, rest @ ..] => Ok((None, rest)),
@@ -70,7 +70,7 @@ fn uetr_at(bytes: &[u8]) -> Result<(Option<Uetr>, &[u8]), EntryFault>
 
 #[tactic(auto, unfolding(crate::specs::Reading::mark_at))]
 fn mt_at(bytes: &[u8]) -> Result<(Mt, &[u8]), EntryFault>
-    ensures { Gives (λ x. (x.0, x.1.now)) result (mark_at mt_of bytes.now) }
+    ensures { AnswersRead (λ x. (x.0, x.1.now)) result (mark_at mt_of bytes.now) }
 {
     let (mark, rest) = byte_at(bytes)?;
     match mark {
@@ -82,7 +82,7 @@ fn mt_at(bytes: &[u8]) -> Result<(Mt, &[u8]), EntryFault>
 
 #[tactic(auto, unfolding(crate::specs::RecordReading::stamp_at))]
 fn stamp_at(bytes: &[u8]) -> Result<(Stamp, &[u8]), EntryFault>
-    ensures { Gives (λ x. (x.0, x.1.now)) result (stamp_at bytes.now) }
+    ensures { AnswersRead (λ x. (x.0, x.1.now)) result (stamp_at bytes.now) }
 {
     let (mir, rest) = mir_at(bytes)?;
     let (mt, rest) = mt_at(rest)?;
@@ -98,7 +98,7 @@ fn is_in_century(day: Day) -> bool
 
 #[tactic(auto, unfolding(crate::specs::RecordReading::day_at))]
 fn day_at(bytes: &[u8]) -> Result<(Day, &[u8]), EntryFault>
-    ensures { Gives (λ x. (x.0, x.1.now)) result (day_at bytes.now) }
+    ensures { AnswersRead (λ x. (x.0, x.1.now)) result (day_at bytes.now) }
 {
     let (number, rest) = i32_at(bytes)?;
     let day = Day(number);
@@ -110,7 +110,7 @@ fn day_at(bytes: &[u8]) -> Result<(Day, &[u8]), EntryFault>
 
 #[tactic(auto, unfolding(crate::specs::RecordReading::unfunded_at))]
 fn unfunded_at(bytes: &[u8]) -> Result<(Outcome, &[u8]), EntryFault>
-    ensures { Gives (λ x. (x.0, x.1.now)) result (unfunded_at bytes.now) }
+    ensures { AnswersRead (λ x. (x.0, x.1.now)) result (unfunded_at bytes.now) }
 {
     let (leg, rest) = byte_at(bytes)?;
     let (balance, rest) = i64_at(rest)?;
@@ -119,7 +119,7 @@ fn unfunded_at(bytes: &[u8]) -> Result<(Outcome, &[u8]), EntryFault>
 
 #[tactic(auto, unfolding(crate::specs::RecordReading::outcome_at))]
 fn outcome_at(bytes: &[u8]) -> Result<(Outcome, &[u8]), EntryFault>
-    ensures { Gives (λ x. (x.0, x.1.now)) result (outcome_at bytes.now) }
+    ensures { AnswersRead (λ x. (x.0, x.1.now)) result (outcome_at bytes.now) }
 {
     let (mark, rest) = byte_at(bytes)?;
     match mark {
@@ -131,7 +131,7 @@ fn outcome_at(bytes: &[u8]) -> Result<(Outcome, &[u8]), EntryFault>
 
 #[tactic(auto, unfolding(crate::specs::RecordReading::fate_at))]
 fn fate_at(bytes: &[u8]) -> Result<(Fate, &[u8]), EntryFault>
-    ensures { Gives (λ x. (x.0, x.1.now)) result (fate_at bytes.now) }
+    ensures { AnswersRead (λ x. (x.0, x.1.now)) result (fate_at bytes.now) }
 {
     let (day, rest) = day_at(bytes)?;
     let (value, rest) = day_at(rest)?;
@@ -171,9 +171,9 @@ fn entry_with(stamp: Stamp, fate: Fate, legs: List<Leg>, orders: List<Order>, te
     }
 }
 
-#[tactic(auto, unfolding(crate::specs::RecordReading::entry_of))]
+#[tactic(auto, unfolding(crate::specs::RecordReading::entry_read))]
 fn entry_of(alloc: Global, bytes: &[u8]) -> Result<Entry, EntryFault>
-    ensures { Gives (λ e. e) result (entry_of bytes.now) }
+    ensures { AnswersRead (λ e. e) result (entry_read bytes.now) }
 {
     let (stamp, rest) = stamp_at(bytes)?;
     let (fate, rest) = fate_at(rest)?;

@@ -2,14 +2,14 @@
 
 ghost use Rattle.std.specs.Prelude.{◌≡◌, IfOk, length};
 ghost use Rattle.std.specs.Int.{w16, w32, w64};
-ghost use Rattle.jrn_codec.specs.Answers.{Gives};
+ghost use Rattle.jrn_codec.specs.Answers.{AnswersRead};
 ghost use Rattle.jrn_codec.specs.Reading.{cut, byte_at, number_at, signed_at, bic_at, short_at, long_at};
 
 use crate::fault::EntryFault;
 use corr_ids::{Bic, read_bic};
 
 pub fn cut(bytes: &[u8], n: usize) -> Result<(&[u8], &[u8]), EntryFault>
-    ensures value { Gives (λ x. (x.0.now, x.1.now)) result (cut n bytes.now) }
+    ensures value { AnswersRead (λ x. (x.0.now, x.1.now)) result (cut n bytes.now) }
     ensures long { IfOk result (λ x. length x.0.now ≡ n) }
 {
     if bytes.len() < n {
@@ -19,7 +19,7 @@ pub fn cut(bytes: &[u8], n: usize) -> Result<(&[u8], &[u8]), EntryFault>
 }
 
 pub fn byte_at(bytes: &[u8]) -> Result<(u8, &[u8]), EntryFault>
-    ensures { Gives (λ x. (x.0, x.1.now)) result (byte_at bytes.now) }
+    ensures { AnswersRead (λ x. (x.0, x.1.now)) result (byte_at bytes.now) }
 {
     match bytes {
         [] => Err(EntryFault::NoEntry),
@@ -28,7 +28,7 @@ pub fn byte_at(bytes: &[u8]) -> Result<(u8, &[u8]), EntryFault>
 }
 
 pub fn u16_at(bytes: &[u8]) -> Result<(u16, &[u8]), EntryFault>
-    ensures { Gives (λ x. (x.0, x.1.now)) result (number_at w16 bytes.now) }
+    ensures { AnswersRead (λ x. (x.0, x.1.now)) result (number_at w16 bytes.now) }
 {
     if bytes.len() < 2 {
         return Err(EntryFault::NoEntry);
@@ -38,7 +38,7 @@ pub fn u16_at(bytes: &[u8]) -> Result<(u16, &[u8]), EntryFault>
 }
 
 fn u32_at(bytes: &[u8]) -> Result<(u32, &[u8]), EntryFault>
-    ensures { Gives (λ x. (x.0, x.1.now)) result (number_at w32 bytes.now) }
+    ensures { AnswersRead (λ x. (x.0, x.1.now)) result (number_at w32 bytes.now) }
 {
     if bytes.len() < 4 {
         return Err(EntryFault::NoEntry);
@@ -49,7 +49,7 @@ fn u32_at(bytes: &[u8]) -> Result<(u32, &[u8]), EntryFault>
 }
 
 pub fn u64_at(bytes: &[u8]) -> Result<(u64, &[u8]), EntryFault>
-    ensures { Gives (λ x. (x.0, x.1.now)) result (number_at w64 bytes.now) }
+    ensures { AnswersRead (λ x. (x.0, x.1.now)) result (number_at w64 bytes.now) }
 {
     if bytes.len() < 8 {
         return Err(EntryFault::NoEntry);
@@ -63,7 +63,7 @@ pub fn u64_at(bytes: &[u8]) -> Result<(u64, &[u8]), EntryFault>
 
 #[tactic(auto, unfolding(crate::specs::Reading::signed_at))]
 pub fn i32_at(bytes: &[u8]) -> Result<(i32, &[u8]), EntryFault>
-    ensures { Gives (λ x. (x.0, x.1.now)) result (signed_at w32 bytes.now) }
+    ensures { AnswersRead (λ x. (x.0, x.1.now)) result (signed_at w32 bytes.now) }
 {
     let (number, rest) = u32_at(bytes)?;
     Ok((number.cast_signed(), rest))
@@ -71,7 +71,7 @@ pub fn i32_at(bytes: &[u8]) -> Result<(i32, &[u8]), EntryFault>
 
 #[tactic(auto, unfolding(crate::specs::Reading::signed_at))]
 pub fn i64_at(bytes: &[u8]) -> Result<(i64, &[u8]), EntryFault>
-    ensures { Gives (λ x. (x.0, x.1.now)) result (signed_at w64 bytes.now) }
+    ensures { AnswersRead (λ x. (x.0, x.1.now)) result (signed_at w64 bytes.now) }
 {
     let (number, rest) = u64_at(bytes)?;
     Ok((number.cast_signed(), rest))
@@ -79,7 +79,7 @@ pub fn i64_at(bytes: &[u8]) -> Result<(i64, &[u8]), EntryFault>
 
 #[tactic(auto, unfolding(crate::specs::Reading::spelled_at))]
 pub fn bic_at(bytes: &[u8]) -> Result<(Bic, &[u8]), EntryFault>
-    ensures { Gives (λ x. (x.0, x.1.now)) result (bic_at bytes.now) }
+    ensures { AnswersRead (λ x. (x.0, x.1.now)) result (bic_at bytes.now) }
 {
     let (front, rest) = cut(bytes, 11)?;
     match read_bic(front) {
@@ -90,7 +90,7 @@ pub fn bic_at(bytes: &[u8]) -> Result<(Bic, &[u8]), EntryFault>
 
 #[tactic(auto, unfolding(crate::specs::Reading::short_at))]
 pub fn short_at(bytes: &[u8]) -> Result<(&[u8], &[u8]), EntryFault>
-    ensures { Gives (λ x. (x.0.now, x.1.now)) result (short_at bytes.now) }
+    ensures { AnswersRead (λ x. (x.0.now, x.1.now)) result (short_at bytes.now) }
 {
     let (n, rest) = byte_at(bytes)?;
     cut(rest, n as usize)
@@ -98,7 +98,7 @@ pub fn short_at(bytes: &[u8]) -> Result<(&[u8], &[u8]), EntryFault>
 
 #[tactic(auto, unfolding(crate::specs::Reading::long_at))]
 pub fn long_at(bytes: &[u8]) -> Result<(&[u8], &[u8]), EntryFault>
-    ensures { Gives (λ x. (x.0.now, x.1.now)) result (long_at bytes.now) }
+    ensures { AnswersRead (λ x. (x.0.now, x.1.now)) result (long_at bytes.now) }
 {
     let (n, rest) = u32_at(bytes)?;
     cut(rest, n as usize)

@@ -2,9 +2,9 @@
 
 ghost use Rattle.std.specs.Prelude.{◌≡◌, IfOk};
 ghost use Rattle.day_model.specs.Chart.{Chart, IsChart};
-ghost use Rattle.jrn_codec.specs.Answers.{Gives, IsGiven};
+ghost use Rattle.jrn_codec.specs.Answers.{AnswersRead, IsGiven};
 ghost use Rattle.jrn_codec.specs.Header.{IsHead, head_bytes};
-ghost use Rattle.jrn_codec.specs.HeaderReading.{account_at, chart_of, head_of, limits_at};
+ghost use Rattle.jrn_codec.specs.HeaderReading.{account_read, chart_read, header_read, limits_at};
 ghost use Rattle.jrn_codec.specs.Reading.{items_at};
 
 use crate::fault::EntryFault;
@@ -32,7 +32,7 @@ pub struct Rows {
 
 #[tactic(auto, unfolding(crate::specs::HeaderReading::limits_at))]
 fn limits_at(bytes: &[u8]) -> Result<(Limits, &[u8]), EntryFault>
-    ensures { Gives (λ x. (x.0, x.1.now)) result (limits_at bytes.now) }
+    ensures { AnswersRead (λ x. (x.0, x.1.now)) result (limits_at bytes.now) }
 {
     let (floor, rest) = i64_at(bytes)?;
     let (ceil, rest) = i64_at(rest)?;
@@ -47,9 +47,9 @@ fn limits_at(bytes: &[u8]) -> Result<(Limits, &[u8]), EntryFault>
     ))
 }
 
-#[tactic(auto, unfolding(crate::specs::HeaderReading::account_at))]
+#[tactic(auto, unfolding(crate::specs::HeaderReading::account_read))]
 fn account_at(alloc: Global, bytes: &[u8]) -> Result<(Account, &[u8]), EntryFault>
-    ensures { Gives (λ x. (x.0, x.1.now)) result (account_at bytes.now) }
+    ensures { AnswersRead (λ x. (x.0, x.1.now)) result (account_read bytes.now) }
 {
     let (id, rest) = short_at(bytes)?;
     let (kind, rest) = byte_at(rest)?;
@@ -75,7 +75,7 @@ fn accounts_of(
     count: u16,
     bytes: &[u8],
 ) -> Result<(List<Account>, &[u8]), EntryFault>
-    ensures { Gives (λ x. (x.0, x.1.now)) result (items_at account_at count bytes.now) }
+    ensures { AnswersRead (λ x. (x.0, x.1.now)) result (items_at account_read count bytes.now) }
 {
     let mut accounts = List::new(alloc);
     let mut rest = bytes;
@@ -87,9 +87,9 @@ fn accounts_of(
     Ok((accounts, rest))
 }
 
-#[tactic(auto, unfolding(crate::specs::HeaderReading::chart_of))]
+#[tactic(auto, unfolding(crate::specs::HeaderReading::chart_read))]
 fn rows_of(alloc: Global, bytes: &[u8]) -> Result<Rows, EntryFault>
-    ensures { Gives (λ rows. record { home = rows.home; accounts = rows.accounts }) result (chart_of bytes.now) }
+    ensures { AnswersRead (λ rows. record { home = rows.home; accounts = rows.accounts }) result (chart_read bytes.now) }
 {
     let (home, rest) = bic_at(bytes)?;
     let (count, rest) = u16_at(rest)?;
@@ -100,9 +100,9 @@ fn rows_of(alloc: Global, bytes: &[u8]) -> Result<Rows, EntryFault>
     Ok(Rows { home, accounts })
 }
 
-#[tactic(auto, unfolding(crate::specs::HeaderReading::head_of))]
+#[tactic(auto, unfolding(crate::specs::HeaderReading::header_read))]
 fn head_of(alloc: Global, bytes: &[u8]) -> Result<Rows, EntryFault>
-    ensures { Gives (λ rows. record { home = rows.home; accounts = rows.accounts }) result (head_of bytes.now) }
+    ensures { AnswersRead (λ rows. record { home = rows.home; accounts = rows.accounts }) result (header_read bytes.now) }
 {
     let (mark, rest) = cut(bytes, 6)?;
     if mark != b"CORRJ1".as_slice() {

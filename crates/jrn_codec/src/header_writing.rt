@@ -2,9 +2,9 @@
 
 ghost use Rattle.std.specs.Prelude.{◌≡◌, ◌++◌, flat_map, All, OnErr, OnOk};
 ghost use Rattle.std.specs.Int.{w64};
-ghost use Rattle.day_model.specs.Chart.{IsChart, IsFormed};
+ghost use Rattle.day_model.specs.Chart.{IsChart, IsFormed, HasCode};
 ghost use Rattle.corr_ids.specs.Bic.{IsBic};
-ghost use Rattle.jrn_codec.specs.Header.{HasCode, IsHead, account_bytes, balance_bytes, column_bytes, head_bytes, title_bytes};
+ghost use Rattle.jrn_codec.specs.Header.{IsHead, account_bytes, balance_bytes, column_bytes, head_bytes, title_bytes};
 ghost use Rattle.jrn_codec.specs.Spelling.{signed_bytes};
 ghost use Rattle.jrn_codec.specs.Writing.{IsFrontOf};
 

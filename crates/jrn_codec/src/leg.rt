@@ -5,7 +5,7 @@ ghost use Rattle.std.specs.List.{list_any, zip};
 ghost use Rattle.corr_text.specs.declared.set.Set.TheVariants.{X};
 ghost use Rattle.corr_text.specs.Slashes.{has_double_slash, has_stray_slash};
 ghost use Rattle.day_model.specs.Shape.{are_legs};
-ghost use Rattle.jrn_codec.specs.Answers.{Gives};
+ghost use Rattle.jrn_codec.specs.Answers.{AnswersRead};
 ghost use Rattle.jrn_codec.specs.Reading.{byte_at, items_at, listed_at, mark_at};
 ghost use Rattle.jrn_codec.specs.RecordReading.{is_reference, leg_at, ours_at, quote_at, side_of, theirs_at};
 
@@ -50,7 +50,7 @@ fn is_reference(text: &[u8]) -> bool
 
 #[tactic(auto, unfolding(crate::specs::RecordReading::theirs_at))]
 fn theirs_at(alloc: Global, bytes: &[u8]) -> Result<(Quote, &[u8]), EntryFault>
-    ensures { Gives (λ x. (x.0, x.1.now)) result (theirs_at bytes.now) }
+    ensures { AnswersRead (λ x. (x.0, x.1.now)) result (theirs_at bytes.now) }
 {
     let (text, rest) = short_at(bytes)?;
     if !is_reference(text) {
@@ -61,7 +61,7 @@ fn theirs_at(alloc: Global, bytes: &[u8]) -> Result<(Quote, &[u8]), EntryFault>
 
 #[tactic(auto, unfolding(crate::specs::RecordReading::ours_at))]
 fn ours_at(bytes: &[u8]) -> Result<(Quote, &[u8]), EntryFault>
-    ensures { Gives (λ x. (x.0, x.1.now)) result (ours_at bytes.now) }
+    ensures { AnswersRead (λ x. (x.0, x.1.now)) result (ours_at bytes.now) }
 {
     let (k, rest) = byte_at(bytes)?;
     Ok((Quote::Ours(k), rest))
@@ -69,7 +69,7 @@ fn ours_at(bytes: &[u8]) -> Result<(Quote, &[u8]), EntryFault>
 
 #[tactic(auto, unfolding(crate::specs::RecordReading::quote_at))]
 fn quote_at(alloc: Global, bytes: &[u8]) -> Result<(Quote, &[u8]), EntryFault>
-    ensures { Gives (λ x. (x.0, x.1.now)) result (quote_at bytes.now) }
+    ensures { AnswersRead (λ x. (x.0, x.1.now)) result (quote_at bytes.now) }
 {
     let (mark, rest) = byte_at(bytes)?;
     match mark {
@@ -81,7 +81,7 @@ fn quote_at(alloc: Global, bytes: &[u8]) -> Result<(Quote, &[u8]), EntryFault>
 
 #[tactic(auto, unfolding(crate::specs::Reading::mark_at))]
 fn side_at(bytes: &[u8]) -> Result<(Side, &[u8]), EntryFault>
-    ensures { Gives (λ x. (x.0, x.1.now)) result (mark_at side_of bytes.now) }
+    ensures { AnswersRead (λ x. (x.0, x.1.now)) result (mark_at side_of bytes.now) }
 {
     let (mark, rest) = byte_at(bytes)?;
     match mark {
@@ -93,7 +93,7 @@ fn side_at(bytes: &[u8]) -> Result<(Side, &[u8]), EntryFault>
 
 #[tactic(auto, unfolding(crate::specs::RecordReading::leg_at))]
 fn leg_at(alloc: Global, bytes: &[u8]) -> Result<(Leg, &[u8]), EntryFault>
-    ensures { Gives (λ x. (x.0, x.1.now)) result (leg_at bytes.now) }
+    ensures { AnswersRead (λ x. (x.0, x.1.now)) result (leg_at bytes.now) }
 {
     let (account, rest) = u16_at(bytes)?;
     let (side, rest) = side_at(rest)?;
@@ -112,7 +112,7 @@ fn leg_at(alloc: Global, bytes: &[u8]) -> Result<(Leg, &[u8]), EntryFault>
 }
 
 fn legs_of(alloc: Global, count: u8, bytes: &[u8]) -> Result<(List<Leg>, &[u8]), EntryFault>
-    ensures { Gives (λ x. (x.0, x.1.now)) result (items_at leg_at count bytes.now) }
+    ensures { AnswersRead (λ x. (x.0, x.1.now)) result (items_at leg_at count bytes.now) }
 {
     let mut legs = List::new(alloc);
     let mut rest = bytes;
@@ -126,7 +126,7 @@ fn legs_of(alloc: Global, count: u8, bytes: &[u8]) -> Result<(List<Leg>, &[u8]),
 
 #[tactic(auto, unfolding(crate::specs::Reading::listed_at))]
 pub fn legs_at(alloc: Global, bytes: &[u8]) -> Result<(List<Leg>, &[u8]), EntryFault>
-    ensures { Gives (λ x. (x.0, x.1.now)) result (listed_at leg_at bytes.now) }
+    ensures { AnswersRead (λ x. (x.0, x.1.now)) result (listed_at leg_at bytes.now) }
 {
     let (count, rest) = byte_at(bytes)?;
     legs_of(alloc, count, rest)

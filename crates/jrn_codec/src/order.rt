@@ -1,6 +1,6 @@
 //! Reading orders.
 
-ghost use Rattle.jrn_codec.specs.Answers.{Gives};
+ghost use Rattle.jrn_codec.specs.Answers.{AnswersRead};
 ghost use Rattle.jrn_codec.specs.Reading.{bic_at, items_at, listed_at, mark_at, optional_at};
 ghost use Rattle.jrn_codec.specs.RecordReading.{cover_at, credit_at, debit_at, noticed_at, order_at, pass_at, skip_marked, transfer_at};
 
@@ -13,7 +13,7 @@ use std::alloc::Global;
 
 #[tactic(auto, unfolding(crate::specs::Reading::mark_at))]
 fn skip_at(bytes: &[u8]) -> Result<(Skip, &[u8]), EntryFault>
-    ensures { Gives (λ x. (x.0, x.1.now)) result (mark_at skip_marked bytes.now) }
+    ensures { AnswersRead (λ x. (x.0, x.1.now)) result (mark_at skip_marked bytes.now) }
 {
     let (mark, rest) = byte_at(bytes)?;
     match mark {
@@ -26,7 +26,7 @@ fn skip_at(bytes: &[u8]) -> Result<(Skip, &[u8]), EntryFault>
 
 #[tactic(auto, unfolding(crate::specs::Reading::optional_at))]
 fn via_at(bytes: &[u8]) -> Result<(Option<Bic>, &[u8]), EntryFault>
-    ensures { Gives (λ x. (x.0, x.1.now)) result (optional_at bic_at bytes.now) }
+    ensures { AnswersRead (λ x. (x.0, x.1.now)) result (optional_at bic_at bytes.now) }
 {
     match bytes {
         [0, rest @ ..] => Ok((None, rest)),
@@ -40,7 +40,7 @@ fn via_at(bytes: &[u8]) -> Result<(Option<Bic>, &[u8]), EntryFault>
 
 #[tactic(auto, unfolding(crate::specs::RecordReading::transfer_at))]
 fn transfer_at(bytes: &[u8]) -> Result<(Order, &[u8]), EntryFault>
-    ensures { Gives (λ x. (x.0, x.1.now)) result (transfer_at bytes.now) }
+    ensures { AnswersRead (λ x. (x.0, x.1.now)) result (transfer_at bytes.now) }
 {
     let (to, rest) = bic_at(bytes)?;
     let (skip, rest) = skip_at(rest)?;
@@ -50,7 +50,7 @@ fn transfer_at(bytes: &[u8]) -> Result<(Order, &[u8]), EntryFault>
 
 #[tactic(auto, unfolding(crate::specs::RecordReading::cover_at))]
 fn cover_at(bytes: &[u8]) -> Result<(Order, &[u8]), EntryFault>
-    ensures { Gives (λ x. (x.0, x.1.now)) result (cover_at bytes.now) }
+    ensures { AnswersRead (λ x. (x.0, x.1.now)) result (cover_at bytes.now) }
 {
     let (to, rest) = bic_at(bytes)?;
     let (end, rest) = bic_at(rest)?;
@@ -60,7 +60,7 @@ fn cover_at(bytes: &[u8]) -> Result<(Order, &[u8]), EntryFault>
 
 #[tactic(auto, unfolding(crate::specs::RecordReading::pass_at))]
 fn pass_at(bytes: &[u8]) -> Result<(Order, &[u8]), EntryFault>
-    ensures { Gives (λ x. (x.0, x.1.now)) result (pass_at bytes.now) }
+    ensures { AnswersRead (λ x. (x.0, x.1.now)) result (pass_at bytes.now) }
 {
     let (to, rest) = bic_at(bytes)?;
     let (skip, rest) = skip_at(rest)?;
@@ -69,7 +69,7 @@ fn pass_at(bytes: &[u8]) -> Result<(Order, &[u8]), EntryFault>
 
 #[tactic(auto, unfolding(crate::specs::RecordReading::noticed_at))]
 fn noticed_at(legs: usize, bytes: &[u8]) -> Result<((Bic, u8), &[u8]), EntryFault>
-    ensures { Gives (λ x. (x.0, x.1.now)) result (noticed_at legs bytes.now) }
+    ensures { AnswersRead (λ x. (x.0, x.1.now)) result (noticed_at legs bytes.now) }
 {
     let (to, rest) = bic_at(bytes)?;
     let (leg, rest) = byte_at(rest)?;
@@ -81,7 +81,7 @@ fn noticed_at(legs: usize, bytes: &[u8]) -> Result<((Bic, u8), &[u8]), EntryFaul
 
 #[tactic(auto, unfolding(crate::specs::RecordReading::debit_at))]
 fn debit_at(legs: usize, bytes: &[u8]) -> Result<(Order, &[u8]), EntryFault>
-    ensures { Gives (λ x. (x.0, x.1.now)) result (debit_at legs bytes.now) }
+    ensures { AnswersRead (λ x. (x.0, x.1.now)) result (debit_at legs bytes.now) }
 {
     let ((to, leg), rest) = noticed_at(legs, bytes)?;
     Ok((Order::Debit { to, leg }, rest))
@@ -89,7 +89,7 @@ fn debit_at(legs: usize, bytes: &[u8]) -> Result<(Order, &[u8]), EntryFault>
 
 #[tactic(auto, unfolding(crate::specs::RecordReading::credit_at))]
 fn credit_at(legs: usize, bytes: &[u8]) -> Result<(Order, &[u8]), EntryFault>
-    ensures { Gives (λ x. (x.0, x.1.now)) result (credit_at legs bytes.now) }
+    ensures { AnswersRead (λ x. (x.0, x.1.now)) result (credit_at legs bytes.now) }
 {
     let ((to, leg), rest) = noticed_at(legs, bytes)?;
     Ok((Order::Credit { to, leg }, rest))
@@ -97,7 +97,7 @@ fn credit_at(legs: usize, bytes: &[u8]) -> Result<(Order, &[u8]), EntryFault>
 
 #[tactic(auto, unfolding(crate::specs::RecordReading::order_at))]
 fn order_at(legs: usize, bytes: &[u8]) -> Result<(Order, &[u8]), EntryFault>
-    ensures { Gives (λ x. (x.0, x.1.now)) result (order_at legs bytes.now) }
+    ensures { AnswersRead (λ x. (x.0, x.1.now)) result (order_at legs bytes.now) }
 {
     let (kind, rest) = byte_at(bytes)?;
     match kind {
@@ -116,7 +116,7 @@ fn orders_of(
     count: u8,
     bytes: &[u8],
 ) -> Result<(List<Order>, &[u8]), EntryFault>
-    ensures { Gives (λ x. (x.0, x.1.now)) result (items_at (order_at legs) count bytes.now) }
+    ensures { AnswersRead (λ x. (x.0, x.1.now)) result (items_at (order_at legs) count bytes.now) }
 {
     let mut orders = List::new(alloc);
     let mut rest = bytes;
@@ -134,7 +134,7 @@ pub fn orders_at(
     legs: usize,
     bytes: &[u8],
 ) -> Result<(List<Order>, &[u8]), EntryFault>
-    ensures { Gives (λ x. (x.0, x.1.now)) result (listed_at (order_at legs) bytes.now) }
+    ensures { AnswersRead (λ x. (x.0, x.1.now)) result (listed_at (order_at legs) bytes.now) }
 {
     let (count, rest) = byte_at(bytes)?;
     orders_of(alloc, legs, count, rest)

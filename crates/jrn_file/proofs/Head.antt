@@ -3,7 +3,7 @@ use Rattle.std.proofs.Common.{◌≡◌, ◌≢◌, inl, inr, ℕ, ◌+◌, ◌^
 use Rattle.std.proofs.lemmas.List.{append-nil, drop-drop, drop_all}
 use Rattle.std.proofs.lemmas.Bool.{cases_eq}
 use Rattle.corr_disk.specs.Disk.{written, Torn, Follows, Only}
-use Rattle.jrn_file.specs.Reading.{sized}
+use Rattle.jrn_file.specs.Reading.{with_length}
 use Rattle.jrn_file.specs.Journal.{frame_of, record_in, journal_bytes, IsFrame, StandsFor}
 use Rattle.jrn_file.specs.Making.{IsUnmade, IsUnmadeOrMade, IsEntering, made_over}
 use Rattle.jrn_file.proofs.Bytes.{written-behind, written-gate, torn-behind, torn-gate}
@@ -17,8 +17,8 @@ stands-first gate head rest image open_gate fits is = spelled-stands image head 
   gates = (open_gate, fits, tt);
   same = refl;
   is = is
-      ∙ ap (λ (l : List ℕ). gate ∷ l) (append_assoc (sized head) (0 ∷ []) rest)
-      ∙ ap (λ (l : List ℕ). gate ∷ (l ++ 0 ∷ rest)) (sym (append-nil (sized head)));
+      ∙ ap (λ (l : List ℕ). gate ∷ l) (append_assoc (with_length head) (0 ∷ []) rest)
+      ∙ ap (λ (l : List ℕ). gate ∷ (l ++ 0 ∷ rest)) (sym (append-nil (with_length head)));
 })
 
 -- a torn write of one byte on a disk of at most one
@@ -73,9 +73,9 @@ module _ (bytes : List ℕ) (closed : take 1 bytes ≡ 0 ∷ []) (frame : List �
   pub written-head : (c : List ℕ) → c ≡ written 0 (1 ∷ []) (written 1 frame bytes) → c ≡ made_over (record_in frame) bytes
   written-head c is =
       let size : 1 + length frame ≡ length (journal_bytes (record_in frame) []) =
-      omega (arith, ap length framed.is, length-append (sized (record_in frame)) (0 ∷ []), length-sized (record_in frame), length-journal_bytes (record_in frame) []) in
+      omega (arith, ap length framed.is, length-append (with_length (record_in frame)) (0 ∷ []), length-sized (record_in frame), length-journal_bytes (record_in frame) []) in
       opened c is
-      ∙ ap (λ (l : List ℕ). 1 ∷ ((l ++ 0 ∷ []) ++ drop (length frame) (drop 1 bytes))) (sym (append-nil (sized (record_in frame))))
+      ∙ ap (λ (l : List ℕ). 1 ∷ ((l ++ 0 ∷ []) ++ drop (length frame) (drop 1 bytes))) (sym (append-nil (with_length (record_in frame))))
       ∙ ap (λ (l : List ℕ). journal_bytes (record_in frame) [] ++ l) (drop-drop (length frame) 1 bytes ∙ ap (λ (n : ℕ). drop n bytes) size)
 
 -- over at most one byte as over a closed gate

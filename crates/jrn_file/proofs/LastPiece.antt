@@ -3,18 +3,18 @@ use Rattle.std.proofs.Common.{◌≡◌, inl, inr, ℕ, suc, refl, ◌+◌, ◌-
 use Rattle.std.proofs.lemmas.List.{take_at}
 use Rattle.std.proofs.lemmas.Bool.{cases_lt}
 use Rattle.std.proofs.Math.Seq.{take-append-add}
-use Rattle.jrn_file.specs.Reading.{sized}
+use Rattle.jrn_file.specs.Reading.{with_length}
 use Rattle.jrn_file.specs.Journal.{behind_gates, AreOpen}
 use Rattle.jrn_file.specs.Opening.{IsWhole, HasNoRecord, IsShut}
-use Rattle.jrn_file.specs.Pieces.{IsTaken}
+use Rattle.jrn_file.specs.Pieces.{AreTakenOff}
 
 -- a front that is longer than a record has it whole
-whole-in-front : (r next after piece : List ℕ) → length r < 2 ^ 32 → after ++ piece ≡ sized r ++ next → length (sized r) < length after → IsWhole after
+whole-in-front : (r next after piece : List ℕ) → length r < 2 ^ 32 → after ++ piece ≡ with_length r ++ next → length (with_length r) < length after → IsWhole after
 whole-in-front r [] after piece fits is long =
-    absurd (omega (arith, long, ap length is, length-append after piece, length-append (sized r) []))
+    absurd (omega (arith, long, ap length is, length-append after piece, length-append (with_length r) []))
 whole-in-front r (gate ∷ next) after piece fits is long =
-    let k = length after - length (sized r) - 1 in
-    let size : length after ≡ length (sized r) + suc k = omega (arith, long) in (
+    let k = length after - length (with_length r) - 1 in
+    let size : length after ≡ length (with_length r) + suc k = omega (arith, long) in (
       r,
       record {
         gate = gate;
@@ -22,12 +22,12 @@ whole-in-front r (gate ∷ next) after piece fits is long =
         fits = fits;
         is = sym (take_at after piece (length after) refl)
             ∙ ap (λ (l : List ℕ). take (length after) l) is
-            ∙ ap (λ (n : ℕ). take n (sized r ++ gate ∷ next)) size
-            ∙ take-append-add (sized r) (gate ∷ next) (suc k);
+            ∙ ap (λ (n : ℕ). take n (with_length r ++ gate ∷ next)) size
+            ∙ take-append-add (with_length r) (gate ∷ next) (suc k);
       },
     )
 
-pub in-last-piece : (held piece rest : List ℕ) (more : List (List ℕ)) → HasNoRecord held → (IsShut held → ⊥) → IsTaken (held ++ piece) more rest → IsShut rest
+pub in-last-piece : (held piece rest : List ℕ) (more : List (List ℕ)) → HasNoRecord held → (IsShut held → ⊥) → AreTakenOff (held ++ piece) more rest → IsShut rest
     → length rest ≤ length piece
 in-last-piece [] piece rest more stopped open_gate taken shut =
     omega (arith, ap length taken.is, length-append (behind_gates taken.entries) rest)
@@ -39,10 +39,10 @@ in-last-piece (g ∷ after) piece (h ∷ rest) more (inr cut) open_gate taken sh
     behind [] gates is = absurd (open_gate (ap (λ (l : List ℕ). get_or l 0 0) is ∙ shut))
     behind (e ∷ entries) gates is =
         let next = behind_gates entries ++ h ∷ rest in
-        let same : after ++ piece ≡ sized e.1 ++ next =
-        ap (λ (l : List ℕ). drop 1 l) is ∙ append_assoc (sized e.1) (behind_gates entries) (h ∷ rest) in
+        let same : after ++ piece ≡ with_length e.1 ++ next =
+        ap (λ (l : List ℕ). drop 1 l) is ∙ append_assoc (with_length e.1) (behind_gates entries) (h ∷ rest) in
         elim (cases_lt (length piece) (length (h ∷ rest))) [
           | inl more_left ↦
-              absurd (cut (whole-in-front e.1 next after piece gates.1 same (omega (arith, more_left, ap length same, length-append after piece, length-append (sized e.1) next, length-append (behind_gates entries) (h ∷ rest)))))
+              absurd (cut (whole-in-front e.1 next after piece gates.1 same (omega (arith, more_left, ap length same, length-append after piece, length-append (with_length e.1) next, length-append (behind_gates entries) (h ∷ rest)))))
           | inr within ↦ within
         ]

@@ -6,7 +6,7 @@ use Rattle.std.proofs.Math.Nat.{le-div_iff_mul-le}
 use Rattle.jrn_file.specs.Reading.{no_journal, cut, opened_of}
 use Rattle.jrn_file.specs.Opening.{HasNoRecord, IsShut, IsReadAs}
 use Rattle.jrn_file.specs.Journal.{behind_gates}
-use Rattle.jrn_file.specs.Pieces.{IsPiece, IsTaken, OfBytes, calls_to_open}
+use Rattle.jrn_file.specs.Pieces.{IsPiece, AreTakenOff, OfBytes, calls_to_open}
 use Rattle.jrn_file.proofs.Taken.{taken-start, taken-then, taken-end, taken-none, taken-refused, taken-cut}
 use Rattle.jrn_file.proofs.LastPiece.{in-last-piece}
 
@@ -15,7 +15,7 @@ pub record ReadTo (honest : Bool) (reads : List ℕ) (place : ℕ) (all : List (
   pub bytes : List ℕ
   pub size : length bytes ≡ place
   pub told : IsTrue honest → bytes ++ drop place reads ≡ reads
-  pub taken : IsTaken bytes all held
+  pub taken : AreTakenOff bytes all held
 
 pub read-start : (honest : Bool) (reads : List ℕ) → ReadTo honest reads 0 [] []
 read-start honest reads = record { bytes = []; size = refl; told = λ _. refl; taken = taken-start [] }
@@ -41,7 +41,7 @@ front-and-rest asked more bytes is =
 
 -- one piece more
 pub read-more : (honest : Bool) (reads : List ℕ) (at asked n : ℕ) (all more : List (List ℕ)) (held mid rest : List ℕ)
-    → ReadTo honest reads at all held → IsPiece honest reads at asked n held mid → IsTaken mid more rest → ReadTo honest reads (at + n) (all ++ more) rest
+    → ReadTo honest reads at all held → IsPiece honest reads at asked n held mid → AreTakenOff mid more rest → ReadTo honest reads (at + n) (all ++ more) rest
 read-more honest reads at asked n all more held mid rest so_far piece taken =
     let next = piece.more in record {
       bytes = so_far.bytes ++ next;
@@ -52,12 +52,12 @@ read-more honest reads at asked n all more held mid rest so_far piece taken =
           ∙ ap (λ (k : ℕ). so_far.bytes ++ (next ++ drop k (drop at reads))) piece.count
           ∙ ap (λ (l : List ℕ). so_far.bytes ++ l) (sym (front-and-rest asked next (drop at reads) (piece.told told)))
           ∙ so_far.told told;
-      taken = taken-then so_far.bytes held next rest all more so_far.taken (subst (λ l. IsTaken l more rest) piece.is taken);
+      taken = taken-then so_far.bytes held next rest all more so_far.taken (subst (λ l. AreTakenOff l more rest) piece.is taken);
     }
 
 -- one piece more, and the records that it makes whole
 pub read-on : (honest : Bool) (reads : List ℕ) (at asked n : ℕ) (all grown : List (List ℕ)) (held mid rest : List ℕ)
-    → ReadTo honest reads at all held → IsPiece honest reads at asked n held mid → (more : List (List ℕ)) × (grown ≡ all ++ more) × IsTaken mid more rest
+    → ReadTo honest reads at all held → IsPiece honest reads at asked n held mid → (more : List (List ℕ)) × (grown ≡ all ++ more) × AreTakenOff mid more rest
     → ReadTo honest reads (at + n) grown rest
 read-on honest reads at asked n all grown held mid rest so_far piece taken =
     subst (λ l. ReadTo honest reads (at + n) l rest) (sym taken.1) (read-more honest reads at asked n all taken.0 held mid rest so_far piece taken.2)
@@ -107,11 +107,11 @@ module _ (honest : Bool) (reads : List ℕ) (place : ℕ) (all : List (List ℕ)
 
 -- the closed gate stands in the last piece
 pub gate-in-piece : (honest : Bool) (reads : List ℕ) (index piece n : ℕ) (more : List (List ℕ)) (held mid rest : List ℕ) → HasNoRecord held → (IsShut held → ⊥)
-    → IsPiece honest reads (index * piece) piece n held mid → IsTaken mid more rest → IsShut rest → (index * piece + n - length rest) / piece ≡ index
+    → IsPiece honest reads (index * piece) piece n held mid → AreTakenOff mid more rest → IsShut rest → (index * piece + n - length rest) / piece ≡ index
 gate-in-piece honest reads index piece n more held mid [] stopped open_gate is_piece taken shut = absurd shut
 gate-in-piece honest reads index piece n more held mid (g ∷ rest) stopped open_gate is_piece taken shut =
     let within : length (g ∷ rest) ≤ length is_piece.more =
-    in-last-piece held is_piece.more (g ∷ rest) more stopped open_gate (subst (λ l. IsTaken l more (g ∷ rest)) is_piece.is taken) shut in
+    in-last-piece held is_piece.more (g ∷ rest) more stopped open_gate (subst (λ l. AreTakenOff l more (g ∷ rest)) is_piece.is taken) shut in
     let behind = n - length (g ∷ rest) in
     let place : index * piece + n - length (g ∷ rest) ≡ index * piece + behind = omega (arith, within, is_piece.count) in
     ap (λ (k : ℕ). k / piece) place ∙ div-mul-add index piece behind (omega (arith, within, is_piece.count, is_piece.most))

@@ -9,10 +9,10 @@ use Rattle.std.proofs.lemmas.List.{take_at, drop_at, drop_more, drop-drop}
 use Rattle.std.proofs.lemmas.Nat.{from_be_bytes-to_be_bytes_4}
 use Rattle.std.proofs.lemmas.Option.{same_Some, none-some}
 use Rattle.std.proofs.lemmas.Slice.Eq.{bytes_eq-Decides}
-use Rattle.jrn_file.specs.Reading.{Reading, no_journal, whole, cut, begins_with_record, is_whole, opened_of, reading_of, record_at, records_in, records_of, size_of, sized}
+use Rattle.jrn_file.specs.Reading.{Reading, no_journal, whole, cut, begins_with_record, is_whole, opened_of, reading_of, record_at, records_in, records_of, size_of, with_length}
 use Rattle.jrn_file.specs.Journal.{behind_gates, AreOpen, StandsFor}
 use Rattle.jrn_file.specs.Opening.{BeginsWith, HasNoRecord}
-use Rattle.jrn_file.specs.Pieces.{IsTaken}
+use Rattle.jrn_file.specs.Pieces.{AreTakenOff}
 use Rattle.jrn_file.proofs.laws.Sizes.{length-sized, length-behind_gates}
 
 -- a record that was begun is the one that its length tells
@@ -29,21 +29,21 @@ record-begun after r b =
 -- the test by which one is told
 begins-true : (after r : List ℕ) → BeginsWith after r → begins_with_record after r ≡ true
 begins-true after r b =
-    let n = length (sized r) in
+    let n = length (with_length r) in
     let short : nat_lt (length r) (2 ^ 32) ≡ true = lt-ltb (length r) (2 ^ 32) b.fits in
-    let long : nat_lt n (length after) ≡ true = lt-ltb n (length after) (omega (arith, ap length b.is, length-append (sized r) (b.gate ∷ b.rest))) in
-    let same : take n after ≡ sized r = ap (λ (l : List ℕ). take n l) b.is ∙ take_at (sized r) (b.gate ∷ b.rest) n refl in
-    and_from (nat_lt (length r) (2 ^ 32) && nat_lt n (length after)) (bytes_eq (take n after) (sized r))
+    let long : nat_lt n (length after) ≡ true = lt-ltb n (length after) (omega (arith, ap length b.is, length-append (with_length r) (b.gate ∷ b.rest))) in
+    let same : take n after ≡ with_length r = ap (λ (l : List ℕ). take n l) b.is ∙ take_at (with_length r) (b.gate ∷ b.rest) n refl in
+    and_from (nat_lt (length r) (2 ^ 32) && nat_lt n (length after)) (bytes_eq (take n after) (with_length r))
     (and_from (nat_lt (length r) (2 ^ 32)) (nat_lt n (length after)) short long)
-    ((bytes_eq-Decides (take n after) (sized r)).1 same)
+    ((bytes_eq-Decides (take n after) (with_length r)).1 same)
 
 begins-is : (after r : List ℕ) → begins_with_record after r ≡ true → BeginsWith after r
 begins-is after r holds =
-    let n = length (sized r) in
-    let parts = and_parts (nat_lt (length r) (2 ^ 32) && nat_lt n (length after)) (bytes_eq (take n after) (sized r)) holds in
+    let n = length (with_length r) in
+    let parts = and_parts (nat_lt (length r) (2 ^ 32) && nat_lt n (length after)) (bytes_eq (take n after) (with_length r)) holds in
     let sizes = and_parts (nat_lt (length r) (2 ^ 32)) (nat_lt n (length after)) parts.0 in
     let long : n < length after = ltb-true n (length after) sizes.1 in
-    let same : take n after ≡ sized r = (bytes_eq-Decides (take n after) (sized r)).0 parts.1 in
+    let same : take n after ≡ with_length r = (bytes_eq-Decides (take n after) (with_length r)).0 parts.1 in
     let left = drop n after in
     record {
       gate = get_or left 0 0;
@@ -51,7 +51,7 @@ begins-is after r holds =
       fits = ltb-true (length r) (2 ^ 32) sizes.0;
       is = sym (take-append-drop n after)
           ∙ ap (λ (l : List ℕ). l ++ left) same
-          ∙ ap (λ (l : List ℕ). sized r ++ l) (drop_more left 0 0 (omega (arith, long, length-drop n after)));
+          ∙ ap (λ (l : List ℕ). with_length r ++ l) (drop_more left 0 0 (omega (arith, long, length-drop n after)));
     }
 
 whole-begun : (after r : List ℕ) → BeginsWith after r → is_whole after ≡ true
@@ -73,10 +73,10 @@ none-in : (n : ℕ) (rest : List ℕ) → HasNoRecord rest → records_in n rest
 none-in zero rest stop = refl
 none-in (suc n) [] stop = refl
 none-in (suc n) (gate ∷ after) (inl shut) =
-    let more = record_at after ∷ records_in n (drop (length (sized (record_at after))) after) in
+    let more = record_at after ∷ records_in n (drop (length (with_length (record_at after))) after) in
     ap (λ (g : ℕ). cond (not (g == 0) && is_whole after) more []) shut
 none-in (suc n) (gate ∷ after) (inr none) =
-    let more = record_at after ∷ records_in n (drop (length (sized (record_at after))) after) in
+    let more = record_at after ∷ records_in n (drop (length (with_length (record_at after))) after) in
     elim (cases_Bool (is_whole after)) [
       | inl holds ↦ absurd (none (record_at after, begins-is after (record_at after) holds))
       | inr fails ↦ ap (λ (b : Bool). cond b more []) (and-false (not (gate == 0)) (is_whole after) fails)
@@ -84,9 +84,9 @@ none-in (suc n) (gate ∷ after) (inr none) =
 
 -- a whole record behind an open gate is found
 one-in : (n gate : ℕ) (after : List ℕ) → gate ≢ 0 → is_whole after ≡ true
-    → records_in (suc n) (gate ∷ after) ≡ record_at after ∷ records_in n (drop (length (sized (record_at after))) after)
+    → records_in (suc n) (gate ∷ after) ≡ record_at after ∷ records_in n (drop (length (with_length (record_at after))) after)
 one-in n gate after open_gate holds =
-    let more = record_at after ∷ records_in n (drop (length (sized (record_at after))) after) in
+    let more = record_at after ∷ records_in n (drop (length (with_length (record_at after))) after) in
     ap (λ (b : Bool). cond b more []) (and_from (not (gate == 0)) (is_whole after) (is-open gate open_gate) holds)
 
 -- all records in front are found
@@ -98,21 +98,21 @@ all-in zero (e ∷ entries) rest gates stop some within = absurd (omega (arith, 
 all-in (suc n) (e ∷ entries) rest gates stop some within =
     let has : 0 < length rest = some (omega arith) in
     let next = behind_gates entries ++ rest in
-    let after = (sized e.1 ++ behind_gates entries) ++ rest in
-    let size = length (sized e.1) in
-    let same : after ≡ sized e.1 ++ next = append_assoc (sized e.1) (behind_gates entries) rest in
+    let after = (with_length e.1 ++ behind_gates entries) ++ rest in
+    let size = length (with_length e.1) in
+    let same : after ≡ with_length e.1 ++ next = append_assoc (with_length e.1) (behind_gates entries) rest in
     let more : 0 < length next = omega (arith, has, length-append (behind_gates entries) rest) in
     let begins : BeginsWith after e.1 = record {
       gate = get_or next 0 0;
       rest = drop 1 next;
       fits = gates.1;
-      is = same ∙ ap (λ (l : List ℕ). sized e.1 ++ l) (drop_more next 0 0 more);
+      is = same ∙ ap (λ (l : List ℕ). with_length e.1 ++ l) (drop_more next 0 0 more);
     } in
     let is : record_at after ≡ e.1 = record-begun after e.1 begins in
-    let left : drop (length (sized (record_at after))) after ≡ next =
-    ap (λ (r : List ℕ). drop (length (sized r)) after) is ∙ ap (λ (l : List ℕ). drop size l) same ∙ drop_at (sized e.1) next size refl in
-    let others : records_in n (drop (length (sized (record_at after))) after) ≡ map (λ (e : ℕ × List ℕ). e.1) entries =
-    ap (λ (l : List ℕ). records_in n l) left ∙ all-in n entries rest gates.2 stop (λ _. has) (omega (arith, within, ap length same, length-append (sized e.1) next)) in
+    let left : drop (length (with_length (record_at after))) after ≡ next =
+    ap (λ (r : List ℕ). drop (length (with_length r)) after) is ∙ ap (λ (l : List ℕ). drop size l) same ∙ drop_at (with_length e.1) next size refl in
+    let others : records_in n (drop (length (with_length (record_at after))) after) ≡ map (λ (e : ℕ × List ℕ). e.1) entries =
+    ap (λ (l : List ℕ). records_in n l) left ∙ all-in n entries rest gates.2 stop (λ _. has) (omega (arith, within, ap length same, length-append (with_length e.1) next)) in
     one-in n e.0 after gates.0 (whole-begun after e.1 begins) ∙ (λ i. is i ∷ others i)
 
 -- records in front of bytes, behind open gates
@@ -131,7 +131,7 @@ found zero bytes = no-front bytes
 found (suc n) [] = no-front []
 found (suc n) (gate ∷ after) =
     let r = record_at after in
-    let size = length (sized r) in
+    let size = length (with_length r) in
     let left = drop size after in
     let more = records_in n left in
     let inner = found n left in
@@ -139,8 +139,8 @@ found (suc n) (gate ∷ after) =
     (λ holds.
     let parts = and_parts (not (gate == 0)) (is_whole after) holds in
     let begins = begins-is after r parts.1 in
-    let front : after ≡ sized r ++ left =
-    begins.is ∙ ap (λ (l : List ℕ). sized r ++ l) (sym (ap (λ (l : List ℕ). drop size l) begins.is ∙ drop_at (sized r) (begins.gate ∷ begins.rest) size refl)) in
+    let front : after ≡ with_length r ++ left =
+    begins.is ∙ ap (λ (l : List ℕ). with_length r ++ l) (sym (ap (λ (l : List ℕ). drop size l) begins.is ∙ drop_at (with_length r) (begins.gate ∷ begins.rest) size refl)) in
     let total : size_of (r ∷ more) ≡ 1 + (size + size_of more) = omega (arith, length-sized r) in
     let behind : drop (size_of more) left ≡ drop (size_of (r ∷ more)) (gate ∷ after) =
     drop-drop (size_of more) size after ∙ drop-drop (size + size_of more) 1 (gate ∷ after) ∙ ap (λ (k : ℕ). drop k (gate ∷ after)) (sym total) in
@@ -150,14 +150,14 @@ found (suc n) (gate ∷ after) =
       same = ap (λ (l : List (List ℕ)). r ∷ l) inner.same;
       is = ap (λ (l : List ℕ). gate ∷ l) (
           front
-          ∙ ap (λ (l : List ℕ). sized r ++ l) (inner.is ∙ ap (λ (l : List ℕ). behind_gates inner.entries ++ l) behind)
-          ∙ sym (append_assoc (sized r) (behind_gates inner.entries) (drop (size_of (r ∷ more)) (gate ∷ after)))
+          ∙ ap (λ (l : List ℕ). with_length r ++ l) (inner.is ∙ ap (λ (l : List ℕ). behind_gates inner.entries ++ l) behind)
+          ∙ sym (append_assoc (with_length r) (behind_gates inner.entries) (drop (size_of (r ∷ more)) (gate ∷ after)))
           );
     })
     (λ fails. no-front (gate ∷ after))
 
 -- what was taken out of bytes up to where no record stands is what they hold
-pub taken-read : (bytes : List ℕ) (all : List (List ℕ)) (rest : List ℕ) → IsTaken bytes all rest → HasNoRecord rest → opened_of bytes ≡ reading_of all rest
+pub taken-read : (bytes : List ℕ) (all : List (List ℕ)) (rest : List ℕ) → AreTakenOff bytes all rest → HasNoRecord rest → opened_of bytes ≡ reading_of all rest
 unfolding opened_of
 taken-read bytes all rest taken stop =
     let some : 0 < length (map (λ (e : ℕ × List ℕ). e.1) taken.entries) → 0 < length rest =

@@ -3,7 +3,7 @@ use Rattle.std.proofs.Common.{◌≡◌, ◌≢◌, inl, inr, ℕ, ◌+◌, ◌^
 use Rattle.std.proofs.lemmas.List.{append-nil, map-append}
 use Rattle.std.proofs.lemmas.Bool.{cases_eq}
 use Rattle.corr_disk.specs.Disk.{written, Torn}
-use Rattle.jrn_file.specs.Reading.{sized, size_of}
+use Rattle.jrn_file.specs.Reading.{with_length, size_of}
 use Rattle.jrn_file.specs.Journal.{frame_of, record_in, IsFrame, behind_gates, journal_bytes, AreOpen, StandsFor, IsBeforeOrAfter}
 use Rattle.jrn_file.specs.Making.{IsEntering}
 use Rattle.jrn_file.proofs.Readings.{Spelled, spelled-stands}
@@ -20,9 +20,9 @@ stands-more entries head records gate r rest image gates same open_gate fits is 
   gates = AreOpen-append entries ((gate, r) ∷ []) gates (open_gate, fits, tt);
   same = map-append (λ (e : ℕ × List ℕ). e.1) entries ((gate, r) ∷ []) ∙ ap (λ (l : List (List ℕ)). l ++ r ∷ []) same;
   is = is
-      ∙ ap (λ (l : List ℕ). behind_gates entries ++ gate ∷ l) (append_assoc (sized r) (0 ∷ []) rest)
-      ∙ ap (λ (l : List ℕ). behind_gates entries ++ gate ∷ (l ++ 0 ∷ rest)) (sym (append-nil (sized r)))
-      ∙ sym (append_assoc (behind_gates entries) (gate ∷ (sized r ++ [])) (0 ∷ rest))
+      ∙ ap (λ (l : List ℕ). behind_gates entries ++ gate ∷ l) (append_assoc (with_length r) (0 ∷ []) rest)
+      ∙ ap (λ (l : List ℕ). behind_gates entries ++ gate ∷ (l ++ 0 ∷ rest)) (sym (append-nil (with_length r)))
+      ∙ sym (append_assoc (behind_gates entries) (gate ∷ (with_length r ++ [])) (0 ∷ rest))
       ∙ ap (λ (l : List ℕ). l ++ 0 ∷ rest) (sym (behind_gates-append entries ((gate, r) ∷ [])));
 })
 
@@ -51,7 +51,7 @@ place-more head records end place frame framed = omega (
   length-journal_bytes head (records ++ record_in frame ∷ []),
   size_of-append records (record_in frame ∷ []),
   ap length framed.is,
-  length-append (sized (record_in frame)) (0 ∷ []),
+  length-append (with_length (record_in frame)) (0 ∷ []),
   length-sized (record_in frame),
 )
 

@@ -4,19 +4,19 @@ use Rattle.std.specs.Str.{bytes_eq}
 use Rattle.std.proofs.lemmas.List.{append-nil, map-append, drop_at, drop_more, drop-drop, drop_all}
 use Rattle.std.proofs.lemmas.Bool.{cases_lt, false_from_ne_true}
 use Rattle.std.proofs.lemmas.Slice.Eq.{bytes_eq-Decides}
-use Rattle.jrn_file.specs.Reading.{no_journal, whole, cut, opened_of, reading_of, size_of, sized}
+use Rattle.jrn_file.specs.Reading.{no_journal, whole, cut, opened_of, reading_of, size_of, with_length}
 use Rattle.jrn_file.specs.Journal.{behind_gates}
 use Rattle.jrn_file.specs.Opening.{BeginsWith, IsWhole, HasNoRecord, IsShut, IsReadAs}
-use Rattle.jrn_file.specs.Pieces.{IsTaken}
+use Rattle.jrn_file.specs.Pieces.{AreTakenOff}
 use Rattle.jrn_file.proofs.Readings.{taken-read}
 use Rattle.jrn_file.proofs.laws.Sizes.{length-behind_gates, length-journal_bytes, length-sized, behind_gates-append, AreOpen-append}
 
-pub taken-start : (bytes : List ℕ) → IsTaken bytes [] bytes
+pub taken-start : (bytes : List ℕ) → AreTakenOff bytes [] bytes
 taken-start bytes = record { entries = []; gates = tt; same = refl; is = refl; gate = inl refl }
 
 -- one record more
-pub taken-more : (bytes : List ℕ) (all : List (List ℕ)) (at : ℕ) (r : List ℕ) → IsTaken bytes all (drop at bytes) → at < length bytes → get_or bytes at 0 ≢ 0
-    → BeginsWith (drop (at + 1) bytes) r → IsTaken bytes (all ++ r ∷ []) (drop (at + (5 + length r)) bytes)
+pub taken-more : (bytes : List ℕ) (all : List (List ℕ)) (at : ℕ) (r : List ℕ) → AreTakenOff bytes all (drop at bytes) → at < length bytes → get_or bytes at 0 ≢ 0
+    → BeginsWith (drop (at + 1) bytes) r → AreTakenOff bytes (all ++ r ∷ []) (drop (at + (5 + length r)) bytes)
 taken-more bytes all at r taken within open_gate begins =
     let gate = get_or bytes at 0 in
     let entry : ℕ × List ℕ = (gate, r) in
@@ -25,16 +25,16 @@ taken-more bytes all at r taken within open_gate begins =
     let whole : bytes ≡ behind_gates (taken.entries ++ entry ∷ []) ++ next =
     taken.is
     ∙ ap (λ (l : List ℕ). front ++ l) (drop_more bytes at 0 within ∙ ap (λ (l : List ℕ). gate ∷ l) begins.is)
-    ∙ ap (λ (l : List ℕ). front ++ gate ∷ (l ++ next)) (sym (append-nil (sized r)))
-    ∙ sym (append_assoc front (gate ∷ (sized r ++ [])) next)
+    ∙ ap (λ (l : List ℕ). front ++ gate ∷ (l ++ next)) (sym (append-nil (with_length r)))
+    ∙ sym (append_assoc front (gate ∷ (with_length r ++ [])) next)
     ∙ ap (λ (l : List ℕ). l ++ next) (sym (behind_gates-append taken.entries (entry ∷ []))) in
-    let size : at + (5 + length r) ≡ at + 1 + length (sized r) = omega (arith, length-sized r) in
+    let size : at + (5 + length r) ≡ at + 1 + length (with_length r) = omega (arith, length-sized r) in
     let tail : drop (at + (5 + length r)) bytes ≡ next =
     ap (λ (n : ℕ). drop n bytes) size
-    ∙ sym (drop-drop (length (sized r)) (at + 1) bytes)
-    ∙ ap (λ (l : List ℕ). drop (length (sized r)) l) begins.is
-    ∙ drop_at (sized r) next (length (sized r)) refl in
-    subst (λ l. IsTaken bytes (all ++ r ∷ []) l) (sym tail) (record {
+    ∙ sym (drop-drop (length (with_length r)) (at + 1) bytes)
+    ∙ ap (λ (l : List ℕ). drop (length (with_length r)) l) begins.is
+    ∙ drop_at (with_length r) next (length (with_length r)) refl in
+    subst (λ l. AreTakenOff bytes (all ++ r ∷ []) l) (sym tail) (record {
       entries = taken.entries ++ entry ∷ [];
       gates = AreOpen-append taken.entries (entry ∷ []) taken.gates (open_gate, begins.fits, tt);
       same = map-append (λ (e : ℕ × List ℕ). e.1) taken.entries (entry ∷ []) ∙ ap (λ (l : List (List ℕ)). l ++ r ∷ []) taken.same;
@@ -45,7 +45,7 @@ taken-more bytes all at r taken within open_gate begins =
 -- a record behind this place ends within the bytes
 pub record-within : (bytes : List ℕ) (at : ℕ) (r : List ℕ) → BeginsWith (drop (at + 1) bytes) r → at + (5 + length r) ≤ length bytes
 record-within bytes at r begins =
-    omega (arith, ap length begins.is, length-drop (at + 1) bytes, length-append (sized r) (begins.gate ∷ begins.rest), length-sized r)
+    omega (arith, ap length begins.is, length-drop (at + 1) bytes, length-append (with_length r) (begins.gate ∷ begins.rest), length-sized r)
 
 -- no record stands here
 pub stops-shut : (bytes : List ℕ) (at : ℕ) → (at < length bytes → get_or bytes at 0 ≡ 0) → HasNoRecord (drop at bytes)
@@ -63,8 +63,8 @@ no-entries [] none = refl
 no-entries (e ∷ entries) none = absurd (omega (arith, none))
 
 -- the next bytes come
-pub taken-then : (bytes held piece rest : List ℕ) (all more : List (List ℕ)) → IsTaken bytes all held → IsTaken (held ++ piece) more rest
-    → IsTaken (bytes ++ piece) (all ++ more) rest
+pub taken-then : (bytes held piece rest : List ℕ) (all more : List (List ℕ)) → AreTakenOff bytes all held → AreTakenOff (held ++ piece) more rest
+    → AreTakenOff (bytes ++ piece) (all ++ more) rest
 taken-then bytes held piece rest all more one two = record {
   entries = one.entries ++ two.entries;
   gates = AreOpen-append one.entries two.entries one.gates two.gates;
@@ -89,7 +89,7 @@ taken-then bytes held piece rest all more one two = record {
 }
 
 -- the same with more bytes behind
-taken-behind : (bytes held : List ℕ) (all : List (List ℕ)) (behind : List ℕ) → IsTaken bytes all held → 0 < length held → IsTaken (bytes ++ behind) all (held ++ behind)
+taken-behind : (bytes held : List ℕ) (all : List (List ℕ)) (behind : List ℕ) → AreTakenOff bytes all held → 0 < length held → AreTakenOff (bytes ++ behind) all (held ++ behind)
 taken-behind bytes held all behind taken some = record {
   entries = taken.entries;
   gates = taken.gates;
@@ -99,7 +99,7 @@ taken-behind bytes held all behind taken some = record {
 }
 
 -- a closed gate behind the records
-pub taken-end : (bytes held : List ℕ) (all : List (List ℕ)) → IsTaken bytes all held → IsShut held → 0 < length all
+pub taken-end : (bytes held : List ℕ) (all : List (List ℕ)) → AreTakenOff bytes all held → IsShut held → 0 < length all
     → (behind : List ℕ) → IsReadAs (bytes ++ behind) (length bytes - length held) all
 taken-end bytes [] all taken shut some behind = absurd shut
 taken-end bytes (gate ∷ after) [] taken shut some behind = absurd (omega (arith, some))
@@ -120,7 +120,7 @@ taken-end bytes (gate ∷ after) (head ∷ records) taken shut some behind = rec
 }
 
 -- a closed gate and no record
-pub taken-none : (bytes held : List ℕ) (all : List (List ℕ)) → IsTaken bytes all held → IsShut held → length all ≡ 0
+pub taken-none : (bytes held : List ℕ) (all : List (List ℕ)) → AreTakenOff bytes all held → IsShut held → length all ≡ 0
     → (behind : List ℕ) → opened_of (bytes ++ behind) ≡ no_journal
 taken-none bytes [] all taken shut none behind = absurd shut
 taken-none bytes (gate ∷ after) [] taken shut none behind =
@@ -128,7 +128,7 @@ taken-none bytes (gate ∷ after) [] taken shut none behind =
 taken-none bytes (gate ∷ after) (r ∷ all) taken shut none behind = absurd (omega (arith, none))
 
 -- an open gate, or nothing, and no whole record behind it, before the first record
-pub taken-refused : (bytes held : List ℕ) (all : List (List ℕ)) → IsTaken bytes all held → HasNoRecord held → length all ≡ 0 → opened_of bytes ≡ no_journal
+pub taken-refused : (bytes held : List ℕ) (all : List (List ℕ)) → AreTakenOff bytes all held → HasNoRecord held → length all ≡ 0 → opened_of bytes ≡ no_journal
 taken-refused bytes held [] taken stopped none = taken-read bytes [] held taken stopped
 taken-refused bytes held (r ∷ all) taken stopped none = absurd (omega (arith, none))
 
@@ -138,7 +138,7 @@ not-closed gate after open_gate =
     (λ e. open_gate (ap (λ (l : List ℕ). get_or l 0 0) ((bytes_eq-Decides (take 1 (gate ∷ after)) (0 ∷ [])).0 e)))
 
 -- and behind records
-pub taken-cut : (bytes held : List ℕ) (all : List (List ℕ)) → IsTaken bytes all held → HasNoRecord held → (IsShut held → ⊥) → 0 < length all
+pub taken-cut : (bytes held : List ℕ) (all : List (List ℕ)) → AreTakenOff bytes all held → HasNoRecord held → (IsShut held → ⊥) → 0 < length all
     → opened_of bytes ≡ cut all (length bytes - length held)
 taken-cut bytes held [] taken stopped open_gate some = absurd (omega (arith, some))
 taken-cut bytes [] (r ∷ all) taken stopped open_gate some =

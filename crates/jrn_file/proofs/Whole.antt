@@ -3,7 +3,7 @@ use Rattle.std.proofs.Common.{◌≡◌, ℕ, zero, suc, ◌+◌, ◌^◌, ◌<�
 use Rattle.std.specs.Int.{w32, to_be_bytes, from_be_bytes}
 use Rattle.std.proofs.lemmas.List.{drop_more, length-take-le}
 use Rattle.std.proofs.lemmas.Nat.{be_bytes_4}
-use Rattle.jrn_file.specs.Reading.{sized}
+use Rattle.jrn_file.specs.Reading.{with_length}
 use Rattle.jrn_file.specs.Opening.{BeginsWith}
 
 small-take : (n : ℕ) (xs : List ℕ) → ((i : ℕ) → get_or xs i 0 < 256) → (i : ℕ) → get_or (take n xs) i 0 < 256
@@ -31,5 +31,5 @@ begins-with after size bytes is fits enough =
           ∙ ap (λ (l : List ℕ). take 4 after ++ l) (sym (take-append-drop size (drop 4 after)))
           ∙ ap (λ (l : List ℕ). l ++ (r ++ behind)) (sym front)
           ∙ sym (append_assoc (to_be_bytes w32 (length r)) r behind)
-          ∙ ap (λ (l : List ℕ). sized r ++ l) next;
+          ∙ ap (λ (l : List ℕ). with_length r ++ l) next;
     }

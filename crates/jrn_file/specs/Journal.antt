@@ -1,6 +1,6 @@
 -- The bytes of a journal, and what the bytes of a disk stand for.
 use Rattle.std.specs.Prelude.{◌≡◌, ◌≢◌, ◌⊎◌, ℕ, ◌-◌, ◌^◌, ◌<◌, List, [], ◌∷◌, ◌++◌, length, map, take, drop}
-use Rattle.jrn_file.specs.Reading.{sized, opened_of, whole}
+use Rattle.jrn_file.specs.Reading.{with_length, opened_of, whole}
 
 -- a journal's first record, its header, has at most so many bytes
 abbrev pub most_header_bytes : ℕ
@@ -8,7 +8,7 @@ most_header_bytes = 1048576
 
 -- a record as it is appended: behind its length, and a closed gate after it
 abbrev pub frame_of : List ℕ → List ℕ
-frame_of r = sized r ++ 0 ∷ []
+frame_of r = with_length r ++ 0 ∷ []
 
 -- the record of a frame
 abbrev pub record_in : List ℕ → List ℕ
@@ -22,7 +22,7 @@ pub record IsFrame (frame : List ℕ) : Type 0 where
 -- records, each behind its gate
 abbrev pub behind_gates : List (ℕ × List ℕ) → List ℕ
 behind_gates [] = []
-behind_gates (entry ∷ more) = entry.0 ∷ (sized entry.1 ++ behind_gates more)
+behind_gates (entry ∷ more) = entry.0 ∷ (with_length entry.1 ++ behind_gates more)
 
 -- the journal of a header and records: each behind the gate 1, and then a closed gate
 abbrev pub journal_bytes : List ℕ → List (List ℕ) → List ℕ

@@ -1,7 +1,7 @@
 -- What opening a journal tells of the bytes of a disk.
 use Rattle.std.specs.Prelude.{◌≡◌, ◌⊎◌, ℕ, ◌+◌, ◌^◌, ◌<◌, Bool, Option, IsTrue, List, [], ◌∷◌, ◌++◌, length}
 use Rattle.corr_disk.specs.Calls.{CallsMade}
-use Rattle.jrn_file.specs.Reading.{Reading, no_journal, whole, cut, sized, opened_of}
+use Rattle.jrn_file.specs.Reading.{Reading, no_journal, whole, cut, with_length, opened_of}
 use Rattle.jrn_file.specs.Journal.{journal_bytes, StandsFor}
 use Rattle.jrn_file.specs.File.{IsSettled}
 use Rattle.jrn_file.specs.Faults.{TellsCounts}
@@ -19,7 +19,7 @@ pub record BeginsWith (after r : List ℕ) : Type 0 where
   pub gate : ℕ
   pub rest : List ℕ
   pub fits : length r < 2 ^ 32
-  pub is : after ≡ sized r ++ gate ∷ rest
+  pub is : after ≡ with_length r ++ gate ∷ rest
 
 -- a whole record stands behind the gate
 abbrev pub IsWhole : List ℕ → Type 0

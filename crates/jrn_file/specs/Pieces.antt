@@ -11,7 +11,7 @@ pub record IsPiece (honest : Bool) (reads : List ℕ) (at asked n : ℕ) (old ne
   pub told : IsTrue honest → more ≡ take asked (drop at reads)
 
 -- Behind open gates these records stand in front of the bytes, and then the rest: where there is a record, at least a gate.
-pub record IsTaken (bytes : List ℕ) (all : List (List ℕ)) (rest : List ℕ) : Type 0 where
+pub record AreTakenOff (bytes : List ℕ) (all : List (List ℕ)) (rest : List ℕ) : Type 0 where
   pub entries : List (ℕ × List ℕ)
   pub gates : AreOpen entries
   pub same : map (λ entry. entry.1) entries ≡ all

@@ -4,8 +4,8 @@ use Rattle.std.specs.Int.{w32, to_be_bytes, from_be_bytes}
 use Rattle.std.specs.Str.{bytes_eq}
 
 -- a record behind the four bytes of its length
-abbrev pub sized : List ℕ → List ℕ
-sized r = to_be_bytes w32 (length r) ++ r
+abbrev pub with_length : List ℕ → List ℕ
+with_length r = to_be_bytes w32 (length r) ++ r
 
 -- the record behind an open gate: as many bytes as the four in front tell
 abbrev pub record_at : List ℕ → List ℕ
@@ -13,7 +13,7 @@ record_at after = take (from_be_bytes w32 (take 4 after)) (drop 4 after)
 
 -- these bytes begin with a record behind its length, and a byte more, which is the next gate
 abbrev pub begins_with_record : List ℕ → List ℕ → Bool
-begins_with_record after r = nat_lt (length r) (2 ^ 32) && nat_lt (length (sized r)) (length after) && bytes_eq (take (length (sized r)) after) (sized r)
+begins_with_record after r = nat_lt (length r) (2 ^ 32) && nat_lt (length (with_length r)) (length after) && bytes_eq (take (length (with_length r)) after) (with_length r)
 
 -- a whole record stands behind the gate
 abbrev pub is_whole : List ℕ → Bool
@@ -24,7 +24,7 @@ abbrev pub records_in : ℕ → List ℕ → List (List ℕ)
 records_in zero bytes = []
 records_in (suc n) [] = []
 records_in (suc n) (gate ∷ after) =
-    if not (gate == 0) && is_whole after then record_at after ∷ records_in n (drop (length (sized (record_at after))) after) else []
+    if not (gate == 0) && is_whole after then record_at after ∷ records_in n (drop (length (with_length (record_at after))) after) else []
 
 -- how many bytes records take behind their gates: the place of the gate after them
 abbrev pub size_of : List (List ℕ) → ℕ
@@ -61,4 +61,4 @@ all_of (cut all at) = all
 
 -- each of these records stands in the bytes behind its length and its gate, whose place is the size of those before it
 abbrev pub AreAt : List ℕ → List (List ℕ) → Type 0
-AreAt bytes all = (k : ℕ) (r : List ℕ) → slice_get all k ≡ Some r → take (length (sized r)) (drop (size_of (take k all) + 1) bytes) ≡ sized r
+AreAt bytes all = (k : ℕ) (r : List ℕ) → slice_get all k ≡ Some r → take (length (with_length r)) (drop (size_of (take k all) + 1) bytes) ≡ with_length r

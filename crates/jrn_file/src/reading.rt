@@ -4,7 +4,7 @@ ghost use Rattle.std.specs.Prelude.{◌≡◌, ◌≢◌, ◌<◌, ◌≤◌, �
 ghost use Rattle.std.specs.Bool.{OnTrue, OnFalse};
 ghost use Rattle.std.specs.Int.{w32, from_be_bytes};
 ghost use Rattle.jrn_file.specs.Opening.{BeginsWith, IsWhole, HasNoRecord, IsShut};
-ghost use Rattle.jrn_file.specs.Pieces.{IsTaken};
+ghost use Rattle.jrn_file.specs.Pieces.{AreTakenOff};
 
 use crate::loading::LoadFault;
 use corr_text::{Memory, Text};
@@ -16,7 +16,7 @@ pub(crate) fn take_records(
     held: &mut Vec<u8>,
     records: &mut Vec<Text>,
 ) -> Result<(), Memory>
-    ensures taken { OnOk result ((more : List (List ℕ)) × (records.new.items ≡ records.old.items ++ more) × IsTaken held.old.items more held.new.items) }
+    ensures taken { OnOk result ((more : List (List ℕ)) × (records.new.items ≡ records.old.items ++ more) × AreTakenOff held.old.items more held.new.items) }
     ensures stopped { OnOk result (HasNoRecord held.new.items) }
 {
     let at = copy_records(alloc, held.as_slice(), records)?;
@@ -26,7 +26,7 @@ pub(crate) fn take_records(
 
 /// Copies the whole records in front of these bytes, and answers the place behind them.
 fn copy_records(alloc: Global, bytes: &[u8], records: &mut Vec<Text>) -> Result<usize, Memory>
-    ensures taken { IfOk result (λ at. (more : List (List ℕ)) × (records.new.items ≡ records.old.items ++ more) × IsTaken bytes.now more (drop at bytes.now)) }
+    ensures taken { IfOk result (λ at. (more : List (List ℕ)) × (records.new.items ≡ records.old.items ++ more) × AreTakenOff bytes.now more (drop at bytes.now)) }
     ensures stopped { IfOk result (λ at. HasNoRecord (drop at bytes.now)) }
     ensures within { IfOk result (λ at. at ≤ length bytes.now) }
 {

@@ -18,7 +18,8 @@ pub fn deal<J: Drop, R: Drop>(
     requires { 0 < count }
     ensures { IfOk result (λ hands. AreInHands count jobs.items hands.items) }
 {
-    let mut hands = empty_hands(alloc, count)?;
+    let most = (jobs.len() / count).saturating_add(1);
+    let mut hands = empty_hands(alloc, count, most)?;
     let mut dealt = 0;
     for job in jobs {
         hands[dealt % count].add(job)?;
@@ -27,13 +28,17 @@ pub fn deal<J: Drop, R: Drop>(
     Ok(hands)
 }
 
-// So many hands without a job.
-fn empty_hands<J: Drop, R: Drop>(alloc: Global, count: usize) -> Result<Vec<Hand<J, R>>, Memory>
+// So many hands without a job, each with room for `most`.
+fn empty_hands<J: Drop, R: Drop>(
+    alloc: Global,
+    count: usize,
+    most: usize,
+) -> Result<Vec<Hand<J, R>>, Memory>
     ensures { IfOk result (λ hands. AreInHands count [] hands.items) }
 {
     let mut hands = Vec::with_capacity(alloc, count)?;
     for _ in 0..count {
-        hands.push_reserved(Hand::new(alloc));
+        hands.push_reserved(Hand::with_room(alloc, most)?);
     }
     Ok(hands)
 }

@@ -1,6 +1,6 @@
 //! A worker's jobs.
 
-ghost use Rattle.std.specs.Prelude.{◌≡◌, ◌≢◌, ℕ, ◌++◌, ◌∷◌, [], Some, IsSome, OnOk, OnErr};
+ghost use Rattle.std.specs.Prelude.{◌≡◌, ◌≢◌, ℕ, ◌++◌, ◌∷◌, [], Some, IfOk, IsSome, OnOk, OnErr};
 ghost use Rattle.work_pool.specs.Tasks.{unserved, reply_of, ServedHand};
 
 use crate::desk::Desk;
@@ -33,13 +33,13 @@ impl<J, R> Model for Hand<J, R> {
 }
 
 impl<J: Drop, R: Drop> Hand<J, R> {
-    /// No job.
-    pub fn new(alloc: Global) -> Hand<J, R>
-        ensures { result ≡ [] }
+    /// No job yet, and room for `n`.
+    pub fn with_room(alloc: Global, n: usize) -> Result<Hand<J, R>, Memory>
+        ensures { IfOk result (λ hand. hand ≡ []) }
     {
-        Hand {
-            tasks: Vec::new(alloc),
-        }
+        Ok(Hand {
+            tasks: Vec::with_capacity(alloc, n)?,
+        })
     }
 
     /// Adds a job at the end. Want of memory leaves the hand as it was.

@@ -7,6 +7,7 @@ use Rattle.front_word.specs.Rule.{AreTagged, IsNumber}
 use Rattle.front_word.proofs.laws.Prefixes.{get_snoc}
 use Rattle.corr_books.specs.Stand.{entries_of, history_of}
 
+-- the entries of two logs, one after the other, are those of the first and then those of the second
 pub entries_of-append : (xs ys : List Act) → entries_of (xs ++ ys) ≡ entries_of xs ++ entries_of ys
 entries_of-append [] ys = refl
 entries_of-append (x ∷ xs) ys = ap (λ l. x.entry ∷ l) (entries_of-append xs ys)
@@ -15,9 +16,11 @@ pub length-entries_of : (xs : List Act) → length (entries_of xs) ≡ length xs
 length-entries_of [] = refl
 length-entries_of (x ∷ xs) = let e = length-entries_of xs in omega arith
 
+-- a history has an entry for each act of the log, beside those that it began with
 pub length-history_of : (start : List Entry) (log : List Act) → length (history_of start log) ≡ length start + length log
 length-history_of start log = length-append start (entries_of log) ∙ ap (λ n. length start + n) (length-entries_of log)
 
+-- one more act adds its entry to the history
 pub history_of-push : (start : List Entry) (log : List Act) (a : Act) → history_of start (log ++ a ∷ []) ≡ history_of start log ++ a.entry ∷ []
 history_of-push start log a = ap (λ l. start ++ l) (entries_of-append log (a ∷ [])) ∙ sym (append_assoc start (entries_of log) (a.entry ∷ []))
 

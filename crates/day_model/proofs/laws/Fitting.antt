@@ -38,16 +38,20 @@ listed chart n e =
     let parts = and_parts (leb 1 n) (leb n (length chart.accounts)) e in
     (leb-true _ _ parts.0, leb-true _ _ parts.1)
 
+-- legs that fit are a debit and a credit of one amount
 pub transfer : (chart : Chart) (legs : List Leg) → legs_fit chart legs ≡ true → Transfer chart legs
 transfer chart [] e = absurd (false≢true e)
 transfer chart (d ∷ []) e = absurd (false≢true e)
 transfer chart (d ∷ c ∷ []) e =
-    let accounts = and_parts (is_side Debit d.side && is_side Credit c.side && amounts_fit d.amount.0 c.amount.0) (accounts_fit chart d.account.0 c.account.0) e in
+    let accounts =
+    and_parts (is_side Debit d.side && is_side Credit c.side && amounts_fit d.amount.0 c.amount.0) (accounts_fit chart d.account.0 c.account.0) e in
     let amounts = and_parts (is_side Debit d.side && is_side Credit c.side) (amounts_fit d.amount.0 c.amount.0) accounts.0 in
     let sides = and_parts (is_side Debit d.side) (is_side Credit c.side) amounts.0 in
     let below = and_parts (eqb d.amount.0 c.amount.0 && ltb 0 d.amount.0) (ltb d.amount.0 amount_end) amounts.1 in
     let equal = and_parts (eqb d.amount.0 c.amount.0) (ltb 0 d.amount.0) below.0 in
-    let ccy = and_parts (is_listed chart d.account.0 && is_listed chart c.account.0 && not (eqb d.account.0 c.account.0)) (same_ccy (account_at chart d.account.0) (account_at chart c.account.0)) accounts.1 in
+    let ccy =
+    and_parts (is_listed chart d.account.0 && is_listed chart c.account.0 && not (eqb d.account.0 c.account.0))
+    (same_ccy (account_at chart d.account.0) (account_at chart c.account.0)) accounts.1 in
     let apart = and_parts (is_listed chart d.account.0 && is_listed chart c.account.0) (not (eqb d.account.0 c.account.0)) ccy.0 in
     let there = and_parts (is_listed chart d.account.0) (is_listed chart c.account.0) apart.0 in
     record {
@@ -76,9 +80,13 @@ sound_of_two chart d c first second zero leg at = subst (Sound chart) (same_Some
 sound_of_two chart d c first second (suc zero) leg at = subst (Sound chart) (same_Some c leg at) second
 sound_of_two chart d c first second (suc (suc i)) leg at = absurd (none-some leg at)
 
+-- each leg of a transfer is on an account of the book, with an amount below 10^14
 pub leg_sound : (chart : Chart) (legs : List Leg) (i : ℕ) (leg : Leg) → Transfer chart legs → slice_get legs i ≡ Some leg → Sound chart leg
 leg_sound chart legs i leg t at =
-    sound_of_two chart t.debit t.credit (record { listed = t.debit_listed; below = t.below }) (record { listed = t.credit_listed; below = subst (λ (x : ℕ). x < amount_end) t.equal t.below }) i leg (subst (λ (ls : List Leg). slice_get ls i ≡ Some leg) t.legs_are at)
+    sound_of_two chart t.debit t.credit (record { listed = t.debit_listed; below = t.below })
+    (record { listed = t.credit_listed; below = subst (λ (x : ℕ). x < amount_end) t.equal t.below }) i leg
+    (subst (λ (ls : List Leg). slice_get ls i ≡ Some leg) t.legs_are at)
 
+-- a transfer has two legs
 pub two_legs : (chart : Chart) (legs : List Leg) → Transfer chart legs → length legs ≡ 2
 two_legs chart legs t = ap length t.legs_are

@@ -14,10 +14,12 @@ use Rattle.day_model.specs.Next.{has_mir, entered_at}
 use Rattle.day_model.specs.Same.{is_mt, is_same_uetr, is_same_pay, reply_at, reply_to}
 
 -- a new entry is found at its place
-found_last : {A : Type 0} (t : A → Bool) (i : ℕ) (xs : List A) (y : A) → position_from t i xs ≡ None → t y ≡ true → position_from t i (xs ++ y ∷ []) ≡ Some (i + length xs)
+found_last : {A : Type 0} (t : A → Bool) (i : ℕ) (xs : List A) (y : A) → position_from t i xs ≡ None → t y ≡ true
+    → position_from t i (xs ++ y ∷ []) ≡ Some (i + length xs)
 found_last t i [] y none passes = rw passes (ap Some (let s : i ≡ i + 0 = omega arith in s))
 found_last t i (x ∷ xs) y none passes =
-    elim (t x) as (λ b. cond b (Some i) (position_from t (i + 1) xs) ≡ None → cond b (Some i) (position_from t (i + 1) (xs ++ y ∷ [])) ≡ Some (i + length (x ∷ xs))) [
+    let last : Option ℕ = Some (i + length (x ∷ xs)) in
+    elim (t x) as (λ b. cond b (Some i) (position_from t (i + 1) xs) ≡ None → cond b (Some i) (position_from t (i + 1) (xs ++ y ∷ [])) ≡ last) [
       | true ↦ λ h. cc
       | false ↦ λ h. found_last t (i + 1) xs y h passes ∙ ap Some (let s : i + 1 + length xs ≡ i + length (x ∷ xs) = omega arith in s)
     ] none
@@ -40,11 +42,15 @@ same_uetr (Some u) = same_bytes u.0
 pub same_pay : (p : Pay) → is_same_pay p p ≡ true
 same_pay p = rw (same_bytes p.mir.0, same_mt p.mt, same_uetr p.uetr, same_bytes p.text) refl
 
-pub reply_new : (entries : List Entry) (e : Entry) → entered_at e.pay.mir entries ≡ None → reply_to e.pay (entries ++ e ∷ []) ≡ Some (reply.Entered e.pay.mir (length entries + 1))
+-- once a new reference is entered, the reply to its pay names the last place
+pub reply_new : (entries : List Entry) (e : Entry) → entered_at e.pay.mir entries ≡ None
+    → reply_to e.pay (entries ++ e ∷ []) ≡ Some (reply.Entered e.pay.mir (length entries + 1))
 reply_new entries e none =
-    let at : entered_at e.pay.mir (entries ++ e ∷ []) ≡ Some (1 + length entries) = found_last (has_mir e.pay.mir) 1 entries e none (same_bytes e.pay.mir.0) in
+    let at : entered_at e.pay.mir (entries ++ e ∷ []) ≡ Some (1 + length entries) =
+    found_last (has_mir e.pay.mir) 1 entries e none (same_bytes e.pay.mir.0) in
     let place = 1 + length entries in
-    let last : slice_get (entries ++ e ∷ []) (place - 1) ≡ Some e = ap (slice_get (entries ++ e ∷ [])) (let s : place - 1 ≡ length entries = omega arith in s) ∙ get_last entries e in
+    let last : slice_get (entries ++ e ∷ []) (place - 1) ≡ Some e =
+    ap (slice_get (entries ++ e ∷ [])) (let s : place - 1 ≡ length entries = omega arith in s) ∙ get_last entries e in
     ap (λ (o : Option ℕ). option_and_then (λ k. reply_at e.pay k (slice_get (entries ++ e ∷ []) (k - 1))) o) at
     ∙ ap (reply_at e.pay place) last
     ∙ ap (λ b. Some (cond b (reply.Entered e.pay.mir place) (reply.Conflict e.pay.mir place))) (same_pay e.pay)

@@ -28,9 +28,11 @@ position_from-within t i k (x ∷ xs) e =
       | false ↦ λ h. let w = position_from-within t (i + 1) k xs h in (omega arith, omega arith)
     ] e
 
+-- counted from 1 a place is one more than counted from 0
 pub one-Some : {A : Type 0} (t : A → Bool) (k : ℕ) (xs : List A) → position_from t 0 xs ≡ Some k → position_from t 1 xs ≡ Some (k + 1)
 one-Some t k xs e = position_from-one t xs ∙ ap (option_map (λ k. k + 1)) e
 
+-- what has no place counted from 0 has none counted from 1
 pub one-None : {A : Type 0} (t : A → Bool) (xs : List A) → position_from t 0 xs ≡ None → position_from t 1 xs ≡ None
 one-None t xs e = position_from-one t xs ∙ ap (option_map (λ k. k + 1)) e
 

@@ -28,11 +28,13 @@ sum_in-nothing ccy n [] = refl
 sum_in-nothing ccy n (a ∷ accounts) =
     ap (λ (z : ℤ). (if is_same_ccy a.ccy ccy then pos 0 else pos 0) +ℤ z) (sum_in-nothing ccy (n + 1) accounts) ∙ nothing_step (is_same_ccy a.ccy ccy)
 
-add_step : (b : Bool) (x y : ℕ) (s u : ℤ) → (if b then pos (x + y) else pos 0) +ℤ (s +ℤ u) ≡ ((if b then pos x else pos 0) +ℤ s) +ℤ ((if b then pos y else pos 0) +ℤ u)
+add_step : (b : Bool) (x y : ℕ) (s u : ℤ)
+    → (if b then pos (x + y) else pos 0) +ℤ (s +ℤ u) ≡ ((if b then pos x else pos 0) +ℤ s) +ℤ ((if b then pos y else pos 0) +ℤ u)
 add_step true x y s u = omega (arith, ints)
 add_step false x y s u = omega (arith, ints)
 
-sum_in-add : (ccy : Ccy) (f g : ℕ → ℕ) (n : ℕ) (accounts : List Account) → sum_in ccy (λ k. pos (f k + g k)) n accounts ≡ sum_in ccy (λ k. pos (f k)) n accounts +ℤ sum_in ccy (λ k. pos (g k)) n accounts
+sum_in-add : (ccy : Ccy) (f g : ℕ → ℕ) (n : ℕ) (accounts : List Account)
+    → sum_in ccy (λ k. pos (f k + g k)) n accounts ≡ sum_in ccy (λ k. pos (f k)) n accounts +ℤ sum_in ccy (λ k. pos (g k)) n accounts
 sum_in-add ccy f g n [] = refl
 sum_in-add ccy f g n (a ∷ accounts) =
     ap (λ (z : ℤ). (if is_same_ccy a.ccy ccy then pos (f n + g n) else pos 0) +ℤ z) (sum_in-add ccy f g (n + 1) accounts)
@@ -42,7 +44,8 @@ sum_in-add ccy f g n (a ∷ accounts) =
 abbrev moved_over : Chart → Ccy → Side → List Entry → ℤ
 moved_over chart ccy side entries = sum_in ccy (λ n. pos (sum_by (moved_by side n) entries)) 1 chart.accounts
 
-turnover_at : (side : Side) (chart : Chart) (entries : List Entry) (ccy : Ccy) (i : ℕ) → IsLegal chart entries → i ≤ length entries → moved_over chart ccy side (take i entries) ≡ pos (turnover chart ccy side (take i entries))
+turnover_at : (side : Side) (chart : Chart) (entries : List Entry) (ccy : Ccy) (i : ℕ) → IsLegal chart entries → i ≤ length entries
+    → moved_over chart ccy side (take i entries) ≡ pos (turnover chart ccy side (take i entries))
 turnover_at side chart entries ccy zero legal le = sum_in-nothing ccy 1 chart.accounts
 turnover_at side chart entries ccy (suc i) legal le =
     elim (slice_get_cases entries i).1 [
@@ -52,14 +55,17 @@ turnover_at side chart entries ccy (suc i) legal le =
           let t = transfer chart e.pay.legs (legal.fits i e found.2) in
           let before = turnover_at side chart entries ccy i legal (omega arith) in
           let more : (n : ℕ) → sum_by (moved_by side n) (take (i + 1) entries) ≡ sum_by (moved_by side n) (take i entries) + moved_by side n e =
-          λ n. sum_by_more (moved_by side n) entries i e found.1 ∙ ap (λ (x : Entry). sum_by (moved_by side n) (take i entries) + moved_by side n x) item in
+          λ n.
+          sum_by_more (moved_by side n) entries i e found.1 ∙ ap (λ (x : Entry). sum_by (moved_by side n) (take i entries) + moved_by side n x) item in
           let total : turnover chart ccy side (take (i + 1) entries) ≡ turnover chart ccy side (take i entries) + entry_in chart ccy side e =
-          sum_by_more (entry_in chart ccy side) entries i e found.1 ∙ ap (λ (x : Entry). turnover chart ccy side (take i entries) + entry_in chart ccy side x) item in
+          sum_by_more (entry_in chart ccy side) entries i e found.1
+          ∙ ap (λ (x : Entry). turnover chart ccy side (take i entries) + entry_in chart ccy side x) item in
           let next : suc i ≡ i + 1 = omega arith in
           let so_far : ℕ = turnover chart ccy side (take i entries) in
           let both : pos so_far +ℤ pos (entry_in chart ccy side e) ≡ pos (so_far + entry_in chart ccy side e) = omega (arith, ints) in
           ap (λ (k : ℕ). moved_over chart ccy side (take k entries)) next
-          ∙ sum_in-same ccy (λ n. pos (sum_by (moved_by side n) (take (i + 1) entries))) (λ n. pos (sum_by (moved_by side n) (take i entries) + moved_by side n e)) 1 chart.accounts (λ n. ap (λ (x : ℕ). pos x) (more n))
+          ∙ sum_in-same ccy (λ n. pos (sum_by (moved_by side n) (take (i + 1) entries)))
+          (λ n. pos (sum_by (moved_by side n) (take i entries) + moved_by side n e)) 1 chart.accounts (λ n. ap (λ (x : ℕ). pos x) (more n))
           ∙ sum_in-add ccy (λ n. sum_by (moved_by side n) (take i entries)) (λ n. moved_by side n e) 1 chart.accounts
           ∙ ap (λ (z : ℤ). z +ℤ sum_in ccy (λ n. pos (moved_by side n e)) 1 chart.accounts) before
           ∙ ap (λ (z : ℤ). pos so_far +ℤ z) (sum_moved side chart ccy e t)
@@ -70,19 +76,24 @@ turnover_at side chart entries ccy (suc i) legal le =
     ]
 
 -- after a legal history a currency's turnover is the sum of what was moved on its accounts
-pub turnover_by_accounts : (side : Side) (chart : Chart) (entries : List Entry) (ccy : Ccy) → IsLegal chart entries → sum_in ccy (λ n. pos (sum_by (moved_by side n) entries)) 1 chart.accounts ≡ pos (turnover chart ccy side entries)
+pub turnover_by_accounts : (side : Side) (chart : Chart) (entries : List Entry) (ccy : Ccy) → IsLegal chart entries
+    → sum_in ccy (λ n. pos (sum_by (moved_by side n) entries)) 1 chart.accounts ≡ pos (turnover chart ccy side entries)
 turnover_by_accounts side chart entries ccy legal =
-    subst (λ (es : List Entry). moved_over chart ccy side es ≡ pos (turnover chart ccy side es)) (take_all (length entries) entries (omega arith)) (turnover_at side chart entries ccy (length entries) legal (omega arith))
+    subst (λ (es : List Entry). moved_over chart ccy side es ≡ pos (turnover chart ccy side es)) (take_all (length entries) entries (omega arith))
+    (turnover_at side chart entries ccy (length entries) legal (omega arith))
 
 -- each entry moves less than 10^14 on one side of a currency
 entry_small : (side : Side) (chart : Chart) (ccy : Ccy) (e : Entry) → Transfer chart e.pay.legs → entry_in chart ccy side e < amount_end
 entry_small Debit chart ccy e t =
     cond_both (is_booked e.outcome) (sum_by (moved_in chart ccy Debit) e.pay.legs) 0 (λ (x : ℕ). x < amount_end)
-    (λ _. rw (even_debit chart ccy e.pay.legs t) (cond_both (in_ccy ccy (account_at chart t.debit.account.0)) t.debit.amount.0 0 (λ (x : ℕ). x < amount_end) (λ _. t.below) (λ _. omega arith)))
+    (λ _. rw (even_debit chart ccy e.pay.legs t)
+    (cond_both (in_ccy ccy (account_at chart t.debit.account.0)) t.debit.amount.0 0 (λ (x : ℕ). x < amount_end) (λ _. t.below) (λ _. omega arith)))
     (λ _. omega arith)
 entry_small Credit chart ccy e t =
     cond_both (is_booked e.outcome) (sum_by (moved_in chart ccy Credit) e.pay.legs) 0 (λ (x : ℕ). x < amount_end)
-    (λ _. rw (even_credit chart ccy e.pay.legs t) (cond_both (in_ccy ccy (account_at chart t.credit.account.0)) t.credit.amount.0 0 (λ (x : ℕ). x < amount_end) (λ _. subst (λ (x : ℕ). x < amount_end) t.equal t.below) (λ _. omega arith)))
+    (λ _. rw (even_credit chart ccy e.pay.legs t)
+    (cond_both (in_ccy ccy (account_at chart t.credit.account.0)) t.credit.amount.0 0 (λ (x : ℕ). x < amount_end)
+    (λ _. subst (λ (x : ℕ). x < amount_end) t.equal t.below) (λ _. omega arith)))
     (λ _. omega arith)
 
 bounded : (f : Entry → ℕ) (xs : List Entry) → ((i : ℕ) (x : Entry) → slice_get xs i ≡ Some x → f x < amount_end) → sum_by f xs ≤ length xs * amount_end
@@ -92,9 +103,14 @@ bounded f (x ∷ xs) h = omega (arith, sum_by-cons f x xs, h 0 x refl, bounded f
 -- so a turnover fits 64 bits
 pub turnover_fits : (side : Side) (chart : Chart) (entries : List Entry) (ccy : Ccy) → IsLegal chart entries → turnover chart ccy side entries < 2 ^ 64
 turnover_fits side chart entries ccy legal =
-    omega (arith, bounded (entry_in chart ccy side) entries (λ i e at. entry_small side chart ccy e (transfer chart e.pay.legs (legal.fits i e at))), legal.short)
+    omega (
+      arith,
+      bounded (entry_in chart ccy side) entries (λ i e at. entry_small side chart ccy e (transfer chart e.pay.legs (legal.fits i e at))),
+      legal.short,
+    )
 
-even_at : (chart : Chart) (entries : List Entry) (ccy : Ccy) (i : ℕ) → IsLegal chart entries → i ≤ length entries → turnover chart ccy Debit (take i entries) ≡ turnover chart ccy Credit (take i entries)
+even_at : (chart : Chart) (entries : List Entry) (ccy : Ccy) (i : ℕ) → IsLegal chart entries → i ≤ length entries
+    → turnover chart ccy Debit (take i entries) ≡ turnover chart ccy Credit (take i entries)
 even_at chart entries ccy zero legal le = refl
 even_at chart entries ccy (suc i) legal le =
     elim (slice_get_cases entries i).1 [
@@ -104,9 +120,11 @@ even_at chart entries ccy (suc i) legal le =
           let before = even_at chart entries ccy i legal (omega arith) in
           let here = even_entry chart ccy e (transfer chart e.pay.legs (legal.fits i e found.2)) in
           let debits : turnover chart ccy Debit (take (i + 1) entries) ≡ turnover chart ccy Debit (take i entries) + entry_in chart ccy Debit e =
-          sum_by_more (entry_in chart ccy Debit) entries i e found.1 ∙ ap (λ (x : Entry). turnover chart ccy Debit (take i entries) + entry_in chart ccy Debit x) item in
+          sum_by_more (entry_in chart ccy Debit) entries i e found.1
+          ∙ ap (λ (x : Entry). turnover chart ccy Debit (take i entries) + entry_in chart ccy Debit x) item in
           let credits : turnover chart ccy Credit (take (i + 1) entries) ≡ turnover chart ccy Credit (take i entries) + entry_in chart ccy Credit e =
-          sum_by_more (entry_in chart ccy Credit) entries i e found.1 ∙ ap (λ (x : Entry). turnover chart ccy Credit (take i entries) + entry_in chart ccy Credit x) item in
+          sum_by_more (entry_in chart ccy Credit) entries i e found.1
+          ∙ ap (λ (x : Entry). turnover chart ccy Credit (take i entries) + entry_in chart ccy Credit x) item in
           let next : suc i ≡ i + 1 = omega arith in
           rw (next, debits, credits, before, here) refl
       | inr past ↦ absurd (omega (arith, past.0))
@@ -115,4 +133,5 @@ even_at chart entries ccy (suc i) legal le =
 -- what a legal history debits in a currency equals what it credits there
 pub debits_equal_credits : (chart : Chart) (entries : List Entry) → IsLegal chart entries → DebitsEqualCredits chart entries
 debits_equal_credits chart entries legal ccy =
-    subst (λ (es : List Entry). turnover chart ccy Debit es ≡ turnover chart ccy Credit es) (take_all (length entries) entries (omega arith)) (even_at chart entries ccy (length entries) legal (omega arith))
+    subst (λ (es : List Entry). turnover chart ccy Debit es ≡ turnover chart ccy Credit es) (take_all (length entries) entries (omega arith))
+    (even_at chart entries ccy (length entries) legal (omega arith))

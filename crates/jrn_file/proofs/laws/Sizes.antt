@@ -2,18 +2,18 @@
 use Rattle.std.proofs.Common.{◌≡◌, ℕ, ◌+◌, Bool, true, false, cond, List, [], ◌∷◌, ◌++◌, length, map, take, drop, refl, sym, ◌∙◌, ap, arith, append_assoc, length-append}
 use Rattle.std.specs.Int.{w32, to_be_bytes}
 use Rattle.std.specs.Str.{bytes_eq}
-use Rattle.jrn_file.specs.Reading.{whole, cut, opened_of, reading_of, records_of, size_of, sized}
+use Rattle.jrn_file.specs.Reading.{whole, cut, opened_of, reading_of, records_of, size_of, with_length}
 use Rattle.jrn_file.specs.Journal.{behind_gates, journal_bytes, AreOpen}
 
 -- a record behind its length
-pub length-sized : (r : List ℕ) → length (sized r) ≡ 4 + length r
+pub length-sized : (r : List ℕ) → length (with_length r) ≡ 4 + length r
 length-sized r = omega (arith, length-append (to_be_bytes w32 (length r)) r)
 
 -- records behind their gates
 pub length-behind_gates : (entries : List (ℕ × List ℕ)) → length (behind_gates entries) ≡ size_of (map (λ e. e.1) entries)
 length-behind_gates [] = refl
 length-behind_gates (e ∷ more) =
-    omega (arith, length-sized e.1, length-append (sized e.1) (behind_gates more), length-behind_gates more)
+    omega (arith, length-sized e.1, length-append (with_length e.1) (behind_gates more), length-behind_gates more)
 
 map-with_gates : (records : List (List ℕ)) → map (λ (e : ℕ × List ℕ). e.1) (map (λ (r : List ℕ). (1, r)) records) ≡ records
 map-with_gates [] = refl
@@ -33,8 +33,8 @@ size_of-append (x ∷ xs) ys = omega (arith, size_of-append xs ys)
 pub behind_gates-append : (xs ys : List (ℕ × List ℕ)) → behind_gates (xs ++ ys) ≡ behind_gates xs ++ behind_gates ys
 behind_gates-append [] ys = refl
 behind_gates-append (x ∷ xs) ys =
-    ap (λ (l : List ℕ). x.0 ∷ (sized x.1 ++ l)) (behind_gates-append xs ys)
-    ∙ ap (λ (l : List ℕ). x.0 ∷ l) (sym (append_assoc (sized x.1) (behind_gates xs) (behind_gates ys)))
+    ap (λ (l : List ℕ). x.0 ∷ (with_length x.1 ++ l)) (behind_gates-append xs ys)
+    ∙ ap (λ (l : List ℕ). x.0 ∷ l) (sym (append_assoc (with_length x.1) (behind_gates xs) (behind_gates ys)))
 
 pub AreOpen-append : (xs ys : List (ℕ × List ℕ)) → AreOpen xs → AreOpen ys → AreOpen (xs ++ ys)
 AreOpen-append [] ys open_xs open_ys = open_ys
@@ -52,6 +52,7 @@ cut-of : (all : List (List ℕ)) (rest : List ℕ) (found : List (List ℕ)) (at
 cut-of [] rest found at is = absurd (cc)
 cut-of (head ∷ records) rest found at is = cut-by (head ∷ records) (bytes_eq (take 1 rest) (0 ∷ [])) found at is
 
+-- a damage stands right after the records before it
 pub cut-place : (bytes : List ℕ) (all : List (List ℕ)) (at : ℕ) → opened_of bytes ≡ cut all at → at ≡ size_of all
 unfolding opened_of
 cut-place bytes all at is = cut-of (records_of bytes) (drop (size_of (records_of bytes)) bytes) all at is

@@ -18,13 +18,15 @@ pub add_legs-requires-clause-listed : goal.add_legs-requires-clause-listed
 add_legs-requires-clause-listed c =
     let at = placed c.args.h.now.entries c.loop-at.at c.get.result.now c.get.ensures in
     let listed = booked_listed c.args.a.now c.args.h.now.entries c.get.result.now c.loop-at.at c.requires.legal at in
-    subst (λ (x : List Leg × ℕ). All (λ (leg : Leg). (1 ≤ leg.account.0) × (leg.account.0 ≤ x.1)) x.0) (λ k. (sym c.legs_booked.ensures k, sym c.loop-at.invariant.size k)) listed
+    subst (λ (x : List Leg × ℕ). All (λ (leg : Leg). (1 ≤ leg.account.0) × (leg.account.0 ≤ x.1)) x.0)
+    (λ k. (sym c.legs_booked.ensures k, sym c.loop-at.invariant.size k)) listed
 
 pub add_legs-requires-clause-fits : goal.add_legs-requires-clause-fits
 add_legs-requires-clause-fits c =
     let pairs = c.loop-at.pairs.items in
     let at = placed c.args.h.now.entries c.loop-at.at c.get.result.now c.get.ensures in
-    subst (λ (ls : List Leg). PairsFit ls pairs) (sym c.legs_booked.ensures) (entry_fits c.args.a.now c.args.h.now.entries c.get.result.now c.loop-at.at pairs c.requires.legal at c.loop-at.invariant)
+    subst (λ (ls : List Leg). PairsFit ls pairs) (sym c.legs_booked.ensures)
+    (entry_fits c.args.a.now c.args.h.now.entries c.get.result.now c.loop-at.at pairs c.requires.legal at c.loop-at.invariant)
 
 pub loop-at-preserved : goal.loop-at-preserved
 loop-at-preserved c =
@@ -33,5 +35,7 @@ loop-at-preserved c =
     let pairs = c.loop-at.pairs.items in
     let e = c.get.result.now in
     let at = placed entries c.loop-at.at e c.get.ensures in
-    let is : c.add_legs.new.pairs.items ≡ pairs_with (booked_legs e) pairs = c.add_legs.ensures ∙ ap (λ (ls : List Leg). pairs_with ls pairs) c.legs_booked.ensures in
-    subst (λ (ps : List Pair). HasTotals ps count (take (c.loop-at.at + 1) entries)) (sym is) (has_more entries e c.loop-at.at count pairs at c.loop-at.invariant)
+    let is : c.add_legs.new.pairs.items ≡ pairs_with (booked_legs e) pairs =
+    c.add_legs.ensures ∙ ap (λ (ls : List Leg). pairs_with ls pairs) c.legs_booked.ensures in
+    subst (λ (ps : List Pair). HasTotals ps count (take (c.loop-at.at + 1) entries)) (sym is)
+    (has_more entries e c.loop-at.at count pairs at c.loop-at.invariant)

@@ -6,4 +6,6 @@ use Rattle.day_model.proofs.core_job.set_mark.Goals as goal
 
 pub returns-in_default : goal.returns-in_default
 returns-in_default c =
-    untouched c.args.workers.now.items c.args.worker c.index_mut.result.now (λ (job : Job). with_worker c.args.workers.now.items c.args.worker (Some (marked c.args.mark job))) c.requires.from_one c.index_mut.ensures.value c.in_default.is
+    untouched c.args.workers.now.items c.args.worker c.index_mut.result.now
+    (λ (job : Job). with_worker c.args.workers.now.items c.args.worker (Some (marked c.args.mark job))) c.requires.from_one
+    c.index_mut.ensures.value c.in_default.is

@@ -17,7 +17,9 @@ balance_with-requires c =
     let entries = c.args.h.now.entries in
     let n = c.loop-at.at + 1 in
     let there : IsListed chart n = (omega arith, omega (arith, c.loop-at-test.true, c.count-at-end.ensures.count)) in
-    let is = balance_by_pair chart entries c.in_ok-pairs.pairs.items n c.index.result.now c.get-account.result.now c.in_ok-pairs.ensures.value there (placed c.in_ok-pairs.pairs.items c.loop-at.at c.index.result.now c.index.ensures) c.get-account.ensures.value in
+    let is =
+    balance_by_pair chart entries c.in_ok-pairs.pairs.items n c.index.result.now c.get-account.result.now c.in_ok-pairs.ensures.value there
+    (placed c.in_ok-pairs.pairs.items c.loop-at.at c.index.result.now c.index.ensures) c.get-account.ensures.value in
     subst IsSmall (sym is) (small_now chart entries n c.count-at-end.ensures.sound c.requires there)
 
 pub loop-at-preserved : goal.loop-at-preserved
@@ -26,5 +28,10 @@ loop-at-preserved c =
     let entries = c.args.h.now.entries in
     let n = c.loop-at.at + 1 in
     let there : IsListed chart n = (omega arith, omega (arith, c.loop-at-test.true, c.count-at-end.ensures.count)) in
-    let is = balance_by_pair chart entries c.in_ok-pairs.pairs.items n c.index.result.now c.get-account.result.now c.in_ok-pairs.ensures.value there (placed c.in_ok-pairs.pairs.items c.loop-at.at c.index.result.now c.index.ensures) c.get-account.ensures.value in
-    opened_more chart entries c.loop-at.at c.loop-at.purses.items c.push.new.self.items c.balance_with.result (c.in_ok-push.ensures.items ∙ ap (λ (z : ℤ). c.loop-at.purses.items ++ z ∷ []) (to_z-of_z w64 c.balance_with.result (record { sfits = c.balance_with.type_inv }))) (c.balance_with.ensures ∙ is) c.loop-at.invariant
+    let is =
+    balance_by_pair chart entries c.in_ok-pairs.pairs.items n c.index.result.now c.get-account.result.now c.in_ok-pairs.ensures.value there
+    (placed c.in_ok-pairs.pairs.items c.loop-at.at c.index.result.now c.index.ensures) c.get-account.ensures.value in
+    opened_more chart entries c.loop-at.at c.loop-at.purses.items c.push.new.self.items c.balance_with.result
+    (c.in_ok-push.ensures.items
+    ∙ ap (λ (z : ℤ). c.loop-at.purses.items ++ z ∷ []) (to_z-of_z w64 c.balance_with.result (record { sfits = c.balance_with.type_inv })))
+    (c.balance_with.ensures ∙ is) c.loop-at.invariant

@@ -14,7 +14,8 @@ pub after_entry-balance-requires-clause-small : goal.after_entry-balance-require
 after_entry-balance-requires-clause-small c =
     let items = c.entries-entry-items.result.now in
     let legal : IsLegal c.args.a.now items = subst (IsLegal c.args.a.now) (sym c.entries-entry-items.ensures.value) c.requires.legal in
-    rw c.loop-entry.invariant (small_at c.args.a.now items c.args.n.0 c.loop-entry.entry-index c.get.ensures.sound legal c.requires.listed c.loop-entry.auto.entry-index-end)
+    rw c.loop-entry.invariant
+    (small_at c.args.a.now items c.args.n.0 c.loop-entry.entry-index c.get.ensures.sound legal c.requires.listed c.loop-entry.auto.entry-index-end)
 
 pub after_entry-balance-requires-clause-credits : goal.after_entry-balance-requires-clause-credits
 after_entry-balance-requires-clause-credits c =
@@ -45,7 +46,8 @@ pub returns-clause-within : goal.returns-clause-within
 returns-clause-within c =
     let items = c.entries-entry-items.result.now in
     let legal : IsLegal c.args.a.now items = subst (IsLegal c.args.a.now) (sym c.entries-entry-items.ensures.value) c.requires.legal in
-    rw c.loop-entry.invariant (within_at c.args.a.now items c.args.n.0 c.loop-entry.entry-index c.get.ensures.sound legal c.requires.listed c.loop-entry.auto.entry-index-end)
+    rw c.loop-entry.invariant
+    (within_at c.args.a.now items c.args.n.0 c.loop-entry.entry-index c.get.ensures.sound legal c.requires.listed c.loop-entry.auto.entry-index-end)
 
 pub returns-clause-cancel : goal.returns-clause-cancel
 returns-clause-cancel c = balances_cancel c.args.a.now c.args.h.now.entries c.get.ensures.sound c.requires.legal

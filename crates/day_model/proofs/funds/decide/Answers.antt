@@ -13,26 +13,37 @@ use Rattle.day_model.proofs.funds.decide.Goals as goal
 pub get-requires : goal.get-requires
 get-requires c =
     let items = c.as_slice-leg-items.result.now in
-    let at : slice_get items c.loop-at.at ≡ Some c.leg-item.result = slice_get_read items _ c.loop-at.at c.leg-item.result refl c.loop-at-test.true c.leg-item.is in
+    let at : slice_get items c.loop-at.at ≡ Some c.leg-item.result =
+    slice_get_read items _ c.loop-at.at c.leg-item.result refl c.loop-at-test.true c.leg-item.is in
     let legs : List Leg = c.args.p.now.legs in
-    let sound = leg_sound c.args.a.now legs c.loop-at.at c.leg-item.result (transfer c.args.a.now legs c.requires.fits) (ap (λ (ls : List Leg). slice_get ls c.loop-at.at) (sym c.as_slice-leg-items.ensures) ∙ at) in
+    let sound =
+    leg_sound c.args.a.now legs c.loop-at.at c.leg-item.result (transfer c.args.a.now legs c.requires.fits)
+    (ap (λ (ls : List Leg). slice_get ls c.loop-at.at) (sym c.as_slice-leg-items.ensures) ∙ at) in
     sound.listed
 
 pub after_leg-requires-clause-small : goal.after_leg-requires-clause-small
 after_leg-requires-clause-small c =
-    let held : to_z w64 (of_z w64 c.balance-balance.result) ≡ c.balance-balance.result = to_z-of_z w64 c.balance-balance.result (record { sfits = c.balance-balance.type_inv }) in
+    let held : to_z w64 (of_z w64 c.balance-before.result) ≡ c.balance-before.result =
+    to_z-of_z w64 c.balance-before.result (record { sfits = c.balance-before.type_inv }) in
     let items = c.as_slice-leg-items.result.now in
-    let at : slice_get items c.loop-at.at ≡ Some c.leg-item.result = slice_get_read items _ c.loop-at.at c.leg-item.result refl c.loop-at-test.true c.leg-item.is in
+    let at : slice_get items c.loop-at.at ≡ Some c.leg-item.result =
+    slice_get_read items _ c.loop-at.at c.leg-item.result refl c.loop-at-test.true c.leg-item.is in
     let legs : List Leg = c.args.p.now.legs in
-    let sound = leg_sound c.args.a.now legs c.loop-at.at c.leg-item.result (transfer c.args.a.now legs c.requires.fits) (ap (λ (ls : List Leg). slice_get ls c.loop-at.at) (sym c.as_slice-leg-items.ensures) ∙ at) in
-    rw held (small_balance c.args.a.now c.leg-item.result.account.0 c.balance-balance.result c.get.ensures.sound sound.listed c.balance-balance.ensures.within)
+    let sound =
+    leg_sound c.args.a.now legs c.loop-at.at c.leg-item.result (transfer c.args.a.now legs c.requires.fits)
+    (ap (λ (ls : List Leg). slice_get ls c.loop-at.at) (sym c.as_slice-leg-items.ensures) ∙ at) in
+    rw held
+    (small_balance c.args.a.now c.leg-item.result.account.0 c.balance-before.result c.get.ensures.sound sound.listed c.balance-before.ensures.within)
 
 pub after_leg-requires-clause-amount : goal.after_leg-requires-clause-amount
 after_leg-requires-clause-amount c =
     let items = c.as_slice-leg-items.result.now in
-    let at : slice_get items c.loop-at.at ≡ Some c.leg-item.result = slice_get_read items _ c.loop-at.at c.leg-item.result refl c.loop-at-test.true c.leg-item.is in
+    let at : slice_get items c.loop-at.at ≡ Some c.leg-item.result =
+    slice_get_read items _ c.loop-at.at c.leg-item.result refl c.loop-at-test.true c.leg-item.is in
     let legs : List Leg = c.args.p.now.legs in
-    let sound = leg_sound c.args.a.now legs c.loop-at.at c.leg-item.result (transfer c.args.a.now legs c.requires.fits) (ap (λ (ls : List Leg). slice_get ls c.loop-at.at) (sym c.as_slice-leg-items.ensures) ∙ at) in
+    let sound =
+    leg_sound c.args.a.now legs c.loop-at.at c.leg-item.result (transfer c.args.a.now legs c.requires.fits)
+    (ap (λ (ls : List Leg). slice_get ls c.loop-at.at) (sym c.as_slice-leg-items.ensures) ∙ at) in
     sound.below
 
 pub loop-at-preserved : goal.loop-at-preserved
@@ -41,14 +52,17 @@ loop-at-preserved c =
     let a = c.get.result.now in
     let items = c.as_slice-leg-items.result.now in
     let legs : List Leg = c.args.p.now.legs in
-    let at : get_or legs c.loop-at.at leg ≡ leg = ap (λ (ls : List Leg). get_or ls c.loop-at.at leg) (sym c.as_slice-leg-items.ensures) ∙ sym c.leg-item.is in
+    let at : get_or legs c.loop-at.at leg ≡ leg =
+    ap (λ (ls : List Leg). get_or ls c.loop-at.at leg) (sym c.as_slice-leg-items.ensures) ∙ sym c.leg-item.is in
     let lt : c.loop-at.at < length legs = subst (λ (ls : List Leg). c.loop-at.at < length ls) c.as_slice-leg-items.ensures c.loop-at-test.true in
-    let held : to_z w64 (of_z w64 c.balance-balance.result) ≡ c.balance-balance.result = to_z-of_z w64 c.balance-balance.result (record { sfits = c.balance-balance.type_inv }) in
+    let held : to_z w64 (of_z w64 c.balance-before.result) ≡ c.balance-before.result =
+    to_z-of_z w64 c.balance-before.result (record { sfits = c.balance-before.type_inv }) in
     let after : to_z w64 (of_z w64 c.after_leg.result) ≡ c.after_leg.result = to_z-of_z w64 c.after_leg.result (record { sfits = c.after_leg.type_inv }) in
-    let pass : is_within (Some a) (changed leg.side leg.amount.0 (to_z w64 (of_z w64 c.balance-balance.result))) ≡ true =
+    let pass : is_within (Some a) (changed leg.side leg.amount.0 (to_z w64 (of_z w64 c.balance-before.result))) ≡ true =
     ap (is_within (Some a)) (sym (after ∙ c.after_leg.ensures)) ∙ sym c.may_hold.ensures ∙ c.if-not-may_hold.false in
     none_more c.args.a.now c.args.h.now.entries legs c.loop-at.at leg c.loop-at.invariant at lt
-    (leg_passes c.args.a.now c.args.h.now.entries (c.loop-at.at + 1) leg a (to_z w64 (of_z w64 c.balance-balance.result)) c.get.ensures.value (held ∙ c.balance-balance.ensures.value) pass)
+    (leg_passes c.args.a.now c.args.h.now.entries (c.loop-at.at + 1) leg a (to_z w64 (of_z w64 c.balance-before.result)) c.get.ensures.value
+    (held ∙ c.balance-before.ensures.value) pass)
 
 pub returns-clause-next : goal.returns-clause-next
 returns-clause-next c = stays_legal c.args.a.now c.args.h.now.entries c.args.p.now c.requires.legal c.requires.fits

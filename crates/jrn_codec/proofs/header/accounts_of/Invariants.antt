@@ -1,8 +1,8 @@
 use Rattle.std.proofs.Common.{◌≡◌, ◌-◌}
 use Rattle.jrn_codec.specs.Reading.{items_at}
-use Rattle.jrn_codec.specs.HeaderReading.{account_at}
+use Rattle.jrn_codec.specs.HeaderReading.{account_read}
 use Rattle.jrn_codec.proofs.Loop.{with_front}
 use Rattle.jrn_codec.proofs.header.accounts_of.Given as goal
 
 abbrev pub invariant-loop : goal.invariant-loop
-invariant-loop l = with_front l.accounts (items_at account_at (l.count - l.counter) l.rest) ≡ items_at account_at l.count l.bytes
+invariant-loop l = with_front l.accounts (items_at account_read (l.count - l.counter) l.rest) ≡ items_at account_read l.count l.bytes

@@ -6,7 +6,8 @@ use Rattle.std.proofs.lemmas.Grind.{take_at_read}
 use Rattle.std.proofs.lemmas.List.{flat_map_more}
 use Rattle.std.proofs.lemmas.Option.{slice_get_within, get_or_from_slice_get}
 use Rattle.day_model.specs.declared.account.Account.{Account}
-use Rattle.jrn_codec.specs.Header.{HasCode, account_bytes}
+use Rattle.day_model.specs.Chart.{HasCode}
+use Rattle.jrn_codec.specs.Header.{account_bytes}
 use Rattle.jrn_codec.proofs.Fronts.{goes_on}
 use Rattle.jrn_codec.proofs.header_writing.put_accounts.Goals as goal
 

@@ -1,6 +1,7 @@
 use Rattle.std.proofs.Common.{◌≡◌, ◌++◌, take}
 use Rattle.std.specs.List.{AllWithin, flat_map}
-use Rattle.jrn_codec.specs.Header.{HasCode, account_bytes}
+use Rattle.day_model.specs.Chart.{HasCode}
+use Rattle.jrn_codec.specs.Header.{account_bytes}
 use Rattle.jrn_codec.specs.Writing.{IsFrontOf}
 use Rattle.jrn_codec.proofs.header_writing.put_accounts.Given as goal
 

@@ -6,7 +6,8 @@ use Rattle.day_model.specs.declared.account.Account.{Account}
 use Rattle.day_model.proofs.accounts.Accounts.get.Goals as goal
 
 -- the item that is read stands in the list
-there : (rows accounts : List Account) (n : ℕ) (item : Account) → rows ≡ accounts → (1 ≤ n) × (n ≤ length accounts) → item ≡ get_or rows (n - 1) item → slice_get accounts (n - 1) ≡ Some item
+there : (rows accounts : List Account) (n : ℕ) (item : Account) → rows ≡ accounts → (1 ≤ n) × (n ≤ length accounts) → item ≡ get_or rows (n - 1) item
+    → slice_get accounts (n - 1) ≡ Some item
 there rows accounts n item same within is =
     slice_get_read accounts _ (n - 1) item refl (omega (arith, within.0, within.1)) (is ∙ ap (λ xs. get_or xs (n - 1) item) same)
 

@@ -8,20 +8,23 @@ pub returns-in_err-at : goal.returns-in_err-at
 returns-in_err-at c =
     let test = is_owned c.args.kind c.args.head.now c.args.ccy c.args.decimals in
     let rows = c.as_slice.ensures ∙ ap (λ (v : Chart). v.accounts) c.self.view_is in
-    let found : position_from test 0 c.args.self.now.accounts ≡ None = ap (position_from test 0) (sym rows) ∙ sym c.first_owned.ensures ∙ c.in_err-at.was in
+    let found : position_from test 0 c.args.self.now.accounts ≡ None =
+    ap (position_from test 0) (sym rows) ∙ sym c.first_owned.ensures ∙ c.in_err-at.was in
     rw (one-None _ _ found) c.from_residual.ensures
 
 pub overflow_cast-result : goal.overflow_cast-result
 overflow_cast-result c =
     let test = is_owned c.args.kind c.args.head.now c.args.ccy c.args.decimals in
-    let found : position_from test 0 c.self.inside.rows ≡ Some c.in_ok-at.at = ap (position_from test 0) (sym c.as_slice.ensures) ∙ sym c.first_owned.ensures ∙ c.in_ok-at.was in
+    let found : position_from test 0 c.self.inside.rows ≡ Some c.in_ok-at.at =
+    ap (position_from test 0) (sym c.as_slice.ensures) ∙ sym c.first_owned.ensures ∙ c.in_ok-at.was in
     let within : (0 ≤ c.in_ok-at.at) × (c.in_ok-at.at < 0 + length c.self.inside.rows) = position_from-within _ 0 _ _ found in
     omega (arith, c.self.invariant.rows.few)
 
 pub overflow_add-result : goal.overflow_add-result
 overflow_add-result c =
     let test = is_owned c.args.kind c.args.head.now c.args.ccy c.args.decimals in
-    let found : position_from test 0 c.self.inside.rows ≡ Some c.in_ok-at.at = ap (position_from test 0) (sym c.as_slice.ensures) ∙ sym c.first_owned.ensures ∙ c.in_ok-at.was in
+    let found : position_from test 0 c.self.inside.rows ≡ Some c.in_ok-at.at =
+    ap (position_from test 0) (sym c.as_slice.ensures) ∙ sym c.first_owned.ensures ∙ c.in_ok-at.was in
     let within : (0 ≤ c.in_ok-at.at) × (c.in_ok-at.at < 0 + length c.self.inside.rows) = position_from-within _ 0 _ _ found in
     omega (arith, c.self.invariant.rows.few)
 
@@ -29,5 +32,6 @@ pub returns : goal.returns
 returns c =
     let test = is_owned c.args.kind c.args.head.now c.args.ccy c.args.decimals in
     let rows = c.as_slice.ensures ∙ ap (λ (v : Chart). v.accounts) c.self.view_is in
-    let found : position_from test 0 c.args.self.now.accounts ≡ Some c.in_ok-at.at = ap (position_from test 0) (sym rows) ∙ sym c.first_owned.ensures ∙ c.in_ok-at.was in
+    let found : position_from test 0 c.args.self.now.accounts ≡ Some c.in_ok-at.at =
+    ap (position_from test 0) (sym rows) ∙ sym c.first_owned.ensures ∙ c.in_ok-at.was in
     rw (one-Some _ _ _ found) refl

@@ -7,4 +7,5 @@ use Rattle.day_model.proofs.core_ledger.Ledger.add.Goals as goal
 pub settle-requires : goal.settle-requires
 settle-requires c =
     subst (λ (ls : List Leg). CanAddAll c.self.inside.purses.items ls) (sym c.as_slice.ensures)
-    (subst (λ (l : LedgerState). CanAddAll l.purses c.args.pay.now.legs) (sym c.self.view_is) (can_add_now c.args.self.now c.args.pay.now c.requires.sound c.requires.fits))
+    (subst (λ (l : LedgerState). CanAddAll l.purses c.args.pay.now.legs) (sym c.self.view_is)
+    (can_add_now c.args.self.now c.args.pay.now c.requires.sound c.requires.fits))

@@ -10,6 +10,7 @@ pub invariant_of-self : goal.invariant_of-self
 invariant_of-self c =
     let s : CoreState = record { ledger = c.self.inside.ledger; workers = c.self.inside.workers.items } in
     let may : may_give_back (job_at s.workers c.args.worker) ≡ true =
-    ap (λ (ws : List (Option Job)). may_give_back (job_at ws c.args.worker)) (sym c.deref.ensures.value) ∙ sym c.can_give_back.ensures ∙ c.if-can_give_back.true in
+    ap (λ (ws : List (Option Job)). may_give_back (job_at ws c.args.worker)) (sym c.deref.ensures.value) ∙ sym c.can_give_back.ensures
+    ∙ c.if-can_give_back.true in
     subst (λ (ws : List (Option Job)). IsSound (record { ledger = s.ledger; workers = ws })) (sym c.put.ensures)
     (after_sound s (GiveBack c.args.worker) may c.self.invariant)

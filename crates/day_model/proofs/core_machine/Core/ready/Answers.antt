@@ -13,7 +13,8 @@ pub returns-in_err-at-clause-none : goal.returns-in_err-at-clause-none
 returns-in_err-at-clause-none c =
     let s = c.args.self.now in
     let is = c.deref.ensures.value ∙ ap (λ (x : CoreState). x.workers) c.self.view_is in
-    let found : position_from (can_go_on s.workers) 0 s.workers ≡ None = ap (λ (ws : List (Option Job)). position_from (can_go_on ws) 0 ws) (sym is) ∙ sym c.first_ready.ensures ∙ c.in_err-at.was in (
+    let found : position_from (can_go_on s.workers) 0 s.workers ≡ None =
+    ap (λ (ws : List (Option Job)). position_from (can_go_on ws) 0 ws) (sym is) ∙ sym c.first_ready.ensures ∙ c.in_err-at.was in (
       λ _. none_ready s (subst (λ (x : CoreState). IsSound x) c.self.view_is c.self.invariant) (one-None (can_go_on s.workers) s.workers found),
       λ _. ap is_some c.from_residual.ensures,
     )
@@ -38,19 +39,24 @@ pub returns-clause-ready : goal.returns-clause-ready
 returns-clause-ready c =
     let s = c.args.self.now in
     let is = c.deref.ensures.value ∙ ap (λ (x : CoreState). x.workers) c.self.view_is in
-    let found : position_from (can_go_on s.workers) 0 s.workers ≡ Some c.in_ok-at.at = ap (λ (ws : List (Option Job)). position_from (can_go_on ws) 0 ws) (sym is) ∙ sym c.first_ready.ensures ∙ c.in_ok-at.was in
+    let found : position_from (can_go_on s.workers) 0 s.workers ≡ Some c.in_ok-at.at =
+    ap (λ (ws : List (Option Job)). position_from (can_go_on ws) 0 ws) (sym is) ∙ sym c.first_ready.ensures ∙ c.in_ok-at.was in
     ready_may s (c.in_ok-at.at + 1) (one-Some (can_go_on s.workers) c.in_ok-at.at s.workers found)
 
 pub returns-clause-least : goal.returns-clause-least
 returns-clause-least c =
     let s = c.args.self.now in
     let is = c.deref.ensures.value ∙ ap (λ (x : CoreState). x.workers) c.self.view_is in
-    let found : position_from (can_go_on s.workers) 0 s.workers ≡ Some c.in_ok-at.at = ap (λ (ws : List (Option Job)). position_from (can_go_on ws) 0 ws) (sym is) ∙ sym c.first_ready.ensures ∙ c.in_ok-at.was in
+    let found : position_from (can_go_on s.workers) 0 s.workers ≡ Some c.in_ok-at.at =
+    ap (λ (ws : List (Option Job)). position_from (can_go_on ws) 0 ws) (sym is) ∙ sym c.first_ready.ensures ∙ c.in_ok-at.was in
     λ w may. ready_least s (c.in_ok-at.at + 1) w (one-Some (can_go_on s.workers) c.in_ok-at.at s.workers found) may
 
 pub returns-clause-none : goal.returns-clause-none
 returns-clause-none c =
     let s = c.args.self.now in
     let is = c.deref.ensures.value ∙ ap (λ (x : CoreState). x.workers) c.self.view_is in
-    let found : position_from (can_go_on s.workers) 0 s.workers ≡ Some c.in_ok-at.at = ap (λ (ws : List (Option Job)). position_from (can_go_on ws) 0 ws) (sym is) ∙ sym c.first_ready.ensures ∙ c.in_ok-at.was in
-    (λ h. absurd (false≢true (sym h)), λ idle. absurd (idle_none s (c.in_ok-at.at + 1) idle (one-Some (can_go_on s.workers) c.in_ok-at.at s.workers found)))
+    let found : position_from (can_go_on s.workers) 0 s.workers ≡ Some c.in_ok-at.at =
+    ap (λ (ws : List (Option Job)). position_from (can_go_on ws) 0 ws) (sym is) ∙ sym c.first_ready.ensures ∙ c.in_ok-at.was in (
+      λ h. absurd (false≢true (sym h)),
+      λ idle. absurd (idle_none s (c.in_ok-at.at + 1) idle (one-Some (can_go_on s.workers) c.in_ok-at.at s.workers found)),
+    )
