@@ -1,8 +1,9 @@
 -- The report of a run.
-use Rattle.std.specs.Prelude.{ℕ, ℤ, ◌-◌, ◌≤◌, ◌==◌, List, [], ◌∷◌, ◌++◌, length, take, replicate, codes, slice_get, slice_index, Some, None, if◌then◌else◌}
+use Rattle.std.specs.Prelude.{ℕ, ℤ, ◌-◌, ◌≤◌, ◌==◌, List, [], ◌∷◌, ◌++◌, length, take, replicate, codes, slice_get, slice_index, Option, Some, None, if◌then◌else◌}
 use Rattle.std.specs.Fmt.{decimal}
 use Rattle.corr_text.specs.Digits.{padded}
 use Rattle.corr_money.specs.Amounts.{amount_text, signed_text}
+use Rattle.corr_ids.specs.declared.mir.Mir.{Mir}
 use Rattle.day_model.specs.declared.entry.Entry.{Entry}
 use Rattle.day_model.specs.declared.entry.Outcome.{Outcome}
 use Rattle.day_model.specs.declared.entry.Outcome.TheVariants.{Booked, Unfunded}
@@ -20,13 +21,17 @@ NamesPlace entries (Conflict mir place) = (1 ≤ place) × (place ≤ length ent
 NamesPlace entries (Refused mir fault) = Unit {0}
 NamesPlace entries (Unrouted mir code) = Unit {0}
 
+-- a reference, or 28 dashes where there is none
+abbrev pub or_dashes : Option Mir → List ℕ
+or_dashes (Some mir) = mir.0
+or_dashes None = replicate 28 45
+
 -- the message's reference, or 28 dashes
 abbrev pub mir_text : Reply → List ℕ
 mir_text (Entered mir place) = mir.0
 mir_text (Conflict mir place) = mir.0
 mir_text (Unrouted mir code) = mir.0
-mir_text (Refused (Some mir) fault) = mir.0
-mir_text (Refused None fault) = replicate 28 45
+mir_text (Refused mir fault) = or_dashes mir
 
 -- a tag of two characters has a space behind them, which isn't printed
 abbrev pub tag_text : List ℕ → List ℕ

@@ -2,6 +2,7 @@
 
 ghost use Rattle.std.specs.Prelude.{◌≡◌, ◌≤◌, [], IfOk, OnOk};
 ghost use Rattle.std.specs.List.{All, list_any, position};
+ghost use Rattle.corr_money.specs.Amounts.{most_decimals};
 ghost use Rattle.day_model.specs.Chart.{is_same_ccy};
 ghost use Rattle.corr_report.specs.Totals.{currencies_of, entered};
 ghost use Rattle.day_model.specs.Gap.{is_before};
@@ -37,9 +38,9 @@ fn first_greater(ccy: Ccy, units: &[Currency]) -> Option<usize>
 }
 
 fn enter(new: Currency, units: &mut Vec<Currency>) -> Result<(), Memory>
-    requires { new.decimals ≤ 4 }
+    requires { new.decimals ≤ most_decimals }
     ensures value { OnOk result (units.new.items ≡ entered new units.old.items) }
-    ensures decimals { All (λ unit. unit.decimals ≤ 4) units.old.items → All (λ unit. unit.decimals ≤ 4) units.new.items }
+    ensures decimals { All (λ unit. unit.decimals ≤ most_decimals) units.old.items → All (λ unit. unit.decimals ≤ most_decimals) units.new.items }
 {
     if is_among(new.ccy, units.as_slice()) {
         return Ok(());
@@ -54,7 +55,7 @@ fn enter(new: Currency, units: &mut Vec<Currency>) -> Result<(), Memory>
 /// The currencies of the accounts, each once, in byte order.
 pub(crate) fn currencies(alloc: Global, a: &Accounts) -> Result<Vec<Currency>, Memory>
     ensures value { IfOk result (λ units. units.items ≡ currencies_of [] a.now.accounts) }
-    ensures decimals { IfOk result (λ units. All (λ unit. unit.decimals ≤ 4) units.items) }
+    ensures decimals { IfOk result (λ units. All (λ unit. unit.decimals ≤ most_decimals) units.items) }
 {
     let mut units = Vec::new(alloc);
     for n in 1..a.count() + 1 {

@@ -1,6 +1,7 @@
 //! A day of messages, made from a number.
 
 ghost use Rattle.std.specs.Prelude.{◌≡◌, ◌≤◌, ◌++◌, codes, IfOk, OnOk};
+ghost use Rattle.corr_money.specs.Amounts.{most_decimals};
 ghost use Rattle.corr_report.specs.Generated.{generated_bank, generated_ccy, generated_decimals, generated_of, generated_heading, generated_kind, generated_minor, most_generated, next_number, generated_parties, generated_payee, generated_sender, generated_terms, generated_text};
 
 use corr_money::{Minor, put_15d};
@@ -68,7 +69,7 @@ fn ccy_of(kind: Kind) -> &'static [u8]
 
 fn decimals_of(kind: Kind) -> u8
     ensures value { result ≡ generated_decimals kind }
-    ensures few { result ≤ 4 }
+    ensures few { result ≤ most_decimals }
 {
     match kind {
         Kind::Euros | Kind::PassedOn => 2,

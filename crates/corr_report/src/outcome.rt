@@ -2,7 +2,7 @@
 
 ghost use Rattle.std.specs.Prelude.{◌≡◌, ◌<◌, ◌≤◌, ◌-◌, ◌++◌, OnOk, length, slice_get};
 ghost use Rattle.std.specs.List.{flat_map};
-ghost use Rattle.corr_money.specs.Amounts.{amount_end};
+ghost use Rattle.corr_money.specs.Amounts.{amount_end, most_decimals};
 ghost use Rattle.day_model.specs.Chart.{IsListed, account_at};
 ghost use Rattle.day_model.specs.Fit.{FitsAccounts};
 ghost use Rattle.corr_report.specs.Bookings.{leg_words, side_letter, outcome_words};
@@ -18,7 +18,7 @@ use std::alloc::Global;
 fn account_of<'a>(a: &'a Accounts, leg: &Leg) -> &'a Account
     requires { IsListed a.now leg.now.account.0 }
     ensures value { account_at a.now leg.now.account.0 ≡ Some result.now }
-    ensures decimals { result.now.decimals ≤ 4 }
+    ensures decimals { result.now.decimals ≤ most_decimals }
 {
     a.get(leg.account)
 }

@@ -5,21 +5,22 @@ ghost use Rattle.std.specs.Fmt.{decimal};
 ghost use Rattle.std.specs.List.{All};
 ghost use Rattle.day_model.specs.Laws.{DebitsEqualCredits};
 ghost use Rattle.day_model.specs.Legal.{IsLegal};
-ghost use Rattle.corr_report.specs.Lines.{spaced};
-ghost use Rattle.corr_report.specs.Report.{NamesPlace, count_line, mir_text, reply_line, reply_words, report_of, tag_text};
+ghost use Rattle.corr_report.specs.Lines.{line};
+ghost use Rattle.corr_report.specs.Report.{NamesPlace, count_line, or_dashes, reply_line, report_of, tag_text};
 ghost use Rattle.corr_report.specs.Totals.{AreCurrencies, currencies_of};
 
 use crate::outcome::put_entry;
 use crate::totals::put_totals;
-use crate::words::{put_number, put_plain, put_word};
-use corr_text::{Fault, Memory, Text, put_digits};
+use crate::words::{plain, put_number, put_word};
+use corr_ids::Mir;
+use corr_text::{Decimal, Fault, Memory, Text};
 use day_model::{Accounts, History, Reply};
 use std::alloc::Global;
 
 /// For how many bytes a line there is room at first.
 const LINE_ROOM: usize = 64;
 
-fn tag(tag: &[u8; 3]) -> &[u8]
+fn plain_tag(tag: &[u8; 3]) -> &[u8]
     ensures { result.now ≡ tag_text tag.now }
 {
     if tag[2] == b' ' {
@@ -29,50 +30,39 @@ fn tag(tag: &[u8; 3]) -> &[u8]
     }
 }
 
-fn put_fault(alloc: Global, fault: Fault, out: &mut Text) -> Result<(), Memory>
-    ensures { OnOk result (out.new ≡ out.old ++ spaced (codes "REFUSED" ∷ fault.code.0 ∷ tag_text fault.tag ∷ decimal fault.nth ∷ [])) }
+// A message's reference, or 28 dashes where it has none.
+fn mir_or_dashes(mir: &Option<Mir>) -> &[u8]
+    ensures { result.now ≡ or_dashes mir.now }
 {
-    put_word(b"REFUSED", out)?;
-    put_word(&fault.code.0, out)?;
-    put_word(tag(&fault.tag), out)?;
-    put_plain(alloc, fault.nth as u64, out)
-}
-
-fn put_mir(reply: &Reply, out: &mut Text) -> Result<(), Memory>
-    ensures { OnOk result (out.new ≡ out.old ++ 32 ∷ mir_text reply.now) }
-{
-    match reply {
-        Reply::Entered { mir, .. }
-        | Reply::Conflict { mir, .. }
-        | Reply::Unrouted { mir, .. }
-        | Reply::Refused { mir: Some(mir), .. } => put_word(&mir.0, out),
-        Reply::Refused { mir: None, .. } => put_word(b"----------------------------", out),
+    match mir {
+        Some(mir) => &mir.0,
+        None => b"----------------------------",
     }
 }
 
-fn put_reply(
-    alloc: Global,
-    a: &Accounts,
-    h: &History,
-    reply: &Reply,
+// Adds the line of a message that a fault refuses.
+#[inline(never)]
+fn put_refused<'a>(
+    number: &'a [u8],
+    mir: &'a Option<Mir>,
+    fault: &'a Fault,
     out: &mut Text,
 ) -> Result<(), Memory>
-    requires legal { IsLegal a.now h.now.entries }
-    requires place { NamesPlace h.now.entries reply.now }
-    ensures { OnOk result (out.new ≡ out.old ++ spaced (reply_words a.now h.now.entries reply.now)) }
+    ensures { OnOk result (out.new ≡ out.old ++ line number.now (or_dashes mir.now ∷ codes "REFUSED" ∷ fault.now.code.0 ∷ tag_text fault.now.tag ∷ decimal fault.now.nth ∷ [])) }
 {
-    match reply {
-        Reply::Entered { place, .. } => put_entry(alloc, a, *place, h.get(*place), out),
-        Reply::Conflict { place, .. } => {
-            put_word(b"P41", out)?;
-            put_number(alloc, *place as u64, 8, out)
-        }
-        Reply::Refused { fault, .. } => put_fault(alloc, *fault, out),
-        Reply::Unrouted { code, .. } => {
-            put_word(b"REFUSED", out)?;
-            put_word(&code.0, out)
-        }
-    }
+    let mut room = Decimal::new();
+    out.push_all(&[
+        number,
+        b" ",
+        mir_or_dashes(mir),
+        b" REFUSED ",
+        &fault.code.0,
+        b" ",
+        plain_tag(&fault.tag),
+        b" ",
+        plain(fault.nth as u64, &mut room),
+        b"\n",
+    ])
 }
 
 /// Adds the line of the `n`-th message.
@@ -88,10 +78,24 @@ fn put_reply_line(
     requires place { NamesPlace h.now.entries reply.now }
     ensures { OnOk result (out.new ≡ out.old ++ reply_line a.now h.now.entries n reply.now) }
 {
-    put_digits(alloc, n, 6, out)?;
-    put_mir(reply, out)?;
-    put_reply(alloc, a, h, reply, out)?;
-    out.push(b"\n")
+    let mut room = Decimal::new();
+    let number = room.padded(n, 6);
+    match reply {
+        Reply::Entered { mir, place } => {
+            out.push_all(&[number, b" ", &mir.0])?;
+            put_entry(alloc, a, *place, h.get(*place), out)?;
+            out.push(b"\n")
+        }
+        Reply::Conflict { mir, place } => {
+            out.push_all(&[number, b" ", &mir.0, b" P41"])?;
+            put_number(alloc, *place as u64, 8, out)?;
+            out.push(b"\n")
+        }
+        Reply::Refused { mir, fault } => put_refused(number, mir, fault, out),
+        Reply::Unrouted { mir, code } => {
+            out.push_all(&[number, b" ", &mir.0, b" REFUSED ", &code.0, b"\n"])
+        }
+    }
 }
 
 /// The line of the `n`-th message, as in the report: its number, its message's MIR or 28 dashes, and what became of it.

@@ -1,6 +1,7 @@
 //! The summary of a history: how much there is of it, and where its accounts stand.
 
 ghost use Rattle.std.specs.Prelude.{◌≡◌, ◌≤◌, ◌++◌, IfOk, OnOk};
+ghost use Rattle.corr_money.specs.Amounts.{most_decimals};
 ghost use Rattle.day_model.specs.Legal.{IsLegal};
 ghost use Rattle.corr_report.specs.Summary.{balance_line, balances_of, summary_of};
 
@@ -12,7 +13,7 @@ use day_model::{Account, Accounts, AcctNo, History, balance};
 use std::alloc::Global;
 
 fn put_line(alloc: Global, account: &Account, balance: i64, out: &mut Text) -> Result<(), Memory>
-    requires { account.now.decimals ≤ 4 }
+    requires { account.now.decimals ≤ most_decimals }
     ensures { OnOk result (out.new ≡ out.old ++ balance_line balance account.now) }
 {
     out.push(b"BALANCE")?;

@@ -1,6 +1,7 @@
 //! The totals of a history, currency by currency.
 
 ghost use Rattle.std.specs.Prelude.{◌≡◌, ◌≤◌, ◌++◌, OnOk};
+ghost use Rattle.corr_money.specs.Amounts.{most_decimals};
 ghost use Rattle.day_model.specs.Legal.{IsLegal};
 ghost use Rattle.corr_report.specs.Totals.{total_line, total_lines};
 
@@ -18,7 +19,7 @@ fn put_line(
     credits: u64,
     out: &mut Text,
 ) -> Result<(), Memory>
-    requires { unit.decimals ≤ 4 }
+    requires { unit.decimals ≤ most_decimals }
     ensures { OnOk result (out.new ≡ out.old ++ total_line unit debits credits) }
 {
     out.push(b"TOTAL")?;

@@ -3,7 +3,7 @@
 ghost use Rattle.std.specs.Prelude.{◌≡◌, ◌<◌, ◌≤◌, ◌++◌, ◌∷◌, OnErr, OnOk};
 ghost use Rattle.std.specs.Fmt.{decimal};
 ghost use Rattle.corr_text.specs.Digits.{padded};
-ghost use Rattle.corr_money.specs.Amounts.{amount_end, amount_text, signed_text};
+ghost use Rattle.corr_money.specs.Amounts.{amount_end, amount_text, signed_text, most_decimals};
 
 use corr_money::{Minor, put_15d, put_signed, put_total};
 use corr_text::{Decimal, Memory, Text};
@@ -34,7 +34,7 @@ pub fn put_number(_alloc: Global, n: u64, width: u8, out: &mut Text) -> Result<(
 ///
 /// `Memory`: there was no room; then nothing was added.
 pub fn put_amount(alloc: Global, m: Minor, decimals: u8, out: &mut Text) -> Result<(), Memory>
-    requires decimals { decimals ≤ 4 }
+    requires decimals { decimals ≤ most_decimals }
     requires bound { m.0 < amount_end }
     ensures ok { OnOk result (out.new ≡ out.old ++ 32 ∷ amount_text decimals m.0) }
     ensures err { OnErr result (out.new ≡ out.old) }
@@ -52,7 +52,7 @@ pub fn put_amount(alloc: Global, m: Minor, decimals: u8, out: &mut Text) -> Resu
 ///
 /// `Memory`: there was no room; then nothing was added.
 pub fn put_balance(alloc: Global, balance: i64, decimals: u8, out: &mut Text) -> Result<(), Memory>
-    requires { decimals ≤ 4 }
+    requires { decimals ≤ most_decimals }
     ensures ok { OnOk result (out.new ≡ out.old ++ 32 ∷ signed_text decimals balance) }
     ensures err { OnErr result (out.new ≡ out.old) }
 {
@@ -67,17 +67,16 @@ pub fn put_balance(alloc: Global, balance: i64, decimals: u8, out: &mut Text) ->
 
 /// Adds a space and a total.
 pub(crate) fn put_sum(alloc: Global, sum: u64, decimals: u8, out: &mut Text) -> Result<(), Memory>
-    requires { decimals ≤ 4 }
+    requires { decimals ≤ most_decimals }
     ensures { OnOk result (out.new ≡ out.old ++ 32 ∷ amount_text decimals sum) }
 {
     out.push(b" ")?;
     put_total(alloc, sum, decimals, out)
 }
 
-/// Adds a space and a number as it is.
-pub(crate) fn put_plain(alloc: Global, n: u64, out: &mut Text) -> Result<(), Memory>
-    ensures { OnOk result (out.new ≡ out.old ++ 32 ∷ decimal n) }
+/// The digits of a number, with no zeros before them, written into `room`.
+pub(crate) fn plain(n: u64, room: &mut Decimal) -> &[u8]
+    ensures { result.now ≡ decimal n }
 {
-    let digits = n.to_string(alloc)?;
-    put_word(digits.as_bytes(), out)
+    room.padded(n, 0)
 }

@@ -16,7 +16,7 @@ use Rattle.corr_top.specs.declared.desk.Served.TheVariants as served
 use Rattle.corr_top.specs.declared.message.NoPay.{NoPay}
 use Rattle.corr_top.specs.Days.{HasAnswered}
 use Rattle.corr_top.specs.Message.{pays_in, replies_in, message_reply}
-use Rattle.corr_top.specs.Serving.{AreInTurn, AreTold, are_replies}
+use Rattle.corr_top.specs.Serving.{AreServedInOrder, AreTold, are_replies}
 use Rattle.corr_top.proofs.Replying.{all_one, names_place}
 
 -- a message with a reply, for each of them
@@ -76,7 +76,7 @@ replied o history readings made replies told is = record {
 }
 
 pub has_answered : (o : Opening) (history : List Entry) (readings : List (Result Pay NoPay)) (made : List Served) (replies : List Reply) → AreTold o history readings made
-    → (o.made ≡ 1 → AreInTurn o history readings made) → made ≡ are_replies replies → HasAnswered o readings history replies
+    → (o.made ≡ 1 → AreServedInOrder o history readings made) → made ≡ are_replies replies → HasAnswered o readings history replies
 has_answered o history readings made replies told turn is =
     let are = replied o history readings made replies told is in
     record {

@@ -53,7 +53,7 @@ use Rattle.corr_top.specs.declared.words.Command.TheVariants.{Run, Trial, Plain}
 use Rattle.corr_top.specs.declared.words.Plain.TheVariants.{Generate, Init, Query, Reconcile}
 use Rattle.corr_top.specs.Booking.{IsEnteredOn, IsBack, LacksRoomThen, StopsBooking}
 use Rattle.corr_top.specs.Commands.{IsFor, command_steps}
-use Rattle.corr_top.specs.Complete.{HasRoomForAll, IsReady, IsFaultless, IsSure, Told}
+use Rattle.corr_top.specs.Complete.{HasRoomForAll, IsReady, IsFaultless, IsSure, TellsAll}
 use Rattle.corr_top.specs.Ends.{Ends, HasStopped}
 use Rattle.corr_top.specs.Inputs.{Inputs, accounts_in, directory_in, instructions_in, opened, pays_of, tables_in}
 use Rattle.corr_top.specs.Message.{pays_in, readings_of}
@@ -192,7 +192,7 @@ same_rose faults old new then now f = subst (λ n. Rose n (faults new)) f.then_i
 tells_rose : (old before after new : ℕ) → TellsCounts old before after new → Rose old new
 tells_rose old before after new t = subst (λ n. Rose n new) t.before_is (subst (λ n. Rose before n) t.after_is t.rose)
 
-table_memory : {S : Type 0} (source : sources.Ghosts S) (old new : S) (bytes meant_bytes : List ℕ) (fault meant : Option Bad) (stop : TableStop) → Told source old new meant_bytes → meant ≡ None → length meant_bytes ≤ 8388608
+table_memory : {S : Type 0} (source : sources.Ghosts S) (old new : S) (bytes meant_bytes : List ℕ) (fault meant : Option Bad) (stop : TableStop) → TellsAll source old new meant_bytes → meant ≡ None → length meant_bytes ≤ 8388608
     → (bytes ≡ meant_bytes → fault ≡ meant) → StopsAtTable source old new bytes fault stop → status_of_table stop ≡ status.Memory
 table_memory source old new bytes meant_bytes fault meant (table.Fault b a) told none short same stops = absurd (told.sound (same_rose source.faults old new b a stops))
 table_memory source old new bytes meant_bytes fault meant (table.Bad t r w) told none short same stops =
@@ -232,7 +232,7 @@ day_memory history meant day stop same latest back =
     at_end [] last = refl
     at_end (x ∷ front) last = at_end front last
 
-messages_memory : {S : Type 0} (source : sources.Ghosts S) (old new : S) (bytes meant : List ℕ) (cut : List (List ℕ)) (stop : FileStop) → Told source old new meant → IsMessageFile meant cut → StopsAtMessages source old new bytes stop
+messages_memory : {S : Type 0} (source : sources.Ghosts S) (old new : S) (bytes meant : List ℕ) (cut : List (List ℕ)) (stop : FileStop) → TellsAll source old new meant → IsMessageFile meant cut → StopsAtMessages source old new bytes stop
     → status_of_file stop ≡ status.Memory
 messages_memory source old new bytes meant cut (file.Fault b a) told is stops = absurd (told.sound (same_rose source.faults old new b a stops))
 messages_memory source old new bytes meant cut (file.TooLarge b m) told is stops =
@@ -279,7 +279,7 @@ module _ {S K D : Type 0} (source : sources.Ghosts S) (d : disks.Ghosts D) (old 
   step_memory s done Step.received after all ready stops = stops.1 ∙ messages_memory source old.received new.received j.messages i.messages i.cut stops.0 ready.0 ready.1 stops.2
 
   -- the messages of a file that was read are those that were told
-  cut_agrees : (from to : S) → Told source from to i.messages → IsMessageFile i.messages i.cut → HasMessages source from to j.messages j.cut → j.cut ≡ i.cut
+  cut_agrees : (from to : S) → TellsAll source from to i.messages → IsMessageFile i.messages i.cut → HasMessages source from to j.messages j.cut → j.cut ≡ i.cut
   cut_agrees from to told are had =
       let same = took_whole source.left source.faults 67108864 from to j.messages i.messages told.told are.short had.took in
       sym (cut-comes had.are.cut).all ∙ ap (λ (f : List ℕ). with_open (run (at_start []) f).given (run (at_start []) f).held) same ∙ (cut-comes are.cut).all

@@ -6,7 +6,7 @@ use Rattle.corr_disk.specs.declared.disk.Disk as disks
 use Rattle.corr_io.specs.declared.source.Source as sources
 use Rattle.corr_text.specs.Faults.{Rose}
 use Rattle.corr_books.specs.Closing.{LeavesClosed}
-use Rattle.corr_books.specs.Opening.{Opening, Parts, opening_of}
+use Rattle.corr_books.specs.Opening.{Opening, Parts, opening_with}
 use Rattle.corr_books.specs.Telling.{ShowsFull}
 use Rattle.day_model.specs.declared.entry.Entry.{Entry}
 use Rattle.day_model.specs.declared.pay.Pay.{Pay}
@@ -35,7 +35,7 @@ use Rattle.corr_top.specs.Message.{pays_in, readings_of}
 use Rattle.corr_top.specs.Origin.{SendsAccepted}
 use Rattle.corr_top.specs.Out.{sent_from}
 use Rattle.corr_top.specs.Passing.{HasMessages}
-use Rattle.corr_top.specs.Serving.{AllServed, AreInTurn, AreTold, are_replies, HasPayShape, HasServed, IsFirstFull, IsShort, IsTold, IsTried}
+use Rattle.corr_top.specs.Serving.{AllServed, AreServedInOrder, AreTold, are_replies, HasPayShape, HasServed, IsFirstFull, IsShort, IsTold, IsTried}
 use Rattle.corr_top.specs.Stops.{status_of_booking}
 use Rattle.corr_top.proofs.Adding.{in_front}
 use Rattle.corr_top.proofs.Answering.{all_places, entered_by, has_answered}
@@ -75,7 +75,7 @@ asked_at (Err why ∷ readings) zero pay at = absurd (cc (at))
 asked_at (Err why ∷ readings) (suc n) pay at =
     let r = asked_at readings n pay at in (r.0, r.1, λ j other less is. let m = r.2 j other less is in let before = m.1 in (suc m.0, omega (arith, before), m.2))
 
-module _ (o : Opening) (readings : List (Result Pay NoPay)) (history : List Entry) (faults : ℕ) (made : List Served) (told : AreTold o history readings made) (turn : o.made ≡ 1 → AreInTurn o history readings made) where
+module _ (o : Opening) (readings : List (Result Pay NoPay)) (history : List Entry) (faults : ℕ) (made : List Served) (told : AreTold o history readings made) (turn : o.made ≡ 1 → AreServedInOrder o history readings made) where
   -- ---- pays that found no room
 
   -- the pay of a message with a reply is entered
@@ -162,9 +162,9 @@ module _ (o : Opening) (readings : List (Result Pay NoPay)) (history : List Entr
   cause_of before after booking.Memory was is calm stops = tt
 
 module _ {S D : Type 0} (source : sources.Ghosts S) (d : disks.Ghosts D) (directory : Directory) (workers : ℕ) (from to : S) (old : Parts D) (new : D) (bytes : List ℕ) (cut : List (List ℕ)) (file : HasMessages source from to bytes cut)
-    (history : List Entry) (left : HasServed d (opening_of d old workers) (readings_of directory old.accounts cut) old.accounts history new) where
+    (history : List Entry) (left : HasServed d (opening_with d old workers) (readings_of directory old.accounts cut) old.accounts history new) where
   abbrev books : Opening
-  books = opening_of d old workers
+  books = opening_with d old workers
 
   abbrev readings : List (Result Pay NoPay)
   readings = readings_of directory old.accounts cut
@@ -189,7 +189,7 @@ module _ {S D : Type 0} (source : sources.Ghosts S) (d : disks.Ghosts D) (direct
     cause = tt;
   })
 
-  module _ (made : List Served) (told : AreTold books history readings made) (turn : workers ≡ 1 → AreInTurn books history readings made) where
+  module _ (made : List Served) (told : AreTold books history readings made) (turn : workers ≡ 1 → AreServedInOrder books history readings made) where
     -- its texts were made
     pub day_done : (count before : ℕ) (texts : Texts) → before ≡ old.at_open → count ≡ length old.base → AreInstructions directory.tables directory.ssi → IsChart old.accounts
         → GivesTexts old.accounts history made before (d.faults new) count (Ok texts) → GivesDay source d directory workers from to old new (Ok texts)
@@ -235,9 +235,9 @@ left_on d o asked chart history left has = record { accounts = refl; added = has
 
 module _ {S D : Type 0} (source : sources.Ghosts S) (d : disks.Ghosts D) (directory : Directory) (workers : ℕ) (from to : S) (old : Parts D) (bytes : List ℕ) (cut : List (List ℕ)) (file : HasMessages source from to bytes cut)
     (are : AreInstructions directory.tables directory.ssi) (sound : IsChart old.accounts) (count before : ℕ) (was : before ≡ old.at_open) (counted : count ≡ length old.base) where
-  by_served : {V M : Type 0} (items : V → List Served) (history : List Entry) (new : D) → HasServed d (opening_of d old workers) (readings_of directory old.accounts cut) old.accounts history new
-      → (served : Result V M) → IfOk served (λ made. AreTold (opening_of d old workers) history (readings_of directory old.accounts cut) (items made))
-      → IfOk served (λ made. workers ≡ 1 → AreInTurn (opening_of d old workers) history (readings_of directory old.accounts cut) (items made)) → IfErr served (λ _. history ≡ old.base)
+  by_served : {V M : Type 0} (items : V → List Served) (history : List Entry) (new : D) → HasServed d (opening_with d old workers) (readings_of directory old.accounts cut) old.accounts history new
+      → (served : Result V M) → IfOk served (λ made. AreTold (opening_with d old workers) history (readings_of directory old.accounts cut) (items made))
+      → IfOk served (λ made. workers ≡ 1 → AreServedInOrder (opening_with d old workers) history (readings_of directory old.accounts cut) (items made)) → IfErr served (λ _. history ≡ old.base)
       → (r : Result Texts Status) → IfOk served (λ made. GivesTexts old.accounts history (items made) before (d.faults new) count r) → IfErr served (λ _. r ≡ Err status.Memory)
       → GivesDay source d directory workers from to old new r
   by_served items history new left (Ok made) told turn none (Ok texts) gives memory = day_done source d directory workers from to old new bytes cut file history left (items made) told turn count before texts was counted are sound gives
@@ -245,9 +245,9 @@ module _ {S D : Type 0} (source : sources.Ghosts S) (d : disks.Ghosts D) (direct
   by_served items history new left (Err e) told turn none r gives memory =
       subst (GivesDay source d directory workers from to old new) (sym memory) (day_unserved source d directory workers from to old new bytes cut file history left none)
 
-  pub day_ends : (day : ServedDay D) → AllServed d (opening_of d old workers) (readings_of directory old.accounts cut) day → (r : Result Texts Status) → GivesServed d day before count r → GivesDay source d directory workers from to old day.closed.disk r
+  pub day_ends : (day : ServedDay D) → AllServed d (opening_with d old workers) (readings_of directory old.accounts cut) day → (r : Result Texts Status) → GivesServed d day before count r → GivesDay source d directory workers from to old day.closed.disk r
   day_ends day all r gives =
-      by_served (λ made. made.items) day.closed.history.entries day.closed.disk (left_on d (opening_of d old workers) (readings_of directory old.accounts cut) day.closed.accounts day.closed.history.entries day.closed.disk all.left)
+      by_served (λ made. made.items) day.closed.history.entries day.closed.disk (left_on d (opening_with d old workers) (readings_of directory old.accounts cut) day.closed.accounts day.closed.history.entries day.closed.disk all.left)
       day.served all.told all.turn all.none r
       (subst (λ (c : Chart). IfOk day.served (λ made. GivesTexts c day.closed.history.entries made.items before (d.faults day.closed.disk) count r)) all.left.accounts gives.texts) gives.none
 

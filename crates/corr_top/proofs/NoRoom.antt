@@ -8,7 +8,7 @@ use Rattle.day_model.specs.Chart.{Chart}
 use Rattle.day_model.specs.Log.{most_entries}
 use Rattle.day_model.specs.Next.{entered_at, entry_of, next_history}
 use Rattle.corr_ids.specs.declared.day.Day.{Day}
-use Rattle.jrn_book.specs.Answers.{HasRoom, IsFull, need_of}
+use Rattle.jrn_book.specs.Answers.{HasRoomFor, IsFull, need_of}
 use Rattle.jrn_book.specs.Journal.{file_of}
 use Rattle.jrn_codec.specs.Record.{entry_bytes}
 use Rattle.corr_top.specs.Booking.{history_with, lacks_room}
@@ -30,7 +30,7 @@ no_room chart h pay day end place (inr full) =
     (le-leb (2 ^ 30 + 1) (length (file_of chart (h ++ e ∷ [])))
     (past_file (length (file_of chart h)) (length (entry_bytes e)) end (need_of chart h pay day) (2 ^ 30) (length (file_of chart (h ++ e ∷ []))) (file_more chart h e) place refl full))
 
-pub some_room : (chart : Chart) (h : List Entry) (pay : Pay) (day : Day) (end : ℕ) → end + 1 ≡ length (file_of chart h) → HasRoom h end (need_of chart h pay day) → lacks_room chart h pay day ≡ false
+pub some_room : (chart : Chart) (h : List Entry) (pay : Pay) (day : Day) (end : ℕ) → end + 1 ≡ length (file_of chart h) → HasRoomFor h end (need_of chart h pay day) → lacks_room chart h pay day ≡ false
 some_room chart h pay day end place room =
     let e = entry_of chart h pay day in
     or_from (nat_le most_entries (length h)) (nat_le (2 ^ 30 + 1) (length (file_of chart (h ++ e ∷ [])))) (lt-leb most_entries (length h) room.entries)

@@ -26,7 +26,7 @@ use Rattle.corr_top.specs.Workers.{Worker}
 use Rattle.corr_top.specs.declared.message.NoPay.{NoPay}
 use Rattle.corr_top.specs.Booking.{BeginsNew, EntersFront, LacksRoom, entered_of}
 use Rattle.corr_top.specs.Message.{pays_in}
-use Rattle.corr_top.specs.Serving.{AnswersMessage, AreEntered, AreInTurn, IsFirstFull, IsTried, SaysFailed, Serves, are_replies, halt_of}
+use Rattle.corr_top.specs.Serving.{AnswersMessage, AreEntered, AreServedInOrder, IsFirstFull, IsTried, SaysFailed, Serves, are_replies, halt_of}
 use Rattle.corr_top.proofs.Chains.{Chain, grew}
 use Rattle.corr_top.proofs.FrontPart.{front_on}
 use Rattle.corr_top.proofs.InTurn.{AllTagged, fails_new, first_is, full_shows, goes_on, stops_here, tries_on}
@@ -474,7 +474,7 @@ module _ {Job : Type 0} (o : Opening) (reading : Job → Result Pay NoPay) (jobs
             ends at tried (inl all) = none_stopped (subst (AreFirst IsTried made) (all ∙ a.replies) tried)
             ends at tried (inr s) = stopped_by at tried s.0 s.1
 
-    pub in_turn : AreInTurn o history (map reading jobs) made
+    pub in_turn : AreServedInOrder o history (map reading jobs) made
     in_turn = record {
       all = λ replies is. all_by IsReplied (λ h pays. fold_of o.accounts h pays o.day) replied_step (first_replies made (length jobs) replies (let e = a.replies in omega (arith, e)) (take_whole made (length jobs) (let e = a.replies in omega (arith, e)) ∙ is));
       short = short_in_turn;

@@ -43,7 +43,7 @@ use Rattle.pay_plan.specs.Plan.{plan_of}
 use Rattle.pay_plan.specs.Sends.{FollowsMessage, IsPayOf}
 use Rattle.pay_plan.specs.Asked.{Asked}
 use Rattle.pay_plan.proofs.laws.Sent.{plan-is}
-use Rattle.advices.specs.Valid.{Asks, CameFrom, IsInMoney, IsTextOf, amount_of}
+use Rattle.advices.specs.Valid.{Asks, CameFrom, IsInMoney, IsTextOf, amount_32a}
 use Rattle.corr_top.specs.declared.directory.Directory.{Directory}
 use Rattle.corr_top.specs.Asks.{asks_cover, asks_transfer}
 use Rattle.corr_top.specs.Booking.{IsEnteredOn}
@@ -114,7 +114,7 @@ record HasOrigin (t : Tables) (chart : Chart) (pay : Pay) : Type 0 where
   asks : All (Asks t source) pay.orders
 
 came-from : (t : Tables) (chart : Chart) (envelope : Envelope) (text : List ℕ) (asked : Asked) (pay : Pay) (m : Message) → IsChart chart → FitsAccounts chart pay → HasShape pay
-    → IsGood t envelope m → IsPayOf t chart envelope text asked pay → IsTextOf pay m → asked.amount ≡ amount_of m → CameFrom t chart pay m
+    → IsGood t envelope m → IsPayOf t chart envelope text asked pay → IsTextOf pay m → asked.amount ≡ amount_32a m → CameFrom t chart pay m
 came-from t chart envelope text asked pay m sound fit shape good is kept same = record {
   accounts = sound;
   fits = fit;

@@ -16,7 +16,7 @@ use Rattle.corr_top.specs.declared.words.Command.TheVariants.{Plain}
 use Rattle.corr_top.specs.declared.words.Plain.TheVariants.{Reconcile}
 use Rattle.corr_top.specs.declared.writing.Texts.{Texts}
 use Rattle.corr_top.specs.Commands.{out_in, report_in}
-use Rattle.corr_top.specs.Ends.{Gives, HasTexts}
+use Rattle.corr_top.specs.Ends.{CommandGives, HasTexts}
 use Rattle.corr_top.specs.Inputs.{Inputs}
 use Rattle.corr_top.specs.OnDisk.{HasNotFailed, HasOpened, HoldsJournal, IsUnwritten, StopsOpening}
 use Rattle.corr_top.specs.Passing.{StepIsUntouched, Passes, StopsAt}
@@ -34,7 +34,7 @@ pub record IsRest {S K D : Type 0} (old new : Room S K D) : Type 0 where
   pub out : new.out ≡ old.out
 
 module _ {S K D : Type 0} (source : sources.Ghosts S) (d : disks.Ghosts D) (old new : Room S K D) (rest : IsRest old new) (accounts : new.tables.accounts ≡ old.tables.accounts) (ssi : new.tables.ssi ≡ old.tables.ssi) where
-  gives_reconcile : (r : Result Texts Status) (i : Inputs) → Gives source d (Plain Reconcile) old new r i → HasTexts source d (Plain Reconcile) old new r
+  gives_reconcile : (r : Result Texts Status) (i : Inputs) → CommandGives source d (Plain Reconcile) old new r i → HasTexts source d (Plain Reconcile) old new r
   gives_reconcile r i gives = record { inputs = i; are_for = tt; gives = gives; rest = (accounts, ssi, rest.messages, rest.disk2); report = rest.report; out = rest.out }
 
   -- a table stopped it

@@ -6,7 +6,7 @@ use Rattle.corr_books.specs.declared.opening.BooksFault.{BooksFault}
 use Rattle.corr_books.specs.declared.opening.BooksFault.TheVariants.{Open, DateBack}
 use Rattle.corr_books.specs.Closing.{LeavesClosed}
 use Rattle.corr_books.specs.Finding.{BooksCause, IsDateBack, OpensBack, RefusesAs, ShowsBack, TellsOf, is_of_bytes}
-use Rattle.corr_books.specs.Opening.{Opening, Parts, opening_of}
+use Rattle.corr_books.specs.Opening.{Opening, Parts, opening_with}
 use Rattle.corr_disk.specs.declared.disk.Disk as disks
 use Rattle.corr_io.specs.declared.source.Source as sources
 use Rattle.corr_text.specs.Faults.{Rose}
@@ -39,7 +39,7 @@ use Rattle.corr_top.specs.Booking.{AreAnswered, BookCause, EachTried, EntersInOr
 use Rattle.corr_top.specs.Collecting.{IsCalm}
 use Rattle.corr_top.specs.Commands.{out_in, report_in}
 use Rattle.corr_top.specs.Days.{GivesDay, HasDay, StopCause, StopsAtFile, StopsAtPays}
-use Rattle.corr_top.specs.Ends.{Gives, HasPassed, HasTexts}
+use Rattle.corr_top.specs.Ends.{CommandGives, HasPassed, HasTexts}
 use Rattle.corr_top.specs.Inputs.{Inputs, new_in, pays_of, replies_of, tables_in}
 use Rattle.corr_top.specs.Message.{pays_in, readings_of, replies_in}
 use Rattle.corr_top.specs.OnDisk.{HoldsJournal, IsLeft, IsOnDisk, IsUnwritten, StopsOpening}
@@ -78,7 +78,7 @@ is_back chart history day last journal back =
     }
 
 module _ {S K D : Type 0} (source : sources.Ghosts S) (d : disks.Ghosts D) (day : Day) (workers : ℕ) (old new : Room S K D) (rest : IsRest old new) where
-  gives_run : (r : Result Texts Status) (i : Inputs) → i.day ≡ day → i.workers ≡ workers → Gives source d (Run day workers) old new r i → HasTexts source d (Run day workers) old new r
+  gives_run : (r : Result Texts Status) (i : Inputs) → i.day ≡ day → i.workers ≡ workers → CommandGives source d (Run day workers) old new r i → HasTexts source d (Run day workers) old new r
   gives_run r i is number gives = record { inputs = i; are_for = (is, number); gives = gives; rest = (rest.accounts, rest.received, rest.disk2); report = rest.report; out = rest.out }
 
   -- a table stopped it
@@ -124,7 +124,7 @@ module _ {S K D : Type 0} (source : sources.Ghosts S) (d : disks.Ghosts D) (day 
         (of_day : opened.day ≡ day) (unwritten : IsUnwritten d old.disk (disk_of opened.file)) where
       -- the opening of these books
       abbrev pub books : Opening
-      books = opening_of d opened workers
+      books = opening_with d opened workers
 
       -- the inputs of a run that opened its books, and entered these pays
       abbrev i_of : List ℕ → List (List ℕ) → List Pay → Inputs

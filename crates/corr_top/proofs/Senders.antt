@@ -35,7 +35,7 @@ use Rattle.mt950.specs.Page.{mt950_of}
 use Rattle.fin_message.specs.Heading.{at_block, has_form, heading_tests, is_type}
 use Rattle.fin_message.specs.Parts.{envelope_of, envelope_with, has_trailer, partner_of, type_of, uetr_in}
 use Rattle.fin_message.specs.Sound.{IsSaid, KeepsRules}
-use Rattle.fin_message.specs.Verdict.{blocks_in, cover_of, credit_of, debit_of, judged, line_test, message_in, message_of, page_of, told_of, told_of_fields, transfer_of, verdict_of}
+use Rattle.fin_message.specs.Verdict.{blocks_in, cover_in, credit_in, debit_in, judged, line_test, message_in, message_of, page_in, told_of, told_of_fields, transfer_in, verdict_of}
 use Rattle.fin_message.specs.declared.direction.Direction.TheVariants.{Received}
 use Rattle.fin_message.specs.declared.message.Message.{Message}
 use Rattle.fin_message.specs.declared.message.Message.TheVariants as message
@@ -115,8 +115,8 @@ either P true r q x f g e = f e
 either P false r q x f g e = g e
 
 module _ (t : Tables) (b : Blocks) (known : HasSender t (envelope_of b)) (cut : field_fault b.text ≡ None) (x : Message) where
-  transfer-good : transfer_of t b ≡ Ok x → AsksWell t x
-  unfolding transfer_of
+  transfer-good : transfer_in t b ≡ Ok x → AsksWell t x
+  unfolding transfer_in
   transfer-good e =
       let envelope = envelope_of b in
       let m = read-then (mt103_of t (fields_of b.text)) _ x e in
@@ -127,8 +127,8 @@ module _ (t : Tables) (b : Blocks) (known : HasSender t (envelope_of b)) (cut : 
         rules = passed-none (all_rules envelope.sender envelope.receiver t m.0) rules.0 rules.1;
       })
 
-  cover-good : cover_of t b ≡ Ok x → AsksWell t x
-  unfolding cover_of
+  cover-good : cover_in t b ≡ Ok x → AsksWell t x
+  unfolding cover_in
   cover-good e =
       let m = read-then (mt202cov_of t (fields_of b.text)) _ x e in
       subst (AsksWell t) (told-is (message.Cover (envelope_of b) b.text m.0) x m.2) (record {
@@ -137,25 +137,25 @@ module _ (t : Tables) (b : Blocks) (known : HasSender t (envelope_of b)) (cut : 
         rules = rules-pass t (fields_of b.text) m.0 m.1;
       })
 
-  debit-good : debit_of t b ≡ Ok x → AsksWell t x
-  unfolding debit_of
+  debit-good : debit_in t b ≡ Ok x → AsksWell t x
+  unfolding debit_in
   debit-good e = let m = read-then (mt900_of t (fields_of b.text)) _ x e in subst (AsksWell t) (told-is (message.Debit (envelope_of b) m.0) x m.2) tt
 
-  credit-good : credit_of t b ≡ Ok x → AsksWell t x
-  unfolding credit_of
+  credit-good : credit_in t b ≡ Ok x → AsksWell t x
+  unfolding credit_in
   credit-good e = let m = read-then (mt910_of t (fields_of b.text)) _ x e in subst (AsksWell t) (told-is (message.Credit (envelope_of b) m.0) x m.2) tt
 
-  page-good : page_of t b ≡ Ok x → AsksWell t x
-  unfolding page_of
+  page-good : page_in t b ≡ Ok x → AsksWell t x
+  unfolding page_in
   page-good e = let m = read-then (mt950_of t (fields_of b.text)) _ x e in subst (AsksWell t) (told-is (message.Page (envelope_of b) m.0) x m.2) tt
 
   type-good : message_in t b ≡ Ok x → AsksWell t x
   type-good e =
       let mt = type_of b.app in
       let P = AsksWell t x in
-      either P (mt == 103) (transfer_of t b) _ x transfer-good
-      (either P (mt == 202) (cover_of t b) _ x cover-good
-      (either P (mt == 900) (debit_of t b) _ x debit-good (either P (mt == 910) (credit_of t b) _ x credit-good page-good))) e
+      either P (mt == 103) (transfer_in t b) _ x transfer-good
+      (either P (mt == 202) (cover_in t b) _ x cover-good
+      (either P (mt == 900) (debit_in t b) _ x debit-good (either P (mt == 910) (credit_in t b) _ x credit-good page-good))) e
 
 message-good : (home : Bic) (t : Tables) (b : Blocks) (x : Message) → message_of Received home t b ≡ Ok x → AsksWell t x
 unfolding message_of

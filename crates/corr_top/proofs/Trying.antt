@@ -28,7 +28,7 @@ use Rattle.corr_top.specs.Message.{pay_asked_of, pays_in, readings_of}
 use Rattle.corr_top.specs.OnDisk.{IsOnDisk}
 use Rattle.corr_top.specs.Samples.{sample_day}
 use Rattle.corr_top.specs.Serving.{HasServed}
-use Rattle.corr_top.specs.Trial.{BooksEach, IsBooked, IsBearable, IsTrial, IsWhole, ServesTrial, StaysWithin, sample_chart, sample_directory, trial_history, trial_pays, trial_report}
+use Rattle.corr_top.specs.Trial.{BooksEach, IsBooked, IsBearable, IsTrial, IsWholeDay, ServesTrial, StaysWithin, sample_chart, sample_directory, trial_history, trial_pays, trial_report}
 use Rattle.corr_report.proofs.laws.Reordered.{summary_reordered}
 use Rattle.corr_top.proofs.Replying.{all_one, get_all}
 use Rattle.corr_report.proofs.laws.Settled.{AreBorne, booked_on}
@@ -81,7 +81,7 @@ tried count seed entries serves whole booked settled =
     }
 
 -- so the texts of its whole history are those of a trial
-pub trial_told : (count seed : ℕ) (accounts : Chart) (entries : List Entry) (texts : Texts) → ServesTrial count seed accounts entries → IsWhole count accounts entries
+pub trial_told : (count seed : ℕ) (accounts : Chart) (entries : List Entry) (texts : Texts) → ServesTrial count seed accounts entries → IsWholeDay count accounts entries
     → texts.report ≡ summary_of accounts entries → texts.out ≡ [] → IsTrial count seed texts
 trial_told count seed accounts entries texts serves whole report out =
     let is = serves.accounts_are in

@@ -21,7 +21,7 @@ use Rattle.corr_top.specs.Workers.{Worker}
 use Rattle.corr_top.specs.declared.message.NoPay.{NoPay}
 use Rattle.corr_top.specs.Booking.{IsEnteredOn}
 use Rattle.corr_top.specs.Message.{pays_in}
-use Rattle.corr_top.specs.Serving.{AreInTurn, AreTold, IsTold, Serves, starting}
+use Rattle.corr_top.specs.Serving.{AreServedInOrder, AreTold, IsTold, Serves, starting}
 use Rattle.corr_top.proofs.Chains.{Chain, IsServed, each_stands, grew, of_jobs}
 use Rattle.corr_top.proofs.Replying.{all_one}
 use Rattle.corr_top.proofs.OneWorker.{in_order, in_turn}
@@ -186,7 +186,7 @@ module _ {Job : Type 0} (o : Opening) (reading : Job → Result Pay NoPay) (jobs
         let same : numbers ≡ stands.0 = same_Some numbers stands.0 (sym at ∙ ap (slice_get served.lists) (sym zero_is) ∙ stands.1) in
         (stands.2, subst (λ (l : List ℕ). slice_get l stands.2 ≡ Some n) (sym same) stands.3)
 
-    alone : AreInTurn o history readings made
+    alone : AreServedInOrder o history readings made
     alone =
         let lists = get_there served.lists 0 (let e = served.dealt.one_each in omega (arith, e)) in
         let numbers = lists.0 in
@@ -206,7 +206,7 @@ module _ {Job : Type 0} (o : Opening) (reading : Job → Result Pay NoPay) (jobs
         })
 
   pub turn : (news : List PassKnows) (after : List Worker) (history : List Entry) (faults : ℕ) (new : AreNew o news) (closes : Closes o history faults (passes_of after)) (made : List Served) (served : AreServed Serving (map starting news) jobs after made)
-      → o.made ≡ 1 → AreInTurn o history readings made
+      → o.made ≡ 1 → AreServedInOrder o history readings made
   turn news after history faults new closes made served one =
       let q = single_of news (new.count ∙ one) in
       let count : length after ≡ 1 = served.passes ∙ length-map news starting ∙ new.count ∙ one in
@@ -248,7 +248,7 @@ module _ {Job : Type 0} (o : Opening) (reading : Job → Result Pay NoPay) (jobs
       told_of (Ok rs) done = are_told news after history faults new closes (items rs) (from_seats news before after (items rs) seated done)
       told_of (Err e) done = tt
 
-      pub turn_of : (r : Result R E) → IsDone r → IfOk r (λ rs. o.made ≡ 1 → AreInTurn o history readings (items rs))
+      pub turn_of : (r : Result R E) → IsDone r → IfOk r (λ rs. o.made ≡ 1 → AreServedInOrder o history readings (items rs))
       turn_of (Ok rs) done = turn news after history faults new closes (items rs) (from_seats news before after (items rs) seated done)
       turn_of (Err e) done = tt
 

@@ -22,7 +22,7 @@ use Rattle.corr_top.specs.Passing.{Balances, table_fault, table_file, table_at}
 use Rattle.corr_top.specs.Steps.{Step, Walks}
 
 -- a source told these bytes, and did not fail
-pub record Told {S : Type 0} (source : sources.Ghosts S) (old new : S) (bytes : List ℕ) : Type 0 where
+pub record TellsAll {S : Type 0} (source : sources.Ghosts S) (old new : S) (bytes : List ℕ) : Type 0 where
   pub told : source.left old ≡ Some bytes
   pub sound : Rose (source.faults old) (source.faults new) → ⊥
 
@@ -38,14 +38,14 @@ pub record HasRoomForAll (chart : Chart) (history : List Entry) (pays : List Pay
 
 -- nothing is wrong with what a step reads, and neither its source nor its disk failed
 abbrev pub IsReady : {S K D : Type 0} → sources.Ghosts S → disks.Ghosts D → Room S K D → Room S K D → Inputs → Step → Type 0
-IsReady source disk old new i (Step.table name) = Told source (table_at name old.tables) (table_at name new.tables) (table_file name i) × (table_fault name i ≡ None)
+IsReady source disk old new i (Step.table name) = TellsAll source (table_at name old.tables) (table_at name new.tables) (table_file name i) × (table_fault name i ≡ None)
 IsReady source disk old new i Step.sums = Balances i
 IsReady source disk old new i Step.make = IsSure disk old.disk new.disk × IsMakeable disk old.disk
 IsReady source disk old new i Step.open_journal = IsSure disk old.disk new.disk × HoldsJournal disk old.disk i.chart i.history
 IsReady source disk old new i Step.day = IsLatest i.history i.day
-IsReady source disk old new i Step.messages = Told source old.messages new.messages i.messages × IsMessageFile i.messages i.cut
+IsReady source disk old new i Step.messages = TellsAll source old.messages new.messages i.messages × IsMessageFile i.messages i.cut
 IsReady source disk old new i Step.book = IsSure disk old.disk new.disk × HasRoomForAll i.chart i.history (pays_of i)
-IsReady source disk old new i Step.received = Told source old.received new.received i.messages × IsMessageFile i.messages i.cut
+IsReady source disk old new i Step.received = TellsAll source old.received new.received i.messages × IsMessageFile i.messages i.cut
 
 -- nothing is wrong with what a command reads, and neither a source nor a sink nor the disk failed
 pub record IsFaultless {S K D : Type 0} (source : sources.Ghosts S) (sink : sinks.Ghosts K) (disk : disks.Ghosts D) (command : Command) (old new : Room S K D) (i : Inputs) : Type 0 where

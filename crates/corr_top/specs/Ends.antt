@@ -27,15 +27,15 @@ module _ {S K D : Type 0} (source : sources.Ghosts S) (disk : disks.Ghosts D) (c
       ⊎ (HasPassed i × (stop ≡ status.Memory))
 
   -- before anything is written: the texts of a command that passed, and whose messages are valid, or the status of one that stopped; the sinks are as they were
-  abbrev pub Gives : Result Texts Status → Inputs → Type 0
-  Gives (Ok texts) i = HasPassed i × (texts.report ≡ report_in command i) × (texts.out ≡ out_in command i) × SendsValid command i
-  Gives (Err stop) i = HasStopped stop i
+  abbrev pub CommandGives : Result Texts Status → Inputs → Type 0
+  CommandGives (Ok texts) i = HasPassed i × (texts.report ≡ report_in command i) × (texts.out ≡ out_in command i) × SendsValid command i
+  CommandGives (Err stop) i = HasStopped stop i
 
   -- what a command made of what it read, and what it left beside the sinks
   pub record HasTexts (texts : Result Texts Status) : Type 0 where
     pub inputs : Inputs
     pub are_for : IsFor command inputs
-    pub gives : Gives texts inputs
+    pub gives : CommandGives texts inputs
     pub rest : KeepsRest command old new
     pub report : new.report ≡ old.report
     pub out : new.out ≡ old.out

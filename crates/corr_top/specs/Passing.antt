@@ -4,6 +4,7 @@ use Rattle.corr_disk.specs.declared.disk.Disk as disks
 use Rattle.corr_ids.specs.declared.day.Day.{Day}
 use Rattle.corr_io.specs.declared.source.Source as sources
 use Rattle.corr_money.specs.declared.amount.Ccy.{Ccy}
+use Rattle.corr_money.specs.Amounts.{most_decimals}
 use Rattle.day_model.specs.declared.fault.AccountsFault.{AccountsFault}
 use Rattle.day_model.specs.declared.fault.AccountsFault.TheVariants as refused
 use Rattle.day_model.specs.Chart.{opening_sum}
@@ -84,12 +85,12 @@ Balances i = (ccy : Ccy) → opening_sum ccy (accounts_in i) ≡ pos 0
 
 -- the decimals that a refusal of accounts tells are at most 4
 abbrev pub TellsDecimals : AccountsFault → Type 0
-TellsDecimals (refused.Unbalanced ccy decimals sum) = decimals ≤ 4
+TellsDecimals (refused.Unbalanced ccy decimals sum) = decimals ≤ most_decimals
 TellsDecimals refused.Memory = Unit {0}
 
 -- a currency's openings don't; its decimals are at most 4
 abbrev pub StopsAtSums : Inputs → AccountsFault → Type 0
-StopsAtSums i (refused.Unbalanced ccy decimals sum) = TellsUnbalanced (accounts_in i) (refused.Unbalanced ccy decimals sum) × (decimals ≤ 4)
+StopsAtSums i (refused.Unbalanced ccy decimals sum) = TellsUnbalanced (accounts_in i) (refused.Unbalanced ccy decimals sum) × (decimals ≤ most_decimals)
 StopsAtSums i refused.Memory = Unit {0}
 
 -- ---- the message file

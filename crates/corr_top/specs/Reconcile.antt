@@ -67,9 +67,9 @@ CanBeTold (read.Other told) = (entries : List Entry) → NamesPlace entries told
 -- ---- all of them
 
 -- a page among what was received
-abbrev pub page_in : Read → Option Page950
-page_in (read.Page page) = Some page
-page_in (read.Other told) = None
+abbrev pub page_read : Read → Option Page950
+page_read (read.Page page) = Some page
+page_read (read.Other told) = None
 
 -- the line of the n-th message, of a page none
 abbrev pub other_line : Chart → List Entry → ℕ → Read → List ℕ
@@ -86,7 +86,7 @@ other_lines chart entries reads = numbered (other_line chart entries) 1 reads
 
 -- the pages, in the order of the messages
 abbrev pub pages_in : List Read → List Page950
-pages_in reads = filter_map page_in reads
+pages_in reads = filter_map page_read reads
 
 -- the lines of the messages that are no pages were added, and these are the pages
 abbrev pub Collects : Chart → List Entry → Tables → List (List ℕ) → List ℕ → List ℕ → List Page950 → Type 0

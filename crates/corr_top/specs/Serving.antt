@@ -116,7 +116,7 @@ pub record AreEntered (o : Opening) (history : List Entry) (pays : List Pay) (ma
   pub failed : SaysFailed made → BeginsNew history entered.rest
 
 -- One worker served the messages in their order: where each has a reply, it made the fold of their pays; the first that found no room found none in the fold of the pays ahead of it; and whatever became of them, a front part of the pays was entered.
-pub record AreInTurn (o : Opening) (history : List Entry) (readings : List (Result Pay NoPay)) (made : List Served) : Type 0 where
+pub record AreServedInOrder (o : Opening) (history : List Entry) (readings : List (Result Pay NoPay)) (made : List Served) : Type 0 where
   pub all : (replies : List Reply) → made ≡ are_replies replies → history ≡ fold_of o.accounts o.base (pays_in readings) o.day
   pub short : (entries end need : ℕ) → IsFirstFull made entries end need → LacksRoom o.accounts o.base (pays_in readings) o.day history entries end need
   pub entered : AreEntered o history (pays_in readings) made
@@ -137,5 +137,5 @@ pub record HasServed {D : Type 0} (disk : disks.Ghosts D) (o : Opening) (reading
 pub record AllServed {D : Type 0} (disk : disks.Ghosts D) (o : Opening) (readings : List (Result Pay NoPay)) (day : ServedDay D) : Type 0 where
   pub left : HasServed disk o readings day.closed.accounts day.closed.history.entries day.closed.disk
   pub told : IfOk day.served (λ made. AreTold o day.closed.history.entries readings made.items)
-  pub turn : IfOk day.served (λ made. o.made ≡ 1 → AreInTurn o day.closed.history.entries readings made.items)
+  pub turn : IfOk day.served (λ made. o.made ≡ 1 → AreServedInOrder o day.closed.history.entries readings made.items)
   pub none : IfErr day.served (λ _. day.closed.history.entries ≡ o.base)

@@ -9,7 +9,7 @@ use Rattle.day_model.specs.declared.account.Account.{Account}
 use Rattle.day_model.specs.declared.entry.Entry.{Entry}
 use Rattle.statement.specs.Index.{IsIndexOf}
 use Rattle.statement.specs.Pages.{pages_of}
-use Rattle.statement.specs.Valid.{AreAccepted, AreShaped, ClosesAtBalance}
+use Rattle.statement.specs.Valid.{PagesAreAccepted, AreShaped, ClosesAtBalance}
 use Rattle.statement.specs.declared.index.HistoryIndex.{HistoryIndex}
 use Rattle.corr_top.specs.Out.{parted_all}
 
@@ -28,7 +28,7 @@ sent_statements chart entries day = numbered (pages_sent chart entries day) 1 ch
 -- The statement of account n closes at its balance by the entries up to the day, and opens at that by the entries before it. Each page passes the tests of a sent message under all tables that hold the owner, and the currency with its decimals.
 pub record IsStatementOfDay (chart : Chart) (entries : List Entry) (day : Day) (n : ℕ) : Type 0 where
   pub closes : ClosesAtBalance chart entries n day
-  pub accepted : AreAccepted chart entries n day
+  pub accepted : PagesAreAccepted chart entries n day
 
 -- those of all vostro accounts do
 abbrev pub AreStatements : Chart → List Entry → Day → Type 0

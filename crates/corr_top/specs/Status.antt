@@ -2,7 +2,7 @@
 use Rattle.std.specs.Prelude.{ℕ, ◌≤◌, List, ◌++◌, codes}
 use Rattle.corr_text.specs.Digits.{padded}
 use Rattle.corr_ids.specs.Day.{InCentury, yymmdd_of}
-use Rattle.corr_money.specs.Amounts.{signed_text}
+use Rattle.corr_money.specs.Amounts.{signed_text, most_decimals}
 use Rattle.ref_tables.specs.declared.fault.TableName.{TableName}
 use Rattle.ref_tables.specs.declared.fault.TableName.TheVariants as table
 use Rattle.ref_tables.specs.declared.fault.Why.{Why}
@@ -12,7 +12,7 @@ use Rattle.corr_top.specs.declared.status.Status.TheVariants.{Done, Usage, Table
 
 -- a line can tell it: the decimals of an `Unbalanced` are at most 4, and the day of a `DateBack` is of 1980 to 2079
 abbrev pub HasLine : Status → Type 0
-HasLine (Unbalanced ccy decimals sum) = decimals ≤ 4
+HasLine (Unbalanced ccy decimals sum) = decimals ≤ most_decimals
 HasLine (DateBack last) = InCentury last
 HasLine _ = Unit {0}
 
@@ -35,8 +35,8 @@ status_number (Framing at) = 10
 status_number (Full entries end need) = 11
 
 -- a number behind a space
-unfoldable pub spaced : ℕ → List ℕ
-spaced n = codes " " ++ padded 1 n
+unfoldable pub spaced_number : ℕ → List ℕ
+spaced_number n = codes " " ++ padded 1 n
 
 -- the name of a table
 abbrev pub name_text : TableName → List ℕ
@@ -49,12 +49,12 @@ name_text table.Ssi = codes "ssi"
 -- what is wrong with a row
 abbrev pub why_text : Why → List ℕ
 why_text why.Columns = codes " columns"
-why_text (why.Value col) = codes " value" ++ spaced col
-why_text (why.Double row) = codes " double" ++ spaced row
+why_text (why.Value col) = codes " value" ++ spaced_number col
+why_text (why.Double row) = codes " double" ++ spaced_number row
 why_text why.Bic = codes " bic"
 why_text why.Currency = codes " currency"
 why_text why.Limits = codes " limits"
-why_text (why.Overlap row) = codes " overlap" ++ spaced row
+why_text (why.Overlap row) = codes " overlap" ++ spaced_number row
 why_text why.Span = codes " span"
 why_text why.Rows = codes " rows"
 
@@ -62,19 +62,19 @@ why_text why.Rows = codes " rows"
 abbrev pub status_text : Status → List ℕ
 status_text Done = codes "done"
 status_text Usage = codes "usage"
-status_text (Table name row reason) = codes "table " ++ name_text name ++ spaced row ++ why_text reason
-status_text (ReadFault before after) = codes "read fault" ++ spaced before ++ spaced after
-status_text (WriteFault before after) = codes "write fault" ++ spaced before ++ spaced after
-status_text (DiskFault before after) = codes "disk fault" ++ spaced before ++ spaced after
+status_text (Table name row reason) = codes "table " ++ name_text name ++ spaced_number row ++ why_text reason
+status_text (ReadFault before after) = codes "read fault" ++ spaced_number before ++ spaced_number after
+status_text (WriteFault before after) = codes "write fault" ++ spaced_number before ++ spaced_number after
+status_text (DiskFault before after) = codes "disk fault" ++ spaced_number before ++ spaced_number after
 status_text NotAJournal = codes "not a journal"
-status_text (Damaged at) = codes "damaged" ++ spaced at
+status_text (Damaged at) = codes "damaged" ++ spaced_number at
 status_text (Unbalanced ccy decimals sum) = codes "unbalanced " ++ ccy.0 ++ codes " " ++ signed_text decimals sum
-status_text (Exists first) = codes "exists" ++ spaced first
+status_text (Exists first) = codes "exists" ++ spaced_number first
 status_text Memory = codes "no memory"
 status_text (DateBack last) = codes "date back " ++ yymmdd_of last
-status_text (TooLarge bytes messages) = codes "too large" ++ spaced bytes ++ spaced messages
-status_text (Framing at) = codes "framing" ++ spaced at
-status_text (Full entries end need) = codes "full" ++ spaced entries ++ spaced end ++ spaced need
+status_text (TooLarge bytes messages) = codes "too large" ++ spaced_number bytes ++ spaced_number messages
+status_text (Framing at) = codes "framing" ++ spaced_number at
+status_text (Full entries end need) = codes "full" ++ spaced_number entries ++ spaced_number end ++ spaced_number need
 
 -- its line, without a line end
 abbrev pub status_line_of : Status → List ℕ

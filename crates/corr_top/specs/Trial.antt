@@ -91,7 +91,7 @@ IsBearable chart entries =
     (n : ℕ) (account : Account) → 1 ≤ n → account_at chart n ≡ Some account → StaysWithin account (credits_of entries n) (debits_of entries n)
 
 -- each of so many messages has its entry, each entry is booked, and would be in every order
-pub record IsWhole (count : ℕ) (chart : Chart) (entries : List Entry) : Type 0 where
+pub record IsWholeDay (count : ℕ) (chart : Chart) (entries : List Entry) : Type 0 where
   pub each : length entries ≡ count
   pub booked : All IsBooked entries
   pub settled : IsBearable chart entries

@@ -117,7 +117,7 @@ fn feed_piece(
 
 /// The messages of a file, which is fed in pieces of `size` bytes.
 fn cut_in_pieces(alloc: Global, file: &[u8], size: usize) -> Result<List<Text>, FileStop>
-    requires short { length file.now ≤ 67108865 }
+    requires short { length file.now ≤ most_message_bytes + 1 }
     requires some { 0 < size }
     ensures ok { IfOk result (IsMessageFile file.now) }
     ensures stopped { IfErr result (StopsInPieces size file.now) }
@@ -137,7 +137,7 @@ fn cut_in_pieces(alloc: Global, file: &[u8], size: usize) -> Result<List<Text>, 
 
 /// Why a file that is no message file is none, as pieces of `size` bytes show.
 fn stop_in_pieces(alloc: Global, file: &[u8], size: usize) -> FileStop
-    requires short { length file.now ≤ 67108865 }
+    requires short { length file.now ≤ most_message_bytes + 1 }
     requires some { 0 < size }
     requires none { (messages : List (List ℕ)) → IsMessageFile file.now messages → ⊥ }
     ensures { StopsInPieces size file.now result }
@@ -150,7 +150,7 @@ fn stop_in_pieces(alloc: Global, file: &[u8], size: usize) -> FileStop
 
 /// Why a file that is no message file is none: its first byte past a limit, or its first fault.
 fn first_stop(alloc: Global, file: &[u8]) -> FileStop
-    requires short { length file.now ≤ 67108865 }
+    requires short { length file.now ≤ most_message_bytes + 1 }
     requires none { (messages : List (List ℕ)) → IsMessageFile file.now messages → ⊥ }
     ensures { StopsCutting file.now result }
 {
@@ -174,7 +174,7 @@ fn cut_sound(alloc: Global, file: &[u8]) -> Result<Option<List<Framed<'_>>>, Mem
 
 /// The messages of a file, each where it stands, or its first fault: `TooLarge` at its first byte past a limit, or `Framing`.
 pub fn cut_file(alloc: Global, file: &[u8]) -> Result<List<Framed<'_>>, FileStop>
-    requires { length file.now ≤ 67108865 }
+    requires { length file.now ≤ most_message_bytes + 1 }
     ensures ok { IfOk result (IsMessageFile file.now) }
     ensures stopped { IfErr result (StopsCutting file.now) }
 {

@@ -14,7 +14,6 @@ use corr_disk::Disk;
 use corr_ids::Mir;
 use corr_text::{Memory, let_go};
 use day_model::Reply;
-use fin_fields::Spares;
 use fin_frame::Framed;
 use fin_message::Message;
 use front_word::Pass;
@@ -86,7 +85,6 @@ pub fn seat(alloc: Global, workers: &mut Vec<Worker>, passes: Vec<Pass>)
             pass,
             halted: None,
             room: Message::blank(alloc),
-            spares: Spares::new(alloc),
         });
     }
 }
@@ -100,7 +98,6 @@ pub fn vacate(passes: &mut Vec<Pass>, workers: Vec<Worker>)
     for worker in workers {
         passes.push_reserved(worker.pass);
         let_go(worker.room);
-        let_go(worker.spares);
     }
 }
 
@@ -136,7 +133,6 @@ impl<'a, N: BooksName, D: Disk> RunDesk<'a, N, D> {
         rt: &R,
         pass: &mut Pass,
         room: &mut Message,
-        spares: &mut Spares,
         worker: u32,
         text: &[u8],
         gate: &G,
@@ -147,7 +143,7 @@ impl<'a, N: BooksName, D: Disk> RunDesk<'a, N, D> {
         ensures answered { AnswersMessage N.opening (pay_asked_of self.now.directory.now N.opening.accounts text.now) pass.old pass.new result }
     {
         let accounts = self.books.accounts();
-        match read_message(self.alloc, self.directory, accounts, text, room, spares) {
+        match read_message(self.alloc, self.directory, accounts, text, room) {
             Ok(pay) => as_served(pay.mir, self.books.book(rt, pass, worker, &pay, gate)),
             Err(Stop::NoPay(why)) => Served::Reply(reply_for(why)),
             Err(Stop::Memory) => Served::Stopped(Halt::Memory),
@@ -183,15 +179,7 @@ impl<'a, N: BooksName + Send + Sync, D: Disk + Drop + Send> Desk for RunDesk<'a,
         if let Some(why) = pass.halted {
             return Served::Stopped(why);
         }
-        let made = self.answer(
-            rt,
-            &mut pass.pass,
-            &mut pass.room,
-            &mut pass.spares,
-            worker,
-            job.text,
-            gate,
-        );
+        let made = self.answer(rt, &mut pass.pass, &mut pass.room, worker, job.text, gate);
         pass.halted = halt_of(&made);
         made
     }

@@ -2,8 +2,8 @@
 
 ghost use Rattle.std.specs.Prelude.{◌≡◌, ◌≤◌, ◌++◌, [], OnOk, OnErr, IfOk, codes};
 ghost use Rattle.corr_ids.specs.Day.{InCentury, yymmdd_of};
-ghost use Rattle.corr_money.specs.Amounts.{signed_text};
-ghost use Rattle.corr_top.specs.Status.{HasLine, status_line_of, name_text, spaced, status_text, why_text};
+ghost use Rattle.corr_money.specs.Amounts.{signed_text, most_decimals};
+ghost use Rattle.corr_top.specs.Status.{HasLine, status_line_of, name_text, spaced_number, status_text, why_text};
 
 use crate::status::Status;
 use corr_ids::{Day, put_yymmdd};
@@ -12,9 +12,9 @@ use corr_text::{Memory, Text, put_digits};
 use ref_tables::{TableName, Why};
 use std::alloc::Global;
 
-#[tactic(auto, unfolding(crate::specs::Status::spaced))]
+#[tactic(auto, unfolding(crate::specs::Status::spaced_number))]
 fn put_number(alloc: Global, n: u64, out: &mut Text) -> Result<(), Memory>
-    ensures { OnOk result (out.new ≡ out.old ++ spaced n) }
+    ensures { OnOk result (out.new ≡ out.old ++ spaced_number n) }
 {
     out.push(b" ")?;
     put_digits(alloc, n, 1, out)
@@ -59,7 +59,7 @@ fn put_why(alloc: Global, why: Why, out: &mut Text) -> Result<(), Memory>
 
 /// Words and a number.
 fn put_one(alloc: Global, words: &[u8], number: u64, out: &mut Text) -> Result<(), Memory>
-    ensures { OnOk result (out.new ≡ out.old ++ words.now ++ spaced number) }
+    ensures { OnOk result (out.new ≡ out.old ++ words.now ++ spaced_number number) }
 {
     out.push(words)?;
     put_number(alloc, number, out)
@@ -82,7 +82,7 @@ fn put_two(
     second: u64,
     out: &mut Text,
 ) -> Result<(), Memory>
-    ensures { OnOk result (out.new ≡ out.old ++ words.now ++ spaced first ++ spaced second) }
+    ensures { OnOk result (out.new ≡ out.old ++ words.now ++ spaced_number first ++ spaced_number second) }
 {
     out.push(words)?;
     put_number(alloc, first, out)?;
@@ -91,7 +91,7 @@ fn put_two(
 
 /// A currency and a sum of its minor units.
 fn put_sum(alloc: Global, ccy: Ccy, decimals: u8, sum: i64, out: &mut Text) -> Result<(), Memory>
-    requires { decimals ≤ 4 }
+    requires { decimals ≤ most_decimals }
     ensures { OnOk result (out.new ≡ out.old ++ ccy.0 ++ codes " " ++ signed_text decimals sum) }
 {
     out.push(&ccy.0)?;

@@ -15,7 +15,6 @@ use crate::directory::Directory;
 use corr_ids::{Envelope, Mir};
 use corr_text::{Code, Fault, Text};
 use day_model::{Accounts, Pay, Reply};
-use fin_fields::Spares;
 use fin_message::{Message, MessageFault, verdict_into};
 use pay_plan::{Ask, PlanFault, plan};
 use std::alloc::Global;
@@ -144,8 +143,7 @@ fn read_pay(
     }
 }
 
-/// The pay that a message of at most 16,384 bytes asks for, or why it gives none. `room` is where the message is read into,
-/// `spares` the memory of fields read before.
+/// The pay that a message of at most 16,384 bytes asks for, or why it gives none. `room` is where the message is read into.
 #[tactic(auto, unfolding(crate::specs::Message::pay_asked_of))]
 pub fn read_message(
     alloc: Global,
@@ -153,13 +151,12 @@ pub fn read_message(
     accounts: &Accounts,
     b: &[u8],
     room: &mut Message,
-    spares: &mut Spares,
 ) -> Result<Pay, Stop>
     requires { length b.now ≤ most_bytes }
     ensures value { ReadsAs result (pay_asked_of directory.now accounts.now b.now) }
     ensures fits { IfOk result (FitsAccounts accounts.now) }
     ensures shape { IfOk result HasShape }
 {
-    verdict_into(alloc, b, accounts.home(), &directory.tables, spares, room)?;
+    verdict_into(alloc, b, accounts.home(), &directory.tables, room)?;
     read_pay(alloc, directory, accounts, room)
 }

@@ -3,7 +3,7 @@
 ghost use Rattle.std.specs.Prelude.{◌≡◌, ◌≤◌, [], All, IfErr, IfOk, length, map, vec_capacity};
 ghost use Rattle.fin_frame.specs.File.{most_bytes};
 ghost use Rattle.jrn_file.specs.File.{disk_of};
-ghost use Rattle.corr_books.specs.Opening.{IsNamed, opening_of};
+ghost use Rattle.corr_books.specs.Opening.{IsNamed, opening_with};
 ghost use Rattle.work_pool.specs.Served.{most_workers};
 ghost use Rattle.corr_top.specs.Message.{readings_of};
 ghost use Rattle.corr_top.specs.Serving.{AllServed};
@@ -76,7 +76,7 @@ fn serve_named<
     requires named { IsNamed D.Disk N.opening N.table opened workers }
     requires count { (1 ≤ workers) × (workers ≤ most_workers) }
     requires short { All (λ m. length m ≤ most_bytes) messages.now }
-    ensures served { IfOk result (λ day. AllServed D.Disk (opening_of D.Disk opened workers) (readings_of directory.now opened.accounts messages.now) day) }
+    ensures served { IfOk result (λ day. AllServed D.Disk (opening_with D.Disk opened workers) (readings_of directory.now opened.accounts messages.now) day) }
     ensures disk { IfErr result (λ e. e.0 ≡ disk_of opened.file) }
 {
     let Ok(places) = make_places(alloc, workers, messages) else {
@@ -123,7 +123,7 @@ pub fn serve_all<R: Wait + Threads + Sync, D: Disk + Drop + Send, G: Gate + Sync
 ) -> Result<ServedDay<D>, (D, Memory)>
     requires count { (1 ≤ workers) × (workers ≤ most_workers) }
     requires short { All (λ m. length m ≤ most_bytes) messages.now }
-    ensures served { IfOk result (λ day. AllServed D.Disk (opening_of D.Disk opened workers) (readings_of directory.now opened.accounts messages.now) day) }
+    ensures served { IfOk result (λ day. AllServed D.Disk (opening_with D.Disk opened workers) (readings_of directory.now opened.accounts messages.now) day) }
     ensures disk { IfErr result (λ e. e.0 ≡ disk_of opened.file) }
 {
     serve_named::<Brand, _, _, _>(rt, alloc, directory, opened, workers, messages, gate)

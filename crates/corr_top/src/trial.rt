@@ -1,6 +1,6 @@
 //! The command `trial`: a generated day, run over a journal in memory.
 
-ghost use Rattle.std.specs.Prelude.{◌≡◌, ◌≤◌, ◌⊎◌, [], All, IfOk, IsTrue, Some, length};
+ghost use Rattle.std.specs.Prelude.{◌≡◌, ◌≤◌, ◌⊎◌, [], All, IfOk, IsTrue, Some, length, ◌+◌};
 ghost use Rattle.corr_report.specs.Generated.{most_generated};
 ghost use Rattle.corr_report.specs.Summary.{summary_of};
 ghost use Rattle.corr_text.specs.Faults.{Rose};
@@ -10,10 +10,10 @@ ghost use Rattle.jrn_book.specs.Journal.{IsJournal};
 ghost use Rattle.jrn_codec.specs.Header.{IsHead, head_bytes};
 ghost use Rattle.ssi_versions.specs.InstructionList.{AreInstructions};
 ghost use Rattle.work_pool.specs.Served.{most_workers};
-ghost use Rattle.corr_top.specs.MessageFile.{IsMessageFile};
+ghost use Rattle.corr_top.specs.MessageFile.{IsMessageFile, most_message_bytes};
 ghost use Rattle.corr_top.specs.OnDisk.{IsOnDisk};
 ghost use Rattle.corr_top.specs.Samples.{sample_day};
-ghost use Rattle.corr_top.specs.Trial.{AreSampleFiles, GivesTrial, IsBooked, IsNewDisk, IsBearable, IsTrial, IsWhole, ServesTrial, StaysWithin, supply_of, sample_chart, sample_directory};
+ghost use Rattle.corr_top.specs.Trial.{AreSampleFiles, GivesTrial, IsBooked, IsNewDisk, IsBearable, IsTrial, IsWholeDay, ServesTrial, StaysWithin, supply_of, sample_chart, sample_directory};
 
 use crate::cutting::cut_file;
 use crate::directory::{Directory, read_directory};
@@ -111,7 +111,7 @@ fn sample_books(alloc: Global) -> Result<Opened<MemDisk>, Memory>
 
 /// The messages of a day, each where it stands in its text. Where it can't be cut, memory is wanting.
 fn cut_day(alloc: Global, text: &[u8]) -> Result<List<Framed<'_>>, Memory>
-    requires { length text.now ≤ 67108865 }
+    requires { length text.now ≤ most_message_bytes + 1 }
     ensures { IfOk result (IsMessageFile text.now) }
 {
     match cut_file(alloc, text) {
@@ -207,7 +207,7 @@ fn is_settled(alloc: Global, a: &Accounts, h: &History) -> Result<bool, Memory>
 /// Whether each of so many messages has its entry, each entry is booked, and would be in every order.
 fn is_whole(alloc: Global, count: u32, a: &Accounts, h: &History) -> Result<bool, Memory>
     requires { IsLegal a.now h.now.entries }
-    ensures { IfOk result (λ whole. IsTrue whole → IsWhole count a.now h.now.entries) }
+    ensures { IfOk result (λ whole. IsTrue whole → IsWholeDay count a.now h.now.entries) }
 {
     if h.len() != count || !are_booked(h) {
         return Ok(false);
@@ -218,7 +218,7 @@ fn is_whole(alloc: Global, count: u32, a: &Accounts, h: &History) -> Result<bool
 /// The summary of the history of so many messages. Where it isn't whole, memory is wanting.
 fn sum_up(alloc: Global, count: u32, a: &Accounts, h: &History) -> Result<Text, Memory>
     requires { IsLegal a.now h.now.entries }
-    ensures whole { IfOk result (λ _. IsWhole count a.now h.now.entries) }
+    ensures whole { IfOk result (λ _. IsWholeDay count a.now h.now.entries) }
     ensures value { IfOk result (λ text. text ≡ summary_of a.now h.now.entries) }
 {
     if !is_whole(alloc, count, a, h)? {

@@ -104,7 +104,7 @@ fn statements(date: &[u8]) -> Option<Command>
 }
 
 /// A number of workers: 1 to 16.
-fn workers(b: &[u8]) -> Option<u32>
+fn read_workers(b: &[u8]) -> Option<u32>
     ensures value { result ≡ workers_of b.now }
     ensures sound { IfSome result (λ n. (1 ≤ n) × (n ≤ most_workers)) }
 {
@@ -121,12 +121,12 @@ fn run(date: &[u8], number: &[u8]) -> Option<Command>
     ensures sound { IfSome result IsSpelled }
 {
     let day = day_from_yymmdd(date)?;
-    let workers = workers(number)?;
+    let workers = read_workers(number)?;
     Some(Command::Run { day, workers })
 }
 
 /// A number of messages of a generated day: 1 to 50,000.
-fn count(b: &[u8]) -> Option<u32>
+fn read_count(b: &[u8]) -> Option<u32>
     ensures value { result ≡ count_of b.now }
     ensures sound { IfSome result (λ n. (1 ≤ n) × (n ≤ most_generated)) }
 {
@@ -142,7 +142,7 @@ fn generate(messages: &[u8], seed: &[u8]) -> Option<Command>
     ensures value { result ≡ option_map CommandPlain (generate_of messages.now seed.now) }
     ensures sound { IfSome result IsSpelled }
 {
-    let count = count(messages)?;
+    let count = read_count(messages)?;
     let seed = digits(seed)?;
     Some(Command::Plain(Plain::Generate { count, seed }))
 }
@@ -152,9 +152,9 @@ fn trial(messages: &[u8], seed: &[u8], number: &[u8]) -> Option<Command>
     ensures value { result ≡ trial_of messages.now seed.now number.now }
     ensures sound { IfSome result IsSpelled }
 {
-    let count = count(messages)?;
+    let count = read_count(messages)?;
     let seed = digits(seed)?;
-    let workers = workers(number)?;
+    let workers = read_workers(number)?;
     Some(Command::Trial {
         count,
         seed,

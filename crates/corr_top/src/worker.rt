@@ -1,19 +1,16 @@
 //! A worker of a run.
 
 use crate::desk::Halt;
-use fin_fields::Spares;
 use fin_message::Message;
 use front_word::Pass;
 use std::marker::Model;
 
-/// A worker of a run: its pass of the books, why it serves no more, if it doesn't, where it reads its messages into, and the
-/// memory of fields that it has read, for the next ones.
+/// A worker of a run: its pass of the books, why it serves no more, if it doesn't, and where it reads its messages into.
 #[derive(Drop)]
 pub struct Worker {
     pub pass: Pass,
     pub halted: Option<Halt>,
     pub room: Message,
-    pub spares: Spares,
 }
 
 impl Model for Worker {

@@ -12,7 +12,7 @@ use Rattle.mt950.specs.Joining.{effects_of}
 use Rattle.mt950.specs.declared.entry.Line61.{Line61}
 use Rattle.statement.specs.Lines.{Placed, PlacesFrom}
 use Rattle.reconcile.specs.Comparison.{added_by, effects_at, entry_at, line_at, placed_at, total}
-use Rattle.reconcile.specs.Pairing.{ours_left, pairs_of, places_of, theirs_left}
+use Rattle.reconcile.specs.Pairing.{ours_left, pairs_of, entry_places, theirs_left}
 use Rattle.reconcile.proofs.First.{at-contains, by-the-rule, contains-at, meets}
 use Rattle.reconcile.proofs.Rising.{from-low}
 use Rattle.reconcile.proofs.Tests.{below, itself}
@@ -79,12 +79,12 @@ skipped p ps low (n ∷ ns) lt up =
     let first : entry_at (p ∷ ps) n ≡ entry_at ps n = rw (below p.place n (omega (arith, lt, le))) refl in
     λ i. first i +ℤ skipped p ps (n + 1) ns (omega (arith, lt, le)) up.1 i
 
-sum-ours : (low : ℕ) (ours : List Placed) → PlacesFrom low ours → added_by ours (places_of ours) ≡ effects_of (map (λ p. p.line) ours)
+sum-ours : (low : ℕ) (ours : List Placed) → PlacesFrom low ours → added_by ours (entry_places ours) ≡ effects_of (map (λ p. p.line) ours)
 sum-ours low [] up = refl
 sum-ours low (p ∷ ps) up =
     let first : entry_at (p ∷ ps) p.place ≡ effect_of p.line = rw (itself p.place) refl in
-    let rest : total (entry_at (p ∷ ps)) (places_of ps) ≡ effects_of (map (λ q. q.line) ps) =
-    skipped p ps (p.place + 1) (places_of ps) (omega arith) (places-rise (p.place + 1) ps up.1) ∙ sum-ours (p.place + 1) ps up.1 in
+    let rest : total (entry_at (p ∷ ps)) (entry_places ps) ≡ effects_of (map (λ q. q.line) ps) =
+    skipped p ps (p.place + 1) (entry_places ps) (omega arith) (places-rise (p.place + 1) ps up.1) ∙ sum-ours (p.place + 1) ps up.1 in
     λ i. first i +ℤ rest i
 
 -- ---- their lines
@@ -138,7 +138,7 @@ module _ (low : ℕ) (ours : List Placed) (theirs : List Line61) (up : PlacesFro
       let front : List ℕ = map (λ p. p.0) pairs in
       let numbers : List ℕ = map (λ p. p.1) pairs in
       let c : effects_of (map (λ p. p.line) ours) ≡ added_by ours front +ℤ added_by ours (ours_left pairs ours) =
-      sym (sum-ours low ours up) ∙ total-permuted (entry_at ours) (front ++ ours_left pairs ours) (places_of ours) (entries-once low ours theirs up) ∙ total-append (entry_at ours) front (ours_left pairs ours) in
+      sym (sum-ours low ours up) ∙ total-permuted (entry_at ours) (front ++ ours_left pairs ours) (entry_places ours) (entries-once low ours theirs up) ∙ total-append (entry_at ours) front (ours_left pairs ours) in
       let d : effects_of theirs ≡ effects_at theirs numbers +ℤ effects_at theirs (theirs_left ours theirs) =
       sym (sum-theirs theirs) ∙ total-permuted (line_at theirs) (numbers ++ theirs_left ours theirs) (range_with_len 1 (length theirs)) (lines-once ours theirs)
       ∙ total-append (line_at theirs) numbers (theirs_left ours theirs) in

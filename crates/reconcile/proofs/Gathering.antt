@@ -13,7 +13,7 @@ use Rattle.std.proofs.lemmas.Option.{none-some, same_Some, slice_get_read, slice
 use Rattle.std.proofs.lemmas.Slice.Eq.{bytes_eq-Decides}
 use Rattle.mt950.specs.declared.page.Page950.{Page950}
 use Rattle.reconcile.specs.Gathering.{Gathers, page_account, is_open, open_at, place_after, place_for_page, room_in}
-use Rattle.reconcile.specs.Pieces.{begins_piece, goes_on, is_of, pieces_of}
+use Rattle.reconcile.specs.Pieces.{begins_piece, is_unfinished, is_of, pieces_of}
 use Rattle.reconcile.specs.declared.grouping.Gathered.{Gathered}
 use Rattle.reconcile.proofs.Growing.{begun, extended, pieces-more}
 use Rattle.reconcile.proofs.Keyed.{short-eq}
@@ -85,19 +85,19 @@ bytes-same a b e = (bytes_eq-Decides a b).1 e
 abbrev pub IsFor : Page950 → List Page950 → Type 0
 IsFor p was = (was ≡ []) ⊎ (is_open (page_account p) was ≡ true)
 
-open-more : (a : List ℕ) (was : List Page950) (p : Page950) → IsFor p was → is_open a (was ++ p ∷ []) ≡ (bytes_eq a (page_account p) && goes_on (Some p))
+open-more : (a : List ℕ) (was : List Page950) (p : Page950) → IsFor p was → is_open a (was ++ p ∷ []) ≡ (bytes_eq a (page_account p) && is_unfinished (Some p))
 open-more a [] p own = refl
 open-more a (w ∷ ws) p (inl e) = absurd (cc e)
 open-more a (w ∷ ws) p (inr e) =
-    let same : page_account p ≡ page_account w = same-bytes (page_account p) (page_account w) (two (bytes_eq (page_account p) (page_account w)) (goes_on (last_or None (w ∷ ws))) e).0 in
-    λ i. bytes_eq a (sym same i) && goes_on (last-append (Some w) ws p i)
+    let same : page_account p ≡ page_account w = same-bytes (page_account p) (page_account w) (two (bytes_eq (page_account p) (page_account w)) (is_unfinished (last_or None (w ∷ ws))) e).0 in
+    λ i. bytes_eq a (sym same i) && is_unfinished (last-append (Some w) ws p i)
 
 own-account : (a : List ℕ) (was : List Page950) (p : Page950) → IsFor p was → is_open a was ≡ true → a ≡ page_account p
 own-account a [] p own opens = absurd (cc opens)
 own-account a (w ∷ ws) p (inl e) opens = absurd (cc e)
 own-account a (w ∷ ws) p (inr e) opens =
-    same-bytes a (page_account w) (two (bytes_eq a (page_account w)) (goes_on (last_or None (w ∷ ws))) opens).0
-    ∙ sym (same-bytes (page_account p) (page_account w) (two (bytes_eq (page_account p) (page_account w)) (goes_on (last_or None (w ∷ ws))) e).0)
+    same-bytes a (page_account w) (two (bytes_eq a (page_account w)) (is_unfinished (last_or None (w ∷ ws))) opens).0
+    ∙ sym (same-bytes (page_account p) (page_account w) (two (bytes_eq (page_account p) (page_account w)) (is_unfinished (last_or None (w ∷ ws))) e).0)
 
 not-extended : (p : Page950) (piece : List Page950) → is_open (page_account p) piece ≡ false → extended p piece ≡ piece
 not-extended p piece e = ap (λ (b : Bool). cond b (piece ++ p ∷ []) piece) e
@@ -187,7 +187,7 @@ module _ (front : List Page950) (old : Gathered) (p : Page950) (so : Gathers fro
     after-open true i e = absurd (none-some i e)
     after-open false i e = (refl, same_Some at i e)
 
-    is-going : p.closing.last ≡ false → goes_on (Some p) ≡ true
+    is-going : p.closing.last ≡ false → is_unfinished (Some p) ≡ true
     is-going e = ap (λ (b : Bool). cond b false true) e
 
     not-last : (last : Bool) → cond last false true ≡ true → last ≡ false
@@ -216,7 +216,7 @@ module _ (front : List Page950) (old : Gathered) (p : Page950) (so : Gathers fro
         elim (cases_eq i at) [
           | inl q ↦
               let is : was ++ p ∷ [] ≡ piece = same_Some (was ++ p ∷ []) piece (sym here ∙ ap (slice_get new.pieces.items) (sym q) ∙ there) in
-              let parts = two (bytes_eq a account) (goes_on (Some p)) (sym (open-more a was p fit.own) ∙ ap (is_open a) is ∙ opens) in
+              let parts = two (bytes_eq a account) (is_unfinished (Some p)) (sym (open-more a was p fit.own) ∙ ap (is_open a) is ∙ opens) in
               let own : bytes_eq account a ≡ true = bytes-same account a (sym (same-bytes a account parts.0)) in
               for-own a own ∙ ap (λ (b : Bool). place_after b at) (not-last p.closing.last parts.1) ∙ ap Some (sym q)
           | inr ne ↦
@@ -232,14 +232,14 @@ module _ (front : List Page950) (old : Gathered) (p : Page950) (so : Gathers fro
     ends false = refl
 
     begin-more : (q : Page950) (b : Bool) → bytes_eq account (page_account q) ≡ b
-        → cond (goes_on (last_or None (filter (is_of q) front ++ cond b (p ∷ []) []))) false true ≡ is_none (cond b (place_after p.closing.last at) (open_at old (page_account q)))
-    begin-more q true e = ap (λ (o : Option Page950). cond (goes_on o) false true) (last-append None (filter (is_of q) front) p) ∙ ends p.closing.last
-    begin-more q false e = ap (λ (ps : List Page950). cond (goes_on (last_or None ps)) false true) (append-nil (filter (is_of q) front)) ∙ so.begin q
+        → cond (is_unfinished (last_or None (filter (is_of q) front ++ cond b (p ∷ []) []))) false true ≡ is_none (cond b (place_after p.closing.last at) (open_at old (page_account q)))
+    begin-more q true e = ap (λ (o : Option Page950). cond (is_unfinished o) false true) (last-append None (filter (is_of q) front) p) ∙ ends p.closing.last
+    begin-more q false e = ap (λ (ps : List Page950). cond (is_unfinished (last_or None ps)) false true) (append-nil (filter (is_of q) front)) ∙ so.begin q
 
     begin : (q : Page950) → begins_piece (front ++ p ∷ []) q ≡ is_none (open_at new (page_account q))
     begin q =
         let same : bytes_eq account (page_account q) ≡ is_of q p = short-eq 36 p.account q.account in
-        ap (λ (ps : List Page950). cond (goes_on (last_or None ps)) false true) (filter-append (is_of q) front (p ∷ []))
+        ap (λ (ps : List Page950). cond (is_unfinished (last_or None ps)) false true) (filter-append (is_of q) front (p ∷ []))
         ∙ begin-more q (is_of q p) same
         ∙ ap (λ (b : Bool). is_none (cond b (place_after p.closing.last at) (open_at old (page_account q)))) (sym same)
         ∙ ap is_none (sym (notes (page_account q)))

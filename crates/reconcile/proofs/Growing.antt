@@ -6,7 +6,7 @@ use Rattle.std.proofs.lemmas.List.{append-nil}
 use Rattle.std.proofs.lemmas.List.Elements.{filter-append}
 use Rattle.mt950.specs.declared.page.Page950.{Page950}
 use Rattle.reconcile.specs.Gathering.{page_account, is_open}
-use Rattle.reconcile.specs.Pieces.{begins_piece, goes_on, is_of, piece_of, pieces_from, pieces_of, until_closed}
+use Rattle.reconcile.specs.Pieces.{begins_piece, is_unfinished, is_of, piece_of, pieces_from, pieces_of, until_closed}
 use Rattle.reconcile.proofs.Keyed.{short-eq}
 
 -- the piece with the page, where it is the open one of its account
@@ -28,7 +28,7 @@ alone p = nothing-else p.closing.last p
 
 -- a piece that may go on after its last page
 abbrev going : List Page950 → Bool
-going piece = goes_on (last_or None piece)
+going piece = is_unfinished (last_or None piece)
 
 -- with this page where it goes on
 abbrev with : Page950 → List Page950 → List Page950

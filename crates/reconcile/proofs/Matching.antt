@@ -10,23 +10,23 @@ use Rattle.statement.specs.Lines.{Placed}
 use Rattle.statement.specs.Running.{placed_by}
 use Rattle.statement.specs.declared.movement.Movement.{Movement}
 use Rattle.reconcile.specs.Keys.{is_key, taken_by}
-use Rattle.reconcile.specs.Pairing.{matches, line_partner, places_of, says_same}
+use Rattle.reconcile.specs.Pairing.{matches, line_partner, entry_places, says_same}
 use Rattle.reconcile.specs.Waiting.{WithoutFirst, has_key, places_with, waiting_for}
 use Rattle.reconcile.specs.declared.key.Key.{Key}
 use Rattle.reconcile.specs.declared.waiting.Waiting.{Waiting}
 use Rattle.reconcile.proofs.Keyed.{key-matches, key-same}
 
-one-more : (m : Movement) (xs : List Movement) (ys : List Placed) (b : Bool) → map (λ x. x.place) xs ≡ places_of ys → map (λ x. x.place) (cond b (m ∷ xs) xs) ≡ places_of (cond b (placed_by m ∷ ys) ys)
+one-more : (m : Movement) (xs : List Movement) (ys : List Placed) (b : Bool) → map (λ x. x.place) xs ≡ entry_places ys → map (λ x. x.place) (cond b (m ∷ xs) xs) ≡ entry_places (cond b (placed_by m ∷ ys) ys)
 one-more m xs ys true e = ap (λ (ns : List ℕ). m.place ∷ ns) e
 one-more m xs ys false e = e
 
 -- the places of the entries that a line matches
-pub places-are : (line : Line61) (entries : List Movement) → places_with (taken_by line) entries ≡ places_of (filter (matches line) (map placed_by entries))
+pub places-are : (line : Line61) (entries : List Movement) → places_with (taken_by line) entries ≡ entry_places (filter (matches line) (map placed_by entries))
 places-are line [] = refl
 places-are line (m ∷ ms) =
     let rest : List Placed = filter (matches line) (map placed_by ms) in
     one-more m (filter (has_key (taken_by line)) ms) rest (has_key (taken_by line) m) (places-are line ms)
-    ∙ ap (λ (b : Bool). places_of (cond b (placed_by m ∷ rest) rest)) (key-matches line m)
+    ∙ ap (λ (b : Bool). entry_places (cond b (placed_by m ∷ rest) rest)) (key-matches line m)
 
 -- how many lines take a key
 abbrev pub takers : Key → List Line61 → ℕ

@@ -9,7 +9,7 @@ use Rattle.std.proofs.lemmas.List.Sorted.{IsPermutation-append_right, IsPermutat
 use Rattle.std.proofs.lemmas.Option.{none-some, same_Some, slice_get-map}
 use Rattle.mt950.specs.declared.entry.Line61.{Line61}
 use Rattle.statement.specs.Lines.{Placed, PlacesFrom, RiseFrom}
-use Rattle.reconcile.specs.Pairing.{alone, alone_from, is_paired, matches, line_numbers, ours_left, pair_with, line_pairs_from, pairs_of, line_partner, places_of, says_same, theirs_left}
+use Rattle.reconcile.specs.Pairing.{alone, alone_from, is_paired, matches, line_numbers, ours_left, pair_with, line_pairs_from, pairs_of, line_partner, entry_places, says_same, theirs_left}
 use Rattle.reconcile.proofs.Counting.{kept-at, kept-from}
 use Rattle.reconcile.proofs.First.{apart, contains-at}
 use Rattle.reconcile.proofs.Partners.{in-order, pair-taken}
@@ -37,7 +37,7 @@ lines-once ours theirs = lines-from-once ours [] 1 theirs
 abbrev pub NumbersRise : ℕ → List ℕ → Type 0
 NumbersRise low ns = RiseFrom (λ (n : ℕ). n) low ns
 
-pub places-rise : (low : ℕ) (ours : List Placed) → PlacesFrom low ours → NumbersRise low (places_of ours)
+pub places-rise : (low : ℕ) (ours : List Placed) → PlacesFrom low ours → NumbersRise low (entry_places ours)
 places-rise low [] up = tt
 places-rise low (p ∷ ps) up = (up.0, places-rise (p.place + 1) ps up.1)
 
@@ -135,7 +135,7 @@ module _ (low : ℕ) (ours : List Placed) (theirs : List Line61) (up : PlacesFro
   abbrev pairs : List (ℕ × ℕ)
   pairs = pairs_of ours theirs
 
-  inside : (i : ℕ) (p : ℕ × ℕ) → slice_get pairs i ≡ Some p → (j : ℕ) × (slice_get (places_of ours) j ≡ Some p.0)
+  inside : (i : ℕ) (p : ℕ × ℕ) → slice_get pairs i ≡ Some p → (j : ℕ) × (slice_get (entry_places ours) j ≡ Some p.0)
   inside i p at =
       let t = pair-taken ours [] 1 theirs p.0 p.1 (contains-at pairs i p at) in
       let k = kept-from (matches t.line) ours (length (filter (says_same t.line) (take t.at theirs))) t.placed t.partner in
@@ -146,5 +146,5 @@ module _ (low : ℕ) (ours : List Placed) (theirs : List Line61) (up : PlacesFro
       apart low ours theirs up q.0 q.1 p.1 (in-order ours theirs i j p q lt e f) (contains-at pairs j q f)
       (subst (λ (x : ℕ). Contains pairs (x, p.1)) (sym same) (contains-at pairs i p e))
 
-  pub entries-once : IsPermutation (map (λ pair. pair.0) pairs ++ ours_left pairs ours) (places_of ours)
-  entries-once = each-once low (places_of ours) pairs (places-rise low ours up) (all-distinct (places_of ours) pairs inside not-twice)
+  pub entries-once : IsPermutation (map (λ pair. pair.0) pairs ++ ours_left pairs ours) (entry_places ours)
+  entries-once = each-once low (entry_places ours) pairs (places-rise low ours up) (all-distinct (entry_places ours) pairs inside not-twice)

@@ -23,7 +23,7 @@ use Rattle.mt950.specs.declared.page.Page950.{Page950}
 use Rattle.statement.specs.Lines.{Placed, PlacesFrom, RiseFrom}
 use Rattle.statement.specs.Running.{placed_by}
 use Rattle.statement.specs.declared.movement.Movement.{Movement}
-use Rattle.reconcile.specs.Breaks.{heading_of, joined_text, line_feed, nostro_of, piece_text, statement_lines, statement_text}
+use Rattle.reconcile.specs.Breaks.{statement_heading, joined_text, line_feed, nostro_of, piece_text, statement_lines, statement_text}
 use Rattle.reconcile.specs.Comparison.{compared_of, ours_of, placed_at}
 use Rattle.reconcile.specs.Lines.{compared_lines, fault_words}
 use Rattle.reconcile.specs.Pairing.{alone, alone_from, line_partner, theirs_left}
@@ -162,15 +162,15 @@ last-at page (next ∷ pages) d =
     ap (λ (k : ℕ). get_or (page ∷ next ∷ pages) k d) place ∙ last-at next pages d
 
 module _ (chart : Chart) (entries : List Entry) (page : Page950) (pages : List Page950) (old mid new : List ℕ) where
-  piece-told : (text : List ℕ) → mid ≡ old ++ heading_of (last_of page pages) → new ≡ mid ++ text → text ≡ joined_text chart entries page.decimals (joined_of (page ∷ pages)) → new ≡ old ++ piece_text chart entries (page ∷ pages)
+  piece-told : (text : List ℕ) → mid ≡ old ++ statement_heading (last_of page pages) → new ≡ mid ++ text → text ≡ joined_text chart entries page.decimals (joined_of (page ∷ pages)) → new ≡ old ++ piece_text chart entries (page ∷ pages)
   piece-told text heading e is =
-      e ∙ (λ i. heading i ++ is i) ∙ append_assoc old (heading_of (last_of page pages)) (joined_text chart entries page.decimals (joined_of (page ∷ pages)))
+      e ∙ (λ i. heading i ++ is i) ∙ append_assoc old (statement_heading (last_of page pages)) (joined_text chart entries page.decimals (joined_of (page ∷ pages)))
 
-  pub told-joined : (s : Statement) → mid ≡ old ++ heading_of (last_of page pages) → joined_of (page ∷ pages) ≡ Ok s → new ≡ mid ++ statement_text chart entries s → new ≡ old ++ piece_text chart entries (page ∷ pages)
+  pub told-joined : (s : Statement) → mid ≡ old ++ statement_heading (last_of page pages) → joined_of (page ∷ pages) ≡ Ok s → new ≡ mid ++ statement_text chart entries s → new ≡ old ++ piece_text chart entries (page ∷ pages)
   told-joined s heading joined e =
       piece-told (statement_text chart entries s) heading e (ap (joined_text chart entries page.decimals) (sym joined))
 
-  pub told-fault : (fault : PageFault) (words : List ℕ) → mid ≡ old ++ heading_of (last_of page pages) → joined_of (page ∷ pages) ≡ Err fault → words ≡ mid ++ fault_words page.decimals fault → new ≡ words ++ line_feed
+  pub told-fault : (fault : PageFault) (words : List ℕ) → mid ≡ old ++ statement_heading (last_of page pages) → joined_of (page ∷ pages) ≡ Err fault → words ≡ mid ++ fault_words page.decimals fault → new ≡ words ++ line_feed
       → new ≡ old ++ piece_text chart entries (page ∷ pages)
   told-fault fault words heading joined w e =
       piece-told (fault_words page.decimals fault ++ line_feed) heading (e ∙ ap (λ (t : List ℕ). t ++ line_feed) w ∙ append_assoc mid (fault_words page.decimals fault) line_feed)
@@ -178,17 +178,17 @@ module _ (chart : Chart) (entries : List Entry) (page : Page950) (pages : List P
 
 -- the same of a list that has a first page and a last one
 module _ (chart : Chart) (entries : List Entry) (old mid new : List ℕ) where
-  pub all-joined : (all : List Page950) (last : Page950) → 1 ≤ length all → last ≡ get_or all (length all - 1) last → (s : Statement) → mid ≡ old ++ heading_of last → joined_of all ≡ Ok s
+  pub all-joined : (all : List Page950) (last : Page950) → 1 ≤ length all → last ≡ get_or all (length all - 1) last → (s : Statement) → mid ≡ old ++ statement_heading last → joined_of all ≡ Ok s
       → new ≡ mid ++ statement_text chart entries s → new ≡ old ++ piece_text chart entries all
   all-joined [] last some is s heading joined e = absurd (omega (arith, some))
   all-joined (page ∷ pages) last some is s heading joined e =
-      told-joined chart entries page pages old mid new s (heading ∙ ap (λ (p : Page950). old ++ heading_of p) (is ∙ last-at page pages last)) joined e
+      told-joined chart entries page pages old mid new s (heading ∙ ap (λ (p : Page950). old ++ statement_heading p) (is ∙ last-at page pages last)) joined e
 
-  pub all-fault : (all : List Page950) (first last : Page950) → 1 ≤ length all → first ≡ get_or all 0 first → last ≡ get_or all (length all - 1) last → (fault : PageFault) (words : List ℕ) → mid ≡ old ++ heading_of last
+  pub all-fault : (all : List Page950) (first last : Page950) → 1 ≤ length all → first ≡ get_or all 0 first → last ≡ get_or all (length all - 1) last → (fault : PageFault) (words : List ℕ) → mid ≡ old ++ statement_heading last
       → joined_of all ≡ Err fault → words ≡ mid ++ fault_words first.decimals fault → new ≡ words ++ line_feed → new ≡ old ++ piece_text chart entries all
   all-fault [] first last some first_is is fault words heading joined w e = absurd (omega (arith, some))
   all-fault (page ∷ pages) first last some first_is is fault words heading joined w e =
-      told-fault chart entries page pages old mid new fault words (heading ∙ ap (λ (p : Page950). old ++ heading_of p) (is ∙ last-at page pages last)) joined
+      told-fault chart entries page pages old mid new fault words (heading ∙ ap (λ (p : Page950). old ++ statement_heading p) (is ∙ last-at page pages last)) joined
       (w ∙ ap (λ (p : Page950). mid ++ fault_words p.decimals fault) first_is) e
 
 -- a fault that is told is the one that is meant

@@ -39,8 +39,8 @@ abbrev pub statement_text : Chart → List Entry → Statement → List ℕ
 statement_text chart entries s = option_map_or (statement_lines chart entries s) (nostro_of chart s) (spaced (codes "UNKNOWN" ∷ []) ++ line_feed)
 
 -- `STATEMENT NCORREUR 240603`, by the last page
-abbrev pub heading_of : Page950 → List ℕ
-heading_of page = codes "STATEMENT" ++ spaced (page.account ∷ yymmdd_of page.closing.day ∷ [])
+abbrev pub statement_heading : Page950 → List ℕ
+statement_heading page = codes "STATEMENT" ++ spaced (page.account ∷ yymmdd_of page.closing.day ∷ [])
 
 -- what is told of the pages after their name, with amounts of so many decimals where they are no statement
 abbrev pub joined_text : Chart → List Entry → ℕ → Result Statement PageFault → List ℕ
@@ -51,7 +51,7 @@ joined_text chart entries decimals (Err fault) = fault_words decimals fault ++ l
 abbrev pub piece_text : Chart → List Entry → List Page950 → List ℕ
 piece_text chart entries [] = []
 piece_text chart entries (page ∷ pages) =
-    heading_of (last_of page pages) ++ joined_text chart entries page.decimals (joined_of (page ∷ pages))
+    statement_heading (last_of page pages) ++ joined_text chart entries page.decimals (joined_of (page ∷ pages))
 
 -- what is told of all pages, piece by piece
 abbrev pub breaks_of : Chart → List Entry → List Page950 → List ℕ

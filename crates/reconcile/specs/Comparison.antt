@@ -9,7 +9,7 @@ use Rattle.mt950.specs.declared.entry.Line61.{Line61}
 use Rattle.mt950.specs.declared.joining.Statement.{Statement}
 use Rattle.statement.specs.Legs.{before_day}
 use Rattle.statement.specs.Lines.{Placed, lines_on, up_to_day}
-use Rattle.reconcile.specs.Pairing.{line_numbers, ours_left, pairs_of, places_of, theirs_left}
+use Rattle.reconcile.specs.Pairing.{line_numbers, ours_left, pairs_of, entry_places, theirs_left}
 use Rattle.reconcile.specs.Rule.{IsPairing}
 use Rattle.reconcile.specs.declared.comparing.Compared.{Compared}
 
@@ -33,7 +33,7 @@ TakesFirst n entries s compared = IsPairing (ours_of n entries s) s.lines compar
 
 -- each entry of ours stands in one pair or in `ours`, and each line in one pair or in `theirs`, and nowhere else or twice
 pub record StandOnce (n : ℕ) (entries : List Entry) (s : Statement) (compared : Compared) : Type 0 where
-  pub entries_once : IsPermutation (map (λ pair. pair.0) compared.pairs ++ compared.ours) (places_of (ours_of n entries s))
+  pub entries_once : IsPermutation (map (λ pair. pair.0) compared.pairs ++ compared.ours) (entry_places (ours_of n entries s))
   pub lines_once : IsPermutation (map (λ pair. pair.1) compared.pairs ++ compared.theirs) (line_numbers s.lines)
 
 -- the entry at a place

@@ -6,7 +6,7 @@ use Rattle.std.specs.Option.{is_none}
 use Rattle.std.specs.Str.{bytes_eq}
 use Rattle.mt950.specs.declared.page.Page950.{Page950}
 use Rattle.reconcile.specs.Keys.{short_of}
-use Rattle.reconcile.specs.Pieces.{begins_piece, goes_on, pieces_of}
+use Rattle.reconcile.specs.Pieces.{begins_piece, is_unfinished, pieces_of}
 use Rattle.reconcile.specs.declared.grouping.Gathered.{Gathered}
 
 -- a page's account, as the map keeps it
@@ -34,7 +34,7 @@ place_after last at = if last then None else Some at
 -- a piece is of an account, and goes on
 abbrev pub is_open : List ℕ → List Page950 → Bool
 is_open account [] = false
-is_open account (page ∷ pages) = bytes_eq account (page_account page) && goes_on (last_or None (page ∷ pages))
+is_open account (page ∷ pages) = bytes_eq account (page_account page) && is_unfinished (last_or None (page ∷ pages))
 
 -- the pieces of pages are there, the open ones are noted, and no others; so a page begins a piece just where none is noted
 pub record Gathers (front : List Page950) (gathered : Gathered) : Type 0 where

@@ -42,8 +42,8 @@ abbrev pub line_numbers : List Line61 → List ℕ
 line_numbers lines = range_with_len 1 (length lines)
 
 -- the places of entries
-abbrev pub places_of : List Placed → List ℕ
-places_of ours = map (λ placed. placed.place) ours
+abbrev pub entry_places : List Placed → List ℕ
+entry_places ours = map (λ placed. placed.place) ours
 
 -- an entry is in a pair
 abbrev pub is_paired : List (ℕ × ℕ) → ℕ → Bool
@@ -51,7 +51,7 @@ is_paired pairs place = list_any (λ pair. pair.0 == place) pairs
 
 -- the places of those that are in no pair
 abbrev pub ours_left : List (ℕ × ℕ) → List Placed → List ℕ
-ours_left pairs ours = filter (λ place. not (is_paired pairs place)) (places_of ours)
+ours_left pairs ours = filter (λ place. not (is_paired pairs place)) (entry_places ours)
 
 -- the number of a line without an entry
 abbrev pub alone : ℕ → Option Placed → List ℕ

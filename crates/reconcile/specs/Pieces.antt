@@ -14,13 +14,13 @@ until_closed [] = []
 until_closed (page ∷ pages) = page ∷ (if page.closing.last then [] else until_closed pages)
 
 -- a statement may go on after its last page so far: there is one, and it doesn't close it
-abbrev pub goes_on : Option Page950 → Bool
-goes_on None = false
-goes_on (Some page) = if page.closing.last then false else true
+abbrev pub is_unfinished : Option Page950 → Bool
+is_unfinished None = false
+is_unfinished (Some page) = if page.closing.last then false else true
 
 -- a page begins a piece where the pages of its account ahead of it don't go on
 abbrev pub begins_piece : List Page950 → Page950 → Bool
-begins_piece ahead page = if goes_on (last_or None (filter (is_of page) ahead)) then false else true
+begins_piece ahead page = if is_unfinished (last_or None (filter (is_of page) ahead)) then false else true
 
 -- the piece that a page begins: it and those of its account after it, up to and with the first that closes the statement
 abbrev pub piece_of : Page950 → List Page950 → List Page950

@@ -3,7 +3,7 @@
 ghost use Rattle.std.specs.Prelude.{◌≡◌, ◌-◌, ◌≤◌, ◌<◌, ◌++◌, All, IfSome, OnOk, Some, map, slice_get};
 ghost use Rattle.std.specs.List.{Contains};
 ghost use Rattle.std.specs.Option.{option_copied, option_map};
-ghost use Rattle.corr_money.specs.Amounts.{amount_end};
+ghost use Rattle.corr_money.specs.Amounts.{amount_end, most_decimals};
 ghost use Rattle.mt950.specs.Joining.{told};
 ghost use Rattle.mt950.specs.declared.joining.PageFault.TheVariants as fault;
 ghost use Rattle.statement.specs.Lines.{PlacesFrom};
@@ -52,7 +52,7 @@ fn put_pairs(alloc: Global, pairs: &[(u32, u32)], out: &mut Text) -> Result<(), 
 /// Adds the line of an entry that no line says: its place, its side, its amount and what it quotes.
 fn put_entry(alloc: Global, entry: &Movement, decimals: u8, out: &mut Text) -> Result<(), Memory>
     requires amount { entry.now.amount.0 < amount_end }
-    requires decimals { decimals ≤ 4 }
+    requires decimals { decimals ≤ most_decimals }
     ensures { OnOk result (out.new ≡ out.old ++ ours_line decimals (placed_by entry.now)) }
 {
     out.push(b"OURS")?;
@@ -86,7 +86,7 @@ fn put_ours(
 ) -> Result<(), Memory>
     requires entries { All CanBeKeyed entries.now }
     requires rising { PlacesFrom 1 (map placed_by entries.now) }
-    requires decimals { decimals ≤ 4 }
+    requires decimals { decimals ≤ most_decimals }
     ensures { OnOk result (out.new ≡ out.old ++ ours_lines decimals (map placed_by entries.now) places.now) }
 {
     for place in places {
@@ -106,7 +106,7 @@ fn put_line(
     out: &mut Text,
 ) -> Result<(), Memory>
     requires line { IsLine line.now }
-    requires decimals { decimals ≤ 4 }
+    requires decimals { decimals ≤ most_decimals }
     ensures { OnOk result (out.new ≡ out.old ++ theirs_line decimals number line.now) }
 {
     out.push(b"THEIRS")?;
@@ -135,7 +135,7 @@ fn put_theirs(
 ) -> Result<(), Memory>
     requires lines { All IsLine lines.now }
     requires numbers { All (λ number. 1 ≤ number) numbers.now }
-    requires decimals { decimals ≤ 4 }
+    requires decimals { decimals ≤ most_decimals }
     ensures { OnOk result (out.new ≡ out.old ++ theirs_lines decimals lines.now numbers.now) }
 {
     for number in numbers {
@@ -153,7 +153,7 @@ fn put_gap(
     decimals: u8,
     out: &mut Text,
 ) -> Result<(), Memory>
-    requires { decimals ≤ 4 }
+    requires { decimals ≤ most_decimals }
     ensures { OnOk result (out.new ≡ out.old ++ gap_line decimals opening closing) }
 {
     out.push(b"GAP")?;
@@ -175,7 +175,7 @@ pub fn put_compared(
     requires rising { PlacesFrom 1 (map placed_by entries.now) }
     requires lines { All IsLine lines.now }
     requires numbers { All (λ number. 1 ≤ number) compared.now.theirs }
-    requires decimals { decimals ≤ 4 }
+    requires decimals { decimals ≤ most_decimals }
     ensures { OnOk result (out.new ≡ out.old ++ compared_lines decimals (map placed_by entries.now) lines.now compared.now) }
 {
     put_pairs(alloc, compared.pairs.as_slice(), out)?;
@@ -197,7 +197,7 @@ pub fn put_fault(
     decimals: u8,
     out: &mut Text,
 ) -> Result<(), Memory>
-    requires { decimals ≤ 4 }
+    requires { decimals ≤ most_decimals }
     ensures words { OnOk result (out.new ≡ out.old ++ fault_words decimals fault) }
     ensures told { OnOk result (told fault ≡ Some fault) }
 {

@@ -10,7 +10,7 @@ ghost use Rattle.mt950.specs.Page.{mt950_of};
 ghost use Rattle.statement.specs.Seen.{SeenBook};
 ghost use Rattle.statement.specs.Valid.{AreShaped};
 ghost use Rattle.reconcile.specs.Bounds.{IsReceived, IsIndexFor};
-ghost use Rattle.reconcile.specs.Breaks.{breaks_of, heading_of, is_of_statement, nostro_of, piece_text, statement_text};
+ghost use Rattle.reconcile.specs.Breaks.{breaks_of, statement_heading, is_of_statement, nostro_of, piece_text, statement_text};
 
 use crate::comparing::compare_with;
 use crate::grouping::pieces;
@@ -73,7 +73,7 @@ fn put_statement(
 /// Adds the name of pages that belong together: their account, and the day of the last closing.
 fn put_heading(last: &Page950, out: &mut Text) -> Result<(), Memory>
     requires { InCentury last.now.closing.day }
-    ensures { OnOk result (out.new ≡ out.old ++ heading_of last.now) }
+    ensures { OnOk result (out.new ≡ out.old ++ statement_heading last.now) }
 {
     out.push(b"STATEMENT")?;
     put_word(last.account.bytes(), out)?;
@@ -123,9 +123,9 @@ pub fn breaks(alloc: Global, a: &Accounts, h: &History, pages: Vec<Page950>) -> 
     ensures { IfOk result (λ text. text ≡ breaks_of a.now h.now.entries pages.items) }
 {
     let index = HistoryIndex::new(alloc, a, h)?;
-    let pieces = pieces(alloc, pages)?;
+    let groups = pieces(alloc, pages)?;
     let mut out = Text::from_bytes(alloc, b"")?;
-    for piece in &pieces {
+    for piece in &groups {
         put_piece(alloc, a, &index, piece.as_slice(), &mut out)?;
     }
     Ok(out)

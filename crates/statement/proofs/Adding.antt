@@ -10,7 +10,7 @@ use Rattle.std.proofs.lemmas.Option.{same_Some}
 use Rattle.corr_ids.specs.declared.day.Day.{Day}
 use Rattle.corr_money.specs.Amounts.{amount_end}
 use Rattle.day_model.specs.Balance.{balance_of, changed, is_booked}
-use Rattle.day_model.specs.Chart.{Chart, IsChart, IsListed, IsSmall, account_at}
+use Rattle.day_model.specs.Chart.{Chart, IsChart, IsListed, IsSmall, account_at, HasCode}
 use Rattle.day_model.specs.Legal.{IsLegal}
 use Rattle.day_model.specs.Totals.{booked_legs}
 use Rattle.day_model.specs.declared.account.Account.{Account}
@@ -18,7 +18,7 @@ use Rattle.day_model.specs.declared.entry.Entry.{Entry}
 use Rattle.day_model.specs.declared.pay.Leg.{Leg}
 use Rattle.day_model.proofs.laws.Balances.{listed_account, small_at}
 use Rattle.day_model.proofs.laws.Fitting.{transfer}
-use Rattle.statement.specs.Index.{AreLedgersOf, HasCode, IsIndexOf, Rise, TakesNext, balance_at, changed_at, grown, is_of_earlier_day, last_balance, ledger_with, movement_of, movements_of, pushed}
+use Rattle.statement.specs.Index.{AreLedgersOf, IsIndexOf, Rise, TakesNext, balance_at, changed_at, grown, is_of_earlier_day, last_balance, ledger_with, movement_of, movements_of, pushed}
 use Rattle.statement.specs.Legs.{HasQuotes, IsByteQuote, before_day, legs_on, quote_text}
 use Rattle.statement.specs.Seen.{SeenBook}
 use Rattle.statement.specs.declared.index.HistoryIndex.{HistoryIndex}

@@ -31,7 +31,7 @@ use Rattle.statement.specs.Lines.{lines_on}
 use Rattle.statement.specs.Pages.{page_message, page_at, pages_for, pages_from, pages_of, statement_of}
 use Rattle.statement.specs.Running.{message_by, page_by}
 use Rattle.statement.specs.Seen.{SeenBook}
-use Rattle.statement.specs.Valid.{AreReadBack, AreShaped, ClosesAtBalance, IsPrintable, Prints, ReadsBack}
+use Rattle.statement.specs.Valid.{AreReadBack, AreShaped, ClosesAtBalance, IsPrintable, Prints, PageReadsBack}
 use Rattle.statement.specs.declared.index.HistoryIndex.{HistoryIndex}
 use Rattle.statement.specs.declared.ledger.Ledger.{Ledger}
 use Rattle.statement.specs.declared.movement.Movement.{Movement}
@@ -92,7 +92,7 @@ abbrev pub SoFar : HistoryIndex → ℕ → Day → ℕ → List (List ℕ) → 
 SoFar index n day count texts =
     (book : SeenBook) → Prints index n day book → (account : Account) → account_at book.chart n ≡ Some account
     → (texts ≡ map (page_message book.chart account) (pages_from (page_at book.chart book.entries n day account) 1 count))
-    × All (ReadsBack book.chart.home account.owner) (pages_from (page_at book.chart book.entries n day account) 1 count)
+    × All (PageReadsBack book.chart.home account.owner) (pages_from (page_at book.chart book.entries n day account) 1 count)
 
 -- a message by its home bank, its receiver and its page
 abbrev message_with : Bic → Bic → Page950 → List ℕ
@@ -178,11 +178,11 @@ module _ (index : HistoryIndex) (number : AcctNo) (day : Day) (ledger : Ledger) 
 
     -- one page more
     pub more-pages : (texts new : List (List ℕ)) (text : List ℕ) (other : Account) → account_at book.chart n ≡ Some other
-        → (texts ≡ map (page_message book.chart other) (pages_from (page_at book.chart book.entries n day other) 1 k)) × All (ReadsBack book.chart.home other.owner) (pages_from (page_at book.chart book.entries n day other) 1 k)
+        → (texts ≡ map (page_message book.chart other) (pages_from (page_at book.chart book.entries n day other) 1 k)) × All (PageReadsBack book.chart.home other.owner) (pages_from (page_at book.chart book.entries n day other) 1 k)
         → text ≡ message_by index.home ledger (page_by ledger (record { account = number; day = day; page = k + 1; last = k + 1 == count }) balance here)
-        → ReadsBack index.home ledger.owner (page_by ledger (record { account = number; day = day; page = k + 1; last = k + 1 == count }) balance here)
+        → PageReadsBack index.home ledger.owner (page_by ledger (record { account = number; day = day; page = k + 1; last = k + 1 == count }) balance here)
         → new ≡ texts ++ text ∷ []
-        → (new ≡ map (page_message book.chart other) (pages_from (page_at book.chart book.entries n day other) 1 (k + 1))) × All (ReadsBack book.chart.home other.owner) (pages_from (page_at book.chart book.entries n day other) 1 (k + 1))
+        → (new ≡ map (page_message book.chart other) (pages_from (page_at book.chart book.entries n day other) 1 (k + 1))) × All (PageReadsBack book.chart.home other.owner) (pages_from (page_at book.chart book.entries n day other) 1 (k + 1))
     more-pages texts new text other there so_far is back added =
         let same : account ≡ other = same_Some account other (sym of_book.there ∙ there) in
         let made = page-made ∙ ap (λ (a : Account). page_at book.chart book.entries n day a (k + 1)) same in
@@ -192,9 +192,9 @@ module _ (index : HistoryIndex) (number : AcctNo) (day : Day) (ledger : Ledger) 
         let grow : pages_from (page_at book.chart book.entries n day other) 1 (k + 1) ≡ pages ++ next ∷ [] =
         pages-more (page_at book.chart book.entries n day other) 1 k ∙ ap (λ (j : ℕ). pages ++ page_at book.chart book.entries n day other j ∷ []) (omega arith) in
         let spelled : text ≡ page_message book.chart other next = is ∙ (λ i. message_with (prints.has.is.home i) (of_owner i) (made i)) in
-        let reads : ReadsBack book.chart.home other.owner next = subst (λ (q : Seat). ReadsBack q.0 q.1 q.2) (λ i. (prints.has.is.home i, of_owner i, made i)) back in (
+        let reads : PageReadsBack book.chart.home other.owner next = subst (λ (q : Seat). PageReadsBack q.0 q.1 q.2) (λ i. (prints.has.is.home i, of_owner i, made i)) back in (
           added ∙ (λ i. so_far.0 i ++ spelled i ∷ []) ∙ sym (map-append (page_message book.chart other) pages (next ∷ [])) ∙ ap (map (page_message book.chart other)) (sym grow),
-          subst (All (ReadsBack book.chart.home other.owner)) (sym grow) (All-append (ReadsBack book.chart.home other.owner) pages (next ∷ []) so_far.1 (all-one (ReadsBack book.chart.home other.owner) next reads)),
+          subst (All (PageReadsBack book.chart.home other.owner)) (sym grow) (All-append (PageReadsBack book.chart.home other.owner) pages (next ∷ []) so_far.1 (all-one (PageReadsBack book.chart.home other.owner) next reads)),
         )
 
   -- all pages
@@ -206,5 +206,5 @@ module _ (index : HistoryIndex) (number : AcctNo) (day : Day) (ledger : Ledger) 
             ∙ ap (λ (c : ℕ). map (page_message book.chart account) (pages_from (page_at book.chart book.entries n day account) 1 c)) done
             ∙ sym (told book n day account of_book.there),
         λ other there.
-            subst (All (ReadsBack book.chart.home other.owner)) (ap (pages_from (page_at book.chart book.entries n day other) 1) done ∙ sym (stated book n day other there)) (so_far book prints other there).1,
+            subst (All (PageReadsBack book.chart.home other.owner)) (ap (pages_from (page_at book.chart book.entries n day other) 1) done ∙ sym (stated book n day other there)) (so_far book prints other there).1,
       )

@@ -4,7 +4,7 @@ use Rattle.std.specs.Ordering.{int_eq}
 use Rattle.std.specs.List.{filter}
 use Rattle.corr_ids.specs.declared.day.Day.{Day}
 use Rattle.day_model.specs.Balance.{balance_of}
-use Rattle.day_model.specs.Chart.{Chart, IsChart, IsListed}
+use Rattle.day_model.specs.Chart.{Chart, IsChart, IsListed, HasCode}
 use Rattle.day_model.specs.Legal.{IsLegal}
 use Rattle.day_model.specs.declared.account.Account.{Account}
 use Rattle.day_model.specs.declared.entry.Entry.{Entry}
@@ -48,10 +48,6 @@ ledger_with account movements = record {
   opening = account.opening;
   movements = movements;
 }
-
--- an account's currency has three letters
-abbrev pub HasCode : Account → Type 0
-HasCode account = length account.ccy.0 ≡ 3
 
 -- a ledger for each account, with all movements on it
 pub record AreLedgersOf (ledgers : List Ledger) (chart : Chart) (entries : List Entry) : Type 0 where

@@ -15,7 +15,7 @@ use Rattle.fin_fields.specs.declared.field.Field.{Field}
 use Rattle.fin_message.specs.Verdict.{sent_verdict_of}
 use Rattle.fin_message.specs.declared.message.Message.TheVariants.{Page}
 use Rattle.day_model.specs.Balance.{balance_of}
-use Rattle.day_model.specs.Chart.{Chart, IsChart, IsListed, account_at}
+use Rattle.day_model.specs.Chart.{Chart, IsChart, IsListed, account_at, HasCode}
 use Rattle.day_model.specs.Legal.{IsLegal}
 use Rattle.day_model.specs.Shape.{HasShape}
 use Rattle.day_model.specs.declared.account.Account.{Account}
@@ -25,7 +25,7 @@ use Rattle.mt950.specs.Page.{mt950_of}
 use Rattle.mt950.specs.Writing.{fields_950}
 use Rattle.mt950.specs.declared.joining.Statement.{Statement}
 use Rattle.mt950.specs.declared.page.Page950.{Page950}
-use Rattle.statement.specs.Index.{HasAccount, HasCode}
+use Rattle.statement.specs.Index.{HasAccount}
 use Rattle.statement.specs.Legs.{HasQuotes, before_day}
 use Rattle.statement.specs.Lines.{lines_on, up_to_day}
 use Rattle.statement.specs.Pages.{page_message, statement_of}
@@ -51,7 +51,7 @@ ClosesAtBalance chart entries n day = (statement : Statement) × ClosesAt chart 
 
 -- a page's message is read into the blocks that it was written of, its lines are cut without fault, and wherever the page is read
 -- of any fields it is read of these lines
-pub record ReadsBack (home to : Bic) (page : Page950) : Type 0 where
+pub record PageReadsBack (home to : Bic) (page : Page950) : Type 0 where
   pub blocks : blocks_of (sent_text home 950 to [] (fields_text (fields_950 page))) ≡ Ok (sent_blocks home 950 to [] (fields_text (fields_950 page)))
   pub cut : field_fault (fields_text (fields_950 page)) ≡ None
   pub again : (t : Tables) (fs : List Field) → mt950_of t fs ≡ Ok page → mt950_of t (fields_of (fields_text (fields_950 page))) ≡ Ok page
@@ -59,7 +59,7 @@ pub record ReadsBack (home to : Bic) (page : Page950) : Type 0 where
 -- so do the messages of account n's pages
 abbrev pub AreReadBack : Chart → List Entry → ℕ → Day → Type 0
 AreReadBack chart entries n day =
-    (account : Account) → account_at chart n ≡ Some account → All (ReadsBack chart.home account.owner) (statement_of chart entries n day)
+    (account : Account) → account_at chart n ≡ Some account → All (PageReadsBack chart.home account.owner) (statement_of chart entries n day)
 
 -- tables hold an account's owner, and its currency with its decimals
 pub record TablesKnow (t : Tables) (account : Account) : Type 0 where
@@ -71,8 +71,8 @@ abbrev pub IsAcceptedAs : Bic → Tables → List ℕ → Page950 → Type 0
 IsAcceptedAs home t text page = (envelope : Envelope) × (sent_verdict_of home t text ≡ Ok (Page envelope page))
 
 -- under all such tables so are the texts of account n's pages
-abbrev pub AreAccepted : Chart → List Entry → ℕ → Day → Type 0
-AreAccepted chart entries n day =
+abbrev pub PagesAreAccepted : Chart → List Entry → ℕ → Day → Type 0
+PagesAreAccepted chart entries n day =
     (t : Tables) (account : Account) → account_at chart n ≡ Some account → TablesKnow t account
     → All (λ page. IsAcceptedAs chart.home t (page_message chart account page) page) (statement_of chart entries n day)
 

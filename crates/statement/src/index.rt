@@ -4,9 +4,9 @@ ghost use Rattle.std.specs.Prelude.{◌≡◌, ◌<◌, ◌-◌, [], ◌∷◌, 
 ghost use Rattle.corr_ids.specs.Day.{InCentury};
 ghost use Rattle.corr_money.specs.Amounts.{amount_end};
 ghost use Rattle.day_model.specs.Balance.{balance_of, is_booked};
-ghost use Rattle.day_model.specs.Chart.{IsChart, IsListed};
+ghost use Rattle.day_model.specs.Chart.{IsChart, IsListed, HasCode};
 ghost use Rattle.day_model.specs.Legal.{IsLegal};
-ghost use Rattle.statement.specs.Index.{AreLedgersOf, HasAccount, HasCode, IsIndexOf, TakesNext, grown, ledger_with, movement_of};
+ghost use Rattle.statement.specs.Index.{AreLedgersOf, HasAccount, IsIndexOf, TakesNext, grown, ledger_with, movement_of};
 ghost use Rattle.statement.specs.Legs.{HasQuotes, IsByteQuote, before_day, legs_on};
 ghost use Rattle.statement.specs.Lines.{lines_on, up_to_day};
 ghost use Rattle.statement.specs.Running.{placed_by};

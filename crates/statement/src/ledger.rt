@@ -4,9 +4,9 @@ ghost use Rattle.std.specs.Prelude.{◌≡◌, ◌<◌, ◌≤◌, ◌-◌, ◌+
 ghost use Rattle.std.specs.List.Sorted.{IsPartitionPoint};
 ghost use Rattle.corr_money.specs.Amounts.{amount_end};
 ghost use Rattle.day_model.specs.Balance.{changed};
-ghost use Rattle.day_model.specs.Chart.{IsSmall};
+ghost use Rattle.day_model.specs.Chart.{IsSmall, HasCode};
 ghost use Rattle.corr_ids.specs.Day.{InCentury};
-ghost use Rattle.statement.specs.Index.{HasCode, Rise, balance_at, changed_at, is_of_earlier_day, last_balance, ledger_with, on_day, pushed, undone};
+ghost use Rattle.statement.specs.Index.{Rise, balance_at, changed_at, is_of_earlier_day, last_balance, ledger_with, on_day, pushed, undone};
 
 use crate::movement::{Movement, Movements, balance_after};
 use corr_ids::{Bic, Day};

@@ -7,7 +7,7 @@ ghost use Rattle.fin_contents.specs.Writing.{IsReadable};
 ghost use Rattle.mt950.specs.Page.{mt950_of};
 ghost use Rattle.statement.specs.Pages.{day_before};
 ghost use Rattle.statement.specs.Running.{message_by, opening_by, page_by};
-ghost use Rattle.statement.specs.Valid.{ReadsBack};
+ghost use Rattle.statement.specs.Valid.{PageReadsBack};
 
 use crate::ledger::Ledger;
 use crate::line::lines_of;
@@ -63,7 +63,7 @@ fn opening(heading: Heading, balance: i64) -> Balance
 }
 
 /// A page that opens at a balance, with its movements.
-fn page(
+fn filled_page(
     alloc: Global,
     ledger: &Ledger,
     heading: Heading,
@@ -107,9 +107,9 @@ pub fn page_message(
     requires days { All (λ movement. InCentury movement.day) movements.now }
     requires readable { IsReadable mt950_of (page_by ledger.now heading balance movements.now) }
     ensures value { IfOk result (λ text. text ≡ message_by home.now ledger.now (page_by ledger.now heading balance movements.now)) }
-    ensures back { OnOk result (ReadsBack home.now ledger.now.owner (page_by ledger.now heading balance movements.now)) }
+    ensures back { OnOk result (PageReadsBack home.now ledger.now.owner (page_by ledger.now heading balance movements.now)) }
 {
-    let page = page(alloc, ledger, heading, balance, movements)?;
+    let page = filled_page(alloc, ledger, heading, balance, movements)?;
     let text = put_mt950(alloc, &page)?;
     put_blocks(alloc, home, 950, &ledger.owner, &[], text.bytes())
 }

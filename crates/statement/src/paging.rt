@@ -7,7 +7,7 @@ ghost use Rattle.day_model.specs.Chart.{IsListed};
 ghost use Rattle.day_model.specs.Legal.{IsLegal};
 ghost use Rattle.statement.specs.Pages.{most_lines, pages_for, pages_of};
 ghost use Rattle.statement.specs.Seen.{SeenBook};
-ghost use Rattle.statement.specs.Valid.{AreAccepted, AreShaped, ClosesAtBalance, Prints};
+ghost use Rattle.statement.specs.Valid.{PagesAreAccepted, AreShaped, ClosesAtBalance, Prints};
 
 use crate::index::HistoryIndex;
 use crate::ledger::between;
@@ -32,7 +32,7 @@ fn count_of(lines: usize) -> usize
 }
 
 /// The movements of the page that begins behind so many.
-fn here(movements: &[Movement], first: usize) -> &[Movement]
+fn lines_from(movements: &[Movement], first: usize) -> &[Movement]
     requires { first ≤ length movements.now }
     ensures { result.now ≡ take most_lines (drop first movements.now) }
 {
@@ -49,7 +49,7 @@ pub fn pages_with(ix: &HistoryIndex, n: AcctNo, day: Day) -> Result<List<Text>, 
     requires { (book : SeenBook) × Prints ix.now n.0 day book }
     ensures value { IfOk result (λ texts. (book : SeenBook) → Prints ix.now n.0 day book → texts ≡ pages_of book.chart book.entries n.0 day) }
     ensures closes { (book : SeenBook) → Prints ix.now n.0 day book → ClosesAtBalance book.chart book.entries n.0 day }
-    ensures accepted { OnOk result ((book : SeenBook) → Prints ix.now n.0 day book → AreAccepted book.chart book.entries n.0 day) }
+    ensures accepted { OnOk result ((book : SeenBook) → Prints ix.now n.0 day book → PagesAreAccepted book.chart book.entries n.0 day) }
 {
     let alloc = ix.alloc();
     let ledger = ix.ledger(n);
@@ -66,7 +66,7 @@ pub fn pages_with(ix: &HistoryIndex, n: AcctNo, day: Day) -> Result<List<Text>, 
             last: k + 1 == count,
         };
         let balance = balance_after(opening, &movements[..first]);
-        let here = here(movements, first);
+        let here = lines_from(movements, first);
         texts.push(page_message(alloc, ix.home(), ledger, heading, balance, here)?)?;
     }
     Ok(texts)
@@ -97,7 +97,7 @@ pub fn pages(
     requires day { InCentury day }
     ensures value { IfOk result (λ texts. texts ≡ pages_of a.now h.now.entries n.0 day) }
     ensures closes { ClosesAtBalance a.now h.now.entries n.0 day }
-    ensures accepted { OnOk result (AreAccepted a.now h.now.entries n.0 day) }
+    ensures accepted { OnOk result (PagesAreAccepted a.now h.now.entries n.0 day) }
 {
     let index = HistoryIndex::new(alloc, a, h)?;
     pages_with(&index, n, day)

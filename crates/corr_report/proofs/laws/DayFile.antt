@@ -236,6 +236,7 @@ day_file (suc count) seed few =
           (subst (λ (ts : List (List ℕ)). IsFileOf (generated_of count seed ++ text_at seed (suc count) ++ codes "$") ts (codes "$")) (sym texts) grown),
     )
 
+-- the file of a generated day is cut into its messages and into no others
 pub day_cut : (count seed : ℕ) (cut : List (List ℕ)) → count ≤ most_generated → IsCutInto (generated_of count seed) cut → cut ≡ generated_texts count seed
 day_cut count seed cut few is = sym (cut-comes is).all ∙ (cut-comes (day_file count seed few)).all
 

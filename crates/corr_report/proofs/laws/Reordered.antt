@@ -30,6 +30,7 @@ balance_same : (chart : Chart) (xs ys : List Entry) → IsPermutation xs ys → 
 balance_same chart xs ys moved n =
     ap₂ (λ (credits debits : ℕ). (opening_of chart n +ℤ pos credits) -ℤ pos debits) (sum_by-IsPermutation (moved_by Credit n) xs ys moved) (sum_by-IsPermutation (moved_by Debit n) xs ys moved)
 
+-- the summary is that of the same entries in any order
 pub summary_reordered : (chart : Chart) (xs ys : List Entry) → IsPermutation xs ys → summary_of chart ys ≡ summary_of chart xs
 summary_reordered chart xs ys moved =
     let counts = ap (λ n. count_line n n) (length_permutation xs ys moved) in

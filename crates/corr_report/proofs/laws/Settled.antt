@@ -31,6 +31,7 @@ pub record Bears (chart : Chart) (entries : List Entry) (n : ℕ) (account : Acc
   pub floor : account.floor ≤ℤ (account.opening -ℤ pos (debits_of entries n))
   pub ceil : (account.opening +ℤ pos (credits_of entries n)) ≤ℤ account.ceil
 
+-- each account bears these entries in any order
 abbrev pub AreBorne : Chart → List Entry → Type 0
 AreBorne chart entries = (n : ℕ) (account : Account) → 1 ≤ n → account_at chart n ≡ Some account → Bears chart entries n account
 

@@ -17,7 +17,7 @@ use Rattle.fin_fields.specs.Fields.{fields_of}
 use Rattle.fin_fields.specs.Writing.{fields_text}
 use Rattle.fin_message.specs.Heading.{heading_tests}
 use Rattle.fin_message.specs.Parts.{envelope_of}
-use Rattle.fin_message.specs.Verdict.{judged, message_in, message_of as read_of, page_of as read_page}
+use Rattle.fin_message.specs.Verdict.{judged, message_in, message_of as read_of, page_in as read_page}
 use Rattle.fin_message.specs.declared.direction.Direction.TheVariants.{Sent}
 use Rattle.fin_message.specs.declared.message.Message.{Message}
 use Rattle.fin_message.specs.declared.message.Message.TheVariants.{Page}
@@ -30,7 +30,7 @@ use Rattle.day_model.specs.declared.account.Account.{Account}
 use Rattle.statement.specs.Lines.{lines_on}
 use Rattle.statement.specs.Pages.{page_at, pages_for, pages_from}
 use Rattle.statement.specs.Seen.{SeenBook}
-use Rattle.statement.specs.Valid.{AreAccepted, AreReadBack, TablesKnow, IsAcceptedAs, IsPrintable, ReadsBack}
+use Rattle.statement.specs.Valid.{PagesAreAccepted, AreReadBack, TablesKnow, IsAcceptedAs, IsPrintable, PageReadsBack}
 use Rattle.statement.proofs.laws.Readable.{page-written}
 
 -- ---- the verdict on a page
@@ -51,7 +51,7 @@ module _ (home : Bic) (t : Tables) (to : Bic) (text : List ℕ) where
   unfolding read_page
   page-says page says = rw says refl
 
-page-accepted : (home to : Bic) (t : Tables) (page : Page950) → ReadsBack home to page → has_head t to.head ≡ true → mt950_of t (fields_950 page) ≡ Ok page → IsAcceptedAs home t (sent_text home 950 to [] (fields_text (fields_950 page))) page
+page-accepted : (home to : Bic) (t : Tables) (page : Page950) → PageReadsBack home to page → has_head t to.head ≡ true → mt950_of t (fields_950 page) ≡ Ok page → IsAcceptedAs home t (sent_text home 950 to [] (fields_text (fields_950 page))) page
 unfolding judged
 page-accepted home to t page back known says =
     let text : List ℕ = fields_text (fields_950 page) in
@@ -70,7 +70,7 @@ module _ (book : SeenBook) (n : ℕ) (day : Day) (is : IsPrintable book n day) (
   count = pages_for (length (lines_on n day book.entries))
 
   abbrev Back : Page950 → Type 0
-  Back p = ReadsBack book.chart.home account.owner p
+  Back p = PageReadsBack book.chart.home account.owner p
 
   abbrev Accepted : Page950 → Type 0
   Accepted p = IsAcceptedAs book.chart.home t (sent_text book.chart.home 950 account.owner [] (fields_text (fields_950 p))) p
@@ -85,7 +85,7 @@ module _ (book : SeenBook) (n : ℕ) (day : Day) (is : IsPrintable book n day) (
   statement-accepted back = All-from_recursion Accepted (pages_from page 1 count) (pages-accepted 1 count (omega arith) (recursion_from_All Back (pages_from page 1 count) back))
 
 -- the pages of a statement that read back are accepted
-pub accepted : (book : SeenBook) (n : ℕ) (day : Day) → IsPrintable book n day → AreReadBack book.chart book.entries n day → AreAccepted book.chart book.entries n day
+pub accepted : (book : SeenBook) (n : ℕ) (day : Day) → IsPrintable book n day → AreReadBack book.chart book.entries n day → PagesAreAccepted book.chart book.entries n day
 accepted book n day is back t account at holds =
     let pages : Option Account → List Page950 = λ o. option_map_or (λ a. pages_from (page_at book.chart book.entries n day a) 1 (pages_for (length (lines_on n day book.entries)))) o [] in
     let mine : pages (account_at book.chart n) ≡ pages (Some account) = ap pages at in

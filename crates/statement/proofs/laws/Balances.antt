@@ -13,12 +13,15 @@ use Rattle.statement.proofs.Walking.{effects-add}
 use Rattle.statement.proofs.laws.Closing.{day-leads}
 
 module _ (chart : Chart) (entries : List Entry) (n : ℕ) (day : Day) where
+  -- the balance before a day is below 10^14 in size
   pub small-before : IsChart chart → IsLegal chart entries → IsListed chart n → IsSmall (balance_of chart (before_day day entries) n)
   small-before is legal listed = before-small chart entries n day is legal listed
 
+  -- so is the balance after it
   pub small-up-to : IsChart chart → IsLegal chart entries → IsListed chart n → IsSmall (balance_of chart (up_to_day day entries) n)
   small-up-to is legal listed = up-to-small chart entries n day is legal listed
 
+  -- the balance before a day and its lines give the balance after it
   pub lines-add : IsLegal chart entries → balance_of chart (before_day day entries) n +ℤ effects_of (map (λ p. p.line) (lines_on n day entries)) ≡ balance_of chart (up_to_day day entries) n
   lines-add legal =
       let lead = day-leads chart entries n day legal in

@@ -36,5 +36,6 @@ module _ (n : ℕ) (day : Day) where
       cond_both (int_eq entry.day.0 day.0) (of_legs place entry (legs_on n entry)) [] (λ (ps : List Placed). PlacesFrom place (ps ++ more))
       (λ _. entry-places place entry more all.0 up) (λ _. places-later place (place + 1) more (omega arith) up)
 
+-- the lines of a day name the places of their entries in rising order
 pub places-rise : (chart : Chart) (entries : List Entry) (n : ℕ) (day : Day) → IsLegal chart entries → PlacesFrom 1 (lines_on n day entries)
 places-rise chart entries n day legal = lines-rise n day 1 entries (all-at (OneLeg n) entries (λ i e at. one-leg chart n e (legal.fits i e at)))

@@ -13,19 +13,18 @@ use Rattle.jiff_core.proofs.CalendarLemmas.{day_of_year_bound, days_in_year_boun
 use Rattle.jiff_core.proofs.SignedLemmas.{signed_arith}
 use Rattle.corr_ids.specs.Day.{Civil, InCentury, civil_of, is_civil, place_in_year}
 use Rattle.corr_ids.specs.declared.day.Day.{Day}
-use Rattle.corr_ids.proofs.laws.Century.{civil-again, parted}
+use Rattle.corr_ids.proofs.laws.Century.{civil-again, in_parts}
 use Rattle.corr_ids.proofs.laws.Civil.{date_from}
 use Rattle.corr_ids.proofs.laws.Spelling.{some_if}
 use Rattle.ref_tables.specs.Seen.{Tables, decimals_in, few_decimals}
 use Rattle.fin_contents.specs.Writing.{IsReadable}
-use Rattle.day_model.specs.Chart.{Chart, IsFormed, account_at}
+use Rattle.day_model.specs.Chart.{Chart, IsFormed, account_at, HasCode}
 use Rattle.day_model.specs.declared.account.Account.{Account}
 use Rattle.day_model.specs.declared.entry.Entry.{Entry}
 use Rattle.day_model.proofs.laws.Balances.{listed_account}
 use Rattle.mt950.specs.Page.{mt950_of}
 use Rattle.mt950.specs.Writing.{IsBalance, IsContinued, IsWritableLine, IsPage}
 use Rattle.mt950.proofs.laws.Pages.{page-given}
-use Rattle.statement.specs.Index.{HasCode}
 use Rattle.statement.specs.Lines.{Placed, lines_on}
 use Rattle.statement.specs.Pages.{carried, day_before, lines_of_page, page_at, pages_for}
 use Rattle.statement.specs.Seen.{SeenBook}
@@ -79,7 +78,7 @@ year-few y m d early civil =
 year-place : (day : Day) → InCentury day → place_in_year day ≤ 366
 year-place day century =
     let c : Civil = civil_of day in
-    let early : c.year < 3000 = omega (arith, (parted day century).year_in) in
+    let early : c.year < 3000 = omega (arith, (in_parts day century).year_in) in
     year-few c.year c.month c.day early (some_if (is_civil c.year c.month c.day) _ day (civil-again day century)).0
 
 few-pages : (lines : ℕ) → lines ≤ 100000 → pages_for lines < 5000

@@ -13,14 +13,14 @@ use Rattle.reconcile.proofs.telling.breaks.Goals as goal
 pub put_piece-requires-clause-few : goal.put_piece-requires-clause-few
 put_piece-requires-clause-few c =
     let items = c.deref-piece-items.result.now in
-    let joins : All CanBeJoined items = subst (All CanBeJoined) (sym (c.deref-piece-items.ensures.value ∙ c.in_ok-pieces.ensures)) (pieces-join c.args.pages.items c.requires.few c.requires.given) in
+    let joins : All CanBeJoined items = subst (All CanBeJoined) (sym (c.deref-piece-items.ensures.value ∙ c.in_ok-groups.ensures)) (pieces-join c.args.pages.items c.requires.few c.requires.given) in
     let one : CanBeJoined c.as_slice.result.now = subst CanBeJoined (sym (c.as_slice.ensures ∙ c.piece-item.is)) (joins c.loop-piece.piece-index c.piece-item.result c.loop-piece-test.true) in
     one.few
 
 pub put_piece-requires-clause-given : goal.put_piece-requires-clause-given
 put_piece-requires-clause-given c =
     let items = c.deref-piece-items.result.now in
-    let joins : All CanBeJoined items = subst (All CanBeJoined) (sym (c.deref-piece-items.ensures.value ∙ c.in_ok-pieces.ensures)) (pieces-join c.args.pages.items c.requires.few c.requires.given) in
+    let joins : All CanBeJoined items = subst (All CanBeJoined) (sym (c.deref-piece-items.ensures.value ∙ c.in_ok-groups.ensures)) (pieces-join c.args.pages.items c.requires.few c.requires.given) in
     let one : CanBeJoined c.as_slice.result.now = subst CanBeJoined (sym (c.as_slice.ensures ∙ c.piece-item.is)) (joins c.loop-piece.piece-index c.piece-item.result c.loop-piece-test.true) in
     one.given
 
@@ -36,4 +36,4 @@ loop-piece-preserved c =
 pub returns : goal.returns
 returns c =
     let lines = piece_text c.args.a.now c.args.h.now.entries in
-    c.loop-piece.invariant ∙ ap (flat_map lines) (take_all c.loop-piece.piece-index c.deref-piece-items.result.now c.loop-piece-test.false ∙ c.deref-piece-items.ensures.value ∙ c.in_ok-pieces.ensures)
+    c.loop-piece.invariant ∙ ap (flat_map lines) (take_all c.loop-piece.piece-index c.deref-piece-items.result.now c.loop-piece-test.false ∙ c.deref-piece-items.ensures.value ∙ c.in_ok-groups.ensures)

@@ -3,7 +3,8 @@ use Rattle.std.specs.Prelude.{All, slice_get}
 use Rattle.std.proofs.lemmas.List.{map-append}
 use Rattle.std.proofs.lemmas.List.Elements.{All-append}
 use Rattle.day_model.specs.declared.account.Account.{Account}
-use Rattle.statement.specs.Index.{HasCode, ledger_with}
+use Rattle.day_model.specs.Chart.{HasCode}
+use Rattle.statement.specs.Index.{ledger_with}
 use Rattle.statement.specs.declared.ledger.Ledger.{Ledger}
 use Rattle.statement.proofs.Adding.{all-one}
 use Rattle.statement.proofs.Prefixes.{take-next}

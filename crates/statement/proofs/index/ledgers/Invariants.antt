@@ -1,6 +1,7 @@
 use Rattle.std.proofs.Common.{◌≡◌, [], map, take}
 use Rattle.std.specs.Prelude.{All}
-use Rattle.statement.specs.Index.{HasCode, ledger_with}
+use Rattle.day_model.specs.Chart.{HasCode}
+use Rattle.statement.specs.Index.{ledger_with}
 use Rattle.statement.proofs.index.ledgers.Given as goal
 
 abbrev pub invariant-loop-n : goal.invariant-loop-n

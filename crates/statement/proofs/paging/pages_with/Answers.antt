@@ -5,7 +5,7 @@ use Rattle.mt950.specs.declared.page.Page950.{Page950}
 use Rattle.statement.specs.Index.{last_balance}
 use Rattle.statement.specs.Pages.{pages_for}
 use Rattle.statement.specs.Running.{message_by, page_by}
-use Rattle.statement.specs.Valid.{ReadsBack}
+use Rattle.statement.specs.Valid.{PageReadsBack}
 use Rattle.statement.specs.declared.movement.Movement.{Movement}
 use Rattle.statement.proofs.Adding.{kept, kept-rise}
 use Rattle.statement.proofs.Printing.{SoFar, all-pages, few-pages, made-readable, more-pages, owner-is, part-dated, printable, statement-closes}
@@ -53,7 +53,7 @@ page_message-requires-clause-owner c = owner-is c.args.ix.now c.args.n c.args.da
 
 pub page_message-requires-clause-days : goal.page_message-requires-clause-days
 page_message-requires-clause-days c =
-    part-dated c.args.day c.on-movements.result.now c.here-here.result.now c.ledger-ledger.result.now.movements (c.loop-k.k * 25) c.requires.1.century c.on-movements.ensures c.here-here.ensures
+    part-dated c.args.day c.on-movements.result.now c.lines_from-here.result.now c.ledger-ledger.result.now.movements (c.loop-k.k * 25) c.requires.1.century c.on-movements.ensures c.lines_from-here.ensures
 
 pub page_message-requires-clause-readable : goal.page_message-requires-clause-readable
 page_message-requires-clause-readable c =
@@ -62,8 +62,8 @@ page_message-requires-clause-readable c =
     let held : to_z w64 (of_z w64 c.balance_after-balance.result) ≡ c.balance_after-balance.result = to_z-of_z w64 c.balance_after-balance.result (record { sfits = c.balance_after-balance.type_inv }) in
     let balance_is : to_z w64 (of_z w64 c.balance_after-balance.result) ≡ last_balance c.balance_before-opening.result (take (c.loop-k.k * 25) ms) =
     held ∙ c.balance_after-balance.ensures ∙ ap (λ (o : ℤ). last_balance o (take (c.loop-k.k * 25) ms)) opens in
-    made-readable c.args.ix.now c.args.n c.args.day c.ledger-ledger.result.now c.ledger-ledger.ensures c.requires.0 c.requires.1 c.loop-k.k ms c.here-here.result.now c.balance_before-opening.result (to_z w64 (of_z w64 c.balance_after-balance.result)) c.count_of-count.result
-    c.on-movements.ensures c.balance_before-opening.ensures balance_is c.here-here.ensures c.count_of-count.ensures c.loop-k-test.true
+    made-readable c.args.ix.now c.args.n c.args.day c.ledger-ledger.result.now c.ledger-ledger.ensures c.requires.0 c.requires.1 c.loop-k.k ms c.lines_from-here.result.now c.balance_before-opening.result (to_z w64 (of_z w64 c.balance_after-balance.result)) c.count_of-count.result
+    c.on-movements.ensures c.balance_before-opening.ensures balance_is c.lines_from-here.ensures c.count_of-count.ensures c.loop-k-test.true
 
 pub loop-k-preserved : goal.loop-k-preserved
 loop-k-preserved c = λ book prints account there.
@@ -72,11 +72,11 @@ loop-k-preserved c = λ book prints account there.
     let held : to_z w64 (of_z w64 c.balance_after-balance.result) ≡ c.balance_after-balance.result = to_z-of_z w64 c.balance_after-balance.result (record { sfits = c.balance_after-balance.type_inv }) in
     let balance_is : to_z w64 (of_z w64 c.balance_after-balance.result) ≡ last_balance c.balance_before-opening.result (take (c.loop-k.k * 25) ms) =
     held ∙ c.balance_after-balance.ensures ∙ ap (λ (o : ℤ). last_balance o (take (c.loop-k.k * 25) ms)) opens in
-    let page : Page950 = page_by c.ledger-ledger.result.now (record { account = c.args.n; day = c.args.day; page = c.loop-k.k + 1; last = c.loop-k.k + 1 == c.count_of-count.result }) (to_z w64 (of_z w64 c.balance_after-balance.result)) c.here-here.result.now in
+    let page : Page950 = page_by c.ledger-ledger.result.now (record { account = c.args.n; day = c.args.day; page = c.loop-k.k + 1; last = c.loop-k.k + 1 == c.count_of-count.result }) (to_z w64 (of_z w64 c.balance_after-balance.result)) c.lines_from-here.result.now in
     let is = c.in_ok-page_message.ensures.value ∙ ap (λ (home : Bic). message_by home c.ledger-ledger.result.now page) c.home.ensures in
-    let back = subst (λ (home : Bic). ReadsBack home c.ledger-ledger.result.now.owner page) c.home.ensures c.in_ok-page_message.ensures.back in
-    more-pages c.args.ix.now c.args.n c.args.day c.ledger-ledger.result.now c.ledger-ledger.ensures book prints c.loop-k.k ms c.here-here.result.now c.balance_before-opening.result (to_z w64 (of_z w64 c.balance_after-balance.result)) c.count_of-count.result
-    c.on-movements.ensures c.balance_before-opening.ensures balance_is c.here-here.ensures c.count_of-count.ensures c.loop-k.texts c.push.new.self c.in_ok-page_message.field-0 account there (c.loop-k.invariant book prints account there) is back c.in_ok-push.ensures.ok
+    let back = subst (λ (home : Bic). PageReadsBack home c.ledger-ledger.result.now.owner page) c.home.ensures c.in_ok-page_message.ensures.back in
+    more-pages c.args.ix.now c.args.n c.args.day c.ledger-ledger.result.now c.ledger-ledger.ensures book prints c.loop-k.k ms c.lines_from-here.result.now c.balance_before-opening.result (to_z w64 (of_z w64 c.balance_after-balance.result)) c.count_of-count.result
+    c.on-movements.ensures c.balance_before-opening.ensures balance_is c.lines_from-here.ensures c.count_of-count.ensures c.loop-k.texts c.push.new.self c.in_ok-page_message.field-0 account there (c.loop-k.invariant book prints account there) is back c.in_ok-push.ensures.ok
 
 pub returns-clause-value : goal.returns-clause-value
 returns-clause-value c = λ book prints.
