@@ -10,7 +10,7 @@ use fin_contents::{
     push_rate, push_texts, push_times, put_ccy_amount, put_known_party, put_rate, put_reference,
     put_short_line, put_texts, put_time, put_value,
 };
-use fin_fields::Field;
+use fin_fields::{Field, FieldLines, lend_field};
 use fin_layout::Content;
 use fin_parties::Party;
 use ref_tables::{RefTables, TableFault, read_tables};
@@ -29,10 +29,8 @@ fn tables(alloc: Global) -> Result<RefTables, TableFault> {
 
 // Whether a field of one line is read.
 fn is_read<C: Content>(alloc: Global, content: &C, line: &[u8]) -> bool {
-    match line_field(alloc, 20, None, line) {
-        Ok(f) => content.read(alloc, &f).is_ok(),
-        Err(_) => false,
-    }
+    let f = FieldLines::of_line(20, None, line);
+    one_line(&f) == Some(line) && content.read(alloc, &f).is_ok()
 }
 
 #[test]
@@ -53,13 +51,16 @@ fn bytes_have_their_forms(rt: HostRuntime) {
 
 // Whether a field has this one line.
 fn has_line(f: &Field, line: &[u8]) -> bool {
-    one_line(f) == Some(line)
+    match f.lines.as_slice() {
+        [only] => only.bytes() == line,
+        _ => false,
+    }
 }
 
 // Whether the party of a line is written again as it stands.
 fn is_kept(alloc: Global, tables: &RefTables, line: &[u8]) -> Result<bool, Memory> {
     let bank = line_field(alloc, 52, Some(b'A'), line)?;
-    match (KnownParty { tables }).read(alloc, &bank) {
+    match (KnownParty { tables }).read(alloc, &lend_field(alloc, &bank)?) {
         Ok(party) => Ok(has_line(&put_known_party(alloc, 52, &party)?, line)),
         Err(_) => Ok(false),
     }

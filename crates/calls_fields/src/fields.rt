@@ -3,10 +3,11 @@
 ghost use Rattle.std.specs.Prelude.{◌≢◌, [], All, IfOk};
 ghost use Rattle.fin_fields.specs.Writing.{IsField};
 
-use corr_text::{List, Set, Text};
+use corr_text::{List, Memory, Set, Text};
 use fin_fields::{
-    Field, FieldFault, Pattern, Spares, cut_fields, cut_fields_with, is_run_of, letter_of,
-    lines_match, matches, nth_of, put_fields, tag_of,
+    Field, FieldFault, FieldLines, Pattern, copy_lines, cut_fields, cut_lines, is_run_of,
+    lend_field, lend_fields, letter_of, lines_match, matches, nth_of, own_fields, put_fields,
+    tag_of,
 };
 use std::alloc::Global;
 use std::test::Fail;
@@ -22,23 +23,6 @@ fn cut(alloc: Global, text: &[u8]) -> Result<List<Field>, FieldFault>
     cut_fields(alloc, text)
 }
 
-// The fields of a short text, in spare memory.
-#[tactic(auto, using(fin_fields::proofs::laws::Bounds::lines_few))]
-fn cut_with(alloc: Global, text: &[u8], spares: &mut Spares) -> Result<List<Field>, FieldFault> {
-    if text.len() > 1000 {
-        return Err(FieldFault::Memory);
-    }
-    cut_fields_with(alloc, text, spares)
-}
-
-// The fields of the second text, in the memory of those of the first.
-fn cut_after(alloc: Global, first: &[u8], second: &[u8]) -> Result<List<Field>, FieldFault> {
-    let mut spares = Spares::new(alloc);
-    let fields = cut_with(alloc, first, &mut spares)?;
-    spares.take_back(fields);
-    cut_with(alloc, second, &mut spares)
-}
-
 // The fields of a text, written again.
 fn rewritten(alloc: Global, text: &[u8]) -> Result<Option<Text>, FieldFault> {
     let fields = cut(alloc, text)?;
@@ -51,25 +35,49 @@ const THREE: Pattern = Pattern::Fixed {
 };
 
 // Whether it is the field `:71A:SHA`.
-fn is_sha(f: &Field) -> bool {
-    tag_of(f) == *b"71A"
-        && letter_of(f) == b'A'
-        && matches(f, THREE)
-        && lines_match(f.lines.as_slice(), THREE)
+fn is_sha(f: &FieldLines<'_>) -> bool {
+    tag_of(f) == *b"71A" && letter_of(f) == b'A' && lines_match(f.lines(), THREE)
 }
 
 // Whether the only one of some fields is `:71A:SHA`, and the first of its tag.
-fn are_sha(fields: &[Field]) -> bool {
+fn are_sha(fields: &[FieldLines<'_>]) -> bool {
     match fields {
         [f] => is_sha(f) && nth_of(fields, 0) == 1,
         _ => false,
     }
 }
 
+// The same of fields with lines of their own.
+fn are_all_sha(alloc: Global, fields: &[Field]) -> Result<bool, Memory> {
+    let lent = lend_fields(alloc, fields)?;
+    Ok(are_sha(lent.as_slice()) && fields.iter().all(|f| matches(f, THREE)))
+}
+
+// How many lines a field has, once lent and copied.
+fn count_lines(alloc: Global, f: &Field) -> Result<usize, Memory> {
+    let lent = lend_field(alloc, f)?;
+    Ok(copy_lines(alloc, lent.lines())?.as_slice().len())
+}
+
+// The fields of a short text, the lines where they are.
+#[tactic(auto, using(fin_fields::proofs::laws::Bounds::lines_few))]
+fn cut_lent(alloc: Global, text: &[u8]) -> Result<List<FieldLines<'_>>, FieldFault> {
+    if text.len() > 1000 {
+        return Err(FieldFault::Memory);
+    }
+    cut_lines(alloc, text)
+}
+
+// Fields that are cut without copies, then kept.
+fn kept(alloc: Global, text: &[u8]) -> Result<List<Field>, FieldFault> {
+    let lent = cut_lent(alloc, text)?;
+    Ok(own_fields(alloc, lent.as_slice())?)
+}
+
 #[test]
 fn a_field_is_cut_and_written(rt: HostRuntime) -> Result<(), Fail> {
     let fields = cut(rt.alloc(), b":71A:SHA\n")?;
-    assert!(rt; are_sha(fields.as_slice()));
+    assert!(rt; are_all_sha(rt.alloc(), fields.as_slice())?);
     assert!(rt; is_run_of(Set::A, 3, b"SHA"));
     match rewritten(rt.alloc(), b":71A:SHA\n")? {
         Some(text) => assert_eq!(rt; text.bytes(), b":71A:SHA\r\n".as_slice()),
@@ -79,8 +87,9 @@ fn a_field_is_cut_and_written(rt: HostRuntime) -> Result<(), Fail> {
 }
 
 #[test]
-fn fields_are_cut_in_the_memory_of_others(rt: HostRuntime) -> Result<(), Fail> {
-    let fields = cut_after(rt.alloc(), b":20:REF1\n:59:/X\nA PAYEE\n", b":71A:SHA\n")?;
-    assert!(rt; are_sha(fields.as_slice()));
+fn fields_are_lent_and_kept(rt: HostRuntime) -> Result<(), Fail> {
+    let fields = kept(rt.alloc(), b":50K:/12\nA PAYER\nA TOWN\n:71A:SHA\n")?;
+    assert_eq!(rt; fields.as_slice().len(), 2);
+    assert_eq!(rt; count_lines(rt.alloc(), &fields.as_slice()[0])?, 3);
     Ok(())
 }

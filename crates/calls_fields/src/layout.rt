@@ -5,7 +5,7 @@ ghost use Rattle.corr_text.specs.First.{or_fault};
 ghost use Rattle.fin_layout.specs.declared.fault.TheConstants.{P24 as WrongFormat};
 
 use corr_text::{List, Memory, Text};
-use fin_fields::Field;
+use fin_fields::FieldLines;
 use fin_layout::{
     Content, MtFault, P23, P24, Place, Refusal, absent, check_structure, fault_at, find, missing,
     places, read_all, read_one, read_optional, refusal,
@@ -29,22 +29,16 @@ impl Content for FirstLine {
 
     ghost meaning = { λ _ f. or_fault (slice_get f.lines 0) WrongFormat };
 
-    fn read(&self, alloc: Global, f: &Field) -> Result<Text, Refusal> {
-        match f.lines.as_slice().first() {
+    fn read(&self, alloc: Global, f: &FieldLines<'_>) -> Result<Text, Refusal> {
+        match f.lines().first() {
             Some(line) => Ok(line.copy(alloc)?),
             None => Err(Refusal::Bad(P24)),
         }
     }
 }
 
-fn reference(alloc: Global) -> Result<Field, Memory> {
-    let mut lines = List::new(alloc);
-    lines.push(Text::from_bytes(alloc, b"A")?)?;
-    Ok(Field {
-        tag: 20,
-        letter: None,
-        lines,
-    })
+fn reference<'a>() -> FieldLines<'a> {
+    FieldLines::of_line(20, None, b"A")
 }
 
 // Calls go through functions that promise nothing: a test then carries none of what a call promises.
@@ -53,17 +47,17 @@ fn is_first(places: &[usize]) -> bool {
     places == [0].as_slice()
 }
 
-fn is_in_place(alloc: Global, fields: &[Field; 1]) -> Result<bool, MtFault> {
+fn is_in_place(alloc: Global, fields: &[FieldLines<'_>; 1]) -> Result<bool, MtFault> {
     Ok(is_first(check_structure(alloc, &ORDER, fields)?.as_slice()))
 }
 
-fn takes_its_place(alloc: Global, fields: &[Field; 1]) -> Result<bool, Memory> {
+fn takes_its_place(alloc: Global, fields: &[FieldLines<'_>; 1]) -> Result<bool, Memory> {
     Ok(is_first(places(alloc, &ORDER, fields)?.as_slice()))
 }
 
 #[test]
 fn a_field_takes_its_place(rt: HostRuntime) -> Result<(), Fail> {
-    let fields = [reference(rt.alloc())?];
+    let fields = [reference()];
     assert!(rt; is_in_place(rt.alloc(), &fields)?);
     assert!(rt; takes_its_place(rt.alloc(), &fields)?);
     assert!(rt; find(&fields, &[0], 0).is_some());
@@ -77,15 +71,15 @@ fn a_missing_field_is_told(rt: HostRuntime) {
     assert_eq!(rt; absent(&ORDER, 0).code, P23);
 }
 
-fn one(alloc: Global, fields: &[Field; 1]) -> Result<Text, MtFault> {
+fn one(alloc: Global, fields: &[FieldLines<'_>; 1]) -> Result<Text, MtFault> {
     read_one(alloc, &FirstLine, &ORDER, fields, &[0], 0)
 }
 
-fn second(alloc: Global, fields: &[Field; 1]) -> Result<Option<Text>, MtFault> {
+fn second(alloc: Global, fields: &[FieldLines<'_>; 1]) -> Result<Option<Text>, MtFault> {
     read_optional(alloc, &FirstLine, fields, &[0], 1)
 }
 
-fn count(alloc: Global, fields: &[Field; 1]) -> Result<usize, MtFault> {
+fn count(alloc: Global, fields: &[FieldLines<'_>; 1]) -> Result<usize, MtFault> {
     Ok(
         read_all(alloc, &FirstLine, fields, &[0], 0)?
             .as_slice()
@@ -95,7 +89,7 @@ fn count(alloc: Global, fields: &[Field; 1]) -> Result<usize, MtFault> {
 
 #[test]
 fn a_field_is_read_by_its_place(rt: HostRuntime) -> Result<(), Fail> {
-    let fields = [reference(rt.alloc())?];
+    let fields = [reference()];
     assert_eq!(rt; one(rt.alloc(), &fields)?.bytes(), b"A".as_slice());
     assert!(rt; second(rt.alloc(), &fields)?.is_none());
     assert_eq!(rt; count(rt.alloc(), &fields)?, 1);
@@ -104,11 +98,7 @@ fn a_field_is_read_by_its_place(rt: HostRuntime) -> Result<(), Fail> {
 
 #[test]
 fn a_field_without_lines_is_refused(rt: HostRuntime) -> Result<(), Fail> {
-    let bare = Field {
-        tag: 20,
-        letter: None,
-        lines: List::new(rt.alloc()),
-    };
+    let bare = FieldLines::of_lines(20, None, List::new(rt.alloc()));
     assert_eq!(rt; refusal(rt.alloc(), &FirstLine, &bare)?, Some(P24));
     Ok(())
 }

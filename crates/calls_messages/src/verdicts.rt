@@ -3,7 +3,6 @@
 use crate::cutting::{let_go, tables};
 use corr_ids::Bic;
 use corr_text::Code;
-use fin_fields::Spares;
 use fin_message::{Message, MessageFault, check_sent, verdict, verdict_into};
 use ref_tables::RefTables;
 use std::alloc::Global;
@@ -39,15 +38,14 @@ fn is_received(alloc: Global, m: &[u8], t: &RefTables) -> bool {
     is_ok
 }
 
-// Whether the home bank may have received two messages, the second in the place and the memory of the first.
+// Whether the home bank may have received two messages, the second in the place of the first.
 fn are_received(alloc: Global, first: &[u8], second: &[u8], t: &RefTables) -> bool {
     if first.len() > 65535 || second.len() > 65535 {
         return false;
     }
-    let mut spares = Spares::new(alloc);
     let mut place = Message::blank(alloc);
-    let is_first = verdict_into(alloc, first, &HOME, t, &mut spares, &mut place).is_ok();
-    let is_second = verdict_into(alloc, second, &HOME, t, &mut spares, &mut place).is_ok();
+    let is_first = verdict_into(alloc, first, &HOME, t, &mut place).is_ok();
+    let is_second = verdict_into(alloc, second, &HOME, t, &mut place).is_ok();
     let_go(place);
     is_first && is_second
 }

@@ -1,4 +1,5 @@
 ghost use Rattle.std.specs.Prelude.{◌≡◌, ◌≤◌};
+ghost use Rattle.work_pool.specs.Served.{most_workers};
 
 use corr_ids::Mir;
 use std::alloc::Global;
@@ -42,7 +43,7 @@ fn served<R: Wait + Threads + Sync>(
     passes: usize,
     jobs: u32,
 ) -> Result<Worked<Digits>, Fail>
-    requires { (1 ≤ passes) × (passes ≤ 16) }
+    requires { (1 ≤ passes) × (passes ≤ most_workers) }
 {
     let passes = vec![in alloc; 0u64; passes]?;
     let mut all = Vec::new(alloc);

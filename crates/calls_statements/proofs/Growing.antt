@@ -12,7 +12,7 @@ use Rattle.day_model.specs.Shape.{HasShape}
 use Rattle.day_model.specs.declared.entry.Entry.{Entry}
 use Rattle.day_model.specs.declared.entry.Outcome.{Outcome}
 use Rattle.day_model.specs.declared.pay.Pay.{Pay}
-use Rattle.day_model.proofs.laws.Growth.{one_more, pushed}
+use Rattle.day_model.proofs.laws.Growth.{one_pay_more, in_pushed}
 use Rattle.statement.specs.Index.{IsIndexOf, TakesNext, grown}
 use Rattle.statement.specs.Seen.{SeenBook}
 use Rattle.statement.specs.declared.index.HistoryIndex.{HistoryIndex}
@@ -27,7 +27,7 @@ same-day = omega (arith, ints)
 
 module _ (chart : Chart) (entries : List Entry) (pay : Pay) (outcome : Outcome) (index : HistoryIndex) (is : IsGrown chart entries index) (fit : FitsAccounts chart pay) (fresh : is_some (entered_at pay.mir entries) ≡ false) (room : length entries < 100) (same : outcome ≡ outcome_of chart entries pay) where
   next-legal : IsLegal chart (entries ++ entry_with pay outcome ∷ [])
-  next-legal = subst (λ (o : Outcome). IsLegal chart (entries ++ entry_with pay o ∷ [])) (sym same) (one_more chart entries pay the_day is.legal fit is.latest (omega (arith, room)) fresh)
+  next-legal = subst (λ (o : Outcome). IsLegal chart (entries ++ entry_with pay o ∷ [])) (sym same) (one_pay_more chart entries pay the_day is.legal fit is.latest (omega (arith, room)) fresh)
 
   -- the index takes the entry
   pub takes-next : (book : SeenBook) × TakesNext index (entry_with pay outcome) book
@@ -40,7 +40,7 @@ module _ (chart : Chart) (entries : List Entry) (pay : Pay) (outcome : Outcome) 
       record {
         legal = next-legal;
         shaped = All-append Shaped entries (entry_with pay outcome ∷ []) is.shaped (All-cons Shaped (entry_with pay outcome) [] shape (All-nil Shaped));
-        latest = λ i e at. elim (pushed entries (entry_with pay outcome) i e at) [
+        latest = λ i e at. elim (in_pushed entries (entry_with pay outcome) i e at) [
           | inl old ↦ is.latest i e old
           | inr new ↦ subst (λ (x : Entry). x.day.0 ≤ℤ pos 19877) new.1 same-day
         ];

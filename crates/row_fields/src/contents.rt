@@ -14,7 +14,7 @@ use fin_contents::{
     put_ccy_amount, put_known_party, put_rate, put_reference, put_short_line, put_texts, put_time,
     put_value,
 };
-use fin_fields::Field;
+use fin_fields::{Field, lend_field};
 use fin_layout::{Content, Refusal};
 use fin_parties::Party;
 use row_words::answer::Answer;
@@ -73,7 +73,7 @@ fn text<C: Content<Value = Text>>(
     answer: &mut Answer,
 ) -> Result<(), Stop> {
     let f = read_field(words, answer)?;
-    match content.read(answer.alloc(), &f) {
+    match content.read(answer.alloc(), &lend_field(answer.alloc(), &f)?) {
         Ok(text) => Ok(answer.text(text.bytes())?),
         Err(refusal) => put_code(refusal, answer),
     }
@@ -89,7 +89,7 @@ fn short_line(words: &mut Words, answer: &mut Answer) -> Result<(), Stop> {
 fn texts(words: &mut Words, answer: &mut Answer) -> Result<(), Stop> {
     let most = words.byte()?;
     let f = read_field(words, answer)?;
-    match (Texts { most }).read(answer.alloc(), &f) {
+    match (Texts { most }).read(answer.alloc(), &lend_field(answer.alloc(), &f)?) {
         Ok(lines) => Ok(put_lines(lines.as_slice(), answer)?),
         Err(refusal) => put_code(refusal, answer),
     }
@@ -105,7 +105,7 @@ pub fn put_amount(amount: &Amount, answer: &mut Answer) -> Result<(), Memory> {
 /// What the amount of a field is under the tables of these files. Promises nothing; likewise those below.
 fn amount_in(alloc: Global, files: Files, f: &Field) -> Result<Result<Amount, Refusal>, Stop> {
     let tables = tables(alloc, files)?;
-    Ok((CcyAmount { tables: &tables }).read(alloc, f))
+    Ok((CcyAmount { tables: &tables }).read(alloc, &lend_field(alloc, f)?))
 }
 
 /// `read_amount BICS CCYS COUNTRIES TAG LINES..`
@@ -120,7 +120,7 @@ fn amount(words: &mut Words, answer: &mut Answer) -> Result<(), Stop> {
 
 fn value_in(alloc: Global, files: Files, f: &Field) -> Result<Result<Value, Refusal>, Stop> {
     let tables = tables(alloc, files)?;
-    Ok((ValueDate { tables: &tables }).read(alloc, f))
+    Ok((ValueDate { tables: &tables }).read(alloc, &lend_field(alloc, f)?))
 }
 
 /// `read_value BICS CCYS COUNTRIES TAG LINES..`
@@ -138,7 +138,7 @@ fn value(words: &mut Words, answer: &mut Answer) -> Result<(), Stop> {
 
 fn party_in(alloc: Global, files: Files, f: &Field) -> Result<Result<Party, Refusal>, Stop> {
     let tables = tables(alloc, files)?;
-    Ok((KnownParty { tables: &tables }).read(alloc, f))
+    Ok((KnownParty { tables: &tables }).read(alloc, &lend_field(alloc, f)?))
 }
 
 /// `read_known_party BICS CCYS COUNTRIES TAG LINES..`

@@ -3,7 +3,7 @@
 ghost use Rattle.std.specs.Prelude.{◌≤◌};
 
 use corr_text::{List, Memory, Text};
-use fin_fields::{Field, tag_of};
+use fin_fields::{Field, lend_field, tag_of};
 use row_words::answer::Answer;
 use row_words::stop::Stop;
 use row_words::words::Words;
@@ -39,7 +39,7 @@ pub fn read_field(words: &mut Words, answer: &Answer) -> Result<Field, Stop> {
 
 /// Adds a tag, as `:52A:`.
 fn put_tag(f: &Field, answer: &mut Answer) -> Result<(), Memory> {
-    let [tens, ones, letter] = tag_of(f);
+    let [tens, ones, letter] = tag_of(&lend_field(answer.alloc(), f)?);
     match f.letter {
         Some(_) => answer.word(&[b':', tens, ones, letter, b':']),
         None => answer.word(&[b':', tens, ones, b':']),

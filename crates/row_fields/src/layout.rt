@@ -4,10 +4,10 @@ ghost use Rattle.std.specs.Prelude.{◌≤◌, IfOk, length};
 ghost use Rattle.fin_fields.specs.Fields.{most_text_lines};
 
 use crate::fields::{put_lines, two_digits};
-use crate::lines::fields_in;
+use crate::lines::lent_fields_in;
 use corr_text::{Fault, List, Memory, Text};
 use fin_contents::Texts;
-use fin_fields::{Field, FieldFault};
+use fin_fields::{FieldFault, FieldLines, copy_lines};
 use fin_layout::{
     MtFault, Place, check_structure, find, missing, places, read_all, read_one, read_optional,
 };
@@ -81,10 +81,10 @@ fn order_in(alloc: Global, text: &[u8]) -> Result<Vec<Place>, Stop> {
 }
 
 /// The fields of a text, which can be cut.
-fn fields_of(alloc: Global, text: &[u8]) -> Result<List<Field>, Stop>
+fn fields_of(alloc: Global, text: &[u8]) -> Result<List<FieldLines<'_>>, Stop>
     ensures { IfOk result (λ fields. length fields ≤ most_text_lines) }
 {
-    match fields_in(alloc, text) {
+    match lent_fields_in(alloc, text) {
         Ok(fields) => Ok(fields),
         Err(FieldFault::Memory) => Err(Stop::Memory),
         Err(_) => Err(Stop::Unreadable),
@@ -93,14 +93,14 @@ fn fields_of(alloc: Global, text: &[u8]) -> Result<List<Field>, Stop>
 
 /// An order, fields, and the places that they take.
 #[derive(Drop)]
-struct Laid {
+struct Laid<'a> {
     order: Vec<Place>,
-    fields: List<Field>,
+    fields: List<FieldLines<'a>>,
     found: Vec<usize>,
 }
 
 /// The order and the fields of two texts, and the places that they take.
-fn lay(alloc: Global, order: &[u8], text: &[u8]) -> Result<Laid, Stop>
+fn lay<'a>(alloc: Global, order: &[u8], text: &'a [u8]) -> Result<Laid<'a>, Stop>
     ensures few { IfOk result (λ laid. length laid.fields ≤ most_text_lines) }
     ensures each { IfOk result (λ laid. length laid.found.items ≤ length laid.fields) }
 {
@@ -196,11 +196,11 @@ fn field_at(words: &mut Words, answer: &mut Answer) -> Result<(), Stop> {
 }
 
 /// Adds which of the fields is the first at a place, and its lines; or `none`.
-fn put_found(laid: &Laid, at: usize, answer: &mut Answer) -> Result<(), Stop> {
+fn put_found(laid: &Laid<'_>, at: usize, answer: &mut Answer) -> Result<(), Stop> {
     match find(laid.fields.as_slice(), laid.found.as_slice(), at) {
         Some((at, f)) => {
             answer.number(at as u64)?;
-            Ok(put_lines(f.lines.as_slice(), answer)?)
+            Ok(put_lines(copy_lines(answer.alloc(), f.lines())?.as_slice(), answer)?)
         }
         None => Ok(answer.none()?),
     }
@@ -209,7 +209,7 @@ fn put_found(laid: &Laid, at: usize, answer: &mut Answer) -> Result<(), Stop> {
 /// The content that is read: up to two lines of text.
 const CONTENT: Texts = Texts { most: 2 };
 
-fn one_at(alloc: Global, laid: &Laid, at: usize) -> Result<Result<List<Text>, MtFault>, Stop>
+fn one_at(alloc: Global, laid: &Laid<'_>, at: usize) -> Result<Result<List<Text>, MtFault>, Stop>
     requires few { length laid.now.fields ≤ most_text_lines }
 {
     if at >= laid.order.len() {
@@ -235,7 +235,7 @@ fn one(words: &mut Words, answer: &mut Answer) -> Result<(), Stop> {
     }
 }
 
-fn optional_at(alloc: Global, laid: &Laid, at: usize) -> Result<Option<List<Text>>, MtFault>
+fn optional_at(alloc: Global, laid: &Laid<'_>, at: usize) -> Result<Option<List<Text>>, MtFault>
     requires few { length laid.now.fields ≤ most_text_lines }
 {
     read_optional(
@@ -258,7 +258,7 @@ fn optional(words: &mut Words, answer: &mut Answer) -> Result<(), Stop> {
     }
 }
 
-fn all_at(alloc: Global, laid: &Laid, at: usize) -> Result<List<List<Text>>, MtFault>
+fn all_at(alloc: Global, laid: &Laid<'_>, at: usize) -> Result<List<List<Text>>, MtFault>
     requires few { length laid.now.fields ≤ most_text_lines }
     requires each { length laid.now.found.items ≤ length laid.now.fields }
 {

@@ -5,10 +5,10 @@ ghost use Rattle.fin_fields.specs.Writing.{IsField};
 ghost use Rattle.fin_fields.specs.Fields.{most_text_lines};
 
 use crate::fields::{put_field, read_field};
-use corr_text::List;
+use corr_text::{List, Memory};
 use fin_fields::{
-    Field, FieldFault, Pattern, cut_fields, is_run_of, letter_of, lines_match, matches, nth_of,
-    put_fields, tag_of,
+    Field, FieldFault, FieldLines, Pattern, cut_fields, cut_lines, is_run_of, lend_field,
+    letter_of, lines_match, matches, nth_of, put_fields, tag_of,
 };
 use row_texts::texts::set;
 use row_words::answer::Answer;
@@ -29,8 +29,8 @@ pub fn call(name: &[u8], words: &mut Words, answer: &mut Answer) -> Result<bool,
         b"put_fields" => put(words, answer)?,
         b"matches" => has_format(words, answer)?,
         b"is_run_of" => run(words, answer)?,
-        b"letter_of" => answer.text(&[letter_of(&read_field(words, answer)?)])?,
-        b"tag_of" => answer.text(&tag_of(&read_field(words, answer)?))?,
+        b"letter_of" => letter(words, answer)?,
+        b"tag_of" => tag(words, answer)?,
         b"nth_of" => occurrence(words, answer)?,
         _ => return Ok(false),
     }
@@ -47,6 +47,21 @@ pub fn fields_in(alloc: Global, text: &[u8]) -> Result<List<Field>, FieldFault>
         return Err(FieldFault::Memory);
     }
     let fields = cut_fields(alloc, text)?;
+    if fields.as_slice().len() > MOST_FIELDS {
+        return Err(FieldFault::Memory);
+    }
+    Ok(fields)
+}
+
+/// The same, the lines where they are.
+#[tactic(auto, using(fin_fields::proofs::laws::Bounds::lines_few))]
+pub fn lent_fields_in(alloc: Global, text: &[u8]) -> Result<List<FieldLines<'_>>, FieldFault>
+    ensures few { IfOk result (λ fields. length fields ≤ most_text_lines) }
+{
+    if text.len() > MOST_BYTES {
+        return Err(FieldFault::Memory);
+    }
+    let fields = cut_lines(alloc, text)?;
     if fields.as_slice().len() > MOST_FIELDS {
         return Err(FieldFault::Memory);
     }
@@ -113,20 +128,34 @@ fn pattern(words: &mut Words) -> Result<Pattern, Stop> {
 }
 
 /// Whether a field has a format; none where its lines tell otherwise. Promises nothing.
-fn is_of(f: &Field, pattern: Pattern) -> Option<bool> {
+fn is_of(alloc: Global, f: &Field, pattern: Pattern) -> Result<Option<bool>, Memory> {
     let is_whole = matches(f, pattern);
-    if is_whole == lines_match(f.lines.as_slice(), pattern) {
-        Some(is_whole)
+    if is_whole == lines_match(lend_field(alloc, f)?.lines(), pattern) {
+        Ok(Some(is_whole))
     } else {
-        None
+        Ok(None)
     }
+}
+
+/// `letter_of TAG LINES..`
+fn letter(words: &mut Words, answer: &mut Answer) -> Result<(), Stop> {
+    let f = read_field(words, answer)?;
+    let letter = letter_of(&lend_field(answer.alloc(), &f)?);
+    Ok(answer.text(&[letter])?)
+}
+
+/// `tag_of TAG LINES..`
+fn tag(words: &mut Words, answer: &mut Answer) -> Result<(), Stop> {
+    let f = read_field(words, answer)?;
+    let tag = tag_of(&lend_field(answer.alloc(), &f)?);
+    Ok(answer.text(&tag)?)
 }
 
 /// `matches FORMAT TAG LINES..`
 fn has_format(words: &mut Words, answer: &mut Answer) -> Result<(), Stop> {
     let pattern = pattern(words)?;
     let f = read_field(words, answer)?;
-    match is_of(&f, pattern) {
+    match is_of(answer.alloc(), &f, pattern)? {
         Some(flag) => Ok(answer.flag(flag)?),
         None => Ok(answer.word(b"the field and its lines differ")?),
     }
@@ -142,7 +171,7 @@ fn run(words: &mut Words, answer: &mut Answer) -> Result<(), Stop> {
 /// `nth_of PLACE TEXT`: which of its tag and letter the field at a place is, places from 0
 fn occurrence(words: &mut Words, answer: &mut Answer) -> Result<(), Stop> {
     let at = words.place()?;
-    match fields_in(answer.alloc(), words.next()?) {
+    match lent_fields_in(answer.alloc(), words.next()?) {
         Ok(fields) if at < fields.as_slice().len() => {
             Ok(answer.number(nth_of(fields.as_slice(), at) as u64)?)
         }

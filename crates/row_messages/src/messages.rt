@@ -1,6 +1,7 @@
 //! Calls of fin_message.
 
 ghost use Rattle.std.specs.Prelude.{◌≤◌, IfOk, length};
+ghost use Rattle.fin_message.specs.Verdict.{most_bytes_judged};
 
 use crate::given::{let_go, put_fault, tables_in};
 use corr_ids::{Bic, Envelope, Mir, put_bic};
@@ -30,7 +31,7 @@ const HOME: Bic = Bic {
 
 /// The next word as a message of at most 65,535 bytes.
 fn message<'a>(words: &mut Words<'a>) -> Result<&'a [u8], Stop>
-    ensures { IfOk result (λ m. length m.now ≤ 65535) }
+    ensures { IfOk result (λ m. length m.now ≤ most_bytes_judged) }
 {
     let message = words.next()?;
     if message.len() > 65535 {
@@ -41,7 +42,7 @@ fn message<'a>(words: &mut Words<'a>) -> Result<&'a [u8], Stop>
 
 /// The verdict on a message that the home bank received, under the tables of a file. Promises nothing; likewise the next.
 fn judged(alloc: Global, file: &[u8], m: &[u8]) -> Result<Result<Message, MessageFault>, Stop>
-    requires { length m.now ≤ 65535 }
+    requires { length m.now ≤ most_bytes_judged }
 {
     let tables = tables_in(alloc, file)?;
     Ok(verdict(alloc, m, &HOME, &tables))
@@ -49,7 +50,7 @@ fn judged(alloc: Global, file: &[u8], m: &[u8]) -> Result<Result<Message, Messag
 
 /// The verdict on one that it sends.
 fn judged_sent(alloc: Global, file: &[u8], m: &[u8]) -> Result<Result<Message, MessageFault>, Stop>
-    requires { length m.now ≤ 65535 }
+    requires { length m.now ≤ most_bytes_judged }
 {
     let tables = tables_in(alloc, file)?;
     Ok(check_sent(alloc, m, &HOME, &tables))

@@ -6,6 +6,7 @@ ghost use Rattle.day_model.specs.Fit.{FitsAccounts};
 ghost use Rattle.day_model.specs.Laws.{IsLatest};
 ghost use Rattle.day_model.specs.Legal.{IsLegal};
 ghost use Rattle.day_model.specs.Next.{entry_of};
+ghost use Rattle.day_model.specs.Log.{most_entries};
 
 use crate::books::{TODAY, lines_in, pay};
 use corr_text::Memory;
@@ -19,7 +20,7 @@ use std::alloc::Global;
 fn enter_new(a: &Accounts, h: &mut History, p: Pay) -> Result<(), Stop>
     requires legal { IsLegal a.now h.old.entries }
     requires fits { FitsAccounts a.now p }
-    requires room { length h.old.entries < 100000 }
+    requires room { length h.old.entries < most_entries }
     ensures { OnOk result (h.new.entries ≡ h.old.entries ++ entry_of a.now h.old.entries p TODAY ∷ []) }
 {
     let outcome = decide(a, h, &p);
