@@ -9,7 +9,8 @@ most_disk_bytes = 2 ^ 30
 abbrev pub written : ℕ → List ℕ → List ℕ → List ℕ
 written at piece bytes = take at bytes ++ piece ++ drop (at + length piece) bytes
 
--- After a write of n bytes that a crash cuts short: any bytes in its range, any end between the old and the new one, and the same bytes elsewhere.
+-- After a write of n bytes that a crash cuts short: any bytes in its range, any end between the old and the new one, and the same
+-- bytes elsewhere.
 pub record Torn (at n : ℕ) (old new : List ℕ) : Type 0 where
   pub before : take at new ≡ take at old
   pub after : drop (at + n) new ≡ drop (at + n) old

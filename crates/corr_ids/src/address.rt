@@ -42,6 +42,7 @@ pub fn address(b: &[u8]) -> LtAddress
 /// The address that these bytes spell, `4!a2!a2!c`, the terminal (one capital letter or digit), `3!c`.
 ///
 /// `ALPHDEFFAXXX` is terminal `A` of the bank `ALPHDEFF`; `ALPHDEFFXXX` spells none.
+#[inline(always)]
 pub fn read_lt(b: &[u8]) -> Option<LtAddress>
     ensures value { result ≡ lt_of b.now }
     ensures form { IfSome result IsLt }

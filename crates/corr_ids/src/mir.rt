@@ -27,6 +27,7 @@ fn has_mir_form(b: &[u8]) -> bool
 /// The reference that these bytes spell: a valid date `6!n`, an LT address, a session `4!n`, a sequence number `6!n`.
 ///
 /// `240603ALPHDEFFAXXX0001000001` was sent on 3 June 2024 by terminal `A` of `ALPHDEFF`, in its session 1 as number 1.
+#[inline(always)]
 pub fn read_mir(b: &[u8]) -> Option<Mir>
     ensures value { result ≡ mir_of b.now }
     ensures form { IfSome result IsMir }

@@ -14,7 +14,7 @@ use corr_text::all_digits;
 const LENGTH: usize = 15;
 
 /// Amounts are below this number of minor units.
-const END: u64 = 100_000_000_000_000;
+pub const AMOUNT_END: u64 = 100_000_000_000_000;
 
 fn first_comma(b: &[u8]) -> Option<usize>
     ensures { result ≡ position is_comma b.now }
@@ -86,7 +86,7 @@ pub fn read_15d(b: &[u8], decimals: u8) -> Result<Minor, AmountFault>
         return Err(AmountFault::C03);
     }
     let amount = minor(whole, written, decimals);
-    if amount >= END {
+    if amount >= AMOUNT_END {
         return Err(AmountFault::TooLarge);
     }
     Ok(Minor(amount))

@@ -1,13 +1,14 @@
 -- The first line of a text, where it is of set X.
-use Rattle.std.proofs.Common.{◌≡◌, ◌≢◌, ◌<◌, ◌≤◌, ◌+◌, ◌||◌, ℕ, zero, suc, Bool, true, false, not, List, [], ◌∷◌, length, take, drop, get_or, Some, None, refl, sym, ap, subst, ◌∙◌, arith}
+use Rattle.std.proofs.Common.{◌≡◌, ◌≢◌, ◌<◌, ◌≤◌, ◌+◌, ◌-◌, ◌||◌, ℕ, zero, suc, Bool, true, false, not, cond, List, [], ◌∷◌, length, take, drop, get_or, Option, Some, None, nat_lt, refl, sym, ap, subst, ◌∙◌, inl, inr, arith}
 use Rattle.std.specs.Prelude.{◌==◌}
-use Rattle.std.specs.List.{list_any, position, position_or_len}
-use Rattle.std.proofs.lemmas.Bool.{false≢true, ne_eqb}
+use Rattle.std.specs.List.{list_any, position, position_or_len, slice_range}
+use Rattle.std.proofs.lemmas.Bool.{false≢true, ne_eqb, cases_lt, lt-ltb}
 use Rattle.std.proofs.lemmas.Bool.Decides.{nat_tests}
 use Rattle.std.proofs.Math.Seq.{take-length}
 use Rattle.std.proofs.Math.ListN.{drop_of_length-le}
+use Rattle.std.proofs.lemmas.List.{length-take, length-drop, get_or-take, get_or-drop}
 use Rattle.std.proofs.lemmas.List.Quantifiers.{position-Some}
-use Rattle.std.proofs.lemmas.List.Sums.{fails_before_first}
+use Rattle.std.proofs.lemmas.List.Sums.{fails_before_first, position_or_len_is}
 use Rattle.corr_text.specs.Lines.{lines_of, with_byte}
 use Rattle.corr_text.specs.Sets.{is_x_byte}
 
@@ -117,3 +118,62 @@ return-cut xs i e h lt g =
     let one : suc i ≡ i + 1 = omega arith in
     let two : suc (suc i) ≡ i + 2 = omega arith in
     subst (λ n. lines_of xs ≡ take i xs ∷ lines_of (drop n xs)) two (plain-return xs i (omega (arith, lt)) h (ap (λ n. get_or xs n 0) one ∙ g) front.1)
+
+-- ---- group after group
+
+abbrev at_place : List ℕ → ℕ → Option ℕ
+at_place xs i = cond (nat_lt i (length xs)) (Some i) None
+
+-- a byte outside X after bytes of X alone is the first one
+first-other : (xs : List ℕ) (i : ℕ) → i < length xs → PlainTo xs i → is_other (get_or xs i 0) ≡ true → position is_other xs ≡ Some i
+first-other xs i lt all other =
+    let place : position_or_len is_other xs ≡ i = position_or_len_is is_other xs i 0 (omega (arith, lt)) (λ k l. not-of (is_x_byte (get_or xs k 0)) (all k l)) (λ l. other) in
+    ap (at_place xs) place ∙ ap (λ (b : Bool). cond b (Some i) None) (lt-ltb i (length xs) lt)
+
+no-other : (xs : List ℕ) → PlainTo xs (length xs) → position is_other xs ≡ None
+no-other xs all =
+    let place : position_or_len is_other xs ≡ length xs =
+    position_or_len_is is_other xs (length xs) 0 (omega arith) (λ k l. not-of (is_x_byte (get_or xs k 0)) (all k l)) (λ l. absurd (omega (arith, l))) in
+    let past : nat_lt (length xs) (length xs) ≡ false = grind (arith, nat_tests) in
+    ap (at_place xs) place ∙ ap (λ (b : Bool). cond b (Some (length xs)) None) past
+
+slice-byte : (xs : List ℕ) (from to k : ℕ) → k < to - from → get_or (slice_range xs from to) k 0 ≡ get_or xs (from + k) 0
+slice-byte xs from to k lt = get_or-take (to - from) (drop from xs) k 0 lt ∙ get_or-drop from xs k 0
+
+-- bytes of X in front of a slice, and bytes of X at its start
+plain-on : (xs : List ℕ) (from to k : ℕ) → k ≤ to - from → PlainTo xs from → PlainTo (slice_range xs from to) k → PlainTo xs (from + k)
+plain-on xs from to k within before more j l =
+    elim (cases_lt j from) [
+      | inl less ↦ before j less
+      | inr past ↦
+          (let place : from + (j - from) ≡ j = omega (arith, past) in
+          let inside : j - from < k = omega (arith, past, l) in
+          ap is_x_byte (sym (slice-byte xs from to (j - from) (omega (arith, inside, within)) ∙ ap (λ i. get_or xs i 0) place)) ∙ more (j - from) inside)
+    ]
+
+-- the first byte outside X of a slice, after bytes of X
+found-inside : (xs : List ℕ) (from to k : ℕ) → Some k ≡ position is_other (slice_range xs from to) → (k < to - from) × (from + k < length xs)
+found-inside xs from to k e =
+    let found : k < length (take (to - from) (drop from xs)) = (plain-to (slice_range xs from to) k e).0 in
+    let long = length-take (to - from) (drop from xs) in
+    let rest = length-drop from xs in
+    (omega (arith, found, long), omega (arith, found, long, rest))
+
+pub found-here : (xs : List ℕ) (from to k : ℕ) → PlainTo xs from → Some k ≡ position is_other (slice_range xs from to) → Some (from + k) ≡ position is_other xs
+found-here xs from to k before e =
+    let inside = found-inside xs from to k e in
+    let other : is_other (get_or (slice_range xs from to) k 0) ≡ true = (position-Some is_other (slice_range xs from to) k 0 (sym e)).1 in
+    let plain = plain-on xs from to k (omega (arith, inside.0)) before (plain-to (slice_range xs from to) k e).1 in
+    sym (first-other xs (from + k) inside.1 plain (ap is_other (sym (slice-byte xs from to k inside.0)) ∙ other))
+
+-- a slice without one
+pub plain-past : (xs : List ℕ) (from to : ℕ) → from ≤ to → to ≤ length xs → PlainTo xs from → None ≡ position is_other (slice_range xs from to) → PlainTo xs to
+plain-past xs from to low high before e =
+    let long = length-take (to - from) (drop from xs) in
+    let rest = length-drop from xs in
+    let size : length (take (to - from) (drop from xs)) ≡ to - from = omega (arith, long, rest, low, high) in
+    let end : from + (to - from) ≡ to = omega (arith, low) in
+    subst (PlainTo xs) end (plain-on xs from to (to - from) (omega arith) before (subst (PlainTo (slice_range xs from to)) size (plain-all (slice_range xs from to) e)))
+
+pub none-here : (xs : List ℕ) (from : ℕ) → from ≤ length xs → PlainTo xs from → None ≡ position is_other (slice_range xs from (length xs)) → None ≡ position is_other xs
+none-here xs from low before e = sym (no-other xs (plain-past xs from (length xs) low (omega arith) before e))

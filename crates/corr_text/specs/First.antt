@@ -15,13 +15,18 @@ unless holds fault = if holds then None else Some fault
 abbrev pub check : {F : Type 0} → Bool → F → Result (Unit {0}) F
 check holds fault = if holds then Ok tt else Err fault
 
+-- no fault, or this one
+abbrev pub unless_fault : {F : Type 0} → Option F → Result (Unit {0}) F
+unless_fault None = Ok tt
+unless_fault (Some fault) = Err fault
+
 -- a value that must be there, or else this fault
 abbrev pub or_fault : {A F : Type 0} → Option A → F → Result A F
 or_fault (Some x) fault = Ok x
 or_fault None fault = Err fault
 
--- what steps in a row read, up to the first that fails
 infixl 10 ◌>>=◌
+-- what steps in a row read, up to the first that fails
 abbrev pub ◌>>=◌ : {A B F : Type 0} → Result A F → (A → Result B F) → Result B F
 (Ok x) >>= f = f x
 (Err e) >>= f = Err e

@@ -26,7 +26,7 @@ fn as_one(b: u8) -> u8
 
 /// Whether a brace is among the bytes of a group. Goes to its end in each case.
 #[inline(always)]
-fn has_brace(group: &[u8]) -> bool
+pub fn has_brace(group: &[u8]) -> bool
     ensures { result ≡ list_any is_brace group.now }
 {
     let mut found = 0u8;

@@ -14,11 +14,11 @@ mod memory;
 mod set;
 mod text;
 
-pub use brace::next_brace;
+pub use brace::{has_brace, next_brace};
 pub use buf::Buf;
 pub use copying::{copy_texts, push_texts};
 pub use decimal::{Decimal, all_digits, digits, put_digits};
-pub use ending::{let_go, put};
+pub use ending::{clear, let_go, put};
 pub use failed::Failed;
 pub use fault::{Code, Fault};
 pub use lines::{FirstLine, first_line, plain_line};

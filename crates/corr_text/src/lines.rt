@@ -7,6 +7,9 @@ ghost use Rattle.corr_text.specs.Sets.{is_x_byte};
 
 use crate::set::is_x;
 
+/// How many bytes are tested in a row.
+const GROUP: usize = 8;
+
 /// The first line of a text, without its end, and what stands after that end.
 #[derive(Clone, Copy, Debug)]
 pub struct FirstLine<'a> {
@@ -49,11 +52,30 @@ pub fn first_line(text: &[u8]) -> FirstLine<'_>
     }
 }
 
+/// As `first_outside_x`, byte after byte.
+#[inline(always)]
+fn outside_x(bytes: &[u8]) -> Option<usize>
+    ensures { result ≡ position (λ b. not (is_x_byte b)) bytes.now }
+{
+    bytes.iter().position(|b| !is_x(*b))
+}
+
+/// The place of the first byte outside set X. Goes group by group: as a group has a known length, its tests are written out.
 #[inline(never)]
 fn first_outside_x(text: &[u8]) -> Option<usize>
     ensures { result ≡ position (λ b. not (is_x_byte b)) text.now }
 {
-    text.iter().position(|b| !is_x(*b))
+    let mut at = 0;
+    while GROUP <= text.len() - at {
+        if let Some(k) = outside_x(&text[at..at + GROUP]) {
+            return Some(at + k);
+        }
+        at += GROUP;
+    }
+    match outside_x(&text[at..]) {
+        Some(k) => Some(at + k),
+        None => None,
+    }
 }
 
 fn cut_at(text: &[u8], at: usize, end: usize) -> FirstLine<'_>

@@ -1,6 +1,6 @@
 //! Why a table file is refused.
 
-ghost use Rattle.std.specs.Prelude.{◌≡◌, ◌<◌};
+ghost use Rattle.std.specs.Prelude.{◌≡◌, ◌<◌, ◌^◌};
 ghost use Rattle.ref_tables.specs.declared.fault.TableFault.TheVariants.{Memory as NoMemory};
 
 use corr_text::Memory;
@@ -52,7 +52,7 @@ pub enum TableFault {
 
 /// The fault of a row of a table.
 pub fn bad(table: TableName, row: usize, why: Why) -> TableFault
-    requires { row < 200000 }
+    requires { row < 2 ^ 32 }
     ensures { result ≡ TableFault.Bad table row why }
 {
     TableFault::Bad {
