@@ -1,10 +1,12 @@
 -- Bytes in which each group that begins ends, and the groups that they make.
-use Rattle.std.proofs.Common.{◌≡◌, ℕ, ◌+◌, ◌-◌, ◌<◌, ◌==◌, ◌&&◌, true, not, List, [], ◌∷◌, ◌++◌, refl, sym, ap, ◌∙◌, append_assoc, append-nil, arith}
+use Rattle.std.proofs.Common.{◌≡◌, ℕ, zero, suc, ◌+◌, ◌-◌, ◌<◌, ◌≤◌, ◌==◌, ◌&&◌, true, false, not, List, [], ◌∷◌, ◌++◌, length, get_or, take, drop, refl, sym, ap, ◌∙◌, subst, append_assoc, append-nil, arith}
 use Rattle.std.specs.Prelude.{Option, Some}
-use Rattle.std.proofs.lemmas.Bool.{and_parts}
+use Rattle.std.specs.List.{list_any, slice_range}
+use Rattle.std.proofs.lemmas.Bool.{and_parts, or_parts}
 use Rattle.std.proofs.lemmas.Bool.Decides.{nat_tests}
-use Rattle.corr_text.specs.Braces.{depth_after}
-use Rattle.fin_blocks.specs.Groups.{group_with_byte, groups_from, groups_of}
+use Rattle.std.proofs.lemmas.List.{take_more, take-append-drop}
+use Rattle.corr_text.specs.Braces.{is_brace, depth_after}
+use Rattle.fin_blocks.specs.Groups.{group_with_byte, groups_from, groups_of, IsCut}
 use Rattle.fin_blocks.specs.Forms.{is_plain}
 use Rattle.fin_blocks.proofs.Cutting.{with_bytes, with_bytes-push, with_bytes-group, step, closes}
 
@@ -75,3 +77,33 @@ group-first bs rest h =
 pub group-alone : (bs : List ℕ) → IsBalanced bs → groups_of (123 ∷ bs ++ 125 ∷ []) ≡ Some (123 ∷ bs ++ 125 ∷ []) ∷ []
 unfolding groups_of
 group-alone bs h = ap groups_of (sym (append-nil (123 ∷ bs ++ 125 ∷ []))) ∙ group-first bs [] h
+
+-- ---- a group without another one within
+
+others-plain : (bs : List ℕ) → list_any is_brace bs ≡ false → is_plain bs ≡ true
+others-plain [] h = refl
+others-plain (b ∷ bs) h =
+    let p = or_parts (is_brace b) (list_any is_brace bs) h in
+    let q = or_parts (b == 123) (b == 125) p.0 in
+    rw (q.0, q.1) (others-plain bs p.1)
+
+-- `{`, bytes without a brace and `}` are the next group
+pub plain-cut : (bs : List ℕ) (n : ℕ) → 2 ≤ n → n ≤ length bs → get_or bs 0 0 ≡ 123 → get_or bs (n - 1) 0 ≡ 125
+    → list_any is_brace (slice_range bs 1 (n - 1)) ≡ false → IsCut bs (Some (take n bs)) (drop n bs)
+plain-cut [] n two within begun ended none = absurd (omega (arith, two, within))
+plain-cut (b ∷ bs) zero two within begun ended none = absurd (omega (arith, two))
+plain-cut (b ∷ bs) (suc zero) two within begun ended none = absurd (omega (arith, two))
+plain-cut (b ∷ bs) (suc (suc m)) two within begun ended none =
+    let place : suc (suc m) - 1 ≡ suc m = omega arith in
+    let size : suc (suc m) - 1 - 1 ≡ m = omega arith in
+    let plain : list_any is_brace (take m bs) ≡ false = sym (ap (λ i. list_any is_brace (take i bs)) size) ∙ none in
+    let last : get_or bs m 0 ≡ 125 = sym (ap (λ i. get_or (b ∷ bs) i 0) place) ∙ ended in
+    let next : suc m ≡ m + 1 = omega arith in
+    let front : take (suc m) bs ≡ take m bs ++ 125 ∷ [] =
+    ap (λ i. take i bs) next ∙ take_more bs m 0 (omega (arith, within)) ∙ ap (λ x. take m bs ++ x ∷ []) last in
+    let same : b ∷ take (suc m) bs ≡ 123 ∷ take m bs ++ 125 ∷ [] = ap (λ x. x ∷ take (suc m) bs) begun ∙ ap (λ xs. 123 ∷ xs) front in
+    let whole : groups_of (b ∷ bs) ≡ Some (b ∷ take (suc m) bs) ∷ groups_of (drop (suc m) bs) =
+    ap groups_of (sym (take-append-drop (suc (suc m)) (b ∷ bs)))
+    ∙ subst (λ xs. groups_of (xs ++ drop (suc m) bs) ≡ Some xs ∷ groups_of (drop (suc m) bs)) (sym same)
+    (group-first (take m bs) (drop (suc m) bs) (balanced-plain (take m bs) (others-plain (take m bs) plain))) in
+    record { group_is_next = rw whole refl; rest_is_after = rw whole refl }

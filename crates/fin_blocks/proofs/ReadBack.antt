@@ -9,7 +9,7 @@ use Rattle.corr_ids.specs.declared.bic.Bic.{Bic}
 use Rattle.fin_blocks.specs.Groups.{groups_of}
 use Rattle.fin_blocks.specs.Forms.{inside}
 use Rattle.fin_blocks.specs.Text.{crlf}
-use Rattle.fin_blocks.specs.Blocks.{groups_behind, blocks_of, user_of}
+use Rattle.fin_blocks.specs.Blocks.{ending_of, groups_behind, blocks_of, user_of}
 use Rattle.fin_blocks.specs.Sending.{IsText, are_subblocks, lines_text, own_text, receiver_text, sent_blocks, sent_text, subblock_text, terminal_of, user_text}
 use Rattle.fin_blocks.proofs.Between.{inside-again, inside-other}
 use Rattle.fin_blocks.proofs.Braces.{balanced-both, balanced-plain, group-alone, group-first}
@@ -26,7 +26,7 @@ read-through : (m : List ℕ) (home to : Bic) (mt : ℕ) (groups : List (Option 
     → groups_of m ≡ Some (own_text home) ∷ Some (receiver_text mt to) ∷ groups
     → IsBic home → IsBic to → mt ≤ 999 → IsText text → IsRead groups user text
     → blocks_of m ≡ Ok (sent_blocks home mt to user text)
-unfolding blocks_of
+unfolding blocks_of ending_of
 read-through m home to mt groups user text cut own receiver low lines read =
     rw (cut, own-again home own, receiver-again mt to low receiver, read.subblocks, read.last, lines-again text lines) refl
 

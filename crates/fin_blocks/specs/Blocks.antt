@@ -4,7 +4,7 @@ use Rattle.corr_text.specs.Answers.{Refuses}
 use Rattle.corr_text.specs.Codes.{code}
 use Rattle.corr_text.specs.First.{check, or_fault, ◌>>=◌}
 use Rattle.fin_blocks.specs.Groups.{groups_of, next_group, groups_after}
-use Rattle.fin_blocks.specs.Forms.{inside, basic_of, app_of, mir_in, each_of, trailer_of}
+use Rattle.fin_blocks.specs.Forms.{inside, basic_of, app_of, mir_in, when, each_of, trailer_of}
 use Rattle.fin_blocks.specs.User.{subblocks_in}
 use Rattle.fin_blocks.specs.Text.{text_of}
 use Rattle.corr_ids.specs.Address.{bank_of}
@@ -43,6 +43,10 @@ are_last [] = true
 are_last (group ∷ []) = is_some (inside (codes "{S:") group)
 are_last _ = false
 
+-- the codes of block 5 among the groups behind block 4; none where it isn't of its form, or more is left
+unfoldable pub ending_of : List (Option (List ℕ)) → Option (List (List ℕ))
+ending_of fifth = when (are_last (groups_behind (codes "{5:") fifth)) (trailers_of fifth)
+
 -- the parts of a message, or the first of P01 to P06 with the reference of a received message from P04 on
 unfoldable pub blocks_of : List ℕ → Result Blocks BlockFault
 blocks_of m = do
@@ -55,9 +59,7 @@ blocks_of m = do
   user ← or_fault (user_of third) (fault.Bad (code "P04") (mir_in app))
   let fourth = groups_behind (codes "{3:") third
   text ← or_fault (text_of (next_group fourth)) (fault.Bad (code "P05") (mir_in app))
-  let fifth = groups_after fourth
-  trailers ← or_fault (trailers_of fifth) (fault.Bad (code "P06") (mir_in app))
-  _ ← check (are_last (groups_behind (codes "{5:") fifth)) (fault.Bad (code "P06") (mir_in app))
+  trailers ← or_fault (ending_of (groups_after fourth)) (fault.Bad (code "P06") (mir_in app))
   Ok (record { own = basic.own; app = app; user = user; text = text; trailers = trailers })
 
 -- what block 2 names meets its grammar: the reference of a received message, the receiver's bank of a sent one

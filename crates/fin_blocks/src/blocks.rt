@@ -1,7 +1,10 @@
 //! The parts of a message.
 
+ghost use Rattle.std.specs.Prelude.{◌≡◌};
+
 use corr_ids::{LtAddress, Mir};
 use corr_text::{List, Text};
+use std::alloc::Global;
 
 /// Block 2: what a message is, and where it comes from or goes to.
 #[derive(Clone, Copy, Debug, PartialEq, Eq)]
@@ -24,4 +27,28 @@ pub struct Blocks {
     pub text: Text,
     /// The codes of block 5.
     pub trailers: List<[u8; 3]>,
+}
+
+fn no_terminal() -> LtAddress {
+    LtAddress {
+        head: [0; 8],
+        lt: 0,
+        branch: [0; 3],
+    }
+}
+
+impl Blocks {
+    /// A place for blocks to be read into. Block 4 is this text, into whose memory the next one is read.
+    pub fn blank(alloc: Global, text: Text) -> Blocks
+        ensures { result.text ≡ text }
+    {
+        let to = no_terminal();
+        Blocks {
+            own: to,
+            app: App::Sent { mt: 0, to },
+            user: List::new(alloc),
+            text,
+            trailers: List::new(alloc),
+        }
+    }
 }

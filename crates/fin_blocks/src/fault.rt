@@ -5,7 +5,6 @@ ghost use Rattle.fin_blocks.specs.declared.fault.BlockFault.TheVariants.{Memory 
 
 use corr_ids::Mir;
 use corr_text::{Code, Memory};
-use std::alloc::{AllocError, AllocFailed};
 
 /// The first group is not block 1.
 pub const P01: Code = Code(*b"P01");

@@ -15,5 +15,5 @@ mod writing;
 
 pub use blocks::{App, Blocks};
 pub use fault::{BlockFault, P01, P02, P03, P04, P05, P06};
-pub use reading::read_blocks;
+pub use reading::{fill_blocks, read_blocks};
 pub use writing::put_blocks;

@@ -1,13 +1,12 @@
 //! Block 4: the text of a message.
 
-ghost use Rattle.std.specs.Prelude.{◌≡◌, ◌++◌, ◌∷◌, [], codes, option_map, true, IfOk};
+ghost use Rattle.std.specs.Prelude.{◌≡◌, ◌++◌, ◌∷◌, [], codes, option_map, true, IfOk, OnOk, Some};
 ghost use Rattle.std.specs.Option.{option_or};
-ghost use Rattle.fin_blocks.specs.Forms.{between as between_of};
+ghost use Rattle.fin_blocks.specs.Forms.{between as between_of, when};
 ghost use Rattle.fin_blocks.specs.Text.{crlf, is_ended as is_ended_of, text_in, text_of};
 
 use crate::forms::between;
 use corr_text::{Memory, Text, first_line};
-use std::alloc::Global;
 
 fn lines_between(group: &[u8]) -> Option<&[u8]>
     ensures { option_map (λ b. b.now) result
@@ -25,10 +24,11 @@ fn is_ended(b: &[u8]) -> bool
     b.is_empty() || b[b.len() - 1] == b'\n'
 }
 
-fn copy_lines(alloc: Global, b: &[u8]) -> Result<Text, Memory>
-    ensures { IfOk result (λ t. t ≡ text_in b.now) }
+#[inline(never)]
+fn copy_lines(b: &[u8], text: &mut Text) -> Result<(), Memory>
+    ensures { OnOk result (text.new ≡ text_in b.now) }
 {
-    let mut text = Text::from_vec(Vec::with_capacity(alloc, b.len())?);
+    text.truncate(0);
     let mut rest = b;
     while !rest.is_empty() {
         let cut = first_line(rest);
@@ -36,7 +36,7 @@ fn copy_lines(alloc: Global, b: &[u8]) -> Result<Text, Memory>
         text.push(b"\r\n")?;
         rest = cut.rest;
     }
-    Ok(text)
+    Ok(())
 }
 
 /// Whether each line feed has a carriage return before it.
@@ -55,27 +55,30 @@ fn has_crlf_alone(b: &[u8]) -> bool
     !stray
 }
 
-/// The lines of block 4, each ended by CR LF, at once where they are so already.
-fn text_of_lines(alloc: Global, b: &[u8]) -> Result<Text, Memory>
+/// Puts the lines of block 4 into a text, each ended by CR LF, at once where they are so already.
+fn fill_lines(b: &[u8], text: &mut Text) -> Result<(), Memory>
     requires { is_ended_of b.now ≡ true }
-    ensures { IfOk result (λ t. t ≡ text_in b.now) }
+    ensures { OnOk result (text.new ≡ text_in b.now) }
 {
     if has_crlf_alone(b) {
-        return Text::from_bytes(alloc, b);
+        return text.refill(b);
     }
-    copy_lines(alloc, b)
+    copy_lines(b, text)
 }
 
-/// The lines of block 4, each ended by CR LF, if the group is one.
+/// Whether the group is block 4: then its lines, each ended by CR LF, are put into a text.
 #[tactic(auto, unfolding(crate::specs::Text::text_of))]
-pub fn read_text(alloc: Global, group: Option<&[u8]>) -> Result<Option<Text>, Memory>
-    ensures { IfOk result (λ o. o ≡ text_of (option_map (λ b. b.now) group.entry)) }
+pub fn fill_text(group: Option<&[u8]>, text: &mut Text) -> Result<bool, Memory>
+    ensures { IfOk result (λ is_text. text_of (option_map (λ b. b.now) group.entry) ≡ when is_text (Some text.new)) }
 {
     let Some(block) = group else {
-        return Ok(None);
+        return Ok(false);
     };
     match lines_between(block) {
-        Some(lines) if is_ended(lines) => Ok(Some(text_of_lines(alloc, lines)?)),
-        _ => Ok(None),
+        Some(lines) if is_ended(lines) => {
+            fill_lines(lines, text)?;
+            Ok(true)
+        }
+        _ => Ok(false),
     }
 }

@@ -16,6 +16,9 @@ use std::alloc::Global;
 /// Up to how many subblocks a search costs less than a table.
 const FEW: usize = 8;
 
+/// How many numbers a subblock may have: 0 to 999.
+const NUMBERS: usize = 1000;
+
 #[derive(Clone, Copy)]
 struct Subblock<'a> {
     number: u16,
@@ -86,7 +89,7 @@ fn are_many_distinct(user: &[(u16, Text)]) -> bool
     requires { All (λ s. s.0 < 1000) user.now }
     ensures { result ≡ are_distinct_of (map (λ s. s.0) user.now) }
 {
-    let mut seen = [false; 1000];
+    let mut seen = [false; NUMBERS];
     for sub in user {
         let number = sub.0 as usize;
         if seen[number] {

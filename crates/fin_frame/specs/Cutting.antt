@@ -38,11 +38,6 @@ pub record WasFed (c : Cutter) (fed : List ℕ) (given : List (List ℕ)) : Type
   pub place : c.failed ≡ None → LeavesOff fed given c.stage c.held
   pub knows : Knows c.failed fed given c.begun
 
--- the answer of a call that leaves a cutter so
-abbrev pub answer_of : Option FrameFault → Result (Unit {0}) FrameFault
-answer_of None = Ok tt
-answer_of (Some fault) = Err fault
-
 -- the bytes are a file of these messages, and of no others
 pub record IsWholeFile (fed : List ℕ) (messages : List (List ℕ)) : Type 0 where
   pub cut : IsCutInto fed messages

@@ -38,10 +38,11 @@ pub struct Cutter {
 
 impl Cutter {
     ghost use Rattle.std.specs.Prelude.{◌≡◌, ◌+◌, ◌^◌, ◌<◌, ◌≤◌, [], ◌++◌, length, take, Some, None, IsSome, IsTrue, OnOk, OnErr};
+    ghost use Rattle.corr_text.specs.First.{unless_fault};
     ghost use Rattle.fin_frame.specs.Tidy.{is_tidy};
     ghost use Rattle.fin_frame.specs.File.{IsCutInto};
     ghost use Rattle.fin_frame.specs.Machine.{begins, gives, to, held_bytes, resumes, next_between, next_opening, next_close, state_of, HasTaken, HasTakenByte, HasTakenAll};
-    ghost use Rattle.fin_frame.specs.Cutting.{answer_of, Knows, WasFed, EndsInput};
+    ghost use Rattle.fin_frame.specs.Cutting.{Knows, WasFed, EndsInput};
 
     /// A cutter that was fed nothing yet.
     pub fn new(alloc: Global) -> Cutter
@@ -67,7 +68,7 @@ impl Cutter {
     pub fn feed(&mut self, piece: &[u8], out: &mut List<Text>) -> Result<(), FrameFault>
         // All the bytes of a file are fewer than 2 ^ 32.
         requires few { self.old.failed ≡ None → self.old.fed + length piece.now < 2 ^ 32 }
-        ensures answer { result ≡ answer_of self.new.failed }
+        ensures answer { result ≡ unless_fault self.new.failed }
         // The cutter has been fed the piece as well, and gave what was added.
         ensures fed { (fed : _) (given : _) → WasFed self.old fed given →
             (gained : _) × (out.new ≡ out.old ++ gained) × WasFed self.new (fed ++ piece.now) (given ++ gained) }

@@ -1,20 +1,28 @@
 //! The messages of a whole file, where they stand.
 
-ghost use Rattle.std.specs.Prelude.{◌≡◌, ◌<◌, ◌≤◌, ◌||◌, ◌++◌, ℕ, List, length, take, drop, get_or, nat_lt, true, false, if◌then◌else◌, None, IfOk, IfSome};
-ghost use Rattle.fin_frame.specs.File.{dollars, IsGap, IsGroupTo, IsMessage, IsCutInto};
+ghost use Rattle.std.specs.Prelude.{◌≡◌, ◌<◌, ◌≤◌, ◌-◌, ◌||◌, ◌++◌, ℕ, List, length, take, drop, get_or, nat_lt, true, false, if◌then◌else◌, None, IfOk, IfSome};
+ghost use Rattle.std.specs.List.{list_any, slice_range};
+ghost use Rattle.corr_text.specs.Braces.{is_brace};
+ghost use Rattle.fin_frame.specs.File.{dollars, IsGap, IsGroupTo, IsMessage, IsCutInto, most_bytes};
 ghost use Rattle.fin_frame.specs.Whole.{is_led, has_group, gap_goes_on, IsOpenGroup, CutsNoFile};
 
 use crate::cutter::{LEAD, MOST_BYTES};
 use crate::stage::Stage;
 use crate::{group, stage};
-use corr_text::{List, Memory};
+use corr_text::{List, Memory, has_brace};
 use std::alloc::Global;
 use std::marker::Model;
 
-/// A message where it stands in its file.
+/// How many bytes the first group of most messages has, and the second.
+const FIRST: usize = 29;
+
+const SECOND: usize = 51;
+
+/// A message where it stands in its file: at most 16,384 bytes.
 #[derive(Debug, Drop)]
 pub struct Framed<'a> {
     bytes: &'a [u8],
+    ghost short: { length bytes.now ≤ most_bytes },
 }
 
 impl<'a> Model for Framed<'a> {
@@ -26,9 +34,13 @@ impl<'a> Model for Framed<'a> {
 }
 
 impl<'a> Framed<'a> {
+    ghost use Rattle.std.specs.Prelude.{◌≤◌, length};
+    ghost use Rattle.fin_frame.specs.File.{most_bytes};
+
     /// The bytes of the message, from the `{` of its `{1:` to the `}` of its last group.
     pub fn bytes(&self) -> &'a [u8]
-        ensures { result.now ≡ self.now }
+        ensures bytes { result.now ≡ self.now }
+        ensures short { length result.now ≤ most_bytes }
     {
         self.bytes
     }
@@ -112,9 +124,9 @@ fn message_len(bytes: &[u8]) -> Option<usize>
     ensures whole { IfSome result (λ len. (len ≤ length bytes.now) × IsMessage (take len bytes.now) × (has_group (drop len bytes.now) ≡ false)) }
     ensures none { result ≡ None → CutsNoFile bytes.now }
 {
-    let mut len = group_len(bytes)?;
+    let mut len = group_len(bytes, FIRST)?;
     while len <= MOST_BYTES && has_group(&bytes[len..]) {
-        len += group_len(&bytes[len..])?;
+        len += group_len(&bytes[len..], SECOND)?;
     }
     if len > MOST_BYTES {
         return None;
@@ -122,14 +134,28 @@ fn message_len(bytes: &[u8]) -> Option<usize>
     Some(len)
 }
 
-/// How long the group is that the bytes begin with. None where it has no end among the bytes, or none among as many as a
-/// message may have.
-fn group_len(bytes: &[u8]) -> Option<usize>
+/// Whether a brace ends so many bytes, and none stands after the first and before it.
+#[inline(always)]
+fn is_plain_to(bytes: &[u8], len: usize) -> bool
+    requires { 2 ≤ len }
+    ensures { result ≡ true → (len ≤ length bytes.now) × (get_or bytes.now (len - 1) 0 ≡ 125) × (list_any is_brace (slice_range bytes.now 1 (len - 1)) ≡ false) }
+{
+    len <= bytes.len() && bytes[len - 1] == b'}' && !has_brace(&bytes[1..len - 1])
+}
+
+/// How long the group is that the bytes begin with: mostly so many bytes. None where it has no end among the bytes, or none among
+/// as many as a message may have.
+#[inline(always)]
+fn group_len(bytes: &[u8], mostly: usize) -> Option<usize>
+    requires two { 2 ≤ mostly }
     requires some { 0 < length bytes.now }
     requires begun { get_or bytes.now 0 0 ≡ 123 }
     ensures whole { IfSome result (λ len. (len ≤ length bytes.now) × IsGroupTo 0 (take len bytes.now)) }
     ensures none { result ≡ None → IsOpenGroup bytes.now }
 {
+    if is_plain_to(bytes, mostly) {
+        return Some(mostly);
+    }
     let reach = bytes.len().min(MOST_BYTES + 1);
     let (len, left) = group::within(&bytes[1..reach], 1);
     if left > 0 {

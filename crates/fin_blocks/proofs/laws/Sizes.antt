@@ -1,6 +1,6 @@
 -- The text of a message has no more lines than the message has bytes, and at most twice as many bytes, since a line end
 -- becomes CR LF.
-use Rattle.std.proofs.Common.{◌≡◌, ℕ, zero, suc, ◌+◌, ◌-◌, ◌*◌, ◌==◌, ◌&&◌, ◌≤◌, Bool, true, false, cond, List, [], ◌∷◌, ◌++◌, length, take, drop, Option, Some, None, Result, Ok, Err, refl, ap, ◌∙◌, subst, arith, length-append, length-drop, append_assoc}
+use Rattle.std.proofs.Common.{◌≡◌, ℕ, zero, suc, ◌+◌, ◌-◌, ◌*◌, ◌==◌, ◌&&◌, ◌≤◌, Bool, true, false, cond, List, [], ◌∷◌, ◌++◌, length, take, drop, Option, Some, None, Ok, refl, ap, ◌∙◌, subst, arith, length-append, length-drop, append_assoc}
 use Rattle.std.specs.Prelude.{IfOk, IfSome, bytes_eq, codes, nat_le}
 use Rattle.std.specs.List.{flat_map, list_all}
 use Rattle.std.specs.Option.{option_or}
@@ -8,17 +8,18 @@ use Rattle.std.proofs.lemmas.Bool.{and_parts}
 use Rattle.std.proofs.lemmas.Bool.Decides.{nat_tests}
 use Rattle.std.proofs.lemmas.List.{length-take}
 use Rattle.corr_text.specs.Codes.{code}
-use Rattle.corr_text.specs.First.{check, or_fault, ◌>>=◌}
+use Rattle.corr_text.specs.First.{check, or_fault}
 use Rattle.corr_text.specs.Lines.{begins_with, lines_of, with_byte as with_line_byte}
 use Rattle.corr_text.proofs.laws.Written.{is_inner, line-again}
 use Rattle.corr_ids.specs.Day.{◌>>=◌ as ◌then◌}
-use Rattle.fin_blocks.specs.Blocks.{are_last, groups_behind, blocks_of, has_next, trailers_of, user_of}
+use Rattle.fin_blocks.specs.Blocks.{ending_of, groups_behind, blocks_of, has_next, user_of}
 use Rattle.fin_blocks.specs.Forms.{app_of, basic_of, between, mir_in}
 use Rattle.corr_text.specs.Braces.{depth_after}
 use Rattle.fin_blocks.specs.Groups.{groups_after, groups_of, next_group, groups_from, group_with_byte}
 use Rattle.fin_blocks.specs.Text.{ended, text_in, text_of}
 use Rattle.fin_blocks.specs.declared.blocks.Blocks.{Blocks}
 use Rattle.fin_blocks.specs.declared.fault.BlockFault.TheVariants as fault
+use Rattle.fin_blocks.proofs.laws.Named.{then as passed}
 
 -- ---- groups of at most n bytes
 
@@ -180,43 +181,7 @@ text-of-sized (Some group) n le =
     (weaker (λ bs. length bs + 6 ≤ length group) P (between lf (codes "-}") group) (λ bs h. omega arith) (between-size lf (codes "-}") group)))
     (λ bs h. when-some (Sized n) _ (text_in bs) (λ _. text-in-sized bs n h))
 
--- ---- the text of a message: what holds of it holds of the fifth of seven steps
-
-step-7 : {A7 B F : Type 0} (P : B → Type 0) (r7 : Result A7 F) (y : B) → P y → IfOk (r7 >>= λ last. Ok y) P
-step-7 P (Ok x) y p = p
-step-7 P (Err e) y p = tt
-
-step-6 : {A6 A7 B F : Type 0} (P : B → Type 0) (r6 : Result A6 F) (r7 : Result A7 F) (z : A6 → B) → ((t : A6) → P (z t)) → IfOk (r6 >>= λ t. r7 >>= λ last. Ok (z t)) P
-step-6 P (Ok t) r7 z p = step-7 P r7 (z t) (p t)
-step-6 P (Err e) r7 z p = tt
-
-step-5 : {A5 A6 A7 B F : Type 0} (P : B → Type 0) (r5 : Result A5 F) (r6 : Result A6 F) (r7 : Result A7 F) (z : A5 → A6 → B) → ((x : A5) → r5 ≡ Ok x → (t : A6) → P (z x t))
-    → IfOk (r5 >>= λ x. r6 >>= λ t. r7 >>= λ last. Ok (z x t)) P
-step-5 P (Ok x) r6 r7 z p = step-6 P r6 r7 (z x) (p x refl)
-step-5 P (Err e) r6 r7 z p = tt
-
-step-4 : {A4 A5 A6 A7 B F : Type 0} (P : B → Type 0) (r4 : Result A4 F) (r5 : Result A5 F) (r6 : Result A6 F) (r7 : Result A7 F) (z : A4 → A5 → A6 → B) → ((u : A4) (x : A5) → r5 ≡ Ok x → (t : A6) → P (z u x t))
-    → IfOk (r4 >>= λ u. r5 >>= λ x. r6 >>= λ t. r7 >>= λ last. Ok (z u x t)) P
-step-4 P (Ok u) r5 r6 r7 z p = step-5 P r5 r6 r7 (z u) (p u)
-step-4 P (Err e) r5 r6 r7 z p = tt
-
-step-3 : {A3 A4 A5 A6 A7 B F : Type 0} (P : B → Type 0) (r3 : Result A3 F) (r4 : A3 → Result A4 F) (r5 : A3 → Result A5 F) (r6 : A3 → Result A6 F) (r7 : A3 → Result A7 F) (z : A3 → A4 → A5 → A6 → B)
-    → ((a : A3) (u : A4) (x : A5) → r5 a ≡ Ok x → (t : A6) → P (z a u x t))
-    → IfOk (r3 >>= λ a. r4 a >>= λ u. r5 a >>= λ x. r6 a >>= λ t. r7 a >>= λ last. Ok (z a u x t)) P
-step-3 P (Ok a) r4 r5 r6 r7 z p = step-4 P (r4 a) (r5 a) (r6 a) (r7 a) (z a) (p a)
-step-3 P (Err e) r4 r5 r6 r7 z p = tt
-
-step-2 : {A2 A3 A4 A5 A6 A7 B F : Type 0} (P : B → Type 0) (r2 : Result A2 F) (r3 : Result A3 F) (r4 : A3 → Result A4 F) (r5 : A3 → Result A5 F) (r6 : A3 → Result A6 F) (r7 : A3 → Result A7 F) (z : A3 → A4 → A5 → A6 → B)
-    → ((a : A3) (u : A4) (x : A5) → r5 a ≡ Ok x → (t : A6) → P (z a u x t))
-    → IfOk (r2 >>= λ version. r3 >>= λ a. r4 a >>= λ u. r5 a >>= λ x. r6 a >>= λ t. r7 a >>= λ last. Ok (z a u x t)) P
-step-2 P (Ok version) r3 r4 r5 r6 r7 z p = step-3 P r3 r4 r5 r6 r7 z p
-step-2 P (Err e) r3 r4 r5 r6 r7 z p = tt
-
-step-1 : {A1 A2 A3 A4 A5 A6 A7 B F : Type 0} (P : B → Type 0) (r1 : Result A1 F) (r2 : A1 → Result A2 F) (r3 : Result A3 F) (r4 : A3 → Result A4 F) (r5 : A3 → Result A5 F) (r6 : A3 → Result A6 F) (r7 : A3 → Result A7 F) (z : A1 → A3 → A4 → A5 → A6 → B)
-    → ((y : A1) (a : A3) (u : A4) (x : A5) → r5 a ≡ Ok x → (t : A6) → P (z y a u x t))
-    → IfOk (r1 >>= λ y. r2 y >>= λ version. r3 >>= λ a. r4 a >>= λ u. r5 a >>= λ x. r6 a >>= λ t. r7 a >>= λ last. Ok (z y a u x t)) P
-step-1 P (Ok y) r2 r3 r4 r5 r6 r7 z p = step-2 P (r2 y) r3 r4 r5 r6 r7 (z y) (p y)
-step-1 P (Err e) r2 r3 r4 r5 r6 r7 z p = tt
+-- ---- the text of a message
 
 found : {F : Type 0} (o : Option (List ℕ)) (fault : F) (x : List ℕ) → or_fault o fault ≡ Ok x → o ≡ Some x
 found (Some y) fault x e = ap (λ (z : List ℕ). Some z) (let same : y ≡ x = cc in same)
@@ -227,17 +192,14 @@ unfolding blocks_of
 blocks-sized m =
     let third = groups_after (groups_after (groups_of m)) in
     let fourth = groups_behind (codes "{3:") third in
-    let fifth = groups_after fourth in
-    step-1 (λ (b : Blocks). Sized (length m) b.text)
-    (or_fault (basic_of (next_group (groups_of m))) (fault.Bad (code "P01") None))
-    (λ basic. check (bytes_eq basic.version (codes "01")) (fault.Bad (code "P02") None))
-    (or_fault (app_of (next_group (groups_after (groups_of m)))) (fault.Bad (code "P03") None))
-    (λ app. or_fault (user_of third) (fault.Bad (code "P04") (mir_in app)))
-    (λ app. or_fault (text_of (next_group fourth)) (fault.Bad (code "P05") (mir_in app)))
-    (λ app. or_fault (trailers_of fifth) (fault.Bad (code "P06") (mir_in app)))
-    (λ app. check (are_last (groups_behind (codes "{5:") fifth)) (fault.Bad (code "P06") (mir_in app)))
-    (λ basic app user text trailers. record { own = basic.own; app = app; user = user; text = text; trailers = trailers })
-    (λ basic app user text is trailers. sized text (found (text_of (next_group fourth)) (fault.Bad (code "P05") (mir_in app)) text is))
+    let P : Blocks → Type 0 = λ b. Sized (length m) b.text in
+    passed P (or_fault (basic_of (next_group (groups_of m))) (fault.Bad (code "P01") None)) _ (λ basic _.
+    passed P (check (bytes_eq basic.version (codes "01")) (fault.Bad (code "P02") None)) _ (λ _ _.
+    passed P (or_fault (app_of (next_group (groups_after (groups_of m)))) (fault.Bad (code "P03") None)) _ (λ app _.
+    passed P (or_fault (user_of third) (fault.Bad (code "P04") (mir_in app))) _ (λ user _.
+    passed P (or_fault (text_of (next_group fourth)) (fault.Bad (code "P05") (mir_in app))) _ (λ text is.
+    passed P (or_fault (ending_of (groups_after fourth)) (fault.Bad (code "P06") (mir_in app))) _ (λ trailers _.
+    sized text (found (text_of (next_group fourth)) (fault.Bad (code "P05") (mir_in app)) text is)))))))
   where
     sized : (text : List ℕ) → text_of (next_group (groups_behind (codes "{3:") (groups_after (groups_after (groups_of m))))) ≡ Some text → Sized (length m) text
     sized text is =

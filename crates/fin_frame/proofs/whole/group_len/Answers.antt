@@ -1,7 +1,13 @@
 use Rattle.std.proofs.Common.{◌≡◌, ◌+◌, ◌-◌, take, drop, arith, sym, ap, ◌∙◌}
 use Rattle.std.proofs.lemmas.List.{drop-take}
+use Rattle.fin_frame.proofs.Groups.{plain-group}
 use Rattle.fin_frame.proofs.WholeFile.{open-group}
 use Rattle.fin_frame.proofs.whole.group_len.Goals as goal
+
+pub returns-then-is_plain_to-clause-whole : goal.returns-then-is_plain_to-clause-whole
+returns-then-is_plain_to-clause-whole c =
+    let plain = c.is_plain_to.ensures c.if-is_plain_to.true in
+    (plain.0, plain-group c.args.bytes.now c.args.mostly c.requires.two plain.0 c.requires.begun plain.1 plain.2)
 
 pub returns-then-left-gt0-clause-none : goal.returns-then-left-gt0-clause-none
 returns-then-left-gt0-clause-none c = λ none.
