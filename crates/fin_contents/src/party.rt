@@ -4,15 +4,15 @@ ghost use Rattle.std.specs.Prelude.{◌≡◌, IfOk, Ok};
 ghost use Rattle.fin_contents.specs.Parties.{is_known, known_party_of};
 ghost use Rattle.fin_fields.specs.Writing.{IsField};
 ghost use Rattle.fin_fields.specs.declared.field.Field.{Field as FieldSeen};
-ghost use Rattle.fin_layout.specs.Reading.{Reads};
+ghost use Rattle.fin_layout.specs.Reading.{Reads, Refills};
 ghost use Rattle.fin_parties.specs.Writing.{party_field};
 ghost use Rattle.ref_tables.specs.Seen.{Tables};
 
 use crate::codes::P25;
 use corr_text::Memory;
 use fin_fields::{Field, FieldLines};
-use fin_layout::{Content, P24, Refusal};
-use fin_parties::{Party, PartyFault, put_party, read_party_lines};
+use fin_layout::{Content, P24, Refill, Refusal};
+use fin_parties::{Party, PartyFault, fill_party, put_party, read_party_lines};
 use ref_tables::RefTables;
 use std::alloc::Global;
 
@@ -54,6 +54,29 @@ impl Content for KnownParty<'_> {
 
     fn read(&self, alloc: Global, f: &FieldLines<'_>) -> Result<Party, Refusal> {
         read_known_party(alloc, self.tables, f)
+    }
+}
+
+#[tactic(auto, unfolding(crate::specs::Parties::known_party_of))]
+fn fill_known_party(
+    alloc: Global,
+    tables: &RefTables,
+    f: &FieldLines<'_>,
+    place: &mut Party,
+) -> Result<(), Refusal>
+    ensures { Refills result place.new (known_party_of tables.now f.now) }
+{
+    match fill_party(alloc, f, place) {
+        Ok(()) if is_known(tables, place) => Ok(()),
+        Ok(()) => Err(Refusal::Bad(P25)),
+        Err(PartyFault::P24) => Err(Refusal::Bad(P24)),
+        Err(PartyFault::Memory) => Err(Refusal::Memory),
+    }
+}
+
+impl Refill for KnownParty<'_> {
+    fn refill(&self, alloc: Global, f: &FieldLines<'_>, value: &mut Party) -> Result<(), Refusal> {
+        fill_known_party(alloc, self.tables, f, value)
     }
 }
 

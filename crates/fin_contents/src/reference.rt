@@ -1,19 +1,19 @@
 //! References: fields 20 and 21.
 
-ghost use Rattle.std.specs.Prelude.{◌≡◌, ◌==◌, ◌&&◌, ◌≤◌, IfOk, None, Ok};
+ghost use Rattle.std.specs.Prelude.{◌≡◌, ◌==◌, ◌&&◌, ◌≤◌, Err, IfErr, IfOk, None, Ok};
 ghost use Rattle.std.specs.List.{list_any, zip};
 ghost use Rattle.corr_text.specs.Slashes.{has_double_slash, has_stray_slash};
 ghost use Rattle.fin_contents.specs.Plain.{reference_of};
 ghost use Rattle.fin_contents.specs.Writing.{line_field};
 ghost use Rattle.fin_fields.specs.Writing.{IsField};
 ghost use Rattle.fin_fields.specs.declared.field.Field.{Field as FieldSeen};
-ghost use Rattle.fin_layout.specs.Reading.{Reads};
+ghost use Rattle.fin_layout.specs.Reading.{Reads, Refills};
 
 use crate::codes::T26;
 use crate::line::{line_field, one_line};
-use corr_text::{Memory, Set, Text};
+use corr_text::{Code, Memory, Set, Text};
 use fin_fields::{Field, FieldLines, is_run_of};
-use fin_layout::{Content, P24, Refusal};
+use fin_layout::{Content, P24, Refill, Refusal};
 use std::alloc::Global;
 
 /// A reference, `16x`. P24: the field is not one line of 1 to 16 characters of X. T26: it begins or ends with a slash, or
@@ -49,20 +49,40 @@ fn has_stray_slash(line: &[u8]) -> bool
     }
 }
 
+/// The bytes of a reference where they stand in their field.
 #[tactic(auto, unfolding(crate::specs::Plain::reference_of))]
+fn reference_in<'a>(f: &FieldLines<'a>) -> Result<&'a [u8], Code>
+    ensures ok { IfOk result (λ line. reference_of f.now ≡ Ok line.now) }
+    ensures err { IfErr result (λ code. reference_of f.now ≡ Err code) }
+{
+    let Some(line) = one_line(f) else {
+        return Err(P24);
+    };
+    if !is_run_of(Set::X, 16, line) {
+        return Err(P24);
+    }
+    if has_stray_slash(line) {
+        return Err(T26);
+    }
+    Ok(line)
+}
+
 fn read_reference(alloc: Global, f: &FieldLines<'_>) -> Result<Text, Refusal>
     ensures { Reads result (reference_of f.now) }
 {
-    let Some(line) = one_line(f) else {
-        return Err(Refusal::Bad(P24));
-    };
-    if !is_run_of(Set::X, 16, line) {
-        return Err(Refusal::Bad(P24));
+    match reference_in(f) {
+        Ok(line) => Ok(Text::from_bytes(alloc, line)?),
+        Err(code) => Err(Refusal::Bad(code)),
     }
-    if has_stray_slash(line) {
-        return Err(Refusal::Bad(T26));
+}
+
+fn refill_reference(f: &FieldLines<'_>, value: &mut Text) -> Result<(), Refusal>
+    ensures { Refills result value.new (reference_of f.now) }
+{
+    match reference_in(f) {
+        Ok(line) => Ok(value.refill(line)?),
+        Err(code) => Err(Refusal::Bad(code)),
     }
-    Ok(Text::from_bytes(alloc, line)?)
 }
 
 impl Content for Reference {
@@ -72,6 +92,12 @@ impl Content for Reference {
 
     fn read(&self, alloc: Global, f: &FieldLines<'_>) -> Result<Text, Refusal> {
         read_reference(alloc, f)
+    }
+}
+
+impl Refill for Reference {
+    fn refill(&self, _alloc: Global, f: &FieldLines<'_>, value: &mut Text) -> Result<(), Refusal> {
+        refill_reference(f, value)
     }
 }
 

@@ -1,11 +1,11 @@
 //! The value date, currency and amount: field 32A.
 
-ghost use Rattle.std.specs.Prelude.{◌≡◌, ◌≤◌, IfOk, IsTrue, Ok, length};
+ghost use Rattle.std.specs.Prelude.{◌≡◌, ◌≤◌, Err, IfErr, IfOk, IsTrue, Ok, OnOk, length};
 ghost use Rattle.fin_contents.specs.Money.{is_dated_amount, value_in, value_of};
 ghost use Rattle.fin_contents.specs.Writing.{IsValue, value_field};
 ghost use Rattle.fin_fields.specs.Writing.{IsField};
 ghost use Rattle.fin_fields.specs.declared.field.Field.{Field as FieldSeen};
-ghost use Rattle.fin_layout.specs.Reading.{Reads};
+ghost use Rattle.fin_layout.specs.Reading.{Reads, Refills};
 ghost use Rattle.ref_tables.specs.Seen.{Tables};
 
 use crate::amount::{ccy_amount_in, is_ccy_amount, put_ccy_amount_text};
@@ -13,10 +13,10 @@ use crate::codes::{C08, P26, T50};
 use crate::line::{line_field, one_line};
 use crate::metal::is_metal;
 use corr_ids::{Day, day_from_yymmdd, put_yymmdd};
-use corr_money::Amount;
+use corr_money::{Amount, Ccy, Minor};
 use corr_text::{Code, Memory, Set, Text, is_all_of};
 use fin_fields::{Field, FieldLines};
-use fin_layout::{Content, P24, Refusal};
+use fin_layout::{Content, P24, Refill, Refusal};
 use ref_tables::RefTables;
 use std::alloc::Global;
 
@@ -25,6 +25,20 @@ use std::alloc::Global;
 pub struct Value {
     pub day: Day,
     pub amount: Amount,
+}
+
+impl Value {
+    /// A place for values to be read into; what it holds before means nothing.
+    pub fn blank() -> Value {
+        Value {
+            day: Day(0),
+            amount: Amount {
+                ccy: Ccy([0; 3]),
+                minor: Minor(0),
+                decimals: 0,
+            },
+        }
+    }
 }
 
 /// A date, a currency and an amount, `6!n3!a15d`. P24: the field is not one line of six digits, three capital letters and
@@ -45,10 +59,12 @@ pub fn is_dated_amount(line: &[u8]) -> bool
     10 <= line.len() && is_all_of(Set::N, &line[..6]) && is_ccy_amount(&line[6..])
 }
 
+// Puts the value of a line into a place. After a fault the place may hold any.
 #[tactic(auto, unfolding(crate::specs::Money::value_in))]
-fn value_in(tables: &RefTables, line: &[u8]) -> Result<Value, Code>
+fn fill_value_in(tables: &RefTables, line: &[u8], place: &mut Value) -> Result<(), Code>
     requires { 10 ≤ length line.now }
-    ensures { result ≡ value_in tables.now line.now }
+    ensures ok { OnOk result (value_in tables.now line.now ≡ Ok place.new) }
+    ensures err { IfErr result (λ code. value_in tables.now line.now ≡ Err code) }
 {
     let Some(day) = day_from_yymmdd(&line[..6]) else {
         return Err(T50);
@@ -56,16 +72,17 @@ fn value_in(tables: &RefTables, line: &[u8]) -> Result<Value, Code>
     if is_metal(&line[6..9]) {
         return Err(C08);
     }
-    let amount = ccy_amount_in(tables, &line[6..])?;
-    if amount.minor.0 == 0 {
+    place.day = day;
+    place.amount = ccy_amount_in(tables, &line[6..])?;
+    if place.amount.minor.0 == 0 {
         return Err(P26);
     }
-    Ok(Value { day, amount })
+    Ok(())
 }
 
 #[tactic(auto, unfolding(crate::specs::Money::value_of))]
-fn read_value(tables: &RefTables, f: &FieldLines<'_>) -> Result<Value, Refusal>
-    ensures { Reads result (value_of tables.now f.now) }
+fn fill_value(tables: &RefTables, f: &FieldLines<'_>, place: &mut Value) -> Result<(), Refusal>
+    ensures { Refills result place.new (value_of tables.now f.now) }
 {
     let Some(line) = one_line(f) else {
         return Err(Refusal::Bad(P24));
@@ -73,10 +90,18 @@ fn read_value(tables: &RefTables, f: &FieldLines<'_>) -> Result<Value, Refusal>
     if !is_dated_amount(line) {
         return Err(Refusal::Bad(P24));
     }
-    match value_in(tables, line) {
-        Ok(value) => Ok(value),
+    match fill_value_in(tables, line, place) {
+        Ok(()) => Ok(()),
         Err(code) => Err(Refusal::Bad(code)),
     }
+}
+
+fn read_value(tables: &RefTables, f: &FieldLines<'_>) -> Result<Value, Refusal>
+    ensures { Reads result (value_of tables.now f.now) }
+{
+    let mut value = Value::blank();
+    fill_value(tables, f, &mut value)?;
+    Ok(value)
 }
 
 impl Content for ValueDate<'_> {
@@ -86,6 +111,12 @@ impl Content for ValueDate<'_> {
 
     fn read(&self, _alloc: Global, f: &FieldLines<'_>) -> Result<Value, Refusal> {
         read_value(self.tables, f)
+    }
+}
+
+impl Refill for ValueDate<'_> {
+    fn refill(&self, _alloc: Global, f: &FieldLines<'_>, value: &mut Value) -> Result<(), Refusal> {
+        fill_value(self.tables, f, value)
     }
 }
 

@@ -56,6 +56,8 @@ grouped (line ∷ lines) = with_line line (heading_of line) (grouped lines)
 abbrev pub fields_of : List ℕ → List Field
 fields_of text = (grouped (lines_of text)).fields
 
--- whole fields, an open one, and what groups of further lines make of them
-abbrev pub so_far : List Field → Field → Grouped → List Field
-so_far whole open_field g = whole ++ record open_field { lines = open_field.lines ++ g.continued } ∷ g.fields
+-- fields of which the last is open, and what groups of further lines make of them
+abbrev pub so_far : List Field → Grouped → List Field
+so_far [] g = g.fields
+so_far (f ∷ []) g = record f { lines = f.lines ++ g.continued } ∷ g.fields
+so_far (f ∷ next ∷ fields) g = f ∷ so_far (next ∷ fields) g

@@ -1,6 +1,6 @@
 //! The lines of block 4 cut into fields.
 
-ghost use Rattle.std.specs.Prelude.{◌≡◌, ◌≢◌, ◌≤◌, ◌<◌, ◌+◌, [], ◌∷◌, None, true, false, All, IfOk, IfErr, length, not, option_map, position};
+ghost use Rattle.std.specs.Prelude.{◌≡◌, ◌≢◌, ◌≤◌, ◌<◌, ◌+◌, [], ◌∷◌, None, true, false, All, IfOk, IfErr, OnOk, length, not, option_map, position};
 ghost use Rattle.std.specs.List.{list_any};
 ghost use Rattle.corr_text.specs.Lines.{lines_of};
 ghost use Rattle.fin_fields.specs.Fields.{Grouped, fields_of, field_begun, grouped, heading_of, so_far, with_line, most_text_lines};
@@ -16,7 +16,6 @@ use crate::lending::own_fields;
 use crate::outside::first_outside_x;
 use corr_text::{List, Memory, first_line, plain_line};
 use std::alloc::Global;
-use std::mem;
 
 /// For how many fields there is room at first.
 const ROOM: usize = 8;
@@ -73,62 +72,76 @@ fn breaks_off(line: &[u8]) -> bool
     matches!(line, [] | [b':' | b'-', ..])
 }
 
-/// Takes the next line, unless it is misplaced: it begins a new field, or continues the open one.
+/// Adds a line to the last field.
+fn continue_last<'a>(
+    alloc: Global,
+    fields: &mut List<FieldLines<'a>>,
+    line: &'a [u8],
+) -> Result<(), Memory>
+    requires some { fields.old ≢ [] }
+    ensures some { OnOk result (fields.new ≢ []) }
+    ensures added { OnOk result ((g : Grouped) → so_far fields.new g ≡ so_far fields.old (with_line line.now None g)) }
+{
+    let Some(mut last) = fields.pop() else {
+        unreachable!()
+    };
+    last.add(alloc, line)?;
+    fields.push(last)
+}
+
+/// Takes the next line, unless it is misplaced: it begins a new field, or continues the last one.
 fn add_line<'a>(
     alloc: Global,
-    whole: &mut List<FieldLines<'a>>,
-    open_field: &mut FieldLines<'a>,
+    fields: &mut List<FieldLines<'a>>,
     line: &'a [u8],
 ) -> Result<bool, Memory>
+    requires some { fields.old ≢ [] }
+    ensures some { OnOk result (fields.new ≢ []) }
     ensures taken { IfOk result (λ taken. taken ≡ not (is_misplaced line.now)) }
     ensures added { IfOk result (λ taken. taken ≡ true → (g : Grouped) →
-        so_far whole.new open_field.new g ≡ so_far whole.old open_field.old (with_line line.now (heading_of line.now) g)) }
+        so_far fields.new g ≡ so_far fields.old (with_line line.now (heading_of line.now) g)) }
 {
     match heading(line) {
         Some(heading) => {
-            whole.push(mem::replace(open_field, begin_field(heading)))?;
+            fields.push(begin_field(heading))?;
             Ok(true)
         }
         None if breaks_off(line) => Ok(false),
         None => {
-            open_field.add(alloc, line)?;
+            continue_last(alloc, fields, line)?;
             Ok(true)
         }
     }
 }
 
-/// The fields of the lines behind the first, which began `open_field`.
+/// The fields of the lines behind the first, which begins `first`.
 fn group_lines<'a>(
     alloc: Global,
     text: &'a [u8],
-    open_field: FieldLines<'a>,
+    first: FieldLines<'a>,
     plain: bool,
 ) -> Result<ReadLines<'a>, FieldFault>
     requires few { length (lines_of text.now) < most_text_lines }
-    ensures fields { IfOk result (λ read. read.fields ≡ so_far [] open_field.entry (grouped (lines_of text.now))) }
+    ensures fields { IfOk result (λ read. read.fields ≡ so_far (first.entry ∷ []) (grouped (lines_of text.now))) }
     ensures plain { IfOk result (λ read. read.plain ≡ true → (plain ≡ true) × (list_any has_other_byte (lines_of text.now) ≡ false)) }
     ensures sound { IfOk result (λ _. position is_misplaced (lines_of text.now) ≡ None) }
     ensures fault { IfErr result (TellsLineFault (option_map (λ i. i + 2) (position is_misplaced (lines_of text.now)))) }
 {
-    let mut whole = List::with_room(alloc, ROOM)?;
-    let mut open_field = open_field;
+    let mut fields = List::with_room(alloc, ROOM)?;
+    fields.push(first)?;
     let mut rest = text;
     let mut plain = plain;
     let mut number = 1u16;
     while !rest.is_empty() {
         let next = next_line(rest, plain);
         number += 1;
-        if !add_line(alloc, &mut whole, &mut open_field, next.line)? {
+        if !add_line(alloc, &mut fields, next.line)? {
             return Err(FieldFault::P20 { line: number });
         }
         rest = next.rest;
         plain = next.plain;
     }
-    whole.push(open_field)?;
-    Ok(ReadLines {
-        fields: whole,
-        plain,
-    })
+    Ok(ReadLines { fields, plain })
 }
 
 /// The fields of a text whose lines are none at fault.

@@ -1,6 +1,6 @@
 //! Lines that stay in the text that they were cut from.
 
-ghost use Rattle.std.specs.Prelude.{◌≡◌, IfOk};
+ghost use Rattle.std.specs.Prelude.{◌≡◌, IfOk, OnOk};
 
 use corr_text::{List, Memory, Text};
 use std::alloc::Global;
@@ -52,4 +52,20 @@ pub fn copy_lines(alloc: Global, lines: &[Line<'_>]) -> Result<List<Text>, Memor
         copies.push(line.copy(alloc)?)?;
     }
     Ok(copies)
+}
+
+/// As `copy_lines`, but into a list whose texts were others, in their memory as far as it goes. After want of memory the texts
+/// may be any.
+pub fn refill_lines(
+    alloc: Global,
+    lines: &[Line<'_>],
+    copies: &mut List<Text>,
+) -> Result<(), Memory>
+    ensures { OnOk result (copies.new ≡ lines.now) }
+{
+    for (at, line) in lines.iter().enumerate() {
+        copies.put_at(alloc, at, line.bytes())?;
+    }
+    copies.truncate(lines.len());
+    Ok(())
 }

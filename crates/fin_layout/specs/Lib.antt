@@ -5,3 +5,4 @@ pub mod Contents
 pub mod Tests
 pub mod Segments
 pub mod Places
+pub mod Found

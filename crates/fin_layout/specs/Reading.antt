@@ -28,6 +28,10 @@ Refuses e content = answers.Refuses told_code content e
 abbrev pub Reads : {A : Type 0} → Result A Refusal → Result A Code → Type 0
 Reads result content = answers.Answers told_code content result
 
+-- a place into which a content is read holds what the field says; after a refusal nothing is said of it
+abbrev pub Refills : {A B : Type 0} → Result B Refusal → A → Result A Code → Type 0
+Refills result place content = Reads (answers.left_in place result) content
+
 -- the same of a message
 abbrev pub Fails : {A : Type 0} → MtFault → Result A Fault → Type 0
 Fails e message = answers.Refuses told_fault message e

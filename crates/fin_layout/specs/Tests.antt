@@ -1,7 +1,7 @@
 -- The tests of a message's fields, in their order: structure, then each field's content in the text's order.
-use Rattle.std.specs.Prelude.{ℕ, ◌+◌, ◌==◌, List, [], ◌∷◌, ◌++◌, length, Option, Some, None, option_map, Result, Ok, Err}
+use Rattle.std.specs.Prelude.{ℕ, ◌+◌, ◌==◌, List, [], ◌∷◌, ◌++◌, length, Option, option_map, Result}
 use Rattle.corr_text.specs.Codes.{code}
-use Rattle.corr_text.specs.First.{first_of, unless}
+use Rattle.corr_text.specs.First.{first_of, unless, unless_fault}
 use Rattle.corr_text.specs.declared.fault.Code.{Code}
 use Rattle.corr_text.specs.declared.fault.Fault.{Fault}
 use Rattle.fin_fields.specs.declared.field.Field.{Field}
@@ -30,11 +30,6 @@ contents_from content_test whole i (k ∷ found) (f ∷ fs) = option_map (fault_
 -- every test of a message's fields, given what is wrong with the content of a field at a place
 abbrev pub tests : List Place → (ℕ → Field → Option Code) → List Field → List (Option Fault)
 tests order content_test fs = structure_tests order fs ++ contents_from content_test fs 0 (places_from order 0 fs) fs
-
--- no fault, or this one
-abbrev pub unless_fault : Option Fault → Result (Unit {0}) Fault
-unless_fault None = Ok tt
-unless_fault (Some fault) = Err fault
 
 -- no test fails, or the first that does is told
 abbrev pub passed : List (Option Fault) → Result (Unit {0}) Fault

@@ -4,7 +4,7 @@ ghost use Rattle.std.specs.Prelude.{◌≡◌, IfOk, Result};
 ghost use Rattle.corr_text.specs.First.{fault_of};
 ghost use Rattle.corr_text.specs.declared.fault.Code.{Code as CodeSeen};
 ghost use Rattle.fin_fields.specs.declared.field.Field.{Field as FieldSeen};
-ghost use Rattle.fin_layout.specs.Reading.{Reads};
+ghost use Rattle.fin_layout.specs.Reading.{Reads, Refills};
 
 use crate::fault::Refusal;
 use corr_text::{Code, Memory};
@@ -22,6 +22,19 @@ pub trait Content {
     /// Reads a field. `Bad` comes exactly where the content is wrong, with the code of the first test that it fails.
     fn read(&self, alloc: Global, f: &FieldLines<'_>) -> Result<Self::Value, Refusal>
         ensures { Reads result (meaning self.now f.now) };
+}
+
+/// A kind of content whose values are read into the memory of other ones.
+pub trait Refill: Content {
+    /// As `read`, but what the field says is put into `value`, in the memory of what that was, as far as it goes. After a
+    /// refusal it may be anything.
+    fn refill(
+        &self,
+        alloc: Global,
+        f: &FieldLines<'_>,
+        value: &mut Self::Value,
+    ) -> Result<(), Refusal>
+        ensures { Refills result value.new (Self.meaning self.now f.now) };
 }
 
 /// The code of what is wrong with a field of some kind of content, none where nothing is.

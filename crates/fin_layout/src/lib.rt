@@ -5,17 +5,19 @@
 mod content;
 mod fault;
 mod finding;
+mod found;
 mod naming;
 mod place;
 mod placing;
 mod reading;
 mod structure;
 
-pub use content::{Content, refusal};
+pub use content::{Content, Refill, refusal};
 pub use fault::{MtFault, P22, P23, P24, Refusal};
-pub use finding::{find, takes_any};
+pub use finding::find;
+pub use found::{Found, takes_any};
 pub use naming::{absent, fault_at};
 pub use place::Place;
-pub use placing::{missing, places};
-pub use reading::{read_all, read_one, read_optional};
-pub use structure::check_structure;
+pub use placing::{missing, places, put_places};
+pub use reading::{fill_one, read_all, read_one, read_optional};
+pub use structure::{check_structure, fill_structure};

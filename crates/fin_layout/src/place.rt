@@ -64,8 +64,7 @@ macro_rules! any {
 fn is_option(options: &[u8; 4], letter: u8) -> bool
     ensures { result ≡ list_any (λ option. option == letter) options.now }
 {
-    let [first, second, third, fourth] = *options;
-    first == letter || second == letter || third == letter || fourth == letter
+    options.iter().any(|option| *option == letter)
 }
 
 /// Whether a field may stand at a place: it has the place's number and one of its letters.

@@ -1,9 +1,10 @@
 //! The places that fields take.
 
-ghost use Rattle.std.specs.Prelude.{◌≡◌, ◌≤◌, ◌<◌, ◌+◌, [], IfOk, IfSome, length, option_map, position};
+ghost use Rattle.std.specs.Prelude.{◌≡◌, ◌≤◌, ◌<◌, ◌+◌, [], IfOk, IfSome, OnOk, length, option_map, position};
 ghost use Rattle.std.specs.List.{slice_range};
 ghost use Rattle.fin_layout.specs.Order.{Rising, fits, free_after, is_missing, missing_from, place_from, places_from};
 
+use crate::found::Found;
 use crate::place::{Place, fits};
 use corr_text::Memory;
 use fin_fields::FieldLines;
@@ -39,15 +40,27 @@ fn free_after(order: &[Place], at: usize) -> usize
 ///
 /// A field takes the first place behind that of the field before it which allows it, or that same place where more than
 /// one field may stand there.
-pub fn places(
-    alloc: Global,
+pub fn places(alloc: Global, order: &[Place], fields: &[FieldLines<'_>]) -> Result<Found, Memory>
+    ensures value { IfOk result (λ found. found ≡ places_from order.now 0 fields.now) }
+    ensures few { IfOk result (λ found. length found ≤ length fields.now) }
+{
+    let mut found = Found::new(alloc);
+    put_places(order, fields, &mut found)?;
+    Ok(found)
+}
+
+/// As `places`, but the places are put into `found`, whatever stood there, in its memory. After want of memory it may hold
+/// any.
+pub fn put_places(
     order: &[Place],
     fields: &[FieldLines<'_>],
-) -> Result<Vec<usize>, Memory>
-    ensures value { IfOk result (λ v. v.items ≡ places_from order.now 0 fields.now) }
-    ensures few { IfOk result (λ v. length v.items ≤ length fields.now) }
+    found: &mut Found,
+) -> Result<(), Memory>
+    ensures value { OnOk result (found.new ≡ places_from order.now 0 fields.now) }
+    ensures few { OnOk result (length found.new ≤ length fields.now) }
 {
-    let mut found = Vec::with_capacity(alloc, fields.len())?;
+    found.clear();
+    found.reserve(fields.len())?;
     let mut free = 0;
     for f in fields {
         match place_from(order, free, f) {
@@ -55,10 +68,10 @@ pub fn places(
                 found.push(at)?;
                 free = free_after(order, at);
             }
-            None => return Ok(found),
+            None => return Ok(()),
         }
     }
-    Ok(found)
+    Ok(())
 }
 
 fn is_missing(place: &Place, at: usize, found: &[usize]) -> bool

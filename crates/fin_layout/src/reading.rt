@@ -3,11 +3,12 @@
 ghost use Rattle.std.specs.Prelude.{◌≡◌, ◌≤◌, ◌<◌, IfOk, length};
 ghost use Rattle.fin_fields.specs.Fields.{most_text_lines};
 ghost use Rattle.fin_layout.specs.Contents.{all_from, in_option, in_place};
-ghost use Rattle.fin_layout.specs.Reading.{Gives, placed};
+ghost use Rattle.fin_layout.specs.Reading.{Fills, Gives, placed};
 
-use crate::content::Content;
+use crate::content::{Content, Refill};
 use crate::fault::{MtFault, Refusal};
 use crate::finding::find;
+use crate::found::Found;
 use crate::naming::{absent, fault_at};
 use crate::place::Place;
 use corr_text::List;
@@ -33,7 +34,7 @@ pub fn read_one<C: Content>(
     content: &C,
     order: &[Place],
     fields: &[FieldLines<'_>],
-    found: &[usize],
+    found: &Found,
     place: usize,
 ) -> Result<C::Value, MtFault>
     requires few { length fields.now ≤ most_text_lines }
@@ -46,12 +47,32 @@ pub fn read_one<C: Content>(
     }
 }
 
+/// As `read_one`, but what the field says is put into `value`, in the memory of what that was. After a fault it may be anything.
+pub fn fill_one<C: Refill>(
+    alloc: Global,
+    content: &C,
+    order: &[Place],
+    fields: &[FieldLines<'_>],
+    found: &Found,
+    place: usize,
+    value: &mut C::Value,
+) -> Result<(), MtFault>
+    requires few { length fields.now ≤ most_text_lines }
+    requires within { place < length order.now }
+    ensures { Fills result value.new (in_place order.now fields.now found.now place (C.meaning content.now)) }
+{
+    match find(fields, found, place) {
+        Some((at, f)) => locate(fields, at, content.refill(alloc, f, value)),
+        None => Err(MtFault::Bad(absent(order, place))),
+    }
+}
+
 /// What the field at an optional place, from 0, says, if there is one. `Bad`: what is wrong with it.
 pub fn read_optional<C: Content>(
     alloc: Global,
     content: &C,
     fields: &[FieldLines<'_>],
-    found: &[usize],
+    found: &Found,
     place: usize,
 ) -> Result<Option<C::Value>, MtFault>
     requires few { length fields.now ≤ most_text_lines }
@@ -63,8 +84,8 @@ pub fn read_optional<C: Content>(
     }
 }
 
-/// What the fields at a place, from 0, say, in their order. `Bad`: what is wrong with the first of them that is refused.
-pub fn read_all<C: Content>(
+// What the fields at a place, from 0, say, in their order.
+fn read_each<C: Content>(
     alloc: Global,
     content: &C,
     fields: &[FieldLines<'_>],
@@ -84,4 +105,24 @@ pub fn read_all<C: Content>(
         }
     }
     Ok(all)
+}
+
+/// What the fields at a place, from 0, say, in their order. `Bad`: what is wrong with the first of them that is refused.
+#[tactic(auto, using(crate::proofs::Noted::none_read))]
+pub fn read_all<C: Content>(
+    alloc: Global,
+    content: &C,
+    fields: &[FieldLines<'_>],
+    found: &Found,
+    place: usize,
+) -> Result<List<C::Value>, MtFault>
+    requires few { length fields.now ≤ most_text_lines }
+    requires each { length found.now ≤ length fields.now }
+    ensures value { Gives result (all_from fields.now place (C.meaning content.now) 0 found.now fields.now) }
+    ensures few { IfOk result (λ l. length l ≤ length fields.now) }
+{
+    if !found.has(place) {
+        return Ok(List::new(alloc));
+    }
+    read_each(alloc, content, fields, found.as_slice(), place)
 }

@@ -2,6 +2,7 @@
 #![tactic(auto)]
 
 mod fault;
+mod filling;
 mod form;
 mod line;
 mod numbered;
@@ -11,6 +12,7 @@ mod reading;
 mod writing;
 
 pub use fault::PartyFault;
+pub use filling::fill_party;
 pub use line::account_of;
 pub use party::Party;
 pub use reading::{read_party, read_party_lines};

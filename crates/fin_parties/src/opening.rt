@@ -16,9 +16,9 @@ pub enum Opening {
 
 /// The first line where it begins with a slash, and the lines behind it.
 #[derive(Clone, Copy)]
-pub struct Parts<'a> {
-    pub first: Option<&'a [u8]>,
-    pub rest: &'a [Line<'a>],
+pub struct Parts<'a, 't> {
+    pub first: Option<&'t [u8]>,
+    pub rest: &'a [Line<'t>],
 }
 
 fn opens(opening: Opening, line: &[u8]) -> bool
@@ -31,7 +31,7 @@ fn opens(opening: Opening, line: &[u8]) -> bool
 }
 
 /// The parts of a field's lines, none where the first begins with a slash and has another format.
-pub fn parts_of<'a>(opening: Opening, lines: &'a [Line<'a>]) -> Option<Parts<'a>>
+pub fn parts_of<'a, 't>(opening: Opening, lines: &'a [Line<'t>]) -> Option<Parts<'a, 't>>
     ensures { option_map parts_in result ≡ parts_of opening lines.now }
 {
     match lines {

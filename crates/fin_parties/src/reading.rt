@@ -24,7 +24,7 @@ fn is_line(line: &[u8]) -> bool
     is_run_of(Set::X, 35, line)
 }
 
-fn is_name(lines: &[Line<'_>]) -> bool
+pub fn is_name(lines: &[Line<'_>]) -> bool
     ensures { result ≡ is_name lines.now }
 {
     match lines {
@@ -43,7 +43,7 @@ fn copy_line(alloc: Global, line: Option<&[u8]>) -> Result<Option<Text>, Memory>
     }
 }
 
-fn copy_account(alloc: Global, line: Option<&[u8]>) -> Result<Option<Text>, Memory>
+pub fn copy_account(alloc: Global, line: Option<&[u8]>) -> Result<Option<Text>, Memory>
     ensures { IfOk result (λ copy. copy ≡ option_map (λ b. drop 1 b.now) line.entry) }
 {
     match line {
@@ -159,7 +159,7 @@ fn read_payer_party(alloc: Global, lines: &[Line<'_>]) -> Result<Party, PartyFau
 }
 
 #[tactic(auto, unfolding(crate::specs::Party::party_in))]
-fn read_lines(alloc: Global, form: Form, lines: &[Line<'_>]) -> Result<Party, PartyFault>
+pub fn read_lines(alloc: Global, form: Form, lines: &[Line<'_>]) -> Result<Party, PartyFault>
     ensures { ReadsParty (party_in form lines.now) result }
 {
     match form {

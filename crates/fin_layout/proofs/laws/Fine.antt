@@ -2,7 +2,7 @@
 use Rattle.std.proofs.Common.{◌≡◌, ℕ, zero, suc, ◌+◌, ◌==◌, ◌&&◌, not, Bool, true, false, cond, List, [], ◌∷◌, length, option_map, option_and_then, position, slice_get, Option, Some, None, Result, Ok, Err, refl, sym, ap, ◌∙◌, arith, inl, inr}
 use Rattle.std.specs.List.{list_any}
 use Rattle.std.proofs.lemmas.Bool.{cases_Bool, eqb-true}
-use Rattle.corr_text.specs.First.{first_of, fault_of, unless, ◌>>=◌}
+use Rattle.corr_text.specs.First.{first_of, fault_of, unless, unless_fault, ◌>>=◌}
 use Rattle.corr_text.specs.declared.fault.Code.{Code}
 use Rattle.corr_text.specs.declared.fault.Fault.{Fault}
 use Rattle.fin_fields.specs.declared.field.Field.{Field}
@@ -11,7 +11,7 @@ use Rattle.fin_layout.specs.Naming.{fault_at, absent}
 use Rattle.fin_layout.specs.Order.{field_in, is_missing, missing_from, places_from}
 use Rattle.fin_layout.specs.Contents.{all_from, in_option, in_place}
 use Rattle.fin_layout.specs.Reading.{Fails, Tells}
-use Rattle.fin_layout.specs.Tests.{contents_from, tests, unless_fault}
+use Rattle.fin_layout.specs.Tests.{contents_from, tests}
 use Rattle.fin_layout.specs.declared.fault.MtFault.{MtFault}
 use Rattle.fin_layout.specs.declared.fault.MtFault.TheVariants as faults
 use Rattle.fin_layout.proofs.laws.FoundField.{field-here, field-later, shifted}

@@ -3,8 +3,8 @@ use Rattle.std.proofs.lemmas.Result.{err_from_is_err_and}
 use Rattle.std.proofs.lemmas.Bool.Decides.{nat_tests}
 use Rattle.fin_layout.proofs.InTurn.{all-more, all-other, all-stop, all-end, placed-ok, placed-err}
 use Rattle.fin_layout.proofs.laws.ReadBack.{all-few}
-use Rattle.fin_layout.proofs.reading.read_all.Goals as goal
-use Rattle.fin_layout.proofs.reading.read_all.Goals.{then-taken-place+in_ok-locate+in_ok-push, else-taken-place}
+use Rattle.fin_layout.proofs.reading.read_each.Goals as goal
+use Rattle.fin_layout.proofs.reading.read_each.Goals.{then-taken-place+in_ok-locate+in_ok-push, else-taken-place}
 
 pub returns-in_err-locate-clause-value : goal.returns-in_err-locate-clause-value
 returns-in_err-locate-clause-value g c =
