@@ -1,9 +1,9 @@
 -- What an answer means behind tests of which none holds.
 use Rattle.std.proofs.Common.{◌≡◌, [], ◌∷◌, Option, Some, None, Result}
-use Rattle.corr_text.specs.First.{◌>>=◌}
+use Rattle.corr_text.specs.First.{unless_fault, ◌>>=◌}
 use Rattle.corr_text.specs.declared.fault.Fault.{Fault}
 use Rattle.fin_layout.specs.Reading.{Gives}
-use Rattle.fin_layout.specs.Tests.{passed, unless_fault}
+use Rattle.fin_layout.specs.Tests.{passed}
 use Rattle.fin_layout.specs.declared.fault.MtFault.{MtFault}
 use Rattle.fin_message.specs.declared.message.Message.{Message}
 

@@ -15,15 +15,15 @@ use crate::direction::Direction;
 use crate::fault::MessageFault;
 use crate::fields::read_fields;
 use crate::heading::heading_fault;
-use crate::message::{Message, put_text};
+use crate::message::{Message, put_text, take_text};
 use crate::page::read_page;
 use crate::parts::{mir_of, type_of};
 use crate::transfer::read_transfer;
 use corr_ids::Bic;
 use corr_text::let_go;
-use fin_blocks::{Blocks, read_blocks};
+use fin_blocks::{Blocks, fill_blocks};
 use fin_fields::FieldLines;
-use fin_layout::MtFault;
+use fin_layout::{Found, MtFault};
 use ref_tables::RefTables;
 use std::alloc::Global;
 
@@ -34,6 +34,7 @@ fn read_of_type(
     t: &RefTables,
     blocks: &Blocks,
     fields: &[FieldLines<'_>],
+    found: &mut Found,
     out: &mut Message,
 ) -> Result<(), MtFault>
     requires few { length fields.now ≤ most_text_lines }
@@ -41,7 +42,7 @@ fn read_of_type(
     ensures { mt.Fills result (with_text blocks.now.text out.new) (message_in t.now blocks.now) }
 {
     match type_of(&blocks.app) {
-        103 => read_transfer(alloc, t, blocks, fields, out),
+        103 => read_transfer(alloc, t, blocks, fields, found, out),
         202 => read_cover(alloc, t, blocks, fields, out),
         900 => read_debit(alloc, t, blocks, fields, out),
         910 => read_credit(alloc, t, blocks, fields, out),
@@ -59,6 +60,7 @@ fn read_parts(
     home: &Bic,
     t: &RefTables,
     blocks: &Blocks,
+    found: &mut Found,
     out: &mut Message,
 ) -> Result<(), MtFault>
     requires { length (lines_of blocks.now.text) ≤ most_text_lines }
@@ -68,31 +70,7 @@ fn read_parts(
         return Err(MtFault::Bad(fault));
     }
     let fields = read_fields(alloc, blocks.text.bytes())?;
-    read_of_type(alloc, t, blocks, fields.as_slice(), out)
-}
-
-/// Puts the message that blocks say into `out`. `Bad`: the first test after those of the blocks that it fails.
-fn read_message(
-    alloc: Global,
-    way: Direction,
-    home: &Bic,
-    t: &RefTables,
-    blocks: Blocks,
-    out: &mut Message,
-) -> Result<(), MtFault>
-    requires { length (lines_of blocks.text) ≤ most_text_lines }
-    ensures { mt.Fills result out.new (message_of way home.now t.now blocks) }
-{
-    match read_parts(alloc, way, home, t, &blocks, out) {
-        Ok(()) => {
-            put_text(blocks.text, out);
-            Ok(())
-        }
-        Err(fault) => {
-            let_go(blocks);
-            Err(fault)
-        }
-    }
+    read_of_type(alloc, t, blocks, fields.as_slice(), found, out)
 }
 
 #[tactic(auto, unfolding(crate::specs::Verdict::judged))]
@@ -102,16 +80,23 @@ fn judge(
     home: &Bic,
     t: &RefTables,
     m: &[u8],
+    found: &mut Found,
     out: &mut Message,
 ) -> Result<(), MessageFault>
     requires { length m.now ≤ most_bytes_judged }
     ensures { Fills result out.new (judged way home.now t.now m.now) }
 {
-    let blocks = read_blocks(alloc, m)?;
-    let mir = mir_of(&blocks.app);
-    match read_message(alloc, way, home, t, blocks, out) {
+    // block 4 is read into the memory of the message that stood in `out`
+    let mut blocks = Blocks::blank(alloc, take_text(alloc, out));
+    fill_blocks(alloc, m, &mut blocks)?;
+    let read = read_parts(alloc, way, home, t, &blocks, found, out);
+    put_text(blocks.text, out);
+    match read {
         Ok(()) => Ok(()),
-        Err(MtFault::Bad(fault)) => Err(MessageFault::Refused { mir, fault }),
+        Err(MtFault::Bad(fault)) => Err(MessageFault::Refused {
+            mir: mir_of(&blocks.app),
+            fault,
+        }),
         Err(MtFault::Memory) => Err(MessageFault::Memory),
     }
 }
@@ -129,7 +114,8 @@ fn judge_apart(
     ensures { Answers result (judged way home.now t.now m.now) }
 {
     let mut message = Message::blank(alloc);
-    match judge(alloc, way, home, t, m, &mut message) {
+    let mut found = Found::new(alloc);
+    match judge(alloc, way, home, t, m, &mut found, &mut message) {
         Ok(()) => Ok(message),
         Err(fault) => {
             let_go(message);
@@ -157,19 +143,21 @@ pub fn verdict(alloc: Global, m: &[u8], home: &Bic, t: &RefTables) -> Result<Mes
 }
 
 /// As `verdict`, but what the message says is put into `out`, where another message stood. After a fault it may say anything.
+/// `found` is room for the places of its fields.
 #[tactic(auto, using(crate::proofs::Judged::sound_in))]
 pub fn verdict_into(
     alloc: Global,
     m: &[u8],
     home: &Bic,
     t: &RefTables,
+    found: &mut Found,
     out: &mut Message,
 ) -> Result<(), MessageFault>
     requires { length m.now ≤ most_bytes_judged }
     ensures value { Fills result out.new (verdict_of home.now t.now m.now) }
     ensures sound { OnOk result (IsValid Direction.Received t.now (2 * length m.now) out.new) }
 {
-    judge(alloc, Direction::Received, home, t, m, out)
+    judge(alloc, Direction::Received, home, t, m, found, out)
 }
 
 /// The same of a message that the home bank sends: block 2 is of input form (else P07) and names the receiver, who is in

@@ -1,7 +1,8 @@
 //! What a valid message says.
 
-ghost use Rattle.std.specs.Prelude.{◌≡◌, IsTrue};
+ghost use Rattle.std.specs.Prelude.{◌≡◌, [], IsTrue};
 ghost use Rattle.fin_message.specs.Filling.{is_transfer, with_text};
+ghost use Rattle.fin_message.specs.Sound.{lines_in};
 
 use corr_ids::{Bic, Envelope};
 use corr_text::{Text, put};
@@ -10,6 +11,7 @@ use mt103::{Mt103, blank};
 use mt202cov::Mt202Cov;
 use mt950::Page950;
 use std::alloc::Global;
+use std::mem;
 
 /// A valid message, by its type.
 #[derive(Debug, Drop)]
@@ -33,7 +35,8 @@ fn no_bank() -> Bic {
     }
 }
 
-fn no_envelope() -> Envelope {
+/// An envelope that says nothing.
+pub(crate) fn no_envelope() -> Envelope {
     Envelope {
         mir: None,
         sender: no_bank(),
@@ -48,6 +51,19 @@ impl Message {
         ensures { IsTrue (is_transfer result) }
     {
         Message::Transfer(no_envelope(), Text::from_vec(Vec::new(alloc)), blank(alloc))
+    }
+}
+
+/// Takes the text of block 4 out of a message, if it has one beside what it says: an empty one is left.
+pub fn take_text(alloc: Global, message: &mut Message) -> Text
+    ensures taken { result ≡ lines_in message.old }
+    ensures left { message.new ≡ with_text [] message.old }
+{
+    let none = Text::from_vec(Vec::new(alloc));
+    match message {
+        Message::Transfer(_, place, _) => mem::replace(place, none),
+        Message::Cover(_, place, _) => mem::replace(place, none),
+        Message::Debit(_, _) | Message::Credit(_, _) | Message::Page(_, _) => none,
     }
 }
 

@@ -5,6 +5,7 @@ ghost use Rattle.corr_ids.specs.Address.{bank_of};
 ghost use Rattle.fin_blocks.specs.Forms.{mir_in};
 ghost use Rattle.fin_message.specs.Parts.{envelope_of, has_trailer as has_trailer_of, partner_of, type_of as type_in, uetr_in, subblock_under};
 
+use crate::message::no_envelope;
 use corr_ids::{Bic, Envelope, LtAddress, Mir, Uetr, read_uetr};
 use corr_text::Text;
 use fin_blocks::{App, Blocks};
@@ -74,25 +75,30 @@ fn transaction(blocks: &Blocks) -> Option<Uetr>
     read_uetr(user_text(blocks, 121)?)
 }
 
+/// Puts who sent a message to whom, under which references, into a place.
+pub fn fill_envelope(blocks: &Blocks, envelope: &mut Envelope)
+    ensures { envelope.new ≡ envelope_of blocks.now }
+{
+    envelope.uetr = transaction(blocks);
+    match &blocks.app {
+        App::Received { mir, .. } => {
+            envelope.mir = Some(*mir);
+            envelope.sender = bank(mir.sender());
+            envelope.receiver = bank(blocks.own);
+        }
+        App::Sent { to, .. } => {
+            envelope.mir = None;
+            envelope.sender = bank(blocks.own);
+            envelope.receiver = bank(*to);
+        }
+    }
+}
+
 /// Who sent a message to whom, under which references.
 pub fn envelope(blocks: &Blocks) -> Envelope
     ensures { result ≡ envelope_of blocks.now }
 {
-    let home = bank(blocks.own);
-    let other = partner(&blocks.app);
-    let uetr = transaction(blocks);
-    match blocks.app {
-        App::Received { mir, .. } => Envelope {
-            mir: Some(mir),
-            sender: other,
-            receiver: home,
-            uetr,
-        },
-        App::Sent { .. } => Envelope {
-            mir: None,
-            sender: home,
-            receiver: other,
-            uetr,
-        },
-    }
+    let mut envelope = no_envelope();
+    fill_envelope(blocks, &mut envelope);
+    envelope
 }

@@ -7,12 +7,12 @@ ghost use Rattle.fin_message.specs.Filling.{is_transfer, with_text};
 ghost use Rattle.fin_message.specs.Verdict.{ruled_of, transfer_in};
 
 use crate::message::Message;
-use crate::parts::envelope as envelope_of;
+use crate::parts::fill_envelope;
 use corr_ids::Envelope;
 use corr_text::put;
 use fin_blocks::Blocks;
 use fin_fields::FieldLines;
-use fin_layout::MtFault;
+use fin_layout::{Found, MtFault};
 use mt103::{Mt103, fill_mt103};
 use mt103_rules::first_rule;
 use ref_tables::RefTables;
@@ -48,12 +48,13 @@ fn fill_transfer(
     t: &RefTables,
     fields: &[FieldLines<'_>],
     envelope: &Envelope,
+    found: &mut Found,
     transfer: &mut Mt103,
 ) -> Result<(), MtFault>
     requires few { length fields.now ≤ most_text_lines }
     ensures value { Fills result transfer.new (ruled_of t.now envelope.now fields.now) }
 {
-    fill_mt103(alloc, fields, t, transfer)?;
+    fill_mt103(alloc, fields, t, found, transfer)?;
     match first_rule(transfer, &envelope.sender, &envelope.receiver, t) {
         Some(fault) => Err(MtFault::Bad(fault)),
         None => Ok(()),
@@ -61,13 +62,14 @@ fn fill_transfer(
 }
 
 /// Puts the transfer that a message with these fields says into `out`, but for its text. `Bad`: the first test of its fields,
-/// or the first of its rules; then `out` may say anything.
+/// or the first of its rules; then `out` may say anything. `found` is room for the places of the fields.
 #[tactic(auto, unfolding(crate::specs::Verdict::transfer_in))]
 pub fn read_transfer(
     alloc: Global,
     t: &RefTables,
     blocks: &Blocks,
     fields: &[FieldLines<'_>],
+    found: &mut Found,
     out: &mut Message,
 ) -> Result<(), MtFault>
     requires few { length fields.now ≤ most_text_lines }
@@ -77,8 +79,8 @@ pub fn read_transfer(
     make_transfer(alloc, out);
     match out {
         Message::Transfer(envelope, _, transfer) => {
-            *envelope = envelope_of(blocks);
-            fill_transfer(alloc, t, fields, envelope, transfer)
+            fill_envelope(blocks, envelope);
+            fill_transfer(alloc, t, fields, envelope, found, transfer)
         }
         _ => unreachable!(),
     }

@@ -8,3 +8,4 @@ pub mod Says
 pub mod Moved
 pub mod Standing
 pub mod RoundTrip
+pub mod Taken

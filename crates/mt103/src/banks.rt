@@ -9,10 +9,10 @@ use crate::message::Mt103;
 use crate::places::{
     ACCOUNT_BANK, INTERMEDIARY, ORDERING, RECEIVERS_BANK, SENDERS_BANK, THIRD_BANK,
 };
-use corr_text::put;
+use corr_text::{clear, put};
 use fin_contents::KnownParty;
 use fin_fields::FieldLines;
-use fin_layout::{MtFault, read_optional, takes_any};
+use fin_layout::{Found, MtFault, read_optional, takes_any};
 use ref_tables::RefTables;
 use std::alloc::Global;
 
@@ -21,7 +21,7 @@ fn read_banks(
     alloc: Global,
     tables: &RefTables,
     fields: &[FieldLines<'_>],
-    found: &[usize],
+    found: &Found,
     m: &mut Mt103,
 ) -> Result<(), MtFault>
     requires few { length fields.now ≤ most_text_lines }
@@ -47,12 +47,12 @@ fn read_banks(
 fn clear_banks(m: &mut Mt103)
     ensures { m.new ≡ with_banks m.old None None None None None None }
 {
-    m.p52 = None;
-    m.p53 = None;
-    m.p54 = None;
-    m.p55 = None;
-    m.p56 = None;
-    m.p57 = None;
+    clear(&mut m.p52);
+    clear(&mut m.p53);
+    clear(&mut m.p54);
+    clear(&mut m.p55);
+    clear(&mut m.p56);
+    clear(&mut m.p57);
 }
 
 /// Puts what fields at these places say in 52a to 57a into a message. Most transfers have none of them: then no place is
@@ -61,7 +61,7 @@ pub fn fill_banks(
     alloc: Global,
     tables: &RefTables,
     fields: &[FieldLines<'_>],
-    found: &[usize],
+    found: &Found,
     m: &mut Mt103,
 ) -> Result<(), MtFault>
     requires few { length fields.now ≤ most_text_lines }

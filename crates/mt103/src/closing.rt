@@ -7,10 +7,10 @@ ghost use Rattle.mt103.specs.Parts.{closing_into, with_closing};
 
 use crate::message::Mt103;
 use crate::places::{GIVEN, NOTES, REGULATORY, TAKEN};
-use corr_text::{List, put};
+use corr_text::{clear, put};
 use fin_contents::{CcyAmount, Texts, or_none};
 use fin_fields::FieldLines;
-use fin_layout::{MtFault, read_all, read_optional, takes_any};
+use fin_layout::{Found, MtFault, read_all, read_optional, takes_any};
 use ref_tables::RefTables;
 use std::alloc::Global;
 
@@ -19,7 +19,7 @@ fn read_closing(
     alloc: Global,
     tables: &RefTables,
     fields: &[FieldLines<'_>],
-    found: &[usize],
+    found: &Found,
     m: &mut Mt103,
 ) -> Result<(), MtFault>
     requires few { length fields.now ≤ most_text_lines }
@@ -40,13 +40,13 @@ fn read_closing(
     Ok(())
 }
 
-fn clear_closing(alloc: Global, m: &mut Mt103)
+fn clear_closing(m: &mut Mt103)
     ensures { m.new ≡ with_closing m.old [] None [] [] }
 {
-    put(&mut m.taken, List::new(alloc));
-    m.given = None;
-    put(&mut m.notes, List::new(alloc));
-    put(&mut m.regulatory, List::new(alloc));
+    m.taken.clear();
+    clear(&mut m.given);
+    m.notes.clear();
+    m.regulatory.clear();
 }
 
 /// Puts what fields at these places say in 71F to 77B into a message. Most transfers have none of them: then no place is
@@ -55,7 +55,7 @@ pub fn fill_closing(
     alloc: Global,
     tables: &RefTables,
     fields: &[FieldLines<'_>],
-    found: &[usize],
+    found: &Found,
     m: &mut Mt103,
 ) -> Result<(), MtFault>
     requires few { length fields.now ≤ most_text_lines }
@@ -66,7 +66,7 @@ pub fn fill_closing(
     if takes_any(found, TAKEN, REGULATORY) {
         read_closing(alloc, tables, fields, found, m)
     } else {
-        clear_closing(alloc, m);
+        clear_closing(m);
         Ok(())
     }
 }

@@ -11,9 +11,9 @@ use crate::order::ORDER;
 use crate::places::{CHARGE, INFO};
 use crate::word::Charge;
 use corr_text::put;
-use fin_contents::{Texts, or_none};
+use fin_contents::Texts;
 use fin_fields::FieldLines;
-use fin_layout::{MtFault, read_one, read_optional};
+use fin_layout::{Found, MtFault, fill_one, read_optional};
 use ref_tables::RefTables;
 use std::alloc::Global;
 
@@ -23,7 +23,7 @@ pub fn fill_details(
     alloc: Global,
     tables: &RefTables,
     fields: &[FieldLines<'_>],
-    found: &[usize],
+    found: &Found,
     m: &mut Mt103,
 ) -> Result<(), MtFault>
     requires few { length fields.now ≤ most_text_lines }
@@ -31,8 +31,10 @@ pub fn fill_details(
     ensures value { Fills result m.new (details_into tables.now fields.now found.now m.old) }
     ensures kept { OnOk result (m.new.instrs ≡ m.old.instrs) }
 {
-    let info = read_optional(alloc, &Texts { most: 4 }, fields, found, INFO)?;
-    put(&mut m.info, or_none(alloc, info));
-    m.charge = read_one(alloc, &Charge, &ORDER, fields, found, CHARGE)?;
+    match read_optional(alloc, &Texts { most: 4 }, fields, found, INFO)? {
+        Some(lines) => put(&mut m.info, lines),
+        None => m.info.clear(),
+    }
+    fill_one(alloc, &Charge, &ORDER, fields, found, CHARGE, &mut m.charge)?;
     fill_closing(alloc, tables, fields, found, m)
 }

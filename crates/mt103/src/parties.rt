@@ -9,10 +9,9 @@ use crate::banks::fill_banks;
 use crate::message::Mt103;
 use crate::order::ORDER;
 use crate::places::{PAYEE, PAYER};
-use corr_text::put;
 use fin_contents::KnownParty;
 use fin_fields::FieldLines;
-use fin_layout::{MtFault, read_one};
+use fin_layout::{Found, MtFault, fill_one};
 use ref_tables::RefTables;
 use std::alloc::Global;
 
@@ -22,7 +21,7 @@ pub fn fill_parties(
     alloc: Global,
     tables: &RefTables,
     fields: &[FieldLines<'_>],
-    found: &[usize],
+    found: &Found,
     m: &mut Mt103,
 ) -> Result<(), MtFault>
     requires few { length fields.now ≤ most_text_lines }
@@ -30,10 +29,8 @@ pub fn fill_parties(
     ensures kept { OnOk result (m.new.instrs ≡ m.old.instrs) }
 {
     let party = KnownParty { tables };
-    let payer = read_one(alloc, &party, &ORDER, fields, found, PAYER)?;
-    put(&mut m.payer, payer);
+    fill_one(alloc, &party, &ORDER, fields, found, PAYER, &mut m.payer)?;
     fill_banks(alloc, tables, fields, found, m)?;
-    let payee = read_one(alloc, &party, &ORDER, fields, found, PAYEE)?;
-    put(&mut m.payee, payee);
+    fill_one(alloc, &party, &ORDER, fields, found, PAYEE, &mut m.payee)?;
     Ok(())
 }

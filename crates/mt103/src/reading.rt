@@ -10,7 +10,7 @@ use crate::message::Mt103;
 use crate::parties::fill_parties;
 use crate::terms::fill_terms;
 use fin_fields::FieldLines;
-use fin_layout::MtFault;
+use fin_layout::{Found, MtFault};
 use ref_tables::RefTables;
 use std::alloc::Global;
 
@@ -20,7 +20,7 @@ pub fn fill_contents(
     alloc: Global,
     tables: &RefTables,
     fields: &[FieldLines<'_>],
-    found: &[usize],
+    found: &Found,
     m: &mut Mt103,
 ) -> Result<(), MtFault>
     requires few { length fields.now ≤ most_text_lines }

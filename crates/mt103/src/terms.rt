@@ -12,9 +12,9 @@ use crate::order::ORDER;
 use crate::places::{INSTRUCTIONS, KIND, OPERATION, ORDERED, RATE, REFERENCE, TIMES, VALUE};
 use crate::word::Operation;
 use corr_text::put;
-use fin_contents::{CcyAmount, Rate, Reference, Time, ValueDate};
+use fin_contents::{CcyAmount, Rate, Reference, Time, Value, ValueDate};
 use fin_fields::FieldLines;
-use fin_layout::{MtFault, read_all, read_one, read_optional};
+use fin_layout::{Found, MtFault, fill_one, read_all, read_optional};
 use ref_tables::RefTables;
 use std::alloc::Global;
 
@@ -24,7 +24,7 @@ pub fn fill_terms(
     alloc: Global,
     tables: &RefTables,
     fields: &[FieldLines<'_>],
-    found: &[usize],
+    found: &Found,
     m: &mut Mt103,
 ) -> Result<(), MtFault>
     requires few { length fields.now ≤ most_text_lines }
@@ -33,18 +33,34 @@ pub fn fill_terms(
     ensures few { OnOk result (length m.new.instrs ≤ length fields.now) }
 {
     let amount = CcyAmount { tables };
-    put(
+    fill_one(
+        alloc,
+        &Reference,
+        &ORDER,
+        fields,
+        found,
+        REFERENCE,
         &mut m.reference,
-        read_one(alloc, &Reference, &ORDER, fields, found, REFERENCE)?,
-    );
+    )?;
     put(&mut m.times, read_all(alloc, &Time, fields, found, TIMES)?);
-    m.op = read_one(alloc, &Operation, &ORDER, fields, found, OPERATION)?;
+    fill_one(
+        alloc, &Operation, &ORDER, fields, found, OPERATION, &mut m.op,
+    )?;
     put(
         &mut m.instrs,
         read_all(alloc, &Instruction, fields, found, INSTRUCTIONS)?,
     );
     m.kind = read_optional(alloc, &Kind, fields, found, KIND)?;
-    let value = read_one(alloc, &ValueDate { tables }, &ORDER, fields, found, VALUE)?;
+    let mut value = Value::blank();
+    fill_one(
+        alloc,
+        &ValueDate { tables },
+        &ORDER,
+        fields,
+        found,
+        VALUE,
+        &mut value,
+    )?;
     m.value = value.day;
     m.amount = value.amount;
     m.ordered = read_optional(alloc, &amount, fields, found, ORDERED)?;

@@ -1,13 +1,16 @@
 //! An MT103 read from its fields.
 
-ghost use Rattle.std.specs.Prelude.{◌≡◌, ◌≤◌, [], ◌∷◌, All, IfOk, IsTrue, None, Ok, OnOk, length};
+ghost use Rattle.std.specs.Prelude.{◌≡◌, ◌≤◌, [], ◌∷◌, All, IfErr, IfOk, IfSome, IsTrue, None, Ok, OnOk, length};
 ghost use Rattle.corr_text.specs.First.{first_of};
 ghost use Rattle.fin_fields.specs.Fields.{most_text_lines};
 ghost use Rattle.fin_contents.specs.Money.{IsPayable};
 ghost use Rattle.fin_contents.specs.Writing.{IsReadable};
 ghost use Rattle.fin_fields.specs.Writing.{IsField};
-ghost use Rattle.fin_layout.specs.Order.{places_from};
-ghost use Rattle.fin_layout.specs.Reading.{Fills, Gives};
+ghost use Rattle.fin_layout.specs.Naming.{absent as absent_of};
+ghost use Rattle.fin_layout.specs.Order.{missing_from, places_from};
+ghost use Rattle.fin_layout.specs.Reading.{Fills, Gives, Tells};
+ghost use Rattle.fin_layout.specs.Tests.{misplaced};
+ghost use Rattle.fin_layout.specs.declared.fault.MtFault.TheVariants.{Bad};
 ghost use Rattle.mt103.specs.Instructions.{d98, e46};
 ghost use Rattle.mt103.specs.Message.{contents_of, field_tests, mt103_of};
 ghost use Rattle.mt103.specs.declared.message.Mt103.{Mt103 as Mt103Seen};
@@ -21,7 +24,7 @@ use crate::order::ORDER;
 use crate::reading::fill_contents;
 use corr_text::{Fault, let_go};
 use fin_fields::{Field, FieldLines, lend_fields};
-use fin_layout::{MtFault, check_structure};
+use fin_layout::{Found, MtFault, P22, Place, absent, fault_at, missing, put_places};
 use ref_tables::RefTables;
 use std::alloc::Global;
 
@@ -35,12 +38,41 @@ fn instructions_fault(instrs: &[Instr]) -> Option<Fault>
     }
 }
 
+// Puts the place of each field into `found`, whatever stood there. P22: the first field that the order doesn't allow after the
+// one before it.
+fn fill_places(order: &[Place], f: &[FieldLines<'_>], found: &mut Found) -> Result<(), MtFault>
+    requires few { length f.now ≤ most_text_lines }
+    ensures fault { IfErr result (Tells (misplaced order.now f.now)) }
+    ensures sound { OnOk result (misplaced order.now f.now ≡ None) }
+    ensures places { OnOk result (found.new ≡ places_from order.now 0 f.now) }
+    ensures each { OnOk result (length found.new ≡ length f.now) }
+{
+    put_places(order, f, found)?;
+    let taken = found.as_slice().len();
+    if taken != f.len() {
+        return Err(MtFault::Bad(fault_at(f, taken, P22)));
+    }
+    Ok(())
+}
+
+// The fault that is told of a transfer whose contents have this one: P23 in its place, where a field is missing.
+fn first_fault(order: &[Place], found: &Found, fault: MtFault) -> MtFault
+    ensures lacking { IfSome (missing_from 0 order.now found.now) (λ k. result ≡ Bad (absent_of order.now k)) }
+    ensures none { missing_from 0 order.now found.now ≡ None → result ≡ fault }
+{
+    match missing(order, found.as_slice()) {
+        Some(at) => MtFault::Bad(absent(order, at)),
+        None => fault,
+    }
+}
+
 /// Puts what the fields of block 4 say into a transfer, whatever it said: the same tests as in `read_mt103`, and the same
-/// promises of what it then says. After a fault it may say anything.
+/// promises of what it then says. After a fault it may say anything. `found` is room for the places of the fields.
 pub fn fill_mt103(
     alloc: Global,
     f: &[FieldLines<'_>],
     t: &RefTables,
+    found: &mut Found,
     m: &mut Mt103,
 ) -> Result<(), MtFault>
     requires few { length f.now ≤ most_text_lines }
@@ -51,8 +83,11 @@ pub fn fill_mt103(
     ensures complete { first_of (field_tests t.now f.now) ≡ None
         → (m : Mt103Seen) × (contents_of t.now f.now (places_from order_103 0 f.now) ≡ Ok m) }
 {
-    let found = check_structure(alloc, &ORDER, f)?;
-    fill_contents(alloc, t, f, found.as_slice(), m)?;
+    fill_places(&ORDER, f, found)?;
+    // where all contents are read no field is missing
+    if let Err(fault) = fill_contents(alloc, t, f, found, m) {
+        return Err(first_fault(&ORDER, found, fault));
+    }
     match instructions_fault(m.instrs.as_slice()) {
         Some(fault) => Err(MtFault::Bad(fault)),
         None => Ok(()),
@@ -78,7 +113,8 @@ pub fn read_mt103(alloc: Global, f: &[Field], t: &RefTables) -> Result<Mt103, Mt
 {
     let lent = lend_fields(alloc, f)?;
     let mut m = blank(alloc);
-    match fill_mt103(alloc, lent.as_slice(), t, &mut m) {
+    let mut found = Found::new(alloc);
+    match fill_mt103(alloc, lent.as_slice(), t, &mut found, &mut m) {
         Ok(()) => Ok(m),
         Err(fault) => {
             let_go(m);

@@ -2,13 +2,13 @@
 
 ghost use Rattle.std.specs.Prelude.{◌≡◌};
 ghost use Rattle.mt103.specs.Codes.{charge_of, is_word_of, operation_of, word_of};
-ghost use Rattle.fin_layout.specs.Reading.{Reads};
+ghost use Rattle.fin_layout.specs.Reading.{Reads, Refills};
 
 use crate::codes::{T08, T36};
 use corr_text::Code;
 use fin_contents::{array_of, one_line};
 use fin_fields::FieldLines;
-use fin_layout::{Content, Refusal};
+use fin_layout::{Content, Refill, Refusal};
 use std::alloc::Global;
 
 /// The operations that 23B may name.
@@ -36,7 +36,28 @@ fn is_word_of<const N: usize>(words: &[[u8; N]], word: &[u8; N]) -> bool
     false
 }
 
+// Puts the word of a field into a place. After a refusal the place may hold any.
 #[tactic(auto, unfolding(crate::specs::Codes::word_of))]
+fn fill_word<const N: usize>(
+    words: &[[u8; N]],
+    refusal: Code,
+    f: &FieldLines<'_>,
+    place: &mut [u8; N],
+) -> Result<(), Refusal>
+    ensures { Refills result place.new (word_of N words.now refusal f.now) }
+{
+    let Some(line) = one_line(f) else {
+        return Err(Refusal::Bad(refusal));
+    };
+    match array_of::<N>(line) {
+        Some(word) if is_word_of(words, &word) => {
+            *place = word;
+            Ok(())
+        }
+        _ => Err(Refusal::Bad(refusal)),
+    }
+}
+
 fn read_word<const N: usize>(
     words: &[[u8; N]],
     refusal: Code,
@@ -44,13 +65,9 @@ fn read_word<const N: usize>(
 ) -> Result<[u8; N], Refusal>
     ensures { Reads result (word_of N words.now refusal f.now) }
 {
-    let Some(line) = one_line(f) else {
-        return Err(Refusal::Bad(refusal));
-    };
-    match array_of::<N>(line) {
-        Some(word) if is_word_of(words, &word) => Ok(word),
-        _ => Err(Refusal::Bad(refusal)),
-    }
+    let mut word = [0; N];
+    fill_word(words, refusal, f, &mut word)?;
+    Ok(word)
 }
 
 impl Content for Operation {
@@ -63,6 +80,17 @@ impl Content for Operation {
     }
 }
 
+impl Refill for Operation {
+    fn refill(
+        &self,
+        _alloc: Global,
+        f: &FieldLines<'_>,
+        value: &mut [u8; 4],
+    ) -> Result<(), Refusal> {
+        fill_word(&OPERATIONS, T36, f, value)
+    }
+}
+
 impl Content for Charge {
     type Value = [u8; 3];
 
@@ -70,5 +98,16 @@ impl Content for Charge {
 
     fn read(&self, _alloc: Global, f: &FieldLines<'_>) -> Result<[u8; 3], Refusal> {
         read_word(&CHARGES, T08, f)
+    }
+}
+
+impl Refill for Charge {
+    fn refill(
+        &self,
+        _alloc: Global,
+        f: &FieldLines<'_>,
+        value: &mut [u8; 3],
+    ) -> Result<(), Refusal> {
+        fill_word(&CHARGES, T08, f, value)
     }
 }

@@ -10,6 +10,7 @@ use crate::charges::{d50, e13, e15_given, e15_taken};
 use crate::institutions::{c81, e06, e09, e16, e17};
 use crate::instructions::{e01, e02, e18, e44, e45};
 use crate::levels::{e03, e04, e05, e07, e10};
+use crate::operation::has_level;
 use corr_ids::Bic;
 use corr_text::Fault;
 use mt103::Mt103;
@@ -30,6 +31,9 @@ fn level_fault(m: &Mt103) -> Option<Fault>
     requires few { length m.now.instrs ≤ most_text_lines }
     ensures { result ≡ first_of (level_rules m.now) }
 {
+    if !has_level(m) {
+        return None;
+    }
     if let Some(fault) = e01(m) {
         return Some(fault);
     }
@@ -99,6 +103,9 @@ fn charge_fault(m: &Mt103) -> Option<Fault>
 fn contact_fault(m: &Mt103) -> Option<Fault>
     ensures { result ≡ first_of (contact_rules m.now) }
 {
+    if m.instrs.as_slice().is_empty() {
+        return None;
+    }
     if let Some(fault) = e44(m) {
         return Some(fault);
     }

@@ -1,6 +1,6 @@
 //! The rules on instructions: 23E beside 23B, 56a, 57a and 59a.
 
-ghost use Rattle.std.specs.Prelude.{◌≡◌, ◌≤◌, ◌<◌, ◌||◌, IfSome, codes, length};
+ghost use Rattle.std.specs.Prelude.{◌≡◌, ◌≤◌, ◌<◌, ◌||◌, IfSome, length};
 ghost use Rattle.fin_fields.specs.Fields.{most_text_lines};
 ghost use Rattle.mt103_rules.specs.Instructions.{first_barred, has_instr, is_priority_instruction};
 ghost use Rattle.mt103_rules.specs.Rules.{e01, e02, e18, e44, e45};

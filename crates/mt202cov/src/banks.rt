@@ -11,7 +11,7 @@ use crate::places::{
 };
 use fin_contents::KnownParty;
 use fin_fields::FieldLines;
-use fin_layout::{MtFault, read_one, read_optional};
+use fin_layout::{Found, MtFault, read_one, read_optional};
 use fin_parties::Party;
 use ref_tables::RefTables;
 use std::alloc::Global;
@@ -33,7 +33,7 @@ pub fn read_banks(
     alloc: Global,
     tables: &RefTables,
     fields: &[FieldLines<'_>],
-    found: &[usize],
+    found: &Found,
 ) -> Result<Banks, MtFault>
     requires { length fields.now ≤ most_text_lines }
     ensures { Gives result (banks_of tables.now fields.now found.now) }

@@ -9,7 +9,7 @@ use crate::order::ORDER;
 use crate::places::{B_ACCOUNT_BANK, B_INTERMEDIARY, B_ORDERING, PAYEE, PAYER};
 use fin_contents::KnownParty;
 use fin_fields::FieldLines;
-use fin_layout::{MtFault, read_one, read_optional};
+use fin_layout::{Found, MtFault, read_one, read_optional};
 use fin_parties::Party;
 use ref_tables::RefTables;
 use std::alloc::Global;
@@ -30,7 +30,7 @@ pub fn read_customers(
     alloc: Global,
     tables: &RefTables,
     fields: &[FieldLines<'_>],
-    found: &[usize],
+    found: &Found,
 ) -> Result<Customers, MtFault>
     requires { length fields.now ≤ most_text_lines }
     ensures { Gives result (customers_of tables.now fields.now found.now) }

@@ -10,7 +10,7 @@ use corr_money::Amount;
 use corr_text::{List, Text};
 use fin_contents::{CcyAmount, Texts, or_none};
 use fin_fields::FieldLines;
-use fin_layout::{MtFault, read_optional};
+use fin_layout::{Found, MtFault, read_optional};
 use ref_tables::RefTables;
 use std::alloc::Global;
 
@@ -28,7 +28,7 @@ pub fn read_details(
     alloc: Global,
     tables: &RefTables,
     fields: &[FieldLines<'_>],
-    found: &[usize],
+    found: &Found,
 ) -> Result<Details, MtFault>
     requires { length fields.now ≤ most_text_lines }
     ensures { Gives result (details_of tables.now fields.now found.now) }

@@ -9,7 +9,7 @@ use crate::message::Mt202Cov;
 use crate::sequences::{SequenceA, SequenceB, read_sequence_a, read_sequence_b};
 use corr_text::let_go;
 use fin_fields::FieldLines;
-use fin_layout::MtFault;
+use fin_layout::{Found, MtFault};
 use ref_tables::RefTables;
 use std::alloc::Global;
 
@@ -46,7 +46,7 @@ pub fn read_contents(
     alloc: Global,
     tables: &RefTables,
     fields: &[FieldLines<'_>],
-    found: &[usize],
+    found: &Found,
 ) -> Result<Mt202Cov, MtFault>
     requires few { length fields.now ≤ most_text_lines }
     requires each { length found.now ≤ length fields.now }

@@ -13,7 +13,7 @@ use crate::terms::{Terms, read_terms};
 use corr_text::{List, Text, let_go};
 use fin_contents::{Texts, or_none};
 use fin_fields::FieldLines;
-use fin_layout::{MtFault, read_optional};
+use fin_layout::{Found, MtFault, read_optional};
 use ref_tables::RefTables;
 use std::alloc::Global;
 
@@ -38,7 +38,7 @@ pub fn read_sequence_a(
     alloc: Global,
     tables: &RefTables,
     fields: &[FieldLines<'_>],
-    found: &[usize],
+    found: &Found,
 ) -> Result<SequenceA, MtFault>
     requires few { length fields.now ≤ most_text_lines }
     requires each { length found.now ≤ length fields.now }
@@ -72,7 +72,7 @@ pub fn read_sequence_b(
     alloc: Global,
     tables: &RefTables,
     fields: &[FieldLines<'_>],
-    found: &[usize],
+    found: &Found,
 ) -> Result<SequenceB, MtFault>
     requires { length fields.now ≤ most_text_lines }
     ensures { Gives result (sequence_b_of tables.now fields.now found.now) }

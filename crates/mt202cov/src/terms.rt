@@ -10,7 +10,7 @@ use crate::places::{REFERENCE, RELATED, TIMES, VALUE};
 use corr_text::{List, Text};
 use fin_contents::{Reference, Time, Value, ValueDate};
 use fin_fields::FieldLines;
-use fin_layout::{MtFault, read_all, read_one};
+use fin_layout::{Found, MtFault, read_all, read_one};
 use ref_tables::RefTables;
 use std::alloc::Global;
 
@@ -29,7 +29,7 @@ pub fn read_terms(
     alloc: Global,
     tables: &RefTables,
     fields: &[FieldLines<'_>],
-    found: &[usize],
+    found: &Found,
 ) -> Result<Terms, MtFault>
     requires few { length fields.now ≤ most_text_lines }
     requires each { length found.now ≤ length fields.now }

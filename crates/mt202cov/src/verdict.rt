@@ -57,7 +57,7 @@ pub fn read_mt202cov_lines(
         → (m : Mt202CovSeen) × (contents_of t.now f.now (places_from order_202 0 f.now) ≡ Ok m) }
 {
     let found = check_structure(alloc, &ORDER, f)?;
-    let m = read_contents(alloc, t, f, found.as_slice())?;
+    let m = read_contents(alloc, t, f, &found)?;
     match first_rule(&m) {
         Some(fault) => {
             let_go(m);

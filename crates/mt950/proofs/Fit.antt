@@ -19,7 +19,7 @@ use Rattle.fin_fields.specs.declared.field.Field.{Field}
 use Rattle.fin_fields.specs.Faults.{has_other_byte}
 use Rattle.fin_fields.specs.Fields.{fields_of}
 use Rattle.fin_fields.specs.Patterns.{is_run}
-use Rattle.fin_fields.specs.Writing.{Continues, ContinueAll, IsField, fields_text}
+use Rattle.fin_fields.specs.Writing.{Continues, ContinueAll, IsField, fields_text, letter_text}
 use Rattle.fin_layout.specs.Order.{places_from}
 use Rattle.fin_layout.specs.Segments.{joined}
 use Rattle.fin_contents.specs.Writing.{IsHeading, IsReadable, ccy_amount_text}
@@ -32,7 +32,7 @@ use Rattle.mt950.specs.Entry.{line_of}
 use Rattle.mt950.specs.Order.{order_950}
 use Rattle.mt950.specs.Page.{mt950_of, page_of}
 use Rattle.mt950.specs.Parts.{is_entry_type}
-use Rattle.mt950.specs.Writing.{IsBalance, IsContinued, IsWritableLine, IsPage, balance_amount, balance_field, balance_mark, balance_text, detail_lines, fields_950, funds_text, balance_letter, line_field_61, line_text, mark_text, number_field, page_text, part_text, segments_950, servicer_text}
+use Rattle.mt950.specs.Writing.{IsBalance, IsContinued, IsWritableLine, IsPage, balance_amount, balance_field, balance_mark, balance_text, detail_lines, fields_950, balance_letter, line_field_61, line_text, mark_text, number_field, page_text, part_text, segments_950, servicer_text}
 use Rattle.mt950.specs.declared.balance.Balance.{Balance}
 use Rattle.mt950.specs.declared.entry.Line61.{Line61}
 use Rattle.mt950.specs.declared.entry.Mark.{Mark}
@@ -83,7 +83,7 @@ entry-of-x : (entry : Option (List ℕ)) → IfSome entry (λ entry. (length ent
 entry-of-x None e = refl
 entry-of-x (Some entry) e = digits-of-x entry e.1
 
-funds-of-x : (funds : Option ℕ) → IfSome funds (λ letter. is_ascii_uppercase letter ≡ true) → list_all (is_in X) (funds_text funds) ≡ true
+funds-of-x : (funds : Option ℕ) → IfSome funds (λ letter. is_ascii_uppercase letter ≡ true) → list_all (is_in X) (letter_text funds) ≡ true
 funds-of-x None e = refl
 funds-of-x (Some letter) e = letters-of-x (letter ∷ []) (rw e refl)
 
@@ -134,14 +134,14 @@ line-of-x decimals line is =
     let references : List ℕ = line.reference ++ servicer_text line.servicer in
     let behind_amount : List ℕ = line.kind ++ references in
     let behind_funds : List ℕ = amount ++ behind_amount in
-    let behind_mark : List ℕ = funds_text line.funds ++ behind_funds in
+    let behind_mark : List ℕ = letter_text line.funds ++ behind_funds in
     let behind_entry : List ℕ = mark_text line.mark ++ behind_mark in
     let behind_date : List ℕ = part_text line.entry ++ behind_entry in
     subst (λ (text : List ℕ). list_all (is_in X) text ≡ true) (sym (line-nested decimals line))
     (x-append (yymmdd_of line.value) behind_date (digits-of-x (yymmdd_of line.value) (date-digits line.value is.value))
     (x-append (part_text line.entry) behind_entry (entry-of-x line.entry is.entry)
     (x-append (mark_text line.mark) behind_mark (line-mark-of-x line.mark)
-    (x-append (funds_text line.funds) behind_funds (funds-of-x line.funds is.funds)
+    (x-append (letter_text line.funds) behind_funds (funds-of-x line.funds is.funds)
     (x-append amount behind_amount (amount-text decimals line.amount.0 is.few is.small).of_x
     (x-append line.kind references (kind-of-x line.kind is.kind)
     (x-append line.reference (servicer_text line.servicer) (run-of-x 16 line.reference is.reference) (servicer-of-x line.servicer is.servicer))))))))

@@ -8,7 +8,7 @@ use Rattle.std.specs.Ordering.{int_eq}
 use Rattle.std.proofs.lemmas.List.{drop_all, drop_more}
 use Rattle.std.proofs.lemmas.List.Elements.{All-append, All-head, All-tail}
 use Rattle.corr_text.specs.Answers.{Refuses}
-use Rattle.corr_text.specs.First.{first_of, unless, ◌>>=◌}
+use Rattle.corr_text.specs.First.{first_of, unless, unless_fault, ◌>>=◌}
 use Rattle.corr_money.specs.Amounts.{amount_end}
 use Rattle.fin_contents.specs.Writing.{IsReadable}
 use Rattle.fin_contents.proofs.laws.Back.{each-weaker}
@@ -18,7 +18,7 @@ use Rattle.mt950.specs.Entry.{effect_of, signed_amount}
 use Rattle.mt950.specs.declared.entry.Mark.{Mark}
 use Rattle.mt950.specs.declared.entry.Mark.TheVariants.{C, D, RC, RD}
 use Rattle.mt950.specs.declared.joining.Statement.{Statement}
-use Rattle.mt950.specs.Joining.{IsSmallLine, IsAddable, Joins, carried_tests, effects_of, first_gap, first_uncarried, follows, gap_tests, held, joined_with, last_of, lines_of_pages, sum_test, told, unless_page_fault}
+use Rattle.mt950.specs.Joining.{IsSmallLine, IsAddable, Joins, carried_tests, effects_of, first_gap, first_uncarried, follows, gap_tests, held, joined_with, last_of, lines_of_pages, sum_test, told}
 use Rattle.mt950.specs.Page.{mt950_of}
 use Rattle.mt950.specs.Writing.{IsWritableLine}
 use Rattle.mt950.specs.declared.entry.Line61.{Line61}
@@ -121,7 +121,7 @@ module _ (first : Page950) (pages : List Page950) where
   -- what is told behind the gaps
   abbrev behind_gaps : Result Statement PageFault
   behind_gaps =
-      unless_page_fault (first_uncarried first pages) >>= λ _.
+      unless_fault (first_uncarried first pages) >>= λ _.
       sum_test first.opening.signed (lines_of_pages pages) (last_of first pages).closing.signed >>= λ _.
       Ok (statement_of (lines_of_pages pages) (last_of first pages))
 
@@ -131,10 +131,10 @@ module _ (first : Page950) (pages : List Page950) where
       Ok (statement_of (lines_of_pages pages) (last_of first pages))
 
   abbrev gaps : Result (Unit {0}) PageFault
-  gaps = unless_page_fault (option_map Gap (first_gap first (length pages) 0 pages))
+  gaps = unless_fault (option_map Gap (first_gap first (length pages) 0 pages))
 
   abbrev balances : Result (Unit {0}) PageFault
-  balances = unless_page_fault (first_uncarried first pages)
+  balances = unless_fault (first_uncarried first pages)
 
   pub gap-told : (fault : PageFault) → gaps ≡ Err fault → Refuses told (joined_with first pages) fault
   gap-told fault e = told-refuses (joined_with first pages) fault (stops-at gaps behind_gaps fault e)

@@ -10,13 +10,14 @@ use Rattle.corr_ids.proofs.laws.DaySpelling.{day-again, day-named}
 use Rattle.corr_money.specs.Amounts.{amount_text}
 use Rattle.corr_money.proofs.laws.Written.{reads_written}
 use Rattle.fin_fields.specs.Patterns.{is_run}
+use Rattle.fin_fields.specs.Writing.{letter_text}
 use Rattle.fin_fields.specs.declared.field.Field.{Field}
 use Rattle.fin_contents.specs.Money.{coded, minor_in}
 use Rattle.fin_contents.proofs.laws.Again.{coded-ok, small-amount}
 use Rattle.fin_contents.proofs.laws.Steps.{read-then, there}
 use Rattle.mt950.specs.Entry.{line_of}
 use Rattle.mt950.specs.Parts.{LineParts, detail_in, line_parts}
-use Rattle.mt950.specs.Writing.{IsWritableLine, detail_lines, funds_text, line_field_61, line_text, mark_text, part_text, servicer_text}
+use Rattle.mt950.specs.Writing.{IsWritableLine, detail_lines, line_field_61, line_text, mark_text, part_text, servicer_text}
 use Rattle.mt950.specs.declared.entry.Line61.{Line61}
 use Rattle.mt950.proofs.Amount.{amount-text}
 use Rattle.mt950.proofs.BalanceFields.{date-digits}
@@ -44,9 +45,9 @@ pub line-nested : (decimals : ℕ) (line : Line61)
     ≡ yymmdd_of line.value
     ++ (part_text line.entry
     ++ (mark_text line.mark
-    ++ (funds_text line.funds ++ (amount_text decimals line.amount.0 ++ (line.kind ++ (line.reference ++ servicer_text line.servicer))))))
+    ++ (letter_text line.funds ++ (amount_text decimals line.amount.0 ++ (line.kind ++ (line.reference ++ servicer_text line.servicer))))))
 line-nested decimals line =
-    nested (yymmdd_of line.value) (part_text line.entry) (mark_text line.mark) (funds_text line.funds)
+    nested (yymmdd_of line.value) (part_text line.entry) (mark_text line.mark) (letter_text line.funds)
     (amount_text decimals line.amount.0) line.kind line.reference (servicer_text line.servicer)
   where
     nested : (a b c d e f g h : List ℕ) → a ++ b ++ c ++ d ++ e ++ f ++ g ++ h ≡ a ++ (b ++ (c ++ (d ++ (e ++ (f ++ (g ++ h))))))
@@ -62,7 +63,7 @@ parts-again decimals line is =
     let kind = kind-ends line.kind is.four is.kind in
     let references : List ℕ = line.reference ++ servicer_text line.servicer in
     let behind_funds : List ℕ = text ++ (line.kind ++ references) in
-    let behind_mark : List ℕ = funds_text line.funds ++ behind_funds in
+    let behind_mark : List ℕ = letter_text line.funds ++ behind_funds in
     let behind_entry : List ℕ = mark_text line.mark ++ behind_mark in
     let ends = amount-again text (kind.1 ++ references) kind.0 amount.goes (nonempty text amount.rest amount.first amount.same) kind.3 in
     let begins = funds-again line.funds amount.first (amount.rest ++ (line.kind ++ references)) is.funds amount.digit in

@@ -9,8 +9,9 @@ use Rattle.std.proofs.lemmas.List.{append-nil, drop_at, length-append, length-ta
 use Rattle.corr_text.specs.Sets.{is_in}
 use Rattle.corr_text.specs.declared.set.Set.TheVariants.{X, N, C as capital_or_digit}
 use Rattle.fin_fields.specs.Patterns.{is_run}
+use Rattle.fin_fields.specs.Writing.{letter_text}
 use Rattle.mt950.specs.Parts.{LineParts, amount_part, are_references, date_in, double_slash_in, entry_date_part, funds_in, is_entry_type, kind_in, mark_in, line_parts, references_in, split_references}
-use Rattle.mt950.specs.Writing.{IsEnded, funds_text, mark_text, part_text, servicer_text}
+use Rattle.mt950.specs.Writing.{IsEnded, mark_text, part_text, servicer_text}
 use Rattle.mt950.specs.declared.entry.Mark.{Mark}
 use Rattle.mt950.specs.declared.entry.Mark.TheVariants.{C, D, RC, RD}
 use Rattle.mt950.proofs.Amount.{ends_amount}
@@ -62,7 +63,7 @@ digit-first b rest digit =
     rw other refl
 
 pub funds-again : (funds : Option ℕ) (b : ℕ) (rest : List ℕ) → IfSome funds (λ letter. is_ascii_uppercase letter ≡ true) → is_ascii_digit b ≡ true
-    → funds_in (funds_text funds ++ b ∷ rest) ≡ (funds, b ∷ rest)
+    → funds_in (letter_text funds ++ b ∷ rest) ≡ (funds, b ∷ rest)
 funds-again None b rest up digit = digit-first b rest digit
 funds-again (Some letter) b rest up digit = rw up refl
 

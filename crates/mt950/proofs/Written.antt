@@ -26,9 +26,9 @@ use Rattle.fin_contents.proofs.laws.Placed.{all-segment, each-of, first-of-tag, 
 use Rattle.mt950.specs.Balances.{is_last, stated_of}
 use Rattle.mt950.specs.Entry.{line_of}
 use Rattle.mt950.specs.Order.{order_950}
-use Rattle.mt950.specs.Page.{page_of}
+use Rattle.mt950.specs.Page.{mt950_of, page_of}
 use Rattle.mt950.specs.Rules.{same_two_letters, c27, currency_rules, is_same, of_available, other_available, other_closing}
-use Rattle.mt950.specs.Writing.{IsBalance, IsWritableLine, IsPage, PagesReadBack, balance_field, balance_text, fields_950, balance_letter, line_field_61, number_field, segments_950}
+use Rattle.mt950.specs.Writing.{IsBalance, IsWritableLine, IsPage, balance_field, balance_text, fields_950, balance_letter, line_field_61, number_field, segments_950}
 use Rattle.mt950.specs.declared.balance.Balance.{Balance}
 use Rattle.mt950.specs.declared.balance.Stated.{Stated}
 use Rattle.mt950.specs.declared.entry.Line61.{Line61}
@@ -216,7 +216,7 @@ page-back : (p : Page950) → page_of (said_page p) ≡ p
 page-back p = ap (λ (o : Option Balance). record p { available = o }) (balance-back p p.available)
 
 -- a page that can be written is read of the fields that it is written as
-pub pages-read-back : PagesReadBack
+pub pages-read-back : (t : Tables) (p : Page950) → IsPage t p → mt950_of t (fields_950 p) ≡ Ok p
 unfolding fields_950
 pages-read-back t p is =
     let segs : List (List Field) = segments_950 p in

@@ -4,7 +4,7 @@ use Rattle.std.specs.Ordering.{int_eq}
 use Rattle.std.specs.List.{flat_map}
 use Rattle.std.specs.Str.{bytes_eq}
 use Rattle.corr_text.specs.Answers as answers
-use Rattle.corr_text.specs.First.{check, first_of, unless, ◌>>=◌}
+use Rattle.corr_text.specs.First.{check, first_of, unless, unless_fault, ◌>>=◌}
 use Rattle.corr_ids.specs.Day.{InCentury}
 use Rattle.corr_money.specs.Amounts.{amount_end, most_decimals}
 use Rattle.mt950.specs.Entry.{effect_of}
@@ -98,18 +98,13 @@ pub record IsAddable (s : Statement) : Type 0 where
   pub day : InCentury s.day
   pub adds : s.opening +ℤ effects_of s.lines ≡ s.closing
 
--- no fault, or this one
-abbrev pub unless_page_fault : Option PageFault → Result (Unit {0}) PageFault
-unless_page_fault None = Ok tt
-unless_page_fault (Some fault) = Err fault
-
 -- pages with a first one: the gaps, the balances that are carried, and the sum of opening and lines
 abbrev pub joined_with : Page950 → List Page950 → Result Statement PageFault
 joined_with first pages = do
   let last = last_of first pages
   let lines = lines_of_pages pages
-  _ ← unless_page_fault (option_map Gap (first_gap first (length pages) 0 pages))
-  _ ← unless_page_fault (first_uncarried first pages)
+  _ ← unless_fault (option_map Gap (first_gap first (length pages) 0 pages))
+  _ ← unless_fault (first_uncarried first pages)
   _ ← sum_test first.opening.signed lines last.closing.signed
   Ok (record { account = first.account; ccy = first.ccy; decimals = first.decimals; opening = first.opening.signed; lines = lines; closing = last.closing.signed; day = last.closing.day })
 

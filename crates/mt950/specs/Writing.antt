@@ -1,5 +1,5 @@
 -- A page of a statement written as fields.
-use Rattle.std.specs.Prelude.{◌≡◌, ℕ, ℤ, ◌<◌, ◌≤◌, Bool, true, false, List, [], ◌∷◌, ◌++◌, length, map, All, IsTrue, Option, Some, None, IfSome, Ok, unsigned_abs, codes, if◌then◌else◌}
+use Rattle.std.specs.Prelude.{◌≡◌, ℕ, ℤ, ◌<◌, ◌≤◌, Bool, true, false, List, [], ◌∷◌, ◌++◌, length, map, All, IsTrue, Option, Some, None, IfSome, unsigned_abs, codes, if◌then◌else◌}
 use Rattle.std.specs.Char.{is_ascii_uppercase}
 use Rattle.std.specs.Fmt.{decimal}
 use Rattle.std.specs.Int.{is_negative}
@@ -13,11 +13,10 @@ use Rattle.corr_money.specs.declared.amount.Amount.{Amount}
 use Rattle.corr_money.specs.declared.amount.Ccy.{Ccy}
 use Rattle.ref_tables.specs.Seen.{Tables, decimals_in}
 use Rattle.fin_fields.specs.Patterns.{is_run}
-use Rattle.fin_fields.specs.Writing.{Continues}
+use Rattle.fin_fields.specs.Writing.{Continues, letter_text}
 use Rattle.fin_fields.specs.declared.field.Field.{Field}
 use Rattle.fin_layout.specs.Segments.{joined}
 use Rattle.fin_contents.specs.Writing.{ccy_amount_text, line_field, lines_field, some_field}
-use Rattle.mt950.specs.Page.{mt950_of}
 use Rattle.mt950.specs.Parts.{double_slash_in, is_entry_type}
 use Rattle.mt950.specs.declared.balance.Balance.{Balance}
 use Rattle.mt950.specs.declared.entry.Line61.{Line61}
@@ -29,11 +28,6 @@ use Rattle.mt950.specs.declared.page.Page950.{Page950}
 abbrev pub part_text : Option (List ℕ) → List ℕ
 part_text None = []
 part_text (Some part) = part
-
--- a letter that may be there
-abbrev pub funds_text : Option ℕ → List ℕ
-funds_text None = []
-funds_text (Some letter) = letter ∷ []
 
 -- the servicer's reference behind two slashes
 abbrev pub servicer_text : Option (List ℕ) → List ℕ
@@ -79,7 +73,7 @@ balance_field tag letter ccy decimals b = line_field tag letter (balance_text cc
 -- the first line of a 61
 abbrev pub line_text : ℕ → Line61 → List ℕ
 line_text decimals line =
-    yymmdd_of line.value ++ part_text line.entry ++ mark_text line.mark ++ funds_text line.funds ++ amount_text decimals line.amount.0
+    yymmdd_of line.value ++ part_text line.entry ++ mark_text line.mark ++ letter_text line.funds ++ amount_text decimals line.amount.0
     ++ line.kind ++ line.reference ++ servicer_text line.servicer
 
 -- the further line of a 61, where there is one
@@ -153,7 +147,3 @@ pub record IsPage (t : Tables) (p : Page950) : Type 0 where
   pub lines : All (IsWritableLine p.decimals) p.lines
   pub closing : IsBalance p.decimals p.closing
   pub available : IfSome p.available (λ b. IsBalance p.decimals b × (b.last ≡ false))
-
--- such a page is read of the fields that it is written as
-abbrev pub PagesReadBack : Type 0
-PagesReadBack = (t : Tables) (p : Page950) → IsPage t p → mt950_of t (fields_950 p) ≡ Ok p

@@ -2,8 +2,9 @@
 
 ghost use Rattle.std.specs.Prelude.{◌≡◌, ◌≤◌, ◌++◌, ◌+ℤ◌, All, IfOk, OnOk, length, option_map};
 ghost use Rattle.std.specs.Ordering.{int_eq};
+ghost use Rattle.corr_text.specs.First.{unless_fault};
 ghost use Rattle.fin_contents.specs.Writing.{IsReadable};
-ghost use Rattle.mt950.specs.Joining.{IsSmallLine, IsAddable, IsSum, Joins, effects_of, first_gap, first_uncarried, follows, held, is_same_statement, joined_of, joined_with, lines_of_pages, most_pages, sum_test, unless_page_fault};
+ghost use Rattle.mt950.specs.Joining.{IsSmallLine, IsAddable, IsSum, Joins, effects_of, first_gap, first_uncarried, follows, held, is_same_statement, joined_of, joined_with, lines_of_pages, most_pages, sum_test};
 ghost use Rattle.mt950.specs.Page.{mt950_of};
 ghost use Rattle.mt950.specs.declared.joining.PageFault.TheVariants.{Gap};
 
@@ -105,7 +106,7 @@ fn opens_at(closing: i64, page: &Page950) -> bool
 /// Each page belongs at its place.
 fn check_gaps(first: &Page950, pages: &[Page950]) -> Result<(), PageFault>
     requires { length pages.now ≤ most_pages }
-    ensures { result ≡ unless_page_fault (option_map Gap (first_gap first.now (length pages.now) 0 pages.now)) }
+    ensures { result ≡ unless_fault (option_map Gap (first_gap first.now (length pages.now) 0 pages.now)) }
 {
     match first_gap(first, pages) {
         Some(page) => Err(PageFault::Gap { page }),
@@ -116,7 +117,7 @@ fn check_gaps(first: &Page950, pages: &[Page950]) -> Result<(), PageFault>
 /// Each page opens where the one before closed, the first as it does itself.
 fn check_carried(first: &Page950, pages: &[Page950]) -> Result<(), PageFault>
     requires { length pages.now ≤ most_pages }
-    ensures { result ≡ unless_page_fault (first_uncarried first.now pages.now) }
+    ensures { result ≡ unless_fault (first_uncarried first.now pages.now) }
 {
     let mut closing = first.opening.signed;
     for (at, page) in pages.iter().enumerate() {

@@ -54,7 +54,7 @@ pub fn read_mt950_lines(
         → (said : SaidSeen) × (said_of t.now f.now (places_from order_950 0 f.now) ≡ Ok said) }
 {
     let found = check_structure(alloc, &ORDER, f)?;
-    let said = read_said(alloc, t, f, found.as_slice())?;
+    let said = read_said(alloc, t, f, &found)?;
     match currency_fault(&said) {
         Some(fault) => Err(MtFault::Bad(fault)),
         None => Ok(page_of(said)),

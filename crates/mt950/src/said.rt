@@ -18,7 +18,7 @@ use crate::places::{ACCOUNT, AVAILABLE, CLOSING, LINES, NUMBER, OPENING, REFEREN
 use corr_text::{List, Text};
 use fin_contents::{Reference, ShortLine};
 use fin_fields::FieldLines;
-use fin_layout::{MtFault, read_all, read_one, read_optional};
+use fin_layout::{Found, MtFault, read_all, read_one, read_optional};
 use ref_tables::RefTables;
 use std::alloc::Global;
 
@@ -40,7 +40,7 @@ fn read_lines(
     tables: &RefTables,
     opening: &Stated,
     fields: &[FieldLines<'_>],
-    found: &[usize],
+    found: &Found,
 ) -> Result<List<Line61>, MtFault>
     requires few { length fields.now ≤ most_text_lines }
     requires each { length found.now ≤ length fields.now }
@@ -59,7 +59,7 @@ pub fn read_said(
     alloc: Global,
     tables: &RefTables,
     fields: &[FieldLines<'_>],
-    found: &[usize],
+    found: &Found,
 ) -> Result<Said, MtFault>
     requires few { length fields.now ≤ most_text_lines }
     requires each { length found.now ≤ length fields.now }

@@ -4,10 +4,10 @@ ghost use Rattle.std.specs.Prelude.{◌≡◌, ◌++◌, All, List as Items, IfO
 ghost use Rattle.fin_contents.specs.Writing.{IsReadable, some_field};
 ghost use Rattle.fin_fields.specs.Faults.{field_fault};
 ghost use Rattle.fin_fields.specs.Fields.{fields_of};
-ghost use Rattle.fin_fields.specs.Writing.{fields_text};
+ghost use Rattle.fin_fields.specs.Writing.{fields_text, letter_text};
 ghost use Rattle.fin_fields.specs.declared.field.Field.{Field as FieldSeen};
 ghost use Rattle.mt950.specs.Page.{mt950_of};
-ghost use Rattle.mt950.specs.Writing.{IsBalance, IsWritableLine, balance_field, balance_mark, detail_lines, fields_950, funds_text, balance_letter, line_field_61, line_text, number_field, page_text, part_text, servicer_text};
+ghost use Rattle.mt950.specs.Writing.{IsBalance, IsWritableLine, balance_field, balance_mark, detail_lines, fields_950, balance_letter, line_field_61, line_text, number_field, page_text, part_text, servicer_text};
 ghost use Rattle.ref_tables.specs.Seen.{Tables};
 
 use crate::balance::Balance;
@@ -90,7 +90,7 @@ fn put_entry(entry: Option<[u8; 4]>, out: &mut Text) -> Result<(), Memory>
 }
 
 fn put_funds(funds: Option<u8>, out: &mut Text) -> Result<(), Memory>
-    ensures { OnOk result (out.new ≡ out.old ++ funds_text funds) }
+    ensures { OnOk result (out.new ≡ out.old ++ letter_text funds) }
 {
     match funds {
         Some(letter) => out.push(&[letter]),

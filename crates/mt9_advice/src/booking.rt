@@ -10,7 +10,7 @@ use crate::stamp::Stamp;
 use corr_text::Text;
 use fin_contents::{Reference, ShortLine, Value, ValueDate};
 use fin_fields::FieldLines;
-use fin_layout::{MtFault, Place, read_one, read_optional};
+use fin_layout::{Found, MtFault, Place, read_one, read_optional};
 use ref_tables::RefTables;
 use std::alloc::Global;
 
@@ -31,7 +31,7 @@ pub fn read_booking(
     order: &[Place],
     tables: &RefTables,
     fields: &[FieldLines<'_>],
-    found: &[usize],
+    found: &Found,
 ) -> Result<Booking, MtFault>
     requires few { length fields.now ≤ most_text_lines }
     requires long { 5 ≤ length order.now }

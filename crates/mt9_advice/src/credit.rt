@@ -22,7 +22,7 @@ use corr_money::Amount;
 use corr_text::{Code, Fault, List, Text};
 use fin_contents::{KnownParty, Texts, or_none};
 use fin_fields::{Field, FieldLines, lend_fields};
-use fin_layout::{MtFault, check_structure, read_optional};
+use fin_layout::{Found, MtFault, check_structure, read_optional};
 use fin_parties::Party;
 use ref_tables::RefTables;
 use std::alloc::Global;
@@ -83,7 +83,7 @@ fn read_credit(
     alloc: Global,
     tables: &RefTables,
     fields: &[FieldLines<'_>],
-    found: &[usize],
+    found: &Found,
 ) -> Result<Booking, MtFault>
     requires few { length fields.now ≤ most_text_lines }
     ensures { Gives result (booking_of order_910 tables.now fields.now found.now) }
@@ -96,7 +96,7 @@ fn read_contents(
     alloc: Global,
     tables: &RefTables,
     fields: &[FieldLines<'_>],
-    found: &[usize],
+    found: &Found,
 ) -> Result<Mt910, MtFault>
     requires few { length fields.now ≤ most_text_lines }
     ensures { Gives result (parts_910 tables.now fields.now found.now) }
@@ -157,7 +157,7 @@ pub fn read_mt910_lines(
         → (m : Mt910Seen) × (contents_910 t.now f.now (places_from order_910 0 f.now) ≡ Ok m) }
 {
     let found = check_structure(alloc, &ORDER_910, f)?;
-    let m = read_contents(alloc, t, f, found.as_slice())?;
+    let m = read_contents(alloc, t, f, &found)?;
     match c06(&m) {
         Some(fault) => Err(MtFault::Bad(fault)),
         None => Ok(m),

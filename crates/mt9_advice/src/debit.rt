@@ -22,7 +22,7 @@ use corr_money::Amount;
 use corr_text::{List, Text};
 use fin_contents::{KnownParty, Texts, or_none};
 use fin_fields::{Field, FieldLines, lend_fields};
-use fin_layout::{MtFault, check_structure, read_optional};
+use fin_layout::{Found, MtFault, check_structure, read_optional};
 use fin_parties::Party;
 use ref_tables::RefTables;
 use std::alloc::Global;
@@ -68,7 +68,7 @@ fn read_contents(
     alloc: Global,
     tables: &RefTables,
     fields: &[FieldLines<'_>],
-    found: &[usize],
+    found: &Found,
 ) -> Result<Mt900, MtFault>
     requires few { length fields.now ≤ most_text_lines }
     ensures { Gives result (parts_900 tables.now fields.now found.now) }
@@ -113,5 +113,5 @@ pub fn read_mt900_lines(
         → (m : Mt900Seen) × (contents_900 t.now f.now (places_from order_900 0 f.now) ≡ Ok m) }
 {
     let found = check_structure(alloc, &ORDER_900, f)?;
-    read_contents(alloc, t, f, found.as_slice())
+    read_contents(alloc, t, f, &found)
 }

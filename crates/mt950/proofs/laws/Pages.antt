@@ -8,7 +8,7 @@ use Rattle.fin_fields.specs.declared.field.Field.{Field}
 use Rattle.fin_fields.specs.Writing.{IsField}
 use Rattle.fin_contents.specs.Writing.{IsReadable}
 use Rattle.mt950.specs.Page.{mt950_of, tests_950}
-use Rattle.mt950.specs.Writing.{IsContinued, IsPage, PagesReadBack, fields_950}
+use Rattle.mt950.specs.Writing.{IsContinued, IsPage, fields_950}
 use Rattle.mt950.specs.declared.page.Page950.{Page950}
 use Rattle.mt950.proofs.Fit.{fit-950, page-fits}
 use Rattle.mt950.proofs.Read.{page-is, passes-950, readable-is}
@@ -35,5 +35,5 @@ pub fields-fit-950 : (p : Page950) → IsReadable mt950_of p → All IsField (fi
 fields-fit-950 p readable = fit-950 p readable
 
 -- a page that can be written is read of the fields that it is written as
-pub page-reads-back : PagesReadBack
+pub page-reads-back : (t : Tables) (p : Page950) → IsPage t p → mt950_of t (fields_950 p) ≡ Ok p
 page-reads-back t p is = pages-read-back t p is

@@ -14,6 +14,6 @@ returns c =
     let b = c.args.blocks.now in
     let result = c.fill_transfer.result in
     let m = c.fill_transfer.new.transfer in
-    let of_fields = subst (λ (fs : List Field). Fills result m (ruled_of t c.envelope.result fs)) c.requires.same c.fill_transfer.ensures.value in
-    let ruled = subst (λ (envelope : Envelope). Fills result m (ruled_of t envelope (fields_of b.text))) c.envelope.ensures of_fields in
-    subst (λ (envelope : Envelope). Fills result (Transfer envelope b.text m) (transfer_in t b)) (sym c.envelope.ensures) (carries t b result m ruled)
+    let of_fields = subst (λ (fs : List Field). Fills result m (ruled_of t c.fill_envelope.new.envelope fs)) c.requires.same c.fill_transfer.ensures.value in
+    let ruled = subst (λ (envelope : Envelope). Fills result m (ruled_of t envelope (fields_of b.text))) c.fill_envelope.ensures of_fields in
+    subst (λ (envelope : Envelope). Fills result (Transfer envelope b.text m) (transfer_in t b)) (sym c.fill_envelope.ensures) (carries t b result m ruled)

@@ -18,21 +18,21 @@ returns-in_err-found-clause-complete c = complete c.args.t.now c.args.f.now
 pub returns-in_err-m-clause-message : goal.returns-in_err-m-clause-message
 returns-in_err-m-clause-message c =
     let p = err_from_is_err_and c.from_residual-in_err-m.result c.from_residual-in_err-m.ensures.1 in
-    rw (p.1, p.2) (contents-fail c.args.t.now c.args.f.now c.as_slice.result.now (c.as_slice.ensures.value ∙ c.in_ok-found.ensures.places) c.in_ok-found.ensures.sound c.in_err-m.field-0.0 c.in_err-m.ensures)
+    rw (p.1, p.2) (contents-fail c.args.t.now c.args.f.now c.in_ok-found.found c.in_ok-found.ensures.places c.in_ok-found.ensures.sound c.in_err-m.field-0.0 c.in_err-m.ensures)
 
 pub returns-in_err-m-clause-complete : goal.returns-in_err-m-clause-complete
 returns-in_err-m-clause-complete c = complete c.args.t.now c.args.f.now
 
 pub returns-in-Some-clause-message : goal.returns-in-Some-clause-message
 returns-in-Some-clause-message c =
-    refused c.args.t.now c.args.f.now c.as_slice.result.now (c.as_slice.ensures.value ∙ c.in_ok-found.ensures.places) c.in_ok-found.ensures.sound c.in_ok-m.m c.in_ok-m.ensures c.in-Some.fault (sym c.first_rule.ensures ∙ c.in-Some.is)
+    refused c.args.t.now c.args.f.now c.in_ok-found.found c.in_ok-found.ensures.places c.in_ok-found.ensures.sound c.in_ok-m.m c.in_ok-m.ensures c.in-Some.fault (sym c.first_rule.ensures ∙ c.in-Some.is)
 
 pub returns-in-Some-clause-complete : goal.returns-in-Some-clause-complete
 returns-in-Some-clause-complete c = complete c.args.t.now c.args.f.now
 
 pub returns-clause-message : goal.returns-clause-message
 returns-clause-message c =
-    accepted c.args.t.now c.args.f.now c.as_slice.result.now (c.as_slice.ensures.value ∙ c.in_ok-found.ensures.places) c.in_ok-found.ensures.sound c.in_ok-m.m c.in_ok-m.ensures (sym c.first_rule.ensures ∙ c.in-None.is)
+    accepted c.args.t.now c.args.f.now c.in_ok-found.found c.in_ok-found.ensures.places c.in_ok-found.ensures.sound c.in_ok-m.m c.in_ok-m.ensures (sym c.first_rule.ensures ∙ c.in-None.is)
 
 pub returns-clause-amount : goal.returns-clause-amount
 returns-clause-amount c = given-payable c.args.t.now c.args.f.now (Ok c.in_ok-m.m) (returns-clause-message c)

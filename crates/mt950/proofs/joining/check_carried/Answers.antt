@@ -2,7 +2,7 @@ use Rattle.std.proofs.Common.{ap, rules, sym, ◌∙◌}
 use Rattle.std.proofs.lemmas.Int.{to_z-of_z}
 use mir.Syntax.{w64}
 use mir.Val.{SFits, to_z}
-use Rattle.mt950.specs.Joining.{unless_page_fault}
+use Rattle.corr_text.specs.First.{unless_fault}
 use Rattle.mt950.proofs.Joins.{carried-end, carried-here, carried-more}
 use Rattle.mt950.proofs.joining.check_carried.Goals as goal
 
@@ -11,7 +11,7 @@ returns-then-not-opens_at c =
     let opening : SFits w64 c.index-pages-at.result.opening.signed = search rules in
     let told =
     sym
-    (ap unless_page_fault
+    (ap unless_fault
     (c.loop-at.invariant
     ∙ carried-here (to_z w64 c.loop-at.closing-bits) c.args.pages.now c.loop-at.at c.index-pages-at.result c.index-pages-at.is c.loop-at-test.true
     (sym c.opens_at.ensures ∙ c.if-not-opens_at.true))) in
@@ -28,4 +28,4 @@ loop-at-preserved c =
 
 pub returns : goal.returns
 returns c =
-    sym (ap unless_page_fault (c.loop-at.invariant ∙ carried-end (to_z w64 c.loop-at.closing-bits) c.args.pages.now c.loop-at.at c.loop-at-test.false))
+    sym (ap unless_fault (c.loop-at.invariant ∙ carried-end (to_z w64 c.loop-at.closing-bits) c.args.pages.now c.loop-at.at c.loop-at-test.false))

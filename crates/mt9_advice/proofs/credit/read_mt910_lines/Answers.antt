@@ -17,21 +17,21 @@ pub returns-in_err-m-clause-message : goal.returns-in_err-m-clause-message
 returns-in_err-m-clause-message c =
     let p = err_from_is_err_and c.from_residual-in_err-m.result c.from_residual-in_err-m.ensures.1 in
     let fails =
-    contents-910 c.args.t.now c.args.f.now c.as_slice.result.now c.in_ok-found.ensures.sound
-    (c.as_slice.ensures.value ∙ c.in_ok-found.ensures.places) c.in_err-m.field-0.0 c.in_err-m.ensures in
+    contents-910 c.args.t.now c.args.f.now c.in_ok-found.found c.in_ok-found.ensures.sound
+    c.in_ok-found.ensures.places c.in_err-m.field-0.0 c.in_err-m.ensures in
     rw (p.1, p.2) fails
 
 pub returns-in-Some-clause-message : goal.returns-in-Some-clause-message
 returns-in-Some-clause-message c =
-    rule-fails c.args.t.now c.args.f.now c.as_slice.result.now c.in_ok-found.ensures.sound
-    (c.as_slice.ensures.value ∙ c.in_ok-found.ensures.places) c.in_ok-m.m c.in-Some.fault
-    (sym (contents-are-910 c.args.t.now c.args.f.now c.as_slice.result.now) ∙ c.in_ok-m.ensures) (sym c.c06.ensures ∙ c.in-Some.is)
+    rule-fails c.args.t.now c.args.f.now c.in_ok-found.found c.in_ok-found.ensures.sound
+    c.in_ok-found.ensures.places c.in_ok-m.m c.in-Some.fault
+    (sym (contents-are-910 c.args.t.now c.args.f.now c.in_ok-found.found) ∙ c.in_ok-m.ensures) (sym c.c06.ensures ∙ c.in-Some.is)
 
 pub returns-clause-message : goal.returns-clause-message
 returns-clause-message c =
-    rule-holds c.args.t.now c.args.f.now c.as_slice.result.now c.in_ok-found.ensures.sound
-    (c.as_slice.ensures.value ∙ c.in_ok-found.ensures.places) c.in_ok-m.m
-    (sym (contents-are-910 c.args.t.now c.args.f.now c.as_slice.result.now) ∙ c.in_ok-m.ensures) (sym c.c06.ensures ∙ c.in-None.is)
+    rule-holds c.args.t.now c.args.f.now c.in_ok-found.found c.in_ok-found.ensures.sound
+    c.in_ok-found.ensures.places c.in_ok-m.m
+    (sym (contents-are-910 c.args.t.now c.args.f.now c.in_ok-found.found) ∙ c.in_ok-m.ensures) (sym c.c06.ensures ∙ c.in-None.is)
 
 pub returns-clause-amount : goal.returns-clause-amount
 returns-clause-amount c = given-payable-910 c.args.t.now c.args.f.now (Ok c.in_ok-m.m) (returns-clause-message c)

@@ -14,8 +14,8 @@ returns-in_err-found-clause-message c =
 
 pub returns-clause-message : goal.returns-clause-message
 returns-clause-message c =
-    gives-900 c.args.t.now c.args.f.now c.as_slice.result.now c.read_contents.result c.in_ok-found.ensures.sound
-    (c.as_slice.ensures.value ∙ c.in_ok-found.ensures.places) c.read_contents.ensures
+    gives-900 c.args.t.now c.args.f.now c.in_ok-found.found c.read_contents.result c.in_ok-found.ensures.sound
+    c.in_ok-found.ensures.places c.read_contents.ensures
 
 pub returns-clause-amount : goal.returns-clause-amount
 returns-clause-amount c = given-payable-900 c.args.t.now c.args.f.now _ (returns-clause-message c)
