@@ -1,31 +1,15 @@
 //! The amount that a received message orders.
 
-ghost use Rattle.std.specs.Prelude.{◌≡◌, ◌<◌, ◌≤◌, IfSome, IsTrue, drop, length, take};
+ghost use Rattle.std.specs.Prelude.{◌≡◌, ◌<◌, ◌≤◌, IfSome, drop, length, take};
 ghost use Rattle.corr_money.specs.Amounts.{amount_end, amount_of, most_decimals};
-ghost use Rattle.fin_contents.specs.Money.{is_ccy_amount, is_dated_amount};
 ghost use Rattle.advices.specs.Received.{amount_if, amount_in, minor_if, ordered_of};
 ghost use Rattle.advices.specs.Spelled.{IsWritableAmount};
 
 use crate::copying::first_named;
 use crate::received::Received;
 use corr_money::{Amount, Ccy, Minor, read_15d};
-use corr_text::{Set, is_all_of};
-use fin_contents::one_line;
+use fin_contents::{is_dated_amount, one_line};
 use fin_fields::FieldLines;
-
-fn is_ccy_amount(line: &[u8]) -> bool
-    ensures value { result ≡ is_ccy_amount line.now }
-    ensures long { IsTrue result → 4 ≤ length line.now }
-{
-    4 <= line.len() && is_all_of(Set::A, &line[..3]) && is_all_of(Set::X, &line[3..])
-}
-
-fn is_dated_amount(line: &[u8]) -> bool
-    ensures value { result ≡ is_dated_amount line.now }
-    ensures long { IsTrue result → 10 ≤ length line.now }
-{
-    10 <= line.len() && is_all_of(Set::N, &line[..6]) && is_ccy_amount(&line[6..])
-}
 
 fn ccy_at(line: &[u8]) -> Ccy
     requires { 9 ≤ length line.now }

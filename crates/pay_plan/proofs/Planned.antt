@@ -1,20 +1,24 @@
 -- A plan step by step.
-use Rattle.std.proofs.Common.{◌≡◌, ℕ, true, false, List, Result, Ok, Err, refl, sym, ap, ◌∙◌, subst}
-use Rattle.std.specs.Prelude.{IsErrAnd}
+use Rattle.std.proofs.Common.{◌≡◌, ℕ, true, false, IfOk, List, Result, Ok, Err, refl, sym, ap, ◌∙◌, subst}
+use Rattle.std.specs.Prelude.{IfErr, IsErrAnd, OnOk}
 use Rattle.corr_text.specs.Codes.{code}
 use Rattle.corr_text.specs.declared.fault.Code.{Code}
 use Rattle.corr_ids.specs.declared.bic.Bic.{Bic}
+use Rattle.corr_ids.specs.declared.day.Day.{Day}
 use Rattle.corr_ids.specs.declared.envelope.Envelope.{Envelope}
+use Rattle.corr_money.specs.declared.amount.Amount.{Amount}
 use Rattle.day_model.specs.Chart.{Chart}
 use Rattle.day_model.specs.declared.pay.Pay.{Pay}
 use Rattle.ssi_versions.specs.declared.row.SsiRow.{SsiRow}
 use Rattle.routing.specs.Route.{route_of}
+use Rattle.routing.specs.declared.cover.Cover.{Cover}
 use Rattle.routing.specs.declared.routed.Routed.{Routed}
+use Rattle.routing.specs.declared.target.Target.{Target}
 use Rattle.pay_plan.specs.declared.ask.Ask.{Ask}
-use Rattle.pay_plan.specs.Asked.{Asked}
+use Rattle.pay_plan.specs.declared.ask.Ask.TheVariants as asks
 use Rattle.pay_plan.specs.declared.fault.PlanFault.{PlanFault}
 use Rattle.pay_plan.specs.declared.fault.PlanFault.TheVariants as fault
-use Rattle.pay_plan.specs.Asked.{asked_of, is_for_home}
+use Rattle.pay_plan.specs.Asked.{amount_in, asked_of, cover_in, is_for_home, target_in, value_in}
 use Rattle.pay_plan.specs.Plan.{Plans, Refuses, pay_of, plan_of}
 
 -- a cover for the home bank has no plan
@@ -25,26 +29,45 @@ home-refused env text ask rows chart home home_is named =
     let at : is_for_home chart.home ask ≡ true = ap (λ (h : Bic). is_for_home h ask) (sym home_is) ∙ named in
     rw at refl
 
+-- the route of what a message asks
+abbrev pub route_asked : Envelope → Ask → List SsiRow → Chart → Result Routed Code
+route_asked env ask rows chart =
+    let asked = asked_of chart.home ask in
+    route_of env.sender asked.amount asked.value asked.cover asked.target rows chart
+
+-- it is asked for part by part
+pub route-of-parts : (env : Envelope) (ask : Ask) (rows : List SsiRow) (chart : Chart) (amount : Amount) (value : Day) (cover : Cover) (target : Target) →
+    amount ≡ amount_in ask → value ≡ value_in ask → cover ≡ cover_in ask → target ≡ target_in chart.home ask →
+    route_asked env ask rows chart ≡ route_of env.sender amount value cover target rows chart
+route-of-parts env (asks.Transfer m) rows chart amount value cover target a v c t = rw (a, v, c, t) refl
+route-of-parts env (asks.Cover m) rows chart amount value cover target a v c t = rw (a, v, c, t) refl
+
+pub amount-asked : (home : Bic) (ask : Ask) → amount_in ask ≡ (asked_of home ask).amount
+amount-asked home (asks.Transfer m) = refl
+amount-asked home (asks.Cover m) = refl
+
 -- the code of a route that is refused
-pub route-refused : (env : Envelope) (text : List ℕ) (ask : Ask) (rows : List SsiRow) (chart : Chart) (asked : Asked) (code : Code) →
-    is_for_home chart.home ask ≡ false → asked ≡ asked_of chart.home ask →
-    route_of env.sender asked.amount asked.value asked.cover asked.target rows chart ≡ Err code → plan_of env text ask rows chart ≡ Err code
+pub route-refused : (env : Envelope) (text : List ℕ) (ask : Ask) (rows : List SsiRow) (chart : Chart) (code : Code) →
+    is_for_home chart.home ask ≡ false → route_asked env ask rows chart ≡ Err code → plan_of env text ask rows chart ≡ Err code
 unfolding plan_of
-route-refused env text ask rows chart asked code apart is fails =
-    let P : Asked → Type 0 = λ q. route_of env.sender q.amount q.value q.cover q.target rows chart ≡ Err code in
-    let at : route_of env.sender (asked_of chart.home ask).amount (asked_of chart.home ask).value (asked_of chart.home ask).cover (asked_of chart.home ask).target rows chart ≡ Err code = subst P is fails in
-    rw (apart, at) refl
+route-refused env text ask rows chart code apart fails = rw (apart, fails) refl
 
 -- the pay of a route
-pub routed-planned : (env : Envelope) (text : List ℕ) (ask : Ask) (rows : List SsiRow) (chart : Chart) (asked : Asked) (routed : Routed) →
-    is_for_home chart.home ask ≡ false → asked ≡ asked_of chart.home ask →
-    route_of env.sender asked.amount asked.value asked.cover asked.target rows chart ≡ Ok routed →
-    plan_of env text ask rows chart ≡ Ok (pay_of env text asked routed chart)
+pub routed-planned : (env : Envelope) (text : List ℕ) (ask : Ask) (rows : List SsiRow) (chart : Chart) (routed : Routed) →
+    is_for_home chart.home ask ≡ false → route_asked env ask rows chart ≡ Ok routed →
+    plan_of env text ask rows chart ≡ Ok (pay_of env text (asked_of chart.home ask) routed chart)
 unfolding plan_of
-routed-planned env text ask rows chart asked routed apart is found =
-    let P : Asked → Type 0 = λ q. route_of env.sender q.amount q.value q.cover q.target rows chart ≡ Ok routed in
-    let at : route_of env.sender (asked_of chart.home ask).amount (asked_of chart.home ask).value (asked_of chart.home ask).cover (asked_of chart.home ask).target rows chart ≡ Ok routed = subst P is found in
-    rw (apart, at) (ap (λ (q : Asked). Ok (pay_of env text q routed chart)) (sym is))
+routed-planned env text ask rows chart routed apart found = rw (apart, found) refl
+
+-- a pay that is the plan's, or want of memory
+pub planned : (r : Result Pay PlanFault) (pay : Pay) (plan : Result Pay Code) → IfOk r (λ x. x ≡ pay) → IfErr r (λ e. e ≡ fault.Memory) → plan ≡ Ok pay → Plans r plan
+planned (Ok x) pay plan is out at = at ∙ ap (λ (p : Pay). Ok p) (sym is)
+planned (Err e) pay plan is out at = let P : PlanFault → Type 0 = λ f. Refuses f plan in subst P (sym out) tt
+
+-- what a pay has, where it is made
+pub on-pay : (r : Result Pay PlanFault) (pay : Pay) (P : Pay → Type 0) {S O : Type 0} → IfOk r (λ x. x ≡ pay) → OnOk r S → OnOk r O → (S → O → P pay) → IfOk r P
+on-pay (Ok x) pay P is sound owner h = subst P (sym is) (h sound owner)
+on-pay (Err e) pay P is sound owner h = tt
 
 -- a fault of a code tells a plan that is refused with it
 pub refused-by : (r : Result Pay PlanFault) (code : Code) (plan : Result Pay Code) → IsErrAnd r (λ e. e ≡ fault.Code code) → plan ≡ Err code → Plans r plan

@@ -27,23 +27,47 @@ abbrev pub is_for_home : Bic → Ask → Bool
 is_for_home home (Transfer m) = false
 is_for_home home (Cover m) = names_home home m.now.a58
 
--- what a message asks
-abbrev pub asked_of : Bic → Ask → Asked
-asked_of home (Transfer m) = record {
+-- its amount
+abbrev pub amount_in : Ask → Amount
+amount_in (Transfer m) = m.now.amount
+amount_in (Cover m) = m.now.amount
+
+-- its value date
+abbrev pub value_in : Ask → Day
+value_in (Transfer m) = m.now.value
+value_in (Cover m) = m.now.value
+
+-- how it is covered
+abbrev pub cover_in : Ask → HowCovered
+cover_in (Transfer m) = cover_of m.now.p53 m.now.p54
+cover_in (Cover m) = cover_of m.now.a53 m.now.a54
+
+-- for whom it is
+abbrev pub target_in : Bic → Ask → Target
+target_in home (Transfer m) = transfer_target home m.now
+target_in home (Cover m) = cover_target home m.now
+
+-- what a message asks, with its cover and target
+abbrev pub asked_with : Ask → HowCovered → Target → Asked
+asked_with (Transfer m) cover target = record {
   mt = mt.Transfer;
   value = m.now.value;
   amount = m.now.amount;
   reference = m.now.reference;
   last_reference = m.now.reference;
-  cover = cover_of m.now.p53 m.now.p54;
-  target = transfer_target home m.now;
+  cover = cover;
+  target = target;
 }
-asked_of home (Cover m) = record {
+asked_with (Cover m) cover target = record {
   mt = mt.Cover;
   value = m.now.value;
   amount = m.now.amount;
   reference = m.now.reference;
   last_reference = m.now.related;
-  cover = cover_of m.now.a53 m.now.a54;
-  target = cover_target home m.now;
+  cover = cover;
+  target = target;
 }
+
+-- what a message asks
+abbrev pub asked_of : Bic → Ask → Asked
+asked_of home ask = asked_with ask (cover_in ask) (target_in home ask)

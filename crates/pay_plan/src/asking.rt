@@ -1,15 +1,17 @@
 //! What a message asks of the books.
 
 ghost use Rattle.std.specs.Prelude.{◌≡◌, IfOk};
-ghost use Rattle.pay_plan.specs.Asked.{asked_of, is_for_home};
+ghost use Rattle.pay_plan.specs.Asked.{amount_in, asked_with, cover_in, is_for_home, target_in, value_in};
 
 use crate::ask::Ask;
 use crate::asked::Asked;
 use crate::cover::cover_of;
 use crate::target::{cover_target, names_home, transfer_target};
-use corr_ids::Bic;
+use corr_ids::{Bic, Day};
+use corr_money::Amount;
 use corr_text::Memory;
 use day_model::Mt;
+use routing::{Cover, Target};
 use std::alloc::Global;
 
 /// Whether a message is a cover that names the home bank in 58a.
@@ -22,29 +24,69 @@ pub fn is_for_home(home: &Bic, ask: Ask<'_>) -> bool
     }
 }
 
-/// What a message asks of the books of the home bank.
-#[inline(never)]
-pub fn asked_of<'a>(alloc: Global, home: &Bic, ask: Ask<'a>) -> Result<Asked<'a>, Memory>
-    ensures { IfOk result (λ asked. asked ≡ asked_of home.now ask.entry) }
+/// The amount of a message.
+pub fn amount_in<'a>(ask: Ask<'a>) -> &'a Amount
+    ensures { result.now ≡ amount_in ask.entry }
 {
     match ask {
-        Ask::Transfer(m) => Ok(Asked {
+        Ask::Transfer(m) => &m.amount,
+        Ask::Cover(m) => &m.amount,
+    }
+}
+
+/// The value date of a message.
+pub fn value_in(ask: Ask<'_>) -> Day
+    ensures { result ≡ value_in ask.entry }
+{
+    match ask {
+        Ask::Transfer(m) => m.value,
+        Ask::Cover(m) => m.value,
+    }
+}
+
+/// How a message says that it is covered.
+pub fn cover_in(alloc: Global, ask: Ask<'_>) -> Result<Cover, Memory>
+    ensures { IfOk result (λ cover. cover ≡ cover_in ask.entry) }
+{
+    let (p53, p54) = match ask {
+        Ask::Transfer(m) => (&m.p53, &m.p54),
+        Ask::Cover(m) => (&m.a53, &m.a54),
+    };
+    cover_of(alloc, p53, p54)
+}
+
+/// For whom a message says that it is.
+pub fn target_in(alloc: Global, home: &Bic, ask: Ask<'_>) -> Result<Target, Memory>
+    ensures { IfOk result (λ target. target ≡ target_in home.now ask.entry) }
+{
+    match ask {
+        Ask::Transfer(m) => transfer_target(alloc, home, m),
+        Ask::Cover(m) => Ok(cover_target(home, m)),
+    }
+}
+
+/// What a message asks of the books, with this cover and target.
+pub fn asked_with<'a>(ask: Ask<'a>, cover: Cover, target: Target) -> Asked<'a>
+    ensures { result ≡ asked_with ask.entry cover target }
+{
+    match ask {
+        Ask::Transfer(m) => Asked {
             mt: Mt::Transfer,
             value: m.value,
             amount: m.amount,
             reference: &m.reference,
             last_reference: &m.reference,
-            cover: cover_of(alloc, &m.p53, &m.p54)?,
-            target: transfer_target(alloc, home, m)?,
-        }),
-        Ask::Cover(m) => Ok(Asked {
+            cover,
+            target,
+        },
+        Ask::Cover(m) => Asked {
             mt: Mt::Cover,
             value: m.value,
             amount: m.amount,
             reference: &m.reference,
             last_reference: &m.related,
-            cover: cover_of(alloc, &m.a53, &m.a54)?,
-            target: cover_target(home, m),
-        }),
+            cover,
+            target,
+        },
     }
 }

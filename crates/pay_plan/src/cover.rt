@@ -37,6 +37,7 @@ fn cover_by_53(alloc: Global, p53: &Option<Party>) -> Result<Cover, Memory>
 }
 
 /// The cover that fields 53a and 54a name. With 54a, 53a isn't looked at.
+#[inline(always)]
 pub fn cover_of(alloc: Global, p53: &Option<Party>, p54: &Option<Party>) -> Result<Cover, Memory>
     ensures { IfOk result (λ cover. cover ≡ cover_of p53.now p54.now) }
 {

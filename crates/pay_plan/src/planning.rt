@@ -1,6 +1,6 @@
 //! The pay of a message.
 
-ghost use Rattle.std.specs.Prelude.{◌≡◌, IfOk, IsSome, OnOk, Some};
+ghost use Rattle.std.specs.Prelude.{◌≡◌, IfErr, IfOk, IsSome, OnOk, Some};
 ghost use Rattle.corr_ids.specs.Bic.{IsBic};
 ghost use Rattle.day_model.specs.Chart.{IsChart, IsListed, account_at};
 ghost use Rattle.day_model.specs.Fit.{FitsAccounts};
@@ -8,16 +8,17 @@ ghost use Rattle.day_model.specs.Shape.{HasShape};
 ghost use Rattle.day_model.specs.declared.account.Account.{Account};
 ghost use Rattle.pay_plan.specs.Plan.{Plans, pay_of, plan_of};
 ghost use Rattle.pay_plan.specs.Readable.{IsSomeReading, IsWritable};
+ghost use Rattle.pay_plan.specs.declared.fault.PlanFault.TheVariants.{Memory as NoMemory};
 
 use crate::ask::Ask;
 use crate::asked::Asked;
-use crate::asking::{asked_of, is_for_home};
+use crate::asking::{amount_in, asked_with, cover_in, is_for_home, target_in, value_in};
 use crate::fault::{P34, PlanFault};
 use crate::legs::legs_of;
 use crate::orders::orders_of;
 use crate::way::way_of;
 use corr_ids::{Envelope, Mir};
-use corr_text::{Memory, Text};
+use corr_text::Text;
 use day_model::{Accounts, Pay};
 use routing::{Routed, route};
 use ssi_versions::Ssi;
@@ -32,12 +33,13 @@ fn pay_of(
     asked: &Asked<'_>,
     routed: &Routed,
     a: &Accounts,
-) -> Result<Pay, Memory>
+) -> Result<Pay, PlanFault>
     requires reference { env.now.mir ≡ Some mir }
     requires debit { IsListed a.now routed.now.debit.0 }
     ensures value { IfOk result (λ pay. pay ≡ pay_of env.now text.now asked.now routed.now a.now) }
     ensures sound { OnOk result (IsChart a.now) }
     ensures owner { OnOk result ((x : Account) → account_at a.now routed.now.debit.0 ≡ Some x → IsBic x.owner) }
+    ensures memory { IfErr result (λ fault. fault ≡ NoMemory) }
 {
     let way = way_of(asked.mt, &asked.target, routed.method);
     Ok(Pay {
@@ -78,15 +80,17 @@ pub fn plan(
     if is_for_home(accounts.home(), ask) {
         return Err(PlanFault::Code(P34));
     }
-    let asked = asked_of(alloc, accounts.home(), ask)?;
+    let cover = cover_in(alloc, ask)?;
+    let target = target_in(alloc, accounts.home(), ask)?;
     let routed = route(
         &env.sender,
-        &asked.amount,
-        asked.value,
-        &asked.cover,
-        &asked.target,
+        amount_in(ask),
+        value_in(ask),
+        &cover,
+        &target,
         ssi,
         accounts,
     )?;
-    Ok(pay_of(alloc, mir, env, text, &asked, &routed, accounts)?)
+    let asked = asked_with(ask, cover, target);
+    pay_of(alloc, mir, env, text, &asked, &routed, accounts)
 }

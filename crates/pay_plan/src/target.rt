@@ -81,7 +81,7 @@ fn customer_target(alloc: Global, payee: &Party) -> Result<Target, Memory>
 }
 
 /// For whom a transfer is: the first of 56a and 57a that doesn't name the home bank, else the customer of 59a.
-#[inline(never)]
+#[inline(always)]
 pub fn transfer_target(alloc: Global, home: &Bic, m: &Mt103) -> Result<Target, Memory>
     ensures { IfOk result (λ target. target ≡ transfer_target home.now m.now) }
 {

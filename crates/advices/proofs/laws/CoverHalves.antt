@@ -1,4 +1,5 @@
--- A cover that passes its tests, in two halves: the fields before 50a stand at the places before its place, and those from it on at the others.
+-- A cover that passes its tests, in two halves: the fields before 50a stand at the places before its place, and those from it on
+-- at the others.
 use Rattle.std.proofs.Common.{◌≡◌, ◌≢◌, ℕ, ◌+◌, ◌<◌, ◌≤◌, ◌==◌, Bool, true, List, [], ◌∷◌, ◌++◌, length, get_or, drop, position, option_map, slice_get, Option, Some, None, refl, sym, ap, ◌∙◌, arith, subst, inl, inr}
 use Rattle.std.specs.Prelude.{codes, find}
 use Rattle.std.specs.List.{AllByRecursion, list_any}
