@@ -27,7 +27,9 @@ pub record IsOwned (o : Opening) (passes : List PassKnows) (i : ℕ) (a : Act) :
   pub tagged : a.by ≡ pass.number
   pub place : Among (length o.base + i + 1) pass.mine
 
--- The history at the end is that at the opening followed by one list. Each pass knows a beginning of it that has all entries of its own; each entry is a pass's, and stands among its places; the history is legal, and each pass's mark is at most the disk's count of faults.
+-- The history at the end is that at the opening followed by one list. Each pass knows a beginning of it that has all entries of
+-- its own; each entry is a pass's, and stands among its places; the history is legal, and each pass's mark is at most the disk's
+-- count of faults.
 pub record Closes (o : Opening) (history : List Entry) (faults : ℕ) (passes : List PassKnows) : Type 0 where
   pub log : List Act
   pub is : history ≡ history_of o.base log
@@ -42,7 +44,8 @@ pub record StandsAlone {D : Type 0} (disk : disks.Ghosts D) (o : Opening) (histo
   pub durable : IsTrue (disk.honest d) → Only (disk.reads d) (disk.may_leave d)
   pub sure : disk.faults d ≡ o.at_open
 
--- The disk stands for the closed history alone; or, where its count of faults rose since the opening, every image stands for it or for it and one legal entry of the books' day. Of a disk that doesn't tell its bytes nothing is said but the count.
+-- The disk stands for the closed history alone; or, where its count of faults rose since the opening, every image stands for it
+-- or for it and one legal entry of the books' day. Of a disk that doesn't tell its bytes nothing is said but the count.
 abbrev pub LeavesClosed : {D : Type 0} → disks.Ghosts D → Opening → List Entry → D → Type 0
 LeavesClosed disk o history d =
     StandsAlone disk o history d

@@ -9,7 +9,8 @@ use Rattle.jrn_book.specs.Book.{Book}
 use Rattle.jrn_book.specs.Journal.{file_of}
 use Rattle.jrn_file.specs.File.{disk_of, end_of}
 
--- What books use of a commit: the answer and what it tells, the history, what stays, on which day a commit failed, that the history is legal, where the closed gate stood, and that the disk's count of faults didn't fall.
+-- What books use of a commit: the answer and what it tells, the history, what stays, on which day a commit failed, that the
+-- history is legal, where the closed gate stood, and that the disk's count of faults didn't fall.
 pub record Enters {D : Type 0} (disk : disks.Ghosts D) (day : Day) (old new : Book D) (pay : Pay) (answer : Answer) : Type 0 where
   pub shows : AnswerShows old.accounts old.history pay day (end_of old.file) old.failed old.at_open (disk.faults (disk_of old.file)) (disk.faults (disk_of new.file)) answer
   pub history : new.history ≡ history_after old.accounts old.history pay day answer

@@ -10,7 +10,8 @@ use Rattle.jrn_book.specs.Book.{Book}
 use Rattle.jrn_file.specs.declared.file.JFile.{JFile}
 use Rattle.jrn_file.specs.File.{disk_of}
 
--- The accounts, the history at the opening, the day that entries get, the disk's count of faults at the opening and whether it tells its bytes, how many passes there are, and the table of the word. None of them changes while the books are open.
+-- The accounts, the history at the opening, the day that entries get, the disk's count of faults at the opening and whether it
+-- tells its bytes, how many passes there are, and the table of the word. None of them changes while the books are open.
 pub record Opening : Type 0 where
   pub accounts : Chart
   pub base : List Entry
@@ -32,7 +33,8 @@ no_opening = record {
   word = no_table;
 }
 
--- The parts of an opening that have no name yet: its accounts and history, the day, the disk's count of faults then, the open file, and the tables of the word and of the purses.
+-- The parts of an opening that have no name yet: its accounts and history, the day, the disk's count of faults then, the open
+-- file, and the tables of the word and of the purses.
 pub record Parts (D : Type 0) : Type 0 where
   pub accounts : Chart
   pub base : List Entry

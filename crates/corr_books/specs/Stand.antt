@@ -33,7 +33,10 @@ abbrev pub AreCounts : Option Day → ℕ → ℕ → Type 0
 AreCounts None at_open now = now ≡ at_open
 AreCounts (Some day) at_open now = Rose at_open now
 
--- Wherever the lock is free: the parts are those that the name names; nothing is owed to a pass, and none was taken back; the history is that at the opening and the published entries, each tagged with a pass of the books; no entry has a later day than the books, and a commit failed on that day, if one did; the disk's count is that at the opening but for that failure, and no less than the writer's mark.
+-- Wherever the lock is free: the parts are those that the name names; nothing is owed to a pass, and none was taken back; the
+-- history is that at the opening and the published entries, each tagged with a pass of the books; no entry has a later day than
+-- the books, and a commit failed on that day, if one did; the disk's count is that at the opening but for that failure, and no
+-- less than the writer's mark.
 pub record IsStand {D : Type 0} (disk : disks.Ghosts D) (o : Opening) (purses : TableId) (s : StandKnows D) : Type 0 where
   pub accounts : s.book.accounts ≡ o.accounts
   pub purses_are : s.book.table ≡ purses

@@ -44,7 +44,8 @@ pub record ShowsRoom (o : Opening) (pay : Pay) (history : List Entry) : Type 0 w
   pub end_is : end + 1 ≡ length (file_of o.accounts history)
   pub room : HasRoomFor history end (need_of o.accounts history pay o.day)
 
--- The place is past all that the pass knew. There stands the pay with the day of the books and the outcome that the entries before it give, tagged with this pass; no other such entry was added. There was room for it behind the entries before it.
+-- The place is past all that the pass knew. There stands the pay with the day of the books and the outcome that the entries
+-- before it give, tagged with this pass; no other such entry was added. There was room for it behind the entries before it.
 pub record IsAdded (o : Opening) (pay : Pay) (old new : PassKnows) (place : ℕ) (outcome : Outcome) : Type 0 where
   pub at : ℕ
   pub place_is : place ≡ length o.base + at + 1
@@ -54,7 +55,8 @@ pub record IsAdded (o : Opening) (pay : Pay) (old new : PassKnows) (place : ℕ)
   pub room : ShowsRoom o pay (history_of o.base (take at new.known))
   pub alone : (i : ℕ) (a : Act) → slice_get new.known i ≡ Some a → length old.known ≤ i → a.by ≡ old.number → i ≡ at
 
--- The history that the pass knows lacks the reference and has no room for the pay: its number of entries, the place of the closed gate of its file, and the bytes that the pay's record needs behind it.
+-- The history that the pass knows lacks the reference and has no room for the pay: its number of entries, the place of the closed
+-- gate of its file, and the bytes that the pay's record needs behind it.
 pub record ShowsFull (o : Opening) (pay : Pay) (history : List Entry) (entries end need : ℕ) : Type 0 where
   pub missing : entered_at pay.mir history ≡ None
   pub entries_are : entries ≡ length history
@@ -62,7 +64,10 @@ pub record ShowsFull (o : Opening) (pay : Pay) (history : List Entry) (entries e
   pub need_is : need ≡ need_of o.accounts history pay o.day
   pub full : IsFull history end need
 
--- What each answer says, shown by what the pass knows then: New, the entry that was added; Kept, the same pay at the place, with the outcome; Conflict, another pay with its reference; Full, that there is no room; DiskFault, that the reference is missing, and it and Broken, that the disk's count of faults has risen since the opening, up to the pass's mark. Nothing tagged with the pass was added but by New.
+-- What each answer says, shown by what the pass knows then: New, the entry that was added; Kept, the same pay at the place, with
+-- the outcome; Conflict, another pay with its reference; Full, that there is no room; DiskFault, that the reference is missing,
+-- and it and Broken, that the disk's count of faults has risen since the opening, up to the pass's mark. Nothing tagged with the
+-- pass was added but by New.
 abbrev pub Says : Opening → Pay → PassKnows → PassKnows → Answer → Type 0
 Says o pay old new (Ok (New place outcome)) = IsAdded o pay old new place outcome
 Says o pay old new (Ok (Kept place outcome)) =
@@ -80,7 +85,8 @@ place_of (Ok (New place outcome)) = Some place
 place_of (Ok (Kept place outcome)) = Some place
 place_of (Err fault) = None
 
--- Of `book` with this pay: what the pass knows after the answer, what the answer says, which place became the pass's own; and after want of memory the pass is as before.
+-- Of `book` with this pay: what the pass knows after the answer, what the answer says, which place became the pass's own; and
+-- after want of memory the pass is as before.
 pub record Told (o : Opening) (pay : Pay) (old : PassKnows) (answer : Answer) (new : PassKnows) : Type 0 where
   pub grows : IsAnswered answer → Grows o old new
   pub says : Says o pay old new answer

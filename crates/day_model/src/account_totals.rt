@@ -1,11 +1,12 @@
 //! Each account's totals after a history.
 
-ghost use Rattle.std.specs.Prelude.{◌≡◌, ◌≤◌, [], ◌∷◌, length, All, IfOk};
-ghost use Rattle.day_model.specs.Chart.{most_accounts};
+ghost use Rattle.std.specs.Prelude.{◌≡◌, ◌≤◌, [], ◌∷◌, pos, ◌+ℤ◌, ◌-ℤ◌, length, All, IfOk};
+ghost use Rattle.day_model.specs.Chart.{IsSmall, most_accounts};
 ghost use Rattle.day_model.specs.Legal.{IsLegal};
 ghost use Rattle.day_model.specs.Totals.{Fits64, HasTotals, booked_legs, leg_pair, plus};
 ghost use Rattle.day_model.specs.Pairs.{PairsFit, pairs_with};
 
+use crate::account::Account;
 use crate::accounts::Accounts;
 use crate::entry::{Entry, Outcome};
 use crate::history::History;
@@ -33,7 +34,8 @@ fn add_leg(pairs: &mut Vec<(u64, u64)>, leg: &Leg)
     pairs[at] = with_leg(pairs[at], leg);
 }
 
-fn add_legs(pairs: &mut Vec<(u64, u64)>, legs: &[Leg])
+/// Adds legs to their accounts' credits and debits, in a list that begins with those of account 1.
+pub fn add_legs(pairs: &mut Vec<(u64, u64)>, legs: &[Leg])
     requires listed { All (λ leg. (1 ≤ leg.account.0) × (leg.account.0 ≤ length pairs.old.items)) legs.now }
     requires fits { PairsFit legs.now pairs.old.items }
     ensures { pairs.new.items ≡ pairs_with legs.now pairs.old.items }
@@ -43,13 +45,22 @@ fn add_legs(pairs: &mut Vec<(u64, u64)>, legs: &[Leg])
     }
 }
 
-fn legs_booked(entry: &Entry) -> &[Leg]
+/// The legs that an entry books: none where it is unfunded.
+pub fn legs_booked(entry: &Entry) -> &[Leg]
     ensures { result.now ≡ booked_legs entry.now }
 {
     match entry.outcome {
         Outcome::Booked => entry.pay.legs.as_slice(),
         Outcome::Unfunded { .. } => &[],
     }
+}
+
+/// An account's balance by its credits and debits, in minor units: each may pass what an `i64` holds, the balance may not.
+pub fn balance_with(account: &Account, totals: (u64, u64)) -> i64
+    requires { IsSmall ((account.now.opening +ℤ pos totals.0) -ℤ pos totals.1) }
+    ensures { result ≡ (account.now.opening +ℤ pos totals.0) -ℤ pos totals.1 }
+{
+    (account.opening as i128 + totals.0 as i128 - totals.1 as i128) as i64
 }
 
 /// Each account's credits and debits over the booked entries of a history, in minor units; account 1's come first.

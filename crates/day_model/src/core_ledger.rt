@@ -1,15 +1,14 @@
 //! What the workers of a core enter into.
 
-ghost use Rattle.std.specs.Prelude.{◌≡◌, ◌<◌, true, false, pos, ◌+ℤ◌, ◌-ℤ◌, length, IfOk, OnOk, OnErr, if◌then◌else◌};
-ghost use Rattle.day_model.specs.Chart.{IsSmall};
+ghost use Rattle.std.specs.Prelude.{◌≡◌, ◌<◌, true, false, length, IfOk, OnOk, OnErr, if◌then◌else◌};
 ghost use Rattle.day_model.specs.Fit.{FitsAccounts};
 ghost use Rattle.day_model.specs.Balance.{is_booked};
 ghost use Rattle.day_model.specs.Legal.{IsLegal};
 ghost use Rattle.day_model.specs.Log.{most_entries};
 ghost use Rattle.day_model.specs.CoreLedger.{AreAtBalance, CanAdd, CanAddAll, IsFirstLedger, IsSoundLedger, day_of_last, is_entered, ledger_after, mark_of, with_leg, with_legs};
 
-use crate::account::{Account, AcctNo};
-use crate::account_totals::totals;
+use crate::account::AcctNo;
+use crate::account_totals::{balance_with, totals};
 use crate::accounts::Accounts;
 use crate::core_job::Mark;
 use crate::entry::{Entry, Outcome};
@@ -67,14 +66,6 @@ fn settle(purses: &mut Vec<i64>, outcome: Outcome, legs: &[Leg])
     if books(outcome) {
         add_legs(purses, legs);
     }
-}
-
-// A credit and a debit total may each pass what an `i64` holds, their difference may not.
-fn balance_with(account: &Account, totals: (u64, u64)) -> i64
-    requires { IsSmall ((account.now.opening +ℤ pos totals.0) -ℤ pos totals.1) }
-    ensures { result ≡ (account.now.opening +ℤ pos totals.0) -ℤ pos totals.1 }
-{
-    (account.opening as i128 + totals.0 as i128 - totals.1 as i128) as i64
 }
 
 /// Each account's balance after a history.

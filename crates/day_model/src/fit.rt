@@ -7,9 +7,7 @@ ghost use Rattle.day_model.specs.Fit.{accounts_fit, amounts_fit, is_listed, is_s
 use crate::account::AcctNo;
 use crate::accounts::Accounts;
 use crate::pay::{Leg, Pay, Side};
-
-/// Amounts are below this, in minor units.
-const AMOUNT_END: u64 = 100_000_000_000_000;
+use corr_money::AMOUNT_END;
 
 fn has_side(leg: &Leg, side: Side) -> bool
     ensures { result ≡ is_side side leg.now.side }

@@ -71,7 +71,8 @@ pub fn balance(a: &Accounts, h: &History, n: AcctNo) -> i64
     balance
 }
 
-pub(crate) fn after_leg(balance: i64, leg: &Leg) -> i64
+/// A balance with a leg, in minor units: a credit adds its amount, a debit takes it away.
+pub fn after_leg(balance: i64, leg: &Leg) -> i64
     requires small { IsSmall balance }
     requires amount { leg.now.amount.0 < amount_end }
     ensures { result ≡ changed leg.now.side leg.now.amount.0 balance }
@@ -82,7 +83,8 @@ pub(crate) fn after_leg(balance: i64, leg: &Leg) -> i64
     }
 }
 
-fn may_hold(account: &Account, balance: i64) -> bool
+/// Whether an account may have a balance: it lies within floor and ceiling.
+pub fn may_hold(account: &Account, balance: i64) -> bool
     ensures { result ≡ is_within (Some account.now) balance }
 {
     account.floor <= balance && balance <= account.ceil

@@ -24,13 +24,13 @@ mod rows;
 mod same;
 
 pub use account::{Account, AcctNo};
-pub use account_totals::{totals, with_leg};
+pub use account_totals::{add_legs, balance_with, legs_booked, totals, with_leg};
 pub use accounts::Accounts;
 pub use core_event::Event;
 pub use core_machine::Core;
 pub use entry::{Entry, Outcome};
 pub use fault::AccountsFault;
-pub use funds::{balance, decide};
+pub use funds::{after_leg, balance, decide, may_hold};
 pub use history::History;
 pub use kind::Kind;
 pub use law::{fold_laws, totals_laws};

@@ -13,6 +13,9 @@ use crate::kind::Kind;
 use corr_ids::{Bic, read_bic, with_branch};
 use corr_text::{Set, is_all_of};
 
+/// The most bytes of an account's id.
+const MOST_ID: usize = 34;
+
 /// Balances are at most this in size, in minor units.
 const MOST_BALANCE: i64 = 99_999_999_999_999;
 
@@ -54,7 +57,7 @@ fn has_form(a: &Account) -> bool
 {
     let id = a.id.bytes();
     1 <= id.len()
-        && id.len() <= 34
+        && id.len() <= MOST_ID
         && is_plain(id)
         && is_letter(a.kind)
         && is_bank(&a.owner)

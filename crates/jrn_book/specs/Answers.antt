@@ -43,7 +43,9 @@ pub record HasRoomFor (history : List Entry) (end need : ℕ) : Type 0 where
 abbrev pub IsFull : List Entry → ℕ → ℕ → Type 0
 IsFull history end need = (length history ≡ most_entries) ⊎ (most_disk_bytes < end + need)
 
--- What an answer to a pay on a day tells of the history before it, the place `end` of the closed gate, and the disk's count of faults at the opening, before the call and after it. Each case says that those before it in the order don't hold: a commit failed before, memory is wanting, the reference is entered, there is no room, the disk failed.
+-- What an answer to a pay on a day tells of the history before it, the place `end` of the closed gate, and the disk's count of
+-- faults at the opening, before the call and after it. Each case says that those before it in the order don't hold: a commit
+-- failed before, memory is wanting, the reference is entered, there is no room, the disk failed.
 abbrev pub AnswerShows : Chart → List Entry → Pay → Day → ℕ → Option Day → ℕ → ℕ → ℕ → Answer → Type 0
 AnswerShows chart history pay day end failed at_open old new (Err (Broken from now)) =
     IsSome failed × (from ≡ at_open) × (now ≡ new) × HasRisen from now × (new ≡ old)

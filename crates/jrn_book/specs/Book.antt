@@ -17,7 +17,8 @@ use Rattle.jrn_codec.specs.Record.{IsEntry}
 use Rattle.jrn_book.specs.Index.{References, references_of}
 use Rattle.jrn_book.specs.Journal.{IsJournal, IsWithOrWithout, entry_records}
 
--- The accounts and the history; the table of the purses that belong to it; the open file; the disk's count of faults at the opening; on which day a commit failed, if one did; and for which pay there is room.
+-- The accounts and the history; the table of the purses that belong to it; the open file; the disk's count of faults at the
+-- opening; on which day a commit failed, if one did; and for which pay there is room.
 pub record Book (D : Type 0) : Type 0 where
   pub accounts : Chart
   pub history : List Entry
@@ -58,7 +59,8 @@ module _ {D : Type 0} (honest : D → Bool) (reads : D → List ℕ) (may_leave 
     pub disk : StandsOnDisk b.failed b.file b.accounts b.history
     pub counts : Counts b.failed b.at_open (faults (disk_of b.file))
 
--- Behind a book: the sides have the totals of its history, the index has its references, and where room is told for a pay there is room for an entry more.
+-- Behind a book: the sides have the totals of its history, the index has its references, and where room is told for a pay there
+-- is room for an entry more.
 pub record IsBacked (chart : Chart) (log : Log) (index : References) (sides : Sides) (told : Option Pay) : Type 0 where
   pub totals : HasTotals sides.pairs (length chart.accounts) log.entries
   pub references : index.references ≡ references_of log.entries

@@ -51,7 +51,8 @@ pub record IsRefusedIn (chart : Chart) (history : List Entry) (all : List (List 
   pub refused : IsNoNext chart history next
   pub place : at ≡ size_of (all_records chart history)
 
--- What stands at a place behind the records of these accounts and this history: a record that may not stand next, or, where no record is whole, an open gate.
+-- What stands at a place behind the records of these accounts and this history: a record that may not stand next, or, where no
+-- record is whole, an open gate.
 abbrev pub IsFaultBehind : Chart → List Entry → ℕ → Reading → Type 0
 IsFaultBehind chart history at no_journal = ⊥
 IsFaultBehind chart history at (whole all) = IsRefusedIn chart history all at
@@ -93,7 +94,8 @@ BookOpenCause old new (Damaged at) = new ≡ old
 BookOpenCause old new (DiskFault before after) = TellsCounts old before after new
 BookOpenCause old new Memory = new ≡ old
 
--- A book that was just opened: no commit has failed, its count of faults is the disk's, and its history alone is on the disk, behind which its closed gate stands.
+-- A book that was just opened: no commit has failed, its count of faults is the disk's, and its history alone is on the disk,
+-- behind which its closed gate stands.
 pub record IsNewBook {D : Type 0} (honest : D → Bool) (reads : D → List ℕ) (may_leave : D → List ℕ → Type 0) (faults : D → ℕ) (b : Book D) : Type 0 where
   pub whole : b.failed ≡ None
   pub count : b.at_open ≡ faults (disk_of b.file)

@@ -28,7 +28,8 @@ ReadsRecord old r (Ok done) new = IsReadNext old r new
 ReadsRecord old r (Err entry_fault.NoEntry) new = IsNoNext old.accounts old.history r × (new ≡ old)
 ReadsRecord old r (Err entry_fault.Memory) new = Unit {0}
 
--- What a refusal of records tells: their first is no header, or one is refused at this place, where it has 64 bits; want of memory tells nothing.
+-- What a refusal of records tells: their first is no header, or one is refused at this place, where it has 64 bits; want of
+-- memory tells nothing.
 abbrev pub RefusesRecords : List (List ℕ) → OpenFault → Type 0
 RefusesRecords all open_fault.NotAJournal = HasNoHead all
 RefusesRecords all (open_fault.Damaged at) = size_of all < 2 ^ 64 → IsFaultyAt (whole all) at

@@ -7,7 +7,8 @@ use Rattle.day_model.specs.Chart.{Chart}
 use Rattle.day_model.specs.Next.{fold_of}
 use Rattle.jrn_book.specs.Journal.{StandsForBook}
 
--- A run of these pays that began at `start` and stopped with this history: given again from its first pay, it makes what it would have made.
+-- A run of these pays that began at `start` and stopped with this history: given again from its first pay, it makes what it would
+-- have made.
 abbrev pub ResumesRun : Chart → List Entry → List Pay → Day → List Entry → Type 0
 ResumesRun chart start pays day history = fold_of chart history pays day ≡ fold_of chart start pays day
 

@@ -1,6 +1,6 @@
 //! A book: accounts and their history over a journal on a disk.
 
-ghost use Rattle.std.specs.Prelude.{◌≡◌, None, Some, IsOk, OnOk, IsTrue};
+ghost use Rattle.std.specs.Prelude.{◌≡◌, None, Some, IsOk, OnOk, OnErr, IsTrue};
 ghost use Rattle.std.specs.Bool.{OnTrue};
 ghost use Rattle.day_model.specs.Chart.{IsChart};
 ghost use Rattle.day_model.specs.Legal.{IsLegal};
@@ -96,6 +96,7 @@ impl<D: Disk> JrnBook<D> {
         requires shape { HasShape p.now }
         ensures same { self.new ≡ record self.old { room = self.new.room } }
         ensures room { OnOk result (self.new.room ≡ Some p.now) }
+        ensures none { OnErr result (self.new.room ≡ None) }
         ensures again { self.old.room ≡ Some p.now → IsOk result }
     {
         if self.has_room_for(p) {

@@ -1,10 +1,10 @@
 //! Decisions by the totals of accounts.
 
-ghost use Rattle.std.specs.Prelude.{◌≡◌, ◌+◌, ◌<◌, ◌≤◌, pos, ◌+ℤ◌, ◌-ℤ◌, All, IsTrue, IfNone, Some, length, unwrap_or};
+ghost use Rattle.std.specs.Prelude.{◌≡◌, ◌+◌, ◌<◌, ◌≤◌, All, IsTrue, IfNone, length, unwrap_or};
 ghost use Rattle.corr_text.specs.First.{first_of};
 ghost use Rattle.corr_money.specs.Amounts.{amount_end};
 ghost use Rattle.day_model.specs.declared.entry.Outcome.TheVariants.{Booked};
-ghost use Rattle.day_model.specs.Balance.{changed, is_within, leg_test, leg_tests};
+ghost use Rattle.day_model.specs.Balance.{leg_test, leg_tests};
 ghost use Rattle.day_model.specs.Chart.{IsChart, IsListed, IsSmall};
 ghost use Rattle.day_model.specs.Fit.{legs_fit};
 ghost use Rattle.day_model.specs.Legal.{IsLegal};
@@ -15,32 +15,9 @@ ghost use Rattle.acct_locks.specs.Holdings.{CanSettle, HoldsOnce, held_totals, h
 ghost use Rattle.jrn_book.specs.Deciding.{HoldsAll, leg_test_by};
 
 use acct_locks::{BookSides, Held};
-use day_model::{Account, Accounts, Entry, History, Leg, Outcome, Side};
-
-// A credit and a debit total may each pass what an `i64` holds, their difference may not.
-fn balance_by(account: &Account, totals: (u64, u64)) -> i64
-    requires { IsSmall ((account.now.opening +ℤ pos totals.0) -ℤ pos totals.1) }
-    ensures { result ≡ (account.now.opening +ℤ pos totals.0) -ℤ pos totals.1 }
-{
-    (account.opening as i128 + totals.0 as i128 - totals.1 as i128) as i64
-}
-
-fn after_leg(balance: i64, leg: &Leg) -> i64
-    requires small { IsSmall balance }
-    requires amount { leg.now.amount.0 < amount_end }
-    ensures { result ≡ changed leg.now.side leg.now.amount.0 balance }
-{
-    match leg.side {
-        Side::Credit => balance + leg.amount.0 as i64,
-        Side::Debit => balance - leg.amount.0 as i64,
-    }
-}
-
-fn may_hold(account: &Account, balance: i64) -> bool
-    ensures { result ≡ is_within (Some account.now) balance }
-{
-    account.floor <= balance && balance <= account.ceil
-}
+use day_model::{
+    Accounts, Entry, History, Leg, Outcome, after_leg, balance_with, legs_booked, may_hold,
+};
 
 /// What leg `number` fails with, given the totals of its account.
 pub(crate) fn leg_outcome(
@@ -55,7 +32,7 @@ pub(crate) fn leg_outcome(
     ensures value { result ≡ leg_test_by a.now totals number leg.now }
 {
     let account = a.get(leg.account);
-    let balance = balance_by(account, totals);
+    let balance = balance_with(account, totals);
     if may_hold(account, after_leg(balance, leg)) {
         None
     } else {
@@ -197,16 +174,6 @@ pub(crate) fn decide_by(a: &Accounts, h: &History, pairs: &[(u64, u64)], legs: &
     match pairs_test(a, h, pairs, 1, legs) {
         Some(outcome) => outcome,
         None => Outcome::Booked,
-    }
-}
-
-/// The legs that an entry books: none where it is unfunded.
-pub(crate) fn legs_booked(entry: &Entry) -> &[Leg]
-    ensures { result.now ≡ booked_legs entry.now }
-{
-    match entry.outcome {
-        Outcome::Booked => entry.pay.legs.as_slice(),
-        Outcome::Unfunded { .. } => &[],
     }
 }
 

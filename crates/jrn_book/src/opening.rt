@@ -28,7 +28,7 @@ use std::alloc::Global;
 /// Opens the book of a journal that a stop at any moment may have left: its accounts, its history up to the first closed gate,
 /// and a purse for each account with its totals after the history, in minor units. Each entry is decided by running totals.
 ///
-/// It takes the disk, syncs it first, reads it once in rising order, 2^20 bytes a call, and writes nothing. It takes memory for
+/// It takes the disk, syncs it first, reads it once in rising order, 2^16 bytes a call, and writes nothing. It takes memory for
 /// the records as they are read, the accounts, the entries, an index of their references, and the purses.
 ///
 /// `NotAJournal` comes exactly where the disk is empty, its first byte is 0, its first record isn't whole, or that isn't a
@@ -57,7 +57,7 @@ pub fn open_book<D: Disk>(alloc: Global, disk: D) -> Result<(JrnBook<D>, Loose),
         (λ r. IsUntouched D.reads D.may_leave D.moment D.left_since disk (disk_of r.0.file))
         (λ e. IsUntouched D.reads D.may_leave D.moment D.left_since disk e.0) }
 
-    // It makes as many calls as a sync and a read of each 2^20 bytes up to the closed gate are.
+    // It makes as many calls as a sync and a read of each 2^16 bytes up to the closed gate are.
     ensures calls { IfOk result (λ r. CallsMade (calls_to_open piece_size (end_of r.0.file)) (D.plan disk) (D.plan (disk_of r.0.file))) }
     ensures no_more_calls { IsTrue (D.honest disk) → IfErr result (λ e. AtMostCalls (calls_to_open piece_size (length (D.reads disk))) (D.plan disk) (D.plan e.0)) }
 

@@ -1,6 +1,6 @@
 //! The records of a journal as a history.
 
-ghost use Rattle.std.specs.Prelude.{◌≡◌, ◌+◌, ◌<◌, ◌≤◌, ◌≤ℤ◌, ◌++◌, ◌∷◌, [], All, None, length, IfErr, IfOk, IsTrue, OnOk};
+ghost use Rattle.std.specs.Prelude.{◌≡◌, ◌+◌, ◌<◌, ◌≤ℤ◌, ◌++◌, ◌∷◌, [], None, length, IfErr, IfOk, IsTrue, OnOk};
 ghost use Rattle.std.specs.Bool.{OnTrue};
 ghost use Rattle.day_model.specs.Balance.{outcome_of};
 ghost use Rattle.day_model.specs.Fit.{FitsAccounts};
@@ -8,7 +8,6 @@ ghost use Rattle.day_model.specs.Laws.{IsLatest};
 ghost use Rattle.day_model.specs.Legal.{IsLegal};
 ghost use Rattle.day_model.specs.Log.{most_entries};
 ghost use Rattle.day_model.specs.Next.{entered_at};
-ghost use Rattle.day_model.specs.Pairs.{PairsFit, pairs_with};
 ghost use Rattle.jrn_codec.specs.Header.{IsHead, head_bytes};
 ghost use Rattle.jrn_codec.specs.Record.{IsEntry};
 ghost use Rattle.jrn_file.specs.Reading.{size_of};
@@ -17,11 +16,11 @@ ghost use Rattle.jrn_book.specs.Following.{MayStandNext};
 ghost use Rattle.jrn_book.specs.Reading.{ReadsRecord, RefusesHead, RefusesRecords};
 
 use crate::committing::{MOST_ENTRIES, note};
-use crate::deciding::{decide_by, legs_booked};
+use crate::deciding::decide_by;
 use crate::index::Index;
 use corr_ids::Day;
 use corr_text::{Memory, Text};
-use day_model::{Accounts, Entry, History, Leg, Outcome, with_leg};
+use day_model::{Accounts, Entry, History, Outcome, add_legs, legs_booked};
 use jrn_codec::{EntryFault, read_entry, read_head};
 use jrn_file::OpenFault;
 use std::alloc::Global;
@@ -50,25 +49,6 @@ impl Model for Past {
     ghost view = { λ p. record { accounts = p.accounts; history = p.history.entries } };
 
     ghost invariant = { λ p. IsJournal p.accounts p.history.entries × HasTotals p.pairs.items (length p.accounts.accounts) p.history.entries × (p.index.references ≡ references_of p.history.entries) };
-}
-
-fn add_leg(pairs: &mut Vec<(u64, u64)>, leg: &Leg)
-    requires listed { (1 ≤ leg.now.account.0) × (leg.now.account.0 ≤ length pairs.old.items) }
-    requires fits { PairsFit (leg.now ∷ []) pairs.old.items }
-    ensures { pairs.new.items ≡ pairs_with (leg.now ∷ []) pairs.old.items }
-{
-    let at = leg.account.0 as usize - 1;
-    pairs[at] = with_leg(pairs[at], leg);
-}
-
-fn add_legs(pairs: &mut Vec<(u64, u64)>, legs: &[Leg])
-    requires listed { All (λ leg. (1 ≤ leg.account.0) × (leg.account.0 ≤ length pairs.old.items)) legs.now }
-    requires fits { PairsFit legs.now pairs.old.items }
-    ensures { pairs.new.items ≡ pairs_with legs.now pairs.old.items }
-{
-    for leg in legs {
-        add_leg(pairs, leg);
-    }
 }
 
 fn is_no_later(a: Day, b: Day) -> bool

@@ -11,10 +11,13 @@ use crate::fault::EntryFault;
 use crate::field::{byte_at, cut, i32_at, i64_at, long_at};
 use crate::leg::{are_legs, legs_at};
 use crate::order::orders_at;
-use corr_ids::{Day, Mir, Uetr, read_mir, read_uetr};
+use corr_ids::{Day, FIRST_DAY, LAST_DAY, Mir, Uetr, read_mir, read_uetr};
 use corr_text::{List, Text};
 use day_model::{Entry, Leg, Mt, Order, Outcome, Pay};
 use std::alloc::Global;
+
+/// The most bytes that the text of a pay has.
+const MOST_TEXT: usize = 32768;
 
 /// The first parts of a record: which message it was.
 #[derive(Clone, Copy, Drop)]
@@ -93,7 +96,7 @@ fn stamp_at(bytes: &[u8]) -> Result<(Stamp, &[u8]), EntryFault>
 fn is_in_century(day: Day) -> bool
     ensures { result ≡ in_century day }
 {
-    3652 <= day.0 && day.0 <= 40176
+    FIRST_DAY <= day.0 && day.0 <= LAST_DAY
 }
 
 #[tactic(auto, unfolding(crate::specs::RecordReading::day_at))]
@@ -149,7 +152,7 @@ fn fate_at(bytes: &[u8]) -> Result<(Fate, &[u8]), EntryFault>
 fn is_whole(legs: &[Leg], text: &[u8], rest: &[u8]) -> bool
     ensures { result ≡ is_whole_pay legs.now text.now rest.now }
 {
-    are_legs(legs) && text.len() <= 32768 && rest.is_empty()
+    are_legs(legs) && text.len() <= MOST_TEXT && rest.is_empty()
 }
 
 fn entry_with(stamp: Stamp, fate: Fate, legs: List<Leg>, orders: List<Order>, text: Text) -> Entry

@@ -11,7 +11,7 @@ ghost use Rattle.jrn_codec.specs.RecordReading.{is_reference, leg_at, ours_at, q
 
 use crate::fault::EntryFault;
 use crate::field::{byte_at, short_at, u16_at, u64_at};
-use corr_money::Minor;
+use corr_money::{AMOUNT_END, Minor};
 use corr_text::{List, Set, Text, is_all_of};
 use day_model::{AcctNo, Leg, Quote, Side};
 use std::alloc::Global;
@@ -142,7 +142,7 @@ pub fn are_legs(legs: &[Leg]) -> bool
                 && credit.side == Side::Credit
                 && debit.amount == credit.amount
                 && 0 < debit.amount.0
-                && debit.amount.0 < 100_000_000_000_000
+                && debit.amount.0 < AMOUNT_END
                 && debit.account != credit.account
         }
         _ => false,

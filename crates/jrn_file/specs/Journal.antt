@@ -33,7 +33,8 @@ abbrev pub AreOpen : List (ℕ × List ℕ) → Type 0
 AreOpen [] = Unit {0}
 AreOpen (entry ∷ more) = (entry.0 ≢ 0) × (length entry.1 < 2 ^ 32) × AreOpen more
 
--- The bytes hold the journal of this header and these records: these are the whole records in front, behind which a closed gate stands. What follows it is anything.
+-- The bytes hold the journal of this header and these records: these are the whole records in front, behind which a closed gate
+-- stands. What follows it is anything.
 abbrev pub StandsFor : List ℕ → List ℕ → List (List ℕ) → Type 0
 StandsFor image head records = opened_of image ≡ whole (head ∷ records)
 

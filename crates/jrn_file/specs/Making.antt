@@ -35,7 +35,8 @@ calls_to_look (Open first) = 2
 abbrev pub made_over : List ℕ → List ℕ → List ℕ
 made_over head bytes = journal_bytes head [] ++ drop (length (journal_bytes head [])) bytes
 
--- The calls that make a journal on a disk of these bytes: those that show its front, a write and a sync of a closed gate where there is at most one byte, and the four that enter the header. Where something else stands there, those that show it alone.
+-- The calls that make a journal on a disk of these bytes: those that show its front, a write and a sync of a closed gate where
+-- there is at most one byte, and the four that enter the header. Where something else stands there, those that show it alone.
 abbrev pub calls_to_make : List ℕ → ℕ
 calls_to_make [] = 7
 calls_to_make (first ∷ []) = 7

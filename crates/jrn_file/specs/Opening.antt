@@ -50,7 +50,8 @@ ExplainsLoad honest reads load.NotAJournal = OfBytes honest reads (λ bytes. ope
 ExplainsLoad honest reads (load.Cut at records) = OfBytes honest reads (λ bytes. opened_of bytes ≡ cut records.items at)
 ExplainsLoad honest reads load.Memory = Unit {0}
 
--- A fault of the disk tells its counts, and NotAJournal what the bytes are, where they are told. Where the disk didn't fail, its count is as it was. There is no other fault.
+-- A fault of the disk tells its counts, and NotAJournal what the bytes are, where they are told. Where the disk didn't fail, its
+-- count is as it was. There is no other fault.
 abbrev pub ReadCause : ℕ → ℕ → Bool → List ℕ → OpenFault → Type 0
 ReadCause old new honest image NotAJournal = (new ≡ old) × (IsTrue honest → opened_of image ≡ no_journal)
 ReadCause old new honest image (Damaged at) = ⊥

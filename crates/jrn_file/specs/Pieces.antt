@@ -24,7 +24,7 @@ OfBytes honest reads P = (bytes : List ℕ) × P bytes × (IsTrue honest → byt
 
 -- a file is read in pieces of so many bytes
 abbrev pub piece_size : ℕ
-piece_size = 2 ^ 20
+piece_size = 2 ^ 16
 
 -- the calls that show a disk's bytes up to this place, or its end there, by reads of so many bytes: a sync and the reads
 abbrev pub calls_to_open : ℕ → ℕ → ℕ

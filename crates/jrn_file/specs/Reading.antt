@@ -19,7 +19,8 @@ begins_with_record after r = nat_lt (length r) (2 ^ 32) && nat_lt (length (with_
 abbrev pub is_whole : List ℕ → Bool
 is_whole after = begins_with_record after (record_at after)
 
--- The whole records in front, each behind an open gate, which any byte but 0 is. They end at a closed gate, at an open one with no whole record behind it, or at the last byte. The first number bounds how many there are.
+-- The whole records in front, each behind an open gate, which any byte but 0 is. They end at a closed gate, at an open one with
+-- no whole record behind it, or at the last byte. The first number bounds how many there are.
 abbrev pub records_in : ℕ → List ℕ → List (List ℕ)
 records_in zero bytes = []
 records_in (suc n) [] = []

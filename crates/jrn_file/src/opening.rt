@@ -16,10 +16,10 @@ use corr_text::Text;
 use std::alloc::Global;
 
 /// How many bytes each read of an opening asks for.
-const PIECE: usize = 1 << 20;
+const PIECE: usize = 1 << 16;
 
 /// Reads the journal that a stop at any moment may have left, or what is in front of its damage: gives the header
-/// record and the records, and how they end. It syncs the disk first, reads pieces of 2^20 bytes in rising order up to
+/// record and the records, and how they end. It syncs the disk first, reads pieces of 2^16 bytes in rising order up to
 /// the first closed gate, and writes nothing.
 ///
 /// `Damaged` tells the place of the open gate behind them that has no whole record behind it. `NotAJournal` comes exactly
@@ -38,7 +38,7 @@ pub fn read_file<D: Disk>(alloc: Global, disk: D) -> Result<(Vec<Text>, Ending<D
         (λ r. IsUntouched D.reads D.may_leave D.moment D.left_since disk (disk_in r.1))
         (λ e. IsUntouched D.reads D.may_leave D.moment D.left_since disk e.0) }
 
-    // It makes as many calls as a sync and a read of each 2^20 bytes up to the closed gate are, and where there is none
+    // It makes as many calls as a sync and a read of each 2^16 bytes up to the closed gate are, and where there is none
     // no more than those up to the end.
     ensures calls { IfOk result (λ r. OpensByCalls D.plan piece_size disk r.1) }
     ensures no_more_calls { IsTrue (D.honest disk) → MatchResult result
@@ -78,7 +78,7 @@ pub fn open_file<D: Disk>(alloc: Global, disk: D) -> Result<(JFile<D>, Vec<Text>
         (λ r. IsUntouched D.reads D.may_leave D.moment D.left_since disk (disk_of r.0))
         (λ e. IsUntouched D.reads D.may_leave D.moment D.left_since disk e.0) }
 
-    // It makes as many calls as a sync and a read of each 2^20 bytes up to the closed gate are; where it refuses
+    // It makes as many calls as a sync and a read of each 2^16 bytes up to the closed gate are; where it refuses
     // or fails, no more than those up to the end.
     ensures calls { IfOk result (λ r. CallsMade (calls_to_open piece_size (end_of r.0)) (D.plan disk) (D.plan (disk_of r.0))) }
     ensures no_more_calls { IsTrue (D.honest disk) → IfErr result (λ e. AtMostCalls (calls_to_open piece_size (length (D.reads disk))) (D.plan disk) (D.plan e.0)) }

@@ -19,8 +19,8 @@ returns-in-Ok-clause-told g c told =
 pub returns-in-Ok-clause-calls : goal.returns-in-Ok-clause-calls
 returns-in-Ok-clause-calls g c =
     let plan = g.D.Disk.plan in
-    subst (λ d. CallsMade (calls_to_open 1048576 c.at.result.end) (plan c.args.disk) (plan d)) (sym c.at.ensures.disk)
-    (subst (λ n. CallsMade (calls_to_open 1048576 n) (plan c.args.disk) (plan c.load.new.disk)) (sym c.at.ensures.end) c.in-Ok.ensures.calls)
+    subst (λ d. CallsMade (calls_to_open 65536 c.at.result.end) (plan c.args.disk) (plan d)) (sym c.at.ensures.disk)
+    (subst (λ n. CallsMade (calls_to_open 65536 n) (plan c.args.disk) (plan c.load.new.disk)) (sym c.at.ensures.end) c.in-Ok.ensures.calls)
 
 pub returns-in-Ok-clause-places : goal.returns-in-Ok-clause-places
 returns-in-Ok-clause-places g c told =
