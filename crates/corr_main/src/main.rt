@@ -18,9 +18,41 @@ use std::sync::Wait;
 use std::thread::Threads;
 use work_pool::OpenGate;
 
-const HELP: &[u8] =
-    b"corr FOLDER init HOME       makes journal.bin for the home bank HOME, a BIC, with the accounts of\n                            accounts.csv\ncorr FOLDER run DATE N      books the messages of messages.fin on DATE (YYMMDD) with N workers, 1 to 16,\n                            prints the report and appends the messages that leave to out.fin\ncorr FOLDER send FROM UNTIL appends to out.fin once more what leaves for the entries at these places\ncorr FOLDER bookings        prints the entries\ncorr FOLDER statements DATE appends to out.fin what the owners of the vostro accounts are sent of DATE\ncorr FOLDER reconcile       prints where the statements of received.fin and the books differ\ncorr FOLDER generate N SEED appends to out.fin a day of N messages, made from the number SEED\ncorr FOLDER trial N SEED W  books such a day in memory with W workers, and prints its summary\n\nA folder has bics.csv, ccys.csv, countries.csv, accounts.csv, ssi.csv, messages.fin and, for\nreconcile, received.fin. generate and trial read no file.\n\ncorr --help     prints this\ncorr --version  prints the version\n\nStatus 0 done; 1 other words; 2 a table row is refused; 3 a file can't be read; 4 the report or\nout.fin can't be written; 5 journal.bin can't be read or written; 6 there is no journal, it is\ndamaged, or it is there already, or the openings don't balance; 7 no memory; 8 DATE is before the\nlast entry's day; 9 the message file is too large; 10 it can't be cut; 11 the journal is full. Each\nbut 0 has its line on standard error.\n\nTo read on: docs/operating.md says what each command reads and writes, and what to do after each status;\ndocs/messages.md explains each code of the report.\n";
+/// What `corr --help` prints: each command with its words, the files of a folder, and the statuses.
+const HELP: &[u8] = b"\
+corr FOLDER init HOME                 makes journal.bin for the home bank HOME, a BIC, with the accounts
+                                      of accounts.csv
+corr FOLDER run DATE WORKERS          books the messages of messages.fin on DATE (YYMMDD) with 1 to 16
+                                      WORKERS, prints the report and appends the messages that leave to
+                                      out.fin
+corr FOLDER send FROM UNTIL           appends to out.fin once more what leaves for the entries at these
+                                      places
+corr FOLDER bookings                  prints the entries
+corr FOLDER statements DATE           appends to out.fin what the owners of the vostro accounts are sent
+                                      of DATE
+corr FOLDER reconcile                 prints where the statements of received.fin and the books differ
+corr FOLDER generate COUNT SEED       appends to out.fin a day of COUNT messages, 1 to 50000, made from
+                                      the number SEED
+corr FOLDER trial COUNT SEED WORKERS  books such a day in memory with 1 to 16 WORKERS, and prints its
+                                      summary
 
+A folder has bics.csv, ccys.csv, countries.csv, accounts.csv, ssi.csv, messages.fin and, for
+reconcile, received.fin. generate and trial read no file.
+
+corr --help     prints this
+corr --version  prints the version
+
+Status 0 done; 1 other words; 2 a table row is refused; 3 a file can't be read; 4 the report or
+out.fin can't be written; 5 journal.bin can't be read or written; 6 there is no journal, it is
+damaged, or it is there already, or the openings don't balance; 7 no memory; 8 DATE is before the
+last entry's day; 9 the message file is too large; 10 it can't be cut; 11 the journal is full. Each
+but 0 has its line on standard error.
+
+To read on: docs/operating.md says what each command reads and writes, and what to do after each status;
+docs/messages.md explains each code of the report.
+";
+
+/// What `corr --version` prints.
 const VERSION: &[u8] = b"corr 0.1.0\n";
 
 /// The most bytes of a word of the command line.

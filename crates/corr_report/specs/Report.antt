@@ -65,6 +65,10 @@ reply_line chart entries n reply = line (padded 6 n) (mir_text reply ∷ reply_w
 abbrev pub count_line : ℕ → ℕ → List ℕ
 count_line messages entries = line (codes "MESSAGES") (padded 6 messages ∷ codes "ENTRIES" ∷ padded 8 entries ∷ [])
 
+-- the counts, and the totals of each currency
+abbrev pub report_end : Chart → List Entry → ℕ → List ℕ
+report_end chart entries messages = count_line messages (length entries) ++ total_lines chart entries
+
 -- a line for each message, the counts, and the totals of each currency
 abbrev pub report_of : Chart → List Entry → List Reply → List ℕ
 report_of chart entries replies =

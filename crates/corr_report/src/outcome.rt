@@ -5,14 +5,14 @@ ghost use Rattle.std.specs.List.{flat_map};
 ghost use Rattle.corr_money.specs.Amounts.{amount_end, most_decimals};
 ghost use Rattle.day_model.specs.Chart.{IsListed, account_at};
 ghost use Rattle.day_model.specs.Fit.{FitsAccounts};
-ghost use Rattle.corr_report.specs.Bookings.{leg_words, side_letter, outcome_words};
+ghost use Rattle.corr_report.specs.Bookings.{leg_words, outcome_words};
 ghost use Rattle.corr_report.specs.Lines.{spaced};
 ghost use Rattle.corr_report.specs.Outcomes.{NamesLeg};
 ghost use Rattle.corr_report.specs.Report.{amount_words, balance_words, entry_words};
 
-use crate::words::{put_amount, put_balance, put_number, put_word};
+use crate::words::{put_amount, put_balance, put_number, put_word, side_letter};
 use corr_text::{Memory, Text};
-use day_model::{Account, Accounts, Entry, Leg, Outcome, Side};
+use day_model::{Account, Accounts, Entry, Leg, Outcome};
 use std::alloc::Global;
 
 fn account_of<'a>(a: &'a Accounts, leg: &Leg) -> &'a Account
@@ -84,22 +84,13 @@ pub(crate) fn put_entry(
     }
 }
 
-fn mark(side: Side) -> &'static [u8]
-    ensures { result.now ≡ side_letter side }
-{
-    match side {
-        Side::Debit => b"D",
-        Side::Credit => b"C",
-    }
-}
-
 fn put_leg(alloc: Global, a: &Accounts, leg: &Leg, out: &mut Text) -> Result<(), Memory>
     requires listed { IsListed a.now leg.now.account.0 }
     requires bound { leg.now.amount.0 < amount_end }
     ensures { OnOk result (out.new ≡ out.old ++ spaced (leg_words a.now leg.now)) }
 {
     let account = account_of(a, leg);
-    put_word(mark(leg.side), out)?;
+    put_word(side_letter(leg.side), out)?;
     put_word(account.id.bytes(), out)?;
     put_amount(alloc, leg.amount, account.decimals, out)
 }

@@ -6,14 +6,14 @@ ghost use Rattle.std.specs.List.{All};
 ghost use Rattle.day_model.specs.Laws.{DebitsEqualCredits};
 ghost use Rattle.day_model.specs.Legal.{IsLegal};
 ghost use Rattle.corr_report.specs.Lines.{line};
-ghost use Rattle.corr_report.specs.Report.{NamesPlace, count_line, or_dashes, reply_line, report_of, tag_text};
+ghost use Rattle.corr_report.specs.Report.{NamesPlace, count_line, or_dashes, reply_line, report_end, report_of, tag_text};
 ghost use Rattle.corr_report.specs.Totals.{AreCurrencies, currencies_of};
 
 use crate::outcome::put_entry;
 use crate::totals::put_totals;
 use crate::words::{plain, put_number, put_word};
 use corr_ids::Mir;
-use corr_text::{Decimal, Fault, Memory, Text};
+use corr_text::{Code, Decimal, Fault, Memory, Text};
 use day_model::{Accounts, History, Reply};
 use std::alloc::Global;
 
@@ -65,8 +65,20 @@ fn put_refused<'a>(
     ])
 }
 
-/// Adds the line of the `n`-th message.
-fn put_reply_line(
+// The line of a message without a route, after its number.
+fn unrouted_line(mir: &Mir, code: &Code) -> [u8; 42]
+    ensures { result ≡ line [] (mir.now.0 ∷ codes "REFUSED" ∷ code.now.0 ∷ []) }
+{
+    let mut words = *b"                              REFUSED    \n";
+    words[38..41].copy_from_slice(&code.0);
+    words[1..29].copy_from_slice(&mir.0);
+    words
+}
+
+/// Adds the line of the `n`-th message, as in the report.
+///
+/// The history is legal for the accounts, and has the place that the reply names. `Memory`: there was no room for the line.
+pub fn put_reply_line(
     alloc: Global,
     a: &Accounts,
     h: &History,
@@ -92,9 +104,7 @@ fn put_reply_line(
             out.push(b"\n")
         }
         Reply::Refused { mir, fault } => put_refused(number, mir, fault, out),
-        Reply::Unrouted { mir, code } => {
-            out.push_all(&[number, b" ", &mir.0, b" REFUSED ", &code.0, b"\n"])
-        }
+        Reply::Unrouted { mir, code } => out.push_all(&[number, &unrouted_line(mir, code)]),
     }
 }
 
@@ -133,6 +143,23 @@ pub(crate) fn put_counts(
     out.push(b"\n")
 }
 
+/// Adds the end of a report, after the lines of its replies: the counts of messages and entries, and the totals.
+///
+/// The history is legal for the accounts. `Memory`: there was no room for it.
+pub fn put_report_end(
+    alloc: Global,
+    a: &Accounts,
+    h: &History,
+    messages: u64,
+    out: &mut Text,
+) -> Result<(), Memory>
+    requires { IsLegal a.now h.now.entries }
+    ensures { OnOk result (out.new ≡ out.old ++ report_end a.now h.now.entries messages) }
+{
+    put_counts(alloc, messages, h.len() as u64, out)?;
+    put_totals(alloc, a, h, out)
+}
+
 /// The report of a run: a line for each reply, with its number and its message's MIR or 28 dashes; the counts of
 /// messages and entries; and for each currency of the accounts, in byte order, the debits and credits of all booked
 /// entries (docs/operating.md, "The report").
@@ -151,7 +178,6 @@ pub fn report(alloc: Global, a: &Accounts, h: &History, replies: &[Reply]) -> Re
     for (at, reply) in replies.iter().enumerate() {
         put_reply_line(alloc, a, h, at as u64 + 1, reply, &mut out)?;
     }
-    put_counts(alloc, replies.len() as u64, h.len() as u64, &mut out)?;
-    put_totals(alloc, a, h, &mut out)?;
+    put_report_end(alloc, a, h, replies.len() as u64, &mut out)?;
     Ok(out)
 }

@@ -4,9 +4,11 @@ ghost use Rattle.std.specs.Prelude.{◌≡◌, ◌<◌, ◌≤◌, ◌++◌, ◌
 ghost use Rattle.std.specs.Fmt.{decimal};
 ghost use Rattle.corr_text.specs.Digits.{padded};
 ghost use Rattle.corr_money.specs.Amounts.{amount_end, amount_text, signed_text, most_decimals};
+ghost use Rattle.corr_report.specs.Bookings.{side_letter};
 
 use corr_money::{Minor, put_15d, put_signed, put_total};
 use corr_text::{Decimal, Memory, Text};
+use day_model::Side;
 use std::alloc::Global;
 
 /// Adds a space and a word.
@@ -17,6 +19,16 @@ pub fn put_word(word: &[u8], out: &mut Text) -> Result<(), Memory>
     ensures err { OnErr result (out.new ≡ out.old) }
 {
     out.push_all(&[b" ", word])
+}
+
+/// The letter of a side: `D` or `C`.
+pub fn side_letter(side: Side) -> &'static [u8]
+    ensures { result.now ≡ side_letter side }
+{
+    match side {
+        Side::Debit => b"D",
+        Side::Credit => b"C",
+    }
 }
 
 /// Adds a space and a number, with zeros before it up to a width.

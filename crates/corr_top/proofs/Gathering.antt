@@ -1,7 +1,7 @@
 -- The replies of messages, gathered one after another, and the first message that found no room.
-use Rattle.std.proofs.Common.{◌≡◌, ℕ, All, List, [], ◌∷◌, ◌++◌, length, Option, Some, None, refl, sym, ap, ◌∙◌, arith}
+use Rattle.std.proofs.Common.{◌≡◌, ℕ, ◌+◌, ◌<◌, All, List, [], ◌∷◌, ◌++◌, length, get_or, take, Option, Some, None, refl, sym, ap, ◌∙◌, subst, arith}
 use Rattle.std.specs.Prelude.{if◌then◌else◌, is_none}
-use Rattle.std.proofs.lemmas.List.{map-append, take-append-le}
+use Rattle.std.proofs.lemmas.List.{map-append, take-append-le, take_more}
 use Rattle.std.proofs.lemmas.List.Elements.{All-append, All-nil}
 use Rattle.day_model.specs.declared.reply.Reply.{Reply}
 use Rattle.front_word.proofs.laws.Prefixes.{get_below}
@@ -60,3 +60,25 @@ gathered_full made replies full entries end need so_far =
     more (Some (booking.Full n e x)) is = first_stays made (served.Full entries end need ∷ []) n e x is
     more (Some (booking.DiskFault before after)) is = is
     more (Some booking.Memory) is = is
+
+-- ---- a step of the loop over what was made
+
+-- what was gathered of the messages ahead of a place
+abbrev pub IsGatheredTo : List Served → ℕ → Option BookStop → Type 0
+IsGatheredTo made at full = (replies : List Reply) × IsGathered (take at made) replies full
+
+pub gathered_next-reply : (made : List Served) (at : ℕ) (d : Served) (told : Reply) (full after : Option BookStop) → at < length made → get_or made at d ≡ served.Reply told → after ≡ full
+    → IsGatheredTo made at full → IsGatheredTo made (at + 1) after
+gathered_next-reply made at d told full after within is same so_far =
+    let grown : take (at + 1) made ≡ take at made ++ served.Reply told ∷ [] = take_more made at d within ∙ ap (λ (one : Served). take at made ++ one ∷ []) is in (
+      so_far.0 ++ told ∷ [],
+      subst (λ (x : List Served × Option BookStop). IsGathered x.0 (so_far.0 ++ told ∷ []) x.1) (λ i. (sym grown i, sym same i)) (gathered_reply (take at made) so_far.0 full told so_far.1),
+    )
+
+pub gathered_next-full : (made : List Served) (at : ℕ) (d : Served) (entries end need : ℕ) (full after : Option BookStop) → at < length made → get_or made at d ≡ served.Full entries end need
+    → after ≡ (if is_none full then Some (booking.Full entries end need) else full) → IsGatheredTo made at full → IsGatheredTo made (at + 1) after
+gathered_next-full made at d entries end need full after within is first so_far =
+    let grown : take (at + 1) made ≡ take at made ++ served.Full entries end need ∷ [] = take_more made at d within ∙ ap (λ (one : Served). take at made ++ one ∷ []) is in (
+      so_far.0,
+      subst (λ (x : List Served × Option BookStop). IsGathered x.0 so_far.0 x.1) (λ i. (sym grown i, sym first i)) (gathered_full (take at made) so_far.0 full entries end need so_far.1),
+    )

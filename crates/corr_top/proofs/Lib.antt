@@ -18,6 +18,7 @@ pub mod Collected
 pub mod Reconciling
 pub mod RunEnds
 pub mod Replying
+pub mod Reporting
 pub mod Gathering
 pub mod Serves
 pub mod Rooms

@@ -1,6 +1,6 @@
 -- Message files: what their bytes show, and what a cutter that was fed them knows.
 use Rattle.std.proofs.Common.{◌≡◌, ℕ, ◌+◌, ◌-◌, ◌<◌, ◌≤◌, ◌⊎◌, inl, inr, List, [], ◌∷◌, ◌++◌, length, take, drop, Some, None, Ok, refl, sym, ap, ◌∙◌, subst, arith, append_assoc, length-append}
-use Rattle.std.specs.Prelude.{All, slice_index_or}
+use Rattle.std.specs.Prelude.{All}
 use Rattle.std.proofs.lemmas.List.{append-nil, take-append-drop}
 use Rattle.std.proofs.lemmas.Bool.{cases_lt}
 use Rattle.std.proofs.lemmas.List.Elements.{All-append, All-cons}
@@ -141,10 +141,6 @@ short-messages (file_more file message gap messages front is behind) =
 
 pub all-short : (file : List ℕ) (messages : List (List ℕ)) → IsMessageFile file messages → All (λ m. length m ≤ 16384) messages
 all-short file messages is = short-messages is.cut.1
-
--- so has each of messages that are given one by one
-pub all_given : (given cut : List (List ℕ)) → given ≡ cut → All (λ m. length m ≤ 16384) cut → (k : ℕ) (d : List ℕ) → k < length given → length (slice_index_or given k d) ≤ 16384
-all_given given cut same short k d within = subst (λ (ms : List (List ℕ)). All (λ m. length m ≤ 16384) ms) (sym same) short k d within
 
 -- ---- a file of messages has no fault
 

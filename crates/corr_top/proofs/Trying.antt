@@ -1,4 +1,5 @@
--- What workers make of a generated day. A trial whose entries are all booked, and would be in every order, reports what one thread makes of its pays.
+-- What workers make of a generated day. A trial whose entries are all booked, and would be in every order, reports what one
+-- thread makes of its pays.
 use Rattle.std.proofs.Common.{◌≡◌, ◌⊎◌, inl, inr, ℕ, zero, suc, ◌+◌, ◌-◌, ◌<◌, ◌≤◌, All, List, [], ◌∷◌, ◌++◌, length, map, Result, Ok, Err, Some, get_or, refl, sym, ap, ◌∙◌, subst, arith}
 use Rattle.std.specs.Prelude.{slice_get}
 use Rattle.std.proofs.lemmas.List.{length-map}

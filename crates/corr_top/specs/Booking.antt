@@ -33,7 +33,9 @@ pub record IsEnteredOn (day : Day) (pays : List Pay) (e : Entry) : Type 0 where
   pub place : ℕ
   pub pay_is : slice_get pays place ≡ Some e.pay
 
--- Each message has a reply, and the history is legal: no reference is entered twice, each outcome is that of the entries before it, so debits equal credits. The entries that were added are those of the entered pays in their order, each of the day and of a pay of the file; and each pay of the file is entered. One worker enters them in the order of the file.
+-- Each message has a reply, and the history is legal: no reference is entered twice, each outcome is that of the entries before
+-- it, so debits equal credits. The entries that were added are those of the entered pays in their order, each of the day and of a
+-- pay of the file; and each pay of the file is entered. One worker enters them in the order of the file.
 pub record AreAnswered (i : Inputs) : Type 0 where
   pub each : length (replies_of i) ≡ length i.cut
   pub legal : IsLegal i.chart (new_in i)
@@ -44,7 +46,9 @@ pub record AreAnswered (i : Inputs) : Type 0 where
   pub entered : (k : ℕ) (pay : Pay) → slice_get (pays_of i) k ≡ Some pay → IsSome (entered_at pay.mir (new_in i))
   pub alone : i.workers ≡ 1 → new_in i ≡ fold_of i.chart i.history (pays_of i) i.day
 
--- The first pay of the file that found no room in what was entered then: a beginning of what is left, which has all of the journal as it was opened. Those ahead of it in the file are entered. The numbers are those of that history: how many entries, the place of the closed gate, and the bytes that this pay needed.
+-- The first pay of the file that found no room in what was entered then: a beginning of what is left, which has all of the
+-- journal as it was opened. Those ahead of it in the file are entered. The numbers are those of that history: how many entries,
+-- the place of the closed gate, and the bytes that this pay needed.
 pub record LacksRoomThen (chart : Chart) (history : List Entry) (pays : List Pay) (day : Day) (left : List Entry) (entries end need : ℕ) : Type 0 where
   pub place : ℕ
   pub pay : Pay
@@ -59,7 +63,8 @@ pub record LacksRoomThen (chart : Chart) (history : List Entry) (pays : List Pay
   pub need_is : need ≡ need_of chart (history ++ front) pay day
   pub full : IsFull (history ++ front) end need
 
--- Of one worker: the first pay that found no room. Those ahead of it were entered as one thread does, and the numbers are those of the history that they made: how many entries, the place of the closed gate, and the bytes that this pay needed.
+-- Of one worker: the first pay that found no room. Those ahead of it were entered as one thread does, and the numbers are those
+-- of the history that they made: how many entries, the place of the closed gate, and the bytes that this pay needed.
 pub record LacksRoom (chart : Chart) (history : List Entry) (pays : List Pay) (day : Day) (left : List Entry) (entries end need : ℕ) : Type 0 where
   pub front : List Pay
   pub pay : Pay
@@ -73,7 +78,8 @@ pub record LacksRoom (chart : Chart) (history : List Entry) (pays : List Pay) (d
   pub need_is : need ≡ need_of chart (fold_of chart history front day) pay day
   pub full : IsFull (fold_of chart history front day) end need
 
--- the cause: a call of the disk failed; or a pay found no room, of one worker the first in the order of the file, and no call failed; want of memory tells nothing
+-- the cause: a call of the disk failed; or a pay found no room, of one worker the first in the order of the file, and no call
+-- failed; want of memory tells nothing
 abbrev pub BookCause : {D : Type 0} → outside.Ghosts D → D → D → Inputs → List Entry → BookStop → Type 0
 BookCause d old new i left (booking.DiskFault before after) = TellsCounts (d.faults old) before after (d.faults new)
 BookCause d old new i left (booking.Full entries end need) = HasNotFailed d old new × LacksRoomThen i.chart i.history (pays_of i) i.day left entries end need
@@ -102,7 +108,8 @@ pub record HadNoRoom (chart : Chart) (history : List Entry) (day : Day) (left : 
   pub new : entered_at pay.mir (history ++ front) ≡ None
   pub lacks : lacks_room chart (history ++ front) pay day ≡ true
 
--- Where room was wanting, each pay of the file was tried: its reference is entered, or it found no room. A failed disk and want of memory leave pays that were not tried.
+-- Where room was wanting, each pay of the file was tried: its reference is entered, or it found no room. A failed disk and want
+-- of memory leave pays that were not tried.
 abbrev pub EachTried : Chart → List Entry → List Pay → Day → List Entry → BookStop → Type 0
 EachTried chart history pays day left (booking.DiskFault before after) = Unit {0}
 EachTried chart history pays day left (booking.Full entries end need) =
@@ -135,7 +142,9 @@ pub record EntersInOrder (chart : Chart) (history : List Entry) (pays : List Pay
   pub entered : EntersFront chart history pays day left
   pub stops : StopsBefore left stop entered.rest
 
--- How the entering of the pays stops: by its cause. What is left is the journal's history and further entries of the day, each of a pay of the file, in a journal that may be opened again; where room was wanting each pay of the file was tried, and one worker entered a front part of the pays.
+-- How the entering of the pays stops: by its cause. What is left is the journal's history and further entries of the day, each of
+-- a pay of the file, in a journal that may be opened again; where room was wanting each pay of the file was tried, and one worker
+-- entered a front part of the pays.
 pub record StopsBooking {D : Type 0} (d : outside.Ghosts D) (old new : D) (i : Inputs) (stop : BookStop) : Type 0 where
   pub added : List Entry
   pub each : All (IsEnteredOn i.day (pays_of i)) added

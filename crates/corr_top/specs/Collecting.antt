@@ -10,7 +10,8 @@ use Rattle.corr_top.specs.Serving.{IsFirstFull, IsTried, SaysFailed}
 abbrev pub IsCalm : ℕ → ℕ → Type 0
 IsCalm before after = Rose before after → ⊥
 
--- Why not each message has a reply: the disk's count of faults has risen, and a message says so; or it hasn't, this is the first that found no room, and each other one has a reply or found none; or memory ran out.
+-- Why not each message has a reply: the disk's count of faults has risen, and a message says so; or it hasn't, this is the first
+-- that found no room, and each other one has a reply or found none; or memory ran out.
 abbrev pub StopsAsServed : ℕ → ℕ → List Served → BookStop → Type 0
 StopsAsServed before after made (booking.DiskFault then now) = (then ≡ before) × (now ≡ after) × Rose before after × SaysFailed made
 StopsAsServed before after made (booking.Full entries end need) = IsCalm before after × IsFirstFull made entries end need × All IsTried made

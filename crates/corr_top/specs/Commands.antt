@@ -138,7 +138,8 @@ out_in (Plain (Query asked)) i = query_out asked i.chart i.history
 out_in (Plain Reconcile) i = []
 out_in (Plain (Generate count seed)) i = generated_of count seed
 
--- What is known of the messages that a command sends: each message of a run passes the tests of a sent message under the tables that it read; each message of a trial is booked.
+-- What is known of the messages that a command sends: each message of a run passes the tests of a sent message under the tables
+-- that it read; each message of a trial is booked.
 abbrev pub SendsValid : Command → Inputs → Type 0
 SendsValid (Run day workers) i = AreSentValid (tables_in i) i.chart (length i.history + 1) (new_in i)
 SendsValid (Trial count seed workers) i = BooksEach count seed

@@ -31,7 +31,8 @@ pub record IsSure {D : Type 0} (disk : disks.Ghosts D) (old new : D) : Type 0 wh
   pub told : IsTrue (disk.honest old)
   pub sound : Rose (disk.faults old) (disk.faults new) → ⊥
 
--- The journal has room for these pays: with them it has at most 100,000 entries, and the file of the history, with the longest record of each of them, has at most 2^30 bytes.
+-- The journal has room for these pays: with them it has at most 100,000 entries, and the file of the history, with the longest
+-- record of each of them, has at most 2^30 bytes.
 pub record HasRoomForAll (chart : Chart) (history : List Entry) (pays : List Pay) : Type 0 where
   pub entries : length history + length pays ≤ most_entries
   pub bytes : length (book_file_of chart history) + sum_by (λ pay. longest_record pay + 5) pays ≤ most_disk_bytes

@@ -41,7 +41,8 @@ pub record GivesServed {D : Type 0} (disk : disks.Ghosts D) (day : ServedDay D) 
   pub texts : IfOk day.served (λ made. GivesTexts day.closed.accounts day.closed.history.entries made.items before (disk.faults day.closed.disk) count r)
   pub none : IfErr day.served (λ _. r ≡ Err status.Memory)
 
--- Each message has its reply after the history, and each pay of the messages is entered in it. One worker made the fold of the pays in the order of the messages.
+-- Each message has its reply after the history, and each pay of the messages is entered in it. One worker made the fold of the
+-- pays in the order of the messages.
 pub record HasAnswered (o : Opening) (readings : List (Result Pay NoPay)) (history : List Entry) (replies : List Reply) : Type 0 where
   pub replies_are : replies ≡ replies_in history readings
   pub each : length replies ≡ length readings

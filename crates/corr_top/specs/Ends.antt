@@ -26,7 +26,8 @@ module _ {S K D : Type 0} (source : sources.Ghosts S) (disk : disks.Ghosts D) (c
       Halts (Passes source disk old new i) (StopsAt source disk old new i stop) (StepIsUntouched disk old new) (command_steps command)
       ⊎ (HasPassed i × (stop ≡ status.Memory))
 
-  -- before anything is written: the texts of a command that passed, and whose messages are valid, or the status of one that stopped; the sinks are as they were
+  -- before anything is written: the texts of a command that passed, and whose messages are valid, or the status of one that
+  -- stopped; the sinks are as they were
   abbrev pub CommandGives : Result Texts Status → Inputs → Type 0
   CommandGives (Ok texts) i = HasPassed i × (texts.report ≡ report_in command i) × (texts.out ≡ out_in command i) × SendsValid command i
   CommandGives (Err stop) i = HasStopped stop i
@@ -48,7 +49,8 @@ module _ {S K D : Type 0} (source : sources.Ghosts S) (disk : disks.Ghosts D) (c
     pub report : Received sink.held sink.faults old.report new.report (report_in command i)
     pub out : Received sink.held sink.faults old.out new.out (out_in command i)
 
-  -- WriteFault: all was read and found right, and a sink failed: the report was received in part and nothing was sent, or the report whole and the outgoing messages in part
+  -- WriteFault: all was read and found right, and a sink failed: the report was received in part and nothing was sent, or the
+  -- report whole and the outgoing messages in part
   pub record EndsWriting (sink : sinks.Ghosts K) (s : Status) (i : Inputs) : Type 0 where
     pub then : ℕ
     pub now : ℕ

@@ -18,7 +18,9 @@ use Rattle.ssi_versions.specs.Rows.{instruction_of}
 use Rattle.corr_top.specs.declared.directory.Directory.{Directory}
 use Rattle.corr_top.specs.Message.{pays_in, readings_of, replies_in}
 
--- The home bank, the day and the number of workers that the words name; the bytes that were read of each file, and the messages of the message file; the accounts and the history of the journal as it was opened; and the pays that the workers entered, in the order of the journal. What was not reached has none.
+-- The home bank, the day and the number of workers that the words name; the bytes that were read of each file, and the messages
+-- of the message file; the accounts and the history of the journal as it was opened; and the pays that the workers entered, in
+-- the order of the journal. What was not reached has none.
 pub record Inputs : Type 0 where
   pub home : Bic
   pub day : Day

@@ -42,7 +42,8 @@ module _ {D : Type 0} (d : outside.Ghosts D) where
   abbrev pub IsMakeable : D → Type 0
   IsMakeable disk = IsTrue (d.honest disk) → (first : ℕ) → IsOther (d.reads disk) first → ⊥
 
-  -- How the making of these accounts' journal stops: by its cause. Where something else stands nothing is written, and a crash at any moment leaves a disk on which nothing is made yet, or the new journal.
+  -- How the making of these accounts' journal stops: by its cause. Where something else stands nothing is written, and a crash at
+  -- any moment leaves a disk on which nothing is made yet, or the new journal.
   pub record StopsMaking (old new : D) (chart : Chart) (fault : MakeFault) : Type 0 where
     pub cause : MakeCause (d.faults old) (d.faults new) (λ first. IsTrue (d.honest old) → IsOther (d.reads old) first) fault
     pub untouched : (first : ℕ) → IsTrue (d.honest old) → IsOther (d.reads old) first → IsUnwritten old new
@@ -64,7 +65,8 @@ module _ {D : Type 0} (d : outside.Ghosts D) where
     pub untouched : IsUnwritten disk (disk_of book.file)
     pub sure : HasNotFailed disk (disk_of book.file)
 
-  -- What the entering of pays of a day left, whether it came to its end or not: this history alone, or, where a call failed, it or it and one legal entry more of that day.
+  -- What the entering of pays of a day left, whether it came to its end or not: this history alone, or, where a call failed, it
+  -- or it and one legal entry more of that day.
   abbrev pub IsLeft : D → D → Chart → List Entry → Day → Type 0
   IsLeft old new chart history day =
       (HasNotFailed old new × IsOnDisk new chart history) ⊎ (Rose (d.faults old) (d.faults new) × IsLeftBy (d.honest new) (d.may_leave new) chart history day)

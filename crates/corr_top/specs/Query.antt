@@ -26,13 +26,15 @@ query_report (query.Send from until) chart history = []
 query_report query.Bookings chart history = bookings_of chart history
 query_report (query.Statements day) chart history = []
 
--- `send` sends the outgoing messages of the entries at these places, as far as there are any, and `statements` the pages of the vostro accounts, each followed by `$`
+-- `send` sends the outgoing messages of the entries at these places, as far as there are any, and `statements` the pages of the
+-- vostro accounts, each followed by `$`
 abbrev pub query_out : Query → Chart → List Entry → List ℕ
 query_out (query.Send from until) chart history = sent_from chart from (take until history)
 query_out query.Bookings chart history = []
 query_out (query.Statements day) chart history = sent_statements chart history day
 
--- What is known of what is sent: statements close at the balances, and are accepted. What `send` sends was entered under other tables, and may not pass under any that are known.
+-- What is known of what is sent: statements close at the balances, and are accepted. What `send` sends was entered under other
+-- tables, and may not pass under any that are known.
 abbrev pub QuerySends : Query → Chart → List Entry → Type 0
 QuerySends (query.Send from until) chart history = Unit {0}
 QuerySends query.Bookings chart history = Unit {0}

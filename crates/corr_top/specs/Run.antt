@@ -14,7 +14,8 @@ abbrev pub run_steps : List Step
 run_steps =
     Step.table names.Bics ∷ Step.table names.Ccys ∷ Step.table names.Countries ∷ Step.table names.Ssi ∷ Step.open_journal ∷ Step.day ∷ Step.messages ∷ Step.book ∷ []
 
--- its report: of the history that one thread makes of the journal's and the entered pays, in the order in which they were entered, and of the reply to each message
+-- its report: of the history that one thread makes of the journal's and the entered pays, in the order in which they were
+-- entered, and of the reply to each message
 abbrev pub run_report : Inputs → List ℕ
 run_report i = report_of i.chart (new_in i) (replies_of i)
 

@@ -50,7 +50,9 @@ halt_of (served.Reply told) = None
 halt_of (served.Full entries end need) = None
 halt_of (served.Stopped why) = Some why
 
--- What became of a message that asks for a pay, or gives none, and of a pass: the pay was booked with the pass, and the answer tells what became of the message; or it has the reply of a message without a pay. Where memory ran out before that, the pass is as it was; so it is where there is no pay.
+-- What became of a message that asks for a pay, or gives none, and of a pass: the pay was booked with the pass, and the answer
+-- tells what became of the message; or it has the reply of a message without a pay. Where memory ran out before that, the pass is
+-- as it was; so it is where there is no pay.
 abbrev pub AnswersMessage : Opening → Result Pay NoPay → PassKnows → PassKnows → Served → Type 0
 AnswersMessage o (Ok pay) old new made =
     ((new ≡ old) × (made ≡ served.Stopped halt.Memory)) ⊎ ((answer : Answer) × Told o pay old answer new × HasShape pay × (made ≡ served_of pay.mir answer))
@@ -68,7 +70,8 @@ starting pass = record { pass = pass; halted = None }
 
 -- ---- a message, when the books are closed
 
--- A message asks for a pay that found no room: not in a history that goes on from the opening, and with which the history at the end begins; the numbers are those of that history.
+-- A message asks for a pay that found no room: not in a history that goes on from the opening, and with which the history at the
+-- end begins; the numbers are those of that history.
 pub record IsShort (o : Opening) (history : List Entry) (reading : Result Pay NoPay) (entries end need : ℕ) : Type 0 where
   pub pay : Pay
   pub asks : reading ≡ Ok pay
@@ -109,13 +112,15 @@ IsTried (served.Stopped why) = ⊥
 abbrev pub SaysFailed : List Served → Type 0
 SaysFailed made = (at : ℕ) × (slice_get made at ≡ Some (served.Stopped halt.Disk))
 
--- A front part of these pays was entered, but those without room: all of them were tried where each message was answered or found no room; where the disk failed over a pay, it is the first behind them, and is not entered.
+-- A front part of these pays was entered, but those without room: all of them were tried where each message was answered or found
+-- no room; where the disk failed over a pay, it is the first behind them, and is not entered.
 pub record AreEntered (o : Opening) (history : List Entry) (pays : List Pay) (made : List Served) : Type 0 where
   pub entered : EntersFront o.accounts o.base pays o.day history
   pub all : All IsTried made → entered.rest ≡ []
   pub failed : SaysFailed made → BeginsNew history entered.rest
 
--- One worker served the messages in their order: where each has a reply, it made the fold of their pays; the first that found no room found none in the fold of the pays ahead of it; and whatever became of them, a front part of the pays was entered.
+-- One worker served the messages in their order: where each has a reply, it made the fold of their pays; the first that found no
+-- room found none in the fold of the pays ahead of it; and whatever became of them, a front part of the pays was entered.
 pub record AreServedInOrder (o : Opening) (history : List Entry) (readings : List (Result Pay NoPay)) (made : List Served) : Type 0 where
   pub all : (replies : List Reply) → made ≡ are_replies replies → history ≡ fold_of o.accounts o.base (pays_in readings) o.day
   pub short : (entries end need : ℕ) → IsFirstFull made entries end need → LacksRoom o.accounts o.base (pays_in readings) o.day history entries end need
@@ -123,7 +128,8 @@ pub record AreServedInOrder (o : Opening) (history : List Entry) (readings : Lis
 
 -- ---- the journal, when the books are closed
 
--- The history is that at the opening and further entries of the day, each of a pay of the messages, in a journal that may be opened again. The disk is as closing the books leaves it.
+-- The history is that at the opening and further entries of the day, each of a pay of the messages, in a journal that may be
+-- opened again. The disk is as closing the books leaves it.
 pub record HasServed {D : Type 0} (disk : disks.Ghosts D) (o : Opening) (readings : List (Result Pay NoPay)) (chart : Chart) (history : List Entry) (left : D) : Type 0 where
   pub accounts : chart ≡ o.accounts
   pub added : List Entry
@@ -133,7 +139,8 @@ pub record HasServed {D : Type 0} (disk : disks.Ghosts D) (o : Opening) (reading
   pub leaves : LeavesClosed disk o history left
   pub honest : disk.honest left ≡ o.honest
 
--- Messages were served over books, and the books were closed: what is left, and what was made of each message; or there was no memory to serve any, and nothing was entered.
+-- Messages were served over books, and the books were closed: what is left, and what was made of each message; or there was no
+-- memory to serve any, and nothing was entered.
 pub record AllServed {D : Type 0} (disk : disks.Ghosts D) (o : Opening) (readings : List (Result Pay NoPay)) (day : ServedDay D) : Type 0 where
   pub left : HasServed disk o readings day.closed.accounts day.closed.history.entries day.closed.disk
   pub told : IfOk day.served (λ made. AreTold o day.closed.history.entries readings made.items)

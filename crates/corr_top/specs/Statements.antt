@@ -25,7 +25,8 @@ pages_sent chart entries day n account = if is_vostro account then parted_all (p
 abbrev pub sent_statements : Chart → List Entry → Day → List ℕ
 sent_statements chart entries day = numbered (pages_sent chart entries day) 1 chart.accounts
 
--- The statement of account n closes at its balance by the entries up to the day, and opens at that by the entries before it. Each page passes the tests of a sent message under all tables that hold the owner, and the currency with its decimals.
+-- The statement of account n closes at its balance by the entries up to the day, and opens at that by the entries before it. Each
+-- page passes the tests of a sent message under all tables that hold the owner, and the currency with its decimals.
 pub record IsStatementOfDay (chart : Chart) (entries : List Entry) (day : Day) (n : ℕ) : Type 0 where
   pub closes : ClosesAtBalance chart entries n day
   pub accepted : PagesAreAccepted chart entries n day

@@ -2,7 +2,8 @@
 use Rattle.std.specs.Prelude.{◌⊎◌, List, [], ◌∷◌}
 use Rattle.ref_tables.specs.declared.fault.TableName.{TableName}
 
--- What a command reads, tests and does before it writes: a table, the sums of the openings, the making of a journal, the journal as it is opened, the day against that of its last entry, the message file, the entering of its pays, and the received messages.
+-- What a command reads, tests and does before it writes: a table, the sums of the openings, the making of a journal, the journal
+-- as it is opened, the day against that of its last entry, the message file, the entering of its pays, and the received messages.
 pub data Step : Type 0 where
   table : TableName → Step
   sums : Step

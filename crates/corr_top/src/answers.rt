@@ -1,15 +1,13 @@
 //! The replies to messages, put together from what the workers made of them.
 
-ghost use Rattle.std.specs.Prelude.{◌≡◌, ◌++◌, ◌∷◌, [], IfErr, IfOk, IsFalse, IsTrue, OnOk, Some, if◌then◌else◌, is_none};
+ghost use Rattle.std.specs.Prelude.{◌≡◌, List, IfErr, IfOk, IsFalse, IsTrue, Some, if◌then◌else◌, is_none};
 ghost use Rattle.corr_text.specs.Faults.{Rose};
 ghost use Rattle.corr_top.specs.Collecting.{IsCalm, StopsAsServed};
 ghost use Rattle.corr_top.specs.Serving.{SaysFailed, are_replies};
+ghost use Rattle.day_model.specs.declared.reply.Reply.{Reply as TheReply};
 
 use crate::desk::{Halt, Served};
 use crate::status::Status;
-use corr_text::Memory;
-use day_model::Reply;
-use std::alloc::Global;
 
 /// Why the pays of a file were not all entered.
 #[derive(Clone, Copy, Debug, PartialEq, Eq)]
@@ -33,16 +31,6 @@ impl From<BookStop> for Status {
             BookStop::Full { entries, end, need } => Status::Full { entries, end, need },
             BookStop::Memory => Status::Memory,
         }
-    }
-}
-
-impl From<Memory> for BookStop {
-    ghost use Rattle.corr_top.specs.declared.answers.BookStop.TheVariants.{Memory as NoMemory};
-
-    ghost from_gives = { λ _ stop. stop ≡ NoMemory };
-
-    fn from(_e: Memory) -> BookStop {
-        BookStop::Memory
     }
 }
 
@@ -85,36 +73,22 @@ fn first_full(first: Option<BookStop>, later: BookStop) -> Option<BookStop>
     }
 }
 
-/// Adds a reply at the end.
-fn add(replies: &mut Vec<Reply>, reply: Reply) -> Result<(), Memory>
-    ensures { OnOk result (replies.new.items ≡ replies.old.items ++ reply ∷ []) }
-{
-    replies.push(reply)?;
-    Ok(())
-}
-
-/// The replies of messages of which each has one, in the order of the messages; or why one has none: the disk failed, whose
-/// count of faults was `before` at the opening and is `after`, memory ran out, or its pay, the first such, found no room.
+/// Tests that each message has a reply; or tells why one has none: the disk failed, whose count of faults was `before` at the
+/// opening and is `after`, memory ran out, or its pay, the first such, found no room.
 ///
 /// A count that rose without a message that says so is told as want of memory, which tells nothing.
-pub fn all_replies(
-    alloc: Global,
-    before: u64,
-    after: u64,
-    served: Vec<Served>,
-) -> Result<Vec<Reply>, BookStop>
-    ensures answered { IfOk result (λ replies. served.items ≡ are_replies replies.items) }
+pub fn check_replies(before: u64, after: u64, served: &[Served]) -> Result<(), BookStop>
+    ensures answered { IfOk result (λ _. (replies : List TheReply) × (served.now ≡ are_replies replies)) }
     ensures calm { IfOk result (λ _. IsCalm before after) }
-    ensures stopped { IfErr result (StopsAsServed before after served.items) }
+    ensures stopped { IfErr result (StopsAsServed before after served.now) }
 {
     if has_risen(before, after) {
-        return Err(failed_stop(before, after, served.as_slice()));
+        return Err(failed_stop(before, after, served));
     }
-    let mut replies = Vec::new(alloc);
     let mut full = None;
     for one in served {
-        match one {
-            Served::Reply(reply) => add(&mut replies, reply)?,
+        match *one {
+            Served::Reply(_) => {}
             Served::Full { entries, end, need } => {
                 full = first_full(full, BookStop::Full { entries, end, need });
             }
@@ -123,6 +97,6 @@ pub fn all_replies(
     }
     match full {
         Some(full) => Err(full),
-        None => Ok(replies),
+        None => Ok(()),
     }
 }

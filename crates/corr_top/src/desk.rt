@@ -1,6 +1,6 @@
 //! The desk of a run: what a worker does with a message.
 
-ghost use Rattle.std.specs.Prelude.{◌≡◌, ◌≤◌, [], All, IfOk, length, map, vec_capacity, vec_len};
+ghost use Rattle.std.specs.Prelude.{◌≡◌, ◌≤◌, [], length, map, vec_capacity, vec_len};
 ghost use Rattle.fin_frame.specs.File.{most_bytes};
 ghost use Rattle.corr_books.specs.Passes.{Belongs};
 ghost use Rattle.corr_top.specs.Message.{pay_asked_of};
@@ -12,22 +12,16 @@ use crate::worker::Worker;
 use corr_books::{Books, BooksName};
 use corr_disk::Disk;
 use corr_ids::Mir;
-use corr_text::{Memory, let_go};
+use corr_text::let_go;
 use day_model::Reply;
 use fin_frame::Framed;
+use fin_layout::Found;
 use fin_message::Message;
 use front_word::Pass;
 use jrn_book::{CommitFault, Committed};
 use std::alloc::Global;
 use std::sync::Wait;
 use work_pool::{Desk, Gate};
-
-/// A message to be answered, of at most 16,384 bytes, where it stands in its file.
-#[derive(Clone, Copy, Debug, Drop)]
-pub struct Job<'a> {
-    text: &'a [u8],
-    ghost short: { length text.now ≤ most_bytes },
-}
 
 /// Why a worker serves no more.
 #[derive(Clone, Copy, Debug, PartialEq, Eq)]
@@ -60,20 +54,6 @@ pub struct RunDesk<'a, N: BooksName, D: Disk> {
     pub books: Books<N, D>,
 }
 
-/// A job for each message, in their order.
-pub fn jobs_of<'a>(alloc: Global, messages: &'a [Framed<'_>]) -> Result<Vec<Job<'a>>, Memory>
-    requires short { All (λ m. length m ≤ most_bytes) messages.now }
-    ensures { IfOk result (λ jobs. map (λ job. job.text.now) jobs.items ≡ messages.now) }
-{
-    let mut jobs = Vec::with_capacity(alloc, messages.len())?;
-    for message in messages {
-        jobs.push(Job {
-            text: message.bytes(),
-        })?;
-    }
-    Ok(jobs)
-}
-
 /// Makes a worker of each pass. None has served yet.
 pub fn seat(alloc: Global, workers: &mut Vec<Worker>, passes: Vec<Pass>)
     requires empty { workers.old.items ≡ [] }
@@ -85,6 +65,7 @@ pub fn seat(alloc: Global, workers: &mut Vec<Worker>, passes: Vec<Pass>)
             pass,
             halted: None,
             room: Message::blank(alloc),
+            found: Found::new(alloc),
         });
     }
 }
@@ -98,6 +79,7 @@ pub fn vacate(passes: &mut Vec<Pass>, workers: Vec<Worker>)
     for worker in workers {
         passes.push_reserved(worker.pass);
         let_go(worker.room);
+        let_go(worker.found);
     }
 }
 
@@ -133,6 +115,7 @@ impl<'a, N: BooksName, D: Disk> RunDesk<'a, N, D> {
         rt: &R,
         pass: &mut Pass,
         room: &mut Message,
+        found: &mut Found,
         worker: u32,
         text: &[u8],
         gate: &G,
@@ -143,7 +126,7 @@ impl<'a, N: BooksName, D: Disk> RunDesk<'a, N, D> {
         ensures answered { AnswersMessage N.opening (pay_asked_of self.now.directory.now N.opening.accounts text.now) pass.old pass.new result }
     {
         let accounts = self.books.accounts();
-        match read_message(self.alloc, self.directory, accounts, text, room) {
+        match read_message(self.alloc, self.directory, accounts, text, found, room) {
             Ok(pay) => as_served(pay.mir, self.books.book(rt, pass, worker, &pay, gate)),
             Err(Stop::NoPay(why)) => Served::Reply(reply_for(why)),
             Err(Stop::Memory) => Served::Stopped(Halt::Memory),
@@ -158,13 +141,13 @@ impl<'a, N: BooksName + Send + Sync, D: Disk + Drop + Send> Desk for RunDesk<'a,
 
     type Pass = Worker;
 
-    type Job = Job<'a>;
+    type Job = Framed<'a>;
 
     type Reply = Served;
 
     ghost takes = { λ _ worker. Belongs N.opening worker.pass };
 
-    ghost serves = { λ desk old job new served. Serves N.opening (pay_asked_of desk.directory.now N.opening.accounts job.text.now) old new served };
+    ghost serves = { λ desk old job new served. Serves N.opening (pay_asked_of desk.directory.now N.opening.accounts job) old new served };
 
     /// Answers the message, unless the worker has stopped. It stops where the disk failed and where memory ran out: so a
     /// worker enters what stands ahead of a message before what stands behind it, or nothing behind it.
@@ -173,13 +156,15 @@ impl<'a, N: BooksName + Send + Sync, D: Disk + Drop + Send> Desk for RunDesk<'a,
         rt: &R,
         pass: &mut Worker,
         worker: u32,
-        job: &Job<'a>,
+        job: &Framed<'a>,
         gate: &G,
     ) -> Served {
         if let Some(why) = pass.halted {
             return Served::Stopped(why);
         }
-        let made = self.answer(rt, &mut pass.pass, &mut pass.room, worker, job.text, gate);
+        let room = &mut pass.room;
+        let found = &mut pass.found;
+        let made = self.answer(rt, &mut pass.pass, room, found, worker, job.bytes(), gate);
         pass.halted = halt_of(&made);
         made
     }

@@ -153,7 +153,8 @@ fn put_line(alloc: Global, s: &Status, out: &mut Text) -> Result<(), Memory>
 /// Makes `out` the line that tells a status, as `corr: read fault 0 1`, without a line end (docs/operating.md, "Statuses"),
 /// in place of what it held.
 ///
-/// The decimals of an `Unbalanced` are at most 4. `Memory`: there was no room for the line; then `out` is empty.
+/// The decimals of an `Unbalanced` are at most 4, and the day of a `DateBack` is of 1980 to 2079. `Memory`: there was no room
+/// for the line; then `out` is empty.
 pub fn put_status_line(alloc: Global, s: &Status, out: &mut Text) -> Result<(), Memory>
     requires { HasLine s.now }
     ensures ok { OnOk result (out.new ≡ status_line_of s.now) }
@@ -167,7 +168,7 @@ pub fn put_status_line(alloc: Global, s: &Status, out: &mut Text) -> Result<(), 
     put
 }
 
-/// The line of `put_status_line` as a text of its own.
+/// The line of `put_status_line` as a text of its own, of the same statuses. `Memory`: there was no room for it.
 pub fn status_line(alloc: Global, s: &Status) -> Result<Text, Memory>
     requires { HasLine s.now }
     ensures { IfOk result (λ line. line ≡ status_line_of s.now) }

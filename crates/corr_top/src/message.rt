@@ -15,6 +15,7 @@ use crate::directory::Directory;
 use corr_ids::{Envelope, Mir};
 use corr_text::{Code, Fault, Text};
 use day_model::{Accounts, Pay, Reply};
+use fin_layout::Found;
 use fin_message::{Message, MessageFault, verdict_into};
 use pay_plan::{Ask, PlanFault, plan};
 use std::alloc::Global;
@@ -143,13 +144,15 @@ fn read_pay(
     }
 }
 
-/// The pay that a message of at most 16,384 bytes asks for, or why it gives none. `room` is where the message is read into.
+/// The pay that a message of at most 16,384 bytes asks for, or why it gives none. `room` is where the message is read into,
+/// `found` is room for the places of its fields.
 #[tactic(auto, unfolding(crate::specs::Message::pay_asked_of))]
 pub fn read_message(
     alloc: Global,
     directory: &Directory,
     accounts: &Accounts,
     b: &[u8],
+    found: &mut Found,
     room: &mut Message,
 ) -> Result<Pay, Stop>
     requires { length b.now ≤ most_bytes }
@@ -157,6 +160,6 @@ pub fn read_message(
     ensures fits { IfOk result (FitsAccounts accounts.now) }
     ensures shape { IfOk result HasShape }
 {
-    verdict_into(alloc, b, accounts.home(), &directory.tables, room)?;
+    verdict_into(alloc, b, accounts.home(), &directory.tables, found, room)?;
     read_pay(alloc, directory, accounts, room)
 }

@@ -15,9 +15,10 @@ ghost use Rattle.corr_top.specs.MessageFile.{most_messages};
 ghost use Rattle.corr_top.specs.Out.{sent_from};
 ghost use Rattle.corr_top.specs.Serving.{HasPayShape, are_replies};
 ghost use Rattle.corr_top.specs.declared.words.Command.TheVariants.{Run};
+ghost use Rattle.corr_top.specs.declared.desk.Served.TheVariants.{Reply as HasReply};
 ghost use Rattle.day_model.specs.declared.reply.Reply.{Reply as TheReply};
 
-use crate::answers::all_replies;
+use crate::answers::check_replies;
 use crate::cutting::{cut_file, read_file};
 use crate::desk::Served;
 use crate::directory::{Directory, read_directory};
@@ -30,68 +31,98 @@ use corr_books::{Closed, Opened, open_books};
 use corr_disk::Disk;
 use corr_ids::Day;
 use corr_io::{Sink, Source};
-use corr_report::report;
-use corr_text::Memory;
+use corr_report::{put_reply_line, put_report_end};
+use corr_text::{Memory, Text};
 use day_model::{Accounts, History, Reply};
 use std::alloc::Global;
 use std::sync::Wait;
 use std::thread::Threads;
 use work_pool::Gate;
 
-/// The report of replies, and the outgoing messages of the entries behind the first `count`.
+/// The reply of a message that has one.
+fn reply_in(served: &Served) -> &Reply
+    requires { (reply : TheReply) × (served.now ≡ HasReply reply) }
+    ensures { served.now ≡ HasReply result.now }
+{
+    match served {
+        Served::Reply(reply) => reply,
+        _ => unreachable!(),
+    }
+}
+
+/// The report of replies, where they stand among what was served, in the memory of `room`.
+fn report_served(
+    alloc: Global,
+    a: &Accounts,
+    h: &History,
+    served: &[Served],
+    room: Text,
+) -> Result<Text, Memory>
+    requires legal { IsLegal a.now h.now.entries }
+    requires served { (replies : List TheReply) × (served.now ≡ are_replies replies) × All (NamesPlace h.now.entries) replies }
+    ensures { IfOk result (λ text. (replies : List TheReply) → served.now ≡ are_replies replies → text ≡ report_of a.now h.now.entries replies) }
+{
+    let mut report = room;
+    report.truncate(0);
+    for (at, one) in served.iter().enumerate() {
+        put_reply_line(alloc, a, h, at as u64 + 1, reply_in(one), &mut report)?;
+    }
+    put_report_end(alloc, a, h, served.len() as u64, &mut report)?;
+    Ok(report)
+}
+
+/// The report of replies, in the memory of `room`, and the outgoing messages of the entries behind the first `count`.
 fn make_texts(
     alloc: Global,
     a: &Accounts,
     h: &History,
     count: u32,
-    replies: &[Reply],
+    served: &[Served],
+    room: Text,
 ) -> Result<Texts, Memory>
     requires home { IsBic a.now.home }
     requires legal { IsLegal a.now h.now.entries }
     requires shapes { All HasPayShape h.now.entries }
-    requires places { All (NamesPlace h.now.entries) replies.now }
-    requires few { (count ≤ length h.now.entries) × (length replies.now ≤ most_messages) }
-    ensures report { IfOk result (λ texts. texts.report ≡ report_of a.now h.now.entries replies.now) }
+    requires served { (replies : List TheReply) × (served.now ≡ are_replies replies) × All (NamesPlace h.now.entries) replies }
+    requires few { (count ≤ length h.now.entries) × (length served.now ≤ most_messages) }
+    ensures report { IfOk result (λ texts. (replies : List TheReply) → served.now ≡ are_replies replies → texts.report ≡ report_of a.now h.now.entries replies) }
     ensures out { IfOk result (λ texts. texts.out ≡ sent_from a.now (count + 1) h.now.entries) }
     ensures accepted { OnOk result (SendsAccepted a.now (count + 1) h.now.entries) }
 {
     Ok(Texts {
-        report: report(alloc, a, h, replies)?,
+        report: report_served(alloc, a, h, served, room)?,
         out: outgoing(alloc, a, h, count + 1, h.len())?,
     })
 }
 
 /// The texts of a day that was served, or why there are none. The disk's count of faults was `before` at the opening, and the
-/// history then had `count` entries.
+/// history then had `count` entries. The report is made in the memory of `room`.
 fn texts_of<D: Disk + Drop>(
     alloc: Global,
     day: &Closed<D>,
     served: Vec<Served>,
     before: u64,
     count: u32,
+    room: Text,
 ) -> Result<Texts, Status>
     requires journal { IsJournal day.now.accounts day.now.history.entries }
     requires places { (replies : List TheReply) → served.items ≡ are_replies replies → All (NamesPlace day.now.history.entries) replies }
     requires few { (count ≤ length day.now.history.entries) × (length served.items ≤ most_messages) }
     ensures { GivesTexts day.now.accounts day.now.history.entries served.items before (D.faults day.now.disk) count result }
 {
-    let replies = all_replies(alloc, before, day.disk.faults(), served)?;
-    Ok(make_texts(
-        alloc,
-        &day.accounts,
-        &day.history,
-        count,
-        replies.as_slice(),
-    )?)
+    let served = served.as_slice();
+    check_replies(before, day.disk.faults(), served)?;
+    Ok(make_texts(alloc, &day.accounts, &day.history, count, served, room)?)
 }
 
 /// The disk and the texts of a day that was served, or why there are none. The disk's count of faults was `before` at the
-/// opening, and the history then had `count` entries.
+/// opening, and the history then had `count` entries. The report is made in the memory of `room`.
 fn end_day<D: Disk + Drop>(
     alloc: Global,
     day: ServedDay<D>,
     before: u64,
     count: u32,
+    room: Text,
 ) -> (D, Result<Texts, Status>)
     requires journal { IsJournal day.closed.accounts day.closed.history.entries }
     requires places { IfOk day.served (λ made. (replies : List TheReply) → made.items ≡ are_replies replies → All (NamesPlace day.closed.history.entries) replies) }
@@ -102,7 +133,7 @@ fn end_day<D: Disk + Drop>(
     let ServedDay { closed, served } = day;
     match served {
         Ok(served) => {
-            let texts = texts_of(alloc, &closed, served, before, count);
+            let texts = texts_of(alloc, &closed, served, before, count, room);
             (closed.disk, texts)
         }
         Err(memory) => (closed.disk, Err(Status::from(memory))),
@@ -136,9 +167,9 @@ fn run_day<R: Wait + Threads + Sync, S: Source, D: Disk + Drop + Send, G: Gate +
         Err(stop) => return (opened.into_disk(), Err(Status::from(stop))),
     };
     let count = opened.history().len();
-    let messages = messages.as_slice();
+    let messages = messages.into_vec();
     match serve_all(rt, alloc, directory, opened, workers, messages, gate) {
-        Ok(day) => end_day(alloc, day, before, count),
+        Ok(day) => end_day(alloc, day, before, count, file),
         Err((disk, memory)) => (disk, Err(Status::from(memory))),
     }
 }

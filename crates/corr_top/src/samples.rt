@@ -5,6 +5,9 @@ ghost use Rattle.corr_top.specs.Samples.{sample_accounts, sample_bics, sample_cc
 
 use corr_ids::{Bic, Day};
 
+/// 3 June 2024, as days since 1970-01-01.
+const DAY: Day = Day(19877);
+
 /// The bank.
 pub fn sample_home() -> Bic
     ensures { result ≡ sample_home }
@@ -19,7 +22,7 @@ pub fn sample_home() -> Bic
 pub fn sample_day() -> Day
     ensures { result ≡ sample_day }
 {
-    Day(19877)
+    DAY
 }
 
 /// The banks that it knows.

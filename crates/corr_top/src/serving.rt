@@ -1,14 +1,13 @@
 //! Workers serve the messages of a day over the books of a journal.
 
-ghost use Rattle.std.specs.Prelude.{◌≡◌, ◌≤◌, [], All, IfErr, IfOk, length, map, vec_capacity};
-ghost use Rattle.fin_frame.specs.File.{most_bytes};
+ghost use Rattle.std.specs.Prelude.{◌≡◌, ◌≤◌, [], IfErr, IfOk, vec_capacity};
 ghost use Rattle.jrn_file.specs.File.{disk_of};
 ghost use Rattle.corr_books.specs.Opening.{IsNamed, opening_with};
 ghost use Rattle.work_pool.specs.Served.{most_workers};
 ghost use Rattle.corr_top.specs.Message.{readings_of};
 ghost use Rattle.corr_top.specs.Serving.{AllServed};
 
-use crate::desk::{Job, RunDesk, Served, jobs_of, seat, vacate};
+use crate::desk::{RunDesk, Served, seat, vacate};
 use crate::directory::Directory;
 use crate::worker::Worker;
 use corr_books::{BooksName, Closed, Opened};
@@ -30,29 +29,21 @@ pub struct ServedDay<D: Disk> {
     pub served: Result<Vec<Served>, Memory>,
 }
 
-/// The memory that serving takes: a job for each message, and room for the workers and for their passes at the end.
+/// The memory that serving takes: room for the workers and for their passes at the end.
 #[derive(Drop)]
-struct Places<'a> {
-    jobs: Vec<Job<'a>>,
+struct Places {
     workers: Vec<Worker>,
     passes: Vec<Pass>,
 }
 
-/// The jobs of messages, and room for so many workers.
-fn make_places<'a>(
-    alloc: Global,
-    workers: u32,
-    messages: &'a [Framed<'_>],
-) -> Result<Places<'a>, Memory>
-    requires short { All (λ m. length m ≤ most_bytes) messages.now }
-    ensures jobs { IfOk result (λ places. map (λ job. job.text.now) places.jobs.items ≡ messages.now) }
+/// Room for so many workers.
+fn make_places(alloc: Global, workers: u32) -> Result<Places, Memory>
     ensures workers { IfOk result (λ places. (places.workers.items ≡ []) × (workers ≤ vec_capacity places.workers)) }
     ensures passes { IfOk result (λ places. (places.passes.items ≡ []) × (workers ≤ vec_capacity places.passes)) }
 {
     Ok(Places {
         workers: Vec::with_capacity(alloc, workers as usize)?,
         passes: Vec::with_capacity(alloc, workers as usize)?,
-        jobs: jobs_of(alloc, messages)?,
     })
 }
 
@@ -70,16 +61,15 @@ fn serve_named<
     directory: &Directory,
     opened: Opened<D>,
     workers: u32,
-    messages: &[Framed<'_>],
+    messages: Vec<Framed<'_>>,
     gate: &G,
 ) -> Result<ServedDay<D>, (D, Memory)>
     requires named { IsNamed D.Disk N.opening N.table opened workers }
     requires count { (1 ≤ workers) × (workers ≤ most_workers) }
-    requires short { All (λ m. length m ≤ most_bytes) messages.now }
-    ensures served { IfOk result (λ day. AllServed D.Disk (opening_with D.Disk opened workers) (readings_of directory.now opened.accounts messages.now) day) }
+    ensures served { IfOk result (λ day. AllServed D.Disk (opening_with D.Disk opened workers) (readings_of directory.now opened.accounts messages.entry.items) day) }
     ensures disk { IfErr result (λ e. e.0 ≡ disk_of opened.file) }
 {
-    let Ok(places) = make_places(alloc, workers, messages) else {
+    let Ok(places) = make_places(alloc, workers) else {
         return Err((opened.into_disk(), Memory));
     };
     let (books, passes) = match opened.books::<N>(alloc, workers) {
@@ -87,7 +77,6 @@ fn serve_named<
         Err(refused) => return Err(refused),
     };
     let Places {
-        jobs,
         workers: mut staff,
         passes: mut back,
     } = places;
@@ -97,7 +86,7 @@ fn serve_named<
         directory,
         books,
     };
-    let worked = run_jobs(rt, alloc, &desk, staff, jobs, gate);
+    let worked = run_jobs(rt, alloc, &desk, staff, messages, gate);
     let RunDesk { books, .. } = desk;
     vacate(&mut back, worked.passes);
     let Ok(closed) = books.close(back) else {
@@ -118,12 +107,11 @@ pub fn serve_all<R: Wait + Threads + Sync, D: Disk + Drop + Send, G: Gate + Sync
     directory: &Directory,
     opened: Opened<D>,
     workers: u32,
-    messages: &[Framed<'_>],
+    messages: Vec<Framed<'_>>,
     gate: &G,
 ) -> Result<ServedDay<D>, (D, Memory)>
     requires count { (1 ≤ workers) × (workers ≤ most_workers) }
-    requires short { All (λ m. length m ≤ most_bytes) messages.now }
-    ensures served { IfOk result (λ day. AllServed D.Disk (opening_with D.Disk opened workers) (readings_of directory.now opened.accounts messages.now) day) }
+    ensures served { IfOk result (λ day. AllServed D.Disk (opening_with D.Disk opened workers) (readings_of directory.now opened.accounts messages.entry.items) day) }
     ensures disk { IfErr result (λ e. e.0 ≡ disk_of opened.file) }
 {
     serve_named::<Brand, _, _, _>(rt, alloc, directory, opened, workers, messages, gate)

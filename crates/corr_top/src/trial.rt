@@ -139,7 +139,7 @@ fn run_trial<R: Wait + Threads + Sync, G: Gate + Sync>(
     let opened = sample_books(alloc)?;
     let text = generated(alloc, count, seed)?;
     let messages = cut_day(alloc, text.bytes())?;
-    let messages = messages.as_slice();
+    let messages = messages.into_vec();
     match serve_all(rt, alloc, &directory, opened, workers, messages, gate) {
         Ok(day) => {
             let ServedDay { closed, .. } = day;

@@ -5,7 +5,7 @@ use Rattle.std.specs.List.{AllByRecursion, list_all}
 use Rattle.std.proofs.lemmas.Bool.Decides.{nat_tests}
 use Rattle.std.proofs.lemmas.Int.{ints}
 use Rattle.std.proofs.lemmas.List.Elements.{All-append, All-from_recursion, All-nil, All-weaker, recursion_from_All}
-use Rattle.corr_text.specs.First.{◌>>=◌}
+use Rattle.corr_text.specs.First.{unless_fault, ◌>>=◌}
 use Rattle.corr_text.specs.Sets.{is_in}
 use Rattle.corr_text.specs.declared.set.Set.TheVariants.{X}
 use mir.Syntax.{w64}
@@ -16,7 +16,7 @@ use Rattle.day_model.specs.Balance.{balance_of}
 use Rattle.day_model.specs.Chart.{Chart, IsListed, IsSmall}
 use Rattle.fin_contents.specs.Writing.{IsReadable}
 use Rattle.mt950.specs.Entry.{effect_of, signed_amount}
-use Rattle.mt950.specs.Joining.{first_gap, first_uncarried, joined_of, last_of, lines_of_pages, sum_test, unless_page_fault}
+use Rattle.mt950.specs.Joining.{first_gap, first_uncarried, joined_of, last_of, lines_of_pages, sum_test}
 use Rattle.mt950.specs.Page.{mt950_of}
 use Rattle.mt950.specs.Writing.{IsWritableLine}
 use Rattle.mt950.specs.declared.entry.Line61.{Line61}
@@ -92,7 +92,7 @@ joined-lines (first ∷ pages) s e =
       day = last.closing.day;
     } in
     sym (ap (λ (x : Statement). x.lines)
-    (ok-value (unless_page_fault (option_map Gap (first_gap first (length all) 0 all))) (unless_page_fault (first_uncarried first all)) (sum_test first.opening.signed (lines_of_pages all) last.closing.signed) v s e))
+    (ok-value (unless_fault (option_map Gap (first_gap first (length all) 0 all))) (unless_fault (first_uncarried first all)) (sum_test first.opening.signed (lines_of_pages all) last.closing.signed) v s e))
 
 pub received-lines : (s : Statement) → IsReceived s → All IsLine s.lines
 received-lines s is =

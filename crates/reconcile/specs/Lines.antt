@@ -5,8 +5,6 @@ use Rattle.std.specs.Option.{option_map_or}
 use Rattle.corr_text.specs.Digits.{padded}
 use Rattle.corr_money.specs.Amounts.{amount_text, signed_text}
 use Rattle.corr_report.specs.Lines.{line, spaced}
-use Rattle.day_model.specs.declared.pay.Side.{Side}
-use Rattle.day_model.specs.declared.pay.Side.TheVariants.{Debit, Credit}
 use Rattle.mt950.specs.Writing.{mark_text}
 use Rattle.mt950.specs.declared.entry.Line61.{Line61}
 use Rattle.mt950.specs.declared.joining.PageFault.{PageFault}
@@ -14,11 +12,6 @@ use Rattle.mt950.specs.declared.joining.PageFault.TheVariants.{Gap, NotCarried, 
 use Rattle.statement.specs.Lines.{Placed}
 use Rattle.reconcile.specs.Comparison.{placed_at}
 use Rattle.reconcile.specs.declared.comparing.Compared.{Compared}
-
--- the letter of a side
-abbrev pub side_text : Side → List ℕ
-side_text Debit = codes "D"
-side_text Credit = codes "C"
 
 -- `PAIR 00000001 00001`
 abbrev pub pair_line : ℕ × ℕ → List ℕ

@@ -10,25 +10,14 @@ ghost use Rattle.statement.specs.Lines.{PlacesFrom};
 ghost use Rattle.statement.specs.Running.{placed_by};
 ghost use Rattle.reconcile.specs.Bounds.{CanBeKeyed, IsLine};
 ghost use Rattle.reconcile.specs.Comparison.{placed_at};
-ghost use Rattle.reconcile.specs.Lines.{compared_lines, fault_words, gap_line, ours_line, ours_lines, pair_line, pair_lines, side_text, theirs_line, theirs_lines};
+ghost use Rattle.reconcile.specs.Lines.{compared_lines, fault_words, gap_line, ours_line, ours_lines, pair_line, pair_lines, theirs_line, theirs_lines};
 
 use crate::comparing::Compared;
-use corr_report::{put_amount, put_balance, put_number, put_word};
+use corr_report::{put_amount, put_balance, put_number, put_word, side_letter};
 use corr_text::{Memory, Text};
-use day_model::Side;
 use mt950::{Line61, PageFault};
 use statement::Movement;
 use std::alloc::Global;
-
-/// The letter of a side.
-fn side_text(side: Side) -> &'static [u8]
-    ensures { result.now ≡ side_text side }
-{
-    match side {
-        Side::Credit => b"C",
-        Side::Debit => b"D",
-    }
-}
 
 /// Adds the line of a pair: the place of the entry and the number of the line.
 fn put_pair(alloc: Global, place: u32, number: u32, out: &mut Text) -> Result<(), Memory>
@@ -57,7 +46,7 @@ fn put_entry(alloc: Global, entry: &Movement, decimals: u8, out: &mut Text) -> R
 {
     out.push(b"OURS")?;
     put_number(alloc, entry.place as u64, 8, out)?;
-    put_word(side_text(entry.side), out)?;
+    put_word(side_letter(entry.side), out)?;
     put_amount(alloc, entry.amount, decimals, out)?;
     put_word(entry.reference.bytes(), out)?;
     out.push(b"\n")

@@ -31,12 +31,13 @@ use Rattle.statement.specs.Lines.{lines_on}
 use Rattle.statement.specs.Pages.{page_message, page_at, pages_for, pages_from, pages_of, statement_of}
 use Rattle.statement.specs.Running.{message_by, page_by}
 use Rattle.statement.specs.Seen.{SeenBook}
-use Rattle.statement.specs.Valid.{AreReadBack, AreShaped, ClosesAtBalance, IsPrintable, Prints, PageReadsBack}
+use Rattle.statement.specs.Valid.{AreShaped, ClosesAtBalance, IsPrintable, Prints, PageReadsBack}
 use Rattle.statement.specs.declared.index.HistoryIndex.{HistoryIndex}
 use Rattle.statement.specs.declared.ledger.Ledger.{Ledger}
 use Rattle.statement.specs.declared.movement.Movement.{Movement}
 use Rattle.statement.proofs.Adding.{Kept, all-one, kept, kept-before}
 use Rattle.statement.proofs.PageSteps.{line-count, page-is, pages-more}
+use Rattle.statement.proofs.laws.Accepting.{AreReadBack}
 use Rattle.statement.proofs.laws.Closing.{closes}
 use Rattle.statement.proofs.laws.Readable.{page-readable, pages-few}
 

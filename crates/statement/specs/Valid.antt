@@ -56,11 +56,6 @@ pub record PageReadsBack (home to : Bic) (page : Page950) : Type 0 where
   pub cut : field_fault (fields_text (fields_950 page)) ≡ None
   pub again : (t : Tables) (fs : List Field) → mt950_of t fs ≡ Ok page → mt950_of t (fields_of (fields_text (fields_950 page))) ≡ Ok page
 
--- so do the messages of account n's pages
-abbrev pub AreReadBack : Chart → List Entry → ℕ → Day → Type 0
-AreReadBack chart entries n day =
-    (account : Account) → account_at chart n ≡ Some account → All (PageReadsBack chart.home account.owner) (statement_of chart entries n day)
-
 -- tables hold an account's owner, and its currency with its decimals
 pub record TablesKnow (t : Tables) (account : Account) : Type 0 where
   pub owner : has_head t account.owner.head ≡ true

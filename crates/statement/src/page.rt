@@ -13,15 +13,12 @@ use crate::ledger::Ledger;
 use crate::line::lines_of;
 use crate::movement::{Movement, balance_after};
 use crate::references::page_reference;
-use corr_ids::{Bic, Day, day_of_year};
+use corr_ids::{Bic, Day, FIRST_DAY, day_of_year};
 use corr_text::{Memory, Text};
 use day_model::AcctNo;
 use fin_blocks::put_blocks;
 use mt950::{Balance, Page950, put_mt950};
 use std::alloc::Global;
-
-/// The first day that a date of six digits can name, 1980-01-01.
-const FIRST_DAY: i32 = 3652;
 
 /// Where a page stands: of which account's statement, of which day, its number from 1, and whether it is the last.
 #[derive(Clone, Copy)]

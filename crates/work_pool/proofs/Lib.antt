@@ -1,5 +1,6 @@
 mod Places
 mod Turns
+mod Hands
 mod Deals
 mod Serving
 mod Replies

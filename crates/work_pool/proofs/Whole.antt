@@ -1,16 +1,16 @@
 -- From the jobs over the hands and the serves to the replies.
-use Rattle.std.proofs.Common.{◌≡◌, ◌<◌, ◌+◌, ◌-◌, ◌*◌, ◌/◌, ◌%◌, ℕ, zero, suc, List, [], ◌∷◌, length, map, get_or, Option, None, Some, refl, ap, sym, ◌∙◌, subst, arith}
+use Rattle.std.proofs.Common.{◌≡◌, ◌<◌, ◌≤◌, ◌+◌, ◌-◌, ◌*◌, ◌/◌, ◌%◌, ℕ, zero, suc, List, [], ◌∷◌, length, map, get_or, Option, None, Some, refl, ap, sym, ◌∙◌, subst, arith}
 use Rattle.std.specs.List.{slice_get}
 use Rattle.std.specs.Option.{IsSome, option_map, option_and_then}
 use Rattle.std.proofs.lemmas.List.{length-map}
 use Rattle.std.proofs.lemmas.Nat.{mod_below}
-use Rattle.std.proofs.lemmas.Option.{slice_get_within, slice_get_read, slice_get-map, get_or_from_slice_get, none-some, same_Some}
-use Rattle.work_pool.specs.declared.hand.Task.{Task}
+use Rattle.std.proofs.lemmas.Option.{slice_get_within, slice_get_past, slice_get_read, slice_get-map, get_or_from_slice_get, none-some, same_Some}
+use Rattle.work_pool.specs.Hands.{Task, unserved}
 use Rattle.work_pool.specs.declared.seat.Seat.{Seat}
-use Rattle.work_pool.specs.Tasks.{unserved, reply_of, reply_in, AreInHands, AreSeated, ServedHand, ServedSeats}
+use Rattle.work_pool.specs.Tasks.{reply_of, reply_in, task_in, AreInHands, AreSeated, ServedHand, ServedSeats}
 use Rattle.work_pool.specs.Served.{AllTaken, AreDealt, AreInTurn, AreServed, ServedWith}
 use Rattle.work_pool.proofs.Places.{there_is}
-use Rattle.work_pool.proofs.Turns.{place_only}
+use Rattle.work_pool.proofs.Turns.{place_of, place_only}
 use Rattle.work_pool.proofs.Lists.{numbers_from, numbers_in, next_round, list_of_hand, task_of, are_dealt}
 
 -- what stands in a list that was mapped
@@ -56,6 +56,14 @@ module _ {Pass Job Reply : Type 0} (serves : Pass → Job → Pass → Reply →
   has_reply before (o ∷ os) after (n ∷ ns) h zero old is = (h.1, h.2)
   has_reply before (o ∷ os) after (n ∷ ns) h (suc r) old is = has_reply h.3 os after ns h.5 r old is
 
+  -- and there are no others
+  no_more : (before : Pass) (olds : List (Task Job Reply)) (after : Pass) (news : List (Task Job Reply)) → ServedHand serves before olds after news → (r : ℕ) → slice_get olds r ≡ None → slice_get news r ≡ None
+  no_more before [] after [] h r none = none
+  no_more before [] after (n ∷ ns) h r none = absurd h
+  no_more before (o ∷ os) after [] h r none = absurd h
+  no_more before (o ∷ os) after (n ∷ ns) h zero none = absurd (none-some o (sym none))
+  no_more before (o ∷ os) after (n ∷ ns) h (suc r) none = no_more h.3 os after ns h.5 r none
+
   -- a hand that was served, by the numbers of its jobs
   served_with : (jobs : List Job) (replies : List Reply) (n first : ℕ) (before : Pass) (olds : List (Task Job Reply)) (after : Pass) (news : List (Task Job Reply)) → ServedHand serves before olds after news
       → ((r : ℕ) (old : Task Job Reply) → slice_get olds r ≡ Some old → slice_get jobs (r * n + first) ≡ Some old.job)
@@ -99,6 +107,14 @@ module _ {Pass Job Reply : Type 0} (serves : Pass → Job → Pass → Reply →
         let r = has_reply s.0.pass s.0.hand s.1.pass s.1.hand (done.served (i % n) s.0 s.1 s.2 s.3) (i / n) (unserved t.1) (ap (λ (l : List (Task Job Reply)). slice_get l (i / n)) (sym hand) ∙ t.4) in
         let there : reply_in left (i % n) (i / n) ≡ Some r.0 = ap (option_and_then (λ (seat : Seat Pass Job Reply). reply_of seat.hand (i / n))) s.3 ∙ r.1 in
         subst IsSome (sym there ∙ ap (λ (m : ℕ). reply_in left (i % m) (i / m)) (sym seats_count)) refl
+
+    -- and there are no tasks but those of jobs
+    pub no_others : (i : ℕ) → length jobs ≤ i → task_in left (i % length left) (i / length left) ≡ None
+    no_others i past =
+        let s = seat_at (i % n) (mod_below i n some) in
+        let none : slice_get s.0.hand (i / n) ≡ None = d.at (i % n) (i / n) s.0.hand s.5 ∙ ap (λ (m : ℕ). option_map unserved (slice_get jobs m)) (place_of i n) ∙ ap (option_map unserved) (slice_get_past jobs i past) in
+        let gone = no_more s.0.pass s.0.hand s.1.pass s.1.hand (done.served (i % n) s.0 s.1 s.2 s.3) (i / n) none in
+        ap (λ (m : ℕ). task_in left (i % m) (i / m)) seats_count ∙ ap (option_and_then (λ (seat : Seat Pass Job Reply). slice_get seat.hand (i / n))) s.3 ∙ gone
 
     pub all_served : (after : List Pass) (replies : List Reply) → after ≡ map (λ seat. seat.pass) left → length replies ≡ length jobs
         → ((i : ℕ) → i < length jobs → slice_get replies i ≡ reply_in left (i % length left) (i / length left))

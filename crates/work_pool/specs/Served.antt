@@ -25,7 +25,8 @@ pub record AreDealt (passes jobs : ℕ) (lists : List (List ℕ)) : Type 0 where
 abbrev pub AreInTurn : ℕ → List (List ℕ) → Type 0
 AreInTurn passes lists = (k n : ℕ) → StandsIn lists k n → k ≡ (n - 1) % passes
 
--- the pass after comes of the pass before by the serves of the jobs with these numbers, one after another, and each serve's reply stands under its job's number
+-- the pass after comes of the pass before by the serves of the jobs with these numbers, one after another, and each serve's reply
+-- stands under its job's number
 abbrev pub ServedWith : {Pass Job Reply : Type 0} → (Pass → Job → Pass → Reply → Type 0) → List Job → List Reply → List ℕ → Pass → Pass → Type 0
 ServedWith serves jobs replies [] before after = after ≡ before
 ServedWith {Pass} {Job} {Reply} serves jobs replies (n ∷ numbers) before after =
@@ -38,7 +39,8 @@ ServedWith {Pass} {Job} {Reply} serves jobs replies (n ∷ numbers) before after
 abbrev pub AllTaken : {Pass : Type 0} → (Pass → Type 0) → List Pass → Type 0
 AllTaken {Pass} takes passes = (k : ℕ) (pass : Pass) → slice_get passes k ≡ Some pass → takes pass
 
--- the passes after, at their places, come of those before by the serves of their lists, and there is a reply for each job, that of its serve
+-- the passes after, at their places, come of those before by the serves of their lists, and there is a reply for each job, that
+-- of its serve
 pub record AreServed {Pass Job Reply : Type 0} (serves : Pass → Job → Pass → Reply → Type 0) (before : List Pass) (jobs : List Job) (after : List Pass) (replies : List Reply) : Type 0 where
   pub lists : List (List ℕ)
   pub dealt : AreDealt (length before) (length jobs) lists

@@ -1,11 +1,7 @@
 -- Jobs on their way from the list of jobs over the workers' hands to the list of replies.
-use Rattle.std.specs.Prelude.{◌≡◌, ℕ, ◌+◌, ◌*◌, List, [], ◌∷◌, Option, None, Some, length, slice_get, option_map, option_and_then, map}
-use Rattle.work_pool.specs.declared.hand.Task.{Task}
+use Rattle.std.specs.Prelude.{◌≡◌, ℕ, ◌+◌, ◌*◌, List, [], ◌∷◌, Option, Some, IsSome, length, slice_get, option_map, option_and_then, map}
 use Rattle.work_pool.specs.declared.seat.Seat.{Seat}
-
--- a job that isn't served yet
-abbrev pub unserved : {Job Reply : Type 0} → Job → Task Job Reply
-unserved job = record { job = job; reply = None }
+use Rattle.work_pool.specs.Hands.{Task, unserved}
 
 -- the reply to the job at a place, if it was served
 abbrev pub reply_of : {Job Reply : Type 0} → List (Task Job Reply) → ℕ → Option Reply
@@ -14,6 +10,19 @@ reply_of hand at = option_and_then (λ task. task.reply) (slice_get hand at)
 -- the reply to the job at place r of the hand at seat k
 abbrev pub reply_in : {Pass Job Reply : Type 0} → List (Seat Pass Job Reply) → ℕ → ℕ → Option Reply
 reply_in seats k r = option_and_then (λ seat. reply_of seat.hand r) (slice_get seats k)
+
+-- each task has a reply
+abbrev pub AreReplied : {Job Reply : Type 0} → List (Task Job Reply) → Type 0
+AreReplied {Job} {Reply} hand = (r : ℕ) (task : Task Job Reply) → slice_get hand r ≡ Some task → IsSome task.reply
+
+-- the task at place r of the hand at seat k, if there is one
+abbrev pub task_in : {Pass Job Reply : Type 0} → List (Seat Pass Job Reply) → ℕ → ℕ → Option (Task Job Reply)
+task_in seats k r = option_and_then (λ seat. slice_get seat.hand r) (slice_get seats k)
+
+-- the job at place r * lists + k is the one at place r of list k, and there are no others
+pub record AreInLists {Job : Type 0} (lists : ℕ) (jobs : List Job) (dealt : List (List Job)) : Type 0 where
+  pub lists_count : length dealt ≡ lists
+  pub at : (k r : ℕ) (list : List Job) → slice_get dealt k ≡ Some list → slice_get list r ≡ slice_get jobs (r * lists + k)
 
 -- the job at place r * hands + k is the one at place r of hand k, and there are no others
 pub record AreInHands {Job Reply : Type 0} (hands : ℕ) (jobs : List Job) (dealt : List (List (Task Job Reply))) : Type 0 where

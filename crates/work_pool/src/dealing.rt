@@ -1,8 +1,8 @@
 //! Jobs are dealt out, and workers seated.
 
-ghost use Rattle.std.specs.Prelude.{◌≡◌, ◌<◌, ◌≤◌, [], IfOk, vec_len, vec_capacity};
+ghost use Rattle.std.specs.Prelude.{◌≡◌, ◌<◌, ◌≤◌, [], IfOk, map, vec_len, vec_capacity};
 ghost use Rattle.work_pool.specs.Served.{most_workers};
-ghost use Rattle.work_pool.specs.Tasks.{AreInHands, AreSeated};
+ghost use Rattle.work_pool.specs.Tasks.{AreInHands, AreInLists, AreSeated};
 
 use crate::hand::Hand;
 use crate::seat::Seat;
@@ -18,29 +18,42 @@ pub fn deal<J: Drop, R: Drop>(
     requires { 0 < count }
     ensures { IfOk result (λ hands. AreInHands count jobs.items hands.items) }
 {
-    let most = (jobs.len() / count).saturating_add(1);
-    let mut hands = empty_hands(alloc, count, most)?;
-    let mut dealt = 0;
-    for job in jobs {
-        hands[dealt % count].add(job)?;
-        dealt += 1;
+    let mut hands = Vec::with_capacity(alloc, count)?;
+    for jobs in deal_lists(alloc, count, jobs)? {
+        hands.push_reserved(Hand::of(alloc, jobs)?);
     }
     Ok(hands)
 }
 
-// So many hands without a job, each with room for `most`.
-fn empty_hands<J: Drop, R: Drop>(
-    alloc: Global,
-    count: usize,
-    most: usize,
-) -> Result<Vec<Hand<J, R>>, Memory>
-    ensures { IfOk result (λ hands. AreInHands count [] hands.items) }
+/// Deals the jobs out in turn into so many lists. A single list has them all where they are.
+fn deal_lists<J: Drop>(alloc: Global, count: usize, jobs: Vec<J>) -> Result<Vec<Vec<J>>, Memory>
+    requires { 0 < count }
+    ensures { IfOk result (λ lists. AreInLists count jobs.items (map (λ list. list.items) lists.items)) }
 {
-    let mut hands = Vec::with_capacity(alloc, count)?;
-    for _ in 0..count {
-        hands.push_reserved(Hand::with_room(alloc, most)?);
+    if count == 1 {
+        let mut lists = Vec::with_capacity(alloc, 1)?;
+        lists.push_reserved(jobs);
+        return Ok(lists);
     }
-    Ok(hands)
+    let most = (jobs.len() / count).saturating_add(1);
+    let mut lists = empty_lists(alloc, count, most)?;
+    let mut dealt = 0;
+    for job in jobs {
+        lists[dealt % count].push(job)?;
+        dealt += 1;
+    }
+    Ok(lists)
+}
+
+// So many lists without a job, each with room for `most`.
+fn empty_lists<J: Drop>(alloc: Global, count: usize, most: usize) -> Result<Vec<Vec<J>>, Memory>
+    ensures { IfOk result (λ lists. AreInLists count [] (map (λ list. list.items) lists.items)) }
+{
+    let mut lists = Vec::with_capacity(alloc, count)?;
+    for _ in 0..count {
+        lists.push_reserved(Vec::with_capacity(alloc, most)?);
+    }
+    Ok(lists)
 }
 
 /// Seats a worker with each pass and the hand at the same place.

@@ -1,66 +1,90 @@
 //! A worker's jobs.
 
-ghost use Rattle.std.specs.Prelude.{◌≡◌, ◌≢◌, ℕ, ◌++◌, ◌∷◌, [], Some, IfOk, IsSome, OnOk, OnErr};
-ghost use Rattle.work_pool.specs.Tasks.{unserved, reply_of, ServedHand};
+ghost use Rattle.std.specs.Prelude.{◌≡◌, ℕ, ◌<◌, ◌≤◌, ◌++◌, ◌∷◌, [], IfOk, List, Some, length, map, slice_get, vec_capacity};
+ghost use Rattle.work_pool.specs.Hands.{Task as TaskOf, tasks_of, unserved};
+ghost use Rattle.work_pool.specs.Tasks.{AreReplied, ServedHand, reply_of};
 
 use crate::desk::Desk;
 use crate::gate::Gate;
 use corr_text::Memory;
 use std::alloc::Global;
 use std::marker::Model;
+use std::mem;
 use std::sync::Wait;
 
-/// A job, and its reply once it was served.
-#[derive(Drop)]
-pub struct Task<J, R> {
-    job: J,
-    reply: Option<R>,
-}
-
-/// The jobs of one worker in their order. Contracts see them as a list of tasks.
+/// The jobs of one worker in their order, and the replies to those that were served. Contracts see them as a list of tasks,
+/// each a job with its reply.
 #[derive(Drop)]
 pub struct Hand<J, R> {
-    tasks: Vec<Task<J, R>>,
+    jobs: Vec<J>,
+    replies: Vec<R>,
 }
 
 impl<J, R> Model for Hand<J, R> {
-    ghost use Rattle.std.specs.Prelude.{List};
-    ghost use Rattle.work_pool.specs.declared.hand.Task.{Task as TaskOf};
+    ghost use Rattle.std.specs.Prelude.{◌≤◌, List, length, vec_capacity};
+    ghost use Rattle.work_pool.specs.Hands.{Task, tasks_of};
 
-    ghost Value = { List (TaskOf J R) };
+    ghost Value = { List (Task J R) };
 
-    ghost view = { λ h. h.tasks.items };
+    ghost view = { λ h. tasks_of h.jobs.items h.replies.items };
+
+    ghost invariant = { λ h. (length h.replies.items ≤ length h.jobs.items) × (length h.jobs.items ≤ vec_capacity h.replies) };
 }
 
 impl<J: Drop, R: Drop> Hand<J, R> {
-    /// No job yet, and room for `n`.
-    pub fn with_room(alloc: Global, n: usize) -> Result<Hand<J, R>, Memory>
-        ensures { IfOk result (λ hand. hand ≡ []) }
+    /// These jobs, none of them served, with room for their replies.
+    pub fn of(alloc: Global, jobs: Vec<J>) -> Result<Hand<J, R>, Memory>
+        ensures { IfOk result (λ hand. hand ≡ map unserved jobs.items) }
     {
-        Ok(Hand {
-            tasks: Vec::with_capacity(alloc, n)?,
-        })
+        let replies = Vec::with_capacity(alloc, jobs.len())?;
+        Ok(Hand { jobs, replies })
     }
 
-    /// Adds a job at the end. Want of memory leaves the hand as it was.
-    pub fn add(&mut self, job: J) -> Result<(), Memory>
-        ensures ok { OnOk result (self.new ≡ self.old ++ unserved job ∷ []) }
-        ensures err { OnErr result (self.new ≡ self.old) }
+    /// Takes all jobs away, and gives their replies.
+    pub fn take_all(&mut self, alloc: Global) -> Vec<R>
+        requires { AreReplied self.old }
+        ensures { (r : ℕ) → slice_get result.items r ≡ reply_of self.old r }
     {
-        self.tasks.push(Task { job, reply: None })?;
-        Ok(())
+        self.jobs.clear();
+        mem::replace(&mut self.replies, Vec::new(alloc))
     }
 
-    /// Takes the reply of the task at a place.
-    pub fn take_reply(&mut self, at: usize) -> R
-        requires there { IsSome (reply_of self.old at) }
-        ensures reply { Some result ≡ reply_of self.old at }
-        ensures others { (i : ℕ) → i ≢ at → reply_of self.new i ≡ reply_of self.old i }
+    /// Takes the last job away, and gives its reply.
+    pub fn pop(&mut self) -> R
+        requires some { 0 < length self.old }
+        requires served { AreReplied self.old }
+        ensures { (task : TaskOf J R) × (self.old ≡ self.new ++ task ∷ []) × (Some result ≡ task.reply) }
     {
-        let Some(reply) = self.tasks[at].reply.take() else {
+        self.jobs.pop();
+        let Some(reply) = self.replies.pop() else {
             unreachable!()
         };
         reply
+    }
+}
+
+// Serves jobs one after another, with the pass of their worker. There are no replies yet, and there is room for one a job.
+fn serve_jobs<K: Desk, R: Wait, G: Gate>(
+    rt: &R,
+    desk: &K,
+    gate: &G,
+    worker: u32,
+    pass: &mut K::Pass,
+    jobs: &[K::Job],
+    replies: &mut Vec<K::Reply>,
+)
+    requires taken { K.takes desk.now pass.old }
+    requires empty { replies.old.items ≡ [] }
+    requires room { length jobs.now ≤ vec_capacity replies.old }
+    ensures taken { K.takes desk.now pass.new }
+    // whatever had been replied before
+    ensures served { (first : List _) → ServedHand (K.serves desk.now) pass.old (tasks_of jobs.now first) pass.new (tasks_of jobs.now replies.new.items) }
+    ensures count { length replies.new.items ≡ length jobs.now }
+    ensures room { vec_capacity replies.new ≡ vec_capacity replies.old }
+{
+    for job in jobs {
+        let reply = desk.serve(rt, pass, worker, job, gate);
+        replies.push_reserved(reply);
     }
 }
 
@@ -77,8 +101,7 @@ pub fn serve_hand<K: Desk, R: Wait, G: Gate>(
     ensures taken { K.takes desk.now pass.new }
     ensures served { ServedHand (K.serves desk.now) pass.old hand.old pass.new hand.new }
 {
-    for task in hand.tasks.iter_mut() {
-        let reply = desk.serve(rt, pass, worker, &task.job, gate);
-        task.reply = Some(reply);
-    }
+    hand.replies.clear();
+    let jobs = hand.jobs.as_slice();
+    serve_jobs(rt, desk, gate, worker, pass, jobs, &mut hand.replies);
 }

@@ -75,7 +75,7 @@ pub fn run_jobs<K: Desk + Sync, G: Gate + Sync, R: Wait + Threads + Sync>(
     seat_all(&mut seats, passes, hands);
     let all = seats.as_mut_slice();
     serve_seats(rt, desk, gate, all);
-    collect(all, count, &mut replies);
+    collect(alloc, all, count, &mut replies);
     vacate(seats, &mut back);
     Worked {
         passes: back,

@@ -25,12 +25,13 @@ use Rattle.mt950.specs.Page.{mt950_of}
 use Rattle.mt950.specs.Writing.{fields_950}
 use Rattle.mt950.specs.declared.page.Page950.{Page950}
 use Rattle.mt950.proofs.laws.Pages.{page-reads-back}
-use Rattle.day_model.specs.Chart.{account_at}
+use Rattle.day_model.specs.Chart.{Chart, account_at}
 use Rattle.day_model.specs.declared.account.Account.{Account}
+use Rattle.day_model.specs.declared.entry.Entry.{Entry}
 use Rattle.statement.specs.Lines.{lines_on}
-use Rattle.statement.specs.Pages.{page_at, pages_for, pages_from}
+use Rattle.statement.specs.Pages.{page_at, pages_for, pages_from, statement_of}
 use Rattle.statement.specs.Seen.{SeenBook}
-use Rattle.statement.specs.Valid.{PagesAreAccepted, AreReadBack, TablesKnow, IsAcceptedAs, IsPrintable, PageReadsBack}
+use Rattle.statement.specs.Valid.{PagesAreAccepted, TablesKnow, IsAcceptedAs, IsPrintable, PageReadsBack}
 use Rattle.statement.proofs.laws.Readable.{page-written}
 
 -- ---- the verdict on a page
@@ -83,6 +84,11 @@ module _ (book : SeenBook) (n : ℕ) (day : Day) (is : IsPrintable book n day) (
 
   pub statement-accepted : All Back (pages_from page 1 count) → All Accepted (pages_from page 1 count)
   statement-accepted back = All-from_recursion Accepted (pages_from page 1 count) (pages-accepted 1 count (omega arith) (recursion_from_All Back (pages_from page 1 count) back))
+
+-- the messages of account n's pages read back
+abbrev pub AreReadBack : Chart → List Entry → ℕ → Day → Type 0
+AreReadBack chart entries n day =
+    (account : Account) → account_at chart n ≡ Some account → All (PageReadsBack chart.home account.owner) (statement_of chart entries n day)
 
 -- the pages of a statement that read back are accepted
 pub accepted : (book : SeenBook) (n : ℕ) (day : Day) → IsPrintable book n day → AreReadBack book.chart book.entries n day → PagesAreAccepted book.chart book.entries n day

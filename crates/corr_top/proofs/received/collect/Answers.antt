@@ -19,11 +19,11 @@ loop-at-preserved c =
     let judged = c.in_ok-page.ensures in
     elim c.match-branch-2.branch [
       | in-Page+in_ok-push-in-Page w ↦
-          let here = judged_here chart entries t messages old l.at c.home.result.now c.bytes.result.now m c.in_ok-page.field-0 (read.Page w.in-Page.page) judged.value w.in-Page.is c.home.ensures c.bytes.ensures c.index-messages-at.is in
+          let here = judged_here chart entries t messages old l.at c.home.result.now c.bytes.result.now m c.in_ok-page.field-0 (read.Page w.in-Page.page) judged.value w.in-Page.is c.home.ensures c.bytes.ensures.bytes c.index-messages-at.is in
           rw w.report-is (page_more chart entries t messages old l.at m l.report l.pages.items c.match-branch-2.pages.items w.in-Page.page c.loop-at-test.true l.invariant here
           (subst (λ (r : Read). CanBeTold r) w.in-Page.is judged.sound) (ap (λ (v : Vec Page950 Global). v.items) w.pages-is ∙ w.in_ok-push-in-Page.ensures.items))
       | in-Other+in_ok-put_reply_line-in-Other w ↦
-          let here = judged_here chart entries t messages old l.at c.home.result.now c.bytes.result.now m c.in_ok-page.field-0 (read.Other w.in-Other.reply) judged.value w.in-Other.is c.home.ensures c.bytes.ensures c.index-messages-at.is in
+          let here = judged_here chart entries t messages old l.at c.home.result.now c.bytes.result.now m c.in_ok-page.field-0 (read.Other w.in-Other.reply) judged.value w.in-Other.is c.home.ensures c.bytes.ensures.bytes c.index-messages-at.is in
           rw w.pages-is (other_more chart entries t messages old l.at m l.report c.match-branch-2.report l.pages.items w.in-Other.reply c.loop-at-test.true l.invariant here
           (w.report-is ∙ w.in_ok-put_reply_line-in-Other.ensures))
     ]

@@ -12,7 +12,7 @@ use Rattle.corr_top.specs.MessageFile.{IsMessageFile, StopsCutting}
 use Rattle.corr_top.specs.Passing.{HasMessages}
 use Rattle.corr_top.specs.Serving.{AllServed}
 use Rattle.corr_top.proofs.DayDone.{day_ends, few_made, places_in}
-use Rattle.corr_top.proofs.MessageFiles.{all-short, all_given, stops_cutting}
+use Rattle.corr_top.proofs.MessageFiles.{stops_cutting}
 use Rattle.corr_top.proofs.run.run_day.Goals as goal
 
 -- the message file was not read
@@ -39,10 +39,6 @@ returns-in-Err-cut_file g c =
       same = c.into_disk-in-Err-cut_file.ensures;
     })
 
-pub serve_all-requires-clause-short : goal.serve_all-requires-clause-short
-serve_all-requires-clause-short g c =
-    λ _ _. all_given c.as_slice-messages.result.now c.in-Ok-cut_file.messages c.as_slice-messages.ensures (all-short c.bytes.result.now c.in-Ok-cut_file.messages c.in-Ok-cut_file.ensures.ok)
-
 -- what became of the messages of the file
 served_file : {S D : Type 0} (source : sources.Ghosts S) (d : disks.Ghosts D) (directory : Directory) (workers : ℕ) (opened : Parts D) (given cut : List (List ℕ)) (day : ServedDay D) → given ≡ cut
     → AllServed d (opening_with d opened workers) (readings_of directory opened.accounts given) day → AllServed d (opening_with d opened workers) (readings_of directory opened.accounts cut) day
@@ -57,14 +53,14 @@ no_longer_than n base added history is same = let l = length-append base added i
 pub end_day-requires-clause-places : goal.end_day-requires-clause-places
 end_day-requires-clause-places g c =
     let opened = c.args.opened in
-    places_in g.D.Disk (opening_with g.D.Disk opened c.args.workers) (readings_of c.args.directory.now opened.accounts c.as_slice-messages.result.now) c.in-Ok-serve_all.day c.in-Ok-serve_all.ensures.served
+    places_in g.D.Disk (opening_with g.D.Disk opened c.args.workers) (readings_of c.args.directory.now opened.accounts c.into_vec-messages.result.items) c.in-Ok-serve_all.day c.in-Ok-serve_all.ensures.served
 
 pub end_day-requires-clause-few : goal.end_day-requires-clause-few
 end_day-requires-clause-few g c =
     let opened = c.args.opened in
-    let given = c.as_slice-messages.result.now in
+    let given = c.into_vec-messages.result.items in
     let all = c.in-Ok-serve_all.ensures.served in
-    let short : length given ≤ 50000 = subst (λ (ms : List (List ℕ)). length ms ≤ 50000) (sym c.as_slice-messages.ensures) c.in-Ok-cut_file.ensures.ok.few in (
+    let short : length given ≤ 50000 = subst (λ (ms : List (List ℕ)). length ms ≤ 50000) (sym c.into_vec-messages.ensures) c.in-Ok-cut_file.ensures.ok.few in (
       no_longer_than c.len-count.result opened.base all.left.added c.in-Ok-serve_all.day.closed.history.entries (counted_is c.len-count.result c.history.result.now.entries opened.base c.len-count.ensures.count c.history.ensures) all.left.is,
       few_made g.D.Disk (opening_with g.D.Disk opened c.args.workers) (readings_of c.args.directory.now opened.accounts given) c.in-Ok-serve_all.day all 50000 (let l = length-map given (pay_asked_of c.args.directory.now opened.accounts) in omega (arith, l, short)),
     )
@@ -77,7 +73,7 @@ returns-in-Ok-serve_all g c =
     let cut = c.in-Ok-cut_file.messages in
     let has : HasMessages g.S.Source c.args.source.now c.read_file.new.source file cut = record { took = c.in-Ok.ensures.read; are = subst (λ (bs : List ℕ). IsMessageFile bs cut) c.bytes.ensures c.in-Ok-cut_file.ensures.ok } in
     let day = c.in-Ok-serve_all.day in
-    let all = served_file g.S.Source g.D.Disk directory c.args.workers opened c.as_slice-messages.result.now cut day c.as_slice-messages.ensures c.in-Ok-serve_all.ensures.served in
+    let all = served_file g.S.Source g.D.Disk directory c.args.workers opened c.into_vec-messages.result.items cut day c.into_vec-messages.ensures c.in-Ok-serve_all.ensures.served in
     subst (λ (x : g.row.D.Denot). GivesDay g.S.Source g.D.Disk directory c.args.workers c.args.source.now c.read_file.new.source opened x c.end_day.result.1) (sym c.end_day.ensures.disk)
     (day_ends g.S.Source g.D.Disk directory c.args.workers c.args.source.now c.read_file.new.source opened file cut has c.requires.instructions c.requires.journal.head.book
     c.len-count.result c.args.before c.requires.count (counted_is c.len-count.result c.history.result.now.entries opened.base c.len-count.ensures.count c.history.ensures) day all c.end_day.result.1 c.end_day.ensures.texts)

@@ -1,4 +1,4 @@
-use Rattle.std.proofs.Common.{◌≡◌, ℕ, Result, List, [], ◌∷◌, map, refl, sym, ap, ◌∙◌, subst, arith}
+use Rattle.std.proofs.Common.{◌≡◌, Result, List, map, sym, ap, ◌∙◌, subst, arith}
 use Rattle.std.specs.Prelude.{length, slice_get}
 use Rattle.std.proofs.lemmas.List.{length-map}
 use Rattle.corr_books.specs.Closing.{Closes}
@@ -9,18 +9,12 @@ use Rattle.day_model.specs.declared.pay.Pay.{Pay}
 use Rattle.day_model.specs.Chart.{Chart}
 use Rattle.front_word.specs.Known.{PassKnows}
 use Rattle.jrn_book.specs.Journal.{IsJournal}
-use Rattle.corr_top.specs.declared.desk.Job.{Job}
 use Rattle.corr_top.specs.Workers.{Worker}
 use Rattle.corr_top.specs.declared.message.NoPay.{NoPay}
 use Rattle.corr_top.specs.Message.{pay_asked_of, readings_of}
 use Rattle.corr_top.specs.Serving.{AllServed, starting}
 use Rattle.corr_top.proofs.Workers.{added_of, all_back, none_of, told_of, turn_of, unmapped}
 use Rattle.corr_top.proofs.serving.serve_named.Goals as goal
-
--- a list that is mapped twice
-map_twice : {A B C : Type 0} (f : A → B) (g : B → C) (xs : List A) → map (λ x. g (f x)) xs ≡ map g (map f xs)
-map_twice f g [] = refl
-map_twice {A} {B} {C} f g (x ∷ xs) = ap (λ (l : List C). g (f x) ∷ l) (map_twice f g xs)
 
 pub seat-requires-clause-room : goal.seat-requires-clause-room
 seat-requires-clause-room g c =
@@ -47,8 +41,8 @@ vacate-requires-clause-room g c =
     let count = c.in-Ok-books.ensures.passes.count in
     let made = ap (λ (x : Opening). x.made) c.requires.named.opening_is in
     let worked = c.run_jobs-worked in
-    let reading = λ (job : Job). pay_asked_of c.args.directory.now o.accounts job.text.now in
-    let back = all_back o reading c.in-Ok.places.jobs.items (λ v. v.items) c.in-Ok-books.made.1.items c.seat.new.workers.items worked.result.passes.items c.seat.ensures worked.result.replies worked.ensures.served worked.ensures.none in
+    let reading = pay_asked_of c.args.directory.now o.accounts in
+    let back = all_back o reading c.args.messages.items (λ v. v.items) c.in-Ok-books.made.1.items c.seat.new.workers.items worked.result.passes.items c.seat.ensures worked.result.replies worked.ensures.served worked.ensures.none in
     omega (arith, count, made, back, c.in-Ok.ensures.passes.1)
 
 pub close-requires : goal.close-requires
@@ -64,9 +58,9 @@ unreachable-requires g c =
     let o = g.N.BooksName.opening in
     let count = c.in-Ok-books.ensures.passes.count in
     let worked = c.run_jobs-worked in
-    let reading = λ (job : Job). pay_asked_of c.args.directory.now o.accounts job.text.now in
+    let reading = pay_asked_of c.args.directory.now o.accounts in
     let after = worked.result.passes.items in
-    let back = all_back o reading c.in-Ok.places.jobs.items (λ v. v.items) c.in-Ok-books.made.1.items c.seat.new.workers.items after c.seat.ensures worked.result.replies worked.ensures.served worked.ensures.none in
+    let back = all_back o reading c.args.messages.items (λ v. v.items) c.in-Ok-books.made.1.items c.seat.new.workers.items after c.seat.ensures worked.result.replies worked.ensures.served worked.ensures.none in
     let given : length c.vacate.new.passes.items ≡ length after = ap length c.vacate.ensures ∙ length-map after (λ (w : Worker). w.pass) in
     c.in_default-close.ensures.fault.1 (omega (arith, count, back, given))
 
@@ -75,8 +69,8 @@ returns-clause-served g c =
     let o = g.N.BooksName.opening in
     let named = c.requires.named.opening_is in
     let directory = c.args.directory.now in
-    let reading = λ (job : Job). pay_asked_of directory o.accounts job.text.now in
-    let jobs = c.in-Ok.places.jobs.items in
+    let reading = pay_asked_of directory o.accounts in
+    let jobs = c.args.messages.items in
     let news = c.in-Ok-books.made.1.items in
     let new = c.in-Ok-books.ensures.passes in
     let worked = c.run_jobs-worked in
@@ -88,9 +82,7 @@ returns-clause-served g c =
     let history = closed.history.entries in
     let faults = g.D.Disk.faults closed.disk in
     let closes = subst (λ (ps : List PassKnows). Closes o history faults ps) c.vacate.ensures ends.closes in
-    let read : map reading jobs ≡ readings_of directory c.args.opened.accounts c.args.messages.now =
-    map_twice (λ (job : Job). job.text.now) (pay_asked_of directory o.accounts) jobs ∙ ap (λ (texts : List (List ℕ)). map (pay_asked_of directory o.accounts) texts) c.in-Ok.ensures.jobs
-    ∙ ap (λ (x : Opening). map (pay_asked_of directory x.accounts) c.args.messages.now) named in
+    let read : map reading jobs ≡ readings_of directory c.args.opened.accounts jobs = ap (λ (x : Opening). map (pay_asked_of directory x.accounts) jobs) named in
     let all : AllServed g.D.Disk o (map reading jobs) (record { closed = closed; served = replies }) =
     record {
       left = record {

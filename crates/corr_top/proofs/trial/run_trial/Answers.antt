@@ -1,7 +1,6 @@
 use Rattle.std.proofs.Common.{◌∙◌, ◌*◌, ◌≤◌, List, ℕ, arith, length, subst, sym}
 use Rattle.corr_report.proofs.laws.DayFile.{day_cut, day_short}
 use Rattle.corr_top.specs.MessageFile.{IsMessageFile}
-use Rattle.corr_top.proofs.MessageFiles.{all-short, all_given}
 use Rattle.corr_top.proofs.Trying.{served_trial, stands_trial}
 use Rattle.corr_top.proofs.trial.run_trial.Goals as goal
 
@@ -11,15 +10,12 @@ cut_day-requires g c =
     let day : length c.in_ok-text.text ≤ count * 601 = subst (λ (bs : List ℕ). length bs ≤ count * 601) (sym c.in_ok-text.ensures) (day_short count c.args.seed c.requires.count) in
     subst (λ (bs : List ℕ). length bs ≤ 67108865) (sym c.bytes.ensures) (omega (arith, day, c.requires.count))
 
-pub serve_all-requires-clause-short : goal.serve_all-requires-clause-short
-serve_all-requires-clause-short g c = λ _ _. all_given c.as_slice-messages.result.now c.in_ok-messages.messages c.as_slice-messages.ensures (all-short c.bytes.result.now c.in_ok-messages.messages c.in_ok-messages.ensures)
-
 pub returns-in-Ok-clause-served : goal.returns-in-Ok-clause-served
 returns-in-Ok-clause-served g c =
     let messages = c.in_ok-messages.messages in
     let file = subst (λ (bs : List ℕ). IsMessageFile bs messages) (c.bytes.ensures ∙ c.in_ok-text.ensures) c.in_ok-messages.ensures in
-    let cut = c.as_slice-messages.ensures ∙ day_cut c.args.count c.args.seed messages c.requires.count file.cut in
-    served_trial _ _ c.in_ok-opened.ensures.accounts c.args.count c.args.seed c.in_ok-directory.directory c.as_slice-messages.result.now c.in-Ok.day.closed.accounts c.in-Ok.day.closed.history.entries c.in-Ok.day.closed.disk c.in_ok-directory.ensures.value cut c.in_ok-opened.ensures.base c.in_ok-opened.ensures.day c.in-Ok.ensures.served.left
+    let cut = c.into_vec-messages.ensures ∙ day_cut c.args.count c.args.seed messages c.requires.count file.cut in
+    served_trial _ _ c.in_ok-opened.ensures.accounts c.args.count c.args.seed c.in_ok-directory.directory c.into_vec-messages.result.items c.in-Ok.day.closed.accounts c.in-Ok.day.closed.history.entries c.in-Ok.day.closed.disk c.in_ok-directory.ensures.value cut c.in_ok-opened.ensures.base c.in_ok-opened.ensures.day c.in-Ok.ensures.served.left
 
 pub returns-in-Ok-clause-journal : goal.returns-in-Ok-clause-journal
 returns-in-Ok-clause-journal g c = stands_trial _ _ c.in_ok-opened.ensures.accounts c.in-Ok.day.closed.history.entries c.in-Ok.day.closed.disk c.in_ok-opened.ensures.faults c.in-Ok.ensures.served.left.leaves

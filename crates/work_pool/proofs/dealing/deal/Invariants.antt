@@ -1,10 +1,11 @@
-use Rattle.std.proofs.Common.{◌≡◌, List, ◌++◌, length}
+use Rattle.std.proofs.Common.{◌+◌, ◌≤◌, ◌++◌, length, map, vec_capacity}
+use Rattle.work_pool.specs.Hands.{unserved}
 use Rattle.work_pool.specs.Tasks.{AreInHands}
 use Rattle.work_pool.proofs.dealing.deal.Given as goal
 
-abbrev pub invariant-loop-job : goal.invariant-loop-job
-invariant-loop-job g l =
-    (done : List _)
-    × (done ++ l.job-iterator.rest.items ≡ l.fn.jobs.items)
-    × (length done ≡ l.dealt)
-    × AreInHands l.count done l.hands.items
+-- the hands so far, and those of the lists that are left
+abbrev pub invariant-loop-jobs : goal.invariant-loop-jobs
+invariant-loop-jobs g l = record {
+  hands : AreInHands l.count l.fn.jobs.items (l.hands.items ++ map (map unserved) (map (λ list. list.items) l.jobs-iterator.rest.items));
+  room : length l.hands.items + length l.jobs-iterator.rest.items ≤ vec_capacity l.hands;
+}
