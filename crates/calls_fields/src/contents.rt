@@ -11,7 +11,7 @@ use fin_contents::{
     put_short_line, put_texts, put_time, put_value,
 };
 use fin_fields::{Field, FieldLines, lend_field};
-use fin_layout::Content;
+use fin_layout::{Content, Refill, Refusal};
 use fin_parties::Party;
 use ref_tables::{RefTables, TableFault, read_tables};
 use std::alloc::Global;
@@ -42,6 +42,19 @@ fn texts_are_read(rt: HostRuntime) {
     assert!(rt; is_read(rt.alloc(), &Texts { most: 1 }, b"A"));
 }
 
+// Whether a reference is read into the place of another text.
+fn is_refilled(alloc: Global, line: &[u8]) -> Result<bool, Refusal> {
+    let mut value = Text::from_bytes(alloc, b"OTHER")?;
+    Reference.refill(alloc, &FieldLines::of_line(20, None, line), &mut value)?;
+    Ok(value.bytes() == line)
+}
+
+#[test]
+fn a_reference_takes_the_place_of_another(rt: HostRuntime) {
+    assert_eq!(rt; is_refilled(rt.alloc(), b"A"), Ok(true));
+    assert!(rt; is_refilled(rt.alloc(), b"/").is_err());
+}
+
 #[test]
 fn bytes_have_their_forms(rt: HostRuntime) {
     assert!(rt; is_clock(b"0915+0100") && is_all_of(Set::N, b"0915"));
@@ -66,12 +79,44 @@ fn is_kept(alloc: Global, tables: &RefTables, line: &[u8]) -> Result<bool, Memor
     }
 }
 
+// Whether a bank is read into the place of another party.
+fn is_replaced(alloc: Global, tables: &RefTables, line: &[u8]) -> Result<bool, Refusal> {
+    let bank = line_field(alloc, 52, Some(b'A'), line)?;
+    let mut party = Party::C {
+        line: Text::from_bytes(alloc, b"/12")?,
+    };
+    (KnownParty { tables }).refill(alloc, &lend_field(alloc, &bank)?, &mut party)?;
+    Ok(has_line(&put_known_party(alloc, 52, &party)?, line))
+}
+
+// What a line says in the place of no value, under tables of one currency.
+fn dated(alloc: Global, line: &[u8]) -> Result<Value, Refusal> {
+    let Ok(tables) = tables(alloc) else {
+        return Err(Refusal::Memory);
+    };
+    let f = FieldLines::of_line(32, Some(b'A'), line);
+    let mut value = Value::blank();
+    (ValueDate { tables: &tables }).refill(alloc, &f, &mut value)?;
+    Ok(value)
+}
+
+#[test]
+fn a_value_takes_the_place_of_none(rt: HostRuntime) {
+    let value = Value {
+        day: Day(19877),
+        amount: CENTS,
+    };
+    assert_eq!(rt; dated(rt.alloc(), b"240603EUR1,5"), Ok(value));
+    assert!(rt; dated(rt.alloc(), b"240603EUR0,").is_err());
+}
+
 #[test]
 fn contents_under_tables_are_read(rt: HostRuntime) -> Result<(), Fail> {
     let tables = tables(rt.alloc())?;
     assert!(rt; is_read(rt.alloc(), &ValueDate { tables: &tables }, b"240603EUR1,5"));
     assert!(rt; is_read(rt.alloc(), &CcyAmount { tables: &tables }, b"EUR1,5"));
     assert!(rt; is_kept(rt.alloc(), &tables, b"HOMEUS33")?);
+    assert_eq!(rt; is_replaced(rt.alloc(), &tables, b"HOMEUS33"), Ok(true));
     Ok(())
 }
 

@@ -7,7 +7,7 @@ use corr_text::{List, Memory, Set, Text};
 use fin_fields::{
     Field, FieldFault, FieldLines, Pattern, copy_lines, cut_fields, cut_lines, is_run_of,
     lend_field, lend_fields, letter_of, lines_match, matches, nth_of, own_fields, put_fields,
-    tag_of,
+    refill_lines, tag_of,
 };
 use std::alloc::Global;
 use std::test::Fail;
@@ -59,6 +59,16 @@ fn count_lines(alloc: Global, f: &Field) -> Result<usize, Memory> {
     Ok(copy_lines(alloc, lent.lines())?.as_slice().len())
 }
 
+// How many lines of a field are in a list where other texts stood.
+fn count_refilled(
+    alloc: Global,
+    f: &FieldLines<'_>,
+    mut texts: List<Text>,
+) -> Result<usize, Memory> {
+    refill_lines(alloc, f.lines(), &mut texts)?;
+    Ok(texts.as_slice().len())
+}
+
 // The fields of a short text, the lines where they are.
 #[tactic(auto, using(fin_fields::proofs::laws::Bounds::lines_few))]
 fn cut_lent(alloc: Global, text: &[u8]) -> Result<List<FieldLines<'_>>, FieldFault> {
@@ -91,5 +101,16 @@ fn fields_are_lent_and_kept(rt: HostRuntime) -> Result<(), Fail> {
     let fields = kept(rt.alloc(), b":50K:/12\nA PAYER\nA TOWN\n:71A:SHA\n")?;
     assert_eq!(rt; fields.as_slice().len(), 2);
     assert_eq!(rt; count_lines(rt.alloc(), &fields.as_slice()[0])?, 3);
+    Ok(())
+}
+
+#[test]
+fn lines_take_the_place_of_others(rt: HostRuntime) -> Result<(), Fail> {
+    let f = FieldLines::of_line(20, None, b"A");
+    let mut texts = List::new(rt.alloc());
+    assert_eq!(rt; count_refilled(rt.alloc(), &f, List::new(rt.alloc()))?, 1);
+    texts.push(Text::from_bytes(rt.alloc(), b"B")?)?;
+    texts.push(Text::from_bytes(rt.alloc(), b"C")?)?;
+    assert_eq!(rt; count_refilled(rt.alloc(), &f, texts)?, 1);
     Ok(())
 }

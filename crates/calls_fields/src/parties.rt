@@ -1,8 +1,8 @@
 //! Each call once; cases stand in rows (parties.rows).
 
 use corr_text::{List, Memory, Text};
-use fin_fields::Field;
-use fin_parties::{Party, PartyFault, account_of, put_party, read_party};
+use fin_fields::{Field, lend_field};
+use fin_parties::{Party, PartyFault, account_of, fill_party, put_party, read_party};
 use std::alloc::Global;
 use std::test::Fail;
 
@@ -35,5 +35,49 @@ fn a_party_is_read_and_written(rt: HostRuntime) -> Result<(), Fail> {
         _ => assert!(rt; false, "an account"),
     }
     assert!(rt; is_written(rt.alloc(), &party)?);
+    Ok(())
+}
+
+// A customer of a name, with an account in front where there is one.
+fn customer(alloc: Global, account: Option<&[u8]>) -> Result<Field, Memory> {
+    let mut lines = List::new(alloc);
+    if let Some(line) = account {
+        lines.push(Text::from_bytes(alloc, line)?)?;
+    }
+    lines.push(Text::from_bytes(alloc, b"A PAYEE")?)?;
+    Ok(Field {
+        tag: 59,
+        letter: None,
+        lines,
+    })
+}
+
+// A party, and then a customer with this account in its place.
+fn replaced(alloc: Global, mut place: Party, account: Option<&[u8]>) -> Result<Party, PartyFault> {
+    let field = customer(alloc, account)?;
+    fill_party(alloc, &lend_field(alloc, &field)?, &mut place)?;
+    Ok(place)
+}
+
+// The account of a customer, if it has one.
+fn account_in(party: &Party) -> Option<&[u8]> {
+    match party {
+        Party::K {
+            account: Some(account),
+            ..
+        } => Some(account.bytes()),
+        _ => None,
+    }
+}
+
+#[test]
+fn a_customer_takes_the_place_of_another_party(rt: HostRuntime) -> Result<(), Fail> {
+    let other = party(rt.alloc())?;
+    let first = replaced(rt.alloc(), other, Some(b"/12"))?;
+    assert_eq!(rt; account_in(&first), Some(b"12".as_slice()));
+    let second = replaced(rt.alloc(), first, Some(b"/345"))?;
+    assert_eq!(rt; account_in(&second), Some(b"345".as_slice()));
+    let third = replaced(rt.alloc(), second, None)?;
+    assert!(rt; matches!(third, Party::K { account: None, .. }));
     Ok(())
 }

@@ -255,7 +255,7 @@ fn any_byte_but_zero_opens_a_gate_and_what_follows_is_anything(
 const THREE: &[u8] = b"\x01\0\0\0\x02AB\x01\0\0\0\0\x01\0\0\0\x0dABCDEFGHIJKLM\0xyz";
 
 // How many bytes each read of an opening asks for.
-const PIECE: usize = 1 << 20;
+const PIECE: usize = 1 << 16;
 
 // A header record that ends at this place, and these bytes behind it.
 fn behind_head(alloc: Global, place: usize, bytes: &[u8]) -> Result<Text, Memory>

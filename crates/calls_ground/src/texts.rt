@@ -1,8 +1,8 @@
 //! Each call once; cases stand in rows (texts.rows).
 
 use corr_text::{
-    Buf, List, Set, Text, all_digits, copy_texts, digits, first_line, is_all_of, is_set, is_x,
-    next_brace, plain_line, push_texts, put_digits,
+    Buf, List, Set, Text, all_digits, clear, copy_texts, digits, first_line, is_all_of, is_set,
+    is_x, next_brace, plain_line, push_texts, put_digits,
 };
 use std::test::Fail;
 
@@ -98,6 +98,31 @@ fn a_list_gives_its_last_value(rt: HostRuntime) -> Result<(), Fail> {
     assert_eq!(rt; list.as_slice(), [3, 2].as_slice());
     list.clear();
     assert_eq!(rt; list.pop(), None);
+    Ok(())
+}
+
+#[test]
+fn texts_are_put_in_the_places_of_others(rt: HostRuntime) -> Result<(), Fail> {
+    let mut list = List::new(rt.alloc());
+    list.put_at(rt.alloc(), 0, b"A PAYER")?;
+    list.put_at(rt.alloc(), 1, b"ITS STREET")?;
+    list.put_at(rt.alloc(), 2, b"ITS TOWN")?;
+    list.put_at(rt.alloc(), 0, b"A PAYEE")?;
+    list.truncate(2);
+    let texts = list.as_slice();
+    assert_eq!(rt; texts.len(), 2);
+    assert_eq!(rt; texts[0].bytes(), b"A PAYEE".as_slice());
+    assert_eq!(rt; texts[1].bytes(), b"ITS STREET".as_slice());
+    Ok(())
+}
+
+#[test]
+fn a_place_is_cleared(rt: HostRuntime) -> Result<(), Fail> {
+    let mut place = Some(Text::from_bytes(rt.alloc(), b"REF1")?);
+    clear(&mut place);
+    assert!(rt; place.is_none());
+    clear(&mut place);
+    assert!(rt; place.is_none());
     Ok(())
 }
 

@@ -3,6 +3,7 @@
 use crate::cutting::{let_go, tables};
 use corr_ids::Bic;
 use corr_text::Code;
+use fin_layout::Found;
 use fin_message::{Message, MessageFault, check_sent, verdict, verdict_into};
 use ref_tables::RefTables;
 use std::alloc::Global;
@@ -44,8 +45,9 @@ fn are_received(alloc: Global, first: &[u8], second: &[u8], t: &RefTables) -> bo
         return false;
     }
     let mut place = Message::blank(alloc);
-    let is_first = verdict_into(alloc, first, &HOME, t, &mut place).is_ok();
-    let is_second = verdict_into(alloc, second, &HOME, t, &mut place).is_ok();
+    let mut found = Found::new(alloc);
+    let is_first = verdict_into(alloc, first, &HOME, t, &mut found, &mut place).is_ok();
+    let is_second = verdict_into(alloc, second, &HOME, t, &mut found, &mut place).is_ok();
     let_go(place);
     is_first && is_second
 }

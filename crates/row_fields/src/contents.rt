@@ -6,8 +6,8 @@ ghost use Rattle.fin_contents.specs.Writing.{IsAmount};
 use crate::fields::{put_field, put_lines, read_field, read_tag};
 use crate::named_tables::{Files, read_files, tables};
 use crate::party::put_parts;
-use corr_ids::Day;
-use corr_money::{Amount, Ccy, Minor};
+use corr_ids::{Day, FIRST_DAY, LAST_DAY};
+use corr_money::{AMOUNT_END, Amount, Ccy, Minor};
 use corr_text::{Memory, Text};
 use fin_contents::{
     CcyAmount, KnownParty, Rate, Reference, ShortLine, Texts, Time, Value, ValueDate, is_clock,
@@ -196,7 +196,7 @@ fn amount_of(words: &mut Words) -> Result<Amount, Stop>
     let ccy = Ccy(words.array()?);
     let minor = words.number()?;
     let decimals = words.byte()?;
-    if minor >= 100_000_000_000_000 || decimals > 4 {
+    if minor >= AMOUNT_END || decimals > 4 {
         return Err(Stop::Unreadable);
     }
     Ok(Amount {
@@ -216,7 +216,7 @@ fn write_amount(words: &mut Words, answer: &mut Answer) -> Result<(), Stop> {
 /// `put_value DAY CCY MINOR DECIMALS`
 fn write_value(words: &mut Words, answer: &mut Answer) -> Result<(), Stop> {
     let day = words.small()?;
-    if day < 3652 || day > 40176 {
+    if day < FIRST_DAY || day > LAST_DAY {
         return Err(Stop::Unreadable);
     }
     let value = Value {

@@ -9,7 +9,8 @@ use corr_text::{Fault, List, Memory, Text};
 use fin_contents::Texts;
 use fin_fields::{FieldFault, FieldLines, copy_lines};
 use fin_layout::{
-    MtFault, Place, check_structure, find, missing, places, read_all, read_one, read_optional,
+    Found, MtFault, Place, check_structure, find, missing, places, read_all, read_one,
+    read_optional,
 };
 use row_words::answer::Answer;
 use row_words::stop::Stop;
@@ -96,13 +97,13 @@ fn fields_of(alloc: Global, text: &[u8]) -> Result<List<FieldLines<'_>>, Stop>
 struct Laid<'a> {
     order: Vec<Place>,
     fields: List<FieldLines<'a>>,
-    found: Vec<usize>,
+    found: Found,
 }
 
 /// The order and the fields of two texts, and the places that they take.
 fn lay<'a>(alloc: Global, order: &[u8], text: &'a [u8]) -> Result<Laid<'a>, Stop>
     ensures few { IfOk result (λ laid. length laid.fields ≤ most_text_lines) }
-    ensures each { IfOk result (λ laid. length laid.found.items ≤ length laid.fields) }
+    ensures each { IfOk result (λ laid. length laid.found ≤ length laid.fields) }
 {
     let order = order_in(alloc, order)?;
     let fields = fields_of(alloc, text)?;
@@ -153,7 +154,7 @@ fn put_places(found: &[usize], answer: &mut Answer) -> Result<(), Stop> {
 }
 
 /// The place of each field. Promises nothing; likewise those below that ask about fields.
-fn checked(alloc: Global, order: &[u8], text: &[u8]) -> Result<Result<Vec<usize>, MtFault>, Stop> {
+fn checked(alloc: Global, order: &[u8], text: &[u8]) -> Result<Result<Found, MtFault>, Stop> {
     let order = order_in(alloc, order)?;
     let fields = fields_of(alloc, text)?;
     Ok(check_structure(alloc, order.as_slice(), fields.as_slice()))
@@ -197,7 +198,7 @@ fn field_at(words: &mut Words, answer: &mut Answer) -> Result<(), Stop> {
 
 /// Adds which of the fields is the first at a place, and its lines; or `none`.
 fn put_found(laid: &Laid<'_>, at: usize, answer: &mut Answer) -> Result<(), Stop> {
-    match find(laid.fields.as_slice(), laid.found.as_slice(), at) {
+    match find(laid.fields.as_slice(), &laid.found, at) {
         Some((at, f)) => {
             answer.number(at as u64)?;
             Ok(put_lines(copy_lines(answer.alloc(), f.lines())?.as_slice(), answer)?)
@@ -220,7 +221,7 @@ fn one_at(alloc: Global, laid: &Laid<'_>, at: usize) -> Result<Result<List<Text>
         &CONTENT,
         laid.order.as_slice(),
         laid.fields.as_slice(),
-        laid.found.as_slice(),
+        &laid.found,
         at,
     ))
 }
@@ -238,13 +239,7 @@ fn one(words: &mut Words, answer: &mut Answer) -> Result<(), Stop> {
 fn optional_at(alloc: Global, laid: &Laid<'_>, at: usize) -> Result<Option<List<Text>>, MtFault>
     requires few { length laid.now.fields ≤ most_text_lines }
 {
-    read_optional(
-        alloc,
-        &CONTENT,
-        laid.fields.as_slice(),
-        laid.found.as_slice(),
-        at,
-    )
+    read_optional(alloc, &CONTENT, laid.fields.as_slice(), &laid.found, at)
 }
 
 /// `read_optional ORDER PLACE TEXT`
@@ -260,15 +255,9 @@ fn optional(words: &mut Words, answer: &mut Answer) -> Result<(), Stop> {
 
 fn all_at(alloc: Global, laid: &Laid<'_>, at: usize) -> Result<List<List<Text>>, MtFault>
     requires few { length laid.now.fields ≤ most_text_lines }
-    requires each { length laid.now.found.items ≤ length laid.now.fields }
+    requires each { length laid.now.found ≤ length laid.now.fields }
 {
-    read_all(
-        alloc,
-        &CONTENT,
-        laid.fields.as_slice(),
-        laid.found.as_slice(),
-        at,
-    )
+    read_all(alloc, &CONTENT, laid.fields.as_slice(), &laid.found, at)
 }
 
 /// `read_all ORDER PLACE TEXT`: the number of fields, and the lines of each

@@ -1,7 +1,7 @@
 //! Calls of ssi_versions: settlement instructions.
 
 use crate::named_tables::{Files, put_table_fault, read_files, tables};
-use corr_ids::{Bic, Day, day_from_yymmdd, put_yymmdd, read_bic};
+use corr_ids::{Bic, Day, FIRST_DAY, LAST_DAY, day_from_yymmdd, put_yymmdd, read_bic};
 use corr_money::Ccy;
 use corr_text::Text;
 use ref_tables::TableFault;
@@ -46,7 +46,7 @@ fn name(method: Method) -> &'static [u8] {
 
 /// Adds a day of an instruction.
 fn put_day(day: Day, answer: &mut Answer) -> Result<(), Stop> {
-    if day.0 < 3652 || day.0 > 40176 {
+    if day.0 < FIRST_DAY || day.0 > LAST_DAY {
         return Ok(answer.signed(day.0 as i64)?);
     }
     let mut text = Text::from_bytes(answer.alloc(), b"")?;

@@ -5,6 +5,7 @@ ghost use Rattle.fin_fields.specs.Writing.{IsField};
 ghost use Rattle.fin_fields.specs.Fields.{most_text_lines};
 ghost use Rattle.ref_tables.specs.Seen.{few_decimals};
 
+use corr_ids::{Bic, put_bic};
 use corr_text::{Code, Fault, List, Memory, Text};
 use fin_fields::{Field, FieldFault, cut_fields};
 use fin_layout::MtFault;
@@ -110,6 +111,13 @@ pub fn fields_in(alloc: Global, words: &mut Words) -> Result<List<Field>, Stop>
 {
     let text = text_in(alloc, words)?;
     cut(alloc, text.bytes())
+}
+
+/// Adds a bank, as its BIC.
+pub fn put_bank(bank: &Bic, out: &mut Answer) -> Result<(), Memory> {
+    let mut text = Text::from_bytes(out.alloc(), b"")?;
+    put_bic(bank, &mut text)?;
+    out.word(text.bytes())
 }
 
 /// Adds a code.

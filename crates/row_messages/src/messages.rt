@@ -3,8 +3,8 @@
 ghost use Rattle.std.specs.Prelude.{◌≤◌, IfOk, length};
 ghost use Rattle.fin_message.specs.Verdict.{most_bytes_judged};
 
-use crate::given::{let_go, put_fault, tables_in};
-use corr_ids::{Bic, Envelope, Mir, put_bic};
+use crate::given::{let_go, put_bank, put_fault, tables_in};
+use corr_ids::{Bic, Envelope, Mir};
 use corr_money::Ccy;
 use corr_text::{Memory, Text};
 use fin_message::{Message, MessageFault, check_sent, verdict};
@@ -91,12 +91,6 @@ fn put_mir(mir: &Option<Mir>, answer: &mut Answer) -> Result<(), Memory> {
         Some(mir) => answer.word(&mir.0),
         None => answer.none(),
     }
-}
-
-fn put_bank(bank: &Bic, answer: &mut Answer) -> Result<(), Memory> {
-    let mut text = Text::from_bytes(answer.alloc(), b"")?;
-    put_bic(bank, &mut text)?;
-    answer.word(text.bytes())
 }
 
 /// Adds the reference, the sender, the receiver and the UETR.

@@ -2,10 +2,11 @@
 
 use crate::books::{bic, ccy};
 use crate::desks::open_desk;
-use corr_ids::{Bic, Day, day_from_yymmdd, put_bic, read_bic};
+use corr_ids::{Bic, Day, day_from_yymmdd, read_bic};
 use corr_money::{Amount, Minor};
 use corr_text::{Code, Memory, Text};
 use routing::{Cover, Routed, Target, route};
+use row_messages::given::put_bank;
 use row_words::answer::Answer;
 use row_words::stop::Stop;
 use row_words::words::Words;
@@ -112,12 +113,6 @@ fn method_word(method: Method) -> &'static [u8] {
         Method::Serial => b"SERIAL",
         Method::Cover => b"COVER",
     }
-}
-
-fn put_bank(bank: &Bic, answer: &mut Answer) -> Result<(), Memory> {
-    let mut text = Text::from_bytes(answer.alloc(), b"")?;
-    put_bic(bank, &mut text)?;
-    answer.word(text.bytes())
 }
 
 fn put_routed(routed: &Routed, answer: &mut Answer) -> Result<(), Memory> {

@@ -1,8 +1,8 @@
 //! Calls of corr_ids: banks, terminals, references, days.
 
 use corr_ids::{
-    Bic, Day, LtAddress, day_from_yymmdd, day_of_year, put_bic, put_yymmdd, read_bic, read_lt,
-    read_mir, read_uetr, with_branch,
+    Bic, Day, FIRST_DAY, LAST_DAY, LtAddress, day_from_yymmdd, day_of_year, put_bic, put_yymmdd,
+    read_bic, read_lt, read_mir, read_uetr, with_branch,
 };
 use corr_text::Text;
 use row_words::answer::Answer;
@@ -108,7 +108,7 @@ fn day(words: &mut Words, answer: &mut Answer) -> Result<(), Stop> {
 fn put_day(words: &mut Words, answer: &mut Answer) -> Result<(), Stop> {
     let mut out = Text::from_bytes(answer.alloc(), words.next()?)?;
     let day = words.small()?;
-    if day < 3652 || day > 40176 {
+    if day < FIRST_DAY || day > LAST_DAY {
         return Err(Stop::Unreadable);
     }
     put_yymmdd(Day(day), &mut out)?;
@@ -118,7 +118,7 @@ fn put_day(words: &mut Words, answer: &mut Answer) -> Result<(), Stop> {
 /// `day_of_year DAY`
 fn place_in_year(words: &mut Words, answer: &mut Answer) -> Result<(), Stop> {
     let day = words.small()?;
-    if day < 3652 || day > 40176 {
+    if day < FIRST_DAY || day > LAST_DAY {
         return Err(Stop::Unreadable);
     }
     Ok(answer.number(day_of_year(Day(day)) as u64)?)

@@ -1,6 +1,8 @@
 //! Calls of corr_money: amounts.
 
-use corr_money::{AmountFault, Minor, is_comma_number, put_15d, put_signed, put_total, read_15d};
+use corr_money::{
+    AMOUNT_END, AmountFault, Minor, is_comma_number, put_15d, put_signed, put_total, read_15d,
+};
 use corr_text::Text;
 use row_words::answer::Answer;
 use row_words::stop::Stop;
@@ -49,7 +51,7 @@ fn put(words: &mut Words, answer: &mut Answer) -> Result<(), Stop> {
     let mut out = Text::from_bytes(alloc, words.next()?)?;
     let minor = words.number()?;
     let decimals = words.byte()?;
-    if decimals > 4 || minor >= 100_000_000_000_000 {
+    if decimals > 4 || minor >= AMOUNT_END {
         return Err(Stop::Unreadable);
     }
     put_15d(alloc, Minor(minor), decimals, &mut out)?;
