@@ -4,7 +4,7 @@ ghost use Rattle.std.specs.Prelude.{◌≡◌, IsTrue, IfSome, length};
 ghost use Rattle.corr_ids.specs.Bic.{IsBic};
 ghost use Rattle.corr_ids.specs.Address.{IsLt, address_of, bank_of, is_lt, lt_of};
 
-use corr_text::{Set, is_all_of};
+use corr_text::{Set, is_each_of};
 
 /// The address of a logical terminal: a BIC with the terminal's letter behind its first eight characters.
 #[derive(Clone, Copy, Debug, PartialEq, Eq)]
@@ -20,7 +20,7 @@ pub fn has_lt_form(b: &[u8]) -> bool
     ensures value { result ≡ is_lt b.now }
     ensures long { IsTrue result → length b.now ≡ 12 }
 {
-    b.len() == 12 && is_all_of(Set::A, &b[..6]) && is_all_of(Set::C, &b[6..])
+    b.len() == 12 && is_each_of(Set::A, &b[..6]) && is_each_of(Set::C, &b[6..])
 }
 
 /// The parts of twelve bytes.

@@ -8,13 +8,19 @@ ghost use Rattle.corr_money.specs.Amounts.{amount_end, amount_of, is_comma, is_c
 
 use crate::amount::Minor;
 use crate::fault::AmountFault;
-use corr_text::all_digits;
 
 /// The number of characters that an amount has at most.
 const LENGTH: usize = 15;
 
 /// Amounts are below this number of minor units.
 pub const AMOUNT_END: u64 = 100_000_000_000_000;
+
+/// Whether each byte is a digit. Stops at the first that is none: amounts are short.
+fn are_digits(b: &[u8]) -> bool
+    ensures { result ≡ list_all is_ascii_digit b.now }
+{
+    b.iter().all(|c| c.is_ascii_digit())
+}
 
 fn first_comma(b: &[u8]) -> Option<usize>
     ensures { result ≡ position is_comma b.now }
@@ -54,7 +60,7 @@ pub fn is_comma_number(b: &[u8]) -> bool
     ensures { result ≡ is_comma_number b.now }
 {
     match first_comma(b) {
-        Some(comma) => 0 < comma && all_digits(&b[..comma]) && all_digits(&b[comma + 1..]),
+        Some(comma) => 0 < comma && are_digits(&b[..comma]) && are_digits(&b[comma + 1..]),
         None => false,
     }
 }
@@ -76,7 +82,7 @@ pub fn read_15d(b: &[u8], decimals: u8) -> Result<Minor, AmountFault>
     };
     let whole = &b[..comma];
     let written = &b[comma + 1..];
-    if whole.is_empty() || !all_digits(whole) || !all_digits(written) {
+    if whole.is_empty() || !are_digits(whole) || !are_digits(written) {
         return Err(AmountFault::T40);
     }
     if b.len() > LENGTH {

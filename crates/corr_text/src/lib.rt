@@ -24,5 +24,5 @@ pub use fault::{Code, Fault};
 pub use lines::{FirstLine, first_line, plain_line};
 pub use list::List;
 pub use memory::Memory;
-pub use set::{Set, is_all_of, is_set, is_x};
+pub use set::{Set, is_all_of, is_each_of, is_set, is_x};
 pub use text::Text;

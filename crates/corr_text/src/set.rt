@@ -44,6 +44,18 @@ pub fn is_set(set: Set, b: u8) -> bool
     }
 }
 
+/// As `is_all_of`. To the end in each case, so that some bytes are tested at once: for a text whose length is known.
+#[inline(always)]
+pub fn is_each_of(set: Set, text: &[u8]) -> bool
+    ensures { result ≡ list_all (is_in set) text.now }
+{
+    let mut all = true;
+    for b in text {
+        all &= is_set(set, *b);
+    }
+    all
+}
+
 /// Whether each byte of a text is in this set.
 pub fn is_all_of(set: Set, text: &[u8]) -> bool
     ensures { result ≡ list_all (is_in set) text.now }
