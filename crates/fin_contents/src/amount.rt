@@ -1,9 +1,10 @@
 //! Amounts with their currency: fields 33B, 71F and 71G.
 
-ghost use Rattle.std.specs.Prelude.{◌≡◌, ◌≤◌, ◌++◌, IfOk, IsTrue, Ok, OnErr, OnOk, length, take};
+ghost use Rattle.std.specs.Prelude.{◌≡◌, ◌≤◌, ◌++◌, IfOk, IsTrue, Ok, OnErr, OnOk, true, false, length, take};
 ghost use Rattle.corr_money.specs.Amounts.{most_decimals};
 ghost use Rattle.fin_contents.specs.Money.{amount_code, ccy_amount_in, ccy_amount_of, is_ccy_amount, minor_in};
 ghost use Rattle.fin_contents.specs.Writing.{IsAmount, IsHeading, ccy_amount_field, ccy_amount_text};
+ghost use Rattle.fin_fields.specs.Faults.{has_other_byte};
 ghost use Rattle.fin_fields.specs.Writing.{IsField};
 ghost use Rattle.fin_fields.specs.declared.field.Field.{Field as FieldSeen};
 ghost use Rattle.fin_layout.specs.Reading.{Reads};
@@ -12,8 +13,8 @@ ghost use Rattle.ref_tables.specs.Seen.{Tables};
 use crate::codes::{C03, P27, T40, T43, T52};
 use crate::line::{line_field, one_line};
 use corr_money::{Amount, AmountFault, Ccy, Minor, put_15d, read_15d};
-use corr_text::{Code, Memory, Set, Text, is_all_of};
-use fin_fields::{Field, FieldLines};
+use corr_text::{Code, Memory, Set, Text, is_each_of};
+use fin_fields::{Field, FieldLines, is_of_x};
 use fin_layout::{Content, P24, Refusal};
 use ref_tables::RefTables;
 use std::alloc::Global;
@@ -26,12 +27,15 @@ pub struct CcyAmount<'a> {
     pub tables: &'a RefTables,
 }
 
-/// Whether a line is three capital letters and one or more characters of X.
-pub fn is_ccy_amount(line: &[u8]) -> bool
+/// Whether a line is three capital letters and one or more characters of X. Where `plain` tells that it has no other characters
+/// those of the amount aren't tested.
+#[tactic(auto, using(fin_fields::proofs::laws::OfX::rest_of_x))]
+pub fn is_ccy_amount(line: &[u8], plain: bool) -> bool
+    requires { plain ≡ true → has_other_byte line.now ≡ false }
     ensures value { result ≡ is_ccy_amount line.now }
     ensures long { IsTrue result → 4 ≤ length line.now }
 {
-    4 <= line.len() && is_all_of(Set::A, &line[..3]) && is_all_of(Set::X, &line[3..])
+    4 <= line.len() && is_each_of(Set::A, &line[..3]) && is_of_x(&line[3..], plain)
 }
 
 fn amount_code(e: AmountFault) -> Code
@@ -95,7 +99,7 @@ fn read_ccy_amount(tables: &RefTables, f: &FieldLines<'_>) -> Result<Amount, Ref
     let Some(line) = one_line(f) else {
         return Err(Refusal::Bad(P24));
     };
-    if !is_ccy_amount(line) {
+    if !is_ccy_amount(line, f.is_plain()) {
         return Err(Refusal::Bad(P24));
     }
     match ccy_amount_in(tables, line) {

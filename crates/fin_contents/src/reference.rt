@@ -11,8 +11,8 @@ ghost use Rattle.fin_layout.specs.Reading.{Reads, Refills};
 
 use crate::codes::T26;
 use crate::line::{line_field, one_line};
-use corr_text::{Code, Memory, Set, Text};
-use fin_fields::{Field, FieldLines, is_run_of};
+use corr_text::{Code, Memory, Text};
+use fin_fields::{Field, FieldLines, is_x_run};
 use fin_layout::{Content, P24, Refill, Refusal};
 use std::alloc::Global;
 
@@ -58,7 +58,7 @@ fn reference_in<'a>(f: &FieldLines<'a>) -> Result<&'a [u8], Code>
     let Some(line) = one_line(f) else {
         return Err(P24);
     };
-    if !is_run_of(Set::X, 16, line) {
+    if !is_x_run(16, line, f.is_plain()) {
         return Err(P24);
     }
     if has_stray_slash(line) {

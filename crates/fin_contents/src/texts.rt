@@ -8,7 +8,7 @@ ghost use Rattle.fin_fields.specs.declared.field.Field.{Field as FieldSeen};
 ghost use Rattle.fin_layout.specs.Reading.{Reads};
 
 use corr_text::{List, Memory, Text, copy_texts};
-use fin_fields::{Field, FieldLines, Pattern, copy_lines, lines_match};
+use fin_fields::{Field, FieldLines, are_x_runs, copy_lines};
 use fin_layout::{Content, P24, Refusal};
 use std::alloc::Global;
 
@@ -22,7 +22,7 @@ pub struct Texts {
 fn read_texts(alloc: Global, most: u8, f: &FieldLines<'_>) -> Result<List<Text>, Refusal>
     ensures { Reads result (texts_of most f.now) }
 {
-    if !lines_match(f.lines(), Pattern::Lines { max: most, len: 35 }) {
+    if !are_x_runs(most, 35, f.lines(), f.is_plain()) {
         return Err(Refusal::Bad(P24));
     }
     Ok(copy_lines(alloc, f.lines())?)

@@ -1,8 +1,9 @@
 //! The value date, currency and amount: field 32A.
 
-ghost use Rattle.std.specs.Prelude.{◌≡◌, ◌≤◌, Err, IfErr, IfOk, IsTrue, Ok, OnOk, length};
+ghost use Rattle.std.specs.Prelude.{◌≡◌, ◌≤◌, Err, IfErr, IfOk, IsTrue, Ok, OnOk, true, false, length};
 ghost use Rattle.fin_contents.specs.Money.{is_dated_amount, value_in, value_of};
 ghost use Rattle.fin_contents.specs.Writing.{IsValue, value_field};
+ghost use Rattle.fin_fields.specs.Faults.{has_other_byte};
 ghost use Rattle.fin_fields.specs.Writing.{IsField};
 ghost use Rattle.fin_fields.specs.declared.field.Field.{Field as FieldSeen};
 ghost use Rattle.fin_layout.specs.Reading.{Reads, Refills};
@@ -14,7 +15,7 @@ use crate::line::{line_field, one_line};
 use crate::metal::is_metal;
 use corr_ids::{Day, day_from_yymmdd, put_yymmdd};
 use corr_money::{Amount, Ccy, Minor};
-use corr_text::{Code, Memory, Set, Text, is_all_of};
+use corr_text::{Code, Memory, Set, Text, is_each_of};
 use fin_fields::{Field, FieldLines};
 use fin_layout::{Content, P24, Refill, Refusal};
 use ref_tables::RefTables;
@@ -56,7 +57,19 @@ pub fn is_dated_amount(line: &[u8]) -> bool
     ensures value { result ≡ is_dated_amount line.now }
     ensures long { IsTrue result → 10 ≤ length line.now }
 {
-    10 <= line.len() && is_all_of(Set::N, &line[..6]) && is_ccy_amount(&line[6..])
+    is_dated_line(line, false)
+}
+
+// As `is_dated_amount`. Where `plain` tells that the line has no byte outside set X those of the amount aren't tested.
+fn is_dated_line(line: &[u8], plain: bool) -> bool
+    requires { plain ≡ true → has_other_byte line.now ≡ false }
+    ensures value { result ≡ is_dated_amount line.now }
+    ensures long { IsTrue result → 10 ≤ length line.now }
+{
+    if line.len() < 10 {
+        return false;
+    }
+    is_each_of(Set::N, &line[..6]) && is_ccy_amount(&line[6..], plain)
 }
 
 // Puts the value of a line into a place. After a fault the place may hold any.
@@ -87,7 +100,7 @@ fn fill_value(tables: &RefTables, f: &FieldLines<'_>, place: &mut Value) -> Resu
     let Some(line) = one_line(f) else {
         return Err(Refusal::Bad(P24));
     };
-    if !is_dated_amount(line) {
+    if !is_dated_line(line, f.is_plain()) {
         return Err(Refusal::Bad(P24));
     }
     match fill_value_in(tables, line, place) {

@@ -1,5 +1,5 @@
 -- Fields of lines that have bytes of set X alone.
-use Rattle.std.proofs.Common.{◌≡◌, ℕ, ◌+◌, ◌-◌, ◌*◌, ◌&&◌, ◌||◌, not, Bool, true, false, cond, List, [], ◌∷◌, option_and_then, option_map, Option, Some, None, refl, ap, ◌∙◌, arith}
+use Rattle.std.proofs.Common.{◌≡◌, ℕ, ◌+◌, ◌-◌, ◌*◌, ◌&&◌, ◌||◌, not, Bool, true, false, cond, List, [], ◌∷◌, option_and_then, option_map, Option, Some, None, refl, subst, ap, ◌∙◌, arith}
 use Rattle.std.specs.Prelude.{◌==◌, IfSome}
 use Rattle.std.specs.Char.{is_ascii_digit, is_ascii_uppercase}
 use Rattle.std.specs.List.{All, list_any}
@@ -44,6 +44,10 @@ clean-content (c ∷ tens ∷ ones ∷ rest) e =
 
 neither : (a b : Bool) → a ≡ false → b ≡ false → (a || b) ≡ false
 neither a b p q = rw (p, q) refl
+
+-- what a line says that begins a field has no byte outside X where the line has none
+pub content-of-x : (line : List ℕ) (h : Heading) → heading_of line ≡ Some h → has_other_byte line ≡ false → has_other_byte h.content ≡ false
+content-of-x line h is e = subst (λ o. IfSome o IsClean) is (clean-content line e)
 
 record Clean (g : Grouped) : Type 0 where
   continued : list_any has_other_byte g.continued ≡ false

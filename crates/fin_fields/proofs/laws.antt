@@ -1,3 +1,4 @@
 pub mod Positions
 pub mod Bounds
 pub mod Cut
+pub mod OfX

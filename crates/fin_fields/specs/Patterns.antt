@@ -6,6 +6,10 @@ use Rattle.corr_text.specs.Sets.{is_in}
 use Rattle.fin_fields.specs.declared.pattern.Pattern.{Pattern}
 use Rattle.fin_fields.specs.declared.pattern.Pattern.TheVariants.{Lines, Fixed, UpTo}
 
+-- 1 to len bytes
+abbrev pub is_short : ℕ → List ℕ → Bool
+is_short len line = nat_le 1 (length line) && nat_le (length line) len
+
 -- 1 to len of these bytes
 abbrev pub is_run : (ℕ → Bool) → ℕ → List ℕ → Bool
 is_run of len line = nat_le 1 (length line) && nat_le (length line) len && list_all of line

@@ -58,10 +58,11 @@ fn next_line(text: &[u8], plain: bool) -> NextLine<'_>
     }
 }
 
-fn begin_field(heading: HeadingLine<'_>) -> FieldLines<'_>
+fn begin_field(heading: HeadingLine<'_>, plain: bool) -> FieldLines<'_>
+    requires { plain ≡ true → has_other_byte heading.content.now ≡ false }
     ensures { result ≡ field_begun (heading_in heading.entry) [] }
 {
-    FieldLines::of_line(heading.tag, heading.letter, heading.content)
+    FieldLines::of_known(heading.tag, heading.letter, heading.content, plain)
 }
 
 /// Whether a line that begins no field may not continue one either.
@@ -77,15 +78,17 @@ fn continue_last<'a>(
     alloc: Global,
     fields: &mut List<FieldLines<'a>>,
     line: &'a [u8],
+    plain: bool,
 ) -> Result<(), Memory>
     requires some { fields.old ≢ [] }
+    requires plain { plain ≡ true → has_other_byte line.now ≡ false }
     ensures some { OnOk result (fields.new ≢ []) }
     ensures added { OnOk result ((g : Grouped) → so_far fields.new g ≡ so_far fields.old (with_line line.now None g)) }
 {
     let Some(mut last) = fields.pop() else {
         unreachable!()
     };
-    last.add(alloc, line)?;
+    last.add_known(alloc, line, plain)?;
     fields.push(last)
 }
 
@@ -94,8 +97,10 @@ fn add_line<'a>(
     alloc: Global,
     fields: &mut List<FieldLines<'a>>,
     line: &'a [u8],
+    plain: bool,
 ) -> Result<bool, Memory>
     requires some { fields.old ≢ [] }
+    requires plain { plain ≡ true → has_other_byte line.now ≡ false }
     ensures some { OnOk result (fields.new ≢ []) }
     ensures taken { IfOk result (λ taken. taken ≡ not (is_misplaced line.now)) }
     ensures added { IfOk result (λ taken. taken ≡ true → (g : Grouped) →
@@ -103,12 +108,12 @@ fn add_line<'a>(
 {
     match heading(line) {
         Some(heading) => {
-            fields.push(begin_field(heading))?;
+            fields.push(begin_field(heading, plain))?;
             Ok(true)
         }
         None if breaks_off(line) => Ok(false),
         None => {
-            continue_last(alloc, fields, line)?;
+            continue_last(alloc, fields, line, plain)?;
             Ok(true)
         }
     }
@@ -135,7 +140,7 @@ fn group_lines<'a>(
     while !rest.is_empty() {
         let next = next_line(rest, plain);
         number += 1;
-        if !add_line(alloc, &mut fields, next.line)? {
+        if !add_line(alloc, &mut fields, next.line, next.plain)? {
             return Err(FieldFault::P20 { line: number });
         }
         rest = next.rest;
@@ -157,7 +162,10 @@ fn read_lines(alloc: Global, text: &[u8]) -> Result<ReadLines<'_>, FieldFault>
     }
     let first = next_line(text, true);
     match heading(first.line) {
-        Some(heading) => group_lines(alloc, first.rest, begin_field(heading), first.plain),
+        Some(heading) => {
+            let begun = begin_field(heading, first.plain);
+            group_lines(alloc, first.rest, begun, first.plain)
+        }
         None => Err(FieldFault::P20 { line: 1 }),
     }
 }

@@ -1,6 +1,8 @@
 //! A field whose lines stay in the text.
 
-ghost use Rattle.std.specs.Prelude.{◌≡◌, ◌++◌, [], ◌∷◌, IfOk, OnErr, OnOk};
+ghost use Rattle.std.specs.Prelude.{◌≡◌, ◌++◌, [], ◌∷◌, true, false, IfOk, OnErr, OnOk};
+ghost use Rattle.std.specs.List.{list_any};
+ghost use Rattle.fin_fields.specs.Faults.{has_other_byte};
 ghost use Rattle.fin_fields.specs.Lent.{lines_in};
 
 use crate::field::Field;
@@ -26,6 +28,8 @@ enum Lines<'a> {
 pub struct FieldLines<'a> {
     tag: u8,
     letter: Option<u8>,
+    // whether the lines are known to have bytes of set X alone
+    plain: bool,
     lines: Lines<'a>,
 }
 
@@ -37,6 +41,12 @@ impl<'a> Model for FieldLines<'a> {
     ghost use Rattle.fin_fields.specs.Lent.{lines_in};
 
     ghost view = { λ f. record { tag = f.tag; letter = f.letter; lines = lines_in f.lines } };
+
+    ghost use Rattle.std.specs.Prelude.{◌≡◌, true, false};
+    ghost use Rattle.std.specs.List.{list_any};
+    ghost use Rattle.fin_fields.specs.Faults.{has_other_byte};
+
+    ghost invariant = { λ f. f.plain ≡ true → list_any has_other_byte (lines_in f.lines) ≡ false };
 }
 
 /// Adds a line after the others; where there is no room, nothing is added.
@@ -62,9 +72,23 @@ impl<'a> FieldLines<'a> {
     pub fn of_line(tag: u8, letter: Option<u8>, line: &'a [u8]) -> FieldLines<'a>
         ensures { result ≡ record { tag = tag; letter = letter; lines = line.now ∷ [] } }
     {
+        FieldLines::of_known(tag, letter, line, false)
+    }
+
+    /// A field of one line, and whether that is known to have bytes of set X alone.
+    pub(crate) fn of_known(
+        tag: u8,
+        letter: Option<u8>,
+        line: &'a [u8],
+        plain: bool,
+    ) -> FieldLines<'a>
+        requires { plain ≡ true → has_other_byte line.now ≡ false }
+        ensures { result ≡ record { tag = tag; letter = letter; lines = line.now ∷ [] } }
+    {
         FieldLines {
             tag,
             letter,
+            plain,
             lines: Lines::One(Line::of(line)),
         }
     }
@@ -76,6 +100,7 @@ impl<'a> FieldLines<'a> {
         FieldLines {
             tag,
             letter,
+            plain: false,
             lines: Lines::Listed(lines),
         }
     }
@@ -87,7 +112,29 @@ impl<'a> FieldLines<'a> {
         ensures ok { OnOk result (self.new ≡ record self.old { lines = self.old.lines ++ line.now ∷ [] }) }
         ensures err { OnErr result (self.new ≡ self.old) }
     {
+        self.add_known(alloc, line, false)
+    }
+
+    /// As `add`, of a line of which is told whether it is known to have bytes of set X alone.
+    pub(crate) fn add_known(
+        &mut self,
+        alloc: Global,
+        line: &'a [u8],
+        plain: bool,
+    ) -> Result<(), Memory>
+        requires { plain ≡ true → has_other_byte line.now ≡ false }
+        ensures ok { OnOk result (self.new ≡ record self.old { lines = self.old.lines ++ line.now ∷ [] }) }
+        ensures err { OnErr result (self.new ≡ self.old) }
+    {
+        self.plain &= plain;
         add_to(alloc, &mut self.lines, line)
+    }
+
+    /// Whether the lines are known to have bytes of set X alone, since they were cut from a text and tested there.
+    pub fn is_plain(&self) -> bool
+        ensures { result ≡ true → list_any has_other_byte self.now.lines ≡ false }
+    {
+        self.plain
     }
 
     /// The field's number.

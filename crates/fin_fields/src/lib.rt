@@ -19,6 +19,6 @@ pub use field::Field;
 pub use field_lines::FieldLines;
 pub use lending::{lend_field, lend_fields, own_fields};
 pub use line::{Line, copy_lines, refill_lines};
-pub use pattern::{Pattern, is_run_of, lines_match, matches};
+pub use pattern::{Pattern, are_x_runs, is_of_x, is_run_of, is_x_run, lines_match, matches};
 pub use tag::{letter_of, nth_of, tag_of};
 pub use writing::put_fields;

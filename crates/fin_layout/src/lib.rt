@@ -19,5 +19,5 @@ pub use found::{Found, takes_any};
 pub use naming::{absent, fault_at};
 pub use place::Place;
 pub use placing::{missing, places, put_places};
-pub use reading::{fill_one, read_all, read_one, read_optional};
+pub use reading::{fill_all, fill_one, fill_optional, read_all, read_one, read_optional};
 pub use structure::{check_structure, fill_structure};

@@ -1,6 +1,6 @@
 //! What the fields at a place say.
 
-ghost use Rattle.std.specs.Prelude.{◌≡◌, ◌≤◌, ◌<◌, IfOk, length};
+ghost use Rattle.std.specs.Prelude.{◌≡◌, ◌≤◌, ◌<◌, IfOk, OnOk, length};
 ghost use Rattle.fin_fields.specs.Fields.{most_text_lines};
 ghost use Rattle.fin_layout.specs.Contents.{all_from, in_option, in_place};
 ghost use Rattle.fin_layout.specs.Reading.{Fills, Gives, placed};
@@ -11,7 +11,7 @@ use crate::finding::find;
 use crate::found::Found;
 use crate::naming::{absent, fault_at};
 use crate::place::Place;
-use corr_text::List;
+use corr_text::{List, clear, put};
 use fin_fields::FieldLines;
 use std::alloc::Global;
 
@@ -84,6 +84,44 @@ pub fn read_optional<C: Content>(
     }
 }
 
+/// As `read_optional`, but what the field says is put into `value`. After a fault it may be anything.
+#[inline(always)]
+#[tactic(auto, using(crate::proofs::Noted::none_found))]
+pub fn fill_optional<C: Content>(
+    alloc: Global,
+    content: &C,
+    fields: &[FieldLines<'_>],
+    found: &Found,
+    place: usize,
+    value: &mut Option<C::Value>,
+) -> Result<(), MtFault>
+    requires few { length fields.now ≤ most_text_lines }
+    ensures { Fills result value.new (in_option fields.now found.now place (C.meaning content.now)) }
+{
+    if !found.has(place) {
+        clear(value);
+        return Ok(());
+    }
+    fill_there(alloc, content, fields, found, place, value)
+}
+
+// As `fill_optional`, apart: mostly no field takes the place.
+#[inline(never)]
+fn fill_there<C: Content>(
+    alloc: Global,
+    content: &C,
+    fields: &[FieldLines<'_>],
+    found: &Found,
+    place: usize,
+    value: &mut Option<C::Value>,
+) -> Result<(), MtFault>
+    requires few { length fields.now ≤ most_text_lines }
+    ensures { Fills result value.new (in_option fields.now found.now place (C.meaning content.now)) }
+{
+    put(value, read_optional(alloc, content, fields, found, place)?);
+    Ok(())
+}
+
 // What the fields at a place, from 0, say, in their order.
 fn read_each<C: Content>(
     alloc: Global,
@@ -125,4 +163,49 @@ pub fn read_all<C: Content>(
         return Ok(List::new(alloc));
     }
     read_each(alloc, content, fields, found.as_slice(), place)
+}
+
+/// As `read_all`, but what the fields say is put into `list`. After a fault it may be anything.
+#[inline(always)]
+#[tactic(auto, using(crate::proofs::Noted::none_read))]
+pub fn fill_all<C: Content>(
+    alloc: Global,
+    content: &C,
+    fields: &[FieldLines<'_>],
+    found: &Found,
+    place: usize,
+    list: &mut List<C::Value>,
+) -> Result<(), MtFault>
+    requires few { length fields.now ≤ most_text_lines }
+    requires each { length found.now ≤ length fields.now }
+    ensures value { Fills result list.new (all_from fields.now place (C.meaning content.now) 0 found.now fields.now) }
+    ensures few { OnOk result (length list.new ≤ length fields.now) }
+{
+    if !found.has(place) {
+        list.clear();
+        return Ok(());
+    }
+    fill_each(alloc, content, fields, found, place, list)
+}
+
+// As `fill_all`, apart: mostly no field takes the place.
+#[inline(never)]
+fn fill_each<C: Content>(
+    alloc: Global,
+    content: &C,
+    fields: &[FieldLines<'_>],
+    found: &Found,
+    place: usize,
+    list: &mut List<C::Value>,
+) -> Result<(), MtFault>
+    requires few { length fields.now ≤ most_text_lines }
+    requires each { length found.now ≤ length fields.now }
+    ensures value { Fills result list.new (all_from fields.now place (C.meaning content.now) 0 found.now fields.now) }
+    ensures few { OnOk result (length list.new ≤ length fields.now) }
+{
+    put(
+        list,
+        read_each(alloc, content, fields, found.as_slice(), place)?,
+    );
+    Ok(())
 }

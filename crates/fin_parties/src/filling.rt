@@ -1,6 +1,8 @@
 //! Fields read as parties into the memory of those before.
 
-ghost use Rattle.std.specs.Prelude.{◌≡◌, Some, IfErr, OnOk, drop, option_map};
+ghost use Rattle.std.specs.Prelude.{◌≡◌, true, false, Some, IfErr, OnOk, drop, option_map};
+ghost use Rattle.std.specs.List.{list_any};
+ghost use Rattle.fin_fields.specs.Faults.{has_other_byte};
 ghost use Rattle.fin_parties.specs.Party.{behind_first, customer_party, party_in, party_of, party_with};
 ghost use Rattle.fin_parties.specs.declared.form.Listing.TheVariants.{Customer};
 ghost use Rattle.fin_parties.specs.declared.opening.Opening.TheVariants.{AccountLine};
@@ -59,24 +61,41 @@ fn hold_customer(
             fill_account(alloc, first, account)?;
             refill_lines(alloc, lines, listed)
         }
-        _ => {
-            let account = copy_account(alloc, first)?;
-            let lines = copy_lines(alloc, lines)?;
-            put(place, Party::K { account, lines });
-            Ok(())
-        }
+        _ => put_customer(alloc, first, lines, place),
     }
 }
 
+/// Puts a customer in the place of another party.
 #[inline(never)]
-fn fill_customer(alloc: Global, lines: &[Line<'_>], place: &mut Party) -> Result<(), PartyFault>
+fn put_customer(
+    alloc: Global,
+    first: Option<&[u8]>,
+    lines: &[Line<'_>],
+    place: &mut Party,
+) -> Result<(), Memory>
+    ensures { OnOk result (place.new ≡ party_with Customer (option_map (λ b. b.now) first.entry) lines.now) }
+{
+    let account = copy_account(alloc, first)?;
+    let lines = copy_lines(alloc, lines)?;
+    put(place, Party::K { account, lines });
+    Ok(())
+}
+
+#[inline(never)]
+fn fill_customer(
+    alloc: Global,
+    lines: &[Line<'_>],
+    plain: bool,
+    place: &mut Party,
+) -> Result<(), PartyFault>
+    requires { plain ≡ true → list_any has_other_byte lines.now ≡ false }
     ensures party { OnOk result (behind_first AccountLine customer_party lines.now ≡ Some place.new) }
     ensures fault { IfErr result (TellsPartyFault (behind_first AccountLine customer_party lines.now)) }
 {
-    let Some(parts) = parts_of(Opening::AccountLine, lines) else {
+    let Some(parts) = parts_of(Opening::AccountLine, lines, plain) else {
         return Err(PartyFault::P24);
     };
-    if !is_name(parts.rest) {
+    if !is_name(parts.rest, plain) {
         return Err(PartyFault::P24);
     }
     hold_customer(alloc, parts.first, parts.rest, place)?;
@@ -105,7 +124,7 @@ pub fn fill_party(alloc: Global, f: &FieldLines<'_>, place: &mut Party) -> Resul
     ensures fault { IfErr result (TellsPartyFault (party_of f.now)) }
 {
     match form_of(f.tag(), f.letter()) {
-        Some(Form::CustomerK) => fill_customer(alloc, f.lines(), place),
+        Some(Form::CustomerK) => fill_customer(alloc, f.lines(), f.is_plain(), place),
         Some(form) => fill_other(alloc, form, f.lines(), place),
         None => Err(PartyFault::P24),
     }

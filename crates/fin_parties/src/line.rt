@@ -1,11 +1,12 @@
 //! First lines of party fields.
 
-ghost use Rattle.std.specs.Prelude.{◌≡◌};
+ghost use Rattle.std.specs.Prelude.{◌≡◌, true, false};
+ghost use Rattle.fin_fields.specs.Faults.{has_other_byte};
 ghost use Rattle.corr_text.specs.Lines.{begins_with};
 ghost use Rattle.fin_parties.specs.Party.{account_in, is_account, is_account_line, is_lettered_line, is_party_line};
 
 use corr_text::Set;
-use fin_fields::is_run_of;
+use fin_fields::{is_run_of, is_x_run};
 
 /// The most characters that an account has.
 const ACCOUNT_MOST: u8 = 34;
@@ -23,12 +24,14 @@ fn is_account(account: &[u8]) -> bool
     is_run_of(Set::X, ACCOUNT_MOST, account)
 }
 
-/// Whether a line is `/34x`.
-pub fn is_account_line(line: &[u8]) -> bool
+/// Whether a line is `/34x`. Where `plain` tells that it has no byte outside set X, its bytes aren't tested.
+#[tactic(auto, using(crate::proofs::OfX::behind_slash))]
+pub fn is_account_line(line: &[u8], plain: bool) -> bool
+    requires { plain ≡ true → has_other_byte line.now ≡ false }
     ensures { result ≡ is_account_line line.now }
 {
     match line {
-        [b'/', account @ ..] => is_account(account),
+        [b'/', account @ ..] => is_x_run(ACCOUNT_MOST, account, plain),
         _ => false,
     }
 }
@@ -46,7 +49,7 @@ fn is_lettered_line(line: &[u8]) -> bool
 pub fn is_party_line(line: &[u8]) -> bool
     ensures { result ≡ is_party_line line.now }
 {
-    is_account_line(line) || is_lettered_line(line)
+    is_account_line(line, false) || is_lettered_line(line)
 }
 
 /// The account of a party line: what stands behind the second slash of `/C/34x` with a capital letter C, else what stands

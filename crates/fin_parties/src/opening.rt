@@ -1,6 +1,8 @@
 //! The lines of a party field, cut behind an optional first line.
 
-ghost use Rattle.std.specs.Prelude.{◌≡◌, option_map};
+ghost use Rattle.std.specs.Prelude.{◌≡◌, true, false, option_map};
+ghost use Rattle.std.specs.List.{list_any};
+ghost use Rattle.fin_fields.specs.Faults.{has_other_byte};
 ghost use Rattle.fin_parties.specs.Party.{opens, parts_of};
 ghost use Rattle.fin_parties.specs.Parts.{parts_in};
 
@@ -21,23 +23,32 @@ pub struct Parts<'a, 't> {
     pub rest: &'a [Line<'t>],
 }
 
-fn opens(opening: Opening, line: &[u8]) -> bool
+fn opens(opening: Opening, line: &[u8], plain: bool) -> bool
+    requires { plain ≡ true → has_other_byte line.now ≡ false }
     ensures { result ≡ opens opening line.now }
 {
     match opening {
         Opening::PartyLine => is_party_line(line),
-        Opening::AccountLine => is_account_line(line),
+        Opening::AccountLine => is_account_line(line, plain),
     }
 }
 
-/// The parts of a field's lines, none where the first begins with a slash and has another format.
-pub fn parts_of<'a, 't>(opening: Opening, lines: &'a [Line<'t>]) -> Option<Parts<'a, 't>>
+/// The parts of a field's lines, none where the first begins with a slash and has another format. Where `plain` tells that the
+/// lines have no byte outside set X, the bytes of an account line aren't tested.
+#[inline(always)]
+#[tactic(auto, using(crate::proofs::OfX::first_line))]
+pub fn parts_of<'a, 't>(
+    opening: Opening,
+    lines: &'a [Line<'t>],
+    plain: bool,
+) -> Option<Parts<'a, 't>>
+    requires { plain ≡ true → list_any has_other_byte lines.now ≡ false }
     ensures { option_map parts_in result ≡ parts_of opening lines.now }
 {
     match lines {
         [first, rest @ ..] if has_slash(first.bytes()) => {
             let first = first.bytes();
-            if !opens(opening, first) {
+            if !opens(opening, first, plain) {
                 return None;
             }
             Some(Parts {

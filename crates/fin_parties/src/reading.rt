@@ -1,6 +1,8 @@
 //! Fields read as parties.
 
-ghost use Rattle.std.specs.Prelude.{◌≡◌, Some, IfOk, IfErr, drop, option_map};
+ghost use Rattle.std.specs.Prelude.{◌≡◌, true, false, Some, IfOk, IfErr, drop, option_map};
+ghost use Rattle.std.specs.List.{list_any};
+ghost use Rattle.fin_fields.specs.Faults.{has_other_byte};
 ghost use Rattle.fin_parties.specs.Party.{account_party, behind_first, bic_party, is_line, is_listing, is_name, listed_party, party_in, party_of, payer_party, place_party};
 ghost use Rattle.fin_parties.specs.declared.opening.Opening.TheVariants.{PartyLine};
 ghost use Rattle.fin_parties.specs.Faults.{ReadsParty, TellsPartyFault};
@@ -13,9 +15,7 @@ use crate::opening::{Opening, parts_of};
 use crate::party::Party;
 use corr_ids::read_bic;
 use corr_text::{Memory, Set, Text};
-use fin_fields::{
-    Field, FieldLines, Line, Pattern, copy_lines, is_run_of, lend_field, lines_match,
-};
+use fin_fields::{Field, FieldLines, Line, are_x_runs, copy_lines, is_run_of, lend_field};
 use std::alloc::Global;
 
 fn is_line(line: &[u8]) -> bool
@@ -24,13 +24,15 @@ fn is_line(line: &[u8]) -> bool
     is_run_of(Set::X, 35, line)
 }
 
-pub fn is_name(lines: &[Line<'_>]) -> bool
+/// Whether lines are `4*35x`, the first without a slash at its beginning. Where `plain` tells that they have no byte outside set
+/// X, their bytes aren't tested.
+pub fn is_name(lines: &[Line<'_>], plain: bool) -> bool
+    requires { plain ≡ true → list_any has_other_byte lines.now ≡ false }
     ensures { result ≡ is_name lines.now }
 {
     match lines {
         [] => false,
-        [first, ..] => !has_slash(first.bytes())
-            && lines_match(lines, Pattern::Lines { max: 4, len: 35 }),
+        [first, ..] => !has_slash(first.bytes()) && are_x_runs(4, 35, lines, plain),
     }
 }
 
@@ -57,7 +59,7 @@ pub fn copy_account(alloc: Global, line: Option<&[u8]>) -> Result<Option<Text>, 
 fn read_bic_party(alloc: Global, opening: Opening, lines: &[Line<'_>]) -> Result<Party, PartyFault>
     ensures { ReadsParty (behind_first opening bic_party lines.now) result }
 {
-    let Some(parts) = parts_of(opening, lines) else {
+    let Some(parts) = parts_of(opening, lines, false) else {
         return Err(PartyFault::P24);
     };
     let [text] = parts.rest else {
@@ -76,7 +78,7 @@ fn read_bic_party(alloc: Global, opening: Opening, lines: &[Line<'_>]) -> Result
 fn read_place_party(alloc: Global, lines: &[Line<'_>]) -> Result<Party, PartyFault>
     ensures { ReadsParty (behind_first PartyLine place_party lines.now) result }
 {
-    let Some(parts) = parts_of(Opening::PartyLine, lines) else {
+    let Some(parts) = parts_of(Opening::PartyLine, lines, false) else {
         return Err(PartyFault::P24);
     };
     match (parts.first, parts.rest) {
@@ -97,7 +99,7 @@ fn read_account_party(alloc: Global, lines: &[Line<'_>]) -> Result<Party, PartyF
     ensures { ReadsParty (account_party lines.now) result }
 {
     match lines {
-        [line] if is_account_line(line.bytes()) => Ok(Party::C {
+        [line] if is_account_line(line.bytes(), false) => Ok(Party::C {
             line: line.copy(alloc)?,
         }),
         _ => Err(PartyFault::P24),
@@ -108,7 +110,7 @@ fn is_listing(listing: Listing, lines: &[Line<'_>]) -> bool
     ensures { result ≡ is_listing listing lines.now }
 {
     match listing {
-        Listing::Institution | Listing::Customer => is_name(lines),
+        Listing::Institution | Listing::Customer => is_name(lines, false),
         Listing::Payee => are_numbered(lines),
     }
 }
@@ -122,7 +124,7 @@ fn read_listed_party(
 ) -> Result<Party, PartyFault>
     ensures { ReadsParty (behind_first opening (listed_party listing) lines.now) result }
 {
-    let Some(parts) = parts_of(opening, lines) else {
+    let Some(parts) = parts_of(opening, lines, false) else {
         return Err(PartyFault::P24);
     };
     if !is_listing(listing, parts.rest) {
