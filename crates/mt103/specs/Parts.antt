@@ -260,12 +260,18 @@ closing_into t fs found m = do
   regulatory ← in_option fs found at_regulatory (texts_of 3)
   Ok (with_closing m taken given (unwrap_or notes []) (unwrap_or regulatory []))
 
+-- the lines of 70, none without the field
+unfoldable pub info_of : List Field → List ℕ → Result (List (List ℕ)) Fault
+info_of fs found = do
+  info ← in_option fs found at_info (texts_of 4)
+  Ok (unwrap_or info [])
+
 -- 70 and 71A, then the closing fields
 unfoldable pub details_into : Tables → List Field → List ℕ → Mt103 → Result Mt103 Fault
 details_into t fs found m = do
-  info ← in_option fs found at_info (texts_of 4)
+  info ← info_of fs found
   charge ← in_place order_103 fs found at_charge charge_of
-  closing_into t fs found (with_info m (unwrap_or info []) charge)
+  closing_into t fs found (with_info m info charge)
 
 -- one part after another
 unfoldable pub contents_into : Tables → List Field → List ℕ → Mt103 → Result Mt103 Fault

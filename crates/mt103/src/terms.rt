@@ -11,10 +11,9 @@ use crate::message::Mt103;
 use crate::order::ORDER;
 use crate::places::{INSTRUCTIONS, KIND, OPERATION, ORDERED, RATE, REFERENCE, TIMES, VALUE};
 use crate::word::Operation;
-use corr_text::put;
 use fin_contents::{CcyAmount, Rate, Reference, Time, Value, ValueDate};
 use fin_fields::FieldLines;
-use fin_layout::{Found, MtFault, fill_one, read_all, read_optional};
+use fin_layout::{Found, MtFault, fill_all, fill_one, fill_optional};
 use ref_tables::RefTables;
 use std::alloc::Global;
 
@@ -42,15 +41,19 @@ pub fn fill_terms(
         REFERENCE,
         &mut m.reference,
     )?;
-    put(&mut m.times, read_all(alloc, &Time, fields, found, TIMES)?);
+    fill_all(alloc, &Time, fields, found, TIMES, &mut m.times)?;
     fill_one(
         alloc, &Operation, &ORDER, fields, found, OPERATION, &mut m.op,
     )?;
-    put(
+    fill_all(
+        alloc,
+        &Instruction,
+        fields,
+        found,
+        INSTRUCTIONS,
         &mut m.instrs,
-        read_all(alloc, &Instruction, fields, found, INSTRUCTIONS)?,
-    );
-    m.kind = read_optional(alloc, &Kind, fields, found, KIND)?;
+    )?;
+    fill_optional(alloc, &Kind, fields, found, KIND, &mut m.kind)?;
     let mut value = Value::blank();
     fill_one(
         alloc,
@@ -63,10 +66,6 @@ pub fn fill_terms(
     )?;
     m.value = value.day;
     m.amount = value.amount;
-    m.ordered = read_optional(alloc, &amount, fields, found, ORDERED)?;
-    put(
-        &mut m.rate,
-        read_optional(alloc, &Rate, fields, found, RATE)?,
-    );
-    Ok(())
+    fill_optional(alloc, &amount, fields, found, ORDERED, &mut m.ordered)?;
+    fill_optional(alloc, &Rate, fields, found, RATE, &mut m.rate)
 }

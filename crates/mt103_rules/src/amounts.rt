@@ -48,11 +48,12 @@ pub fn d75(m: &Mt103) -> Option<Fault>
 }
 
 /// Between banks of two listed countries 33B is there.
-#[tactic(auto, unfolding(crate::specs::Rules::d49))]
+#[tactic(auto, unfolding(crate::specs::Rules::d49), using(crate::proofs::Parts::either_first))]
 pub fn d49(m: &Mt103, sender: &Bic, receiver: &Bic, t: &RefTables) -> Option<Fault>
     ensures { result ≡ d49 sender.now receiver.now t.now m.now }
 {
-    let are_listed = is_listed_bank(t, sender) && is_listed_bank(t, receiver);
+    // the receiver first, who is the home bank mostly: where it isn't listed the sender isn't looked up
+    let are_listed = is_listed_bank(t, receiver) && is_listed_bank(t, sender);
     broken(are_listed && m.ordered.is_none(), D49, *b"33B", 0)
 }
 

@@ -17,8 +17,8 @@ use Rattle.fin_contents.specs.declared.value.Value.{Value}
 use Rattle.fin_contents.proofs.laws.Grouped.{eight-apart, six-apart}
 use Rattle.mt103.specs.Codes.{charge_of, instr_of, kind_of, operation_of}
 use Rattle.mt103.specs.Message.{contents_of}
-use Rattle.mt103.specs.Order.{at_account_bank, at_ordering, at_regulatory, at_taken, order_103}
-use Rattle.mt103.specs.Parts.{banks_into, closing_into, contents_in_parts, contents_into, details_into, details_of, transfer_of_parts, parties_into, parties_of, terms_into, terms_of, with_banks, with_closing, with_details, with_info, with_parties, with_payee, with_payer, with_terms, Details, Parties, Terms}
+use Rattle.mt103.specs.Order.{at_account_bank, at_info, at_ordering, at_regulatory, at_taken, order_103}
+use Rattle.mt103.specs.Parts.{banks_into, closing_into, contents_in_parts, contents_into, details_into, details_of, info_of, transfer_of_parts, parties_into, parties_of, terms_into, terms_of, with_banks, with_closing, with_details, with_info, with_parties, with_payee, with_payer, with_terms, Details, Parties, Terms}
 use Rattle.corr_text.specs.declared.fault.Fault.{Fault}
 use Rattle.mt103.specs.declared.instruction.Instr.{Instr}
 use Rattle.mt103.specs.declared.message.Mt103.{Mt103}
@@ -73,7 +73,7 @@ parties-are t fs found m =
 
 -- 70, 71A and the closing fields one after another are the details
 detail-by-detail : (m : Mt103) (info : Result (Option (List (List ℕ))) Fault) (charge : Result (List ℕ) Fault) (taken : Result (List Amount) Fault) (given : Result (Option Amount) Fault) (notes regulatory : Result (Option (List (List ℕ))) Fault)
-    → (info >>= λ a. charge >>= λ b. taken >>= λ c. given >>= λ d. notes >>= λ e. regulatory >>= λ f. Ok (with_closing (with_info m (unwrap_or a []) b) c d (unwrap_or e []) (unwrap_or f [])))
+    → ((info >>= λ i. Ok (unwrap_or i [])) >>= λ a. charge >>= λ b. taken >>= λ c. given >>= λ d. notes >>= λ e. regulatory >>= λ f. Ok (with_closing (with_info m a b) c d (unwrap_or e []) (unwrap_or f [])))
     ≡ ((info >>= λ a. charge >>= λ b. taken >>= λ c. given >>= λ d. notes >>= λ e. regulatory >>= λ f. Ok (details a b c d e f)) >>= λ (all : Details). Ok (with_details m all))
 detail-by-detail m (Err fault) charge taken given notes regulatory = refl
 detail-by-detail m (Ok a) (Err fault) taken given notes regulatory = refl
@@ -84,7 +84,7 @@ detail-by-detail m (Ok a) (Ok b) (Ok c) (Ok d) (Ok e) (Err fault) = refl
 detail-by-detail m (Ok a) (Ok b) (Ok c) (Ok d) (Ok e) (Ok f) = refl
 
 details-are : (t : Tables) (fs : List Field) (found : List ℕ) (m : Mt103) → details_into t fs found m ≡ (details_of t fs found >>= λ all. Ok (with_details m all))
-unfolding details_into closing_into details_of
+unfolding details_into info_of closing_into details_of
 details-are t fs found m =
     detail-by-detail m (in_option fs found 16 (texts_of 4)) (in_place order_103 fs found 17 charge_of) (all_from fs 18 (ccy_amount_of t) 0 found fs) (in_option fs found 19 (ccy_amount_of t))
     (in_option fs found 20 (texts_of 6)) (in_option fs found 21 (texts_of 3))
@@ -119,3 +119,8 @@ pub no-closing : (t : Tables) (fs : List Field) (found : List ℕ) (m : Mt103) �
 unfolding closing_into
 no-closing t fs found m none =
     rw (none-read 18 21 18 (omega arith) (omega arith) fs (ccy_amount_of t) 0 found fs none, none-taken 18 21 19 (omega arith) (omega arith) fs found none, none-taken 18 21 20 (omega arith) (omega arith) fs found none, none-taken 18 21 21 (omega arith) (omega arith) fs found none) refl
+
+-- and where none takes the place of 70, it has no line of it
+pub no-info : (fs : List Field) (found : List ℕ) → list_any (is_between at_info at_info) found ≡ false → info_of fs found ≡ Ok []
+unfolding info_of
+no-info fs found none = rw (none-taken 16 16 16 (omega arith) (omega arith) fs found none) refl
