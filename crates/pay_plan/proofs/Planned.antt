@@ -1,8 +1,9 @@
 -- A plan step by step.
 use Rattle.std.proofs.Common.{◌≡◌, ℕ, true, false, IfOk, List, Result, Ok, Err, refl, sym, ap, ◌∙◌, subst}
-use Rattle.std.specs.Prelude.{IfErr, IsErrAnd, OnOk}
+use Rattle.std.specs.Prelude.{IsErrAnd, OnOk}
 use Rattle.corr_text.specs.Codes.{code}
 use Rattle.corr_text.specs.declared.fault.Code.{Code}
+use Rattle.corr_text.specs.declared.memory.Memory.{Memory}
 use Rattle.corr_ids.specs.declared.bic.Bic.{Bic}
 use Rattle.corr_ids.specs.declared.day.Day.{Day}
 use Rattle.corr_ids.specs.declared.envelope.Envelope.{Envelope}
@@ -18,8 +19,8 @@ use Rattle.pay_plan.specs.declared.ask.Ask.{Ask}
 use Rattle.pay_plan.specs.declared.ask.Ask.TheVariants as asks
 use Rattle.pay_plan.specs.declared.fault.PlanFault.{PlanFault}
 use Rattle.pay_plan.specs.declared.fault.PlanFault.TheVariants as fault
-use Rattle.pay_plan.specs.Asked.{amount_in, asked_of, cover_in, is_for_home, target_in, value_in}
-use Rattle.pay_plan.specs.Plan.{Plans, Refuses, pay_of, plan_of}
+use Rattle.pay_plan.specs.Asked.{Asked, amount_in, asked_of, asked_with, cover_in, is_for_home, target_in, value_in}
+use Rattle.pay_plan.specs.Plan.{Plans, Refuses, booked, plan_of}
 
 -- a cover for the home bank has no plan
 pub home-refused : (env : Envelope) (text : List ℕ) (ask : Ask) (rows : List SsiRow) (chart : Chart) (home : Bic) → home ≡ chart.home →
@@ -46,26 +47,23 @@ pub amount-asked : (home : Bic) (ask : Ask) → amount_in ask ≡ (asked_of home
 amount-asked home (asks.Transfer m) = refl
 amount-asked home (asks.Cover m) = refl
 
--- the code of a route that is refused
-pub route-refused : (env : Envelope) (text : List ℕ) (ask : Ask) (rows : List SsiRow) (chart : Chart) (code : Code) →
-    is_for_home chart.home ask ≡ false → route_asked env ask rows chart ≡ Err code → plan_of env text ask rows chart ≡ Err code
+-- the plan, by the route
+pub booked-on-route : (env : Envelope) (text : List ℕ) (ask : Ask) (rows : List SsiRow) (chart : Chart) (route : Result Routed Code) →
+    is_for_home chart.home ask ≡ false → route_asked env ask rows chart ≡ route → plan_of env text ask rows chart ≡ booked env text ask chart route
 unfolding plan_of
-route-refused env text ask rows chart code apart fails = rw (apart, fails) refl
+booked-on-route env text ask rows chart route apart found = rw (apart, found) refl
 
--- the pay of a route
-pub routed-planned : (env : Envelope) (text : List ℕ) (ask : Ask) (rows : List SsiRow) (chart : Chart) (routed : Routed) →
-    is_for_home chart.home ask ≡ false → route_asked env ask rows chart ≡ Ok routed →
-    plan_of env text ask rows chart ≡ Ok (pay_of env text (asked_of chart.home ask) routed chart)
-unfolding plan_of
-routed-planned env text ask rows chart routed apart found = rw (apart, found) refl
+-- what a message asks, read part by part
+pub asked-of-parts : (home : Bic) (ask : Ask) (asked : Asked) (cover : Cover) (target : Target) →
+    asked ≡ asked_with ask cover target → cover ≡ cover_in ask → target ≡ target_in home ask → asked ≡ asked_of home ask
+asked-of-parts home ask asked cover target is c t = rw (is, c, t) refl
 
--- a pay that is the plan's, or want of memory
-pub planned : (r : Result Pay PlanFault) (pay : Pay) (plan : Result Pay Code) → IfOk r (λ x. x ≡ pay) → IfErr r (λ e. e ≡ fault.Memory) → plan ≡ Ok pay → Plans r plan
-planned (Ok x) pay plan is out at = at ∙ ap (λ (p : Pay). Ok p) (sym is)
-planned (Err e) pay plan is out at = let P : PlanFault → Type 0 = λ f. Refuses f plan in subst P (sym out) tt
+-- a pay that is the plan's
+pub planned : (pay asked : Pay) (plan : Result Pay Code) → pay ≡ asked → plan ≡ Ok asked → Plans (Ok pay) plan
+planned pay asked plan is at = at ∙ ap (λ (p : Pay). Ok p) (sym is)
 
 -- what a pay has, where it is made
-pub on-pay : (r : Result Pay PlanFault) (pay : Pay) (P : Pay → Type 0) {S O : Type 0} → IfOk r (λ x. x ≡ pay) → OnOk r S → OnOk r O → (S → O → P pay) → IfOk r P
+pub on-pay : (r : Result Pay Memory) (pay : Pay) (P : Pay → Type 0) {S O : Type 0} → IfOk r (λ x. x ≡ pay) → OnOk r S → OnOk r O → (S → O → P pay) → IfOk r P
 on-pay (Ok x) pay P is sound owner h = subst P (sym is) (h sound owner)
 on-pay (Err e) pay P is sound owner h = tt
 

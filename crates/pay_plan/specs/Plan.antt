@@ -46,6 +46,12 @@ pay_of env text asked routed chart =
       orders = orders_in chart way asked.target routed;
     }
 
+-- what a message asks, booked on the accounts that it has, or the code with which it has none
+abbrev pub booked : Envelope → List ℕ → Ask → Chart → Result Routed Code → Result Pay Code
+booked env text ask chart accounts = do
+  routed ← accounts
+  Ok (pay_of env text (asked_of chart.home ask) routed chart)
+
 -- a cover for the home bank is refused before its accounts are looked for
 unfoldable pub plan_of : Envelope → List ℕ → Ask → List SsiRow → Chart → Result Pay Code
 plan_of env text ask rows chart = do

@@ -4,7 +4,7 @@ use corr_ids::Day;
 use corr_money::Amount;
 use corr_text::Text;
 use day_model::Mt;
-use routing::{Cover, Target};
+use routing::{LentCover, LentTarget};
 use std::marker::Model;
 
 /// What a message asks of the books.
@@ -18,14 +18,15 @@ pub struct Asked<'a> {
     pub amount: Amount,
     pub reference: &'a Text,
     pub last_reference: &'a Text,
-    pub cover: Cover,
-    pub target: Target,
+    pub cover: LentCover<'a>,
+    pub target: LentTarget<'a>,
 }
 
 impl<'a> Model for Asked<'a> {
+    ghost use Rattle.routing.specs.Lent.{cover_lent, target_lent};
     ghost use Rattle.pay_plan.specs.Asked.{Asked};
 
     ghost Value = { Asked };
 
-    ghost view = { λ a. record { mt = a.mt; value = a.value; amount = a.amount; reference = a.reference.now; last_reference = a.last_reference.now; cover = a.cover; target = a.target } };
+    ghost view = { λ a. record { mt = a.mt; value = a.value; amount = a.amount; reference = a.reference.now; last_reference = a.last_reference.now; cover = cover_lent a.cover; target = target_lent a.target } };
 }

@@ -1,6 +1,7 @@
 //! What a message asks of the books.
 
-ghost use Rattle.std.specs.Prelude.{◌≡◌, IfOk};
+ghost use Rattle.std.specs.Prelude.{◌≡◌};
+ghost use Rattle.routing.specs.Lent.{cover_lent, target_lent};
 ghost use Rattle.pay_plan.specs.Asked.{amount_in, asked_with, cover_in, is_for_home, target_in, value_in};
 
 use crate::ask::Ask;
@@ -9,10 +10,8 @@ use crate::cover::cover_of;
 use crate::target::{cover_target, names_home, transfer_target};
 use corr_ids::{Bic, Day};
 use corr_money::Amount;
-use corr_text::Memory;
 use day_model::Mt;
-use routing::{Cover, Target};
-use std::alloc::Global;
+use routing::{LentCover, LentTarget};
 
 /// Whether a message is a cover that names the home bank in 58a.
 pub fn is_for_home(home: &Bic, ask: Ask<'_>) -> bool
@@ -45,29 +44,29 @@ pub fn value_in(ask: Ask<'_>) -> Day
 }
 
 /// How a message says that it is covered.
-pub fn cover_in(alloc: Global, ask: Ask<'_>) -> Result<Cover, Memory>
-    ensures { IfOk result (λ cover. cover ≡ cover_in ask.entry) }
+pub fn cover_in<'a>(ask: Ask<'a>) -> LentCover<'a>
+    ensures { cover_lent result ≡ cover_in ask.entry }
 {
     let (p53, p54) = match ask {
         Ask::Transfer(m) => (&m.p53, &m.p54),
         Ask::Cover(m) => (&m.a53, &m.a54),
     };
-    cover_of(alloc, p53, p54)
+    cover_of(p53, p54)
 }
 
 /// For whom a message says that it is.
-pub fn target_in(alloc: Global, home: &Bic, ask: Ask<'_>) -> Result<Target, Memory>
-    ensures { IfOk result (λ target. target ≡ target_in home.now ask.entry) }
+pub fn target_in<'a>(home: &Bic, ask: Ask<'a>) -> LentTarget<'a>
+    ensures { target_lent result ≡ target_in home.now ask.entry }
 {
     match ask {
-        Ask::Transfer(m) => transfer_target(alloc, home, m),
-        Ask::Cover(m) => Ok(cover_target(home, m)),
+        Ask::Transfer(m) => transfer_target(home, m),
+        Ask::Cover(m) => cover_target(home, m),
     }
 }
 
 /// What a message asks of the books, with this cover and target.
-pub fn asked_with<'a>(ask: Ask<'a>, cover: Cover, target: Target) -> Asked<'a>
-    ensures { result ≡ asked_with ask.entry cover target }
+pub fn asked_with<'a>(ask: Ask<'a>, cover: LentCover<'a>, target: LentTarget<'a>) -> Asked<'a>
+    ensures { result ≡ asked_with ask.entry (cover_lent cover.entry) (target_lent target.entry) }
 {
     match ask {
         Ask::Transfer(m) => Asked {

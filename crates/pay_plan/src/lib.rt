@@ -15,4 +15,4 @@ mod way;
 
 pub use ask::Ask;
 pub use fault::{P34, PlanFault};
-pub use planning::plan;
+pub use planning::{accounts_of, pay_on, plan};

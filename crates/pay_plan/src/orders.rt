@@ -1,13 +1,14 @@
 //! The messages that a pay asks for.
 
 ghost use Rattle.std.specs.Prelude.{◌≡◌, ◌++◌, IfOk, OnOk};
+ghost use Rattle.routing.specs.Lent.{target_lent};
 ghost use Rattle.pay_plan.specs.Orders.{next_orders, notices_of, orders_of, skip_of};
 
 use crate::way::Way;
 use corr_ids::Bic;
 use corr_text::{List, Memory};
 use day_model::{Account, Kind, Order, Skip};
-use routing::Target;
+use routing::LentTarget;
 use std::alloc::Global;
 
 // Which of 56a and 57a the next bank doesn't need: those up to the field that names it, and the one before that where it
@@ -75,15 +76,15 @@ fn push_notice(debited: &Account, orders: &mut List<Order>) -> Result<(), Memory
 pub fn orders_of(
     alloc: Global,
     way: Way,
-    target: &Target,
+    target: LentTarget<'_>,
     via: Option<Bic>,
     debited: &Account,
 ) -> Result<List<Order>, Memory>
-    ensures { IfOk result (λ orders. orders ≡ orders_of way target.now via debited.now) }
+    ensures { IfOk result (λ orders. orders ≡ orders_of way (target_lent target.entry) via debited.now) }
 {
     let mut orders = List::new(alloc);
-    if let Target::Bank { bic, field } = target {
-        push_next(way, bic, *field, via, &mut orders)?;
+    if let LentTarget::Bank { bic, field } = target {
+        push_next(way, bic, field, via, &mut orders)?;
     }
     push_notice(debited, &mut orders)?;
     Ok(orders)

@@ -1,14 +1,15 @@
 //! The pay of a message.
 
-ghost use Rattle.std.specs.Prelude.{◌≡◌, IfErr, IfOk, IsSome, OnOk, Some};
+ghost use Rattle.std.specs.Prelude.{◌≡◌, ℕ, IfOk, IfSome, IsSome, List, OnOk, Some};
 ghost use Rattle.corr_ids.specs.Bic.{IsBic};
 ghost use Rattle.day_model.specs.Chart.{IsChart, IsListed, account_at};
 ghost use Rattle.day_model.specs.Fit.{FitsAccounts};
 ghost use Rattle.day_model.specs.Shape.{HasShape};
 ghost use Rattle.day_model.specs.declared.account.Account.{Account};
-ghost use Rattle.pay_plan.specs.Plan.{Plans, pay_of, plan_of};
+ghost use Rattle.routing.specs.Accounts.{AreBetween};
+ghost use Rattle.pay_plan.specs.Asked.{amount_in, asked_of};
+ghost use Rattle.pay_plan.specs.Plan.{Plans, booked, pay_of, plan_of};
 ghost use Rattle.pay_plan.specs.Readable.{IsSomeReading, IsWritable};
-ghost use Rattle.pay_plan.specs.declared.fault.PlanFault.TheVariants.{Memory as NoMemory};
 
 use crate::ask::Ask;
 use crate::asked::Asked;
@@ -18,9 +19,9 @@ use crate::legs::legs_of;
 use crate::orders::orders_of;
 use crate::way::way_of;
 use corr_ids::{Envelope, Mir};
-use corr_text::Text;
+use corr_text::{Code, Memory, Text};
 use day_model::{Accounts, Pay};
-use routing::{Routed, route};
+use routing::{Routed, route_lent};
 use ssi_versions::Ssi;
 use std::alloc::Global;
 
@@ -33,15 +34,14 @@ fn pay_of(
     asked: &Asked<'_>,
     routed: &Routed,
     a: &Accounts,
-) -> Result<Pay, PlanFault>
+) -> Result<Pay, Memory>
     requires reference { env.now.mir ≡ Some mir }
     requires debit { IsListed a.now routed.now.debit.0 }
     ensures value { IfOk result (λ pay. pay ≡ pay_of env.now text.now asked.now routed.now a.now) }
     ensures sound { OnOk result (IsChart a.now) }
     ensures owner { OnOk result ((x : Account) → account_at a.now routed.now.debit.0 ≡ Some x → IsBic x.owner) }
-    ensures memory { IfErr result (λ fault. fault ≡ NoMemory) }
 {
-    let way = way_of(asked.mt, &asked.target, routed.method);
+    let way = way_of(asked.mt, asked.target, routed.method);
     Ok(Pay {
         mir,
         mt: asked.mt,
@@ -49,8 +49,64 @@ fn pay_of(
         text: text.copy(alloc)?,
         value: asked.value,
         legs: legs_of(alloc, way, asked, routed)?,
-        orders: orders_of(alloc, way, &asked.target, routed.via, a.get(routed.debit))?,
+        orders: orders_of(alloc, way, asked.target, routed.via, a.get(routed.debit))?,
     })
+}
+
+/// The accounts of a message, or the code with which it is refused: P34, or one of `route`. Takes no memory; `pay_on` gives the
+/// pay between them.
+pub fn accounts_of(
+    env: &Envelope,
+    ask: Ask<'_>,
+    ssi: &Ssi,
+    accounts: &Accounts,
+) -> Result<Routed, Code>
+    ensures value { (text : List ℕ) → plan_of env.now text ask.entry ssi.now accounts.now ≡ booked env.now text ask.entry accounts.now result }
+    ensures accounts { IfOk result (AreBetween accounts.now (amount_in ask.entry)) }
+    ensures via { IfOk result (λ routed. IfSome routed.via IsBic) }
+{
+    if is_for_home(accounts.home(), ask) {
+        return Err(P34);
+    }
+    let cover = cover_in(ask);
+    let target = target_in(accounts.home(), ask);
+    let amount = amount_in(ask);
+    route_lent(
+        &env.sender,
+        amount,
+        value_in(ask),
+        cover,
+        target,
+        ssi,
+        accounts,
+    )
+}
+
+/// The pay that a message asks for on the accounts that `accounts_of` gives it. `Memory`: there was no room for it.
+///
+/// The pay can be written down where the reference and the UETR of `env` meet their grammar and the text has at most
+/// 32,768 bytes.
+pub fn pay_on(
+    alloc: Global,
+    env: &Envelope,
+    text: &Text,
+    ask: Ask<'_>,
+    routed: &Routed,
+    accounts: &Accounts,
+) -> Result<Pay, Memory>
+    requires received { IsSome env.now.mir }
+    requires message { IsSomeReading ask }
+    requires accounts { AreBetween accounts.now (amount_in ask) routed.now }
+    requires via { IfSome routed.now.via IsBic }
+    ensures value { IfOk result (λ pay. pay ≡ pay_of env.now text.now (asked_of accounts.now.home ask.entry) routed.now accounts.now) }
+    ensures fit { IfOk result (FitsAccounts accounts.now) }
+    ensures form { IsWritable env.now text.now → IfOk result HasShape }
+    ensures sound { OnOk result (IsChart accounts.now) }
+{
+    let Some(mir) = env.mir else { unreachable!() };
+    let target = target_in(accounts.home(), ask);
+    let asked = asked_with(ask, cover_in(ask), target);
+    pay_of(alloc, mir, env, text, &asked, routed, accounts)
 }
 
 /// The pay that a message asks for under these instructions and accounts, or the first reason why it has none
@@ -76,21 +132,6 @@ pub fn plan(
     ensures form { IsWritable env.now text.now → IfOk result HasShape }
     ensures sound { OnOk result (IsChart accounts.now) }
 {
-    let Some(mir) = env.mir else { unreachable!() };
-    if is_for_home(accounts.home(), ask) {
-        return Err(PlanFault::Code(P34));
-    }
-    let cover = cover_in(alloc, ask)?;
-    let target = target_in(alloc, accounts.home(), ask)?;
-    let routed = route(
-        &env.sender,
-        amount_in(ask),
-        value_in(ask),
-        &cover,
-        &target,
-        ssi,
-        accounts,
-    )?;
-    let asked = asked_with(ask, cover, target);
-    pay_of(alloc, mir, env, text, &asked, &routed, accounts)
+    let routed = accounts_of(env, ask, ssi, accounts)?;
+    Ok(pay_on(alloc, env, text, ask, &routed, accounts)?)
 }

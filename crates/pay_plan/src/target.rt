@@ -1,15 +1,14 @@
 //! For whom a message says that it is.
 
-ghost use Rattle.std.specs.Prelude.{◌≡◌, IfOk, drop, option_map};
+ghost use Rattle.std.specs.Prelude.{◌≡◌, drop, option_map};
+ghost use Rattle.routing.specs.Lent.{target_lent};
 ghost use Rattle.pay_plan.specs.Target.{aimed, bank_target, cover_target, customer_target, names_home, payee_account, transfer_target};
 
 use corr_ids::Bic;
-use corr_text::{Memory, Text};
 use fin_parties::Party;
 use mt103::Mt103;
 use mt202cov::Mt202Cov;
-use routing::Target;
-use std::alloc::Global;
+use routing::LentTarget;
 
 /// Whether a party is named by the home bank's BIC.
 pub fn names_home(home: &Bic, p: &Party) -> bool
@@ -21,17 +20,17 @@ pub fn names_home(home: &Bic, p: &Party) -> bool
     }
 }
 
-fn bank_target(field: u8, p: &Party) -> Target
-    ensures { result ≡ bank_target field p.now }
+fn bank_target(field: u8, p: &Party) -> LentTarget<'_>
+    ensures { target_lent result ≡ bank_target field p.now }
 {
     match p {
-        Party::A { line: _, bic } => Target::Bank { bic: *bic, field },
-        _ => Target::NoBic,
+        Party::A { line: _, bic } => LentTarget::Bank { bic, field },
+        _ => LentTarget::NoBic,
     }
 }
 
-fn aimed(home: &Bic, field: u8, p: &Option<Party>) -> Option<Target>
-    ensures { result ≡ aimed home.now field p.now }
+fn aimed<'a>(home: &Bic, field: u8, p: &'a Option<Party>) -> Option<LentTarget<'a>>
+    ensures { option_map target_lent result ≡ aimed home.now field p.now }
 {
     match p {
         Some(p) if !names_home(home, p) => Some(bank_target(field, p)),
@@ -69,34 +68,31 @@ fn payee_account(payee: &Party) -> Option<&[u8]>
     }
 }
 
-fn customer_target(alloc: Global, payee: &Party) -> Result<Target, Memory>
-    ensures { IfOk result (λ target. target ≡ customer_target payee.now) }
+fn customer_target(payee: &Party) -> LentTarget<'_>
+    ensures { target_lent result ≡ customer_target payee.now }
 {
-    match payee_account(payee) {
-        Some(account) => Ok(Target::Customer {
-            account: Some(Text::from_bytes(alloc, account)?),
-        }),
-        None => Ok(Target::Customer { account: None }),
+    LentTarget::Customer {
+        account: payee_account(payee),
     }
 }
 
 /// For whom a transfer is: the first of 56a and 57a that doesn't name the home bank, else the customer of 59a.
 #[inline(always)]
-pub fn transfer_target(alloc: Global, home: &Bic, m: &Mt103) -> Result<Target, Memory>
-    ensures { IfOk result (λ target. target ≡ transfer_target home.now m.now) }
+pub fn transfer_target<'a>(home: &Bic, m: &'a Mt103) -> LentTarget<'a>
+    ensures { target_lent result ≡ transfer_target home.now m.now }
 {
     if let Some(target) = aimed(home, 56, &m.p56) {
-        return Ok(target);
+        return target;
     }
     if let Some(target) = aimed(home, 57, &m.p57) {
-        return Ok(target);
+        return target;
     }
-    customer_target(alloc, &m.payee)
+    customer_target(&m.payee)
 }
 
 /// For whom a cover is: the first of 56a and 57a of sequence A that doesn't name the home bank, else the bank of 58a.
-pub fn cover_target(home: &Bic, m: &Mt202Cov) -> Target
-    ensures { result ≡ cover_target home.now m.now }
+pub fn cover_target<'a>(home: &Bic, m: &'a Mt202Cov) -> LentTarget<'a>
+    ensures { target_lent result ≡ cover_target home.now m.now }
 {
     if let Some(target) = aimed(home, 56, &m.a56) {
         return target;

@@ -1,10 +1,11 @@
 //! How a payment goes on.
 
 ghost use Rattle.std.specs.Prelude.{◌≡◌};
+ghost use Rattle.routing.specs.Lent.{target_lent};
 ghost use Rattle.pay_plan.specs.Way.{cover_way, transfer_way, way_of};
 
 use day_model::Mt;
-use routing::Target;
+use routing::LentTarget;
 use ssi_versions::Method;
 
 /// How a payment goes on from these books.
@@ -32,18 +33,18 @@ fn transfer_way(method: Option<Method>) -> Way
     }
 }
 
-fn cover_way(target: &Target, method: Option<Method>) -> Way
-    ensures { result ≡ cover_way target.now method }
+fn cover_way(target: LentTarget<'_>, method: Option<Method>) -> Way
+    ensures { result ≡ cover_way (target_lent target.entry) method }
 {
     match (target, method) {
-        (Target::Bank { bic: _, field: 58 }, Some(Method::Book)) => Way::Credited,
+        (LentTarget::Bank { bic: _, field: 58 }, Some(Method::Book)) => Way::Credited,
         _ => Way::Passed,
     }
 }
 
 /// How a payment goes on, by the type of its message, its target and the method of its instruction.
-pub fn way_of(mt: Mt, target: &Target, method: Option<Method>) -> Way
-    ensures { result ≡ way_of mt target.now method }
+pub fn way_of(mt: Mt, target: LentTarget<'_>, method: Option<Method>) -> Way
+    ensures { result ≡ way_of mt (target_lent target.entry) method }
 {
     match mt {
         Mt::Transfer => transfer_way(method),

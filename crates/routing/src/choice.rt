@@ -3,12 +3,14 @@
 ghost use Rattle.std.specs.Prelude.{◌≡◌, IfOk, IfSome};
 ghost use Rattle.corr_ids.specs.Bic.{IsBic};
 ghost use Rattle.routing.specs.Accounts.{AreBetween};
+ghost use Rattle.routing.specs.Lent.{cover_lent, target_lent};
 ghost use Rattle.routing.specs.Route.{route_of};
 
 use crate::codes::P38;
 use crate::cover::Cover;
 use crate::credit::credit_side;
 use crate::debit::debit_side;
+use crate::lent::{LentCover, LentTarget, lend_cover, lend_target};
 use crate::routed::Routed;
 use crate::target::Target;
 use corr_ids::{Bic, Day};
@@ -28,8 +30,6 @@ use ssi_versions::Ssi;
 /// - P30: no instruction is in force on the value date; P33: the customer has no account that fits; P35: the target has no
 ///   BIC; P36: the instruction's account isn't there or doesn't fit.
 /// - P38: both sides are one account.
-#[inline(never)]
-#[tactic(auto, unfolding(crate::specs::Route::route_of))]
 pub fn route(
     sender: &Bic,
     amount: &Amount,
@@ -40,6 +40,27 @@ pub fn route(
     accounts: &Accounts,
 ) -> Result<Routed, Code>
     ensures value { result ≡ route_of sender.now amount.now value cover.now target.now ssi.now accounts.now }
+    ensures accounts { IfOk result (AreBetween accounts.now amount.now) }
+    ensures via { IfOk result (λ routed. IfSome routed.via IsBic) }
+{
+    let cover = lend_cover(cover);
+    let target = lend_target(target);
+    route_lent(sender, amount, value, cover, target, ssi, accounts)
+}
+
+/// As `route`, of a cover and a target that stay where they are.
+#[inline(never)]
+#[tactic(auto, unfolding(crate::specs::Route::route_of))]
+pub fn route_lent(
+    sender: &Bic,
+    amount: &Amount,
+    value: Day,
+    cover: LentCover<'_>,
+    target: LentTarget<'_>,
+    ssi: &Ssi,
+    accounts: &Accounts,
+) -> Result<Routed, Code>
+    ensures value { result ≡ route_of sender.now amount.now value (cover_lent cover.entry) (target_lent target.entry) ssi.now accounts.now }
     ensures accounts { IfOk result (AreBetween accounts.now amount.now) }
     ensures via { IfOk result (λ routed. IfSome routed.via IsBic) }
 {

@@ -1,17 +1,18 @@
 //! The account to credit.
 
-ghost use Rattle.std.specs.Prelude.{◌≡◌, IfOk, IfSome, IsTrue};
+ghost use Rattle.std.specs.Prelude.{◌≡◌, IfOk, IfSome, IsTrue, option_map};
 ghost use Rattle.corr_ids.specs.Bic.{IsBic};
 ghost use Rattle.routing.specs.Accounts.{fits_at};
 ghost use Rattle.ssi_versions.specs.InstructionList.{IsInForm};
+ghost use Rattle.routing.specs.Lent.{target_lent};
 ghost use Rattle.routing.specs.Route.{bank_credit, booked_credit, carried_credit, credit_of, customer_credit, instructed_credit};
 
 use crate::codes::{P30, P33, P35, P36};
 use crate::ledger::{Wanted, named};
-use crate::target::Target;
+use crate::lent::LentTarget;
 use corr_ids::{Bic, Day};
 use corr_money::Amount;
-use corr_text::{Code, Text};
+use corr_text::Code;
 use day_model::{Accounts, AcctNo};
 use ssi_versions::{Method, Ssi, SsiRow};
 
@@ -23,15 +24,15 @@ pub struct Credit {
     pub via: Option<Bic>,
 }
 
-fn customer(id: &Option<Text>, amount: &Amount, a: &Accounts) -> Result<Credit, Code>
-    ensures value { result ≡ customer_credit id.now amount.now a.now }
+fn customer(id: Option<&[u8]>, amount: &Amount, a: &Accounts) -> Result<Credit, Code>
+    ensures value { result ≡ customer_credit (option_map (λ b. b.now) id.entry) amount.now a.now }
     ensures fits { IfOk result (λ c. IsTrue (fits_at a.now amount.now c.account)) }
     ensures via { IfOk result (λ c. IfSome c.via IsBic) }
 {
     let Some(id) = id else {
         return Err(P33);
     };
-    let account = named(id.bytes(), &Wanted::Customer, amount, a).ok_or(P33)?;
+    let account = named(id, &Wanted::Customer, amount, a).ok_or(P33)?;
     Ok(Credit {
         account,
         method: None,
@@ -94,17 +95,17 @@ fn bank(bank: &Bic, amount: &Amount, value: Day, ssi: &Ssi, a: &Accounts) -> Res
 pub fn credit_side(
     amount: &Amount,
     value: Day,
-    target: &Target,
+    target: LentTarget<'_>,
     ssi: &Ssi,
     a: &Accounts,
 ) -> Result<Credit, Code>
-    ensures value { result ≡ credit_of amount.now value target.now ssi.now a.now }
+    ensures value { result ≡ credit_of amount.now value (target_lent target.entry) ssi.now a.now }
     ensures fits { IfOk result (λ c. IsTrue (fits_at a.now amount.now c.account)) }
     ensures via { IfOk result (λ c. IfSome c.via IsBic) }
 {
     match target {
-        Target::Customer { account } => customer(account, amount, a),
-        Target::Bank { bic, field: _ } => bank(bic, amount, value, ssi, a),
-        Target::NoBic => Err(P35),
+        LentTarget::Customer { account } => customer(account, amount, a),
+        LentTarget::Bank { bic, field: _ } => bank(bic, amount, value, ssi, a),
+        LentTarget::NoBic => Err(P35),
     }
 }

@@ -2,11 +2,12 @@
 
 ghost use Rattle.std.specs.Prelude.{◌≡◌, IfOk, IsTrue};
 ghost use Rattle.routing.specs.Accounts.{fits_at};
+ghost use Rattle.routing.specs.Lent.{cover_lent};
 ghost use Rattle.routing.specs.Route.{cover_of_bank, debit_of, is_bank, relation_of};
 
 use crate::codes::{P31, P32, P35};
-use crate::cover::Cover;
 use crate::ledger::{Wanted, account_with, named};
+use crate::lent::LentCover;
 use corr_ids::Bic;
 use corr_money::Amount;
 use corr_text::Code;
@@ -42,18 +43,16 @@ fn over_bank(bank: &Bic, sender: &Bic, amount: &Amount, a: &Accounts) -> Result<
 pub fn debit_side(
     sender: &Bic,
     amount: &Amount,
-    cover: &Cover,
+    cover: LentCover<'_>,
     a: &Accounts,
 ) -> Result<AcctNo, Code>
-    ensures value { result ≡ debit_of sender.now amount.now cover.now a.now }
+    ensures value { result ≡ debit_of sender.now amount.now (cover_lent cover.entry) a.now }
     ensures fits { IfOk result (λ n. IsTrue (fits_at a.now amount.now n)) }
 {
     match cover {
-        Cover::Relation => relation(sender, amount, a),
-        Cover::Bank(bank) => over_bank(bank, sender, amount, a),
-        Cover::Account(id) => {
-            named(id.bytes(), &Wanted::Relation(*sender), amount, a).ok_or(P32)
-        }
-        Cover::NoBic => Err(P35),
+        LentCover::Relation => relation(sender, amount, a),
+        LentCover::Bank(bank) => over_bank(bank, sender, amount, a),
+        LentCover::Account(id) => named(id, &Wanted::Relation(*sender), amount, a).ok_or(P32),
+        LentCover::NoBic => Err(P35),
     }
 }

@@ -8,11 +8,13 @@ mod cover;
 mod credit;
 mod debit;
 mod ledger;
+mod lent;
 mod routed;
 mod target;
 
-pub use choice::route;
+pub use choice::{route, route_lent};
 pub use codes::{P30, P31, P32, P33, P35, P36, P38};
 pub use cover::Cover;
+pub use lent::{LentCover, LentTarget};
 pub use routed::Routed;
 pub use target::Target;
