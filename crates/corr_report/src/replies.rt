@@ -65,17 +65,21 @@ fn put_refused<'a>(
     ])
 }
 
-// The line of a message without a route, after its number.
-fn unrouted_line(mir: &Mir, code: &Code) -> [u8; 42]
-    ensures { result ≡ line [] (mir.now.0 ∷ codes "REFUSED" ∷ code.now.0 ∷ []) }
+// Adds the line of a message without a route: in one piece, where its number has six digits.
+fn put_unrouted(number: &[u8], mir: &Mir, code: &Code, out: &mut Text) -> Result<(), Memory>
+    ensures { OnOk result (out.new ≡ out.old ++ line number.now (mir.now.0 ∷ codes "REFUSED" ∷ code.now.0 ∷ [])) }
 {
-    let mut words = *b"                              REFUSED    \n";
-    words[38..41].copy_from_slice(&code.0);
-    words[1..29].copy_from_slice(&mir.0);
-    words
+    if number.len() != 6 {
+        return out.push_all(&[number, b" ", &mir.0, b" REFUSED ", &code.0, b"\n"]);
+    }
+    let mut words = *b"000000                              REFUSED    \n";
+    words[44..47].copy_from_slice(&code.0);
+    words[7..35].copy_from_slice(&mir.0);
+    words[..6].copy_from_slice(number);
+    out.push(&words)
 }
 
-/// Adds the line of the `n`-th message, as in the report.
+/// Adds the line of the `n`-th message, as in the report. `room` is where its number is made; lines share it.
 ///
 /// The history is legal for the accounts, and has the place that the reply names. `Memory`: there was no room for the line.
 pub fn put_reply_line(
@@ -84,13 +88,13 @@ pub fn put_reply_line(
     h: &History,
     n: u64,
     reply: &Reply,
+    room: &mut Decimal,
     out: &mut Text,
 ) -> Result<(), Memory>
     requires legal { IsLegal a.now h.now.entries }
     requires place { NamesPlace h.now.entries reply.now }
     ensures { OnOk result (out.new ≡ out.old ++ reply_line a.now h.now.entries n reply.now) }
 {
-    let mut room = Decimal::new();
     let number = room.padded(n, 6);
     match reply {
         Reply::Entered { mir, place } => {
@@ -104,7 +108,7 @@ pub fn put_reply_line(
             out.push(b"\n")
         }
         Reply::Refused { mir, fault } => put_refused(number, mir, fault, out),
-        Reply::Unrouted { mir, code } => out.push_all(&[number, &unrouted_line(mir, code)]),
+        Reply::Unrouted { mir, code } => put_unrouted(number, mir, code, out),
     }
 }
 
@@ -123,7 +127,7 @@ pub fn reply_line(
     ensures { IfOk result (λ line. line ≡ reply_line a.now h.now.entries n reply.now) }
 {
     let mut line = Text::from_bytes(alloc, b"")?;
-    put_reply_line(alloc, a, h, n, reply, &mut line)?;
+    put_reply_line(alloc, a, h, n, reply, &mut Decimal::new(), &mut line)?;
     Ok(line)
 }
 
@@ -154,7 +158,11 @@ pub fn put_report_end(
     out: &mut Text,
 ) -> Result<(), Memory>
     requires { IsLegal a.now h.now.entries }
-    ensures { OnOk result (out.new ≡ out.old ++ report_end a.now h.now.entries messages) }
+    ensures text { OnOk result (out.new ≡ out.old ++ report_end a.now h.now.entries messages) }
+    // the debits and the credits of each of its totals are equal
+    ensures even { OnOk result (DebitsEqualCredits a.now h.now.entries) }
+    // the currencies of its totals are those of the accounts, each once, in byte order
+    ensures currencies { OnOk result (AreCurrencies a.now.accounts (currencies_of [] a.now.accounts)) }
 {
     put_counts(alloc, messages, h.len() as u64, out)?;
     put_totals(alloc, a, h, out)
@@ -175,8 +183,9 @@ pub fn report(alloc: Global, a: &Accounts, h: &History, replies: &[Reply]) -> Re
     ensures currencies { OnOk result (AreCurrencies a.now.accounts (currencies_of [] a.now.accounts)) }
 {
     let mut out = Text::with_room(alloc, b"", replies.len().saturating_mul(LINE_ROOM))?;
+    let mut room = Decimal::new();
     for (at, reply) in replies.iter().enumerate() {
-        put_reply_line(alloc, a, h, at as u64 + 1, reply, &mut out)?;
+        put_reply_line(alloc, a, h, at as u64 + 1, reply, &mut room, &mut out)?;
     }
     put_report_end(alloc, a, h, replies.len() as u64, &mut out)?;
     Ok(out)

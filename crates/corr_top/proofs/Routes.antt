@@ -1,32 +1,58 @@
--- What a reading means behind a verdict.
-use Rattle.std.proofs.Common.{◌≡◌, ℕ, List, Result, Ok, refl, subst, sym}
-use Rattle.std.specs.Borrow.{Bor}
+-- What a reading means behind a verdict, and what a plan means wherever its message is kept.
+use Rattle.std.proofs.Common.{◌≡◌, ℕ, List, Result, Ok, Err, refl, ap, ◌∙◌, sym}
+use Rattle.std.specs.Prelude.{IfOk, IfSome}
 use Rattle.corr_text.specs.First.{◌>>=◌}
+use Rattle.corr_text.specs.declared.fault.Code.{Code}
+use Rattle.corr_ids.specs.Bic.{IsBic}
+use Rattle.corr_ids.specs.declared.bic.Bic.{Bic}
 use Rattle.corr_ids.specs.declared.envelope.Envelope.{Envelope}
 use Rattle.day_model.specs.declared.pay.Pay.{Pay}
 use Rattle.day_model.specs.Chart.{Chart}
 use Rattle.fin_message.specs.declared.message.Message.{Message}
-use Rattle.fin_message.specs.Verdict.{Refused}
-use Rattle.mt103.specs.declared.message.Mt103.{Mt103}
-use Rattle.mt202cov.specs.declared.message.Mt202Cov.{Mt202Cov}
-use Rattle.pay_plan.specs.declared.ask.Ask.TheVariants.{Cover, Transfer}
-use Rattle.pay_plan.specs.Plan.{plan_of}
+use Rattle.fin_message.specs.Verdict.{Refused, verdict_of}
 use Rattle.ssi_versions.specs.declared.row.SsiRow.{SsiRow}
+use Rattle.routing.specs.Accounts.{AreBetween}
+use Rattle.routing.specs.declared.routed.Routed.{Routed}
+use Rattle.pay_plan.specs.declared.ask.Ask.{Ask}
+use Rattle.pay_plan.specs.declared.ask.Ask.TheVariants.{Cover, Transfer}
+use Rattle.pay_plan.specs.Asked.{amount_in, asked_of}
+use Rattle.pay_plan.specs.Plan.{booked, pay_of, plan_of}
 use Rattle.corr_top.specs.declared.directory.Directory.{Directory}
-use Rattle.corr_top.specs.declared.message.Stop.{Stop}
-use Rattle.corr_top.specs.Asks.{asks_cover, asks_transfer}
-use Rattle.corr_top.specs.Message.{pay_in, refused}
-use Rattle.corr_top.specs.Replies.{ReadsAs}
+use Rattle.corr_top.specs.Asks.{unplaced}
+use Rattle.corr_top.specs.Message.{IsRoutedAs, pay_asked_of, pay_in, refused}
 
-pub read_on : (directory : Directory) (chart : Chart) (judged : Result Message Refused) (message : Message) (r : Result Pay Stop) → judged ≡ Ok message → ReadsAs r (pay_in directory chart message)
-    → ReadsAs r (refused judged >>= λ valid. pay_in directory chart valid)
-read_on directory chart judged message r is reads = subst (λ (v : Result Message Refused). ReadsAs r (refused v >>= λ valid. pay_in directory chart valid)) (sym is) reads
+-- what a message asks for, once it is read
+pub read_on : (directory : Directory) (chart : Chart) (home : Bic) (bytes : List ℕ) (message : Message) → home ≡ chart.home → verdict_of home directory.tables bytes ≡ Ok message
+    → pay_asked_of directory chart bytes ≡ pay_in directory chart message
+unfolding pay_asked_of
+read_on directory chart home bytes message its is =
+    ap (λ (v : Result Message Refused). refused v >>= λ valid. pay_in directory chart valid) (ap (λ (bank : Bic). verdict_of bank directory.tables bytes) (sym its) ∙ is)
 
 -- where a message is kept plays no part in its plan
-pub kept_transfer : (envelope : Envelope) (text : List ℕ) (m : Bor Mt103) (rows : List SsiRow) (chart : Chart) → plan_of envelope text (Transfer m) rows chart ≡ plan_of envelope text (asks_transfer m.now) rows chart
+pub plan_unplaced : (envelope : Envelope) (text : List ℕ) (ask : Ask) (rows : List SsiRow) (chart : Chart) → plan_of envelope text ask rows chart ≡ plan_of envelope text (unplaced ask) rows chart
 unfolding plan_of
-kept_transfer envelope text m rows chart = refl
+plan_unplaced envelope text (Transfer m) rows chart = refl
+plan_unplaced envelope text (Cover m) rows chart = refl
 
-pub kept_cover : (envelope : Envelope) (text : List ℕ) (m : Bor Mt202Cov) (rows : List SsiRow) (chart : Chart) → plan_of envelope text (Cover m) rows chart ≡ plan_of envelope text (asks_cover m.now) rows chart
+-- nor in its accounts
+pub route_unplaced : (directory : Directory) (chart : Chart) (envelope : Envelope) (text : List ℕ) (ask : Ask) (accounts : Result Routed Code)
+    → plan_of envelope text ask directory.ssi chart ≡ booked envelope text ask chart accounts → IfOk accounts (AreBetween chart (amount_in ask)) → IfOk accounts (λ routed. IfSome routed.via IsBic)
+    → IfOk accounts (IsRoutedAs directory chart envelope text (unplaced ask))
 unfolding plan_of
-kept_cover envelope text m rows chart = refl
+route_unplaced directory chart envelope text (Transfer m) (Ok routed) is between via = record { plan = is; accounts = between; via = via }
+route_unplaced directory chart envelope text (Cover m) (Ok routed) is between via = record { plan = is; accounts = between; via = via }
+route_unplaced directory chart envelope text ask (Err code) is between via = via
+
+pub route_placed : (directory : Directory) (chart : Chart) (envelope : Envelope) (text : List ℕ) (ask : Ask) (routed : Routed)
+    → IsRoutedAs directory chart envelope text (unplaced ask) routed → IsRoutedAs directory chart envelope text ask routed
+unfolding plan_of
+route_placed directory chart envelope text (Transfer m) routed is = record { plan = is.plan; accounts = is.accounts; via = is.via }
+route_placed directory chart envelope text (Cover m) routed is = record { plan = is.plan; accounts = is.accounts; via = is.via }
+
+-- the pay that is made on the accounts of what is asked is its plan
+pub plan_on : (directory : Directory) (chart books : Chart) (envelope : Envelope) (text : List ℕ) (ask : Ask) (routed : Routed) (pay : Pay)
+    → books ≡ chart → pay ≡ pay_of envelope text (asked_of books.home ask) routed books → IsRoutedAs directory chart envelope text (unplaced ask) routed
+    → plan_of envelope text (unplaced ask) directory.ssi chart ≡ Ok pay
+plan_on directory chart books envelope text ask routed pay here is route =
+    sym (plan_unplaced envelope text ask directory.ssi chart) ∙ (route_placed directory chart envelope text ask routed route).plan
+    ∙ ap (λ (c : Chart). Ok (pay_of envelope text (asked_of c.home ask) routed c)) (sym here) ∙ ap (λ (p : Pay). Ok p) (sym is)

@@ -1,5 +1,5 @@
--- What a reader of messages answers, against what is meant.
-use Rattle.std.specs.Prelude.{◌≡◌, Result, Ok, Err}
+-- Why a reader of messages answers no pay, against what is meant.
+use Rattle.std.specs.Prelude.{◌≡◌, Result, Err}
 use Rattle.fin_message.specs.declared.fault.MessageFault.{MessageFault}
 use Rattle.fin_message.specs.declared.fault.MessageFault.TheVariants as message
 use Rattle.corr_top.specs.declared.message.NoPay.{NoPay}
@@ -16,8 +16,3 @@ stop_of_verdict message.Memory = stop.Memory
 abbrev pub FailsAs : {A : Type 0} → Stop → Result A NoPay → Type 0
 FailsAs (stop.NoPay why) meant = meant ≡ Err why
 FailsAs stop.Memory meant = Unit {0}
-
--- what was read is what is meant
-abbrev pub ReadsAs : {A : Type 0} → Result A Stop → Result A NoPay → Type 0
-ReadsAs (Ok x) meant = meant ≡ Ok x
-ReadsAs (Err e) meant = FailsAs e meant

@@ -1,9 +1,15 @@
 //! The desk of a run: what a worker does with a message.
 
-ghost use Rattle.std.specs.Prelude.{◌≡◌, ◌≤◌, [], length, map, vec_capacity, vec_len};
+ghost use Rattle.std.specs.Prelude.{◌≡◌, ◌≤◌, [], IsSome, length, map, vec_capacity, vec_len};
 ghost use Rattle.fin_frame.specs.File.{most_bytes};
 ghost use Rattle.corr_books.specs.Passes.{Belongs};
-ghost use Rattle.corr_top.specs.Message.{pay_asked_of};
+ghost use Rattle.day_model.specs.Shape.{most_text};
+ghost use Rattle.fin_message.specs.Sound.{Goes, HasEnvelope, TextSays, lines_in};
+ghost use Rattle.fin_message.specs.declared.direction.Direction.TheVariants.{Received};
+ghost use Rattle.pay_plan.specs.Plan.{plan_of};
+ghost use Rattle.pay_plan.specs.Readable.{IsSomeReading, IsWritable};
+ghost use Rattle.corr_top.specs.Asks.{unplaced};
+ghost use Rattle.corr_top.specs.Message.{IsRouted, IsRoutedAs, pay_asked_of, pay_in, unrouted};
 ghost use Rattle.corr_top.specs.Serving.{AnswersMessage, halt_of, served_of, starting};
 
 use crate::directory::Directory;
@@ -11,14 +17,16 @@ use crate::message::{Stop, read_message, reply_for};
 use crate::worker::Worker;
 use corr_books::{Books, BooksName};
 use corr_disk::Disk;
-use corr_ids::Mir;
-use corr_text::let_go;
+use corr_ids::{Envelope, Mir};
+use corr_text::{Text, let_go};
 use day_model::Reply;
 use fin_frame::Framed;
 use fin_layout::Found;
 use fin_message::Message;
 use front_word::Pass;
 use jrn_book::{CommitFault, Committed};
+use pay_plan::{Ask, pay_on};
+use routing::Routed;
 use std::alloc::Global;
 use std::sync::Wait;
 use work_pool::{Desk, Gate};
@@ -109,7 +117,7 @@ fn halt_of(made: &Served) -> Option<Halt>
 }
 
 impl<'a, N: BooksName, D: Disk> RunDesk<'a, N, D> {
-    /// Reads a message, and enters the pay that it asks for. The locks are taken once the pay is known.
+    /// Reads a message, and enters the pay that it asks for.
     fn answer<R: Wait, G: Gate>(
         &self,
         rt: &R,
@@ -127,9 +135,68 @@ impl<'a, N: BooksName, D: Disk> RunDesk<'a, N, D> {
     {
         let accounts = self.books.accounts();
         match read_message(self.alloc, self.directory, accounts, text, found, room) {
-            Ok(pay) => as_served(pay.mir, self.books.book(rt, pass, worker, &pay, gate)),
+            Ok(routed) => self.enter(rt, pass, room, &routed, worker, gate),
             Err(Stop::NoPay(why)) => Served::Reply(reply_for(why)),
             Err(Stop::Memory) => Served::Stopped(Halt::Memory),
+        }
+    }
+
+    /// Enters the pay that a valid message asks for on these accounts.
+    fn enter<R: Wait, G: Gate>(
+        &self,
+        rt: &R,
+        pass: &mut Pass,
+        message: &Message,
+        routed: &Routed,
+        worker: u32,
+        gate: &G,
+    ) -> Served
+        requires pass { Belongs N.opening pass.old }
+        requires received { Goes Received message.now × TextSays self.now.directory.now.tables message.now × HasEnvelope message.now }
+        requires short { length (lines_in message.now) ≤ most_text }
+        requires routed { IsRouted self.now.directory.now N.opening.accounts message.now routed.now }
+        ensures pass { Belongs N.opening pass.new }
+        ensures answered { AnswersMessage N.opening (pay_in self.now.directory.now N.opening.accounts message.now) pass.old pass.new result }
+    {
+        match message {
+            Message::Transfer(envelope, text, transfer) => {
+                let ask = Ask::Transfer(transfer);
+                self.enter_pay(rt, pass, envelope, text, ask, routed, worker, gate)
+            }
+            Message::Cover(envelope, text, cover) => {
+                let ask = Ask::Cover(cover);
+                self.enter_pay(rt, pass, envelope, text, ask, routed, worker, gate)
+            }
+            Message::Debit(..) | Message::Credit(..) | Message::Page(..) => unreachable!(),
+        }
+    }
+
+    /// Enters the pay of a transfer or a cover. The locks are taken once the pay is known. It stands apart, so that what a pay
+    /// takes isn't made room for where a message is refused.
+    #[inline(never)]
+    fn enter_pay<R: Wait, G: Gate>(
+        &self,
+        rt: &R,
+        pass: &mut Pass,
+        envelope: &Envelope,
+        text: &Text,
+        ask: Ask<'_>,
+        routed: &Routed,
+        worker: u32,
+        gate: &G,
+    ) -> Served
+        requires pass { Belongs N.opening pass.old }
+        requires received { IsSome envelope.now.mir }
+        requires read { IsSomeReading ask }
+        requires writable { IsWritable envelope.now text.now }
+        requires routed { IsRoutedAs self.now.directory.now N.opening.accounts envelope.now text.now (unplaced ask) routed.now }
+        ensures pass { Belongs N.opening pass.new }
+        ensures answered { AnswersMessage N.opening (unrouted envelope.now (plan_of envelope.now text.now (unplaced ask.entry) self.now.directory.now.ssi N.opening.accounts)) pass.old pass.new result }
+    {
+        let accounts = self.books.accounts();
+        match pay_on(self.alloc, envelope, text, ask, routed, accounts) {
+            Ok(pay) => as_served(pay.mir, self.books.book(rt, pass, worker, &pay, gate)),
+            Err(_) => Served::Stopped(Halt::Memory),
         }
     }
 }

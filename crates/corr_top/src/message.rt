@@ -1,23 +1,23 @@
 //! A message, read to the pay that it asks for.
 
-ghost use Rattle.std.specs.Prelude.{◌≡◌, ◌≤◌, IfOk, IsSome, length};
+ghost use Rattle.std.specs.Prelude.{◌≡◌, ◌≤◌, ℕ, Err, IfErr, IfOk, IsSome, List, OnOk, length};
 ghost use Rattle.fin_frame.specs.File.{most_bytes};
-ghost use Rattle.day_model.specs.Fit.{FitsAccounts};
-ghost use Rattle.day_model.specs.Shape.{HasShape, most_text};
+ghost use Rattle.day_model.specs.Shape.{most_text};
 ghost use Rattle.fin_message.specs.Sound.{Goes, HasEnvelope, TextSays, lines_in};
 ghost use Rattle.fin_message.specs.declared.direction.Direction.TheVariants.{Received};
 ghost use Rattle.pay_plan.specs.Plan.{mir_of_envelope, plan_of};
-ghost use Rattle.pay_plan.specs.Readable.{IsSomeReading, IsWritable};
-ghost use Rattle.corr_top.specs.Message.{pay_asked_of, pay_in, reply_for, unrouted};
-ghost use Rattle.corr_top.specs.Replies.{ReadsAs};
+ghost use Rattle.corr_top.specs.Asks.{unplaced};
+ghost use Rattle.corr_top.specs.Message.{IsRouted, IsRoutedAs, pay_asked_of, pay_in, reply_for, unrouted};
+ghost use Rattle.corr_top.specs.Replies.{FailsAs};
 
 use crate::directory::Directory;
 use corr_ids::{Envelope, Mir};
-use corr_text::{Code, Fault, Text};
-use day_model::{Accounts, Pay, Reply};
+use corr_text::{Code, Fault};
+use day_model::{Accounts, Reply};
 use fin_layout::Found;
 use fin_message::{Message, MessageFault, verdict_into};
-use pay_plan::{Ask, PlanFault, plan};
+use pay_plan::{Ask, accounts_of};
+use routing::Routed;
 use std::alloc::Global;
 
 /// An advice or a page of a statement: it tells of an account and asks for no pay.
@@ -73,79 +73,55 @@ pub fn reference(envelope: &Envelope) -> Mir
     }
 }
 
-/// The pay that a message asks for, or the code by which it has none.
-fn plan_pay(
-    alloc: Global,
+/// The accounts of a message that asks for a pay, or why it has none.
+fn find_accounts(
     directory: &Directory,
     accounts: &Accounts,
     envelope: &Envelope,
-    text: &Text,
     ask: Ask<'_>,
-) -> Result<Pay, Stop>
+) -> Result<Routed, NoPay>
     requires received { IsSome envelope.now.mir }
-    requires read { IsSomeReading ask }
-    requires writable { IsWritable envelope.now text.now }
-    ensures value { ReadsAs result (unrouted envelope.now (plan_of envelope.now text.now ask.entry directory.now.ssi accounts.now)) }
-    ensures fits { IfOk result (FitsAccounts accounts.now) }
-    ensures shape { IfOk result HasShape }
+    ensures routed { (text : List ℕ) → IfOk result (IsRoutedAs directory.now accounts.now envelope.now text (unplaced ask.entry)) }
+    ensures refused { IfErr result (λ why. (text : List ℕ) → unrouted envelope.now (plan_of envelope.now text (unplaced ask.entry) directory.now.ssi accounts.now) ≡ Err why) }
 {
-    match plan(alloc, envelope, text, ask, &directory.ssi, accounts) {
-        Ok(pay) => Ok(pay),
-        Err(PlanFault::Code(code)) => Err(Stop::NoPay(NoPay::Unrouted {
+    match accounts_of(envelope, ask, &directory.ssi, accounts) {
+        Ok(routed) => Ok(routed),
+        Err(code) => Err(NoPay::Unrouted {
             mir: reference(envelope),
             code,
-        })),
-        Err(PlanFault::Memory) => Err(Stop::Memory),
+        }),
     }
 }
 
-/// The pay of a valid message, or why it has none. An advice and a page of a statement ask for none.
-fn read_pay(
-    alloc: Global,
+/// The accounts of a valid message, or why it has no pay. An advice and a page of a statement ask for none. Takes no memory.
+fn route_message(
     directory: &Directory,
     accounts: &Accounts,
     message: &Message,
-) -> Result<Pay, Stop>
+) -> Result<Routed, NoPay>
     requires received { Goes Received message.now }
-    requires read { TextSays directory.now.tables message.now }
     requires envelope { HasEnvelope message.now }
-    requires short { length (lines_in message.now) ≤ most_text }
-    ensures value { ReadsAs result (pay_in directory.now accounts.now message.now) }
-    ensures fits { IfOk result (FitsAccounts accounts.now) }
-    ensures shape { IfOk result HasShape }
+    ensures routed { IfOk result (IsRouted directory.now accounts.now message.now) }
+    ensures refused { IfErr result (λ why. pay_in directory.now accounts.now message.now ≡ Err why) }
 {
     match message {
-        Message::Transfer(envelope, text, transfer) => {
-            plan_pay(
-                alloc,
-                directory,
-                accounts,
-                envelope,
-                text,
-                Ask::Transfer(transfer),
-            )
+        Message::Transfer(envelope, _, transfer) => {
+            find_accounts(directory, accounts, envelope, Ask::Transfer(transfer))
         }
-        Message::Cover(envelope, text, cover) => {
-            plan_pay(
-                alloc,
-                directory,
-                accounts,
-                envelope,
-                text,
-                Ask::Cover(cover),
-            )
+        Message::Cover(envelope, _, cover) => {
+            find_accounts(directory, accounts, envelope, Ask::Cover(cover))
         }
         Message::Debit(envelope, _) | Message::Credit(envelope, _) | Message::Page(envelope, _) => {
-            Err(Stop::NoPay(NoPay::Unrouted {
+            Err(NoPay::Unrouted {
                 mir: reference(envelope),
                 code: P37,
-            }))
+            })
         }
     }
 }
 
-/// The pay that a message of at most 16,384 bytes asks for, or why it gives none. `room` is where the message is read into,
-/// `found` is room for the places of its fields.
+/// Reads a message of at most 16,384 bytes into `room` and answers its accounts, or tells why it gives no pay: then `room` may say
+/// anything. `found` is room for the places of its fields.
 #[tactic(auto, unfolding(crate::specs::Message::pay_asked_of))]
 pub fn read_message(
     alloc: Global,
@@ -154,12 +130,17 @@ pub fn read_message(
     b: &[u8],
     found: &mut Found,
     room: &mut Message,
-) -> Result<Pay, Stop>
+) -> Result<Routed, Stop>
     requires { length b.now ≤ most_bytes }
-    ensures value { ReadsAs result (pay_asked_of directory.now accounts.now b.now) }
-    ensures fits { IfOk result (FitsAccounts accounts.now) }
-    ensures shape { IfOk result HasShape }
+    ensures stopped { IfErr result (λ stop. FailsAs stop (pay_asked_of directory.now accounts.now b.now)) }
+    ensures read { OnOk result (pay_asked_of directory.now accounts.now b.now ≡ pay_in directory.now accounts.now room.new) }
+    ensures received { OnOk result (Goes Received room.new × TextSays directory.now.tables room.new × HasEnvelope room.new) }
+    ensures short { OnOk result (length (lines_in room.new) ≤ most_text) }
+    ensures routed { IfOk result (IsRouted directory.now accounts.now room.new) }
 {
     verdict_into(alloc, b, accounts.home(), &directory.tables, found, room)?;
-    read_pay(alloc, directory, accounts, room)
+    match route_message(directory, accounts, room) {
+        Ok(routed) => Ok(routed),
+        Err(why) => Err(Stop::NoPay(why)),
+    }
 }

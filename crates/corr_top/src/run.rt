@@ -32,7 +32,7 @@ use corr_disk::Disk;
 use corr_ids::Day;
 use corr_io::{Sink, Source};
 use corr_report::{put_reply_line, put_report_end};
-use corr_text::{Memory, Text};
+use corr_text::{Decimal, Memory, Text};
 use day_model::{Accounts, History, Reply};
 use std::alloc::Global;
 use std::sync::Wait;
@@ -64,8 +64,10 @@ fn report_served(
 {
     let mut report = room;
     report.truncate(0);
+    let mut digits = Decimal::new();
     for (at, one) in served.iter().enumerate() {
-        put_reply_line(alloc, a, h, at as u64 + 1, reply_in(one), &mut report)?;
+        let reply = reply_in(one);
+        put_reply_line(alloc, a, h, at as u64 + 1, reply, &mut digits, &mut report)?;
     }
     put_report_end(alloc, a, h, served.len() as u64, &mut report)?;
     Ok(report)

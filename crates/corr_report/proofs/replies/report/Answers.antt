@@ -1,7 +1,5 @@
 use Rattle.std.proofs.Common.{◌+◌, [], refl}
-use Rattle.day_model.proofs.laws.Turnovers.{debits_equal_credits}
 use Rattle.corr_report.specs.Report.{reply_line}
-use Rattle.corr_report.proofs.Currencies.{currencies_are}
 use Rattle.corr_report.proofs.LineLists.{numbered_more}
 use Rattle.corr_report.proofs.replies.report.Goals as goal
 
@@ -9,9 +7,3 @@ pub loop-at-preserved : goal.loop-at-preserved
 loop-at-preserved c =
     let l = c.loop-at in
     numbered_more (reply_line c.args.a.now c.args.h.now.entries) c.args.replies.now l.at (l.at + 1) (l.at + 1) _ [] l.out _ c.loop-at-test.true refl refl l.invariant c.in_ok-put_reply_line.ensures
-
-pub returns-clause-currencies : goal.returns-clause-currencies
-returns-clause-currencies c = currencies_are c.args.a.now.accounts
-
-pub returns-clause-even : goal.returns-clause-even
-returns-clause-even c = debits_equal_credits c.args.a.now c.args.h.now.entries c.requires.legal

@@ -1,21 +1,21 @@
 use Rattle.corr_top.proofs.Reporting.{has_reply, names_its, reported_all, reported_next}
 use Rattle.corr_top.proofs.run.report_served.Goals as goal
 
-pub reply_in-requires : goal.reply_in-requires
-reply_in-requires c =
+pub reply_in-reply-requires : goal.reply_in-reply-requires
+reply_in-reply-requires c =
     let r = has_reply c.args.served.now c.requires.served.0 c.loop-at.at _ c.requires.served.1 c.loop-at-test.true in
     (r.0, r.1)
 
 pub put_reply_line-requires-clause-place : goal.put_reply_line-requires-clause-place
 put_reply_line-requires-clause-place c =
-    names_its c.args.h.now.entries c.args.served.now c.requires.served.0 c.loop-at.at _ c.reply_in.result.now c.requires.served.1 c.requires.served.2 c.loop-at-test.true c.reply_in.ensures
+    names_its c.args.h.now.entries c.args.served.now c.requires.served.0 c.loop-at.at _ c.reply_in-reply.result.now c.requires.served.1 c.requires.served.2 c.loop-at-test.true c.reply_in-reply.ensures
 
 pub loop-at-preserved : goal.loop-at-preserved
 loop-at-preserved c =
     let l = c.loop-at in
-    reported_next c.args.a.now c.args.h.now.entries c.args.served.now l.at l.report c.put_reply_line.new.out _ c.reply_in.result.now c.loop-at-test.true c.reply_in.ensures c.in_ok-put_reply_line.ensures l.invariant
+    reported_next c.args.a.now c.args.h.now.entries c.args.served.now l.at l.report c.put_reply_line.new.out _ c.reply_in-reply.result.now c.loop-at-test.true c.reply_in-reply.ensures c.in_ok-put_reply_line.ensures l.invariant
 
 pub returns : goal.returns
 returns c =
     let l = c.loop-at in
-    reported_all c.args.a.now c.args.h.now.entries c.args.served.now l.at l.report c.put_report_end.new.out c.loop-at-test.false l.invariant c.in_ok-put_report_end.ensures
+    reported_all c.args.a.now c.args.h.now.entries c.args.served.now l.at l.report c.put_report_end.new.out c.loop-at-test.false l.invariant c.in_ok-put_report_end.ensures.text
