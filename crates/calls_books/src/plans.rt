@@ -9,7 +9,7 @@ use corr_text::{List, Text};
 use day_model::{Accounts, Pay};
 use fin_fields::{Field, FieldFault, cut_fields};
 use mt103::{Mt103, read_mt103};
-use pay_plan::{Ask, PlanFault, plan};
+use pay_plan::{Ask, PlanFault, accounts_of, pay_on, plan};
 use ref_tables::{RefTables, TableFault, read_tables};
 use ssi_versions::Ssi;
 use std::alloc::Global;
@@ -91,12 +91,25 @@ fn planned(alloc: Global, desk: &Desk, m: &Mt103, text: &Text) -> Result<Pay, Pl
     )
 }
 
+// The same, first its accounts and then the pay on them. Promises nothing.
+fn planned_apart(alloc: Global, desk: &Desk, m: &Mt103, text: &Text) -> Result<Pay, PlanFault>
+    requires { IsTransferRead desk.now.tables m.now }
+{
+    let ask = Ask::Transfer(m);
+    let routed = accounts_of(&envelope(), ask, &desk.ssi, &desk.book)?;
+    Ok(pay_on(alloc, &envelope(), text, ask, &routed, &desk.book)?)
+}
+
 // The legs of the transfer of a text, and the messages that are sent on.
 fn counts(alloc: Global, desk: &Desk, text: &Text) -> Result<(usize, usize), Fail> {
     let m = read(alloc, &desk.tables, text)?;
     let pay = planned(alloc, desk, &m, text);
+    let apart = planned_apart(alloc, desk, &m, text);
     let_go(m);
     let pay = pay?;
+    if apart?.legs.as_slice().len() != pay.legs.as_slice().len() {
+        return Err("a transfer has two plans")?;
+    }
     Ok((pay.legs.as_slice().len(), pay.orders.as_slice().len()))
 }
 

@@ -5,8 +5,10 @@ ghost use Rattle.day_model.specs.Legal.{IsLegal};
 ghost use Rattle.corr_report.specs.Bookings.{AreInCentury};
 
 use crate::given::{FIRST, customers, history_of, pay};
-use corr_report::{bookings, generated, reply_line, report, summary};
-use corr_text::{Memory, Text};
+use corr_report::{
+    bookings, generated, put_reply_line, put_report_end, reply_line, report, summary,
+};
+use corr_text::{Decimal, Memory, Text};
 use day_model::{Accounts, History, Reply};
 use std::alloc::Global;
 use std::test::Fail;
@@ -30,6 +32,17 @@ fn told(alloc: Global, a: &Accounts, h: &History) -> Result<Text, Memory>
     requires one { length h.now.entries ≡ 1 }
 {
     reply_line(alloc, a, h, 7, &ENTERED)
+}
+
+// The report of the only entry, line by line at the end of a text.
+fn reported_in_place(alloc: Global, a: &Accounts, h: &History) -> Result<Text, Memory>
+    requires legal { IsLegal a.now h.now.entries }
+    requires one { length h.now.entries ≡ 1 }
+{
+    let mut text = Text::from_bytes(alloc, b"")?;
+    put_reply_line(alloc, a, h, 1, &ENTERED, &mut Decimal::new(), &mut text)?;
+    put_report_end(alloc, a, h, 1, &mut text)?;
+    Ok(text)
 }
 
 // The bookings of a history.
@@ -63,6 +76,8 @@ fn a_booked_pay_is_reported(rt: HostRuntime) -> Result<(), Fail> {
         text.bytes()
             .ends_with(b"TOTAL EUR DEBIT 0,03 CREDIT 0,03\n")
     );
+    let in_place = reported_in_place(rt.alloc(), &a, &h)?;
+    assert!(rt; text.bytes() == in_place.bytes());
     let text = booked(rt.alloc(), &a, &h)?;
     assert!(rt; text.bytes().ends_with(b" BOOKED D A 0,03 C B 0,03\n"));
     let text = told(rt.alloc(), &a, &h)?;

@@ -5,7 +5,7 @@ use corr_money::{Amount, Minor};
 use corr_text::{Code, Text};
 use day_model::{Accounts, AcctNo};
 use ref_tables::{TableFault, read_tables};
-use routing::{Cover, Routed, Target, route};
+use routing::{Cover, LentCover, LentTarget, Routed, Target, route, route_lent};
 use ssi_versions::Ssi;
 use std::alloc::Global;
 use std::test::Fail;
@@ -26,6 +26,27 @@ fn routed(ssi: &Ssi, book: &Accounts, target: &Target) -> Result<Routed, Code> {
     route(&OTHER, &amount, TODAY, &Cover::Relation, target, ssi, book)
 }
 
+// The same of a customer's account that stays where it is. Promises nothing.
+fn routed_in_place(ssi: &Ssi, book: &Accounts, account: &[u8]) -> Result<Routed, Code> {
+    let amount = Amount {
+        ccy: EUR,
+        minor: Minor(5),
+        decimals: 2,
+    };
+    let target = LentTarget::Customer {
+        account: Some(account),
+    };
+    route_lent(
+        &OTHER,
+        &amount,
+        TODAY,
+        LentCover::Relation,
+        target,
+        ssi,
+        book,
+    )
+}
+
 #[test]
 fn a_payment_is_routed(rt: HostRuntime) -> Result<(), Fail> {
     let ssi = instructions(rt.alloc())?;
@@ -39,6 +60,10 @@ fn a_payment_is_routed(rt: HostRuntime) -> Result<(), Fail> {
         method: None,
         via: None,
     };
+    assert_eq!(rt;
+        routed_in_place(&ssi, &book, b"C"),
+        routed(&ssi, &book, &target)
+    );
     assert_eq!(rt; routed(&ssi, &book, &target), Ok(want));
     Ok(())
 }

@@ -5,9 +5,9 @@ ghost use Rattle.fin_fields.specs.Writing.{IsField};
 
 use corr_text::{List, Memory, Set, Text};
 use fin_fields::{
-    Field, FieldFault, FieldLines, Pattern, copy_lines, cut_fields, cut_lines, is_run_of,
-    lend_field, lend_fields, letter_of, lines_match, matches, nth_of, own_fields, put_fields,
-    refill_lines, tag_of,
+    Field, FieldFault, FieldLines, Pattern, are_x_runs, copy_lines, cut_fields, cut_lines, is_of_x,
+    is_run_of, is_x_run, lend_field, lend_fields, letter_of, lines_match, matches, nth_of,
+    own_fields, put_fields, refill_lines, tag_of,
 };
 use std::alloc::Global;
 use std::test::Fail;
@@ -84,6 +84,17 @@ fn kept(alloc: Global, text: &[u8]) -> Result<List<Field>, FieldFault> {
     Ok(own_fields(alloc, lent.as_slice())?)
 }
 
+// Whether a field is known to have bytes of set X alone, and has lines as those of a party.
+fn is_plain_name(f: &FieldLines<'_>) -> bool {
+    f.is_plain() && are_x_runs(4, 35, f.lines(), f.is_plain())
+}
+
+// How many fields of a short text are such.
+fn count_names(alloc: Global, text: &[u8]) -> Result<usize, FieldFault> {
+    let lent = cut_lent(alloc, text)?;
+    Ok(lent.as_slice().iter().filter(|f| is_plain_name(f)).count())
+}
+
 #[test]
 fn a_field_is_cut_and_written(rt: HostRuntime) -> Result<(), Fail> {
     let fields = cut(rt.alloc(), b":71A:SHA\n")?;
@@ -101,6 +112,17 @@ fn fields_are_lent_and_kept(rt: HostRuntime) -> Result<(), Fail> {
     let fields = kept(rt.alloc(), b":50K:/12\nA PAYER\nA TOWN\n:71A:SHA\n")?;
     assert_eq!(rt; fields.as_slice().len(), 2);
     assert_eq!(rt; count_lines(rt.alloc(), &fields.as_slice()[0])?, 3);
+    Ok(())
+}
+
+#[test]
+fn bytes_that_were_tested_are_known(rt: HostRuntime) -> Result<(), Fail> {
+    assert_eq!(rt;
+        count_names(rt.alloc(), b":50K:A PAYER\nA TOWN\n:71A:SHA\n")?,
+        2
+    );
+    assert!(rt; is_of_x(b"SHA", false) && is_x_run(3, b"SHA", false));
+    assert!(rt; !is_plain_name(&FieldLines::of_line(20, None, b"A")));
     Ok(())
 }
 

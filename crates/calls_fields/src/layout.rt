@@ -8,8 +8,8 @@ use corr_text::{List, Memory, Text};
 use fin_fields::FieldLines;
 use fin_layout::{
     Content, Found, MtFault, P23, P24, Place, Refill, Refusal, absent, check_structure, fault_at,
-    fill_one, fill_structure, find, missing, places, put_places, read_all, read_one, read_optional,
-    refusal, takes_any,
+    fill_all, fill_one, fill_optional, fill_structure, find, missing, places, put_places, read_all,
+    read_one, read_optional, refusal, takes_any,
 };
 use std::alloc::Global;
 use std::test::Fail;
@@ -142,6 +142,30 @@ fn count(alloc: Global, fields: &[FieldLines<'_>; 1]) -> Result<usize, MtFault> 
     )
 }
 
+// What an optional place says, in the place of a text.
+fn may_fill(
+    alloc: Global,
+    fields: &[FieldLines<'_>; 1],
+    place: usize,
+) -> Result<Option<Text>, MtFault> {
+    let found = places(alloc, &ORDER, fields)?;
+    let mut value = Some(Text::from_bytes(alloc, b"OTHER")?);
+    fill_optional(alloc, &FirstLine, fields, &found, place, &mut value)?;
+    Ok(value)
+}
+
+// How many fields at a place are read into a list of one text.
+fn count_filled(
+    alloc: Global,
+    fields: &[FieldLines<'_>; 1],
+    place: usize,
+) -> Result<usize, MtFault> {
+    let found = places(alloc, &ORDER, fields)?;
+    let mut all = read_all(alloc, &FirstLine, fields, &found, 0)?;
+    fill_all(alloc, &FirstLine, fields, &found, place, &mut all)?;
+    Ok(all.as_slice().len())
+}
+
 #[test]
 fn a_field_is_read_by_its_place(rt: HostRuntime) -> Result<(), Fail> {
     let fields = [reference()];
@@ -156,5 +180,15 @@ fn a_field_is_read_by_its_place(rt: HostRuntime) -> Result<(), Fail> {
 fn a_field_without_lines_is_refused(rt: HostRuntime) -> Result<(), Fail> {
     let bare = FieldLines::of_lines(20, None, List::new(rt.alloc()));
     assert_eq!(rt; refusal(rt.alloc(), &FirstLine, &bare)?, Some(P24));
+    Ok(())
+}
+
+#[test]
+fn fields_are_read_where_others_stood(rt: HostRuntime) -> Result<(), Fail> {
+    let fields = [reference()];
+    assert!(rt; may_fill(rt.alloc(), &fields, 0)?.is_some());
+    assert!(rt; may_fill(rt.alloc(), &fields, 1)?.is_none());
+    assert_eq!(rt; count_filled(rt.alloc(), &fields, 0)?, 1);
+    assert_eq!(rt; count_filled(rt.alloc(), &fields, 1)?, 0);
     Ok(())
 }
