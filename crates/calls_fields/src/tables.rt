@@ -3,8 +3,8 @@
 use corr_ids::Bic;
 use corr_money::Ccy;
 use ref_tables::{
-    AccountRow, RefTables, TableFault, ccy, cell, is_account_id, read_accounts, read_rows,
-    read_tables,
+    AccountRow, RefTables, TableFault, ccy, cell, is_account_id, read_accounts, read_banks,
+    read_rows, read_tables, with_countries, with_currencies,
 };
 use std::alloc::Global;
 use std::test::Fail;
@@ -28,6 +28,18 @@ fn tables_are_read(rt: HostRuntime) -> Result<(), Fail> {
     assert!(rt; tables.has_bic(b"HOMEUS33"));
     assert_eq!(rt; tables.decimals(Ccy(*b"EUR")), Some(2));
     assert!(rt; tables.listed(b"DE"));
+    Ok(())
+}
+
+#[test]
+fn tables_are_read_one_after_another(rt: HostRuntime) -> Result<(), Fail> {
+    let banks = read_banks(rt.alloc(), b"HOMEUS33")?;
+    assert!(rt; banks.has_bic(b"HOMEUS33"));
+    assert_eq!(rt; banks.decimals(Ccy(*b"EUR")), None);
+    let with_eur = with_currencies(rt.alloc(), banks, b"EUR,2")?;
+    assert_eq!(rt; with_eur.decimals(Ccy(*b"EUR")), Some(2));
+    let tables = with_countries(rt.alloc(), with_eur, b"DE,Y")?;
+    assert!(rt; tables.has_bic(b"HOMEUS33") && tables.listed(b"DE"));
     Ok(())
 }
 

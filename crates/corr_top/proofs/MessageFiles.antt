@@ -1,7 +1,7 @@
 -- Message files: what their bytes show, and what a cutter that was fed them knows.
 use Rattle.std.proofs.Common.{◌≡◌, ℕ, ◌+◌, ◌-◌, ◌<◌, ◌≤◌, ◌⊎◌, inl, inr, List, [], ◌∷◌, ◌++◌, length, take, drop, Some, None, Ok, refl, sym, ap, ◌∙◌, subst, arith, append_assoc, length-append}
 use Rattle.std.specs.Prelude.{All}
-use Rattle.std.proofs.lemmas.List.{append-nil, take-append-drop}
+use Rattle.std.proofs.lemmas.List.{append-nil, length-take, take-append-drop}
 use Rattle.std.proofs.lemmas.Bool.{cases_lt}
 use Rattle.std.proofs.lemmas.List.Elements.{All-append, All-cons}
 use Rattle.std.proofs.lemmas.Option.{none-some}
@@ -9,10 +9,11 @@ use Rattle.fin_frame.specs.Cutting.{EndsInput, Knows, WasFed}
 use Rattle.fin_frame.specs.File.{IsCutInto, IsFileOf, lead}
 use Rattle.fin_frame.specs.File.IsFileOf.{start as file_start, more as file_more}
 use Rattle.fin_frame.specs.Machine.{State, at_start, run}
-use Rattle.fin_frame.specs.Shown.{HasBegun}
+use Rattle.fin_frame.specs.Shown.{HasBegun, HaveBegun}
 use Rattle.fin_frame.specs.Shown.HasBegun.{begun as has_begun}
 use Rattle.fin_frame.specs.declared.cutter.Cutter.{Cutter}
 use Rattle.fin_frame.specs.declared.fault.FrameFault.{FrameFault}
+use Rattle.fin_frame.proofs.laws.Counting.{begun-few}
 use Rattle.fin_frame.proofs.laws.Led.{Rests, file-run, message-leads}
 use Rattle.fin_frame.proofs.laws.Led.Rests.{rests_apart, rests_behind}
 use Rattle.fin_frame.proofs.laws.Running.{run-append, run-failed}
@@ -21,7 +22,7 @@ use Rattle.fin_frame.proofs.laws.Tracking.{begun-more}
 use Rattle.corr_io.specs.declared.source.Source as sources
 use Rattle.corr_top.specs.declared.cutting.FileStop.{FileStop}
 use Rattle.corr_top.specs.declared.cutting.FileStop.TheVariants as stop_of
-use Rattle.corr_top.specs.Feeding.{HasPassed, StopsFeeding, StopsInPieces}
+use Rattle.corr_top.specs.Feeding.{HasPassed, StopsFeeding}
 use Rattle.corr_top.specs.MessageFile.{IsMessageFile, IsPassed, IsPast, IsTooLarge, IsUncut, StopsCutting, most_message_bytes}
 use Rattle.corr_top.specs.Passing.{StopsAtMessages}
 use Rattle.corr_top.specs.Reading.{IsStopped, Took}
@@ -68,16 +69,33 @@ large-here c file fed (b ∷ rest) given bytes messages so_far whole some stop =
   begun = stop.2;
 }
 
-pub stops-here : (c : Cutter) (size : ℕ) (file fed rest : List ℕ) (n : ℕ) (given : List (List ℕ)) (s : FileStop) → HasPassed c fed given → fed ++ rest ≡ file → 0 < length rest → (size ≡ 1 → n ≡ 1)
-    → StopsFeeding (fed ++ take n rest) s → StopsInPieces size file s
-stops-here c size file fed rest n given (stop_of.TooLarge bytes messages) so_far whole some one stop =
-    λ is. large-here c file fed rest given bytes messages so_far whole some (subst (λ k. StopsFeeding (fed ++ take k rest) (stop_of.TooLarge bytes messages)) (one is) stop)
-stops-here c size file fed rest n given (stop_of.Framing at) so_far whole some one stop = inl (record { front = fed ++ take n rest; rest = drop n rest; file_is = parts; fault = stop })
+-- a piece of so few bytes passes no limit
+within-limits : (fed piece : List ℕ) (begun : ℕ) → HaveBegun fed begun → length fed + length piece ≤ 67108864 → begun + length piece ≤ 50000 → IsPast (fed ++ piece) → ⊥
+within-limits fed piece begun have short few (inl long) = let e = length-append fed piece in omega arith
+within-limits fed piece begun have short few (inr more) = let most = begun-few fed piece have more.2 in let over = more.1 in omega arith
+
+-- what a cutter that passed tells of the messages begun
+pub have-begun : (c : Cutter) (fed : List ℕ) (given : List (List ℕ)) (begun : ℕ) → HasPassed c fed given → Knows c.failed fed given begun → HaveBegun fed begun
+have-begun c fed given begun so_far knows = (subst (λ o. Knows o fed given begun) so_far.sound knows).1.1
+
+-- a piece stops: one of one byte at it, and a longer one by a fault alone
+pub stops-here : (c : Cutter) (file fed rest : List ℕ) (n begun : ℕ) (given : List (List ℕ)) (s : FileStop) → HasPassed c fed given → fed ++ rest ≡ file → HaveBegun fed begun → 0 < n → n ≤ length rest
+    → (1 < n → (length fed + n ≤ 67108864) × (begun + n ≤ 50000)) → StopsFeeding (fed ++ take n rest) s → StopsCutting file s
+stops-here c file fed rest n begun given (stop_of.TooLarge bytes messages) so_far whole have some fits within stop =
+    elim (cases_lt 1 n) [
+      | inl long ↦
+          let size : length (take n rest) ≡ n = omega (arith, length-take n rest, fits) in
+          absurd (within-limits fed (take n rest) begun have (omega (arith, size, (within long).0)) (omega (arith, size, (within long).1)) stop.1)
+      | inr short ↦
+          let one : n ≡ 1 = omega (arith, some, short) in
+          large-here c file fed rest given bytes messages so_far whole (omega (arith, some, fits)) (subst (λ k. StopsFeeding (fed ++ take k rest) (stop_of.TooLarge bytes messages)) one stop)
+    ]
+stops-here c file fed rest n begun given (stop_of.Framing at) so_far whole have some fits within stop = inl (record { front = fed ++ take n rest; rest = drop n rest; file_is = parts; fault = stop })
   where
     parts : file ≡ (fed ++ take n rest) ++ drop n rest
     parts = sym whole ∙ ap (λ l. fed ++ l) (sym (take-append-drop n rest)) ∙ sym (append_assoc fed (take n rest) (drop n rest))
-stops-here c size file fed rest n given stop_of.Memory so_far whole some one stop = tt
-stops-here c size file fed rest n given (stop_of.Fault x y) so_far whole some one stop = stop
+stops-here c file fed rest n begun given stop_of.Memory so_far whole have some fits within stop = tt
+stops-here c file fed rest n begun given (stop_of.Fault x y) so_far whole have some fits within stop = stop
 
 -- ---- the end of the file
 

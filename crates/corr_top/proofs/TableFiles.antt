@@ -1,15 +1,12 @@
 -- Tables that are read one after another, and how that stops.
-use Rattle.std.proofs.Common.{◌≡◌, inl, inr, ℕ, List, [], ◌∷◌, Option, Some, None, refl, sym, ap, ◌∙◌, subst}
+use Rattle.std.proofs.Common.{◌≡◌, inl, inr, ℕ, List, [], ◌∷◌, Option, refl, sym, ap, ◌∙◌, subst}
 use Rattle.std.specs.Prelude.{map, pos}
-use Rattle.csv.specs.Machine.{next_record}
-use Rattle.csv.specs.Reading.{records_from, strip_bom}
-use Rattle.corr_text.specs.First.{first_of}
 use Rattle.ref_tables.specs.declared.fault.TableFault.{TableFault}
 use Rattle.ref_tables.specs.declared.fault.TableFault.TheVariants as table
 use Rattle.ref_tables.specs.declared.fault.TableName.TheVariants as names
-use Rattle.ref_tables.specs.Refusals.{Tells, first_bad_row, named}
+use Rattle.ref_tables.specs.Refusals.{Tells}
 use Rattle.ref_tables.specs.Rows.{rows_of}
-use Rattle.ref_tables.specs.Tables.{bics_fault, ccys_fault, countries_fault, tables_fault}
+use Rattle.ref_tables.specs.Tables.{ccy_of, country_in_row}
 use Rattle.ref_tables.specs.declared.account.AccountRow.{AccountRow}
 use Rattle.ref_tables.specs.Accounts.{account_of}
 use Rattle.ref_tables.specs.Seen.{Tables}
@@ -36,29 +33,12 @@ use Rattle.corr_top.specs.declared.room.Tables.{Tables as Files}
 use Rattle.corr_top.specs.declared.status.Status.TheVariants as no_memory
 use Rattle.corr_top.specs.Stops.{status_of_table, table_stop_of_fault, table_stop_of_read}
 
--- a file with no bytes has no fault
-no_ccys : ccys_fault [] ≡ None
-unfolding first_bad_row rows_of records_from next_record strip_bom
-no_ccys = refl
+-- tables with other currencies, or other countries
+abbrev pub with_ccys : List ℕ → Tables → Tables
+with_ccys file t = record t { ccys = map ccy_of (rows_of file) }
 
-no_countries : countries_fault [] ≡ None
-unfolding first_bad_row rows_of records_from next_record strip_bom
-no_countries = refl
-
-only_first : {F : Type 0} (p q r : Option F) → q ≡ None → r ≡ None → first_of (p ∷ q ∷ r ∷ []) ≡ p
-only_first None q r none also = rw none (rw also refl)
-only_first (Some x) q r none also = refl
-
-only_second : {F : Type 0} (p q r : Option F) → p ≡ None → r ≡ None → first_of (p ∷ q ∷ r ∷ []) ≡ q
-only_second p None r none also = rw none (rw also refl)
-only_second p (Some x) r none also = rw none refl
-
--- the fault of the tables that were read so far is that of the last one
-pub bics_alone : (bics : List ℕ) → tables_fault bics [] [] ≡ named names.Bics (bics_fault bics)
-bics_alone bics = only_first _ _ _ (ap (named names.Ccys) no_ccys) (ap (named names.Countries) no_countries)
-
-pub ccys_next : (bics ccys : List ℕ) → named names.Bics (bics_fault bics) ≡ None → tables_fault bics ccys [] ≡ named names.Ccys (ccys_fault ccys)
-ccys_next bics ccys fine = only_second _ _ _ fine (ap (named names.Countries) no_countries)
+abbrev pub with_countries : List ℕ → Tables → Tables
+with_countries file t = record t { countries = map country_in_row (rows_of file) }
 
 module _ {S : Type 0} (source : sources.Ghosts S) (old new : S) where
   -- a table that was read has this fault, or memory ran out
@@ -84,10 +64,6 @@ module _ {S : Type 0} (source : sources.Ghosts S) (old new : S) where
 
   pub stops_from : (start : S) (file : List ℕ) (fault : Option Bad) (s : TableStop) → old ≡ start → StopsAtTable source old new file fault s → StopsAtTable source start new file fault s
   stops_from start file fault s same stops = subst (λ (x : S). StopsAtTable source x new file fault s) same stops
-
--- the same, with a fault that is equal
-pub told_of : (a b : Option Bad) (e : TableFault) → a ≡ b → Tells a e → Tells b e
-told_of a b e same told = subst (λ (f : Option Bad). Tells f e) same told
 
 -- the rows of the accounts under the tables that were read
 pub same_rows : (i : Inputs) (t : Tables) (rows : List AccountRow) → t ≡ tables_in i → rows ≡ map (account_of t) (rows_of i.accounts) → map opened rows ≡ accounts_in i

@@ -5,7 +5,7 @@ use Rattle.fin_frame.specs.Shown.{HaveBegun}
 use Rattle.fin_frame.specs.declared.cutter.Cutter.{Cutter}
 use Rattle.corr_top.specs.declared.cutting.FileStop.{FileStop}
 use Rattle.corr_top.specs.declared.cutting.FileStop.TheVariants as file
-use Rattle.corr_top.specs.MessageFile.{IsAtFault, IsPast, IsTooLarge, IsUncut}
+use Rattle.corr_top.specs.MessageFile.{IsAtFault, IsPast}
 
 -- the cutter was fed these bytes, which show no fault and pass no limit, and gave these messages
 pub record HasPassed (c : Cutter) (fed : List ℕ) (given : List (List ℕ)) : Type 0 where
@@ -19,10 +19,3 @@ StopsFeeding fed (file.TooLarge bytes messages) = (bytes ≡ length fed) × IsPa
 StopsFeeding fed (file.Framing at) = IsAtFault fed at
 StopsFeeding fed (file.Fault before after) = ⊥
 StopsFeeding fed file.Memory = Unit {0}
-
--- how cutting in pieces of some size stops: pieces of one byte find the byte that passes a limit
-abbrev pub StopsInPieces : ℕ → List ℕ → FileStop → Type 0
-StopsInPieces size bytes (file.TooLarge count messages) = size ≡ 1 → IsTooLarge bytes count messages
-StopsInPieces size bytes (file.Framing at) = IsUncut bytes at
-StopsInPieces size bytes (file.Fault before after) = ⊥
-StopsInPieces size bytes file.Memory = Unit {0}

@@ -1,8 +1,8 @@
 //! The message file, cut into its messages.
 
 ghost use Rattle.std.specs.Prelude.{◌≡◌, ◌+◌, ◌≤◌, ◌<◌, ◌^◌, ℕ, List, ◌++◌, None, IfOk, IfErr, IfSome, OnOk, length};
-ghost use Rattle.corr_top.specs.Feeding.{HasPassed, StopsFeeding, StopsInPieces};
-ghost use Rattle.corr_top.specs.MessageFile.{IsMessageFile, StopsCutting, most_message_bytes};
+ghost use Rattle.corr_top.specs.Feeding.{HasPassed, StopsFeeding};
+ghost use Rattle.corr_top.specs.MessageFile.{IsMessageFile, StopsCutting, most_message_bytes, most_messages};
 ghost use Rattle.corr_top.specs.Passing.{StopsAtMessages};
 ghost use Rattle.corr_top.specs.Reading.{Took};
 
@@ -19,7 +19,7 @@ const FILE_LIMIT: usize = 67_108_864;
 /// The most messages of a message file.
 const MESSAGE_LIMIT: u32 = 50_000;
 
-/// How many bytes the cutter is fed at a time.
+/// The most bytes that the cutter is fed at a time.
 const PIECE: usize = 65_536;
 
 /// Why a message file was not taken.
@@ -115,18 +115,30 @@ fn feed_piece(
     Ok(answer?)
 }
 
-/// The messages of a file, which is fed in pieces of `size` bytes.
-fn cut_in_pieces(alloc: Global, file: &[u8], size: usize) -> Result<List<Text>, FileStop>
-    requires short { length file.now ≤ most_message_bytes + 1 }
-    requires some { 0 < size }
+/// How many bytes of the rest to feed: one, or so few that no limit is passed in them. Each byte begins one message at most.
+fn piece_len(fed: usize, begun: u32, rest: usize) -> usize
+    requires { 0 < rest }
+    ensures some { 0 < result }
+    ensures fits { result ≤ rest }
+    ensures within { 1 < result → (fed + result ≤ most_message_bytes) × (begun + result ≤ most_messages) }
+{
+    let bytes = FILE_LIMIT.saturating_sub(fed);
+    let messages = MESSAGE_LIMIT.saturating_sub(begun) as usize;
+    PIECE.min(bytes).min(messages).min(rest).max(1)
+}
+
+/// The messages of a file, fed to a cutter in pieces, or its first byte past a limit, or its first fault.
+fn cut_in_pieces(alloc: Global, file: &[u8]) -> Result<List<Text>, FileStop>
+    requires { length file.now ≤ most_message_bytes + 1 }
     ensures ok { IfOk result (IsMessageFile file.now) }
-    ensures stopped { IfErr result (StopsInPieces size file.now) }
+    ensures stopped { IfErr result (StopsCutting file.now) }
 {
     let mut cutter = Cutter::new(alloc);
     let mut messages = List::new(alloc);
     let mut rest = file;
     while !rest.is_empty() {
-        let (piece, behind) = rest.split_at(size.min(rest.len()));
+        let len = piece_len(file.len() - rest.len(), cutter.begun(), rest.len());
+        let (piece, behind) = rest.split_at(len);
         let bytes = file.len() - behind.len();
         feed_piece(&mut cutter, piece, bytes, &mut messages)?;
         rest = behind;
@@ -135,29 +147,15 @@ fn cut_in_pieces(alloc: Global, file: &[u8], size: usize) -> Result<List<Text>, 
     Ok(messages)
 }
 
-/// Why a file that is no message file is none, as pieces of `size` bytes show.
-fn stop_in_pieces(alloc: Global, file: &[u8], size: usize) -> FileStop
-    requires short { length file.now ≤ most_message_bytes + 1 }
-    requires some { 0 < size }
-    requires none { (messages : List (List ℕ)) → IsMessageFile file.now messages → ⊥ }
-    ensures { StopsInPieces size file.now result }
-{
-    match cut_in_pieces(alloc, file, size) {
-        Err(stop) => stop,
-        Ok(_) => unreachable!(),
-    }
-}
-
 /// Why a file that is no message file is none: its first byte past a limit, or its first fault.
 fn first_stop(alloc: Global, file: &[u8]) -> FileStop
     requires short { length file.now ≤ most_message_bytes + 1 }
     requires none { (messages : List (List ℕ)) → IsMessageFile file.now messages → ⊥ }
     ensures { StopsCutting file.now result }
 {
-    match stop_in_pieces(alloc, file, PIECE) {
-        // a limit is passed somewhere in a piece: pieces of one byte find where
-        FileStop::TooLarge { .. } => stop_in_pieces(alloc, file, 1),
-        stop => stop,
+    match cut_in_pieces(alloc, file) {
+        Err(stop) => stop,
+        Ok(_) => unreachable!(),
     }
 }
 

@@ -1,12 +1,12 @@
 //! The table files, read and tested.
 
-ghost use Rattle.std.specs.Prelude.{◌≡◌, ℕ, List, Option, None, IfOk, IfErr, IsTrue, map};
+ghost use Rattle.std.specs.Prelude.{◌≡◌, ℕ, List, [], Option, IfOk, IfErr, IsTrue, map};
 ghost use Rattle.ref_tables.specs.AccountList.{AreAccounts};
 ghost use Rattle.ref_tables.specs.Accounts.{account_of, accounts_fault};
 ghost use Rattle.ref_tables.specs.Refusals.{named};
 ghost use Rattle.ref_tables.specs.Rows.{most_table_bytes, rows_of};
 ghost use Rattle.ref_tables.specs.Seen.{few_decimals};
-ghost use Rattle.ref_tables.specs.Tables.{bics_fault, ccys_fault, countries_fault, tables_of};
+ghost use Rattle.ref_tables.specs.Tables.{bank_in_row, bics_fault, ccy_of, ccys_fault, countries_fault, country_in_row};
 ghost use Rattle.ref_tables.specs.declared.fault.TableName.TheVariants as names;
 ghost use Rattle.ssi_versions.specs.InstructionList.{AreInstructions};
 ghost use Rattle.ssi_versions.specs.Rows.{instruction_of, ssi_fault};
@@ -20,7 +20,10 @@ use crate::status::Status;
 use corr_ids::Bic;
 use corr_io::Source;
 use corr_text::Text;
-use ref_tables::{AccountRow, RefTables, TableFault, TableName, Why, read_accounts, read_tables};
+use ref_tables::{
+    AccountRow, RefTables, TableFault, TableName, Why, read_accounts, read_banks, with_countries,
+    with_currencies,
+};
 use ssi_versions::Ssi;
 use std::alloc::Global;
 
@@ -93,43 +96,43 @@ fn read_table<S: Source>(alloc: Global, source: &mut S) -> Result<Text, TableSto
     Ok(read_whole(alloc, source, TABLE_LIMIT)?)
 }
 
-/// The table of banks: its bytes, which have no fault.
-fn read_bics<S: Source>(alloc: Global, source: &mut S) -> Result<Text, TableStop>
-    ensures fine { IfOk result (λ bics. IsFine S.Source source.old source.new bics (named names.Bics (bics_fault bics))) }
+/// What the table of banks says, with no currencies and no countries.
+fn read_bics<S: Source>(alloc: Global, source: &mut S) -> Result<RefTables, TableStop>
+    ensures fine { IfOk result (λ known. (bics : List ℕ) × IsFine S.Source source.old source.new bics (named names.Bics (bics_fault bics))
+        × (known ≡ record { bics = map bank_in_row (rows_of bics); ccys = []; countries = [] })) }
     ensures stopped { IfErr result (λ stop. (bics : List ℕ) × StopsAtTable S.Source source.old source.new bics (named names.Bics (bics_fault bics)) stop) }
 {
-    let bics = read_table(alloc, source)?;
-    read_tables(alloc, bics.bytes(), &[], &[])?;
-    Ok(bics)
+    let file = read_table(alloc, source)?;
+    Ok(read_banks(alloc, file.bytes())?)
 }
 
-/// The table of currencies after that of banks.
-fn read_ccys<S: Source>(alloc: Global, bics: &Text, source: &mut S) -> Result<Text, TableStop>
-    requires { named names.Bics (bics_fault bics.now) ≡ None }
-    ensures fine { IfOk result (λ ccys. IsFine S.Source source.old source.new ccys (named names.Ccys (ccys_fault ccys))) }
-    ensures stopped { IfErr result (λ stop. (ccys : List ℕ) × StopsAtTable S.Source source.old source.new ccys (named names.Ccys (ccys_fault ccys)) stop) }
-{
-    let ccys = read_table(alloc, source)?;
-    read_tables(alloc, bics.bytes(), ccys.bytes(), &[])?;
-    Ok(ccys)
-}
-
-/// The table of countries after those two: what the three say.
-fn read_countries<S: Source>(
+/// What the table of currencies adds to these tables.
+fn read_ccys<S: Source>(
     alloc: Global,
-    bics: &Text,
-    ccys: &Text,
+    known: RefTables,
     source: &mut S,
 ) -> Result<RefTables, TableStop>
-    requires bics { named names.Bics (bics_fault bics.now) ≡ None }
-    requires ccys { named names.Ccys (ccys_fault ccys.now) ≡ None }
-    ensures fine { IfOk result (λ known. (countries : List ℕ) × IsFine S.Source source.old source.new countries (named names.Countries (countries_fault countries))
-        × (known ≡ tables_of bics.now ccys.now countries)) }
-    ensures few { IfOk result (λ known. IsTrue (few_decimals known.ccys)) }
+    ensures fine { IfOk result (λ more. (ccys : List ℕ) × IsFine S.Source source.old source.new ccys (named names.Ccys (ccys_fault ccys))
+        × (more ≡ record known { ccys = map ccy_of (rows_of ccys) })) }
+    ensures stopped { IfErr result (λ stop. (ccys : List ℕ) × StopsAtTable S.Source source.old source.new ccys (named names.Ccys (ccys_fault ccys)) stop) }
+{
+    let file = read_table(alloc, source)?;
+    Ok(with_currencies(alloc, known, file.bytes())?)
+}
+
+/// What the table of countries adds to these tables.
+fn read_countries<S: Source>(
+    alloc: Global,
+    known: RefTables,
+    source: &mut S,
+) -> Result<RefTables, TableStop>
+    ensures fine { IfOk result (λ more. (countries : List ℕ) × IsFine S.Source source.old source.new countries (named names.Countries (countries_fault countries))
+        × (more ≡ record known { countries = map country_in_row (rows_of countries) })) }
+    ensures few { IfOk result (λ more. IsTrue (few_decimals more.ccys)) }
     ensures stopped { IfErr result (λ stop. (countries : List ℕ) × StopsAtTable S.Source source.old source.new countries (named names.Countries (countries_fault countries)) stop) }
 {
-    let countries = read_table(alloc, source)?;
-    Ok(read_tables(alloc, bics.bytes(), ccys.bytes(), countries.bytes())?)
+    let file = read_table(alloc, source)?;
+    Ok(with_countries(alloc, known, file.bytes())?)
 }
 
 /// What the tables of banks, currencies and countries say, each read and tested before the next.
@@ -138,9 +141,9 @@ pub fn read_known<S: Source>(alloc: Global, files: &mut Tables<S>) -> Result<Ref
     ensures few { IfOk result (λ known. IsTrue (few_decimals known.ccys)) }
     ensures stopped { IfErr result (StopsKnown S.Source files.old files.new) }
 {
-    let bics = read_bics(alloc, &mut files.bics)?;
-    let ccys = read_ccys(alloc, &bics, &mut files.ccys)?;
-    read_countries(alloc, &bics, &ccys, &mut files.countries)
+    let banks = read_bics(alloc, &mut files.bics)?;
+    let with_ccys = read_ccys(alloc, banks, &mut files.ccys)?;
+    read_countries(alloc, with_ccys, &mut files.countries)
 }
 
 /// The rows of the table of accounts of a home bank.

@@ -29,26 +29,27 @@ begins-begins xs ys zs a b = (a.0 ++ b.0, b.1 ∙ ap (λ l. l ++ b.0) a.1 ∙ ap
 pub record Goes (s t : State) : Type 0 where
   pub fed : (t.fed ≡ s.fed + 1) ⊎ ((fault : FrameFault) × (t.failed ≡ Some fault))
   pub begun : s.begun ≤ t.begun
+  pub most : t.begun ≤ s.begun + 1
   pub given : Begins s.given t.given
 
 goes-to : (s : State) (stage : Stage) → Goes s (to stage s)
-goes-to s stage = record { fed = inl refl; begun = omega arith; given = begins-self s.given }
+goes-to s stage = record { fed = inl refl; begun = omega arith; most = omega arith; given = begins-self s.given }
 
 goes-fails : (s : State) (fault : FrameFault) → Goes s (fails fault s)
-goes-fails s fault = record { fed = inr (fault, refl); begun = omega arith; given = begins-self s.given }
+goes-fails s fault = record { fed = inr (fault, refl); begun = omega arith; most = omega arith; given = begins-self s.given }
 
 with_open-begins : (given : List (List ℕ)) (held : Option (List ℕ)) → Begins given (with_open given held)
 with_open-begins given None = begins-self given
 with_open-begins given (Some m) = begins-more given (m ∷ [])
 
 goes-closes : (s : State) (stage : Stage) → Goes s (to stage (gives s))
-goes-closes s stage = record { fed = inl refl; begun = omega arith; given = with_open-begins s.given s.held }
+goes-closes s stage = record { fed = inl refl; begun = omega arith; most = omega arith; given = with_open-begins s.given s.held }
 
 goes-begins : (s : State) → Goes s (begins s)
-goes-begins s = record { fed = inl refl; begun = omega arith; given = with_open-begins s.given s.held }
+goes-begins s = record { fed = inl refl; begun = omega arith; most = omega arith; given = with_open-begins s.given s.held }
 
 goes-grows : (s : State) (from d b : ℕ) → Goes s (grows from d (b ∷ []) s)
-goes-grows s from d b = record { fed = inl refl; begun = omega arith; given = begins-self s.given }
+goes-grows s from d b = record { fed = inl refl; begun = omega arith; most = omega arith; given = begins-self s.given }
 
 goes-within : (s : State) (from d b : ℕ) → Goes s (within from d s b)
 goes-within s from d b =
@@ -58,7 +59,7 @@ goes-within s from d b =
 goes-resumes : (s : State) (from matched b : ℕ) → Goes s (within from 1 (resumes from matched s) b)
 goes-resumes s from matched b =
     let g = goes-within (resumes from matched s) from 1 b in
-    record { fed = g.fed; begun = g.begun; given = g.given }
+    record { fed = g.fed; begun = g.begun; most = g.most; given = g.given }
 
 goes-moves : (s : State) (o : Option Stage) → Goes s (moves o s)
 goes-moves s None = goes-fails s _
@@ -81,7 +82,7 @@ goes-at (Behind from matched) s b =
 
 goes-by : (o : Option FrameFault) (s : State) (b : ℕ) → s.failed ≡ o → Goes s (cond (is_some o) s (next_at s.stage s b))
 goes-by None s b is = goes-at s.stage s b
-goes-by (Some fault) s b is = record { fed = inr (fault, is); begun = omega arith; given = begins-self s.given }
+goes-by (Some fault) s b is = record { fed = inr (fault, is); begun = omega arith; most = omega arith; given = begins-self s.given }
 
 pub next-goes : (s : State) (b : ℕ) → Goes s (next s b)
 next-goes s b = goes-by s.failed s b refl
@@ -89,6 +90,11 @@ next-goes s b = goes-by s.failed s b refl
 pub run-begun : (s : State) (xs : List ℕ) → s.begun ≤ (run s xs).begun
 run-begun s [] = omega arith
 run-begun s (x ∷ xs) = let step = (next-goes s x).begun in let rest = run-begun (next s x) xs in omega arith
+
+-- each byte begins one message at most
+pub run-few : (s : State) (xs : List ℕ) → (run s xs).begun ≤ s.begun + length xs
+run-few s [] = omega arith
+run-few s (x ∷ xs) = let step = (next-goes s x).most in let rest = run-few (next s x) xs in omega arith
 
 pub run-given : (s : State) (xs : List ℕ) → Begins s.given (run s xs).given
 run-given s [] = begins-self s.given

@@ -5,6 +5,7 @@ mod entering;
 mod fault;
 mod file;
 mod frame;
+mod held;
 mod loading;
 mod making;
 mod opening;

@@ -5,9 +5,10 @@ ghost use Rattle.corr_disk.specs.Calls.{CallsMade, AtMostCalls};
 ghost use Rattle.corr_disk.specs.Disk.{Only, most_disk_bytes};
 ghost use Rattle.jrn_file.specs.Faults.{LoadCause};
 ghost use Rattle.jrn_file.specs.Opening.{IsReadAs, ExplainsLoad};
-ghost use Rattle.jrn_file.specs.Pieces.{IsPiece, OfBytes, calls_to_open};
+ghost use Rattle.jrn_file.specs.Pieces.{OfBytes, calls_to_open};
 ghost use Rattle.jrn_file.specs.Untouched.{IsUntouched};
 
+use crate::held::{Held, read_piece};
 use crate::reading::{is_closed, refusal, take_records};
 use corr_disk::{Disk, Failed};
 use corr_text::{Memory, Text};
@@ -80,13 +81,13 @@ pub(crate) fn load<D: Disk>(
 {
     disk.sync()?;
     let mut records = Vec::new(alloc);
-    let mut held = Vec::new(alloc);
+    let mut held = Held::new(alloc);
     for index in 0..u64::MAX / piece as u64 {
         let at = index * piece as u64;
         let count = read_piece(disk, at, piece, &mut held)?;
         take_records(alloc, &mut held, &mut records)?;
         let gate = at + count as u64 - held.len() as u64;
-        if is_closed(held.as_slice()) {
+        if is_closed(held.bytes()) {
             if records.as_slice().is_empty() {
                 return Err(LoadFault::NotAJournal);
             }
@@ -97,28 +98,4 @@ pub(crate) fn load<D: Disk>(
         }
     }
     Err(LoadFault::Memory)
-}
-
-/// Reads so many bytes from this place of the disk on, or as many as there are, and puts them behind the held ones.
-fn read_piece<D: Disk>(
-    disk: &mut D,
-    at: u64,
-    piece: usize,
-    held: &mut Vec<u8>,
-) -> Result<usize, LoadFault>
-    requires few { piece ≤ most_disk_bytes }
-    ensures piece { IfOk result (λ n. IsPiece (D.honest disk.old) (D.reads disk.old) at piece n held.old.items held.new.items) }
-    ensures fault { IfErr result (ExplainsLoad (D.honest disk.old) (D.reads disk.old)) }
-    ensures untouched { IsUntouched D.reads D.may_leave D.moment D.left_since disk.old disk.new }
-    ensures honest { D.honest disk.new ≡ D.honest disk.old }
-    ensures cause { IfErr result (LoadCause (D.faults disk.old) (D.faults disk.new)) }
-    ensures kept { OnOk result (D.faults disk.new ≡ D.faults disk.old) }
-    ensures calls { OnOk result (CallsMade 1 (D.plan disk.old) (D.plan disk.new)) }
-    ensures no_more_calls { AtMostCalls 1 (D.plan disk.old) (D.plan disk.new) }
-{
-    let old = held.len();
-    held.resize(old + piece, 0)?;
-    let count = disk.read_at(at, &mut held[old..])?;
-    held.truncate(old + count);
-    Ok(count)
 }

@@ -6,6 +6,7 @@ ghost use Rattle.std.specs.Int.{w32, from_be_bytes};
 ghost use Rattle.jrn_file.specs.Opening.{BeginsWith, IsWhole, HasNoRecord, IsShut};
 ghost use Rattle.jrn_file.specs.Pieces.{AreTakenOff};
 
+use crate::held::Held;
 use crate::loading::LoadFault;
 use corr_text::{Memory, Text};
 use std::alloc::Global;
@@ -13,14 +14,14 @@ use std::alloc::Global;
 /// Takes the whole records in front out of the held bytes.
 pub(crate) fn take_records(
     alloc: Global,
-    held: &mut Vec<u8>,
+    held: &mut Held,
     records: &mut Vec<Text>,
 ) -> Result<(), Memory>
-    ensures taken { OnOk result ((more : List (List ℕ)) × (records.new.items ≡ records.old.items ++ more) × AreTakenOff held.old.items more held.new.items) }
-    ensures stopped { OnOk result (HasNoRecord held.new.items) }
+    ensures taken { OnOk result ((more : List (List ℕ)) × (records.new.items ≡ records.old.items ++ more) × AreTakenOff held.old more held.new) }
+    ensures stopped { OnOk result (HasNoRecord held.new) }
 {
-    let at = copy_records(alloc, held.as_slice(), records)?;
-    drop_front(held, at);
+    let at = copy_records(alloc, held.bytes(), records)?;
+    held.drop_front(at);
     Ok(())
 }
 
@@ -41,18 +42,6 @@ fn copy_records(alloc: Global, bytes: &[u8], records: &mut Vec<Text>) -> Result<
         }
     }
     Ok(at)
-}
-
-/// Drops so many bytes in front. Where there are none to drop, nothing is moved.
-fn drop_front(held: &mut Vec<u8>, count: usize)
-    requires { count ≤ length held.old.items }
-    ensures { held.new.items ≡ drop count held.old.items }
-{
-    if count > 0 {
-        let left = held.len() - count;
-        held.copy_within(count.., 0);
-        held.truncate(left);
-    }
 }
 
 /// Whether an open gate stands at this place.

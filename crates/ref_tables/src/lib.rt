@@ -17,4 +17,4 @@ pub use accounts::read_accounts;
 pub use columns::{ccy, is_account_id};
 pub use fault::{TableFault, TableName, Why, bad};
 pub use rows::{cell, read_rows};
-pub use tables::{RefTables, read_tables};
+pub use tables::{RefTables, read_banks, read_tables, with_countries, with_currencies};

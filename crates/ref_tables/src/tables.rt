@@ -1,10 +1,12 @@
 //! The tables of banks, currencies and countries.
 
-ghost use Rattle.std.specs.Prelude.{◌≡◌, ◌≤◌, IfErr, IfOk, IfSome, IsTrue, None};
+ghost use Rattle.std.specs.Prelude.{◌≡◌, ◌≤◌, [], IfErr, IfOk, IfSome, IsTrue, None, map};
 ghost use Rattle.corr_money.specs.Amounts.{most_decimals};
-ghost use Rattle.ref_tables.specs.Refusals.{Tells};
+ghost use Rattle.ref_tables.specs.Refusals.{Tells, named};
+ghost use Rattle.ref_tables.specs.Rows.{rows_of};
 ghost use Rattle.ref_tables.specs.Seen.{decimals_in, few_decimals, has_head, is_listed_country};
-ghost use Rattle.ref_tables.specs.Tables.{tables_fault, tables_of};
+ghost use Rattle.ref_tables.specs.Tables.{bank_in_row, bics_fault, ccy_of, ccys_fault, countries_fault, country_in_row, tables_fault, tables_of};
+ghost use Rattle.ref_tables.specs.declared.fault.TableName.TheVariants as names;
 
 use crate::banks::BankRow;
 use crate::countries::CountryRow;
@@ -69,11 +71,68 @@ impl RefTables {
     }
 }
 
+/// The tables with the banks of this file, and no currencies and no countries.
+///
+/// `Bad` tells the first row that fails, and why.
+pub fn read_banks(alloc: Global, file: &[u8]) -> Result<RefTables, TableFault>
+    ensures sound { IfOk result (λ t. bics_fault file.now ≡ None) }
+    ensures value { IfOk result (λ t. t ≡ record { bics = map bank_in_row (rows_of file.now); ccys = []; countries = [] }) }
+    ensures bad { IfErr result (Tells (named names.Bics (bics_fault file.now))) }
+{
+    let bics = read_keyed::<8, [u8; 3], BankRow>(alloc, TableName::Bics, MAX_BANKS, file)?;
+    Ok(RefTables {
+        bics,
+        ccys: IndexMap::new(alloc),
+        countries: IndexMap::new(alloc),
+    })
+}
+
+/// The same tables with the currencies of this file in place of theirs. Each has at most 4 decimals (`few`).
+///
+/// `Bad` tells the first row that fails, and why.
+#[tactic(auto, using(crate::proofs::laws::Decimals::rows_few))]
+pub fn with_currencies(
+    alloc: Global,
+    tables: RefTables,
+    file: &[u8],
+) -> Result<RefTables, TableFault>
+    ensures sound { IfOk result (λ t. ccys_fault file.now ≡ None) }
+    ensures value { IfOk result (λ t. t ≡ record tables { ccys = map ccy_of (rows_of file.now) }) }
+    ensures few { IfOk result (λ t. IsTrue (few_decimals t.ccys)) }
+    ensures bad { IfErr result (Tells (named names.Ccys (ccys_fault file.now))) }
+{
+    let ccys = read_keyed::<3, u8, CurrencyRow>(alloc, TableName::Ccys, MAX_CURRENCIES, file)?;
+    Ok(RefTables { ccys, ..tables })
+}
+
+/// The same tables with the countries of this file in place of theirs.
+///
+/// `Bad` tells the first row that fails, and why.
+pub fn with_countries(
+    alloc: Global,
+    tables: RefTables,
+    file: &[u8],
+) -> Result<RefTables, TableFault>
+    ensures sound { IfOk result (λ t. countries_fault file.now ≡ None) }
+    ensures value { IfOk result (λ t. t ≡ record tables { countries = map country_in_row (rows_of file.now) }) }
+    ensures bad { IfErr result (Tells (named names.Countries (countries_fault file.now))) }
+{
+    let countries = read_keyed::<2, bool, CountryRow>(
+        alloc,
+        TableName::Countries,
+        MAX_COUNTRIES,
+        file,
+    )?;
+    Ok(RefTables {
+        countries,
+        ..tables
+    })
+}
+
 /// The tables that these three files hold (docs/tables.md).
 ///
 /// `Bad` tells the first row that fails, and why, of the first file that has one. Each currency has at most 4 decimals
 /// (`few`), as those ask who write an amount.
-#[tactic(auto, using(crate::proofs::laws::Decimals::rows_few))]
 pub fn read_tables(
     alloc: Global,
     bics: &[u8],
@@ -85,17 +144,7 @@ pub fn read_tables(
     ensures few { IfOk result (λ t. IsTrue (few_decimals t.ccys)) }
     ensures bad { IfErr result (Tells (tables_fault bics.now ccys.now countries.now)) }
 {
-    let bics = read_keyed::<8, [u8; 3], BankRow>(alloc, TableName::Bics, MAX_BANKS, bics)?;
-    let ccys = read_keyed::<3, u8, CurrencyRow>(alloc, TableName::Ccys, MAX_CURRENCIES, ccys)?;
-    let countries = read_keyed::<2, bool, CountryRow>(
-        alloc,
-        TableName::Countries,
-        MAX_COUNTRIES,
-        countries,
-    )?;
-    Ok(RefTables {
-        bics,
-        ccys,
-        countries,
-    })
+    let banks = read_banks(alloc, bics)?;
+    let with_ccys = with_currencies(alloc, banks, ccys)?;
+    with_countries(alloc, with_ccys, countries)
 }

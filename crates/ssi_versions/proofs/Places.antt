@@ -3,15 +3,19 @@ use Rattle.std.proofs.Common.{◌≡◌, ℕ, suc, ◌+◌, Bool, true, false, c
 use Rattle.std.specs.Prelude.{slice_get, find, filter, position, int_le, int_lt, if◌then◌else◌}
 use Rattle.std.specs.List.{position_from}
 use Rattle.std.specs.Map.{lookup}
-use Rattle.std.specs.Option.{option_and_then, unwrap_or}
+use Rattle.std.specs.Global.{Vec}
+use Rattle.std.specs.List.{insert}
+use Rattle.std.specs.List.Sorted.{IsPermutation}
+use Rattle.std.specs.Option.{option_and_then, option_map_or}
 use Rattle.std.specs.Str.{bytes_eq}
 use Rattle.std.proofs.lemmas.Iterator.Adapters.{position_from-zero}
 use Rattle.std.proofs.lemmas.List.{append-nil}
+use Rattle.std.proofs.lemmas.List.Sorted.{IsPermutation-cons, IsPermutation-insert, IsPermutation-refl, IsPermutation-to_front, IsPermutation-trans}
 use Rattle.std.proofs.lemmas.Slice.Eq.{bytes_eq-Decides}
 use Rattle.corr_ids.specs.declared.day.Day.{Day}
 use Rattle.corr_money.specs.declared.amount.Ccy.{Ccy}
 use Rattle.ssi_versions.specs.declared.row.SsiRow.{SsiRow}
-use Rattle.ssi_versions.specs.Index.{IsPlaceIndexOf, NotesPlace, has_bank_key, holds_at, key_by_bank, places_under, places_where}
+use Rattle.ssi_versions.specs.Index.{IsInDayOrder, IsPlaceIndexOf, NotesPlace, has_bank_key, holds_at, key_by_bank, places_under, places_where}
 use Rattle.ssi_versions.specs.Instruction.{is_asked, is_in_force, naming}
 use Rattle.ssi_versions.specs.Rows.{overlaps, shares_a_day}
 
@@ -102,9 +106,12 @@ pushed test xs x b e =
     places-push test 0 xs x ∙ ap (λ (n : ℕ). places_where test 0 xs ++ cond (test x) (n ∷ []) []) same ∙ ap (λ (c : Bool). places_where test 0 xs ++ cond c (length xs ∷ []) []) e
 
 -- no row, no place
-pub index_none : (groups : List (List ℕ × List ℕ)) → groups ≡ [] → IsPlaceIndexOf [] groups
+pub index_none : (groups : List (List ℕ × Vec ℕ)) → groups ≡ [] → IsPlaceIndexOf [] groups
 unfolding places_where
-index_none groups e key = rw e refl
+index_none groups e key = rw e (IsPermutation-refl [])
+
+pub order_none : (groups : List (List ℕ × Vec ℕ)) → groups ≡ [] → (key : List ℕ) → IsInDayOrder [] (places_under groups key)
+order_none groups e key = rw e (record { spans = λ k d lt. absurd (omega (arith, lt)); inside = λ k d lt. absurd (omega (arith, lt)); rise = λ i j a b lt at-i at-j. absurd (cc at-i) })
 
 back : (a b : List ℕ) (r : Bool) → bytes_eq a b ≡ r → bytes_eq b a ≡ false → r ≡ false
 back a b true e apart = absurd (cc (sym ((bytes_eq-Decides b a).1 (sym ((bytes_eq-Decides a b).0 e))) ∙ apart))
@@ -113,34 +120,42 @@ back a b false e apart = refl
 same-bytes : (a : List ℕ) → bytes_eq a a ≡ true
 same-bytes a = (bytes_eq-Decides a a).1 refl
 
-module _ (rows : List SsiRow) (r : SsiRow) (old new : List (List ℕ × List ℕ)) (index : IsPlaceIndexOf rows old) where
-  own : places_under old (key_by_bank r.ccy.0 r.bank) ++ length rows ∷ [] ≡ places_where (has_bank_key (key_by_bank r.ccy.0 r.bank)) 0 (rows ++ r ∷ [])
-  own =
-      ap (λ (ps : List ℕ). ps ++ length rows ∷ []) (index (key_by_bank r.ccy.0 r.bank))
-      ∙ sym (pushed (has_bank_key (key_by_bank r.ccy.0 r.bank)) rows r true (same-bytes (key_by_bank r.ccy.0 r.bank)))
+-- the places of a key with one more
+permuted-more : (rows : List SsiRow) (r : SsiRow) (key : List ℕ) (places : List ℕ) (n : ℕ) → has_bank_key key r ≡ true → IsPermutation (places_where (has_bank_key key) 0 rows) places
+    → IsPermutation (places_where (has_bank_key key) 0 (rows ++ r ∷ [])) (insert places n (length rows))
+permuted-more rows r key places n own moved =
+    let k = length rows in
+    let ps = places_where (has_bank_key key) 0 rows in
+    rw (pushed (has_bank_key key) rows r true own)
+    (IsPermutation-trans _ _ _ (IsPermutation-to_front ps k) (IsPermutation-trans _ _ _ (IsPermutation-cons k ps places moved) (IsPermutation-insert places n k)))
 
+module _ (rows : List SsiRow) (r : SsiRow) (old new : List (List ℕ × Vec ℕ)) (index : IsPlaceIndexOf rows old) (n : ℕ) where
   noted-now : (key : List ℕ) (b : Bool) → bytes_eq (key_by_bank r.ccy.0 r.bank) key ≡ b
-      → (if b then places_under old (key_by_bank r.ccy.0 r.bank) ++ length rows ∷ [] else places_under old key) ≡ places_where (has_bank_key key) 0 (rows ++ r ∷ [])
+      → IsPermutation (places_where (has_bank_key key) 0 (rows ++ r ∷ [])) (if b then insert (places_under old (key_by_bank r.ccy.0 r.bank)) n (length rows) else places_under old key)
   noted-now key true e =
-      subst (λ (k : List ℕ). places_under old (key_by_bank r.ccy.0 r.bank) ++ length rows ∷ [] ≡ places_where (has_bank_key k) 0 (rows ++ r ∷ [])) ((bytes_eq-Decides (key_by_bank r.ccy.0 r.bank) key).0 e) own
+      let own = key_by_bank r.ccy.0 r.bank in
+      subst (λ (k : List ℕ). IsPermutation (places_where (has_bank_key k) 0 (rows ++ r ∷ [])) (insert (places_under old own) n (length rows))) ((bytes_eq-Decides own key).0 e)
+      (permuted-more rows r own (places_under old own) n (same-bytes own) (index own))
   noted-now key false e =
       let apart = back key (key_by_bank r.ccy.0 r.bank) (bytes_eq key (key_by_bank r.ccy.0 r.bank)) refl e in
-      index key ∙ sym (pushed (has_bank_key key) rows r false apart ∙ append-nil (places_where (has_bank_key key) 0 rows))
+      let same = pushed (has_bank_key key) rows r false apart ∙ append-nil (places_where (has_bank_key key) 0 rows) in
+      rw same (index key)
 
   -- one more row, and its place
-  pub index_more : (place : ℕ) → place ≡ length rows → NotesPlace old new (key_by_bank r.ccy.0 r.bank) place → IsPlaceIndexOf (rows ++ r ∷ []) new
-  index_more place e put key = put key ∙ rw e (noted-now key (bytes_eq (key_by_bank r.ccy.0 r.bank) key) refl)
+  pub index_more : (place : ℕ) → place ≡ length rows → NotesPlace old new (key_by_bank r.ccy.0 r.bank) n place → IsPlaceIndexOf (rows ++ r ∷ []) new
+  index_more place e put key = rw (put key, e) (noted-now key (bytes_eq (key_by_bank r.ccy.0 r.bank) key) refl)
 
-value-or : (b : Bool) (xs : List ℕ) (o : Option (List ℕ)) → unwrap_or (cond b (Some xs) o) [] ≡ cond b xs (unwrap_or o [])
-value-or true xs o = refl
-value-or false xs o = refl
+items-or : (b : Bool) (v : Vec ℕ) (o : Option (Vec ℕ)) → option_map_or (λ x. x.items) (cond b (Some v) o) [] ≡ cond b v.items (option_map_or (λ x. x.items) o [])
+items-or true v o = refl
+items-or false v o = refl
 
 -- what the groups are after a write at a key
-pub notes_place : (old new : List (List ℕ × List ℕ)) (key : List ℕ) (place : ℕ)
-    → ((other : List ℕ) → lookup (bytes_eq other) new ≡ cond (bytes_eq key other) (Some (places_under old key ++ place ∷ [])) (lookup (bytes_eq other) old))
-    → NotesPlace old new key place
-notes_place old new key place put other =
-    ap (λ (o : Option (List ℕ)). unwrap_or o []) (put other) ∙ value-or (bytes_eq key other) (places_under old key ++ place ∷ []) (lookup (bytes_eq other) old)
+pub notes_place : (old new : List (List ℕ × Vec ℕ)) (key : List ℕ) (at place : ℕ) (v : Vec ℕ) → v.items ≡ insert (places_under old key) at place
+    → ((other : List ℕ) → lookup (bytes_eq other) new ≡ cond (bytes_eq key other) (Some v) (lookup (bytes_eq other) old))
+    → NotesPlace old new key at place
+notes_place old new key at place v is put other =
+    ap (λ (o : Option (Vec ℕ)). option_map_or (λ x. x.items) o []) (put other) ∙ items-or (bytes_eq key other) v (lookup (bytes_eq other) old)
+    ∙ ap (λ (ps : List ℕ). cond (bytes_eq key other) ps (places_under old other)) is
 
 both : (a b : Bool) → (a && b) ≡ true → (a ≡ true) × (b ≡ true)
 both true b e = (refl, e)
@@ -174,11 +189,11 @@ pub asked_row : (ccy : Ccy) (bank : List ℕ) (day : Day) (rows : List SsiRow)
 asked_row ccy bank day rows =
     first_item (has_bank_key (key_by_bank ccy.0 bank)) (is_asked ccy bank day) (λ r e. asked-key ccy bank day r e) rows ∙ sym (find-filter (λ r. bytes_eq bank r.bank) (is_in_force ccy day) rows)
 
-module _ (rows : List SsiRow) (groups : List (List ℕ × List ℕ)) (key : List ℕ) where
+module _ (groups : List (List ℕ × Vec ℕ)) (key : List ℕ) where
   -- the places that the index has for a key
-  pub places-some : (places : List ℕ) → IsPlaceIndexOf rows groups → Some places ≡ lookup (bytes_eq key) groups → places ≡ places_where (has_bank_key key) 0 rows
-  places-some places index e = ap (λ (o : Option (List ℕ)). unwrap_or o []) e ∙ index key
+  pub places-some : (v : Vec ℕ) → Some v ≡ lookup (bytes_eq key) groups → v.items ≡ places_under groups key
+  places-some v e = ap (λ (o : Option (Vec ℕ)). option_map_or (λ x. x.items) o []) e
 
-  -- no row has a key that the index has not
-  pub places-none : IsPlaceIndexOf rows groups → None ≡ lookup (bytes_eq key) groups → [] ≡ places_where (has_bank_key key) 0 rows
-  places-none index e = ap (λ (o : Option (List ℕ)). unwrap_or o []) e ∙ index key
+  -- it has none for a key that it has not
+  pub places-none : None ≡ lookup (bytes_eq key) groups → [] ≡ places_under groups key
+  places-none e = ap (λ (o : Option (Vec ℕ)). option_map_or (λ x. x.items) o []) e

@@ -26,6 +26,7 @@ use Rattle.ref_tables.proofs.laws.Records.{rows_within_some}
 use Rattle.ssi_versions.specs.declared.method.Method.{Method}
 use Rattle.ssi_versions.specs.declared.method.Method.TheVariants.{Book, Serial, Cover}
 use Rattle.ssi_versions.specs.declared.row.SsiRow.{SsiRow}
+use Rattle.ssi_versions.specs.Index.{HasSpan}
 use Rattle.ssi_versions.specs.Instruction.{is_asked}
 use Rattle.ssi_versions.specs.InstructionList.{AreInstructions, IsInForm, IsInstruction}
 use Rattle.ssi_versions.specs.Rows.{form_fault, instruction_fault, instruction_of, is_bank_text, knows_bank, knows_via, method_in, method_of, overlap, overlaps, standing_fault, via_in, via_of}
@@ -119,11 +120,17 @@ stands t earlier a e =
     let last = head-none _ _ third.1 in
     record { banks = first.0; ccy = second.0; span = third.0; alone = last.0 }
 
-and-parts : (a b : Bool) → (a && b) ≡ true → (a ≡ true) × (b ≡ true)
-and-parts a b e = grind (arith, nat_tests)
-
 before : (x y : ℤ) → int_lt x y ≡ true → x <ℤ y
 before x y e = grind (arith, ints, nat_tests)
+
+-- such an instruction ends after its first day, and overlaps none before it
+pub read-stands : (t : Tables) (earlier : List SsiRow) (row : Cells) → instruction_fault t earlier row ≡ None → HasSpan (instruction_of row) × (position (overlaps (instruction_of row)) earlier ≡ None)
+read-stands t earlier row none =
+    let s = stands t earlier (instruction_of row) ((both-none _ _ none).1) in
+    (before _ _ s.span, map-none _ (position (overlaps (instruction_of row)) earlier) s.alone)
+
+and-parts : (a b : Bool) → (a && b) ≡ true → (a ≡ true) × (b ≡ true)
+and-parts a b e = grind (arith, nat_tests)
 
 is-instruction : (t : Tables) (earlier : List SsiRow) (row : Cells) → IsInForm (instruction_of row) → Stands t earlier (instruction_of row) → IsInstruction t (instruction_of row)
 is-instruction t earlier row form s =

@@ -1,15 +1,17 @@
 //! The places of rows, by currency and bank.
 
-ghost use Rattle.std.specs.Prelude.{◌≡◌, ◌++◌, OnOk, find, slice_get};
-ghost use Rattle.std.specs.Option.{option_and_then, option_copied};
-ghost use Rattle.ssi_versions.specs.Index.{NotesPlace, head_of, holds_at, key_by_bank, tail_of};
+ghost use Rattle.std.specs.Prelude.{◌≡◌, ◌≤◌, ◌++◌, OnOk, false, find, length, slice_get, true};
+ghost use Rattle.std.specs.List.{list_any};
+ghost use Rattle.std.specs.List.Sorted.{IsPartitionPoint};
+ghost use Rattle.std.specs.Option.{option_and_then, option_copied, option_map_or};
+ghost use Rattle.ssi_versions.specs.Index.{IsInDayOrder, NotesPlace, has_begun, head_of, holds_at, key_by_bank, places_under, tail_of};
 ghost use Rattle.ssi_versions.specs.Rows.{overlaps, shares_a_day};
 ghost use Rattle.ssi_versions.specs.Instruction.{is_asked, is_in_force};
 
 use crate::row::SsiRow;
 use corr_ids::Day;
 use corr_money::Ccy;
-use corr_text::{List, Memory};
+use corr_text::Memory;
 use indexmap::IndexMap;
 use std::alloc::Global;
 
@@ -54,16 +56,31 @@ pub fn key(ccy: Ccy, bank: &[u8]) -> [u8; 14]
     key
 }
 
-/// Notes one more place for a key.
+/// The places that are noted for a key.
+pub fn places_of<'a>(groups: &'a IndexMap<[u8; 14], Vec<usize>>, key: &[u8; 14]) -> &'a [usize]
+    ensures { result.now ≡ places_under groups.now.entries key.now }
+{
+    match groups.get(key) {
+        Some(places) => places.as_slice(),
+        None => &[],
+    }
+}
+
+/// Notes one more place for a key, before the place that stands at `at`.
 pub fn note(
     alloc: Global,
-    groups: &mut IndexMap<[u8; 14], List<usize>>,
+    groups: &mut IndexMap<[u8; 14], Vec<usize>>,
     key: [u8; 14],
+    at: usize,
     place: usize,
 ) -> Result<(), Memory>
-    ensures { OnOk result (NotesPlace groups.old.entries groups.new.entries key place) }
+    requires { at ≤ length (places_under groups.old.entries key) }
+    ensures { OnOk result (NotesPlace groups.old.entries groups.new.entries key at place) }
 {
-    groups.entry(key)?.or_insert(List::new(alloc)).push(place)?;
+    groups
+        .entry(key)?
+        .or_insert(Vec::new(alloc))
+        .insert(at, place)?;
     Ok(())
 }
 
@@ -73,29 +90,52 @@ fn shares_a_day(a: &SsiRow, b: &SsiRow) -> bool
     a.from.0 < b.until.0 && b.from.0 < a.until.0
 }
 
-fn overlaps(a: &SsiRow, b: &SsiRow) -> bool
+/// Whether a table can't have both.
+pub fn overlaps(a: &SsiRow, b: &SsiRow) -> bool
     ensures { result ≡ overlaps a.now b.now }
 {
     a.ccy.0 == b.ccy.0 && a.bank.bytes() == b.bank.bytes() && shares_a_day(a, b)
 }
 
-fn overlaps_at(rows: &[SsiRow], at: usize, row: &SsiRow) -> bool
-    ensures { result ≡ holds_at (overlaps row.now) rows.now at }
+fn has_begun_at(rows: &[SsiRow], at: usize, day: Day) -> bool
+    ensures { result ≡ holds_at (has_begun day) rows.now at }
 {
     match rows.get(at) {
-        Some(other) => overlaps(row, other),
+        Some(row) => row.from.0 <= day.0,
         None => false,
     }
 }
 
-/// The first of these places whose row overlaps this one.
-pub fn first_overlap(rows: &[SsiRow], places: &[usize], row: &SsiRow) -> Option<usize>
-    ensures { result ≡ find (holds_at (overlaps row.now) rows.now) places.now }
+/// How many of these places have rows that begin by a day, where they stand in the order of days.
+pub fn begun_by(rows: &[SsiRow], places: &[usize], day: Day) -> usize
+    requires { IsInDayOrder rows.now places.now }
+    ensures bound { result ≤ length places.now }
+    ensures point { IsPartitionPoint (λ p. holds_at (has_begun day) rows.now p ≡ true) (λ p. holds_at (has_begun day) rows.now p ≡ false) places.now result }
 {
-    places
-        .iter()
-        .copied()
-        .find(|at| overlaps_at(rows, *at, row))
+    places.partition_point(|at| has_begun_at(rows, *at, day))
+}
+
+fn shares_a_day_at(rows: &[SsiRow], place: Option<&usize>, row: &SsiRow) -> bool
+    ensures { result ≡ option_map_or (holds_at (shares_a_day row.now) rows.now) (option_copied place) false }
+{
+    match place {
+        Some(at) => match rows.get(*at) {
+            Some(other) => shares_a_day(row, other),
+            None => false,
+        },
+        None => false,
+    }
+}
+
+/// Whether the row at one of these places shares a day with this one: only the last that begins by its first day can, or
+/// the next one.
+pub fn shares_any_day(rows: &[SsiRow], places: &[usize], row: &SsiRow) -> bool
+    requires { IsInDayOrder rows.now places.now }
+    ensures { result ≡ list_any (holds_at (shares_a_day row.now) rows.now) places.now }
+{
+    let begun = begun_by(rows, places, row.from);
+    shares_a_day_at(rows, places[..begun].last(), row)
+        || shares_a_day_at(rows, places.get(begun), row)
 }
 
 /// The row at a place, if there is one.
@@ -120,7 +160,8 @@ fn is_asked_at(rows: &[SsiRow], at: usize, ccy: Ccy, bank: &[u8], day: Day) -> b
     }
 }
 
-/// The first of these places whose row is in force on a day, for a currency and a bank's text.
+/// The one of these places whose row is in force on a day, for a currency and a bank's text: only the last that begins by
+/// that day can be.
 pub fn first_in_force(
     rows: &[SsiRow],
     places: &[usize],
@@ -128,10 +169,13 @@ pub fn first_in_force(
     bank: &[u8],
     day: Day,
 ) -> Option<usize>
+    requires { IsInDayOrder rows.now places.now }
     ensures { result ≡ find (holds_at (is_asked ccy bank.now day) rows.now) places.now }
 {
-    places
-        .iter()
-        .copied()
-        .find(|at| is_asked_at(rows, *at, ccy, bank, day))
+    let at = *places[..begun_by(rows, places, day)].last()?;
+    if is_asked_at(rows, at, ccy, bank, day) {
+        Some(at)
+    } else {
+        None
+    }
 }

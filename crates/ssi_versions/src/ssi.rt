@@ -1,10 +1,11 @@
 //! The table of instructions.
 
 ghost use Rattle.std.specs.Prelude.{◌≡◌, ◌++◌, ◌∷◌, [], IfErr, IfOk, IfSome, None, filter, length, map, position};
+ghost use Rattle.std.specs.List.Sorted.{IsPermutation};
 ghost use Rattle.std.specs.Option.{option_copied};
 ghost use Rattle.ref_tables.specs.Refusals.{Tells, named};
 ghost use Rattle.ref_tables.specs.Rows.{rows_of};
-ghost use Rattle.ssi_versions.specs.Index.{has_bank_key, key_by_bank, places_where};
+ghost use Rattle.ssi_versions.specs.Index.{HasSpan, IsInDayOrder, has_bank_key, key_by_bank, places_where};
 ghost use Rattle.ssi_versions.specs.Instruction.{instruction_at, is_in_force, naming};
 ghost use Rattle.ssi_versions.specs.InstructionList.{AreInstructions, IsInForm};
 ghost use Rattle.ssi_versions.specs.Rows.{instruction_of, overlaps, ssi_fault};
@@ -14,7 +15,7 @@ use crate::reading::enter_rows;
 use crate::row::SsiRow;
 use corr_ids::{Bic, Day, with_branch};
 use corr_money::Ccy;
-use corr_text::{List, Memory};
+use corr_text::Memory;
 use indexmap::IndexMap;
 use ref_tables::{RefTables, TableFault, TableName, Why, bad, read_rows};
 use std::alloc::Global;
@@ -26,7 +27,7 @@ const MAX_ROWS: usize = 10000;
 #[derive(Drop)]
 pub struct Ssi {
     rows: Vec<SsiRow>,
-    groups: IndexMap<[u8; 14], List<usize>>,
+    groups: IndexMap<[u8; 14], Vec<usize>>,
 }
 
 impl Model for Ssi {
@@ -59,7 +60,9 @@ impl Ssi {
 
     /// The table with one more row.
     pub(crate) fn enter(self, alloc: Global, row: SsiRow) -> Result<Ssi, Memory>
-        requires { IsInForm row }
+        requires form { IsInForm row }
+        requires span { HasSpan row }
+        requires alone { position (overlaps row) self ≡ None }
         ensures { IfOk result (λ s. s ≡ self ++ row ∷ []) }
     {
         let Ssi {
@@ -67,27 +70,29 @@ impl Ssi {
             mut groups,
         } = self;
         let key = index::key(row.ccy, row.bank.bytes());
-        index::note(alloc, &mut groups, key, rows.len())?;
+        let at = index::begun_by(rows.as_slice(), index::places_of(&groups, &key), row.from);
+        index::note(alloc, &mut groups, key, at, rows.len())?;
         rows.push(row)?;
         Ok(Ssi { rows, groups })
     }
 
-    // Where the rows of a currency and a bank's text stand, and perhaps rows of other banks.
+    // Where the rows of a currency and a bank's text stand, and perhaps rows of other banks, in the order of their days.
     fn places(&self, ccy: Ccy, bank: &[u8]) -> &[usize]
-        ensures { result.now ≡ places_where (has_bank_key (key_by_bank ccy.0 bank.now)) 0 self.now }
+        ensures all { IsPermutation (places_where (has_bank_key (key_by_bank ccy.0 bank.now)) 0 self.now) result.now }
+        ensures order { IsInDayOrder self.now result.now }
     {
-        match self.groups.get(&index::key(ccy, bank)) {
-            Some(places) => places.as_slice(),
-            None => &[],
-        }
+        index::places_of(&self.groups, &index::key(ccy, bank))
     }
 
-    /// The first row that overlaps this one.
+    /// The first row that overlaps this one. Where none does, it bisects the rows of its bank.
     pub(crate) fn first_overlap(&self, row: &SsiRow) -> Option<usize>
         ensures { result ≡ position (overlaps row.now) self.now }
     {
-        let places = self.places(row.ccy, row.bank.bytes());
-        index::first_overlap(self.rows.as_slice(), places, row)
+        let rows = self.rows.as_slice();
+        if !index::shares_any_day(rows, self.places(row.ccy, row.bank.bytes()), row) {
+            return None;
+        }
+        rows.iter().position(|other| index::overlaps(row, other))
     }
 
     // The row in force that names its bank by this text.

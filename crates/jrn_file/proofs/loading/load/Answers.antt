@@ -23,9 +23,9 @@ loop-index-init g c =
     let old = c.args.disk.now in
     let new = c.sync.new.self in
     record {
-      read = read-begun (D.honest old) (D.reads old) c.args.piece c.new-records.result.items c.new-held.result.items c.new-records.ensures.items c.new-held.ensures.items;
-      stopped = subst HasNoRecord (sym c.new-held.ensures.items) tt;
-      open_gate = subst (λ l. IsShut l → ⊥) (sym c.new-held.ensures.items) (λ shut. shut);
+      read = read-begun (D.honest old) (D.reads old) c.args.piece c.new-records.result.items c.new-held.result c.new-records.ensures.items c.new-held.ensures;
+      stopped = subst HasNoRecord (sym c.new-held.ensures) tt;
+      open_gate = subst (λ l. IsShut l → ⊥) (sym c.new-held.ensures) (λ shut. shut);
       untouched = untouched-call D.reads D.may_leave D.moment D.left_since g.met.D.Disk.only_now old old new
           (untouched-start D.reads D.may_leave D.moment D.left_since g.met.D.Disk.only_now old) c.sync.ensures.reads c.sync.ensures.crash c.sync.ensures.time;
       durable = λ b left. c.in_ok-sync.ensures.durable b left ∙ sym c.sync.ensures.reads;
@@ -49,7 +49,7 @@ returns-in_err-count-clause-no_more_calls g c told =
     let mid = c.loop-index.disk in
     let new = c.read_piece.new.disk in
     let index = c.loop-index.index in
-    let within = read-within (D.honest old) (D.reads old) (index * c.args.piece) c.loop-index.records.items c.loop-index.held.items c.loop-index.invariant.read told in
+    let within = read-within (D.honest old) (D.reads old) (index * c.args.piece) c.loop-index.records.items c.loop-index.held c.loop-index.invariant.read told in
     calls_then (1 + index) 1 (calls_to_open c.args.piece (length (D.reads old))) (D.plan old) (D.plan mid) (D.plan new) c.loop-index.invariant.calls c.read_piece.ensures.no_more_calls
     (omega (arith, calls-within index c.args.piece (length (D.reads old)) c.requires.some within))
 
@@ -65,7 +65,7 @@ returns-in_err-take_records-clause-no_more_calls g c told =
     let mid = c.loop-index.disk in
     let new = c.read_piece.new.disk in
     let index = c.loop-index.index in
-    let within = read-within (D.honest old) (D.reads old) (index * c.args.piece) c.loop-index.records.items c.loop-index.held.items c.loop-index.invariant.read told in
+    let within = read-within (D.honest old) (D.reads old) (index * c.args.piece) c.loop-index.records.items c.loop-index.held c.loop-index.invariant.read told in
     calls_within (1 + index + 1) (calls_to_open c.args.piece (length (D.reads old))) (D.plan old) (D.plan new)
     (calls_in_turn (1 + index) 1 (D.plan old) (D.plan mid) (D.plan new) c.loop-index.invariant.calls c.in_ok-count.ensures.calls)
     (omega (arith, calls-within index c.args.piece (length (D.reads old)) c.requires.some within))
@@ -81,12 +81,12 @@ overflow_sub-gate g c =
     let at = c.loop-index.index * c.args.piece in
     let n = c.in_ok-count.count in
     let all = c.take_records.new.records.items in
-    let held = c.take_records.new.held.items in
-    let piece = piece-of (D.honest old) (D.honest c.loop-index.disk) (D.reads old) (D.reads c.loop-index.disk) at c.args.piece n c.loop-index.held.items c.read_piece.new.held.items
+    let held = c.take_records.new.held in
+    let piece = piece-of (D.honest old) (D.honest c.loop-index.disk) (D.reads old) (D.reads c.loop-index.disk) at c.args.piece n c.loop-index.held c.read_piece.new.held
     c.loop-index.invariant.honest c.loop-index.invariant.untouched.same c.in_ok-count.ensures.piece in
-    let now = read-on (D.honest old) (D.reads old) at c.args.piece n c.loop-index.records.items all c.loop-index.held.items c.read_piece.new.held.items held
+    let now = read-on (D.honest old) (D.reads old) at c.args.piece n c.loop-index.records.items all c.loop-index.held c.read_piece.new.held held
     c.loop-index.invariant.read piece c.in_ok-take_records.ensures.taken in
-    omega (arith, held-within (D.honest old) (D.reads old) (at + n) all held now, c.len.ensures ∙ c.take_records.new.held.ok.0)
+    omega (arith, held-within (D.honest old) (D.reads old) (at + n) all held now, c.len.ensures)
 
 pub returns-then-is_empty-clause-fault : goal.returns-then-is_empty-clause-fault
 returns-then-is_empty-clause-fault g c =
@@ -95,12 +95,12 @@ returns-then-is_empty-clause-fault g c =
     let at = c.loop-index.index * c.args.piece in
     let n = c.in_ok-count.count in
     let all = c.take_records.new.records.items in
-    let held = c.take_records.new.held.items in
-    let piece = piece-of (D.honest old) (D.honest c.loop-index.disk) (D.reads old) (D.reads c.loop-index.disk) at c.args.piece n c.loop-index.held.items c.read_piece.new.held.items
+    let held = c.take_records.new.held in
+    let piece = piece-of (D.honest old) (D.honest c.loop-index.disk) (D.reads old) (D.reads c.loop-index.disk) at c.args.piece n c.loop-index.held c.read_piece.new.held
     c.loop-index.invariant.honest c.loop-index.invariant.untouched.same c.in_ok-count.ensures.piece in
-    let now = read-on (D.honest old) (D.reads old) at c.args.piece n c.loop-index.records.items all c.loop-index.held.items c.read_piece.new.held.items held
+    let now = read-on (D.honest old) (D.reads old) at c.args.piece n c.loop-index.records.items all c.loop-index.held c.read_piece.new.held held
     c.loop-index.invariant.read piece c.in_ok-take_records.ensures.taken in
-    let shut = subst IsShut c.as_slice.ensures.value c.if-is_closed.ensures.shut in
+    let shut = subst IsShut c.bytes.ensures c.if-is_closed.ensures.shut in
     let none : length all ≡ 0 = grind (arith, common_steps) in
     read-none (D.honest old) (D.reads old) (at + n) all held now shut none
 
@@ -116,7 +116,7 @@ returns-then-is_empty-clause-no_more_calls g c told =
     let mid = c.loop-index.disk in
     let new = c.read_piece.new.disk in
     let index = c.loop-index.index in
-    let within = read-within (D.honest old) (D.reads old) (index * c.args.piece) c.loop-index.records.items c.loop-index.held.items c.loop-index.invariant.read told in
+    let within = read-within (D.honest old) (D.reads old) (index * c.args.piece) c.loop-index.records.items c.loop-index.held c.loop-index.invariant.read told in
     calls_within (1 + index + 1) (calls_to_open c.args.piece (length (D.reads old))) (D.plan old) (D.plan new)
     (calls_in_turn (1 + index) 1 (D.plan old) (D.plan mid) (D.plan new) c.loop-index.invariant.calls c.in_ok-count.ensures.calls)
     (omega (arith, calls-within index c.args.piece (length (D.reads old)) c.requires.some within))
@@ -128,15 +128,15 @@ returns-then-is_closed-clause-records g c =
     let at = c.loop-index.index * c.args.piece in
     let n = c.in_ok-count.count in
     let all = c.take_records.new.records.items in
-    let held = c.take_records.new.held.items in
-    let piece = piece-of (D.honest old) (D.honest c.loop-index.disk) (D.reads old) (D.reads c.loop-index.disk) at c.args.piece n c.loop-index.held.items c.read_piece.new.held.items
+    let held = c.take_records.new.held in
+    let piece = piece-of (D.honest old) (D.honest c.loop-index.disk) (D.reads old) (D.reads c.loop-index.disk) at c.args.piece n c.loop-index.held c.read_piece.new.held
     c.loop-index.invariant.honest c.loop-index.invariant.untouched.same c.in_ok-count.ensures.piece in
-    let now = read-on (D.honest old) (D.reads old) at c.args.piece n c.loop-index.records.items all c.loop-index.held.items c.read_piece.new.held.items held
+    let now = read-on (D.honest old) (D.reads old) at c.args.piece n c.loop-index.records.items all c.loop-index.held c.read_piece.new.held held
     c.loop-index.invariant.read piece c.in_ok-take_records.ensures.taken in
-    let shut = subst IsShut c.as_slice.ensures.value c.if-is_closed.ensures.shut in
+    let shut = subst IsShut c.bytes.ensures c.if-is_closed.ensures.shut in
     let some : 0 < length all = grind (arith, common_steps) in
     let P : ℕ → Type 0 = λ k. OfBytes (D.honest old) (D.reads old) (λ bytes. IsReadAs bytes (at + n - k) all) in
-    subst P (sym (c.len.ensures ∙ c.take_records.new.held.ok.0)) (read-end (D.honest old) (D.reads old) (at + n) all held now shut some)
+    subst P (sym c.len.ensures) (read-end (D.honest old) (D.reads old) (at + n) all held now shut some)
 
 pub returns-then-is_closed-clause-calls : goal.returns-then-is_closed-clause-calls
 returns-then-is_closed-clause-calls g c =
@@ -145,18 +145,18 @@ returns-then-is_closed-clause-calls g c =
     let at = c.loop-index.index * c.args.piece in
     let n = c.in_ok-count.count in
     let all = c.take_records.new.records.items in
-    let held = c.take_records.new.held.items in
-    let piece = piece-of (D.honest old) (D.honest c.loop-index.disk) (D.reads old) (D.reads c.loop-index.disk) at c.args.piece n c.loop-index.held.items c.read_piece.new.held.items
+    let held = c.take_records.new.held in
+    let piece = piece-of (D.honest old) (D.honest c.loop-index.disk) (D.reads old) (D.reads c.loop-index.disk) at c.args.piece n c.loop-index.held c.read_piece.new.held
     c.loop-index.invariant.honest c.loop-index.invariant.untouched.same c.in_ok-count.ensures.piece in
-    let now = read-on (D.honest old) (D.reads old) at c.args.piece n c.loop-index.records.items all c.loop-index.held.items c.read_piece.new.held.items held
+    let now = read-on (D.honest old) (D.reads old) at c.args.piece n c.loop-index.records.items all c.loop-index.held c.read_piece.new.held held
     c.loop-index.invariant.read piece c.in_ok-take_records.ensures.taken in
-    let shut = subst IsShut c.as_slice.ensures.value c.if-is_closed.ensures.shut in
+    let shut = subst IsShut c.bytes.ensures c.if-is_closed.ensures.shut in
     let index = c.loop-index.index in
     let taken = c.in_ok-take_records.ensures.taken in
-    let place = gate-in-piece (D.honest old) (D.reads old) index c.args.piece n taken.0 c.loop-index.held.items c.read_piece.new.held.items held
+    let place = gate-in-piece (D.honest old) (D.reads old) index c.args.piece n taken.0 c.loop-index.held c.read_piece.new.held held
     c.loop-index.invariant.stopped c.loop-index.invariant.open_gate piece taken.2 shut in
     let P : ℕ → Type 0 = λ k. CallsMade (calls_to_open c.args.piece (at + n - k)) (D.plan old) (D.plan c.read_piece.new.disk) in
-    subst P (sym (c.len.ensures ∙ c.take_records.new.held.ok.0))
+    subst P (sym c.len.ensures)
     (subst (λ k. CallsMade k (D.plan old) (D.plan c.read_piece.new.disk)) (omega (arith, place))
     (calls_in_turn (1 + index) 1 (D.plan old) (D.plan c.loop-index.disk) (D.plan c.read_piece.new.disk) c.loop-index.invariant.calls c.in_ok-count.ensures.calls))
 
@@ -172,7 +172,7 @@ returns-then-is_closed-clause-no_more_calls g c told =
     let mid = c.loop-index.disk in
     let new = c.read_piece.new.disk in
     let index = c.loop-index.index in
-    let within = read-within (D.honest old) (D.reads old) (index * c.args.piece) c.loop-index.records.items c.loop-index.held.items c.loop-index.invariant.read told in
+    let within = read-within (D.honest old) (D.reads old) (index * c.args.piece) c.loop-index.records.items c.loop-index.held c.loop-index.invariant.read told in
     calls_within (1 + index + 1) (calls_to_open c.args.piece (length (D.reads old))) (D.plan old) (D.plan new)
     (calls_in_turn (1 + index) 1 (D.plan old) (D.plan mid) (D.plan new) c.loop-index.invariant.calls c.in_ok-count.ensures.calls)
     (omega (arith, calls-within index c.args.piece (length (D.reads old)) c.requires.some within))
@@ -184,19 +184,19 @@ returns-then-count-piece-clause-fault g c =
     let at = c.loop-index.index * c.args.piece in
     let n = c.in_ok-count.count in
     let all = c.take_records.new.records.items in
-    let held = c.take_records.new.held.items in
-    let piece = piece-of (D.honest old) (D.honest c.loop-index.disk) (D.reads old) (D.reads c.loop-index.disk) at c.args.piece n c.loop-index.held.items c.read_piece.new.held.items
+    let held = c.take_records.new.held in
+    let piece = piece-of (D.honest old) (D.honest c.loop-index.disk) (D.reads old) (D.reads c.loop-index.disk) at c.args.piece n c.loop-index.held c.read_piece.new.held
     c.loop-index.invariant.honest c.loop-index.invariant.untouched.same c.in_ok-count.ensures.piece in
-    let now = read-on (D.honest old) (D.reads old) at c.args.piece n c.loop-index.records.items all c.loop-index.held.items c.read_piece.new.held.items held
+    let now = read-on (D.honest old) (D.reads old) at c.args.piece n c.loop-index.records.items all c.loop-index.held c.read_piece.new.held held
     c.loop-index.invariant.read piece c.in_ok-take_records.ensures.taken in
-    let open_gate = subst (λ l. IsShut l → ⊥) c.as_slice.ensures.value c.if-is_closed.ensures.open in
+    let open_gate = subst (λ l. IsShut l → ⊥) c.bytes.ensures c.if-is_closed.ensures.open in
     let stopped = c.in_ok-take_records.ensures.stopped in
-    let short = short-piece (D.honest old) (D.reads old) at c.args.piece n c.loop-index.held.items c.read_piece.new.held.items piece c.if-count-piece.true in
+    let short = short-piece (D.honest old) (D.reads old) at c.args.piece n c.loop-index.held c.read_piece.new.held piece c.if-count-piece.true in
     let P : LoadFault → Type 0 = λ f. ExplainsLoad (D.honest old) (D.reads old) f in
     let Q : ℕ → Type 0 = λ k. OfBytes (D.honest old) (D.reads old) (λ bytes. opened_of bytes ≡ cut all (at + n - k)) in
     elim (cases_lt 0 (length all)) [
       | inl some ↦ subst P (sym (c.refusal.ensures.some some))
-          (subst Q (sym (c.len.ensures ∙ c.take_records.new.held.ok.0)) (read-cut (D.honest old) (D.reads old) (at + n) all held now short stopped open_gate some))
+          (subst Q (sym c.len.ensures) (read-cut (D.honest old) (D.reads old) (at + n) all held now short stopped open_gate some))
       | inr none ↦
           let empty : length all ≡ 0 = omega (arith, none) in
           subst P (sym (c.refusal.ensures.none empty)) (read-refused (D.honest old) (D.reads old) (at + n) all held now short stopped empty)
@@ -214,7 +214,7 @@ returns-then-count-piece-clause-no_more_calls g c told =
     let mid = c.loop-index.disk in
     let new = c.read_piece.new.disk in
     let index = c.loop-index.index in
-    let within = read-within (D.honest old) (D.reads old) (index * c.args.piece) c.loop-index.records.items c.loop-index.held.items c.loop-index.invariant.read told in
+    let within = read-within (D.honest old) (D.reads old) (index * c.args.piece) c.loop-index.records.items c.loop-index.held c.loop-index.invariant.read told in
     calls_within (1 + index + 1) (calls_to_open c.args.piece (length (D.reads old))) (D.plan old) (D.plan new)
     (calls_in_turn (1 + index) 1 (D.plan old) (D.plan mid) (D.plan new) c.loop-index.invariant.calls c.in_ok-count.ensures.calls)
     (omega (arith, calls-within index c.args.piece (length (D.reads old)) c.requires.some within))
@@ -226,10 +226,10 @@ loop-index-preserved g c =
     let at = c.loop-index.index * c.args.piece in
     let n = c.in_ok-count.count in
     let all = c.take_records.new.records.items in
-    let held = c.take_records.new.held.items in
-    let piece = piece-of (D.honest old) (D.honest c.loop-index.disk) (D.reads old) (D.reads c.loop-index.disk) at c.args.piece n c.loop-index.held.items c.read_piece.new.held.items
+    let held = c.take_records.new.held in
+    let piece = piece-of (D.honest old) (D.honest c.loop-index.disk) (D.reads old) (D.reads c.loop-index.disk) at c.args.piece n c.loop-index.held c.read_piece.new.held
     c.loop-index.invariant.honest c.loop-index.invariant.untouched.same c.in_ok-count.ensures.piece in
-    let now = read-on (D.honest old) (D.reads old) at c.args.piece n c.loop-index.records.items all c.loop-index.held.items c.read_piece.new.held.items held
+    let now = read-on (D.honest old) (D.reads old) at c.args.piece n c.loop-index.records.items all c.loop-index.held c.read_piece.new.held held
     c.loop-index.invariant.read piece c.in_ok-take_records.ensures.taken in
     let mid = c.loop-index.disk in
     let new = c.read_piece.new.disk in
@@ -239,7 +239,7 @@ loop-index-preserved g c =
     record {
       read = subst (λ p. ReadTo (D.honest old) (D.reads old) p all held) next now;
       stopped = c.in_ok-take_records.ensures.stopped;
-      open_gate = subst (λ l. IsShut l → ⊥) c.as_slice.ensures.value c.if-is_closed.ensures.open;
+      open_gate = subst (λ l. IsShut l → ⊥) c.bytes.ensures c.if-is_closed.ensures.open;
       untouched = untouched;
       durable = untouched-only D.reads D.may_leave D.moment D.left_since g.met.D.Disk.only_now mid new c.read_piece.ensures.untouched c.loop-index.invariant.durable;
       honest = c.read_piece.ensures.honest ∙ c.loop-index.invariant.honest;
@@ -253,6 +253,6 @@ returns-clause-no_more_calls g c told =
     let D = g.D.Disk in
     let old = c.args.disk.now in
     let index = c.loop-index.index in
-    let within = read-within (D.honest old) (D.reads old) (index * c.args.piece) c.loop-index.records.items c.loop-index.held.items c.loop-index.invariant.read told in
+    let within = read-within (D.honest old) (D.reads old) (index * c.args.piece) c.loop-index.records.items c.loop-index.held c.loop-index.invariant.read told in
     calls_within (1 + index) (calls_to_open c.args.piece (length (D.reads old))) (D.plan old) (D.plan c.loop-index.disk) c.loop-index.invariant.calls
     (omega (arith, calls-within index c.args.piece (length (D.reads old)) c.requires.some within))

@@ -8,9 +8,9 @@ use Rattle.jrn_file.proofs.loading.load.Given as goal
 
 abbrev pub invariant-loop-index : goal.invariant-loop-index
 invariant-loop-index g l = record {
-  read : ReadTo (g.D.Disk.honest l.fn.disk) (g.D.Disk.reads l.fn.disk) (l.index * l.piece) l.records.items l.held.items;
-  stopped : HasNoRecord l.held.items;
-  open_gate : IsShut l.held.items → ⊥;
+  read : ReadTo (g.D.Disk.honest l.fn.disk) (g.D.Disk.reads l.fn.disk) (l.index * l.piece) l.records.items l.held;
+  stopped : HasNoRecord l.held;
+  open_gate : IsShut l.held → ⊥;
   untouched : IsUntouched g.D.Disk.reads g.D.Disk.may_leave g.D.Disk.moment g.D.Disk.left_since l.fn.disk l.disk;
   durable : Only (g.D.Disk.reads l.disk) (g.D.Disk.may_leave l.disk);
   honest : g.D.Disk.honest l.disk ≡ g.D.Disk.honest l.fn.disk;

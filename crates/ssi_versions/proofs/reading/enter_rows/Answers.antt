@@ -2,7 +2,7 @@ use Rattle.std.proofs.Common.{◌≤◌, ◌∙◌, ◌++◌, ◌∷◌, [], ap,
 use Rattle.std.proofs.lemmas.List.{length-map}
 use Rattle.csv.specs.Records.{fields_of}
 use Rattle.ref_tables.proofs.laws.Entered.{enters, refuses, all-entered, length-entered, row-at, starts}
-use Rattle.ssi_versions.proofs.Standing.{read-in-form}
+use Rattle.ssi_versions.proofs.Standing.{read-in-form, read-stands}
 use Rattle.ssi_versions.proofs.reading.enter_rows.Goals as goal
 
 pub loop-row-init : goal.loop-row-init
@@ -14,10 +14,20 @@ read_row-requires-clause-few c =
     let many = length-entered c.loop-row.invariant before in
     omega (arith, many)
 
-pub enter-requires : goal.enter-requires
-enter-requires c =
+pub enter-requires-clause-form : goal.enter-requires-clause-form
+enter-requires-clause-form c =
     let read = c.in-Ok.ensures in
     rw read.value (read-in-form c.args.t.now c.loop-row.ssi (fields_of c.row-item.result) read.sound)
+
+pub enter-requires-clause-span : goal.enter-requires-clause-span
+enter-requires-clause-span c =
+    let read = c.in-Ok.ensures in
+    rw read.value ((read-stands c.args.t.now c.loop-row.ssi (fields_of c.row-item.result) read.sound).0)
+
+pub enter-requires-clause-alone : goal.enter-requires-clause-alone
+enter-requires-clause-alone c =
+    let read = c.in-Ok.ensures in
+    rw read.value ((read-stands c.args.t.now c.loop-row.ssi (fields_of c.row-item.result) read.sound).1)
 
 pub loop-row-preserved : goal.loop-row-preserved
 loop-row-preserved c =
