@@ -148,7 +148,7 @@ fn messages(alloc: Global, a: &Accounts, pay: &Pay, place: u32) -> Result<List<T
 }
 
 /// The messages that are sent of the entry at a place: those of a booked entry in the order of its orders, none of an
-/// unfunded one (docs/messages.md, "What is sent when"). Want of memory is the only error.
+/// unfunded one (docs/messages.md, "What is sent when"). Out of memory is the only error.
 ///
 /// Each text is `accepted`: under tables under which the pay came from a message that passes its tests, whose 32A has the
 /// currency and decimals of the accounts and which asks for these orders at banks that the tables hold, it passes the tests of

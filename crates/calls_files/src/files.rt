@@ -251,14 +251,14 @@ fn any_byte_but_zero_opens_a_gate_and_what_follows_is_anything(
     Ok(())
 }
 
-// Three records of 2, 0 and 13 bytes behind their gates, with their closed gate at 30.
+// Three records of 2, 0 and 13 bytes after their gates, with their closed gate at 30.
 const THREE: &[u8] = b"\x01\0\0\0\x02AB\x01\0\0\0\0\x01\0\0\0\x0dABCDEFGHIJKLM\0xyz";
 
 // How many bytes each read of an opening asks for.
 const PIECE: usize = 1 << 16;
 
-// A header record that ends at this place, and these bytes behind it.
-fn behind_head(alloc: Global, place: usize, bytes: &[u8]) -> Result<Text, Memory>
+// A header record that ends at this place, and these bytes after it.
+fn after_head(alloc: Global, place: usize, bytes: &[u8]) -> Result<Text, Memory>
     requires { (5 ≤ place) × (place ≤ most_disk_bytes) }
 {
     let size = place - 5;
@@ -283,7 +283,7 @@ fn read_with(alloc: Global, image: Text, calls: u64) -> Result<Option<(u64, Vec<
     }
 }
 
-// Whether these are a header record of this size and the three behind it.
+// Whether these are a header record of this size and the three after it.
 fn are_whole(records: &[Text], size: usize) -> bool {
     records.len() == 4
         && records[0].bytes().len() == size
@@ -292,7 +292,7 @@ fn are_whole(records: &[Text], size: usize) -> bool {
         && records[3].bytes() == b"ABCDEFGHIJKLM".as_slice()
 }
 
-// Whether three records behind a header record that ends at this place are read by a sync and a read for each piece
+// Whether three records after a header record that ends at this place are read by a sync and a read for each piece
 // up to the closed gate, and with fewer calls nothing is opened.
 fn is_put_together(alloc: Global, head: usize) -> Result<bool, Fail>
     requires { (5 ≤ head) × (head ≤ most_disk_bytes) }
@@ -300,7 +300,7 @@ fn is_put_together(alloc: Global, head: usize) -> Result<bool, Fail>
     let gate = (head + 30) as u64;
     let calls = 2 + gate / PIECE as u64;
     for passed in 0..calls + 1 {
-        let holds = match read_with(alloc, behind_head(alloc, head, THREE)?, passed)? {
+        let holds = match read_with(alloc, after_head(alloc, head, THREE)?, passed)? {
             Some((end, records)) => {
                 passed == calls && end == gate && are_whole(records.as_slice(), head - 5)
             }
@@ -313,7 +313,7 @@ fn is_put_together(alloc: Global, head: usize) -> Result<bool, Fail>
     Ok(true)
 }
 
-// The edge of the first piece stands at each byte of the three records and of the gate behind them.
+// The edge of the first piece stands at each byte of the three records and of the gate after them.
 #[test]
 fn records_that_cross_the_edges_of_pieces_are_put_together(rt: HostRuntime) -> Result<(), Fail> {
     let alloc = rt.alloc();
@@ -324,7 +324,7 @@ fn records_that_cross_the_edges_of_pieces_are_put_together(rt: HostRuntime) -> R
     Ok(())
 }
 
-// The place of the open gate with no whole record behind it, and how many records stand before it; none where no record does.
+// The place of the open gate with no whole record after it, and how many records stand before it; none where no record does.
 fn cut_at(alloc: Global, image: Text) -> Result<Option<(u64, usize)>, Fail> {
     match read_file(alloc, MemDisk::new(alloc, image)) {
         Ok((records, ending)) => match ending {
@@ -338,7 +338,7 @@ fn cut_at(alloc: Global, image: Text) -> Result<Option<(u64, usize)>, Fail> {
     }
 }
 
-// Whether a journal whose header record ends at this place is refused where it is cut short so many bytes behind it.
+// Whether a journal whose header record ends at this place is refused where it is cut short so many bytes after it.
 fn is_refused(alloc: Global, head: usize, left: usize) -> Result<bool, Fail>
     requires { (5 ≤ head) × (head ≤ most_disk_bytes) × (left ≤ 30) }
 {
@@ -352,7 +352,7 @@ fn is_refused(alloc: Global, head: usize, left: usize) -> Result<bool, Fail>
     } else {
         Some(((head + record) as u64, count))
     };
-    Ok(cut_at(alloc, behind_head(alloc, head, &THREE[..left])?)? == place)
+    Ok(cut_at(alloc, after_head(alloc, head, &THREE[..left])?)? == place)
 }
 
 #[test]

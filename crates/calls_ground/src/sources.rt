@@ -95,7 +95,7 @@ fn a_sink_keeps_what_is_written(rt: HostRuntime) -> Result<(), Fail> {
     Ok(())
 }
 
-// Whether a file takes a piece behind what it has, and no fault is counted.
+// Whether a file takes a piece after what it has, and no fault is counted.
 fn is_appended(rt: &HostRuntime, piece: &[u8]) -> Result<bool, Memory> {
     let mut sink = file_sink(rt, b"out.fin")?;
     Ok(takes(&mut sink, piece) && takes(&mut sink, b"") && sink.faults() == 0)
@@ -150,7 +150,7 @@ fn a_full_device_fails_each_write(rt: HostRuntime) -> Result<(), Fail> {
     Ok(())
 }
 
-// A pipe that is closed behind so many pieces.
+// A pipe that is closed after so many pieces.
 #[derive(Drop)]
 struct Pipe {
     pieces: u32,
@@ -176,7 +176,7 @@ fn went_in(pipe: &mut Pipe, piece: &[u8]) -> Option<usize> {
 }
 
 #[test]
-fn a_closed_pipe_fails_each_write_behind_a_piece_that_went_in(rt: HostRuntime) {
+fn a_closed_pipe_fails_each_write_after_a_piece_that_went_in(rt: HostRuntime) {
     let mut pipe = Pipe { pieces: 1 };
     assert_eq!(rt; went_in(&mut pipe, b"REF1"), Some(4));
     assert_eq!(rt; went_in(&mut pipe, b"REF2"), None);

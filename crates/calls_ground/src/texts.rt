@@ -22,7 +22,7 @@ fn sets_have_members(rt: HostRuntime) {
 }
 
 #[test]
-fn a_text_is_cut_behind_its_first_line_end(rt: HostRuntime) {
+fn a_text_is_cut_after_its_first_line_end(rt: HostRuntime) {
     let cut = first_line(b"A*\nB");
     assert_eq!(rt; cut.line, b"A*".as_slice());
     assert_eq!(rt; cut.rest, b"B".as_slice());
@@ -43,7 +43,7 @@ fn a_text_is_copied_and_grows(rt: HostRuntime) -> Result<(), Fail> {
 }
 
 #[test]
-fn room_behind_a_text_is_no_part_of_it(rt: HostRuntime) -> Result<(), Fail> {
+fn room_after_a_text_is_no_part_of_it(rt: HostRuntime) -> Result<(), Fail> {
     let mut text = Text::with_room(rt.alloc(), b"REF1", 3)?;
     assert_eq!(rt; text.bytes(), b"REF1".as_slice());
     text.push(b"//X")?;
@@ -127,7 +127,7 @@ fn a_place_is_cleared(rt: HostRuntime) -> Result<(), Fail> {
 }
 
 #[test]
-fn texts_are_copied_behind_others(rt: HostRuntime) -> Result<(), Fail> {
+fn texts_are_copied_after_others(rt: HostRuntime) -> Result<(), Fail> {
     let texts = [
         Text::from_bytes(rt.alloc(), b"A")?,
         Text::from_bytes(rt.alloc(), b"BC")?,

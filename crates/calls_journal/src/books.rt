@@ -42,7 +42,7 @@ const EARLIER: &[u8] =
 const CENT: &[u8] =
     b"\x01\0\0\0\x4d\xa5\0\0\x4d\xa5\0\x02\0\x01\0\0\0\0\0\0\0\0\x01\0\x04REF1\0\x02\x01\0\0\0\0\0\0\0\x01\x01\x01\x01\x04ALPHDEFFXXX\x01\0\0\0\x02\r\n";
 
-// Adds a record of fewer than 256 bytes behind an open gate.
+// Adds a record of fewer than 256 bytes after an open gate.
 fn add_record(bytes: &mut Text, record: &[u8]) -> Result<(), Memory> {
     bytes.push(&[1, 0, 0, 0])?;
     bytes.push(&[(record.len() % 256) as u8])?;
@@ -294,7 +294,7 @@ fn a_journal_without_a_header_is_none(rt: HostRuntime) -> Result<(), Fail> {
     Ok(())
 }
 
-// The header has 117 bytes and the entry 90: each record stands behind its gate and its length in 5 bytes.
+// The header has 117 bytes and the entry 90: each record stands after its gate and its length in 5 bytes.
 #[test]
 fn records_that_may_not_stand_next_are_refused(rt: HostRuntime) -> Result<(), Fail> {
     let alloc = rt.alloc();
@@ -339,7 +339,7 @@ fn is_last(answer: &Option<Result<Committed, CommitFault>>) -> bool {
     *answer == Some(Ok(kept))
 }
 
-// The records behind the header take 95 bytes each, with gate and length, and one more takes another gate too.
+// The records after the header take 95 bytes each, with gate and length, and one more takes another gate too.
 fn is_full(answer: &Option<Result<Committed, CommitFault>>) -> bool {
     let fault = CommitFault::Full {
         entries: 100_000,

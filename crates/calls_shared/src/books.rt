@@ -118,7 +118,7 @@ fn pay(alloc: Global, number: u32, debit: u8, credit: u8, amount: u64) -> Result
     }
 }
 
-// Adds a record of fewer than 65,536 bytes behind an open gate.
+// Adds a record of fewer than 65,536 bytes after an open gate.
 fn add_record(bytes: &mut Text, record: &[u8]) -> Result<(), Memory> {
     let length = record.len();
     bytes.push(&[1, 0, 0, (length / 256 % 256) as u8, (length % 256) as u8])?;

@@ -8,7 +8,7 @@ use std::test::*;
 use std::thread::Threads;
 use work_pool::{Desk, Gate, OpenGate, Worked, run_jobs};
 
-// Writes each job behind the digits of its pass. The reply is the worker's number and what the pass is then.
+// Writes each job after the digits of its pass. The reply is the worker's number and what the pass is then.
 struct Digits;
 
 impl Desk for Digits {

@@ -28,7 +28,7 @@ pub record IsDateBack (history : List Entry) (day last : Day) : Type 0 where
   pub ends : EndsOn history last
   pub later : day.0 <ℤ last.0
 
--- a refusal is what the bytes give; a fault of the disk and want of memory say nothing of them
+-- a refusal is what the bytes give; a fault of the disk and out of memory say nothing of them
 abbrev pub RefusesAs : Day → BooksFault → Finding → Type 0
 RefusesAs day (Open fault) finding = IfSome (found_by fault) (λ found. found ≡ finding)
 RefusesAs day (DateBack last) (book chart history) = IsDateBack history day last

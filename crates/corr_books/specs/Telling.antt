@@ -38,14 +38,14 @@ pub record Grows (o : Opening) (old new : PassKnows) : Type 0 where
 abbrev pub NothingAdded : PassKnows → PassKnows → Type 0
 NothingAdded old new = (i : ℕ) (a : Act) → slice_get new.known i ≡ Some a → length old.known ≤ i → a.by ≡ old.number → ⊥
 
--- there is room for the pay behind this history, whose file has its closed gate at this place
+-- there is room for the pay after this history, whose file has its closed gate at this place
 pub record ShowsRoom (o : Opening) (pay : Pay) (history : List Entry) : Type 0 where
   pub end : ℕ
   pub end_is : end + 1 ≡ length (file_of o.accounts history)
   pub room : HasRoomFor history end (need_of o.accounts history pay o.day)
 
 -- The place is past all that the pass knew. There stands the pay with the day of the books and the outcome that the entries
--- before it give, tagged with this pass; no other such entry was added. There was room for it behind the entries before it.
+-- before it give, tagged with this pass; no other such entry was added. There was room for it after the entries before it.
 pub record IsAdded (o : Opening) (pay : Pay) (old new : PassKnows) (place : ℕ) (outcome : Outcome) : Type 0 where
   pub at : ℕ
   pub place_is : place ≡ length o.base + at + 1
@@ -56,7 +56,7 @@ pub record IsAdded (o : Opening) (pay : Pay) (old new : PassKnows) (place : ℕ)
   pub alone : (i : ℕ) (a : Act) → slice_get new.known i ≡ Some a → length old.known ≤ i → a.by ≡ old.number → i ≡ at
 
 -- The history that the pass knows lacks the reference and has no room for the pay: its number of entries, the place of the closed
--- gate of its file, and the bytes that the pay's record needs behind it.
+-- gate of its file, and the bytes that the pay's record needs after it.
 pub record ShowsFull (o : Opening) (pay : Pay) (history : List Entry) (entries end need : ℕ) : Type 0 where
   pub missing : entered_at pay.mir history ≡ None
   pub entries_are : entries ≡ length history
@@ -86,7 +86,7 @@ place_of (Ok (Kept place outcome)) = Some place
 place_of (Err fault) = None
 
 -- Of `book` with this pay: what the pass knows after the answer, what the answer says, which place became the pass's own; and
--- after want of memory the pass is as before.
+-- after out of memory the pass is as before.
 pub record Told (o : Opening) (pay : Pay) (old : PassKnows) (answer : Answer) (new : PassKnows) : Type 0 where
   pub grows : IsAnswered answer → Grows o old new
   pub says : Says o pay old new answer

@@ -12,7 +12,7 @@ arrived torn piece =
     else if torn == 3 then map (λ b. 255 - b) piece
     else take (torn - 3) piece
 
--- a torn write, which reaches nothing behind the image's end
+-- a torn write, which reaches nothing after the image's end
 abbrev pub torn_write : ℕ → ℕ → List ℕ → List ℕ → List ℕ
 torn_write torn at piece image = if nat_le at (length image) then written at (arrived torn piece) image else image
 

@@ -7,7 +7,7 @@ use Rattle.corr_ids.specs.declared.address.LtAddress.{LtAddress}
 use Rattle.corr_ids.specs.Address.{is_lt, address_of}
 use Rattle.corr_ids.specs.Day.{day_of}
 
--- the twelve bytes behind the date
+-- the twelve bytes after the date
 abbrev pub sender_text : List ℕ → List ℕ
 sender_text bs = take 12 (drop 6 bs)
 

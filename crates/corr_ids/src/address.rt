@@ -6,7 +6,7 @@ ghost use Rattle.corr_ids.specs.Address.{IsLt, address_of, bank_of, is_lt, lt_of
 
 use corr_text::{Set, is_each_of};
 
-/// The address of a logical terminal: a BIC with the terminal's letter behind its first eight characters.
+/// The address of a logical terminal: a BIC with the terminal's letter after its first eight characters.
 #[derive(Clone, Copy, Debug, PartialEq, Eq)]
 pub struct LtAddress {
     pub head: [u8; 8],

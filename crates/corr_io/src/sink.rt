@@ -8,7 +8,7 @@ ghost use Rattle.corr_text.specs.Faults.{HasCause};
 
 use corr_text::Failed;
 
-/// A place that bytes are written to, each behind the last.
+/// A place that bytes are written to, each after the last.
 ///
 /// Contracts see the bytes that it holds, where it tells them, and a count of its faults. Each call that
 /// succeeds leaves that count, and each that fails adds one to it; it stays at `2^64 - 1` once it is there.

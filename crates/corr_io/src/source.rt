@@ -18,7 +18,7 @@ pub trait Source {
     ghost faults: { Self → ℕ };
 
     /// Reads the next bytes into the front of `buf` and answers how many they are; they are then no longer
-    /// left, and what stands behind them in `buf` is not said.
+    /// left, and what stands after them in `buf` is not said.
     ///
     /// 0 into a buffer that is not empty means that nothing is left. `Failed` comes only where the count of
     /// faults rose; no byte is lost then.

@@ -77,7 +77,7 @@ fn fill_standard(rt: &HostRuntime) -> io::Result<()> {
     Ok(())
 }
 
-/// The word at a place of the command line; none behind the last one. `Usage`: it is longer than the limit, or not UTF-8.
+/// The word at a place of the command line; none after the last one. `Usage`: it is longer than the limit, or not UTF-8.
 fn word(rt: &HostRuntime, at: usize) -> Result<Option<Text>, Status>
     ensures { IfErr result HasLine }
 {
@@ -96,7 +96,7 @@ fn word(rt: &HostRuntime, at: usize) -> Result<Option<Text>, Status>
     }
 }
 
-/// The words of the command line behind the program's name.
+/// The words of the command line after the program's name.
 fn words(rt: &HostRuntime) -> Result<Vec<Text>, Status>
     ensures { IfErr result HasLine }
 {
@@ -164,7 +164,7 @@ fn room<'a>(rt: &'a HostRuntime, folder: &[u8]) -> Result<Files<'a>, Memory> {
     })
 }
 
-/// Does what the words behind the folder say. `waiter` is the handle by which a run starts its workers, and waits for locks.
+/// Does what the words after the folder say. `waiter` is the handle by which a run starts its workers, and waits for locks.
 fn run(
     rt: &HostRuntime,
     waiter: &(impl Wait + Threads + Sync),

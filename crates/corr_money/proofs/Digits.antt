@@ -49,7 +49,7 @@ one_more n bs i h lt = omega (arith, after_more n bs i lt, (digit_is (get_or bs 
 -- ---- the parts of an amount
 pub record Parts (whole written : List ℕ) (decimals : ℕ) : Type 0 where
   pub digits_before : list_all is_ascii_digit whole ≡ true
-  pub digits_behind : list_all is_ascii_digit written ≡ true
+  pub digits_after : list_all is_ascii_digit written ≡ true
   pub short : length whole ≤ 15
   pub few : length written ≤ decimals
   pub most : decimals ≤ 4
@@ -67,7 +67,7 @@ pub joined-small : (whole written : List ℕ) (decimals : ℕ) → Parts whole w
 joined-small whole written decimals p =
     let zeros : List ℕ = replicate (decimals - length written) 48 in
     let all : list_all is_ascii_digit (whole ++ written ++ zeros) ≡ true =
-    rw (list_all-append is_ascii_digit (whole ++ written) zeros, list_all-append is_ascii_digit whole written, p.digits_before, p.digits_behind) (zeros_are_digits (decimals - length written)) in
+    rw (list_all-append is_ascii_digit (whole ++ written) zeros, list_all-append is_ascii_digit whole written, p.digits_before, p.digits_after) (zeros_are_digits (decimals - length written)) in
     let long = length-append (whole ++ written) zeros in
     let front = length-append whole written in
     let back = length-replicate {A = ℕ} (decimals - length written) 48 in

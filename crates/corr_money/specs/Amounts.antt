@@ -26,7 +26,7 @@ is_comma b = b == 44
 abbrev pub whole_of : List ℕ → List ℕ
 whole_of bs = before_first is_comma bs
 
--- what stands behind it
+-- what stands after it
 abbrev pub decimals_of : List ℕ → List ℕ
 decimals_of bs = after_first is_comma bs
 
@@ -34,7 +34,7 @@ decimals_of bs = after_first is_comma bs
 unfoldable pub is_comma_number : List ℕ → Bool
 is_comma_number bs = is_some (position is_comma bs) && nat_lt 0 (length (whole_of bs)) && list_all is_ascii_digit (whole_of bs) && list_all is_ascii_digit (decimals_of bs)
 
--- the number of the digits without the comma, with zeros behind them for the decimals that are missing
+-- the number of the digits without the comma, with zeros after them for the decimals that are missing
 unfoldable pub minor_of : ℕ → List ℕ → ℕ
 minor_of decimals bs = digits_value 10 (whole_of bs ++ decimals_of bs ++ replicate (decimals - length (decimals_of bs)) 48)
 

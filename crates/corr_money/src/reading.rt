@@ -41,7 +41,7 @@ fn number_after(before: u64, b: &[u8]) -> u64
     n
 }
 
-/// The number of minor units that the digits before a comma and those behind it give.
+/// The number of minor units that the digits before a comma and those after it give.
 fn minor(whole: &[u8], written: &[u8], decimals: u8) -> u64
     requires whole { IsTrue (list_all is_ascii_digit whole.now) }
     requires written { IsTrue (list_all is_ascii_digit written.now) }

@@ -33,7 +33,7 @@ mir_text (Conflict mir place) = mir.0
 mir_text (Unrouted mir code) = mir.0
 mir_text (Refused mir fault) = or_dashes mir
 
--- a tag of two characters has a space behind them, which isn't printed
+-- a tag of two characters has a space after them, which isn't printed
 abbrev pub tag_text : List ℕ → List ℕ
 tag_text tag = if slice_index tag 2 == 32 then take 2 tag else tag
 

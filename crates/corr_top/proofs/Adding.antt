@@ -33,6 +33,6 @@ in_front zero (y ∷ xs) k x less at = absurd (omega (arith, less))
 in_front (suc n) (y ∷ xs) zero x less at = at
 in_front (suc n) (y ∷ xs) (suc k) x less at = in_front n xs k x (omega (arith, less)) at
 
--- nothing is left behind the end of a front part
-pub none_behind : {A : Type 0} (n : ℕ) (xs : List A) (place : ℕ) → min n (length xs) + 1 ≤ place → drop (place - 1) (take n xs) ≡ []
-none_behind {A} n xs place past = drop_all (place - 1) (take n xs) (omega (arith, length-take n xs, past))
+-- nothing is left after the end of a front part
+pub none_after : {A : Type 0} (n : ℕ) (xs : List A) (place : ℕ) → min n (length xs) + 1 ≤ place → drop (place - 1) (take n xs) ≡ []
+none_after {A} n xs place past = drop_all (place - 1) (take n xs) (omega (arith, length-take n xs, past))

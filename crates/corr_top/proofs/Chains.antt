@@ -47,7 +47,7 @@ module _ {Job : Type 0} (o : Opening) (reading : Job → Result Pay NoPay) (jobs
       let r = grew numbers c.2 after c.6 in
       dite (dec_lt i (length c.2.pass.known))
       (λ below. (n - 1, c.0, c.3, g.own i a (prefix_get_back c.2.pass.known after.pass.known i a r.known below at) past tag))
-      (λ behind. of_jobs numbers c.2 after c.6 i a at (omega (arith, behind)) (tag ∙ sym g.number))
+      (λ beyond. of_jobs numbers c.2 after c.6 i a at (omega (arith, beyond)) (tag ∙ sym g.number))
 
   module _ (log : List Act) (history : List Entry) (is : history ≡ history_of o.base log) (legal : IsLegal o.accounts history) where
     -- what was made of each of the jobs stands

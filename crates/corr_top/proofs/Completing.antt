@@ -120,13 +120,13 @@ agreed j i [] s all has = absurd has
 agreed j i (d ∷ done) s all (inl is) = subst (Agrees j i) is all.0
 agreed j i (d ∷ done) s all (inr has) = agreed j i done s all.1 has
 
--- the tables of banks, currencies and countries are behind us
+-- the tables of banks, currencies and countries are passed
 record HasThree (done : List Step) : Type 0 where
   pub bics : Has done (Step.table names.Bics)
   pub ccys : Has done (Step.table names.Ccys)
   pub countries : Has done (Step.table names.Countries)
 
--- what a step needs is behind us
+-- what a step needs is passed
 record HasBooked (done : List Step) : Type 0 where
   pub three : HasThree done
   pub ssi : Has done (Step.table names.Ssi)

@@ -40,16 +40,16 @@ use Rattle.corr_top.specs.Stops.{status_of_booking}
 use Rattle.corr_top.proofs.Adding.{in_front}
 use Rattle.corr_top.proofs.Answering.{all_places, entered_by, has_answered}
 use Rattle.corr_top.proofs.FrontPart.{front_on}
-use Rattle.corr_top.proofs.Fronts.{All-behind}
+use Rattle.corr_top.proofs.Fronts.{All-after}
 use Rattle.corr_top.proofs.NoRoom.{no_room}
 use Rattle.corr_top.proofs.Origins.{sent-valid}
 use Rattle.corr_top.proofs.Replying.{get_all}
 use Rattle.corr_top.proofs.Workers.{get_there, unmapped}
 
--- the entries behind the opening have the shape of what is written down
+-- the entries after the opening have the shape of what is written down
 shapes_of : (base added history : List Entry) → history ≡ base ++ added → All IsEntry history → All HasPayShape added
 shapes_of base added history is all k d within =
-    (All-behind IsEntry base added (subst (λ (es : List Entry). All IsEntry es) is all) k d within).pay
+    (All-after IsEntry base added (subst (λ (es : List Entry). All IsEntry es) is all) k d within).pay
 
 -- a pay is that of a message
 from_pays : (readings : List (Result Pay NoPay)) (k : ℕ) (pay : Pay) → slice_get (pays_in readings) k ≡ Some pay → (n : ℕ) × (slice_get readings n ≡ Some (Ok pay))

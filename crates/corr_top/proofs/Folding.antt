@@ -22,7 +22,7 @@ next_of chart front e more day legal of_day =
     let is : entry_of chart front e.pay day ≡ e = λ i. record { pay = e.pay; day = sym of_day i; outcome = sym decided i } in
     ap (λ o. cond (is_some o) front (front ++ entry_of chart front e.pay day ∷ [])) none ∙ ap (λ (x : Entry). front ++ x ∷ []) is
 
--- the entries behind a history are what one thread makes of their pays
+-- the entries after a history are what one thread makes of their pays
 pub legal_fold : (chart : Chart) (front added : List Entry) (day : Day) → IsLegal chart (front ++ added) → ((i : ℕ) (e : Entry) → slice_get added i ≡ Some e → e.day ≡ day)
     → front ++ added ≡ fold_of chart front (map (λ e. e.pay) added) day
 legal_fold chart front [] day legal days = append-nil front

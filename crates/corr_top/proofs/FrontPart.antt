@@ -13,7 +13,7 @@ pub entered_last : (chart : Chart) (h : List Entry) (pays : List Pay) (pay : Pay
 entered_last chart h [] pay day = refl
 entered_last chart h (p ∷ pays) pay day = entered_last chart (history_with chart h p day) pays pay day
 
--- where pays are entered one after another, those behind them that are entered too belong to the front part
+-- where pays are entered one after another, those after them that are entered too belong to the front part
 pub front_on : (chart : Chart) (history : List Entry) (front rest : List Pay) (day : Day) (left : List Entry) → left ≡ entered_of chart history front day → EntersFront chart history (front ++ rest) day left
 front_on chart history front [] day left is = record { front = front; rest = []; pays_are = refl; left_is = is; next = inl refl }
 front_on chart history front (pay ∷ more) day left is = cases (entered_at pay.mir left) refl (front_on chart history (front ++ pay ∷ []) more day left)

@@ -15,7 +15,7 @@ use Rattle.fin_frame.specs.declared.cutter.Cutter.{Cutter}
 use Rattle.fin_frame.specs.declared.fault.FrameFault.{FrameFault}
 use Rattle.fin_frame.proofs.laws.Counting.{begun-few}
 use Rattle.fin_frame.proofs.laws.Led.{Rests, file-run, message-leads}
-use Rattle.fin_frame.proofs.laws.Led.Rests.{rests_apart, rests_behind}
+use Rattle.fin_frame.proofs.laws.Led.Rests.{rests_apart, rests_after}
 use Rattle.fin_frame.proofs.laws.Running.{run-append, run-failed}
 use Rattle.fin_frame.proofs.laws.Showing.{begun-comes, cut-comes, ends-come, shown-comes}
 use Rattle.fin_frame.proofs.laws.Tracking.{begun-more}
@@ -49,9 +49,9 @@ starts c given was sound none = record { was = subst (λ g. WasFed c [] g) (sym 
 -- ---- how cutting in pieces stops
 
 -- how many bytes of a file there are up to and with a piece
-pub counted : (fed piece behind rest file : List ℕ) → piece ++ behind ≡ rest → fed ++ rest ≡ file → length file - length behind ≡ length (fed ++ piece)
-counted fed piece behind rest file parts whole =
-    let a = ap length whole in let b = length-append fed rest in let d = ap length parts in let e = length-append piece behind in let f = length-append fed piece in omega arith
+pub counted : (fed piece after rest file : List ℕ) → piece ++ after ≡ rest → fed ++ rest ≡ file → length file - length after ≡ length (fed ++ piece)
+counted fed piece after rest file parts whole =
+    let a = ap length whole in let b = length-append fed rest in let d = ap length parts in let e = length-append piece after in let f = length-append fed piece in omega arith
 
 is-passed : (c : Cutter) (fed : List ℕ) (given : List (List ℕ)) → HasPassed c fed given → IsPassed fed
 is-passed c fed given so_far = record { sound = (subst (λ o. Knows o fed given c.begun) so_far.sound so_far.was.knows).0; within = so_far.within }
@@ -106,7 +106,7 @@ whole-so fed (b ∷ rest) file whole none = absurd (omega arith)
 -- the messages of a file begin in it
 messages-begin : {file : List ℕ} {messages : List (List ℕ)} {gap : List ℕ} → IsFileOf file messages gap → (length messages ≡ 0) ⊎ HasBegun file (length messages)
 messages-begin (file_start gap) = inl refl
-messages-begin (file_more file message gap messages front is behind) =
+messages-begin (file_more file message gap messages front is after) =
     inr (subst (λ k. HasBegun (file ++ message ++ gap) k) (sym (length-append messages (message ∷ [])))
     (subst (λ x. HasBegun x (length messages + 1)) parts (has_begun file (drop 3 message ++ gap) messages front)))
   where
@@ -154,7 +154,7 @@ stops_cutting source old new bytes (stop_of.Fault then now) took stops = absurd 
 
 short-messages : {file : List ℕ} {messages : List (List ℕ)} {gap : List ℕ} → IsFileOf file messages gap → All (λ m. length m ≤ 16384) messages
 short-messages (file_start gap) = λ k d within. absurd (omega arith)
-short-messages (file_more file message gap messages front is behind) =
+short-messages (file_more file message gap messages front is after) =
     All-append (λ m. length m ≤ 16384) messages (message ∷ []) (short-messages front) (All-cons (λ m. length m ≤ 16384) message [] is.1 (λ k d within. absurd (omega arith)))
 
 pub all-short : (file : List ℕ) (messages : List (List ℕ)) → IsMessageFile file messages → All (λ m. length m ≤ 16384) messages
@@ -164,7 +164,7 @@ all-short file messages is = short-messages is.cut.1
 
 rests-begun : {n : ℕ} {messages : List (List ℕ)} {gap : List ℕ} {s : State} → Rests n messages gap s → s.begun ≡ length messages
 rests-begun (rests_apart n messages gap far) = refl
-rests-begun (rests_behind n from messages message) = sym (length-append messages (message ∷ []))
+rests-begun (rests_after n from messages message) = sym (length-append messages (message ∷ []))
 
 few-begun : (file : List ℕ) (messages : List (List ℕ)) (n : ℕ) → IsCutInto file messages → HasBegun file n → n ≤ length messages
 few-begun file messages n cut has = let k = begun-comes has in let same = rests-begun (file-run cut.1) in omega arith

@@ -1,4 +1,4 @@
--- All jobs of one worker, in their order: what it enters up to the first one that stops it, and behind it.
+-- All jobs of one worker, in their order: what it enters up to the first one that stops it, and after it.
 use Rattle.std.proofs.Common.{◌≡◌, ◌⊎◌, inl, inr, ℕ, zero, suc, ◌+◌, ◌-◌, ◌<◌, ◌≤◌, All, List, [], ◌∷◌, ◌++◌, drop, length, map, take, Some, None, Result, Ok, Err, refl, sym, ap, ◌∙◌, subst, arith, append-nil}
 use Rattle.std.specs.Prelude.{slice_get}
 use Rattle.std.proofs.lemmas.List.{map-append}
@@ -52,19 +52,19 @@ in_order low high (m ∷ numbers) le rising within every =
     let first : m ≡ low = same_Some m low (first_is low high (m ∷ numbers) rising (λ i n at. (within i n at).0) here.0 here.1) in
     let rest = in_order (low + 1) high numbers (omega (arith, range.0, range.1)) (λ i j a b less at also. rising (suc i) (suc j) a b (omega arith) at also)
     (λ i n at. let more = rising 0 (suc i) m n (omega arith) refl at in (omega (arith, more, first), (within (suc i) n at).1))
-    (λ n more less. behind n more (every n (omega arith) less)) in
+    (λ n more less. beyond n more (every n (omega arith) less)) in
     record {
       count = let c = rest.count in omega (arith, c);
       at = places (λ i n at. rest.at i n at) first;
     }
   where
-    behind : (n : ℕ) → low + 1 ≤ n → (i : ℕ) × (slice_get (m ∷ numbers) i ≡ Some n) → (i : ℕ) × (slice_get numbers i ≡ Some n)
-    behind n more (zero, at) =
+    beyond : (n : ℕ) → low + 1 ≤ n → (i : ℕ) × (slice_get (m ∷ numbers) i ≡ Some n) → (i : ℕ) × (slice_get numbers i ≡ Some n)
+    beyond n more (zero, at) =
         let range = within 0 m refl in
         let here = every low (omega arith) (omega (arith, range.0, range.1)) in
         let first : m ≡ low = same_Some m low (first_is low high (m ∷ numbers) rising (λ i k there. (within i k there).0) here.0 here.1) in
         let is : m ≡ n = same_Some m n at in absurd (omega (arith, first, is, more))
-    behind n more (suc i, at) = (i, at)
+    beyond n more (suc i, at) = (i, at)
 
     places : ((i n : ℕ) → slice_get numbers i ≡ Some n → n ≡ low + 1 + i) → m ≡ low → (i n : ℕ) → slice_get (m ∷ numbers) i ≡ Some n → n ≡ low + i
     places rest first zero n at = let is : m ≡ n = same_Some m n at in omega (arith, first, is)
@@ -153,8 +153,8 @@ module _ {Job : Type 0} (o : Opening) (reading : Job → Result Pay NoPay) (jobs
   stays (n ∷ numbers) before after why off c = next c.5 (λ still. stays numbers c.2 after why still c.6)
     where
       next : Serves o (reading c.0) before c.2 c.1 → (c.2.halted ≡ Some why → after ≡ c.2) → after ≡ before
-      next (inl s) behind = absurd (none-some why (sym s.0 ∙ off))
-      next (inr s) behind = behind (ap (λ (w : Worker). w.halted) s.2 ∙ off) ∙ s.2
+      next (inl s) beyond = absurd (none-some why (sym s.0 ∙ off))
+      next (inr s) beyond = beyond (ap (λ (w : Worker). w.halted) s.2 ∙ off) ∙ s.2
 
   -- and says of each message why
   says : (numbers : List ℕ) (before after : Worker) (why : Halt) → before.halted ≡ Some why → Chain o reading jobs made numbers before after → (i n : ℕ) → slice_get numbers i ≡ Some n → slice_get made (n - 1) ≡ Some (served.Stopped why)
@@ -163,12 +163,12 @@ module _ {Job : Type 0} (o : Opening) (reading : Job → Result Pay NoPay) (jobs
     where
       next : Serves o (reading c.0) before c.2 c.1 → (i : ℕ) → slice_get (m ∷ numbers) i ≡ Some n → (c.2.halted ≡ Some why → (j : ℕ) → slice_get numbers j ≡ Some n → slice_get made (n - 1) ≡ Some (served.Stopped why))
           → slice_get made (n - 1) ≡ Some (served.Stopped why)
-      next (inl s) i at behind = absurd (none-some why (sym s.0 ∙ off))
-      next (inr s) zero at behind =
+      next (inl s) i at beyond = absurd (none-some why (sym s.0 ∙ off))
+      next (inr s) zero at beyond =
           let same : s.0 ≡ why = same_Some s.0 why (sym s.1 ∙ off) in
           let number : m ≡ n = same_Some m n at in
           subst (λ (k : ℕ). slice_get made (k - 1) ≡ Some (served.Stopped why)) number (c.4 ∙ ap (λ (x : Served). Some x) (s.3 ∙ ap (λ (h : Halt). served.Stopped h) same))
-      next (inr s) (suc i) at behind = behind (ap (λ (w : Worker). w.halted) s.2 ∙ off) i at
+      next (inr s) (suc i) at beyond = beyond (ap (λ (w : Worker). w.halted) s.2 ∙ off) i at
 
   -- pays are entered one after another, each by what was made of its message
   record IsStep (P : Served → Type 0) (F : List Entry → List Pay → List Entry) : Type 0 where
@@ -198,7 +198,7 @@ module _ {Job : Type 0} (o : Opening) (reading : Job → Result Pay NoPay) (jobs
     then h (Ok pay) readings = by.more h pay (pays_in readings)
     then h (Err why) readings = ap (λ (x : List Entry). F x (pays_in readings)) (sym (by.none h))
 
-    -- the serves of so many jobs behind the first m, each of which is such, and of those behind them
+    -- the serves of so many jobs after the first m, each of which is such, and of those after them
     record Until (m at : ℕ) (before after : Worker) (count : ℕ) : Type 0 where
       mid : Worker
       on : mid.halted ≡ None
@@ -289,7 +289,7 @@ module _ {Job : Type 0} (o : Opening) (reading : Job → Result Pay NoPay) (jobs
         ∙ pays_in-append (map reading (take at jobs)) (reading job ∷ map reading (drop (suc at) jobs))
         ∙ ap (λ (r : Result Pay NoPay). asked (take at jobs) ++ pays_in (r ∷ map reading (drop (suc at) jobs))) asks
 
-    -- the serve of the first job behind such ones
+    -- the serve of the first job after such ones
     record IsNext (at : ℕ) (one : Served) (mid : Worker) : Type 0 where
       job : Job
       next : Worker
@@ -394,13 +394,13 @@ module _ {Job : Type 0} (o : Opening) (reading : Job → Result Pay NoPay) (jobs
           stop_whole ∙ stops_here o (reading stop_next.job) stop_until.mid.pass stop_next.next.pass why stop_answer.0 (tags_next at (served.Stopped why) stop_until.mid stop_until.number stop_next)
           ∙ stop_until.known ∙ ap (λ (h : List Entry). entered_of o.accounts h (asked (take at jobs)) o.day) from_start
 
-      -- what was made of all behind it is the same
+      -- what was made of all after it is the same
       stop_rest : (k : ℕ) → k < length made → at < k → slice_get made k ≡ Some (served.Stopped why)
-      stop_rest k within behind =
+      stop_rest k within beyond =
           let n = stop_next in
           let i = k - at - 1 in
-          let there = get_some n.rest i (let c = n.count in let e = a.replies in omega (arith, c, e, within, behind)) in
-          let place : there.0 - 1 ≡ k = (let e = n.order i there.0 there.1 in omega (arith, e, behind)) in
+          let there = get_some n.rest i (let c = n.count in let e = a.replies in omega (arith, c, e, within, beyond)) in
+          let place : there.0 - 1 ≡ k = (let e = n.order i there.0 there.1 in omega (arith, e, beyond)) in
           subst (λ (m : ℕ). slice_get made m ≡ Some (served.Stopped why)) place (says n.rest n.next after why stop_answer.1 n.chain i there.0 there.1)
         where
           get_some : (xs : List ℕ) (k : ℕ) → k < length xs → (x : ℕ) × (slice_get xs k ≡ Some x)
@@ -414,7 +414,7 @@ module _ {Job : Type 0} (o : Opening) (reading : Job → Result Pay NoPay) (jobs
           dite (dec_lt k at)
           (λ less. absurd (tried_not at k halt.Disk tried less says_so))
           (λ more. dite (dec_lt at k)
-          (λ behind. same_halt (stop_rest k (get_below made k (served.Stopped halt.Disk) says_so) behind))
+          (λ beyond. same_halt (stop_rest k (get_below made k (served.Stopped halt.Disk) says_so) beyond))
           (λ no_more. same_halt (let e : at ≡ k = omega (arith, more, no_more) in ap (slice_get made) (sym e) ∙ here)))
         where
           same_halt : slice_get made k ≡ Some (served.Stopped why) → halt.Disk ≡ why

@@ -63,11 +63,11 @@ get-all P [] i x each at = absurd (none-some x at)
 get-all P (y ∷ ys) zero x each at = subst P (same_Some y x at) (All-head P y ys each)
 get-all P (y ∷ ys) (suc i) x each at = get-all P ys i x (All-tail P y ys each) at
 
--- an element behind the first list is one of the second
-behind : {A : Type 0} (xs ys : List A) (i : ℕ) (x : A) → length xs ≤ i → slice_get (xs ++ ys) i ≡ Some x → (k : ℕ) × (slice_get ys k ≡ Some x)
-behind [] ys i x past at = (i, at)
-behind (y ∷ xs) ys zero x past at = absurd (omega (arith, past))
-behind (y ∷ xs) ys (suc i) x past at = behind xs ys i x (omega (arith, past)) at
+-- an element after the first list is one of the second
+after : {A : Type 0} (xs ys : List A) (i : ℕ) (x : A) → length xs ≤ i → slice_get (xs ++ ys) i ≡ Some x → (k : ℕ) × (slice_get ys k ≡ Some x)
+after [] ys i x past at = (i, at)
+after (y ∷ xs) ys zero x past at = absurd (omega (arith, past))
+after (y ∷ xs) ys (suc i) x past at = after xs ys i x (omega (arith, past)) at
 
 -- ---- the instructions
 
@@ -193,7 +193,7 @@ pub sent-valid : (directory : Directory) (chart : Chart) (day : Day) (cut : List
     → SendsAccepted chart (length old + 1) new → AreSentValid directory.tables chart (length old + 1) new
 sent-valid directory chart day cut old added new are sound grown each shapes legal sends = λ i e from at.
     let past : length old ≤ i = omega (arith, from) in
-    let place = behind old added i e past (subst (λ (es : List Entry). slice_get es i ≡ Some e) grown at) in
+    let place = after old added i e past (subst (λ (es : List Entry). slice_get es i ≡ Some e) grown at) in
     let is = get-all (IsEnteredOn day (pays_in (readings_of directory chart cut))) added place.0 e each place.1 in
     let bytes = read-from directory chart cut is.place e.pay is.pay_is in
     let origin = bytes-origin directory chart are sound e.pay (legal.fits i e at) (get-all HasPayShape added place.0 e shapes place.1) bytes.0 bytes.1 in

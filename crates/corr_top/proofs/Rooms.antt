@@ -115,9 +115,9 @@ get_pay [] i p at = absurd (none-some p at)
 get_pay (e ∷ es) zero p at = (e, refl, same_Some e.pay p at)
 get_pay (e ∷ es) (suc i) p at = get_pay es i p at
 
-get_behind : (xs ys : List Entry) (i : ℕ) (e : Entry) → slice_get ys i ≡ Some e → slice_get (xs ++ ys) (length xs + i) ≡ Some e
-get_behind [] ys i e at = ap (slice_get ys) (omega arith) ∙ at
-get_behind (x ∷ xs) ys i e at = let n : suc (length xs) + i ≡ suc (length xs + i) = omega arith in ap (slice_get (x ∷ (xs ++ ys))) n ∙ get_behind xs ys i e at
+get_after : (xs ys : List Entry) (i : ℕ) (e : Entry) → slice_get ys i ≡ Some e → slice_get (xs ++ ys) (length xs + i) ≡ Some e
+get_after [] ys i e at = ap (slice_get ys) (omega arith) ∙ at
+get_after (x ∷ xs) ys i e at = let n : suc (length xs) + i ≡ suc (length xs + i) = omega arith in ap (slice_get (x ∷ (xs ++ ys))) n ∙ get_after xs ys i e at
 
 -- a pay whose reference is new and the entered ones stand among the pays of the file, each once
 among_all : (chart : Chart) (history front : List Entry) (day : Day) (pays : List Pay) (pay : Pay) (place : ℕ) → IsLegal chart (history ++ front) → All (IsEnteredOn day pays) front → slice_get pays place ≡ Some pay
@@ -133,7 +133,7 @@ among_all chart history front day pays pay place legal added at new = record { t
     is_new : (i : ℕ) (p : Pay) → slice_get (map (λ e. e.pay) front) i ≡ Some p → p.mir ≡ pay.mir → ⊥
     is_new i p here same =
         let e = get_pay front i p here in
-        entered_mir (history ++ front) pay.mir (length history + i) e.0 (get_behind history front i e.0 e.1) (ap (λ (x : Pay). x.mir) e.2 ∙ same) new
+        entered_mir (history ++ front) pay.mir (length history + i) e.0 (get_after history front i e.0 e.1) (ap (λ (x : Pay). x.mir) e.2 ∙ same) new
 
     single : (i j : ℕ) (p q : Pay) → slice_get (pay ∷ map (λ e. e.pay) front) i ≡ Some p → slice_get (pay ∷ map (λ e. e.pay) front) j ≡ Some q → p.mir ≡ q.mir → i ≡ j
     single zero zero p q here also same = refl
@@ -143,7 +143,7 @@ among_all chart history front day pays pay place legal added at new = record { t
         let d = get_pay front i p here in
         let e = get_pay front j q also in
         let mirs : d.0.pay.mir ≡ e.0.pay.mir = ap (λ (x : Pay). x.mir) d.2 ∙ same ∙ ap (λ (x : Pay). x.mir) (sym e.2) in
-        let s = legal.single (length history + i) (length history + j) d.0 e.0 (get_behind history front i d.0 d.1) (get_behind history front j e.0 e.1) mirs in omega (arith, s)
+        let s = legal.single (length history + i) (length history + j) d.0 e.0 (get_after history front i d.0 d.1) (get_after history front j e.0 e.1) mirs in omega (arith, s)
 
 -- no pay finds no room
 pub has_room : (chart : Chart) (history : List Entry) (pays : List Pay) (day : Day) (left : List Entry) (entries end need : ℕ) → HasRoomForAll chart history pays

@@ -1,4 +1,4 @@
--- What a reading means behind a verdict, and what a plan means wherever its message is kept.
+-- What a reading means after a verdict, and what a plan means wherever its message is kept.
 use Rattle.std.proofs.Common.{◌≡◌, ℕ, List, Result, Ok, Err, refl, ap, ◌∙◌, sym}
 use Rattle.std.specs.Prelude.{IfOk, IfSome}
 use Rattle.corr_text.specs.First.{◌>>=◌}

@@ -231,7 +231,7 @@ module _ {S K D : Type 0} (source : sources.Ghosts S) (d : disks.Ghosts D) (day 
           alone_on h calm (inl alone) = (alone.sure, record { stands = alone.stands; durable = alone.durable })
           alone_on h calm (inr failed) = absurd (calm failed.0)
 
-      -- the part of a run behind the opening of the books
+      -- the part of a run after the opening of the books
       pub day_ends : (r : Result Texts Status) → GivesDay source d directory workers old.messages new.messages opened new.disk r → HasTexts source d (Run day workers) old new r
       unfolding report_in out_in
       day_ends (Ok texts) gives =

@@ -142,7 +142,7 @@ module _ (o : Opening) where
 
   -- ---- what stands of it at the end
 
-  -- a pay that was added, in what the pass knows: the history ahead of it, and that behind it
+  -- a pay that was added, in what the pass knows: the history ahead of it, and that after it
   pub added_in : (pay : Pay) (old new : PassKnows) (place : ℕ) (outcome : Outcome) → (added : IsAdded o pay old new place outcome)
       → (front : List Act) × (rest : List Act) × (known_to o new ≡ history_of o.base front ++ entry_on o pay outcome ∷ entries_of rest) × (length front ≡ added.at)
   added_in pay old new place outcome added =

@@ -82,10 +82,10 @@ entries_in day pays (e ∷ es) added booked =
 
 -- ---- what settles the pays
 
--- neither an entry nor those behind it
+-- neither an entry nor those after it
 not_here : (mir : Mir) (n : ℕ) (e : Entry) (es : List Entry) (b : Bool) → has_mir mir e ≡ b → (mir ≡ e.pay.mir → ⊥) → is_some (position_from (has_mir mir) (n + 1) es) ≡ false → is_some (position_from (has_mir mir) n (e ∷ es)) ≡ false
-not_here mir n e es true is other behind = absurd (other (ap (λ (bs : List ℕ). record { 0 = bs }) (sym ((bytes_eq-Decides e.pay.mir.0 mir.0).0 is))))
-not_here mir n e es false is other behind = rw is behind
+not_here mir n e es true is other after = absurd (other (ap (λ (bs : List ℕ). record { 0 = bs }) (sym ((bytes_eq-Decides e.pay.mir.0 mir.0).0 is))))
+not_here mir n e es false is other after = rw is after
 
 -- no entry has the reference of a pay
 not_entered : (mir : Mir) (n : ℕ) (es : List Entry) → (Has mir_of mir es → ⊥) → is_some (position_from (has_mir mir) n es) ≡ false

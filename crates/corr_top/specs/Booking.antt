@@ -79,7 +79,7 @@ pub record LacksRoom (chart : Chart) (history : List Entry) (pays : List Pay) (d
   pub full : IsFull (fold_of chart history front day) end need
 
 -- the cause: a call of the disk failed; or a pay found no room, of one worker the first in the order of the file, and no call
--- failed; want of memory tells nothing
+-- failed; out of memory tells nothing
 abbrev pub BookCause : {D : Type 0} → outside.Ghosts D → D → D → Inputs → List Entry → BookStop → Type 0
 BookCause d old new i left (booking.DiskFault before after) = TellsCounts (d.faults old) before after (d.faults new)
 BookCause d old new i left (booking.Full entries end need) = HasNotFailed d old new × LacksRoomThen i.chart i.history (pays_of i) i.day left entries end need
@@ -108,7 +108,7 @@ pub record HadNoRoom (chart : Chart) (history : List Entry) (day : Day) (left : 
   pub new : entered_at pay.mir (history ++ front) ≡ None
   pub lacks : lacks_room chart (history ++ front) pay day ≡ true
 
--- Where room was wanting, each pay of the file was tried: its reference is entered, or it found no room. A failed disk and want
+-- Where room was wanting, each pay of the file was tried: its reference is entered, or it found no room. A failed disk and out
 -- of memory leave pays that were not tried.
 abbrev pub EachTried : Chart → List Entry → List Pay → Day → List Entry → BookStop → Type 0
 EachTried chart history pays day left (booking.DiskFault before after) = Unit {0}
@@ -123,7 +123,7 @@ pub record BeginsNew (left : List Entry) (pays : List Pay) : Type 0 where
   pub pays_are : pays ≡ pay ∷ more
   pub new : entered_at pay.mir left ≡ None
 
--- A front part of the pays was entered, one after another, but those without room. The first behind it, if there is one, is not entered.
+-- A front part of the pays was entered, one after another, but those without room. The first after it, if there is one, is not entered.
 pub record EntersFront (chart : Chart) (history : List Entry) (pays : List Pay) (day : Day) (left : List Entry) : Type 0 where
   pub front : List Pay
   pub rest : List Pay

@@ -1,4 +1,4 @@
--- A command that nothing stops but want of memory.
+-- A command that nothing stops but out of memory.
 use Rattle.std.specs.Prelude.{ℕ, ◌≡◌, ◌+◌, ◌≤◌, IsTrue, List, length, Some, None, sum_by}
 use Rattle.corr_disk.specs.declared.disk.Disk as disks
 use Rattle.corr_io.specs.declared.sink.Sink as sinks

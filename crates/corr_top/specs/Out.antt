@@ -10,7 +10,7 @@ use Rattle.corr_report.specs.Lines.{numbered}
 abbrev pub parted : List ℕ → List ℕ
 parted text = text ++ codes "$"
 
--- messages one behind the other, each followed by `$`
+-- messages one after the other, each followed by `$`
 abbrev pub parted_all : List (List ℕ) → List ℕ
 parted_all texts = flat_map parted texts
 

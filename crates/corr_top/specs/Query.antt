@@ -51,7 +51,7 @@ module _ {D : Type 0} (disk : disks.Ghosts D) (old new : D) where
     pub holds : HoldsJournal disk old chart history
     pub leaves : QueryLeaves
 
-  -- what asking a disk gives: the texts over its journal, or why it wasn't opened, or want of memory
+  -- what asking a disk gives: the texts over its journal, or why it wasn't opened, or out of memory
   abbrev pub GivesAsked : Query → Result Texts Status → Type 0
   GivesAsked asked (Ok texts) =
       (chart : Chart) × (history : List Entry) × WasRead chart history × (texts.report ≡ query_report asked chart history) × (texts.out ≡ query_out asked chart history)

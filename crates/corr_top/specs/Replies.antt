@@ -12,7 +12,7 @@ abbrev pub stop_of_verdict : MessageFault → Stop
 stop_of_verdict (message.Refused mir fault) = stop.NoPay (Refused mir fault)
 stop_of_verdict message.Memory = stop.Memory
 
--- an error is the reason that is meant, or want of memory
+-- an error is the reason that is meant, or out of memory
 abbrev pub FailsAs : {A : Type 0} → Stop → Result A NoPay → Type 0
 FailsAs (stop.NoPay why) meant = meant ≡ Err why
 FailsAs stop.Memory meant = Unit {0}

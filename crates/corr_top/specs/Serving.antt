@@ -113,7 +113,7 @@ abbrev pub SaysFailed : List Served → Type 0
 SaysFailed made = (at : ℕ) × (slice_get made at ≡ Some (served.Stopped halt.Disk))
 
 -- A front part of these pays was entered, but those without room: all of them were tried where each message was answered or found
--- no room; where the disk failed over a pay, it is the first behind them, and is not entered.
+-- no room; where the disk failed over a pay, it is the first after them, and is not entered.
 pub record AreEntered (o : Opening) (history : List Entry) (pays : List Pay) (made : List Served) : Type 0 where
   pub entered : EntersFront o.accounts o.base pays o.day history
   pub all : All IsTried made → entered.rest ≡ []

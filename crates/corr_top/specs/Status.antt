@@ -34,7 +34,7 @@ status_number (TooLarge bytes messages) = 9
 status_number (Framing at) = 10
 status_number (Full entries end need) = 11
 
--- a number behind a space
+-- a number after a space
 unfoldable pub spaced_number : ℕ → List ℕ
 spaced_number n = codes " " ++ padded 1 n
 

@@ -19,7 +19,7 @@ abbrev pub Walks : (Step → Type 0) → List Step → Type 0
 Walks has [] = Unit {0}
 Walks has (s ∷ steps) = has s × Walks has steps
 
--- one step stops; those ahead of it passed, and those behind it are untouched
+-- one step stops; those ahead of it passed, and those after it are untouched
 abbrev pub Halts : (Step → Type 0) → (Step → Type 0) → (Step → Type 0) → List Step → Type 0
 Halts passes stops untouched [] = ⊥
 Halts passes stops untouched (s ∷ steps) = (stops s × Walks untouched steps) ⊎ (passes s × Halts passes stops untouched steps)

@@ -105,7 +105,7 @@ pub record BooksEach (count seed : ℕ) : Type 0 where
 abbrev pub IsTrial : ℕ → ℕ → Texts → Type 0
 IsTrial count seed texts = (texts.report ≡ trial_report count seed) × (texts.out ≡ []) × BooksEach count seed
 
--- what a trial gives: its texts, or want of memory
+-- what a trial gives: its texts, or out of memory
 abbrev pub GivesTrial : ℕ → ℕ → Result Texts Status → Type 0
 GivesTrial count seed (Ok texts) = IsTrial count seed texts
 GivesTrial count seed (Err s) = s ≡ status.Memory

@@ -76,7 +76,7 @@ fn first_full(first: Option<BookStop>, later: BookStop) -> Option<BookStop>
 /// Tests that each message has a reply; or tells why one has none: the disk failed, whose count of faults was `before` at the
 /// opening and is `after`, memory ran out, or its pay, the first such, found no room.
 ///
-/// A count that rose without a message that says so is told as want of memory, which tells nothing.
+/// A count that rose without a message that says so is told as out of memory, which tells nothing.
 pub fn check_replies(before: u64, after: u64, served: &[Served]) -> Result<(), BookStop>
     ensures answered { IfOk result (λ _. (replies : List TheReply) × (served.now ≡ are_replies replies)) }
     ensures calm { IfOk result (λ _. IsCalm before after) }

@@ -138,10 +138,10 @@ fn cut_in_pieces(alloc: Global, file: &[u8]) -> Result<List<Text>, FileStop>
     let mut rest = file;
     while !rest.is_empty() {
         let len = piece_len(file.len() - rest.len(), cutter.begun(), rest.len());
-        let (piece, behind) = rest.split_at(len);
-        let bytes = file.len() - behind.len();
+        let (piece, after) = rest.split_at(len);
+        let bytes = file.len() - after.len();
         feed_piece(&mut cutter, piece, bytes, &mut messages)?;
-        rest = behind;
+        rest = after;
     }
     cutter.finish(&mut messages)?;
     Ok(messages)

@@ -217,7 +217,7 @@ impl<'a, N: BooksName + Send + Sync, D: Disk + Drop + Send> Desk for RunDesk<'a,
     ghost serves = { λ desk old job new served. Serves N.opening (pay_asked_of desk.directory.now N.opening.accounts job) old new served };
 
     /// Answers the message, unless the worker has stopped. It stops where the disk failed and where memory ran out: so a
-    /// worker enters what stands ahead of a message before what stands behind it, or nothing behind it.
+    /// worker enters what stands ahead of a message before what stands after it, or nothing after it.
     fn serve<R: Wait, G: Gate>(
         &self,
         rt: &R,

@@ -73,7 +73,7 @@ fn report_served(
     Ok(report)
 }
 
-/// The report of replies, in the memory of `room`, and the outgoing messages of the entries behind the first `count`.
+/// The report of replies, in the memory of `room`, and the outgoing messages of the entries after the first `count`.
 fn make_texts(
     alloc: Global,
     a: &Accounts,

@@ -69,7 +69,7 @@ pub enum Status {
         at: u64,
     },
     /// A pay found no room in the journal: how many entries there were, the place of the closed gate, and how many bytes the
-    /// pay needed behind it.
+    /// pay needed after it.
     Full {
         entries: u32,
         end: u64,

@@ -3,7 +3,7 @@
 ghost use Rattle.std.specs.Prelude.{◌≡◌, [], OnOk, IfErr, IfOk};
 ghost use Rattle.corr_top.specs.Writing.{FailedAt, FailsWriting, IsWritten, Received};
 
-use crate::slices::behind;
+use crate::slices::after;
 use crate::status::Status;
 use corr_io::Sink;
 use corr_text::{Memory, Text};
@@ -25,7 +25,7 @@ pub fn write_whole<K: Sink>(sink: &mut K, text: &[u8]) -> Result<(), WriteStop>
     let mut rest = text;
     while !rest.is_empty() {
         match sink.write(rest) {
-            Ok(count) => rest = behind(rest, count),
+            Ok(count) => rest = after(rest, count),
             Err(_) => {
                 return Err(WriteStop {
                     before,

@@ -44,7 +44,7 @@ abbrev pub FirstGap : List Account → Option Gap → Type 0
 FirstGap accounts None = (c : Ccy) → opening_sum c accounts ≡ pos 0
 FirstGap accounts (Some gap) = IsFirstUnbalanced accounts gap
 
--- what a refusal of accounts tells: want of memory tells nothing
+-- what a refusal of accounts tells: out of memory tells nothing
 abbrev pub TellsUnbalanced : List Account → AccountsFault → Type 0
 TellsUnbalanced accounts (Unbalanced ccy decimals sum) = IsFirstUnbalanced accounts (record { ccy = ccy; decimals = decimals; sum = sum })
 TellsUnbalanced accounts Memory = Unit {0}

@@ -58,7 +58,7 @@ impl History {
         Ok(())
     }
 
-    /// Adds an entry at the end of fewer than 100,000. It needs no memory where there is room; want of memory leaves the
+    /// Adds an entry at the end of fewer than 100,000. It needs no memory where there is room; out of memory leaves the
     /// entries as they were.
     pub fn push(&mut self, e: Entry) -> Result<(), Memory>
         requires { length self.old.entries < most_entries }

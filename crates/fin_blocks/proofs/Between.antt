@@ -17,9 +17,9 @@ between-again start bs end =
     let wide : nat_le (length start + length end) (length group) ≡ true = le-leb (length start + length end) (length group) (omega (arith, long)) in
     let begins : take (length start) group ≡ start = ap (take (length start)) (append_assoc start bs end) ∙ take_at start (bs ++ end) (length start) refl in
     let ends : drop (length group - length end) group ≡ end = drop_at (start ++ bs) end (length group - length end) (length-append start bs ∙ omega (arith, long)) in
-    let behind : drop (length start) group ≡ bs ++ end = ap (drop (length start)) (append_assoc start bs end) ∙ drop_at start (bs ++ end) (length start) refl in
+    let after : drop (length start) group ≡ bs ++ end = ap (drop (length start)) (append_assoc start bs end) ∙ drop_at start (bs ++ end) (length start) refl in
     let held : take (length group - (length start + length end)) (bs ++ end) ≡ bs = take_at bs end (length group - (length start + length end)) (omega (arith, long)) in
-    rw (wide, begins, ends, behind, held, same-bytes start, same-bytes end) refl
+    rw (wide, begins, ends, after, held, same-bytes start, same-bytes end) refl
 
 pub inside-again : (start bs : List ℕ) → inside start (Some (start ++ bs ++ codes "}")) ≡ Some bs
 inside-again start bs = between-again start bs (codes "}")

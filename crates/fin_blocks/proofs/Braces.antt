@@ -10,7 +10,7 @@ use Rattle.fin_blocks.specs.Groups.{group_with_byte, groups_from, groups_of, IsC
 use Rattle.fin_blocks.specs.Forms.{is_plain}
 use Rattle.fin_blocks.proofs.Cutting.{with_bytes, with_bytes-push, with_bytes-group, step, closes}
 
--- within a group these bytes go by: as many groups are open behind them as before
+-- within a group these bytes go by: as many groups are open after them as before
 pub record IsBalanced (bs : List ℕ) : Type 0 where
   pub passed : (depth : ℕ) (rest : List ℕ) → 0 < depth → groups_from depth (bs ++ rest) ≡ with_bytes bs (groups_from depth rest)
 

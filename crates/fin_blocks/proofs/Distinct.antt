@@ -43,7 +43,7 @@ differs-more before n ns new = rw new refl
 pub differs-twice : (before : List ℕ) (n : ℕ) (ns : List ℕ) → list_any (λ q. q == n) before ≡ true → differ_from before (n ∷ ns) ≡ false
 differs-twice before n ns old = rw old refl
 
--- the number at a place and those behind it
+-- the number at a place and those after it
 pub at-place : (ns : List ℕ) (at n : ℕ) → n ≡ get_or ns at n → at < length ns → drop at ns ≡ n ∷ drop (at + 1) ns
 at-place ns at n e lt = drop_more ns at n lt ∙ ap (λ m. m ∷ drop (at + 1) ns) (sym e)
 

@@ -9,19 +9,19 @@ use Rattle.corr_ids.specs.declared.bic.Bic.{Bic}
 use Rattle.fin_blocks.specs.Groups.{groups_of}
 use Rattle.fin_blocks.specs.Forms.{inside}
 use Rattle.fin_blocks.specs.Text.{crlf}
-use Rattle.fin_blocks.specs.Blocks.{ending_of, groups_behind, blocks_of, user_of}
+use Rattle.fin_blocks.specs.Blocks.{ending_of, groups_past, blocks_of, user_of}
 use Rattle.fin_blocks.specs.Sending.{IsText, are_subblocks, lines_text, own_text, receiver_text, sent_blocks, sent_text, subblock_text, terminal_of, user_text}
 use Rattle.fin_blocks.proofs.Between.{inside-again, inside-other}
 use Rattle.fin_blocks.proofs.Braces.{balanced-both, balanced-plain, group-alone, group-first}
 use Rattle.fin_blocks.proofs.SentParts.{lines-again, lines-plain, own-again, own-plain, receiver-again, receiver-plain}
 use Rattle.fin_blocks.proofs.SentUser.{IsUser, user-again, user-parts}
 
--- the groups behind block 2 say these subblocks, and the lines behind them
+-- the groups after block 2 say these subblocks, and the lines after them
 record IsRead (groups : List (Option (List ℕ))) (user : List (ℕ × List ℕ)) (text : List ℕ) : Type 0 where
   subblocks : user_of groups ≡ Some user
-  last : groups_behind (codes "{3:") groups ≡ Some (lines_text text) ∷ []
+  last : groups_past (codes "{3:") groups ≡ Some (lines_text text) ∷ []
 
--- blocks 1 and 2, and such groups behind them, are a sent message
+-- blocks 1 and 2, and such groups after them, are a sent message
 read-through : (m : List ℕ) (home to : Bic) (mt : ℕ) (groups : List (Option (List ℕ))) (user : List (ℕ × List ℕ)) (text : List ℕ)
     → groups_of m ≡ Some (own_text home) ∷ Some (receiver_text mt to) ∷ groups
     → IsBic home → IsBic to → mt ≤ 999 → IsText text → IsRead groups user text

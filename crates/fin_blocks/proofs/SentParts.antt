@@ -130,8 +130,8 @@ sent-again ds bs mt a n long address =
     let priority : get_or whole 15 0 ≡ 78 = get_or_at (ds ++ bs) 78 [] 0 15 front in
     let none : drop 16 whole ≡ [] = drop_all 16 whole (omega (arith, all)) in
     let first : take 3 whole ≡ ds = ap (take 3) (append_assoc ds bs (codes "N")) ∙ take_at ds (bs ++ codes "N") 3 n.long in
-    let behind : drop 3 whole ≡ bs ++ codes "N" = ap (drop 3) (append_assoc ds bs (codes "N")) ∙ drop_at ds (bs ++ codes "N") 3 n.long in
-    rw (all, priority, none, first, behind, take_at bs (codes "N") 12 long, n.number, address) refl
+    let after : drop 3 whole ≡ bs ++ codes "N" = ap (drop 3) (append_assoc ds bs (codes "N")) ∙ drop_at ds (bs ++ codes "N") 3 n.long in
+    rw (all, priority, none, first, after, take_at bs (codes "N") 12 long, n.number, address) refl
 
 pub receiver-again : (mt : ℕ) (to : Bic) → mt ≤ 999 → IsBic to → app_of (Some (receiver_text mt to)) ≡ Some (Sent mt (terminal_of to 88))
 receiver-again mt to low h =

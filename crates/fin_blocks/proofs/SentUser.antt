@@ -34,8 +34,8 @@ unfolding tagged_of is_tagged
 tagged-again tag text three plain =
     let held : List ℕ = tag ++ 58 ∷ text in
     let long : nat_le 4 (length held) ≡ true = le-leb 4 (length held) (omega (arith, three, length-append tag (58 ∷ text))) in
-    let behind : drop 4 held ≡ text = sym (drop-drop 1 3 held) ∙ ap (drop 1) (drop_at tag (58 ∷ text) 3 three) in
-    rw (inside-again (codes "{") held, long, get_or_at tag 58 text 0 3 three, behind, plain, take_at tag (58 ∷ text) 3 three) refl
+    let after : drop 4 held ≡ text = sym (drop-drop 1 3 held) ∙ ap (drop 1) (drop_at tag (58 ∷ text) 3 three) in
+    rw (inside-again (codes "{") held, long, get_or_at tag 58 text 0 3 three, after, plain, take_at tag (58 ∷ text) 3 three) refl
 
 subblock-again : (s : ℕ × List ℕ) → IsSubblock s → subblock_of (Some (subblock_text s)) ≡ Some s
 unfolding subblock_of

@@ -8,7 +8,7 @@ use Rattle.std.proofs.lemmas.List.{drop_all, drop_more, nil_from_length}
 use Rattle.corr_text.specs.Lines.{lines_of, with_byte as with_line_byte}
 use Rattle.fin_blocks.specs.Text.{ended, is_ended, text_in}
 
--- no line feed stands behind another byte than a carriage return
+-- no line feed stands after another byte than a carriage return
 abbrev pub crlf_alone : ℕ → List ℕ → Bool
 crlf_alone before [] = true
 crlf_alone before (b ∷ bs) = not ((b == 10) && not (before == 13)) && crlf_alone b bs
@@ -59,16 +59,16 @@ IsSame bs = crlf_alone 0 bs ≡ true → ends bs ≡ true → flat_map ended (li
 
 same-pair : (return feed : Bool) (b c : ℕ) (cs : List ℕ) → (b == 13) ≡ return → (c == 10) ≡ feed → (b == 10) ≡ false
     → crlf_alone b (c ∷ cs) ≡ true → ends (c ∷ cs) ≡ true → IsSame cs → IsSame (c ∷ cs) → flat_map ended (lines_of (b ∷ c ∷ cs)) ≡ b ∷ c ∷ cs
-same-pair true true b c cs is_return is_feed other alone last behind ahead =
+same-pair true true b c cs is_return is_feed other alone last after ahead =
     let b-is : b ≡ 13 = grind (arith, nat_tests) in
     let c-is : c ≡ 10 = grind (arith, nat_tests) in
     let rest : crlf_alone 0 cs ≡ true = same-start c 0 cs (ap (λ n. n == 13) c-is) refl (and_parts (not ((c == 10) && not (b == 13))) (crlf_alone c cs) alone).1 in
-    rw (other, is_return, is_feed) (ap (λ (bs : List ℕ). 13 ∷ 10 ∷ bs) (behind rest (later-end c cs last)) ∙ ap (λ n. n ∷ 10 ∷ cs) (sym b-is) ∙ ap (λ n. b ∷ n ∷ cs) (sym c-is))
-same-pair true false b c cs is_return is_feed other alone last behind ahead =
+    rw (other, is_return, is_feed) (ap (λ (bs : List ℕ). 13 ∷ 10 ∷ bs) (after rest (later-end c cs last)) ∙ ap (λ n. n ∷ 10 ∷ cs) (sym b-is) ∙ ap (λ n. b ∷ n ∷ cs) (sym c-is))
+same-pair true false b c cs is_return is_feed other alone last after ahead =
     let rest : crlf_alone 0 (c ∷ cs) ≡ true = rw is_feed (and_parts (not ((c == 10) && not (b == 13))) (crlf_alone c cs) alone).1 in
     let apart : ((b == 13) && (c == 10)) ≡ false = rw (is_return, is_feed) refl in
     rw (other, apart) (with-first b (lines_of (c ∷ cs)) (has-line c cs) ∙ ap (λ (bs : List ℕ). b ∷ bs) (ahead rest last))
-same-pair false feed b c cs is_return is_feed other alone last behind ahead =
+same-pair false feed b c cs is_return is_feed other alone last after ahead =
     let rest : crlf_alone 0 (c ∷ cs) ≡ true = same-start b 0 (c ∷ cs) is_return refl alone in
     rw (other, is_return) (with-first b (lines_of (c ∷ cs)) (has-line c cs) ∙ ap (λ (bs : List ℕ). b ∷ bs) (ahead rest last))
 

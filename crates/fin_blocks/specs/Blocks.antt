@@ -20,9 +20,9 @@ use Rattle.fin_blocks.specs.declared.fault.BlockFault.TheVariants as fault
 abbrev pub has_next : List ℕ → List (Option (List ℕ)) → Bool
 has_next start groups = is_some (inside start (next_group groups))
 
--- the groups behind that block, or all where it does not come next
-abbrev pub groups_behind : List ℕ → List (Option (List ℕ)) → List (Option (List ℕ))
-groups_behind start groups = if has_next start groups then groups_after groups else groups
+-- the groups past that block, or all where it does not come next
+abbrev pub groups_past : List ℕ → List (Option (List ℕ)) → List (Option (List ℕ))
+groups_past start groups = if has_next start groups then groups_after groups else groups
 
 -- what a block that may be absent says
 abbrev pub optional : {A : Type 0} → (List ℕ → Option (List A)) → Option (List ℕ) → Option (List A)
@@ -43,9 +43,9 @@ are_last [] = true
 are_last (group ∷ []) = is_some (inside (codes "{S:") group)
 are_last _ = false
 
--- the codes of block 5 among the groups behind block 4; none where it isn't of its form, or more is left
+-- the codes of block 5 among the groups after block 4; none where it isn't of its form, or more is left
 unfoldable pub ending_of : List (Option (List ℕ)) → Option (List (List ℕ))
-ending_of fifth = when (are_last (groups_behind (codes "{5:") fifth)) (trailers_of fifth)
+ending_of fifth = when (are_last (groups_past (codes "{5:") fifth)) (trailers_of fifth)
 
 -- the parts of a message, or the first of P01 to P06 with the reference of a received message from P04 on
 unfoldable pub blocks_of : List ℕ → Result Blocks BlockFault
@@ -57,7 +57,7 @@ blocks_of m = do
   app ← or_fault (app_of (next_group second)) (fault.Bad (code "P03") None)
   let third = groups_after second
   user ← or_fault (user_of third) (fault.Bad (code "P04") (mir_in app))
-  let fourth = groups_behind (codes "{3:") third
+  let fourth = groups_past (codes "{3:") third
   text ← or_fault (text_of (next_group fourth)) (fault.Bad (code "P05") (mir_in app))
   trailers ← or_fault (ending_of (groups_after fourth)) (fault.Bad (code "P06") (mir_in app))
   Ok (record { own = basic.own; app = app; user = user; text = text; trailers = trailers })
@@ -77,6 +77,6 @@ abbrev pub told : BlockFault → Option BlockFault
 told (fault.Bad refusal mir) = Some (fault.Bad refusal mir)
 told fault.Memory = None
 
--- an error tells this fault, or want of memory
+-- an error tells this fault, or out of memory
 abbrev pub Tells : Result Blocks BlockFault → BlockFault → Type 0
 Tells meant e = Refuses told meant e

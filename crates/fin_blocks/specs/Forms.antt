@@ -36,7 +36,7 @@ when holds o = if holds then o else None
 unfoldable pub is_basic : List ℕ → Bool
 is_basic bs = (length bs == 24) && list_all is_ascii_digit (take 2 bs) && list_all is_ascii_digit (drop 14 bs)
 
--- block 1 behind its F: version 2!n, LT address, session 4!n, sequence number 6!n
+-- block 1 after its F: version 2!n, LT address, session 4!n, sequence number 6!n
 unfoldable pub basic_in : List ℕ → Option Basic
 basic_in bs = do
   own ← when (is_basic bs) (lt_of (part 2 12 bs))
@@ -54,7 +54,7 @@ is_priority b = (b == 83) || (b == 85) || (b == 78)
 unfoldable pub is_received : List ℕ → Bool
 is_received bs = (length bs == 46) && list_all is_ascii_digit (part 3 4 bs) && list_all is_ascii_digit (part 35 10 bs) && is_priority (slice_index bs 45)
 
--- block 2 of a received message behind its O: type 3!n, time 4!n, MIR, day 6!n, time 4!n, priority
+-- block 2 of a received message after its O: type 3!n, time 4!n, MIR, day 6!n, time 4!n, priority
 unfoldable pub received_in : List ℕ → Option App
 received_in bs = do
   mt ← when (is_received bs) (number_of (take 3 bs))
@@ -69,7 +69,7 @@ is_sent_length long = (long == 16) || (long == 17) || (long == 19) || (long == 2
 unfoldable pub is_sent : List ℕ → Bool
 is_sent bs = is_sent_length (length bs) && is_priority (slice_index bs 15) && list_all is_ascii_digit (drop 16 bs)
 
--- block 2 of a sent message behind its I: type 3!n, LT address, priority, optionally 1!n, optionally 3!n
+-- block 2 of a sent message after its I: type 3!n, LT address, priority, optionally 1!n, optionally 3!n
 unfoldable pub sent_in : List ℕ → Option App
 sent_in bs = do
   mt ← when (is_sent bs) (number_of (take 3 bs))

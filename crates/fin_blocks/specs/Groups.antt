@@ -8,7 +8,7 @@ group_with_byte b [] = []
 group_with_byte b (None ∷ groups) = None ∷ groups
 group_with_byte b (Some group ∷ groups) = Some (b ∷ group) ∷ groups
 
--- the groups of bytes before which so many groups are open: a group ends behind each byte that leaves none open
+-- the groups of bytes before which so many groups are open: a group ends after each byte that leaves none open
 abbrev pub groups_from : ℕ → List ℕ → List (Option (List ℕ))
 groups_from depth [] = if depth == 0 then [] else None ∷ []
 groups_from depth (b ∷ bs) =
@@ -24,12 +24,12 @@ abbrev pub next_group : List (Option (List ℕ)) → Option (List ℕ)
 next_group [] = None
 next_group (group ∷ groups) = group
 
--- the groups behind the next one
+-- the groups after the next one
 abbrev pub groups_after : List (Option (List ℕ)) → List (Option (List ℕ))
 groups_after [] = []
 groups_after (group ∷ groups) = groups
 
--- bytes cut behind their next group
+-- bytes cut after their next group
 pub record IsCut (from : List ℕ) (group : Option (List ℕ)) (rest : List ℕ) : Type 0 where
   pub group_is_next : group ≡ next_group (groups_of from)
   pub rest_is_after : groups_of rest ≡ groups_after (groups_of from)

@@ -6,7 +6,7 @@ use Rattle.corr_text.specs.Lines.{lines_of}
 use Rattle.corr_ids.specs.Day.{◌>>=◌}
 use Rattle.fin_blocks.specs.Forms.{between, when}
 
--- nothing stands behind the last line feed
+-- nothing stands after the last line feed
 abbrev pub is_ended : List ℕ → Bool
 is_ended bs = (length bs == 0) || (slice_index bs (length bs - 1) == 10)
 

@@ -19,7 +19,7 @@ pub const P05: Code = Code(*b"P05");
 /// Block 5 is not of its form, or something is left.
 pub const P06: Code = Code(*b"P06");
 
-/// The first block that is not of its form; or want of memory.
+/// The first block that is not of its form; or out of memory.
 #[derive(Clone, Copy, Debug, PartialEq, Eq)]
 pub enum BlockFault {
     /// P01 to P06 (docs/messages.md, "Blocks"), with the reference of a received message where block 2 was read.

@@ -7,7 +7,7 @@ ghost use Rattle.fin_blocks.specs.Groups.{IsCut};
 
 use corr_text::{has_brace, next_brace};
 
-/// Bytes, their next group, if there is one and it is closed, and what stands behind it.
+/// Bytes, their next group, if there is one and it is closed, and what stands after it.
 #[derive(Clone, Copy, Debug)]
 pub struct Piece<'a> {
     pub from: &'a [u8],
@@ -26,7 +26,7 @@ fn depth_after(depth: usize, b: u8) -> usize
     }
 }
 
-/// Cuts bytes behind their next group. One that is never closed is none, with nothing behind it.
+/// Cuts bytes after their next group. One that is never closed is none, with nothing after it.
 pub fn next_group(bytes: &[u8]) -> Piece<'_>
     ensures from { result.from.now ≡ bytes.now }
     ensures cut { IsCut bytes.now (option_map (λ b. b.now) result.group) result.rest.now }

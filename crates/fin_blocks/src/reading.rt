@@ -4,7 +4,7 @@ ghost use Rattle.std.specs.Prelude.{◌≡◌, ◌≤◌, ◌<◌, ◌*◌, Err,
 ghost use Rattle.corr_text.specs.Lines.{lines_of};
 ghost use Rattle.fin_blocks.specs.Groups.{IsCut, groups_of};
 ghost use Rattle.fin_blocks.specs.Forms.{when};
-ghost use Rattle.fin_blocks.specs.Blocks.{AreNamed, Tells, are_last as are_last_of, blocks_of, ending_of, groups_behind as behind_of};
+ghost use Rattle.fin_blocks.specs.Blocks.{AreNamed, Tells, are_last as are_last_of, blocks_of, ending_of, groups_past as past_of};
 
 use crate::application::{mir_of, read_app};
 use crate::basic::read_basic;
@@ -24,11 +24,11 @@ const BASIC: usize = 29;
 
 const RECEIVED: usize = 51;
 
-// The piece behind, where this one is the block that begins so.
-fn behind<'a>(start: &[u8], piece: Piece<'a>) -> Piece<'a>
+// The next piece, where this one is the block that begins so.
+fn past<'a>(start: &[u8], piece: Piece<'a>) -> Piece<'a>
     requires cut { IsCut piece.from.now (option_map (λ b. b.now) piece.group) piece.rest.now }
     requires small { length start.now < 8 }
-    ensures groups { groups_of result.from.now ≡ behind_of start.now (groups_of piece.entry.from.now) }
+    ensures groups { groups_of result.from.now ≡ past_of start.now (groups_of piece.entry.from.now) }
     ensures cut { IsCut result.from.now (option_map (λ b. b.now) result.group) result.rest.now }
 {
     if inside(start, piece.group).is_some() {
@@ -58,7 +58,7 @@ fn fill_ending(alloc: Global, bytes: &[u8], trailers: &mut List<[u8; 3]>) -> Res
         return Ok(false);
     };
     *trailers = codes;
-    Ok(are_last(behind(b"{5:", fifth)))
+    Ok(are_last(past(b"{5:", fifth)))
 }
 
 fn refuse(code: Code, mir: Option<Mir>) -> Result<(), BlockFault>
@@ -91,7 +91,7 @@ fn fill(alloc: Global, m: &[u8], blocks: &mut Blocks) -> Result<(), BlockFault>
         return refuse(P04, mir_of(&blocks.app));
     };
     blocks.user = user;
-    let fourth = behind(b"{3:", third);
+    let fourth = past(b"{3:", third);
     if !fill_text(fourth.group, &mut blocks.text)? {
         return refuse(P05, mir_of(&blocks.app));
     }

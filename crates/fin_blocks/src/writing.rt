@@ -79,7 +79,7 @@ fn put_lines(text: &[u8], out: &mut Text) -> Result<(), Memory>
 
 /// A message of type `mt` that the home bank sends (docs/messages.md, "Sent messages"): block 1 of its terminal `A`,
 /// block 2 of input form with normal priority, block 3 where there is any subblock, and block 4. `read_blocks` reads
-/// it to these parts. Want of memory is the only error.
+/// it to these parts. Out of memory is the only error.
 ///
 /// The numbers of `user` have up to three digits and differ, their texts have no braces, and 121 is a UETR; `text`
 /// has no braces and is lines that end with CR LF.

@@ -18,7 +18,7 @@ only-of-x (first ∷ []) line e fine =
     rw (← same) (lines-of-x first [] fine).0
 only-of-x (first ∷ next ∷ more) line e fine = absurd (cc e)
 
--- what is left of it behind some bytes
+-- what is left of it after some bytes
 pub whole-rest : (m : ℕ) (line : List ℕ) → take (length line - m) (drop m line) ≡ drop m line
 whole-rest m line = take_all (length line - m) (drop m line) (omega (arith, length-drop m line))
 
@@ -30,7 +30,7 @@ last-of-three true true c d p q e = e
 last-of-three false b c d p q e = absurd (cc p)
 last-of-three true false c d p q e = absurd (cc q)
 
--- where a line is long enough and begins with six digits, the currency and amount behind them tell whether it is dated
+-- where a line is long enough and begins with six digits, the currency and amount after them tell whether it is dated
 pub dated-by-amount : (line : List ℕ) (digits amount : Bool) → 10 ≤ length line → digits ≡ true → digits ≡ list_all (is_in N) (take 6 line)
     → amount ≡ is_ccy_amount (take (length line - 6) (drop 6 line)) → amount ≡ is_dated_amount line
 dated-by-amount line digits amount long are is e =

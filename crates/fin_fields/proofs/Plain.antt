@@ -10,13 +10,13 @@ use Rattle.corr_text.specs.Lines.{lines_of}
 use Rattle.corr_text.specs.Sets.{is_x_byte}
 use Rattle.fin_fields.specs.declared.fault.FieldFault.{FieldFault}
 use Rattle.fin_fields.specs.declared.fault.FieldFault.TheVariants.{P20}
-use Rattle.fin_fields.specs.Fields.{Grouped, Heading, behind_letter, behind_tag, field_begun, fields_of, grouped, heading_of, with_line}
+use Rattle.fin_fields.specs.Fields.{Grouped, Heading, after_letter, after_tag, field_begun, fields_of, grouped, heading_of, with_line}
 use Rattle.fin_fields.specs.Faults.{faulty_line, field_fault, has_other_byte, is_outside_x, outside_x, outside_x_at}
 use Rattle.fin_fields.proofs.laws.Positions.{position-none}
 
--- the bytes behind the first one
-behind-one : (b : ℕ) (bs : List ℕ) → has_other_byte (b ∷ bs) ≡ false → has_other_byte bs ≡ false
-behind-one b bs e = (or_parts (not (is_x_byte b)) (has_other_byte bs) e).1
+-- the bytes after the first one
+after-one : (b : ℕ) (bs : List ℕ) → has_other_byte (b ∷ bs) ≡ false → has_other_byte bs ≡ false
+after-one b bs e = (or_parts (not (is_x_byte b)) (has_other_byte bs) e).1
 
 abbrev IsClean : Heading → Type 0
 IsClean h = has_other_byte h.content ≡ false
@@ -25,14 +25,14 @@ either : (b : Bool) (o p : Option Heading) → IfSome o IsClean → IfSome p IsC
 either true o p h k = h
 either false o p h k = k
 
-behind-letter : (tag letter : ℕ) (rest : List ℕ) → has_other_byte rest ≡ false → IfSome (behind_letter tag letter rest) IsClean
-behind-letter tag letter [] e = tt
-behind-letter tag letter (c ∷ rest) e = either (c == 58) _ _ (behind-one c rest e) tt
+after-letter : (tag letter : ℕ) (rest : List ℕ) → has_other_byte rest ≡ false → IfSome (after_letter tag letter rest) IsClean
+after-letter tag letter [] e = tt
+after-letter tag letter (c ∷ rest) e = either (c == 58) _ _ (after-one c rest e) tt
 
-behind-tag : (tag : ℕ) (rest : List ℕ) → has_other_byte rest ≡ false → IfSome (behind_tag tag rest) IsClean
-behind-tag tag [] e = tt
-behind-tag tag (c ∷ rest) e =
-    either (c == 58) _ _ (behind-one c rest e) (either (is_ascii_uppercase c) _ _ (behind-letter tag c rest (behind-one c rest e)) tt)
+after-tag : (tag : ℕ) (rest : List ℕ) → has_other_byte rest ≡ false → IfSome (after_tag tag rest) IsClean
+after-tag tag [] e = tt
+after-tag tag (c ∷ rest) e =
+    either (c == 58) _ _ (after-one c rest e) (either (is_ascii_uppercase c) _ _ (after-letter tag c rest (after-one c rest e)) tt)
 
 clean-content : (line : List ℕ) → has_other_byte line ≡ false → IfSome (heading_of line) IsClean
 clean-content [] e = tt
@@ -40,7 +40,7 @@ clean-content (c ∷ []) e = tt
 clean-content (c ∷ tens ∷ []) e = tt
 clean-content (c ∷ tens ∷ ones ∷ rest) e =
     either ((c == 58) && is_ascii_digit tens && is_ascii_digit ones) _ _
-    (behind-tag (10 * (tens - 48) + (ones - 48)) rest (behind-one ones rest (behind-one tens (ones ∷ rest) (behind-one c (tens ∷ ones ∷ rest) e)))) tt
+    (after-tag (10 * (tens - 48) + (ones - 48)) rest (after-one ones rest (after-one tens (ones ∷ rest) (after-one c (tens ∷ ones ∷ rest) e)))) tt
 
 neither : (a b : Bool) → a ≡ false → b ≡ false → (a || b) ≡ false
 neither a b p q = rw (p, q) refl

@@ -15,7 +15,7 @@ use Rattle.fin_fields.specs.declared.field.Field.{Field}
 use Rattle.fin_fields.specs.declared.fault.FieldFault.{FieldFault}
 use Rattle.fin_fields.specs.declared.fault.FieldFault.TheVariants.{P20}
 use Rattle.corr_text.specs.Lines.{begins_with, lines_of}
-use Rattle.fin_fields.specs.Fields.{Grouped, Heading, behind_tag, fields_of, grouped, heading_of, with_line}
+use Rattle.fin_fields.specs.Fields.{Grouped, Heading, after_tag, fields_of, grouped, heading_of, with_line}
 use Rattle.fin_fields.specs.Faults.{field_fault, faulty_line, has_other_byte, is_empty, is_misplaced, is_outside_x, outside_x, outside_x_at}
 use Rattle.fin_fields.specs.Writing.{Continues, ContinueAll, IsField, ended_lines, fields_text, heading_text, letter_text}
 use Rattle.fin_fields.proofs.laws.Positions.{position-none}
@@ -52,7 +52,7 @@ not-colon : (c : ℕ) → is_ascii_uppercase c ≡ true → (c == 58) ≡ false
 not-colon c h = ne_eqb c 58 (λ e. absurd (cc (rw e at h)))
 
 letter-read : (tag : ℕ) (letter : Option ℕ) (content : List ℕ) → IfSome letter (λ c. is_ascii_uppercase c ≡ true)
-    → behind_tag tag ((letter_text letter ++ 58 ∷ []) ++ content) ≡ Some (record { tag = tag; letter = letter; content = content })
+    → after_tag tag ((letter_text letter ++ 58 ∷ []) ++ content) ≡ Some (record { tag = tag; letter = letter; content = content })
 letter-read tag None content up = refl
 letter-read tag (Some c) content up = rw (not-colon c up, up) refl
 

@@ -70,11 +70,11 @@ told Memory = None
 told (P20 line) = Some (P20 line)
 told (P21 tag nth) = Some (P21 tag nth)
 
--- a fault that is told is the first of the text, or want of memory
+-- a fault that is told is the first of the text, or out of memory
 abbrev pub TellsFieldFault : List ℕ → FieldFault → Type 0
 TellsFieldFault text e = Tells told (field_fault text) e
 
--- a fault of lines that is told is that of this line, or want of memory
+-- a fault of lines that is told is that of this line, or out of memory
 abbrev pub TellsLineFault : Option ℕ → FieldFault → Type 0
 TellsLineFault faulty Memory = Unit {0}
 TellsLineFault faulty (P20 line) = faulty ≡ Some line

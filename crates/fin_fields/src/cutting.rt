@@ -20,7 +20,7 @@ use std::alloc::Global;
 /// For how many fields there is room at first.
 const ROOM: usize = 8;
 
-/// A text cut behind its first line, and whether the lines so far are known to have bytes of set X alone.
+/// A text cut after its first line, and whether the lines so far are known to have bytes of set X alone.
 #[derive(Clone, Copy)]
 struct NextLine<'a> {
     line: &'a [u8],
@@ -119,7 +119,7 @@ fn add_line<'a>(
     }
 }
 
-/// The fields of the lines behind the first, which begins `first`.
+/// The fields of the lines after the first, which begins `first`.
 fn group_lines<'a>(
     alloc: Global,
     text: &'a [u8],
@@ -188,7 +188,7 @@ pub fn cut_lines(alloc: Global, text: &[u8]) -> Result<List<FieldLines<'_>>, Fie
     }
 }
 
-/// Cuts the lines of block 4 into fields, each begun by a line `:20:` or `:50K:` and continued by the lines behind it.
+/// Cuts the lines of block 4 into fields, each begun by a line `:20:` or `:50K:` and continued by the lines after it.
 ///
 /// P20 comes with the first line, from 1, that begins with `:` without this form, begins with `-`, is empty, or is the
 /// first and begins no field, and with line 0 where there is no line. P21 comes, where no line is at fault, with the

@@ -1,7 +1,7 @@
 //! The lines that begin a field.
 
 ghost use Rattle.std.specs.Prelude.{◌≡◌, option_map};
-ghost use Rattle.fin_fields.specs.Fields.{heading_of, behind_tag, behind_letter};
+ghost use Rattle.fin_fields.specs.Fields.{heading_of, after_tag, after_letter};
 ghost use Rattle.fin_fields.specs.Headings.{heading_in};
 
 /// What a line says that begins a field.
@@ -12,8 +12,8 @@ pub struct HeadingLine<'a> {
     pub content: &'a [u8],
 }
 
-fn behind_the_letter(tag: u8, letter: u8, rest: &[u8]) -> Option<HeadingLine<'_>>
-    ensures { option_map heading_in result ≡ behind_letter tag letter rest.now }
+fn after_the_letter(tag: u8, letter: u8, rest: &[u8]) -> Option<HeadingLine<'_>>
+    ensures { option_map heading_in result ≡ after_letter tag letter rest.now }
 {
     match rest {
         [b':', content @ ..] => Some(HeadingLine {
@@ -25,8 +25,8 @@ fn behind_the_letter(tag: u8, letter: u8, rest: &[u8]) -> Option<HeadingLine<'_>
     }
 }
 
-fn behind_the_tag(tag: u8, rest: &[u8]) -> Option<HeadingLine<'_>>
-    ensures { option_map heading_in result ≡ behind_tag tag rest.now }
+fn after_the_tag(tag: u8, rest: &[u8]) -> Option<HeadingLine<'_>>
+    ensures { option_map heading_in result ≡ after_tag tag rest.now }
 {
     match rest {
         [b':', content @ ..] => Some(HeadingLine {
@@ -34,7 +34,7 @@ fn behind_the_tag(tag: u8, rest: &[u8]) -> Option<HeadingLine<'_>>
             letter: None,
             content,
         }),
-        [letter, rest @ ..] if letter.is_ascii_uppercase() => behind_the_letter(tag, *letter, rest),
+        [letter, rest @ ..] if letter.is_ascii_uppercase() => after_the_letter(tag, *letter, rest),
         _ => None,
     }
 }
@@ -45,7 +45,7 @@ pub fn heading(line: &[u8]) -> Option<HeadingLine<'_>>
 {
     match line {
         [b':', tens, ones, rest @ ..] if tens.is_ascii_digit() && ones.is_ascii_digit() => {
-            behind_the_tag(10 * (*tens - b'0') + (*ones - b'0'), rest)
+            after_the_tag(10 * (*tens - b'0') + (*ones - b'0'), rest)
         }
         _ => None,
     }

@@ -54,7 +54,7 @@ pub fn copy_lines(alloc: Global, lines: &[Line<'_>]) -> Result<List<Text>, Memor
     Ok(copies)
 }
 
-/// As `copy_lines`, but into a list whose texts were others, in their memory as far as it goes. After want of memory the texts
+/// As `copy_lines`, but into a list whose texts were others, in their memory as far as it goes. After out of memory the texts
 /// may be any.
 pub fn refill_lines(
     alloc: Global,

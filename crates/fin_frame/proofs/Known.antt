@@ -4,17 +4,17 @@ use Rattle.std.proofs.lemmas.List.{append-nil}
 use Rattle.fin_frame.specs.File.{lead, IsFileOf, IsCutInto}
 use Rattle.fin_frame.specs.File.IsFileOf.{more as file_more}
 use Rattle.fin_frame.specs.Shown.{Shows, ShowsNoFault, EndsWithin, AreWhole, Begins, HaveBegun}
-use Rattle.fin_frame.specs.Shown.EndsWithin.{inside as ends_inside, behind as ends_behind, apart as ends_apart}
+use Rattle.fin_frame.specs.Shown.EndsWithin.{inside as ends_inside, after as ends_after, apart as ends_apart}
 use Rattle.fin_frame.specs.Machine.{State, at_start, state_of, with_open, run, unbalanced_at, HasCome}
 use Rattle.fin_frame.specs.Cutting.{IsShown, Knows, LeavesOff, WasFed, IsWholeFile, IsUnbalanced}
-use Rattle.fin_frame.specs.Cutting.LeavesOff.{between as leaves_between, opening as leaves_opening, inside as leaves_inside, behind as leaves_behind}
+use Rattle.fin_frame.specs.Cutting.LeavesOff.{between as leaves_between, opening as leaves_opening, inside as leaves_inside, after as leaves_after}
 use Rattle.fin_frame.specs.declared.cutter.Cutter.{Cutter}
 use Rattle.fin_frame.specs.declared.fault.FrameFault.{FrameFault}
 use Rattle.fin_frame.specs.declared.fault.FrameFault.TheVariants.{Stray, TooLong, Unbalanced, Memory}
-use Rattle.fin_frame.specs.declared.stage.Stage.TheVariants.{Behind}
+use Rattle.fin_frame.specs.declared.stage.Stage.TheVariants.{After}
 use Rattle.fin_frame.proofs.laws.Showing.{shown-comes, whole-comes, begun-comes, cut-comes, ends-come}
 use Rattle.fin_frame.proofs.laws.Tracking.{Tracks, tracks-whole, tracks-begun}
-use Rattle.fin_frame.proofs.laws.Tracking.Tracks.{tracks_gap, tracks_opening, tracks_message, tracks_behind, tracks_failed}
+use Rattle.fin_frame.proofs.laws.Tracking.Tracks.{tracks_gap, tracks_opening, tracks_message, tracks_after, tracks_failed}
 use Rattle.fin_frame.proofs.Tracked.{all-tracks}
 
 -- where the machine is after the bytes, or, where memory was wanting, after some first ones of them
@@ -36,7 +36,7 @@ tracks-shown : {bytes : List ℕ} {s : State} (fault : FrameFault) → Tracks by
 tracks-shown fault (tracks_gap file gap messages front far) is = cc
 tracks-shown fault (tracks_opening file gap messages matched front far le) is = cc
 tracks-shown fault (tracks_message file gap message messages d front closed fits) is = cc
-tracks-shown fault (tracks_behind file gap message messages matched front closed le) is = cc
+tracks-shown fault (tracks_after file gap message messages matched front closed le) is = cc
 tracks-shown fault (tracks_failed bytes s messages other shown failed begins whole last) is =
     let same : other ≡ fault = cc in
     (messages, subst (λ f. Shows bytes messages f) same shown, begins)
@@ -81,11 +81,11 @@ tracks-leave : {bytes : List ℕ} {s : State} → Tracks bytes s → s.failed �
 tracks-leave (tracks_gap file gap messages front far) sound = leaves_between file gap messages front far
 tracks-leave (tracks_opening file gap messages matched front far le) sound = leaves_opening file gap messages matched front far le
 tracks-leave (tracks_message file gap message messages zero front closed fits) sound =
-    subst (λ x. LeavesOff x messages (Behind (length file) 0) (Some message)) (append-nil (file ++ message))
-    (leaves_behind file gap message messages 0 front (closed, fits) (omega arith))
+    subst (λ x. LeavesOff x messages (After (length file) 0) (Some message)) (append-nil (file ++ message))
+    (leaves_after file gap message messages 0 front (closed, fits) (omega arith))
 tracks-leave (tracks_message file gap message messages (suc d) front inside fits) sound = leaves_inside file gap message messages d front inside fits
-tracks-leave (tracks_behind file gap message messages matched front closed le) sound =
-    leaves_behind file gap message messages (suc matched) front closed (omega arith)
+tracks-leave (tracks_after file gap message messages matched front closed le) sound =
+    leaves_after file gap message messages (suc matched) front closed (omega arith)
 tracks-leave (tracks_failed bytes s messages fault shown failed begins whole last) sound =
     absurd (let e : None ≡ Some fault = sym sound ∙ failed in cc)
 
@@ -113,7 +113,7 @@ tracks-balanced (tracks_message file gap message messages zero front closed fits
       (file_more file message [] messages front (closed, fits) (refl, omega arith)),
 )
 tracks-balanced (tracks_message file gap message messages (suc d) front closed fits) sound balanced = cc
-tracks-balanced (tracks_behind file gap message messages matched front closed le) sound balanced = cc
+tracks-balanced (tracks_after file gap message messages matched front closed le) sound balanced = cc
 tracks-balanced (tracks_failed bytes s messages fault shown failed begins whole last) sound balanced =
     absurd (let e : None ≡ Some fault = sym sound ∙ failed in cc)
 
@@ -126,9 +126,9 @@ tracks-unbalanced at (tracks_opening file gap messages matched front far le) sou
 tracks-unbalanced at (tracks_message file gap message messages zero front closed fits) sound is = cc
 tracks-unbalanced at (tracks_message file gap message messages (suc d) front closed fits) sound is =
     let same : length file ≡ at = cc in subst (λ k. EndsWithin (file ++ message) k) same (ends_inside file message front closed)
-tracks-unbalanced at (tracks_behind file gap message messages matched front closed le) sound is =
+tracks-unbalanced at (tracks_after file gap message messages matched front closed le) sound is =
     let same : length file ≡ at =
-    cc in subst (λ k. EndsWithin (file ++ message ++ take (suc matched) lead) k) same (ends_behind matched file message front closed le)
+    cc in subst (λ k. EndsWithin (file ++ message ++ take (suc matched) lead) k) same (ends_after matched file message front closed le)
 tracks-unbalanced at (tracks_failed bytes s messages fault shown failed begins whole last) sound is =
     absurd (let e : None ≡ Some fault = sym sound ∙ failed in cc)
 

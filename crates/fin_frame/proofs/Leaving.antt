@@ -5,14 +5,14 @@ use Rattle.fin_frame.specs.File.{lead}
 use Rattle.fin_frame.specs.Shown.{is_marked, stands_apart, AreWhole, Begins, HasBegun, HaveBegun}
 use Rattle.fin_frame.specs.Machine.{State, at_start, run, state_of}
 use Rattle.fin_frame.specs.Cutting.{IsShown, Knows, LeavesOff, WasFed}
-use Rattle.fin_frame.specs.Cutting.LeavesOff.{between as leaves_between, opening as leaves_opening, inside as leaves_inside, behind as leaves_behind}
+use Rattle.fin_frame.specs.Cutting.LeavesOff.{between as leaves_between, opening as leaves_opening, inside as leaves_inside, after as leaves_after}
 use Rattle.fin_frame.specs.declared.cutter.Cutter.{Cutter}
 use Rattle.fin_frame.specs.declared.fault.FrameFault.{FrameFault}
 use Rattle.fin_frame.specs.declared.fault.FrameFault.TheVariants.{Stray, TooLong, Unbalanced, Memory}
 use Rattle.fin_frame.specs.declared.stage.Stage.{Stage}
-use Rattle.fin_frame.specs.declared.stage.Stage.TheVariants.{Between, Opening, Within, Behind}
+use Rattle.fin_frame.specs.declared.stage.Stage.TheVariants.{Between, Opening, Within, After}
 use Rattle.fin_frame.proofs.laws.Led.{at_gap, in_message, Rests, file-run, message-run, no-more-joined}
-use Rattle.fin_frame.proofs.laws.Led.Rests.{rests_apart, rests_behind}
+use Rattle.fin_frame.proofs.laws.Led.Rests.{rests_apart, rests_after}
 use Rattle.fin_frame.proofs.laws.Running.{run-append, run-failed, state-same}
 use Rattle.fin_frame.proofs.laws.Showing.{shown-comes}
 use Rattle.fin_frame.proofs.Known.{are-whole, have-begun, knows-fault}
@@ -28,23 +28,23 @@ record Comes (stage : Stage) (held : Option (List ℕ)) (given : List (List ℕ)
 comes-by : (stage : Stage) (held : Option (List ℕ)) (given : List (List ℕ)) (s t : State) → s ≡ t → Comes stage held given t → Comes stage held given s
 comes-by stage held given s t same there = subst (λ x. Comes stage held given x) (sym same) there
 
--- behind a gap that stands apart
+-- after a gap that stands apart
 gap-so : {n : ℕ} {messages : List (List ℕ)} {gap : List ℕ} {s : State} → Rests n messages gap s → stands_apart messages gap ≡ true
     → s ≡ at_gap n messages (is_marked messages gap)
 gap-so (rests_apart n messages gap far) apart = refl
-gap-so (rests_behind n from messages message) apart =
+gap-so (rests_after n from messages message) apart =
     absurd (let e : false ≡ true = sym (ap (λ x. x || false) (no-more-joined messages message)) ∙ apart in cc)
 
--- behind one or two bytes of a `{1:` that stands apart
+-- after one or two bytes of a `{1:` that stands apart
 opens : (k n : ℕ) (messages : List (List ℕ)) (marked : Bool) → k ≤ 1
     → Comes (Opening (suc k)) None messages (run (at_gap n messages marked) (take (suc k) lead))
 opens zero n messages marked le = record { at = refl; open_is = refl; gave = refl; sound = refl }
 opens (suc zero) n messages marked le = record { at = refl; open_is = refl; gave = refl; sound = refl }
 opens (suc (suc k)) n messages marked le = absurd (omega arith)
 
--- behind a whole message and up to two bytes of `{1:`
+-- after a whole message and up to two bytes of `{1:`
 follows : (k from n : ℕ) (message : List ℕ) (messages : List (List ℕ)) → k ≤ 2
-    → Comes (Behind from k) (Some message) messages (run (in_message from 0 message messages n) (take k lead))
+    → Comes (After from k) (Some message) messages (run (in_message from 0 message messages n) (take k lead))
 follows zero from n message messages le = record { at = refl; open_is = refl; gave = refl; sound = refl }
 follows (suc zero) from n message messages le = record { at = refl; open_is = refl; gave = refl; sound = refl }
 follows (suc (suc zero)) from n message messages le = record { at = refl; open_is = refl; gave = refl; sound = refl }
@@ -66,9 +66,9 @@ leaves-come (leaves_inside file gap message given d front inside fits) =
     comes-by (Within (length file) (suc d)) (Some message) given (run (at_start []) (file ++ message)) s
     (run-append (at_start []) file message ∙ message-run inside (file-run front) fits)
     (record { at = refl; open_is = refl; gave = refl; sound = refl })
-leaves-come (leaves_behind file gap message given n front closed le) =
+leaves-come (leaves_after file gap message given n front closed le) =
     let s = in_message (length file) 0 message given (length file + length message) in
-    comes-by (Behind (length file) n) (Some message) given (run (at_start []) (file ++ message ++ take n lead)) (run s (take n lead))
+    comes-by (After (length file) n) (Some message) given (run (at_start []) (file ++ message ++ take n lead)) (run s (take n lead))
     (run-append (at_start []) (file ++ message) (take n lead)
     ∙ ap (λ t. run t (take n lead)) (run-append (at_start []) file message ∙ message-run closed.0 (file-run front) closed.1))
     (follows n (length file) (length file + length message) message given le)

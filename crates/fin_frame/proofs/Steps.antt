@@ -9,7 +9,7 @@ use Rattle.fin_frame.specs.Machine.{State, to, fails, gives, begins, held_bytes,
 use Rattle.fin_frame.specs.declared.fault.FrameFault.{FrameFault}
 use Rattle.fin_frame.specs.declared.fault.FrameFault.TheVariants.{Stray, TooLong}
 use Rattle.fin_frame.specs.declared.stage.Stage.{Stage}
-use Rattle.fin_frame.specs.declared.stage.Stage.TheVariants.{Between, Opening, Within, Behind}
+use Rattle.fin_frame.specs.declared.stage.Stage.TheVariants.{Between, Opening, Within, After}
 
 -- what holds of both choices
 pub choose : {A : Type 0} (P : A → Type 0) (b : Bool) (x y : A) → P x → P y → P (cond b x y)
@@ -74,10 +74,10 @@ goes-at (Opening matched) s b =
     choose (Goes s) (b == get_or lead matched 0) (cond (matched == 2) (begins s) (to (Opening (matched + 1)) s)) (fails (Stray (s.fed - matched)) s)
     (choose (Goes s) (matched == 2) (begins s) (to (Opening (matched + 1)) s) (goes-begins s) (goes-to s _)) (goes-fails s _)
 goes-at (Within from d) s b = goes-within s from d b
-goes-at (Behind from matched) s b =
-    choose (Goes s) (b == get_or lead matched 0) (cond (matched == 2) (begins s) (to (Behind from (matched + 1)) s))
+goes-at (After from matched) s b =
+    choose (Goes s) (b == get_or lead matched 0) (cond (matched == 2) (begins s) (to (After from (matched + 1)) s))
     (cond (matched == 0) (next_close s b) (within from 1 (resumes from matched s) b))
-    (choose (Goes s) (matched == 2) (begins s) (to (Behind from (matched + 1)) s) (goes-begins s) (goes-to s _))
+    (choose (Goes s) (matched == 2) (begins s) (to (After from (matched + 1)) s) (goes-begins s) (goes-to s _))
     (choose (Goes s) (matched == 0) (next_close s b) (within from 1 (resumes from matched s) b) (goes-close s b) (goes-resumes s from matched b))
 
 goes-by : (o : Option FrameFault) (s : State) (b : ℕ) → s.failed ≡ o → Goes s (cond (is_some o) s (next_at s.stage s b))
@@ -148,10 +148,10 @@ after-at front (Opening matched) s b =
     after-choice front (b == get_or lead matched 0) (cond (matched == 2) (begins s) (to (Opening (matched + 1)) s)) (fails (Stray (s.fed - matched)) s) _ _
     (after-choice front (matched == 2) (begins s) (to (Opening (matched + 1)) s) _ _ (after-begins front s) refl) refl
 after-at front (Within from d) s b = after-within front s from d b
-after-at front (Behind from matched) s b =
-    after-choice front (b == get_or lead matched 0) (cond (matched == 2) (begins s) (to (Behind from (matched + 1)) s))
+after-at front (After from matched) s b =
+    after-choice front (b == get_or lead matched 0) (cond (matched == 2) (begins s) (to (After from (matched + 1)) s))
     (cond (matched == 0) (next_close s b) (within from 1 (resumes from matched s) b)) _ _
-    (after-choice front (matched == 2) (begins s) (to (Behind from (matched + 1)) s) _ _ (after-begins front s) refl)
+    (after-choice front (matched == 2) (begins s) (to (After from (matched + 1)) s) _ _ (after-begins front s) refl)
     (after-choice front (matched == 0) (next_close s b) (within from 1 (resumes from matched s) b) _ _ (after-close front s b)
     (after-within front (resumes from matched s) from 1 b))
 

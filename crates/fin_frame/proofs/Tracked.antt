@@ -11,12 +11,12 @@ use Rattle.fin_frame.specs.Shown.Shows.{stray as shows_stray, long as shows_long
 use Rattle.fin_frame.specs.Machine.{State, at_start, to, fails, begins, grows, within, resumes, held_bytes, next_opening, next_close, stage_between, moves, landed, next, run}
 use Rattle.fin_frame.specs.declared.fault.FrameFault.{FrameFault}
 use Rattle.fin_frame.specs.declared.fault.FrameFault.TheVariants.{Stray, TooLong}
-use Rattle.fin_frame.specs.declared.stage.Stage.TheVariants.{Between, Opening, Within, Behind}
-use Rattle.fin_frame.proofs.laws.Running.{other-test, state-same, within-full, within-room, behind-resumes}
+use Rattle.fin_frame.specs.declared.stage.Stage.TheVariants.{Between, Opening, Within, After}
+use Rattle.fin_frame.proofs.laws.Running.{other-test, state-same, within-full, within-room, after-resumes}
 use Rattle.fin_frame.proofs.Steps.{begins-self, begins-more}
 use Rattle.fin_frame.proofs.laws.Led.{at_gap, in_message, or-none, some-test, close-step, no-more-joined, marked-joined, or-true, gap-again, blank-stage}
-use Rattle.fin_frame.proofs.laws.Tracking.{whole-more, shown-more, not-true, both-true, dollars-append, message-more, file-more, room_of, LastBegun, last-more, in_opening, in_behind, Tracks, tracks-moved, tracks-whole, tracks-begun}
-use Rattle.fin_frame.proofs.laws.Tracking.Tracks.{tracks_gap, tracks_opening, tracks_message, tracks_behind, tracks_failed}
+use Rattle.fin_frame.proofs.laws.Tracking.{whole-more, shown-more, not-true, both-true, dollars-append, message-more, file-more, room_of, LastBegun, last-more, in_opening, in_after, Tracks, tracks-moved, tracks-whole, tracks-begun}
+use Rattle.fin_frame.proofs.laws.Tracking.Tracks.{tracks_gap, tracks_opening, tracks_message, tracks_after, tracks_failed}
 
 some-joined : {A : Type 0} (xs : List A) (x : A) → no_more (xs ++ x ∷ []) ≡ false
 some-joined [] x = refl
@@ -204,7 +204,7 @@ inside-tracks file gap message messages d b front is fits =
     (tracks-whole (tracks_message file gap message messages (suc d) front is fits))
     (tracks-begun (tracks_message file gap message messages (suc d) front is fits)) refl refl refl refl refl refl (suc d) refl
 
--- directly behind a group of the open message
+-- directly after a group of the open message
 
 or-none-same : (t : Bool) → (t || false) ≡ t
 or-none-same true = refl
@@ -251,7 +251,7 @@ closed-tracks file gap message messages b front is = by-brace (eqb_tells b 123)
         subst (λ k. Shows ((file ++ message) ++ b ∷ []) (messages ++ message ∷ []) (Stray k)) place
         (subst (λ x. Shows x (messages ++ message ∷ []) (Stray (length (file ++ message ++ [])))) same
         (shows_stray (file ++ message ++ []) (b ∷ []) (closed-file file gap message messages front is) wrong)) in
-        let closes : next here b ≡ next_close here b = ap (λ t. cond t (to (Behind (length file) 1) here) (next_close here b)) brace in
+        let closes : next here b ≡ next_close here b = ap (λ t. cond t (to (After (length file) 1) here) (next_close here b)) brace in
         let failed : next_close here b ≡ fails (Stray n) here = rw gapped refl in
         tracks-moved refl (sym (closes ∙ failed))
         (fail-tracks here b (messages ++ message ∷ []) (Stray n) (tracks_message file gap message messages 0 front is.0 is.1) shown
@@ -261,25 +261,25 @@ closed-tracks file gap message messages b front is = by-brace (eqb_tells b 123)
         → Tracks ((file ++ message) ++ b ∷ []) (next (in_message (length file) 0 message messages (length file + length message)) b)
     by-brace (inl same) =
         subst (λ x. Tracks ((file ++ message) ++ x ∷ []) (next (in_message (length file) 0 message messages (length file + length message)) x))
-        (sym same.1) (tracks_behind file gap message messages 0 front is (omega arith))
+        (sym same.1) (tracks_after file gap message messages 0 front is (omega arith))
     by-brace (inr other) = by-gap other.0 (is_gap_byte b) refl
 
 -- bytes of `{1:` that don't go on are the open message's
 resumed-tracks : (file gap message pending : List ℕ) (messages : List (List ℕ)) (matched b : ℕ) → IsFileOf file messages gap → IsMessage message
     → matched ≤ 1 → pending ≡ take (suc matched) lead → length pending ≡ suc matched → IsGroupTo (depth_after 1 b) (pending ++ b ∷ [])
     → agrees lead (pending ++ b ∷ []) ≡ false
-    → next (in_behind (length file) message messages (length file + length message) (suc matched)) b
+    → next (in_after (length file) message messages (length file + length message) (suc matched)) b
     ≡ within (length file) 1
-    (resumes (length file) (suc matched) (in_behind (length file) message messages (length file + length message) (suc matched))) b
+    (resumes (length file) (suc matched) (in_after (length file) message messages (length file + length message) (suc matched))) b
     → Tracks ((file ++ message ++ take (suc matched) lead) ++ b ∷ [])
-    (next (in_behind (length file) message messages (length file + length message) (suc matched)) b)
+    (next (in_after (length file) message messages (length file + length message) (suc matched)) b)
 resumed-tracks file gap message pending messages matched b front is le pends size group other there =
-    let s = in_behind (length file) message messages (length file + length message) (suc matched) in
+    let s = in_after (length file) message messages (length file + length message) (suc matched) in
     let t = resumes (length file) (suc matched) s in
     let joined : IsMessageTo (depth_after 1 b) ((message ++ pending) ++ b ∷ []) =
     subst (λ x. IsMessageTo (depth_after 1 b) x) (sym (append_assoc message pending (b ∷ [])))
     (message_next message (pending ++ b ∷ []) is.0 group other) in
-    let tracks : Tracks (file ++ message ++ take (suc matched) lead) s = tracks_behind file gap message messages matched front is le in
+    let tracks : Tracks (file ++ message ++ take (suc matched) lead) s = tracks_after file gap message messages matched front is le in
     let held : message ++ take (suc matched) lead ≡ message ++ pending = ap (λ x. message ++ x) (sym pends) in
     let whole : file ++ message ++ take (suc matched) lead ≡ file ++ (message ++ pending) =
     append_assoc file message (take (suc matched) lead) ∙ ap (λ x. file ++ x) held in
@@ -288,30 +288,30 @@ resumed-tracks file gap message pending messages matched b front is le pends siz
     (held-tracks file gap (message ++ pending) (file ++ message ++ take (suc matched) lead) messages t b front joined (tracks-whole tracks)
     (tracks-begun tracks) whole held (omega arith) refl refl refl 1 refl)
 
-behind-second : (file gap message : List ℕ) (messages : List (List ℕ)) (b : ℕ) → IsFileOf file messages gap → IsMessage message
-    → Tracks ((file ++ message ++ 123 ∷ []) ++ b ∷ []) (next (in_behind (length file) message messages (length file + length message) 1) b)
-behind-second file gap message messages b front is = by-byte (eqb_tells 49 b)
+after-second : (file gap message : List ℕ) (messages : List (List ℕ)) (b : ℕ) → IsFileOf file messages gap → IsMessage message
+    → Tracks ((file ++ message ++ 123 ∷ []) ++ b ∷ []) (next (in_after (length file) message messages (length file + length message) 1) b)
+after-second file gap message messages b front is = by-byte (eqb_tells 49 b)
   where
     by-byte : (((49 == b) ≡ true) × (49 ≡ b)) ⊎ (((49 == b) ≡ false) × (49 ≢ b))
-        → Tracks ((file ++ message ++ 123 ∷ []) ++ b ∷ []) (next (in_behind (length file) message messages (length file + length message) 1) b)
+        → Tracks ((file ++ message ++ 123 ∷ []) ++ b ∷ []) (next (in_after (length file) message messages (length file + length message) 1) b)
     by-byte (inl same) =
         let n = length file + length message in
         subst
-        (λ x. Tracks ((file ++ message ++ 123 ∷ []) ++ x ∷ []) (next (in_behind (length file) message messages (length file + length message) 1) x)) same.1
+        (λ x. Tracks ((file ++ message ++ 123 ∷ []) ++ x ∷ []) (next (in_after (length file) message messages (length file + length message) 1) x)) same.1
         (tracks-moved (sym (append_assoc (file ++ message) (123 ∷ []) (49 ∷ [])))
-        (state-same (in_behind (length file) message messages n 2)
-        (to (Behind (length file) 2) (in_behind (length file) message messages n 1)) refl refl (omega arith) refl refl refl)
-        (tracks_behind file gap message messages 1 front is (omega arith)))
+        (state-same (in_after (length file) message messages n 2)
+        (to (After (length file) 2) (in_after (length file) message messages n 1)) refl refl (omega arith) refl refl refl)
+        (tracks_after file gap message messages 1 front is (omega arith)))
     by-byte (inr other) =
         resumed-tracks file gap message (123 ∷ []) messages 0 b front is (omega arith) refl refl (refl, refl) (ap (λ t. t && true) other.0)
-        (behind-resumes (length file) 1 (in_behind (length file) message messages (length file + length message) 1) b (λ q. other.1 (sym q)) (omega arith))
+        (after-resumes (length file) 1 (in_after (length file) message messages (length file + length message) 1) b (λ q. other.1 (sym q)) (omega arith))
 
-behind-third : (file gap message : List ℕ) (messages : List (List ℕ)) (b : ℕ) → IsFileOf file messages gap → IsMessage message
-    → Tracks ((file ++ message ++ 123 ∷ 49 ∷ []) ++ b ∷ []) (next (in_behind (length file) message messages (length file + length message) 2) b)
-behind-third file gap message messages b front is = by-byte (eqb_tells 58 b)
+after-third : (file gap message : List ℕ) (messages : List (List ℕ)) (b : ℕ) → IsFileOf file messages gap → IsMessage message
+    → Tracks ((file ++ message ++ 123 ∷ 49 ∷ []) ++ b ∷ []) (next (in_after (length file) message messages (length file + length message) 2) b)
+after-third file gap message messages b front is = by-byte (eqb_tells 58 b)
   where
     by-byte : (((58 == b) ≡ true) × (58 ≡ b)) ⊎ (((58 == b) ≡ false) × (58 ≢ b))
-        → Tracks ((file ++ message ++ 123 ∷ 49 ∷ []) ++ b ∷ []) (next (in_behind (length file) message messages (length file + length message) 2) b)
+        → Tracks ((file ++ message ++ 123 ∷ 49 ∷ []) ++ b ∷ []) (next (in_after (length file) message messages (length file + length message) 2) b)
     by-byte (inl same) =
         let n = length file + length message in
         let closed = file ++ message ++ [] in
@@ -320,16 +320,16 @@ behind-third file gap message messages b front is = by-byte (eqb_tells 58 b)
         ap (λ x. x ++ lead) (append-nil (file ++ message)) ∙ sym (append_assoc (file ++ message) (123 ∷ 49 ∷ []) (58 ∷ [])) in
         let count : length (messages ++ message ∷ []) ≡ length messages + 1 = length-append messages (message ∷ []) in
         subst
-        (λ x. Tracks ((file ++ message ++ 123 ∷ 49 ∷ []) ++ x ∷ []) (next (in_behind (length file) message messages (length file + length message) 2) x))
+        (λ x. Tracks ((file ++ message ++ 123 ∷ 49 ∷ []) ++ x ∷ []) (next (in_after (length file) message messages (length file + length message) 2) x))
         same.1
         (tracks-moved bytes
         (state-same (in_message (length closed) 1 lead (messages ++ message ∷ []) (length closed + 3))
-        (begins (in_behind (length file) message messages n 2)) (ap (λ k. Within k 1) (let e : length closed ≡ (n + 2) - 2 = omega arith in e)) refl
+        (begins (in_after (length file) message messages n 2)) (ap (λ k. Within k 1) (let e : length closed ≡ (n + 2) - 2 = omega arith in e)) refl
         (omega arith) (omega arith) refl refl)
         (tracks_message closed [] lead (messages ++ message ∷ []) 1 (closed-file file gap message messages front is) lead-message (omega arith)))
     by-byte (inr other) =
         resumed-tracks file gap message (123 ∷ 49 ∷ []) messages 1 b front is (omega arith) refl refl (refl, refl) (ap (λ t. t && true) other.0)
-        (behind-resumes (length file) 2 (in_behind (length file) message messages (length file + length message) 2) b (λ q. other.1 (sym q)) (omega arith))
+        (after-resumes (length file) 2 (in_after (length file) message messages (length file + length message) 2) b (λ q. other.1 (sym q)) (omega arith))
 
 failed-still : (s : State) (fault : FrameFault) (b : ℕ) → s.failed ≡ Some fault → next s b ≡ s
 failed-still s fault b e = rw e refl
@@ -342,9 +342,9 @@ next-tracks b (tracks_opening file gap messages (suc zero) front far le) = third
 next-tracks b (tracks_opening file gap messages (suc (suc matched)) front far le) = absurd (omega arith)
 next-tracks b (tracks_message file gap message messages zero front is fits) = closed-tracks file gap message messages b front (is, fits)
 next-tracks b (tracks_message file gap message messages (suc d) front is fits) = inside-tracks file gap message messages d b front is fits
-next-tracks b (tracks_behind file gap message messages zero front is le) = behind-second file gap message messages b front is
-next-tracks b (tracks_behind file gap message messages (suc zero) front is le) = behind-third file gap message messages b front is
-next-tracks b (tracks_behind file gap message messages (suc (suc matched)) front is le) = absurd (omega arith)
+next-tracks b (tracks_after file gap message messages zero front is le) = after-second file gap message messages b front is
+next-tracks b (tracks_after file gap message messages (suc zero) front is le) = after-third file gap message messages b front is
+next-tracks b (tracks_after file gap message messages (suc (suc matched)) front is le) = absurd (omega arith)
 next-tracks b (tracks_failed bytes s messages fault shown failed begins whole last) =
     tracks-moved refl (sym (failed-still s fault b failed))
     (tracks_failed (bytes ++ b ∷ []) s messages fault (shown-more (b ∷ []) shown) failed begins (whole-more (b ∷ []) whole) (last-more (b ∷ []) last))

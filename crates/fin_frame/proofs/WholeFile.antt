@@ -8,7 +8,7 @@ use Rattle.fin_frame.specs.File.IsMessageTo.{head as message_head, next as messa
 use Rattle.fin_frame.specs.File.IsFileOf.{start as file_start, more as file_more}
 use Rattle.fin_frame.specs.Shown.{is_marked, no_more, stands_apart, cannot_follow, Shows, EndsWithin, HasBegun}
 use Rattle.fin_frame.specs.Shown.Shows.{stray as shows_stray, long as shows_long}
-use Rattle.fin_frame.specs.Shown.EndsWithin.{inside as ends_inside, behind as ends_behind, apart as ends_apart}
+use Rattle.fin_frame.specs.Shown.EndsWithin.{inside as ends_inside, after as ends_after, apart as ends_apart}
 use Rattle.fin_frame.specs.Shown.HasBegun.{begun as has_begun}
 use Rattle.fin_frame.specs.Machine.{State, at_start, run, stage_between}
 use Rattle.fin_frame.specs.Whole.{is_led, has_group, gap_goes_on, IsOpenGroup, CutsNoFile}
@@ -17,7 +17,7 @@ use Rattle.fin_frame.specs.declared.fault.FrameFault.TheVariants.{TooLong}
 use Rattle.fin_frame.specs.declared.stage.Stage.TheVariants.{Between}
 use Rattle.fin_frame.proofs.laws.Running.{lt-test}
 use Rattle.fin_frame.proofs.laws.Led.{Rests, file-run, limit, and-parts, or-parts, or-none, some-test, blank-stage, no-more-joined, or-true, message-leads}
-use Rattle.fin_frame.proofs.laws.Led.Rests.{rests_apart, rests_behind}
+use Rattle.fin_frame.proofs.laws.Led.Rests.{rests_apart, rests_after}
 use Rattle.fin_frame.proofs.laws.Showing.{shown-comes, begun-comes, cut-comes, ends-come, agrees-leads}
 use Rattle.fin_frame.proofs.laws.Tracking.{both-true, not-true, not-false, dollars-append, gap-more}
 
@@ -118,10 +118,10 @@ open-message message rest is (inl none) = λ file gap messages others front cut.
 open-message message rest is (inr over) = long-message message rest is over
 
 -- a front of `{1:` at the end, directly after a message
-behind-message : (n : ℕ) (message : List ℕ) → IsMessage message → n ≤ 1 → CutsNoFile (message ++ take (suc n) lead)
-behind-message n message is le = λ file gap messages others front cut.
+after-message : (n : ℕ) (message : List ℕ) → IsMessage message → n ≤ 1 → CutsNoFile (message ++ take (suc n) lead)
+after-message n message is le = λ file gap messages others front cut.
     no-cut-ends others
-    (subst (λ x. EndsWithin x (length file)) (append_assoc file message (take (suc n) lead)) (ends_behind n file message front is le)) cut
+    (subst (λ x. EndsWithin x (length file)) (append_assoc file message (take (suc n) lead)) (ends_after n file message front is le)) cut
 
 -- a group
 
@@ -254,7 +254,7 @@ next-open message bytes is has o =
         subst (λ x. CutsNoFile x) (append_assoc message o.group o.rest) (open-message (message ++ o.group) o.rest on (inr (omega arith)))
     by-front (inr part) (inl none) =
         let same : take (suc part.0) lead ≡ o.group ++ o.rest = sym part.2 ∙ sym (append-nil o.group) ∙ ap (λ x. o.group ++ x) (sym none) in
-        subst (λ x. CutsNoFile (message ++ x)) same (behind-message part.0 message is part.1)
+        subst (λ x. CutsNoFile (message ++ x)) same (after-message part.0 message is part.1)
     by-front (inr part) (inr over) =
         absurd
         (let short : length (take (suc part.0) lead) ≤ 2 = front-short part.0 part.1 in
@@ -351,7 +351,7 @@ come-all file messages come = (come.gap, subst (λ x. IsFileOf x messages come.g
 
 rests-begun : {n : ℕ} {messages : List (List ℕ)} {gap : List ℕ} {s : State} → Rests n messages gap s → s.begun ≡ length messages
 rests-begun (rests_apart n messages gap far) = refl
-rests-begun (rests_behind n from messages message) = sym (length-append messages (message ∷ []))
+rests-begun (rests_after n from messages message) = sym (length-append messages (message ∷ []))
 
 pub come-more : (file rest : List ℕ) (messages others : List (List ℕ)) → HasCome file rest messages → is_led rest ≡ true → IsCutInto file others
     → length messages < length others

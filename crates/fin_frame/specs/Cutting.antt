@@ -6,16 +6,16 @@ use Rattle.fin_frame.specs.declared.cutter.Cutter.{Cutter}
 use Rattle.fin_frame.specs.declared.fault.FrameFault.{FrameFault}
 use Rattle.fin_frame.specs.declared.fault.FrameFault.TheVariants.{Unbalanced, Memory}
 use Rattle.fin_frame.specs.declared.stage.Stage.{Stage}
-use Rattle.fin_frame.specs.declared.stage.Stage.TheVariants.{Between, Opening, Within, Behind}
+use Rattle.fin_frame.specs.declared.stage.Stage.TheVariants.{Between, Opening, Within, After}
 
--- Where bytes leave off that show no fault, behind the messages that are given: in a gap, behind one or two bytes of a
--- `{1:` that stands apart, within a message, or behind a whole one and up to two bytes of `{1:`. The last two leave a
+-- Where bytes leave off that show no fault, after the messages that are given: in a gap, after one or two bytes of a
+-- `{1:` that stands apart, within a message, or after a whole one and up to two bytes of `{1:`. The last two leave a
 -- message open.
 pub data LeavesOff : List ℕ → List (List ℕ) → Stage → Option (List ℕ) → Type 0 where
   between : (file gap : List ℕ) (given : List (List ℕ)) → IsFileOf file given gap → stands_apart given gap ≡ true → LeavesOff file given (Between (is_marked given gap)) None
   opening : (file gap : List ℕ) (given : List (List ℕ)) (n : ℕ) → IsFileOf file given gap → stands_apart given gap ≡ true → n ≤ 1 → LeavesOff (file ++ take (suc n) lead) given (Opening (suc n)) None
   inside : (file gap message : List ℕ) (given : List (List ℕ)) (d : ℕ) → IsFileOf file given gap → IsMessageTo (suc d) message → length message ≤ most_bytes → LeavesOff (file ++ message) given (Within (length file) (suc d)) (Some message)
-  behind : (file gap message : List ℕ) (given : List (List ℕ)) (n : ℕ) → IsFileOf file given gap → IsMessage message → n ≤ 2 → LeavesOff (file ++ message ++ take n lead) given (Behind (length file) n) (Some message)
+  after : (file gap message : List ℕ) (given : List (List ℕ)) (n : ℕ) → IsFileOf file given gap → IsMessage message → n ≤ 2 → LeavesOff (file ++ message ++ take n lead) given (After (length file) n) (Some message)
 
 -- The bytes show this fault and no other. The messages given are the first ones of those before its place.
 pub record IsShown (fault : FrameFault) (fed : List ℕ) (given : List (List ℕ)) : Type 0 where

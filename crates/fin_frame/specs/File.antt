@@ -3,7 +3,7 @@ use Rattle.std.specs.Prelude.{◌≡◌, ◌≤◌, ℕ, zero, suc, ◌+◌, ◌
 use Rattle.std.specs.List.{list_all}
 use Rattle.corr_text.specs.Braces.{depth_after}
 
--- how many groups the bytes leave open, from within d of them; none where bytes come behind the end of them all
+-- how many groups the bytes leave open, from within d of them; none where bytes come after the end of them all
 abbrev pub left_open : ℕ → List ℕ → Option ℕ
 left_open d [] = Some d
 left_open zero (b ∷ bs) = None
@@ -24,7 +24,7 @@ agrees [] ys = true
 agrees (x ∷ xs) [] = true
 agrees (x ∷ xs) (y ∷ ys) = x == y && agrees xs ys
 
--- A message as far as it leaves d groups open: a group that begins `{1:`, and groups directly behind it that don't.
+-- A message as far as it leaves d groups open: a group that begins `{1:`, and groups directly after it that don't.
 pub data IsMessageTo : ℕ → List ℕ → Type 0 where
   head : {d : ℕ} {group : List ℕ} → IsGroupTo d group → take 3 group ≡ lead → IsMessageTo d group
   next : {d : ℕ} (message group : List ℕ) → IsMessageTo 0 message → IsGroupTo d group → agrees lead group ≡ false → IsMessageTo d (message ++ group)
@@ -54,11 +54,11 @@ dollars (b ∷ bytes) = if b == 36 then dollars bytes + 1 else dollars bytes
 abbrev pub IsGap : ℕ → List ℕ → Type 0
 IsGap most gap = IsTrue (list_all is_gap_byte gap) × (dollars gap ≤ most)
 
--- A file of these messages: a gap without `$`, and messages with a gap behind each. The last of the gaps is gap.
+-- A file of these messages: a gap without `$`, and messages with a gap after each. The last of the gaps is gap.
 pub data IsFileOf : List ℕ → List (List ℕ) → List ℕ → Type 0 where
   start : {gap : List ℕ} → IsGap 0 gap → IsFileOf gap [] gap
   more : {last : List ℕ} (file message gap : List ℕ) (messages : List (List ℕ)) → IsFileOf file messages last → IsMessage message → IsGap 1 gap → IsFileOf (file ++ message ++ gap) (messages ++ message ∷ []) gap
 
--- the file is these messages, with a gap or nothing before, between and behind them
+-- the file is these messages, with a gap or nothing before, between and after them
 abbrev pub IsCutInto : List ℕ → List (List ℕ) → Type 0
 IsCutInto file messages = (gap : List ℕ) × IsFileOf file messages gap

@@ -8,7 +8,7 @@ use Rattle.fin_frame.specs.declared.cutter.Cutter.{Cutter}
 use Rattle.fin_frame.specs.declared.fault.FrameFault.{FrameFault}
 use Rattle.fin_frame.specs.declared.fault.FrameFault.TheVariants.{Stray, TooLong, Memory}
 use Rattle.fin_frame.specs.declared.stage.Stage.{Stage}
-use Rattle.fin_frame.specs.declared.stage.Stage.TheVariants.{Between, Opening, Within, Behind}
+use Rattle.fin_frame.specs.declared.stage.Stage.TheVariants.{Between, Opening, Within, After}
 
 -- where the bytes led: the message that is open, how many bytes came, how many messages began, a fault, the messages given
 pub record State : Type 0 where
@@ -54,7 +54,7 @@ held_bytes s = unwrap_or s.held []
 
 -- where a group of the message that begins here leaves so many groups open
 abbrev pub landed : ℕ → ℕ → Stage
-landed from zero = Behind from 0
+landed from zero = After from 0
 landed from (suc d) = Within from (suc d)
 
 -- the open message goes on by these bytes, which leave d groups open
@@ -92,14 +92,14 @@ next_opening matched s b =
     if b == get_or lead matched 0 then (if matched == 2 then begins s else to (Opening (matched + 1)) s)
     else fails (Stray (s.fed - matched)) s
 
--- the byte behind a message that is whole
+-- the byte after a message that is whole
 abbrev pub next_close : State → ℕ → State
 next_close s b = if is_gap_byte b then to (Between (b == 36)) (gives s) else fails (Stray s.fed) s
 
--- a byte behind a group of the open message
-abbrev pub next_behind : ℕ → ℕ → State → ℕ → State
-next_behind from matched s b =
-    if b == get_or lead matched 0 then (if matched == 2 then begins s else to (Behind from (matched + 1)) s)
+-- a byte after a group of the open message
+abbrev pub next_after : ℕ → ℕ → State → ℕ → State
+next_after from matched s b =
+    if b == get_or lead matched 0 then (if matched == 2 then begins s else to (After from (matched + 1)) s)
     else if matched == 0 then next_close s b
     else within from 1 (resumes from matched s) b
 
@@ -108,7 +108,7 @@ abbrev pub next_at : Stage → State → ℕ → State
 next_at (Between marked) s b = next_between marked s b
 next_at (Opening matched) s b = next_opening matched s b
 next_at (Within from d) s b = within from d s b
-next_at (Behind from matched) s b = next_behind from matched s b
+next_at (After from matched) s b = next_after from matched s b
 
 -- one byte; after a fault nothing changes
 abbrev pub next : State → ℕ → State
@@ -119,8 +119,8 @@ abbrev pub unbalanced_at : Stage → ℕ → Option ℕ
 unbalanced_at (Between marked) fed = None
 unbalanced_at (Opening matched) fed = Some (fed - matched)
 unbalanced_at (Within from d) fed = Some from
-unbalanced_at (Behind from zero) fed = None
-unbalanced_at (Behind from (suc matched)) fed = Some from
+unbalanced_at (After from zero) fed = None
+unbalanced_at (After from (suc matched)) fed = Some from
 
 -- bytes in turn
 abbrev pub run : State → List ℕ → State
@@ -133,7 +133,7 @@ HasTaken (Ok n) old rest now = (0 < n) × (n ≤ length rest) × (now ≡ run ol
 HasTaken (Err Memory) old rest now = (now.given ≡ old.given) × (now.begun ≡ old.begun)
 HasTaken (Err fault) old rest now = run old (take 1 rest) ≡ fails fault now
 
--- the same of a call that took one byte, where this is the state behind it
+-- the same of a call that took one byte, where this is the state after it
 abbrev pub HasTakenByte : Result ℕ FrameFault → State → State → State → Type 0
 HasTakenByte (Ok n) old after now = (n ≡ 1) × (now ≡ after)
 HasTakenByte (Err Memory) old after now = (now.given ≡ old.given) × (now.begun ≡ old.begun)

@@ -9,7 +9,7 @@ abbrev pub no_more : {A : Type 0} → List A → Bool
 no_more [] = true
 no_more (x ∷ xs) = false
 
--- whether a group would stand apart from the messages before it: behind a gap, or where there are none
+-- whether a group would stand apart from the messages before it: after a gap, or where there are none
 abbrev pub stands_apart : List (List ℕ) → List ℕ → Bool
 stands_apart messages gap = no_more messages || not (no_more gap)
 
@@ -36,10 +36,10 @@ abbrev pub ShowsNoFault : List ℕ → Type 0
 ShowsNoFault bytes = (messages : List (List ℕ)) (fault : FrameFault) → Shows bytes messages fault → ⊥
 
 -- The bytes end within a group, whose message begins at this place: within one that can't be another message's first,
--- behind one or two bytes of `{1:` directly after a message, or behind these bytes where they stand apart.
+-- after one or two bytes of `{1:` directly after a message, or after these bytes where they stand apart.
 pub data EndsWithin : List ℕ → ℕ → Type 0 where
   inside : {d : ℕ} {gap : List ℕ} {messages : List (List ℕ)} (file message : List ℕ) → IsFileOf file messages gap → IsMessageTo (suc d) message → EndsWithin (file ++ message) (length file)
-  behind : {gap : List ℕ} {messages : List (List ℕ)} (n : ℕ) (file message : List ℕ) → IsFileOf file messages gap → IsMessage message → n ≤ 1 → EndsWithin (file ++ message ++ take (suc n) lead) (length file)
+  after : {gap : List ℕ} {messages : List (List ℕ)} (n : ℕ) (file message : List ℕ) → IsFileOf file messages gap → IsMessage message → n ≤ 1 → EndsWithin (file ++ message ++ take (suc n) lead) (length file)
   apart : {gap : List ℕ} {messages : List (List ℕ)} (n : ℕ) (file : List ℕ) → IsFileOf file messages gap → stands_apart messages gap ≡ true → n ≤ 1 → EndsWithin (file ++ take (suc n) lead) (length file)
 
 -- whether the bytes after a message show that it is whole: a gap, or the next message's `{1:`

@@ -20,7 +20,7 @@ const ROOM: usize = 253;
 
 /// Cuts the bytes of a file into its messages, in whatever pieces they come.
 ///
-/// A message is a group in braces that begins `{1:` and the groups directly behind it, 16,384 bytes at most, as
+/// A message is a group in braces that begins `{1:` and the groups directly after it, 16,384 bytes at most, as
 /// `{1:F01HOMEUS33AXXX0001000007}{4:..}`. Line ends, spaces and one `$` may stand between two messages; before the first
 /// there is no `$`.
 #[derive(Debug, Drop)]
@@ -139,7 +139,7 @@ impl Cutter {
             Stage::Between { marked } => self.between(marked, rest[0]),
             Stage::Opening { matched } => self.opening(matched, rest[0], out),
             Stage::Within { from, depth } => self.inside(from, depth, rest),
-            Stage::Behind { from, matched } => self.behind(from, matched, rest, out),
+            Stage::After { from, matched } => self.after(from, matched, rest, out),
         }
     }
 
@@ -193,8 +193,8 @@ impl Cutter {
         Ok(1)
     }
 
-    /// Takes a byte directly behind a group of the open message, or more where `{1:` doesn't go on.
-    fn behind(
+    /// Takes a byte directly after a group of the open message, or more where `{1:` doesn't go on.
+    fn after(
         &mut self,
         from: u64,
         matched: u8,
@@ -205,7 +205,7 @@ impl Cutter {
         requires some { 0 < length rest.now }
         requires few { self.old.fed + length rest.now < 2 ^ 32 }
         requires matched { (matched ≤ 2) × (matched ≤ self.old.fed) }
-        requires stage { self.old.stage ≡ Stage.Behind from matched }
+        requires stage { self.old.stage ≡ Stage.After from matched }
         ensures failed { self.new.failed ≡ self.old.failed }
         ensures took { HasTaken result (state_of self.old out.old) rest.now (state_of self.new out.new) }
     {
@@ -214,7 +214,7 @@ impl Cutter {
             if matched == 2 {
                 self.begin(out)?;
             } else {
-                self.pass(Stage::Behind {
+                self.pass(Stage::After {
                     from,
                     matched: matched + 1,
                 });
@@ -241,7 +241,7 @@ impl Cutter {
         Ok(())
     }
 
-    /// Takes the byte behind the open message, which is whole before a gap.
+    /// Takes the byte after the open message, which is whole before a gap.
     fn close(&mut self, b: u8, out: &mut List<Text>) -> Result<usize, FrameFault>
         requires sound { self.old.failed ≡ None }
         requires few { self.old.fed + 1 < 2 ^ 32 }

@@ -6,7 +6,7 @@ use corr_text::Memory as NoMemory;
 #[derive(Clone, Copy, Debug, PartialEq, Eq)]
 pub enum FrameFault {
     /// A byte that can't stand outside a group: neither `{` nor a line end, a space or the one `$` of a gap; or the
-    /// `{` of a group behind a gap or at the front that doesn't begin `{1:`.
+    /// `{` of a group after a gap or at the front that doesn't begin `{1:`.
     Stray { at: u64 },
     /// The message that begins here passes 16,384 bytes.
     TooLong { at: u64 },

@@ -6,8 +6,8 @@ ghost use Rattle.fin_frame.specs.File.{left_open};
 
 use corr_text::next_brace;
 
-/// How many groups are open behind a byte, within `depth` of them.
-fn behind(depth: u32, b: u8) -> u32
+/// How many groups are open after a byte, within `depth` of them.
+fn after(depth: u32, b: u8) -> u32
     requires some { 0 < depth }
     requires few { depth + 1 < 2 ^ 32 }
     ensures { result ≡ depth_after depth b }
@@ -19,7 +19,7 @@ fn behind(depth: u32, b: u8) -> u32
     }
 }
 
-/// How many bytes stand within `depth` groups, their end included, and how many groups are open behind them.
+/// How many bytes stand within `depth` groups, their end included, and how many groups are open after them.
 pub(crate) fn within(bytes: &[u8], depth: u32) -> (usize, u32)
     requires some { 0 < depth }
     requires few { depth + length bytes.now < 2 ^ 32 }
@@ -35,7 +35,7 @@ pub(crate) fn within(bytes: &[u8], depth: u32) -> (usize, u32)
         if at == bytes.len() {
             return (at, left);
         }
-        left = behind(left, bytes[at]);
+        left = after(left, bytes[at]);
         len = at + 1;
     }
     (len, left)

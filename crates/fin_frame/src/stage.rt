@@ -9,20 +9,20 @@ ghost use Rattle.fin_frame.specs.Machine.{landed as landed_at, stage_between, un
 pub(crate) enum Stage {
     /// In a gap, or at the front of the file. Where `marked`, no `$` may come.
     Between { marked: bool },
-    /// Behind one or two bytes of `{1:` that stand apart from the messages before.
+    /// After one or two bytes of `{1:` that stand apart from the messages before.
     Opening { matched: u8 },
     /// Within `depth` groups of the message that began at `from`.
     Within { from: u64, depth: u32 },
-    /// Directly behind a whole group of the message that began at `from`, and up to two bytes of `{1:`.
-    Behind { from: u64, matched: u8 },
+    /// Directly after a whole group of the message that began at `from`, and up to two bytes of `{1:`.
+    After { from: u64, matched: u8 },
 }
 
-/// Where the next byte stands, behind bytes that leave so many groups of a message open.
+/// Where the next byte stands, after bytes that leave so many groups of a message open.
 pub(crate) fn landed(from: u64, left: u32) -> Stage
     ensures { result ≡ landed_at from left }
 {
     if left == 0 {
-        Stage::Behind { from, matched: 0 }
+        Stage::After { from, matched: 0 }
     } else {
         Stage::Within { from, depth: left }
     }
@@ -47,8 +47,8 @@ pub(crate) fn unbalanced(stage: Stage, fed: u64) -> Option<u64>
     ensures { result ≡ unbalanced_at stage fed }
 {
     match stage {
-        Stage::Between { .. } | Stage::Behind { matched: 0, .. } => None,
+        Stage::Between { .. } | Stage::After { matched: 0, .. } => None,
         Stage::Opening { matched } => Some(fed - matched as u64),
-        Stage::Within { from, .. } | Stage::Behind { from, .. } => Some(from),
+        Stage::Within { from, .. } | Stage::After { from, .. } => Some(from),
     }
 }

@@ -13,7 +13,7 @@ fits p f = (p.tag == f.tag) && list_any (λ o. o == letter_of f) p.options
 abbrev pub place_from : List Place → ℕ → Field → Option ℕ
 place_from order free f = option_map (λ k. free + k) (position (λ p. fits p f) (drop free order))
 
--- the first place that is free behind a field at this one: where more than one field may stand, the same
+-- the first place that is free after a field at this one: where more than one field may stand, the same
 abbrev pub free_after : List Place → ℕ → ℕ
 free_after order k = unwrap_or (option_map (λ p. if p.many then k else k + 1) (slice_get order k)) (k + 1)
 

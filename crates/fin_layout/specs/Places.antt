@@ -14,6 +14,6 @@ may tag options = record { tag = tag; options = options; many = false; must = fa
 abbrev pub any : ℕ → List ℕ → Place
 any tag options = record { tag = tag; options = options; many = true; must = false }
 
--- no letter behind the number
+-- no letter after the number
 abbrev pub bare : List ℕ
 bare = codes "    "

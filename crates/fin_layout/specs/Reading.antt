@@ -20,7 +20,7 @@ abbrev pub told_fault : MtFault → Option Fault
 told_fault faults.Memory = None
 told_fault (faults.Bad fault) = Some fault
 
--- a refusal is that of the content, or want of memory
+-- a refusal is that of the content, or out of memory
 abbrev pub Refuses : {A : Type 0} → Refusal → Result A Code → Type 0
 Refuses e content = answers.Refuses told_code content e
 
@@ -44,7 +44,7 @@ Gives result message = answers.Answers told_fault message result
 abbrev pub Fills : {A B : Type 0} → Result B MtFault → A → Result A Fault → Type 0
 Fills result place message = Gives (answers.left_in place result) message
 
--- a fault tells the first test that fails, or want of memory
+-- a fault tells the first test that fails, or out of memory
 abbrev pub Tells : Option Fault → MtFault → Type 0
 Tells first e = answers.Tells told_fault first e
 

@@ -38,7 +38,7 @@ fn free_after(order: &[Place], at: usize) -> usize
 
 /// The places that the fields take, in their order and up to the first field that takes none.
 ///
-/// A field takes the first place behind that of the field before it which allows it, or that same place where more than
+/// A field takes the first place after that of the field before it which allows it, or that same place where more than
 /// one field may stand there.
 pub fn places(alloc: Global, order: &[Place], fields: &[FieldLines<'_>]) -> Result<Found, Memory>
     ensures value { IfOk result (λ found. found ≡ places_from order.now 0 fields.now) }
@@ -49,7 +49,7 @@ pub fn places(alloc: Global, order: &[Place], fields: &[FieldLines<'_>]) -> Resu
     Ok(found)
 }
 
-/// As `places`, but the places are put into `found`, whatever stood there, in its memory. After want of memory it may hold
+/// As `places`, but the places are put into `found`, whatever stood there, in its memory. After out of memory it may hold
 /// any.
 pub fn put_places(
     order: &[Place],

@@ -17,7 +17,7 @@ use std::alloc::Global;
 
 /// The place of each field.
 ///
-/// P22: the first field that the order does not allow behind the field before it, with its tag and occurrence. Else P23:
+/// P22: the first field that the order does not allow after the field before it, with its tag and occurrence. Else P23:
 /// the first mandatory place that no field takes, with its tag (two digits where it has options) and occurrence 0.
 pub fn check_structure(
     alloc: Global,

@@ -1,4 +1,4 @@
--- What an answer means behind tests of which none holds.
+-- What an answer means after tests of which none holds.
 use Rattle.std.proofs.Common.{◌≡◌, [], ◌∷◌, Option, Some, None, Result}
 use Rattle.corr_text.specs.First.{unless_fault, ◌>>=◌}
 use Rattle.corr_text.specs.declared.fault.Fault.{Fault}

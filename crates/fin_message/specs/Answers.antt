@@ -18,11 +18,11 @@ abbrev pub told : MessageFault → Option Refused
 told (message.Refused mir fault) = Some (mir, fault)
 told message.Memory = None
 
--- an error is the refusal that is meant, or want of memory
+-- an error is the refusal that is meant, or out of memory
 abbrev pub Refuses : {A : Type 0} → MessageFault → Result A Refused → Type 0
 Refuses e meant = answers.Refuses told meant e
 
--- an answer is the one that is meant, or want of memory
+-- an answer is the one that is meant, or out of memory
 abbrev pub Answers : {A : Type 0} → Result A MessageFault → Result A Refused → Type 0
 Answers result meant = answers.Answers told meant result
 
@@ -35,7 +35,7 @@ abbrev pub fault_of_blocks : BlockFault → MessageFault
 fault_of_blocks (block.Bad refusal mir) = message.Refused mir (at_block refusal (block_tag refusal))
 fault_of_blocks block.Memory = message.Memory
 
--- P20 with its line, P21 with its field, or want of memory
+-- P20 with its line, P21 with its field, or out of memory
 abbrev pub fault_of_fields : FieldFault → MtFault
 fault_of_fields (field.P20 line) = mt.Bad (record { code = code "P20"; tag = codes "B4 "; nth = line })
 fault_of_fields (field.P21 tag nth) = mt.Bad (record { code = code "P21"; tag = tag; nth = nth })

@@ -54,7 +54,7 @@ block_tag refusal =
     else if bytes_eq refusal.0 (codes "P05") then codes "B4 "
     else codes "B5 "
 
--- P01 to P06, which never are want of memory; the reference is told from P04 on
+-- P01 to P06, which never are out of memory; the reference is told from P04 on
 abbrev pub refused_block : BlockFault → Refused
 refused_block (block.Bad refusal mir) = (mir, at_block refusal (block_tag refusal))
 refused_block block.Memory = (None, at_block (code "P01") (codes "B1 "))
@@ -118,7 +118,7 @@ page_in t b = do
   page ← mt950_of t (fields_of b.text)
   Ok (Page (envelope_of b) page)
 
--- the message by its type; behind P11 the last type is 950
+-- the message by its type; after P11 the last type is 950
 abbrev pub message_in : Tables → Blocks → Result Message Fault
 message_in t b =
     if type_of b.app == 103 then transfer_in t b
@@ -127,7 +127,7 @@ message_in t b =
     else if type_of b.app == 910 then credit_in t b
     else page_in t b
 
--- the tests behind those of the blocks, in their order
+-- the tests after those of the blocks, in their order
 unfoldable pub message_of : Direction → Bic → Tables → Blocks → Result Message Fault
 message_of way home t b = do
   _ ← passed (heading_tests way home t b)

@@ -9,7 +9,7 @@ use corr_ids::Mir;
 use corr_text::{Code, Fault};
 use fin_blocks::{BlockFault, P01, P02, P03, P04, P05};
 
-/// The first test that a message fails; or want of memory.
+/// The first test that a message fails; or out of memory.
 #[derive(Clone, Copy, Debug, PartialEq, Eq)]
 pub enum MessageFault {
     /// The test, with the message's reference where blocks 1 and 2 are read and block 2 is of output form.

@@ -7,9 +7,9 @@ use Rattle.fin_fields.proofs.laws.OfX.{each-of-x, lines-of-x}
 use Rattle.fin_parties.specs.Party.{Cut, opens, parts_of}
 use Rattle.fin_parties.specs.declared.opening.Opening.{Opening}
 
--- what stands behind the first byte of such a line
-pub behind_slash : (slash : ℕ) (account : List ℕ) → has_other_byte (slash ∷ account) ≡ false → has_other_byte account ≡ false
-behind_slash slash account e = (each-of-x slash account e).1
+-- what stands after the first byte of such a line
+pub after_slash : (slash : ℕ) (account : List ℕ) → has_other_byte (slash ∷ account) ≡ false → has_other_byte account ≡ false
+after_slash slash account e = (each-of-x slash account e).1
 
 -- the first of such lines
 pub first_line : (line : List ℕ) (lines : List (List ℕ)) → list_any has_other_byte (line ∷ lines) ≡ false → has_other_byte line ≡ false
@@ -26,7 +26,7 @@ rest-by true true line lines c e fine =
     rw (← same) (lines-of-x line lines fine).1
 rest-by true false line lines c e fine = absurd (cc e)
 
--- the lines behind an optional first one
+-- the lines after an optional first one
 pub rest-of-parts : (opening : Opening) (lines : List (List ℕ)) (c : Cut) → parts_of opening lines ≡ Some c → list_any has_other_byte lines ≡ false
     → list_any has_other_byte c.rest ≡ false
 rest-of-parts opening [] c e fine =

@@ -37,7 +37,7 @@ is_lettered_line _ = false
 abbrev pub is_party_line : List ℕ → Bool
 is_party_line line = is_account_line line || is_lettered_line line
 
--- the account of a party line: behind the second slash of `/C/34x`, else behind the first
+-- the account of a party line: after the second slash of `/C/34x`, else after the first
 abbrev pub account_in : List ℕ → List ℕ
 account_in line = if is_lettered_line line then drop 3 line else if begins_with 47 line then drop 1 line else []
 
@@ -75,7 +75,7 @@ abbrev pub opens : Opening → List ℕ → Bool
 opens PartyLine line = is_party_line line
 opens AccountLine line = is_account_line line
 
--- the first line where it begins with a slash, and the lines behind it
+-- the first line where it begins with a slash, and the lines after it
 pub record Cut : Type 0 where
   pub first : Option (List ℕ)
   pub rest : List (List ℕ)
@@ -104,7 +104,7 @@ abbrev pub account_party : List (List ℕ) → Option Party
 account_party (line ∷ []) = if is_account_line line then Some (party.C line) else None
 account_party _ = None
 
--- the lines behind an optional first line: name and address, or numbered lines
+-- the lines after an optional first line: name and address, or numbered lines
 abbrev pub is_listing : Listing → List (List ℕ) → Bool
 is_listing Institution lines = is_name lines
 is_listing Customer lines = is_name lines
@@ -177,20 +177,20 @@ form_of tag (Some letter) =
     else if letter == 75 then form_k tag
     else None
 
--- lines behind a first line, if that is what it should be
-abbrev pub behind_first : Opening → (Option (List ℕ) → List (List ℕ) → Option Party) → List (List ℕ) → Option Party
-behind_first opening form lines = option_and_then (λ c. form c.first c.rest) (parts_of opening lines)
+-- lines after a first line, if that is what it should be
+abbrev pub after_first : Opening → (Option (List ℕ) → List (List ℕ) → Option Party) → List (List ℕ) → Option Party
+after_first opening form lines = option_and_then (λ c. form c.first c.rest) (parts_of opening lines)
 
 -- the party that lines name in a form
 unfoldable pub party_in : Form → List (List ℕ) → Option Party
-party_in BankA lines = behind_first PartyLine bic_party lines
-party_in BankB lines = behind_first PartyLine place_party lines
+party_in BankA lines = after_first PartyLine bic_party lines
+party_in BankB lines = after_first PartyLine place_party lines
 party_in BankC lines = account_party lines
-party_in BankD lines = behind_first PartyLine name_party lines
-party_in CustomerA lines = behind_first AccountLine bic_party lines
-party_in CustomerK lines = behind_first AccountLine customer_party lines
+party_in BankD lines = after_first PartyLine name_party lines
+party_in CustomerA lines = after_first AccountLine bic_party lines
+party_in CustomerK lines = after_first AccountLine customer_party lines
 party_in PayerF lines = payer_party lines
-party_in PayeeF lines = behind_first AccountLine payee_party lines
+party_in PayeeF lines = after_first AccountLine payee_party lines
 
 -- the party that a field names; none where it isn't in the grammar of its tag and letter
 unfoldable pub party_of : Field → Option Party

@@ -14,7 +14,7 @@ party_letter tag (D line lines) = Some 68
 party_letter tag (K account lines) = if tag == 59 then None else Some 75
 party_letter tag (F line lines) = Some 70
 
--- lines behind an optional one
+-- lines after an optional one
 abbrev pub led_by : Option (List ℕ) → List (List ℕ) → List (List ℕ)
 led_by None lines = lines
 led_by (Some line) lines = line ∷ lines

@@ -3,7 +3,7 @@
 ghost use Rattle.std.specs.Prelude.{◌≡◌, true, false, Some, IfErr, OnOk, drop, option_map};
 ghost use Rattle.std.specs.List.{list_any};
 ghost use Rattle.fin_fields.specs.Faults.{has_other_byte};
-ghost use Rattle.fin_parties.specs.Party.{behind_first, customer_party, party_in, party_of, party_with};
+ghost use Rattle.fin_parties.specs.Party.{after_first, customer_party, party_in, party_of, party_with};
 ghost use Rattle.fin_parties.specs.declared.form.Listing.TheVariants.{Customer};
 ghost use Rattle.fin_parties.specs.declared.opening.Opening.TheVariants.{AccountLine};
 ghost use Rattle.fin_parties.specs.Faults.{TellsPartyFault};
@@ -89,8 +89,8 @@ fn fill_customer(
     place: &mut Party,
 ) -> Result<(), PartyFault>
     requires { plain ≡ true → list_any has_other_byte lines.now ≡ false }
-    ensures party { OnOk result (behind_first AccountLine customer_party lines.now ≡ Some place.new) }
-    ensures fault { IfErr result (TellsPartyFault (behind_first AccountLine customer_party lines.now)) }
+    ensures party { OnOk result (after_first AccountLine customer_party lines.now ≡ Some place.new) }
+    ensures fault { IfErr result (TellsPartyFault (after_first AccountLine customer_party lines.now)) }
 {
     let Some(parts) = parts_of(Opening::AccountLine, lines, plain) else {
         return Err(PartyFault::P24);

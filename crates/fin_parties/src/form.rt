@@ -24,7 +24,7 @@ pub enum Form {
     PayeeF,
 }
 
-/// What stands behind an optional first line.
+/// What stands after an optional first line.
 #[derive(Clone, Copy)]
 pub enum Listing {
     /// 52D to 58D: the name and address of an institution.

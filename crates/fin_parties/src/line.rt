@@ -25,7 +25,7 @@ fn is_account(account: &[u8]) -> bool
 }
 
 /// Whether a line is `/34x`. Where `plain` tells that it has no byte outside set X, its bytes aren't tested.
-#[tactic(auto, using(crate::proofs::OfX::behind_slash))]
+#[tactic(auto, using(crate::proofs::OfX::after_slash))]
 pub fn is_account_line(line: &[u8], plain: bool) -> bool
     requires { plain ≡ true → has_other_byte line.now ≡ false }
     ensures { result ≡ is_account_line line.now }
@@ -52,8 +52,8 @@ pub fn is_party_line(line: &[u8]) -> bool
     is_account_line(line, false) || is_lettered_line(line)
 }
 
-/// The account of a party line: what stands behind the second slash of `/C/34x` with a capital letter C, else what stands
-/// behind the first slash. A line that begins with no slash has none. Takes no memory.
+/// The account of a party line: what stands after the second slash of `/C/34x` with a capital letter C, else what stands
+/// after the first slash. A line that begins with no slash has none. Takes no memory.
 ///
 /// The account of `/C/12` is `12`, that of `/12` is `12`, that of `//12` is `/12`, and that of `/C/` is `C/`.
 pub fn account_of(line: &[u8]) -> &[u8]

@@ -1,4 +1,4 @@
-//! The lines of a party field, cut behind an optional first line.
+//! The lines of a party field, cut after an optional first line.
 
 ghost use Rattle.std.specs.Prelude.{◌≡◌, true, false, option_map};
 ghost use Rattle.std.specs.List.{list_any};
@@ -16,7 +16,7 @@ pub enum Opening {
     AccountLine,
 }
 
-/// The first line where it begins with a slash, and the lines behind it.
+/// The first line where it begins with a slash, and the lines after it.
 #[derive(Clone, Copy)]
 pub struct Parts<'a, 't> {
     pub first: Option<&'t [u8]>,

@@ -5,8 +5,8 @@ use corr_text::{List, Text};
 
 /// An institution or a customer, by the letter of its field. 59 without a letter is `K`.
 ///
-/// `line` is the whole first line with its `/`, `account` is what stands behind that `/`, and `lines` are the lines
-/// behind it. In 50F `line` is the first line, whatever it begins with.
+/// `line` is the whole first line with its `/`, `account` is what stands after that `/`, and `lines` are the lines
+/// after it. In 50F `line` is the first line, whatever it begins with.
 ///
 /// Example: `:53B:/C/12` and `PARIS` are `B` with the line `/C/12` and the place `PARIS`; `:59:/CUST1` and `A PAYEE` are
 /// `K` with the account `CUST1` and the line `A PAYEE`.

@@ -3,7 +3,7 @@
 ghost use Rattle.std.specs.Prelude.{◌≡◌, true, false, Some, IfOk, IfErr, drop, option_map};
 ghost use Rattle.std.specs.List.{list_any};
 ghost use Rattle.fin_fields.specs.Faults.{has_other_byte};
-ghost use Rattle.fin_parties.specs.Party.{account_party, behind_first, bic_party, is_line, is_listing, is_name, listed_party, party_in, party_of, payer_party, place_party};
+ghost use Rattle.fin_parties.specs.Party.{account_party, after_first, bic_party, is_line, is_listing, is_name, listed_party, party_in, party_of, payer_party, place_party};
 ghost use Rattle.fin_parties.specs.declared.opening.Opening.TheVariants.{PartyLine};
 ghost use Rattle.fin_parties.specs.Faults.{ReadsParty, TellsPartyFault};
 
@@ -57,7 +57,7 @@ pub fn copy_account(alloc: Global, line: Option<&[u8]>) -> Result<Option<Text>, 
 
 #[inline(never)]
 fn read_bic_party(alloc: Global, opening: Opening, lines: &[Line<'_>]) -> Result<Party, PartyFault>
-    ensures { ReadsParty (behind_first opening bic_party lines.now) result }
+    ensures { ReadsParty (after_first opening bic_party lines.now) result }
 {
     let Some(parts) = parts_of(opening, lines, false) else {
         return Err(PartyFault::P24);
@@ -76,7 +76,7 @@ fn read_bic_party(alloc: Global, opening: Opening, lines: &[Line<'_>]) -> Result
 
 #[inline(never)]
 fn read_place_party(alloc: Global, lines: &[Line<'_>]) -> Result<Party, PartyFault>
-    ensures { ReadsParty (behind_first PartyLine place_party lines.now) result }
+    ensures { ReadsParty (after_first PartyLine place_party lines.now) result }
 {
     let Some(parts) = parts_of(Opening::PartyLine, lines, false) else {
         return Err(PartyFault::P24);
@@ -122,7 +122,7 @@ fn read_listed_party(
     listing: Listing,
     lines: &[Line<'_>],
 ) -> Result<Party, PartyFault>
-    ensures { ReadsParty (behind_first opening (listed_party listing) lines.now) result }
+    ensures { ReadsParty (after_first opening (listed_party listing) lines.now) result }
 {
     let Some(parts) = parts_of(opening, lines, false) else {
         return Err(PartyFault::P24);

@@ -85,7 +85,7 @@ module _ {D : Type 0} (honest : D → Bool) (reads : D → List ℕ) (may_leave 
         (failed, refl, same, subst (HasRisen old.at_open) (sym same) (risen old.failed old.at_open (faults (disk_of old.file)) failed is.counts), refl)
         refl refl refl tt refl (λ room. tt)
 
-    -- want of memory
+    -- out of memory
     pub wanting : (new : Book D) → old.failed ≡ None → new ≡ record old { room = new.room } → (old.room ≡ Some pay → ⊥) → Told old new held held pay day (Err Memory)
     wanting new whole same none =
         subst (λ (b : Book D). Told old b held held pay day (Err Memory)) (sym same)

@@ -43,7 +43,7 @@ refused_whole all (Damaged at) small it = it small
 refused_whole all (DiskFault before after) small it = absurd it
 refused_whole all Memory small it = tt
 
--- and of records with damage behind them
+-- and of records with damage after them
 pub refused_cut : (all : List (List ℕ)) (end : ℕ) (fault : OpenFault) → size_of all < 2 ^ 64 → RefusesRecords all fault → IfSome (found_by fault) (IsFound (cut all end))
 refused_cut all end NotAJournal small it = it
 refused_cut all end (Damaged at) small it =

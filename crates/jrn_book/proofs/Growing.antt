@@ -19,7 +19,7 @@ use Rattle.jrn_book.proofs.Staying.{journal_more}
 pub empty_journal : (chart : Chart) → IsHead chart → IsJournal chart []
 empty_journal chart head = record { head = head; entries = All-nil IsEntry; legal = empty_is_legal chart }
 
--- what is kept while records are read, of which so many are: the place behind them, where it has 64 bits
+-- what is kept while records are read, of which so many are: the place after them, where it has 64 bits
 pub record IsSoFar (first : Read) (rest : List (List ℕ)) (count at : ℕ) (now : Read) : Type 0 where
   pub accounts : now.accounts ≡ first.accounts
   pub read : entry_records now.history ≡ entry_records first.history ++ take count rest

@@ -30,11 +30,11 @@ pub record StandsAt (history : List Entry) (pay : Pay) (place : ℕ) (same : Boo
   pub there : slice_get history (place - 1) ≡ Some entry
   pub is_same : is_same_pay pay entry.pay ≡ same
 
--- the bytes that a pay's record adds to the file, and one for the gate behind it
+-- the bytes that a pay's record adds to the file, and one for the gate after it
 abbrev pub need_of : Chart → List Entry → Pay → Day → ℕ
 need_of chart history pay day = length (entry_bytes (entry_of chart history pay day)) + 6
 
--- there is room for the entry in the history, and behind this place in the file
+-- there is room for the entry in the history, and after this place in the file
 pub record HasRoomFor (history : List Entry) (end need : ℕ) : Type 0 where
   pub entries : length history < most_entries
   pub bytes : end + need ≤ most_disk_bytes
@@ -86,7 +86,7 @@ calls_disk (Ok (New place outcome)) = true
 calls_disk (Err (DiskFault before after)) = true
 calls_disk _ = false
 
--- the answer is no want of memory
+-- the answer isn't out of memory
 abbrev pub IsAnswered : Answer → Type 0
 IsAnswered (Ok committed) = Unit {0}
 IsAnswered (Err Memory) = ⊥

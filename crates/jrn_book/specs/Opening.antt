@@ -43,7 +43,7 @@ IsNextOf chart history e = IsEntry e × IsLegal chart (history ++ e ∷ [])
 abbrev pub IsNoNext : Chart → List Entry → List ℕ → Type 0
 IsNoNext chart history r = (e : Entry) → IsNextOf chart history e → r ≡ entry_bytes e → ⊥
 
--- behind the records of these accounts and this history there is one that may not stand next; its place
+-- after the records of these accounts and this history there is one that may not stand next; its place
 pub record IsRefusedIn (chart : Chart) (history : List Entry) (all : List (List ℕ)) (at : ℕ) : Type 0 where
   pub next : List ℕ
   pub more : List (List ℕ)
@@ -51,19 +51,19 @@ pub record IsRefusedIn (chart : Chart) (history : List Entry) (all : List (List 
   pub refused : IsNoNext chart history next
   pub place : at ≡ size_of (all_records chart history)
 
--- What stands at a place behind the records of these accounts and this history: a record that may not stand next, or, where no
+-- What stands at a place after the records of these accounts and this history: a record that may not stand next, or, where no
 -- record is whole, an open gate.
-abbrev pub IsFaultBehind : Chart → List Entry → ℕ → Reading → Type 0
-IsFaultBehind chart history at no_journal = ⊥
-IsFaultBehind chart history at (whole all) = IsRefusedIn chart history all at
-IsFaultBehind chart history at (cut all end) = IsRefusedIn chart history all at ⊎ ((all ≡ all_records chart history) × (at ≡ end))
+abbrev pub IsFaultAfter : Chart → List Entry → ℕ → Reading → Type 0
+IsFaultAfter chart history at no_journal = ⊥
+IsFaultAfter chart history at (whole all) = IsRefusedIn chart history all at
+IsFaultAfter chart history at (cut all end) = IsRefusedIn chart history all at ⊎ ((all ≡ all_records chart history) × (at ≡ end))
 
 -- the first fault stands at this place: in front of it a header and the records of a legal history
 pub record IsFaultyAt (reading : Reading) (at : ℕ) : Type 0 where
   pub chart : Chart
   pub history : List Entry
   pub good : IsJournal chart history
-  pub fault : IsFaultBehind chart history at reading
+  pub fault : IsFaultAfter chart history at reading
 
 -- Bytes that are read so are this. They are one thing only (proofs/laws/Findings.antt).
 abbrev pub IsFound : Reading → Finding → Type 0
@@ -75,7 +75,7 @@ IsFound reading (faulty at) = IsFaultyAt reading at
 abbrev pub Opened : Type 0 → Type 0
 Opened D = Result (Book D × LooseHand) (D × OpenFault)
 
--- what a refusal says that the bytes are; a fault of the disk and want of memory say nothing of them
+-- what a refusal says that the bytes are; a fault of the disk and out of memory say nothing of them
 abbrev pub found_by : OpenFault → Option Finding
 found_by NotAJournal = Some no_book
 found_by (Damaged at) = Some (faulty at)
@@ -95,7 +95,7 @@ BookOpenCause old new (DiskFault before after) = TellsCounts old before after ne
 BookOpenCause old new Memory = new ≡ old
 
 -- A book that was just opened: no commit has failed, its count of faults is the disk's, and its history alone is on the disk,
--- behind which its closed gate stands.
+-- after which its closed gate stands.
 pub record IsNewBook {D : Type 0} (honest : D → Bool) (reads : D → List ℕ) (may_leave : D → List ℕ → Type 0) (faults : D → ℕ) (b : Book D) : Type 0 where
   pub whole : b.failed ≡ None
   pub count : b.at_open ≡ faults (disk_of b.file)

@@ -22,7 +22,7 @@ pub record IsReadNext (old : Read) (r : List ℕ) (new : Read) : Type 0 where
   pub is : r ≡ entry_bytes entry
   pub now : new ≡ record old { history = old.history ++ entry ∷ [] }
 
--- it is added, or refused and all is as before; want of memory tells nothing
+-- it is added, or refused and all is as before; out of memory tells nothing
 abbrev pub ReadsRecord : Read → List ℕ → Result (Unit {0}) EntryFault → Read → Type 0
 ReadsRecord old r (Ok done) new = IsReadNext old r new
 ReadsRecord old r (Err entry_fault.NoEntry) new = IsNoNext old.accounts old.history r × (new ≡ old)
@@ -36,7 +36,7 @@ RefusesRecords all (open_fault.Damaged at) = size_of all < 2 ^ 64 → IsFaultyAt
 RefusesRecords all (open_fault.DiskFault before after) = ⊥
 RefusesRecords all open_fault.Memory = Unit {0}
 
--- what a refusal of a header tells: the bytes are no header; want of memory tells nothing
+-- what a refusal of a header tells: the bytes are no header; out of memory tells nothing
 abbrev pub RefusesHead : List ℕ → OpenFault → Type 0
 RefusesHead bytes open_fault.NotAJournal = HasNoHead (bytes ∷ [])
 RefusesHead bytes (open_fault.Damaged at) = ⊥

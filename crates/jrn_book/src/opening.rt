@@ -32,7 +32,7 @@ use std::alloc::Global;
 /// the records as they are read, the accounts, the entries, an index of their references, and the purses.
 ///
 /// `NotAJournal` comes exactly where the disk is empty, its first byte is 0, its first record isn't whole, or that isn't a
-/// header. `Damaged` comes exactly where a later open gate has no whole record behind it, or one that isn't an entry or isn't
+/// header. `Damaged` comes exactly where a later open gate has no whole record after it, or one that isn't an entry or isn't
 /// the legal next one (a new reference, a day not before the last, accounts of the header, the outcome that the entries
 /// before it give), and tells the first such gate's place, in bytes from the start. `DiskFault` comes only where a call of the
 /// disk failed, with its count of faults before and after. `Memory`: there is none.
@@ -86,7 +86,7 @@ fn open_whole<D: Disk>(
     ensures told { IfSome (finding_in result) (IsFound (whole records.now)) }
     ensures disk { IfErr result (λ e. (e.0 ≡ disk_of file) × IsOfBytes e.1) }
 {
-    // The closed gate stands behind the records, so their sizes fit 64 bits together.
+    // The closed gate stands after the records, so their sizes fit 64 bits together.
     let _ = file.end();
     match read_records(alloc, records) {
         Ok(past) => give(alloc, past, file),
@@ -94,7 +94,7 @@ fn open_whole<D: Disk>(
     }
 }
 
-/// Why records behind which no whole one stands at this place are no book's journal.
+/// Why records after which no whole one stands at this place are no book's journal.
 fn refusal(alloc: Global, records: &[Text], at: u64) -> OpenFault
     ensures told { at ≡ size_of records.now → IfSome (found_by result) (IsFound (cut records.now at)) }
     ensures bytes { IsOfBytes result }

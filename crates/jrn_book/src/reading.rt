@@ -159,7 +159,7 @@ impl Past {
     }
 }
 
-/// How many bytes a record takes behind its gate, and the gate's.
+/// How many bytes a record takes after its gate, and the gate's.
 fn size(bytes: &[u8]) -> u64
     ensures { result ≡ 5 + length bytes.now }
 {
@@ -178,7 +178,7 @@ fn read_accounts(alloc: Global, head: &[u8]) -> Result<Accounts, OpenFault>
     }
 }
 
-/// Reads the records of entries behind others, which end at this place, up to the first that is refused.
+/// Reads the records of entries after others, which end at this place, up to the first that is refused.
 fn read_entries(
     alloc: Global,
     past: &mut Past,
@@ -203,7 +203,7 @@ fn read_entries(
     Ok(())
 }
 
-/// The history of a header record and the records behind it, or the first of them that is refused.
+/// The history of a header record and the records after it, or the first of them that is refused.
 pub(crate) fn read_records(alloc: Global, records: &[Text]) -> Result<Past, OpenFault>
     ensures past { IfOk result (λ past. records.now ≡ all_records past.accounts past.history) }
     ensures good { IfOk result (λ past. IsJournal past.accounts past.history) }

@@ -22,9 +22,9 @@ IsBytes-take n bytes h i =
       | inr le ↦ rw (get_or_past (take n bytes) i 0 (omega (arith, length-take n bytes))) (omega arith)
     ]
 
--- what stands behind a part of bytes
-pub IsBytes-behind : (bytes text rest : List ℕ) → bytes ≡ text ++ rest → IsBytes bytes → IsBytes rest
-IsBytes-behind bytes text rest e h i =
+-- what stands after a part of bytes
+pub IsBytes-after : (bytes text rest : List ℕ) → bytes ≡ text ++ rest → IsBytes bytes → IsBytes rest
+IsBytes-after bytes text rest e h i =
     let at : get_or bytes (length text + i) 0 ≡ get_or rest i 0 = ap (λ (b : List ℕ). get_or b (length text + i) 0) e ∙ get_or-append-add text rest i 0 in
     rw (← at) (h (length text + i))
 
@@ -33,7 +33,7 @@ pub record IsField {A : Type 0} (spell : A → List ℕ) (read : List ℕ → Op
   pub takes : (bytes : List ℕ) (x : A) (rest : List ℕ) → IsBytes bytes → read bytes ≡ Some (x, rest) → (bytes ≡ spell x ++ rest) × Fits x
   pub again : (x : A) (rest : List ℕ) → Fits x → read (spell x ++ rest) ≡ Some (x, rest)
 
--- a field in a row of steps: what it read, and what the steps behind it made of that
+-- a field in a row of steps: what it read, and what the steps after it made of that
 pub record Step {A B : Type 0} (spell : A → List ℕ) (Fits : A → Type 0) (next : A × List ℕ → Option B) (bytes : List ℕ) (y : B) : Type 0 where
   pub value : A
   pub rest : List ℕ
@@ -47,9 +47,9 @@ pub step : {A B : Type 0} {spell : A → List ℕ} {read : List ℕ → Option (
 step {A} {B} {spell} {read} {Fits} field next bytes y b e =
     option_and_then_some next (read bytes) y e (λ x is on.
     let t = field.takes bytes x.0 x.1 b is in
-    record { value = x.0; rest = x.1; parts = t.0; bytes_on = IsBytes-behind bytes (spell x.0) x.1 t.0 b; fits = t.1; on = on })
+    record { value = x.0; rest = x.1; parts = t.0; bytes_on = IsBytes-after bytes (spell x.0) x.1 t.0 b; fits = t.1; on = on })
 
--- the steps go on behind a field that was spelled
+-- the steps go on after a field that was spelled
 pub resume : {A B : Type 0} {spell : A → List ℕ} {read : List ℕ → Option (A × List ℕ)} {Fits : A → Type 0} → IsField spell read Fits → (next : A × List ℕ → Option B) (x : A) (rest : List ℕ) (y : Option B)
     → Fits x → next (x, rest) ≡ y → option_and_then next (read (spell x ++ rest)) ≡ y
 resume field next x rest y fits e = ap (option_and_then next) (field.again x rest fits) ∙ e

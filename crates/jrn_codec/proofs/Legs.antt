@@ -19,13 +19,13 @@ use Rattle.jrn_codec.specs.Spelling.{signed_bytes}
 use Rattle.jrn_codec.specs.Record.{IsOutcome, outcome_bytes, quote_bytes, leg_bytes, posting_bytes, side_mark}
 use Rattle.jrn_codec.specs.Reading.{number_at, signed_at, mark_at}
 use Rattle.jrn_codec.specs.RecordReading.{unfunded_at, outcome_at, is_reference, theirs_at, ours_at, quote_at, is_account_number, side_of, leg_with, leg_at}
-use Rattle.jrn_codec.proofs.Fields.{IsBytes, IsBytes-behind, IsField, step, resume, tested, differs, byte_field, field16, field64, signed64_field}
+use Rattle.jrn_codec.proofs.Fields.{IsBytes, IsBytes-after, IsField, step, resume, tested, differs, byte_field, field16, field64, signed64_field}
 use Rattle.jrn_codec.proofs.Parts.{mark_field, short_field}
 use Rattle.jrn_codec.proofs.Marks.{side_marks}
 
--- what stands behind one byte
-pub behind : (b : ℕ) (bytes : List ℕ) → IsBytes (b ∷ bytes) → IsBytes bytes
-behind b bytes h = IsBytes-behind (b ∷ bytes) (b ∷ []) bytes refl h
+-- what stands after one byte
+pub after : (b : ℕ) (bytes : List ℕ) → IsBytes (b ∷ bytes) → IsBytes bytes
+after b bytes h = IsBytes-after (b ∷ bytes) (b ∷ []) bytes refl h
 
 -- ---- outcomes
 
@@ -41,7 +41,7 @@ outcome_takes : (bytes : List ℕ) (o : Outcome) (rest : List ℕ) → IsBytes b
 unfolding outcome_at
 outcome_takes [] o rest b e = absurd cc
 outcome_takes (zero ∷ bytes) o rest b e = subst (λ (x : Outcome × List ℕ). (0 ∷ bytes ≡ outcome_bytes x.0 ++ x.1) × IsOutcome x.0) (same_Some (Booked, bytes) (o, rest) e) (refl, tt)
-outcome_takes (suc zero ∷ bytes) o rest b e = unfunded_takes bytes o rest (behind 1 bytes b) e
+outcome_takes (suc zero ∷ bytes) o rest b e = unfunded_takes bytes o rest (after 1 bytes b) e
 outcome_takes (suc (suc c) ∷ bytes) o rest b e =
     let none : outcome_at (suc (suc c) ∷ bytes) ≡ None = simp (differs (suc (suc c)) 0 (omega arith), differs (suc (suc c)) 1 (omega arith)) refl in
     absurd (none-some (o, rest) (sym none ∙ e))
@@ -91,8 +91,8 @@ ours_takes bytes q rest b e =
 quote_takes : (bytes : List ℕ) (q : Quote) (rest : List ℕ) → IsBytes bytes → quote_at bytes ≡ Some (q, rest) → (bytes ≡ quote_bytes q ++ rest) × IsQuote q
 unfolding quote_at
 quote_takes [] q rest b e = absurd cc
-quote_takes (zero ∷ bytes) q rest b e = theirs_takes bytes q rest (behind 0 bytes b) e
-quote_takes (suc zero ∷ bytes) q rest b e = ours_takes bytes q rest (behind 1 bytes b) e
+quote_takes (zero ∷ bytes) q rest b e = theirs_takes bytes q rest (after 0 bytes b) e
+quote_takes (suc zero ∷ bytes) q rest b e = ours_takes bytes q rest (after 1 bytes b) e
 quote_takes (suc (suc c) ∷ bytes) q rest b e =
     let none : quote_at (suc (suc c) ∷ bytes) ≡ None = simp (differs (suc (suc c)) 0 (omega arith), differs (suc (suc c)) 1 (omega arith)) refl in
     absurd (none-some (q, rest) (sym none ∙ e))

@@ -32,7 +32,7 @@ use Rattle.jrn_codec.specs.Header.{version, column_bytes, balance_bytes, account
 use Rattle.jrn_codec.specs.Reading.{cut, spelled_at}
 use Rattle.jrn_codec.proofs.Identifiers.{bic_field, mir_field, uetr_field}
 
--- ---- parts one behind another
+-- ---- parts one after another
 
 long3 : (a b c : List ℕ) → length (a ++ b ++ c) ≡ length a + length b + length c
 long3 a b c = rw (length-append (a ++ b) c, length-append a b) refl

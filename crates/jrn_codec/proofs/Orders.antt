@@ -16,7 +16,7 @@ use Rattle.jrn_codec.proofs.Fields.{IsBytes, IsField, step, resume, tested, diff
 use Rattle.jrn_codec.proofs.Parts.{mark_field, optional_field}
 use Rattle.jrn_codec.proofs.Marks.{skip_marks}
 use Rattle.jrn_codec.proofs.Identifiers.{bic_field}
-use Rattle.jrn_codec.proofs.Legs.{behind, both, le_true, true_le}
+use Rattle.jrn_codec.proofs.Legs.{after, both, le_true, true_le}
 
 skip_field : IsField (λ (x : Skip). skip_mark x ∷ []) (mark_at skip_marked) (λ (x : Skip). Unit {0})
 skip_field = mark_field skip_mark skip_marked skip_marks
@@ -24,7 +24,7 @@ skip_field = mark_field skip_mark skip_marked skip_marks
 via_field : IsField (optional_bytes bic_bytes) (optional_at bic_at) (λ (via : Option Bic). IfSome via IsBic)
 via_field = optional_field bic_field
 
--- the bytes behind the kind spell such an order
+-- the bytes after the kind spell such an order
 abbrev Spells : ℕ → ℕ → List ℕ → Order × List ℕ → Type 0
 Spells legs kind bytes x = (kind ∷ bytes ≡ order_bytes x.0 ++ x.1) × IsOrder legs x.0
 
@@ -142,11 +142,11 @@ order_takes : (legs : ℕ) (bytes : List ℕ) (o : Order) (rest : List ℕ) → 
 unfolding order_at
 order_takes legs [] o rest b e = absurd cc
 order_takes legs (zero ∷ bytes) o rest b e = absurd cc
-order_takes legs (suc zero ∷ bytes) o rest b e = transfer_takes legs bytes (o, rest) (behind 1 bytes b) e
-order_takes legs (suc (suc zero) ∷ bytes) o rest b e = cover_takes legs bytes (o, rest) (behind 2 bytes b) e
-order_takes legs (suc (suc (suc zero)) ∷ bytes) o rest b e = pass_takes legs bytes (o, rest) (behind 3 bytes b) e
-order_takes legs (suc (suc (suc (suc zero))) ∷ bytes) o rest b e = debit_takes legs bytes (o, rest) (behind 4 bytes b) e
-order_takes legs (suc (suc (suc (suc (suc zero)))) ∷ bytes) o rest b e = credit_takes legs bytes (o, rest) (behind 5 bytes b) e
+order_takes legs (suc zero ∷ bytes) o rest b e = transfer_takes legs bytes (o, rest) (after 1 bytes b) e
+order_takes legs (suc (suc zero) ∷ bytes) o rest b e = cover_takes legs bytes (o, rest) (after 2 bytes b) e
+order_takes legs (suc (suc (suc zero)) ∷ bytes) o rest b e = pass_takes legs bytes (o, rest) (after 3 bytes b) e
+order_takes legs (suc (suc (suc (suc zero))) ∷ bytes) o rest b e = debit_takes legs bytes (o, rest) (after 4 bytes b) e
+order_takes legs (suc (suc (suc (suc (suc zero)))) ∷ bytes) o rest b e = credit_takes legs bytes (o, rest) (after 5 bytes b) e
 order_takes legs (suc (suc (suc (suc (suc (suc c))))) ∷ bytes) o rest b e =
     let none : order_at legs (suc (suc (suc (suc (suc (suc c))))) ∷ bytes) ≡ None = simp (differs (suc (suc (suc (suc (suc (suc c)))))) 1 (omega arith), differs (suc (suc (suc (suc (suc (suc c)))))) 2 (omega arith), differs (suc (suc (suc (suc (suc (suc c)))))) 3 (omega arith), differs (suc (suc (suc (suc (suc (suc c)))))) 4 (omega arith), differs (suc (suc (suc (suc (suc (suc c)))))) 5 (omega arith)) refl in
     absurd (none-some (o, rest) (sym none ∙ e))

@@ -6,7 +6,7 @@ use Rattle.std.specs.Int.{w32, to_be_bytes}
 use Rattle.std.proofs.lemmas.Option.{some_pair_parts, same_Some, option_and_then_some}
 use Rattle.jrn_codec.specs.Spelling.{optional_bytes, short_bytes, long_bytes, listed_bytes}
 use Rattle.jrn_codec.specs.Reading.{cut, spelled_at, mark_at, optional_at, short_at, long_at, items_at, listed_at}
-use Rattle.jrn_codec.proofs.Fields.{IsBytes, IsBytes-behind, IsField, step, resume, cut_field, byte_field, field32}
+use Rattle.jrn_codec.proofs.Fields.{IsBytes, IsBytes-after, IsField, step, resume, cut_field, byte_field, field32}
 
 -- n bytes that spell a value
 pub record IsSpelled {A : Type 0} (n : ℕ) (spell : A → List ℕ) (value : List ℕ → Option A) (Fits : A → Type 0) : Type 0 where
@@ -50,7 +50,7 @@ optional_takes field [] o rest b e = absurd cc
 optional_takes {A} {spell} {read} {Fits} field (zero ∷ bytes) o rest b e =
     subst (λ (p : Option A × List ℕ). (0 ∷ bytes ≡ optional_bytes spell p.0 ++ p.1) × IfSome p.0 Fits) (same_Some (None, bytes) (o, rest) e) (refl, tt)
 optional_takes {A} {spell} {read} {Fits} field (suc zero ∷ bytes) o rest b e =
-    let a = step field (λ x. Some (Some x.0, x.1)) bytes (o, rest) (IsBytes-behind (1 ∷ bytes) (1 ∷ []) bytes refl b) e in
+    let a = step field (λ x. Some (Some x.0, x.1)) bytes (o, rest) (IsBytes-after (1 ∷ bytes) (1 ∷ []) bytes refl b) e in
     subst (λ (p : Option A × List ℕ). (1 ∷ bytes ≡ optional_bytes spell p.0 ++ p.1) × IfSome p.0 Fits) (same_Some (Some a.value, a.rest) (o, rest) a.on) (ap (λ (t : List ℕ). 1 ∷ t) a.parts, a.fits)
 optional_takes field (suc (suc c) ∷ bytes) o rest b e = absurd cc
 

@@ -3,7 +3,7 @@ use Rattle.std.specs.Prelude.{◌≡◌, Option, Some, None, Result, Ok, Err}
 use Rattle.jrn_codec.specs.declared.fault.EntryFault.{EntryFault}
 use Rattle.jrn_codec.specs.declared.fault.EntryFault.TheVariants.{NoEntry, Memory}
 
--- no entry exactly where reading gives nothing; want of memory tells nothing
+-- no entry exactly where reading gives nothing; out of memory tells nothing
 abbrev pub FailsToRead : {Y : Type 0} → EntryFault → Option Y → Type 0
 FailsToRead NoEntry read = read ≡ None
 FailsToRead Memory read = Unit {0}

@@ -40,7 +40,7 @@ account_read bytes = do
     limits.1,
   )
 
--- the home bank and its accounts, behind the version
+-- the home bank and its accounts, after the version
 unfoldable pub chart_read : List ℕ → Option Chart
 chart_read bytes = do
   home ← bic_at bytes

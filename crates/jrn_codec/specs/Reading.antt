@@ -1,4 +1,4 @@
--- Reading a field from the front of bytes: the value and the bytes behind it, or nothing.
+-- Reading a field from the front of bytes: the value and the bytes after it, or nothing.
 use Rattle.std.specs.Prelude.{ℕ, zero, suc, List, [], ◌∷◌, take, drop, length, Option, Some, None, ℤ, nat_lt, if◌then◌else◌}
 use Rattle.std.specs.Int.{Width, w32, byte_len, from_be_bytes, cast_signed}
 use Rattle.corr_ids.specs.Bic.{bic_of}

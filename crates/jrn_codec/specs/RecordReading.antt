@@ -81,7 +81,7 @@ unfunded_at bytes = do
   balance ← signed_at w64 leg.1
   Some (Unfunded leg.0 balance.0, balance.1)
 
--- an outcome behind its mark
+-- an outcome after its mark
 unfoldable pub outcome_at : List ℕ → Option (Outcome × List ℕ)
 outcome_at bytes = do
   mark ← byte_at bytes
@@ -99,7 +99,7 @@ ours_at bytes = do
   k ← byte_at bytes
   Some (Ours k.0, k.1)
 
--- a quote behind its mark
+-- a quote after its mark
 unfoldable pub quote_at : List ℕ → Option (Quote × List ℕ)
 quote_at bytes = do
   mark ← byte_at bytes
@@ -192,7 +192,7 @@ fate_at bytes = do
   outcome ← outcome_at value.1
   Some (record { day = day.0; value = value.0; outcome = outcome.0 }, outcome.1)
 
--- legs and text are those of a pay, and nothing stands behind
+-- legs and text are those of a pay, and nothing follows
 abbrev pub is_whole_pay : List Leg → List ℕ → List ℕ → Bool
 is_whole_pay legs text rest = are_legs legs && nat_le (length text) most_text && (length rest == 0)
 

@@ -12,7 +12,7 @@ signed_bytes w n = to_be_bytes w (cast_unsigned w n)
 abbrev pub bic_bytes : Bic → List ℕ
 bic_bytes bic = bic.head ++ bic.branch
 
--- a mark, and behind the mark 1 the value
+-- a mark, and after the mark 1 the value
 abbrev pub optional_bytes : {A : Type 0} → (A → List ℕ) → Option A → List ℕ
 optional_bytes spell None = 0 ∷ []
 optional_bytes spell (Some x) = 1 ∷ spell x

@@ -5,7 +5,7 @@ ghost use Rattle.jrn_codec.specs.declared.fault.EntryFault.TheVariants as faults
 
 use corr_text::Memory;
 
-/// Why a record was not read: the bytes are not one, or want of memory.
+/// Why a record was not read: the bytes are not one, or out of memory.
 #[derive(Clone, Copy, Debug, PartialEq, Eq, Drop)]
 pub enum EntryFault {
     NoEntry,

@@ -1,4 +1,4 @@
-//! Fields at the front of bytes: the value, and the bytes behind it.
+//! Fields at the front of bytes: the value, and the bytes after it.
 
 ghost use Rattle.std.specs.Prelude.{◌≡◌, IfOk, length};
 ghost use Rattle.std.specs.Int.{w16, w32, w64};

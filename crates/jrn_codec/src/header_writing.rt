@@ -101,7 +101,7 @@ fn put_parts(out: &mut Text, a: &Accounts) -> Result<(), Memory>
     put_accounts(out, a)
 }
 
-/// Adds the header record of a home bank and its accounts, which `read_head` reads where the home is a BIC. After want of memory
+/// Adds the header record of a home bank and its accounts, which `read_head` reads where the home is a BIC. After out of memory
 /// the text is as before.
 #[tactic(auto, using(crate::proofs::HeadWriting::is_written))]
 pub fn put_head(a: &Accounts, out: &mut Text) -> Result<(), Memory>

@@ -15,7 +15,7 @@ pub fn push(out: &mut Buf, bytes: &[u8]) -> Result<(), Memory>
     out.push(bytes)
 }
 
-/// Adds pieces, one behind the other.
+/// Adds pieces, one after the other.
 #[tactic(auto, using(crate::proofs::Fronts::goes_on))]
 pub fn push_all(out: &mut Buf, pieces: &[&[u8]]) -> Result<(), Memory>
     ensures ok { OnOk result (out.new.bytes ≡ out.old.bytes ++ flat_map (λ piece. piece.now) pieces.now) }

@@ -1,4 +1,4 @@
--- Bytes in front of a gate, the gate, and what stands behind it.
+-- Bytes in front of a gate, the gate, and what stands after it.
 use Rattle.std.proofs.Common.{◌≡◌, ℕ, ◌+◌, List, [], ◌∷◌, ◌++◌, length, get_or, take, drop, sym, ◌∙◌, ap, arith, append_assoc, length-append, take-append-drop}
 use Rattle.std.proofs.lemmas.List.{take_at, drop_at, drop_more, drop-drop}
 use Rattle.corr_disk.specs.Disk.{written, Torn}
@@ -17,9 +17,9 @@ module _ (p : List ℕ) (at : ℕ) (is : at ≡ length p) where
   pub length-gate : (x : ℕ) (rest : List ℕ) → length (p ++ x ∷ rest) ≡ at + 1 + length rest
   length-gate x rest = omega (arith, is, length-append p (x ∷ rest))
 
-  -- a piece behind the gate
-  pub written-behind : (x : ℕ) (rest piece : List ℕ) → written (at + 1) piece (p ++ x ∷ rest) ≡ p ++ x ∷ (piece ++ drop (length piece) rest)
-  written-behind x rest piece =
+  -- a piece after the gate
+  pub written-after : (x : ℕ) (rest piece : List ℕ) → written (at + 1) piece (p ++ x ∷ rest) ≡ p ++ x ∷ (piece ++ drop (length piece) rest)
+  written-after x rest piece =
       let back : drop (at + 1 + length piece) (p ++ x ∷ rest) ≡ drop (length piece) rest =
       sym (drop-drop (length piece) (at + 1) (p ++ x ∷ rest)) ∙ ap (λ (l : List ℕ). drop (length piece) l) (drop-gate x rest) in
       ap (λ (l : List ℕ). l ++ piece ++ drop (at + 1 + length piece) (p ++ x ∷ rest)) (take-gate x rest)
@@ -34,9 +34,9 @@ module _ (p : List ℕ) (at : ℕ) (is : at ≡ length p) where
       ∙ ap (λ (l : List ℕ). p ++ (y ∷ []) ++ l) (drop-gate x rest)
       ∙ append_assoc p (y ∷ []) rest
 
-  -- a torn write behind the gate leaves the gate
-  pub torn-behind : (x n : ℕ) (rest c : List ℕ) → Torn (at + 1) n (p ++ x ∷ rest) c → c ≡ p ++ x ∷ drop (at + 1) c
-  torn-behind x n rest c torn =
+  -- a torn write after the gate leaves the gate
+  pub torn-after : (x n : ℕ) (rest c : List ℕ) → Torn (at + 1) n (p ++ x ∷ rest) c → c ≡ p ++ x ∷ drop (at + 1) c
+  torn-after x n rest c torn =
       sym (take-append-drop (at + 1) c)
       ∙ ap (λ (l : List ℕ). l ++ drop (at + 1) c) (torn.before ∙ take-gate x rest)
       ∙ append_assoc p (x ∷ []) (drop (at + 1) c)

@@ -19,7 +19,7 @@ closed-calls (a ∷ b ∷ bytes) more closed =
     subst (λ k. calls_to_make (k ∷ b ∷ bytes) ≡ 6) (sym (ap (λ (l : List ℕ). get_or l 0 0) closed)) refl
 
 module _ (bytes : List ℕ) (front : Front) (shown : IsFront front bytes) (old mid new : ℕ → Option Bool) (looked : CallsMade (calls_to_look front) old mid) where
-  -- a closed gate, behind which the header is entered
+  -- a closed gate, after which the header is entered
   pub closed-within : front ≡ Closed → AtMostCalls 4 mid new → AtMostCalls (calls_to_make bytes) old new
   closed-within is entered =
       let closed : IsFront Closed bytes = subst (λ f. IsFront f bytes) is shown in

@@ -6,7 +6,7 @@ use Rattle.corr_disk.specs.Disk.{written, Torn, Follows, Only}
 use Rattle.jrn_file.specs.Reading.{with_length}
 use Rattle.jrn_file.specs.Journal.{frame_of, record_in, journal_bytes, IsFrame, StandsFor}
 use Rattle.jrn_file.specs.Making.{IsUnmade, IsUnmadeOrMade, IsEntering, made_over}
-use Rattle.jrn_file.proofs.Bytes.{written-behind, written-gate, torn-behind, torn-gate}
+use Rattle.jrn_file.proofs.Bytes.{written-after, written-gate, torn-after, torn-gate}
 use Rattle.jrn_file.proofs.Readings.{spelled-stands}
 use Rattle.jrn_file.proofs.laws.Sizes.{length-sized, length-journal_bytes}
 
@@ -40,7 +40,7 @@ module _ (bytes : List ℕ) (closed : take 1 bytes ≡ 0 ∷ []) (frame : List �
   between : written 1 frame bytes ≡ 0 ∷ (frame_of (record_in frame) ++ drop (length frame) (drop 1 bytes))
   between =
       ap (λ (b : List ℕ). written 1 frame b) split
-      ∙ written-behind [] 0 refl 0 (drop 1 bytes) frame
+      ∙ written-after [] 0 refl 0 (drop 1 bytes) frame
       ∙ ap (λ (f : List ℕ). 0 ∷ (f ++ drop (length frame) (drop 1 bytes))) framed.is
 
   front-closed : (c rest : List ℕ) → c ≡ 0 ∷ rest → take 1 c ≡ 0 ∷ []
@@ -51,7 +51,7 @@ module _ (bytes : List ℕ) (closed : take 1 bytes ≡ 0 ∷ []) (frame : List �
 
   pub entering-head : (c : List ℕ) → IsEntering 0 frame bytes c → IsUnmadeOrMade (record_in frame) c
   entering-head c (inl torn) =
-      inl (inr (front-closed c (drop 1 c) (torn-behind [] 0 refl 0 (length frame) (drop 1 bytes) c (subst (λ b. Torn 1 (length frame) b c) split torn))))
+      inl (inr (front-closed c (drop 1 c) (torn-after [] 0 refl 0 (length frame) (drop 1 bytes) c (subst (λ b. Torn 1 (length frame) b c) split torn))))
   entering-head c (inr torn) =
       let rest = drop (length frame) (drop 1 bytes) in
       let is : c ≡ get_or c 0 0 ∷ (frame_of (record_in frame) ++ rest) =

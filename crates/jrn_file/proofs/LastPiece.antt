@@ -4,7 +4,7 @@ use Rattle.std.proofs.lemmas.List.{take_at}
 use Rattle.std.proofs.lemmas.Bool.{cases_lt}
 use Rattle.std.proofs.Math.Seq.{take-append-add}
 use Rattle.jrn_file.specs.Reading.{with_length}
-use Rattle.jrn_file.specs.Journal.{behind_gates, AreOpen}
+use Rattle.jrn_file.specs.Journal.{after_gates, AreOpen}
 use Rattle.jrn_file.specs.Opening.{IsWhole, HasNoRecord, IsShut}
 use Rattle.jrn_file.specs.Pieces.{AreTakenOff}
 
@@ -30,19 +30,19 @@ whole-in-front r (gate ∷ next) after piece fits is long =
 pub in-last-piece : (held piece rest : List ℕ) (more : List (List ℕ)) → HasNoRecord held → (IsShut held → ⊥) → AreTakenOff (held ++ piece) more rest → IsShut rest
     → length rest ≤ length piece
 in-last-piece [] piece rest more stopped open_gate taken shut =
-    omega (arith, ap length taken.is, length-append (behind_gates taken.entries) rest)
+    omega (arith, ap length taken.is, length-append (after_gates taken.entries) rest)
 in-last-piece (g ∷ after) piece rest more (inl closed) open_gate taken shut = absurd (open_gate closed)
 in-last-piece (g ∷ after) piece [] more (inr cut) open_gate taken shut = absurd shut
-in-last-piece (g ∷ after) piece (h ∷ rest) more (inr cut) open_gate taken shut = behind taken.entries taken.gates taken.is
+in-last-piece (g ∷ after) piece (h ∷ rest) more (inr cut) open_gate taken shut = beyond taken.entries taken.gates taken.is
   where
-    behind : (entries : List (ℕ × List ℕ)) → AreOpen entries → g ∷ (after ++ piece) ≡ behind_gates entries ++ h ∷ rest → length (h ∷ rest) ≤ length piece
-    behind [] gates is = absurd (open_gate (ap (λ (l : List ℕ). get_or l 0 0) is ∙ shut))
-    behind (e ∷ entries) gates is =
-        let next = behind_gates entries ++ h ∷ rest in
+    beyond : (entries : List (ℕ × List ℕ)) → AreOpen entries → g ∷ (after ++ piece) ≡ after_gates entries ++ h ∷ rest → length (h ∷ rest) ≤ length piece
+    beyond [] gates is = absurd (open_gate (ap (λ (l : List ℕ). get_or l 0 0) is ∙ shut))
+    beyond (e ∷ entries) gates is =
+        let next = after_gates entries ++ h ∷ rest in
         let same : after ++ piece ≡ with_length e.1 ++ next =
-        ap (λ (l : List ℕ). drop 1 l) is ∙ append_assoc (with_length e.1) (behind_gates entries) (h ∷ rest) in
+        ap (λ (l : List ℕ). drop 1 l) is ∙ append_assoc (with_length e.1) (after_gates entries) (h ∷ rest) in
         elim (cases_lt (length piece) (length (h ∷ rest))) [
           | inl more_left ↦
-              absurd (cut (whole-in-front e.1 next after piece gates.1 same (omega (arith, more_left, ap length same, length-append after piece, length-append (with_length e.1) next, length-append (behind_gates entries) (h ∷ rest)))))
+              absurd (cut (whole-in-front e.1 next after piece gates.1 same (omega (arith, more_left, ap length same, length-append after piece, length-append (with_length e.1) next, length-append (after_gates entries) (h ∷ rest)))))
           | inr within ↦ within
         ]

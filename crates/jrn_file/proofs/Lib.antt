@@ -1,5 +1,5 @@
 pub mod laws
-mod Behind
+mod After
 mod Bytes
 mod Calls
 mod EntryImages

@@ -5,7 +5,7 @@ use Rattle.std.proofs.lemmas.Nat.{div-mul-add}
 use Rattle.std.proofs.Math.Nat.{le-div_iff_mul-le}
 use Rattle.jrn_file.specs.Reading.{no_journal, cut, opened_of}
 use Rattle.jrn_file.specs.Opening.{HasNoRecord, IsShut, IsReadAs}
-use Rattle.jrn_file.specs.Journal.{behind_gates}
+use Rattle.jrn_file.specs.Journal.{after_gates}
 use Rattle.jrn_file.specs.Pieces.{IsPiece, AreTakenOff, OfBytes, calls_to_open}
 use Rattle.jrn_file.proofs.Taken.{taken-start, taken-then, taken-end, taken-none, taken-refused, taken-cut}
 use Rattle.jrn_file.proofs.LastPiece.{in-last-piece}
@@ -32,7 +32,7 @@ pub piece-of : (honest other : Bool) (reads others : List ℕ) (at asked n : ℕ
 piece-of honest other reads others at asked n held mid same_honest same_reads piece =
     subst (λ l. IsPiece honest l at asked n held mid) same_reads (subst (λ h. IsPiece h others at asked n held mid) same_honest piece)
 
--- a front that was taken, and what is behind it
+-- a front that was taken, and what is after it
 front-and-rest : (asked : ℕ) (more bytes : List ℕ) → more ≡ take asked bytes → bytes ≡ more ++ drop (length more) bytes
 front-and-rest asked more bytes is =
     sym (take-append-drop asked bytes)
@@ -62,13 +62,13 @@ pub read-on : (honest : Bool) (reads : List ℕ) (at asked n : ℕ) (all grown :
 read-on honest reads at asked n all grown held mid rest so_far piece taken =
     subst (λ l. ReadTo honest reads (at + n) l rest) (sym taken.1) (read-more honest reads at asked n all taken.0 held mid rest so_far piece taken.2)
 
--- nothing is left behind a piece that is short
+-- nothing is left after a piece that is short
 pub short-piece : (honest : Bool) (reads : List ℕ) (at asked n : ℕ) (held mid : List ℕ) → IsPiece honest reads at asked n held mid → n < asked → IsTrue honest → drop (at + n) reads ≡ []
 short-piece honest reads at asked n held mid piece short told =
     drop_all (at + n) reads (omega (arith, short, piece.count, ap length (piece.told told), length-take asked (drop at reads), length-drop at reads))
 
 module _ (honest : Bool) (reads : List ℕ) (place : ℕ) (all : List (List ℕ)) (held : List ℕ) (read : ReadTo honest reads place all held) where
-  -- a closed gate behind the records
+  -- a closed gate after the records
   pub read-end : IsShut held → 0 < length all → OfBytes honest reads (λ bytes. IsReadAs bytes (place - length held) all)
   read-end shut some = (
     read.bytes ++ drop place reads,
@@ -84,11 +84,11 @@ module _ (honest : Bool) (reads : List ℕ) (place : ℕ) (all : List (List ℕ)
   all-told : (IsTrue honest → drop place reads ≡ []) → IsTrue honest → read.bytes ≡ reads
   all-told all_read told = sym (append-nil read.bytes) ∙ ap (λ (l : List ℕ). read.bytes ++ l) (sym (all_read told)) ∙ read.told told
 
-  -- an open gate, or nothing, and no whole record behind it up to the end: before the first record
+  -- an open gate, or nothing, and no whole record after it up to the end: before the first record
   pub read-refused : (IsTrue honest → drop place reads ≡ []) → HasNoRecord held → length all ≡ 0 → OfBytes honest reads (λ bytes. opened_of bytes ≡ no_journal)
   read-refused all_read stopped none = (read.bytes, taken-refused read.bytes held all read.taken stopped none, all-told all_read)
 
-  -- and behind records
+  -- and after records
   pub read-cut : (IsTrue honest → drop place reads ≡ []) → HasNoRecord held → (IsShut held → ⊥) → 0 < length all
       → OfBytes honest reads (λ bytes. opened_of bytes ≡ cut all (place - length held))
   read-cut all_read stopped open_gate some = (
@@ -99,7 +99,7 @@ module _ (honest : Bool) (reads : List ℕ) (place : ℕ) (all : List (List ℕ)
 
   -- no more is held than was read
   pub held-within : length held ≤ place
-  held-within = omega (arith, ap length read.taken.is, length-append (behind_gates read.taken.entries) held, read.size)
+  held-within = omega (arith, ap length read.taken.is, length-append (after_gates read.taken.entries) held, read.size)
 
   -- so much there is
   pub read-within : IsTrue honest → place ≤ length reads
@@ -112,9 +112,9 @@ gate-in-piece honest reads index piece n more held mid [] stopped open_gate is_p
 gate-in-piece honest reads index piece n more held mid (g ∷ rest) stopped open_gate is_piece taken shut =
     let within : length (g ∷ rest) ≤ length is_piece.more =
     in-last-piece held is_piece.more (g ∷ rest) more stopped open_gate (subst (λ l. AreTakenOff l more (g ∷ rest)) is_piece.is taken) shut in
-    let behind = n - length (g ∷ rest) in
-    let place : index * piece + n - length (g ∷ rest) ≡ index * piece + behind = omega (arith, within, is_piece.count) in
-    ap (λ (k : ℕ). k / piece) place ∙ div-mul-add index piece behind (omega (arith, within, is_piece.count, is_piece.most))
+    let after = n - length (g ∷ rest) in
+    let place : index * piece + n - length (g ∷ rest) ≡ index * piece + after = omega (arith, within, is_piece.count) in
+    ap (λ (k : ℕ). k / piece) place ∙ div-mul-add index piece after (omega (arith, within, is_piece.count, is_piece.most))
 
 -- a read from a place up to the end is one of those that show the end
 pub calls-within : (index piece size : ℕ) → 0 < piece → index * piece ≤ size → 2 + index ≤ calls_to_open piece size

@@ -10,19 +10,19 @@ use Rattle.std.proofs.lemmas.Nat.{from_be_bytes-to_be_bytes_4}
 use Rattle.std.proofs.lemmas.Option.{same_Some, none-some}
 use Rattle.std.proofs.lemmas.Slice.Eq.{bytes_eq-Decides}
 use Rattle.jrn_file.specs.Reading.{Reading, no_journal, whole, cut, begins_with_record, is_whole, opened_of, reading_of, record_at, records_in, records_of, size_of, with_length}
-use Rattle.jrn_file.specs.Journal.{behind_gates, AreOpen, StandsFor}
+use Rattle.jrn_file.specs.Journal.{after_gates, AreOpen, StandsFor}
 use Rattle.jrn_file.specs.Opening.{BeginsWith, HasNoRecord}
 use Rattle.jrn_file.specs.Pieces.{AreTakenOff}
-use Rattle.jrn_file.proofs.laws.Sizes.{length-sized, length-behind_gates}
+use Rattle.jrn_file.proofs.laws.Sizes.{length-sized, length-after_gates}
 
 -- a record that was begun is the one that its length tells
 pub record-begun : (after r : List ℕ) → BeginsWith after r → record_at after ≡ r
 record-begun after r b =
     let size = to_be_bytes w32 (length r) in
-    let behind = r ++ b.gate ∷ b.rest in
-    let is : after ≡ size ++ behind = b.is ∙ append_assoc size r (b.gate ∷ b.rest) in
-    let front : take 4 after ≡ size = ap (λ (l : List ℕ). take 4 l) is ∙ take_at size behind 4 refl in
-    let back : drop 4 after ≡ behind = ap (λ (l : List ℕ). drop 4 l) is ∙ drop_at size behind 4 refl in
+    let beyond = r ++ b.gate ∷ b.rest in
+    let is : after ≡ size ++ beyond = b.is ∙ append_assoc size r (b.gate ∷ b.rest) in
+    let front : take 4 after ≡ size = ap (λ (l : List ℕ). take 4 l) is ∙ take_at size beyond 4 refl in
+    let back : drop 4 after ≡ beyond = ap (λ (l : List ℕ). drop 4 l) is ∙ drop_at size beyond 4 refl in
     let n : from_be_bytes w32 (take 4 after) ≡ length r = ap (from_be_bytes w32) front ∙ from_be_bytes-to_be_bytes_4 (length r) b.fits in
     ap (λ (k : ℕ). take k (drop 4 after)) n ∙ ap (λ (l : List ℕ). take (length r) l) back ∙ take_at r (b.gate ∷ b.rest) (length r) refl
 
@@ -82,7 +82,7 @@ none-in (suc n) (gate ∷ after) (inr none) =
       | inr fails ↦ ap (λ (b : Bool). cond b more []) (and-false (not (gate == 0)) (is_whole after) fails)
     ]
 
--- a whole record behind an open gate is found
+-- a whole record after an open gate is found
 one-in : (n gate : ℕ) (after : List ℕ) → gate ≢ 0 → is_whole after ≡ true
     → records_in (suc n) (gate ∷ after) ≡ record_at after ∷ records_in n (drop (length (with_length (record_at after))) after)
 one-in n gate after open_gate holds =
@@ -91,17 +91,17 @@ one-in n gate after open_gate holds =
 
 -- all records in front are found
 all-in : (n : ℕ) (entries : List (ℕ × List ℕ)) (rest : List ℕ) → AreOpen entries → HasNoRecord rest
-    → (0 < length (map (λ (e : ℕ × List ℕ). e.1) entries) → 0 < length rest) → length (behind_gates entries ++ rest) ≤ n
-    → records_in n (behind_gates entries ++ rest) ≡ map (λ (e : ℕ × List ℕ). e.1) entries
+    → (0 < length (map (λ (e : ℕ × List ℕ). e.1) entries) → 0 < length rest) → length (after_gates entries ++ rest) ≤ n
+    → records_in n (after_gates entries ++ rest) ≡ map (λ (e : ℕ × List ℕ). e.1) entries
 all-in n [] rest gates stop some within = none-in n rest stop
 all-in zero (e ∷ entries) rest gates stop some within = absurd (omega (arith, within))
 all-in (suc n) (e ∷ entries) rest gates stop some within =
     let has : 0 < length rest = some (omega arith) in
-    let next = behind_gates entries ++ rest in
-    let after = (with_length e.1 ++ behind_gates entries) ++ rest in
+    let next = after_gates entries ++ rest in
+    let after = (with_length e.1 ++ after_gates entries) ++ rest in
     let size = length (with_length e.1) in
-    let same : after ≡ with_length e.1 ++ next = append_assoc (with_length e.1) (behind_gates entries) rest in
-    let more : 0 < length next = omega (arith, has, length-append (behind_gates entries) rest) in
+    let same : after ≡ with_length e.1 ++ next = append_assoc (with_length e.1) (after_gates entries) rest in
+    let more : 0 < length next = omega (arith, has, length-append (after_gates entries) rest) in
     let begins : BeginsWith after e.1 = record {
       gate = get_or next 0 0;
       rest = drop 1 next;
@@ -115,12 +115,12 @@ all-in (suc n) (e ∷ entries) rest gates stop some within =
     ap (λ (l : List ℕ). records_in n l) left ∙ all-in n entries rest gates.2 stop (λ _. has) (omega (arith, within, ap length same, length-append (with_length e.1) next)) in
     one-in n e.0 after gates.0 (whole-begun after e.1 begins) ∙ (λ i. is i ∷ others i)
 
--- records in front of bytes, behind open gates
+-- records in front of bytes, after open gates
 pub record Front (bytes : List ℕ) (all : List (List ℕ)) : Type 0 where
   pub entries : List (ℕ × List ℕ)
   pub gates : AreOpen entries
   pub same : map (λ (e : ℕ × List ℕ). e.1) entries ≡ all
-  pub is : bytes ≡ behind_gates entries ++ drop (size_of all) bytes
+  pub is : bytes ≡ after_gates entries ++ drop (size_of all) bytes
 
 no-front : (bytes : List ℕ) → Front bytes []
 no-front bytes = record { entries = []; gates = tt; same = refl; is = refl }
@@ -142,7 +142,7 @@ found (suc n) (gate ∷ after) =
     let front : after ≡ with_length r ++ left =
     begins.is ∙ ap (λ (l : List ℕ). with_length r ++ l) (sym (ap (λ (l : List ℕ). drop size l) begins.is ∙ drop_at (with_length r) (begins.gate ∷ begins.rest) size refl)) in
     let total : size_of (r ∷ more) ≡ 1 + (size + size_of more) = omega (arith, length-sized r) in
-    let behind : drop (size_of more) left ≡ drop (size_of (r ∷ more)) (gate ∷ after) =
+    let beyond : drop (size_of more) left ≡ drop (size_of (r ∷ more)) (gate ∷ after) =
     drop-drop (size_of more) size after ∙ drop-drop (size + size_of more) 1 (gate ∷ after) ∙ ap (λ (k : ℕ). drop k (gate ∷ after)) (sym total) in
     record {
       entries = (gate, r) ∷ inner.entries;
@@ -150,8 +150,8 @@ found (suc n) (gate ∷ after) =
       same = ap (λ (l : List (List ℕ)). r ∷ l) inner.same;
       is = ap (λ (l : List ℕ). gate ∷ l) (
           front
-          ∙ ap (λ (l : List ℕ). with_length r ++ l) (inner.is ∙ ap (λ (l : List ℕ). behind_gates inner.entries ++ l) behind)
-          ∙ sym (append_assoc (with_length r) (behind_gates inner.entries) (drop (size_of (r ∷ more)) (gate ∷ after)))
+          ∙ ap (λ (l : List ℕ). with_length r ++ l) (inner.is ∙ ap (λ (l : List ℕ). after_gates inner.entries ++ l) beyond)
+          ∙ sym (append_assoc (with_length r) (after_gates inner.entries) (drop (size_of (r ∷ more)) (gate ∷ after)))
           );
     })
     (λ fails. no-front (gate ∷ after))
@@ -169,18 +169,18 @@ taken-read bytes all rest taken stop =
     ap (λ (b : List ℕ). records_in (length bytes) b) taken.is
     ∙ all-in (length bytes) taken.entries rest taken.gates stop some (omega (arith, ap length taken.is))
     ∙ taken.same in
-    let behind : drop (size_of all) bytes ≡ rest =
+    let beyond : drop (size_of all) bytes ≡ rest =
     ap (λ (b : List ℕ). drop (size_of all) b) taken.is
-    ∙ drop_at (behind_gates taken.entries) rest (size_of all) (length-behind_gates taken.entries ∙ ap size_of taken.same) in
-    ap (λ (rs : List (List ℕ)). reading_of rs (drop (size_of rs) bytes)) all_found ∙ ap (λ (l : List ℕ). reading_of all l) behind
+    ∙ drop_at (after_gates taken.entries) rest (size_of all) (length-after_gates taken.entries ∙ ap size_of taken.same) in
+    ap (λ (rs : List (List ℕ)). reading_of rs (drop (size_of rs) bytes)) all_found ∙ ap (λ (l : List ℕ). reading_of all l) beyond
 
--- Bytes that are spelled so: each record behind its length and an open gate, and a closed gate after the last.
+-- Bytes that are spelled so: each record after its length and an open gate, and a closed gate after the last.
 pub record Spelled (image head : List ℕ) (records : List (List ℕ)) : Type 0 where
   pub entries : List (ℕ × List ℕ)
   pub rest : List ℕ
   pub gates : AreOpen entries
   pub same : map (λ (e : ℕ × List ℕ). e.1) entries ≡ head ∷ records
-  pub is : image ≡ behind_gates entries ++ 0 ∷ rest
+  pub is : image ≡ after_gates entries ++ 0 ∷ rest
 
 pub spelled-stands : (image head : List ℕ) (records : List (List ℕ)) → Spelled image head records → StandsFor image head records
 spelled-stands image head records s =
@@ -219,5 +219,5 @@ stands-spelled image head records stands =
       rest = ends.1.0;
       gates = front.gates;
       same = front.same ∙ ends.0;
-      is = front.is ∙ ap (λ (l : List ℕ). behind_gates front.entries ++ l) ends.1.1;
+      is = front.is ∙ ap (λ (l : List ℕ). after_gates front.entries ++ l) ends.1.1;
     }

@@ -20,16 +20,16 @@ begins-with after size bytes is fits enough =
     let long : length r ≡ size = length-take-le size (drop 4 after) (omega (arith, enough, length-drop 4 after)) in
     let front : to_be_bytes w32 (length r) ≡ take 4 after =
     ap (to_be_bytes w32) long ∙ be_bytes_4 (take 4 after) size (length-take-le 4 after (omega (arith, enough))) (small-take 4 after bytes) is in
-    let behind = drop size (drop 4 after) in
-    let gate = get_or behind 0 0 in
-    let next : behind ≡ gate ∷ drop 1 behind = drop_more behind 0 0 (omega (arith, enough, length-drop size (drop 4 after), length-drop 4 after)) in
+    let beyond = drop size (drop 4 after) in
+    let gate = get_or beyond 0 0 in
+    let next : beyond ≡ gate ∷ drop 1 beyond = drop_more beyond 0 0 (omega (arith, enough, length-drop size (drop 4 after), length-drop 4 after)) in
     record {
       gate = gate;
-      rest = drop 1 behind;
+      rest = drop 1 beyond;
       fits = omega (arith, long, fits);
       is = sym (take-append-drop 4 after)
           ∙ ap (λ (l : List ℕ). take 4 after ++ l) (sym (take-append-drop size (drop 4 after)))
-          ∙ ap (λ (l : List ℕ). l ++ (r ++ behind)) (sym front)
-          ∙ sym (append_assoc (to_be_bytes w32 (length r)) r behind)
+          ∙ ap (λ (l : List ℕ). l ++ (r ++ beyond)) (sym front)
+          ∙ sym (append_assoc (to_be_bytes w32 (length r)) r beyond)
           ∙ ap (λ (l : List ℕ). with_length r ++ l) next;
     }

@@ -15,7 +15,7 @@ pub record TellsCounts (old before after new : ℕ) : Type 0 where
   pub after_is : after ≡ new
   pub rose : Rose before after
 
--- With so many bytes more behind its closed gate the file would pass its limit. It is as before.
+-- With so many bytes more after its closed gate the file would pass its limit. It is as before.
 pub record PassesLimit (at more end need : ℕ) (untouched : Type 0) : Type 0 where
   pub end_is : end ≡ at
   pub need_is : need ≡ more

@@ -12,7 +12,7 @@ disk_of file = file.disk
 abbrev pub end_of : {D : Type 0} → JFile D → ℕ
 end_of file = file.end
 
--- The file holds this header and these records, its closed gate stands behind them, and all of it is on the disk.
+-- The file holds this header and these records, its closed gate stands after them, and all of it is on the disk.
 pub record IsSettled {D : Type 0} (honest : D → Bool) (reads : D → List ℕ) (may_leave : D → List ℕ → Type 0)
     (file : JFile D) (head : List ℕ) (records : List (List ℕ)) : Type 0 where
   pub stands : IsTrue (honest file.disk) → StandsFor (reads file.disk) head records

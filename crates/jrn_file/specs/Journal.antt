@@ -6,7 +6,7 @@ use Rattle.jrn_file.specs.Reading.{with_length, opened_of, whole}
 abbrev pub most_header_bytes : ℕ
 most_header_bytes = 1048576
 
--- a record as it is appended: behind its length, and a closed gate after it
+-- a record as it is appended: after its length, and a closed gate after it
 abbrev pub frame_of : List ℕ → List ℕ
 frame_of r = with_length r ++ 0 ∷ []
 
@@ -19,21 +19,21 @@ pub record IsFrame (frame : List ℕ) : Type 0 where
   pub is : frame ≡ frame_of (record_in frame)
   pub fits : length (record_in frame) < 2 ^ 32
 
--- records, each behind its gate
-abbrev pub behind_gates : List (ℕ × List ℕ) → List ℕ
-behind_gates [] = []
-behind_gates (entry ∷ more) = entry.0 ∷ (with_length entry.1 ++ behind_gates more)
+-- records, each after its gate
+abbrev pub after_gates : List (ℕ × List ℕ) → List ℕ
+after_gates [] = []
+after_gates (entry ∷ more) = entry.0 ∷ (with_length entry.1 ++ after_gates more)
 
--- the journal of a header and records: each behind the gate 1, and then a closed gate
+-- the journal of a header and records: each after the gate 1, and then a closed gate
 abbrev pub journal_bytes : List ℕ → List (List ℕ) → List ℕ
-journal_bytes head records = behind_gates (map (λ r. (1, r)) (head ∷ records)) ++ 0 ∷ []
+journal_bytes head records = after_gates (map (λ r. (1, r)) (head ∷ records)) ++ 0 ∷ []
 
 -- each gate is open, which any byte but 0 is, and four bytes tell each record's length
 abbrev pub AreOpen : List (ℕ × List ℕ) → Type 0
 AreOpen [] = Unit {0}
 AreOpen (entry ∷ more) = (entry.0 ≢ 0) × (length entry.1 < 2 ^ 32) × AreOpen more
 
--- The bytes hold the journal of this header and these records: these are the whole records in front, behind which a closed gate
+-- The bytes hold the journal of this header and these records: these are the whole records in front, after which a closed gate
 -- stands. What follows it is anything.
 abbrev pub StandsFor : List ℕ → List ℕ → List (List ℕ) → Type 0
 StandsFor image head records = opened_of image ≡ whole (head ∷ records)

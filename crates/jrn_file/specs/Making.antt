@@ -31,7 +31,7 @@ calls_to_look Short = 1
 calls_to_look Closed = 2
 calls_to_look (Open first) = 2
 
--- the bytes of a new journal of this header over these: what stands behind its closed gate stays
+-- the bytes of a new journal of this header over these: what stands after its closed gate stays
 abbrev pub made_over : List ℕ → List ℕ → List ℕ
 made_over head bytes = journal_bytes head [] ++ drop (length (journal_bytes head [])) bytes
 
@@ -42,7 +42,7 @@ calls_to_make [] = 7
 calls_to_make (first ∷ []) = 7
 calls_to_make (first ∷ second ∷ more) = if first == 0 then 6 else 2
 
--- Within an entry at a gate: the frame is being written behind it, or the gate before the whole frame.
+-- Within an entry at a gate: the frame is being written after it, or the gate before the whole frame.
 abbrev pub IsEntering : ℕ → List ℕ → List ℕ → List ℕ → Type 0
 IsEntering gate frame bytes image =
     Torn (gate + 1) (length frame) bytes image ⊎ Torn gate 1 (written (gate + 1) frame bytes) image

@@ -14,18 +14,18 @@ use Rattle.jrn_file.specs.declared.fault.OpenFault.TheVariants.{NotAJournal, Dam
 use Rattle.jrn_file.specs.declared.loading.LoadFault.{LoadFault}
 use Rattle.jrn_file.specs.declared.loading.LoadFault.TheVariants as load
 
--- behind an open gate: this record, with its length before it and a gate after it
+-- after an open gate: this record, with its length before it and a gate after it
 pub record BeginsWith (after r : List ℕ) : Type 0 where
   pub gate : ℕ
   pub rest : List ℕ
   pub fits : length r < 2 ^ 32
   pub is : after ≡ with_length r ++ gate ∷ rest
 
--- a whole record stands behind the gate
+-- a whole record stands after the gate
 abbrev pub IsWhole : List ℕ → Type 0
 IsWhole after = (r : List ℕ) × BeginsWith after r
 
--- no record in front: no byte, a closed gate, or an open one with no whole record behind it
+-- no record in front: no byte, a closed gate, or an open one with no whole record after it
 abbrev pub HasNoRecord : List ℕ → Type 0
 HasNoRecord [] = Unit {0}
 HasNoRecord (gate ∷ after) = (gate ≡ 0) ⊎ (IsWhole after → ⊥)
@@ -58,7 +58,7 @@ ReadCause old new honest image (Damaged at) = ⊥
 ReadCause old new honest image (DiskFault before after) = TellsCounts old before after new
 ReadCause old new honest image Memory = new ≡ old
 
--- the same, and Damaged tells the place of damage behind whole records
+-- the same, and Damaged tells the place of damage after whole records
 abbrev pub OpenCause : ℕ → ℕ → Bool → List ℕ → OpenFault → Type 0
 OpenCause old new honest image NotAJournal = (new ≡ old) × (IsTrue honest → opened_of image ≡ no_journal)
 OpenCause old new honest image (Damaged at) = (new ≡ old) × (IsTrue honest → (all : List (List ℕ)) × (opened_of image ≡ cut all at))
@@ -72,12 +72,12 @@ pub record IsOpened {D : Type 0} (honest : D → Bool) (reads : D → List ℕ) 
   pub all_is : all ≡ head ∷ records
   pub settled : IsSettled honest reads may_leave file head records
 
--- the disk behind an ending
+-- the disk after an ending
 abbrev pub disk_in : {D : Type 0} → Ending D → D
 disk_in (ending.Open file) = file.disk
 disk_in (ending.Damaged disk at) = disk
 
--- what the bytes are that end so behind these records
+-- what the bytes are that end so after these records
 abbrev pub reading_in : {D : Type 0} → List (List ℕ) → Ending D → Reading
 reading_in all (ending.Open file) = whole all
 reading_in all (ending.Damaged disk at) = cut all at

@@ -3,31 +3,31 @@ use Rattle.std.specs.Prelude.{ℕ, zero, suc, ◌+◌, ◌^◌, ◌==◌, ◌&&�
 use Rattle.std.specs.Int.{w32, to_be_bytes, from_be_bytes}
 use Rattle.std.specs.Str.{bytes_eq}
 
--- a record behind the four bytes of its length
+-- a record after the four bytes of its length
 abbrev pub with_length : List ℕ → List ℕ
 with_length r = to_be_bytes w32 (length r) ++ r
 
--- the record behind an open gate: as many bytes as the four in front tell
+-- the record after an open gate: as many bytes as the four in front tell
 abbrev pub record_at : List ℕ → List ℕ
 record_at after = take (from_be_bytes w32 (take 4 after)) (drop 4 after)
 
--- these bytes begin with a record behind its length, and a byte more, which is the next gate
+-- these bytes begin with a record after its length, and a byte more, which is the next gate
 abbrev pub begins_with_record : List ℕ → List ℕ → Bool
 begins_with_record after r = nat_lt (length r) (2 ^ 32) && nat_lt (length (with_length r)) (length after) && bytes_eq (take (length (with_length r)) after) (with_length r)
 
--- a whole record stands behind the gate
+-- a whole record stands after the gate
 abbrev pub is_whole : List ℕ → Bool
 is_whole after = begins_with_record after (record_at after)
 
--- The whole records in front, each behind an open gate, which any byte but 0 is. They end at a closed gate, at an open one with
--- no whole record behind it, or at the last byte. The first number bounds how many there are.
+-- The whole records in front, each after an open gate, which any byte but 0 is. They end at a closed gate, at an open one with
+-- no whole record after it, or at the last byte. The first number bounds how many there are.
 abbrev pub records_in : ℕ → List ℕ → List (List ℕ)
 records_in zero bytes = []
 records_in (suc n) [] = []
 records_in (suc n) (gate ∷ after) =
     if not (gate == 0) && is_whole after then record_at after ∷ records_in n (drop (length (with_length (record_at after))) after) else []
 
--- how many bytes records take behind their gates: the place of the gate after them
+-- how many bytes records take after their gates: the place of the gate after them
 abbrev pub size_of : List (List ℕ) → ℕ
 size_of [] = 0
 size_of (r ∷ records) = 5 + length r + size_of records
@@ -38,10 +38,10 @@ pub data Reading : Type 0 where
   no_journal : Reading
   -- a header and records, up to a closed gate
   whole : (all : List (List ℕ)) → Reading
-  -- a header and records, and then, at this place, an open gate with no whole record behind it
+  -- a header and records, and then, at this place, an open gate with no whole record after it
   cut : (all : List (List ℕ)) (at : ℕ) → Reading
 
--- what bytes are that have these records in front, and the rest behind them
+-- what bytes are that have these records in front, and the rest after them
 abbrev pub reading_of : List (List ℕ) → List ℕ → Reading
 reading_of [] rest = no_journal
 reading_of (head ∷ records) rest = if bytes_eq (take 1 rest) (0 ∷ []) then whole (head ∷ records) else cut (head ∷ records) (size_of (head ∷ records))
@@ -60,6 +60,6 @@ all_of no_journal = []
 all_of (whole all) = all
 all_of (cut all at) = all
 
--- each of these records stands in the bytes behind its length and its gate, whose place is the size of those before it
+-- each of these records stands in the bytes after its length and its gate, whose place is the size of those before it
 abbrev pub AreAt : List ℕ → List (List ℕ) → Type 0
 AreAt bytes all = (k : ℕ) (r : List ℕ) → slice_get all k ≡ Some r → take (length (with_length r)) (drop (size_of (take k all) + 1) bytes) ≡ with_length r

@@ -11,7 +11,7 @@ use corr_disk::{Disk, Failed};
 /// An open gate, as it is written.
 const OPEN: u8 = 1;
 
-/// Writes a frame behind the closed gate at this place, and opens the gate once the frame is on the disk.
+/// Writes a frame after the closed gate at this place, and opens the gate once the frame is on the disk.
 pub(crate) fn enter<D: Disk>(disk: &mut D, gate: u64, frame: &[u8]) -> Result<(), Failed>
     requires gate { IsTrue (D.honest disk.old) → gate < length (D.reads disk.old) }
     requires room { gate + 1 + length frame.now ≤ most_disk_bytes }

@@ -18,7 +18,7 @@ pub enum OpenFault {
     /// A call of the disk failed: its count of faults before and after.
     #[error("disk fault {before} {after}")]
     DiskFault { before: u64, after: u64 },
-    /// Want of memory.
+    /// Out of memory.
     #[error("memory")]
     Memory,
 }
@@ -32,7 +32,7 @@ pub enum MakeFault {
     /// A call of the disk failed: its count of faults before and after.
     #[error("disk fault {before} {after}")]
     DiskFault { before: u64, after: u64 },
-    /// Want of memory.
+    /// Out of memory.
     #[error("memory")]
     Memory,
 }
@@ -40,7 +40,7 @@ pub enum MakeFault {
 /// Why a record was not appended.
 #[derive(Clone, Copy, Debug, PartialEq, Eq, Drop)]
 pub enum AppendFault {
-    /// With the record's `need` bytes behind `end`, the file would pass 2^30 bytes.
+    /// With the record's `need` bytes after `end`, the file would pass 2^30 bytes.
     Full { end: u64, need: u64 },
     /// A call of the disk failed: its count of faults before and after.
     DiskFault { before: u64, after: u64 },

@@ -27,7 +27,7 @@ pub struct JFile<D: Disk> {
 pub enum Ending<D: Disk> {
     /// With a closed gate: more records may be appended.
     Open(JFile<D>),
-    /// With an open gate at this place that has no whole record behind it.
+    /// With an open gate at this place that has no whole record after it.
     Damaged { disk: D, at: u64 },
 }
 
@@ -53,7 +53,7 @@ impl<D: Disk> JFile<D> {
         ensures ok { OnOk result ((head : List ℕ) (records : List (List ℕ)) → IsSettled D.honest D.reads D.may_leave self.old head records
             → IsSettled D.honest D.reads D.may_leave self.new head (records ++ record_in frame.now ∷ [])) }
 
-        // The record stands behind the gate that was closed, which is 1 now.
+        // The record stands after the gate that was closed, which is 1 now.
         ensures bytes { IsTrue (D.honest (disk_of self.old)) → OnOk result (D.reads (disk_of self.new) ≡ written (end_of self.old) (1 ∷ []) (written (end_of self.old + 1) frame.now (D.reads (disk_of self.old)))) }
 
         // A crash at any moment of the call leaves the records from before it, with the new one or without.
@@ -61,7 +61,7 @@ impl<D: Disk> JFile<D> {
             → IsTrue (D.honest (disk_of self.old))
             → LeavesOnly D.moment D.left_since (disk_of self.old) (disk_of self.new) (IsBeforeOrAfter head records (record_in frame.now)) }
 
-        // The closed gate stands behind the record, and after a fault where it stood.
+        // The closed gate stands after the record, and after a fault where it stood.
         ensures moved { OnOk result (end_of self.new ≡ end_of self.old + length frame.now) }
         ensures place { OnErr result (end_of self.new ≡ end_of self.old) }
 

@@ -6,7 +6,7 @@ ghost use Rattle.jrn_file.specs.Journal.{frame_of, most_header_bytes};
 use corr_text::Memory;
 use std::alloc::Global;
 
-/// A record behind its length in four bytes, and a closed gate after it.
+/// A record after its length in four bytes, and a closed gate after it.
 pub(crate) fn framed(alloc: Global, record: &[u8]) -> Result<Vec<u8>, Memory>
     requires { length record.now ≤ most_header_bytes }
     ensures { IfOk result (λ frame. frame.items ≡ frame_of record.now) }

@@ -13,7 +13,7 @@ use corr_disk::Disk;
 use std::alloc::{AllocError, Global};
 use std::marker::Model;
 
-/// Bytes that were read and not yet taken. Contracts see them alone, and not what is left of others behind them.
+/// Bytes that were read and not yet taken. Contracts see them alone, and not what is left of others after them.
 #[derive(Drop)]
 pub(crate) struct Held {
     buffer: Vec<u8>,
@@ -67,7 +67,7 @@ impl Held {
     }
 }
 
-/// Makes a buffer at least so long, by zeros behind what it holds. One that is long enough is left as it is.
+/// Makes a buffer at least so long, by zeros after what it holds. One that is long enough is left as it is.
 fn lengthen(buffer: &mut Vec<u8>, len: usize) -> Result<(), AllocError>
     ensures long { OnOk result (len ≤ length buffer.new.items) }
     ensures no_shorter { length buffer.old.items ≤ length buffer.new.items }
@@ -79,7 +79,7 @@ fn lengthen(buffer: &mut Vec<u8>, len: usize) -> Result<(), AllocError>
     Ok(())
 }
 
-/// Reads so many bytes from this place of the disk on, or as many as there are, and puts them behind the held ones.
+/// Reads so many bytes from this place of the disk on, or as many as there are, and puts them after the held ones.
 pub(crate) fn read_piece<D: Disk>(
     disk: &mut D,
     at: u64,

@@ -21,9 +21,9 @@ pub(crate) enum LoadFault {
     Disk,
     /// No whole record stands in front.
     NotAJournal,
-    /// Behind these records, at this place, stands an open gate with no whole record behind it.
+    /// After these records, at this place, stands an open gate with no whole record after it.
     Cut { at: u64, records: Vec<Text> },
-    /// Want of memory.
+    /// Out of memory.
     Memory,
 }
 

@@ -21,9 +21,9 @@ use std::alloc::Global;
 enum Front {
     /// At most one byte.
     Short,
-    /// More, behind a closed gate.
+    /// More, after a closed gate.
     Closed,
-    /// More, behind this byte.
+    /// More, after this byte.
     Open(u8),
 }
 
@@ -31,7 +31,7 @@ enum Front {
 /// 0, and gives the disk back.
 ///
 /// `Exists` comes exactly where the disk has more than one byte and its first byte is not 0: nothing is written
-/// then. `DiskFault` comes only where the disk's count of faults rose, which it does at nothing else. Bytes behind
+/// then. `DiskFault` comes only where the disk's count of faults rose, which it does at nothing else. Bytes after
 /// the new journal stay as they are. Where the disk stops at any moment, it
 /// holds the new journal, or `create` may be given again.
 pub fn create<D: Disk>(alloc: Global, disk: D, head: &[u8]) -> Result<D, (D, MakeFault)>
@@ -47,7 +47,7 @@ pub fn create<D: Disk>(alloc: Global, disk: D, head: &[u8]) -> Result<D, (D, Mak
     ensures untouched { (first : ℕ) → IsTrue (D.honest disk) → IsOther (D.reads disk) first
         → IfErr result (λ e. IsUntouched D.reads D.may_leave D.moment D.left_since disk e.0) }
 
-    // Want of memory is met before any call of the disk.
+    // Out of memory is met before any call of the disk.
     ensures memory { IfErr result (λ e. e.1 ≡ MakeFault.Memory → e.0 ≡ disk) }
 
     // A crash at any moment leaves a disk on which nothing is made yet, or the new journal.
@@ -146,7 +146,7 @@ fn blank<D: Disk>(disk: &mut D) -> Result<(), Failed>
     disk.sync()
 }
 
-/// Enters the header record behind the closed gate in front.
+/// Enters the header record after the closed gate in front.
 fn enter_head<D: Disk>(disk: &mut D, frame: &[u8]) -> Result<(), Failed>
     requires closed { IsTrue (D.honest disk.old) → take 1 (D.reads disk.old) ≡ 0 ∷ [] }
     requires frame { IsFrame frame.now }

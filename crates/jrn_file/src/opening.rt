@@ -22,7 +22,7 @@ const PIECE: usize = 1 << 16;
 /// record and the records, and how they end. It syncs the disk first, reads pieces of 2^16 bytes in rising order up to
 /// the first closed gate, and writes nothing.
 ///
-/// `Damaged` tells the place of the open gate behind them that has no whole record behind it. `NotAJournal` comes exactly
+/// `Damaged` tells the place of the open gate after them that has no whole record after it. `NotAJournal` comes exactly
 /// where the disk is empty, its first byte is 0 or its first record is not whole: its length, that many bytes and one byte
 /// after them. `DiskFault` comes exactly where a call of the disk failed: the count of faults rises at nothing else.
 pub fn read_file<D: Disk>(alloc: Global, disk: D) -> Result<(Vec<Text>, Ending<D>), (D, OpenFault)>
@@ -65,7 +65,7 @@ pub fn read_file<D: Disk>(alloc: Global, disk: D) -> Result<(Vec<Text>, Ending<D
 /// Opens a journal that a stop at any moment may have left, and gives its header record and its records up to
 /// the first closed gate, as `read_file` does.
 ///
-/// `Damaged` comes exactly where a later open gate has no whole record behind it, and tells that gate's place; the
+/// `Damaged` comes exactly where a later open gate has no whole record after it, and tells that gate's place; the
 /// other faults are those of `read_file`.
 pub fn open_file<D: Disk>(alloc: Global, disk: D) -> Result<(JFile<D>, Vec<Text>), (D, OpenFault)>
     // What the bytes hold is what it gives.

@@ -25,7 +25,7 @@ pub(crate) fn take_records(
     Ok(())
 }
 
-/// Copies the whole records in front of these bytes, and answers the place behind them.
+/// Copies the whole records in front of these bytes, and answers the place after them.
 fn copy_records(alloc: Global, bytes: &[u8], records: &mut Vec<Text>) -> Result<usize, Memory>
     ensures taken { IfOk result (λ at. (more : List (List ℕ)) × (records.new.items ≡ records.old.items ++ more) × AreTakenOff bytes.now more (drop at bytes.now)) }
     ensures stopped { IfOk result (λ at. HasNoRecord (drop at bytes.now)) }
@@ -60,7 +60,7 @@ pub(crate) fn is_closed(held: &[u8]) -> bool
     !held.is_empty() && held[0] == 0
 }
 
-/// What an open gate at this place tells with no whole record behind it, after these records.
+/// What an open gate at this place tells with no whole record after it, after these records.
 pub(crate) fn refusal(gate: u64, records: Vec<Text>) -> LoadFault
     ensures none { length records.items ≡ 0 → result ≡ LoadFault.NotAJournal }
     ensures some { 0 < length records.items → result ≡ LoadFault.Cut gate records }
@@ -71,7 +71,7 @@ pub(crate) fn refusal(gate: u64, records: Vec<Text>) -> LoadFault
     LoadFault::Cut { at: gate, records }
 }
 
-/// The record behind an open gate, where it is whole.
+/// The record after an open gate, where it is whole.
 fn whole_record(after: &[u8]) -> Option<&[u8]>
     ensures whole { IfSome result (λ r. BeginsWith after.now r.now) }
     ensures cut_short { IfNone result (IsWhole after.now → ⊥) }

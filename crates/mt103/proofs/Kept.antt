@@ -16,7 +16,7 @@ use Rattle.fin_contents.specs.Writing.{line_field, lines_field}
 use Rattle.fin_contents.proofs.laws.Bytes.{and-both}
 use Rattle.fin_contents.proofs.laws.Steps.{checked, is-only, there}
 use Rattle.mt103.specs.Codes.{charge_of, charges, code_in, instr_of, is_instruction, is_word_of, kind_of, operation_of, operations, takes_text, instruction_text, word_of}
-use Rattle.mt103.specs.Writing.{instr_field, text_behind}
+use Rattle.mt103.specs.Writing.{instr_field, text_after}
 use Rattle.mt103.specs.declared.instruction.Instr.{Instr}
 
 sized-is : (n : ℕ) (line code : List ℕ) → sized n line ≡ Some code → line ≡ code
@@ -63,7 +63,7 @@ pub kind-again : (f : Field) (kind : List ℕ) → kind_of f ≡ Ok kind → kin
 unfolding kind_of
 kind-again f kind e = ap (λ (ls : List (List ℕ)). kind_of (lines_field 26 (Some 84) ls)) (sym (kind-kept f kind e)) ∙ e
 
-text-kept : (rest : List ℕ) (text : Option (List ℕ)) → instruction_text rest ≡ Some text → rest ≡ text_behind text
+text-kept : (rest : List ℕ) (text : Option (List ℕ)) → instruction_text rest ≡ Some text → rest ≡ text_after text
 text-kept [] text e =
     let same : None ≡ text = cc e in
     rw (← same) refl
@@ -72,10 +72,10 @@ text-kept (slash ∷ rest) text e =
     let is : slash ≡ 47 = eqb-true slash 47 (and-both (slash == 47) (is_run (is_in X) 30 rest) s.0).0 in
     rw (← s.1, is) refl
 
-two-parts : (line code : List ℕ) (text : Option (List ℕ)) → take 4 line ≡ code → drop 4 line ≡ text_behind text → line ≡ code ++ text_behind text
+two-parts : (line code : List ℕ) (text : Option (List ℕ)) → take 4 line ≡ code → drop 4 line ≡ text_after text → line ≡ code ++ text_after text
 two-parts line code text front back = sym (take-append-drop 4 line) ∙ rw (front, back) refl
 
-pub instr-kept : (f : Field) (i : Instr) → instr_of f ≡ Ok i → f.lines ≡ (i.code ++ text_behind i.text) ∷ []
+pub instr-kept : (f : Field) (i : Instr) → instr_of f ≡ Ok i → f.lines ≡ (i.code ++ text_after i.text) ∷ []
 unfolding instr_of
 instr-kept f i e =
     let line = there (one_line f) _ _ i e in
@@ -86,7 +86,7 @@ instr-kept f i e =
     let same : record { code = code.0; text = text.0 } ≡ i = cc plain.1 in
     let front : take 4 line.0 ≡ code.0 = (some_if (nat_le 4 (length line.0) && list_all (is_in C) (take 4 line.0)) (take 4 line.0) code.0 code.1).1 in
     let whole = two-parts line.0 code.0 text.0 front (text-kept (drop 4 line.0) text.0 text.1) in
-    is-only f.lines line.0 line.1 ∙ ap (λ (x : List ℕ). x ∷ []) whole ∙ ap (λ (x : Instr). (x.code ++ text_behind x.text) ∷ []) same
+    is-only f.lines line.0 line.1 ∙ ap (λ (x : List ℕ). x ∷ []) whole ∙ ap (λ (x : Instr). (x.code ++ text_after x.text) ∷ []) same
 
 pub instr-again : (f : Field) (i : Instr) → instr_of f ≡ Ok i → instr_of (instr_field i) ≡ Ok i
 unfolding instr_of

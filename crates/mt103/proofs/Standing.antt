@@ -26,7 +26,7 @@ use Rattle.fin_contents.proofs.laws.Placed.{Each, all-each, all-of, all-segment,
 use Rattle.fin_contents.proofs.laws.Said.{HoldsInPlaces, Said, Stands, said-all, said-one, said-option, stand}
 use Rattle.mt103.specs.Codes.{charge_of, instr_of, kind_of, operation_of}
 use Rattle.mt103.specs.Parts.{Details, Parties, Terms, transfer_of_parts}
-use Rattle.mt103.specs.Writing.{AreAmounts, detail_segments, instr_field, money_fields, head_segments, party_segments, segments, text_behind}
+use Rattle.mt103.specs.Writing.{AreAmounts, detail_segments, instr_field, money_fields, head_segments, party_segments, segments, text_after}
 use Rattle.mt103.specs.declared.instruction.Instr.{Instr}
 use Rattle.mt103.specs.Order.{order_103}
 use Rattle.mt103.proofs.Kept.{charge-kept, instr-kept, kind-kept, operation-kept}
@@ -99,7 +99,7 @@ module _ (t : Tables) (few : IsTrue (few_decimals t.ccys)) (fs : List Field) (fi
 
   instr-fit : (x : Instr) → Said (At 3) instr_of x → IsField (instr_field x)
   instr-fit x said =
-      kept 3 23 (Some 69) instr_of (λ i. i.code ++ text_behind i.text) x (λ f e. instr-kept f x e) (record { two_digits = omega arith; capital = refl }) said
+      kept 3 23 (Some 69) instr_of (λ i. i.code ++ text_after i.text) x (λ f e. instr-kept f x e) (record { two_digits = omega arith; capital = refl }) said
 
   instrs-fit : AllByRecursion IsField (map instr_field a.instrs)
   instrs-fit =

@@ -19,7 +19,7 @@ abbrev pub fits_badly : Misfit → Instr → Instr → Bool
 fits_badly Repeated earlier here = bytes_eq earlier.code here.code
 fits_badly Early earlier here = nat_lt (rank_of here.code) (rank_of earlier.code)
 
--- it is so behind one of these
+-- it is so after one of these
 abbrev pub misfits : Misfit → List Instr → Instr → Bool
 misfits misfit before here = list_any (λ earlier. fits_badly misfit earlier here) before
 

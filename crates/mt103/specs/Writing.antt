@@ -9,13 +9,13 @@ use Rattle.mt103.specs.declared.instruction.Instr.{Instr}
 use Rattle.mt103.specs.declared.message.Mt103.{Mt103}
 
 -- what follows a code: nothing, or `/` and a text
-abbrev pub text_behind : Option (List ℕ) → List ℕ
-text_behind None = []
-text_behind (Some text) = 47 ∷ text
+abbrev pub text_after : Option (List ℕ) → List ℕ
+text_after None = []
+text_after (Some text) = 47 ∷ text
 
 -- an instruction's field
 abbrev pub instr_field : Instr → Field
-instr_field i = line_field 23 (Some 69) (i.code ++ text_behind i.text)
+instr_field i = line_field 23 (Some 69) (i.code ++ text_after i.text)
 
 -- the value date and the amount
 abbrev pub value_said : Mt103 → Value

@@ -60,7 +60,7 @@ fn code_in(line: &[u8]) -> Option<[u8; 4]>
     array_of::<4>(&line[..4])
 }
 
-// The text behind a code, none where there is another form.
+// The text after a code, none where there is another form.
 fn text_in(rest: &[u8]) -> Option<Option<&[u8]>>
     ensures { option_map (option_map (λ b. b.now)) result ≡ instruction_text rest.now }
 {

@@ -10,7 +10,7 @@ use crate::codes::{D98, E46};
 use crate::instruction::{INSTRUCTIONS, Instr};
 use corr_text::{Code, Fault};
 
-/// What an instruction may not be behind an earlier one.
+/// What an instruction may not be after an earlier one.
 #[derive(Clone, Copy)]
 pub enum Misfit {
     /// Of the same code.

@@ -8,7 +8,7 @@ ghost use Rattle.fin_fields.specs.Writing.{fields_text};
 ghost use Rattle.fin_fields.specs.declared.field.Field.{Field as FieldSeen};
 ghost use Rattle.fin_layout.specs.Segments.{joined};
 ghost use Rattle.mt103.specs.Message.{mt103_of};
-ghost use Rattle.mt103.specs.Writing.{AreAmounts, detail_segments, instr_field, money_fields, mt103_fields, head_segments, party_segments, text_behind};
+ghost use Rattle.mt103.specs.Writing.{AreAmounts, detail_segments, instr_field, money_fields, mt103_fields, head_segments, party_segments, text_after};
 ghost use Rattle.ref_tables.specs.Seen.{Tables};
 
 use crate::instruction::Instr;
@@ -21,8 +21,8 @@ use fin_contents::{
 use fin_fields::{Field, put_fields};
 use std::alloc::Global;
 
-fn put_text_behind(text: &Option<Text>, out: &mut Text) -> Result<(), Memory>
-    ensures { OnOk result (out.new ≡ out.old ++ text_behind text.now) }
+fn put_text_after(text: &Option<Text>, out: &mut Text) -> Result<(), Memory>
+    ensures { OnOk result (out.new ≡ out.old ++ text_after text.now) }
 {
     match text {
         Some(text) => {
@@ -37,7 +37,7 @@ fn put_instr(alloc: Global, i: &Instr) -> Result<Field, Memory>
     ensures { IfOk result (λ f. f ≡ instr_field i.now) }
 {
     let mut line = Text::from_bytes(alloc, &i.code)?;
-    put_text_behind(&i.text, &mut line)?;
+    put_text_after(&i.text, &mut line)?;
     line_field(alloc, 23, Some(b'E'), line.bytes())
 }
 

@@ -1,4 +1,4 @@
--- Lists of tests behind one another.
+-- Lists of tests after one another.
 use Rattle.std.proofs.Common.{◌≡◌, ◌&&◌, Bool, true, false, List, [], ◌∷◌, ◌++◌, Option, Some, None, refl}
 use Rattle.std.specs.Option.{option_or}
 use Rattle.corr_text.specs.First.{first_of}

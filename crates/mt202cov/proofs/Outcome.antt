@@ -23,23 +23,23 @@ use Rattle.mt202cov.proofs.laws.Parts.{contents-are}
 abbrev finished : Mt202Cov → Result Mt202Cov Fault
 finished m = passed (all_rules m) >>= λ _. Ok m
 
-abbrev behind_structure : Tables → List Field → List ℕ → Result Mt202Cov Fault
-behind_structure t fs found = contents_of t fs found >>= finished
+abbrev after_structure : Tables → List Field → List ℕ → Result Mt202Cov Fault
+after_structure t fs found = contents_of t fs found >>= finished
 
 module _ (t : Tables) (fs : List Field) where
   pub structure-fail : (e : MtFault) → Tells (first_of (structure_tests order_202 fs)) e → Fails e (mt202cov_of t fs)
   unfolding mt202cov_of
-  structure-fail e h = structure-fails order_202 (content_test t) fs (behind_structure t fs (places_from order_202 0 fs)) e h
+  structure-fail e h = structure-fails order_202 (content_test t) fs (after_structure t fs (places_from order_202 0 fs)) e h
 
-  in-contents : first_of (structure_tests order_202 fs) ≡ None → mt202cov_of t fs ≡ behind_structure t fs (places_from order_202 0 fs)
+  in-contents : first_of (structure_tests order_202 fs) ≡ None → mt202cov_of t fs ≡ after_structure t fs (places_from order_202 0 fs)
   unfolding mt202cov_of
   in-contents sound =
-      in-turn order_202 (content_test t) fs (behind_structure t fs (places_from order_202 0 fs)) sound
+      in-turn order_202 (content_test t) fs (after_structure t fs (places_from order_202 0 fs)) sound
       (λ fault l. fails-before (contents_of t fs (places_from order_202 0 fs)) finished fault (contents-refused t fs (places_from order_202 0 fs) fault l))
 
   module _ (found : List ℕ) (placed : found ≡ places_from order_202 0 fs) (sound : first_of (structure_tests order_202 fs) ≡ None) where
-    from-contents : mt202cov_of t fs ≡ behind_structure t fs found
-    from-contents = in-contents sound ∙ ap (behind_structure t fs) (sym placed)
+    from-contents : mt202cov_of t fs ≡ after_structure t fs found
+    from-contents = in-contents sound ∙ ap (after_structure t fs) (sym placed)
 
     pub contents-fail : (e : MtFault) → Fails e (contents_in_parts t fs found) → Fails e (mt202cov_of t fs)
     contents-fail faults.Memory h = tt

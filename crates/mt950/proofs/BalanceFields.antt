@@ -78,7 +78,7 @@ mark-of (negsuc n) = (68, record { text = refl; form = refl; sign = refl })
 dated : (n : ℕ) → nat_le 4 n ≡ true → nat_le 10 (6 + n) ≡ true
 dated n e = grind (arith, nat_tests)
 
--- a date and an amount behind it
+-- a date and an amount after it
 record DatedWritten (date : List ℕ) (a : Amount) : Type 0 where
   form : is_dated_amount (date ++ ccy_amount_text a) ≡ true
   front : take 6 (date ++ ccy_amount_text a) ≡ date
@@ -176,7 +176,7 @@ stated-read t f s e =
     let form = checked (is_balance_text line.0) _ _ s line.2 in
     balance-read t (is_last f.letter) line.0 s form.0 form.1
 
--- an amount behind a mark is below the end of amounts
+-- an amount after a mark is below the end of amounts
 pub amount-small : (t : Tables) (line : List ℕ) (a : Amount) → ccy_amount_in t line ≡ Ok a → a.minor.0 < amount_end
 amount-small t line a e = (small-amount a.decimals (drop 3 line) a.minor (amount-read t line a e).minor).1
 

@@ -132,17 +132,17 @@ line-of-x : (decimals : ℕ) (line : Line61) → IsWritableLine decimals line �
 line-of-x decimals line is =
     let amount : List ℕ = amount_text decimals line.amount.0 in
     let references : List ℕ = line.reference ++ servicer_text line.servicer in
-    let behind_amount : List ℕ = line.kind ++ references in
-    let behind_funds : List ℕ = amount ++ behind_amount in
-    let behind_mark : List ℕ = letter_text line.funds ++ behind_funds in
-    let behind_entry : List ℕ = mark_text line.mark ++ behind_mark in
-    let behind_date : List ℕ = part_text line.entry ++ behind_entry in
+    let after_amount : List ℕ = line.kind ++ references in
+    let after_funds : List ℕ = amount ++ after_amount in
+    let after_mark : List ℕ = letter_text line.funds ++ after_funds in
+    let after_entry : List ℕ = mark_text line.mark ++ after_mark in
+    let after_date : List ℕ = part_text line.entry ++ after_entry in
     subst (λ (text : List ℕ). list_all (is_in X) text ≡ true) (sym (line-nested decimals line))
-    (x-append (yymmdd_of line.value) behind_date (digits-of-x (yymmdd_of line.value) (date-digits line.value is.value))
-    (x-append (part_text line.entry) behind_entry (entry-of-x line.entry is.entry)
-    (x-append (mark_text line.mark) behind_mark (line-mark-of-x line.mark)
-    (x-append (letter_text line.funds) behind_funds (funds-of-x line.funds is.funds)
-    (x-append amount behind_amount (amount-text decimals line.amount.0 is.few is.small).of_x
+    (x-append (yymmdd_of line.value) after_date (digits-of-x (yymmdd_of line.value) (date-digits line.value is.value))
+    (x-append (part_text line.entry) after_entry (entry-of-x line.entry is.entry)
+    (x-append (mark_text line.mark) after_mark (line-mark-of-x line.mark)
+    (x-append (letter_text line.funds) after_funds (funds-of-x line.funds is.funds)
+    (x-append amount after_amount (amount-text decimals line.amount.0 is.few is.small).of_x
     (x-append line.kind references (kind-of-x line.kind is.kind)
     (x-append line.reference (servicer_text line.servicer) (run-of-x 16 line.reference is.reference) (servicer-of-x line.servicer is.servicer))))))))
 

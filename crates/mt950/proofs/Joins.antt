@@ -118,15 +118,15 @@ module _ (first : Page950) (pages : List Page950) where
     day = last.closing.day;
   }
 
-  -- what is told behind the gaps
-  abbrev behind_gaps : Result Statement PageFault
-  behind_gaps =
+  -- what is told after the gaps
+  abbrev after_gaps : Result Statement PageFault
+  after_gaps =
       unless_fault (first_uncarried first pages) >>= λ _.
       sum_test first.opening.signed (lines_of_pages pages) (last_of first pages).closing.signed >>= λ _.
       Ok (statement_of (lines_of_pages pages) (last_of first pages))
 
-  abbrev behind_balances : Result Statement PageFault
-  behind_balances =
+  abbrev after_balances : Result Statement PageFault
+  after_balances =
       sum_test first.opening.signed (lines_of_pages pages) (last_of first pages).closing.signed >>= λ _.
       Ok (statement_of (lines_of_pages pages) (last_of first pages))
 
@@ -137,19 +137,19 @@ module _ (first : Page950) (pages : List Page950) where
   balances = unless_fault (first_uncarried first pages)
 
   pub gap-told : (fault : PageFault) → gaps ≡ Err fault → Refuses told (joined_with first pages) fault
-  gap-told fault e = told-refuses (joined_with first pages) fault (stops-at gaps behind_gaps fault e)
+  gap-told fault e = told-refuses (joined_with first pages) fault (stops-at gaps after_gaps fault e)
 
   module _ (u : Unit {0}) (none : gaps ≡ Ok u) where
-    no-gap : joined_with first pages ≡ behind_gaps
-    no-gap = goes-past gaps behind_gaps u none
+    no-gap : joined_with first pages ≡ after_gaps
+    no-gap = goes-past gaps after_gaps u none
 
     pub carried-told : (fault : PageFault) → balances ≡ Err fault → Refuses told (joined_with first pages) fault
-    carried-told fault e = told-refuses (joined_with first pages) fault (no-gap ∙ stops-at balances behind_balances fault e)
+    carried-told fault e = told-refuses (joined_with first pages) fault (no-gap ∙ stops-at balances after_balances fault e)
 
     module _ (v : Unit {0}) (carried : balances ≡ Ok v) (lines : List Line61) (all : lines ≡ lines_of_pages pages) (last : Page950)
         (is : last_of first pages ≡ last) where
       to-sum : joined_with first pages ≡ (sum_test first.opening.signed lines last.closing.signed >>= λ _. Ok (statement_of lines last))
-      to-sum = no-gap ∙ (goes-past balances behind_balances v carried ∙ rw (is, ← all) refl)
+      to-sum = no-gap ∙ (goes-past balances after_balances v carried ∙ rw (is, ← all) refl)
 
       pub sum-told : (fault : PageFault) → sum_test first.opening.signed lines last.closing.signed ≡ Err fault
           → Refuses told (joined_with first pages) fault
@@ -198,8 +198,8 @@ module _ (first : Page950) (pages : List Page950) where
   joined-is s e =
       let lines = lines_of_pages pages in
       let closing = (last_of first pages).closing.signed in
-      let past_gaps = read-then (gaps first pages) (λ _. behind_gaps first pages) s e in
-      let past_balances = read-then (balances first pages) (λ _. behind_balances first pages) s past_gaps.2 in
+      let past_gaps = read-then (gaps first pages) (λ _. after_gaps first pages) s e in
+      let past_balances = read-then (balances first pages) (λ _. after_balances first pages) s past_gaps.2 in
       let added =
       checked (int_eq (first.opening.signed +ℤ effects_of lines) closing) (DoesNotAdd first.opening.signed (held (effects_of lines)) closing)
       (Ok (statement_of first pages lines (last_of first pages))) s past_balances.2 in (

@@ -39,7 +39,7 @@ parts_of decimals line = record {
   servicer = line.servicer;
 }
 
--- each part in front of those behind it
+-- each part in front of those after it
 pub line-nested : (decimals : ℕ) (line : Line61)
     → line_text decimals line
     ≡ yymmdd_of line.value
@@ -62,21 +62,21 @@ parts-again decimals line is =
     let amount = amount-text decimals line.amount.0 is.few is.small in
     let kind = kind-ends line.kind is.four is.kind in
     let references : List ℕ = line.reference ++ servicer_text line.servicer in
-    let behind_funds : List ℕ = text ++ (line.kind ++ references) in
-    let behind_mark : List ℕ = letter_text line.funds ++ behind_funds in
-    let behind_entry : List ℕ = mark_text line.mark ++ behind_mark in
+    let after_funds : List ℕ = text ++ (line.kind ++ references) in
+    let after_mark : List ℕ = letter_text line.funds ++ after_funds in
+    let after_entry : List ℕ = mark_text line.mark ++ after_mark in
     let ends = amount-again text (kind.1 ++ references) kind.0 amount.goes (nonempty text amount.rest amount.first amount.same) kind.3 in
     let begins = funds-again line.funds amount.first (amount.rest ++ (line.kind ++ references)) is.funds amount.digit in
-    rw (line-nested decimals line) (cut-parts (yymmdd_of line.value ++ (part_text line.entry ++ behind_entry)) (parts_of decimals line) (record {
-      behind_date = part_text line.entry ++ behind_entry;
-      behind_entry = behind_entry;
-      behind_mark = behind_mark;
-      behind_funds = behind_funds;
-      behind_amount = line.kind ++ references;
-      behind_kind = references;
-      date = date-again (yymmdd_of line.value) (part_text line.entry ++ behind_entry) refl (date-digits line.value is.value);
-      entry = entry-again line.entry line.mark behind_mark is.entry;
-      mark = mark-again line.mark behind_mark;
+    rw (line-nested decimals line) (cut-parts (yymmdd_of line.value ++ (part_text line.entry ++ after_entry)) (parts_of decimals line) (record {
+      after_date = part_text line.entry ++ after_entry;
+      after_entry = after_entry;
+      after_mark = after_mark;
+      after_funds = after_funds;
+      after_amount = line.kind ++ references;
+      after_kind = references;
+      date = date-again (yymmdd_of line.value) (part_text line.entry ++ after_entry) refl (date-digits line.value is.value);
+      entry = entry-again line.entry line.mark after_mark is.entry;
+      mark = mark-again line.mark after_mark;
       funds = rw (amount.same) begins;
       amount = rw (kind.2) ends;
       kind = kind-again line.kind references is.four is.kind;
@@ -138,14 +138,14 @@ line-read decimals f line few e =
     cc amount.2 in
     let detail = detail-read f.lines lines.0.0 lines.0.1 lines.1 in
     let cut = parts-cut lines.0.0 parts.0 parts.1 in
-    let kind = kind-read cut.behind_amount parts.0.kind cut.behind_kind cut.kind in
-    let references = references-read cut.behind_kind parts.0.reference parts.0.servicer cut.references in
+    let kind = kind-read cut.after_amount parts.0.kind cut.after_kind cut.kind in
+    let references = references-read cut.after_kind parts.0.reference parts.0.servicer cut.references in
     let small = (small-amount decimals parts.0.amount amount.0 (coded-ok _ amount.0 amount.1)).1 in
     let entry : IfSome parts.0.entry (λ entry. (length entry ≡ 4) × IsTrue (list_all (is_in N) entry)) =
     subst (λ (x : Option (List ℕ) × List ℕ). IfSome x.0 (λ entry. (length entry ≡ 4) × IsTrue (list_all (is_in N) entry))) cut.entry
-    (entry-read cut.behind_date) in
+    (entry-read cut.after_date) in
     let funds : IfSome parts.0.funds (λ letter. is_ascii_uppercase letter ≡ true) =
-    subst (λ (x : Option ℕ × List ℕ). IfSome x.0 (λ letter. is_ascii_uppercase letter ≡ true)) cut.funds (funds-read cut.behind_mark) in
+    subst (λ (x : Option ℕ × List ℕ). IfSome x.0 (λ letter. is_ascii_uppercase letter ≡ true)) cut.funds (funds-read cut.after_mark) in
     rw (← same) (record {
       is = record {
         value = (day-named parts.0.date value.0 value.1).0;
@@ -157,7 +157,7 @@ line-read decimals f line few e =
         kind = kind.1;
         reference = references.run;
         ended = references.ended;
-        servicer = references.behind;
+        servicer = references.after;
         detail = detail.1;
       };
       first = lines.0.0;

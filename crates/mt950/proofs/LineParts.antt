@@ -15,7 +15,7 @@ use Rattle.mt950.specs.Writing.{IsEnded, mark_text, part_text, servicer_text}
 use Rattle.mt950.specs.declared.entry.Mark.{Mark}
 use Rattle.mt950.specs.declared.entry.Mark.TheVariants.{C, D, RC, RD}
 use Rattle.mt950.proofs.Amount.{ends_amount}
-use Rattle.mt950.proofs.First.{Fail, position-behind}
+use Rattle.mt950.proofs.First.{Fail, position-after}
 use Rattle.mt950.proofs.Slashes.{ended-there, ends-it}
 use Rattle.mt950.proofs.Steps.{and-false, and-then, both, some-if}
 
@@ -70,7 +70,7 @@ funds-again (Some letter) b rest up digit = rw up refl
 pub amount-again : (text rest : List ℕ) (b : ℕ) → Fail ends_amount text → 0 < length text → ends_amount b ≡ true
     → amount_part (text ++ b ∷ rest) ≡ Some (text, b ∷ rest)
 amount-again text rest b goes some ends =
-    let at : position ends_amount (text ++ b ∷ rest) ≡ Some (length text) = position-behind ends_amount text b rest goes ends in
+    let at : position ends_amount (text ++ b ∷ rest) ≡ Some (length text) = position-after ends_amount text b rest goes ends in
     let front : take (length text) (text ++ b ∷ rest) ≡ text = take_at text (b ∷ rest) (length text) refl in
     let back : drop (length text) (text ++ b ∷ rest) ≡ b ∷ rest = drop_at text (b ∷ rest) (length text) refl in
     let long : nat_lt 0 (length text) ≡ true = lt-ltb 0 (length text) some in
@@ -118,22 +118,22 @@ references-again reference (Some text) run ended is =
     let form : are_references (reference, Some text) ≡ true = rw (run, is) refl in
     references-by line (reference, Some text) (rw (at, front, after-two reference text) refl) form
 
--- ---- the parts of a line, one behind the other
+-- ---- the parts of a line, one after the other
 
 pub record Cut (line : List ℕ) (p : LineParts) : Type 0 where
-  pub behind_date : List ℕ
-  pub behind_entry : List ℕ
-  pub behind_mark : List ℕ
-  pub behind_funds : List ℕ
-  pub behind_amount : List ℕ
-  pub behind_kind : List ℕ
-  pub date : date_in line ≡ Some (p.date, behind_date)
-  pub entry : entry_date_part behind_date ≡ (p.entry, behind_entry)
-  pub mark : mark_in behind_entry ≡ Some (p.mark, behind_mark)
-  pub funds : funds_in behind_mark ≡ (p.funds, behind_funds)
-  pub amount : amount_part behind_funds ≡ Some (p.amount, behind_amount)
-  pub kind : kind_in behind_amount ≡ Some (p.kind, behind_kind)
-  pub references : references_in behind_kind ≡ Some (p.reference, p.servicer)
+  pub after_date : List ℕ
+  pub after_entry : List ℕ
+  pub after_mark : List ℕ
+  pub after_funds : List ℕ
+  pub after_amount : List ℕ
+  pub after_kind : List ℕ
+  pub date : date_in line ≡ Some (p.date, after_date)
+  pub entry : entry_date_part after_date ≡ (p.entry, after_entry)
+  pub mark : mark_in after_entry ≡ Some (p.mark, after_mark)
+  pub funds : funds_in after_mark ≡ (p.funds, after_funds)
+  pub amount : amount_part after_funds ≡ Some (p.amount, after_amount)
+  pub kind : kind_in after_amount ≡ Some (p.kind, after_kind)
+  pub references : references_in after_kind ≡ Some (p.reference, p.servicer)
 
 pub cut-parts : (line : List ℕ) (p : LineParts) → Cut line p → line_parts line ≡ Some p
 unfolding line_parts
@@ -159,12 +159,12 @@ parts-cut line p e =
     } ≡ p =
     cc references.2 in
     rw (← same) (record {
-      behind_date = date.0.1;
-      behind_entry = (entry_date_part date.0.1).1;
-      behind_mark = mark.0.1;
-      behind_funds = (funds_in mark.0.1).1;
-      behind_amount = amount.0.1;
-      behind_kind = kind.0.1;
+      after_date = date.0.1;
+      after_entry = (entry_date_part date.0.1).1;
+      after_mark = mark.0.1;
+      after_funds = (funds_in mark.0.1).1;
+      after_amount = amount.0.1;
+      after_kind = kind.0.1;
       date = date.1;
       entry = refl;
       mark = mark.1;
@@ -210,14 +210,14 @@ kind-read rest kind more e =
 pub record AreReferences (reference : List ℕ) (servicer : Option (List ℕ)) : Type 0 where
   pub run : IsTrue (is_run (is_in X) 16 reference)
   pub ended : IsEnded reference servicer
-  pub behind : IfSome servicer (λ text. IsTrue (is_run (is_in X) 16 text))
+  pub after : IfSome servicer (λ text. IsTrue (is_run (is_in X) 16 text))
 
 split-read : (rest : List ℕ) (o : Option ℕ) → double_slash_in rest ≡ o → are_references (split_references rest o) ≡ true
     → AreReferences (split_references rest o).0 (split_references rest o).1
-split-read rest None at e = record { run = (both (is_run (is_in X) 16 rest) true e).0; ended = at; behind = tt }
+split-read rest None at e = record { run = (both (is_run (is_in X) 16 rest) true e).0; ended = at; after = tt }
 split-read rest (Some n) at e =
     let p = both (is_run (is_in X) 16 (take n rest)) (is_run (is_in X) 16 (drop (n + 2) rest)) e in
-    record { run = p.0; ended = ended-there rest n at; behind = p.1 }
+    record { run = p.0; ended = ended-there rest n at; after = p.1 }
 
 pub references-read : (rest reference : List ℕ) (servicer : Option (List ℕ)) → references_in rest ≡ Some (reference, servicer)
     → AreReferences reference servicer

@@ -24,7 +24,7 @@ use Rattle.fin_contents.proofs.laws.Placed.{all-of}
 use Rattle.mt950.specs.Number.{few_digits_of, number_alone, number_and_page, numbers_in, numbers_of}
 use Rattle.mt950.specs.Writing.{number_field}
 use Rattle.mt950.specs.declared.number.Numbers.{Numbers}
-use Rattle.mt950.proofs.First.{Fail, before-it, behind-it, position-behind}
+use Rattle.mt950.proofs.First.{Fail, before-it, after-it, position-after}
 use Rattle.mt950.proofs.Steps.{and-then, both, mapped, or-some, some-if}
 
 own : IsNumeralModel (λ ds. all_ascii_digits ds ≡ true) (digits_value_after 10 0)
@@ -89,9 +89,9 @@ unfolding numbers_in
 paged-again n k small few =
     let other = decimal-other n small in
     let at : position is_slash (decimal n ++ 47 ∷ decimal k) ≡ Some (length (decimal n)) =
-    position-behind is_slash (decimal n) 47 (decimal k) other refl in
+    position-after is_slash (decimal n) 47 (decimal k) other refl in
     let front : before_first is_slash (decimal n ++ 47 ∷ decimal k) ≡ decimal n = before-it is_slash (decimal n) 47 (decimal k) other refl in
-    let back : after_first is_slash (decimal n ++ 47 ∷ decimal k) ≡ decimal k = behind-it is_slash (decimal n) 47 (decimal k) other refl in
+    let back : after_first is_slash (decimal n ++ 47 ∷ decimal k) ≡ decimal k = after-it is_slash (decimal n) 47 (decimal k) other refl in
     rw (at, front, back, few-again n small, few-again k few) refl
 
 pub numbers-again : (n : ℕ) (page : Option ℕ) → n < 100000 → IfSome page (λ k. k < 100000)

@@ -32,7 +32,7 @@ none-here a b bs none =
 some-later : (a b : ℕ) (bs : List ℕ) (n : ℕ) → are_slashes (a, b) ≡ false → double_slash_in (b ∷ bs) ≡ Some n → double_slash_in (a ∷ b ∷ bs) ≡ Some (n + 1)
 some-later a b bs n e at = later a b bs e ∙ ap (option_map (λ i. i + 1)) at
 
--- two slashes behind a reference that has none, and doesn't end with one, are the first
+-- two slashes after a reference that has none, and doesn't end with one, are the first
 pub ends-it : (reference text : List ℕ) → double_slash_in (reference ++ 47 ∷ []) ≡ None
     → double_slash_in (reference ++ 47 ∷ 47 ∷ text) ≡ Some (length reference)
 ends-it [] text none = here 47 47 text refl

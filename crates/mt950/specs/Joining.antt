@@ -33,7 +33,7 @@ abbrev pub is_same_statement : Page950 → Page950 → Bool
 is_same_statement first page =
     bytes_eq page.account first.account && bytes_eq page.ccy.0 first.ccy.0 && (page.decimals == first.decimals) && (page.number == first.number)
 
--- a page belongs at a place, from 0, of so many behind the first: it is of the same statement, its number follows, and it alone
+-- a page belongs at a place, from 0, of so many after the first: it is of the same statement, its number follows, and it alone
 -- opens the statement at the first place and closes it at the last
 abbrev pub follows : Page950 → ℕ → ℕ → Page950 → Bool
 follows first count at page =

@@ -21,7 +21,7 @@ number_alone bs = option_map (λ n. record { number = n; page = None }) (few_dig
 abbrev pub number_and_page : List ℕ → List ℕ → Option Numbers
 number_and_page bs page = option_and_then (λ n. option_map (λ k. record { number = n; page = Some k }) (few_digits_of page)) (few_digits_of bs)
 
--- what a line says: the page's number stands behind the first slash
+-- what a line says: the page's number stands after the first slash
 unfoldable pub numbers_in : List ℕ → Option Numbers
 numbers_in line =
     if is_some (position is_slash line) then number_and_page (before_first is_slash line) (after_first is_slash line)

@@ -20,7 +20,7 @@ date_in line = if nat_le 6 (length line) && list_all (is_in N) (take 6 line) the
 abbrev pub entry_date_part : List ℕ → Option (List ℕ) × List ℕ
 entry_date_part rest = if nat_le 4 (length rest) && list_all (is_in N) (take 4 rest) then (Some (take 4 rest), drop 4 rest) else (None, rest)
 
--- behind R: the reversal of a credit or of a debit
+-- after R: the reversal of a credit or of a debit
 abbrev pub reversal_in : List ℕ → Option (Mark × List ℕ)
 reversal_in [] = None
 reversal_in (letter ∷ rest) = if letter == 67 then Some (RC, rest) else if letter == 68 then Some (RD, rest) else None
@@ -60,7 +60,7 @@ kind_in rest = if nat_le 4 (length rest) && is_entry_type (take 4 rest) then Som
 abbrev pub double_slash_in : List ℕ → Option ℕ
 double_slash_in rest = position (λ p. (p.0 == 47) && (p.1 == 47)) (zip rest (drop 1 rest))
 
--- the owner's reference, which the first two slashes end, and the servicer's behind them
+-- the owner's reference, which the first two slashes end, and the servicer's after them
 abbrev pub split_references : List ℕ → Option ℕ → List ℕ × Option (List ℕ)
 split_references rest None = (rest, None)
 split_references rest (Some at) = (take at rest, Some (drop (at + 2) rest))

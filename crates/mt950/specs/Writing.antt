@@ -29,7 +29,7 @@ abbrev pub part_text : Option (List ℕ) → List ℕ
 part_text None = []
 part_text (Some part) = part
 
--- the servicer's reference behind two slashes
+-- the servicer's reference after two slashes
 abbrev pub servicer_text : Option (List ℕ) → List ℕ
 servicer_text None = []
 servicer_text (Some text) = 47 ∷ 47 ∷ text
@@ -45,7 +45,7 @@ mark_text mark.RD = codes "RD"
 abbrev pub balance_letter : Bool → ℕ
 balance_letter last = if last then 70 else 77
 
--- the page's number behind a slash
+-- the page's number after a slash
 abbrev pub page_text : Option ℕ → List ℕ
 page_text None = []
 page_text (Some page) = 47 ∷ decimal page
@@ -109,7 +109,7 @@ pub record IsBalance (decimals : ℕ) (b : Balance) : Type 0 where
   pub small : unsigned_abs b.signed < amount_end
   pub few : decimals ≤ most_decimals
 
--- a reference that two slashes end where the servicer's stands behind it: it has none itself, and doesn't end with one then
+-- a reference that two slashes end where the servicer's stands after it: it has none itself, and doesn't end with one then
 abbrev pub IsEnded : List ℕ → Option (List ℕ) → Type 0
 IsEnded reference None = double_slash_in reference ≡ None
 IsEnded reference (Some servicer) = double_slash_in (reference ++ 47 ∷ []) ≡ None

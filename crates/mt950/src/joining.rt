@@ -74,7 +74,7 @@ fn is_same_statement(first: &Page950, page: &Page950) -> bool
         && page.number == first.number
 }
 
-/// Whether the page at a place, from 0, among so many belongs there behind this first page.
+/// Whether the page at a place, from 0, among so many belongs there after this first page.
 fn follows(first: &Page950, count: usize, at: usize, page: &Page950) -> bool
     requires { at ≤ most_pages }
     ensures { result ≡ follows first.now count at page.now }

@@ -11,7 +11,7 @@ use std::alloc::Global;
 /// A statement line in a currency of so many decimals, at most 4.
 ///
 /// Its parts, in order: the value date, `6!n`; an entry date, `4!n`, or none; a mark, C, D, RC or RD; a capital letter or none;
-/// the amount, the longest run of digits and commas; a type, `1!a3!c`, that begins with S, N or F and has three digits behind S;
+/// the amount, the longest run of digits and commas; a type, `1!a3!c`, that begins with S, N or F and has three digits after S;
 /// a reference, `16x`, which the first `//` ends; `//` and `16x`, or none; and a further line, `34x`, or none. P24: the field
 /// has another form. T50: the value date is none. T40, T43, C03, P27: as in other amounts. Zero is accepted.
 #[derive(Clone, Copy)]

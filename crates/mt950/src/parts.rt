@@ -47,7 +47,7 @@ fn entry_in(rest: &[u8]) -> (Option<[u8; 4]>, &[u8])
     (array_of::<4>(&rest[..4]), &rest[4..])
 }
 
-// Behind R: the reversal of a credit, or of a debit.
+// After R: the reversal of a credit, or of a debit.
 fn reversal_in(rest: &[u8]) -> Option<(Mark, &[u8])>
     ensures { option_map (λ x. (x.0, x.1.now)) result ≡ reversal_in rest.now }
 {
@@ -146,7 +146,7 @@ fn double_slash_in(rest: &[u8]) -> Option<usize>
     first_double_slash(rest)
 }
 
-// The owner's reference, which the first `//` ends, and the servicer's behind it.
+// The owner's reference, which the first `//` ends, and the servicer's after it.
 fn split_references(rest: &[u8]) -> (&[u8], Option<&[u8]>)
     ensures { (result.0.now, option_map (λ b. b.now) result.1) ≡ split_references rest.now (double_slash_in rest.now) }
 {

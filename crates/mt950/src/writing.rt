@@ -40,7 +40,7 @@ fn put_page(alloc: Global, page: Option<u32>, out: &mut Text) -> Result<(), Memo
     }
 }
 
-/// Field 28C, the page's number behind a slash where it is given.
+/// Field 28C, the page's number after a slash where it is given.
 #[tactic(auto, using(crate::proofs::PageNumbers::bare_digits))]
 fn put_numbers(alloc: Global, number: u32, page: Option<u32>) -> Result<Field, Memory>
     ensures { IfOk result (λ f. f ≡ number_field number page) }

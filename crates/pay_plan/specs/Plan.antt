@@ -64,7 +64,7 @@ abbrev pub told : PlanFault → Option Code
 told (fault.Code code) = Some code
 told fault.Memory = None
 
--- a refusal is the first test that fails, or want of memory
+-- a refusal is the first test that fails, or out of memory
 abbrev pub Refuses : PlanFault → Result Pay Code → Type 0
 Refuses e plan = answers.Refuses told plan e
 

@@ -25,7 +25,7 @@ abbrev pub aimed : Bic → ℕ → Option Party → Option Target
 aimed home field None = None
 aimed home field (Some p) = if names_home home p then None else Some (bank_target field p)
 
--- the account of 59a: what stands behind the slash of its first line
+-- the account of 59a: what stands after the slash of its first line
 abbrev pub payee_account : Party → Option (List ℕ)
 payee_account (party.K account lines) = account
 payee_account (party.A line bic) = option_map (drop 1) line

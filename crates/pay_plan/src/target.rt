@@ -38,7 +38,7 @@ fn aimed<'a>(home: &Bic, field: u8, p: &'a Option<Party>) -> Option<LentTarget<'
     }
 }
 
-fn behind_slash(line: &[u8]) -> &[u8]
+fn after_slash(line: &[u8]) -> &[u8]
     ensures { result.now ≡ drop 1 line.now }
 {
     match line {
@@ -59,11 +59,11 @@ fn payee_account(payee: &Party) -> Option<&[u8]>
         Party::A {
             line: Some(line),
             bic: _,
-        } => Some(behind_slash(line.bytes())),
+        } => Some(after_slash(line.bytes())),
         Party::F {
             line: Some(line),
             lines: _,
-        } => Some(behind_slash(line.bytes())),
+        } => Some(after_slash(line.bytes())),
         _ => None,
     }
 }

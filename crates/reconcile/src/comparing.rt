@@ -62,7 +62,7 @@ pub fn compare_with(
 /// what is in no pair (`adds`).
 ///
 /// The history is legal and its pays can be written down; the statement is one that `join_pages` gives of pages that `read_mt950`
-/// gives. It should have the account's currency and decimals: nothing here reads them. Want of memory is the only error; a
+/// gives. It should have the account's currency and decimals: nothing here reads them. Out of memory is the only error; a
 /// statement of 2^32 lines or more is told so too.
 pub fn compare(
     alloc: Global,

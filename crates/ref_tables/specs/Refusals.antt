@@ -49,6 +49,6 @@ abbrev pub told : TableFault → Option (TableName × ℕ × Why)
 told (error.Bad table row reason) = Some (table, row, reason)
 told error.Memory = None
 
--- an error tells this fault, or want of memory
+-- an error tells this fault, or out of memory
 abbrev pub Tells : Option (TableName × ℕ × Why) → TableFault → Type 0
 Tells fault e = answers.Tells told fault e

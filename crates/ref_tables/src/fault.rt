@@ -39,7 +39,7 @@ pub enum Why {
     Rows,
 }
 
-/// The first row of a table that fails, from 1, or 0 for the whole file, and why; or want of memory.
+/// The first row of a table that fails, from 1, or 0 for the whole file, and why; or out of memory.
 #[derive(Debug, Drop)]
 pub enum TableFault {
     Bad {

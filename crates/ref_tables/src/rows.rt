@@ -12,8 +12,8 @@ use std::alloc::Global;
 const MAX_FILE: usize = 8388608;
 
 // Rows may have any number of cells, and cells need not be text, so of the faults of csv only these two are left. A slice
-// is read without a fault, so what comes is want of memory.
-fn want_of_memory(kind: ErrorKind) -> Memory
+// is read without a fault, so what comes is out of memory.
+fn out_of_memory(kind: ErrorKind) -> Memory
     requires { IsReadFault kind }
 {
     match kind {
@@ -37,7 +37,7 @@ fn read_records(alloc: Global, file: &[u8], most: usize) -> Result<Option<Vec<By
     for row in reader.into_byte_records() {
         let row = match row {
             Ok(row) => row,
-            Err(e) => return Err(want_of_memory(e.into_kind())),
+            Err(e) => return Err(out_of_memory(e.into_kind())),
         };
         if rows.len() >= most {
             return Ok(None);

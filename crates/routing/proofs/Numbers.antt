@@ -10,8 +10,8 @@ pub record StandsAt {A : Type 0} (t : A → Bool) (xs : List A) (j : ℕ) : Type
   pub there : slice_get xs j ≡ Some item
   pub passes : t item ≡ true
 
-behind : {A : Type 0} (t : A → Bool) (x : A) (xs : List A) (j : ℕ) → StandsAt t xs j → StandsAt t (x ∷ xs) (suc j)
-behind t x xs j s = record { item = s.item; there = s.there; passes = s.passes }
+after : {A : Type 0} (t : A → Bool) (x : A) (xs : List A) (j : ℕ) → StandsAt t xs j → StandsAt t (x ∷ xs) (suc j)
+after t x xs j s = record { item = s.item; there = s.there; passes = s.passes }
 
 pub found : {A : Type 0} (t : A → Bool) (i j k : ℕ) (xs : List A) → position_from t i xs ≡ Some k → i + j ≡ k → StandsAt t xs j
 found t i j k [] e h = cc
@@ -23,7 +23,7 @@ found t i zero k (x ∷ xs) e h =
 found t i (suc j) k (x ∷ xs) e h =
     elim (t x) as (λ b. cond b (Some i) (position_from t (i + 1) xs) ≡ Some k → StandsAt t (x ∷ xs) (suc j)) [
       | true ↦ λ at. let s : i ≡ k = cc in absurd (omega arith)
-      | false ↦ λ at. behind t x xs j (found t (i + 1) j k xs at (omega arith))
+      | false ↦ λ at. after t x xs j (found t (i + 1) j k xs at (omega arith))
     ] e
 
 -- none passes two tests where none passes the first

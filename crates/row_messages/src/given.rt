@@ -24,7 +24,7 @@ pub fn section(text: &[u8]) -> (&[u8], &[u8]) {
     }
 }
 
-/// The files of banks, currencies and countries in a text, one behind the other, with an empty line between two.
+/// The files of banks, currencies and countries in a text, one after the other, with an empty line between two.
 pub fn tables_in(alloc: Global, text: &[u8]) -> Result<RefTables, Stop>
     ensures { IfOk result (λ t. IsTrue (few_decimals t.ccys)) }
 {

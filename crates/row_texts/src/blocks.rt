@@ -156,7 +156,7 @@ fn next_bank(words: &mut Words) -> Result<Bic, Stop>
     read_bic(words.next()?).ok_or(Stop::Unreadable)
 }
 
-/// `put_blocks HOME TYPE TO TEXT`, and behind it the number and the text of each subblock
+/// `put_blocks HOME TYPE TO TEXT`, and after it the number and the text of each subblock
 fn put(words: &mut Words, answer: &mut Answer) -> Result<(), Stop> {
     let alloc = answer.alloc();
     let home = next_bank(words)?;

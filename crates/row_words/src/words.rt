@@ -10,7 +10,7 @@ pub struct Words<'a> {
 }
 
 impl<'a> Words<'a> {
-    /// All words of a row behind the name of its call.
+    /// All words of a row after the name of its call.
     pub fn new(left: &'a [Text]) -> Words<'a> {
         Words { left }
     }

@@ -6,7 +6,7 @@ use row_words::stop::Stop;
 use row_words::words::Words;
 use std::alloc::Global;
 
-/// The answer of the call that the first word names, with the words behind it.
+/// The answer of the call that the first word names, with the words after it.
 pub fn answer(alloc: Global, words: &[Text]) -> Result<Answer, Stop> {
     let (name, words) = words.split_first().ok_or(Stop::Unreadable)?;
     let mut words = Words::new(words);

@@ -57,7 +57,7 @@ impl<'a> Cutting<'a> {
         }
     }
 
-    /// Ends a word without quotes: behind an `@` it is the name of a text.
+    /// Ends a word without quotes: after an `@` it is the name of a text.
     fn end_plain(&mut self) -> Result<(), Stop> {
         if let [b'@', name @ ..] = self.word.bytes() {
             let bytes = find_text(self.texts, name).ok_or(Stop::Unreadable)?;

@@ -9,15 +9,15 @@ pub enum At {
     Plain,
     /// Between quotes.
     Quoted,
-    /// Behind a `\`.
+    /// After a `\`.
     Escape,
-    /// Behind `\x`.
+    /// After `\x`.
     Hex,
-    /// Behind `\x` and a digit of this value.
+    /// After `\x` and a digit of this value.
     HexTail(u8),
-    /// Behind the second quote.
+    /// After the second quote.
     Closed,
-    /// Behind the sign `=`.
+    /// After the sign `=`.
     Sign,
     /// In the answer.
     Answer,

@@ -20,13 +20,13 @@ found P test (x ∷ xs) all =
     let first : P x = all 0 x (omega arith) in
     here P (test x) x (find test xs) first (found P test xs (λ k d lt. all (suc k) d (omega arith)))
 
-behind : {A : Type 0} (P : A → Type 0) (o : Option (Bor A)) → IfSome (option_copied o) P → IfSome o (λ r. P r.now)
-behind P None h = tt
-behind P (Some r) h = h
+after : {A : Type 0} (P : A → Type 0) (o : Option (Bor A)) → IfSome (option_copied o) P → IfSome o (λ r. P r.now)
+after P None h = tt
+after P (Some r) h = h
 
 -- the row in force that is found is in form
 pub found-in-form : (ccy : Ccy) (bank : List ℕ) (day : Day) (rows : List SsiRow) (o : Option (Bor SsiRow)) → All IsInForm rows
     → option_copied o ≡ naming bank (filter (is_in_force ccy day) rows) → IfSome o (λ r. IsInForm r.now)
 found-in-form ccy bank day rows o form e =
     let first = e ∙ find-filter (λ r. bytes_eq bank r.bank) (is_in_force ccy day) rows in
-    behind IsInForm o (subst (λ (f : Option SsiRow). IfSome f IsInForm) (sym first) (found IsInForm (λ r. is_in_force ccy day r && bytes_eq bank r.bank) rows form))
+    after IsInForm o (subst (λ (f : Option SsiRow). IfSome f IsInForm) (sym first) (found IsInForm (λ r. is_in_force ccy day r && bytes_eq bank r.bank) rows form))

@@ -109,7 +109,7 @@ impl Ssi {
     ///
     /// `Bad` tells the first row that fails, from 1, and why: its columns are not of their forms, `t` lacks a bank or the
     /// currency, the day that ends it is not after its first, or it shares a day with an earlier row of its currency and
-    /// bank text; row 0 where the file is too large. `Memory` is want of memory.
+    /// bank text; row 0 where the file is too large. `Memory` is out of memory.
     #[tactic(auto, using(ref_tables::proofs::laws::Records::rows_within_some))]
     pub fn read(alloc: Global, file: &[u8], t: &RefTables) -> Result<Ssi, TableFault>
         ensures instructions { IfOk result (λ s. AreInstructions t.now s) }

@@ -26,7 +26,7 @@ module _ (chart : Chart) (n : ℕ) where
       ap (λ (ms : List Movement). here ++ ms) (moves-append (before ++ entry ∷ []) front back ∙ ap (λ (es : List Entry). there ++ movements_from chart n es back) (append_assoc before (entry ∷ []) front))
       ∙ sym (append_assoc here there (movements_from chart n (before ++ entry ∷ front) back))
 
-  -- behind an entry each of its movements has the balance after it
+  -- after an entry each of its movements has the balance after it
   legs-last : (before : List Entry) (entry : Entry) (legs : List Leg) → last_balance (balance_of chart (before ++ entry ∷ []) n) (map (movement_of chart n before entry) legs) ≡ balance_of chart (before ++ entry ∷ []) n
   legs-last before entry [] = refl
   legs-last before entry (leg ∷ legs) = legs-last before entry legs

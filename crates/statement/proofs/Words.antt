@@ -69,7 +69,7 @@ word-stray text e = rw (begins-plain text e, begins-plain (drop (length text - 1
 pub word-run : (most : ℕ) (text : List ℕ) → IsWord text → 1 ≤ length text → length text ≤ most → is_run (is_in X) most text ≡ true
 word-run most text e some short = rw (le-leb 1 (length text) some, le-leb (length text) most short, c-plain text e) refl
 
--- ---- two slashes behind a reference end it
+-- ---- two slashes after a reference end it
 
 abbrev are_slashes : ℕ × ℕ → Bool
 are_slashes p = (p.0 == 47) && (p.1 == 47)

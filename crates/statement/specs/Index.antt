@@ -65,7 +65,7 @@ pub record IsIndexOf (index : HistoryIndex) (book : SeenBook) : Type 0 where
   pub codes : All HasCode book.chart.accounts
   pub quotes : All HasQuotes book.entries
 
--- an index is that of a book, whose history stays legal with this entry behind it
+-- an index is that of a book, whose history stays legal with this entry after it
 pub record TakesNext (index : HistoryIndex) (entry : Entry) (book : SeenBook) : Type 0 where
   pub is : IsIndexOf index book
   pub legal : IsLegal book.chart (book.entries ++ entry ∷ [])

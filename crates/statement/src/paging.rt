@@ -31,7 +31,7 @@ fn count_of(lines: usize) -> usize
     (lines - 1) / LINES + 1
 }
 
-/// The movements of the page that begins behind so many.
+/// The movements of the page that begins after so many.
 fn lines_from(movements: &[Movement], first: usize) -> &[Movement]
     requires { first ≤ length movements.now }
     ensures { result.now ≡ take most_lines (drop first movements.now) }
@@ -80,7 +80,7 @@ pub fn pages_with(ix: &HistoryIndex, n: AcctNo, day: Day) -> Result<List<Text>, 
 ///
 /// The pages are ones that `join_pages` accepts, opening at the balance before the day and closing at the balance by all entries
 /// up to the day (`closes`). Each message is `accepted`: under all tables that hold the owner's head and the account's currency
-/// with its decimals no test of a sent message fails, and the message says its page. Want of memory is the only error.
+/// with its decimals no test of a sent message fails, and the message says its page. Out of memory is the only error.
 ///
 /// The history is legal and its pays can be written down; the home BIC meets its grammar; the day lies in 1980 to 2079.
 pub fn pages(

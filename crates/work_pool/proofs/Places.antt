@@ -5,7 +5,7 @@ use Rattle.std.proofs.Math.ListN.{set}
 use Rattle.std.specs.List.{slice_get}
 
 module _ {A : Type 0} where
-  -- what was added stands behind the others
+  -- what was added stands after the others
   pub slice_get-snoc_here : (xs : List A) (x : A) → slice_get (xs ++ x ∷ []) (length xs) ≡ Some x
   slice_get-snoc_here [] x = refl
   slice_get-snoc_here (y ∷ ys) x = slice_get-snoc_here ys x

@@ -5,7 +5,7 @@ use Rattle.std.specs.Prelude.{◌≡◌, ℕ, ◌-◌, ◌%◌, ◌<◌, ◌≤�
 abbrev pub most_workers : ℕ
 most_workers = 16
 
--- each number is less than those behind it
+-- each number is less than those after it
 abbrev pub AreRising : List ℕ → Type 0
 AreRising numbers = (i j m n : ℕ) → i < j → slice_get numbers i ≡ Some m → slice_get numbers j ≡ Some n → m < n
 

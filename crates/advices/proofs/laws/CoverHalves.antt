@@ -24,7 +24,7 @@ use Rattle.advices.proofs.laws.Finding.{Agrees, any-field, field_of, find-at, te
 use Rattle.advices.proofs.laws.Fitted.{first_for, one-named, row}
 use Rattle.advices.proofs.laws.Said.{at_place}
 use Rattle.advices.proofs.laws.Seats.{Seated, none-seated}
-use Rattle.advices.proofs.laws.Sequences.{Apart, Passing, above-apart, at-back, at-front, below-apart, contents-hold, each-more, free_behind, from_place, full-front, hold-at, holds-parts, place-above, places-above, places-append, places-behind, taken-in-back, taken-in-front}
+use Rattle.advices.proofs.laws.Sequences.{Apart, Passing, above-apart, at-back, at-front, below-apart, contents-hold, each-more, free_past, from_place, full-front, hold-at, holds-parts, place-above, places-above, places-append, places-after, taken-in-back, taken-in-front}
 
 -- the places before 50a, and the others
 abbrev pub order_a : List Place
@@ -73,10 +73,10 @@ only-place : (o : Option ℕ) → from_place (λ k. []) o ≡ 11 ∷ [] → o �
 only-place None e = absurd (cc e)
 only-place (Some k) e = let same : k ≡ 11 = cc e in ap (λ (n : ℕ). Some n) same
 
--- it takes its place behind any fields that stand before it
-pub payer-behind : (free : ℕ) (payer : Field) → is_named 50 (codes "AFK") payer ≡ true → free ≤ 11 → place_from order_202 free payer ≡ Some 11
+-- it takes its place after any fields that stand before it
+pub payer-after : (free : ℕ) (payer : Field) → is_named 50 (codes "AFK") payer ≡ true → free ≤ 11 → place_from order_202 free payer ≡ Some 11
 unfolding places_from
-payer-behind free payer is le =
+payer-after free payer is le =
     only-place (place_from order_202 free payer)
     (grouped-places order_202 row 0 11 free ((payer ∷ []) ∷ []) (omega arith) le
     (one-named order_202 0 11 50 (codes "AFK") payer refl is, (0, inl (omega arith), tt)))
@@ -117,7 +117,7 @@ module _ (t : Tables) (a b : List Field) (payer : Field) (is : is_named 50 (code
   pb = places_from order_202 12 b
 
   abbrev fa : ℕ
-  fa = free_behind order_202 0 pa
+  fa = free_past order_202 0 pa
 
   long : length found ≡ length (a ++ payer ∷ b)
   long = (all-hold order_202 (content_test t) (a ++ payer ∷ b) none).whole
@@ -147,12 +147,12 @@ module _ (t : Tables) (a b : List Field) (payer : Field) (is : is_named 50 (code
   pub below : AllByRecursion (λ q. q < 11) pa
   below =
       let low : fa ≤ 11 = place-above fa 11 (position (λ p. fits p payer) (drop fa order_202)) at-11 in
-      each-more (λ q. free_after order_202 q ≤ fa) (λ q. q < 11) pa (λ q h. before-11 q fa low h) (places-behind order_202 0 a)
+      each-more (λ q. free_after order_202 q ≤ fa) (λ q. q < 11) pa (λ q h. before-11 q fa low h) (places-after order_202 0 a)
 
   pub above : AllByRecursion (λ q. 12 ≤ q) pb
   above = places-above order_202 12 b
 
-  -- no place before 50a's is one of the back half, and none behind it one of the front half
+  -- no place before 50a's is one of the back half, and none after it one of the front half
   pub apart-back : (k : ℕ) → k < 11 → Apart k (11 ∷ pb)
   apart-back k lt = above-apart k 11 (11 ∷ pb) lt (omega arith, each-more (λ q. 12 ≤ q) (λ q. 11 ≤ q) pb (λ q h. omega (arith, h)) above)
 

@@ -116,7 +116,7 @@ none-barred : (b : Bool) (n : ℕ) (later : Option ℕ) → cond b (Some n) late
 none-barred true n later e = absurd (cc e)
 none-barred false n later e = (refl, e)
 
--- none of some fits badly behind those before it
+-- none of some fits badly after those before it
 pub given-kept : (misfit : Misfit) (p : Instr → Bool) (before xs : List Instr) → first_given (misfits misfit) before xs ≡ None
     → first_given (misfits misfit) (filter p before) (filter p xs) ≡ None
 unfolding first_given

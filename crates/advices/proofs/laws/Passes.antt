@@ -28,14 +28,14 @@ use Rattle.advices.specs.Pass.{pass_fields}
 use Rattle.advices.specs.Received.{ordering, sequence_a, sequence_b}
 use Rattle.advices.specs.Transfer.{account_bank, intermediary}
 use Rattle.advices.proofs.laws.Banks.{ordering-of-cover}
-use Rattle.advices.proofs.laws.CoverHalves.{apart-back, at-a, at-b, back-passes, copy-seated-a, long-b, must-a, must-b, named-a, payer-behind, payer-places, pb}
+use Rattle.advices.proofs.laws.CoverHalves.{apart-back, at-a, at-b, back-passes, copy-seated-a, long-b, must-a, must-b, named-a, payer-after, payer-places, pb}
 use Rattle.advices.proofs.laws.CoverSays.{cover-kept, cover-reads, lacks}
 use Rattle.advices.proofs.laws.Finding.{found-passes, must-copy}
 use Rattle.advices.proofs.laws.Fitted.{all-pass, contents-fine, row}
 use Rattle.advices.proofs.laws.Said.{at-group, at_place, first}
 use Rattle.advices.proofs.laws.Seats.{AllSeated, Seated, ◌▸◌, no-more, none-seated, one-seated, seated-56, seated-57}
 use Rattle.advices.proofs.laws.SentCover.{lacks-passed}
-use Rattle.advices.proofs.laws.Sequences.{Passing, at-back, at-front, behind-below, below-apart, contents-hold, free_behind, groups-below, hold-contents, holds-both, places-append, split-at, taken-back, taken-front}
+use Rattle.advices.proofs.laws.Sequences.{Passing, at-back, at-front, past-below, below-apart, contents-hold, free_past, groups-below, hold-contents, holds-both, places-append, split-at, taken-back, taken-front}
 
 -- the fields of each place of the first sequence, with this 52a
 abbrev pub passed_segs : List Field → List ℕ → Value → Skip → Field → List (List Field)
@@ -128,11 +128,11 @@ module _ (t : Tables) (a b : List Field) (payer : Field) (is : is_named 50 (code
   places : places_from order_202 0 (front ++ payer ∷ b) ≡ pf ++ 11 ∷ pr
   places =
       let long : length (places_from order_202 0 front) ≡ length front = ap length front-places ∙ long-front in
-      let low : free_behind order_202 0 pf ≤ 11 = behind-below order_202 0 11 pf (omega arith) (groups-below 0 11 segs (omega arith)) in
-      let first : place_from order_202 (free_behind order_202 0 pf) payer ≡ Some 11 = payer-behind (free_behind order_202 0 pf) payer is low in
-      let rest : places_from order_202 (free_behind order_202 0 pf) (payer ∷ b) ≡ 11 ∷ pr = payer-places (free_behind order_202 0 pf) payer b first in
+      let low : free_past order_202 0 pf ≤ 11 = past-below order_202 0 11 pf (omega arith) (groups-below 0 11 segs (omega arith)) in
+      let first : place_from order_202 (free_past order_202 0 pf) payer ≡ Some 11 = payer-after (free_past order_202 0 pf) payer is low in
+      let rest : places_from order_202 (free_past order_202 0 pf) (payer ∷ b) ≡ 11 ∷ pr = payer-places (free_past order_202 0 pf) payer b first in
       places-append order_202 0 front (payer ∷ b) long
-      ∙ ap (λ (ps : List ℕ). ps ++ places_from order_202 (free_behind order_202 0 ps) (payer ∷ b)) front-places
+      ∙ ap (λ (ps : List ℕ). ps ++ places_from order_202 (free_past order_202 0 ps) (payer ∷ b)) front-places
       ∙ ap (λ (ps : List ℕ). pf ++ ps) rest
 
   long-sent : length (pf ++ 11 ∷ pr) ≡ length (front ++ payer ∷ b)
@@ -218,10 +218,10 @@ pass-fields-read t r fs m mt same none read sender known reference one_is v four
     let is = found-passes (is_named 50 (codes "AFK")) fs payer f50.2 in
     let s = split-at (is_named 50 (codes "AFK")) fs payer f50.2 in
     let before : sequence_a fs ≡ s.front = rw (s.at) (s.before) in
-    let behind : sequence_b fs ≡ payer ∷ s.back = rw (s.at) (s.behind) in
+    let after : sequence_b fs ≡ payer ∷ s.back = rw (s.at) (s.after) in
     let none_whole : first_of (field_tests t (s.front ++ payer ∷ s.back)) ≡ None =
     subst (λ (xs : List Field). first_of (field_tests t xs) ≡ None) s.whole none in
     let read_whole : mt202cov_of t (s.front ++ payer ∷ s.back) ≡ Ok m = subst (λ (xs : List Field). mt202cov_of t xs ≡ Ok m) s.whole read in
     let bank = ordering-of-cover t r fs mt same none sender known in
     let sent = sent-reads t s.front s.back payer is none_whole reference one_is v four skip bank.field bank.bank bank.named bank.says m read_whole in
-    (sent.0, ap (mt202cov_of t) (sent-fields r fs s.front s.back payer reference v skip bank.field same before behind bank.same) ∙ sent.1)
+    (sent.0, ap (mt202cov_of t) (sent-fields r fs s.front s.back payer reference v skip bank.field same before after bank.same) ∙ sent.1)

@@ -18,7 +18,7 @@ use Rattle.advices.specs.Transfer.{account_bank, intermediary}
 use Rattle.advices.proofs.laws.Copies.{SaysNamed, each-says, found-each, only_from}
 use Rattle.advices.proofs.laws.Fitted.{Fine, first-named, first_for, no-field, one-named}
 
--- the fields of the place n behind `low`: they stand there, and each passes its test
+-- the fields of the place n after `low`: they stand there, and each passes its test
 pub record Seated (order : List Place) (test : ℕ → Field → Option Code) (low n : ℕ) (s : List Field) : Type 0 where
   pub placed : Segment order low (low + n) s
   pub passing : AllByRecursion (λ f. test (low + n) f ≡ None) s

@@ -23,16 +23,16 @@ use Rattle.advices.proofs.laws.Said.{at_place}
 
 -- ---- places
 
--- the first place that is free behind fields that took these
-abbrev pub free_behind : List Place → ℕ → List ℕ → ℕ
-free_behind order free [] = free
-free_behind order free (k ∷ ks) = free_behind order (free_after order k) ks
+-- the first place that is free after fields that took these
+abbrev pub free_past : List Place → ℕ → List ℕ → ℕ
+free_past order free [] = free
+free_past order free (k ∷ ks) = free_past order (free_after order k) ks
 
 -- what these leave free of `free`, where they stand one after the other
 abbrev left_free : List Place → ℕ → List Field → ℕ
-left_free order free xs = free_behind order free (places_from order free xs)
+left_free order free xs = free_past order free (places_from order free xs)
 
--- the places of a field and of those behind it
+-- the places of a field and of those after it
 abbrev pub from_place : (ℕ → List ℕ) → Option ℕ → List ℕ
 from_place more o = unwrap_or (option_map (λ k. k ∷ more k) o) []
 
@@ -41,21 +41,21 @@ abbrev after_place : List Place → List Field → ℕ → List ℕ
 after_place order xs k = places_from order (free_after order k) xs
 
 -- what places from `low` on leave free is after each of them
-abbrev IsBehind : List Place → ℕ → List ℕ → Type 0
-IsBehind order low ks = AllByRecursion (λ q. free_after order q ≤ free_behind order low ks) ks
+abbrev IsPast : List Place → ℕ → List ℕ → Type 0
+IsPast order low ks = AllByRecursion (λ q. free_after order q ≤ free_past order low ks) ks
 
 pub places-append : (order : List Place) (free : ℕ) (xs ys : List Field) → length (places_from order free xs) ≡ length xs
-    → places_from order free (xs ++ ys) ≡ places_from order free xs ++ places_from order (free_behind order free (places_from order free xs)) ys
+    → places_from order free (xs ++ ys) ≡ places_from order free xs ++ places_from order (free_past order free (places_from order free xs)) ys
 unfolding places_from
 places-append order free [] ys e = refl
 places-append order free (x ∷ xs) ys e = go (λ k h. places-append order (free_after order k) xs ys h) (place_from order free x) e
   where
     go : ((k : ℕ) → length (after_place order xs k) ≡ length xs
         → after_place order (xs ++ ys) k
-        ≡ after_place order xs k ++ places_from order (free_behind order (free_after order k) (after_place order xs k)) ys)
+        ≡ after_place order xs k ++ places_from order (free_past order (free_after order k) (after_place order xs k)) ys)
         → (o : Option ℕ) → length (from_place (after_place order xs) o) ≡ length (x ∷ xs)
         → from_place (after_place order (xs ++ ys)) o
-        ≡ from_place (after_place order xs) o ++ places_from order (free_behind order free (from_place (after_place order xs) o)) ys
+        ≡ from_place (after_place order xs) o ++ places_from order (free_past order free (from_place (after_place order xs) o)) ys
     go later None e = absurd (omega (arith, e))
     go later (Some k) e = ap (λ (ps : List ℕ). k ∷ ps) (later k (omega (arith, e)))
 
@@ -94,31 +94,31 @@ places-above order free (x ∷ xs) = go (λ k. places-above order (free_after or
         let bounds = free_after-bounds order k in
         (above, each-more (λ q. free_after order k ≤ q) (λ q. free ≤ q) (after_place order xs k) (λ q h. omega (arith, h, bounds.0, above)) (later k))
 
-behind-above : (order : List Place) (free : ℕ) (xs : List Field) → free ≤ left_free order free xs
+past-above : (order : List Place) (free : ℕ) (xs : List Field) → free ≤ left_free order free xs
 unfolding places_from
-behind-above order free [] = omega arith
-behind-above order free (x ∷ xs) = go (λ k. behind-above order (free_after order k) xs) (place_from order free x) refl
+past-above order free [] = omega arith
+past-above order free (x ∷ xs) = go (λ k. past-above order (free_after order k) xs) (place_from order free x) refl
   where
     go : ((k : ℕ) → free_after order k ≤ left_free order (free_after order k) xs) → (o : Option ℕ) → place_from order free x ≡ o
-        → free ≤ free_behind order free (from_place (after_place order xs) o)
+        → free ≤ free_past order free (from_place (after_place order xs) o)
     go later None e = omega arith
     go later (Some k) e =
         let above : free ≤ k = place-above free k (position (λ p. fits p x) (drop free order)) e in
         let bounds = free_after-bounds order k in
-        let behind = later k in
-        omega (arith, above, bounds.0, behind)
+        let after = later k in
+        omega (arith, above, bounds.0, after)
 
--- and what they leave free is behind each of their places
-pub places-behind : (order : List Place) (free : ℕ) (xs : List Field)
-    → AllByRecursion (λ k. free_after order k ≤ free_behind order free (places_from order free xs)) (places_from order free xs)
+-- and what they leave free is after each of their places
+pub places-after : (order : List Place) (free : ℕ) (xs : List Field)
+    → AllByRecursion (λ k. free_after order k ≤ free_past order free (places_from order free xs)) (places_from order free xs)
 unfolding places_from
-places-behind order free [] = tt
-places-behind order free (x ∷ xs) = go (λ k. places-behind order (free_after order k) xs) (place_from order free x)
+places-after order free [] = tt
+places-after order free (x ∷ xs) = go (λ k. places-after order (free_after order k) xs) (place_from order free x)
   where
-    go : ((k : ℕ) → IsBehind order (free_after order k) (after_place order xs k)) → (o : Option ℕ)
-        → IsBehind order free (from_place (after_place order xs) o)
+    go : ((k : ℕ) → IsPast order (free_after order k) (after_place order xs k)) → (o : Option ℕ)
+        → IsPast order free (from_place (after_place order xs) o)
     go later None = tt
-    go later (Some k) = (behind-above order (free_after order k) xs, later k)
+    go later (Some k) = (past-above order (free_after order k) xs, later k)
 
 -- the places of so many groups
 repeated-below : (j n most : ℕ) (ks : List ℕ) → j < most → AllByRecursion (λ k. k < most) ks → AllByRecursion (λ k. k < most) (replicate n j ++ ks)
@@ -130,12 +130,12 @@ groups-below j most [] le = tt
 groups-below j most (s ∷ segs) le =
     repeated-below j (length s) most (places_of (j + 1) segs) (omega (arith, le)) (groups-below (j + 1) most segs (omega (arith, le)))
 
--- leave free what is behind them
-pub behind-below : (order : List Place) (free most : ℕ) (ks : List ℕ) → free ≤ most → AllByRecursion (λ k. k < most) ks → free_behind order free ks ≤ most
-behind-below order free most [] le h = le
-behind-below order free most (k ∷ ks) le h =
+-- leave free what is after them
+pub past-below : (order : List Place) (free most : ℕ) (ks : List ℕ) → free ≤ most → AllByRecursion (λ k. k < most) ks → free_past order free ks ≤ most
+past-below order free most [] le h = le
+past-below order free most (k ∷ ks) le h =
     let bounds = free_after-bounds order k in
-    behind-below order (free_after order k) most ks (omega (arith, bounds.1, h.0)) h.1
+    past-below order (free_after order k) most ks (omega (arith, bounds.1, h.0)) h.1
 
 -- ---- apart from a place
 
@@ -272,7 +272,7 @@ taken-in-front k px py h e =
 
 -- ---- where the first of a kind stands
 
--- the fields before it, and those behind it
+-- the fields before it, and those after it
 pub record IsSplit (test : Field → Bool) (fs : List Field) (f : Field) : Type 0 where
   pub front : List Field
   pub back : List Field
@@ -280,7 +280,7 @@ pub record IsSplit (test : Field → Bool) (fs : List Field) (f : Field) : Type 
   pub place : ℕ
   pub at : position test fs ≡ Some place
   pub before : take place fs ≡ front
-  pub behind : drop place fs ≡ f ∷ back
+  pub after : drop place fs ≡ f ∷ back
 
 pub split-at : (test : Field → Bool) (fs : List Field) (f : Field) → find test fs ≡ Some f → IsSplit test fs f
 split-at test [] f e = absurd (cc e)
@@ -290,7 +290,7 @@ split-at test (g ∷ fs) f e = go (test g) (split-at test fs f) refl e
     go true later h e =
         let same : g ≡ f = cc e in
         subst (IsSplit test (g ∷ fs)) same
-        (record { front = []; back = fs; whole = refl; place = 0; at = position-here test g fs h; before = refl; behind = refl })
+        (record { front = []; back = fs; whole = refl; place = 0; at = position-here test g fs h; before = refl; after = refl })
     go false later h e =
         let s = later e in
         record {
@@ -300,5 +300,5 @@ split-at test (g ∷ fs) f e = go (test g) (split-at test fs f) refl e
           place = suc s.place;
           at = position-later test g fs h ∙ ap (option_map (λ i. i + 1)) s.at ∙ ap (λ (n : ℕ). Some n) (omega arith);
           before = ap (λ (xs : List Field). g ∷ xs) s.before;
-          behind = s.behind;
+          after = s.after;
         }

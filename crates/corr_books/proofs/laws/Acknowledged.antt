@@ -13,9 +13,9 @@ use Rattle.corr_books.specs.Stand.{entries_of, history_of}
 use Rattle.corr_books.specs.Telling.{IsAdded, entry_on, known_to}
 use Rattle.corr_books.proofs.laws.Histories.{history_prefix}
 
-get_behind : (xs ys : List Entry) (i : ℕ) → slice_get (xs ++ ys) (length xs + i) ≡ slice_get ys i
-get_behind [] ys i = ap (slice_get ys) (omega arith)
-get_behind (x ∷ xs) ys i = let e : suc (length xs) + i ≡ suc (length xs + i) = omega arith in ap (slice_get (x ∷ (xs ++ ys))) e ∙ get_behind xs ys i
+get_after : (xs ys : List Entry) (i : ℕ) → slice_get (xs ++ ys) (length xs + i) ≡ slice_get ys i
+get_after [] ys i = ap (slice_get ys) (omega arith)
+get_after (x ∷ xs) ys i = let e : suc (length xs) + i ≡ suc (length xs + i) = omega arith in ap (slice_get (x ∷ (xs ++ ys))) e ∙ get_after xs ys i
 
 entries_of-get : (log : List Act) (i : ℕ) (a : Act) → slice_get log i ≡ Some a → slice_get (entries_of log) i ≡ Some a.entry
 entries_of-get [] i a e = absurd (cc (e))
@@ -27,7 +27,7 @@ added_there : (o : Opening) (pay : Pay) (old new : PassKnows) (place : ℕ) (out
     → slice_get (history_of o.base log) (length o.base + a.at) ≡ Some (entry_on o pay outcome)
 added_there o pay old new place outcome log a p =
     let act : Act = record { by = old.number; entry = entry_on o pay outcome } in
-    get_behind o.base (entries_of log) a.at ∙ entries_of-get log a.at act (prefix_get new.known log a.at act p a.there)
+    get_after o.base (entries_of log) a.at ∙ entries_of-get log a.at act (prefix_get new.known log a.at act p a.there)
 
 -- what the pass knew begins the list of the closed books
 known_in : (o : Opening) (history : List Entry) (known : List Act) → (c : ClosedWith o history known) → IsPrefix known c.closes.log

@@ -135,7 +135,7 @@ terminal-again b terminal h c =
     let last : List ℕ = terminal ∷ b.branch in
     let low : 6 ≤ length b.head = omega (arith, p.eight) in
     let long : length (b.head ++ last) ≡ 12 = omega (arith, p.eight, p.three, length-append b.head last) in
-    let behind : drop 9 (b.head ++ last) ≡ b.branch = sym (drop-drop 1 8 (b.head ++ last)) ∙ ap (drop 1) (drop_at b.head last 8 p.eight) in
+    let after : drop 9 (b.head ++ last) ≡ b.branch = sym (drop-drop 1 8 (b.head ++ last)) ∙ ap (drop 1) (drop_at b.head last 8 p.eight) in
     rw (
       long,
       take-append-le 6 b.head last low,
@@ -147,14 +147,14 @@ terminal-again b terminal h c =
       p.branch,
       take_at b.head last 8 p.eight,
       get_or_at b.head terminal b.branch 0 8 p.eight,
-      behind,
+      after,
     ) refl
 
 -- the text of a terminal's address has the form of one
 pub lt-form : (a : LtAddress) → IsLt a → is_lt (lt_text a) ≡ true
 lt-form a h = (some_if (is_lt (lt_text a)) (address_of (lt_text a)) a h).0
 
--- what stands behind a reference's date is an address
+-- what stands after a reference's date is an address
 pub mir-sender : (bs : List ℕ) → is_mir bs ≡ true → is_lt (sender_text bs) ≡ true
 unfolding is_mir
 mir-sender bs h =

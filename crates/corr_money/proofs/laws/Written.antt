@@ -49,10 +49,10 @@ first_comma (x ∷ xs) ys h =
     let other : (x == 44) ≡ false = grind (arith, nat_tests) in
     rw (other, first_comma xs ys parts.1) (omega arith)
 
--- digits, of which so many stand behind the comma
+-- digits, of which so many stand after the comma
 pub record Spelled (decimals n : ℕ) (xs ys : List ℕ) : Type 0 where
   pub before : list_all is_ascii_digit xs ≡ true
-  pub behind : list_all is_ascii_digit ys ≡ true
+  pub after : list_all is_ascii_digit ys ≡ true
   pub some : 0 < length xs
   pub exact : length ys ≡ decimals
   pub short : length xs + length ys ≤ 14
@@ -76,7 +76,7 @@ reads_spelled decimals n xs ys s =
     let few : nat_le (length ys) decimals ≡ true = le-leb (length ys) decimals (omega (arith, s.exact)) in
     let none : decimals - length ys ≡ 0 = omega (arith, s.exact) in
     let small : nat_lt n amount_end ≡ true = lt-ltb n amount_end s.small in
-    rw (whole, written, at, inside, some, s.before, s.behind, short, few, none, append-nil (xs ++ ys), s.value, small) refl
+    rw (whole, written, at, inside, some, s.before, s.after, short, few, none, append-nil (xs ++ ys), s.value, small) refl
 
 -- an amount as it is printed is read as itself
 pub reads_written : (decimals n : ℕ) → decimals ≤ 4 → n < amount_end → amount_of decimals (amount_text decimals n) ≡ Ok (record { 0 = n })
@@ -96,7 +96,7 @@ reads_written decimals n most small =
     let exact : length (drop m ds) ≡ decimals = omega arith in
     reads_spelled decimals n (take m ds) (drop m ds) (record {
       before = parts.0;
-      behind = parts.1;
+      after = parts.1;
       some = omega arith;
       exact = exact;
       short = omega arith;

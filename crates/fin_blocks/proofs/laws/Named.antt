@@ -11,7 +11,7 @@ use Rattle.corr_ids.specs.Day.{◌>>=◌ as ◌onward◌}
 use Rattle.corr_ids.specs.Mir.{IsMir, is_mir, mir_of}
 use Rattle.corr_ids.specs.declared.address.LtAddress.{LtAddress}
 use Rattle.corr_ids.proofs.laws.Spelling.{lt-bank}
-use Rattle.fin_blocks.specs.Blocks.{AreNamed, IsApp, ending_of, groups_behind, blocks_of, user_of}
+use Rattle.fin_blocks.specs.Blocks.{AreNamed, IsApp, ending_of, groups_past, blocks_of, user_of}
 use Rattle.fin_blocks.specs.Forms.{app_of, basic_in, basic_of, inside, mir_in, received_in, output_form_of, sent_in, input_form_of}
 use Rattle.fin_blocks.specs.Groups.{groups_after, groups_of, next_group}
 use Rattle.fin_blocks.specs.Text.{text_of}
@@ -99,8 +99,8 @@ blocks-form m =
     then P (check (bytes_eq basic.version (codes "01")) (fault.Bad (code "P02") None)) _ (λ _ _.
     then-part IsApp P (app_of (next_group (groups_after first))) (fault.Bad (code "P03") None) _ (app-form (next_group (groups_after first))) (λ app form.
     then P (or_fault (user_of (groups_after (groups_after first))) (fault.Bad (code "P04") (mir_in app))) _ (λ user _.
-    then P (or_fault (text_of (next_group (groups_behind (codes "{3:") (groups_after (groups_after first))))) (fault.Bad (code "P05") (mir_in app))) _ (λ text _.
-    then P (or_fault (ending_of (groups_after (groups_behind (codes "{3:") (groups_after (groups_after first))))) (fault.Bad (code "P06") (mir_in app))) _ (λ trailers _.
+    then P (or_fault (text_of (next_group (groups_past (codes "{3:") (groups_after (groups_after first))))) (fault.Bad (code "P05") (mir_in app))) _ (λ text _.
+    then P (or_fault (ending_of (groups_after (groups_past (codes "{3:") (groups_after (groups_after first))))) (fault.Bad (code "P06") (mir_in app))) _ (λ trailers _.
     record { own = own; app = form }))))))
 
 -- what is named by the blocks of a message that was read meets its grammar

@@ -12,7 +12,7 @@ use Rattle.corr_text.specs.First.{check, or_fault}
 use Rattle.corr_text.specs.Lines.{begins_with, lines_of, with_byte as with_line_byte}
 use Rattle.corr_text.proofs.laws.Written.{is_inner, line-again}
 use Rattle.corr_ids.specs.Day.{◌>>=◌ as ◌then◌}
-use Rattle.fin_blocks.specs.Blocks.{ending_of, groups_behind, blocks_of, has_next, user_of}
+use Rattle.fin_blocks.specs.Blocks.{ending_of, groups_past, blocks_of, has_next, user_of}
 use Rattle.fin_blocks.specs.Forms.{app_of, basic_of, between, mir_in}
 use Rattle.corr_text.specs.Braces.{depth_after}
 use Rattle.fin_blocks.specs.Groups.{groups_after, groups_of, next_group, groups_from, group_with_byte}
@@ -66,8 +66,8 @@ after-small n [] small = tt
 after-small n (None ∷ groups) small = small
 after-small n (Some group ∷ groups) small = small.1
 
-behind-small : (n : ℕ) (start : List ℕ) (groups : List (Option (List ℕ))) → AreSmall n groups → AreSmall n (groups_behind start groups)
-behind-small n start groups small = either n (has_next start groups) (groups_after groups) groups (after-small n groups small) small
+past-small : (n : ℕ) (start : List ℕ) (groups : List (Option (List ℕ))) → AreSmall n groups → AreSmall n (groups_past start groups)
+past-small n start groups small = either n (has_next start groups) (groups_after groups) groups (after-small n groups small) small
 
 -- ---- lines, each with a new end
 
@@ -191,7 +191,7 @@ blocks-sized : (m : List ℕ) → IfOk (blocks_of m) (λ b. Sized (length m) b.t
 unfolding blocks_of
 blocks-sized m =
     let third = groups_after (groups_after (groups_of m)) in
-    let fourth = groups_behind (codes "{3:") third in
+    let fourth = groups_past (codes "{3:") third in
     let P : Blocks → Type 0 = λ b. Sized (length m) b.text in
     passed P (or_fault (basic_of (next_group (groups_of m))) (fault.Bad (code "P01") None)) _ (λ basic _.
     passed P (check (bytes_eq basic.version (codes "01")) (fault.Bad (code "P02") None)) _ (λ _ _.
@@ -201,11 +201,11 @@ blocks-sized m =
     passed P (or_fault (ending_of (groups_after fourth)) (fault.Bad (code "P06") (mir_in app))) _ (λ trailers _.
     sized text (found (text_of (next_group fourth)) (fault.Bad (code "P05") (mir_in app)) text is)))))))
   where
-    sized : (text : List ℕ) → text_of (next_group (groups_behind (codes "{3:") (groups_after (groups_after (groups_of m))))) ≡ Some text → Sized (length m) text
+    sized : (text : List ℕ) → text_of (next_group (groups_past (codes "{3:") (groups_after (groups_after (groups_of m))))) ≡ Some text → Sized (length m) text
     sized text is =
-        let group = next_group (groups_behind (codes "{3:") (groups_after (groups_after (groups_of m)))) in
-        let short : IsSmall (length m) group = next-small (length m) (groups_behind (codes "{3:") (groups_after (groups_after (groups_of m))))
-        (behind-small (length m) (codes "{3:") (groups_after (groups_after (groups_of m))) (after-small (length m) (groups_after (groups_of m)) (after-small (length m) (groups_of m) (groups-small m)))) in
+        let group = next_group (groups_past (codes "{3:") (groups_after (groups_after (groups_of m)))) in
+        let short : IsSmall (length m) group = next-small (length m) (groups_past (codes "{3:") (groups_after (groups_after (groups_of m))))
+        (past-small (length m) (codes "{3:") (groups_after (groups_after (groups_of m))) (after-small (length m) (groups_after (groups_of m)) (after-small (length m) (groups_of m) (groups-small m)))) in
         subst (λ o. IfSome o (Sized (length m))) is (text-of-sized group (length m) short)
 
 pub text_lines : (m : List ℕ) (b : Blocks) → blocks_of m ≡ Ok b → length (lines_of b.text) ≤ length m

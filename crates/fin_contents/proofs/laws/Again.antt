@@ -274,7 +274,7 @@ place-payable t order fs found k v e = let f = must-ok order fs k (value_of t) (
 dated : (n : ℕ) → nat_le 4 n ≡ true → nat_le 10 (6 + n) ≡ true
 dated n e = grind (arith, nat_tests)
 
--- a date and an amount behind it
+-- a date and an amount after it
 value-written : (t : Tables) (line date : List ℕ) (v : Value) → IsValue v → date ≡ take 6 line → length date ≡ 6 → is_dated_amount line ≡ true → value_in t line ≡ Ok v
     → (is_dated_amount (date ++ ccy_amount_text v.amount) ≡ true) × (value_in t (date ++ ccy_amount_text v.amount) ≡ Ok v)
 unfolding value_in

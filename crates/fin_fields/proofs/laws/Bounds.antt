@@ -4,7 +4,7 @@ use Rattle.std.specs.Prelude.{IfSome}
 use Rattle.std.specs.Char.{is_ascii_digit, is_ascii_uppercase}
 use Rattle.std.proofs.lemmas.Bool.Decides.{nat_tests}
 use Rattle.corr_text.specs.Lines.{begins_with, lines_of, with_byte}
-use Rattle.fin_fields.specs.Fields.{Grouped, Heading, behind_letter, behind_tag, grouped, heading_of, with_line}
+use Rattle.fin_fields.specs.Fields.{Grouped, Heading, after_letter, after_tag, grouped, heading_of, with_line}
 
 -- what a line says that begins a field has a tag of two digits, and a capital letter if any
 pub record IsHeading (h : Heading) : Type 0 where
@@ -15,14 +15,14 @@ either : (b : Bool) (o p : Option Heading) → (b ≡ true → IfSome o IsHeadin
 either true o p h k = h refl
 either false o p h k = k
 
-behind-letter : (tag letter : ℕ) (rest : List ℕ) → tag ≤ 99 → is_ascii_uppercase letter ≡ true → IfSome (behind_letter tag letter rest) IsHeading
-behind-letter tag letter [] le up = tt
-behind-letter tag letter (c ∷ rest) le up = either (c == 58) _ _ (λ _. record { tag = le; letter = up }) tt
+after-letter : (tag letter : ℕ) (rest : List ℕ) → tag ≤ 99 → is_ascii_uppercase letter ≡ true → IfSome (after_letter tag letter rest) IsHeading
+after-letter tag letter [] le up = tt
+after-letter tag letter (c ∷ rest) le up = either (c == 58) _ _ (λ _. record { tag = le; letter = up }) tt
 
-behind-tag : (tag : ℕ) (rest : List ℕ) → tag ≤ 99 → IfSome (behind_tag tag rest) IsHeading
-behind-tag tag [] le = tt
-behind-tag tag (c ∷ rest) le =
-    either (c == 58) _ _ (λ _. record { tag = le; letter = tt }) (either (is_ascii_uppercase c) _ _ (λ up. behind-letter tag c rest le up) tt)
+after-tag : (tag : ℕ) (rest : List ℕ) → tag ≤ 99 → IfSome (after_tag tag rest) IsHeading
+after-tag tag [] le = tt
+after-tag tag (c ∷ rest) le =
+    either (c == 58) _ _ (λ _. record { tag = le; letter = tt }) (either (is_ascii_uppercase c) _ _ (λ up. after-letter tag c rest le up) tt)
 
 two-digits : (colon : Bool) (tens ones : ℕ) → (colon && is_ascii_digit tens && is_ascii_digit ones) ≡ true → 10 * (tens - 48) + (ones - 48) ≤ 99
 two-digits colon tens ones h = grind (arith, nat_tests)
@@ -32,7 +32,7 @@ is-heading [] = tt
 is-heading (c ∷ []) = tt
 is-heading (c ∷ tens ∷ []) = tt
 is-heading (c ∷ tens ∷ ones ∷ rest) =
-    either ((c == 58) && is_ascii_digit tens && is_ascii_digit ones) _ _ (λ h. behind-tag _ rest (two-digits (c == 58) tens ones h)) tt
+    either ((c == 58) && is_ascii_digit tens && is_ascii_digit ones) _ _ (λ h. after-tag _ rest (two-digits (c == 58) tens ones h)) tt
 
 one-more : (line : List ℕ) (h : Option Heading) (g : Grouped) (n : ℕ) → length g.fields ≤ n → length (with_line line h g).fields ≤ n + 1
 one-more line None g n le = omega arith

@@ -8,17 +8,17 @@ use Rattle.corr_text.specs.declared.set.Set.TheVariants.{X}
 use Rattle.fin_fields.specs.Faults.{has_other_byte}
 use Rattle.fin_fields.specs.Patterns.{is_run, is_short}
 
--- so has the first byte, and so have the bytes behind it
+-- so has the first byte, and so have the bytes after it
 pub each-of-x : (b : ℕ) (bs : List ℕ) → has_other_byte (b ∷ bs) ≡ false → (not (is_x_byte b) ≡ false) × (has_other_byte bs ≡ false)
 each-of-x b bs e = or_parts (not (is_x_byte b)) (has_other_byte bs) e
 
--- and what is left behind some bytes
+-- and what is left after some bytes
 pub rest_of_x : (n : ℕ) (line : List ℕ) → has_other_byte line ≡ false → has_other_byte (drop n line) ≡ false
 rest_of_x zero line e = e
 rest_of_x (suc n) [] e = e
 rest_of_x (suc n) (b ∷ bs) e = rest_of_x n bs (each-of-x b bs e).1
 
--- the first of such lines, and the lines behind it
+-- the first of such lines, and the lines after it
 pub lines-of-x : (line : List ℕ) (lines : List (List ℕ)) → list_any has_other_byte (line ∷ lines) ≡ false
     → (has_other_byte line ≡ false) × (list_any has_other_byte lines ≡ false)
 lines-of-x line lines e = or_parts (has_other_byte line) (list_any has_other_byte lines) e

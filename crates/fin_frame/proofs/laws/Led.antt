@@ -11,14 +11,14 @@ use Rattle.fin_frame.specs.File.IsFileOf.{start as file_start, more as file_more
 use Rattle.fin_frame.specs.Shown.{is_marked, no_more, stands_apart}
 use Rattle.fin_frame.specs.Machine.{State, at_start, to, fails, gives, held_bytes, landed, grows, within, next_close, next, run, moves, stage_between}
 use Rattle.fin_frame.specs.declared.fault.FrameFault.TheVariants.{TooLong}
-use Rattle.fin_frame.specs.declared.stage.Stage.TheVariants.{Between, Within, Behind}
+use Rattle.fin_frame.specs.declared.stage.Stage.TheVariants.{Between, Within, After}
 use Rattle.fin_frame.proofs.laws.Running.{run-append, run-failed, run-within, run-resumed, within-full, within-room, same-test, other-test, state-same, close-gap}
 
--- in a gap behind these messages, or before them all
+-- in a gap after these messages, or before them all
 abbrev pub at_gap : ℕ → List (List ℕ) → Bool → State
 at_gap n messages marked = record { stage = Between marked; held = None; fed = n; begun = length messages; failed = None; given = messages }
 
--- in a message that begins at from and leaves d groups left, behind these messages
+-- in a message that begins at from and leaves d groups left, after these messages
 abbrev pub in_message : ℕ → ℕ → List ℕ → List (List ℕ) → ℕ → State
 in_message from d message messages n = record {
   stage = landed from d;
@@ -29,18 +29,18 @@ in_message from d message messages n = record {
   given = messages;
 }
 
--- the machine behind a file: in a gap, or directly behind the last message
+-- the machine after a file: in a gap, or directly after the last message
 pub data Rests : ℕ → List (List ℕ) → List ℕ → State → Type 0 where
   rests_apart : (n : ℕ) (messages : List (List ℕ)) (gap : List ℕ) → stands_apart messages gap ≡ true
       → Rests n messages gap (at_gap n messages (is_marked messages gap))
-  rests_behind : (n from : ℕ) (messages : List (List ℕ)) (message : List ℕ) → Rests n (messages ++ message ∷ []) [] (in_message from 0 message messages n)
+  rests_after : (n from : ℕ) (messages : List (List ℕ)) (message : List ℕ) → Rests n (messages ++ message ∷ []) [] (in_message from 0 message messages n)
 
 -- `{1:` begins a message
 pub lead-run : {n : ℕ} {messages : List (List ℕ)} {gap : List ℕ} {s : State} → Rests n messages gap s → run s lead ≡ in_message n 1 lead messages (n + 3)
 lead-run (rests_apart n messages gap apart) =
     state-same _ (in_message n 1 lead messages (n + 3)) (ap (λ k. Within k 1) (let e : (n + 1 + 1) - 2 ≡ n = omega arith in e)) refl
     (omega arith) refl refl refl
-lead-run (rests_behind n from messages message) =
+lead-run (rests_after n from messages message) =
     state-same _ (in_message n 1 lead (messages ++ message ∷ []) (n + 3)) (ap (λ k. Within k 1) (let e : (n + 1 + 1) - 2 ≡ n = omega arith in e)) refl
     (omega arith) (let e = length-append messages (message ∷ []) in omega arith) refl refl
 
@@ -100,7 +100,7 @@ run-over from (suc d) e (x ∷ xs) s sound stage deep some is over =
     run-over from (suc k) e xs (grows from (depth_after (suc d) x) (x ∷ []) s) sound (ap (λ n. landed from n) nests) (omega arith) more
     (subst (λ n. left_open n xs ≡ Some e) nests is) (omega arith))
 
--- A group behind the open message that doesn't begin `{1:`: from some byte on it is known to be the message's.
+-- A group after the open message that doesn't begin `{1:`: from some byte on it is known to be the message's.
 record Resumed (from : ℕ) (m g : List ℕ) (messages : List (List ℕ)) (n d : ℕ) : Type 0 where
   pending : List ℕ
   xs : List ℕ
@@ -118,7 +118,7 @@ resumed-third from n d e m more messages other is = record {
   some = omega arith;
   is = is;
   ran =
-      let s = record (in_message from 0 m messages n) { stage = Behind from 2; fed = n + 1 + 1 } in
+      let s = record (in_message from 0 m messages n) { stage = After from 2; fed = n + 1 + 1 } in
       run-resumed from 2 s (e ∷ more) refl refl (omega arith) (omega arith) other
       ∙ ap (λ t. run t (e ∷ more)) (in-message-same from 1 messages (m ++ 123 ∷ 49 ∷ []) (m ++ 123 ∷ 49 ∷ []) (n + 1 + 1) (n + 2) refl (omega arith));
 }
@@ -132,36 +132,36 @@ resumed-second from n d c m more messages other is = record {
   some = omega arith;
   is = is;
   ran =
-      let s = record (in_message from 0 m messages n) { stage = Behind from 1; fed = n + 1 } in
+      let s = record (in_message from 0 m messages n) { stage = After from 1; fed = n + 1 } in
       run-resumed from 1 s (c ∷ more) refl refl (omega arith) (omega arith) other;
 }
 
-resumed-behind-1 : (from n d : ℕ) (m more : List ℕ) (messages : List (List ℕ)) → left_open 1 more ≡ Some d → agrees (58 ∷ []) more ≡ false
+resumed-after-1 : (from n d : ℕ) (m more : List ℕ) (messages : List (List ℕ)) → left_open 1 more ≡ Some d → agrees (58 ∷ []) more ≡ false
     → Resumed from m (123 ∷ 49 ∷ more) messages n d
-resumed-behind-1 from n d m [] messages is other = cc
-resumed-behind-1 from n d m (e ∷ more) messages is other = by-third (eqb_tells 58 e)
+resumed-after-1 from n d m [] messages is other = cc
+resumed-after-1 from n d m (e ∷ more) messages is other = by-third (eqb_tells 58 e)
   where
     by-third : (((58 == e) ≡ true) × (58 ≡ e)) ⊎ (((58 == e) ≡ false) × (58 ≢ e)) → Resumed from m (123 ∷ 49 ∷ e ∷ more) messages n d
     by-third (inl same) = absurd (let t : true ≡ false = sym (ap (λ b. b && true) same.0) ∙ other in cc)
     by-third (inr differ) = resumed-third from n d e m more messages (λ q. differ.1 (sym q)) is
 
-resumed-behind : (from n d : ℕ) (m inside : List ℕ) (messages : List (List ℕ)) → left_open 1 inside ≡ Some d → agrees (49 ∷ 58 ∷ []) inside ≡ false
+resumed-after : (from n d : ℕ) (m inside : List ℕ) (messages : List (List ℕ)) → left_open 1 inside ≡ Some d → agrees (49 ∷ 58 ∷ []) inside ≡ false
     → Resumed from m (123 ∷ inside) messages n d
-resumed-behind from n d m [] messages is other = cc
-resumed-behind from n d m (c ∷ more) messages is other = by-second (eqb_tells 49 c)
+resumed-after from n d m [] messages is other = cc
+resumed-after from n d m (c ∷ more) messages is other = by-second (eqb_tells 49 c)
   where
     by-second : (((49 == c) ≡ true) × (49 ≡ c)) ⊎ (((49 == c) ≡ false) × (49 ≢ c)) → Resumed from m (123 ∷ c ∷ more) messages n d
     by-second (inl same) =
         let rest : agrees (58 ∷ []) more ≡ false = sym (ap (λ b. b && agrees (58 ∷ []) more) same.0) ∙ other in
         let left : left_open 1 (49 ∷ more) ≡ Some d = subst (λ x. left_open 1 (x ∷ more) ≡ Some d) (sym same.1) is in
-        subst (λ x. Resumed from m (123 ∷ x ∷ more) messages n d) same.1 (resumed-behind-1 from n d m more messages left rest)
+        subst (λ x. Resumed from m (123 ∷ x ∷ more) messages n d) same.1 (resumed-after-1 from n d m more messages left rest)
     by-second (inr differ) = resumed-second from n d c m more messages (λ q. differ.1 (sym q)) is
 
 group-resumed : (from n d : ℕ) (m g : List ℕ) (messages : List (List ℕ)) → IsGroupTo d g → agrees lead g ≡ false → Resumed from m g messages n d
 group-resumed from n d m [] messages is other = absurd is
 group-resumed from n d m (b ∷ inside) messages is other =
     let rest : agrees (49 ∷ 58 ∷ []) inside ≡ false = sym (ap (λ t. t && agrees (49 ∷ 58 ∷ []) inside) (same-test 123 b (sym is.0))) ∙ other in
-    subst (λ x. Resumed from m (x ∷ inside) messages n d) (sym is.0) (resumed-behind from n d m inside messages is.1 rest)
+    subst (λ x. Resumed from m (x ∷ inside) messages n d) (sym is.0) (resumed-after from n d m inside messages is.1 rest)
 
 -- a message's bytes as far as they leave d groups left
 pub message-run : {n d : ℕ} {m gap : List ℕ} {messages : List (List ℕ)} {s : State} → IsMessageTo d m → Rests n messages gap s → length m ≤ most_bytes
@@ -298,13 +298,13 @@ pub or-true : (b : Bool) → (b || true) ≡ true
 or-true true = refl
 or-true false = refl
 
--- a byte of a gap behind the open message
+-- a byte of a gap after the open message
 pub close-step : (from n b : ℕ) (m : List ℕ) (messages : List (List ℕ)) → is_gap_byte b ≡ true
     → next (in_message from 0 m messages n) b ≡ at_gap (n + 1) (messages ++ m ∷ []) (b == 36)
 close-step from n b m messages is =
     let s = in_message from 0 m messages n in
     let other : (b == 123) ≡ false = other-test b 123 (λ e. let t : is_gap_byte 123 ≡ true = subst (λ x. is_gap_byte x ≡ true) e is in cc) in
-    let closes : next s b ≡ next_close s b = ap (λ t. cond t (to (Behind from 1) s) (next_close s b)) other in
+    let closes : next s b ≡ next_close s b = ap (λ t. cond t (to (After from 1) s) (next_close s b)) other in
     closes ∙ close-gap s b is
     ∙ state-same (to (Between (b == 36)) (gives s)) (at_gap (n + 1) (messages ++ m ∷ []) (b == 36)) refl refl refl
     (let e = length-append messages (m ∷ []) in omega arith) refl refl
@@ -321,15 +321,15 @@ marked-joined b gap messages m = by-byte (eqb_tells b 36) ∙ sym (ap (λ t. t |
         let counted : dollars (b ∷ gap) ≡ dollars gap = rw other.0 refl in
         ap (λ t. t || nat_lt 0 (dollars gap)) other.0 ∙ ap (λ k. nat_lt 0 k) (sym counted)
 
--- a gap, or nothing, behind the open message
-pub rests-behind : (from n : ℕ) (m gap : List ℕ) (messages : List (List ℕ)) → IsGap 1 gap
+-- a gap, or nothing, after the open message
+pub rests-after : (from n : ℕ) (m gap : List ℕ) (messages : List (List ℕ)) → IsGap 1 gap
     → Rests (n + length gap) (messages ++ m ∷ []) gap (run (in_message from 0 m messages n) gap)
-rests-behind from n m [] messages is =
+rests-after from n m [] messages is =
     let e : n ≡ n + 0 = omega arith in subst (λ k. Rests k (messages ++ m ∷ []) [] (in_message from 0 m messages n)) e (at-once)
   where
     at-once : Rests n (messages ++ m ∷ []) [] (in_message from 0 m messages n)
-    at-once = rests_behind n from messages m
-rests-behind from n m (b ∷ gap) messages is =
+    at-once = rests_after n from messages m
+rests-after from n m (b ∷ gap) messages is =
     let parts = and-parts (is_gap_byte b) (list_all is_gap_byte gap) is.0 in
     let few : dollars gap ≤ limit (b == 36) = fewer b gap is.1 (eqb_tells b 36) in
     let there :
@@ -349,7 +349,7 @@ rests-behind from n m (b ∷ gap) messages is =
         let counted : dollars (b ∷ gap) ≡ dollars gap = rw other.0 refl in
         subst (λ t. dollars gap ≤ limit t) (sym other.0) (omega arith)
 
--- a file leads into its last gap, or behind its last message
+-- a file leads into its last gap, or after its last message
 pub file-run : {file gap : List ℕ} {messages : List (List ℕ)} → IsFileOf file messages gap → Rests (length file) messages gap (run (at_start []) file)
 file-run {file} (file_start is) =
     let there : run (at_start []) file ≡ at_gap (length file) [] true =
@@ -363,4 +363,4 @@ file-run (file_more file message gap messages front is gapped) =
     ∙ ap (λ t. run t gap) (run-append (at_start []) file message ∙ message-run is.0 (file-run front) is.1) in
     subst (λ t. Rests (length (file ++ message ++ gap)) (messages ++ message ∷ []) gap t) (sym there)
     (subst (λ k. Rests k (messages ++ message ∷ []) gap (run (in_message (length file) 0 message messages (length file + length message)) gap)) (sym sizes)
-    (rests-behind (length file) (length file + length message) message gap messages gapped))
+    (rests-after (length file) (length file + length message) message gap messages gapped))

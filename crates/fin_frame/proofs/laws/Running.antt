@@ -4,11 +4,11 @@ use Rattle.std.proofs.lemmas.List.{append-nil, length-take-le}
 use Rattle.std.proofs.lemmas.Bool.Decides.{nat_tests}
 use Rattle.corr_text.specs.Braces.{depth_after}
 use Rattle.fin_frame.specs.File.{left_open, lead, is_gap_byte, most_bytes}
-use Rattle.fin_frame.specs.Machine.{State, to, fails, gives, begins, held_bytes, landed, grows, within, resumes, next_opening, next_close, next_behind, next_at, next, run, HasTaken, HasTakenByte}
+use Rattle.fin_frame.specs.Machine.{State, to, fails, gives, begins, held_bytes, landed, grows, within, resumes, next_opening, next_close, next_after, next_at, next, run, HasTaken, HasTakenByte}
 use Rattle.fin_frame.specs.declared.fault.FrameFault.{FrameFault}
 use Rattle.fin_frame.specs.declared.fault.FrameFault.TheVariants.{Stray, TooLong, Unbalanced, Memory}
 use Rattle.fin_frame.specs.declared.stage.Stage.{Stage}
-use Rattle.fin_frame.specs.declared.stage.Stage.TheVariants.{Between, Opening, Within, Behind}
+use Rattle.fin_frame.specs.declared.stage.Stage.TheVariants.{Between, Opening, Within, After}
 
 pub same-test : (m n : ℕ) → m ≡ n → (m == n) ≡ true
 same-test m n e = grind (arith, nat_tests)
@@ -94,17 +94,17 @@ pub opening-more : (matched : ℕ) (s : State) (b : ℕ) → b ≡ get_or lead m
     → next_opening matched s b ≡ to (Opening (matched + 1)) s
 opening-more matched s b is not-last = rw (same-test b (get_or lead matched 0) is, other-test matched 2 not-last) refl
 
-pub behind-more : (from matched : ℕ) (s : State) (b : ℕ) → b ≡ get_or lead matched 0 → (matched ≡ 2 → ⊥)
-    → next_behind from matched s b ≡ to (Behind from (matched + 1)) s
-behind-more from matched s b is not-last = rw (same-test b (get_or lead matched 0) is, other-test matched 2 not-last) refl
+pub after-more : (from matched : ℕ) (s : State) (b : ℕ) → b ≡ get_or lead matched 0 → (matched ≡ 2 → ⊥)
+    → next_after from matched s b ≡ to (After from (matched + 1)) s
+after-more from matched s b is not-last = rw (same-test b (get_or lead matched 0) is, other-test matched 2 not-last) refl
 
-pub behind-last : (from : ℕ) (s : State) → next_behind from 2 s 58 ≡ begins s
-behind-last from s = refl
+pub after-last : (from : ℕ) (s : State) → next_after from 2 s 58 ≡ begins s
+after-last from s = refl
 
 -- `{1:` doesn't go on: its bytes are the open message's
-pub behind-resumes : (from matched : ℕ) (s : State) (b : ℕ) → (b ≡ get_or lead matched 0 → ⊥) → 0 < matched
-    → next_behind from matched s b ≡ within from 1 (resumes from matched s) b
-behind-resumes from matched s b isnt some = rw (other-test b (get_or lead matched 0) isnt, other-test matched 0 (λ e. omega arith)) refl
+pub after-resumes : (from matched : ℕ) (s : State) (b : ℕ) → (b ≡ get_or lead matched 0 → ⊥) → 0 < matched
+    → next_after from matched s b ≡ within from 1 (resumes from matched s) b
+after-resumes from matched s b isnt some = rw (other-test b (get_or lead matched 0) isnt, other-test matched 0 (λ e. omega arith)) refl
 
 -- a byte that ends the open message
 pub close-gap : (s : State) (b : ℕ) → is_gap_byte b ≡ true → next_close s b ≡ to (Between (b == 36)) (gives s)
@@ -123,13 +123,13 @@ state-same s t stage held fed begun failed given =
     ∙ ap (λ x. made t.stage t.held t.fed t.begun t.failed x) given
 
 -- the bytes after `{` or `{1` show that these are the open message's
-pub run-resumed : (from matched : ℕ) (s : State) (xs : List ℕ) → s.failed ≡ None → s.stage ≡ Behind from matched → 0 < matched → 0 < length xs
+pub run-resumed : (from matched : ℕ) (s : State) (xs : List ℕ) → s.failed ≡ None → s.stage ≡ After from matched → 0 < matched → 0 < length xs
     → (get_or xs 0 0 ≡ get_or lead matched 0 → ⊥) → run s xs ≡ run (resumes from matched s) xs
 run-resumed from matched s [] sound stage begun some other = absurd (omega arith)
 run-resumed from matched s (x ∷ xs) sound stage begun some other =
-    let there : next s x ≡ next_behind from matched s x = rw (sound, stage) refl in
+    let there : next s x ≡ next_after from matched s x = rw (sound, stage) refl in
     let back : next (resumes from matched s) x ≡ within from 1 (resumes from matched s) x = rw sound refl in
-    ap (λ t. run t xs) (there ∙ behind-resumes from matched s x other begun ∙ sym back)
+    ap (λ t. run t xs) (there ∙ after-resumes from matched s x other begun ∙ sym back)
 
 take-first : (n : ℕ) (xs : List ℕ) → 0 < n → 0 < length xs → (0 < length (take n xs)) × (get_or (take n xs) 0 0 ≡ get_or xs 0 0)
 take-first zero xs n some = absurd (omega arith)
@@ -137,7 +137,7 @@ take-first (suc n) [] n-some some = absurd (omega arith)
 take-first (suc n) (x ∷ xs) n-some some = (omega arith, refl)
 
 pub took-resumed : (from matched : ℕ) (r : Result ℕ FrameFault) (s : State) (rest : List ℕ) (now : State) → s.failed ≡ None
-    → s.stage ≡ Behind from matched → 0 < matched → 0 < length rest → (get_or rest 0 0 ≡ get_or lead matched 0 → ⊥)
+    → s.stage ≡ After from matched → 0 < matched → 0 < length rest → (get_or rest 0 0 ≡ get_or lead matched 0 → ⊥)
     → HasTaken r (resumes from matched s) rest now → HasTaken r s rest now
 took-resumed from matched (Ok n) s rest now sound stage begun some other took =
     let first = take-first n rest took.0 some in

@@ -5,17 +5,17 @@ use Rattle.std.proofs.lemmas.Bool.Decides.{eqb_tells, leb_tells}
 use Rattle.fin_frame.specs.File.{lead, agrees, is_blank, is_gap_byte, most_bytes, IsCutInto}
 use Rattle.fin_frame.specs.Shown.{is_marked, no_more, stands_apart, cannot_follow, Shows, EndsWithin, is_over, ShowWhole, Begins, HasBegun}
 use Rattle.fin_frame.specs.Shown.Shows.{stray as shows_stray, long as shows_long}
-use Rattle.fin_frame.specs.Shown.EndsWithin.{inside as ends_inside, behind as ends_behind, apart as ends_apart}
+use Rattle.fin_frame.specs.Shown.EndsWithin.{inside as ends_inside, after as ends_after, apart as ends_apart}
 use Rattle.fin_frame.specs.Shown.ShowWhole.{none as whole_none, some as whole_some}
 use Rattle.fin_frame.specs.Shown.HasBegun.{begun as has_begun}
 use Rattle.fin_frame.specs.Machine.{State, at_start, to, fails, with_open, next_opening, next_close, stage_between, moves, next, run, unbalanced_at}
 use Rattle.fin_frame.specs.declared.fault.FrameFault.{FrameFault}
 use Rattle.fin_frame.specs.declared.fault.FrameFault.TheVariants.{Stray, TooLong}
-use Rattle.fin_frame.specs.declared.stage.Stage.TheVariants.{Opening, Behind}
+use Rattle.fin_frame.specs.declared.stage.Stage.TheVariants.{Opening, After}
 use Rattle.fin_frame.proofs.laws.Running.{run-append, run-failed, other-test}
 use Rattle.fin_frame.proofs.Steps.{run-given, run-begun}
 use Rattle.fin_frame.proofs.laws.Led.{at_gap, in_message, Rests, file-run, message-run, message-over, lead-run, and-parts, or-parts, close-step, no-more-joined}
-use Rattle.fin_frame.proofs.laws.Led.Rests.{rests_apart, rests_behind}
+use Rattle.fin_frame.proofs.laws.Led.Rests.{rests_apart, rests_after}
 
 not-parts : (b : Bool) → not b ≡ true → b ≡ false
 not-parts true e = cc
@@ -95,9 +95,9 @@ stray-apart n b messages gap bytes wrong = by-brace (eqb_tells b 123)
         (group-strays n messages bytes (is_marked messages gap) other)
     by-brace (inr other) = by-dollar other.0 (eqb_tells b 36)
 
-stray-behind : (n from b : ℕ) (messages : List (List ℕ)) (m bytes : List ℕ) → cannot_follow (messages ++ m ∷ []) [] (b ∷ bytes) ≡ true
+stray-after : (n from b : ℕ) (messages : List (List ℕ)) (m bytes : List ℕ) → cannot_follow (messages ++ m ∷ []) [] (b ∷ bytes) ≡ true
     → (run (in_message from 0 m messages n) (b ∷ bytes)).failed ≡ Some (Stray n)
-stray-behind n from b messages m bytes wrong = by-brace (eqb_tells b 123)
+stray-after n from b messages m bytes wrong = by-brace (eqb_tells b 123)
   where
     joined : no_more (messages ++ m ∷ []) ≡ false
     joined = no-more-joined messages m
@@ -108,7 +108,7 @@ stray-behind n from b messages m bytes wrong = by-brace (eqb_tells b 123)
     by-dollar brace (inr other) =
         let blank : is_blank b ≡ false = not-parts (is_blank b) (rw (brace, other.0) at wrong) in
         let closes : next (in_message from 0 m messages n) b ≡ next_close (in_message from 0 m messages n) b =
-        ap (λ t. cond t (to (Behind from 1) (in_message from 0 m messages n)) (next_close (in_message from 0 m messages n) b)) brace in
+        ap (λ t. cond t (to (After from 1) (in_message from 0 m messages n)) (next_close (in_message from 0 m messages n) b)) brace in
         let gapless : is_gap_byte b ≡ false = rw (blank, other.0) refl in
         fails-now (in_message from 0 m messages n) b n bytes (closes ∙ rw gapless refl)
 
@@ -127,7 +127,7 @@ stray-run : {n : ℕ} {messages : List (List ℕ)} {gap : List ℕ} {s : State} 
     → cannot_follow messages gap rest ≡ true → (run s rest).failed ≡ Some (Stray n)
 stray-run [] rests wrong = cc
 stray-run (b ∷ bytes) (rests_apart n messages gap apart) wrong = stray-apart n b messages gap bytes wrong
-stray-run (b ∷ bytes) (rests_behind n from messages message) wrong = stray-behind n from b messages message bytes wrong
+stray-run (b ∷ bytes) (rests_after n from messages message) wrong = stray-after n from b messages message bytes wrong
 
 -- a fault that the bytes show comes
 pub shown-comes : {bytes : List ℕ} {messages : List (List ℕ)} {fault : FrameFault} → Shows bytes messages fault
@@ -168,7 +168,7 @@ over-given from n m (b ∷ bytes) messages over = by-byte (or-parts (is_gap_byte
         let whole : b ∷ bytes ≡ lead ++ drop 3 (b ∷ bytes) = agrees-leads (b ∷ bytes) parts.1 (ltb-true 2 (length (b ∷ bytes)) parts.0) in
         let there : run (in_message from 0 m messages n) (b ∷ bytes) ≡ run (in_message n 1 lead (messages ++ m ∷ []) (n + 3)) (drop 3 (b ∷ bytes)) =
         ap (λ x. run (in_message from 0 m messages n) x) whole ∙ run-append (in_message from 0 m messages n) lead (drop 3 (b ∷ bytes))
-        ∙ ap (λ t. run t (drop 3 (b ∷ bytes))) (lead-run (rests_behind n from messages m)) in
+        ∙ ap (λ t. run t (drop 3 (b ∷ bytes))) (lead-run (rests_after n from messages m)) in
         subst (λ t. Begins (messages ++ m ∷ []) t.given) (sym there) (run-given (in_message n 1 lead (messages ++ m ∷ []) (n + 3)) (drop 3 (b ∷ bytes)))
 
 pub whole-comes : {bytes : List ℕ} {messages : List (List ℕ)} → ShowWhole bytes messages → Begins messages (run (at_start []) bytes).given
@@ -186,7 +186,7 @@ begun-comes (has_begun file rest messages front) =
     run-append (at_start []) (file ++ lead) rest ∙ ap (λ t. run t rest) (run-append (at_start []) file lead ∙ lead-run (file-run front)) in
     subst (λ t. length messages + 1 ≤ t.begun) (sym there) (run-begun (in_message (length file) 1 lead messages (length file + 3)) rest)
 
--- the machine behind a whole file: no fault, no group that is open, and all its messages
+-- the machine after a whole file: no fault, no group that is open, and all its messages
 pub record Finished (messages : List (List ℕ)) (s : State) : Type 0 where
   pub sound : s.failed ≡ None
   pub balanced : unbalanced_at s.stage s.fed ≡ None
@@ -194,7 +194,7 @@ pub record Finished (messages : List (List ℕ)) (s : State) : Type 0 where
 
 rests-finished : {n : ℕ} {messages : List (List ℕ)} {gap : List ℕ} {s : State} → Rests n messages gap s → Finished messages s
 rests-finished (rests_apart n messages gap far) = record { sound = refl; balanced = refl; all = refl }
-rests-finished (rests_behind n from messages message) = record { sound = refl; balanced = refl; all = refl }
+rests-finished (rests_after n from messages message) = record { sound = refl; balanced = refl; all = refl }
 
 -- over a file of messages the cutter ends with all of them
 pub cut-comes : {file : List ℕ} {messages : List (List ℕ)} → IsCutInto file messages → Finished messages (run (at_start []) file)
@@ -205,15 +205,15 @@ apart-ends : {n : ℕ} {messages : List (List ℕ)} {gap : List ℕ} {s : State}
 apart-ends zero (rests_apart n messages gap far) stands le = ap (λ x. Some x) (let e : (n + 1) - 1 ≡ n = omega arith in e)
 apart-ends (suc zero) (rests_apart n messages gap far) stands le = ap (λ x. Some x) (let e : (n + 1 + 1) - 2 ≡ n = omega arith in e)
 apart-ends (suc (suc k)) (rests_apart n messages gap far) stands le = absurd (omega arith)
-apart-ends k (rests_behind n from messages message) stands le =
+apart-ends k (rests_after n from messages message) stands le =
     absurd (let f : false ≡ true = sym (ap (λ x. x || false) (no-more-joined messages message)) ∙ stands in cc)
 
-behind-ends : (k from n : ℕ) (m : List ℕ) (messages : List (List ℕ)) → k ≤ 1
+after-ends : (k from n : ℕ) (m : List ℕ) (messages : List (List ℕ)) → k ≤ 1
     → unbalanced_at (run (in_message from 0 m messages n) (take (suc k) lead)).stage (run (in_message from 0 m messages n) (take (suc k) lead)).fed
     ≡ Some from
-behind-ends zero from n m messages le = refl
-behind-ends (suc zero) from n m messages le = refl
-behind-ends (suc (suc k)) from n m messages le = absurd (omega arith)
+after-ends zero from n m messages le = refl
+after-ends (suc zero) from n m messages le = refl
+after-ends (suc (suc k)) from n m messages le = absurd (omega arith)
 
 -- the end within a group
 pub ends-come : {bytes : List ℕ} {at : ℕ} → EndsWithin bytes at → (run (at_start []) bytes).failed ≡ None
@@ -229,10 +229,10 @@ ends-come (ends_inside {d} {gap} {messages} file message front is) sound = by-si
         ap (λ t. t.failed) (run-append (at_start []) file message) ∙ message-over is (file-run front) over.1 in
         let t : None ≡ Some (TooLong (length file)) = sym sound ∙ failed in
         absurd (cc)
-ends-come (ends_behind {gap} {messages} n file message front is le) sound =
+ends-come (ends_after {gap} {messages} n file message front is le) sound =
     ap (λ t. unbalanced_at t.stage t.fed)
     (run-append (at_start []) (file ++ message) (take (suc n) lead)
     ∙ ap (λ t. run t (take (suc n) lead)) (run-append (at_start []) file message ∙ message-run is.0 (file-run front) is.1))
-    ∙ behind-ends n (length file) (length file + length message) message messages le
+    ∙ after-ends n (length file) (length file + length message) message messages le
 ends-come (ends_apart n file front stands le) sound =
     ap (λ t. unbalanced_at t.stage t.fed) (run-append (at_start []) file (take (suc n) lead)) ∙ apart-ends n (file-run front) stands le

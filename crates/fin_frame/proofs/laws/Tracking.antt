@@ -14,7 +14,7 @@ use Rattle.fin_frame.specs.Shown.HasBegun.{begun as has_begun}
 use Rattle.fin_frame.specs.Machine.{State, begins}
 use Rattle.fin_frame.specs.declared.fault.FrameFault.{FrameFault}
 use Rattle.fin_frame.specs.declared.fault.FrameFault.TheVariants.{Stray, TooLong}
-use Rattle.fin_frame.specs.declared.stage.Stage.TheVariants.{Opening, Behind}
+use Rattle.fin_frame.specs.declared.stage.Stage.TheVariants.{Opening, After}
 use Rattle.fin_frame.proofs.Groups.{left_open-more}
 use Rattle.fin_frame.proofs.laws.Running.{lt-test}
 use Rattle.fin_frame.proofs.laws.Led.{at_gap, in_message, and-parts, or-parts, no-more-joined, or-true, message-leads, leads}
@@ -169,10 +169,10 @@ in_opening n messages matched = record {
   given = messages;
 }
 
--- behind a whole group of the open message and bytes of `{1:`
-abbrev pub in_behind : ℕ → List ℕ → List (List ℕ) → ℕ → ℕ → State
-in_behind from message messages n matched = record {
-  stage = Behind from matched;
+-- after a whole group of the open message and bytes of `{1:`
+abbrev pub in_after : ℕ → List ℕ → List (List ℕ) → ℕ → ℕ → State
+in_after from message messages n matched = record {
+  stage = After from matched;
   held = Some message;
   fed = n + matched;
   begun = length messages + 1;
@@ -188,8 +188,8 @@ pub data Tracks : List ℕ → State → Type 0 where
       → matched ≤ 1 → Tracks (file ++ take (suc matched) lead) (in_opening (length file) messages (suc matched))
   tracks_message : (file gap message : List ℕ) (messages : List (List ℕ)) (d : ℕ) → IsFileOf file messages gap → IsMessageTo d message
       → length message ≤ most_bytes → Tracks (file ++ message) (in_message (length file) d message messages (length file + length message))
-  tracks_behind : (file gap message : List ℕ) (messages : List (List ℕ)) (matched : ℕ) → IsFileOf file messages gap → IsMessage message → matched ≤ 1
-      → Tracks (file ++ message ++ take (suc matched) lead) (in_behind (length file) message messages (length file + length message) (suc matched))
+  tracks_after : (file gap message : List ℕ) (messages : List (List ℕ)) (matched : ℕ) → IsFileOf file messages gap → IsMessage message → matched ≤ 1
+      → Tracks (file ++ message ++ take (suc matched) lead) (in_after (length file) message messages (length file + length message) (suc matched))
   tracks_failed : (bytes : List ℕ) (s : State) (messages : List (List ℕ)) (fault : FrameFault) → Shows bytes messages fault → s.failed ≡ Some fault
       → Begins s.given messages → ShowWhole bytes s.given → LastBegun bytes s.begun → Tracks bytes s
 
@@ -243,7 +243,7 @@ pub tracks-whole : {bytes : List ℕ} {s : State} → Tracks bytes s → ShowWho
 tracks-whole (tracks_gap file gap messages front far) = whole-at-gap front far
 tracks-whole (tracks_opening file gap messages matched front far le) = whole-more (take (suc matched) lead) (whole-at-gap front far)
 tracks-whole (tracks_message file gap message messages d front is fits) = whole-before message front (lead-over message (message-leads is))
-tracks-whole (tracks_behind file gap message messages matched front is le) =
+tracks-whole (tracks_after file gap message messages matched front is le) =
     whole-more (take (suc matched) lead) (whole-before message front (lead-over message (message-leads is.0)))
 tracks-whole (tracks_failed bytes s messages fault shown failed begins whole last) = whole
 
@@ -251,5 +251,5 @@ pub tracks-begun : {bytes : List ℕ} {s : State} → Tracks bytes s → LastBeg
 tracks-begun (tracks_gap file gap messages front far) = begun-at-gap front
 tracks-begun (tracks_opening file gap messages matched front far le) = last-more (take (suc matched) lead) (begun-at-gap front)
 tracks-begun (tracks_message file gap message messages d front is fits) = inr (begun-in-message front is)
-tracks-begun (tracks_behind file gap message messages matched front is le) = inr (begun-more (take (suc matched) lead) (begun-in-message front is.0))
+tracks-begun (tracks_after file gap message messages matched front is le) = inr (begun-more (take (suc matched) lead) (begun-in-message front is.0))
 tracks-begun (tracks_failed bytes s messages fault shown failed begins whole last) = last

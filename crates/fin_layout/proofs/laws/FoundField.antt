@@ -49,8 +49,8 @@ field-past (f ∷ seg) fs j k found h =
 before : (j k : ℕ) → j < k → (j == k) ≡ false
 before j k lt = grind (arith, nat_tests)
 
-behind : (j k : ℕ) → k < j → (j == k) ≡ false
-behind j k lt = grind (arith, nat_tests)
+after : (j k : ℕ) → k < j → (j == k) ≡ false
+after j k lt = grind (arith, nat_tests)
 
 -- there is the first field of its group
 pub grouped-field : (segs : List (List Field)) (j n : ℕ) (f : Field) (more : List Field) → slice_get segs n ≡ Some (f ∷ more) → (i : ℕ) × (field_in (joined segs) (places_of j segs) (j + n) ≡ Some (i, f))
@@ -67,7 +67,7 @@ grouped-field (s ∷ ss) j (suc n) f more e =
 -- no field is at a place before these groups
 none-before : (segs : List (List Field)) (j k : ℕ) → k < j → field_in (joined segs) (places_of j segs) k ≡ None
 none-before [] j k lt = refl
-none-before (s ∷ ss) j k lt = field-past s (joined ss) j k (places_of (j + 1) ss) (behind j k lt) ∙ rw (none-before ss (j + 1) k (omega arith)) refl
+none-before (s ∷ ss) j k lt = field-past s (joined ss) j k (places_of (j + 1) ss) (after j k lt) ∙ rw (none-before ss (j + 1) k (omega arith)) refl
 
 -- none is there for an empty group
 pub grouped-none : (segs : List (List Field)) (j n : ℕ) → slice_get segs n ≡ Some [] → field_in (joined segs) (places_of j segs) (j + n) ≡ None

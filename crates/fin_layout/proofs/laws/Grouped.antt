@@ -44,7 +44,7 @@ placed-from order low j free f d e from le =
 
 -- ---- placing
 
--- behind a field the next place is free, or the same
+-- after a field the next place is free, or the same
 pub free_after-bounds : (order : List Place) (k : ℕ) → (k ≤ free_after order k) × (free_after order k ≤ k + 1)
 free_after-bounds order k = go (slice_get order k)
   where
@@ -100,9 +100,9 @@ unfolding places_from
 grouped-places order d low j free [] from le h = refl
 grouped-places order d low j free (s ∷ ss) from le h =
     let here = seg-places order d low j free s (joined ss) from le h.0 in
-    let (next, behind, more) = h.1 in
+    let (next, beyond, more) = h.1 in
     let reached : next ≤ here.0 =
-    elim behind [
+    elim beyond [
       | inl was ↦ omega (arith, was, from, here.1.low)
       | inr taken ↦ omega (arith, taken.1, here.1.taken taken.0)
     ] in

@@ -1,7 +1,7 @@
 -- The contents of a message's fields, read place by place: the first that is refused is the first in the text.
 --
 -- A message type reads its contents by `in_place`, `in_option` and `all_from` over the places of its order, from 0 on and
--- each behind the one before by `>>=`. For these contents it says that a fault that lies somewhere is met, one line a place:
+-- each after the one before by `>>=`. For these contents it says that a fault that lies somewhere is met, one line a place:
 --
 --     refused : (t : Tables) (fs : List Field) (fault : Fault) → LiesFrom ORDER (content_test t) fs (places_from ORDER 0 fs) fault 0 → contents_of t fs (places_from ORDER 0 fs) ≡ Err fault
 --     unfolding contents_of
@@ -68,7 +68,7 @@ unfolding places_from
 places-rise order free [] = tt
 places-rise order free (f ∷ fs) = rising-on order free f (λ k. places_from order (free_after order k) fs) (place_from order free f) refl (λ k. places-rise order (free_after order k) fs)
 
--- ---- a fault that lies at a place or behind it
+-- ---- a fault that lies at a place or after it
 
 -- each field before place k passes its test
 abbrev pub FineBelow : (ℕ → Field → Option Code) → ℕ → List ℕ → List Field → Type 0
@@ -102,35 +102,35 @@ lies-somewhere order test fs fault sound some =
       fine = none-below test found fs;
     }
 
--- ---- the fields behind a place
+-- ---- the fields after a place
 
 module _ (order : List Place) (test : ℕ → Field → Option Code) (k : ℕ) where
-  -- fields behind a place are at no place up to it
-  fine-behind : (low : ℕ) (found : List ℕ) (fs : List Field) → Rising order low found → k ≤ low → FineBelow test k found fs
-  fine-behind low [] fs up le = tt
-  fine-behind low (q ∷ found) [] up le = tt
-  fine-behind low (q ∷ found) (f ∷ fs) up le =
+  -- fields after a place are at no place up to it
+  fine-after : (low : ℕ) (found : List ℕ) (fs : List Field) → Rising order low found → k ≤ low → FineBelow test k found fs
+  fine-after low [] fs up le = tt
+  fine-after low (q ∷ found) [] up le = tt
+  fine-after low (q ∷ found) (f ∷ fs) up le =
       let next = (free_after-bounds order q).0 in
-      (λ lt. absurd (omega (arith, lt, up.0)), fine-behind (free_after order q) found fs up.2 (omega (arith, next, up.0)))
+      (λ lt. absurd (omega (arith, lt, up.0)), fine-after (free_after order q) found fs up.2 (omega (arith, next, up.0)))
 
-  none-behind : (low : ℕ) (found : List ℕ) (fs : List Field) → Rising order low found → k < low → field_in fs found k ≡ None
-  none-behind low [] fs up lt = refl
-  none-behind low (q ∷ found) [] up lt = field-nil (q ∷ found) k
-  none-behind low (q ∷ found) (f ∷ fs) up lt =
+  none-after : (low : ℕ) (found : List ℕ) (fs : List Field) → Rising order low found → k < low → field_in fs found k ≡ None
+  none-after low [] fs up lt = refl
+  none-after low (q ∷ found) [] up lt = field-nil (q ∷ found) k
+  none-after low (q ∷ found) (f ∷ fs) up lt =
       let next = (free_after-bounds order q).0 in
       let from = up.0 in
       let apart : (q == k) ≡ false = grind (arith, nat_tests) in
-      field-later f fs q k found apart ∙ rw (none-behind (free_after order q) found fs up.2 (omega (arith, next, from))) refl
+      field-later f fs q k found apart ∙ rw (none-after (free_after order q) found fs up.2 (omega (arith, next, from))) refl
 
-  nothing-behind : {A : Type 0} (whole : List Field) (read : Field → Result A Code) (low i : ℕ) (found : List ℕ) (fs : List Field) → Rising order low found → k < low → all_from whole k read i found fs ≡ Ok []
+  nothing-after : {A : Type 0} (whole : List Field) (read : Field → Result A Code) (low i : ℕ) (found : List ℕ) (fs : List Field) → Rising order low found → k < low → all_from whole k read i found fs ≡ Ok []
   unfolding all_from
-  nothing-behind whole read low i [] fs up lt = refl
-  nothing-behind whole read low i (q ∷ found) [] up lt = refl
-  nothing-behind whole read low i (q ∷ found) (f ∷ fs) up lt =
+  nothing-after whole read low i [] fs up lt = refl
+  nothing-after whole read low i (q ∷ found) [] up lt = refl
+  nothing-after whole read low i (q ∷ found) (f ∷ fs) up lt =
       let next = (free_after-bounds order q).0 in
       let from = up.0 in
       let apart : (q == k) ≡ false = grind (arith, nat_tests) in
-      rw apart (nothing-behind whole read (free_after order q) (i + 1) found fs up.2 (omega (arith, next, from)))
+      rw apart (nothing-after whole read (free_after order q) (i + 1) found fs up.2 (omega (arith, next, from)))
 
 -- ---- the fields at a place
 
@@ -140,7 +140,7 @@ first-cases : (o : Option Code) (at : Code → Fault) (more : List (Option Fault
 first-cases None at more fault h = inr (refl, h)
 first-cases (Some code) at more fault h = inl (code, refl, cc h)
 
--- a place that is not behind k is k, or a later one
+-- a place that is not before k is k, or a later one
 not-before : (test : ℕ → Field → Option Code) (q k : ℕ) (f : Field) (code : Code) → (q < k → test q f ≡ None) → test q f ≡ Some code → k ≤ q
 not-before test q k f code fine bad =
     elim (cases_lt q k) [
@@ -153,7 +153,7 @@ fault-err (Ok x) code e = absurd (cc e)
 fault-err (Err c) code e = ap Err (cc e)
 
 module _ {A : Type 0} (order : List Place) (test : ℕ → Field → Option Code) (whole : List Field) (fault : Fault) (k : ℕ) (read : Field → Result A Code) (of : IsTestOf test k read) where
-  -- several fields may stand there: the fault is met, or all are read and it lies behind
+  -- several fields may stand there: the fault is met, or all are read and it lies after them
   abbrev AllOutcome : ℕ → List ℕ → List Field → Type 0
   AllOutcome i found fs = (all_from whole k read i found fs ≡ Err fault) ⊎ ((xs : List A) × (all_from whole k read i found fs ≡ Ok xs) × FineBelow test (k + 1) found fs)
 
@@ -172,7 +172,7 @@ module _ {A : Type 0} (order : List Place) (test : ℕ → Field → Option Code
   all-here i q found f fs x here ok fine later =
       elim later [
         | inl met ↦ inl (rw (here, ok, met) refl)
-        | inr on ↦ let (xs, all, behind) = on in inr (x ∷ xs, rw (here, ok, all) refl, (fine.0, behind))
+        | inr on ↦ let (xs, all, after) = on in inr (x ∷ xs, rw (here, ok, all) refl, (fine.0, after))
       ]
 
   all-other : (i q : ℕ) (found : List ℕ) (f : Field) (fs : List Field) → (q == k) ≡ false → FineBelow test (k + 1) (q ∷ []) (f ∷ []) → AllOutcome (i + 1) found fs → AllOutcome i (q ∷ found) (f ∷ fs)
@@ -180,7 +180,7 @@ module _ {A : Type 0} (order : List Place) (test : ℕ → Field → Option Code
   all-other i q found f fs other fine later =
       elim later [
         | inl met ↦ inl (rw other met)
-        | inr on ↦ let (xs, all, behind) = on in inr (xs, rw other all, (fine.0, behind))
+        | inr on ↦ let (xs, all, after) = on in inr (xs, rw other all, (fine.0, after))
       ]
 
   all-outcome : (low i : ℕ) (found : List ℕ) (fs : List Field) → Rising order low found → FineBelow test k found fs → first_of (contents_from test whole i found fs) ≡ Some fault → AllOutcome i found fs
@@ -197,9 +197,9 @@ module _ {A : Type 0} (order : List Place) (test : ℕ → Field → Option Code
                   let place : q ≡ k = eqb-true q k here in
                   inl (all-refused i q found f fs code here (read-bad f code (rw place at bad)) same)
               | inr other ↦
-                  let behind : k < q = grind (arith, nat_tests) in
+                  let after : k < q = grind (arith, nat_tests) in
                   let rest : Rising order q (q ∷ found) = (omega arith, up.1, up.2) in
-                  inr ([], nothing-behind order test k whole read q i (q ∷ found) (f ∷ fs) rest behind, fine-behind order test (k + 1) q (q ∷ found) (f ∷ fs) rest (omega (arith, behind)))
+                  inr ([], nothing-after order test k whole read q i (q ∷ found) (f ∷ fs) rest after, fine-after order test (k + 1) q (q ∷ found) (f ∷ fs) rest (omega (arith, after)))
             ]
         | inr passed ↦
             let later = all-outcome (free_after order q) (i + 1) found fs up.2 fine.1 passed.1 in
@@ -221,10 +221,10 @@ module _ {A : Type 0} (order : List Place) (test : ℕ → Field → Option Code
     bad : test k f ≡ Some code
     same : fault_at whole (i + n) code ≡ fault
 
-  -- the field that is found there passes, and the fault lies behind
+  -- the field that is found there passes, and the fault lies after it
   record Passed (found : List ℕ) (fs : List Field) : Type 0 where
     here : (n : ℕ) (f : Field) → field_in fs found k ≡ Some (n, f) → test k f ≡ None
-    behind : FineBelow test (k + 1) found fs
+    after : FineBelow test (k + 1) found fs
 
   one-later : (i q : ℕ) (found : List ℕ) (f : Field) (fs : List Field) → (q == k) ≡ false → FineBelow test (k + 1) (q ∷ []) (f ∷ []) → Refused (i + 1) found fs ⊎ Passed found fs → Refused i (q ∷ found) (f ∷ fs) ⊎ Passed (q ∷ found) (f ∷ fs)
   one-later i q found f fs other fine later =
@@ -242,7 +242,7 @@ module _ {A : Type 0} (order : List Place) (test : ℕ → Field → Option Code
         | inr p ↦
             inr (record {
               here = λ n g at. let u = unshifted (field_in fs found k) n g (sym (field-later f fs q k found other) ∙ at) in p.here u.0 g u.1;
-              behind = (fine.0, p.behind);
+              after = (fine.0, p.after);
             })
       ]
 
@@ -261,10 +261,10 @@ module _ {A : Type 0} (order : List Place) (test : ℕ → Field → Option Code
                   let number : i ≡ i + 0 = omega arith in
                   inl (record { n = 0; f = f; code = code; at = field-here f fs q k found here; bad = rw place at bad; same = rw (← number) same })
               | inr other ↦
-                  let behind : k < q = grind (arith, nat_tests) in
+                  let after : k < q = grind (arith, nat_tests) in
                   let rest : Rising order q (q ∷ found) = (omega arith, up.1, up.2) in
-                  let none = none-behind order test k q (q ∷ found) (f ∷ fs) rest behind in
-                  inr (record { here = λ n g at. absurd (cc (sym none ∙ at)); behind = fine-behind order test (k + 1) q (q ∷ found) (f ∷ fs) rest (omega (arith, behind)) })
+                  let none = none-after order test k q (q ∷ found) (f ∷ fs) rest after in
+                  inr (record { here = λ n g at. absurd (cc (sym none ∙ at)); after = fine-after order test (k + 1) q (q ∷ found) (f ∷ fs) rest (omega (arith, after)) })
             ]
         | inr passed ↦
             elim (cases_Bool (q == k)) [
@@ -274,7 +274,7 @@ module _ {A : Type 0} (order : List Place) (test : ℕ → Field → Option Code
                   let above : k + 1 ≤ free_after order q = rw (place, single) (omega arith) in
                   inr (record {
                     here = λ n g at. let same = second 0 n f g (sym (field-here f fs q k found here) ∙ at) in rw (← same) pass;
-                    behind = (λ _. passed.0, fine-behind order test (k + 1) (free_after order q) found fs up.2 above);
+                    after = (λ _. passed.0, fine-after order test (k + 1) (free_after order q) found fs up.2 above);
                   })
               | inr other ↦ one-later i q found f fs other (λ _. passed.0, tt) (one-outcome single (free_after order q) (i + 1) found fs up.2 fine.1 passed.1)
             ]
@@ -282,29 +282,29 @@ module _ {A : Type 0} (order : List Place) (test : ℕ → Field → Option Code
 
 -- ---- reading on, place by place
 
--- what is read at a place is this fault, or is there and the fault lies behind
+-- what is read at a place is this fault, or is there and the fault lies after it
 abbrev pub Meets : {A : Type 0} → Result A Fault → Fault → Type 0 → Type 0
-Meets {A} read fault behind = (read ≡ Err fault) ⊎ ((x : A) × (read ≡ Ok x) × behind)
+Meets {A} read fault after = (read ≡ Err fault) ⊎ ((x : A) × (read ≡ Ok x) × after)
 
--- the steps behind a reading are taken only where it is read
-bind-fails : {A B : Type 0} (fault : Fault) (behind : Type 0) (read : Result A Fault) (next : A → Result B Fault) → Meets read fault behind → ((x : A) → behind → next x ≡ Err fault) → (read >>= next) ≡ Err fault
-bind-fails fault behind read next met on =
+-- the steps after a reading are taken only where it is read
+bind-fails : {A B : Type 0} (fault : Fault) (after : Type 0) (read : Result A Fault) (next : A → Result B Fault) → Meets read fault after → ((x : A) → after → next x ≡ Err fault) → (read >>= next) ≡ Err fault
+bind-fails fault after read next met on =
     elim met [
       | inl here ↦ rw here refl
       | inr later ↦ let (x, ok, lies) = later in rw ok (on x lies)
     ]
 
-all-behind : (order : List Place) (test : ℕ → Field → Option Code) (whole : List Field) (fault : Fault) (low i : ℕ) (found : List ℕ) (fs : List Field) → Rising order low found → FineBelow test (length order) found fs → first_of (contents_from test whole i found fs) ≡ Some fault → ⊥
+all-after : (order : List Place) (test : ℕ → Field → Option Code) (whole : List Field) (fault : Fault) (low i : ℕ) (found : List ℕ) (fs : List Field) → Rising order low found → FineBelow test (length order) found fs → first_of (contents_from test whole i found fs) ≡ Some fault → ⊥
 unfolding contents_from
-all-behind order test whole fault low i [] fs up fine some = absurd (cc some)
-all-behind order test whole fault low i (q ∷ found) [] up fine some = absurd (cc some)
-all-behind order test whole fault low i (q ∷ found) (f ∷ fs) up fine some =
+all-after order test whole fault low i [] fs up fine some = absurd (cc some)
+all-after order test whole fault low i (q ∷ found) [] up fine some = absurd (cc some)
+all-after order test whole fault low i (q ∷ found) (f ∷ fs) up fine some =
     let pass : test q f ≡ None = fine.0 up.1 in
-    all-behind order test whole fault (free_after order q) (i + 1) found fs up.2 fine.1 (rw pass at some)
+    all-after order test whole fault (free_after order q) (i + 1) found fs up.2 fine.1 (rw pass at some)
 
--- no fault lies behind the last place
+-- no fault lies after the last place
 pub none-left : {A : Type 0} {order : List Place} {test : ℕ → Field → Option Code} {fs : List Field} {found : List ℕ} {fault : Fault} → LiesFrom order test fs found fault (length order) → A
-none-left {A} {order} {test} {fs} {found} {fault} l = absurd (all-behind order test fs fault 0 0 found fs l.rising l.fine l.first)
+none-left {A} {order} {test} {fs} {found} {fault} l = absurd (all-after order test fs fault 0 0 found fs l.rising l.fine l.first)
 
 -- steps within a step are steps in a row
 inner : {A B C F : Type 0} (read : Result A F) (next : A → Result B F) (further : B → Result C F) → (read >>= next >>= further) ≡ (read >>= λ x. next x >>= further)
@@ -312,21 +312,21 @@ inner (Ok x) next further = refl
 inner (Err e) next further = refl
 
 module _ {order : List Place} {test : ℕ → Field → Option Code} {fs : List Field} {found : List ℕ} {fault : Fault} {k : ℕ} (l : LiesFrom order test fs found fault k) where
-  behind-next : FineBelow test (k + 1) found fs → LiesFrom order test fs found fault (k + 1)
-  behind-next fine = record { rising = l.rising; whole = l.whole; complete = l.complete; first = l.first; fine = fine }
+  after-next : FineBelow test (k + 1) found fs → LiesFrom order test fs found fault (k + 1)
+  after-next fine = record { rising = l.rising; whole = l.whole; complete = l.complete; first = l.first; fine = fine }
 
   module _ {A : Type 0} (read : Field → Result A Code) (of : IsTestOf test k read) where
     one-ok : (n : ℕ) (f : Field) → field_in fs found k ≡ Some (n, f) → (x : A) × (read f ≡ Ok x) → FineBelow test (k + 1) found fs → Meets (in_place order fs found k read) fault (LiesFrom order test fs found fault (k + 1))
-    one-ok n f at (x, ok) fine = inr (x, rw (at, ok) refl, behind-next fine)
+    one-ok n f at (x, ok) fine = inr (x, rw (at, ok) refl, after-next fine)
 
     option-ok : (n : ℕ) (f : Field) → field_in fs found k ≡ Some (n, f) → (x : A) × (read f ≡ Ok x) → FineBelow test (k + 1) found fs → Meets (in_option fs found k read) fault (LiesFrom order test fs found fault (k + 1))
-    option-ok n f at (x, ok) fine = inr (Some x, rw (at, ok) refl, behind-next fine)
+    option-ok n f at (x, ok) fine = inr (Some x, rw (at, ok) refl, after-next fine)
 
     all-meets : Meets (all_from fs k read 0 found fs) fault (LiesFrom order test fs found fault (k + 1))
     all-meets =
         elim (all-outcome order test fs fault k read of 0 0 found fs l.rising l.fine l.first) [
           | inl met ↦ inl met
-          | inr on ↦ let (xs, ok, fine) = on in inr (xs, ok, behind-next fine)
+          | inr on ↦ let (xs, ok, fine) = on in inr (xs, ok, after-next fine)
         ]
 
     module _ (single : free_after order k ≡ k + 1) where
@@ -335,7 +335,7 @@ module _ {order : List Place} {test : ℕ → Field → Option Code} {fs : List 
           let there = present k found fs (taken-from order 0 k k p found (omega arith) l.complete e must) l.whole in
           elim (one-outcome order test fs fault k read of single 0 0 found fs l.rising l.fine l.first) [
             | inl r ↦ let number : 0 + r.n ≡ r.n = omega arith in inl (rw (r.at, fault-err (read r.f) r.code (sym (of r.f) ∙ r.bad)) (ap Err (rw number at r.same)))
-            | inr passed ↦ one-ok there.0 there.1 there.2 (read-none (read there.1) (sym (of there.1) ∙ passed.here there.0 there.1 there.2)) passed.behind
+            | inr passed ↦ one-ok there.0 there.1 there.2 (read-none (read there.1) (sym (of there.1) ∙ passed.here there.0 there.1 there.2)) passed.after
           ]
 
       option-meets : Meets (in_option fs found k read) fault (LiesFrom order test fs found fault (k + 1))
@@ -346,8 +346,8 @@ module _ {order : List Place} {test : ℕ → Field → Option Code} {fs : List 
           ]
         where
           by : (o : Option (ℕ × Field)) → field_in fs found k ≡ o → Passed order test fs fault k read of found fs → Meets (in_option fs found k read) fault (LiesFrom order test fs found fault (k + 1))
-          by None at p = inr (None, rw at refl, behind-next p.behind)
-          by (Some (n, f)) at p = option-ok n f at (read-none (read f) (sym (of f) ∙ p.here n f at)) p.behind
+          by None at p = inr (None, rw at refl, after-next p.after)
+          by (Some (n, f)) at p = option-ok n f at (read-none (read f) (sym (of f) ∙ p.here n f at)) p.after
 
     pub all-met : {B : Type 0} (next : List A → Result B Fault) → ((xs : List A) → LiesFrom order test fs found fault (k + 1) → next xs ≡ Err fault) → (all_from fs k read 0 found fs >>= next) ≡ Err fault
     all-met next on = bind-fails fault (LiesFrom order test fs found fault (k + 1)) (all_from fs k read 0 found fs) next all-meets on
@@ -372,7 +372,7 @@ module _ {order : List Place} {test : ℕ → Field → Option Code} {fs : List 
 
 -- ---- the verdict of a message's fields
 
--- steps behind a refused reading are not taken
+-- steps after a refused reading are not taken
 pub fails-before : {A B : Type 0} (read : Result A Fault) (further : A → Result B Fault) (fault : Fault) → read ≡ Err fault → (read >>= further) ≡ Err fault
 fails-before read further fault e = rw e refl
 

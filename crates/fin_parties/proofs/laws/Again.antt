@@ -16,7 +16,7 @@ use Rattle.fin_parties.specs.declared.opening.Opening.{Opening}
 use Rattle.fin_parties.specs.declared.opening.Opening.TheVariants.{PartyLine, AccountLine}
 use Rattle.fin_parties.specs.declared.party.Party.{Party}
 use Rattle.fin_parties.specs.declared.party.Party.TheVariants as party
-use Rattle.fin_parties.specs.Party.{Cut, opens, parts_of, behind_first, bic_party, place_party, account_party, name_party, customer_party, payer_party, payee_party, is_account_line, is_line, is_name, are_numbered, form_of, party_in, party_of}
+use Rattle.fin_parties.specs.Party.{Cut, opens, parts_of, after_first, bic_party, place_party, account_party, name_party, customer_party, payer_party, payee_party, is_account_line, is_line, is_name, are_numbered, form_of, party_in, party_of}
 use Rattle.fin_parties.proofs.BicLines.{bic-spelled, bic-form, bic-begins, bic-continues, bic-of-x}
 use Rattle.fin_parties.specs.Writing.{party_letter, led_by, party_lines, party_field}
 
@@ -78,12 +78,12 @@ record Kept (form : Form) (lines : List (List ℕ)) (p : Party) : Type 0 where
 -- ---- a BIC
 
 bic-written : (opening : Opening) (first : Option (List ℕ)) (text : List ℕ) (b : Bic) → Opened opening first → bic_of text ≡ Some b → begins_with 47 text ≡ false
-    → behind_first opening bic_party (led_by first (text ∷ [])) ≡ Some (party.A first b)
+    → after_first opening bic_party (led_by first (text ∷ [])) ≡ Some (party.A first b)
 bic-written opening None text b o e plain = rw (plain, e) refl
 bic-written opening (Some line) text b o e plain = rw (o.0, o.1, e) refl
 
 bic-party-again : (opening : Opening) (first : Option (List ℕ)) (rest : List (List ℕ)) (p : Party) → Opened opening first → bic_party first rest ≡ Some p
-    → behind_first opening bic_party (party_lines p) ≡ Some p
+    → after_first opening bic_party (party_lines p) ≡ Some p
 bic-party-again opening first [] p o e = absurd (cc e)
 bic-party-again opening first (line ∷ []) p o e =
     let m = mapped (λ b. party.A first b) (bic_of line) p e in
@@ -91,7 +91,7 @@ bic-party-again opening first (line ∷ []) p o e =
     rw (← m.2) (bic-written opening first (bic_text m.0) m.0 o again (bic-begins 47 (bic_text m.0) refl (bic-form (bic_text m.0) m.0 again)))
 bic-party-again opening first (line ∷ next ∷ more) p o e = absurd (cc e)
 
-bics-again : (opening : Opening) (lines : List (List ℕ)) (p : Party) → behind_first opening bic_party lines ≡ Some p → behind_first opening bic_party (party_lines p) ≡ Some p
+bics-again : (opening : Opening) (lines : List (List ℕ)) (p : Party) → after_first opening bic_party lines ≡ Some p → after_first opening bic_party (party_lines p) ≡ Some p
 bics-again opening lines p e =
     let c = chained (λ c. bic_party c.first c.rest) (parts_of opening lines) p e in
     bic-party-again opening c.0.first c.0.rest p (is-cut opening lines c.0 c.1).opened c.2
@@ -139,11 +139,11 @@ payer-kept (line ∷ rest) p e =
 payee-kept : (first : Option (List ℕ)) (rest : List (List ℕ)) (p : Party) → payee_party first rest ≡ Some p → Kept PayeeF (led_by first rest) p
 payee-kept first rest p e = rw (← (some_if (are_numbered rest) (party.F first rest) p e).1) (record { same = refl; letter = λ t. refl })
 
--- behind a first line that keeps its place
-kept-behind : (form : Form) (opening : Opening) (read : Option (List ℕ) → List (List ℕ) → Option Party) (lines : List (List ℕ)) (p : Party)
+-- after a first line that keeps its place
+kept-after : (form : Form) (opening : Opening) (read : Option (List ℕ) → List (List ℕ) → Option Party) (lines : List (List ℕ)) (p : Party)
     → ((first : Option (List ℕ)) (rest : List (List ℕ)) → Opened opening first → read first rest ≡ Some p → Kept form (led_by first rest) p)
-    → behind_first opening read lines ≡ Some p → Kept form lines p
-kept-behind form opening read lines p each e =
+    → after_first opening read lines ≡ Some p → Kept form lines p
+kept-after form opening read lines p each e =
     let c = chained (λ c. read c.first c.rest) (parts_of opening lines) p e in
     let is = is-cut opening lines c.0 c.1 in
     rw (is.whole) at (each c.0.first c.0.rest is.opened c.2)
@@ -157,13 +157,13 @@ has_bic _ = false
 form-kept : (form : Form) (lines : List (List ℕ)) (p : Party) → has_bic form ≡ false → party_in form lines ≡ Some p → Kept form lines p
 unfolding party_in
 form-kept BankA lines p n e = absurd (cc n)
-form-kept BankB lines p n e = kept-behind BankB PartyLine place_party lines p (λ first rest o. place-kept first rest p) e
+form-kept BankB lines p n e = kept-after BankB PartyLine place_party lines p (λ first rest o. place-kept first rest p) e
 form-kept BankC lines p n e = account-kept lines p e
-form-kept BankD lines p n e = kept-behind BankD PartyLine name_party lines p (λ first rest o. name-kept first rest p) e
+form-kept BankD lines p n e = kept-after BankD PartyLine name_party lines p (λ first rest o. name-kept first rest p) e
 form-kept CustomerA lines p n e = absurd (cc n)
-form-kept CustomerK lines p n e = kept-behind CustomerK AccountLine customer_party lines p (λ first rest o. customer-kept first rest p o) e
+form-kept CustomerK lines p n e = kept-after CustomerK AccountLine customer_party lines p (λ first rest o. customer-kept first rest p o) e
 form-kept PayerF lines p n e = payer-kept lines p e
-form-kept PayeeF lines p n e = kept-behind PayeeF AccountLine payee_party lines p (λ first rest o. payee-kept first rest p) e
+form-kept PayeeF lines p n e = kept-after PayeeF AccountLine payee_party lines p (λ first rest o. payee-kept first rest p) e
 
 -- ---- each form is read again
 
@@ -202,7 +202,7 @@ bic-letter first [] p tag e = absurd (cc e)
 bic-letter first (line ∷ []) p tag e = rw (← (mapped (λ b. party.A first b) (bic_of line) p e).2) refl
 bic-letter first (line ∷ next ∷ more) p tag e = absurd (cc e)
 
-bics-letter : (opening : Opening) (lines : List (List ℕ)) (p : Party) (tag : ℕ) → behind_first opening bic_party lines ≡ Some p → party_letter tag p ≡ Some 65
+bics-letter : (opening : Opening) (lines : List (List ℕ)) (p : Party) (tag : ℕ) → after_first opening bic_party lines ≡ Some p → party_letter tag p ≡ Some 65
 bics-letter opening lines p tag e =
     let c = chained (λ c. bic_party c.first c.rest) (parts_of opening lines) p e in
     bic-letter c.0.first c.0.rest p tag c.2
@@ -261,7 +261,7 @@ bic-party-stands first (line ∷ []) p e s =
     rw (← m.2) (bic-stands first (bic_text m.0) (line ∷ []) (bic-continues (bic_text m.0) form) (bic-of-x (bic_text m.0) form) s)
 bic-party-stands first (line ∷ next ∷ more) p e s = absurd (cc e)
 
-bics-stand : (opening : Opening) (lines : List (List ℕ)) (p : Party) → behind_first opening bic_party lines ≡ Some p → Stand lines → Stand (party_lines p)
+bics-stand : (opening : Opening) (lines : List (List ℕ)) (p : Party) → after_first opening bic_party lines ≡ Some p → Stand lines → Stand (party_lines p)
 bics-stand opening lines p e s =
     let c = chained (λ c. bic_party c.first c.rest) (parts_of opening lines) p e in
     let is = is-cut opening lines c.0 c.1 in

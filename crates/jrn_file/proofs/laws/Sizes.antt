@@ -1,19 +1,19 @@
--- Sizes of records behind their gates, and lists of them that are joined.
+-- Sizes of records after their gates, and lists of them that are joined.
 use Rattle.std.proofs.Common.{◌≡◌, ℕ, ◌+◌, Bool, true, false, cond, List, [], ◌∷◌, ◌++◌, length, map, take, drop, refl, sym, ◌∙◌, ap, arith, append_assoc, length-append}
 use Rattle.std.specs.Int.{w32, to_be_bytes}
 use Rattle.std.specs.Str.{bytes_eq}
 use Rattle.jrn_file.specs.Reading.{whole, cut, opened_of, reading_of, records_of, size_of, with_length}
-use Rattle.jrn_file.specs.Journal.{behind_gates, journal_bytes, AreOpen}
+use Rattle.jrn_file.specs.Journal.{after_gates, journal_bytes, AreOpen}
 
--- a record behind its length
+-- a record after its length
 pub length-sized : (r : List ℕ) → length (with_length r) ≡ 4 + length r
 length-sized r = omega (arith, length-append (to_be_bytes w32 (length r)) r)
 
--- records behind their gates
-pub length-behind_gates : (entries : List (ℕ × List ℕ)) → length (behind_gates entries) ≡ size_of (map (λ e. e.1) entries)
-length-behind_gates [] = refl
-length-behind_gates (e ∷ more) =
-    omega (arith, length-sized e.1, length-append (with_length e.1) (behind_gates more), length-behind_gates more)
+-- records after their gates
+pub length-after_gates : (entries : List (ℕ × List ℕ)) → length (after_gates entries) ≡ size_of (map (λ e. e.1) entries)
+length-after_gates [] = refl
+length-after_gates (e ∷ more) =
+    omega (arith, length-sized e.1, length-append (with_length e.1) (after_gates more), length-after_gates more)
 
 map-with_gates : (records : List (List ℕ)) → map (λ (e : ℕ × List ℕ). e.1) (map (λ (r : List ℕ). (1, r)) records) ≡ records
 map-with_gates [] = refl
@@ -23,24 +23,24 @@ map-with_gates (r ∷ records) = ap (λ (l : List (List ℕ)). r ∷ l) (map-wit
 pub length-journal_bytes : (head : List ℕ) (records : List (List ℕ)) → length (journal_bytes head records) ≡ size_of (head ∷ records) + 1
 length-journal_bytes head records =
     let gates : List (ℕ × List ℕ) = map (λ (r : List ℕ). (1, r)) (head ∷ records) in
-    omega (arith, length-append (behind_gates gates) (0 ∷ []), length-behind_gates gates, ap size_of (map-with_gates (head ∷ records)))
+    omega (arith, length-append (after_gates gates) (0 ∷ []), length-after_gates gates, ap size_of (map-with_gates (head ∷ records)))
 
 -- records that are joined
 pub size_of-append : (xs ys : List (List ℕ)) → size_of (xs ++ ys) ≡ size_of xs + size_of ys
 size_of-append [] ys = omega arith
 size_of-append (x ∷ xs) ys = omega (arith, size_of-append xs ys)
 
-pub behind_gates-append : (xs ys : List (ℕ × List ℕ)) → behind_gates (xs ++ ys) ≡ behind_gates xs ++ behind_gates ys
-behind_gates-append [] ys = refl
-behind_gates-append (x ∷ xs) ys =
-    ap (λ (l : List ℕ). x.0 ∷ (with_length x.1 ++ l)) (behind_gates-append xs ys)
-    ∙ ap (λ (l : List ℕ). x.0 ∷ l) (sym (append_assoc (with_length x.1) (behind_gates xs) (behind_gates ys)))
+pub after_gates-append : (xs ys : List (ℕ × List ℕ)) → after_gates (xs ++ ys) ≡ after_gates xs ++ after_gates ys
+after_gates-append [] ys = refl
+after_gates-append (x ∷ xs) ys =
+    ap (λ (l : List ℕ). x.0 ∷ (with_length x.1 ++ l)) (after_gates-append xs ys)
+    ∙ ap (λ (l : List ℕ). x.0 ∷ l) (sym (append_assoc (with_length x.1) (after_gates xs) (after_gates ys)))
 
 pub AreOpen-append : (xs ys : List (ℕ × List ℕ)) → AreOpen xs → AreOpen ys → AreOpen (xs ++ ys)
 AreOpen-append [] ys open_xs open_ys = open_ys
 AreOpen-append (x ∷ xs) ys open_xs open_ys = (open_xs.0, open_xs.1, AreOpen-append xs ys open_xs.2 open_ys)
 
--- damage stands behind the records in front of it
+-- damage stands after the records in front of it
 cut-by : (all : List (List ℕ)) (b : Bool) (found : List (List ℕ)) (at : ℕ) → cond b (whole all) (cut all (size_of all)) ≡ cut found at → at ≡ size_of found
 cut-by all true found at is = absurd (cc)
 cut-by all false found at is =

@@ -4,7 +4,7 @@ use Rattle.std.proofs.lemmas.List.{length-take}
 use Rattle.std.proofs.lemmas.Option.{slice_get_within}
 use Rattle.corr_report.proofs.laws.Rests.{rest_at}
 use Rattle.corr_top.specs.Out.{entry_out}
-use Rattle.corr_top.proofs.Adding.{in_front, none_behind, numbered_done, numbered_next}
+use Rattle.corr_top.proofs.Adding.{in_front, none_after, numbered_done, numbered_next}
 use Rattle.corr_top.proofs.Sending.{more-accepted}
 use Rattle.corr_top.proofs.outgoing.outgoing.Goals as goal
 
@@ -27,7 +27,7 @@ pub returns-clause-text : goal.returns-clause-text
 returns-clause-text c =
     let l = c.loop-place in
     let past : min c.args.until (length c.args.h.now.entries) + 1 ≤ l.place = omega (arith, c.loop-place-test.false, c.min-place-end.ensures, c.len.ensures.count) in
-    numbered_done (entry_out c.args.a.now) l.place _ l.out _ (none_behind c.args.until c.args.h.now.entries l.place past) l.invariant.rest
+    numbered_done (entry_out c.args.a.now) l.place _ l.out _ (none_after c.args.until c.args.h.now.entries l.place past) l.invariant.rest
 
 pub returns-clause-accepted : goal.returns-clause-accepted
 returns-clause-accepted c = λ i e after at.

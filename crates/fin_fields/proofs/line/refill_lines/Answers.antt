@@ -3,7 +3,7 @@ use Rattle.std.proofs.Math.Seq.{take-append-add}
 use Rattle.std.proofs.lemmas.List.{length-take-le, take_all, take_more}
 use Rattle.fin_fields.proofs.line.refill_lines.Goals as goal
 
--- a front, and what was put behind it
+-- a front, and what was put after it
 front-and : {X : Type 0} (front : List X) (x : X) (rest : List X) (n : ℕ) → length front ≡ n → take (n + 1) (front ++ x ∷ rest) ≡ front ++ x ∷ []
 front-and front x rest n e = rw (← e) (take-append-add front (x ∷ rest) 1)
 

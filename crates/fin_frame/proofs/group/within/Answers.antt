@@ -17,6 +17,6 @@ loop-left-preserved c =
     let lt : at < length c.args.bytes.now = omega (arith, c.next_brace-at.ensures.most) in
     record {
       most = omega (arith, lt);
-      bound = omega (arith, depth_after-le c.loop-left.left (get_or c.args.bytes.now at 0), c.behind-left.ensures, c.next_brace-at.ensures.least);
-      left = left_open-take c.args.depth c.args.bytes.now at c.loop-left.left lt before (omega arith) ∙ ap Some (sym c.behind-left.ensures);
+      bound = omega (arith, depth_after-le c.loop-left.left (get_or c.args.bytes.now at 0), c.after-left.ensures, c.next_brace-at.ensures.least);
+      left = left_open-take c.args.depth c.args.bytes.now at c.loop-left.left lt before (omega arith) ∙ ap Some (sym c.after-left.ensures);
     }

@@ -12,9 +12,9 @@ returns-in_err-sync-clause-any_moment g c honest only =
     let bytes = D.reads old in
     let P = IsEntering c.args.gate c.args.frame.now bytes in
     let at_start = started D.moment D.left_since old P (λ b left. entering-only _ _ _ _ only b (g.met.D.Disk.only_now old b left)) in
-    let behind = entering-frame _ _ _ _ _ only c.write_at.ensures.crash in
-    let framed = goes_on D.moment D.left_since old old c.write_at.new.self P _ at_start c.write_at.ensures.time behind in
-    goes_on D.moment D.left_since old c.write_at.new.self c.sync.new.self P _ framed c.sync.ensures.time (λ b now. behind b (c.sync.ensures.crash b now))
+    let after = entering-frame _ _ _ _ _ only c.write_at.ensures.crash in
+    let framed = goes_on D.moment D.left_since old old c.write_at.new.self P _ at_start c.write_at.ensures.time after in
+    goes_on D.moment D.left_since old c.write_at.new.self c.sync.new.self P _ framed c.sync.ensures.time (λ b now. after b (c.sync.ensures.crash b now))
 
 pub returns-in_err-write_at-2-clause-any_moment : goal.returns-in_err-write_at-2-clause-any_moment
 returns-in_err-write_at-2-clause-any_moment g c honest only =
@@ -23,9 +23,9 @@ returns-in_err-write_at-2-clause-any_moment g c honest only =
     let bytes = D.reads old in
     let P = IsEntering c.args.gate c.args.frame.now bytes in
     let at_start = started D.moment D.left_since old P (λ b left. entering-only _ _ _ _ only b (g.met.D.Disk.only_now old b left)) in
-    let behind = entering-frame _ _ _ _ _ only c.write_at.ensures.crash in
-    let framed = goes_on D.moment D.left_since old old c.write_at.new.self P _ at_start c.write_at.ensures.time behind in
-    let kept = goes_on D.moment D.left_since old c.write_at.new.self c.sync.new.self P _ framed c.sync.ensures.time (λ b now. behind b (c.sync.ensures.crash b now)) in
+    let after = entering-frame _ _ _ _ _ only c.write_at.ensures.crash in
+    let framed = goes_on D.moment D.left_since old old c.write_at.new.self P _ at_start c.write_at.ensures.time after in
+    let kept = goes_on D.moment D.left_since old c.write_at.new.self c.sync.new.self P _ framed c.sync.ensures.time (λ b now. after b (c.sync.ensures.crash b now)) in
     let between = c.in_ok-write_at.ensures.answer honest in
     let opened = entering-gate _ _ _ _ between _ _ c.in_ok-sync.ensures.durable c.write_at-2.ensures.crash in
     goes_on D.moment D.left_since old c.sync.new.self c.write_at-2.new.self P _ kept c.write_at-2.ensures.time opened
@@ -37,9 +37,9 @@ returns-clause-any_moment g c honest only =
     let bytes = D.reads old in
     let P = IsEntering c.args.gate c.args.frame.now bytes in
     let at_start = started D.moment D.left_since old P (λ b left. entering-only _ _ _ _ only b (g.met.D.Disk.only_now old b left)) in
-    let behind = entering-frame _ _ _ _ _ only c.write_at.ensures.crash in
-    let framed = goes_on D.moment D.left_since old old c.write_at.new.self P _ at_start c.write_at.ensures.time behind in
-    let kept = goes_on D.moment D.left_since old c.write_at.new.self c.sync.new.self P _ framed c.sync.ensures.time (λ b now. behind b (c.sync.ensures.crash b now)) in
+    let after = entering-frame _ _ _ _ _ only c.write_at.ensures.crash in
+    let framed = goes_on D.moment D.left_since old old c.write_at.new.self P _ at_start c.write_at.ensures.time after in
+    let kept = goes_on D.moment D.left_since old c.write_at.new.self c.sync.new.self P _ framed c.sync.ensures.time (λ b now. after b (c.sync.ensures.crash b now)) in
     let between = c.in_ok-write_at.ensures.answer honest in
     let opened = entering-gate _ _ _ _ between _ _ c.in_ok-sync.ensures.durable c.write_at-2.ensures.crash in
     let done = goes_on D.moment D.left_since old c.sync.new.self c.write_at-2.new.self P _ kept c.write_at-2.ensures.time opened in

@@ -1,7 +1,7 @@
 use Rattle.std.proofs.Common.{◌≡◌, ◌+◌, ◌≤◌, ℕ, List, ◌++◌, length, take, drop, arith, ap, refl, ◌∙◌, length-drop}
 use Rattle.std.proofs.lemmas.List.{length-take}
 use Rattle.corr_disk.proofs.laws.Counted.{calls_within}
-use Rattle.jrn_file.proofs.Behind.{front-kept, read-behind, read-gives}
+use Rattle.jrn_file.proofs.After.{front-kept, read-after, read-gives}
 use Rattle.jrn_file.proofs.held.read_piece.Goals as goal
 
 pub returns-in_err-count-clause-no_more_calls : goal.returns-in_err-count-clause-no_more_calls
@@ -30,7 +30,7 @@ returns-clause-piece g c =
     let front = front-kept n (length before) before r c.held.invariant refl c.lengthen.ensures.front in
     record {
       more = take count buf;
-      is = read-behind held r buf (drop (n + piece) r) n count (omega (arith, length-take n before, c.held.invariant)) front within ∙ ap (λ (l : List ℕ). l ++ take count buf) c.held.view_is;
+      is = read-after held r buf (drop (n + piece) r) n count (omega (arith, length-take n before, c.held.invariant)) front within ∙ ap (λ (l : List ℕ). l ++ take count buf) c.held.view_is;
       count = omega (arith, length-take count buf, within);
       most = omega (arith, within, asked);
       told = λ honest.

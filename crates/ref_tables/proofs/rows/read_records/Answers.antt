@@ -41,8 +41,8 @@ returns-then-len-most c =
     let full : c.args.most ≤ length (map fields_of c.loop-row.rows.items) = simp length-map (omega arith) in
     sym (up_to-more c.args.most _ (map fields_of c.loop-row.rows.items) (fields_of c.in-Ok.row) b.0 b.1 full)
 
-pub want_of_memory-requires : goal.want_of_memory-requires
-want_of_memory-requires c =
+pub out_of_memory-requires : goal.out_of_memory-requires
+out_of_memory-requires c =
     let inv = c.loop-row.invariant in
     let why = rw (c.in-Some.is, c.in-Err.is) at ((c.next.ensures.steps inv.2 inv.0).0 inv.1) in
     rw c.into_kind.ensures (is-read-fault (λ (s : Bor (List ℕ)). Some s.now) c.loop-row.row-iterator.rdr c.next.new.self.rdr (error_kind c.in-Err.e) inv.8 why)
