@@ -1,5 +1,5 @@
 -- How many messages begin in bytes that come.
-use Rattle.std.proofs.Common.{◌≡◌, ◌≤◌, ◌⊎◌, inl, inr, ℕ, ◌+◌, List, [], ◌++◌, length, arith, ap}
+use Rattle.std.proofs.Common.{◌≤◌, inl, inr, ℕ, ◌+◌, List, [], ◌++◌, length, arith, ap}
 use Rattle.fin_frame.specs.Machine.{at_start, run}
 use Rattle.fin_frame.specs.Shown.{HasBegun, HaveBegun}
 use Rattle.fin_frame.proofs.Steps.{run-few}
