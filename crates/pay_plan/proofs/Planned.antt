@@ -20,7 +20,7 @@ use Rattle.pay_plan.specs.declared.ask.Ask.TheVariants as asks
 use Rattle.pay_plan.specs.declared.fault.PlanFault.{PlanFault}
 use Rattle.pay_plan.specs.declared.fault.PlanFault.TheVariants as fault
 use Rattle.pay_plan.specs.Asked.{Asked, amount_in, asked_of, asked_with, cover_in, is_for_home, target_in, value_in}
-use Rattle.pay_plan.specs.Plan.{Plans, Refuses, booked, plan_of}
+use Rattle.pay_plan.specs.Plan.{Plans, Refuses, accounts_of, booked, plan_of, route_asked}
 
 -- a cover for the home bank has no plan
 pub home-refused : (env : Envelope) (text : List ℕ) (ask : Ask) (rows : List SsiRow) (chart : Chart) (home : Bic) → home ≡ chart.home →
@@ -30,11 +30,17 @@ home-refused env text ask rows chart home home_is named =
     let at : is_for_home chart.home ask ≡ true = ap (λ (h : Bic). is_for_home h ask) (sym home_is) ∙ named in
     rw at refl
 
--- the route of what a message asks
-abbrev pub route_asked : Envelope → Ask → List SsiRow → Chart → Result Routed Code
-route_asked env ask rows chart =
-    let asked = asked_of chart.home ask in
-    route_of env.sender asked.amount asked.value asked.cover asked.target rows chart
+-- a cover for the home bank has no accounts
+pub home-alone : (env : Envelope) (ask : Ask) (rows : List SsiRow) (chart : Chart) (home : Bic) → home ≡ chart.home →
+    is_for_home home ask ≡ true → Err (code "P34") ≡ accounts_of env ask rows chart
+home-alone env ask rows chart home home_is named =
+    let at : is_for_home chart.home ask ≡ true = ap (λ (h : Bic). is_for_home h ask) (sym home_is) ∙ named in
+    rw at refl
+
+-- the accounts, by the route
+pub on-route : (env : Envelope) (ask : Ask) (rows : List SsiRow) (chart : Chart) (route : Result Routed Code) →
+    is_for_home chart.home ask ≡ false → route_asked env ask rows chart ≡ route → route ≡ accounts_of env ask rows chart
+on-route env ask rows chart route apart found = rw (apart, found) refl
 
 -- it is asked for part by part
 pub route-of-parts : (env : Envelope) (ask : Ask) (rows : List SsiRow) (chart : Chart) (amount : Amount) (value : Day) (cover : Cover) (target : Target) →

@@ -46,6 +46,18 @@ pay_of env text asked routed chart =
       orders = orders_in chart way asked.target routed;
     }
 
+-- the route of what a message asks
+abbrev pub route_asked : Envelope → Ask → List SsiRow → Chart → Result Routed Code
+route_asked env ask rows chart =
+    let asked = asked_of chart.home ask in
+    route_of env.sender asked.amount asked.value asked.cover asked.target rows chart
+
+-- the accounts of a message, or the code with which it has none: a cover for the home bank is refused before they are looked for
+abbrev pub accounts_of : Envelope → Ask → List SsiRow → Chart → Result Routed Code
+accounts_of env ask rows chart = do
+  _ ← check (not (is_for_home chart.home ask)) (code "P34")
+  route_asked env ask rows chart
+
 -- what a message asks, booked on the accounts that it has, or the code with which it has none
 abbrev pub booked : Envelope → List ℕ → Ask → Chart → Result Routed Code → Result Pay Code
 booked env text ask chart accounts = do

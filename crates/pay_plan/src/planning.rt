@@ -8,7 +8,7 @@ ghost use Rattle.day_model.specs.Shape.{HasShape};
 ghost use Rattle.day_model.specs.declared.account.Account.{Account};
 ghost use Rattle.routing.specs.Accounts.{AreBetween};
 ghost use Rattle.pay_plan.specs.Asked.{amount_in, asked_of};
-ghost use Rattle.pay_plan.specs.Plan.{Plans, booked, pay_of, plan_of};
+ghost use Rattle.pay_plan.specs.Plan.{Plans, accounts_of, booked, pay_of, plan_of};
 ghost use Rattle.pay_plan.specs.Readable.{IsSomeReading, IsWritable};
 
 use crate::ask::Ask;
@@ -61,6 +61,7 @@ pub fn accounts_of(
     ssi: &Ssi,
     accounts: &Accounts,
 ) -> Result<Routed, Code>
+    ensures routed { result ≡ accounts_of env.now ask.entry ssi.now accounts.now }
     ensures value { (text : List ℕ) → plan_of env.now text ask.entry ssi.now accounts.now ≡ booked env.now text ask.entry accounts.now result }
     ensures accounts { IfOk result (AreBetween accounts.now (amount_in ask.entry)) }
     ensures via { IfOk result (λ routed. IfSome routed.via IsBic) }
