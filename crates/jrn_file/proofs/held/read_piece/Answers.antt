@@ -1,4 +1,4 @@
-use Rattle.std.proofs.Common.{◌≡◌, ◌+◌, ◌≤◌, ℕ, List, ◌++◌, length, take, drop, arith, ap, refl, ◌∙◌, length-drop}
+use Rattle.std.proofs.Common.{◌≡◌, ◌+◌, ◌-◌, ◌≤◌, ℕ, List, ◌++◌, length, take, drop, arith, ap, ◌∙◌, length-drop}
 use Rattle.std.proofs.lemmas.List.{length-take}
 use Rattle.corr_disk.proofs.laws.Counted.{calls_within}
 use Rattle.jrn_file.proofs.After.{front-kept, read-after, read-gives}
@@ -14,23 +14,29 @@ returns-clause-no_more_calls g c =
     let plan = g.D.Disk.plan in
     calls_within 1 1 (plan c.args.disk.now) (plan c.read_at.new.self) (c.read_at.ensures.next) (omega arith)
 
--- to be fitted to the goal as it prints: how `end`, the part [old..end] and what it holds after the read are named
 pub returns-clause-piece : goal.returns-clause-piece
 returns-clause-piece g c =
     let before = c.held.inside.buffer.items in
     let n = c.held.inside.filled in
     let held = take n before in
-    let r = c.lengthen.new.buffer.items in
+    let long_enough = c.lengthen.new.buffer in
+    let r = c.deref_mut.result.now in
     let buf = c.read_at.new.buf in
     let piece = c.args.piece in
     let count = c.in_ok-count.count in
     let reads = g.D.Disk.reads c.args.disk.now in
+    let long : n + piece ≤ length r = omega (arith, c.in_ok-lengthen.ensures.long, ap length c.deref_mut.ensures.value) in
+    let asked : length buf ≡ piece = omega (arith, c.read_at.auto.buf, long, length-take (n + piece - n) (drop n r), length-drop n r) in
     let within : count ≤ length buf = omega (arith, c.in_ok-count.ensures.within, c.read_at.auto.buf) in
-    let asked : length buf ≡ piece = omega (arith, c.read_at.auto.buf, c.in_ok-lengthen.ensures.long) in
-    let front = front-kept n (length before) before r c.held.invariant refl c.lengthen.ensures.front in
+    let front = ap (λ (l : List ℕ). take n l) c.deref_mut.ensures.value
+    ∙ front-kept n before long_enough.items c.held.invariant c.lengthen.ensures.front in
+    let post = drop (n + piece - n) (drop n r) in
+    let rest = drop (length (take n r ++ (buf ++ post))) long_enough.items in
     record {
       more = take count buf;
-      is = read-after held r buf (drop (n + piece) r) n count (omega (arith, length-take n before, c.held.invariant)) front within ∙ ap (λ (l : List ℕ). l ++ take count buf) c.held.view_is;
+      is = read-after held r buf post rest n long_enough.len count (omega (arith, length-take n before, c.held.invariant)) front within
+          (omega (arith, within, asked, c.in_ok-lengthen.ensures.long, long_enough.ok.0))
+          ∙ ap (λ (l : List ℕ). l ++ take count buf) c.held.view_is;
       count = omega (arith, length-take count buf, within);
       most = omega (arith, within, asked);
       told = λ honest.
