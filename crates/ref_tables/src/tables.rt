@@ -105,7 +105,7 @@ pub fn with_currencies(
     Ok(RefTables { ccys, ..tables })
 }
 
-/// The same tables with the countries of this file in place of theirs.
+/// The same tables with the countries of this file in place of theirs. Each currency has at most 4 decimals (`few`).
 ///
 /// `Bad` tells the first row that fails, and why.
 pub fn with_countries(
@@ -115,6 +115,7 @@ pub fn with_countries(
 ) -> Result<RefTables, TableFault>
     ensures sound { IfOk result (λ t. countries_fault file.now ≡ None) }
     ensures value { IfOk result (λ t. t ≡ record tables { countries = map country_in_row (rows_of file.now) }) }
+    ensures few { IfOk result (λ t. IsTrue (few_decimals t.ccys)) }
     ensures bad { IfErr result (Tells (named names.Countries (countries_fault file.now))) }
 {
     let countries = read_keyed::<2, bool, CountryRow>(
