@@ -1,7 +1,7 @@
 -- Message files: what their bytes show, and what a cutter that was fed them knows.
 use Rattle.std.proofs.Common.{◌≡◌, ℕ, ◌+◌, ◌-◌, ◌<◌, ◌≤◌, ◌⊎◌, inl, inr, List, [], ◌∷◌, ◌++◌, length, take, drop, Some, None, Ok, refl, sym, ap, ◌∙◌, subst, arith, append_assoc, length-append}
 use Rattle.std.specs.Prelude.{All}
-use Rattle.std.proofs.lemmas.List.{append-nil, length-take, take-append-drop}
+use Rattle.std.proofs.lemmas.List.{append-nil, length-take-le, take-append-drop}
 use Rattle.std.proofs.lemmas.Bool.{cases_lt}
 use Rattle.std.proofs.lemmas.List.Elements.{All-append, All-cons}
 use Rattle.std.proofs.lemmas.Option.{none-some}
@@ -48,6 +48,10 @@ starts c given was sound none = record { was = subst (λ g. WasFed c [] g) (sym 
 
 -- ---- how cutting in pieces stops
 
+-- a piece and what is after it
+pub parted : (n : ℕ) (rest piece after : List ℕ) → piece ≡ take n rest → after ≡ drop n rest → piece ++ after ≡ rest
+parted n rest piece after front back = ap (λ l. l ++ after) front ∙ ap (λ l. take n rest ++ l) back ∙ take-append-drop n rest
+
 -- how many bytes of a file there are up to and with a piece
 pub counted : (fed piece after rest file : List ℕ) → piece ++ after ≡ rest → fed ++ rest ≡ file → length file - length after ≡ length (fed ++ piece)
 counted fed piece after rest file parts whole =
@@ -76,7 +80,7 @@ within-limits fed piece begun have short few (inr more) = let most = begun-few f
 
 -- what a cutter that passed tells of the messages begun
 pub have-begun : (c : Cutter) (fed : List ℕ) (given : List (List ℕ)) (begun : ℕ) → HasPassed c fed given → Knows c.failed fed given begun → HaveBegun fed begun
-have-begun c fed given begun so_far knows = (subst (λ o. Knows o fed given begun) so_far.sound knows).1.1
+have-begun c fed given begun so_far knows = (subst (λ o. Knows o fed given begun) so_far.sound knows).2
 
 -- a piece stops: one of one byte at it, and a longer one by a fault alone
 pub stops-here : (c : Cutter) (file fed rest : List ℕ) (n begun : ℕ) (given : List (List ℕ)) (s : FileStop) → HasPassed c fed given → fed ++ rest ≡ file → HaveBegun fed begun → 0 < n → n ≤ length rest
@@ -84,7 +88,7 @@ pub stops-here : (c : Cutter) (file fed rest : List ℕ) (n begun : ℕ) (given 
 stops-here c file fed rest n begun given (stop_of.TooLarge bytes messages) so_far whole have some fits within stop =
     elim (cases_lt 1 n) [
       | inl long ↦
-          let size : length (take n rest) ≡ n = omega (arith, length-take n rest, fits) in
+          let size : length (take n rest) ≡ n = length-take-le n rest fits in
           absurd (within-limits fed (take n rest) begun have (omega (arith, size, (within long).0)) (omega (arith, size, (within long).1)) stop.1)
       | inr short ↦
           let one : n ≡ 1 = omega (arith, some, short) in

@@ -19,9 +19,6 @@ const FILE_LIMIT: usize = 67_108_864;
 /// The most messages of a message file.
 const MESSAGE_LIMIT: u32 = 50_000;
 
-/// The most bytes that the cutter is fed at a time.
-const PIECE: usize = 65_536;
-
 /// Why a message file was not taken.
 #[derive(Clone, Copy, Debug, PartialEq, Eq)]
 pub enum FileStop {
@@ -124,7 +121,7 @@ fn piece_len(fed: usize, begun: u32, rest: usize) -> usize
 {
     let bytes = FILE_LIMIT.saturating_sub(fed);
     let messages = MESSAGE_LIMIT.saturating_sub(begun) as usize;
-    PIECE.min(bytes).min(messages).min(rest).max(1)
+    bytes.min(messages).min(rest).max(1)
 }
 
 /// The messages of a file, fed to a cutter in pieces, or its first byte past a limit, or its first fault.

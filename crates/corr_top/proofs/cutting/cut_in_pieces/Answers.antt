@@ -1,10 +1,9 @@
-use Rattle.std.proofs.Common.{◌≡◌, ◌-◌, ◌++◌, [], ℕ, List, length, ap, arith, refl, sym, subst, ◌∙◌, take, append_assoc, length-append}
-use Rattle.std.proofs.lemmas.List.{take-append-drop}
+use Rattle.std.proofs.Common.{◌≡◌, ◌-◌, ◌++◌, [], ℕ, List, length, ap, arith, refl, sym, subst, ◌∙◌, append_assoc, length-append}
 use Rattle.std.proofs.lemmas.Grind.{common_steps}
 use Rattle.std.proofs.lemmas.Result.{err_from_is_err_and}
 use Rattle.corr_top.specs.Feeding.{StopsFeeding}
 use Rattle.corr_top.specs.MessageFile.{IsMessageFile}
-use Rattle.corr_top.proofs.MessageFiles.{counted, cut-at-end, have-begun, starts, stops-here}
+use Rattle.corr_top.proofs.MessageFiles.{counted, cut-at-end, have-begun, parted, starts, stops-here}
 use Rattle.corr_top.proofs.cutting.cut_in_pieces.Goals as goal
 
 pub loop-rest-init : goal.loop-rest-init
@@ -18,7 +17,7 @@ returns-in_err-feed_piece-clause-stopped c =
     let rest = c.loop-rest.rest.now in
     let n = c.piece_len-len.result in
     let begun = c.begun.result in
-    let parts : c.split_at.result.0.now ++ c.split_at.result.1.now ≡ rest = ap (λ (x : List ℕ). x ++ c.split_at.result.1.now) c.split_at.ensures.front ∙ ap (λ (x : List ℕ). take n rest ++ x) c.split_at.ensures.back ∙ take-append-drop n rest in
+    let parts = parted n rest c.split_at.result.0.now c.split_at.result.1.now c.split_at.ensures.front c.split_at.ensures.back in
     let stopped = c.in_err-feed_piece.ensures.stopped so_far.0 so_far.2 (counted so_far.0 c.split_at.result.0.now c.split_at.result.1.now rest file parts so_far.1) in
     let have = have-begun c.loop-rest.cutter so_far.0 c.loop-rest.messages begun so_far.2 (c.begun.ensures so_far.0 c.loop-rest.messages so_far.2.was) in
     let fed : length file - length rest ≡ length so_far.0 = omega (arith, ap length so_far.1, length-append so_far.0 rest) in
@@ -31,7 +30,7 @@ pub loop-rest-preserved : goal.loop-rest-preserved
 loop-rest-preserved c =
     let so_far = c.loop-rest.invariant in
     let rest = c.loop-rest.rest.now in
-    let parts : c.split_at.result.0.now ++ c.split_at.result.1.now ≡ rest = ap (λ (x : List ℕ). x ++ c.split_at.result.1.now) c.split_at.ensures.front ∙ ap (λ (x : List ℕ). take c.piece_len-len.result rest ++ x) c.split_at.ensures.back ∙ take-append-drop c.piece_len-len.result rest in (
+    let parts = parted c.piece_len-len.result rest c.split_at.result.0.now c.split_at.result.1.now c.split_at.ensures.front c.split_at.ensures.back in (
       so_far.0 ++ c.split_at.result.0.now,
       append_assoc so_far.0 c.split_at.result.0.now c.split_at.result.1.now ∙ ap (λ (x : List ℕ). so_far.0 ++ x) parts ∙ so_far.1,
       c.in_ok-feed_piece.ensures.ok so_far.0 so_far.2 (counted so_far.0 c.split_at.result.0.now c.split_at.result.1.now rest c.args.file.now parts so_far.1),
