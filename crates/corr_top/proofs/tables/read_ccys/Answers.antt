@@ -1,19 +1,8 @@
-use Rattle.std.proofs.Common.{[], List, ℕ, subst}
+use Rattle.std.proofs.Common.{[]}
 use Rattle.std.proofs.lemmas.Result.{err_from_is_err_and}
-use Rattle.ref_tables.specs.declared.fault.TableName.TheVariants as names
-use Rattle.ref_tables.specs.Refusals.{Tells, named}
-use Rattle.ref_tables.specs.Tables.{ccys_fault}
-use Rattle.corr_top.proofs.TableFiles.{table_stopped}
 use Rattle.corr_top.proofs.tables.read_ccys.Goals as goal
 
 pub returns-in_err-file-clause-stopped : goal.returns-in_err-file-clause-stopped
 returns-in_err-file-clause-stopped g c =
     let p = err_from_is_err_and c.from_residual.result c.from_residual.ensures.1 in
     rw (p.1, p.2) ([], c.in_err-file.ensures.stopped [] _)
-
-pub returns-in_err-with_currencies-clause-stopped : goal.returns-in_err-with_currencies-clause-stopped
-returns-in_err-with_currencies-clause-stopped g c =
-    let p = err_from_is_err_and c.from_residual-in_err-with_currencies.result c.from_residual-in_err-with_currencies.ensures.1 in
-    let file = c.in_ok-file.file in
-    let told = subst (λ (f : List ℕ). Tells (named names.Ccys (ccys_fault f)) c.in_err-with_currencies.field-0.0) c.bytes.ensures c.in_err-with_currencies.ensures.bad in
-    rw (p.1, p.2) (file, table_stopped _ _ _ file _ _ c.in_ok-file.ensures.took told)
