@@ -86,7 +86,7 @@ place_of (Ok (Kept place outcome)) = Some place
 place_of (Err fault) = None
 
 -- Of `book` with this pay: what the pass knows after the answer, what the answer says, which place became the pass's own; and
--- after out of memory the pass is as before.
+-- where memory runs out the pass is as before.
 pub record Told (o : Opening) (pay : Pay) (old : PassKnows) (answer : Answer) (new : PassKnows) : Type 0 where
   pub grows : IsAnswered answer → Grows o old new
   pub says : Says o pay old new answer

@@ -32,7 +32,7 @@ pub trait Disk {
     ghost faults: { Self → ℕ };
 
     /// What is known of the call that comes after so many others: that it is going to fail (`Some true`), that
-    /// it isn't, but out of memory (`Some false`), or nothing. A call of which something is known has no
+    /// it isn't, unless memory runs out (`Some false`), or nothing. A call of which something is known has no
     /// effect where it fails.
     ghost plan: { Self → ℕ → Option Bool };
 

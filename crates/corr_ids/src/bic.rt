@@ -68,7 +68,7 @@ pub fn with_branch(b: &Bic) -> [u8; 11]
     full
 }
 
-/// Adds a BIC: 8 characters where its branch is `XXX`, else 11. Out of memory leaves the text as it was.
+/// Adds a BIC: 8 characters where its branch is `XXX`, else 11. Where memory runs out, the text is as it was.
 ///
 /// The head `ALPHDEFF` is printed `ALPHDEFF` with the branch `XXX`, and `ALPHDEFF500` with the branch `500`.
 pub fn put_bic(b: &Bic, out: &mut Text) -> Result<(), Memory>

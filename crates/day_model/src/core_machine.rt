@@ -122,7 +122,7 @@ impl Core {
         Ok(())
     }
 
-    /// Takes one event. One that isn't allowed changes nothing, and so does out of memory.
+    /// Takes one event. One that isn't allowed changes nothing, nor does one for which memory runs out.
     ///
     /// Whatever events follow, in whatever order, the history stays legal and begins as before, purses are at their
     /// balances, no two workers hold one account, and some worker may go on where one has a job.

@@ -58,8 +58,8 @@ impl History {
         Ok(())
     }
 
-    /// Adds an entry at the end of fewer than 100,000. It needs no memory where there is room; out of memory leaves the
-    /// entries as they were.
+    /// Adds an entry at the end of fewer than 100,000. It needs no memory where there is room; where memory runs out, the
+    /// entries are as they were.
     pub fn push(&mut self, e: Entry) -> Result<(), Memory>
         requires { length self.old.entries < most_entries }
         ensures ok { OnOk result (self.new.entries ≡ self.old.entries ++ e ∷ []) }

@@ -1,4 +1,4 @@
-//! Fields added after those of a message that stand already. After out of memory those alone stand there.
+//! Fields added after those of a message that stand already. Where memory runs out, those alone stand there.
 
 ghost use Rattle.std.specs.Prelude.{◌≡◌, ◌++◌, All, IfSome, None, OnErr, OnOk, Some, map};
 ghost use Rattle.fin_contents.specs.Writing.{IsAmount, ccy_amount_field, line_field, lines_fields, some_field};

@@ -54,8 +54,8 @@ pub fn copy_lines(alloc: Global, lines: &[Line<'_>]) -> Result<List<Text>, Memor
     Ok(copies)
 }
 
-/// As `copy_lines`, but into a list whose texts were others, in their memory as far as it goes. After out of memory the texts
-/// may be any.
+/// As `copy_lines`, but into a list whose texts were others, in their memory as far as it goes. Where memory runs out, the
+/// texts may be any.
 pub fn refill_lines(
     alloc: Global,
     lines: &[Line<'_>],

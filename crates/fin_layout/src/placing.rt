@@ -49,7 +49,7 @@ pub fn places(alloc: Global, order: &[Place], fields: &[FieldLines<'_>]) -> Resu
     Ok(found)
 }
 
-/// As `places`, but the places are put into `found`, whatever stood there, in its memory. After out of memory it may hold
+/// As `places`, but the places are put into `found`, whatever stood there, in its memory. Where memory runs out, it may hold
 /// any.
 pub fn put_places(
     order: &[Place],

@@ -54,7 +54,7 @@ block_tag refusal =
     else if bytes_eq refusal.0 (codes "P05") then codes "B4 "
     else codes "B5 "
 
--- P01 to P06, which never are out of memory; the reference is told from P04 on
+-- P01 to P06, and never out of memory; the reference is told from P04 on
 abbrev pub refused_block : BlockFault → Refused
 refused_block (block.Bad refusal mir) = (mir, at_block refusal (block_tag refusal))
 refused_block block.Memory = (None, at_block (code "P01") (codes "B1 "))

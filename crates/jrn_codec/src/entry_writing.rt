@@ -270,8 +270,8 @@ fn put_parts(out: &mut Buf, e: &Entry) -> Result<(), Memory>
 
 /// Adds the record of an entry.
 ///
-/// It needs no memory where there is room for the record, and takes no more room than the record's bytes. After out of memory
-/// the buffer's bytes are as before. A record has at most 1,048,576 bytes. `e` has the shape of a pay, and its day is one of
+/// It needs no memory where there is room for the record, and takes no more room than the record's bytes. Where memory runs
+/// out, the buffer's bytes are as before. A record has at most 1,048,576 bytes. `e` has the shape of a pay, and its day is one of
 /// 1980 to 2079.
 #[tactic(auto, using(crate::proofs::laws::Records::few_bytes))]
 pub fn put_entry(e: &Entry, out: &mut Buf) -> Result<(), Memory>

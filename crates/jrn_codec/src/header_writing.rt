@@ -101,8 +101,8 @@ fn put_parts(out: &mut Text, a: &Accounts) -> Result<(), Memory>
     put_accounts(out, a)
 }
 
-/// Adds the header record of a home bank and its accounts, which `read_head` reads where the home is a BIC. After out of memory
-/// the text is as before.
+/// Adds the header record of a home bank and its accounts, which `read_head` reads where the home is a BIC. Where memory runs
+/// out, the text is as before.
 #[tactic(auto, using(crate::proofs::HeadWriting::is_written))]
 pub fn put_head(a: &Accounts, out: &mut Text) -> Result<(), Memory>
     ensures ok { OnOk result (out.new ≡ out.old ++ head_bytes a.now) }

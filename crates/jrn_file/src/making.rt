@@ -47,7 +47,7 @@ pub fn create<D: Disk>(alloc: Global, disk: D, head: &[u8]) -> Result<D, (D, Mak
     ensures untouched { (first : ℕ) → IsTrue (D.honest disk) → IsOther (D.reads disk) first
         → IfErr result (λ e. IsUntouched D.reads D.may_leave D.moment D.left_since disk e.0) }
 
-    // Out of memory is met before any call of the disk.
+    // Memory runs out before any call of the disk, or not at all.
     ensures memory { IfErr result (λ e. e.1 ≡ MakeFault.Memory → e.0 ≡ disk) }
 
     // A crash at any moment leaves a disk on which nothing is made yet, or the new journal.

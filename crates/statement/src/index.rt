@@ -107,7 +107,7 @@ impl HistoryIndex {
         Ok(())
     }
 
-    /// Adds the next entry of the history. Out of memory leaves the index as it was.
+    /// Adds the next entry of the history. Where memory runs out, the index is as it was.
     pub fn add(&mut self, e: &Entry) -> Result<(), Memory>
         requires { (book : SeenBook) × TakesNext self.old e.now book }
         ensures ok { OnOk result ((book : SeenBook) → TakesNext self.old e.now book → IsIndexOf self.new (grown book e.now)) }

@@ -116,7 +116,7 @@ pub fn at(n: AcctNo) -> usize
     n.0 as usize - 1
 }
 
-/// Adds a movement to an account's ledger. Out of memory leaves the ledgers as they were.
+/// Adds a movement to an account's ledger. Where memory runs out, the ledgers are as they were.
 pub fn push(ledgers: &mut Vec<Ledger>, n: AcctNo, movement: Movement) -> Result<(), Memory>
     requires from_one { 0 < n.0 }
     requires there { n.0 - 1 < length ledgers.old.items }

@@ -55,7 +55,7 @@ impl Movements {
         self.items.as_slice()
     }
 
-    /// Adds a movement at the end. Out of memory leaves them as they were.
+    /// Adds a movement at the end. Where memory runs out, they are as they were.
     pub fn push(&mut self, movement: Movement) -> Result<(), Memory>
         ensures ok { OnOk result (self.new ≡ self.old ++ movement ∷ []) }
         ensures err { OnErr result (self.new ≡ self.old) }
