@@ -1,6 +1,6 @@
 -- A row more in the index, and the one place that a test of a day finds.
-use Rattle.std.proofs.Common.{◌≡◌, ℕ, suc, ◌+◌, ◌-◌, ◌≤◌, ◌<◌, Bool, true, false, cond, ◌&&◌, List, [], ◌∷◌, ◌++◌, length, get_or, Option, Some, None, refl, sym, ap, ◌∙◌, subst, arith, inl, inr, ◌<ℤ◌, ◌≤ℤ◌}
-use Rattle.std.specs.Prelude.{All, Contains, filter, find, position, slice_get, int_le, int_lt}
+use Rattle.std.proofs.Common.{◌≡◌, ◌⊎◌, ℕ, zero, suc, ◌+◌, ◌-◌, ◌≤◌, ◌<◌, Bool, true, false, cond, ◌&&◌, List, [], ◌∷◌, ◌++◌, length, get_or, Option, Some, None, refl, sym, ap, ◌∙◌, subst, arith, inl, inr, ◌≤ℤ◌}
+use Rattle.std.specs.Prelude.{All, Contains, filter, find, position, slice_get}
 use Rattle.std.specs.List.{insert, list_any}
 use Rattle.std.specs.List.Sorted.{IsPartitionPoint, IsPermutation}
 use Rattle.std.specs.Option.{option_and_then, option_map_or}
@@ -8,12 +8,12 @@ use Rattle.std.specs.Str.{bytes_eq}
 use Rattle.std.proofs.lemmas.Bool.{cases_lt}
 use Rattle.std.proofs.lemmas.Bool.Decides.{nat_tests}
 use Rattle.std.proofs.lemmas.Int.{ints}
-use Rattle.std.proofs.lemmas.List.{get_or_append_left, get_or_default, length-append}
+use Rattle.std.proofs.lemmas.List.{get_or-append_right, get_or_append_left, get_or_default, length-append}
 use Rattle.std.proofs.lemmas.List.Elements.{All-cons, All-push}
-use Rattle.std.proofs.lemmas.Option.{get_or_from_slice_get, slice_get-get_or, slice_get_within}
+use Rattle.std.proofs.lemmas.Option.{slice_get-get_or, slice_get_cases}
 use Rattle.std.proofs.lemmas.List.Folds.{list_any_at}
 use Rattle.std.proofs.lemmas.List.Sorted.{All-permutation, Contains-permutation, IsPermutation-insert, IsPermutation-sym, list_any-IsPermutation}
-use Rattle.std.proofs.lemmas.List.Edits.{get_or-insert_above, get_or-insert_at, get_or-insert_below}
+use Rattle.std.proofs.lemmas.List.Edits.{get_or-insert_above, get_or-insert_at, get_or-insert_below, length-insert}
 use Rattle.corr_ids.specs.declared.day.Day.{Day}
 use Rattle.corr_money.specs.declared.amount.Ccy.{Ccy}
 use Rattle.ssi_versions.specs.declared.row.SsiRow.{SsiRow}
@@ -26,25 +26,26 @@ use Rattle.ssi_versions.proofs.Places.{asked_row, first_place, overlaps-key}
 -- what is found stands in the list and passes
 found : {A : Type 0} (test : A → Bool) (xs : List A) (x : A) → find test xs ≡ Some x → Contains xs x × (test x ≡ true)
 found test [] x e = absurd (cc e)
-found test (y ∷ ys) x e = go (test y) refl e
+found test (y ∷ ys) x e = go (test y) refl (λ f. found test ys x f) e
   where
-    go : (b : Bool) → test y ≡ b → cond b (Some y) (find test ys) ≡ Some x → Contains (y ∷ ys) x × (test x ≡ true)
-    go true is e =
+    go : (b : Bool) → test y ≡ b → (find test ys ≡ Some x → Contains ys x × (test x ≡ true)) → cond b (Some y) (find test ys) ≡ Some x → Contains (y ∷ ys) x × (test x ≡ true)
+    go true is later e =
         let same : y ≡ x = cc e in
         ((0, omega arith, same), subst (λ z. test z ≡ true) same is)
-    go false is e =
-        let rest = found test ys x e in
+    go false is later e =
+        let rest = later e in
         ((suc rest.0.0, omega (arith, rest.0.1), rest.0.2), rest.1)
 
 -- where none is found, none passes
 missed-at : {A : Type 0} (test : A → Bool) (xs : List A) → find test xs ≡ None → (k : ℕ) (d : A) → k < length xs → test (get_or xs k d) ≡ false
 missed-at test [] e k d lt = absurd (omega (arith, lt))
-missed-at test (y ∷ ys) e k d lt = go (test y) refl e k lt
+missed-at test (y ∷ ys) e k d lt = go (test y) refl (λ f i less. missed-at test ys f i d less) e k lt
   where
-    go : (b : Bool) → test y ≡ b → cond b (Some y) (find test ys) ≡ None → (k : ℕ) → k < length (y ∷ ys) → test (get_or (y ∷ ys) k d) ≡ false
-    go true is e k lt = absurd (cc e)
-    go false is e 0 lt = is
-    go false is e (suc k) lt = missed-at test ys e k d (omega (arith, lt))
+    go : (b : Bool) → test y ≡ b → (find test ys ≡ None → (i : ℕ) → i < length ys → test (get_or ys i d) ≡ false) → cond b (Some y) (find test ys) ≡ None
+        → (k : ℕ) → k < length (y ∷ ys) → test (get_or (y ∷ ys) k d) ≡ false
+    go true is later e k lt = absurd (cc e)
+    go false is later e zero lt = is
+    go false is later e (suc k) lt = later e k (omega (arith, lt))
 
 missed : {A : Type 0} (test : A → Bool) (xs : List A) (x : A) → find test xs ≡ None → Contains xs x → test x ≡ false
 missed test xs x e here = subst (λ y. test y ≡ false) here.2 (missed-at test xs e here.0 x here.1)
@@ -131,6 +132,16 @@ ends-before r x span begun apart = grind (arith, ints, nat_tests)
 begins-after : (r x : SsiRow) → HasSpan x → has_begun r.from x ≡ false → shares_a_day r x ≡ false → r.until.0 ≤ℤ x.from.0
 begins-after r x span waits apart = grind (arith, ints, nat_tests)
 
+-- the row by a place of the list
+taken-at : (rows : List SsiRow) (places : List ℕ) (i : ℕ) (a : SsiRow) → row_by rows places i ≡ Some a → (i < length places) × (slice_get rows (get_or places i 0) ≡ Some a)
+taken-at rows places i a e = elim ((slice_get_cases places i).1) [
+  | inl (p, lt, is, at) ↦ (lt, sym (ap (option_and_then (slice_get rows)) (slice_get-get_or places i 0 lt)) ∙ e)
+  | inr (past, none) ↦ absurd (cc (sym e ∙ ap (option_and_then (slice_get rows)) none))
+]
+
+by-at : (rows : List SsiRow) (places : List ℕ) (i : ℕ) (a : SsiRow) → i < length places → slice_get rows (get_or places i 0) ≡ Some a → row_by rows places i ≡ Some a
+by-at rows places i a lt e = ap (option_and_then (slice_get rows)) (slice_get-get_or places i 0 lt) ∙ e
+
 -- a row at the end of the table leaves the rows of places before it
 module _ (rows : List SsiRow) (r : SsiRow) (places : List ℕ) (span : HasSpan r) (order : IsInDayOrder rows places) where
   earlier : (p : ℕ) → p < length rows → slice_get (rows ++ r ∷ []) p ≡ slice_get rows p
@@ -138,15 +149,17 @@ module _ (rows : List SsiRow) (r : SsiRow) (places : List ℕ) (span : HasSpan r
       slice_get-get_or (rows ++ r ∷ []) p r (omega (arith, lt, length-append rows (r ∷ []))) ∙ ap (λ (x : SsiRow). Some x) (get_or_append_left rows (r ∷ []) r p lt) ∙ sym (slice_get-get_or rows p r lt)
 
   by-earlier : (i : ℕ) (a : SsiRow) → row_by (rows ++ r ∷ []) places i ≡ Some a → row_by rows places i ≡ Some a
-  by-earlier i a e = go (slice_get places i) refl e
+  by-earlier i a e =
+      let t = taken-at (rows ++ r ∷ []) places i a e in
+      by-at rows places i a t.0 (sym (earlier (get_or places i 0) (order.inside i 0 t.0)) ∙ t.1)
+
+  last : slice_get (rows ++ r ∷ []) (length rows) ≡ Some r
+  last = slice_get-get_or (rows ++ r ∷ []) (length rows) r (omega (arith, length-append rows (r ∷ []))) ∙ ap (λ (x : SsiRow). Some x) (get_or-append_right rows (r ∷ []) (length rows) (length rows) r refl (omega arith) ∙ first)
     where
-      go : (o : Option ℕ) → slice_get places i ≡ o → option_and_then (slice_get (rows ++ r ∷ [])) o ≡ Some a → row_by rows places i ≡ Some a
-      go None is e = absurd (cc e)
-      go (Some p) is e =
-          let lt = slice_get_within places i p is in
-          let place = get_or_from_slice_get places i p p is in
-          let within : p < length rows = rw place at (order.inside i p lt) in
-          rw is (sym (earlier p within) ∙ e)
+      first : get_or (r ∷ []) (length rows - length rows) r ≡ r
+      first =
+          let none : length rows - length rows ≡ 0 = omega arith in
+          ap (λ (k : ℕ). get_or (r ∷ []) k r) none
 
   -- it changes nothing for the places of another key
   pub order-kept : IsInDayOrder (rows ++ r ∷ []) places
@@ -183,11 +196,33 @@ module _ (rows : List SsiRow) (r : SsiRow) (places : List ℕ) (span : HasSpan r
         subst (λ (y : SsiRow). r.until.0 ≤ℤ y.from.0) same (high k 0 x le lt)
 
     -- what stands at a place of the longer list: what stood there, the new row, or what stood one before
-    Stood : ℕ → SsiRow → Type 0
+    abbrev Stood : ℕ → SsiRow → Type 0
     Stood i a = ((i < n) × (row_by rows places i ≡ Some a)) ⊎ (((i ≡ n) × (a ≡ r)) ⊎ ((n < i) × (i - 1 < length places) × (row_by rows places (i - 1) ≡ Some a)))
 
     stood : (i : ℕ) (a : SsiRow) → row_by (rows ++ r ∷ []) (insert places n (length rows)) i ≡ Some a → Stood i a
-    stood i a e = ?
+    stood i a e = elim (cases_lt i n) [
+      | inl low-i ↦
+          let within : i < length places = omega (arith, low-i, bound) in
+          let same = get_or-insert_below places n (length rows) 0 i low-i bound in
+          inl (low-i, by-at rows places i a within (sym (earlier (get_or places i 0) (order.inside i 0 within)) ∙ ap (slice_get (rows ++ r ∷ [])) (sym same) ∙ there.1))
+      | inr more ↦ elim (cases_lt n i) [
+        | inl high-i ↦
+            let end : i - 1 < length places = omega (arith, there.0, length-insert places n (length rows) bound) in
+            let past : n ≤ i - 1 = omega (arith, high-i) in
+            let next : i - 1 + 1 ≡ i = omega (arith, high-i) in
+            let same : get_or (insert places n (length rows)) i 0 ≡ get_or places (i - 1) 0 =
+            ap (λ (k : ℕ). get_or (insert places n (length rows)) k 0) (sym next) ∙ get_or-insert_above places n (length rows) 0 (i - 1) past bound in
+            inr (inr (high-i, end, by-at rows places (i - 1) a end (sym (earlier (get_or places (i - 1) 0) (order.inside (i - 1) 0 end)) ∙ ap (slice_get (rows ++ r ∷ [])) (sym same) ∙ there.1)))
+        | inr less ↦
+            let level : i ≡ n = omega (arith, more, less) in
+            let same : get_or (insert places n (length rows)) i 0 ≡ length rows =
+            ap (λ (k : ℕ). get_or (insert places n (length rows)) k 0) level ∙ get_or-insert_at places n (length rows) 0 bound in
+            inr (inl (level, cc (sym there.1 ∙ ap (slice_get (rows ++ r ∷ [])) same ∙ last)))
+      ]
+    ]
+      where
+        there : (i < length (insert places n (length rows))) × (slice_get (rows ++ r ∷ []) (get_or (insert places n (length rows)) i 0) ≡ Some a)
+        there = taken-at (rows ++ r ∷ []) (insert places n (length rows)) i a e
 
     rises : (i j : ℕ) (a b : SsiRow) → i < j → Stood i a → Stood j b → a.until.0 ≤ℤ b.from.0
     rises i j a b less (inl (low-i, is-a)) (inl (low-j, is-b)) = order.rise i j a b less is-a is-b
@@ -209,6 +244,3 @@ module _ (rows : List SsiRow) (r : SsiRow) (places : List ℕ) (span : HasSpan r
           All-permutation (λ p. p < length (rows ++ r ∷ [])) (length rows ∷ places) (insert places n (length rows)) (IsPermutation-insert places n (length rows)) more;
       rise = λ i j a b less at-i at-j. rises i j a b less (stood i a at-i) (stood j b at-j);
     }
-
--- stood: i < length (insert ..) by slice_get_within; cases of i against n by get_or-insert_below, get_or-insert_at, get_or-insert_above;
--- the row of a place before it by `earlier`, that of `length rows` is r (get_or-append_seam)

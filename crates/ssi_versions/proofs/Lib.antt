@@ -4,3 +4,4 @@ pub mod Standing
 pub mod Order
 pub mod Texts
 pub mod Entering
+pub mod Alone

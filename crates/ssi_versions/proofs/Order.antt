@@ -1,21 +1,20 @@
 -- Places in the order of their rows' days: a bisection finds the one row that can matter.
-use Rattle.std.proofs.Common.{◌≡◌, ℕ, suc, ◌+◌, ◌-◌, ◌≤◌, ◌<◌, Bool, true, false, cond, ◌&&◌, ◌||◌, List, [], ◌∷◌, ◌++◌, length, get_or, Option, Some, None, refl, sym, ap, ◌∙◌, subst, arith, inl, inr, ℤ, ◌<ℤ◌, ◌≤ℤ◌}
-use Rattle.std.specs.Prelude.{All, Contains, slice_get, find, position, int_le, int_lt}
+use Rattle.std.proofs.Common.{◌≡◌, ℕ, zero, suc, ◌+◌, ◌-◌, ◌≤◌, ◌<◌, Bool, true, false, cond, ◌||◌, List, [], ◌∷◌, length, get_or, take, Option, Some, None, Bor, is_some, refl, sym, ap, ◌∙◌, subst, arith, inl, inr, ◌≤ℤ◌}
+use Rattle.std.specs.Prelude.{All, IfSome, slice_get, find, nat_lt}
 use Rattle.std.specs.List.{list_any}
 use Rattle.std.specs.List.Sorted.{IsPartitionPoint, IsPartitionedBy}
-use Rattle.std.specs.Option.{option_and_then}
+use Rattle.std.specs.Option.{option_and_then, option_copied, option_map_or}
 use Rattle.std.proofs.lemmas.Bool.{cases_lt}
 use Rattle.std.proofs.lemmas.Bool.Decides.{nat_tests}
 use Rattle.std.proofs.lemmas.Int.{ints}
-use Rattle.std.proofs.lemmas.List.{get_or_default}
-use Rattle.std.proofs.lemmas.List.Folds.{list_any_none}
-use Rattle.std.proofs.lemmas.Option.{get_or_from_slice_get, slice_get-get_or, slice_get_within}
-use Rattle.std.specs.Str.{bytes_eq}
+use Rattle.std.proofs.lemmas.List.{get_or-take, get_or_default, length-take-le}
+use Rattle.std.proofs.lemmas.List.Folds.{list_any_at, list_any_none}
+use Rattle.std.proofs.lemmas.Option.{slice_get-get_or, slice_get_cases, slice_get_past}
 use Rattle.corr_ids.specs.declared.day.Day.{Day}
 use Rattle.corr_money.specs.declared.amount.Ccy.{Ccy}
 use Rattle.ssi_versions.specs.declared.row.SsiRow.{SsiRow}
 use Rattle.ssi_versions.specs.Index.{HasSpan, IsInDayOrder, has_begun, holds_at, row_by}
-use Rattle.ssi_versions.specs.Instruction.{is_asked, is_in_force}
+use Rattle.ssi_versions.specs.Instruction.{is_asked}
 use Rattle.ssi_versions.specs.Rows.{shares_a_day}
 
 -- where none passes, none is found
@@ -29,7 +28,7 @@ find-none test (x ∷ xs) d fails =
 pub find-sole : {A : Type 0} (test : A → Bool) (xs : List A) (m : ℕ) (d : A) → m < length xs → ((k : ℕ) → k < length xs → (k ≡ m → ⊥) → test (get_or xs k d) ≡ false)
     → find test xs ≡ cond (test (get_or xs m d)) (Some (get_or xs m d)) None
 find-sole test [] m d lt apart = absurd (omega (arith, lt))
-find-sole test (x ∷ xs) 0 d lt apart = go (test x) refl
+find-sole test (x ∷ xs) zero d lt apart = go (test x) refl
   where
     none : find test xs ≡ None
     none = find-none test xs d (λ k more. apart (suc k) (omega arith) (λ e. omega arith))
@@ -40,6 +39,34 @@ find-sole test (x ∷ xs) 0 d lt apart = go (test x) refl
 find-sole test (x ∷ xs) (suc m) d lt apart =
     let first : test x ≡ false = apart 0 (omega arith) (λ e. omega arith) in
     rw first (find-sole test xs m d (omega arith) (λ k more other. apart (suc k) (omega arith) (λ e. other (omega arith))))
+
+-- the last of the first n, if there is one
+last-begun : (places : List ℕ) (n d : ℕ) → 0 < n → n ≤ length places → slice_get (take n places) (length (take n places) - 1) ≡ Some (get_or places (n - 1) d)
+last-begun places n d some bound =
+    let long = length-take-le n places bound in
+    ap (λ (k : ℕ). slice_get (take n places) (k - 1)) long ∙ slice_get-get_or (take n places) (n - 1) d (omega (arith, some, long)) ∙ ap (λ (p : ℕ). Some p) (get_or-take n places (n - 1) d (omega (arith, some)))
+
+last-none : (places : List ℕ) (n : ℕ) → n ≡ 0 → slice_get (take n places) (length (take n places) - 1) ≡ None
+last-none places n e = rw e refl
+
+-- what a look at a place gives
+pub got : (xs : List ℕ) (i : ℕ) (r : Option (Bor ℕ)) → is_some r ≡ nat_lt i (length xs) → IfSome r (λ x. x.now ≡ get_or xs i x.now) → option_copied r ≡ slice_get xs i
+got xs i None size item =
+    let past : length xs ≤ i = grind (arith, nat_tests) in
+    sym (slice_get_past xs i past)
+got xs i (Some x) size item =
+    let within : i < length xs = grind (arith, nat_tests) in
+    ap (λ (p : ℕ). Some p) item ∙ sym (slice_get-get_or xs i x.now within)
+
+-- the test of the item at a place, false where there is none
+any-here : (test : ℕ → Bool) (xs : List ℕ) (i : ℕ) → option_map_or test (slice_get xs i) false ≡ true → list_any test xs ≡ true
+any-here test xs i e = elim ((slice_get_cases xs i).1) [
+  | inl (x, lt, is, at) ↦ list_any_at test xs i x lt (ap test at ∙ sym (ap (λ (o : Option ℕ). option_map_or test o false) is) ∙ e)
+  | inr (past, none) ↦ absurd (cc (sym (ap (λ (o : Option ℕ). option_map_or test o false) none) ∙ e))
+]
+
+none-here : (test : ℕ → Bool) (xs : List ℕ) (i d : ℕ) → option_map_or test (slice_get xs i) false ≡ false → i < length xs → test (get_or xs i d) ≡ false
+none-here test xs i d e lt = sym (ap (λ (o : Option ℕ). option_map_or test o false) (slice_get-get_or xs i d lt)) ∙ e
 
 -- the tests of days, of two rows of which the first has ended when the second begins
 begun-before : (a b : SsiRow) (day : Day) → HasSpan a → a.until.0 ≤ℤ b.from.0 → has_begun day b ≡ true → has_begun day a ≡ true
@@ -117,22 +144,43 @@ module _ (rows : List SsiRow) (places : List ℕ) (order : IsInDayOrder rows pla
       ]
 
       -- no row has begun
-      pub asked-none : n ≡ 0 → find (holds_at (is_asked ccy bank day) rows) places ≡ None
+      asked-none : n ≡ 0 → find (holds_at (is_asked ccy bank day) rows) places ≡ None
       asked-none e = find-none (holds_at (is_asked ccy bank day) rows) places d (λ k lt. not-asked k lt (λ same. omega (arith, e, same)))
 
       -- the last that has begun decides
-      pub asked-last : 0 < n → find (holds_at (is_asked ccy bank day) rows) places
+      asked-last : 0 < n → find (holds_at (is_asked ccy bank day) rows) places
           ≡ cond (holds_at (is_asked ccy bank day) rows (get_or places (n - 1) d)) (Some (get_or places (n - 1) d)) None
       asked-last some =
           find-sole (holds_at (is_asked ccy bank day) rows) places (n - 1) d (omega arith) (λ k lt other. not-asked k lt (λ same. other (omega (arith, same))))
 
+      -- it is the one to test
+      asked-by : option_and_then (λ p. cond (holds_at (is_asked ccy bank day) rows p) (Some p) None) (slice_get (take n places) (length (take n places) - 1))
+          ≡ find (holds_at (is_asked ccy bank day) rows) places
+      asked-by = elim (cases_lt 0 n) [
+        | inl some ↦ ap (option_and_then (λ p. cond (holds_at (is_asked ccy bank day) rows p) (Some p) None)) (last-begun places n d some bound) ∙ sym (asked-last some)
+        | inr none ↦
+            let zero : n ≡ 0 = omega (arith, none) in
+            ap (option_and_then (λ p. cond (holds_at (is_asked ccy bank day) rows p) (Some p) None)) (last-none places n zero) ∙ sym (asked-none zero)
+      ]
+
+      -- no place, no row that has begun
+      pub none-asked : None ≡ slice_get (take n places) (length (take n places) - 1) → None ≡ find (holds_at (is_asked ccy bank day) rows) places
+      none-asked e = ap (option_and_then (λ p. cond (holds_at (is_asked ccy bank day) rows p) (Some p) None)) e ∙ asked-by
+
+      -- the row of a place, asked for or not
+      pub last-asked : (p : ℕ) (b : Bool) → Some p ≡ slice_get (take n places) (length (take n places) - 1) → holds_at (is_asked ccy bank day) rows p ≡ b
+          → cond b (Some p) None ≡ find (holds_at (is_asked ccy bank day) rows) places
+      last-asked p b e test =
+          let decided = ap (option_and_then (λ q. cond (holds_at (is_asked ccy bank day) rows q) (Some q) None)) e ∙ asked-by in
+          subst (λ (c : Bool). cond c (Some p) None ≡ find (holds_at (is_asked ccy bank day) rows) places) test decided
+
   module _ (row : SsiRow) (n : ℕ) (d : ℕ) (bound : n ≤ length places)
       (point : IsPartitionPoint (λ p. holds_at (has_begun row.from) rows p ≡ true) (λ p. holds_at (has_begun row.from) rows p ≡ false) places n) where
-    shares : ℕ → Bool
+    abbrev shares : ℕ → Bool
     shares = holds_at (shares_a_day row) rows
 
     -- no row shares a day, where neither the last that has begun nor the next does
-    pub apart-all : (0 < n → shares (get_or places (n - 1) d) ≡ false) → (n < length places → shares (get_or places n d) ≡ false)
+    apart-all : (0 < n → shares (get_or places (n - 1) d) ≡ false) → (n < length places → shares (get_or places n d) ≡ false)
         → (k : ℕ) → k < length places → shares (get_or places k d) ≡ false
     apart-all last next k lt = elim (cases_lt k n) [
       | inl less ↦ elim (cases_lt (k + 1) n) [
@@ -161,8 +209,7 @@ module _ (rows : List SsiRow) (places : List ℕ) (order : IsInDayOrder rows pla
     either false true r first second none = sym (second refl)
     either false false r first second none = sym (none refl refl)
 
-    -- two neighbours tell whether any shares a day
-    pub shares-near : (b c : Bool) → (b ≡ true → list_any shares places ≡ true) → (c ≡ true → list_any shares places ≡ true)
+    shares-near : (b c : Bool) → (b ≡ true → list_any shares places ≡ true) → (c ≡ true → list_any shares places ≡ true)
         → (b ≡ false → 0 < n → shares (get_or places (n - 1) d) ≡ false) → (c ≡ false → n < length places → shares (get_or places n d) ≡ false)
         → (b || c) ≡ list_any shares places
     shares-near b c first second last next =
@@ -170,3 +217,30 @@ module _ (rows : List SsiRow) (places : List ℕ) (order : IsInDayOrder rows pla
       where
         all-from : ((k : ℕ) → k < length places → shares (get_or places k d) ≡ false) → All (λ p. shares p ≡ false) places
         all-from h k e lt = subst (λ (p : ℕ). shares p ≡ false) (get_or_default places k d e lt) (h k lt)
+
+    abbrev last-shares : Bool
+    last-shares = option_map_or shares (slice_get (take n places) (length (take n places) - 1)) false
+
+    last-is : 0 < n → last-shares ≡ shares (get_or places (n - 1) d)
+    last-is some = ap (λ (o : Option ℕ). option_map_or shares o false) (last-begun places n d some bound)
+
+    last-any : last-shares ≡ true → list_any shares places ≡ true
+    last-any e = elim (cases_lt 0 n) [
+      | inl some ↦ list_any_at shares places (n - 1) d (omega (arith, some, bound)) (sym (last-is some) ∙ e)
+      | inr none ↦
+          let zero : n ≡ 0 = omega (arith, none) in
+          absurd (cc (sym (ap (λ (o : Option ℕ). option_map_or shares o false) (last-none places n zero)) ∙ e))
+    ]
+
+    -- two neighbours tell whether any shares a day
+    shares-by : (option_map_or (holds_at (shares_a_day row) rows) (slice_get (take n places) (length (take n places) - 1)) false || option_map_or (holds_at (shares_a_day row) rows) (slice_get places n) false)
+        ≡ list_any (holds_at (shares_a_day row) rows) places
+    shares-by =
+        shares-near last-shares (option_map_or shares (slice_get places n) false) last-any (any-here shares places n) (λ e some. sym (last-is some) ∙ e) (λ e lt. none-here shares places n d e lt)
+
+    -- where the last that has begun shares none, the next one tells
+    pub next-shares : (o p : Option ℕ) → o ≡ slice_get (take n places) (length (take n places) - 1) → p ≡ slice_get places n → option_map_or (holds_at (shares_a_day row) rows) o false ≡ false
+        → option_map_or (holds_at (shares_a_day row) rows) p false ≡ list_any (holds_at (shares_a_day row) rows) places
+    next-shares o p e f fails =
+        ap (λ (b : Bool). b || option_map_or shares p false) (sym fails) ∙ ap (λ (q : Option ℕ). option_map_or shares o false || option_map_or shares q false) f
+        ∙ ap (λ (q : Option ℕ). option_map_or shares q false || option_map_or shares (slice_get places n) false) e ∙ shares-by

@@ -1,6 +1,6 @@
 -- The places of the rows that have a key tell where a row is found.
-use Rattle.std.proofs.Common.{◌≡◌, ℕ, suc, ◌+◌, Bool, true, false, cond, ◌&&◌, List, [], ◌∷◌, ◌++◌, length, Option, Some, None, refl, sym, ap, ◌∙◌, subst, arith}
-use Rattle.std.specs.Prelude.{slice_get, find, filter, position, int_le, int_lt, if◌then◌else◌}
+use Rattle.std.proofs.Common.{◌≡◌, ℕ, suc, ◌+◌, Bool, true, false, cond, ◌&&◌, List, [], ◌∷◌, ◌++◌, length, Option, Some, None, unwrap_or, refl, sym, ap, ◌∙◌, subst, arith}
+use Rattle.std.specs.Prelude.{All, slice_get, find, filter, position, int_le, int_lt, if◌then◌else◌}
 use Rattle.std.specs.List.{position_from}
 use Rattle.std.specs.Map.{lookup}
 use Rattle.std.specs.Global.{Vec}
@@ -10,7 +10,8 @@ use Rattle.std.specs.Option.{option_and_then, option_map_or}
 use Rattle.std.specs.Str.{bytes_eq}
 use Rattle.std.proofs.lemmas.Iterator.Adapters.{position_from-zero}
 use Rattle.std.proofs.lemmas.List.{append-nil}
-use Rattle.std.proofs.lemmas.List.Sorted.{IsPermutation-cons, IsPermutation-insert, IsPermutation-refl, IsPermutation-to_front, IsPermutation-trans}
+use Rattle.std.proofs.lemmas.List.Elements.{All-cons, All-nil}
+use Rattle.std.proofs.lemmas.List.Sorted.{All-permutation, IsPermutation-cons, IsPermutation-insert, IsPermutation-refl, IsPermutation-to_front, IsPermutation-trans}
 use Rattle.std.proofs.lemmas.Slice.Eq.{bytes_eq-Decides}
 use Rattle.corr_ids.specs.declared.day.Day.{Day}
 use Rattle.corr_money.specs.declared.amount.Ccy.{Ccy}
@@ -45,6 +46,21 @@ one-more : (H : ℕ → Bool) (k : ℕ) (ps : List ℕ) (o : Option ℕ) (s m : 
 one-more H k ps o true m at inside rest = rw (at, rest) refl
 one-more H k ps o false true at inside rest = absurd (cc (inside refl))
 one-more H k ps o false false at inside rest = rest
+
+one-passes : (P : ℕ → Type 0) (k : ℕ) (ps : List ℕ) (b : Bool) → (b ≡ true → P k) → All P ps → All P (cond b (k ∷ ps) ps)
+one-passes P k ps true holds all = All-cons P k ps (holds refl) all
+one-passes P k ps false holds all = all
+
+all-pass : {A : Type 0} (test : A → Bool) (whole : List A) (k : ℕ) (xs : List A) → GoesOn whole k xs → All (λ p. holds_at test whole p ≡ true) (places_where test k xs)
+unfolding places_where
+all-pass test whole k [] h = All-nil (λ p. holds_at test whole p ≡ true)
+all-pass test whole k (x ∷ xs) h =
+    one-passes (λ p. holds_at test whole p ≡ true) k (places_where test (k + 1) xs) (test x) (λ e. passes test whole k x (stands whole k x xs h) ∙ e)
+    (all-pass test whole (k + 1) xs (goes-on whole k x xs h))
+
+-- the item at each place passes, in whatever order the places stand
+pub places-pass : {A : Type 0} (test : A → Bool) (xs : List A) (places : List ℕ) → IsPermutation (places_where test 0 xs) places → All (λ p. holds_at test xs p ≡ true) places
+places-pass test xs places moved = All-permutation (λ p. holds_at test xs p ≡ true) (places_where test 0 xs) places moved (all-pass test xs 0 xs (whole-is xs))
 
 -- where each item that meets a test has the key, the first place of the key whose item meets it is the first of all
 find-places : {A : Type 0} (same meets : A → Bool) → ((x : A) → meets x ≡ true → same x ≡ true) → (whole : List A) (k : ℕ) (xs : List A) → GoesOn whole k xs
@@ -148,6 +164,11 @@ module _ (rows : List SsiRow) (r : SsiRow) (old new : List (List ℕ × Vec ℕ)
 items-or : (b : Bool) (v : Vec ℕ) (o : Option (Vec ℕ)) → option_map_or (λ x. x.items) (cond b (Some v) o) [] ≡ cond b v.items (option_map_or (λ x. x.items) o [])
 items-or true v o = refl
 items-or false v o = refl
+
+-- the places that stand, or none
+pub items-else : (o : Option (Vec ℕ)) (v : Vec ℕ) → v.items ≡ [] → (unwrap_or o v).items ≡ option_map_or (λ x. x.items) o []
+items-else None v e = e
+items-else (Some w) v e = refl
 
 -- what the groups are after a write at a key
 pub notes_place : (old new : List (List ℕ × Vec ℕ)) (key : List ℕ) (at place : ℕ) (v : Vec ℕ) → v.items ≡ insert (places_under old key) at place

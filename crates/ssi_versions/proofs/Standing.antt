@@ -138,9 +138,8 @@ is-instruction t earlier row form s =
     record { form = form; bank = known.0; via = known.1; ccy = s.ccy; span = before _ _ s.span }
 
 -- an instruction that overlaps none before it overlaps each of them not
-none-overlaps : (a : SsiRow) (earlier : List SsiRow) (k : ℕ) (d : SsiRow) → overlap a earlier ≡ None → k < length earlier → overlaps a (get_or earlier k d) ≡ false
-none-overlaps a earlier k d e lt =
-    none-meets (overlaps a) earlier k d (ap (option_map (λ i. why.Double (i + 1))) (map-none _ (position (overlaps a) earlier) e)) lt
+pub none-overlaps : (a : SsiRow) (earlier : List SsiRow) (k : ℕ) (d : SsiRow) → position (overlaps a) earlier ≡ None → k < length earlier → overlaps a (get_or earlier k d) ≡ false
+none-overlaps a earlier k d e lt = none-meets (overlaps a) earlier k d (ap (option_map (λ i. why.Double (i + 1))) e) lt
 
 -- two that are in force on one day, for one currency and one bank text, overlap
 same-bytes : (xs ys : List ℕ) → xs ≡ ys → bytes_eq xs ys ≡ true
@@ -181,7 +180,8 @@ module _ (t : Tables) (rows : List Cells) (fine : first_bad_row (against instruc
       let short : i < length (take j rows) = omega (arith, length-take-le j rows (omega arith)) in
       let inside : i < length (map instruction_of (take j rows)) = simp length-map short in
       let s = stands t (map instruction_of (take j rows)) (instruction_of (get_or rows j d)) ((both-none _ _ (row-fine j d end)).1) in
-      let met = none-overlaps (instruction_of (get_or rows j d)) (map instruction_of (take j rows)) i (instruction_of d) s.alone inside in
+      let alone = map-none _ (position (overlaps (instruction_of (get_or rows j d))) (map instruction_of (take j rows))) s.alone in
+      let met = none-overlaps (instruction_of (get_or rows j d)) (map instruction_of (take j rows)) i (instruction_of d) alone inside in
       rw (get_or-map instruction_of (take j rows) i d (instruction_of d) short, get_or-take j rows i d lt) at met
 
   -- the row of an instruction

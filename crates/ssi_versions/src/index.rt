@@ -116,7 +116,7 @@ pub fn begun_by(rows: &[SsiRow], places: &[usize], day: Day) -> usize
 }
 
 fn shares_a_day_at(rows: &[SsiRow], place: Option<&usize>, row: &SsiRow) -> bool
-    ensures { result ≡ option_map_or (holds_at (shares_a_day row.now) rows.now) (option_copied place) false }
+    ensures { result ≡ option_map_or (holds_at (shares_a_day row.now) rows.now) (option_copied place.entry) false }
 {
     match place {
         Some(at) => match rows.get(*at) {

@@ -1,4 +1,4 @@
-use Rattle.std.proofs.Common.{◌≡◌, ◌∙◌}
+use Rattle.std.proofs.Common.{◌∙◌}
 use Rattle.ssi_versions.proofs.Places.{places-none, places-some}
 use Rattle.ssi_versions.proofs.index.places_of.Goals as goal
 

@@ -1,7 +1,15 @@
-use Rattle.std.proofs.Common.{◌≡◌, ◌∙◌, sym}
+use Rattle.std.proofs.Common.{◌≡◌, ◌∙◌, false, sym}
+use Rattle.std.specs.List.{list_any}
+use Rattle.std.specs.List.Sorted.{IsPermutation}
+use Rattle.ssi_versions.specs.Index.{has_bank_key, holds_at, key_by_bank, places_where}
+use Rattle.ssi_versions.specs.Rows.{shares_a_day}
 use Rattle.ssi_versions.proofs.Entering.{overlaps-none}
 use Rattle.ssi_versions.proofs.ssi.Ssi.first_overlap.Goals as goal
 
--- the answer None: overlaps-none; the other: what `position` of an iterator ensures (auto may do it)
-pub returns-then : goal.returns-then
-returns-then c = sym (overlaps-none c.args.row.now c.args.self.now c.places.result.now ? ?)
+pub returns-then-not-shares_any_day : goal.returns-then-not-shares_any_day
+returns-then-not-shares_any_day c =
+    let row = c.args.row.now in
+    let rows : c.as_slice-rows.result.now ≡ c.args.self.now = c.as_slice-rows.ensures.value ∙ c.self.view_is in
+    let moved : IsPermutation (places_where (has_bank_key (key_by_bank row.ccy.0 row.bank)) 0 c.args.self.now) c.places.result.now = rw c.bytes.ensures at c.places.ensures.all in
+    let none : list_any (holds_at (shares_a_day row) c.args.self.now) c.places.result.now ≡ false = rw rows at (sym c.shares_any_day.ensures ∙ c.if-not-shares_any_day.true) in
+    sym (overlaps-none row c.args.self.now c.places.result.now moved none)
