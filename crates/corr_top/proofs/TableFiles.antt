@@ -1,10 +1,7 @@
 -- Tables that are read one after another, and how that stops.
 use Rattle.std.proofs.Common.{◌≡◌, inl, inr, ℕ, List, [], ◌∷◌, Option, refl, sym, ap, ◌∙◌, subst}
 use Rattle.std.specs.Prelude.{map, pos}
-use Rattle.ref_tables.specs.declared.fault.TableFault.{TableFault}
-use Rattle.ref_tables.specs.declared.fault.TableFault.TheVariants as table
 use Rattle.ref_tables.specs.declared.fault.TableName.TheVariants as names
-use Rattle.ref_tables.specs.Refusals.{Tells}
 use Rattle.ref_tables.specs.Rows.{rows_of}
 use Rattle.ref_tables.specs.Tables.{ccy_of, country_in_row}
 use Rattle.ref_tables.specs.declared.account.AccountRow.{AccountRow}
@@ -25,13 +22,13 @@ use Rattle.corr_top.specs.declared.reading.ReadStop.TheVariants as stop
 use Rattle.corr_top.specs.declared.tables.TableStop.{TableStop}
 use Rattle.corr_top.specs.Inputs.{Inputs, accounts_in, directory_in, instructions_in, opened, tables_in}
 use Rattle.corr_top.specs.Passing.{Bad, Balances, IsFine, StopsAtSums, StopsAtTable, TellsDecimals}
-use Rattle.corr_top.specs.Reading.{IsStopped, Took}
+use Rattle.corr_top.specs.Reading.{IsStopped}
 use Rattle.corr_top.specs.Steps.{Step}
 use Rattle.corr_top.specs.Tables.{AreUntouched, HasAccounts, PassesTables, StopsAccounts, StopsAtTables, StopsDirectory, StopsKnown, known_steps}
 use Rattle.corr_top.proofs.Walking.{halts_front}
 use Rattle.corr_top.specs.declared.room.Tables.{Tables as Files}
 use Rattle.corr_top.specs.declared.status.Status.TheVariants as no_memory
-use Rattle.corr_top.specs.Stops.{status_of_table, table_stop_of_fault, table_stop_of_read}
+use Rattle.corr_top.specs.Stops.{status_of_table, table_stop_of_read}
 
 -- tables with other currencies, or other countries
 abbrev pub with_ccys : List ℕ → Tables → Tables
@@ -41,11 +38,6 @@ abbrev pub with_countries : List ℕ → Tables → Tables
 with_countries file t = record t { countries = map country_in_row (rows_of file) }
 
 module _ {S : Type 0} (source : sources.Ghosts S) (old new : S) where
-  -- a table that was read has this fault, or memory ran out
-  pub table_stopped : (file : List ℕ) (fault : Option Bad) (e : TableFault) → Took source.left source.faults 8388608 old new file → Tells fault e → StopsAtTable source old new file fault (table_stop_of_fault e)
-  table_stopped file fault (table.Bad name row why) took is = (took, is)
-  table_stopped file fault table.Memory took is = took.kept
-
   -- it was not read
   pub read_stopped : (file : List ℕ) (fault : Option Bad) (s : ReadStop) → IsStopped source.faults old new s → StopsAtTable source old new file fault (table_stop_of_read s)
   read_stopped file fault (stop.Fault then now) why = why
