@@ -188,12 +188,14 @@ pub fn reconcile<S: Source, K: Sink, D: Disk>(
     let (book, _) = match open_journal(alloc, room.disk) {
         Ok(opened) => opened,
         Err((disk, fault)) => {
+            let_go(tables);
             room.disk = disk;
             return (room, Err(Status::from(fault)));
         }
     };
     let source = &mut room.received;
     let texts = tell_breaks(alloc, &tables, book.accounts(), book.history(), source);
+    let_go(tables);
     room.disk = close_journal(book);
     (room, texts)
 }

@@ -32,7 +32,7 @@ use corr_disk::Disk;
 use corr_ids::Day;
 use corr_io::{Sink, Source};
 use corr_report::{put_reply_line, put_report_end};
-use corr_text::{Decimal, Memory, Text};
+use corr_text::{Decimal, Memory, Text, let_go};
 use day_model::{Accounts, History, Reply};
 use std::alloc::Global;
 use std::sync::Wait;
@@ -117,6 +117,13 @@ fn texts_of<D: Disk + Drop>(
     Ok(make_texts(alloc, &day.accounts, &day.history, count, served, room)?)
 }
 
+/// The disk of books that were closed.
+fn into_disk<D: Disk>(closed: Closed<D>) -> D
+    ensures { result ≡ closed.disk }
+{
+    closed.disk
+}
+
 /// The disk and the texts of a day that was served, or why there are none. The disk's count of faults was `before` at the
 /// opening, and the history then had `count` entries. The report is made in the memory of `room`.
 fn end_day<D: Disk + Drop>(
@@ -136,9 +143,9 @@ fn end_day<D: Disk + Drop>(
     match served {
         Ok(served) => {
             let texts = texts_of(alloc, &closed, served, before, count, room);
-            (closed.disk, texts)
+            (into_disk(closed), texts)
         }
-        Err(memory) => (closed.disk, Err(Status::from(memory))),
+        Err(memory) => (into_disk(closed), Err(Status::from(memory))),
     }
 }
 
@@ -200,12 +207,14 @@ pub fn run<R: Wait + Threads + Sync, S: Source, K: Sink, D: Disk + Drop + Send, 
     let opened = match open_books(alloc, room.disk, day) {
         Ok(opened) => opened,
         Err((disk, fault)) => {
+            let_go(directory);
             room.disk = disk;
             return (room, Err(Status::from(fault)));
         }
     };
     let source = &mut room.messages;
     let (disk, texts) = run_day(rt, alloc, &directory, source, opened, before, workers, gate);
+    let_go(directory);
     room.disk = disk;
     (room, texts)
 }

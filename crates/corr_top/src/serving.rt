@@ -89,8 +89,9 @@ fn serve_named<
     let worked = run_jobs(rt, alloc, &desk, staff, messages, gate);
     let RunDesk { books, .. } = desk;
     vacate(&mut back, worked.passes);
-    let Ok(closed) = books.close(back) else {
-        unreachable!()
+    let closed = match books.close(back) {
+        Ok(closed) => closed,
+        Err(_) => unreachable!(),
     };
     Ok(ServedDay {
         closed,

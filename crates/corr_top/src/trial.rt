@@ -135,10 +135,10 @@ fn run_trial<R: Wait + Threads + Sync, G: Gate + Sync>(
     ensures served { IfOk result (λ closed. ServesTrial count seed closed.accounts closed.history.entries) }
     ensures journal { IfOk result (λ closed. Rose 0 (⟦<MemDisk as Disk>⟧.faults closed.disk) ⊎ IsOnDisk ⟦<MemDisk as Disk>⟧ closed.disk sample_chart closed.history.entries) }
 {
-    let directory = sample_directory(alloc)?;
-    let opened = sample_books(alloc)?;
     let text = generated(alloc, count, seed)?;
     let messages = cut_day(alloc, text.bytes())?;
+    let directory = sample_directory(alloc)?;
+    let opened = sample_books(alloc)?;
     let messages = messages.into_vec();
     match serve_all(rt, alloc, &directory, opened, workers, messages, gate) {
         Ok(day) => {

@@ -62,7 +62,7 @@ unreachable-requires g c =
     let after = worked.result.passes.items in
     let back = all_back o reading c.args.messages.items (λ v. v.items) c.in-Ok-books.made.1.items c.seat.new.workers.items after c.seat.ensures worked.result.replies worked.ensures.served worked.ensures.none in
     let given : length c.vacate.new.passes.items ≡ length after = ap length c.vacate.ensures ∙ length-map after (λ (w : Worker). w.pass) in
-    c.in_default-close.ensures.fault.1 (omega (arith, count, back, given))
+    c.in-Err-close.ensures.fault.1 (omega (arith, count, back, given))
 
 pub returns-clause-served : goal.returns-clause-served
 returns-clause-served g c =
