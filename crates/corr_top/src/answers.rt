@@ -10,7 +10,7 @@ use crate::desk::{Halt, Served};
 use crate::status::Status;
 
 /// Why the pays of a file were not all entered.
-#[derive(Clone, Copy, Debug, PartialEq, Eq)]
+#[derive(Clone, Copy)]
 pub enum BookStop {
     /// The disk failed: its count of faults at the opening and at the close.
     DiskFault { before: u64, after: u64 },

@@ -20,7 +20,7 @@ const FILE_LIMIT: usize = 67_108_864;
 const MESSAGE_LIMIT: u32 = 50_000;
 
 /// Why a message file was not taken.
-#[derive(Clone, Copy, Debug, PartialEq, Eq)]
+#[derive(Clone, Copy)]
 pub enum FileStop {
     /// Its source failed: the count of faults before and after.
     Fault { before: u64, after: u64 },

@@ -32,7 +32,7 @@ use std::sync::Wait;
 use work_pool::{Desk, Gate};
 
 /// Why a worker serves no more.
-#[derive(Clone, Copy, Debug, PartialEq, Eq)]
+#[derive(Clone, Copy)]
 pub enum Halt {
     /// The disk failed over a pay of the worker's.
     Disk,
@@ -43,7 +43,7 @@ pub enum Halt {
 }
 
 /// What a worker made of a message.
-#[derive(Debug, Drop)]
+#[derive(Drop)]
 pub enum Served {
     /// The message has this reply: its pay is entered, or another one of its reference is, or it gives none.
     Reply(Reply),

@@ -24,7 +24,7 @@ use std::alloc::Global;
 pub const P37: Code = Code(*b"P37");
 
 /// Why a message gives no pay.
-#[derive(Clone, Copy, Debug, PartialEq, Eq)]
+#[derive(Clone, Copy)]
 pub enum NoPay {
     /// It fails this test.
     Refused { mir: Option<Mir>, fault: Fault },
@@ -33,7 +33,7 @@ pub enum NoPay {
 }
 
 /// Why no pay is read: the message gives none, or memory ran out.
-#[derive(Clone, Copy, Debug, PartialEq, Eq)]
+#[derive(Clone, Copy)]
 pub enum Stop {
     NoPay(NoPay),
     Memory,

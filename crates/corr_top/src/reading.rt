@@ -11,7 +11,7 @@ use std::alloc::{AllocError, Global};
 const CHUNK: usize = 65536;
 
 /// Why a source was not read: its count of faults rose by one, from `before` to `after`, or memory ran out.
-#[derive(Debug, Drop)]
+#[derive(Drop)]
 pub enum ReadStop {
     Fault { before: u64, after: u64 },
     Memory,

@@ -37,7 +37,7 @@ use ref_tables::RefTables;
 use std::alloc::Global;
 
 /// What a received message is: a page of a statement, or this reply.
-#[derive(Debug, Drop)]
+#[derive(Drop)]
 pub enum Read {
     Page(Page950),
     Other(Reply),

@@ -19,7 +19,7 @@ use crate::room::Tables;
 use crate::status::Status;
 use corr_ids::Bic;
 use corr_io::Source;
-use corr_text::Text;
+use corr_text::{Text, let_go};
 use ref_tables::{
     AccountRow, RefTables, TableFault, TableName, Why, read_accounts, read_banks, with_countries,
     with_currencies,
@@ -31,7 +31,7 @@ use std::alloc::Global;
 pub const TABLE_LIMIT: usize = 8_388_608;
 
 /// Why a table was not taken.
-#[derive(Clone, Copy, Debug, PartialEq, Eq)]
+#[derive(Clone, Copy)]
 pub enum TableStop {
     /// Its source failed: the count of faults before and after.
     Fault {
@@ -116,7 +116,13 @@ fn read_ccys<S: Source>(
         × (more ≡ record known { ccys = map ccy_of (rows_of ccys) })) }
     ensures stopped { IfErr result (λ stop. (ccys : List ℕ) × StopsAtTable S.Source source.old source.new ccys (named names.Ccys (ccys_fault ccys)) stop) }
 {
-    let file = read_table(alloc, source)?;
+    let file = match read_table(alloc, source) {
+        Ok(file) => file,
+        Err(stop) => {
+            let_go(known);
+            return Err(stop);
+        }
+    };
     Ok(with_currencies(alloc, known, file.bytes())?)
 }
 
@@ -131,7 +137,13 @@ fn read_countries<S: Source>(
     ensures few { IfOk result (λ more. IsTrue (few_decimals more.ccys)) }
     ensures stopped { IfErr result (λ stop. (countries : List ℕ) × StopsAtTable S.Source source.old source.new countries (named names.Countries (countries_fault countries)) stop) }
 {
-    let file = read_table(alloc, source)?;
+    let file = match read_table(alloc, source) {
+        Ok(file) => file,
+        Err(stop) => {
+            let_go(known);
+            return Err(stop);
+        }
+    };
     Ok(with_countries(alloc, known, file.bytes())?)
 }
 

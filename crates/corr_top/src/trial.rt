@@ -30,7 +30,7 @@ use corr_books::{Closed, Opened, open_books};
 use corr_disk::{Disk, MemDisk};
 use corr_io::MemSource;
 use corr_report::{generated, summary};
-use corr_text::{List, Memory, Text};
+use corr_text::{List, Memory, Text, let_go};
 use day_model::{Account, Accounts, AcctNo, Entry, History, Outcome, totals};
 use fin_frame::Framed;
 use std::alloc::Global;
@@ -64,7 +64,9 @@ fn sample_directory(alloc: Global) -> Result<Directory, Memory>
     ensures instructions { IfOk result (λ directory. AreInstructions directory.tables directory.ssi) }
 {
     let mut tables = sample_tables(alloc)?;
-    match read_directory(alloc, &mut tables) {
+    let directory = read_directory(alloc, &mut tables);
+    let_go(tables);
+    match directory {
         Ok(directory) => Ok(directory),
         Err(_) => Err(Memory),
     }
@@ -75,7 +77,9 @@ fn sample_head(alloc: Global) -> Result<Text, Memory>
     ensures { IfOk result (λ head. (head ≡ head_bytes sample_chart) × IsHead sample_chart) }
 {
     let mut tables = sample_tables(alloc)?;
-    match prepare(alloc, sample_home(), &mut tables) {
+    let prepared = prepare(alloc, sample_home(), &mut tables);
+    let_go(tables);
+    match prepared {
         Ok(prepared) => Ok(prepared.head),
         Err(_) => Err(Memory),
     }
@@ -138,9 +142,17 @@ fn run_trial<R: Wait + Threads + Sync, G: Gate + Sync>(
     let text = generated(alloc, count, seed)?;
     let messages = cut_day(alloc, text.bytes())?;
     let directory = sample_directory(alloc)?;
-    let opened = sample_books(alloc)?;
+    let opened = match sample_books(alloc) {
+        Ok(opened) => opened,
+        Err(memory) => {
+            let_go(directory);
+            return Err(memory);
+        }
+    };
     let messages = messages.into_vec();
-    match serve_all(rt, alloc, &directory, opened, workers, messages, gate) {
+    let served = serve_all(rt, alloc, &directory, opened, workers, messages, gate);
+    let_go(directory);
+    match served {
         Ok(day) => {
             let ServedDay { closed, .. } = day;
             Ok(closed)
@@ -241,7 +253,9 @@ fn trial_texts<R: Wait + Threads + Sync, G: Gate + Sync>(
     ensures { IfOk result (IsTrial count seed) }
 {
     let closed = run_trial(rt, alloc, count, seed, workers, gate)?;
-    let report = sum_up(alloc, count, &closed.accounts, &closed.history)?;
+    let summed = sum_up(alloc, count, &closed.accounts, &closed.history);
+    let_go(closed);
+    let report = summed?;
     let out = Text::from_bytes(alloc, b"")?;
     Ok(Texts { report, out })
 }

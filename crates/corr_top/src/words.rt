@@ -13,7 +13,7 @@ use corr_ids::{Bic, Day, day_from_yymmdd, read_bic};
 use corr_text::{Text, digits};
 
 /// What the words say.
-#[derive(Clone, Copy, Debug, PartialEq, Eq)]
+#[derive(Clone, Copy)]
 pub enum Command {
     /// `run DATE WORKERS`: answers the messages of the message file on a day, with so many workers.
     Run { day: Day, workers: u32 },
@@ -24,7 +24,7 @@ pub enum Command {
 }
 
 /// The commands that wait for nobody.
-#[derive(Clone, Copy, Debug, PartialEq, Eq)]
+#[derive(Clone, Copy)]
 pub enum Plain {
     /// `init HOME`: makes the journal of a home bank.
     Init { home: Bic },
@@ -37,7 +37,7 @@ pub enum Plain {
 }
 
 /// The commands that read the journal and print what it says.
-#[derive(Clone, Copy, Debug, PartialEq, Eq)]
+#[derive(Clone, Copy)]
 pub enum Query {
     /// `send FROM UNTIL`: the outgoing messages of the entries between two places.
     Send { from: u32, until: u32 },

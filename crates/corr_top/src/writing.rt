@@ -10,7 +10,7 @@ use corr_text::{Memory, Text};
 use std::alloc::Global;
 
 /// The count of faults of a sink before a call and after it.
-#[derive(Clone, Copy, Debug, PartialEq, Eq)]
+#[derive(Clone, Copy)]
 pub struct WriteStop {
     pub before: u64,
     pub after: u64,
@@ -38,7 +38,7 @@ pub fn write_whole<K: Sink>(sink: &mut K, text: &[u8]) -> Result<(), WriteStop>
 }
 
 /// What a command writes: its report, and the messages that leave.
-#[derive(Debug, Drop)]
+#[derive(Drop)]
 pub struct Texts {
     pub report: Text,
     pub out: Text,

@@ -7,8 +7,8 @@ use Rattle.corr_top.proofs.trial.sample_head.Goals as goal
 pub returns-in-Ok : goal.returns-in-Ok
 returns-in-Ok c =
     let fine = c.in-Ok.ensures.fine in
-    let same = chart_sampled _ (λ s. refl) c.in_ok-tables.tables c.prepare.new.tables c.in_ok-tables.ensures c.sample_home.result fine.0 c.sample_home.ensures fine.1 in
+    let same = chart_sampled _ (λ s. refl) c.in_ok-tables.tables c.prepare-prepared.new.tables c.in_ok-tables.ensures c.sample_home.result fine.0 c.sample_home.ensures fine.1 in
     (fine.3 ∙ ap head_bytes same, subst IsHead same fine.2)
 
-pub prepare-requires : goal.prepare-requires
-prepare-requires c = subst IsBic (sym c.sample_home.ensures) home_formed
+pub prepare-prepared-requires : goal.prepare-prepared-requires
+prepare-prepared-requires c = subst IsBic (sym c.sample_home.ensures) home_formed

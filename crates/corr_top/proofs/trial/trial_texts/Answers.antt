@@ -4,8 +4,8 @@ use Rattle.day_model.specs.Legal.{IsLegal}
 use Rattle.corr_top.proofs.Trying.{trial_told}
 use Rattle.corr_top.proofs.trial.trial_texts.Goals as goal
 
-pub sum_up-requires : goal.sum_up-requires
-sum_up-requires g c =
+pub sum_up-summed-requires : goal.sum_up-summed-requires
+sum_up-summed-requires g c =
     let closed = c.in_ok-closed.closed in
     let served = c.in_ok-closed.ensures.served in
     subst (λ (chart : Chart). IsLegal chart closed.history.entries) (sym served.accounts_are) served.legal
