@@ -14,7 +14,7 @@ use crate::status::Status;
 use crate::tables::{read_known, read_rows};
 use corr_ids::Bic;
 use corr_io::Source;
-use corr_text::{List, Memory, let_go};
+use corr_text::{List, Memory};
 use day_model::{Account, Accounts, AccountsFault};
 use ref_tables::{AccountRow, RefTables};
 use std::alloc::Global;
@@ -91,17 +91,6 @@ pub fn open_accounts<S: Source>(
     ensures stopped { IfErr result (StopsAccounts S.Source files.old files.new home) }
 {
     let known = read_known(alloc, files)?;
-    let rows = match read_rows(alloc, &home, &known, &mut files.accounts) {
-        Ok(rows) => rows,
-        Err(stop) => {
-            let_go(known);
-            return Err(Status::from(stop));
-        }
-    };
-    let made = make_accounts(alloc, home, &known, rows);
-    let_go(known);
-    match made {
-        Ok(accounts) => Ok(accounts),
-        Err(fault) => Err(Status::from(fault)),
-    }
+    let rows = read_rows(alloc, &home, &known, &mut files.accounts)?;
+    Ok(make_accounts(alloc, home, &known, rows)?)
 }

@@ -7,7 +7,6 @@ ghost use Rattle.corr_top.specs.Tables.{HasDirectory, StopsDirectory};
 use crate::room::Tables;
 use crate::tables::{TableStop, read_instructions, read_known};
 use corr_io::Source;
-use corr_text::let_go;
 use ref_tables::RefTables;
 use ssi_versions::Ssi;
 use std::alloc::Global;
@@ -29,11 +28,6 @@ pub fn read_directory<S: Source>(
     ensures stopped { IfErr result (StopsDirectory S.Source files.old files.new) }
 {
     let tables = read_known(alloc, files)?;
-    match read_instructions(alloc, &tables, &mut files.ssi) {
-        Ok(ssi) => Ok(Directory { tables, ssi }),
-        Err(stop) => {
-            let_go(tables);
-            Err(stop)
-        }
-    }
+    let ssi = read_instructions(alloc, &tables, &mut files.ssi)?;
+    Ok(Directory { tables, ssi })
 }

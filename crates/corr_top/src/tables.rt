@@ -19,7 +19,7 @@ use crate::room::Tables;
 use crate::status::Status;
 use corr_ids::Bic;
 use corr_io::Source;
-use corr_text::{Text, let_go};
+use corr_text::Text;
 use ref_tables::{
     AccountRow, RefTables, TableFault, TableName, Why, read_accounts, read_banks, with_countries,
     with_currencies,
@@ -116,13 +116,7 @@ fn read_ccys<S: Source>(
         × (more ≡ record known { ccys = map ccy_of (rows_of ccys) })) }
     ensures stopped { IfErr result (λ stop. (ccys : List ℕ) × StopsAtTable S.Source source.old source.new ccys (named names.Ccys (ccys_fault ccys)) stop) }
 {
-    let file = match read_table(alloc, source) {
-        Ok(file) => file,
-        Err(stop) => {
-            let_go(known);
-            return Err(stop);
-        }
-    };
+    let file = read_table(alloc, source)?;
     Ok(with_currencies(alloc, known, file.bytes())?)
 }
 
@@ -137,13 +131,7 @@ fn read_countries<S: Source>(
     ensures few { IfOk result (λ more. IsTrue (few_decimals more.ccys)) }
     ensures stopped { IfErr result (λ stop. (countries : List ℕ) × StopsAtTable S.Source source.old source.new countries (named names.Countries (countries_fault countries)) stop) }
 {
-    let file = match read_table(alloc, source) {
-        Ok(file) => file,
-        Err(stop) => {
-            let_go(known);
-            return Err(stop);
-        }
-    };
+    let file = read_table(alloc, source)?;
     Ok(with_countries(alloc, known, file.bytes())?)
 }
 

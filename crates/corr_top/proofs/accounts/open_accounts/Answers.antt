@@ -13,43 +13,45 @@ returns-in_err-known-clause-stopped g c =
     let p = err_from_is_err_and c.from_residual.result c.from_residual.ensures.1 in
     rw (p.1, p.2) (accounts_after g.S.Source c.args.files.now c.read_known.new.files c.args.home c.in_err-known.field-0.0 c.in_err-known.ensures.stopped)
 
-pub returns-in-Err-clause-stopped : goal.returns-in-Err-clause-stopped
-returns-in-Err-clause-stopped g c =
+pub returns-in_err-rows-clause-stopped : goal.returns-in_err-rows-clause-stopped
+returns-in_err-rows-clause-stopped g c =
+    let p = err_from_is_err_and c.from_residual-in_err-rows.result c.from_residual-in_err-rows.ensures.1 in
     let known = c.in_ok-known.ensures.fine in
-    let q = c.in-Err.ensures.stopped in
+    let q = c.in_err-rows.ensures.stopped in
     let stops = stops_from _ _ _ c.args.files.now.accounts q.0 _ _ known.accounts (stops_under _ _ _ q.0 _ (λ (t : Tables). named names.Accounts (accounts_fault c.args.home.head t q.0)) _ _ known.known_is q.1) in
-    record {
+    rw (p.1, p.2) (record {
       inputs = record known.inputs { home = c.args.home; accounts = q.0 };
       home_is = refl;
-      halted = inr (known.passed.0, inr (known.passed.1.0, inr (known.passed.1.1.0, inl ((c.in-Err.stop, c.from.ensures, stops), (tt, tt)))));
+      halted = inr (known.passed.0, inr (known.passed.1.0, inr (known.passed.1.1.0, inl ((c.in_err-rows.field-0.0, refl, stops), (tt, tt)))));
       ssi = known.ssi;
-    }
+    })
 
-pub returns-in-Err-made-clause-stopped : goal.returns-in-Err-made-clause-stopped
-returns-in-Err-made-clause-stopped g c =
+pub returns-in_err-make_accounts-clause-stopped : goal.returns-in_err-make_accounts-clause-stopped
+returns-in_err-make_accounts-clause-stopped g c =
+    let p = err_from_is_err_and c.from_residual-in_err-make_accounts.result c.from_residual-in_err-make_accounts.ensures.1 in
     let known = c.in_ok-known.ensures.fine in
-    let rows = c.in-Ok.ensures.fine in
+    let rows = c.in_ok-rows.ensures.fine in
     let i = record known.inputs { home = c.args.home; accounts = rows.0 } in
     let accounts = fine_from _ _ _ c.args.files.now.accounts rows.0 _ known.accounts (fine_under _ _ _ rows.0 (λ (t : Tables). named names.Accounts (accounts_fault c.args.home.head t rows.0)) _ _ known.known_is rows.1) in
-    let stops = sums_stopped i _ c.in-Err-made.fault (same_rows i _ c.in-Ok.rows.items known.known_is rows.2) c.in-Err-made.ensures.unbalanced c.in-Err-made.ensures.decimals in
+    let stops = sums_stopped i _ c.in_err-make_accounts.field-0.0 (same_rows i _ c.in_ok-rows.rows.items known.known_is rows.2) c.in_err-make_accounts.ensures.unbalanced c.in_err-make_accounts.ensures.decimals in
+    rw (p.1, p.2) (record {
+      inputs = i;
+      home_is = refl;
+      halted = inr (known.passed.0, inr (known.passed.1.0, inr (known.passed.1.1.0, inr (accounts, inl ((c.in_err-make_accounts.field-0.0, refl, stops), tt)))));
+      ssi = known.ssi;
+    })
+
+pub returns-clause-fine : goal.returns-clause-fine
+returns-clause-fine g c =
+    let known = c.in_ok-known.ensures.fine in
+    let rows = c.in_ok-rows.ensures.fine in
+    let i = record known.inputs { home = c.args.home; accounts = rows.0 } in
+    let accounts = fine_from _ _ _ c.args.files.now.accounts rows.0 _ known.accounts (fine_under _ _ _ rows.0 (λ (t : Tables). named names.Accounts (accounts_fault c.args.home.head t rows.0)) _ _ known.known_is rows.1) in
+    let list = same_rows i _ c.in_ok-rows.rows.items known.known_is rows.2 in
     record {
       inputs = i;
       home_is = refl;
-      halted = inr (known.passed.0, inr (known.passed.1.0, inr (known.passed.1.1.0, inr (accounts, inl ((c.in-Err-made.fault, c.from-in-Err-made.ensures, stops), tt)))));
-      ssi = known.ssi;
-    }
-
-pub returns-in-Ok-made-clause-fine : goal.returns-in-Ok-made-clause-fine
-returns-in-Ok-made-clause-fine g c =
-    let known = c.in_ok-known.ensures.fine in
-    let rows = c.in-Ok.ensures.fine in
-    let i = record known.inputs { home = c.args.home; accounts = rows.0 } in
-    let accounts = fine_from _ _ _ c.args.files.now.accounts rows.0 _ known.accounts (fine_under _ _ _ rows.0 (λ (t : Tables). named names.Accounts (accounts_fault c.args.home.head t rows.0)) _ _ known.known_is rows.1) in
-    let list = same_rows i _ c.in-Ok.rows.items known.known_is rows.2 in
-    record {
-      inputs = i;
-      home_is = refl;
-      passed = (known.passed.0, (known.passed.1.0, (known.passed.1.1.0, (accounts, (sums_balance i _ list c.in-Ok-made.ensures.balanced, tt)))));
-      chart_is = c.in-Ok-made.ensures.ok ∙ ap (λ (l : List Account). record { home = c.args.home; accounts = l }) list;
+      passed = (known.passed.0, (known.passed.1.0, (known.passed.1.1.0, (accounts, (sums_balance i _ list c.in_ok-make_accounts.ensures.balanced, tt)))));
+      chart_is = c.in_ok-make_accounts.ensures.ok ∙ ap (λ (l : List Account). record { home = c.args.home; accounts = l }) list;
       ssi = known.ssi;
     }

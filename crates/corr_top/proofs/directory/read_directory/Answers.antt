@@ -12,20 +12,21 @@ returns-in_err-tables-clause-stopped g c =
     let p = err_from_is_err_and c.from_residual.result c.from_residual.ensures.1 in
     rw (p.1, p.2) (directory_after g.S.Source c.args.files.now c.read_known.new.files c.in_err-tables.field-0.0 c.in_err-tables.ensures.stopped)
 
-pub returns-in-Err-clause-stopped : goal.returns-in-Err-clause-stopped
-returns-in-Err-clause-stopped g c =
+pub returns-in_err-ssi-clause-stopped : goal.returns-in_err-ssi-clause-stopped
+returns-in_err-ssi-clause-stopped g c =
+    let p = err_from_is_err_and c.from_residual-in_err-ssi.result c.from_residual-in_err-ssi.ensures.1 in
     let known = c.in_ok-tables.ensures.fine in
-    let q = c.in-Err.ensures.stopped in
+    let q = c.in_err-ssi.ensures.stopped in
     let stops = stops_from _ _ _ c.args.files.now.ssi q.0 _ _ known.ssi (stops_under _ _ _ q.0 _ (λ (t : Tables). named names.Ssi (ssi_fault t q.0)) _ _ known.known_is q.1) in
-    record {
-      at = record { inputs = record known.inputs { ssi = q.0 }; halted = inr (known.passed.0, inr (known.passed.1.0, inr (known.passed.1.1.0, inl ((c.in-Err.stop, refl, stops), tt)))) };
+    rw (p.1, p.2) (record {
+      at = record { inputs = record known.inputs { ssi = q.0 }; halted = inr (known.passed.0, inr (known.passed.1.0, inr (known.passed.1.1.0, inl ((c.in_err-ssi.field-0.0, refl, stops), tt)))) };
       accounts = known.accounts;
-    }
+    })
 
-pub returns-in-Ok-clause-fine : goal.returns-in-Ok-clause-fine
-returns-in-Ok-clause-fine g c =
+pub returns-clause-fine : goal.returns-clause-fine
+returns-clause-fine g c =
     let known = c.in_ok-tables.ensures.fine in
-    let q = c.in-Ok.ensures.fine in
+    let q = c.in_ok-ssi.ensures.fine in
     let fine = fine_from _ _ _ c.args.files.now.ssi q.0 _ known.ssi (fine_under _ _ _ q.0 (λ (t : Tables). named names.Ssi (ssi_fault t q.0)) _ _ known.known_is q.1) in
     record {
       inputs = record known.inputs { ssi = q.0 };
