@@ -1,7 +1,9 @@
 -- Sums of openings, and the first currency whose openings don't sum to 0.
 use Rattle.std.proofs.Common.{◌≡◌, ℕ, zero, suc, ◌+◌, ◌*◌, ◌<◌, ◌≤◌, Bool, true, false, List, [], ◌∷◌, ◌++◌, Option, Some, None, refl, sym, ap, ◌∙◌, subst, arith, length, take, get_or, ℤ, pos, ◌+ℤ◌, ◌≤ℤ◌, FitsSigned, w64, Ordering, Less, Equal, Greater, inl, inr}
-use Rattle.std.specs.Prelude.{◌⊎◌, slice_get, if◌then◌else◌}
-use Rattle.std.proofs.lemmas.Bool.{cases_Bool, false≢true, cond-false, cond_both, cases_lt}
+use Rattle.std.specs.Prelude.{◌⊎◌, cond, slice_get, unwrap_or, if◌then◌else◌}
+use Rattle.std.specs.Map.{lookup}
+use Rattle.std.specs.Str.{bytes_eq}
+use Rattle.std.proofs.lemmas.Bool.{cases_Bool, false≢true, cond-false, cond-true, cond_both, cases_lt}
 use Rattle.std.proofs.lemmas.Int.{ints}
 use Rattle.std.proofs.lemmas.List.{take_more}
 use Rattle.std.proofs.lemmas.Option.{slice_get_within, same_Some}
@@ -15,7 +17,7 @@ use Rattle.corr_money.specs.declared.amount.Ccy.{Ccy}
 use Rattle.day_model.specs.declared.account.Account.{Account}
 use Rattle.day_model.specs.declared.gap.Gap.{Gap}
 use Rattle.day_model.specs.Chart.{IsLimited, is_same_ccy, opening_sum}
-use Rattle.day_model.specs.Gap.{is_before, IsGapOf, GapOf, earlier_of, FirstGap}
+use Rattle.day_model.specs.Gap.{AreOpeningSums, is_before, IsGapOf, GapOf, earlier_of, FirstGap, sum_in}
 
 abbrev pub opening_in : Ccy → Account → ℤ
 opening_in ccy account = if is_same_ccy account.ccy ccy then account.opening else pos 0
@@ -59,6 +61,16 @@ near_fits i z few near =
     let low = near.low in
     let high = near.high in
     omega (arith, ints)
+
+own_opening : (row : Account) → opening_in row.ccy row ≡ row.opening
+own_opening row = cond-true (is_same_ccy row.ccy row.ccy) row.opening (pos 0) ((bytes_eq-Decides row.ccy.0 row.ccy.0).1 refl)
+
+-- an account's opening, added to the sum of its currency
+pub near_own : (i : ℕ) (z : ℤ) (row : Account) → IsLimited row → IsNear i z → IsNear (i + 1) (z +ℤ row.opening)
+near_own i z row limits near = subst (λ (o : ℤ). IsNear (i + 1) (z +ℤ o)) (own_opening row) (near_more row.ccy i z row limits near)
+
+pub fits_own : (row : Account) → IsLimited row → FitsSigned w64 row.opening
+fits_own row limits = near_fits 1 row.opening (omega arith) (subst (IsNear 1) (own_opening row) (small_opening row.ccy row limits))
 
 same_ccy : (c d : Ccy) → is_same_ccy c d ≡ true → c ≡ d
 same_ccy c d e = let digits : c.0 ≡ d.0 = (bytes_eq-Decides c.0 d.0).0 e in ap (λ (bs : List ℕ). record { 0 = bs }) digits
@@ -153,32 +165,44 @@ so_far_more rows i row None (Some other) old here new = new_leads rows i row oth
 so_far_more rows i row (Some gap) None old here none = old_leads rows i row gap old here (λ b. none)
 so_far_more rows i row (Some gap) (Some other) old here new = chosen rows i row gap other (is_before other.ccy gap.ccy) refl old here new
 
--- ---- an account whose currency was summed before
+-- ---- sums by currency
 
-found_before : (rows : List Account) (i : ℕ) (ccy : Ccy) → list_any (λ r. is_same_ccy r.ccy ccy) (take i rows) ≡ true
-    → (k : ℕ) × (a : Account) × (k < i) × (slice_get rows k ≡ Some a) × (a.ccy ≡ ccy)
-found_before [] zero ccy h = absurd (false≢true h)
-found_before [] (suc i) ccy h = absurd (false≢true h)
-found_before (x ∷ rows) zero ccy h = absurd (false≢true h)
-found_before (x ∷ rows) (suc i) ccy h =
-    elim (cases_Bool (is_same_ccy x.ccy ccy)) [
-      | inl here ↦ (0, x, omega arith, refl, same_ccy x.ccy ccy here)
-      | inr apart ↦ let f = found_before rows i ccy (rw apart at h) in (suc f.0, f.1, omega (arith, f.2), f.3, f.4)
-    ]
+sum-put : (b : Bool) (put : ℤ) (old : Option ℤ) → unwrap_or (cond b (Some put) old) (pos 0) ≡ cond b put (unwrap_or old (pos 0))
+sum-put true put old = refl
+sum-put false put old = refl
 
-summed : (rows : List Account) (i : ℕ) (row : Account) (first : Option Gap) → SoFar rows i first → slice_get rows i ≡ Some row → (k : ℕ) (a : Account)
-    → k < i → slice_get rows k ≡ Some a → a.ccy ≡ row.ccy → SoFar rows (i + 1) first
-summed rows i row None old here k a lt at same = λ j b below there.
-    cases_place rows i j row b below here there (λ early. old j b early there)
-    (λ last. subst (λ (x : Account). opening_sum x.ccy rows ≡ pos 0) last (subst (λ (c : Ccy). opening_sum c rows ≡ pos 0) same (old k a lt at)))
-summed rows i row (Some gap) old here k a lt at same =
-    old_leads rows i row gap old here
-    (λ b. subst (λ (c : Ccy). opening_sum c rows ≡ pos 0) same (old.first k a lt at (subst (λ (c : Ccy). is_before c gap.ccy ≡ true) (sym same) b)))
+by-ccy : (b : Bool) (put old opening : ℤ) → (b ≡ true → put ≡ old +ℤ opening) → cond b put old ≡ old +ℤ cond b opening (pos 0)
+by-ccy true put old opening is = is refl
+by-ccy false put old opening is = omega (arith, ints)
 
-pub so_far_known : (rows : List Account) (i : ℕ) (row : Account) (first : Option Gap) → SoFar rows i first → slice_get rows i ≡ Some row
-    → list_any (λ r. is_same_ccy r.ccy row.ccy) (take i rows) ≡ true → SoFar rows (i + 1) first
-so_far_known rows i row first old here known =
-    let f = found_before rows i row.ccy known in summed rows i row first old here f.0 f.1 f.2 f.3 f.4
+-- one account more: its opening is added to the sum of its currency
+pub sums_more : (rows : List Account) (i : ℕ) (row : Account) (old new : List (List ℕ × ℤ)) (put : ℤ) → row ≡ get_or rows i row → i < length rows
+    → AreOpeningSums old (take i rows) → put ≡ sum_in old row.ccy +ℤ row.opening
+    → ((key : List ℕ) → lookup (bytes_eq key) new ≡ cond (bytes_eq row.ccy.0 key) (Some put) (lookup (bytes_eq key) old))
+    → AreOpeningSums new (take (i + 1) rows)
+sums_more rows i row old new put at lt sums is written ccy =
+    let here : is_same_ccy row.ccy ccy ≡ true → put ≡ sum_in old ccy +ℤ row.opening = λ e.
+    is ∙ ap (λ (c : Ccy). sum_in old c +ℤ row.opening) (same_ccy row.ccy ccy e) in
+    ap (λ (o : Option ℤ). unwrap_or o (pos 0)) (written ccy.0) ∙ sum-put (is_same_ccy row.ccy ccy) put (lookup (bytes_eq ccy.0) old)
+    ∙ by-ccy (is_same_ccy row.ccy ccy) put (sum_in old ccy) row.opening here
+    ∙ ap (λ (z : ℤ). z +ℤ opening_in ccy row) (sums ccy) ∙ sym (opening_sum_more ccy rows i row at lt)
+
+has_at : (rows : List Account) (i : ℕ) → i < length rows → (a : Account) × (slice_get rows i ≡ Some a) × (a ≡ get_or rows i a)
+has_at [] i lt = absurd (omega (arith, lt))
+has_at (x ∷ rows) zero lt = (x, refl, refl)
+has_at (x ∷ rows) (suc i) lt = has_at rows i (omega (arith, lt))
+
+-- the sum of the first openings is no more than their number times 10^14
+pub sum_near : (rows : List Account) → ((k : ℕ) (a : Account) → slice_get rows k ≡ Some a → IsLimited a) → (ccy : Ccy) (i : ℕ) → i ≤ length rows
+    → IsNear i (opening_sum ccy (take i rows))
+sum_near rows limited ccy zero le = record { low = omega (arith, ints); high = omega (arith, ints) }
+sum_near rows limited ccy (suc i) le =
+    let lt : i < length rows = omega (arith, le) in
+    let row = has_at rows i lt in
+    let near = sum_near rows limited ccy i (omega (arith, le)) in
+    let more = subst (IsNear (i + 1)) (sym (opening_sum_more ccy rows i row.0 row.2 lt)) (near_more ccy i (opening_sum ccy (take i rows)) row.0 (limited i row.0 row.1) near) in
+    let next : i + 1 ≡ suc i = omega arith in
+    subst (λ (n : ℕ). IsNear n (opening_sum ccy (take n rows))) next more
 
 -- after all accounts it is the first of all currencies
 pub so_far_all : (rows : List Account) (i : ℕ) (first : Option Gap) → length rows ≤ i → SoFar rows i first → FirstGap rows first

@@ -1,5 +1,7 @@
 -- Openings that don't add up.
-use Rattle.std.specs.Prelude.{◌≡◌, ◌≢◌, ℕ, Bool, true, List, Option, Some, None, slice_get, pos, if◌then◌else◌}
+use Rattle.std.specs.Prelude.{◌≡◌, ◌≢◌, ℕ, ℤ, Bool, true, List, Option, Some, None, slice_get, pos, unwrap_or, if◌then◌else◌}
+use Rattle.std.specs.Map.{lookup}
+use Rattle.std.specs.Str.{bytes_eq}
 use Rattle.std.specs.Ordering.{is_lt, nat_cmp}
 use Rattle.std.specs.Cmp.Lexicographic.{slice_cmp}
 use Rattle.corr_money.specs.declared.amount.Ccy.{Ccy}
@@ -12,6 +14,14 @@ use Rattle.day_model.specs.Chart.{opening_sum}
 -- in byte order
 abbrev pub is_before : Ccy → Ccy → Bool
 is_before c d = is_lt (slice_cmp nat_cmp c.0 d.0)
+
+-- the sum that is noted for a currency, and 0 where none is
+abbrev pub sum_in : List (List ℕ × ℤ) → Ccy → ℤ
+sum_in sums ccy = unwrap_or (lookup (bytes_eq ccy.0) sums) (pos 0)
+
+-- each currency's openings are summed
+abbrev pub AreOpeningSums : List (List ℕ × ℤ) → List Account → Type 0
+AreOpeningSums sums accounts = (ccy : Ccy) → sum_in sums ccy ≡ opening_sum ccy accounts
 
 -- the openings of an account's currency don't sum to 0: its decimals, and the sum
 pub record IsGapOf (accounts : List Account) (account : Account) (gap : Gap) : Type 0 where

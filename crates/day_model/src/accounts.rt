@@ -61,14 +61,14 @@ impl Model for Accounts {
 impl Accounts {
     /// Accounts of a home bank, numbered from 1 in the order of the rows.
     ///
-    /// `Unbalanced` comes exactly where the openings of a currency don't sum to 0.
+    /// `Unbalanced` comes exactly where the openings of a currency don't sum to 0. `Memory`: there was no room for the sums.
     pub fn new(home: Bic, rows: List<Account>) -> Result<Accounts, AccountsFault>
         requires { AreRows rows }
         ensures ok { IfOk result (λ a. a ≡ record { home = home; accounts = rows }) }
         ensures balanced { OnOk result ((ccy : Ccy) → opening_sum ccy rows ≡ pos 0) }
         ensures unbalanced { IfErr result (TellsUnbalanced rows) }
     {
-        match first_gap(rows.as_slice()) {
+        match first_gap(rows.allocator(), rows.as_slice())? {
             None => Ok(Accounts { home, rows }),
             Some(gap) => Err(AccountsFault::Unbalanced {
                 ccy: gap.ccy,

@@ -1,12 +1,15 @@
 //! Openings that don't add up.
 
-ghost use Rattle.std.specs.Prelude.{◌≡◌, Some, pos, if◌then◌else◌};
-ghost use Rattle.std.specs.List.{list_any};
-ghost use Rattle.day_model.specs.Chart.{AreRows, is_same_ccy, opening_sum};
-ghost use Rattle.day_model.specs.Gap.{FirstGap, GapOf, earlier_of, is_before};
+ghost use Rattle.std.specs.Prelude.{◌≡◌, List, IfOk};
+ghost use Rattle.day_model.specs.Chart.{AreRows, opening_sum};
+ghost use Rattle.day_model.specs.declared.account.Account.{Account};
+ghost use Rattle.day_model.specs.Gap.{AreOpeningSums, FirstGap, GapOf, earlier_of, is_before};
 
 use crate::account::Account;
 use corr_money::Ccy;
+use corr_text::Memory;
+use indexmap::IndexMap;
+use std::alloc::Global;
 use std::cmp::Ordering;
 
 /// A currency whose openings don't sum to 0, its decimals and that sum.
@@ -17,28 +20,22 @@ pub(crate) struct Gap {
     pub sum: i64,
 }
 
-fn opening_in(ccy: Ccy, row: &Account) -> i64
-    ensures { result ≡ (if is_same_ccy row.now.ccy ccy then row.now.opening else pos 0) }
-{
-    if row.ccy == ccy { row.opening } else { 0 }
-}
-
-fn sum_of(rows: &[Account], ccy: Ccy) -> i64
+/// The sum of each currency's openings: each opening is added once.
+fn opening_sums(alloc: Global, rows: &[Account]) -> Result<IndexMap<[u8; 3], i64>, Memory>
     requires { AreRows rows.now }
-    ensures { result ≡ opening_sum ccy rows.now }
+    ensures { IfOk result (λ sums. AreOpeningSums sums.entries rows.now) }
 {
-    let mut sum = 0;
+    let mut sums = IndexMap::new(alloc);
     for row in rows {
-        sum += opening_in(ccy, row);
+        *sums.entry(row.ccy.0)?.or_insert(0) += row.opening;
     }
-    sum
+    Ok(sums)
 }
 
-fn gap_of(rows: &[Account], row: &Account) -> Option<Gap>
-    requires { AreRows rows.now }
-    ensures { GapOf rows.now row.now result }
+fn gap_of(sums: &IndexMap<[u8; 3], i64>, row: &Account) -> Option<Gap>
+    ensures { (rows : List Account) → AreOpeningSums sums.now.entries rows → GapOf rows row.now result }
 {
-    let sum = sum_of(rows, row.ccy);
+    let sum = sums.get(&row.ccy.0).copied().unwrap_or(0);
     if sum == 0 {
         return None;
     }
@@ -71,22 +68,15 @@ fn earlier(first: Option<Gap>, second: Option<Gap>) -> Option<Gap>
     }
 }
 
-fn has_ccy(rows: &[Account], ccy: Ccy) -> bool
-    ensures { result ≡ list_any (λ row. is_same_ccy row.ccy ccy) rows.now }
-{
-    rows.iter().any(|row| row.ccy == ccy)
-}
-
-/// The first currency in byte order whose openings don't sum to 0. Each currency is summed once, at its first account.
-pub(crate) fn first_gap(rows: &[Account]) -> Option<Gap>
+/// The first currency in byte order whose openings don't sum to 0.
+pub(crate) fn first_gap(alloc: Global, rows: &[Account]) -> Result<Option<Gap>, Memory>
     requires { AreRows rows.now }
-    ensures { FirstGap rows.now result }
+    ensures { IfOk result (FirstGap rows.now) }
 {
+    let sums = opening_sums(alloc, rows)?;
     let mut first = None;
-    for (at, row) in rows.iter().enumerate() {
-        if !has_ccy(&rows[..at], row.ccy) {
-            first = earlier(first, gap_of(rows, row));
-        }
+    for row in rows {
+        first = earlier(first, gap_of(&sums, row));
     }
-    first
+    Ok(first)
 }

@@ -1,5 +1,5 @@
 use Rattle.day_model.proofs.Openings.{SoFar}
 use Rattle.day_model.proofs.gap.first_gap.Given as goal
 
-abbrev pub invariant-loop-at : goal.invariant-loop-at
-invariant-loop-at l = SoFar l.rows l.at l.first
+abbrev pub invariant-loop-row : goal.invariant-loop-row
+invariant-loop-row l = SoFar l.rows l.row-index l.first
