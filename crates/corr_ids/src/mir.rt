@@ -9,7 +9,8 @@ use crate::address::{LtAddress, address, has_lt_form};
 use crate::day::day_from_yymmdd;
 use corr_text::all_digits;
 
-/// A message input reference, 28 characters: date, sender's LT address, session and sequence number.
+/// A message input reference (MIR), 28 characters, as block 2 of a received message has it: date, sender's LT address, session
+/// and sequence number.
 #[derive(Clone, Copy, Debug, PartialEq, Eq)]
 pub struct Mir(pub [u8; 28]);
 

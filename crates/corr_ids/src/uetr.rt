@@ -4,7 +4,8 @@ ghost use Rattle.std.specs.Prelude.{◌≡◌, ◌==◌, IsTrue, IfSome, length}
 ghost use Rattle.std.specs.List.{list_all, zip};
 ghost use Rattle.corr_ids.specs.Uetr.{IsUetr, fits_mark, is_uetr, uetr_form, uetr_of};
 
-/// A unique end-to-end transaction reference: the 36 characters of a UUID of version 4 (RFC 9562), in lower case.
+/// A unique end-to-end transaction reference (UETR), as field 121 of block 3 has it: the 36 characters of a UUID of version 4
+/// (RFC 9562), in lower case.
 #[derive(Clone, Copy, Debug, PartialEq, Eq)]
 pub struct Uetr(pub [u8; 36]);
 

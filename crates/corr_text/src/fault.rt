@@ -1,6 +1,7 @@
 //! Codes of refusals, and the faults that carry them.
 
-/// A code of three characters, as `E15` or `P41`.
+/// A code of three characters, as `E15` or `P41`: those that begin with `P` are this program's own, the others the handbook's
+/// (docs/messages.md, "All codes").
 #[derive(Clone, Copy, Debug, PartialEq, Eq)]
 pub struct Code(pub [u8; 3]);
 
