@@ -15,7 +15,8 @@ use corr_io::count_fault;
 use corr_text::{Memory, Text};
 use std::alloc::Global;
 
-/// A disk in memory that passes so many calls and then fails every one. It leaves one image of that moment.
+/// A disk in memory that passes so many calls and then fails every one. Before that it fails only where it finds no memory for
+/// a write. It leaves one image of that moment.
 #[derive(Drop)]
 pub struct FuseDisk {
     disk: PlannedDisk,
@@ -30,7 +31,8 @@ impl FuseDisk {
     /// A disk that holds these bytes, all of them synced, and passes this number of calls.
     ///
     /// `torn` picks the image that it leaves. Of each write since the last sync nothing arrived (0), all (1), its
-    /// first half (2), all but with each byte turned (3), or its first `torn - 3` bytes.
+    /// first half, rounded down (2), all, but with each byte `b` as `255 - b` (3), or its first `torn - 3` bytes. A write that
+    /// would begin past the image's end didn't arrive.
     pub fn new(alloc: Global, bytes: Text, calls: u64, torn: u64) -> FuseDisk
         ensures honest { IsTrue (⟦<FuseDisk as Disk>⟧.honest result) }
         ensures reads { ⟦<FuseDisk as Disk>⟧.reads result ≡ bytes }

@@ -13,7 +13,7 @@ use std::rt::Files;
 /// How often a read or a write is made that a signal interrupts each time.
 const TRIES: u32 = 1000;
 
-/// Opens a file. A path that is not UTF-8 names none.
+/// Opens a file. `Failed` comes where the path is not UTF-8, which names none, and where the system doesn't open it.
 pub fn open_at<R: Files>(rt: &R, path: &Text, how: &OpenOptions) -> Result<R::File, Failed>
     ensures { OnOk result (IsTrue (is_utf8 path.now)) }
 {
