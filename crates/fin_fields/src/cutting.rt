@@ -192,7 +192,8 @@ pub fn cut_lines(alloc: Global, text: &[u8]) -> Result<List<FieldLines<'_>>, Fie
 ///
 /// P20 comes with the first line, from 1, that begins with `:` without this form, begins with `-`, is empty, or is the
 /// first and begins no field, and with line 0 where there is no line. P21 comes, where no line is at fault, with the
-/// first field that has a byte outside X (docs/messages.md, "Fields"). `put_fields` takes the fields that are cut.
+/// first field that has a byte outside X (docs/messages.md, "Fields"). `put_fields` takes the fields that are cut. The text
+/// has at most 65,535 lines.
 pub fn cut_fields(alloc: Global, text: &[u8]) -> Result<List<Field>, FieldFault>
     requires { length (lines_of text.now) ≤ most_text_lines }
     ensures fields { IfOk result (λ fields. (field_fault text.now ≡ None) × (fields ≡ fields_of text.now)) }

@@ -47,6 +47,9 @@ fn put_field(f: &Field, out: &mut Text) -> Result<(), Memory>
 
 /// Writes fields as the lines of block 4, each ended by CR LF. `cut_fields` of the text gives the same fields.
 ///
+/// There is at least one field. Each has a number of at most 99, a capital letter or none, and at least one line; its lines are
+/// of X, and none but the first is empty or begins with `:` or `-` (`fit`).
+///
 /// Example: tag 20 with the line `REF1` is written as `:20:REF1` and CR LF.
 pub fn put_fields(alloc: Global, fields: &[Field]) -> Result<Text, Memory>
     requires some { fields.now ≢ [] }

@@ -45,6 +45,7 @@ fn copy_line(alloc: Global, line: Option<&[u8]>) -> Result<Option<Text>, Memory>
     }
 }
 
+/// The account of a first line: what stands after its slash.
 pub fn copy_account(alloc: Global, line: Option<&[u8]>) -> Result<Option<Text>, Memory>
     ensures { IfOk result (λ copy. copy ≡ option_map (λ b. drop 1 b.now) line.entry) }
 {
@@ -160,6 +161,7 @@ fn read_payer_party(alloc: Global, lines: &[Line<'_>]) -> Result<Party, PartyFau
     }
 }
 
+/// The party that lines say by a grammar. P24 comes exactly where they aren't in it.
 #[tactic(auto, unfolding(crate::specs::Party::party_in))]
 pub fn read_lines(alloc: Global, form: Form, lines: &[Line<'_>]) -> Result<Party, PartyFault>
     ensures { ReadsParty (party_in form lines.now) result }
