@@ -169,7 +169,7 @@ fn enter_rows(
 
 /// The accounts of this file, for the home bank `home` and under the tables `t` (docs/tables.md, "accounts").
 ///
-/// `Bad` tells the first row that fails, and why.
+/// `Bad` tells the first row that fails, from 1, and why; row 0 where the file has more than 8 MiB or 1,000 rows.
 #[tactic(auto, using(crate::proofs::laws::Records::rows_within_some))]
 pub fn read_accounts(
     alloc: Global,

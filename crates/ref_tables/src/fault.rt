@@ -6,7 +6,7 @@ ghost use Rattle.ref_tables.specs.declared.fault.TableFault.TheVariants.{Memory 
 use corr_text::Memory;
 use std::alloc::{AllocError, AllocFailed};
 
-/// A table, by its name.
+/// A table, by its name: `bics`, `ccys`, `countries`, `accounts` or `ssi` (docs/tables.md).
 #[derive(Clone, Copy, Debug, PartialEq, Eq)]
 pub enum TableName {
     Bics,
@@ -25,17 +25,18 @@ pub enum Why {
     Value { col: u8 },
     /// An earlier row, the first of them at `row`, has the same key.
     Double { row: u32 },
-    /// A bank that the row names is not in the table of banks, or may not stand there.
+    /// A bank that the row names is not in the table of banks; or another bank owns a `C` account, or the home bank a `V` or `N`
+    /// account.
     Bic,
     /// The row's currency is not in the table of currencies.
     Currency,
-    /// The row's numbers are too large or out of order.
+    /// Not floor ≤ opening ≤ ceiling, or one of them is 10^14 minor units or more in size.
     Limits,
     /// An earlier row, the first of them at `row`, speaks of a day that this one speaks of too.
     Overlap { row: u32 },
     /// The day that ends the row is not after its first day.
     Span,
-    /// The file has too many bytes or too many rows.
+    /// The file has more than 8 MiB, or more rows than its table may have.
     Rows,
 }
 

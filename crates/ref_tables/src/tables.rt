@@ -63,7 +63,7 @@ impl RefTables {
         self.ccys.get(&c.0).copied()
     }
 
-    /// Whether a country's row says `Y`.
+    /// Whether a country's row says `Y`; a country without a row is not listed.
     pub fn listed(&self, country: &[u8; 2]) -> bool
         ensures { result ≡ is_listed_country self.now country.now }
     {

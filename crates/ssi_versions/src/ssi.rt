@@ -124,7 +124,7 @@ impl Ssi {
     }
 
     /// The instruction by which a bank is paid in a currency on a value date: among the rows in force on that day the
-    /// one of the bank's 11 characters, else of its first 8, else of `*`. Takes no memory.
+    /// one of the bank's 11 characters, else of its first 8, else of `*`; none where there is none of these. Takes no memory.
     pub fn at(&self, ccy: Ccy, bank: &Bic, day: Day) -> Option<&SsiRow>
         ensures form { IfSome result (λ r. IsInForm r.now) }
         ensures row { option_copied result ≡ instruction_at self.now ccy bank.now day }
