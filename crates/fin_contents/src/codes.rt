@@ -1,4 +1,5 @@
-//! The codes with which shared contents are refused.
+//! The codes with which shared contents are refused. Those that begin with `P` are this program's own, the others the
+//! handbook's (docs/messages.md, "All codes").
 
 use corr_text::Code;
 
@@ -23,10 +24,10 @@ pub const T26: Code = Code(*b"T26");
 /// A number that is not digits with exactly one comma and a digit before it.
 pub const T40: Code = Code(*b"T40");
 
-/// A number of too many characters.
+/// An amount of more than 15 characters, or a rate of more than 12.
 pub const T43: Code = Code(*b"T43");
 
-/// A date that is none.
+/// A date that no calendar has.
 pub const T50: Code = Code(*b"T50");
 
 /// A currency that is not in the table of currencies.

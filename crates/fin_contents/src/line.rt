@@ -31,7 +31,7 @@ pub fn array_of<const N: usize>(b: &[u8]) -> Option<[u8; N]>
     Some(array)
 }
 
-/// The place of the first slash.
+/// The place of the first slash, from 0; none where there is no slash.
 pub fn first_slash(b: &[u8]) -> Option<usize>
     ensures { result ≡ position is_slash b.now }
 {

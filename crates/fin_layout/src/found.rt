@@ -109,7 +109,8 @@ impl Found {
     }
 }
 
-/// Whether a field takes one of the places from `first` to `last`, both among them. `found` are the places of the fields.
+/// Whether a field takes one of the places from `first` to `last`, both among them and numbered from 0. `found` are the places
+/// of the fields.
 pub fn takes_any(found: &Found, first: usize, last: usize) -> bool
     ensures { result ≡ list_any (is_between first last) found.now }
 {

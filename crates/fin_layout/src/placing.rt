@@ -38,8 +38,8 @@ fn free_after(order: &[Place], at: usize) -> usize
 
 /// The places that the fields take, in their order and up to the first field that takes none.
 ///
-/// A field takes the first place after that of the field before it which allows it, or that same place where more than
-/// one field may stand there.
+/// Places are numbered from 0. A field takes the first place after that of the field before it which allows it, or that same
+/// place where more than one field may stand there.
 pub fn places(alloc: Global, order: &[Place], fields: &[FieldLines<'_>]) -> Result<Found, Memory>
     ensures value { IfOk result (λ found. found ≡ places_from order.now 0 fields.now) }
     ensures few { IfOk result (λ found. length found ≤ length fields.now) }
@@ -80,7 +80,7 @@ fn is_missing(place: &Place, at: usize, found: &[usize]) -> bool
     place.must && !found.contains(&at)
 }
 
-/// The first place that a field must take and none of the places in `found` is; none where there is no such place.
+/// The first place, from 0, that a field must take and none of the places in `found` is; none where there is no such place.
 pub fn missing(order: &[Place], found: &[usize]) -> Option<usize>
     ensures value { result ≡ missing_from 0 order.now found.now }
     ensures within { IfSome result (λ k. k < length order.now) }
