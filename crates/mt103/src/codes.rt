@@ -1,4 +1,5 @@
-//! The codes with which contents of an MT103 are refused.
+//! The codes with which contents of an MT103 are refused: P28 is this program's own, the others are the handbook's
+//! (docs/messages.md, "All codes").
 
 use corr_text::Code;
 

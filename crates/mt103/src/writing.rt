@@ -126,8 +126,9 @@ fn mt103_fields(alloc: Global, m: &Mt103) -> Result<List<Field>, Memory>
 
 /// Writes a transfer as block 4's lines: its fields in the order of their places, each line ended by CR LF.
 ///
-/// The transfer is one that `read_mt103` gives of fields that were cut from a text (its clause `written`). The lines are cut into fields without
-/// fault (`sound`), and under all tables under which the transfer may be read they read as the same transfer (`again`).
+/// The transfer is one that `read_mt103` gives of fields that were cut from a text (its clause `written`). The lines are cut
+/// into fields without fault (`sound`), and under all tables under which the transfer may be read they read as the same
+/// transfer (`again`).
 ///
 /// Example: 123450 cents of EUR are written `EUR1234,50` whether they were read so or as `EUR1234,5`.
 pub fn put_mt103(alloc: Global, m: &Mt103) -> Result<Text, Memory>

@@ -116,7 +116,7 @@ fn contact_fault(m: &Mt103) -> Option<Fault>
 ///
 /// The rules are tested in the order of docs/messages.md, "Rules of the MT103", which is that of the handbook's network
 /// validated rules in this profile. The tag of a fault is two digits where the field has options, else the whole tag; `nth`
-/// is 0 where the field is missing.
+/// is 0 where the field is missing. The transfer has at most 65,535 of field 23E.
 #[tactic(auto, unfolding(crate::specs::Rules::all_rules), using(crate::proofs::Parts::first_of_append))]
 pub fn first_rule(m: &Mt103, sender: &Bic, receiver: &Bic, t: &RefTables) -> Option<Fault>
     requires few { length m.now.instrs ≤ most_text_lines }

@@ -1,4 +1,5 @@
-//! The rules of a customer transfer: what its fields ask of one another (docs/messages.md, "Rules of the MT103").
+//! The rules of a customer transfer: what its fields ask of one another (docs/messages.md, "Rules of the MT103"). The function
+//! of a rule says what must hold, and answers the fault of a transfer where it doesn't.
 #![tactic(auto)]
 
 mod amounts;

@@ -46,10 +46,11 @@ impl Mark {
 pub struct Line61 {
     /// The value date.
     pub value: Day,
-    /// The entry date, month and day.
+    /// The entry date, month and day in four digits (MMDD), if there is one. No calendar is asked.
     pub entry: Option<[u8; 4]>,
+    /// Whether it is a credit or a debit, or reverses one.
     pub mark: Mark,
-    /// The funds code, a capital letter.
+    /// The funds code, a capital letter, if there is one.
     pub funds: Option<u8>,
     /// The amount in minor units of the statement's currency.
     pub amount: Minor,
@@ -57,9 +58,9 @@ pub struct Line61 {
     pub kind: [u8; 4],
     /// The reference of the account's owner.
     pub reference: Text,
-    /// The reference of the bank that holds the account.
+    /// The reference of the bank that holds the account, if there is one.
     pub servicer: Option<Text>,
-    /// The further line.
+    /// The further line, if there is one.
     pub detail: Option<Text>,
 }
 

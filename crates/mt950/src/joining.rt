@@ -18,22 +18,25 @@ use std::alloc::Global;
 /// A statement: the pages of one account in their order, as one.
 #[derive(Debug, Drop)]
 pub struct Statement {
+    /// Field 25, the account.
     pub account: Text,
+    /// The currency of its balances and lines, and how many decimals it has.
     pub ccy: Ccy,
     pub decimals: u8,
     /// The balance before the lines, in minor units, credits positive.
     pub opening: i64,
+    /// The lines of all pages in their order.
     pub lines: List<Line61>,
-    /// The balance after the lines.
+    /// The balance after the lines, likewise.
     pub closing: i64,
     /// The day of the last closing.
     pub day: Day,
 }
 
-/// Why pages are no statement. Pages are numbered from 1 by their place.
+/// Why pages are no statement. Pages are numbered from 1 by their place; balances and sums are in minor units, credits positive.
 #[derive(Clone, Copy, Debug, PartialEq, Eq)]
 pub enum PageFault {
-    /// There is no page, or this one doesn't belong here: its account, currency, decimals or statement number is another than the
+    /// There is no page (1), or this one doesn't belong here: its account, currency, decimals or statement number is another than the
     /// first page's, its number doesn't follow, or it opens or closes the statement at another place than the first or the last.
     Gap {
         page: u32,
@@ -44,7 +47,8 @@ pub enum PageFault {
         closing: i64,
         opening: i64,
     },
-    /// The opening and the lines don't give the closing. A sum past the ends of 64 bits is told as that end.
+    /// The opening and the lines don't give the closing; `sum` is what the lines add. A sum past the ends of 64 bits is told as
+    /// that end.
     DoesNotAdd {
         opening: i64,
         sum: i64,
@@ -229,8 +233,9 @@ fn join_with(alloc: Global, first: &Page950, pages: &[Page950]) -> Result<Statem
 /// Else `NotCarried`: the least page that opens at another balance than the page before closed at. Else `DoesNotAdd`: the opening
 /// of the first page and the effects of all lines don't give the closing of the last.
 ///
-/// There are at most 50,000 pages, each of which `read_mt950` gives of fields that were cut from a text (its clause `written`). So the
-/// statement's balances and amounts are below 10^14 minor units, with 4 decimals at most, and its lines give its closing (`sound`).
+/// There are at most 50,000 pages, each of which `read_mt950` gives of fields that were cut from a text (its clause `written`).
+/// So the statement's balances and amounts are below 10^14 minor units, with 4 decimals at most, and its lines give its closing
+/// (`sound`).
 #[tactic(auto, using(crate::proofs::Joins::small_pages), unfolding(crate::specs::Joining::joined_of))]
 pub fn join_pages(alloc: Global, pages: &[Page950]) -> Result<Statement, PageFault>
     requires few { length pages.now ≤ most_pages }

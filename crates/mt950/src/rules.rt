@@ -11,7 +11,7 @@ use corr_money::Ccy;
 use corr_text::{Code, Fault};
 use fin_layout::P24;
 
-/// The first two letters of the currencies of 60a, 62a and 64 differ.
+/// The first two letters of the currencies of 60a, 62a and 64 differ, as the SWIFT User Handbook names it.
 pub const C27: Code = Code(*b"C27");
 
 fn agrees(a: Ccy, b: Ccy) -> bool

@@ -27,7 +27,7 @@ use fin_parties::Party;
 use ref_tables::RefTables;
 use std::alloc::Global;
 
-/// Neither an ordering customer nor an ordering institution in an MT910.
+/// Neither an ordering customer (50a) nor an ordering institution (52a) in an MT910, as the SWIFT User Handbook names it.
 pub const C06: Code = Code(*b"C06");
 
 /// A confirmation of a credit.
@@ -39,7 +39,7 @@ pub struct Mt910 {
     pub related: Text,
     /// 25, the account.
     pub account: Text,
-    /// 13D, when it was booked.
+    /// 13D, when it was booked: a date, a time of day and its distance from UTC, as `2406031215+0200`.
     pub at: Option<Text>,
     /// The value date of 32A.
     pub value: Day,

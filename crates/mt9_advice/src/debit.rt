@@ -36,7 +36,7 @@ pub struct Mt900 {
     pub related: Text,
     /// 25, the account.
     pub account: Text,
-    /// 13D, when it was booked.
+    /// 13D, when it was booked: a date, a time of day and its distance from UTC, as `2406031215+0200`.
     pub at: Option<Text>,
     /// The value date of 32A.
     pub value: Day,
