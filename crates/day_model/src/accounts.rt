@@ -59,9 +59,10 @@ impl Model for Accounts {
 }
 
 impl Accounts {
-    /// Accounts of a home bank, numbered from 1 in the order of the rows.
+    /// Accounts of a home bank, numbered from 1 in the order of the rows, of which `rows_hold` is true.
     ///
-    /// `Unbalanced` comes exactly where the openings of a currency don't sum to 0. `Memory`: there was no room for the sums.
+    /// `Unbalanced` comes exactly where the openings of a currency don't sum to 0, for the first such currency in byte order.
+    /// `Memory`: there was no room for the sums.
     pub fn new(home: Bic, rows: List<Account>) -> Result<Accounts, AccountsFault>
         requires { AreRows rows }
         ensures ok { IfOk result (λ a. a ≡ record { home = home; accounts = rows }) }

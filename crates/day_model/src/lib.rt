@@ -1,4 +1,5 @@
-//! Accounts, pays and the history of a journal.
+//! Accounts, pays and the history of a journal; and workers that enter pays into it, as a machine that takes one event after
+//! another (`Core`).
 #![tactic(auto)]
 
 mod account;

@@ -77,7 +77,8 @@ pub enum Order {
 
 /// What one message asks: two legs, the debit first, and the messages to send on.
 ///
-/// `text` is the message's block 4, its lines each ended by CR LF; `value` is the value date.
+/// `mir` is the message's reference, `uetr` that of the payment, if it has one; `text` is the message's block 4, its lines each
+/// ended by CR LF; `value` is the value date.
 #[derive(Debug, Drop)]
 pub struct Pay {
     pub mir: Mir,
