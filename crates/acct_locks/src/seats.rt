@@ -11,6 +11,7 @@ pub enum View {
     Book(LinkedList<(u64, u64)>, LinkedList<u32>, Option<(u32, (u64, u64))>),
     /// An account and its pair.
     Purse(u32, (u64, u64)),
+    /// Nothing any more: the seat came back.
     Spent,
 }
 
@@ -75,6 +76,8 @@ impl Join<View> for TakeBack {
     ghost spent = { Spent };
 }
 
+/// The table of the seats, which keep the rule.
 pub type SeatTable = Table<u8, View, Vec<(u64, u64)>, Agreement, Global>;
 
+/// A seat of that table.
 pub type SeatOf = Seat<u8, View>;

@@ -34,7 +34,8 @@ impl Model for Front {
 }
 
 impl Front {
-    /// A new word, and its first seat.
+    /// A new word, which is 0, and the writer with its first seat, which begins with the entries that the caller's contract
+    /// names. `Memory`: there was no room for the word.
     pub fn new(alloc: Global) -> Result<(Front, Writer), Memory>
         ghost base: { List Entry }
         ensures { IfOk result (λ r. r.1 ≡ beginner r.0 base) }

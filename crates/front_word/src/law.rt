@@ -3,6 +3,7 @@
 use crate::view::View;
 use atomic_table::TableRule;
 
+/// What is true of the word and of what all seats know, between any two steps (`Ruled`).
 pub struct Law;
 
 impl TableRule<(), View, ()> for Law {

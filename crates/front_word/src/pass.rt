@@ -38,7 +38,8 @@ impl Model for Pass {
 }
 
 impl Pass {
-    /// Sees the word as it is now.
+    /// Looks at the word, and answers it: how many entries were acknowledged. It is no less than what the pass saw before
+    /// (`later`), and than how many entries it knows (`known`).
     pub fn look(&mut self, f: &Front) -> u64
         requires table { f.now ≡ self.old.table }
         ensures seen { self.new ≡ record self.old { seen = result } }
@@ -49,21 +50,21 @@ impl Pass {
         self.seen
     }
 
-    /// What this pass has seen.
+    /// The word as this pass saw it last, by `look` or `meet`; 0 before that.
     pub fn seen(&self) -> u64
         ensures { result ≡ self.now.seen }
     {
         self.seen
     }
 
-    /// The places at which calls with this pass answered, in their order.
+    /// The places, from 1, at which calls with this pass answered, in the order of the calls: those that `meet` was given.
     pub fn mine(&self) -> &[u32]
         ensures { result.now ≡ self.now.mine }
     {
         self.mine.as_slice()
     }
 
-    /// Makes room for one more place.
+    /// Makes room for one more place, and changes nothing else. `Memory`: there is none.
     pub fn reserve(&mut self) -> Result<(), Memory>
         ensures same { self.new ≡ record self.old { spare = self.new.spare } }
         ensures room { OnOk result (0 < self.new.spare) }
@@ -71,7 +72,11 @@ impl Pass {
         self.mine.reserve(1).map_err(|_| Memory)
     }
 
-    /// Lets the pass know all that the writer knows, and keeps a place.
+    /// Lets the pass know all that the writer knows, and keeps a place, if one is given. Then both look at the word, and nothing
+    /// is owed.
+    ///
+    /// Where a place is given, `reserve` has made room for it. Before the call nothing is owed, or an entry to this pass: then the
+    /// place is given, and is that of the last entry.
     pub fn meet(&mut self, f: &Front, w: &mut Writer, place: Option<u32>)
         requires pass { f.now ≡ self.old.table }
         requires writer { f.now ≡ w.old.table }

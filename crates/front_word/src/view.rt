@@ -9,7 +9,7 @@ pub struct Act {
     pub entry: Entry,
 }
 
-/// Whose seat it is.
+/// Whose seat it is: the writer's, a pass's, a copy of one of them, or nobody's any more.
 pub enum Role {
     Spent,
     Writer,
@@ -39,6 +39,10 @@ pub enum Of {
 }
 
 /// What a seat knows.
+///
+/// `number` is the pass's, from 1. `base` are the entries that the writer began with, `known` a beginning of those published since.
+/// `mark` is a count of the disk's faults, `seen` the word as a pass saw it last. `made` is how many passes a writer has made,
+/// `owed` the pass that may not know the last entry yet, which is its own, and `back` the passes that came back.
 pub struct View {
     pub role: Role,
     pub number: u64,

@@ -38,7 +38,8 @@ impl Model for Writer {
 }
 
 impl Writer {
-    /// Adds one to the word. Which entry this is, and for which pass, is named by the caller's contract.
+    /// Adds one to the word. Which entry this is, and for which pass, is named by the caller's contract; it is owed to that pass
+    /// then. Before, nothing is owed, and there are fewer than 100,000 entries.
     pub fn publish(&mut self, f: &Front)
         ghost act: { Act }
         requires table { f.now ≡ self.old.table }
@@ -60,7 +61,7 @@ impl Writer {
         f.table.shared.fetch_add::<Publish<A>>(&mut self.seat, 0, 1);
     }
 
-    /// Raises the mark to a count where it is less.
+    /// Raises the mark, a count of the disk's faults, to this count where it is less.
     pub fn mark(&mut self, f: &Front, count: u64)
         requires table { f.now ≡ self.old.table }
         ensures { self.new ≡ record self.old { mark = max self.old.mark count } }
@@ -77,7 +78,8 @@ impl Writer {
         f.table.shared.load::<Raise<C>>(&mut self.seat, 0);
     }
 
-    /// A new pass, which knows what the writer knows.
+    /// A new pass with the next number, from 1, which knows what the writer knows and has no place yet. Where memory runs out,
+    /// the writer is as it was.
     pub fn split(&mut self, alloc: Global, f: &Front) -> Result<Pass, Memory>
         requires table { f.now ≡ self.old.table }
         ensures pass { IfOk result (λ p. p ≡ newcomer self.old p.spare) }
@@ -92,7 +94,9 @@ impl Writer {
         })
     }
 
-    /// Takes a pass back, and looks.
+    /// Takes a pass back, and looks: so what the pass knew is a beginning of what was published (`known`), its mark is at most
+    /// the writer's (`mark`), it hadn't come back before (`back`), and each entry of its own that it knew has its place in `mine`
+    /// (`places`).
     pub fn join(&mut self, f: &Front, p: Pass)
         requires writer { f.now ≡ self.old.table }
         requires pass { f.now ≡ p.table }
