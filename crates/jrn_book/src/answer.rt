@@ -16,7 +16,8 @@ pub enum Committed {
 pub enum CommitFault {
     /// Another pay with its reference stands at this place.
     Conflict { place: u32 },
-    /// The history has 100,000 entries, or with the record's `need` bytes after `end` the file would pass 2^30 bytes.
+    /// The history has 100,000 entries, or the file would pass 2^30 bytes: `entries` is how many there are, `end` the place of
+    /// the closed gate, and `need` the length of the pay's record and 6.
     Full { entries: u32, end: u64, need: u64 },
     /// A call of the disk failed: its count of faults before and after.
     DiskFault { before: u64, after: u64 },

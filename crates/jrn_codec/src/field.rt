@@ -1,4 +1,5 @@
-//! Fields at the front of bytes: the value, and the bytes after it.
+//! Fields at the front of bytes: the value, and the bytes after it. Numbers are big-endian. `NoEntry`: the bytes are too few, or
+//! spell no such value.
 
 ghost use Rattle.std.specs.Prelude.{◌≡◌, IfOk, length};
 ghost use Rattle.std.specs.Int.{w16, w32, w64};
@@ -8,6 +9,7 @@ ghost use Rattle.jrn_codec.specs.Reading.{cut, byte_at, number_at, signed_at, bi
 use crate::fault::EntryFault;
 use corr_ids::{Bic, read_bic};
 
+/// So many bytes.
 pub fn cut(bytes: &[u8], n: usize) -> Result<(&[u8], &[u8]), EntryFault>
     ensures value { AnswersRead (λ x. (x.0.now, x.1.now)) result (cut n bytes.now) }
     ensures long { IfOk result (λ x. length x.0.now ≡ n) }
@@ -18,6 +20,7 @@ pub fn cut(bytes: &[u8], n: usize) -> Result<(&[u8], &[u8]), EntryFault>
     Ok(bytes.split_at(n))
 }
 
+/// One byte.
 pub fn byte_at(bytes: &[u8]) -> Result<(u8, &[u8]), EntryFault>
     ensures { AnswersRead (λ x. (x.0, x.1.now)) result (byte_at bytes.now) }
 {
@@ -27,6 +30,7 @@ pub fn byte_at(bytes: &[u8]) -> Result<(u8, &[u8]), EntryFault>
     }
 }
 
+/// A number of two bytes.
 pub fn u16_at(bytes: &[u8]) -> Result<(u16, &[u8]), EntryFault>
     ensures { AnswersRead (λ x. (x.0, x.1.now)) result (number_at w16 bytes.now) }
 {
@@ -48,6 +52,7 @@ fn u32_at(bytes: &[u8]) -> Result<(u32, &[u8]), EntryFault>
     Ok((number, rest))
 }
 
+/// A number of eight bytes.
 pub fn u64_at(bytes: &[u8]) -> Result<(u64, &[u8]), EntryFault>
     ensures { AnswersRead (λ x. (x.0, x.1.now)) result (number_at w64 bytes.now) }
 {
@@ -61,6 +66,7 @@ pub fn u64_at(bytes: &[u8]) -> Result<(u64, &[u8]), EntryFault>
     Ok((number, rest))
 }
 
+/// A signed number of four bytes, in two's complement.
 #[tactic(auto, unfolding(crate::specs::Reading::signed_at))]
 pub fn i32_at(bytes: &[u8]) -> Result<(i32, &[u8]), EntryFault>
     ensures { AnswersRead (λ x. (x.0, x.1.now)) result (signed_at w32 bytes.now) }
@@ -69,6 +75,7 @@ pub fn i32_at(bytes: &[u8]) -> Result<(i32, &[u8]), EntryFault>
     Ok((number.cast_signed(), rest))
 }
 
+/// A signed number of eight bytes, in two's complement.
 #[tactic(auto, unfolding(crate::specs::Reading::signed_at))]
 pub fn i64_at(bytes: &[u8]) -> Result<(i64, &[u8]), EntryFault>
     ensures { AnswersRead (λ x. (x.0, x.1.now)) result (signed_at w64 bytes.now) }
@@ -77,6 +84,7 @@ pub fn i64_at(bytes: &[u8]) -> Result<(i64, &[u8]), EntryFault>
     Ok((number.cast_signed(), rest))
 }
 
+/// A BIC of 11 characters.
 #[tactic(auto, unfolding(crate::specs::Reading::spelled_at))]
 pub fn bic_at(bytes: &[u8]) -> Result<(Bic, &[u8]), EntryFault>
     ensures { AnswersRead (λ x. (x.0, x.1.now)) result (bic_at bytes.now) }
@@ -88,6 +96,7 @@ pub fn bic_at(bytes: &[u8]) -> Result<(Bic, &[u8]), EntryFault>
     }
 }
 
+/// Bytes after their number in one byte.
 #[tactic(auto, unfolding(crate::specs::Reading::short_at))]
 pub fn short_at(bytes: &[u8]) -> Result<(&[u8], &[u8]), EntryFault>
     ensures { AnswersRead (λ x. (x.0.now, x.1.now)) result (short_at bytes.now) }
@@ -96,6 +105,7 @@ pub fn short_at(bytes: &[u8]) -> Result<(&[u8], &[u8]), EntryFault>
     cut(rest, n as usize)
 }
 
+/// Bytes after their number in four bytes.
 #[tactic(auto, unfolding(crate::specs::Reading::long_at))]
 pub fn long_at(bytes: &[u8]) -> Result<(&[u8], &[u8]), EntryFault>
     ensures { AnswersRead (λ x. (x.0.now, x.1.now)) result (long_at bytes.now) }

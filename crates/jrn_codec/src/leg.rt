@@ -124,6 +124,7 @@ fn legs_of(alloc: Global, count: u8, bytes: &[u8]) -> Result<(List<Leg>, &[u8]),
     Ok((legs, rest))
 }
 
+/// Legs after their number in one byte.
 #[tactic(auto, unfolding(crate::specs::Reading::listed_at))]
 pub fn legs_at(alloc: Global, bytes: &[u8]) -> Result<(List<Leg>, &[u8]), EntryFault>
     ensures { AnswersRead (λ x. (x.0, x.1.now)) result (listed_at leg_at bytes.now) }

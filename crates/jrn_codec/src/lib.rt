@@ -1,4 +1,5 @@
-//! The bytes of the journal's records: one spelling for each entry and each header.
+//! The bytes of the journal's records: one spelling for each entry and each header (docs/journal.md, "The header record" and
+//! "The record of an entry").
 #![tactic(auto)]
 
 mod entry;

@@ -128,6 +128,7 @@ fn orders_of(
     Ok((orders, rest))
 }
 
+/// Orders after their number in one byte; a leg that an order names is one of so many.
 #[tactic(auto, unfolding(crate::specs::Reading::listed_at))]
 pub fn orders_at(
     alloc: Global,

@@ -9,10 +9,12 @@ use thiserror::Error;
 /// Why a journal was not opened.
 #[derive(Debug, Drop, Error)]
 pub enum OpenFault {
-    /// The disk is empty, its first byte is a closed gate, or its first record is not whole.
+    /// The disk is empty, its first byte is a closed gate, or its first record is not whole. Whoever reads the records says so
+    /// too where the first is no header.
     #[error("no journal")]
     NotAJournal,
-    /// The open gate at this place has no whole record with a gate after it.
+    /// The open gate at this place, in bytes from 0, has no whole record with a gate after it. Whoever reads the records says so
+    /// too where that record is none that may stand there.
     #[error("damaged at {at}")]
     Damaged { at: u64 },
     /// A call of the disk failed: its count of faults before and after.
@@ -26,7 +28,7 @@ pub enum OpenFault {
 /// Why a journal was not made.
 #[derive(Debug, Drop, Error)]
 pub enum MakeFault {
-    /// The disk has more than one byte, and its first is not 0.
+    /// The disk has more than one byte, and its first is this one, not 0.
     #[error("exists {first}")]
     Exists { first: u8 },
     /// A call of the disk failed: its count of faults before and after.
@@ -40,7 +42,7 @@ pub enum MakeFault {
 /// Why a record was not appended.
 #[derive(Clone, Copy, Debug, PartialEq, Eq, Drop)]
 pub enum AppendFault {
-    /// With the record's `need` bytes after `end`, the file would pass 2^30 bytes.
+    /// The file would pass 2^30 bytes: `end` is the place of the closed gate, and `need` the length of the record and 6.
     Full { end: u64, need: u64 },
     /// A call of the disk failed: its count of faults before and after.
     DiskFault { before: u64, after: u64 },

@@ -101,7 +101,7 @@ impl<D: Disk> JFile<D> {
         self.disk.faults()
     }
 
-    /// The place of the closed gate. Takes no memory.
+    /// The place of the closed gate, in bytes from 0. Takes no memory.
     pub fn end(&self) -> u64
         ensures { result ≡ end_of self.now }
     {

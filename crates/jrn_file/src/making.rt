@@ -31,9 +31,9 @@ enum Front {
 /// 0, and gives the disk back.
 ///
 /// `Exists` comes exactly where the disk has more than one byte and its first byte is not 0: nothing is written
-/// then. `DiskFault` comes only where the disk's count of faults rose, which it does at nothing else. Bytes after
-/// the new journal stay as they are. Where the disk stops at any moment, it
-/// holds the new journal, or `create` may be given again.
+/// then. `DiskFault` comes only where the disk's count of faults rose, which it does at nothing else. `Memory` comes
+/// before any call of the disk. Bytes after the new journal stay as they are. Where the disk stops at any moment, it
+/// holds the new journal, or `create` may be given again. The header record has at most 1,048,576 bytes.
 pub fn create<D: Disk>(alloc: Global, disk: D, head: &[u8]) -> Result<D, (D, MakeFault)>
     requires { length head.now ≤ most_header_bytes }
 
