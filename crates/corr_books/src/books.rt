@@ -62,7 +62,7 @@ impl<N: BooksName, D: Disk> Books<N, D> {
 
     /// Books a pay, by any thread that has a pass of these books: waits for the locks of its two accounts in rising order,
     /// passes the gate, waits for the journal and commits. The pass then knows all that was entered before, and its own
-    /// places have that of the answer after `New` and `Kept`.
+    /// places have that of the answer after `New` and `Kept`. `worker` is told to the gate alone.
     ///
     /// The pay fits the accounts of the books and has the shape of what is written down. It answers as `commit` does, and each
     /// answer shows its cause by what the pass knows then (`Told`): `New` the entry, past all that the pass knew; `Kept` and

@@ -28,7 +28,7 @@ use std::marker::{Brand, Model};
 /// Why books were not opened.
 #[derive(Debug, Drop)]
 pub enum BooksFault {
-    /// The journal was not opened.
+    /// The journal was not opened; or there was no memory for the word, as `OpenFault::Memory`.
     Open(OpenFault),
     /// The journal's last entry has this day, which is after that of the books.
     DateBack { last: Day },
@@ -66,8 +66,8 @@ impl<D: Disk> Model for Opened<D> {
 /// Opens the books of a journal for a day: its accounts and its history, a purse for each account, and the word that counts
 /// what is entered from now on. They have no name and no locks yet. It syncs the disk, reads it once and writes nothing.
 ///
-/// The day is of 1980 to 2079. `Open` comes exactly as `open_book` refuses the journal; `DateBack` exactly where the last
-/// entry's day is after `day`.
+/// The day is of 1980 to 2079. `Open` comes exactly as `open_book` refuses the journal, and with `Memory` also where there is none
+/// for the word; `DateBack` exactly where the last entry's day is after `day`. The disk comes back with each refusal.
 pub fn open_books<D: Disk>(alloc: Global, disk: D, day: Day) -> Result<Opened<D>, (D, BooksFault)>
     requires century { InCentury day }
 

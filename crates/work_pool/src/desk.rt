@@ -20,7 +20,7 @@ pub trait Desk {
     /// Which pass and reply may follow from a pass and a job.
     ghost serves: { Self → Self.Pass → Self.Job → Self.Pass → Self.Reply → Type 0 };
 
-    /// Serves a job with the pass of a worker. The desk takes that pass before and after.
+    /// Serves a job with the pass of a worker, whose number is `worker`, from 1. The desk takes that pass before and after.
     fn serve<R: Wait, G: Gate>(
         &self,
         rt: &R,

@@ -4,7 +4,7 @@ use corr_ids::Mir;
 
 /// Where a worker passes between its account locks and the journal. A test holds workers there.
 pub trait Gate {
-    /// Is called by a worker at the job with this message input reference. It may take its time.
+    /// Is called by the worker with this number, from 1, at the job with this message input reference. It may take its time.
     fn pass(&self, worker: u32, mir: &Mir);
 }
 
