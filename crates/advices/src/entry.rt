@@ -154,7 +154,8 @@ fn messages(alloc: Global, a: &Accounts, pay: &Pay, place: u32) -> Result<List<T
 /// currency and decimals of the accounts and which asks for these orders at banks that the tables hold, it passes the tests of
 /// a sent message.
 ///
-/// The pay fits the accounts and has the shape of one that can be written down; the home BIC meets its grammar.
+/// The pay fits the accounts and has the shape of one that can be written down; the home BIC meets its grammar; `place` is 1 to
+/// 100,000.
 pub fn orders(alloc: Global, a: &Accounts, e: &Entry, place: u32) -> Result<List<Text>, Memory>
     requires home { IsBic a.now.home }
     requires fits { FitsAccounts a.now e.now.pay }

@@ -81,7 +81,8 @@ fn put_unrouted(number: &[u8], mir: &Mir, code: &Code, out: &mut Text) -> Result
 
 /// Adds the line of the `n`-th message, as in the report. `room` is where its number is made; lines share it.
 ///
-/// The history is legal for the accounts, and has the place that the reply names. `Memory`: there was no room for the line.
+/// The history is legal for the accounts, and has the place that the reply names. `Memory`: there was no room for the line;
+/// then a part of it may have been added.
 pub fn put_reply_line(
     alloc: Global,
     a: &Accounts,
@@ -149,7 +150,7 @@ pub(crate) fn put_counts(
 
 /// Adds the end of a report, after the lines of its replies: the counts of messages and entries, and the totals.
 ///
-/// The history is legal for the accounts. `Memory`: there was no room for it.
+/// The history is legal for the accounts. `Memory`: there was no room for it; then a part of it may have been added.
 pub fn put_report_end(
     alloc: Global,
     a: &Accounts,

@@ -19,7 +19,7 @@ use std::alloc::Global;
 /// number, from 1, for a line.
 #[derive(Debug, Drop)]
 pub struct Compared {
-    /// An entry and the line that says the same, in the order of the lines.
+    /// The place of an entry and the number of the line that says the same, in the order of the lines.
     pub pairs: List<(u32, u32)>,
     /// The entries that no line says, in the order of the journal.
     pub ours: List<u32>,
@@ -57,9 +57,9 @@ pub fn compare_with(
 ///
 /// Our entries are the booked ones of the statement's day with a leg on the account, in the order of the journal. Each line in its
 /// order takes the first of them that no line before it took, and that adds to our balance what the line takes from it, with the
-/// line's value date, quoting the line's reference (`first`). So each entry and each line stands in just one of the three lists (`once`). The
-/// gaps are our balance before the day with the opening of the statement, and our balance after it with the closing; they differ by
-/// what is in no pair (`adds`).
+/// line's value date, quoting the line's reference (`first`). So each entry and each line stands in just one of the three lists
+/// (`once`). The gaps are our balance before the day with the opening of the statement, and our balance after it with the closing;
+/// they differ by what is in no pair (`adds`).
 ///
 /// The history is legal and its pays can be written down; the statement is one that `join_pages` gives of pages that `read_mt950`
 /// gives. It should have the account's currency and decimals: nothing here reads them. Out of memory is the only error; a

@@ -1,4 +1,4 @@
-//! The codes with which a payment that has no route is refused.
+//! The codes with which a payment that has no route is refused, which are this program's own (docs/messages.md, "All codes").
 
 use corr_text::Code;
 

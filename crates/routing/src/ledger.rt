@@ -47,7 +47,7 @@ fn serves(wanted: &Wanted, amount: &Amount, account: &Account) -> bool
     }
 }
 
-/// The account of this kind that a bank owns, in the amount's currency and decimals.
+/// The account of this kind that a bank owns, in the amount's currency and decimals; none where there is none.
 pub fn account_with(kind: Kind, bank: &Bic, amount: &Amount, a: &Accounts) -> Option<AcctNo>
     ensures value { result ≡ account_with (kind_letter kind) bank.now amount.now a.now }
     ensures fits { IfSome result (λ n. IsTrue (fits_at a.now amount.now n)) }

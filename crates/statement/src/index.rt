@@ -46,7 +46,7 @@ fn ledgers(alloc: Global, a: &Accounts) -> Result<Vec<Ledger>, Memory>
 }
 
 impl HistoryIndex {
-    /// The index of a history.
+    /// The index of a history that is legal for the accounts. `Memory`: there was no room for it.
     pub fn new(alloc: Global, a: &Accounts, h: &History) -> Result<HistoryIndex, Memory>
         requires legal { IsLegal a.now h.now.entries }
         ensures { IfOk result (λ ix. IsIndexOf ix (record { chart = a.now; entries = h.now.entries })) }
@@ -107,7 +107,7 @@ impl HistoryIndex {
         Ok(())
     }
 
-    /// Adds the next entry of the history. Where memory runs out, the index is as it was.
+    /// Adds the next entry of the history, which stays legal with it. Where memory runs out, the index is as it was.
     pub fn add(&mut self, e: &Entry) -> Result<(), Memory>
         requires { (book : SeenBook) × TakesNext self.old e.now book }
         ensures ok { OnOk result ((book : SeenBook) → TakesNext self.old e.now book → IsIndexOf self.new (grown book e.now)) }
@@ -150,7 +150,7 @@ impl HistoryIndex {
         self.ledger(n).balance_before(day)
     }
 
-    /// The balance of an account by the entries up to a day, in minor units. Takes no memory.
+    /// The balance of an account by the entries up to and on a day of 1980 to 2079, in minor units. Takes no memory.
     pub fn balance_up_to(&self, n: AcctNo, day: Day) -> i64
         requires account { (book : SeenBook) × HasAccount self.now n.0 book }
         requires day { InCentury day }
@@ -159,7 +159,7 @@ impl HistoryIndex {
         self.ledger(n).balance_before(day_after(day))
     }
 
-    /// What is booked on an account on a day, in the order of the journal. Takes no memory.
+    /// What is booked on an account on a day of 1980 to 2079, in the order of the journal. Takes no memory.
     pub fn booked_on(&self, n: AcctNo, day: Day) -> &[Movement]
         requires account { (book : SeenBook) × HasAccount self.now n.0 book }
         requires day { InCentury day }

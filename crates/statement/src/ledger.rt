@@ -15,7 +15,8 @@ use corr_text::{Memory, Text};
 use day_model::{Account, AcctNo, Leg, Side};
 use std::alloc::Global;
 
-/// An account with its movements, whose days never fall.
+/// An account with its movements, whose days never fall. `opening` is the balance before the first of them, in minor units,
+/// credits positive.
 #[derive(Debug, Drop)]
 pub struct Ledger {
     pub id: Text,

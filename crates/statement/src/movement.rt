@@ -10,7 +10,11 @@ use day_model::{Mt, Side};
 use std::alloc::Global;
 use std::marker::Model;
 
-/// A booked leg on an account: the place and the day of its entry, what a line says of it, and the balance after its entry.
+/// A booked leg on an account: the place (from 1) and the day of its entry, what a line says of it, and the balance after its
+/// entry.
+///
+/// `value` is the value date, and `reference` what the line quotes. `amount` and `balance` are in minor units, a balance with
+/// credits positive.
 #[derive(Debug, Drop)]
 pub struct Movement {
     pub place: u32,
