@@ -117,8 +117,8 @@ pub fn plain<S: Source, K: Sink, D: Disk>(
 /// vostro accounts are sent of that day. `reconcile` reads the tables of banks, currencies and countries, opens the journal, reads
 /// the received messages, and writes what is told of their statements against the books. `generate COUNT SEED` writes a day of
 /// messages, made from a number, to `out`, and `trial COUNT SEED WORKERS` the summary of such a day, run over a journal in memory
-/// by 1 to 16 workers; they touch nothing else. Other words are `Usage`. Nothing is written but at `Done`, and a front part of
-/// both together at `WriteFault`.
+/// by 1 to 16 workers; they touch nothing else. Other words are `Usage`. To the report and to `out` nothing is written but at
+/// `Done`, and a front part of both together at `WriteFault`; what was entered stands in the journal at each status.
 pub fn corr<R: Wait + Threads + Sync, S: Source, K: Sink, D: Disk + Drop + Send, G: Gate + Sync>(
     rt: &R,
     alloc: Global,

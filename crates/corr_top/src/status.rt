@@ -42,13 +42,13 @@ pub enum Status {
     Damaged {
         at: u64,
     },
-    /// The openings of a currency's accounts sum to this many minor units, and not to 0.
+    /// The openings of a currency's accounts sum to this many minor units, and not to 0: the first such currency in byte order.
     Unbalanced {
         ccy: Ccy,
         decimals: u8,
         sum: i64,
     },
-    /// The disk holds something else than an unmade journal: its first byte.
+    /// The disk on which a journal is to be made has more than one byte, and its first is this one, not 0.
     Exists {
         first: u8,
     },
@@ -58,18 +58,18 @@ pub enum Status {
     DateBack {
         last: Day,
     },
-    /// The message file passes a limit: how many bytes there are up to and with the first that passes one, and how many
-    /// messages begin in them.
+    /// The message file, or in `reconcile` that of received statements, passes 67,108,864 bytes or 50,000 messages: how many
+    /// bytes there are up to and with the first that passes a limit, and how many messages begin in them.
     TooLarge {
         bytes: u64,
         messages: u32,
     },
-    /// The message file can't be cut: the place of the fault, in bytes from 0.
+    /// The message file, or in `reconcile` that of received statements, can't be cut: the place of the fault, in bytes from 0.
     Framing {
         at: u64,
     },
-    /// A pay found no room in the journal: how many entries there were, the place of the closed gate, and how many bytes the
-    /// pay needed after it.
+    /// A pay found no room in the journal, the first such in the order of the messages: how many entries there were, the place of
+    /// the closed gate, in bytes from 0, and how many bytes the pay needed after it.
     Full {
         entries: u32,
         end: u64,
