@@ -1,3 +1,5 @@
+//! Account locks: purses taken in rising order, also by two threads, and totals that agree with the sides.
+
 ghost use Rattle.std.specs.Prelude.{◌≡◌, ◌<◌, ◌≤◌, length, IfOk};
 ghost use Rattle.day_model.specs.Legal.{IsLegal};
 ghost use Rattle.acct_locks.specs.Holdings.{Holds};

@@ -1,3 +1,5 @@
+//! The record of an entry and that of a header, read and written again.
+
 use corr_text::{Buf, Text};
 use jrn_codec::{EntryFault, put_entry, put_head, read_entry, read_head};
 use std::test::*;

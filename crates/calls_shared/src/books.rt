@@ -1,3 +1,5 @@
+//! Books over disks in memory: one thread, and two threads at once, a gate between their locks and the journal.
+
 ghost use Rattle.std.specs.Prelude.{◌≡◌, IfOk};
 ghost use Rattle.day_model.specs.Fit.{FitsAccounts};
 ghost use Rattle.day_model.specs.Shape.{HasShape};
@@ -26,8 +28,6 @@ use work_pool::{Gate, OpenGate};
 type Answer = Result<Committed, CommitFault>;
 
 const DAY: Day = Day(19_877);
-
-// ---- the accounts, and a journal of them
 
 fn account(
     alloc: Global,
@@ -140,8 +140,6 @@ fn journal<R: Abort>(rt: &R, alloc: Global, entries: u32) -> Result<Text, Fail> 
     Ok(bytes)
 }
 
-// ---- answers
-
 fn new(place: u32) -> Answer {
     Ok(Committed::New {
         place,
@@ -155,8 +153,6 @@ fn kept(place: u32) -> Answer {
         outcome: Outcome::Booked,
     })
 }
-
-// ---- two threads
 
 // Waits for at most 1,000,000 turns, each of which yields; whether the flag is up then.
 fn is_raised(flag: &AtomicBool) -> bool {
@@ -411,8 +407,6 @@ fn a_held_pay_holds_a_pay_of_one_of_its_accounts(rt: HostRuntime) -> Result<(), 
     assert!(rt; both.one == new(1) && both.two == new(2));
     Ok(())
 }
-
-// ---- one thread
 
 // What a pay and then another answer with one of two passes, what a close with the other pass alone tells, and whether all close.
 #[derive(Drop)]

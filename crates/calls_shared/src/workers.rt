@@ -1,3 +1,5 @@
+//! Workers: jobs are dealt out to passes in turn.
+
 ghost use Rattle.std.specs.Prelude.{◌≡◌, ◌≤◌};
 ghost use Rattle.work_pool.specs.Served.{most_workers};
 
