@@ -25,7 +25,7 @@ pub fn is_named(f: &FieldLines<'_>, tag: u8, letters: &[u8]) -> bool
     f.tag() == tag && has_letter(f, letters)
 }
 
-/// The first field of this tag and one of these letters.
+/// The first field of this tag and one of these letters, none where there is none.
 pub fn first_named<'a, 't>(
     fields: &'a [FieldLines<'t>],
     tag: u8,

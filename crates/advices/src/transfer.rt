@@ -16,7 +16,7 @@ use fin_contents::{Value, put_ccy_amount, put_reference, put_value};
 use fin_fields::{Field, FieldLines};
 use std::alloc::Global;
 
-/// 56a, where it is passed on.
+/// 56a, if there is one and it is passed on.
 pub fn intermediary<'a, 't>(fields: &'a [FieldLines<'t>], skip: Skip) -> Option<&'a FieldLines<'t>>
     ensures { some_field (λ f. f.now) result ≡ intermediary skip fields.now }
 {
@@ -26,7 +26,7 @@ pub fn intermediary<'a, 't>(fields: &'a [FieldLines<'t>], skip: Skip) -> Option<
     }
 }
 
-/// 57a, where it is passed on.
+/// 57a, if there is one and it is passed on.
 pub fn account_bank<'a, 't>(fields: &'a [FieldLines<'t>], skip: Skip) -> Option<&'a FieldLines<'t>>
     ensures { some_field (λ f. f.now) result ≡ account_bank skip fields.now }
 {

@@ -25,7 +25,8 @@ fn has_mir_form(b: &[u8]) -> bool
         && all_digits(&b[18..])
 }
 
-/// The reference that these bytes spell: a valid date `6!n`, an LT address, a session `4!n`, a sequence number `6!n`.
+/// The reference that these bytes spell: a valid date `6!n`, an LT address, a session `4!n`, a sequence number `6!n`; none where
+/// they are anything else.
 ///
 /// `240603ALPHDEFFAXXX0001000001` was sent on 3 June 2024 by terminal `A` of `ALPHDEFF`, in its session 1 as number 1.
 #[inline(always)]

@@ -36,7 +36,7 @@ fn put_line(
 
 /// The entries of a journal, a line each: its place, its day, its message's MIR, and `BOOKED` with both legs (`D` or
 /// `C`, the account's id and the amount) or `UNFUNDED` with the account of the failing leg and its balance then
-/// (docs/operating.md, "Bookings"). Each entry has a day from 1980 to 2079.
+/// (docs/operating.md, "Bookings"). The history is legal for the accounts, and each entry has a day from 1980 to 2079.
 ///
 /// `Memory`: there was no room for the text.
 pub fn bookings(alloc: Global, a: &Accounts, h: &History) -> Result<Text, Memory>

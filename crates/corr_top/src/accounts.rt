@@ -81,7 +81,7 @@ fn make_accounts(
 }
 
 /// The accounts of a home bank over the table files, each read and tested before the next: banks, currencies, countries,
-/// accounts. Then the openings are summed.
+/// accounts. Then the openings are summed. The status is that of the first test that fails.
 pub fn open_accounts<S: Source>(
     alloc: Global,
     home: Bic,

@@ -18,7 +18,8 @@ pub struct Directory {
     pub ssi: Ssi,
 }
 
-/// The directory of the table files, each read and tested before the next: banks, currencies, countries, instructions.
+/// The directory of the table files, each read and tested before the next: banks, currencies, countries, instructions; or why
+/// the first that fails wasn't taken.
 pub fn read_directory<S: Source>(
     alloc: Global,
     files: &mut Tables<S>,

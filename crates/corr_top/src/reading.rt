@@ -43,7 +43,7 @@ fn make_chunk(alloc: Global) -> Result<Vec<u8>, AllocError>
     vec![in alloc; 0u8; CHUNK]
 }
 
-/// The bytes of a source up to its end, or one byte more than `limit` where it has more than that.
+/// The bytes of a source up to its end, or one byte more than `limit` where it has more than that. `Fault`: a read failed.
 pub fn read_whole<S: Source>(alloc: Global, source: &mut S, limit: usize) -> Result<Text, ReadStop>
     requires { limit < 2 ^ 32 }
     ensures read { IfOk result (Took S.left S.faults limit source.old source.new) }

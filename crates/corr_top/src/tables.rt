@@ -135,7 +135,8 @@ fn read_countries<S: Source>(
     Ok(with_countries(alloc, known, file.bytes())?)
 }
 
-/// What the tables of banks, currencies and countries say, each read and tested before the next.
+/// What the tables of banks, currencies and countries say, each read and tested before the next; or why the first that fails
+/// wasn't taken.
 pub fn read_known<S: Source>(alloc: Global, files: &mut Tables<S>) -> Result<RefTables, TableStop>
     ensures fine { IfOk result (HasKnown S.Source files.old files.new) }
     ensures few { IfOk result (λ known. IsTrue (few_decimals known.ccys)) }
@@ -146,7 +147,7 @@ pub fn read_known<S: Source>(alloc: Global, files: &mut Tables<S>) -> Result<Ref
     read_countries(alloc, with_ccys, &mut files.countries)
 }
 
-/// The rows of the table of accounts of a home bank.
+/// The rows of the table of accounts of a home bank, or why it wasn't taken.
 pub fn read_rows<S: Source>(
     alloc: Global,
     home: &Bic,
@@ -162,7 +163,7 @@ pub fn read_rows<S: Source>(
     Ok(read_accounts(alloc, file.bytes(), home, known)?)
 }
 
-/// The instructions.
+/// The table of instructions, or why it wasn't taken.
 pub fn read_instructions<S: Source>(
     alloc: Global,
     known: &RefTables,

@@ -63,7 +63,8 @@ pub fn balance_with(account: &Account, totals: (u64, u64)) -> i64
     (account.opening as i128 + totals.0 as i128 - totals.1 as i128) as i64
 }
 
-/// Each account's credits and debits over the booked entries of a history, in minor units; account 1's come first.
+/// Each account's credits and debits over the booked entries of a history that is legal for the accounts, in minor units;
+/// account 1's come first.
 pub fn totals(alloc: Global, a: &Accounts, h: &History) -> Result<Vec<(u64, u64)>, Memory>
     requires legal { IsLegal a.now h.now.entries }
     ensures value { IfOk result (λ pairs. HasTotals pairs.items (length a.now.accounts) h.now.entries) }

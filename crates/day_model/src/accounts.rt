@@ -113,7 +113,8 @@ impl Accounts {
         Some(AcctNo(at as u32 + 1))
     }
 
-    /// The least number of an account of this kind, with this head of its owner, this currency and these decimals.
+    /// The least number of an account of this kind, with this head of its owner, this currency and these decimals; none where
+    /// there is no such account.
     pub fn owned(&self, kind: u8, head: &[u8; 8], ccy: Ccy, decimals: u8) -> Option<AcctNo>
         ensures { result ≡ number_of_first (is_owned kind head.now ccy decimals) self.now.accounts }
     {

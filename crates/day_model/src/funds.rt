@@ -55,6 +55,8 @@ fn after_entry(balance: i64, entry: &Entry, n: AcctNo) -> i64
 
 /// The balance of an account after a history, in minor units: its opening, plus the credits and minus the debits
 /// of the booked entries. It lies within the account's floor and ceiling, and the balances of a currency sum to 0.
+///
+/// The history is legal for the accounts.
 pub fn balance(a: &Accounts, h: &History, n: AcctNo) -> i64
     requires legal { IsLegal a.now h.now.entries }
     requires listed { IsListed a.now n.0 }
@@ -92,6 +94,8 @@ pub fn may_hold(account: &Account, balance: i64) -> bool
 
 /// What becomes of a pay after a history: booked where each leg leaves its account within floor and ceiling,
 /// else unfunded, with the first leg that doesn't, from 1, and its account's balance before it, in minor units.
+///
+/// The history is legal for the accounts, and the pay fits them.
 pub fn decide(a: &Accounts, h: &History, p: &Pay) -> Outcome
     requires legal { IsLegal a.now h.now.entries }
     requires fits { FitsAccounts a.now p.now }

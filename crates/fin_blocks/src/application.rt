@@ -84,7 +84,7 @@ pub fn read_app(group: Option<&[u8]>) -> Option<App>
     }
 }
 
-/// The reference of a received message.
+/// The reference of a received message; none of a sent one.
 pub fn mir_of(app: &App) -> Option<Mir>
     ensures { result ≡ mir_in app.now }
 {

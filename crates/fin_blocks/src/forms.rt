@@ -13,7 +13,7 @@ pub fn is_plain(b: &[u8]) -> bool
     b.iter().all(|c| *c != b'{' && *c != b'}')
 }
 
-/// What stands between a start and an end.
+/// What stands between a start and an end; none where a group doesn't begin and end so.
 #[tactic(auto, unfolding(crate::specs::Forms::between))]
 pub fn between<'a>(start: &[u8], end: &[u8], group: &'a [u8]) -> Option<&'a [u8]>
     ensures { option_map (λ b. b.now) result ≡ between_of start.now end.now group.now }
@@ -21,7 +21,7 @@ pub fn between<'a>(start: &[u8], end: &[u8], group: &'a [u8]) -> Option<&'a [u8]
     group.strip_prefix(start)?.strip_suffix(end)
 }
 
-/// What a block holds that begins so.
+/// What a block holds that begins so; none of another group.
 pub fn inside<'a>(start: &[u8], group: Option<&'a [u8]>) -> Option<&'a [u8]>
     requires { length start.now < 8 }
     ensures { option_map (λ b. b.now) result ≡ inside_of start.now (option_map (λ b. b.now) group.entry) }
@@ -44,7 +44,7 @@ fn is_tagged(b: &[u8]) -> bool
     b.len() >= 4 && b[3] == b':' && is_plain(&b[4..])
 }
 
-/// The piece that a group is.
+/// The piece that a group is; none of a group of another form.
 #[tactic(auto, unfolding(crate::specs::Forms::tagged_of))]
 pub fn read_tagged(group: Option<&[u8]>) -> Option<Tagged<'_>>
     ensures value { option_map (λ t. (t.tag.now, t.text.now)) result ≡ tagged_of (option_map (λ b. b.now) group.entry) }
@@ -60,7 +60,7 @@ pub fn read_tagged(group: Option<&[u8]>) -> Option<Tagged<'_>>
     })
 }
 
-/// The number of three digits.
+/// The number of three digits, none where one of the bytes is no digit.
 #[tactic(auto, using(crate::proofs::Numbers::three))]
 pub fn three_digits(b: &[u8]) -> Option<u16>
     requires { length b.now ≡ 3 }

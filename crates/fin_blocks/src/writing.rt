@@ -81,8 +81,8 @@ fn put_lines(text: &[u8], out: &mut Text) -> Result<(), Memory>
 /// block 2 of input form with normal priority, block 3 where there is any subblock, and block 4. `read_blocks` reads
 /// it to these parts. Out of memory is the only error.
 ///
-/// The numbers of `user` have up to three digits and differ, their texts have no braces, and 121 is a UETR; `text`
-/// has no braces and is lines that end with CR LF.
+/// `home` and `to` meet the grammar of a BIC, and `mt` has up to three digits. The numbers of `user` have up to three digits and
+/// differ, their texts have no braces, and 121 is a UETR; `text` has no braces and is lines that end with CR LF.
 #[tactic(auto, using(crate::proofs::ReadBack::reading_back), unfolding(crate::specs::Sending::sent_text))]
 pub fn put_blocks(
     alloc: Global,

@@ -1,5 +1,6 @@
 //! The fields of a message type in their order: which place each field takes, which field is at fault, and what the
-//! fields at a place say. Every message type names its places and its kinds of content, and has the rest from here.
+//! fields at a place say. Every message type names its places and its kinds of content, and has the rest from here. A message
+//! has at most 65,535 fields.
 #![tactic(auto)]
 
 mod content;

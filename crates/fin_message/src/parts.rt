@@ -19,7 +19,7 @@ pub fn type_of(app: &App) -> u16
     }
 }
 
-/// The reference of a message of output form.
+/// The reference of a message of output form; none of one of input form.
 pub fn mir_of(app: &App) -> Option<Mir>
     ensures { result ≡ mir_in app.now }
 {
@@ -60,7 +60,7 @@ fn subblock(user: &[(u16, Text)], number: u16) -> Option<usize>
     user.iter().position(|s| s.0 == number)
 }
 
-/// What block 3 holds under a number.
+/// What block 3 holds under a number; none where it has no such subblock.
 pub fn user_text(blocks: &Blocks, number: u16) -> Option<&[u8]>
     ensures { option_map (λ text. text.now) result ≡ subblock_under number blocks.now.user }
 {

@@ -89,7 +89,8 @@ impl<D: Disk> JrnBook<D> {
     /// that isn't funded), as many and 5 more for the frame that is appended, one entry more in the history and one reference
     /// more in the index. Where there is room for this pay already, it takes none. The disk isn't called.
     ///
-    /// The room is for this pay alone: a `reserve` of another pay takes its place, and the next `commit` may use it up.
+    /// The room is for this pay alone: a `reserve` of another pay takes its place, and the next `commit` may use it up. The pay
+    /// has the shape of one that can be written down.
     ///
     /// `Memory`: there is none. Then there is room for no pay, and all else of the book is as it was.
     pub fn reserve(&mut self, p: &Pay) -> Result<(), Memory>

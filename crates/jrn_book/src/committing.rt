@@ -133,8 +133,8 @@ impl<D: Disk> JrnBook<D> {
     /// Enters a pay on a day, booked where the totals of the held accounts allow it, and adds its legs to the held purses.
     /// Where its reference is entered nothing changes. After `reserve` of the same pay it takes no memory.
     ///
-    /// The pay fits the accounts; its accounts are held, of the purses that `open_book` gave with this book; the day is of
-    /// 1980 to 2079, and no entry has a later one.
+    /// The pay fits the accounts and has the shape of one that can be written down; its accounts are held, of the purses that
+    /// `open_book` gave with this book; the day is of 1980 to 2079, and no entry has a later one.
     ///
     /// In this order: `Broken` comes exactly where an earlier commit answered DiskFault; `Memory` where there is none;
     /// `Kept` exactly where the same pay is entered, and `Conflict` where another with its reference is; `Full` exactly where the

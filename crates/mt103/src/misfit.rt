@@ -77,7 +77,7 @@ fn fault_at(code: Code, at: Option<usize>) -> Option<Fault>
     }
 }
 
-/// The first instruction whose code came before: E46 with the tag 23E and its occurrence.
+/// The first instruction whose code came before: E46 with the tag 23E and its occurrence. None where there is no such one.
 pub fn e46(instrs: &[Instr]) -> Option<Fault>
     requires { length instrs.now ≤ most_text_lines }
     ensures { result ≡ e46 instrs.now }
@@ -86,7 +86,7 @@ pub fn e46(instrs: &[Instr]) -> Option<Fault>
 }
 
 /// The first instruction whose code stands before that of an earlier one in the list of codes: D98 with the tag 23E and its
-/// occurrence.
+/// occurrence. None where there is no such one.
 pub fn d98(instrs: &[Instr]) -> Option<Fault>
     requires { length instrs.now ≤ most_text_lines }
     ensures { result ≡ d98 instrs.now }

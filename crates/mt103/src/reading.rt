@@ -14,7 +14,8 @@ use fin_layout::{Found, MtFault};
 use ref_tables::RefTables;
 use std::alloc::Global;
 
-/// Puts what fields at these places say into a message, whatever it said.
+/// Puts what fields at these places say into a message, whatever it said. `Bad`: what is wrong with the first that is refused, or
+/// P23 where one that must be there is missing before it; then the message may say anything.
 #[tactic(auto, unfolding(crate::specs::Parts::contents_into))]
 pub fn fill_contents(
     alloc: Global,

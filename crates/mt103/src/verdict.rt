@@ -100,7 +100,8 @@ pub fn fill_mt103(
 /// in the order of the text, with its field's tag and occurrence; then E46, the first 23E whose code came before; then D98,
 /// the first 23E whose code stands before an earlier one's in the list of codes. Where no test of the fields fails they say
 /// a message (`complete`), so there is no other refusal. The amount of 32A is above zero and below 10^14 minor units
-/// (`amount`). `put_mt103` takes what fields of a text say (`written`). The rules of the transfer are not tested here.
+/// (`amount`). `put_mt103` takes what fields of a text say (`written`). The rules of the transfer are not tested here. There are
+/// at most 65,535 fields.
 #[tactic(auto, using(crate::proofs::Complete::complete))]
 pub fn read_mt103(alloc: Global, f: &[Field], t: &RefTables) -> Result<Mt103, MtFault>
     requires few { length f.now ≤ most_text_lines }

@@ -35,7 +35,7 @@ pub fn e16(m: &Mt103) -> Option<Fault>
     broken(is_op(m, b"SPRI") && m.p56.is_some(), E16, *b"56 ", 1)
 }
 
-/// SSTD and SPAY have 56a by option A, or by option C with a clearing code.
+/// SSTD and SPAY have no 56D, and no 56C without a clearing code.
 #[tactic(auto, unfolding(crate::specs::Rules::e17))]
 pub fn e17(m: &Mt103) -> Option<Fault>
     ensures { result ≡ e17 m.now }

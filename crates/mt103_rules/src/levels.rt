@@ -26,7 +26,7 @@ pub fn e04(m: &Mt103) -> Option<Fault>
     broken(has_level(m) && is_bare_b(&m.p53), E04, *b"53 ", 1)
 }
 
-/// A service level has 54a by option A.
+/// A service level has no 54a of another option than A.
 #[tactic(auto, unfolding(crate::specs::Rules::e05))]
 pub fn e05(m: &Mt103) -> Option<Fault>
     ensures { result ≡ e05 m.now }
@@ -34,7 +34,7 @@ pub fn e05(m: &Mt103) -> Option<Fault>
     broken(has_level(m) && is_not_a(&m.p54), E05, *b"54 ", 1)
 }
 
-/// A service level has 55a by option A.
+/// A service level has no 55a of another option than A.
 #[tactic(auto, unfolding(crate::specs::Rules::e07))]
 pub fn e07(m: &Mt103) -> Option<Fault>
     ensures { result ≡ e07 m.now }

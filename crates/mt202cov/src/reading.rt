@@ -40,7 +40,7 @@ fn message(a: SequenceA, b: SequenceB) -> Mt202Cov
     }
 }
 
-/// The cover that fields at these places say.
+/// The cover that fields at these places say. `Bad`: what is wrong with the first of them that is refused.
 #[tactic(auto, unfolding(crate::specs::Parts::contents_in_parts))]
 pub fn read_contents(
     alloc: Global,

@@ -29,7 +29,7 @@ use std::alloc::Global;
 /// being one order; then each content in the order of the text, with its field's tag and occurrence; then the rules, C81
 /// where 56a stands without 57a in sequence A, and C68 where it does in sequence B. Where no test of the fields fails they
 /// say a cover (`complete`), so there is no other refusal. The amount of a cover is above zero and below 10^14 minor units
-/// (`amount`). `put_mt202cov` takes what fields of a text say (`written`).
+/// (`amount`). `put_mt202cov` takes what fields of a text say (`written`). There are at most 65,535 fields.
 #[tactic(auto, using(crate::proofs::Complete::complete))]
 pub fn read_mt202cov(alloc: Global, f: &[Field], t: &RefTables) -> Result<Mt202Cov, MtFault>
     requires { length f.now ≤ most_text_lines }

@@ -27,7 +27,7 @@ use std::alloc::Global;
 /// order of the text, with its field's tag and occurrence, the amounts of 61 in the currency of 60a; then C27 of 62a, where the
 /// first two letters of the currencies of 60a, 62a and 64 differ; then P24 of 62a and of 64, where the whole currency does. Where
 /// no test of the fields fails they say balances and lines (`complete`), so there is no other refusal. `put_mt950` takes what
-/// fields of a text say (`written`).
+/// fields of a text say (`written`). There are at most 65,535 fields.
 #[tactic(auto, using(crate::proofs::Complete::complete_950))]
 pub fn read_mt950(alloc: Global, f: &[Field], t: &RefTables) -> Result<Page950, MtFault>
     requires few { length f.now ≤ most_text_lines }

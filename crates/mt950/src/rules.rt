@@ -45,7 +45,7 @@ fn available_is_same(opening: Ccy, available: &Option<Stated>) -> bool
 }
 
 /// The first rule that is broken: C27 of 62a, where the first two letters of the currencies differ; then P24 of 62a and of 64,
-/// where the whole currency is another than that of 60a.
+/// where the whole currency is another than that of 60a. None where none is broken.
 pub fn currency_fault(said: &Said) -> Option<Fault>
     ensures { result ≡ first_of (currency_rules said.now) }
 {

@@ -24,7 +24,8 @@ pub struct Booking {
     pub value: Value,
 }
 
-/// The entry that the fields at the first five places of an order say.
+/// The entry that the fields at the first five places of an order say. `Bad`: what is wrong with the first of them that is
+/// refused.
 #[tactic(auto, unfolding(crate::specs::Parts::booking_of))]
 pub fn read_booking(
     alloc: Global,

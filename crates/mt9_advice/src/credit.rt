@@ -128,7 +128,7 @@ fn c06(m: &Mt910) -> Option<Fault>
 /// content in the order of the text, with its field's tag and occurrence; then C06 with the tag 50 and occurrence 0, where
 /// neither 50a nor 52a is there. Where no test of the fields fails they say a confirmation (`complete`), so there is no other
 /// refusal. The amount is above zero and below 10^14 minor units (`amount`). `put_mt910` takes what fields of a text say
-/// (`written`).
+/// (`written`). There are at most 65,535 fields.
 #[tactic(auto, using(crate::proofs::Complete::complete_910))]
 pub fn read_mt910(alloc: Global, f: &[Field], t: &RefTables) -> Result<Mt910, MtFault>
     requires few { length f.now ≤ most_text_lines }

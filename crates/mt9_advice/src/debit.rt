@@ -84,7 +84,7 @@ fn read_contents(
 /// `Bad` tells the first test that fails (docs/messages.md, "MT900 and MT910"): P22 and P23 of the order of fields; then each
 /// content in the order of the text, with its field's tag and occurrence. Where no test fails the fields say a confirmation
 /// (`complete`), so there is no other refusal. The amount is above zero and below 10^14 minor units (`amount`). `put_mt900` takes
-/// what fields of a text say (`written`).
+/// what fields of a text say (`written`). There are at most 65,535 fields.
 #[tactic(auto, using(crate::proofs::Complete::complete_900))]
 pub fn read_mt900(alloc: Global, f: &[Field], t: &RefTables) -> Result<Mt900, MtFault>
     requires few { length f.now ≤ most_text_lines }

@@ -1,4 +1,4 @@
-//! The forms of columns (docs/tables.md, "Columns").
+//! The forms of columns (docs/tables.md, "Columns"). What is read of a cell is none where the cell has another form.
 
 ghost use Rattle.std.specs.Prelude.{◌≡◌, None, option_map, pos, Some, if◌then◌else◌};
 ghost use Rattle.ref_tables.specs.Columns.{decimals_in_cell, is_account_id as is_account_id_of, is_ccy, is_country, kind_in_cell, magnitude_of, signed_of, yes_of};

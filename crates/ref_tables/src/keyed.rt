@@ -30,7 +30,7 @@ pub trait KeyedRow<const N: usize, V> {
         ensures bad { IfErr result (λ why. fault seen.now.entries (fields_of row.now) ≡ Some why) };
 }
 
-/// A key that no earlier row has, or the first row that has it.
+/// Tests that no earlier row has a key: else `Double` tells the first that has it, from 1.
 pub fn unseen<const N: usize, V>(seen: &IndexMap<[u8; N], V>, key: &[u8; N]) -> Result<(), Why>
     requires { index_map_len seen.now < most_banks }
     ensures new { OnOk result (get bytes_eq seen.now key.now ≡ None) }
@@ -67,7 +67,7 @@ fn enter_rows<const N: usize, V: Drop, R: KeyedRow<N, V>>(
     Ok(seen)
 }
 
-/// Reads the file of a table of at most `most` rows.
+/// Reads the file of a table of at most `most` rows. `Bad` tells the first row that fails, from 1, or 0 for the whole file.
 #[tactic(auto, using(crate::proofs::laws::Records::rows_within_some))]
 pub fn read_keyed<const N: usize, V: Drop, R: KeyedRow<N, V>>(
     alloc: Global,

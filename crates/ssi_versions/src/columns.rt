@@ -1,4 +1,5 @@
-//! The forms of the columns that no other table has (docs/tables.md, "ssi").
+//! The forms of the columns that no other table has (docs/tables.md, "ssi"). What is read of a cell is none where the cell has
+//! another form.
 
 ghost use Rattle.std.specs.Prelude.{◌≡◌};
 ghost use Rattle.ssi_versions.specs.Rows.{is_bank_text, method_of, via_of};

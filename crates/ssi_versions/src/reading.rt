@@ -109,7 +109,7 @@ fn read_row(
     }
 }
 
-/// The table that rows make.
+/// The table that rows make. `Bad` tells the first row that fails, from 1, and why.
 pub fn enter_rows(alloc: Global, t: &RefTables, rows: &[ByteRecord]) -> Result<Ssi, TableFault>
     requires { length rows.now ≤ most_instructions }
     ensures ok { IfOk result (λ s. (first_bad_row (against instruction_of (instruction_fault t.now)) [] (map fields_of rows.now) ≡ None)
