@@ -149,7 +149,7 @@ fn put_message(alloc: Global, i: u32, minor: u64, out: &mut Text) -> Result<(), 
 /// A day of `count` transfers to HOMEUS33 on 3 June 2024, made from a number, each followed by `$`: in turn euros from
 /// ALPHDEFF for a customer of BETAFRPP, yen from DELTJPJT for a customer of the house, and euros from ALPHDEFF for a
 /// customer of the house, 1 to 100 minor units each. The `i`-th has the reference `G` and `i` in six digits, and `i` as
-/// its sequence number.
+/// its sequence number (docs/operating.md, "A generated day").
 ///
 /// `count` is at most 50,000. `Memory`: there was no room for the text.
 pub fn generated(alloc: Global, count: u32, seed: u64) -> Result<Text, Memory>

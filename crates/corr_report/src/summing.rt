@@ -33,8 +33,7 @@ fn put_balances(alloc: Global, a: &Accounts, h: &History, out: &mut Text) -> Res
 }
 
 /// The summary of a history each of whose entries came of one message: the counts of messages and entries, the debits
-/// and credits of each currency, as in a report, and a line for each account with its balance (docs/operating.md, "The
-/// report").
+/// and credits of each currency, as in a report, and a line for each account with its balance (docs/operating.md, "A trial").
 ///
 /// The history is legal for the accounts. `Memory`: there was no room for the text.
 pub fn summary(alloc: Global, a: &Accounts, h: &History) -> Result<Text, Memory>

@@ -31,7 +31,8 @@ pub struct Compared {
     pub closing_gap: i64,
 }
 
-/// What `compare` gives, from an index of the history: in the time of the account's entries of that day and of the lines.
+/// What `compare` gives, from an index of the history, under its conditions. Of the history it looks at the
+/// account's entries alone.
 pub fn compare_with(
     alloc: Global,
     ix: &HistoryIndex,

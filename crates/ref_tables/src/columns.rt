@@ -6,7 +6,7 @@ ghost use Rattle.ref_tables.specs.Columns.{decimals_in_cell, is_account_id as is
 use corr_money::Ccy;
 use corr_text::{Set, digits, is_all_of};
 
-/// A currency code: three capital letters.
+/// A currency code: three capital letters; none of any other bytes.
 pub fn ccy(b: &[u8]) -> Option<Ccy>
     ensures { result ≡ (if is_ccy b.now then Some (record { 0 = b.now }) else None) }
 {
@@ -18,7 +18,7 @@ pub fn ccy(b: &[u8]) -> Option<Ccy>
     Some(Ccy(code))
 }
 
-/// A country code: two capital letters.
+/// A country code: two capital letters, as characters 5 and 6 of a BIC.
 pub fn country(b: &[u8]) -> Option<[u8; 2]>
     ensures { result ≡ (if is_country b.now then Some b.now else None) }
 {

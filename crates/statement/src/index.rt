@@ -20,8 +20,8 @@ use corr_text::Memory;
 use day_model::{Accounts, AcctNo, Entry, History, Leg, Outcome};
 use std::alloc::Global;
 
-/// An index of a history: for each account its booked legs in their order, each with the balance after it. So a statement takes
-/// the time of its account's entries, and not of the whole history.
+/// An index of a history: for each account its booked legs in their order, each with the balance after it. So a statement goes
+/// through the legs of its account, and not through the whole history.
 ///
 /// Contracts see whose index it is by `IsIndexOf`: of which accounts, and of which entries.
 #[derive(Debug, Drop)]

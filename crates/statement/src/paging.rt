@@ -43,8 +43,8 @@ fn lines_from(movements: &[Movement], first: usize) -> &[Movement]
     between(rest, 0, LINES)
 }
 
-/// The statement of an account on a day, from an index of the history: what `pages` gives, under its conditions, in the time of
-/// the account's entries of that day.
+/// The statement of an account on a day, from an index of the history: what `pages` gives, under its conditions. Of the history
+/// it looks at the account's entries alone.
 pub fn pages_with(ix: &HistoryIndex, n: AcctNo, day: Day) -> Result<List<Text>, Memory>
     requires { (book : SeenBook) × Prints ix.now n.0 day book }
     ensures value { IfOk result (λ texts. (book : SeenBook) → Prints ix.now n.0 day book → texts ≡ pages_of book.chart book.entries n.0 day) }
