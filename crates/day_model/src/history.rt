@@ -49,7 +49,7 @@ impl History {
         }
     }
 
-    /// Makes room for one entry more. The entries stay.
+    /// Makes room for one entry more. The entries are as they were, whatever it answers.
     pub fn reserve(&mut self) -> Result<(), Memory>
         ensures same { self.new.entries ≡ self.old.entries }
         ensures room { OnOk result (1 ≤ self.new.spare) }

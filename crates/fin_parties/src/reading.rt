@@ -45,7 +45,7 @@ fn copy_line(alloc: Global, line: Option<&[u8]>) -> Result<Option<Text>, Memory>
     }
 }
 
-/// The account of a first line: what stands after its slash.
+/// The account of a first line: what stands after its slash; none without a line.
 pub fn copy_account(alloc: Global, line: Option<&[u8]>) -> Result<Option<Text>, Memory>
     ensures { IfOk result (λ copy. copy ≡ option_map (λ b. drop 1 b.now) line.entry) }
 {

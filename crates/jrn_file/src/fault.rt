@@ -14,7 +14,7 @@ pub enum OpenFault {
     #[error("no journal")]
     NotAJournal,
     /// The open gate at this place, in bytes from 0, has no whole record with a gate after it. Whoever reads the records says so
-    /// too where that record is none that may stand there.
+    /// too where the record after it is whole and may not stand there.
     #[error("damaged at {at}")]
     Damaged { at: u64 },
     /// A call of the disk failed: its count of faults before and after.
