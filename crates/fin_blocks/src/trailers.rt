@@ -39,7 +39,7 @@ fn trailers_in(alloc: Global, b: &[u8]) -> Result<Option<List<[u8; 3]>>, Memory>
     Ok(Some(trailers))
 }
 
-/// The codes of block 5: an empty list where the group is another, none where it is block 5 and not of its form.
+/// The codes of block 5: an empty list where there is no group or another, none where it is block 5 and not of its form.
 pub fn read_trailers(alloc: Global, group: Option<&[u8]>) -> Result<Option<List<[u8; 3]>>, Memory>
     ensures { IfOk result (λ o. o ≡ optional (λ b. each_of trailer_of (groups_of b)) (inside_of (codes "{5:") (option_map (λ b. b.now) group.entry))) }
 {

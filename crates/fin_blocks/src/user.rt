@@ -124,7 +124,7 @@ fn distinct_subblocks(alloc: Global, b: &[u8]) -> Result<Option<List<(u16, Text)
     Ok(Some(user))
 }
 
-/// The subblocks of block 3: an empty list where the group is another, none where it is block 3 and not of its form.
+/// The subblocks of block 3: an empty list where there is no group or another, none where it is block 3 and not of its form.
 pub fn read_user(alloc: Global, group: Option<&[u8]>) -> Result<Option<List<(u16, Text)>>, Memory>
     ensures { IfOk result (λ o. o ≡ optional subblocks_in (inside_of (codes "{3:") (option_map (λ b. b.now) group.entry))) }
 {

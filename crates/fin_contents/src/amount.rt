@@ -49,8 +49,8 @@ fn amount_code(e: AmountFault) -> Code
     }
 }
 
-/// The minor units that bytes spell in a currency with so many decimals, or the code of what is wrong with them: T40, T43, C03
-/// or P27.
+/// The minor units that bytes spell in a currency with so many decimals, at most 4, or the code of what is wrong with them: T40,
+/// T43, C03 or P27.
 ///
 /// Example: with two decimals `1234,5` is 123450, and `1234` is T40.
 pub fn minor_in(decimals: u8, b: &[u8]) -> Result<Minor, Code>

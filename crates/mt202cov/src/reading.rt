@@ -40,7 +40,8 @@ fn message(a: SequenceA, b: SequenceB) -> Mt202Cov
     }
 }
 
-/// The cover that fields at these places say. `Bad`: what is wrong with the first of them that is refused.
+/// The cover that fields at these places say. `Bad`: what is wrong with the first of them that is refused, or P23 where one that
+/// must be there is missing before it.
 #[tactic(auto, unfolding(crate::specs::Parts::contents_in_parts))]
 pub fn read_contents(
     alloc: Global,

@@ -53,7 +53,8 @@ fn read_lines(
     read_all(alloc, &line, fields, found, LINES)
 }
 
-/// What fields at these places say. `Bad`: what is wrong with the first of them that is refused.
+/// What fields at these places say. `Bad`: what is wrong with the first of them that is refused, or P23 where one that must be
+/// there is missing before it.
 #[tactic(auto, unfolding(crate::specs::Page::said_of))]
 pub fn read_said(
     alloc: Global,

@@ -25,7 +25,7 @@ pub struct Booking {
 }
 
 /// The entry that the fields at the first five places of an order say. `Bad`: what is wrong with the first of them that is
-/// refused.
+/// refused, or P23 where one that must be there is missing before it.
 #[tactic(auto, unfolding(crate::specs::Parts::booking_of))]
 pub fn read_booking(
     alloc: Global,

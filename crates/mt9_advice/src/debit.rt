@@ -36,7 +36,7 @@ pub struct Mt900 {
     pub related: Text,
     /// 25, the account.
     pub account: Text,
-    /// 13D, when it was booked: a date, a time of day and its distance from UTC, as `2406031215+0200`.
+    /// 13D, when it was booked: a date, a time of day and its distance from UTC, as `2406031215+0200`. The form alone is tested.
     pub at: Option<Text>,
     /// The value date of 32A.
     pub value: Day,
