@@ -74,7 +74,7 @@ fn next_by_one(text: &[u8], from: usize) -> usize
     at
 }
 
-/// The place, from 0, of the first brace from a place on; the length of the text where there is none.
+/// The place, from 0, of the first brace from a place on, which is the text's length at most; that length where there is none.
 #[inline(never)]
 pub fn next_brace(text: &[u8], from: usize) -> usize
     requires { from ≤ length text.now }

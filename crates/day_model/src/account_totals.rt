@@ -14,7 +14,7 @@ use crate::pay::{Leg, Side};
 use corr_text::Memory;
 use std::alloc::Global;
 
-/// An account's credits and debits, in minor units, with a leg added.
+/// An account's credits and debits, in minor units, with a leg added. They stay below 2^64.
 pub fn with_leg(totals: (u64, u64), leg: &Leg) -> (u64, u64)
     requires fits { Fits64 (plus totals (leg_pair leg.now)) }
     ensures value { result ≡ plus totals (leg_pair leg.now) }
@@ -34,7 +34,8 @@ fn add_leg(pairs: &mut Vec<(u64, u64)>, leg: &Leg)
     pairs[at] = with_leg(pairs[at], leg);
 }
 
-/// Adds legs to their accounts' credits and debits, in minor units, in a list that begins with those of account 1.
+/// Adds legs to their accounts' credits and debits, in minor units, in a list that begins with those of account 1. The accounts
+/// are in the list, and credits and debits stay below 2^64.
 pub fn add_legs(pairs: &mut Vec<(u64, u64)>, legs: &[Leg])
     requires listed { All (λ leg. (1 ≤ leg.account.0) × (leg.account.0 ≤ length pairs.old.items)) legs.now }
     requires fits { PairsFit legs.now pairs.old.items }

@@ -56,7 +56,7 @@ fn after_entry(balance: i64, entry: &Entry, n: AcctNo) -> i64
 /// The balance of an account after a history, in minor units: its opening, plus the credits and minus the debits
 /// of the booked entries. It lies within the account's floor and ceiling, and the balances of a currency sum to 0.
 ///
-/// The history is legal for the accounts.
+/// The history is legal for the accounts, and the account is one of them.
 pub fn balance(a: &Accounts, h: &History, n: AcctNo) -> i64
     requires legal { IsLegal a.now h.now.entries }
     requires listed { IsListed a.now n.0 }

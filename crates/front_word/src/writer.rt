@@ -38,8 +38,8 @@ impl Model for Writer {
 }
 
 impl Writer {
-    /// Adds one to the word. Which entry this is, and for which pass, is named by the caller's contract; it is owed to that pass
-    /// then. Before, nothing is owed, and there are fewer than 100,000 entries.
+    /// Adds one to the word. Which entry this is, and for which of the passes that this writer made, is named by the caller's
+    /// contract; it is owed to that pass then. Before, nothing is owed, and there are fewer than 100,000 entries.
     pub fn publish(&mut self, f: &Front)
         ghost act: { Act }
         requires table { f.now ≡ self.old.table }

@@ -62,9 +62,9 @@ pub fn compare_with(
 /// (`once`). The gaps are our balance before the day with the opening of the statement, and our balance after it with the closing;
 /// they differ by what is in no pair (`adds`).
 ///
-/// The history is legal and its pays can be written down; the statement is one that `join_pages` gives of pages that `read_mt950`
-/// gives. It should have the account's currency and decimals: nothing here reads them. Out of memory is the only error; a
-/// statement of 2^32 lines or more is told so too.
+/// The history is legal for the accounts, of which `n` is one, and its pays can be written down; the statement is one that
+/// `join_pages` gives of pages that `read_mt950` gives. It should have the account's currency and decimals: nothing here reads
+/// them. Out of memory is the only error; a statement of 2^32 lines or more is told so too.
 pub fn compare(
     alloc: Global,
     a: &Accounts,

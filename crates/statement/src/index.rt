@@ -142,7 +142,7 @@ impl HistoryIndex {
         self.alloc
     }
 
-    /// The balance of an account by the entries of earlier days, in minor units. Takes no memory.
+    /// The balance of an account of the index by the entries of earlier days, in minor units. Takes no memory.
     pub fn balance_before(&self, n: AcctNo, day: Day) -> i64
         requires { (book : SeenBook) × HasAccount self.now n.0 book }
         ensures { (book : SeenBook) → HasAccount self.now n.0 book → result ≡ balance_of book.chart (before_day day book.entries) n.0 }
@@ -150,7 +150,7 @@ impl HistoryIndex {
         self.ledger(n).balance_before(day)
     }
 
-    /// The balance of an account by the entries up to and on a day of 1980 to 2079, in minor units. Takes no memory.
+    /// The balance of an account of the index by the entries up to and on a day of 1980 to 2079, in minor units. Takes no memory.
     pub fn balance_up_to(&self, n: AcctNo, day: Day) -> i64
         requires account { (book : SeenBook) × HasAccount self.now n.0 book }
         requires day { InCentury day }
@@ -159,7 +159,7 @@ impl HistoryIndex {
         self.ledger(n).balance_before(day_after(day))
     }
 
-    /// What is booked on an account on a day of 1980 to 2079, in the order of the journal. Takes no memory.
+    /// What is booked on an account of the index on a day of 1980 to 2079, in the order of the journal. Takes no memory.
     pub fn booked_on(&self, n: AcctNo, day: Day) -> &[Movement]
         requires account { (book : SeenBook) × HasAccount self.now n.0 book }
         requires day { InCentury day }

@@ -82,7 +82,8 @@ pub fn pages_with(ix: &HistoryIndex, n: AcctNo, day: Day) -> Result<List<Text>, 
 /// up to the day (`closes`). Each message is `accepted`: under all tables that hold the owner's head and the account's currency
 /// with its decimals no test of a sent message fails, and the message says its page. Out of memory is the only error.
 ///
-/// The history is legal and its pays can be written down; the home BIC meets its grammar; the day lies in 1980 to 2079.
+/// The history is legal for the accounts, of which `n` is one, and its pays can be written down; the home BIC meets its grammar;
+/// the day lies in 1980 to 2079.
 pub fn pages(
     alloc: Global,
     a: &Accounts,
