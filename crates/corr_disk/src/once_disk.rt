@@ -21,7 +21,7 @@ pub struct OnceDisk {
 
 impl OnceDisk {
     /// A disk that holds these bytes, all of them synced. Its call number `fail` fails; the first call has
-    /// number 1, and with 0 none fails.
+    /// number 1, and none has number 0.
     pub fn new(alloc: Global, bytes: Text, fail: u64) -> OnceDisk
         ensures honest { IsTrue (⟦<OnceDisk as Disk>⟧.honest result) }
         ensures reads { ⟦<OnceDisk as Disk>⟧.reads result ≡ bytes }

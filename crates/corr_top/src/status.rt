@@ -69,7 +69,7 @@ pub enum Status {
         at: u64,
     },
     /// A pay found no room in the journal, the first such in the order of the messages: how many entries there were, the place of
-    /// the closed gate, in bytes from 0, and how many bytes the pay needed after it.
+    /// the closed gate, in bytes from 0, and how many bytes the pay needed from there on.
     Full {
         entries: u32,
         end: u64,
