@@ -1,19 +1,23 @@
 -- Message files: what their bytes show, and what a cutter that was fed them knows.
 use Rattle.std.proofs.Common.{◌≡◌, ℕ, ◌+◌, ◌-◌, ◌<◌, ◌≤◌, ◌⊎◌, inl, inr, List, [], ◌∷◌, ◌++◌, length, take, drop, Some, None, Ok, refl, sym, ap, ◌∙◌, subst, arith, append_assoc, length-append}
 use Rattle.std.specs.Prelude.{All}
+use Rattle.std.specs.List.{position, position_or_len}
 use Rattle.std.proofs.lemmas.List.{append-nil, length-take-le, take-append-drop}
 use Rattle.std.proofs.lemmas.Bool.{cases_lt}
+use Rattle.std.proofs.lemmas.Bool.Decides.{nat_tests}
 use Rattle.std.proofs.lemmas.List.Elements.{All-append, All-cons}
+use Rattle.std.proofs.lemmas.List.Quantifiers.{position-Some}
+use Rattle.std.proofs.lemmas.List.Sums.{fails_before_first}
 use Rattle.std.proofs.lemmas.Option.{none-some}
 use Rattle.fin_frame.specs.Cutting.{EndsInput, Knows, WasFed}
 use Rattle.fin_frame.specs.File.{IsCutInto, IsFileOf, lead}
 use Rattle.fin_frame.specs.File.IsFileOf.{start as file_start, more as file_more}
 use Rattle.fin_frame.specs.Machine.{State, at_start, run}
-use Rattle.fin_frame.specs.Shown.{HasBegun, HaveBegun}
+use Rattle.fin_frame.specs.Shown.{HasBegun, HasNoColon, HaveBegun, is_colon}
 use Rattle.fin_frame.specs.Shown.HasBegun.{begun as has_begun}
 use Rattle.fin_frame.specs.declared.cutter.Cutter.{Cutter}
 use Rattle.fin_frame.specs.declared.fault.FrameFault.{FrameFault}
-use Rattle.fin_frame.proofs.laws.Counting.{begun-few}
+use Rattle.fin_frame.proofs.laws.Counting.{begun-few, begun-quiet}
 use Rattle.fin_frame.proofs.laws.Led.{Rests, file-run, message-leads}
 use Rattle.fin_frame.proofs.laws.Led.Rests.{rests_apart, rests_after}
 use Rattle.fin_frame.proofs.laws.Running.{run-append, run-failed}
@@ -73,10 +77,23 @@ large-here c file fed (b ∷ rest) given bytes messages so_far whole some stop =
   begun = stop.2;
 }
 
+-- where the bytes pass no limit, no message past the last that is allowed has begun
+few-so-far : (fed : List ℕ) (begun : ℕ) → (IsPast fed → ⊥) → HaveBegun fed begun → 50000 < begun → ⊥
+few-so-far fed begun within have over = by have.last
+  where
+    by : (begun ≡ 0) ⊎ HasBegun fed begun → ⊥
+    by (inl none) = omega (arith, none, over)
+    by (inr has) = within (inr (begun, over, has))
+
 -- a piece of so few bytes passes no limit
-within-limits : (fed piece : List ℕ) (begun : ℕ) → HaveBegun fed begun → length fed + length piece ≤ 67108864 → begun + length piece ≤ 50000 → IsPast (fed ++ piece) → ⊥
-within-limits fed piece begun have short few (inl long) = let e = length-append fed piece in omega arith
-within-limits fed piece begun have short few (inr more) = let most = begun-few fed piece have more.2 in let over = more.1 in omega arith
+within-limits : (fed rest : List ℕ) (n begun : ℕ) → (IsPast fed → ⊥) → HaveBegun fed begun → length (take n rest) ≡ n → length fed + n ≤ 67108864 → (begun < 50000 → begun + n ≤ 50000) → (50000 ≤ begun → HasNoColon n rest)
+    → IsPast (fed ++ take n rest) → ⊥
+within-limits fed rest n begun within have size short few quiet (inl long) = let e = length-append fed (take n rest) in omega (arith, e, size, short, long)
+within-limits fed rest n begun within have size short few quiet (inr more) =
+    elim (cases_lt begun 50000) [
+      | inl less ↦ let most = begun-few fed (take n rest) have more.2 in omega (arith, most, more.1, size, few less)
+      | inr all ↦ few-so-far fed begun within have (omega (arith, begun-quiet fed rest n (quiet all) have more.2, more.1))
+    ]
 
 -- what a cutter that passed tells of the messages begun
 pub have-begun : (c : Cutter) (fed : List ℕ) (given : List (List ℕ)) (begun : ℕ) → HasPassed c fed given → Knows c.failed fed given begun → HaveBegun fed begun
@@ -84,12 +101,12 @@ have-begun c fed given begun so_far knows = (subst (λ o. Knows o fed given begu
 
 -- a piece stops: one of one byte at it, and a longer one by a fault alone
 pub stops-here : (c : Cutter) (file fed rest : List ℕ) (n begun : ℕ) (given : List (List ℕ)) (s : FileStop) → HasPassed c fed given → fed ++ rest ≡ file → HaveBegun fed begun → 0 < n → n ≤ length rest
-    → (1 < n → (length fed + n ≤ 67108864) × (begun + n ≤ 50000)) → StopsFeeding (fed ++ take n rest) s → StopsCutting file s
+    → (1 < n → (length fed + n ≤ 67108864) × (begun < 50000 → begun + n ≤ 50000) × (50000 ≤ begun → HasNoColon n rest)) → StopsFeeding (fed ++ take n rest) s → StopsCutting file s
 stops-here c file fed rest n begun given (stop_of.TooLarge bytes messages) so_far whole have some fits within stop =
     elim (cases_lt 1 n) [
       | inl long ↦
           let size : length (take n rest) ≡ n = length-take-le n rest fits in
-          absurd (within-limits fed (take n rest) begun have (omega (arith, size, (within long).0)) (omega (arith, size, (within long).1)) stop.1)
+          absurd (within-limits fed rest n begun so_far.within have size (within long).0 (within long).1 (within long).2 stop.1)
       | inr short ↦
           let one : n ≡ 1 = omega (arith, some, short) in
           large-here c file fed rest given bytes messages so_far whole (omega (arith, some, fits)) (subst (λ k. StopsFeeding (fed ++ take k rest) (stop_of.TooLarge bytes messages)) one stop)
@@ -100,6 +117,16 @@ stops-here c file fed rest n begun given (stop_of.Framing at) so_far whole have 
     parts = sym whole ∙ ap (λ l. fed ++ l) (sym (take-append-drop n rest)) ∙ sym (append_assoc fed (take n rest) (drop n rest))
 stops-here c file fed rest n begun given stop_of.Memory so_far whole have some fits within stop = tt
 stops-here c file fed rest n begun given (stop_of.Fault x y) so_far whole have some fits within stop = stop
+
+-- ---- the first colon
+
+pub colon-ahead : (xs : List ℕ) (at : ℕ) → Some at ≡ position is_colon xs → HasNoColon at xs
+colon-ahead xs at found = (position-Some is_colon xs at 0 (sym found)).2
+
+pub no-colon : (xs : List ℕ) → None ≡ position is_colon xs → HasNoColon (length xs) xs
+no-colon xs none =
+    let all : length xs ≤ position_or_len is_colon xs = grind (arith, nat_tests) in
+    λ k l. fails_before_first is_colon xs k 0 (omega (arith, all, l))
 
 -- ---- the end of the file
 

@@ -1,6 +1,8 @@
 //! The message file, cut into its messages.
 
 ghost use Rattle.std.specs.Prelude.{◌≡◌, ◌+◌, ◌≤◌, ◌<◌, ◌^◌, ℕ, List, ◌++◌, None, IfOk, IfErr, IfSome, OnOk, length};
+ghost use Rattle.std.specs.List.{position};
+ghost use Rattle.fin_frame.specs.Shown.{HasNoColon, is_colon};
 ghost use Rattle.corr_top.specs.Feeding.{HasPassed, StopsFeeding};
 ghost use Rattle.corr_top.specs.MessageFile.{IsMessageFile, StopsCutting, most_message_bytes, most_messages};
 ghost use Rattle.corr_top.specs.Passing.{StopsAtMessages};
@@ -112,16 +114,45 @@ fn feed_piece(
     Ok(answer?)
 }
 
-/// How many bytes of the rest to feed: one, or so few that no limit is passed in them. Each byte begins one message at most.
-fn piece_len(fed: usize, begun: u32, rest: usize) -> usize
-    requires { 0 < rest }
+fn colon(rest: &[u8]) -> Option<usize>
+    ensures { result ≡ position is_colon rest.now }
+{
+    rest.iter().position(|b| *b == b':')
+}
+
+/// How many bytes stand before the first colon, with which the `{1:` of a message ends.
+fn quiet_len(rest: &[u8]) -> usize
+    ensures { HasNoColon result rest.now }
+{
+    match colon(rest) {
+        Some(at) => at,
+        None => rest.len(),
+    }
+}
+
+/// A number of bytes in which no message past the last that is allowed begins: each byte begins one at most, and but a colon none.
+fn few_len(begun: u32, rest: &[u8]) -> usize
+    ensures few { begun < most_messages → begun + result ≤ most_messages }
+    ensures quiet { most_messages ≤ begun → HasNoColon result rest.now }
+{
+    if begun < MESSAGE_LIMIT {
+        return (MESSAGE_LIMIT - begun) as usize;
+    }
+    quiet_len(rest)
+}
+
+/// How many bytes of the rest to feed: one, or so few that no limit is passed in them.
+fn piece_len(fed: usize, begun: u32, rest: &[u8]) -> usize
+    requires { 0 < length rest.now }
     ensures some { 0 < result }
-    ensures fits { result ≤ rest }
-    ensures within { 1 < result → (fed + result ≤ most_message_bytes) × (begun + result ≤ most_messages) }
+    ensures fits { result ≤ length rest.now }
+    ensures short { 1 < result → fed + result ≤ most_message_bytes }
+    ensures few { 1 < result → begun < most_messages → begun + result ≤ most_messages }
+    ensures quiet { 1 < result → most_messages ≤ begun → HasNoColon result rest.now }
 {
     let bytes = FILE_LIMIT.saturating_sub(fed);
-    let messages = MESSAGE_LIMIT.saturating_sub(begun) as usize;
-    bytes.min(messages).min(rest).max(1)
+    let messages = few_len(begun, rest);
+    bytes.min(messages).min(rest.len()).max(1)
 }
 
 /// The messages of a file, fed to a cutter in pieces, or its first byte past a limit, or its first fault.
@@ -134,7 +165,7 @@ fn cut_in_pieces(alloc: Global, file: &[u8]) -> Result<List<Text>, FileStop>
     let mut messages = List::new(alloc);
     let mut rest = file;
     while !rest.is_empty() {
-        let len = piece_len(file.len() - rest.len(), cutter.begun(), rest.len());
+        let len = piece_len(file.len() - rest.len(), cutter.begun(), rest);
         let (piece, after) = rest.split_at(len);
         let bytes = file.len() - after.len();
         feed_piece(&mut cutter, piece, bytes, &mut messages)?;

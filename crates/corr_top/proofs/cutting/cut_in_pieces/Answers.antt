@@ -23,7 +23,7 @@ returns-in_err-feed_piece-clause-stopped c =
     let fed : length file - length rest ≡ length so_far.0 = omega (arith, ap length so_far.1, length-append so_far.0 rest) in
     rw (p.1, p.2) (stops-here c.loop-rest.cutter file so_far.0 rest n begun c.loop-rest.messages c.in_err-feed_piece.field-0.0 so_far.2 so_far.1 have
     c.piece_len-len.ensures.some (omega (arith, c.piece_len-len.ensures.fits))
-    (λ long. (omega (arith, fed, (c.piece_len-len.ensures.within long).0), (c.piece_len-len.ensures.within long).1))
+    (λ long. (omega (arith, fed, c.piece_len-len.ensures.short long), c.piece_len-len.ensures.few long, c.piece_len-len.ensures.quiet long))
     (subst (λ (x : List ℕ). StopsFeeding (so_far.0 ++ x) c.in_err-feed_piece.field-0.0) c.split_at.ensures.front stopped))
 
 pub loop-rest-preserved : goal.loop-rest-preserved
