@@ -1,15 +1,14 @@
 -- Sums of openings, and the first currency whose openings don't sum to 0.
-use Rattle.std.proofs.Common.{◌≡◌, ℕ, zero, suc, ◌+◌, ◌*◌, ◌<◌, ◌≤◌, Bool, true, false, List, [], ◌∷◌, ◌++◌, Option, Some, None, refl, sym, ap, ◌∙◌, subst, arith, length, take, get_or, ℤ, pos, ◌+ℤ◌, ◌≤ℤ◌, FitsSigned, w64, Ordering, Less, Equal, Greater, inl, inr}
+use Rattle.std.proofs.Common.{◌≡◌, ℕ, zero, suc, ◌+◌, ◌*◌, ◌<◌, ◌≤◌, Bool, true, false, List, [], ◌∷◌, ◌++◌, Option, Some, None, refl, sym, ap, ◌∙◌, subst, arith, length, take, get_or, ℤ, pos, ◌+ℤ◌, ◌≤ℤ◌, FitsSigned, to_z, of_z, w64, Ordering, Less, Equal, Greater, inl, inr}
 use Rattle.std.specs.Prelude.{◌⊎◌, cond, slice_get, unwrap_or, if◌then◌else◌}
 use Rattle.std.specs.Map.{lookup}
 use Rattle.std.specs.Str.{bytes_eq}
 use Rattle.std.proofs.lemmas.Bool.{cases_Bool, false≢true, cond-false, cond-true, cond_both, cases_lt}
-use Rattle.std.proofs.lemmas.Int.{ints}
+use Rattle.std.proofs.lemmas.Int.{ints, to_z-of_z}
 use Rattle.std.proofs.lemmas.List.{take_more}
 use Rattle.std.proofs.lemmas.Option.{slice_get_within, same_Some}
 use Rattle.std.proofs.lemmas.Slice.Eq.{bytes_eq-Decides}
 use Rattle.std.proofs.lemmas.Cmp.{nat_list_cmp_total, tied_itself}
-use Rattle.std.specs.List.{list_any}
 use Rattle.std.specs.Ordering.{is_lt, nat_cmp}
 use Rattle.std.specs.Cmp.Lexicographic.{slice_cmp}
 use Rattle.corr_money.specs.Amounts.{amount_end}
@@ -203,6 +202,24 @@ sum_near rows limited ccy (suc i) le =
     let more = subst (IsNear (i + 1)) (sym (opening_sum_more ccy rows i row.0 row.2 lt)) (near_more ccy i (opening_sum ccy (take i rows)) row.0 (limited i row.0 row.1) near) in
     let next : i + 1 ≡ suc i = omega arith in
     subst (λ (n : ℕ). IsNear n (opening_sum ccy (take n rows))) next more
+
+-- the sum of a currency so far, an opening of it, and the two together fit
+pub record Fit (old own : ℤ) : Type 0 where
+  pub sum : to_z w64 (of_z w64 old) ≡ old
+  pub opening : to_z w64 (of_z w64 own) ≡ own
+  pub together : FitsSigned w64 (old +ℤ own)
+
+pub sums_fit : (rows : List Account) (i : ℕ) (row : Account) (sums : List (List ℕ × ℤ)) (sum : ℤ)
+    → ((k : ℕ) (a : Account) → slice_get rows k ≡ Some a → IsLimited a) → length rows ≤ 1000 → slice_get rows i ≡ Some row → i < length rows
+    → AreOpeningSums sums (take i rows) → sum ≡ sum_in sums row.ccy → Fit sum row.opening
+sums_fit rows i row sums sum limited few here lt before was =
+    let limits = limited i row here in
+    let near = subst (IsNear i) (sym (was ∙ before row.ccy)) (sum_near rows limited row.ccy i (omega (arith, lt))) in
+    record {
+      sum = to_z-of_z w64 sum (near_fits i sum (omega (arith, lt, few)) near);
+      opening = to_z-of_z w64 row.opening (fits_own row limits);
+      together = near_fits (i + 1) (sum +ℤ row.opening) (omega (arith, lt, few)) (near_own i sum row limits near);
+    }
 
 -- after all accounts it is the first of all currencies
 pub so_far_all : (rows : List Account) (i : ℕ) (first : Option Gap) → length rows ≤ i → SoFar rows i first → FirstGap rows first

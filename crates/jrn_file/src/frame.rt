@@ -7,12 +7,12 @@ use corr_text::Memory;
 use std::alloc::Global;
 
 /// A record after its length in four bytes, and a closed gate after it.
-pub(crate) fn framed(alloc: Global, record: &[u8]) -> Result<Vec<u8>, Memory>
-    requires { length record.now ≤ most_header_bytes }
-    ensures { IfOk result (λ frame. frame.items ≡ frame_of record.now) }
+pub(crate) fn framed(alloc: Global, body: &[u8]) -> Result<Vec<u8>, Memory>
+    requires { length body.now ≤ most_header_bytes }
+    ensures { IfOk result (λ frame. frame.items ≡ frame_of body.now) }
 {
-    let mut frame = Vec::from_slice(alloc, &(record.len() as u32).to_be_bytes())?;
-    frame.extend_from_slice(record)?;
+    let mut frame = Vec::from_slice(alloc, &(body.len() as u32).to_be_bytes())?;
+    frame.extend_from_slice(body)?;
     frame.push(0)?;
     Ok(frame)
 }
