@@ -10,10 +10,14 @@ use Rattle.fin_contents.specs.Parties.{known_party_of}
 use Rattle.fin_contents.specs.Plain.{reference_of, texts_of, time_of}
 use Rattle.fin_contents.proofs.laws.Steps.{read-then}
 use Rattle.mt202cov.specs.Message.{contents_of}
-use Rattle.mt202cov.specs.Parts.{banks_of, contents_in_parts, customers_of, details_of, cover_of_parts, sequence_a_of, sequence_b_of, terms_of}
+use Rattle.mt202cov.specs.Parts.{banks_of, beneficiary_side_of, contents_in_parts, customers_of, details_of, cover_of_parts, payee_side_of, payer_side_of, sender_side_of, sequence_a_of, sequence_b_of, terms_of}
 use Rattle.mt202cov.specs.Writing.{value_said}
 use Rattle.mt202cov.specs.declared.banks.Banks.{Banks}
+use Rattle.mt202cov.specs.declared.banks.BeneficiarySide.{BeneficiarySide}
+use Rattle.mt202cov.specs.declared.banks.SenderSide.{SenderSide}
 use Rattle.mt202cov.specs.declared.customers.Customers.{Customers}
+use Rattle.mt202cov.specs.declared.customers.PayeeSide.{PayeeSide}
+use Rattle.mt202cov.specs.declared.customers.PayerSide.{PayerSide}
 use Rattle.mt202cov.specs.declared.details.Details.{Details}
 use Rattle.mt202cov.specs.declared.message.Mt202Cov.{Mt202Cov}
 use Rattle.mt202cov.specs.Order.{order_202}
@@ -69,32 +73,67 @@ module _ (t : Tables) (fs : List Field) (found : List ℕ) where
       let same : record { reference = r0.0; related = r1.0; times = r2.0; value = r3.0 } ≡ x = cc r3.2 in
       rw (← same) (r0.1, r1.1, r2.1, r3.1)
 
+  sender_side-read : (x : SenderSide) → sender_side_of t fs found ≡ Ok x
+      → May 4 (known_party_of t) x.p52 × May 5 (known_party_of t) x.p53 × May 6 (known_party_of t) x.p54
+  unfolding sender_side_of
+  sender_side-read x e =
+      let r0 = read-then (in_option fs found 4 (known_party_of t)) _ x e in
+      let r1 = read-then (in_option fs found 5 (known_party_of t)) _ x r0.2 in
+      let r2 = read-then (in_option fs found 6 (known_party_of t)) _ x r1.2 in
+      let same : record { p52 = r0.0; p53 = r1.0; p54 = r2.0 } ≡ x = cc r2.2 in
+      rw (← same) (r0.1, r1.1, r2.1)
+
+  beneficiary_side-read : (x : BeneficiarySide) → beneficiary_side_of t fs found ≡ Ok x
+      → May 7 (known_party_of t) x.p56 × May 8 (known_party_of t) x.p57 × Must 9 (known_party_of t) x.p58
+  unfolding beneficiary_side_of
+  beneficiary_side-read x e =
+      let r0 = read-then (in_option fs found 7 (known_party_of t)) _ x e in
+      let r1 = read-then (in_option fs found 8 (known_party_of t)) _ x r0.2 in
+      let r2 = read-then (in_place order_202 fs found 9 (known_party_of t)) _ x r1.2 in
+      let same : record { p56 = r0.0; p57 = r1.0; p58 = r2.0 } ≡ x = cc r2.2 in
+      rw (← same) (r0.1, r1.1, r2.1)
+
   banks-read : (x : Banks) → banks_of t fs found ≡ Ok x
       → May 4 (known_party_of t) x.p52 × May 5 (known_party_of t) x.p53 × May 6 (known_party_of t) x.p54 × May 7 (known_party_of t) x.p56
       × May 8 (known_party_of t) x.p57 × Must 9 (known_party_of t) x.p58
   unfolding banks_of
   banks-read x e =
-      let r0 = read-then (in_option fs found 4 (known_party_of t)) _ x e in
-      let r1 = read-then (in_option fs found 5 (known_party_of t)) _ x r0.2 in
-      let r2 = read-then (in_option fs found 6 (known_party_of t)) _ x r1.2 in
-      let r3 = read-then (in_option fs found 7 (known_party_of t)) _ x r2.2 in
-      let r4 = read-then (in_option fs found 8 (known_party_of t)) _ x r3.2 in
-      let r5 = read-then (in_place order_202 fs found 9 (known_party_of t)) _ x r4.2 in
-      let same : record { p52 = r0.0; p53 = r1.0; p54 = r2.0; p56 = r3.0; p57 = r4.0; p58 = r5.0 } ≡ x = cc r5.2 in
-      rw (← same) (r0.1, r1.1, r2.1, r3.1, r4.1, r5.1)
+      let r0 = read-then (sender_side_of t fs found) _ x e in
+      let r1 = read-then (beneficiary_side_of t fs found) _ x r0.2 in
+      let s = sender_side-read r0.0 r0.1 in
+      let b = beneficiary_side-read r1.0 r1.1 in
+      let same : record { p52 = r0.0.p52; p53 = r0.0.p53; p54 = r0.0.p54; p56 = r1.0.p56; p57 = r1.0.p57; p58 = r1.0.p58 } ≡ x = cc r1.2 in
+      rw (← same) (s.0, s.1, s.2, b.0, b.1, b.2)
+
+  payer_side-read : (x : PayerSide) → payer_side_of t fs found ≡ Ok x → Must 11 (known_party_of t) x.payer × May 12 (known_party_of t) x.p52
+  unfolding payer_side_of
+  payer_side-read x e =
+      let r0 = read-then (in_place order_202 fs found 11 (known_party_of t)) _ x e in
+      let r1 = read-then (in_option fs found 12 (known_party_of t)) _ x r0.2 in
+      let same : record { payer = r0.0; p52 = r1.0 } ≡ x = cc r1.2 in
+      rw (← same) (r0.1, r1.1)
+
+  payee_side-read : (x : PayeeSide) → payee_side_of t fs found ≡ Ok x
+      → May 13 (known_party_of t) x.p56 × May 14 (known_party_of t) x.p57 × Must 15 (known_party_of t) x.payee
+  unfolding payee_side_of
+  payee_side-read x e =
+      let r0 = read-then (in_option fs found 13 (known_party_of t)) _ x e in
+      let r1 = read-then (in_option fs found 14 (known_party_of t)) _ x r0.2 in
+      let r2 = read-then (in_place order_202 fs found 15 (known_party_of t)) _ x r1.2 in
+      let same : record { p56 = r0.0; p57 = r1.0; payee = r2.0 } ≡ x = cc r2.2 in
+      rw (← same) (r0.1, r1.1, r2.1)
 
   customers-read : (x : Customers) → customers_of t fs found ≡ Ok x
       → Must 11 (known_party_of t) x.payer × May 12 (known_party_of t) x.p52 × May 13 (known_party_of t) x.p56 × May 14 (known_party_of t) x.p57
       × Must 15 (known_party_of t) x.payee
   unfolding customers_of
   customers-read x e =
-      let r0 = read-then (in_place order_202 fs found 11 (known_party_of t)) _ x e in
-      let r1 = read-then (in_option fs found 12 (known_party_of t)) _ x r0.2 in
-      let r2 = read-then (in_option fs found 13 (known_party_of t)) _ x r1.2 in
-      let r3 = read-then (in_option fs found 14 (known_party_of t)) _ x r2.2 in
-      let r4 = read-then (in_place order_202 fs found 15 (known_party_of t)) _ x r3.2 in
-      let same : record { payer = r0.0; p52 = r1.0; p56 = r2.0; p57 = r3.0; payee = r4.0 } ≡ x = cc r4.2 in
-      rw (← same) (r0.1, r1.1, r2.1, r3.1, r4.1)
+      let r0 = read-then (payer_side_of t fs found) _ x e in
+      let r1 = read-then (payee_side_of t fs found) _ x r0.2 in
+      let p = payer_side-read r0.0 r0.1 in
+      let q = payee_side-read r1.0 r1.1 in
+      let same : record { payer = r0.0.payer; p52 = r0.0.p52; p56 = r1.0.p56; p57 = r1.0.p57; payee = r1.0.payee } ≡ x = cc r1.2 in
+      rw (← same) (p.0, p.1, q.0, q.1, q.2)
 
   details-read : (x : Details) → details_of t fs found ≡ Ok x
       → LinesRead fs found 16 4 x.info × LinesRead fs found 17 6 x.notes × May 18 (ccy_amount_of t) x.ordered
@@ -166,7 +205,7 @@ module _ (t : Tables) (fs : List Field) (found : List ℕ) where
   -- ---- and back
 
   pub said-by : (m : Mt202Cov) → Readings t fs found m → contents_of t fs found ≡ Ok m
-  unfolding contents_in_parts sequence_a_of sequence_b_of terms_of banks_of customers_of details_of
+  unfolding contents_in_parts sequence_a_of sequence_b_of terms_of banks_of sender_side_of beneficiary_side_of customers_of payer_side_of payee_side_of details_of
   said-by m r =
       let (a, ea, sa) = r.a_notes in
       let (i, ei, si) = r.info in
