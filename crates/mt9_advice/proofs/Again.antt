@@ -18,10 +18,12 @@ use Rattle.fin_contents.proofs.laws.Placed.{party-again-at}
 use Rattle.fin_contents.proofs.laws.Said.{HoldsInPlaces, Stands}
 use Rattle.fin_contents.proofs.laws.Steps.{checked, is-only, read-then, there}
 use Rattle.mt9_advice.specs.Advice.{contents_900, contents_910, is_stamp, stamp_of}
-use Rattle.mt9_advice.specs.Parts.{booking_of, mt900, mt910, parts_900, parts_910}
+use Rattle.mt9_advice.specs.Parts.{booking_of, ending_of, mt900, mt910, orderers_of, parts_900, parts_910}
 use Rattle.mt9_advice.specs.Writing.{booking_fields, segments_900, segments_910}
 use Rattle.mt9_advice.specs.declared.booking.Booking.{Booking}
+use Rattle.mt9_advice.specs.declared.credit.Ending.{Ending}
 use Rattle.mt9_advice.specs.declared.credit.Mt910.{Mt910}
+use Rattle.mt9_advice.specs.declared.credit.Orderers.{Orderers}
 use Rattle.mt9_advice.specs.declared.debit.Mt900.{Mt900}
 use Rattle.mt9_advice.specs.Order.{order_900, order_910}
 use Rattle.mt9_advice.proofs.laws.Parts.{contents-are-900, contents-are-910}
@@ -120,29 +122,48 @@ pub record Says910 (t : Tables) (fs : List Field) (found : List ℕ) (m : Mt910)
   pub notes : in_option fs found 8 (texts_of 6) ≡ Ok lines
   pub same : unwrap_or lines [] ≡ m.notes
 
+orderers-said : (t : Tables) (fs : List Field) (found : List ℕ) (o : Orderers) → orderers_of t fs found ≡ Ok o
+    → (in_option fs found 5 (known_party_of t) ≡ Ok o.payer) × (in_option fs found 6 (known_party_of t) ≡ Ok o.p52)
+unfolding orderers_of
+orderers-said t fs found o e =
+    let one = read-then (in_option fs found 5 (known_party_of t)) _ o e in
+    let two = read-then (in_option fs found 6 (known_party_of t)) _ o one.2 in
+    let same : record { payer = one.0; p52 = two.0 } ≡ o = cc two.2 in
+    rw (← same) (one.1, two.1)
+
+ending-said : (t : Tables) (fs : List Field) (found : List ℕ) (x : Ending) → ending_of t fs found ≡ Ok x
+    → (in_option fs found 7 (known_party_of t) ≡ Ok x.p56)
+    × (lines : Option (List (List ℕ))) × (in_option fs found 8 (texts_of 6) ≡ Ok lines) × (unwrap_or lines [] ≡ x.notes)
+unfolding ending_of
+ending-said t fs found x e =
+    let one = read-then (in_option fs found 7 (known_party_of t)) _ x e in
+    let two = read-then (in_option fs found 8 (texts_of 6)) _ x one.2 in
+    let same : record { p56 = one.0; notes = unwrap_or two.0 [] } ≡ x = cc two.2 in
+    rw (← same) (one.1, two.0, two.1, refl)
+
 pub said-910 : (t : Tables) (fs : List Field) (found : List ℕ) (m : Mt910) → contents_910 t fs found ≡ Ok m → Says910 t fs found m
 unfolding parts_910
 said-910 t fs found m e =
     let parts : parts_910 t fs found ≡ Ok m = contents-are-910 t fs found ∙ e in
     let one = read-then (booking_of order_910 t fs found) _ m parts in
-    let two = read-then (in_option fs found 5 (known_party_of t)) _ m one.2 in
-    let three = read-then (in_option fs found 6 (known_party_of t)) _ m two.2 in
-    let four = read-then (in_option fs found 7 (known_party_of t)) _ m three.2 in
-    let five = read-then (in_option fs found 8 (texts_of 6)) _ m four.2 in
-    let same : mt910 one.0 two.0 three.0 four.0 (unwrap_or five.0 []) ≡ m = cc five.2 in
+    let two = read-then (orderers_of t fs found) _ m one.2 in
+    let three = read-then (ending_of t fs found) _ m two.2 in
+    let orderers = orderers-said t fs found two.0 two.1 in
+    let (p56, lines, notes, lines-same) = ending-said t fs found three.0 three.1 in
+    let same : mt910 one.0 two.0.payer two.0.p52 three.0.p56 three.0.notes ≡ m = cc three.2 in
     rw (← same)
     (record {
       booking = booking-said order_910 t fs found one.0 one.1;
-      payer = two.1;
-      p52 = three.1;
-      p56 = four.1;
-      lines = five.0;
-      notes = five.1;
-      same = refl;
+      payer = orderers.0;
+      p52 = orderers.1;
+      p56 = p56;
+      lines = lines;
+      notes = notes;
+      same = lines-same;
     })
 
 pub says-910 : (t : Tables) (fs : List Field) (found : List ℕ) (m : Mt910) → Says910 t fs found m → contents_910 t fs found ≡ Ok m
-unfolding parts_910
+unfolding parts_910 orderers_of ending_of
 says-910 t fs found m s =
     let booking = booking-says order_910 t fs found (booking_910 m) s.booking in
     let parts : parts_910 t fs found ≡ Ok m = rw (booking, s.payer, s.p52, s.p56, s.notes, s.same) refl in

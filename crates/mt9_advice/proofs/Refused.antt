@@ -10,8 +10,10 @@ use Rattle.fin_contents.specs.Money.{value_of}
 use Rattle.fin_contents.specs.Parties.{known_party_of}
 use Rattle.fin_contents.specs.Plain.{reference_of, short_line_of, texts_of}
 use Rattle.mt9_advice.specs.Advice.{content_test, contents_900, contents_910, stamp_of}
-use Rattle.mt9_advice.specs.Parts.{booking_of, parts_900, parts_910}
+use Rattle.mt9_advice.specs.Parts.{booking_of, ending_of, orderers_of, parts_900, parts_910}
 use Rattle.mt9_advice.specs.declared.booking.Booking.{Booking}
+use Rattle.mt9_advice.specs.declared.credit.Ending.{Ending}
+use Rattle.mt9_advice.specs.declared.credit.Orderers.{Orderers}
 use Rattle.mt9_advice.specs.Order.{order_900, order_910}
 use Rattle.mt9_advice.proofs.laws.Parts.{contents-are-900, contents-are-910}
 use Rattle.mt9_advice.proofs.Rows.{row_13, row_20, row_21, row_25, row_32}
@@ -42,12 +44,24 @@ module _ (t : Tables) (fs : List Field) (found : List ℕ) (fault : Fault) where
       option-met l6 (texts_of 6) (λ f. refl) refl _ (λ _ l7. none-left l7))) in
       sym (contents-are-900 t fs found) ∙ parts
 
+  orderers-refused : {B : Type 0} → Lies order_910 8 5 → (next : Orderers → Result B Fault) → ((o : Orderers) → Lies order_910 8 7 → next o ≡ Err fault)
+      → (orderers_of t fs found >>= next) ≡ Err fault
+  unfolding orderers_of
+  orderers-refused l5 next on =
+      option-in l5 (known_party_of t) (λ f. refl) refl _ next (λ _ l6.
+      option-in l6 (known_party_of t) (λ f. refl) refl _ next (λ _ l7. on _ l7))
+
+  ending-refused : {B : Type 0} → Lies order_910 8 7 → (next : Ending → Result B Fault) → ((e : Ending) → Lies order_910 8 9 → next e ≡ Err fault)
+      → (ending_of t fs found >>= next) ≡ Err fault
+  unfolding ending_of
+  ending-refused l7 next on =
+      option-in l7 (known_party_of t) (λ f. refl) refl _ next (λ _ l8.
+      option-in l8 (texts_of 6) (λ f. refl) refl _ next (λ _ l9. on _ l9))
+
   pub refused-910 : LiesFrom order_910 (content_test 8 t) fs found fault 0 → contents_910 t fs found ≡ Err fault
   unfolding parts_910
   refused-910 l0 =
       let parts : parts_910 t fs found ≡ Err fault = booking-refused _ 8 l0 _ (λ _ l5.
-      option-met l5 (known_party_of t) (λ f. refl) refl _ (λ _ l6.
-      option-met l6 (known_party_of t) (λ f. refl) refl _ (λ _ l7.
-      option-met l7 (known_party_of t) (λ f. refl) refl _ (λ _ l8.
-      option-met l8 (texts_of 6) (λ f. refl) refl _ (λ _ l9. none-left l9))))) in
+      orderers-refused l5 _ (λ _ l7.
+      ending-refused l7 _ (λ _ l9. none-left l9))) in
       sym (contents-are-910 t fs found) ∙ parts

@@ -14,7 +14,9 @@ use Rattle.fin_contents.specs.Plain.{reference_of, short_line_of, texts_of}
 use Rattle.mt9_advice.specs.Advice.{stamp_of}
 use Rattle.mt9_advice.specs.Order.{at_account, at_intermediary, at_notes_900, at_notes_910, at_ordering_900, at_ordering_910, at_payer, at_reference, at_related, at_stamp, at_value, order_900, order_910}
 use Rattle.mt9_advice.specs.declared.booking.Booking.{Booking}
+use Rattle.mt9_advice.specs.declared.credit.Ending.{Ending}
 use Rattle.mt9_advice.specs.declared.credit.Mt910.{Mt910}
+use Rattle.mt9_advice.specs.declared.credit.Orderers.{Orderers}
 use Rattle.mt9_advice.specs.declared.debit.Mt900.{Mt900}
 
 -- what both say first: 20, 21, 25, 13D and 32A
@@ -48,6 +50,20 @@ parts_900 t fs found = do
   notes ← in_option fs found at_notes_900 (texts_of 6)
   Ok (mt900 b p52 (unwrap_or notes []))
 
+-- who ordered a credit: 50a and 52a
+unfoldable pub orderers_of : Tables → List Field → List ℕ → Result Orderers Fault
+orderers_of t fs found = do
+  payer ← in_option fs found at_payer (known_party_of t)
+  p52 ← in_option fs found at_ordering_910 (known_party_of t)
+  Ok (record { payer = payer; p52 = p52 })
+
+-- what 56a and 72 say
+unfoldable pub ending_of : Tables → List Field → List ℕ → Result Ending Fault
+ending_of t fs found = do
+  p56 ← in_option fs found at_intermediary (known_party_of t)
+  notes ← in_option fs found at_notes_910 (texts_of 6)
+  Ok (record { p56 = p56; notes = unwrap_or notes [] })
+
 -- an MT910 of its parts
 abbrev pub mt910 : Booking → Option Party → Option Party → Option Party → List (List ℕ) → Mt910
 mt910 b payer p52 p56 notes = record {
@@ -67,8 +83,6 @@ mt910 b payer p52 p56 notes = record {
 unfoldable pub parts_910 : Tables → List Field → List ℕ → Result Mt910 Fault
 parts_910 t fs found = do
   b ← booking_of order_910 t fs found
-  payer ← in_option fs found at_payer (known_party_of t)
-  p52 ← in_option fs found at_ordering_910 (known_party_of t)
-  p56 ← in_option fs found at_intermediary (known_party_of t)
-  notes ← in_option fs found at_notes_910 (texts_of 6)
-  Ok (mt910 b payer p52 p56 (unwrap_or notes []))
+  o ← orderers_of t fs found
+  e ← ending_of t fs found
+  Ok (mt910 b o.payer o.p52 e.p56 e.notes)

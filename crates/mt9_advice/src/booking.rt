@@ -15,7 +15,7 @@ use ref_tables::RefTables;
 use std::alloc::Global;
 
 /// An entry that was booked: fields 20, 21, 25, 13D and 32A.
-#[derive(Debug, Drop)]
+#[derive(Drop)]
 pub struct Booking {
     pub reference: Text,
     pub related: Text,

@@ -9,7 +9,7 @@ ghost use Rattle.fin_fields.specs.Writing.{IsField};
 ghost use Rattle.fin_layout.specs.Order.{places_from};
 ghost use Rattle.fin_layout.specs.Reading.{Gives};
 ghost use Rattle.mt9_advice.specs.Advice.{c06, contents_910, mt910_of, tests_910};
-ghost use Rattle.mt9_advice.specs.Parts.{booking_of, mt910, parts_910};
+ghost use Rattle.mt9_advice.specs.Parts.{booking_of, ending_of, mt910, orderers_of, parts_910};
 ghost use Rattle.mt9_advice.specs.declared.credit.Mt910.{Mt910 as Mt910Seen};
 ghost use Rattle.mt9_advice.specs.Order.{order_910};
 ghost use Rattle.ref_tables.specs.Seen.{few_decimals};
@@ -19,7 +19,7 @@ use crate::order::ORDER_910;
 use crate::places::{INTERMEDIARY, NOTES_910, ORDERING_910, PAYER};
 use corr_ids::Day;
 use corr_money::Amount;
-use corr_text::{Code, Fault, List, Text};
+use corr_text::{Code, Fault, List, Text, let_go};
 use fin_contents::{KnownParty, Texts, or_none};
 use fin_fields::{Field, FieldLines, lend_fields};
 use fin_layout::{Found, MtFault, check_structure, read_optional};
@@ -55,14 +55,22 @@ pub struct Mt910 {
     pub notes: List<Text>,
 }
 
-fn message(
-    booking: Booking,
-    payer: Option<Party>,
-    p52: Option<Party>,
-    p56: Option<Party>,
-    notes: List<Text>,
-) -> Mt910
-    ensures { result ≡ mt910 booking payer p52 p56 notes }
+/// Who ordered a credit: what 50a and 52a say.
+#[derive(Drop)]
+pub struct Orderers {
+    pub payer: Option<Party>,
+    pub p52: Option<Party>,
+}
+
+/// What 56a and 72 say.
+#[derive(Drop)]
+pub struct Ending {
+    pub p56: Option<Party>,
+    pub notes: List<Text>,
+}
+
+fn message(booking: Booking, orderers: Orderers, ending: Ending) -> Mt910
+    ensures { result ≡ mt910 booking orderers.payer orderers.p52 ending.p56 ending.notes }
 {
     Mt910 {
         reference: booking.reference,
@@ -71,10 +79,10 @@ fn message(
         at: booking.at,
         value: booking.value.day,
         amount: booking.value.amount,
-        payer,
-        p52,
-        p56,
-        notes,
+        payer: orderers.payer,
+        p52: orderers.p52,
+        p56: ending.p56,
+        notes: ending.notes,
     }
 }
 
@@ -91,6 +99,41 @@ fn read_credit(
     read_booking(alloc, &ORDER_910, tables, fields, found)
 }
 
+/// Who ordered the credit.
+#[tactic(auto, unfolding(crate::specs::Parts::orderers_of))]
+fn read_orderers(
+    alloc: Global,
+    tables: &RefTables,
+    fields: &[FieldLines<'_>],
+    found: &Found,
+) -> Result<Orderers, MtFault>
+    requires few { length fields.now ≤ most_text_lines }
+    ensures { Gives result (orderers_of tables.now fields.now found.now) }
+{
+    let payer = read_optional(alloc, &KnownParty { tables }, fields, found, PAYER)?;
+    let p52 = read_optional(alloc, &KnownParty { tables }, fields, found, ORDERING_910)?;
+    Ok(Orderers { payer, p52 })
+}
+
+/// What follows them.
+#[tactic(auto, unfolding(crate::specs::Parts::ending_of))]
+fn read_ending(
+    alloc: Global,
+    tables: &RefTables,
+    fields: &[FieldLines<'_>],
+    found: &Found,
+) -> Result<Ending, MtFault>
+    requires few { length fields.now ≤ most_text_lines }
+    ensures { Gives result (ending_of tables.now fields.now found.now) }
+{
+    let p56 = read_optional(alloc, &KnownParty { tables }, fields, found, INTERMEDIARY)?;
+    let notes = read_optional(alloc, &Texts { most: 6 }, fields, found, NOTES_910)?;
+    Ok(Ending {
+        p56,
+        notes: or_none(alloc, notes),
+    })
+}
+
 #[tactic(auto, unfolding(crate::specs::Parts::parts_910))]
 fn read_contents(
     alloc: Global,
@@ -102,11 +145,21 @@ fn read_contents(
     ensures { Gives result (parts_910 tables.now fields.now found.now) }
 {
     let booking = read_credit(alloc, tables, fields, found)?;
-    let payer = read_optional(alloc, &KnownParty { tables }, fields, found, PAYER)?;
-    let p52 = read_optional(alloc, &KnownParty { tables }, fields, found, ORDERING_910)?;
-    let p56 = read_optional(alloc, &KnownParty { tables }, fields, found, INTERMEDIARY)?;
-    let notes = read_optional(alloc, &Texts { most: 6 }, fields, found, NOTES_910)?;
-    Ok(message(booking, payer, p52, p56, or_none(alloc, notes)))
+    let orderers = match read_orderers(alloc, tables, fields, found) {
+        Ok(orderers) => orderers,
+        Err(fault) => {
+            let_go(booking);
+            return Err(fault);
+        }
+    };
+    match read_ending(alloc, tables, fields, found) {
+        Ok(ending) => Ok(message(booking, orderers, ending)),
+        Err(fault) => {
+            let_go(booking);
+            let_go(orderers);
+            Err(fault)
+        }
+    }
 }
 
 fn c06(m: &Mt910) -> Option<Fault>

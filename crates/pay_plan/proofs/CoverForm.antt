@@ -16,8 +16,9 @@ use Rattle.fin_contents.specs.Parties.{known_party_of}
 use Rattle.fin_contents.specs.Plain.{reference_of, texts_of, time_of}
 use Rattle.mt202cov.specs.Rules.{all_rules}
 use Rattle.mt202cov.specs.Message.{contents_of, field_tests, mt202cov_of}
-use Rattle.mt202cov.specs.Parts.{banks_of, contents_in_parts, cover_of_parts, sequence_a_of, sequence_b_of, terms_of}
+use Rattle.mt202cov.specs.Parts.{banks_of, beneficiary_side_of, contents_in_parts, cover_of_parts, sender_side_of, sequence_a_of, sequence_b_of, terms_of}
 use Rattle.mt202cov.specs.declared.banks.Banks.{Banks}
+use Rattle.mt202cov.specs.declared.banks.BeneficiarySide.{BeneficiarySide}
 use Rattle.mt202cov.specs.declared.message.Mt202Cov.{Mt202Cov}
 use Rattle.mt202cov.specs.Order.{order_202}
 use Rattle.mt202cov.specs.declared.sequences.SequenceA.{SequenceA}
@@ -39,6 +40,11 @@ record TermsForm (x : Terms) : Type 0 where
   reference : IsReference x.reference
   related : IsReference x.related
   value : InCentury x.value.day
+
+record SideForm (t : Tables) (x : BeneficiarySide) : Type 0 where
+  p56 : IfSome x.p56 (HasBank t)
+  p57 : IfSome x.p57 (HasBank t)
+  p58 : HasBank t x.p58
 
 record BanksForm (t : Tables) (x : Banks) : Type 0 where
   p56 : IfSome x.p56 (HasBank t)
@@ -62,18 +68,24 @@ terms-form t fs found x e =
     let h = must-ok order_202 fs 3 (value_of t) (field_in fs found 3) r3.0 r3.1 in
     subst TermsForm same (record { reference = reference-form f.0 r0.0 f.1; related = reference-form g.0 r1.0 g.1; value = value-day t h.0 r3.0 h.1 })
 
+side-form : (t : Tables) (fs : List Field) (found : List ℕ) (x : BeneficiarySide) → beneficiary_side_of t fs found ≡ Ok x → SideForm t x
+unfolding beneficiary_side_of
+side-form t fs found x e =
+    let r0 = read-then (in_option fs found 7 (known_party_of t)) _ x e in
+    let r1 = read-then (in_option fs found 8 (known_party_of t)) _ x r0.2 in
+    let r2 = read-then (in_place order_202 fs found 9 (known_party_of t)) _ x r1.2 in
+    let same : record { p56 = r0.0; p57 = r1.0; p58 = r2.0 } ≡ x = ok-is _ x r2.2 in
+    let f = must-ok order_202 fs 9 (known_party_of t) (field_in fs found 9) r2.0 r2.1 in
+    subst (SideForm t) same (record { p56 = bank-form t fs found 7 r0.0 r0.1; p57 = bank-form t fs found 8 r1.0 r1.1; p58 = party-bank t f.0 r2.0 f.1 })
+
 banks-form : (t : Tables) (fs : List Field) (found : List ℕ) (x : Banks) → banks_of t fs found ≡ Ok x → BanksForm t x
 unfolding banks_of
 banks-form t fs found x e =
-    let r0 = read-then (in_option fs found 4 (known_party_of t)) _ x e in
-    let r1 = read-then (in_option fs found 5 (known_party_of t)) _ x r0.2 in
-    let r2 = read-then (in_option fs found 6 (known_party_of t)) _ x r1.2 in
-    let r3 = read-then (in_option fs found 7 (known_party_of t)) _ x r2.2 in
-    let r4 = read-then (in_option fs found 8 (known_party_of t)) _ x r3.2 in
-    let r5 = read-then (in_place order_202 fs found 9 (known_party_of t)) _ x r4.2 in
-    let same : record { p52 = r0.0; p53 = r1.0; p54 = r2.0; p56 = r3.0; p57 = r4.0; p58 = r5.0 } ≡ x = ok-is _ x r5.2 in
-    let f = must-ok order_202 fs 9 (known_party_of t) (field_in fs found 9) r5.0 r5.1 in
-    subst (BanksForm t) same (record { p56 = bank-form t fs found 7 r3.0 r3.1; p57 = bank-form t fs found 8 r4.0 r4.1; p58 = party-bank t f.0 r5.0 f.1 })
+    let s = read-then (sender_side_of t fs found) _ x e in
+    let b = read-then (beneficiary_side_of t fs found) _ x s.2 in
+    let same : record { p52 = s.0.p52; p53 = s.0.p53; p54 = s.0.p54; p56 = b.0.p56; p57 = b.0.p57; p58 = b.0.p58 } ≡ x = ok-is _ x b.2 in
+    let side = side-form t fs found b.0 b.1 in
+    subst (BanksForm t) same (record { p56 = side.p56; p57 = side.p57; p58 = side.p58 })
 
 sequence-form : (t : Tables) (fs : List Field) (found : List ℕ) (x : SequenceA) → sequence_a_of t fs found ≡ Ok x → SequenceForm t x
 unfolding sequence_a_of

@@ -14,11 +14,15 @@ use Rattle.fin_contents.specs.Plain.{reference_of, texts_of, time_of}
 use Rattle.fin_contents.proofs.laws.Steps.{read-then, told-is}
 use Rattle.fin_parties.specs.declared.party.Party.{Party}
 use Rattle.mt202cov.specs.Message.{content_test, contents_of, field_tests, mt202cov_of}
-use Rattle.mt202cov.specs.Parts.{banks_of, contents_in_parts, customers_of, details_of, cover_of_parts, sequence_a_of, sequence_b_of, terms_of}
+use Rattle.mt202cov.specs.Parts.{banks_of, beneficiary_side_of, contents_in_parts, customers_of, details_of, cover_of_parts, payee_side_of, payer_side_of, sender_side_of, sequence_a_of, sequence_b_of, terms_of}
 use Rattle.mt202cov.specs.Order.{order_202}
 use Rattle.mt202cov.specs.Rules.{all_rules, c68, c81}
 use Rattle.mt202cov.specs.declared.banks.Banks.{Banks}
+use Rattle.mt202cov.specs.declared.banks.BeneficiarySide.{BeneficiarySide}
+use Rattle.mt202cov.specs.declared.banks.SenderSide.{SenderSide}
 use Rattle.mt202cov.specs.declared.customers.Customers.{Customers}
+use Rattle.mt202cov.specs.declared.customers.PayeeSide.{PayeeSide}
+use Rattle.mt202cov.specs.declared.customers.PayerSide.{PayerSide}
 use Rattle.mt202cov.specs.declared.details.Details.{Details}
 use Rattle.mt202cov.specs.declared.message.Mt202Cov.{Mt202Cov}
 use Rattle.mt202cov.specs.declared.sequences.SequenceA.{SequenceA}
@@ -48,30 +52,43 @@ module _ (t : Tables) (fs : List Field) where
   abbrev found : List ℕ
   found = places_from order_202 0 fs
 
+  beneficiary_side-there : (x : BeneficiarySide) → beneficiary_side_of t fs found ≡ Ok x
+      → (in_option fs found 7 (known_party_of t) ≡ Ok x.p56) × (in_option fs found 8 (known_party_of t) ≡ Ok x.p57)
+  unfolding beneficiary_side_of
+  beneficiary_side-there x e =
+      let a = read-then (in_option fs found 7 (known_party_of t)) _ x e in
+      let b = read-then (in_option fs found 8 (known_party_of t)) _ x a.2 in
+      let c = read-then (in_place order_202 fs found 9 (known_party_of t)) _ x b.2 in
+      let same : record { p56 = a.0; p57 = b.0; p58 = c.0 } ≡ x = told-is _ x c.2 in
+      rw (← same) (a.1, b.1)
+
   banks-there : (x : Banks) → banks_of t fs found ≡ Ok x
       → (in_option fs found 7 (known_party_of t) ≡ Ok x.p56) × (in_option fs found 8 (known_party_of t) ≡ Ok x.p57)
   unfolding banks_of
   banks-there x e =
-      let a = read-then (in_option fs found 4 (known_party_of t)) _ x e in
-      let b = read-then (in_option fs found 5 (known_party_of t)) _ x a.2 in
-      let c = read-then (in_option fs found 6 (known_party_of t)) _ x b.2 in
-      let d = read-then (in_option fs found 7 (known_party_of t)) _ x c.2 in
-      let g = read-then (in_option fs found 8 (known_party_of t)) _ x d.2 in
-      let h = read-then (in_place order_202 fs found 9 (known_party_of t)) _ x g.2 in
-      let same : record { p52 = a.0; p53 = b.0; p54 = c.0; p56 = d.0; p57 = g.0; p58 = h.0 } ≡ x = told-is _ x h.2 in
-      rw (← same) (d.1, g.1)
+      let s = read-then (sender_side_of t fs found) _ x e in
+      let b = read-then (beneficiary_side_of t fs found) _ x s.2 in
+      let same : record { p52 = s.0.p52; p53 = s.0.p53; p54 = s.0.p54; p56 = b.0.p56; p57 = b.0.p57; p58 = b.0.p58 } ≡ x = told-is _ x b.2 in
+      rw (← same) (beneficiary_side-there b.0 b.1)
+
+  payee_side-there : (x : PayeeSide) → payee_side_of t fs found ≡ Ok x
+      → (in_option fs found 13 (known_party_of t) ≡ Ok x.p56) × (in_option fs found 14 (known_party_of t) ≡ Ok x.p57)
+  unfolding payee_side_of
+  payee_side-there x e =
+      let a = read-then (in_option fs found 13 (known_party_of t)) _ x e in
+      let b = read-then (in_option fs found 14 (known_party_of t)) _ x a.2 in
+      let c = read-then (in_place order_202 fs found 15 (known_party_of t)) _ x b.2 in
+      let same : record { p56 = a.0; p57 = b.0; payee = c.0 } ≡ x = told-is _ x c.2 in
+      rw (← same) (a.1, b.1)
 
   customers-there : (x : Customers) → customers_of t fs found ≡ Ok x
       → (in_option fs found 13 (known_party_of t) ≡ Ok x.p56) × (in_option fs found 14 (known_party_of t) ≡ Ok x.p57)
   unfolding customers_of
   customers-there x e =
-      let a = read-then (in_place order_202 fs found 11 (known_party_of t)) _ x e in
-      let b = read-then (in_option fs found 12 (known_party_of t)) _ x a.2 in
-      let c = read-then (in_option fs found 13 (known_party_of t)) _ x b.2 in
-      let d = read-then (in_option fs found 14 (known_party_of t)) _ x c.2 in
-      let g = read-then (in_place order_202 fs found 15 (known_party_of t)) _ x d.2 in
-      let same : record { payer = a.0; p52 = b.0; p56 = c.0; p57 = d.0; payee = g.0 } ≡ x = told-is _ x g.2 in
-      rw (← same) (c.1, d.1)
+      let from = read-then (payer_side_of t fs found) _ x e in
+      let to = read-then (payee_side_of t fs found) _ x from.2 in
+      let same : record { payer = from.0.payer; p52 = from.0.p52; p56 = to.0.p56; p57 = to.0.p57; payee = to.0.payee } ≡ x = told-is _ x to.2 in
+      rw (← same) (payee_side-there to.0 to.1)
 
   sequence-a-there : (x : SequenceA) → sequence_a_of t fs found ≡ Ok x
       → (in_option fs found 7 (known_party_of t) ≡ Ok x.banks.p56) × (in_option fs found 8 (known_party_of t) ≡ Ok x.banks.p57)
@@ -123,28 +140,54 @@ module _ (t : Tables) (fs : List Field) where
         let d = must-fine hold 3 (value_of t) (λ f. refl) _ refl refl in
         (record { reference = a.0; related = b.0; times = c.0; value = d.0 }, rw (a.1, b.1, c.1, d.1) refl)
 
-    banks-fine : (x : Banks) × (banks_of t fs found ≡ Ok x)
-    unfolding banks_of
-    banks-fine =
+    sender_side-fine : (x : SenderSide) × (sender_side_of t fs found ≡ Ok x)
+    unfolding sender_side_of
+    sender_side-fine =
         let hold = all-hold order_202 (content_test t) fs none in
         let a = may-fine hold 4 (known_party_of t) (λ f. refl) in
         let b = may-fine hold 5 (known_party_of t) (λ f. refl) in
         let c = may-fine hold 6 (known_party_of t) (λ f. refl) in
-        let d = may-fine hold 7 (known_party_of t) (λ f. refl) in
-        let g = may-fine hold 8 (known_party_of t) (λ f. refl) in
-        let h = must-fine hold 9 (known_party_of t) (λ f. refl) _ refl refl in
-        (record { p52 = a.0; p53 = b.0; p54 = c.0; p56 = d.0; p57 = g.0; p58 = h.0 }, rw (a.1, b.1, c.1, d.1, g.1, h.1) refl)
+        (record { p52 = a.0; p53 = b.0; p54 = c.0 }, rw (a.1, b.1, c.1) refl)
+
+    beneficiary_side-fine : (x : BeneficiarySide) × (beneficiary_side_of t fs found ≡ Ok x)
+    unfolding beneficiary_side_of
+    beneficiary_side-fine =
+        let hold = all-hold order_202 (content_test t) fs none in
+        let a = may-fine hold 7 (known_party_of t) (λ f. refl) in
+        let b = may-fine hold 8 (known_party_of t) (λ f. refl) in
+        let c = must-fine hold 9 (known_party_of t) (λ f. refl) _ refl refl in
+        (record { p56 = a.0; p57 = b.0; p58 = c.0 }, rw (a.1, b.1, c.1) refl)
+
+    banks-fine : (x : Banks) × (banks_of t fs found ≡ Ok x)
+    unfolding banks_of
+    banks-fine =
+        let s = sender_side-fine in
+        let b = beneficiary_side-fine in
+        (record { p52 = s.0.p52; p53 = s.0.p53; p54 = s.0.p54; p56 = b.0.p56; p57 = b.0.p57; p58 = b.0.p58 }, rw (s.1, b.1) refl)
+
+    payer_side-fine : (x : PayerSide) × (payer_side_of t fs found ≡ Ok x)
+    unfolding payer_side_of
+    payer_side-fine =
+        let hold = all-hold order_202 (content_test t) fs none in
+        let a = must-fine hold 11 (known_party_of t) (λ f. refl) _ refl refl in
+        let b = may-fine hold 12 (known_party_of t) (λ f. refl) in
+        (record { payer = a.0; p52 = b.0 }, rw (a.1, b.1) refl)
+
+    payee_side-fine : (x : PayeeSide) × (payee_side_of t fs found ≡ Ok x)
+    unfolding payee_side_of
+    payee_side-fine =
+        let hold = all-hold order_202 (content_test t) fs none in
+        let a = may-fine hold 13 (known_party_of t) (λ f. refl) in
+        let b = may-fine hold 14 (known_party_of t) (λ f. refl) in
+        let c = must-fine hold 15 (known_party_of t) (λ f. refl) _ refl refl in
+        (record { p56 = a.0; p57 = b.0; payee = c.0 }, rw (a.1, b.1, c.1) refl)
 
     customers-fine : (x : Customers) × (customers_of t fs found ≡ Ok x)
     unfolding customers_of
     customers-fine =
-        let hold = all-hold order_202 (content_test t) fs none in
-        let a = must-fine hold 11 (known_party_of t) (λ f. refl) _ refl refl in
-        let b = may-fine hold 12 (known_party_of t) (λ f. refl) in
-        let c = may-fine hold 13 (known_party_of t) (λ f. refl) in
-        let d = may-fine hold 14 (known_party_of t) (λ f. refl) in
-        let g = must-fine hold 15 (known_party_of t) (λ f. refl) _ refl refl in
-        (record { payer = a.0; p52 = b.0; p56 = c.0; p57 = d.0; payee = g.0 }, rw (a.1, b.1, c.1, d.1, g.1) refl)
+        let from = payer_side-fine in
+        let to = payee_side-fine in
+        (record { payer = from.0.payer; p52 = from.0.p52; p56 = to.0.p56; p57 = to.0.p57; payee = to.0.payee }, rw (from.1, to.1) refl)
 
     details-fine : (x : Details) × (details_of t fs found ≡ Ok x)
     unfolding details_of

@@ -18,7 +18,7 @@ use Rattle.mt202cov.specs.Message.{content_test as content_202, field_tests as t
 use Rattle.mt202cov.specs.Order.{order_202}
 use Rattle.mt202cov.specs.declared.message.Mt202Cov.{Mt202Cov}
 use Rattle.mt9_advice.specs.Advice.{content_test, contents_910, mt910_of, tests_910}
-use Rattle.mt9_advice.specs.Parts.{booking_of, mt910, parts_910}
+use Rattle.mt9_advice.specs.Parts.{booking_of, ending_of, mt910, orderers_of, parts_910}
 use Rattle.mt9_advice.proofs.laws.Parts.{contents-are-910}
 use Rattle.mt9_advice.specs.Order.{order_910}
 use Rattle.mt9_advice.specs.declared.booking.Booking.{Booking}
@@ -93,7 +93,7 @@ module _ (t : Tables) (reference related account : List ℕ) (v : Value) (f21 f5
   says = rw (one, two, three, four) refl
 
   contents : contents_910 t (joined segs) found ≡ Ok (mt910 (booked reference related account v) None (Some bank) None [])
-  unfolding parts_910
+  unfolding parts_910 orderers_of ending_of
   contents =
       let parts : parts_910 t (joined segs) found ≡ Ok (mt910 (booked reference related account v) None (Some bank) None []) = rw (says, five) refl in
       sym (contents-are-910 t (joined segs) found) ∙ parts

@@ -1,4 +1,3 @@
-use Rattle.std.proofs.Common.{◌∙◌}
 use Rattle.std.proofs.lemmas.Result.{err_from_is_err_and}
 use Rattle.fin_contents.proofs.laws.Readable.{given-readable}
 use Rattle.mt9_advice.specs.Advice.{mt900_of}
