@@ -6,9 +6,10 @@ use corr_money::{Amount, Ccy, Minor};
 use corr_text::{List, Memory, Set, Text, is_all_of};
 use fin_contents::{
     CcyAmount, KnownParty, Rate, Reference, ShortLine, Texts, Time, Value, ValueDate, array_of,
-    is_clock, line_field, one_line, or_none, push_ccy_amount, push_ccy_amounts, push_party,
-    push_rate, push_texts, push_times, put_ccy_amount, put_known_party, put_rate, put_reference,
-    put_short_line, put_texts, put_time, put_value,
+    ccy_amount_in, first_slash, is_clock, is_dated_amount, line_field, minor_in, one_line, or_none,
+    push_ccy_amount, push_ccy_amounts, push_party, push_rate, push_texts, push_times,
+    put_ccy_amount, put_ccy_amount_text, put_known_party, put_rate, put_reference, put_short_line,
+    put_texts, put_time, put_value,
 };
 use fin_fields::{Field, FieldLines, lend_field};
 use fin_layout::{Content, Refill, Refusal};
@@ -60,6 +61,37 @@ fn bytes_have_their_forms(rt: HostRuntime) {
     assert!(rt; is_clock(b"0915+0100") && is_all_of(Set::N, b"0915"));
     assert_eq!(rt; array_of(b"AB"), Some(*b"AB"));
     assert!(rt; or_none(rt.alloc(), None).as_slice().is_empty());
+    assert!(rt; is_dated_amount(b"240603EUR1,5"));
+    assert_eq!(rt; first_slash(b"A/B"), Some(1));
+}
+
+// The amount of a line, under tables of one currency.
+fn spelled(alloc: Global) -> Result<Amount, Refusal> {
+    let Ok(tables) = tables(alloc) else {
+        return Err(Refusal::Memory);
+    };
+    match ccy_amount_in(&tables, b"EUR1,5") {
+        Ok(amount) => Ok(amount),
+        Err(code) => Err(Refusal::Bad(code)),
+    }
+}
+
+// An amount at the end of a text.
+fn spelled_again(alloc: Global) -> Result<Text, Memory> {
+    let mut text = Text::from_bytes(alloc, b":33B:")?;
+    put_ccy_amount_text(alloc, &CENTS, &mut text)?;
+    Ok(text)
+}
+
+#[test]
+fn an_amount_is_read_and_put_in_a_text(rt: HostRuntime) -> Result<(), Fail> {
+    assert_eq!(rt; minor_in(2, b"1,5"), Ok(Minor(150)));
+    assert_eq!(rt; spelled(rt.alloc()), Ok(CENTS));
+    assert_eq!(rt;
+        spelled_again(rt.alloc())?.bytes(),
+        b":33B:EUR1,50".as_slice()
+    );
+    Ok(())
 }
 
 // Whether a field has this one line.

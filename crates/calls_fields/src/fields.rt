@@ -5,8 +5,8 @@ ghost use Rattle.fin_fields.specs.Writing.{IsField};
 
 use corr_text::{List, Memory, Set, Text};
 use fin_fields::{
-    Field, FieldFault, FieldLines, Pattern, are_x_runs, copy_lines, cut_fields, cut_lines, is_of_x,
-    is_run_of, is_x_run, lend_field, lend_fields, letter_of, lines_match, matches, nth_of,
+    Field, FieldFault, FieldLines, Line, Pattern, are_x_runs, copy_lines, cut_fields, cut_lines,
+    is_of_x, is_run_of, is_x_run, lend_field, lend_fields, letter_of, lines_match, matches, nth_of,
     own_fields, put_fields, refill_lines, tag_of,
 };
 use std::alloc::Global;
@@ -123,6 +123,21 @@ fn bytes_that_were_tested_are_known(rt: HostRuntime) -> Result<(), Fail> {
     );
     assert!(rt; is_of_x(b"SHA", false) && is_x_run(3, b"SHA", false));
     assert!(rt; !is_plain_name(&FieldLines::of_line(20, None, b"A")));
+    Ok(())
+}
+
+#[test]
+fn a_field_takes_a_line_more(rt: HostRuntime) -> Result<(), Fail> {
+    assert_eq!(rt; Line::of(b"A TOWN").bytes(), b"A TOWN".as_slice());
+    let mut f = FieldLines::of_line(50, Some(b'K'), b"A PAYER");
+    f.add(rt.alloc(), b"A TOWN")?;
+    assert_eq!(rt; f.tag(), 50);
+    assert_eq!(rt; f.letter(), Some(b'K'));
+    let kept = f.to_owned(rt.alloc())?;
+    match kept.lines.as_slice() {
+        [_, line] => assert_eq!(rt; line.bytes(), b"A TOWN".as_slice()),
+        _ => assert!(rt; false, "two lines"),
+    }
     Ok(())
 }
 

@@ -1,8 +1,10 @@
 //! Each call once; cases stand in rows (parties.rows).
 
 use corr_text::{List, Memory, Text};
-use fin_fields::{Field, lend_field};
-use fin_parties::{Party, PartyFault, account_of, fill_party, put_party, read_party};
+use fin_fields::{Field, FieldLines, lend_field};
+use fin_parties::{
+    Party, PartyFault, account_of, fill_party, put_party, read_party, read_party_lines,
+};
 use std::alloc::Global;
 use std::test::Fail;
 
@@ -35,6 +37,20 @@ fn a_party_is_read_and_written(rt: HostRuntime) -> Result<(), Fail> {
         _ => assert!(rt; false, "an account"),
     }
     assert!(rt; is_written(rt.alloc(), &party)?);
+    Ok(())
+}
+
+// The party of a line that stays where it is.
+fn party_in_place(alloc: Global) -> Result<Party, PartyFault> {
+    read_party_lines(alloc, &FieldLines::of_line(57, Some(b'C'), b"/12"))
+}
+
+#[test]
+fn a_party_is_read_where_its_line_stands(rt: HostRuntime) -> Result<(), Fail> {
+    match party_in_place(rt.alloc())? {
+        Party::C { line } => assert_eq!(rt; line.bytes(), b"/12".as_slice()),
+        _ => assert!(rt; false, "an account"),
+    }
     Ok(())
 }
 

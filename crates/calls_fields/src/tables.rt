@@ -3,8 +3,8 @@
 use corr_ids::Bic;
 use corr_money::Ccy;
 use ref_tables::{
-    AccountRow, RefTables, TableFault, ccy, cell, is_account_id, read_accounts, read_banks,
-    read_rows, read_tables, with_countries, with_currencies,
+    AccountRow, RefTables, TableFault, TableName, Why, bad, ccy, cell, is_account_id,
+    read_accounts, read_banks, read_rows, read_tables, with_countries, with_currencies,
 };
 use std::alloc::Global;
 use std::test::Fail;
@@ -49,6 +49,21 @@ fn accounts_are_read(rt: HostRuntime) -> Result<(), Fail> {
     assert_eq!(rt; accounts.len(), 1);
     assert_eq!(rt; accounts[0].opening, 5);
     Ok(())
+}
+
+#[test]
+fn a_bad_row_is_told(rt: HostRuntime) {
+    let fault = bad(TableName::Bics, 2, Why::Columns);
+    assert!(rt;
+        matches!(
+            fault,
+            TableFault::Bad {
+                table: TableName::Bics,
+                row: 2,
+                why: Why::Columns,
+            }
+        )
+    );
 }
 
 #[test]

@@ -1,9 +1,14 @@
 //! Calls go through functions that promise nothing: a test then carries none of what sources and sinks promise.
 
-use corr_io::{Failed, MemSink, MemSource, Sink, Source, StdSink, StdSource, write_some};
+use corr_io::{
+    Failed, MemSink, MemSource, Sink, Source, StdSink, StdSource, count_fault, counted, open_at,
+    read_some, read_some_at, write_some,
+};
 use corr_text::{List, Memory, Text};
 use std::alloc::Global;
-use std::io::{ErrorKind, Write};
+use std::fs::OpenOptions;
+use std::io::{ErrorKind, Read, Write};
+use std::os::unix::fs::FileExt;
 use std::test::Fail;
 use std::{fs, io};
 
@@ -61,6 +66,16 @@ fn takes_none<K: Sink>(sink: &mut K, piece: &[u8]) -> bool {
 }
 
 #[test]
+fn a_failure_is_counted(rt: HostRuntime) {
+    let mut faults = 0;
+    assert_eq!(rt; count_fault(&mut faults), Failed);
+    assert_eq!(rt; counted(Ok(7u64), &mut faults), Ok(7));
+    assert_eq!(rt; faults, 1);
+    assert_eq!(rt; counted::<u64>(Err(Failed), &mut faults), Err(Failed));
+    assert_eq!(rt; faults, 2);
+}
+
+#[test]
 fn a_source_gives_its_bytes_in_pieces(rt: HostRuntime) -> Result<(), Fail> {
     let mut source = memory_source(rt.alloc(), b"ABCDE", &[])?;
     assert!(rt; gives(&mut source, 2, b"AB"));
@@ -107,6 +122,45 @@ fn a_file_is_appended_to_and_read(rt: HostRuntime) -> Result<(), Fail> {
     let mut source = file_source(&rt, b"out.fin")?;
     assert!(rt; gives(&mut source, 8, b"REF1\r\n") && gives(&mut source, 8, b""));
     assert_eq!(rt; source.faults(), 0);
+    Ok(())
+}
+
+// Whether a read of four bytes gives these.
+fn reads<F: Read>(file: &mut F, want: &[u8]) -> bool {
+    let mut bytes = [0; 4];
+    match read_some(file, &mut bytes) {
+        Ok(n) => n <= 4 && &bytes[..n] == want,
+        Err(_) => false,
+    }
+}
+
+// Whether a read of four bytes at a place gives these.
+fn reads_at<F: FileExt>(file: &F, at: u64, want: &[u8]) -> bool {
+    let mut bytes = [0; 4];
+    match read_some_at(file, at, &mut bytes) {
+        Ok(n) => n <= 4 && &bytes[..n] == want,
+        Err(_) => false,
+    }
+}
+
+const FILE: &str = "corr_io_test.fin";
+
+// Whether the file of six bytes is read from where it stands, and at a place.
+fn is_read(rt: &HostRuntime) -> Result<bool, Memory> {
+    let path = Text::from_bytes(rt.alloc(), FILE.as_bytes())?;
+    let mut how = OpenOptions::new();
+    how.read(true);
+    match open_at(rt, &path, &how) {
+        Ok(mut file) => Ok(reads(&mut file, b"REF1") && reads_at(&file, 2, b"F1\r\n")),
+        Err(_) => Ok(false),
+    }
+}
+
+#[test]
+fn an_open_file_is_read_from_where_it_stands_and_at_a_place(rt: HostRuntime) -> Result<(), Fail> {
+    fs::write(&rt, FILE, b"REF1\r\n")?;
+    assert!(rt; is_read(&rt)?);
+    fs::remove_file(&rt, FILE)?;
     Ok(())
 }
 

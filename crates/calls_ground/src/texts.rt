@@ -1,8 +1,9 @@
 //! Each call once; cases stand in rows (texts.rows).
 
 use corr_text::{
-    Buf, List, Set, Text, all_digits, clear, copy_texts, digits, first_line, is_all_of, is_set,
-    is_x, next_brace, plain_line, push_texts, put_digits,
+    Buf, Decimal, List, Set, Text, all_digits, clear, copy_texts, digits, first_line, has_brace,
+    is_all_of, is_each_of, is_set, is_x, let_go, next_brace, plain_line, push_texts, put,
+    put_digits,
 };
 use std::test::Fail;
 
@@ -17,8 +18,20 @@ fn digits_are_read_and_put(rt: HostRuntime) -> Result<(), Fail> {
 }
 
 #[test]
+fn a_number_has_zeros_before_it(rt: HostRuntime) {
+    let mut decimal = Decimal::new();
+    assert_eq!(rt; decimal.padded(7, 3), b"007".as_slice());
+}
+
+#[test]
 fn sets_have_members(rt: HostRuntime) {
     assert!(rt; is_x(b'/') && is_set(Set::N, b'0') && is_all_of(Set::A, b"AZ"));
+    assert!(rt; is_each_of(Set::C, b"A1") && !is_each_of(Set::C, b"A/"));
+}
+
+#[test]
+fn a_group_has_a_brace(rt: HostRuntime) {
+    assert!(rt; has_brace(b"A}") && !has_brace(b"A("));
 }
 
 #[test]
@@ -39,6 +52,14 @@ fn a_text_is_copied_and_grows(rt: HostRuntime) -> Result<(), Fail> {
     text.push_all(&[b"", b"Y", b"Z1"])?;
     assert_eq!(rt; text.bytes(), b"REF1//XYZ1".as_slice());
     assert_eq!(rt; copy.bytes(), b"REF1".as_slice());
+    Ok(())
+}
+
+#[test]
+fn a_text_is_cut_to_its_first_bytes(rt: HostRuntime) -> Result<(), Fail> {
+    let mut text = Text::from_vec(Vec::from_slice(rt.alloc(), b"REF1//X")?);
+    text.truncate(4);
+    assert_eq!(rt; text.bytes(), b"REF1".as_slice());
     Ok(())
 }
 
@@ -79,12 +100,34 @@ fn a_buffer_is_filled_again(rt: HostRuntime) -> Result<(), Fail> {
 }
 
 #[test]
+fn a_buffer_is_cut_to_its_first_bytes(rt: HostRuntime) -> Result<(), Fail> {
+    let mut buf = Buf::new(rt.alloc());
+    buf.push(b"ABCD")?;
+    buf.truncate(2);
+    assert_eq!(rt; buf.bytes(), b"AB".as_slice());
+    Ok(())
+}
+
+#[test]
 fn a_list_keeps_its_order(rt: HostRuntime) -> Result<(), Fail> {
     let mut list = List::new(rt.alloc());
     list.push(3u64)?;
     list.push(1)?;
     list.push(2)?;
     assert_eq!(rt; list.as_slice(), [3, 1, 2].as_slice());
+    Ok(())
+}
+
+#[test]
+fn a_list_takes_the_values_of_another(rt: HostRuntime) -> Result<(), Fail> {
+    let mut list = List::new(rt.alloc());
+    list.push(3u64)?;
+    let mut more = List::new(list.allocator());
+    more.push(1)?;
+    more.push(2)?;
+    list.append(more)?;
+    let values = list.into_vec();
+    assert_eq!(rt; values.as_slice(), [3, 1, 2].as_slice());
     Ok(())
 }
 
@@ -113,6 +156,16 @@ fn texts_are_put_in_the_places_of_others(rt: HostRuntime) -> Result<(), Fail> {
     assert_eq!(rt; texts.len(), 2);
     assert_eq!(rt; texts[0].bytes(), b"A PAYEE".as_slice());
     assert_eq!(rt; texts[1].bytes(), b"ITS STREET".as_slice());
+    Ok(())
+}
+
+#[test]
+fn a_value_takes_the_place_of_another_and_ends(rt: HostRuntime) -> Result<(), Fail> {
+    let mut place = Text::from_bytes(rt.alloc(), b"REF1")?;
+    put(&mut place, Text::from_bytes(rt.alloc(), b"REF2")?);
+    let copy = place.copy(rt.alloc())?;
+    let_go(place);
+    assert_eq!(rt; copy.bytes(), b"REF2".as_slice());
     Ok(())
 }
 
