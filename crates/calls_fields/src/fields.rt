@@ -126,18 +126,26 @@ fn bytes_that_were_tested_are_known(rt: HostRuntime) -> Result<(), Fail> {
     Ok(())
 }
 
+// A field of two lines, the second added, with lines of its own.
+fn lengthened(alloc: Global) -> Result<Field, Memory> {
+    let mut f = FieldLines::of_line(50, Some(b'K'), b"A PAYER");
+    f.add(alloc, b"A TOWN")?;
+    f.to_owned(alloc)
+}
+
+// Whether a line is the second and last of a field.
+fn ends_with(f: &Field, line: &Line<'_>) -> bool {
+    match f.lines.as_slice() {
+        [_, last] => last.bytes() == line.bytes(),
+        _ => false,
+    }
+}
+
 #[test]
 fn a_field_takes_a_line_more(rt: HostRuntime) -> Result<(), Fail> {
-    assert_eq!(rt; Line::of(b"A TOWN").bytes(), b"A TOWN".as_slice());
-    let mut f = FieldLines::of_line(50, Some(b'K'), b"A PAYER");
-    f.add(rt.alloc(), b"A TOWN")?;
-    assert_eq!(rt; f.tag(), 50);
-    assert_eq!(rt; f.letter(), Some(b'K'));
-    let kept = f.to_owned(rt.alloc())?;
-    match kept.lines.as_slice() {
-        [_, line] => assert_eq!(rt; line.bytes(), b"A TOWN".as_slice()),
-        _ => assert!(rt; false, "two lines"),
-    }
+    let f = FieldLines::of_line(50, Some(b'K'), b"A PAYER");
+    assert!(rt; f.tag() == 50 && f.letter() == Some(b'K'));
+    assert!(rt; ends_with(&lengthened(rt.alloc())?, &Line::of(b"A TOWN")));
     Ok(())
 }
 
