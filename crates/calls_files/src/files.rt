@@ -119,6 +119,22 @@ fn append_with(
     Ok((answer, left))
 }
 
+// The counts of faults of a disk that passes two calls: of the file that was opened with them, and after an append.
+fn counts(alloc: Global) -> Result<(u64, u64), Fail> {
+    let (mut file, _) = open(alloc, fuse(alloc, HEAD, 2, 0)?)?;
+    let before = file.faults();
+    match add(&mut file, AB) {
+        Ok(()) => Err("appended".into()),
+        Err(_) => Ok((before, file.faults())),
+    }
+}
+
+#[test]
+fn a_file_counts_the_faults_of_its_disk(rt: HostRuntime) -> Result<(), Fail> {
+    assert_eq!(rt; counts(rt.alloc())?, (0, 1));
+    Ok(())
+}
+
 // Opening a small file makes two calls of the disk, and appending four.
 #[test]
 fn an_append_that_stops_leaves_the_records_before_or_with_the_new_one(
