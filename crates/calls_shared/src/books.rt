@@ -6,12 +6,12 @@ ghost use Rattle.day_model.specs.Shape.{HasShape};
 ghost use Rattle.corr_books.specs.Opening.{IsNamed};
 ghost use Rattle.corr_books.specs.Passes.{Belongs};
 
-use corr_books::{Books, BooksName, CloseFault, Opened, open_books};
+use corr_books::{Books, BooksName, CloseFault, Opened, open_books, told_stands};
 use corr_disk::{Disk, MemDisk, OnceDisk};
 use corr_ids::{Bic, Day, Mir};
 use corr_money::Ccy;
 use corr_text::{List, Memory, Text, put_digits};
-use day_model::{Account, Accounts, Outcome, Pay, rows_hold};
+use day_model::{Account, Accounts, History, Outcome, Pay, rows_hold};
 use front_word::Pass;
 use jrn_book::{CommitFault, Committed};
 use jrn_codec::{put_head, read_entry};
@@ -408,24 +408,31 @@ fn a_held_pay_holds_a_pay_of_one_of_its_accounts(rt: HostRuntime) -> Result<(), 
     Ok(())
 }
 
-// What a pay and then another answer with one of two passes, what a close with the other pass alone tells, and whether all close.
+// How many accounts books have, what a pay and then another answer with one of two passes, what a close with the other pass
+// alone tells, and the history once all close.
 #[derive(Drop)]
 struct Turn {
+    accounts: u32,
     first: Answer,
     second: Answer,
     mine: u64,
     made: u32,
-    entries: u32,
+    history: History,
 }
 
-// How many passes books say that they made where they are closed with one of two, and how many entries there are once they
-// were closed with both.
+// How many accounts books have. Promises nothing; likewise the next.
+fn count_accounts<N: BooksName, D: Disk>(books: &Books<N, D>) -> u32 {
+    books.accounts().count()
+}
+
+// How many passes books say that they made where they are closed with one of two, and the history once they were closed with
+// both.
 fn close_late<N: BooksName, D: Disk + Drop>(
     alloc: Global,
     books: Books<N, D>,
     front: Pass,
     last: Pass,
-) -> Result<(u32, u32), Fail>
+) -> Result<(u32, History), Fail>
     requires { (Belongs N.opening front) × (Belongs N.opening last) }
 {
     let mut passes = Vec::new(alloc);
@@ -444,7 +451,7 @@ fn close_late<N: BooksName, D: Disk + Drop>(
     let Ok(closed) = books.close(passes) else {
         return Err("two passes".into());
     };
-    Ok((made, closed.history.len()))
+    Ok((made, closed.history))
 }
 
 fn book_turn_as<N: BooksName, D: Disk + Drop, R: Wait>(
@@ -461,16 +468,18 @@ fn book_turn_as<N: BooksName, D: Disk + Drop, R: Wait>(
     requires shape { (HasShape first.now) × (HasShape second.now) }
 {
     let (books, front, pass) = begin::<N, D>(alloc, opened, made)?;
+    let accounts = count_accounts(&books);
     let (pass, first) = book_as(rt, &books, pass, 1, first, &OpenGate);
     let (pass, second) = book_as(rt, &books, pass, 1, second, &OpenGate);
     let mine = pass.mine().len() as u64;
-    let (made, entries) = close_late(alloc, books, front, pass)?;
+    let (made, history) = close_late(alloc, books, front, pass)?;
     Ok(Turn {
+        accounts,
         first,
         second,
         mine,
         made,
-        entries,
+        history,
     })
 }
 
@@ -499,7 +508,27 @@ fn books_close_with_all_their_passes_alone(rt: HostRuntime) -> Result<(), Fail> 
     let disk = MemDisk::new(alloc, journal(&rt, alloc, 0)?);
     let turn = book_turn(&rt, alloc, disk, &first, &first)?;
     assert!(rt; turn.first == new(1) && turn.second == kept(1));
-    assert_eq!(rt; (turn.mine, turn.made, turn.entries), (2, 2, 1));
+    assert_eq!(rt; (turn.mine, turn.made, turn.history.len()), (2, 2, 1));
+    Ok(())
+}
+
+// The law is a theorem, and its call does nothing. Promises nothing, so that the test carries none of it.
+fn law() {
+    told_stands();
+}
+
+#[test]
+fn books_have_the_accounts_of_their_journal_and_close_with_what_they_told(
+    rt: HostRuntime,
+) -> Result<(), Fail> {
+    law();
+    let alloc = rt.alloc();
+    let first = pay(alloc, 1, 1, 3, 123_450)?;
+    let disk = MemDisk::new(alloc, journal(&rt, alloc, 0)?);
+    let turn = book_turn(&rt, alloc, disk, &first, &first)?;
+    assert_eq!(rt; turn.accounts, 7);
+    assert!(rt; turn.first == new(1));
+    assert_eq!(rt; turn.history.find(&first.mir), Some(1));
     Ok(())
 }
 
@@ -531,6 +560,6 @@ fn a_disk_that_fails_once_breaks_the_books(rt: HostRuntime) -> Result<(), Fail> 
     });
     let broken = Err(CommitFault::Broken { at_open: 0, now: 1 });
     assert!(rt; turn.first == failed && turn.second == broken);
-    assert_eq!(rt; (turn.mine, turn.entries), (0, 0));
+    assert_eq!(rt; (turn.mine, turn.history.len()), (0, 0));
     Ok(())
 }
