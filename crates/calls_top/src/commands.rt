@@ -4,7 +4,7 @@
 use corr_disk::{Disk, FuseDisk};
 use corr_io::{MemSink, MemSource, Sink, Source};
 use corr_text::{List, Memory, Text};
-use corr_top::{Done, Room, Status, Tables, corr};
+use corr_top::{Done, Room, Status, Tables, corr, plain};
 use std::alloc::Global;
 use std::sync::Wait;
 use std::thread::Threads;
@@ -163,6 +163,18 @@ pub(crate) fn call<R: Wait + Threads + Sync, D: Disk + Drop + Send>(
     disk: D,
 ) -> Result<Ended<D>, Memory> {
     call_at(rt, alloc, command, failing, files, disk, &OpenGate)
+}
+
+// A command that waits for nobody, over a disk.
+pub(crate) fn call_plain<D: Disk + Drop>(
+    alloc: Global,
+    command: &[&[u8]],
+    files: Files,
+    disk: D,
+) -> Result<Ended<D>, Memory> {
+    let texts = words(alloc, command)?;
+    let room = room(alloc, WHOLE, files, disk)?;
+    leave(alloc, plain(alloc, texts.as_slice(), room))
 }
 
 // A run of one worker over a disk.

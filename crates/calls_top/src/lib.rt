@@ -10,4 +10,6 @@ mod gates;
 #[cfg(test)]
 mod reports;
 #[cfg(test)]
+mod statuses;
+#[cfg(test)]
 mod stops;

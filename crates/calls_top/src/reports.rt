@@ -1,6 +1,6 @@
 //! Commands that book nothing: received statements against the books, a generated day, and a trial of one.
 
-use crate::commands::{Files, WHOLE, booked, call, is_done};
+use crate::commands::{Files, WHOLE, booked, call, call_plain, is_done};
 use corr_disk::MemDisk;
 use corr_text::{Memory, Text};
 use std::alloc::Global;
@@ -54,6 +54,13 @@ fn is_generated<R: Wait + Threads + Sync>(rt: &R, alloc: Global) -> Result<bool,
     does(rt, alloc, &[b"generate", b"1", b"7"], empty, b"", GENERATED)
 }
 
+// Whether a day of one message is sent by the call that has no threads.
+fn is_generated_plainly(alloc: Global) -> Result<bool, Memory> {
+    let disk = MemDisk::new(alloc, Text::from_bytes(alloc, b"")?);
+    let ended = call_plain(alloc, &[b"generate", b"1", b"7"], FILES, disk)?;
+    Ok(is_done(&ended, b"", GENERATED))
+}
+
 // Whether two workers sum up a day of two messages.
 fn is_tried<R: Wait + Threads + Sync>(rt: &R, alloc: Global) -> Result<bool, Memory> {
     let empty = Text::from_bytes(alloc, b"")?;
@@ -76,6 +83,12 @@ fn a_received_statement_is_compared_with_the_books(rt: HostRuntime) -> Result<()
 #[test]
 fn a_generated_day_is_sent(rt: HostRuntime) -> Result<(), Fail> {
     assert!(rt; is_generated(&rt, rt.alloc())?);
+    Ok(())
+}
+
+#[test]
+fn a_generated_day_is_sent_without_threads(rt: HostRuntime) -> Result<(), Fail> {
+    assert!(rt; is_generated_plainly(rt.alloc())?);
     Ok(())
 }
 
