@@ -74,7 +74,7 @@ pub(crate) fn bank_and_customer(alloc: Global) -> Result<Accounts, Fail> {
     book(first, second, List::new(alloc))
 }
 
-fn leg(alloc: Global, account: u32, side: Side) -> Result<Leg, Memory> {
+pub(crate) fn leg(alloc: Global, account: u32, side: Side) -> Result<Leg, Memory> {
     Ok(Leg {
         account: AcctNo(account),
         side,

@@ -10,9 +10,13 @@ fn accounts_are_found(rt: HostRuntime) -> Result<(), Fail> {
     let a = customers(rt.alloc())?;
     assert_eq!(rt; a.home().head, HOME.head);
     assert_eq!(rt; a.find(b"B"), Some(AcctNo(2)));
-    assert_eq!(rt; a.owned(b'C', b"HOMEUS33", EUR, 2), Some(AcctNo(1)));
+    assert_eq!(rt;
+        a.owned(Kind::Customer.letter(), b"HOMEUS33", EUR, 2),
+        Some(AcctNo(1))
+    );
     assert!(rt; a.count() == 2);
     assert_eq!(rt; a.get(AcctNo(2)).opening, -5);
+    assert!(rt; may_hold(a.get(AcctNo(2)), 9) && !may_hold(a.get(AcctNo(2)), 10));
     Ok(())
 }
 

@@ -11,3 +11,5 @@ mod plans;
 mod reports;
 #[cfg(test)]
 mod routes;
+#[cfg(test)]
+mod totals;

@@ -1,15 +1,17 @@
-//! The report, the bookings and the summary of one pay, and a generated day of one message.
+//! The report, the bookings and the summary of one pay, the words of a line, and a generated day of one message.
 
 ghost use Rattle.std.specs.Prelude.{◌≡◌, length};
 ghost use Rattle.day_model.specs.Legal.{IsLegal};
 ghost use Rattle.corr_report.specs.Bookings.{AreInCentury};
 
 use crate::given::{FIRST, customers, history_of, pay};
+use corr_money::Minor;
 use corr_report::{
-    bookings, generated, put_reply_line, put_report_end, reply_line, report, summary,
+    bookings, generated, put_amount, put_balance, put_number, put_reply_line, put_report_end,
+    put_word, reply_line, report, side_letter, summary,
 };
 use corr_text::{Decimal, Memory, Text};
-use day_model::{Accounts, History, Reply};
+use day_model::{Accounts, History, Reply, Side};
 use std::alloc::Global;
 use std::test::Fail;
 
@@ -60,6 +62,16 @@ fn summed(alloc: Global, a: &Accounts, h: &History) -> Result<Text, Memory>
     summary(alloc, a, h)
 }
 
+// A line of one word of each kind.
+fn line(alloc: Global) -> Result<Text, Memory> {
+    let mut line = Text::from_bytes(alloc, b"LINE")?;
+    put_word(side_letter(Side::Debit), &mut line)?;
+    put_number(alloc, 12, 6, &mut line)?;
+    put_amount(alloc, Minor(123_450), 2, &mut line)?;
+    put_balance(alloc, -5, 2, &mut line)?;
+    Ok(line)
+}
+
 // A day of one message.
 fn day(alloc: Global) -> Result<Text, Memory> {
     generated(alloc, 1, 1)
@@ -84,6 +96,12 @@ fn a_booked_pay_is_reported(rt: HostRuntime) -> Result<(), Fail> {
     assert!(rt; text.bytes().starts_with(b"000007 240603ALPHDEFF"));
     let text = summed(rt.alloc(), &a, &h)?;
     assert!(rt; text.bytes().ends_with(b"BALANCE A 0,02\nBALANCE B -0,02\n"));
+    Ok(())
+}
+
+#[test]
+fn words_follow_on_a_line(rt: HostRuntime) -> Result<(), Fail> {
+    assert!(rt; line(rt.alloc())?.bytes() == b"LINE D 000012 1234,50 -0,05".as_slice());
     Ok(())
 }
 

@@ -5,7 +5,7 @@ ghost use Rattle.fin_fields.specs.Writing.{IsField};
 ghost use Rattle.ref_tables.specs.Seen.{few_decimals};
 
 use corr_text::List;
-use fin_fields::{Field, FieldFault, cut_fields};
+use fin_fields::{Field, FieldFault, FieldLines, cut_fields, cut_lines};
 use ref_tables::{RefTables, TableFault, read_tables};
 use std::alloc::Global;
 
@@ -26,6 +26,21 @@ pub fn cut(alloc: Global, text: &[u8]) -> Result<List<Field>, FieldFault>
         return Err(FieldFault::Memory);
     }
     let fields = cut_fields(alloc, text)?;
+    if fields.as_slice().len() > 1000 {
+        return Err(FieldFault::Memory);
+    }
+    Ok(fields)
+}
+
+/// The fields of a short text, whose lines stay in it.
+#[tactic(auto, using(fin_fields::proofs::laws::Bounds::lines_few))]
+pub fn cut_in_place(alloc: Global, text: &[u8]) -> Result<List<FieldLines<'_>>, FieldFault>
+    ensures { IfOk result (λ fields. length fields ≤ 1000) }
+{
+    if text.len() > 1000 {
+        return Err(FieldFault::Memory);
+    }
+    let fields = cut_lines(alloc, text)?;
     if fields.as_slice().len() > 1000 {
         return Err(FieldFault::Memory);
     }

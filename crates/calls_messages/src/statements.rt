@@ -4,10 +4,10 @@ ghost use Rattle.std.specs.Prelude.{All, IsTrue};
 ghost use Rattle.mt950.specs.Joining.{IsSmallLine};
 ghost use Rattle.ref_tables.specs.Seen.{few_decimals};
 
-use crate::cutting::{cut, let_go, tables};
+use crate::cutting::{cut, cut_in_place, let_go, tables};
 use corr_text::{Memory, Text};
 use fin_fields::FieldFault;
-use mt950::{Line61, Mark, PageFault, join_pages, put_mt950, read_mt950};
+use mt950::{Line61, Mark, PageFault, join_pages, put_mt950, read_mt950, read_mt950_lines};
 use ref_tables::RefTables;
 use std::alloc::Global;
 use std::test::Fail;
@@ -22,6 +22,19 @@ fn page(alloc: Global, tables: &RefTables, text: &[u8]) -> Result<Option<Text>, 
             let text = put_mt950(alloc, &p);
             let_go(p);
             Ok(Some(text?))
+        }
+        Err(_) => Ok(None),
+    }
+}
+
+// What the page of a text closes at, read where the lines are; none where the text says none.
+fn page_closing(alloc: Global, tables: &RefTables, text: &[u8]) -> Result<Option<i64>, FieldFault> {
+    let fields = cut_in_place(alloc, text)?;
+    match read_mt950_lines(alloc, fields.as_slice(), tables) {
+        Ok(p) => {
+            let closing = p.closing.signed;
+            let_go(p);
+            Ok(Some(closing))
         }
         Err(_) => Ok(None),
     }
@@ -100,6 +113,13 @@ fn a_page_is_read_and_written(rt: HostRuntime) -> Result<(), Fail> {
         Some(got) => assert!(rt; got.bytes() == want.as_slice()),
         None => assert!(rt; false, "a page"),
     }
+    Ok(())
+}
+
+#[test]
+fn a_page_is_read_in_its_text(rt: HostRuntime) -> Result<(), Fail> {
+    let tables = tables(rt.alloc())?;
+    assert_eq!(rt; page_closing(rt.alloc(), &tables, TEXT)?, Some(200));
     Ok(())
 }
 
