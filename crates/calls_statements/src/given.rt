@@ -78,11 +78,12 @@ fn record(alloc: Global, number: u32, amount: u64) -> Result<Text, Memory> {
     bytes.push(&amount)?;
     bytes.push(b"\0\x04REF1\0\x03\x01")?;
     bytes.push(&amount)?;
-    bytes.push(b"\x01\x01\x01\x04ALPHDEFFXXX\x01\0\0\0\x02\r\n")?;
+    bytes.push(b"\x01\x01\x01\x04ALPHDEFFXXX\x01\0\0\0\x0a:20:REF1\r\n")?;
     Ok(bytes)
 }
 
-fn pay(alloc: Global, number: u32, amount: u64) -> Result<Pay, Fail>
+/// The pay of that entry.
+pub fn pay(alloc: Global, number: u32, amount: u64) -> Result<Pay, Fail>
     ensures { IfOk result HasShape }
 {
     let bytes = record(alloc, number, amount)?;
@@ -128,4 +129,12 @@ pub fn grown(
         enter(a, &mut h, &mut index, pay(alloc, number, amount)?)?;
     }
     Ok((h, index))
+}
+
+/// Whether there is one text, and it is this.
+pub fn is_only(texts: &List<Text>, text: &[u8]) -> bool {
+    match texts.as_slice() {
+        [only] => only.bytes() == text,
+        _ => false,
+    }
 }

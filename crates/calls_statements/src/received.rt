@@ -15,7 +15,7 @@ use corr_text::{List, Memory, Text};
 use day_model::{Accounts, AcctNo, History};
 use fin_fields::{Field, cut_fields};
 use mt950::{Page950, Statement, join_pages, read_mt950};
-use reconcile::{Compared, breaks, compare};
+use reconcile::{Compared, breaks, compare, pieces};
 use ref_tables::{RefTables, read_tables};
 use statement::HistoryIndex;
 use std::alloc::Global;
@@ -148,5 +148,25 @@ fn told_of_a_line(alloc: Global) -> Result<Text, Fail> {
 fn a_line_without_an_entry_is_told(rt: HostRuntime) -> Result<(), Fail> {
     let text = told_of_a_line(rt.alloc())?;
     assert!(rt; text.bytes() == TOLD);
+    Ok(())
+}
+
+// How many statements the pages of two accounts are.
+fn count_of_pieces(alloc: Global, pages: Vec<Page950>) -> Result<usize, Memory>
+    requires { All (IsReadable mt950_of) pages.items }
+{
+    Ok(pieces(alloc, pages)?.len())
+}
+
+fn pieces_of_two(alloc: Global) -> Result<usize, Fail> {
+    let mut pages = Vec::new(alloc);
+    pages.push(page_in(alloc, VOSTRO)?)?;
+    pages.push(page_in(alloc, NOSTRO)?)?;
+    Ok(count_of_pieces(alloc, pages)?)
+}
+
+#[test]
+fn pages_of_two_accounts_are_two_pieces(rt: HostRuntime) -> Result<(), Fail> {
+    assert_eq!(rt; pieces_of_two(rt.alloc())?, 2);
     Ok(())
 }

@@ -5,7 +5,7 @@ ghost use Rattle.corr_ids.specs.Bic.{IsBic};
 ghost use Rattle.day_model.specs.Chart.{IsListed};
 ghost use Rattle.calls_statements.specs.Grown.{IsGrown};
 
-use crate::given::{DAY, accounts, grown};
+use crate::given::{DAY, accounts, grown, is_only};
 use corr_ids::Day;
 use corr_text::{List, Memory, Text};
 use day_model::{Accounts, AcctNo, History};
@@ -66,13 +66,6 @@ fn statements(
         return Err("no account".into());
     }
     Ok((printed(alloc, &a, &h, n)?, printed_with(&a, &h, &index, n)?))
-}
-
-fn is_only(texts: &List<Text>, text: &[u8]) -> bool {
-    match texts.as_slice() {
-        [only] => only.bytes() == text,
-        _ => false,
-    }
 }
 
 #[test]
@@ -140,5 +133,31 @@ fn balances(alloc: Global) -> Result<(i64, i64), Fail> {
 fn an_index_tells_balances(rt: HostRuntime) -> Result<(), Fail> {
     let (first, next) = balances(rt.alloc())?;
     assert!(rt; first == 5_000_000 && next == 4_997_400);
+    Ok(())
+}
+
+// The balance of account 1 up to and on the day, and how many movements are booked on it then.
+fn on_the_day(a: &Accounts, h: &History, index: &HistoryIndex) -> (i64, usize)
+    requires grown { IsGrown a.now h.now.entries index.now }
+    requires listed { IsListed a.now 1 }
+{
+    let movements = index.booked_on(AcctNo(1), DAY);
+    (index.balance_up_to(AcctNo(1), DAY), movements.len())
+}
+
+// The same after two entries.
+fn of_two(alloc: Global) -> Result<(i64, usize), Fail> {
+    let a = accounts(alloc)?;
+    let (h, index) = grown(alloc, &a, 2, 100)?;
+    if a.count() < 1 {
+        return Err("no account".into());
+    }
+    Ok(on_the_day(&a, &h, &index))
+}
+
+#[test]
+fn an_index_tells_a_day(rt: HostRuntime) -> Result<(), Fail> {
+    let (balance, movements) = of_two(rt.alloc())?;
+    assert!(rt; balance == 4_999_800 && movements == 2);
     Ok(())
 }

@@ -1,0 +1,57 @@
+//! The messages that are sent of an entry.
+
+ghost use Rattle.corr_ids.specs.Bic.{IsBic};
+ghost use Rattle.day_model.specs.Fit.{FitsAccounts};
+ghost use Rattle.day_model.specs.Shape.{HasShape};
+
+use crate::given::{DAY, accounts, is_only, pay};
+use advices::{orders, sent_messages_pass, sent_onward_reads};
+use corr_text::{List, Memory, Text};
+use day_model::{Accounts, Entry, Outcome, Pay};
+use std::alloc::Global;
+use std::test::Fail;
+
+const NOTICE: &[u8] = b"{1:F01HOMEUS33AXXX0000000000}{2:I900ALPHDEFFXXXXN}{4:\r
+:20:P00000001K1\r
+:21:REF1\r
+:25:VALPHEUR\r
+:32A:240603EUR1234,50\r
+-}";
+
+// The laws are theorems, and their calls do nothing. Promises nothing, so that the test carries none of them.
+fn laws() {
+    sent_messages_pass();
+    sent_onward_reads();
+}
+
+// What is sent of a booked pay, the first of the journal.
+fn sent(alloc: Global, a: &Accounts, pay: Pay) -> Result<List<Text>, Memory>
+    requires home { IsBic a.now.home }
+    requires fits { FitsAccounts a.now pay }
+    requires shape { HasShape pay }
+{
+    let entry = Entry {
+        pay,
+        day: DAY,
+        outcome: Outcome::Booked,
+    };
+    orders(alloc, a, &entry, 1)
+}
+
+// What is sent of 1234,50 from account 1.
+fn sent_of_one(alloc: Global) -> Result<List<Text>, Fail> {
+    let a = accounts(alloc)?;
+    let pay = pay(alloc, 1, 123_450)?;
+    if !a.fits(&pay) {
+        return Err("no entry".into());
+    }
+    Ok(sent(alloc, &a, pay)?)
+}
+
+#[test]
+fn a_debit_is_told_to_its_bank(rt: HostRuntime) -> Result<(), Fail> {
+    laws();
+    let texts = sent_of_one(rt.alloc())?;
+    assert!(rt; is_only(&texts, NOTICE));
+    Ok(())
+}
