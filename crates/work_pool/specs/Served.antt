@@ -21,7 +21,7 @@ pub record AreDealt (passes jobs : ℕ) (lists : List (List ℕ)) : Type 0 where
   pub every_job : (n : ℕ) → 1 ≤ n → n ≤ jobs → (k : ℕ) × StandsIn lists k n
   pub one_pass : (k l n : ℕ) → StandsIn lists k n → StandsIn lists l n → k ≡ l
 
--- job n goes to worker (n - 1) mod passes + 1, whose pass is at place (n - 1) mod passes
+-- job n is served with the pass at place (n - 1) mod passes
 abbrev pub AreInTurn : ℕ → List (List ℕ) → Type 0
 AreInTurn passes lists = (k n : ℕ) → StandsIn lists k n → k ≡ (n - 1) % passes
 
