@@ -3,10 +3,12 @@
 ghost use Rattle.std.specs.Prelude.{◌≤◌, ◌+◌, IsTrue, length};
 ghost use Rattle.corr_disk.specs.Disk.{most_disk_bytes};
 
-use corr_disk::{Disk, FileDisk, FuseDisk, MemDisk, OnceDisk};
+use corr_disk::{Disk, FileDisk, FileWatch, FuseDisk, MemDisk, OnceDisk, Trouble};
 use corr_text::{Memory, Text};
 use std::alloc::Global;
 use std::fs;
+use std::fs::File;
+use std::io::Write;
 use std::test::Fail;
 
 fn memory_disk(alloc: Global, bytes: &[u8]) -> Result<MemDisk, Memory> {
@@ -23,6 +25,10 @@ fn once_disk(alloc: Global, call: u64) -> Result<OnceDisk, Memory> {
 
 fn file_disk<'a>(rt: &'a HostRuntime, path: &[u8]) -> Result<FileDisk<'a, HostRuntime>, Memory> {
     Ok(FileDisk::new(rt, Text::from_bytes(rt.alloc(), path)?))
+}
+
+fn shared_disk<'a>(rt: &'a HostRuntime) -> Result<FileDisk<'a, HostRuntime>, Memory> {
+    Ok(FileDisk::shared(rt, Text::from_bytes(rt.alloc(), FILE.as_bytes())?))
 }
 
 fn len<D: Disk>(disk: &mut D) -> Option<u64> {
@@ -180,9 +186,69 @@ fn a_file_disk_keeps_what_was_written(rt: HostRuntime) -> Result<(), Fail> {
     assert!(rt; put(&mut disk, 0, b"abc") && is_synced(&mut disk) && put(&mut disk, 2, b"XY"));
     assert_eq!(rt; len(&mut disk), Some(4));
     assert!(rt; holds(&mut disk, 1, b"bXY") && holds(&mut disk, 4, b""));
+    assert_eq!(rt; disk.faults(), 0);
+    drop(disk);
     let mut again = file_disk(&rt, FILE.as_bytes())?;
     assert_eq!(rt; len(&mut again), Some(4));
-    assert!(rt; disk.faults() == 0 && again.faults() == 0);
+    assert!(rt; again.faults() == 0 && again.trouble().is_none());
+    fs::remove_file(&rt, FILE)?;
+    Ok(())
+}
+
+// Whether each call fails and is counted, because the file is held.
+fn is_in_use(disk: &mut FileDisk<'_, HostRuntime>) -> bool {
+    let faults = disk.faults();
+    is_stopped(disk) && disk.faults() == faults + 4 && disk.trouble() == Some(Trouble::InUse)
+}
+
+#[test]
+fn a_file_disk_holds_its_file(rt: HostRuntime) -> Result<(), Fail> {
+    let _ = fs::remove_file(&rt, FILE);
+    let mut alone = file_disk(&rt, FILE.as_bytes())?;
+    let mut second = file_disk(&rt, FILE.as_bytes())?;
+    let mut reader = shared_disk(&rt)?;
+    assert!(rt; put(&mut alone, 0, b"abc"));
+    assert!(rt; is_in_use(&mut second) && is_in_use(&mut reader));
+    assert!(rt; holds(&mut alone, 0, b"abc") && len(&mut alone) == Some(3));
+    drop(alone);
+    let mut beside = shared_disk(&rt)?;
+    assert!(rt; holds(&mut reader, 0, b"abc") && holds(&mut beside, 1, b"bc"));
+    assert!(rt; is_in_use(&mut second));
+    drop(reader);
+    drop(beside);
+    assert!(rt; holds(&mut second, 2, b"c"));
+    fs::remove_file(&rt, FILE)?;
+    Ok(())
+}
+
+// Writes these bytes into the file in place of what it has.
+fn refill(rt: &HostRuntime, bytes: &[u8]) -> Result<(), Fail> {
+    File::create(rt, FILE)?.write_all(bytes)?;
+    Ok(())
+}
+
+fn is_gone(disk: &mut FileDisk<'_, HostRuntime>) -> bool {
+    len(disk).is_none() && !is_synced(disk) && disk.trouble() == Some(Trouble::Gone)
+}
+
+#[test]
+fn a_file_disk_misses_what_was_removed_or_cut(rt: HostRuntime) -> Result<(), Fail> {
+    let _ = fs::remove_file(&rt, FILE);
+    let path = Text::from_bytes(rt.alloc(), FILE.as_bytes())?;
+    let watch = FileWatch::new();
+    let mut disk = file_disk(&rt, FILE.as_bytes())?.watched(&watch);
+    assert!(rt; watch.is_there(&rt, &path));
+    assert!(rt; put(&mut disk, 0, b"abc") && is_synced(&mut disk) && watch.is_there(&rt, &path));
+    refill(&rt, b"ab")?;
+    assert!(rt; is_gone(&mut disk) && !watch.is_there(&rt, &path));
+    // a write past the end would hide the cut
+    assert!(rt; !write(&mut disk, 0, b"abcd"));
+    refill(&rt, b"abc")?;
+    assert!(rt; is_synced(&mut disk) && watch.is_there(&rt, &path));
+    fs::remove_file(&rt, FILE)?;
+    assert!(rt; is_gone(&mut disk) && !watch.is_there(&rt, &path));
+    refill(&rt, b"abc")?;
+    assert!(rt; is_gone(&mut disk) && !watch.is_there(&rt, &path));
     fs::remove_file(&rt, FILE)?;
     Ok(())
 }

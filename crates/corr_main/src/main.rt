@@ -1,10 +1,13 @@
 //! The program: a folder of files and the words of a command (docs/operating.md).
 #![tactic(auto)]
 
-ghost use Rattle.std.specs.Prelude.{IfErr};
+ghost use Rattle.std.specs.Prelude.{IfErr, IfOk};
 ghost use Rattle.corr_top.specs.Status.{HasLine};
 
-use corr_disk::FileDisk;
+mod guarded_sink;
+
+use crate::guarded_sink::{GuardedSink, Journal};
+use corr_disk::{FileDisk, FileWatch, Trouble};
 use corr_io::{StdSink, StdSource};
 use corr_text::{Memory, Text, let_go};
 use corr_top::{Room, Status, Tables, corr, put_status_line};
@@ -43,10 +46,10 @@ corr --help     prints this
 corr --version  prints the version
 
 Status 0 done; 1 other words; 2 a table row is refused; 3 a file can't be read; 4 the report or
-out.fin can't be written; 5 journal.bin can't be read or written; 6 there is no journal, it is
-damaged, or it is there already, or the openings don't balance; 7 no memory; 8 DATE is before the
-last entry's day; 9 the message file is too large; 10 it can't be cut; 11 the journal is full. Each
-but 0 has its line on standard error.
+out.fin can't be written; 5 journal.bin can't be read or written, or is in use; 6 there is no
+journal, it is damaged, or it is there already, or the openings don't balance; 7 no memory; 8 DATE
+is before the last entry's day; 9 the message file is too large; 10 it can't be cut; 11 the journal
+is full. Each but 0 has its line on standard error.
 
 To read on: docs/operating.md says what each command reads and writes, and what to do after each status;
 docs/messages.md explains each code of the report.
@@ -54,6 +57,9 @@ docs/messages.md explains each code of the report.
 
 /// What `corr --version` prints.
 const VERSION: &[u8] = b"corr 0.1.0\n";
+
+/// The file of the journal.
+const JOURNAL: &[u8] = b"journal.bin";
 
 /// The most bytes of a word of the command line.
 const WORD_LIMIT: usize = 4096;
@@ -63,6 +69,16 @@ const LINE_LIMIT: usize = 128;
 
 /// The line of `Status::Memory`, which takes no memory.
 const NO_MEMORY: &[u8] = b"corr: no memory\n";
+
+/// The lines of a journal that can't be used.
+const IN_USE: &[u8] = b"corr: journal is in use\n";
+
+const NO_LOCKS: &[u8] = b"corr: journal can't be locked\n";
+
+const GONE: &[u8] = b"corr: journal was removed or cut\n";
+
+/// The commands that only read the journal, and may do so side by side.
+const READERS: [&[u8]; 4] = [b"send", b"bookings", b"statements", b"reconcile"];
 
 /// Puts the null device in the place of each of standard input, output and error that is closed, so that no file that is
 /// opened later gets its number. It is open for reading alone: what is written there fails, as to what is closed.
@@ -143,44 +159,86 @@ fn tables<'a>(
 }
 
 /// What a command is handed: files, and standard output.
-type Files<'a> = Room<
-    StdSource<'a, HostRuntime>,
-    StdSink<'a, HostRuntime>,
-    FileDisk<'a, HostRuntime>,
->;
+type Files<'a> = Room<StdSource<'a, HostRuntime>, GuardedSink<'a>, FileDisk<'a, HostRuntime>>;
 
-/// The files of a folder, and standard output for the report. What is sent is appended to `out.fin`.
-fn room<'a>(rt: &'a HostRuntime, folder: &[u8]) -> Result<Files<'a>, Memory> {
+/// The files of a folder, and standard output for the report. What is sent is appended to `out.fin`. The journal is held alone
+/// but for who only reads it, and nothing is written where it was removed or cut meanwhile.
+fn room<'a>(
+    rt: &'a HostRuntime,
+    folder: &[u8],
+    journal: &'a Journal,
+    reads: bool,
+) -> Result<Files<'a>, Memory> {
     let out = path(rt, folder, b"out.fin")?;
-    let journal = path(rt, folder, b"journal.bin")?;
     Ok(Room {
         messages: source(rt, folder, b"messages.fin")?,
         received: source(rt, folder, b"received.fin")?,
         tables: tables(rt, folder)?,
-        report: StdSink::out(rt),
-        out: StdSink::file(rt, out),
-        disk: FileDisk::new(rt, journal),
+        report: GuardedSink::new(rt, journal, StdSink::out(rt)),
+        out: GuardedSink::new(rt, journal, StdSink::file(rt, out)),
+        disk: disk(rt, path(rt, folder, JOURNAL)?, reads).watched(&journal.watch),
         disk2: None,
     })
 }
 
+fn disk<'a>(rt: &'a HostRuntime, path: Text, reads: bool) -> FileDisk<'a, HostRuntime> {
+    if reads {
+        FileDisk::shared(rt, path)
+    } else {
+        FileDisk::new(rt, path)
+    }
+}
+
+fn journal(rt: &HostRuntime, folder: &[u8]) -> Result<Journal, Memory> {
+    Ok(Journal {
+        path: path(rt, folder, JOURNAL)?,
+        watch: FileWatch::new(),
+    })
+}
+
+/// Whether the command of these words only reads the journal. Words of no command touch nothing.
+fn is_reader(words: &[Text]) -> bool {
+    match words {
+        [word, ..] => READERS.iter().any(|reader| word.bytes() == *reader),
+        [] => false,
+    }
+}
+
+/// What is wrong with the journal, where it isn't only that the system refused a call.
+fn trouble(room: &Files<'_>) -> Option<Trouble> {
+    if room.report.is_stopped() || room.out.is_stopped() {
+        Some(Trouble::Gone)
+    } else {
+        room.disk.trouble()
+    }
+}
+
 /// Does what the words after the folder say. `waiter` is the handle by which a run starts its workers, and waits for locks.
+/// The journal is held until this returns.
 fn run(
     rt: &HostRuntime,
     waiter: &(impl Wait + Threads + Sync),
     folder: &[u8],
     words: &[Text],
-) -> Status
-    ensures { HasLine result }
+) -> Result<Status, Trouble>
+    ensures { IfOk result HasLine }
 {
-    let room = match room(rt, folder) {
+    let journal = match journal(rt, folder) {
+        Ok(journal) => journal,
+        Err(Memory) => return Ok(Status::Memory),
+    };
+    let room = match room(rt, folder, &journal, is_reader(words)) {
         Ok(room) => room,
-        Err(Memory) => return Status::Memory,
+        Err(Memory) => return Ok(Status::Memory),
     };
     let done = corr(waiter, rt.alloc(), words, room, &OpenGate);
+    let trouble = trouble(&done.room);
     let status = done.status;
     let_go(done);
-    status
+    match trouble {
+        Some(trouble) => Err(trouble),
+        None => Ok(status),
+    }
 }
 
 fn print(rt: &HostRuntime, text: &[u8]) -> Status
@@ -196,31 +254,35 @@ fn print(rt: &HostRuntime, text: &[u8]) -> Status
 }
 
 /// Without a folder, or with an empty one, no file is touched.
-fn command(rt: &HostRuntime, waiter: &(impl Wait + Threads + Sync), words: &[Text]) -> Status
-    ensures { HasLine result }
+fn command(
+    rt: &HostRuntime,
+    waiter: &(impl Wait + Threads + Sync),
+    words: &[Text],
+) -> Result<Status, Trouble>
+    ensures { IfOk result HasLine }
 {
     match words {
-        [] => Status::Usage,
-        [folder, ..] if folder.bytes().is_empty() => Status::Usage,
-        [word] if word.bytes() == b"--help".as_slice() => print(rt, HELP),
-        [word] if word.bytes() == b"--version".as_slice() => print(rt, VERSION),
+        [] => Ok(Status::Usage),
+        [folder, ..] if folder.bytes().is_empty() => Ok(Status::Usage),
+        [word] if word.bytes() == b"--help".as_slice() => Ok(print(rt, HELP)),
+        [word] if word.bytes() == b"--version".as_slice() => Ok(print(rt, VERSION)),
         [folder, words @ ..] => run(rt, waiter, folder.bytes(), words),
     }
 }
 
 /// Does what the command line says. `ReadFault`: the null device is not there.
-fn start(rt: &HostRuntime, waiter: &(impl Wait + Threads + Sync)) -> Status
-    ensures { HasLine result }
+fn start(rt: &HostRuntime, waiter: &(impl Wait + Threads + Sync)) -> Result<Status, Trouble>
+    ensures { IfOk result HasLine }
 {
     if fill_standard(rt).is_err() {
-        return Status::ReadFault {
+        return Ok(Status::ReadFault {
             before: 0,
             after: 1,
-        };
+        });
     }
     match words(rt) {
         Ok(words) => command(rt, waiter, words.as_slice()),
-        Err(status) => status,
+        Err(status) => Ok(status),
     }
 }
 
@@ -246,10 +308,28 @@ fn tell_no_memory(rt: &HostRuntime) -> u8 {
     Status::Memory.number()
 }
 
+/// Tells what is wrong with the journal: a fault of the disk, with a line of its own.
+fn tell_trouble(rt: &HostRuntime, trouble: Trouble) -> u8 {
+    let line = match trouble {
+        Trouble::InUse => IN_USE,
+        Trouble::NoLocks => NO_LOCKS,
+        Trouble::Gone => GONE,
+    };
+    let _ = rt.stderr().write_all(line);
+    let fault = Status::DiskFault {
+        before: 0,
+        after: 1,
+    };
+    fault.number()
+}
+
 fn main(rt: HostRuntime) -> ExitCode {
     // the line's memory is taken first: then a status is told where memory is refused later
     let number = match Text::with_room(rt.alloc(), b"", LINE_LIMIT) {
-        Ok(mut line) => tell(&rt, &start(&rt, &rt), &mut line),
+        Ok(mut line) => match start(&rt, &rt) {
+            Ok(status) => tell(&rt, &status, &mut line),
+            Err(trouble) => tell_trouble(&rt, trouble),
+        },
         Err(Memory) => tell_no_memory(&rt),
     };
     ExitCode::from(number)
