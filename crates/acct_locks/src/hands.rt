@@ -54,6 +54,8 @@ impl<'a, N: Name> Holder for Held0<'a, N> {
 
     ghost held = { λ h. h.held };
 
+    ghost most = { λ h. 0 };
+
     fn settle_one(&mut self, sides: &mut BookSides, leg: &Leg) {
         let _ = &self.purses;
         unreachable!()
@@ -78,6 +80,8 @@ impl<'a, H: Held, N: Name> Holder for More<'a, H, N> {
     ghost count = { λ h. h.count };
 
     ghost held = { λ h. h.held };
+
+    ghost most = { λ h. 0 };
 
     fn settle_one(&mut self, sides: &mut BookSides, leg: &Leg) {
         if self.last.purse.number() == leg.account.0 {
@@ -158,13 +162,13 @@ impl<'a, N: Name> Held0<'a, N> {
 }
 
 /// Held accounts beside which another may be taken: none, one or two of them. It is public for `take` alone.
-pub trait Room: Held {}
+pub trait TakesAnother: Held {}
 
-impl<'a, N: Name> Room for Held0<'a, N> {}
+impl<'a, N: Name> TakesAnother for Held0<'a, N> {}
 
-impl<'a, N: Name> Room for More<'a, Held0<'a, N>, N> {}
+impl<'a, N: Name> TakesAnother for More<'a, Held0<'a, N>, N> {}
 
-impl<'a, H: Room, N: Name> More<'a, H, N> {
+impl<'a, H: TakesAnother, N: Name> More<'a, H, N> {
     /// Waits for the lock of an account of the table, whose number is greater than the last one held.
     pub fn take<R: Wait>(self, rt: &R, n: AcctNo) -> More<'a, More<'a, H, N>, N>
         requires there { (0 < n.0) × (n.0 ≤ self.count) }

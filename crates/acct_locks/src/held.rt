@@ -17,8 +17,11 @@ pub trait Holder {
     /// How many accounts that table has.
     ghost count: { Self → ℕ };
 
-    /// The held purses, the one taken last first.
+    /// The held purses: those of `Held1` to `Held3` from the one taken last, those of `HeldAll` from the one taken first.
     ghost held: { Self → List Holding };
+
+    /// For how many accounts in all there is room; 0 where a further one needs none.
+    ghost most: { Self → ℕ };
 
     /// Adds one leg to the totals and to the sides.
     fn settle_one(&mut self, sides: &mut BookSides, leg: &Leg)
@@ -28,10 +31,12 @@ pub trait Holder {
         ensures held { held self.new ≡ held_with (leg.now ∷ []) (held self.old) }
         ensures table { table self.new ≡ table self.old }
         ensures count { count self.new ≡ count self.old }
+        ensures most { most self.new ≡ most self.old }
         ensures sides { sides.new ≡ record sides.old { pairs = pairs_with (leg.now ∷ []) sides.old.pairs } };
 }
 
-/// Accounts that a worker holds: `Held0` none, `Held1` one, `Held2` two and `Held3` three of them. No call takes memory.
+/// Accounts that a worker holds: `Held0` none, `Held1` one, `Held2` two and `Held3` three of them, and `HeldAll` a list of them. No
+/// call takes memory.
 pub trait Held: Holder {
     ghost use Rattle.std.specs.Prelude.{◌≡◌, Some};
     ghost use Rattle.day_model.specs.Totals.{pair_at};
@@ -51,6 +56,7 @@ pub trait Held: Holder {
         ensures held_same { Self.held self.new ≡ Self.held self.old }
         ensures table_same { Self.table self.new ≡ Self.table self.old }
         ensures count_same { Self.count self.new ≡ Self.count self.old }
+        ensures most_same { Self.most self.new ≡ Self.most self.old }
         ensures sides_same { sides.new ≡ sides.old };
 
     /// Adds each leg to the totals of its account and to the pair that the sides have for it, and leaves all others.
@@ -61,6 +67,7 @@ pub trait Held: Holder {
         ensures held { Self.held self.new ≡ held_with legs.now (Self.held self.old) }
         ensures table { Self.table self.new ≡ Self.table self.old }
         ensures count { Self.count self.new ≡ Self.count self.old }
+        ensures most { Self.most self.new ≡ Self.most self.old }
         ensures sides { sides.new ≡ record sides.old { pairs = pairs_with legs.now sides.old.pairs } }
     {
         for leg in legs {

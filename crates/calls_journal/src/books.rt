@@ -9,7 +9,7 @@ ghost use Rattle.jrn_codec.specs.Record.{IsEntry};
 ghost use Rattle.jrn_book.specs.Opening.{HasPurses};
 
 use crate::records::ENTRY;
-use acct_locks::{Held2, Loose, Name, Purses};
+use acct_locks::{Held, Held2, Loose, Name, Purses};
 use corr_disk::{Disk, FuseDisk, MemDisk, OnceDisk};
 use corr_ids::Day;
 use corr_text::{Memory, Text, put_digits};
@@ -23,7 +23,7 @@ use std::sync::Wait;
 use std::test::Fail;
 
 // HOMEUS33 with a vostro account of ALPHDEFF and a nostro account with CORRBEBB: EUR 60,000.00 and as much less.
-const HEAD: &[u8] =
+pub(crate) const HEAD: &[u8] =
     b"CORRJ1HOMEUS33XXX\0\x02\x08VALPHEURVALPHDEFFXXXEUR\x02\xff\xff\xff\xff\xffgi\x80\0\0\0\x14\xf4k\x04\0\0\0\0\0\0[\x8d\x80\x08NCORREURNCORRBEBBXXXEUR\x02\xff\xff\xff\xeb\x0b\x94\xfc\0\0\0\0\x14\xf4k\x04\0\xff\xff\xff\xff\xff\xa4r\x80";
 
 // The entry of `records`, with another text.
@@ -50,7 +50,7 @@ fn add_record(bytes: &mut Text, record: &[u8]) -> Result<(), Memory> {
 }
 
 // A journal of these records.
-fn journal(alloc: Global, records: &[&[u8]]) -> Result<Text, Memory> {
+pub(crate) fn journal(alloc: Global, records: &[&[u8]]) -> Result<Text, Memory> {
     let mut bytes = Text::from_bytes(alloc, b"")?;
     for record in records {
         add_record(&mut bytes, record)?;
@@ -59,7 +59,7 @@ fn journal(alloc: Global, records: &[&[u8]]) -> Result<Text, Memory> {
     Ok(bytes)
 }
 
-fn entry_of(alloc: Global, bytes: &[u8]) -> Result<Entry, Fail>
+pub(crate) fn entry_of(alloc: Global, bytes: &[u8]) -> Result<Entry, Fail>
     ensures { IfOk result IsEntry }
 {
     match read_entry(alloc, bytes) {
@@ -106,7 +106,26 @@ fn is_latest(a: &Accounts, h: &History, day: Day) -> bool
     true
 }
 
-// Enters the pay of an entry on its day; none where it may not be entered.
+// Enters the pay of an entry on its day, while accounts 1 and 2 are held; none where it may not be entered.
+pub(crate) fn enter_held<H: Held, D: Disk>(
+    book: &mut JrnBook<D>,
+    held: &mut H,
+    e: &Entry,
+) -> Option<Result<Committed, CommitFault>>
+    requires written { IsEntry e.now }
+    requires table { book.old.table ≡ H.table held.old }
+    requires holds { HoldsOnce (H.held held.old) 1 × HoldsOnce (H.held held.old) 2 }
+    ensures { book.new.table ≡ book.old.table }
+{
+    let may = is_between(e.pay.legs.as_slice())
+        && book.accounts().fits(&e.pay)
+        && is_latest(book.accounts(), book.history(), e.day);
+    if !may {
+        return None;
+    }
+    Some(book.commit(held, &e.pay, e.day))
+}
+
 fn enter<N: Name, D: Disk, R: Wait>(
     rt: &R,
     book: &mut JrnBook<D>,
@@ -118,16 +137,10 @@ fn enter<N: Name, D: Disk, R: Wait>(
     requires two { purses.now ≡ 2 }
     ensures { book.new.table ≡ book.old.table }
 {
-    let may = is_between(e.pay.legs.as_slice())
-        && book.accounts().fits(&e.pay)
-        && is_latest(book.accounts(), book.history(), e.day);
-    if !may {
-        return None;
-    }
     let mut held = hold(rt, purses);
-    let answer = book.commit(&mut held, &e.pay, e.day);
+    let answer = enter_held(book, &mut held, e);
     held.give_back();
-    Some(answer)
+    answer
 }
 
 // What a pay answers when it is given twice, the place of its reference then, and the disk.
@@ -168,7 +181,10 @@ fn give_twice<N: Name, D: Disk + Drop, R: Wait>(
     })
 }
 
-fn opened<D: Disk + Drop>(alloc: Global, disk: D) -> Result<(JrnBook<D>, Loose), OpenFault>
+pub(crate) fn opened<D: Disk + Drop>(
+    alloc: Global,
+    disk: D,
+) -> Result<(JrnBook<D>, Loose), OpenFault>
     ensures { IfOk result (λ r. HasPurses r.0 r.1) }
 {
     match open_book(alloc, disk) {
@@ -189,7 +205,7 @@ fn enter_twice<D: Disk + Drop, R: Wait>(
     give_twice::<Brand, _, _>(rt, alloc, book, loose, &e)
 }
 
-fn is_new(answer: &Option<Result<Committed, CommitFault>>) -> bool {
+pub(crate) fn is_new(answer: &Option<Result<Committed, CommitFault>>) -> bool {
     let new = Committed::New {
         place: 1,
         outcome: Outcome::Booked,

@@ -53,7 +53,7 @@ fn three_accounts<R: Abort>(rt: &R, alloc: Global) -> Result<Accounts, Fail>
     Ok(accounts)
 }
 
-fn leg(account: u32, side: Side, amount: u64) -> Leg
+pub(crate) fn leg(account: u32, side: Side, amount: u64) -> Leg
     ensures { (result.account.0 ≡ account) × (result.side ≡ side) × (result.amount.0 ≡ amount) }
 {
     Leg {
@@ -96,7 +96,7 @@ fn one_entry<R: Abort>(rt: &R, alloc: Global, a: &Accounts) -> Result<History, F
     Ok(history)
 }
 
-fn opened<R: Abort>(rt: &R, alloc: Global) -> Result<(Loose, BookSides), Fail>
+pub(crate) fn opened<R: Abort>(rt: &R, alloc: Global) -> Result<(Loose, BookSides), Fail>
     ensures { IfOk result (λ r. (r.0.table ≡ r.1.table) × (length r.0.purses ≡ 3)) }
 {
     let accounts = three_accounts(rt, alloc)?;
@@ -107,14 +107,14 @@ fn opened<R: Abort>(rt: &R, alloc: Global) -> Result<(Loose, BookSides), Fail>
 
 // The sides under a lock, of the table that N names.
 #[derive(Drop)]
-struct Desk<N: Name> {
+pub(crate) struct Desk<N: Name> {
     sides: BookSides,
     of: PhantomData<N>,
     ghost named: { sides.table ≡ N.table },
 }
 
 impl<N: Name> Desk<N> {
-    fn new(sides: BookSides) -> Desk<N>
+    pub(crate) fn new(sides: BookSides) -> Desk<N>
         requires { sides.table ≡ N.table }
     {
         Desk {
@@ -123,7 +123,7 @@ impl<N: Name> Desk<N> {
         }
     }
 
-    fn agree<H: Held>(&mut self, held: &mut H, n: AcctNo)
+    pub(crate) fn agree<H: Held>(&mut self, held: &mut H, n: AcctNo)
         requires held { Holds (H.held held.old) n.0 }
         requires table { H.table held.old ≡ N.table }
         ensures { (H.held held.new ≡ H.held held.old) × (H.table held.new ≡ H.table held.old) }
@@ -235,7 +235,7 @@ struct Inside {
 }
 
 // Whether nobody else was inside on the way in, nor came in before the way out.
-fn is_alone(inside: &AtomicBool) -> bool {
+pub(crate) fn is_alone(inside: &AtomicBool) -> bool {
     let entered = !inside.swap(true, SeqCst);
     yield_now();
     inside.swap(false, SeqCst) && entered

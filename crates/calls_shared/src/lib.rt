@@ -6,4 +6,6 @@ mod books;
 #[cfg(test)]
 mod fronts;
 #[cfg(test)]
+mod places;
+#[cfg(test)]
 mod workers;

@@ -1,6 +1,6 @@
 //! Passes: what a caller knows of what was acknowledged.
 
-ghost use Rattle.std.specs.Prelude.{◌≡◌, ◌+◌, ◌<◌, ◌≤◌, ◌⊎◌, length, Some, None, OnOk};
+ghost use Rattle.std.specs.Prelude.{◌≡◌, ◌+◌, ◌<◌, ◌≤◌, ◌⊎◌, length, Some, None, IsOk, OnErr, OnOk};
 ghost use mathlib.Core.List.{IsPrefix};
 ghost use Rattle.front_word.specs.declared.view.Role.TheVariants.{Writer as WriterRole, Pass as PassRole};
 ghost use Rattle.front_word.specs.Views.{having_read, heard, having_seen, writer_note, pass_note};
@@ -64,12 +64,31 @@ impl Pass {
         self.mine.as_slice()
     }
 
-    /// Makes room for one more place, and changes nothing else. `Memory`: there is none.
+    /// Makes room for one more place, and changes nothing else. Where there is room already, it changes nothing and answers Ok.
+    /// `Memory`: there is none.
     pub fn reserve(&mut self) -> Result<(), Memory>
         ensures same { self.new ≡ record self.old { spare = self.new.spare } }
         ensures room { OnOk result (0 < self.new.spare) }
+        ensures kept { self.old.spare ≤ self.new.spare }
+        ensures none { OnErr result (self.new ≡ self.old) }
+        ensures again { 0 < self.old.spare → (self.new ≡ self.old) × IsOk result }
     {
-        self.mine.reserve(1).map_err(|_| Memory)
+        self.reserve_for(1)
+    }
+
+    /// Makes room for at least so many more places, and changes nothing else, so that as many `meet` with a place have room. Where
+    /// there is room already, it changes nothing and answers Ok. `Memory`: there is none.
+    pub fn reserve_for(&mut self, places: usize) -> Result<(), Memory>
+        ensures same { self.new ≡ record self.old { spare = self.new.spare } }
+        ensures room { OnOk result (places ≤ self.new.spare) }
+        ensures kept { self.old.spare ≤ self.new.spare }
+        ensures none { OnErr result (self.new ≡ self.old) }
+        ensures again { places ≤ self.old.spare → (self.new ≡ self.old) × IsOk result }
+    {
+        if places <= self.mine.capacity() - self.mine.len() {
+            return Ok(());
+        }
+        self.mine.reserve(places).map_err(|_| Memory)
     }
 
     /// Lets the pass know all that the writer knows, and keeps a place, if one is given. Then both look at the word, and nothing

@@ -40,6 +40,7 @@ loop-leg-preserved g c =
       pairs = ap (λ (s : Sides). pairs_with rest s.pairs) e.sides ∙ pairs_next (drop at legs) rest leg c.loop-leg.sides.pairs left ∙ i.pairs;
       same_table = ap (λ (s : Sides). s.table) e.sides ∙ i.same_table;
       count = e.count ∙ i.count;
+      most = e.most ∙ i.most;
       table = e.table ∙ i.table;
     }
 

@@ -10,5 +10,6 @@ invariant-loop-leg g l = record {
   pairs : pairs_with (drop l.leg-index l.legs) l.sides.pairs ≡ pairs_with l.legs l.initial.sides.pairs;
   same_table : l.sides.table ≡ l.initial.sides.table;
   count : g.Self.Holder.count l.self ≡ g.Self.Holder.count l.initial.self;
+  most : g.Self.Holder.most l.self ≡ g.Self.Holder.most l.initial.self;
   table : g.Self.Holder.table l.self ≡ g.Self.Holder.table l.initial.self;
 }
