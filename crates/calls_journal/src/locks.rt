@@ -1,4 +1,5 @@
-//! Account locks: purses taken in rising order, also by two threads, and totals that agree with the sides.
+//! Account locks: purses taken in rising order, also by two threads, and totals that agree with the sides. Each test that waits for locks
+//! is watched, so that it fails where it would wait for ever.
 
 ghost use Rattle.std.specs.Prelude.{◌≡◌, ◌<◌, ◌≤◌, length, IfOk};
 ghost use Rattle.day_model.specs.Legal.{IsLegal};
@@ -132,6 +133,42 @@ impl<N: Name> Desk<N> {
     }
 }
 
+// How often a thread looks for a sign that another gives: for some seconds, of which a test takes a small part.
+const LOOKS: u32 = 20_000_000;
+
+// Whether a sign is given while a thread looks for it.
+fn is_given(sign: &AtomicBool) -> bool {
+    for _ in 0..LOOKS {
+        if sign.load(SeqCst) {
+            return true;
+        }
+        yield_now();
+    }
+    false
+}
+
+// Lets a thread do some work. Where it doesn't come to its end, the other thread ends the program.
+fn watched<T: Send, F: FnOnce() -> T + Send, R: Threads + Abort + Sync>(rt: &R, work: F) -> T
+    requires { F.pre work }
+    ensures { F.post work result }
+{
+    let done = AtomicBool::new(false);
+    let sign = &done;
+    let (answer, ()) = join(
+        rt,
+        move || -> T
+            requires { F.pre work }
+            ensures { F.post work result }
+        {
+            let answer = work();
+            sign.store(true, SeqCst);
+            answer
+        },
+        || { assert!(rt; is_given(&done)) },
+    );
+    answer
+}
+
 fn take_two<N: Name>(
     rt: &impl Wait,
     purses: &Purses<N>,
@@ -168,7 +205,27 @@ fn all_totals<N: Name>(rt: &impl Wait, purses: &Purses<N>) -> [(u64, u64); 3]
     all
 }
 
-// Each thread takes two accounts in rising order, and then the sides.
+// Each of two threads takes two accounts in rising order, and then the sides; then one takes all three. Whether the totals stayed, and
+// what they are.
+fn take_at_once<N: Name + Send + Sync, R: Threads + Wait + Sync>(
+    rt: &R,
+    purses: &Purses<N>,
+    desk: &Mutex<Desk<N>>,
+) -> (bool, [(u64, u64); 3])
+    requires { purses.now ≡ 3 }
+{
+    let (one, two) = join(
+        rt,
+        || -> bool
+            requires { purses.now ≡ 3 }
+        { take_two(rt, purses, desk, AcctNo(1), AcctNo(2)) },
+        || -> bool
+            requires { purses.now ≡ 3 }
+        { take_two(rt, purses, desk, AcctNo(2), AcctNo(3)) },
+    );
+    (one && two, all_totals(rt, purses))
+}
+
 fn in_two_threads<N: Name + Send + Sync, R: Threads + Wait + Abort + Sync>(
     rt: &R,
     alloc: Global,
@@ -179,17 +236,14 @@ fn in_two_threads<N: Name + Send + Sync, R: Threads + Wait + Abort + Sync>(
 {
     let purses = loose.lock::<N>(alloc)?;
     let desk = Mutex::new(Desk::<N>::new(sides));
-    let (one, two) = join(
+    let (same, totals) = watched(
         rt,
-        || -> bool
+        || -> (bool, [(u64, u64); 3])
             requires { purses ≡ 3 }
-        { take_two(rt, &purses, &desk, AcctNo(1), AcctNo(2)) },
-        || -> bool
-            requires { purses ≡ 3 }
-        { take_two(rt, &purses, &desk, AcctNo(2), AcctNo(3)) },
+        { take_at_once(rt, &purses, &desk) },
     );
-    assert!(rt; one && two);
-    assert_eq!(rt; all_totals(rt, &purses), [(0, 25_000), (25_000, 0), (0, 0)]);
+    assert!(rt; same);
+    assert_eq!(rt; totals, [(0, 25_000), (25_000, 0), (0, 0)]);
     Ok(())
 }
 
@@ -199,25 +253,44 @@ fn two_threads_take_two_accounts_each(rt: HostRuntime) -> Result<(), Fail> {
     in_two_threads::<Brand, _>(&rt, rt.alloc(), loose, sides)
 }
 
-fn settled<N: Name, R: Wait + Abort>(
-    rt: &R,
-    alloc: Global,
-    loose: Loose,
-    mut sides: BookSides,
-) -> Result<(), Fail>
-    requires { (loose.table ≡ N.table) × (sides.table ≡ N.table) × (length loose.purses ≡ 3) }
+// The totals of accounts 1 and 2 before 700 go from one to the other, and then.
+fn settle_pair<N: Name>(rt: &impl Wait, purses: &Purses<N>, mut sides: BookSides) -> [(u64, u64); 4]
+    requires { (purses.now ≡ 3) × (sides.table ≡ N.table) }
 {
-    let purses = loose.lock::<N>(alloc)?;
     let mut held = purses.hold().take(rt, AcctNo(1)).take(rt, AcctNo(2));
     let before = (held.totals(AcctNo(1)), held.totals(AcctNo(2)));
-    assert!(rt; before.0 == (0, 25_000) && before.1 == (25_000, 0));
+    if before != ((0, 25_000), (25_000, 0)) {
+        held.give_back();
+        return [before.0, before.1, (0, 0), (0, 0)];
+    }
     let legs = [leg(1, Side::Debit, 700), leg(2, Side::Credit, 700)];
     held.settle(&mut sides, &legs);
     held.agree(&mut sides, AcctNo(1));
     held.agree(&mut sides, AcctNo(2));
     let after = (held.totals(AcctNo(1)), held.totals(AcctNo(2)));
     held.give_back();
-    assert_eq!(rt; after, ((0, 25_700), (25_700, 0)));
+    [before.0, before.1, after.0, after.1]
+}
+
+fn settled<N: Name + Send + Sync, R: Threads + Wait + Abort + Sync>(
+    rt: &R,
+    alloc: Global,
+    loose: Loose,
+    sides: BookSides,
+) -> Result<(), Fail>
+    requires { (loose.table ≡ N.table) × (sides.table ≡ N.table) × (length loose.purses ≡ 3) }
+{
+    let purses = loose.lock::<N>(alloc)?;
+    let totals = watched(
+        rt,
+        || -> [(u64, u64); 4]
+            requires { (purses ≡ 3) × (sides.table ≡ N.table) }
+        { settle_pair(rt, &purses, sides) },
+    );
+    assert_eq!(rt;
+        totals,
+        [(0, 25_000), (25_000, 0), (0, 25_700), (25_700, 0)]
+    );
     Ok(())
 }
 
@@ -285,8 +358,30 @@ fn hold_more<N: Name>(rt: &impl Wait, purses: &Purses<N>, inside: &Inside) -> bo
     true
 }
 
+// Whether two threads are each alone in an account that they hold.
+fn hold_at_once<N: Name + Send + Sync, R: Threads + Wait + Sync>(
+    rt: &R,
+    purses: &Purses<N>,
+) -> (bool, bool)
+    requires { purses.now ≡ 3 }
+{
+    let inside = Inside {
+        first: AtomicBool::new(false),
+        third: AtomicBool::new(false),
+    };
+    join(
+        rt,
+        || -> bool
+            requires { purses.now ≡ 3 }
+        { hold_one(rt, purses, &inside) },
+        || -> bool
+            requires { purses.now ≡ 3 }
+        { hold_more(rt, purses, &inside) },
+    )
+}
+
 // An account that is held is taken by no other thread, and one that was given back is.
-fn given_back<N: Name + Send + Sync, R: Threads + Wait + Sync>(
+fn given_back<N: Name + Send + Sync, R: Threads + Wait + Abort + Sync>(
     rt: &R,
     alloc: Global,
     loose: Loose,
@@ -295,19 +390,13 @@ fn given_back<N: Name + Send + Sync, R: Threads + Wait + Sync>(
 {
     let purses = loose.lock::<N>(alloc)?;
     purses.hold().give_back();
-    let inside = Inside {
-        first: AtomicBool::new(false),
-        third: AtomicBool::new(false),
-    };
-    Ok(join(
+    let alone = watched(
         rt,
-        || -> bool
+        || -> (bool, bool)
             requires { purses ≡ 3 }
-        { hold_one(rt, &purses, &inside) },
-        || -> bool
-            requires { purses ≡ 3 }
-        { hold_more(rt, &purses, &inside) },
-    ))
+        { hold_at_once(rt, &purses) },
+    );
+    Ok(alone)
 }
 
 #[test]
@@ -318,30 +407,17 @@ fn locks_that_are_given_back_are_free(rt: HostRuntime) -> Result<(), Fail> {
     Ok(())
 }
 
-// How often a thread looks for a sign that another gives.
-const LOOKS: u32 = 1_000_000;
-
-// Whether a sign is given while a thread looks for it.
-fn is_given(sign: &AtomicBool) -> bool {
-    for _ in 0..LOOKS {
-        if sign.load(SeqCst) {
-            return true;
-        }
-        yield_now();
-    }
-    false
-}
-
-// Takes an account and gives it back, twice, and then gives a sign.
-fn take_twice<N: Name>(rt: &impl Wait, purses: &Purses<N>, sign: &AtomicBool)
+// Takes each account alone and gives it back, twice.
+fn take_each_twice<N: Name>(rt: &impl Wait, purses: &Purses<N>)
     requires { purses.now ≡ 3 }
 {
-    purses.hold().take(rt, AcctNo(1)).give_back();
-    purses.hold().take(rt, AcctNo(1)).give_back();
-    sign.store(true, SeqCst);
+    for number in 1..4u32 {
+        purses.hold().take(rt, AcctNo(number)).give_back();
+        purses.hold().take(rt, AcctNo(number)).give_back();
+    }
 }
 
-// A thread takes an account again that it gave back. Where it waits for it, the other thread ends the program.
+// A thread takes each account again that it gave back.
 fn taken_twice<N: Name + Send + Sync, R: Threads + Wait + Abort + Sync>(
     rt: &R,
     alloc: Global,
@@ -350,36 +426,35 @@ fn taken_twice<N: Name + Send + Sync, R: Threads + Wait + Abort + Sync>(
     requires { (loose.table ≡ N.table) × (length loose.purses ≡ 3) }
 {
     let purses = loose.lock::<N>(alloc)?;
-    let sign = AtomicBool::new(false);
-    join(
+    watched(
         rt,
-        ||
+        || -> ()
             requires { purses ≡ 3 }
-        { take_twice(rt, &purses, &sign) },
-        || { assert!(rt; is_given(&sign)) },
+        { take_each_twice(rt, &purses) },
     );
     Ok(())
 }
 
 #[test]
-fn an_account_is_taken_again(rt: HostRuntime) -> Result<(), Fail> {
+fn each_account_is_taken_again(rt: HostRuntime) -> Result<(), Fail> {
     let (loose, _) = opened(&rt, rt.alloc())?;
     taken_twice::<Brand, _>(&rt, rt.alloc(), loose)
 }
 
-// The first and the last account are taken whatever their totals are, the least and the greatest too.
-fn taken_at_the_ends<N: Name, R: Wait + Abort>(
-    rt: &R,
-    alloc: Global,
-    loose: Loose,
+// The totals of accounts 1 and 3 before they get the greatest that there are, and when they are taken again.
+fn take_at_the_ends<N: Name>(
+    rt: &impl Wait,
+    purses: &Purses<N>,
     mut sides: BookSides,
-) -> Result<(), Fail>
-    requires { (loose.table ≡ N.table) × (sides.table ≡ N.table) × (length loose.purses ≡ 3) }
+) -> [(u64, u64); 4]
+    requires { (purses.now ≡ 3) × (sides.table ≡ N.table) }
 {
-    let purses = loose.lock::<N>(alloc)?;
     let mut held = purses.hold().take(rt, AcctNo(1)).take(rt, AcctNo(3));
     let before = (held.totals(AcctNo(1)), held.totals(AcctNo(3)));
-    assert!(rt; before.0 == (0, 25_000) && before.1 == (0, 0));
+    if before != ((0, 25_000), (0, 0)) {
+        held.give_back();
+        return [before.0, before.1, (0, 0), (0, 0)];
+    }
     let legs = [
         leg(1, Side::Credit, u64::MAX),
         leg(3, Side::Debit, u64::MAX),
@@ -389,7 +464,29 @@ fn taken_at_the_ends<N: Name, R: Wait + Abort>(
     let again = purses.hold().take(rt, AcctNo(1)).take(rt, AcctNo(3));
     let after = (again.totals(AcctNo(1)), again.totals(AcctNo(3)));
     again.give_back();
-    assert_eq!(rt; after, ((u64::MAX, 25_000), (0, u64::MAX)));
+    [before.0, before.1, after.0, after.1]
+}
+
+// The first and the last account are taken whatever their totals are, the least and the greatest too.
+fn taken_at_the_ends<N: Name + Send + Sync, R: Threads + Wait + Abort + Sync>(
+    rt: &R,
+    alloc: Global,
+    loose: Loose,
+    sides: BookSides,
+) -> Result<(), Fail>
+    requires { (loose.table ≡ N.table) × (sides.table ≡ N.table) × (length loose.purses ≡ 3) }
+{
+    let purses = loose.lock::<N>(alloc)?;
+    let totals = watched(
+        rt,
+        || -> [(u64, u64); 4]
+            requires { (purses ≡ 3) × (sides.table ≡ N.table) }
+        { take_at_the_ends(rt, &purses, sides) },
+    );
+    assert_eq!(rt;
+        totals,
+        [(0, 25_000), (0, 0), (u64::MAX, 25_000), (0, u64::MAX)]
+    );
     Ok(())
 }
 
@@ -399,21 +496,38 @@ fn purses_at_the_ends_of_their_range_are_taken(rt: HostRuntime) -> Result<(), Fa
     taken_at_the_ends::<Brand, _>(&rt, rt.alloc(), loose, sides)
 }
 
-// After an agreement another account can be taken still.
-fn taken_after_agreeing<N: Name, R: Wait + Abort>(
-    rt: &R,
-    alloc: Global,
-    loose: Loose,
+// The totals of account 2, which is taken after those of account 1 agreed with the sides.
+fn take_after_agreeing<N: Name>(
+    rt: &impl Wait,
+    purses: &Purses<N>,
     mut sides: BookSides,
-) -> Result<(), Fail>
-    requires { (loose.table ≡ N.table) × (sides.table ≡ N.table) × (length loose.purses ≡ 3) }
+) -> (u64, u64)
+    requires { (purses.now ≡ 3) × (sides.table ≡ N.table) }
 {
-    let purses = loose.lock::<N>(alloc)?;
     let mut one = purses.hold().take(rt, AcctNo(1));
     one.agree(&mut sides, AcctNo(1));
     let two = one.take(rt, AcctNo(2));
     let totals = two.totals(AcctNo(2));
     two.give_back();
+    totals
+}
+
+// After an agreement another account can be taken still.
+fn taken_after_agreeing<N: Name + Send + Sync, R: Threads + Wait + Abort + Sync>(
+    rt: &R,
+    alloc: Global,
+    loose: Loose,
+    sides: BookSides,
+) -> Result<(), Fail>
+    requires { (loose.table ≡ N.table) × (sides.table ≡ N.table) × (length loose.purses ≡ 3) }
+{
+    let purses = loose.lock::<N>(alloc)?;
+    let totals = watched(
+        rt,
+        || -> (u64, u64)
+            requires { (purses ≡ 3) × (sides.table ≡ N.table) }
+        { take_after_agreeing(rt, &purses, sides) },
+    );
     assert_eq!(rt; totals, (25_000, 0));
     Ok(())
 }

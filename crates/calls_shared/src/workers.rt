@@ -1,4 +1,4 @@
-//! Workers: jobs are dealt out to passes in turn.
+//! Workers: jobs are dealt out to passes in turn, each by a worker of its own.
 
 ghost use Rattle.std.specs.Prelude.{◌≡◌, ◌≤◌};
 ghost use Rattle.work_pool.specs.Served.{most_workers};
@@ -6,8 +6,10 @@ ghost use Rattle.work_pool.specs.Served.{most_workers};
 use corr_ids::Mir;
 use std::alloc::Global;
 use std::sync::Wait;
+use std::sync::atomic::Ordering::SeqCst;
+use std::sync::atomic::{AtomicBool, AtomicU32};
 use std::test::*;
-use std::thread::Threads;
+use std::thread::{Threads, yield_now};
 use work_pool::{Desk, Gate, OpenGate, Worked, run_jobs};
 
 // Writes each job after the digits of its pass. The reply is the worker's number and what the pass is then.
@@ -38,12 +40,13 @@ impl Desk for Digits {
     }
 }
 
-// Serves the jobs 1, 2, .. with new passes.
-fn served<R: Wait + Threads + Sync>(
+// Serves the jobs 1, 2, .. with new passes, under this gate.
+fn served_at<R: Wait + Threads + Sync, G: Gate + Sync>(
     rt: &R,
     alloc: Global,
     passes: usize,
     jobs: u32,
+    gate: &G,
 ) -> Result<Worked<Digits>, Fail>
     requires { (1 ≤ passes) × (passes ≤ most_workers) }
 {
@@ -52,7 +55,19 @@ fn served<R: Wait + Threads + Sync>(
     for job in 0..jobs {
         all.push(job + 1)?;
     }
-    Ok(run_jobs(rt, alloc, &Digits, passes, all, &OpenGate))
+    Ok(run_jobs(rt, alloc, &Digits, passes, all, gate))
+}
+
+// The same under an open gate.
+fn served<R: Wait + Threads + Sync>(
+    rt: &R,
+    alloc: Global,
+    passes: usize,
+    jobs: u32,
+) -> Result<Worked<Digits>, Fail>
+    requires { (1 ≤ passes) × (passes ≤ most_workers) }
+{
+    served_at(rt, alloc, passes, jobs, &OpenGate)
 }
 
 #[test]
@@ -81,5 +96,52 @@ fn jobs_go_to_workers_in_turn(rt: HostRuntime) -> Result<(), Fail> {
         many.replies?.as_slice(),
         [(1, 1), (2, 2), (3, 3)].as_slice()
     );
+    Ok(())
+}
+
+// Holds each worker until sixteen have come. Counts them, notes the number of each as a bit, and whether one waited in vain.
+#[derive(Drop)]
+struct FullGate {
+    come: AtomicU32,
+    numbers: AtomicU32,
+    late: AtomicBool,
+}
+
+impl FullGate {
+    // Waits for at most 1,000,000 turns, each of which yields; whether sixteen have come then.
+    fn is_full(&self) -> bool {
+        for _ in 0..1_000_000 {
+            if self.come.load(SeqCst) >= 16 {
+                return true;
+            }
+            yield_now();
+        }
+        false
+    }
+}
+
+impl Gate for FullGate {
+    fn pass(&self, worker: u32, _mir: &Mir) {
+        self.numbers.fetch_or(1u32.wrapping_shl(worker), SeqCst);
+        self.come.fetch_add(1, SeqCst);
+        if !self.is_full() {
+            self.late.store(true, SeqCst);
+        }
+    }
+}
+
+#[test]
+fn sixteen_workers_are_at_the_gate_at_once(rt: HostRuntime) -> Result<(), Fail> {
+    let gate = FullGate {
+        come: AtomicU32::new(0),
+        numbers: AtomicU32::new(0),
+        late: AtomicBool::new(false),
+    };
+    let all = served_at(&rt, rt.alloc(), 16, 16, &gate)?;
+    assert_eq!(rt; all.replies?.len(), 16);
+    assert_eq!(rt; gate.come.load(SeqCst), 16);
+    assert!(rt; !gate.late.load(SeqCst));
+    // a bit for each number from 1 to 16
+    assert_eq!(rt; gate.numbers.load(SeqCst), 0x1_fffe);
     Ok(())
 }
