@@ -19,7 +19,8 @@ use std::sync::atomic::AtomicBool;
 use std::sync::atomic::Ordering::SeqCst;
 use std::sync::{Mutex, Wait};
 use std::test::*;
-use std::thread::{Threads, join, yield_now};
+use std::thread::{Threads, join, sleep, yield_now};
+use std::time::{Clock, Duration};
 
 fn bic(head: [u8; 8]) -> Bic {
     Bic {
@@ -133,22 +134,25 @@ impl<N: Name> Desk<N> {
     }
 }
 
-// How often a thread looks for a sign that another gives: for some seconds, of which a test takes a small part.
-const LOOKS: u32 = 20_000_000;
+// How many milliseconds a thread waits for a sign that another gives.
+const PATIENCE: u32 = 20_000;
 
-// Whether a sign is given while a thread looks for it.
-fn is_given(sign: &AtomicBool) -> bool {
-    for _ in 0..LOOKS {
+// Whether a sign is given while a thread waits for it.
+fn is_given(clock: &impl Clock, sign: &AtomicBool) -> bool {
+    for _ in 0..PATIENCE {
         if sign.load(SeqCst) {
             return true;
         }
-        yield_now();
+        sleep(clock, Duration::from_millis(1));
     }
     false
 }
 
 // Lets a thread do some work. Where it doesn't come to its end, the other thread ends the program.
-fn watched<T: Send, F: FnOnce() -> T + Send, R: Threads + Abort + Sync>(rt: &R, work: F) -> T
+fn watched<T: Send, F: FnOnce() -> T + Send, R: Threads + Abort + Clock + Sync>(
+    rt: &R,
+    work: F,
+) -> T
     requires { F.pre work }
     ensures { F.post work result }
 {
@@ -164,7 +168,7 @@ fn watched<T: Send, F: FnOnce() -> T + Send, R: Threads + Abort + Sync>(rt: &R, 
             sign.store(true, SeqCst);
             answer
         },
-        || { assert!(rt; is_given(&done)) },
+        || { assert!(rt; is_given(rt, &done)) },
     );
     answer
 }
@@ -226,7 +230,7 @@ fn take_at_once<N: Name + Send + Sync, R: Threads + Wait + Sync>(
     (one && two, all_totals(rt, purses))
 }
 
-fn in_two_threads<N: Name + Send + Sync, R: Threads + Wait + Abort + Sync>(
+fn in_two_threads<N: Name + Send + Sync, R: Threads + Wait + Abort + Clock + Sync>(
     rt: &R,
     alloc: Global,
     loose: Loose,
@@ -272,7 +276,7 @@ fn settle_pair<N: Name>(rt: &impl Wait, purses: &Purses<N>, mut sides: BookSides
     [before.0, before.1, after.0, after.1]
 }
 
-fn settled<N: Name + Send + Sync, R: Threads + Wait + Abort + Sync>(
+fn settled<N: Name + Send + Sync, R: Threads + Wait + Abort + Clock + Sync>(
     rt: &R,
     alloc: Global,
     loose: Loose,
@@ -381,7 +385,7 @@ fn hold_at_once<N: Name + Send + Sync, R: Threads + Wait + Sync>(
 }
 
 // An account that is held is taken by no other thread, and one that was given back is.
-fn given_back<N: Name + Send + Sync, R: Threads + Wait + Abort + Sync>(
+fn given_back<N: Name + Send + Sync, R: Threads + Wait + Abort + Clock + Sync>(
     rt: &R,
     alloc: Global,
     loose: Loose,
@@ -418,7 +422,7 @@ fn take_each_twice<N: Name>(rt: &impl Wait, purses: &Purses<N>)
 }
 
 // A thread takes each account again that it gave back.
-fn taken_twice<N: Name + Send + Sync, R: Threads + Wait + Abort + Sync>(
+fn taken_twice<N: Name + Send + Sync, R: Threads + Wait + Abort + Clock + Sync>(
     rt: &R,
     alloc: Global,
     loose: Loose,
@@ -468,7 +472,7 @@ fn take_at_the_ends<N: Name>(
 }
 
 // The first and the last account are taken whatever their totals are, the least and the greatest too.
-fn taken_at_the_ends<N: Name + Send + Sync, R: Threads + Wait + Abort + Sync>(
+fn taken_at_the_ends<N: Name + Send + Sync, R: Threads + Wait + Abort + Clock + Sync>(
     rt: &R,
     alloc: Global,
     loose: Loose,
@@ -513,7 +517,7 @@ fn take_after_agreeing<N: Name>(
 }
 
 // After an agreement another account can be taken still.
-fn taken_after_agreeing<N: Name + Send + Sync, R: Threads + Wait + Abort + Sync>(
+fn taken_after_agreeing<N: Name + Send + Sync, R: Threads + Wait + Abort + Clock + Sync>(
     rt: &R,
     alloc: Global,
     loose: Loose,
