@@ -3,7 +3,7 @@
 ghost use Rattle.std.specs.Prelude.{◌≡◌, ◌+◌, ◌<◌, ◌↔◌, ◌∷◌, [], ◌++◌, ℕ, List, length, IsTrue, OnOk, OnErr, IfErr, IsErrOf};
 ghost use Rattle.corr_disk.specs.Calls.{CallsMade, AtMostCalls};
 ghost use Rattle.corr_disk.specs.Disk.{written, LeavesOnly, most_disk_bytes};
-ghost use Rattle.jrn_file.specs.Journal.{IsFrame, record_in, IsBeforeOrAfter};
+ghost use Rattle.jrn_file.specs.Journal.{IsFrame, AreFrames, record_in, IsBeforeOrAfter, IsBeforeOrAll};
 ghost use Rattle.jrn_file.specs.File.{disk_of, end_of, IsSettled, IsOpen};
 ghost use Rattle.jrn_file.specs.Faults.{AppendCause};
 
@@ -74,7 +74,48 @@ impl<D: Disk> JFile<D> {
         ensures kept { OnOk result (D.faults (disk_of self.new) ≡ D.faults (disk_of self.old)) }
         ensures honest { D.honest (disk_of self.new) ≡ D.honest (disk_of self.old) }
     {
-        let need = frame.len() as u64 + 1;
+        self.append_all(frame)
+    }
+
+    /// Appends records, at least one, under one sync: given as one after another, each after its length in four bytes
+    /// (most significant first), with a byte 1 in front of each but the first, and a byte 0 at the end.
+    /// It makes four calls of the disk and takes no memory, however many records there are. At Ok all of them are on
+    /// the disk.
+    ///
+    /// `Full` comes exactly where the file would pass 2^30 bytes; `need` is the length of what was given, and 1. Nothing
+    /// is written then. `DiskFault` comes only where the disk's count of faults rose, and tells that count before
+    /// and after: open the file again, and it holds all of these records or none. The count rises at nothing else.
+    pub fn append_all(&mut self, frames: &[u8]) -> Result<(), AppendFault>
+        requires settled { IsOpen D.honest D.reads D.may_leave self.old }
+        requires frames { (first : List ℕ) × (more : List (List ℕ)) × AreFrames frames.now first more }
+
+        ensures ok { OnOk result ((head : List ℕ) (records : List (List ℕ)) (first : List ℕ) (more : List (List ℕ))
+            → IsSettled D.honest D.reads D.may_leave self.old head records → AreFrames frames.now first more
+            → IsSettled D.honest D.reads D.may_leave self.new head (records ++ first ∷ more)) }
+
+        // The records stand after the gate that was closed, which is 1 now.
+        ensures bytes { IsTrue (D.honest (disk_of self.old)) → OnOk result (D.reads (disk_of self.new) ≡ written (end_of self.old) (1 ∷ []) (written (end_of self.old + 1) frames.now (D.reads (disk_of self.old)))) }
+
+        // A crash at any moment of the call leaves the records from before it, with all of the new ones or with none.
+        ensures any_moment { (head : List ℕ) (records : List (List ℕ)) (first : List ℕ) (more : List (List ℕ))
+            → IsSettled D.honest D.reads D.may_leave self.old head records → AreFrames frames.now first more
+            → IsTrue (D.honest (disk_of self.old))
+            → LeavesOnly D.moment D.left_since (disk_of self.old) (disk_of self.new) (IsBeforeOrAll head records (first ∷ more)) }
+
+        // The closed gate stands after the records, and after a fault where it stood.
+        ensures moved { OnOk result (end_of self.new ≡ end_of self.old + length frames.now) }
+        ensures place { OnErr result (end_of self.new ≡ end_of self.old) }
+
+        // It makes four calls of the disk, and no more where it fails.
+        ensures calls { OnOk result (CallsMade 4 (D.plan (disk_of self.old)) (D.plan (disk_of self.new))) }
+        ensures no_more_calls { AtMostCalls 4 (D.plan (disk_of self.old)) (D.plan (disk_of self.new)) }
+
+        ensures full { IsErrOf result (AppendFault.Full (end_of self.old) (length frames.now + 1)) ↔ (most_disk_bytes < end_of self.old + (length frames.now + 1)) }
+        ensures cause { IfErr result (AppendCause (D.faults (disk_of self.old)) (D.faults (disk_of self.new)) (end_of self.old) (length frames.now + 1) (self.new ≡ self.old)) }
+        ensures kept { OnOk result (D.faults (disk_of self.new) ≡ D.faults (disk_of self.old)) }
+        ensures honest { D.honest (disk_of self.new) ≡ D.honest (disk_of self.old) }
+    {
+        let need = frames.len() as u64 + 1;
         if need > MAX_BYTES.saturating_sub(self.end) {
             return Err(AppendFault::Full {
                 end: self.end,
@@ -82,7 +123,7 @@ impl<D: Disk> JFile<D> {
             });
         }
         let before = self.disk.faults();
-        match enter(&mut self.disk, self.end, frame) {
+        match enter(&mut self.disk, self.end, frames) {
             Ok(()) => {
                 self.end += need - 1;
                 Ok(())

@@ -15,7 +15,8 @@ length-after_gates [] = refl
 length-after_gates (e ∷ more) =
     omega (arith, length-sized e.1, length-append (with_length e.1) (after_gates more), length-after_gates more)
 
-map-with_gates : (records : List (List ℕ)) → map (λ (e : ℕ × List ℕ). e.1) (map (λ (r : List ℕ). (1, r)) records) ≡ records
+-- the records of those that stand after the gate 1
+pub map-with_gates : (records : List (List ℕ)) → map (λ (e : ℕ × List ℕ). e.1) (map (λ (r : List ℕ). (1, r)) records) ≡ records
 map-with_gates [] = refl
 map-with_gates (r ∷ records) = ap (λ (l : List (List ℕ)). r ∷ l) (map-with_gates records)
 

@@ -1,37 +1,20 @@
-use Rattle.std.proofs.Common.{◌≡◌, ◌+◌, ◌-◌, length, sym, ap, ◌∙◌, arith}
-use Rattle.corr_disk.proofs.laws.Moments.{weaker}
-use Rattle.jrn_file.specs.Journal.{IsBeforeOrAfter, record_in}
-use Rattle.jrn_file.proofs.Readings.{stands-spelled}
-use Rattle.jrn_file.proofs.Records.{gate-within, place-more, entering-stands, entered-stands}
+use Rattle.std.proofs.Common.{[]}
+use Rattle.std.proofs.lemmas.Result.{on_ok_weaker}
+use Rattle.jrn_file.specs.Journal.{record_in}
+use Rattle.jrn_file.proofs.Records.{one-framed}
 use Rattle.jrn_file.proofs.file.JFile.append.Goals as goal
 
-pub enter-requires-clause-gate : goal.enter-requires-clause-gate
-enter-requires-clause-gate g c honest =
-    let settled = c.requires.settled.2 in
-    gate-within _ _ _ (stands-spelled _ c.requires.settled.0 c.requires.settled.1 (settled.stands honest)) _ settled.place
+pub append_all-requires-clause-frames : goal.append_all-requires-clause-frames
+append_all-requires-clause-frames g c =
+    let frame = c.args.frame.now in
+    (record_in frame, [], one-framed frame c.requires.frame)
 
-pub returns-in-Err-clause-any_moment : goal.returns-in-Err-clause-any_moment
-returns-in-Err-clause-any_moment g c head records settled honest =
-    let D = g.D.Disk in
-    weaker D.moment D.left_since _ _ _ (IsBeforeOrAfter head records (record_in c.args.frame.now))
-    (entering-stands _ head records (stands-spelled _ head records (settled.stands honest)) _ settled.place _ c.requires.frame)
-    (c.in-Err.ensures.any_moment honest (settled.durable honest))
+pub returns-clause-ok : goal.returns-clause-ok
+returns-clause-ok g c =
+    let frame = c.args.frame.now in
+    on_ok_weaker c.append_all.result (λ all head records settled. all head records (record_in frame) [] settled (one-framed frame c.requires.frame)) c.append_all.ensures.ok
 
-pub returns-in-Ok-clause-any_moment : goal.returns-in-Ok-clause-any_moment
-returns-in-Ok-clause-any_moment g c head records settled honest =
-    let D = g.D.Disk in
-    weaker D.moment D.left_since _ _ _ (IsBeforeOrAfter head records (record_in c.args.frame.now))
-    (entering-stands _ head records (stands-spelled _ head records (settled.stands honest)) _ settled.place _ c.requires.frame)
-    (c.in-Ok.ensures.any_moment honest (settled.durable honest))
-
-pub returns-in-Ok-clause-ok : goal.returns-in-Ok-clause-ok
-returns-in-Ok-clause-ok g c head records settled =
-    let frame = c.requires.frame in
-    let after : c.args.self.now.end + (length c.args.frame.now + 1 - 1) ≡ c.args.self.now.end + length c.args.frame.now = omega arith in
-    record {
-      stands = λ honest.
-          let was = sym c.in-Ok.ensures.honest ∙ honest in
-          entered-stands _ head records (stands-spelled _ head records (settled.stands was)) _ settled.place _ frame _ (c.in-Ok.ensures.entered was);
-      durable = λ honest. c.in-Ok.ensures.durable;
-      place = ap (λ n. n + 1) after ∙ place-more head records _ settled.place _ frame;
-    }
+pub returns-clause-any_moment : goal.returns-clause-any_moment
+returns-clause-any_moment g c head records settled honest =
+    let frame = c.args.frame.now in
+    c.append_all.ensures.any_moment head records (record_in frame) [] settled (one-framed frame c.requires.frame) honest
