@@ -2,6 +2,7 @@
 use Rattle.std.proofs.Common.{◌≡◌, ℕ, ◌+◌, Bool, false, List, [], ◌∷◌, ◌++◌, Option, Some, None, refl, sym, ap, ◌∙◌, subst, arith, cond, inl}
 use Rattle.std.specs.Prelude.{IsTrue, IsSome, is_some, OnOk, Ok, Err}
 use Rattle.corr_disk.specs.Disk.{LeavesOnly}
+use Rattle.corr_text.specs.Faults.{Rose}
 use Rattle.corr_ids.specs.declared.day.Day.{Day}
 use Rattle.day_model.specs.declared.pay.Pay.{Pay}
 use Rattle.day_model.specs.declared.entry.Entry.{Entry}
@@ -12,7 +13,7 @@ use Rattle.jrn_file.specs.File.{IsSettled, disk_of, end_of}
 use Rattle.jrn_codec.specs.Header.{head_bytes}
 use Rattle.jrn_book.specs.Answers.{Answer, IsAnswered, AnswerShows, calls_disk, failed_after, history_after, legs_entered}
 use Rattle.jrn_book.specs.Appending.{Repeats}
-use Rattle.jrn_book.specs.Book.{Book, Counts, HasRisen, IsBook, StandsOnDisk}
+use Rattle.jrn_book.specs.Book.{Book, Counts, IsBook, StandsOnDisk}
 use Rattle.jrn_book.specs.Commits.{Commits}
 use Rattle.jrn_book.specs.Journal.{IsBeforeOrNext, StandsForBook, entry_records}
 use Rattle.jrn_book.specs.declared.answer.Committed.TheVariants.{New, Kept}
@@ -25,7 +26,7 @@ next_entered chart history pay day place at =
     ap (λ (o : Option ℕ). cond (is_some o) history (history ++ entry_of chart history pay day ∷ [])) at
 
 -- a count that rose since the opening
-risen : (failed : Option Day) (at_open now : ℕ) → IsSome failed → Counts failed at_open now → HasRisen at_open now
+risen : (failed : Option Day) (at_open now : ℕ) → IsSome failed → Counts failed at_open now → Rose at_open now
 risen None at_open now some counts = absurd (cc)
 risen (Some day) at_open now some counts = counts
 
@@ -82,7 +83,7 @@ module _ {D : Type 0} (honest : D → Bool) (reads : D → List ℕ) (may_leave 
     pub broken : (now : ℕ) → now ≡ faults (disk_of old.file) → IsSome old.failed → Told old old held held pay day (Err (Broken old.at_open now))
     broken now same failed =
         rests_with (Err (Broken old.at_open now)) old.room
-        (failed, refl, same, subst (HasRisen old.at_open) (sym same) (risen old.failed old.at_open (faults (disk_of old.file)) failed is.counts), refl)
+        (failed, refl, same, subst (Rose old.at_open) (sym same) (risen old.failed old.at_open (faults (disk_of old.file)) failed is.counts), refl)
         refl refl refl tt refl (λ room. tt)
 
     -- out of memory

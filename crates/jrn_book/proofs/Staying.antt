@@ -1,5 +1,5 @@
 -- What holds of a book after an append.
-use Rattle.std.proofs.Common.{◌≡◌, ℕ, ◌≤◌, Bool, false, List, [], ◌∷◌, ◌++◌, length, Option, None, refl, sym, subst, arith}
+use Rattle.std.proofs.Common.{◌≡◌, ℕ, ◌≤◌, Bool, false, List, [], ◌∷◌, ◌++◌, length, Option, None, refl, sym, ◌∙◌, subst}
 use Rattle.std.specs.Prelude.{◌⊎◌, IsTrue, IfSome, Err}
 use Rattle.std.proofs.lemmas.List.Elements.{All-push}
 use Rattle.corr_disk.specs.Disk.{LeavesOnly}
@@ -27,13 +27,13 @@ use Rattle.jrn_book.specs.Journal.{IsJournal, entry_records}
 use Rattle.jrn_book.proofs.Entering.{records_more}
 
 -- the counts after a fault
-pub counts_after : (day : Day) (at_open count end need old new : ℕ) (fault : CommitFault) → at_open ≤ old → ShowsAppend count end need old new (Err fault) → Counts (failed_after None day (Err fault)) at_open new
-counts_after day at_open count end need old new (Conflict place) le shows = absurd shows
-counts_after day at_open count end need old new (Full entries at more) le shows = omega (arith, le, shows.4)
-counts_after day at_open count end need old new (DiskFault before after) le shows =
-    record { before = before; later = omega (arith, le, shows.2); rose = subst (Rose before) shows.3 shows.4 }
-counts_after day at_open count end need old new (Broken from now) le shows = absurd shows
-counts_after day at_open count end need old new Memory le shows = absurd shows
+pub counts_after : (day : Day) (at_open count end need old new : ℕ) (fault : CommitFault) → old ≡ at_open → ShowsAppend count end need old new (Err fault) → Counts (failed_after None day (Err fault)) at_open new
+counts_after day at_open count end need old new (Conflict place) whole shows = absurd shows
+counts_after day at_open count end need old new (Full entries at more) whole shows = shows.4 ∙ whole
+counts_after day at_open count end need old new (DiskFault before after) whole shows =
+    subst (λ (c : ℕ × ℕ). Rose c.0 c.1) (λ i. ((shows.2 ∙ whole) i, shows.3 i)) shows.4
+counts_after day at_open count end need old new (Broken from now) whole shows = absurd shows
+counts_after day at_open count end need old new Memory whole shows = absurd shows
 
 module _ {D : Type 0} (honest : D → Bool) (reads : D → List ℕ) (may_leave : D → List ℕ → Type 0) (moment : D → ℕ) (left_since : D → ℕ → List ℕ → Type 0)
     (counts_now : (disk : D) (t : ℕ) (c : List ℕ) → t ≤ moment disk → may_leave disk c → left_since disk t c) where

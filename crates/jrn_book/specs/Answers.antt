@@ -13,7 +13,6 @@ use Rattle.day_model.specs.Next.{entered_at, entry_of, next_history}
 use Rattle.day_model.specs.Same.{is_same_pay}
 use Rattle.day_model.specs.Totals.{booked_legs}
 use Rattle.jrn_codec.specs.Record.{entry_bytes}
-use Rattle.jrn_book.specs.Book.{HasRisen}
 use Rattle.jrn_book.specs.declared.answer.Committed.{Committed}
 use Rattle.jrn_book.specs.declared.answer.Committed.TheVariants.{New, Kept}
 use Rattle.jrn_book.specs.declared.answer.CommitFault.{CommitFault}
@@ -48,7 +47,7 @@ IsFull history end need = (length history ≡ most_entries) ⊎ (most_disk_bytes
 -- failed before, memory is wanting, the reference is entered, there is no room, the disk failed.
 abbrev pub AnswerShows : Chart → List Entry → Pay → Day → ℕ → Option Day → ℕ → ℕ → ℕ → Answer → Type 0
 AnswerShows chart history pay day end failed at_open old new (Err (Broken from now)) =
-    IsSome failed × (from ≡ at_open) × (now ≡ new) × HasRisen from now × (new ≡ old)
+    IsSome failed × (from ≡ at_open) × (now ≡ new) × Rose from now × (new ≡ old)
 AnswerShows chart history pay day end failed at_open old new (Err Memory) = (failed ≡ None) × (new ≡ old)
 AnswerShows chart history pay day end failed at_open old new (Ok (Kept place outcome)) =
     (failed ≡ None) × (stands : StandsAt history pay place true) × (stands.entry.outcome ≡ outcome) × (new ≡ old)

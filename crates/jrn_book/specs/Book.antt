@@ -28,16 +28,10 @@ pub record Book (D : Type 0) : Type 0 where
   pub failed : Option Day
   pub room : Option Pay
 
--- a count has risen since an earlier moment, at which it was no lower than this
-pub record HasRisen (from now : ℕ) : Type 0 where
-  pub before : ℕ
-  pub later : from ≤ before
-  pub rose : Rose before now
-
--- the count of faults of a book's disk: no less than at the opening, and greater where a commit failed
+-- the count of faults of a book's disk: that at the opening, and one more where a commit failed
 abbrev pub Counts : Option Day → ℕ → ℕ → Type 0
-Counts None at_open now = at_open ≤ now
-Counts (Some day) at_open now = HasRisen at_open now
+Counts None at_open now = now ≡ at_open
+Counts (Some day) at_open now = Rose at_open now
 
 -- After a commit that failed on this day: each image stands for the history, or for it and one legal entry of that day.
 pub record IsLeftBy (honest : Bool) (may_leave : List ℕ → Type 0) (chart : Chart) (history : List Entry) (day : Day) : Type 0 where

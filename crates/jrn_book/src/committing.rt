@@ -165,7 +165,7 @@ impl<D: Disk> JrnBook<D> {
         ensures legal { IsLegal self.new.accounts self.new.history }
         ensures journal { IsJournal self.new.accounts self.new.history }
 
-        // The disk's count of faults never falls, and has risen since the opening where a commit failed.
+        // The disk's count of faults never falls: it is that at the opening, and one more where a commit failed.
         ensures later { D.faults (disk_of self.old.file) ≤ D.faults (disk_of self.new.file) }
         ensures counts { Counts self.new.failed self.new.at_open (D.faults (disk_of self.new.file)) }
 

@@ -22,7 +22,7 @@ use std::marker::Model;
 #[derive(Drop)]
 pub(crate) struct Room {
     pay: Pay,
-    record: Buf,
+    body: Buf,
     frame: Buf,
 }
 
@@ -36,7 +36,7 @@ impl Model for Room {
 
     ghost view = { λ r. r.pay };
 
-    ghost invariant = { λ r. HasShape r.pay × (r.record.bytes ≡ []) × (r.frame.bytes ≡ []) × (longest_record r.pay ≤ r.record.spare) × (longest_record r.pay + 5 ≤ r.frame.spare) };
+    ghost invariant = { λ r. HasShape r.pay × (r.body.bytes ≡ []) × (r.frame.bytes ≡ []) × (longest_record r.pay ≤ r.body.spare) × (longest_record r.pay + 5 ≤ r.frame.spare) };
 }
 
 /// Puts a record into an empty buffer as it is appended: its length in four bytes, the record and a byte 0.
@@ -75,13 +75,13 @@ impl Room {
         ensures pay { IfOk result (λ room. room ≡ p.now) }
     {
         let most = most_bytes(p);
-        let mut record = Buf::new(alloc);
-        record.reserve(most)?;
+        let mut body = Buf::new(alloc);
+        body.reserve(most)?;
         let mut frame = Buf::new(alloc);
         frame.reserve(most + 5)?;
         Ok(Room {
             pay: p.copy(alloc)?,
-            record,
+            body,
             frame,
         })
     }
@@ -111,12 +111,12 @@ impl Room {
     {
         let Room {
             pay,
-            mut record,
+            mut body,
             mut frame,
         } = self;
         let entry = Entry { pay, day, outcome };
-        put_entry(&entry, &mut record).unwrap();
-        put_frame(&mut frame, record.bytes()).unwrap();
+        put_entry(&entry, &mut body).unwrap();
+        put_frame(&mut frame, body.bytes()).unwrap();
         (entry, frame)
     }
 }

@@ -172,7 +172,7 @@ invariant_of-self-2 g c =
       record {
         journal = subst (IsJournal chart) (sym now) (journal_more chart h e c.self.invariant.0.journal c.prepare-entry.ensures.written next);
         disk = subst (λ (x : Option Day × List Entry). StandsOnDisk D.honest D.reads D.may_leave x.0 file chart x.1) (λ i. (sym whole i, sym now i)) stands;
-        counts = subst (λ f. Counts f c.self.inside.at_open (D.faults (disk_of file))) (sym whole) (omega (arith, counts, c.in_default-append.ensures.shows.2));
+        counts = subst (λ f. Counts f c.self.inside.at_open (D.faults (disk_of file))) (sym whole) (c.in_default-append.ensures.shows.2 ∙ counts);
       },
       backed chart c.note.new.history c.note.new.index c.settle_entry.new.sides c.take.new.self c.take.ensures.after
           (subst Totals (λ i. (sym sides i, sym now i)) totals)

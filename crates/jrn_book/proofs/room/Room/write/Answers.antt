@@ -18,5 +18,5 @@ pub put_frame-requires-clause-room : goal.put_frame-requires-clause-room
 put_frame-requires-clause-room c =
     let e : Entry = record { pay = c.self.inside.pay; day = c.args.day; outcome = c.args.outcome } in
     let ok = c.put_entry.ensures.succeeds (omega (arith, no_longer e, c.self.invariant.3)) in
-    let written : c.put_entry.new.out.bytes ≡ c.self.inside.record.bytes ++ entry_bytes e = on_ok c.put_entry.result _ ok c.put_entry.ensures.ok in
-    omega (arith, no_longer e, c.self.invariant.4, ap length c.bytes.ensures, ap length written, ap length c.self.invariant.1, length-append c.self.inside.record.bytes (entry_bytes e))
+    let written : c.put_entry.new.out.bytes ≡ c.self.inside.body.bytes ++ entry_bytes e = on_ok c.put_entry.result _ ok c.put_entry.ensures.ok in
+    omega (arith, no_longer e, c.self.invariant.4, ap length c.bytes.ensures, ap length written, ap length c.self.invariant.1, length-append c.self.inside.body.bytes (entry_bytes e))
