@@ -21,14 +21,14 @@ use Rattle.front_word.specs.Known.{WriterKnows, PassKnows}
 use Rattle.front_word.specs.Rule.{OwedPast, IsNumber}
 use Rattle.front_word.proofs.laws.Prefixes.{prefix_self, prefix_trans, prefix_length, get_snoc, get_last}
 use Rattle.jrn_book.specs.Answers.{Answer, StandsAt, failed_after}
-use Rattle.jrn_book.specs.Book.{Book}
+use Rattle.jrn_book.specs.Book.{Book, Counts}
 use Rattle.jrn_book.specs.declared.answer.Committed.TheVariants.{New, Kept}
 use Rattle.jrn_book.specs.declared.answer.CommitFault.TheVariants.{Conflict, Full, DiskFault, Broken, Memory}
 use Rattle.jrn_file.specs.File.{disk_of, end_of}
 use Rattle.corr_books.specs.Entering.{Enters}
 use Rattle.corr_books.specs.Meeting.{HasMet, IsNext, MeetsAfter, writer_after}
 use Rattle.corr_books.specs.Opening.{Opening}
-use Rattle.corr_books.specs.Stand.{AreCounts, IsStand, history_of}
+use Rattle.corr_books.specs.Stand.{IsStand, history_of}
 use Rattle.corr_books.specs.Telling.{Grows, IsAdded, NothingAdded, Says, ShowsFull, ShowsRoom, Told, entry_on, known_to}
 use Rattle.corr_books.proofs.laws.Histories.{history_of-push, length-history_of, tags_more, take_front}
 
@@ -65,7 +65,7 @@ module _ {D : Type 0} (disk : disks.Ghosts D) (o : Opening) (purses : TableId) (
 
   -- nothing was entered: the mark is no more than the disk's count
   still : (answer : Answer) (mark : ℕ) → Before → Entered answer → b'.history ≡ b.history → mark ≤ disk.faults (disk_of b'.file)
-      → IfSome b'.failed (λ day. day ≡ o.day) → AreCounts b'.failed b'.at_open (disk.faults (disk_of b'.file))
+      → IfSome b'.failed (λ day. day ≡ o.day) → Counts b'.failed b'.at_open (disk.faults (disk_of b'.file))
       → IsStand disk o purses record { book = b'; writer = record w { mark = mark }; day = o.day }
   still answer mark s e same le failed counts = record {
     accounts = e.accounts ∙ s.accounts;
@@ -92,9 +92,9 @@ module _ {D : Type 0} (disk : disks.Ghosts D) (o : Opening) (purses : TableId) (
   failed_still answer s e same = subst (λ (f : Option Day). IfSome f (λ day. day ≡ o.day)) (sym (e.failed ∙ same)) s.failed
 
   counts_still : (answer : Answer) → Before → Entered answer → failed_after b.failed o.day answer ≡ b.failed → disk.faults (disk_of b'.file) ≡ disk.faults (disk_of b.file)
-      → AreCounts b'.failed b'.at_open (disk.faults (disk_of b'.file))
+      → Counts b'.failed b'.at_open (disk.faults (disk_of b'.file))
   counts_still answer s e same count =
-      subst (λ (x : Option Day × (ℕ × ℕ)). AreCounts x.0 x.1.0 x.1.1) (λ i. (sym (e.failed ∙ same) i, (sym e.at_open i, sym count i))) s.counts
+      subst (λ (x : Option Day × (ℕ × ℕ)). Counts x.0 x.1.0 x.1.1) (λ i. (sym (e.failed ∙ same) i, (sym e.at_open i, sym count i))) s.counts
 
   -- an answer that entered nothing and left the disk's count
   quiet : (answer : Answer) → Before → Entered answer → b'.history ≡ b.history → failed_after b.failed o.day answer ≡ b.failed → disk.faults (disk_of b'.file) ≡ disk.faults (disk_of b.file)
@@ -136,11 +136,11 @@ module _ {D : Type 0} (disk : disks.Ghosts D) (o : Opening) (purses : TableId) (
   stand_after (Err (Full entries end need)) s e by = quiet (Err (Full entries end need)) s e e.history refl e.shows.6
   stand_after (Err (DiskFault before after)) s e by =
       let shows = e.shows in
-      let at_open : disk.faults (disk_of b.file) ≡ b.at_open = subst (λ (f : Option Day). AreCounts f b.at_open (disk.faults (disk_of b.file))) shows.0 s.counts in
+      let at_open : disk.faults (disk_of b.file) ≡ b.at_open = subst (λ (f : Option Day). Counts f b.at_open (disk.faults (disk_of b.file))) shows.0 s.counts in
       let rose : Rose b'.at_open (disk.faults (disk_of b'.file)) = subst (λ (x : ℕ × ℕ). Rose x.0 x.1) (λ i. ((shows.3 ∙ at_open ∙ sym e.at_open) i, shows.4 i)) shows.5 in
       still (Err (DiskFault before after)) (max w.mark after) s e e.history (let m = s.mark in omega (arith, shows.4, e.later))
       (subst (λ (f : Option Day). IfSome f (λ day. day ≡ o.day)) (sym e.failed) refl)
-      (subst (λ (f : Option Day). AreCounts f b'.at_open (disk.faults (disk_of b'.file))) (sym e.failed) rose)
+      (subst (λ (f : Option Day). Counts f b'.at_open (disk.faults (disk_of b'.file))) (sym e.failed) rose)
   stand_after (Err (Broken from now)) s e by =
       let shows = e.shows in
       still (Err (Broken from now)) (max w.mark now) s e e.history (let m = s.mark in omega (arith, shows.2, e.later))
@@ -238,7 +238,7 @@ module _ {D : Type 0} (disk : disks.Ghosts D) (o : Opening) (purses : TableId) (
   says_after (Err (Full entries end need)) old new num s e m = (full entries end need old new s e m, none_past old new w.acts m.owed m.known)
   says_after (Err (DiskFault before after)) old new num s e m =
       let shows = e.shows in
-      let at_open : disk.faults (disk_of b.file) ≡ b.at_open = subst (λ (f : Option Day). AreCounts f b.at_open (disk.faults (disk_of b.file))) shows.0 s.counts in
+      let at_open : disk.faults (disk_of b.file) ≡ b.at_open = subst (λ (f : Option Day). Counts f b.at_open (disk.faults (disk_of b.file))) shows.0 s.counts in
       let missing = subst (λ (h : List Entry). entered_at pay.mir h ≡ None) (as_known old new None (Err (DiskFault before after)) s m refl) shows.1 in
       (omega (arith, s.at_open, shows.3, at_open), shows.5, (let k = m.mark in omega arith), missing, none_past old new w.acts m.owed m.known)
   says_after (Err (Broken from now)) old new num s e m =

@@ -13,7 +13,7 @@ use Rattle.front_word.specs.declared.view.Act.{Act}
 use Rattle.front_word.specs.Known.{WriterKnows, PassKnows}
 use Rattle.front_word.specs.Rule.{Among, IsNumber}
 use Rattle.front_word.proofs.laws.Prefixes.{prefix_get_back}
-use Rattle.jrn_book.specs.Book.{IsLeftBy, StandsOnDisk}
+use Rattle.jrn_book.specs.Book.{Counts, IsLeftBy, StandsOnDisk}
 use Rattle.jrn_book.specs.Journal.{StandsForBook}
 use Rattle.jrn_file.specs.declared.file.JFile.{JFile}
 use Rattle.jrn_file.specs.File.{disk_of}
@@ -22,7 +22,7 @@ use Rattle.corr_books.proofs.Counting.{all_among}
 use Rattle.corr_books.specs.Closing.{Closes, IsOwned, IsPart, LeavesClosed}
 use Rattle.corr_books.specs.Opening.{Opening}
 use Rattle.corr_books.specs.Passes.{AllBelong}
-use Rattle.corr_books.specs.Stand.{AreCounts, IsStand, StandKnows}
+use Rattle.corr_books.specs.Stand.{IsStand, StandKnows}
 use Rattle.corr_books.specs.Taking.{AreTaken, IsTakenBack}
 
 -- a pass that was taken back knows all of its entries
@@ -68,7 +68,7 @@ module _ {D : Type 0} (disk : disks.Ghosts D) (o : Opening) (purses : TableId) (
 
 -- what a crash leaves of the closed books' disk
 pub leaves : {D : Type 0} (disk : disks.Ghosts D) (o : Opening) (file : JFile D) (chart : Chart) (history : List Entry) (at_open : ℕ) (failed : Option Day) → IfSome failed (λ day. day ≡ o.day) → at_open ≡ o.at_open → chart ≡ o.accounts
-    → StandsOnDisk disk.honest disk.reads disk.may_leave failed file chart history → AreCounts failed at_open (disk.faults (disk_of file)) → LeavesClosed disk o history (disk_of file)
+    → StandsOnDisk disk.honest disk.reads disk.may_leave failed file chart history → Counts failed at_open (disk.faults (disk_of file)) → LeavesClosed disk o history (disk_of file)
 leaves disk o file chart history at_open None days opened charts settled counts =
     inl (record {
       stands = λ honest. subst (λ (c : Chart). StandsForBook (disk.reads (disk_of file)) c history) charts (settled.stands honest);

@@ -1,8 +1,7 @@
 -- What stands behind the journal's lock, and what holds of it wherever the lock is free.
-use Rattle.std.specs.Prelude.{◌≡◌, ◌≤◌, ℕ, List, [], ◌++◌, map, Option, None, Some, IfSome}
+use Rattle.std.specs.Prelude.{◌≡◌, ◌≤◌, ℕ, List, [], ◌++◌, map, None, IfSome}
 use Rattle.atomic_table.specs.Seated.{TableId}
 use Rattle.corr_disk.specs.declared.disk.Disk as disks
-use Rattle.corr_text.specs.Faults.{Rose}
 use Rattle.corr_ids.specs.Day.{InCentury}
 use Rattle.corr_ids.specs.declared.day.Day.{Day}
 use Rattle.day_model.specs.declared.entry.Entry.{Entry}
@@ -10,7 +9,7 @@ use Rattle.day_model.specs.Laws.{IsLatest}
 use Rattle.front_word.specs.declared.view.Act.{Act}
 use Rattle.front_word.specs.Known.{WriterKnows}
 use Rattle.front_word.specs.Rule.{AreTagged}
-use Rattle.jrn_book.specs.Book.{Book}
+use Rattle.jrn_book.specs.Book.{Book, Counts}
 use Rattle.jrn_file.specs.File.{disk_of}
 use Rattle.corr_books.specs.Opening.{Opening}
 
@@ -27,11 +26,6 @@ pub record StandKnows (D : Type 0) : Type 0 where
   pub book : Book D
   pub writer : WriterKnows
   pub day : Day
-
--- the disk's count of faults: that at the opening, or, where a commit failed, risen from it by that failure
-abbrev pub AreCounts : Option Day → ℕ → ℕ → Type 0
-AreCounts None at_open now = now ≡ at_open
-AreCounts (Some day) at_open now = Rose at_open now
 
 -- Wherever the lock is free: the parts are those that the name names; nothing is owed to a pass, and none was taken back; the
 -- history is that at the opening and the published entries, each tagged with a pass of the books; no entry has a later day than
@@ -53,5 +47,5 @@ pub record IsStand {D : Type 0} (disk : disks.Ghosts D) (o : Opening) (purses : 
   pub century : InCentury o.day
   pub latest : IsLatest s.book.history o.day
   pub failed : IfSome s.book.failed (λ d. d ≡ o.day)
-  pub counts : AreCounts s.book.failed s.book.at_open (disk.faults (disk_of s.book.file))
+  pub counts : Counts s.book.failed s.book.at_open (disk.faults (disk_of s.book.file))
   pub mark : s.writer.mark ≤ disk.faults (disk_of s.book.file)

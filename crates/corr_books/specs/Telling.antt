@@ -11,7 +11,6 @@ use Rattle.day_model.specs.Next.{entered_at}
 use Rattle.front_word.specs.declared.view.Act.{Act}
 use Rattle.front_word.specs.Known.{PassKnows, with_place}
 use Rattle.jrn_book.specs.Answers.{Answer, HasRoomFor, IsAnswered, IsFull, StandsAt, need_of}
-use Rattle.jrn_book.specs.Book.{HasRisen}
 use Rattle.jrn_book.specs.Journal.{file_of}
 use Rattle.jrn_book.specs.declared.answer.Committed.TheVariants.{New, Kept}
 use Rattle.jrn_book.specs.declared.answer.CommitFault.TheVariants.{Conflict, Full, DiskFault, Broken, Memory}
@@ -76,7 +75,7 @@ Says o pay old new (Err (Conflict place)) = StandsAt (known_to o new) pay place 
 Says o pay old new (Err (Full entries end need)) = ShowsFull o pay (known_to o new) entries end need × NothingAdded old new
 Says o pay old new (Err (DiskFault before after)) =
     (o.at_open ≤ before) × Rose before after × (after ≤ new.mark) × (entered_at pay.mir (known_to o new) ≡ None) × NothingAdded old new
-Says o pay old new (Err (Broken from now)) = (from ≡ o.at_open) × HasRisen from now × (now ≤ new.mark) × NothingAdded old new
+Says o pay old new (Err (Broken from now)) = (from ≡ o.at_open) × Rose from now × (now ≤ new.mark) × NothingAdded old new
 Says o pay old new (Err Memory) = Unit {0}
 
 -- the place that an answer adds to the pass's own
