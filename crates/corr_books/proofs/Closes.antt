@@ -1,6 +1,6 @@
 -- All passes were taken back, and know the whole list together.
-use Rattle.std.proofs.Common.{◌≡◌, inl, inr, ℕ, ◌+◌, List, [], length, Option, Some, None, slice_get, sym, ◌∙◌, subst, arith}
-use Rattle.std.specs.Prelude.{IfSome}
+use Rattle.std.proofs.Common.{◌≡◌, ◌⊎◌, ⊎_elim, inl, inr, ℕ, ◌+◌, List, [], length, Option, Some, None, slice_get, sym, ◌∙◌, subst, arith}
+use Rattle.std.specs.Prelude.{IfSome, IsTrue}
 use mathlib.Core.Logic.{dite}
 use native.Mathlib.Decide.{dec_lt}
 use Rattle.corr_disk.specs.declared.disk.Disk as disks
@@ -19,7 +19,9 @@ use Rattle.jrn_file.specs.declared.file.JFile.{JFile}
 use Rattle.jrn_file.specs.File.{disk_of}
 use Rattle.atomic_table.specs.Seated.{TableId}
 use Rattle.corr_books.proofs.Counting.{all_among}
-use Rattle.corr_books.specs.Closing.{Closes, IsOwned, IsPart, LeavesClosed}
+use Rattle.corr_books.proofs.laws.Moments.{leaves_as}
+use Rattle.corr_books.specs.Closing.{Closes, IsOwned, IsPart, LeavesClosed, LeavesInTurn}
+use Rattle.corr_books.specs.Moments.{IsLeftInTurn, LeavesSince, StandsBetween, StandsWithMore}
 use Rattle.corr_books.specs.Opening.{Opening}
 use Rattle.corr_books.specs.Passes.{AllBelong}
 use Rattle.corr_books.specs.Stand.{IsStand, StandKnows}
@@ -34,13 +36,13 @@ part_of w p t = record {
       (λ le. let o = t.owed i a at (omega arith) tag in absurd (cc (o.0)));
 }
 
-module _ {D : Type 0} (disk : disks.Ghosts D) (o : Opening) (purses : TableId) (s : StandKnows D) (w' : WriterKnows) (passes : List PassKnows) where
+module _ {D : Type 0} (disk : disks.Ghosts D) (o : Opening) (past : ℕ → List ℕ → Type 0) (purses : TableId) (s : StandKnows D) (w' : WriterKnows) (passes : List PassKnows) where
   -- the numbers of the passes that were taken back are those of passes of the books
   numbers : AreTaken s.writer passes w' [] → AllBelong o passes → (k : ℕ) → Among k w'.back → IsNumber o.made k
   numbers t belong k a = let x = t.owners k a in subst (IsNumber o.made) x.3 (belong x.0 x.1 x.2).number
 
   -- each entry has its pass
-  owner : IsStand disk o purses s → AreTaken s.writer passes w' [] → AllBelong o passes → length passes ≡ o.made → (i : ℕ) (a : Act) → slice_get s.writer.acts i ≡ Some a → IsOwned o passes i a
+  owner : IsStand disk o past purses s → AreTaken s.writer passes w' [] → AllBelong o passes → length passes ≡ o.made → (i : ℕ) (a : Act) → slice_get s.writer.acts i ≡ Some a → IsOwned o passes i a
   owner stand t belong len i a at =
       let x = t.owners a.by (all_among o.made w'.back t.back (numbers t belong) (let c = t.count in omega arith) a.by (stand.tags i a at)) in
       let p = x.1 in
@@ -54,7 +56,7 @@ module _ {D : Type 0} (disk : disks.Ghosts D) (o : Opening) (purses : TableId) (
         place = subst (λ (n : ℕ). Among (n + i + 1) p.mine) (belong x.0 p x.2).base place;
       }
 
-  pub closes : (history : List Entry) (faults : ℕ) → IsStand disk o purses s → AreTaken s.writer passes w' [] → AllBelong o passes → length passes ≡ o.made
+  pub closes : (history : List Entry) (faults : ℕ) → IsStand disk o past purses s → AreTaken s.writer passes w' [] → AllBelong o passes → length passes ≡ o.made
       → history ≡ s.book.history → IsLegal s.book.accounts s.book.history → faults ≡ disk.faults (disk_of s.book.file)
       → Closes o history faults passes
   closes history faults stand t belong len same legal same_faults = record {
@@ -65,6 +67,23 @@ module _ {D : Type 0} (disk : disks.Ghosts D) (o : Opening) (purses : TableId) (
     owned = owner stand t belong len;
     marks = λ k p at. let m = (t.done k p at (omega arith)).mark in let n = stand.mark in omega arith;
   }
+
+-- what it left at each moment since the opening
+pub in_turn : {D : Type 0} (disk : disks.Ghosts D) (o : Opening) (past : ℕ → List ℕ → Type 0) (d : D) (history : List Entry) (at_open : ℕ) (failed : Option Day) → IfSome failed (λ day. day ≡ o.day) → at_open ≡ o.at_open
+    → Counts failed at_open (disk.faults d) → (IsTrue o.honest → LeavesSince disk o past d (IsLeftInTurn o.accounts o.base history failed)) → LeavesInTurn disk o past history d
+in_turn disk o past d history at_open None days opened counts crash honest =
+    leaves_as disk o past d (StandsBetween o.accounts o.base history)
+    (λ image. StandsBetween o.accounts o.base history image ⊎ (Rose o.at_open (disk.faults d) × StandsWithMore o.accounts history o.day 1 image))
+    (crash honest) (λ image x. inl x)
+in_turn disk o past d history at_open (Some day) days opened counts crash honest =
+    let rose = subst (λ (n : ℕ). Rose n (disk.faults d)) opened counts in
+    leaves_as disk o past d (λ image. StandsBetween o.accounts o.base history image ⊎ StandsWithMore o.accounts history day 1 image)
+    (λ image. StandsBetween o.accounts o.base history image ⊎ (Rose o.at_open (disk.faults d) × StandsWithMore o.accounts history o.day 1 image))
+    (crash honest)
+    (λ image x. ⊎_elim
+    (λ (y : StandsBetween o.accounts o.base history image). inl y)
+    (λ (y : StandsWithMore o.accounts history day 1 image). inr (rose, subst (λ (e : Day). StandsWithMore o.accounts history e 1 image) days y))
+    x)
 
 -- what a crash leaves of the closed books' disk
 pub leaves : {D : Type 0} (disk : disks.Ghosts D) (o : Opening) (file : JFile D) (chart : Chart) (history : List Entry) (at_open : ℕ) (failed : Option Day) → IfSome failed (λ day. day ≡ o.day) → at_open ≡ o.at_open → chart ≡ o.accounts

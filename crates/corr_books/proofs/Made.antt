@@ -21,6 +21,7 @@ are_new o w passes is m = record {
         number = number;
         known = ap (λ q. q.known) e;
         mine = ap (λ q. q.mine) e;
+        mark = let none : p.mark ≡ 0 = ap (λ q. q.mark) e in omega (arith, none);
       };
 }
 

@@ -1,3 +1,4 @@
 pub mod Belonging
 pub mod Acknowledged
 pub mod Histories
+pub mod Moments

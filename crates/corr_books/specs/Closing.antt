@@ -11,6 +11,7 @@ use Rattle.front_word.specs.Known.{PassKnows}
 use Rattle.front_word.specs.Rule.{Among}
 use Rattle.jrn_book.specs.Book.{IsLeftBy}
 use Rattle.jrn_book.specs.Journal.{StandsForBook}
+use Rattle.corr_books.specs.Moments.{LeavesSince, StandsBetween, StandsWithMore}
 use Rattle.corr_books.specs.Opening.{Opening}
 use Rattle.corr_books.specs.Stand.{history_of}
 
@@ -50,3 +51,10 @@ abbrev pub LeavesClosed : {D : Type 0} → disks.Ghosts D → Opening → List E
 LeavesClosed disk o history d =
     StandsAlone disk o history d
     ⊎ (Rose o.at_open (disk.faults d) × IsLeftBy (disk.honest d) (disk.may_leave d) o.accounts history o.day)
+
+-- So it was at each moment since the opening: of a disk that tells its bytes a crash leaves the history at the opening and a front
+-- part of what was entered since, in its order; or, where the count of faults rose, the closed history and one legal entry more.
+abbrev pub LeavesInTurn : {D : Type 0} → disks.Ghosts D → Opening → (ℕ → List ℕ → Type 0) → List Entry → D → Type 0
+LeavesInTurn disk o past history d =
+    IsTrue o.honest → LeavesSince disk o past d (λ image. StandsBetween o.accounts o.base history image
+        ⊎ (Rose o.at_open (disk.faults d) × StandsWithMore o.accounts history o.day 1 image))

@@ -1,5 +1,6 @@
 pub mod Opening
 pub mod Finding
+pub mod Moments
 pub mod Passes
 pub mod Pairs
 pub mod Entering

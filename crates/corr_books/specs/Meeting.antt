@@ -49,6 +49,7 @@ pub record HasMet (w w' : WriterKnows) (place : Option ℕ) (old new : PassKnows
   pub mark : new.mark ≡ w'.mark
   pub before : IsPrefix old.known w.acts
   pub seen : old.seen ≤ length w.acts
+  pub looked : length w'.acts ≤ new.seen
   pub marked : old.mark ≤ w.mark
   pub owed : OwedPast w.acts (length old.known) old.number None
   pub mine : new.mine ≡ with_place old.mine place

@@ -10,13 +10,14 @@ use Rattle.jrn_book.specs.Book.{Book}
 use Rattle.jrn_file.specs.declared.file.JFile.{JFile}
 use Rattle.jrn_file.specs.File.{disk_of}
 
--- The accounts, the history at the opening, the day that entries get, the disk's count of faults at the opening and whether it
--- tells its bytes, how many passes there are, and the table of the word. None of them changes while the books are open.
+-- The accounts, the history at the opening, the day that entries get, the disk's count of faults at the opening, its moment then and
+-- whether it tells its bytes, how many passes there are, and the table of the word. None of them changes while the books are open.
 pub record Opening : Type 0 where
   pub accounts : Chart
   pub base : List Entry
   pub day : Day
   pub at_open : ℕ
+  pub since : ℕ
   pub honest : Bool
   pub made : ℕ
   pub word : TableId
@@ -28,10 +29,15 @@ no_opening = record {
   base = [];
   day = record { 0 = pos 0 };
   at_open = 0;
+  since = 0;
   honest = false;
   made = 0;
   word = no_table;
 }
+
+-- and what a crash before it might have left
+abbrev pub no_past : ℕ → List ℕ → Type 0
+no_past t image = ⊥
 
 -- The parts of an opening that have no name yet: its accounts and history, the day, the disk's count of faults then, the open
 -- file, and the tables of the word and of the purses.
@@ -64,12 +70,18 @@ module _ {D : Type 0} (disk : disks.Ghosts D) where
     base = parts.base;
     day = parts.day;
     at_open = parts.at_open;
+    since = disk.moment (disk_of parts.file);
     honest = disk.honest (disk_of parts.file);
     made = made;
     word = parts.word;
   }
 
-  -- these parts, with so many passes, are what the name names
-  pub record IsNamed (opening : Opening) (purses : TableId) (parts : Parts D) (made : ℕ) : Type 0 where
+  -- what a crash at some moment from an earlier one until the opening might have left of their disk
+  abbrev pub past_of : Parts D → ℕ → List ℕ → Type 0
+  past_of parts t image = disk.left_since (disk_of parts.file) t image
+
+  -- these parts, with so many passes, are what the name names, and it names no less of what a crash might have left until then
+  pub record IsNamed (opening : Opening) (past : ℕ → List ℕ → Type 0) (purses : TableId) (parts : Parts D) (made : ℕ) : Type 0 where
     pub opening_is : opening ≡ opening_with parts made
+    pub past_has : (t : ℕ) (image : List ℕ) → past_of parts t image → past t image
     pub purses_are : purses ≡ parts.purses

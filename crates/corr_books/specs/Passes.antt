@@ -1,5 +1,5 @@
 -- The passes of books.
-use Rattle.std.specs.Prelude.{◌≡◌, ℕ, ◌+◌, List, [], length, Some, slice_get}
+use Rattle.std.specs.Prelude.{◌≡◌, ℕ, ◌+◌, ◌≤◌, List, [], length, Some, slice_get}
 use Rattle.atomic_table.specs.Seated.{TableId}
 use Rattle.front_word.specs.Known.{PassKnows}
 use Rattle.front_word.specs.Rule.{IsNumber}
@@ -15,12 +15,13 @@ pub record Belongs (o : Opening) (p : PassKnows) : Type 0 where
 abbrev pub AllBelong : Opening → List PassKnows → Type 0
 AllBelong o passes = (k : ℕ) (p : PassKnows) → slice_get passes k ≡ Some p → Belongs o p
 
--- a pass that was just made: it has the next number, knows no entry past the opening, and no place is its own
+-- a pass that was just made: it has the next number, knows no entry past the opening and of no fault since, and no place is its own
 pub record IsNew (o : Opening) (k : ℕ) (p : PassKnows) : Type 0 where
   pub belongs : Belongs o p
   pub number : p.number ≡ k + 1
   pub known : p.known ≡ []
   pub mine : p.mine ≡ []
+  pub mark : p.mark ≤ o.at_open
 
 -- all passes of the books, just made, in the order of their numbers
 pub record AreNew (o : Opening) (passes : List PassKnows) : Type 0 where

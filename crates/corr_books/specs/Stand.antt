@@ -1,5 +1,5 @@
 -- What stands behind the journal's lock, and what holds of it wherever the lock is free.
-use Rattle.std.specs.Prelude.{◌≡◌, ◌≤◌, ℕ, List, [], ◌++◌, map, None, IfSome}
+use Rattle.std.specs.Prelude.{◌≡◌, ◌≤◌, ℕ, IsTrue, List, [], ◌++◌, map, None, IfSome}
 use Rattle.atomic_table.specs.Seated.{TableId}
 use Rattle.corr_disk.specs.declared.disk.Disk as disks
 use Rattle.corr_ids.specs.Day.{InCentury}
@@ -11,6 +11,7 @@ use Rattle.front_word.specs.Known.{WriterKnows}
 use Rattle.front_word.specs.Rule.{AreTagged}
 use Rattle.jrn_book.specs.Book.{Book, Counts}
 use Rattle.jrn_file.specs.File.{disk_of}
+use Rattle.corr_books.specs.Moments.{IsLeftInTurn, LeavesSince}
 use Rattle.corr_books.specs.Opening.{Opening}
 
 -- the entries, without their tags
@@ -30,8 +31,9 @@ pub record StandKnows (D : Type 0) : Type 0 where
 -- Wherever the lock is free: the parts are those that the name names; nothing is owed to a pass, and none was taken back; the
 -- history is that at the opening and the published entries, each tagged with a pass of the books; no entry has a later day than
 -- the books, and a commit failed on that day, if one did; the disk's count is that at the opening but for that failure, and no
--- less than the writer's mark.
-pub record IsStand {D : Type 0} (disk : disks.Ghosts D) (o : Opening) (purses : TableId) (s : StandKnows D) : Type 0 where
+-- less than the writer's mark. Of a disk that tells its bytes a crash at each moment since the opening leaves the history then and a
+-- front part of what was entered, or one legal entry more after a failure.
+pub record IsStand {D : Type 0} (disk : disks.Ghosts D) (o : Opening) (past : ℕ → List ℕ → Type 0) (purses : TableId) (s : StandKnows D) : Type 0 where
   pub accounts : s.book.accounts ≡ o.accounts
   pub purses_are : s.book.table ≡ purses
   pub at_open : s.book.at_open ≡ o.at_open
@@ -49,3 +51,4 @@ pub record IsStand {D : Type 0} (disk : disks.Ghosts D) (o : Opening) (purses : 
   pub failed : IfSome s.book.failed (λ d. d ≡ o.day)
   pub counts : Counts s.book.failed s.book.at_open (disk.faults (disk_of s.book.file))
   pub mark : s.writer.mark ≤ disk.faults (disk_of s.book.file)
+  pub crash : IsTrue o.honest → LeavesSince disk o past (disk_of s.book.file) (IsLeftInTurn o.accounts o.base s.book.history s.book.failed)

@@ -1,5 +1,5 @@
 -- What a pass knows after a call of `book`, and what the answer says by it.
-use Rattle.std.specs.Prelude.{◌≡◌, ℕ, ◌+◌, ◌≤◌, true, false, List, length, take, slice_get, Option, Some, None, Ok, Err}
+use Rattle.std.specs.Prelude.{◌≡◌, ℕ, ◌+◌, ◌≤◌, Bool, true, false, List, length, take, slice_get, Option, Some, None, Ok, Err}
 use mathlib.Core.List.{IsPrefix}
 use Rattle.corr_text.specs.Faults.{Rose}
 use Rattle.day_model.specs.declared.entry.Entry.{Entry}
@@ -25,11 +25,13 @@ known_to o p = history_of o.base p.known
 abbrev pub entry_on : Opening → Pay → Outcome → Entry
 entry_on o pay outcome = record { pay = pay; day = o.day; outcome = outcome }
 
--- A pass knows no less than before, and no fewer entries than it had seen, the history that it knows is legal, and its mark doesn't fall.
+-- A pass knows no less than before, and no fewer entries than it had seen, and has seen all that it knows; the history that it knows
+-- is legal, and its mark doesn't fall.
 pub record Grows (o : Opening) (old new : PassKnows) : Type 0 where
   pub number : new.number ≡ old.number
   pub known : IsPrefix old.known new.known
   pub seen : old.seen ≤ length new.known
+  pub looked : length new.known ≤ new.seen
   pub legal : IsLegal o.accounts (known_to o new)
   pub mark : old.mark ≤ new.mark
 
@@ -64,9 +66,9 @@ pub record ShowsFull (o : Opening) (pay : Pay) (history : List Entry) (entries e
   pub full : IsFull history end need
 
 -- What each answer says, shown by what the pass knows then: New, the entry that was added; Kept, the same pay at the place, with
--- the outcome; Conflict, another pay with its reference; Full, that there is no room; DiskFault, that the reference is missing,
--- and it and Broken, that the disk's count of faults has risen since the opening, up to the pass's mark. Nothing tagged with the
--- pass was added but by New.
+-- the outcome; Conflict, another pay with its reference; Full, that there is no room; DiskFault, that the reference is missing, that
+-- the disk's count of faults rose from that at the opening, up to the pass's mark, and that the pass knew of no failure before; Broken,
+-- that it has risen since the opening, up to the pass's mark. Nothing tagged with the pass was added but by New.
 abbrev pub Says : Opening → Pay → PassKnows → PassKnows → Answer → Type 0
 Says o pay old new (Ok (New place outcome)) = IsAdded o pay old new place outcome
 Says o pay old new (Ok (Kept place outcome)) =
@@ -74,7 +76,7 @@ Says o pay old new (Ok (Kept place outcome)) =
 Says o pay old new (Err (Conflict place)) = StandsAt (known_to o new) pay place false × NothingAdded old new
 Says o pay old new (Err (Full entries end need)) = ShowsFull o pay (known_to o new) entries end need × NothingAdded old new
 Says o pay old new (Err (DiskFault before after)) =
-    (o.at_open ≤ before) × Rose before after × (after ≤ new.mark) × (entered_at pay.mir (known_to o new) ≡ None) × NothingAdded old new
+    (before ≡ o.at_open) × Rose before after × (after ≤ new.mark) × (entered_at pay.mir (known_to o new) ≡ None) × NothingAdded old new × (old.mark ≤ o.at_open)
 Says o pay old new (Err (Broken from now)) = (from ≡ o.at_open) × Rose from now × (now ≤ new.mark) × NothingAdded old new
 Says o pay old new (Err Memory) = Unit {0}
 
@@ -84,10 +86,18 @@ place_of (Ok (New place outcome)) = Some place
 place_of (Ok (Kept place outcome)) = Some place
 place_of (Err fault) = None
 
--- Of `book` with this pay: what the pass knows after the answer, what the answer says, which place became the pass's own; and
--- where memory runs out the pass is as before.
+-- Broken comes first: so each answer but DiskFault, Broken and Memory comes of books in which no commit had failed
+abbrev pub is_of_whole : Answer → Bool
+is_of_whole (Ok committed) = true
+is_of_whole (Err (Conflict place)) = true
+is_of_whole (Err (Full entries end need)) = true
+is_of_whole (Err _) = false
+
+-- Of `book` with this pay: what the pass knows after the answer, what the answer says, that the pass's mark isn't above the disk's
+-- count at the opening where no commit had failed, and which place became the pass's own; where memory runs out the pass is as before.
 pub record Told (o : Opening) (pay : Pay) (old : PassKnows) (answer : Answer) (new : PassKnows) : Type 0 where
   pub grows : IsAnswered answer → Grows o old new
   pub says : Says o pay old new answer
+  pub whole : is_of_whole answer ≡ true → new.mark ≤ o.at_open
   pub mine : new.mine ≡ with_place old.mine (place_of answer)
   pub memory : answer ≡ Err Memory → new ≡ record old { spare = new.spare }

@@ -2,7 +2,7 @@
 
 ghost use Rattle.std.specs.Prelude.{◌≡◌, ◌≢◌, IfErr, IfOk, vec_len};
 ghost use Rattle.jrn_book.specs.Journal.{IsJournal};
-ghost use Rattle.corr_books.specs.Closing.{Closes, LeavesClosed};
+ghost use Rattle.corr_books.specs.Closing.{Closes, LeavesClosed, LeavesInTurn};
 ghost use Rattle.corr_books.specs.Passes.{AllBelong};
 
 use crate::books::Books;
@@ -48,6 +48,9 @@ impl<N: BooksName, D: Disk> Books<N, D> {
         ensures disk { IfOk result (λ c. LeavesClosed D.Disk N.opening c.history.entries c.disk) }
         ensures honest { IfOk result (λ c. D.honest c.disk ≡ N.opening.honest) }
 
+        // So it was at each moment since the opening: with a front part of what was entered, or one legal entry more after a failure.
+        ensures any_moment { IfOk result (λ c. LeavesInTurn D.Disk N.opening N.past c.history.entries c.disk) }
+
         ensures all { IfOk result (λ _. vec_len passes ≡ N.opening.made) }
         ensures fault { IfErr result (λ f. (f.made ≡ N.opening.made) × (vec_len passes ≢ N.opening.made)) }
         ensures back { IfErr result (λ f. f.passes.items ≡ passes.items) }
@@ -75,6 +78,7 @@ fn finish<N: BooksName, D: Disk>(stand: Stand<N, D>, f: &Front, passes: Vec<Pass
     ensures journal { IsJournal result.accounts result.history.entries }
     ensures disk { LeavesClosed D.Disk N.opening result.history.entries result.disk }
     ensures honest { D.honest result.disk ≡ N.opening.honest }
+    ensures any_moment { LeavesInTurn D.Disk N.opening N.past result.history.entries result.disk }
 {
     let Stand {
         book,

@@ -4,17 +4,23 @@ use acct_locks::Name;
 use std::marker::Brand;
 
 /// Names the parts of one opening beside the table of its purses: the accounts, the history then, the day that entries get,
-/// the disk's count of faults then and whether its bytes are told, the number of passes, and the table of the word.
+/// the disk's count of faults and its moment then and whether its bytes are told, the number of passes, and the table of the word.
 pub trait BooksName: Name {
+    ghost use Rattle.std.specs.Prelude.{ℕ, List};
     ghost use Rattle.corr_books.specs.Opening.{Opening};
 
     ghost opening: { Opening };
+
+    /// What a crash at some moment from an earlier one on might have left when the books were opened.
+    ghost past: { ℕ → List ℕ → Type 0 };
 }
 
 impl BooksName for Brand {
-    ghost use Rattle.corr_books.specs.Opening.{no_opening};
+    ghost use Rattle.corr_books.specs.Opening.{no_opening, no_past};
 
     ghost opening = { no_opening };
+
+    ghost past = { no_past };
 }
 
 /// Names an entry, and the pass that it is published for.

@@ -54,13 +54,14 @@ impl<D: Disk> Opened<D> {
     /// Makes the passes with the numbers 1 to `made`, gives the parts their name, and puts them behind their locks. These are
     /// all passes that the books ever make.
     ///
-    /// `N` names these parts and `made`, which is 1 to 16. `Memory`: there is none, and the disk is as it was.
+    /// `N` names these parts and `made`, which is 1 to 16, and at least all that a crash might have left until now. `Memory`: there is
+    /// none, and the disk is as it was.
     pub fn books<N: BooksName>(
         self,
         alloc: Global,
         made: u32,
     ) -> Result<(Books<N, D>, Vec<Pass>), (D, Memory)>
-        requires named { IsNamed D.Disk N.opening N.table self made }
+        requires named { IsNamed D.Disk N.opening N.past N.table self made }
         requires count { (1 ≤ made) × (made ≤ most_workers) }
         ensures passes { IfOk result (λ r. AreNew N.opening r.1.items) }
         ensures disk { IfErr result (λ e. e.0 ≡ disk_of self.file) }

@@ -36,7 +36,7 @@ impl<N: BooksName, D: Disk> Model for Stand<N, D> {
 
     ghost view = { λ s. record { book = s.book; writer = s.writer; day = s.day } };
 
-    ghost invariant = { λ s. IsStand D.Disk N.opening N.table (record { book = s.book; writer = s.writer; day = s.day }) };
+    ghost invariant = { λ s. IsStand D.Disk N.opening N.past N.table (record { book = s.book; writer = s.writer; day = s.day }) };
 }
 
 impl<N: BooksName, D: Disk> Stand<N, D> {

@@ -17,5 +17,7 @@ returns g c =
         place = told.place;
         later = told.later;
         honest = told.honest;
+        file = told.file;
+        any_moment = told.any_moment;
       };
     }
