@@ -241,7 +241,7 @@ fn begin<N: BooksName, D: Disk + Drop>(
     opened: Opened<D>,
     made: u32,
 ) -> Result<(Books<N, D>, Pass, Pass), Fail>
-    requires named { IsNamed D.Disk N.opening N.table opened made }
+    requires named { IsNamed D.Disk N.opening N.past N.table opened made }
     requires two { made ≡ 2 }
     ensures { IfOk result (λ r. Belongs N.opening r.1 × Belongs N.opening r.2) }
 {
@@ -292,7 +292,7 @@ fn book_both_as<
     start: &AtomicBool,
     answered: &AtomicBool,
 ) -> Result<Both, Fail>
-    requires named { IsNamed D.Disk N.opening N.table opened made }
+    requires named { IsNamed D.Disk N.opening N.past N.table opened made }
     requires two { made ≡ 2 }
     requires fit { (FitsAccounts opened.accounts first.now) × (FitsAccounts opened.accounts second.now) }
     requires shape { (HasShape first.now) × (HasShape second.now) }
@@ -462,7 +462,7 @@ fn book_turn_as<N: BooksName, D: Disk + Drop, R: Wait>(
     first: &Pay,
     second: &Pay,
 ) -> Result<Turn, Fail>
-    requires named { IsNamed D.Disk N.opening N.table opened made }
+    requires named { IsNamed D.Disk N.opening N.past N.table opened made }
     requires two { made ≡ 2 }
     requires fit { (FitsAccounts opened.accounts first.now) × (FitsAccounts opened.accounts second.now) }
     requires shape { (HasShape first.now) × (HasShape second.now) }
