@@ -6,7 +6,7 @@ use Rattle.corr_disk.specs.declared.disk.Disk as disks
 use Rattle.corr_io.specs.declared.source.Source as sources
 use Rattle.corr_text.specs.Faults.{Rose}
 use Rattle.corr_books.specs.Closing.{LeavesClosed}
-use Rattle.corr_books.specs.Opening.{Opening, Parts, opening_with}
+use Rattle.corr_books.specs.Opening.{Opening, Parts, opening_with, past_of}
 use Rattle.corr_books.specs.Telling.{ShowsFull}
 use Rattle.day_model.specs.declared.entry.Entry.{Entry}
 use Rattle.day_model.specs.declared.pay.Pay.{Pay}
@@ -162,7 +162,7 @@ module _ (o : Opening) (readings : List (Result Pay NoPay)) (history : List Entr
   cause_of before after booking.Memory was is calm stops = tt
 
 module _ {S D : Type 0} (source : sources.Ghosts S) (d : disks.Ghosts D) (directory : Directory) (workers : ℕ) (from to : S) (old : Parts D) (new : D) (bytes : List ℕ) (cut : List (List ℕ)) (file : HasMessages source from to bytes cut)
-    (history : List Entry) (left : HasServed d (opening_with d old workers) (readings_of directory old.accounts cut) old.accounts history new) where
+    (history : List Entry) (left : HasServed d (opening_with d old workers) (past_of d old) (readings_of directory old.accounts cut) old.accounts history new) where
   abbrev books : Opening
   books = opening_with d old workers
 
@@ -230,12 +230,12 @@ module _ {S D : Type 0} (source : sources.Ghosts S) (d : disks.Ghosts D) (direct
 -- ---- a day that was served, or for which there was no memory
 
 -- what was left of books on an opening's accounts
-left_on : {D : Type 0} (d : disks.Ghosts D) (o : Opening) (readings : List (Result Pay NoPay)) (chart : Chart) (history : List Entry) (left : D) → HasServed d o readings chart history left → HasServed d o readings o.accounts history left
-left_on d o asked chart history left has = record { accounts = refl; added = has.added; is = has.is; each = has.each; journal = has.journal; leaves = has.leaves; honest = has.honest }
+left_on : {D : Type 0} (d : disks.Ghosts D) (o : Opening) (past : ℕ → List ℕ → Type 0) (readings : List (Result Pay NoPay)) (chart : Chart) (history : List Entry) (left : D) → HasServed d o past readings chart history left → HasServed d o past readings o.accounts history left
+left_on d o past asked chart history left has = record { accounts = refl; added = has.added; is = has.is; each = has.each; journal = has.journal; leaves = has.leaves; in_turn = has.in_turn; honest = has.honest }
 
 module _ {S D : Type 0} (source : sources.Ghosts S) (d : disks.Ghosts D) (directory : Directory) (workers : ℕ) (from to : S) (old : Parts D) (bytes : List ℕ) (cut : List (List ℕ)) (file : HasMessages source from to bytes cut)
     (are : AreInstructions directory.tables directory.ssi) (sound : IsChart old.accounts) (count before : ℕ) (was : before ≡ old.at_open) (counted : count ≡ length old.base) where
-  by_served : {V M : Type 0} (items : V → List Served) (history : List Entry) (new : D) → HasServed d (opening_with d old workers) (readings_of directory old.accounts cut) old.accounts history new
+  by_served : {V M : Type 0} (items : V → List Served) (history : List Entry) (new : D) → HasServed d (opening_with d old workers) (past_of d old) (readings_of directory old.accounts cut) old.accounts history new
       → (served : Result V M) → IfOk served (λ made. AreTold (opening_with d old workers) history (readings_of directory old.accounts cut) (items made))
       → IfOk served (λ made. workers ≡ 1 → AreServedInOrder (opening_with d old workers) history (readings_of directory old.accounts cut) (items made)) → IfErr served (λ _. history ≡ old.base)
       → (r : Result Texts Status) → IfOk served (λ made. GivesTexts old.accounts history (items made) before (d.faults new) count r) → IfErr served (λ _. r ≡ Err status.Memory)
@@ -245,24 +245,24 @@ module _ {S D : Type 0} (source : sources.Ghosts S) (d : disks.Ghosts D) (direct
   by_served items history new left (Err e) told turn none r gives memory =
       subst (GivesDay source d directory workers from to old new) (sym memory) (day_unserved source d directory workers from to old new bytes cut file history left none)
 
-  pub day_ends : (day : ServedDay D) → AllServed d (opening_with d old workers) (readings_of directory old.accounts cut) day → (r : Result Texts Status) → GivesServed d day before count r → GivesDay source d directory workers from to old day.closed.disk r
+  pub day_ends : (day : ServedDay D) → AllServed d (opening_with d old workers) (past_of d old) (readings_of directory old.accounts cut) day → (r : Result Texts Status) → GivesServed d day before count r → GivesDay source d directory workers from to old day.closed.disk r
   day_ends day all r gives =
-      by_served (λ made. made.items) day.closed.history.entries day.closed.disk (left_on d (opening_with d old workers) (readings_of directory old.accounts cut) day.closed.accounts day.closed.history.entries day.closed.disk all.left)
+      by_served (λ made. made.items) day.closed.history.entries day.closed.disk (left_on d (opening_with d old workers) (past_of d old) (readings_of directory old.accounts cut) day.closed.accounts day.closed.history.entries day.closed.disk all.left)
       day.served all.told all.turn all.none r
       (subst (λ (c : Chart). IfOk day.served (λ made. GivesTexts c day.closed.history.entries made.items before (d.faults day.closed.disk) count r)) all.left.accounts gives.texts) gives.none
 
 -- what the making of the texts needs of a served day
-pub places_in : {D : Type 0} (d : disks.Ghosts D) (o : Opening) (readings : List (Result Pay NoPay)) (day : ServedDay D) → AllServed d o readings day
+pub places_in : {D : Type 0} (d : disks.Ghosts D) (o : Opening) (past : ℕ → List ℕ → Type 0) (readings : List (Result Pay NoPay)) (day : ServedDay D) → AllServed d o past readings day
     → IfOk day.served (λ made. (replies : List Reply) → made.items ≡ are_replies replies → All (NamesPlace day.closed.history.entries) replies)
-places_in d o readings day all = by_told (λ made. made.items) day.served all.told
+places_in d o past readings day all = by_told (λ made. made.items) day.served all.told
   where
     by_told : {V M : Type 0} (items : V → List Served) (served : Result V M) → IfOk served (λ made. AreTold o day.closed.history.entries readings (items made))
         → IfOk served (λ made. (replies : List Reply) → items made ≡ are_replies replies → All (NamesPlace day.closed.history.entries) replies)
     by_told items (Ok made) told = λ replies is. all_places o day.closed.history.entries readings (items made) replies told is
     by_told items (Err e) told = tt
 
-pub few_made : {D : Type 0} (d : disks.Ghosts D) (o : Opening) (readings : List (Result Pay NoPay)) (day : ServedDay D) → AllServed d o readings day → (n : ℕ) → length readings ≤ n → IfOk day.served (λ made. length made.items ≤ n)
-few_made d o readings day all n few = by_told (λ made. made.items) day.served all.told
+pub few_made : {D : Type 0} (d : disks.Ghosts D) (o : Opening) (past : ℕ → List ℕ → Type 0) (readings : List (Result Pay NoPay)) (day : ServedDay D) → AllServed d o past readings day → (n : ℕ) → length readings ≤ n → IfOk day.served (λ made. length made.items ≤ n)
+few_made d o past readings day all n few = by_told (λ made. made.items) day.served all.told
   where
     by_told : {V M : Type 0} (items : V → List Served) (served : Result V M) → IfOk served (λ made. AreTold o day.closed.history.entries readings (items made)) → IfOk served (λ made. length (items made) ≤ n)
     by_told items (Ok made) told = let e = told.each in omega (arith, e, few)

@@ -23,7 +23,7 @@ use Rattle.corr_top.specs.declared.writing.Texts.{Texts}
 use Rattle.corr_top.specs.Commands.{out_in, report_in}
 use Rattle.corr_top.specs.Ends.{HasTexts}
 use Rattle.corr_top.specs.Inputs.{chart_in}
-use Rattle.corr_top.specs.OnDisk.{HasNotFailed, IsMakeable, IsOnDisk, IsUnwritten, StopsMaking}
+use Rattle.corr_top.specs.OnDisk.{HasNotFailed, IsMakeable, IsOnDisk, IsUnwritten, MakesInTurn, StopsMaking}
 use Rattle.corr_top.specs.Passing.{StepIsUntouched, Passes, StopsAt}
 use Rattle.corr_top.specs.Steps.{Step}
 use Rattle.corr_top.specs.Stops.{status_of_making}
@@ -44,13 +44,18 @@ pub new_journal : (chart : Chart) → IsHead chart → IsJournal chart []
 new_journal chart head = record { head = head; entries = All-nil IsEntry; legal = no_entries chart }
 
 module _ {D : Type 0} (d : disks.Ghosts D) (old new : D) (head bytes : List ℕ) (chart : Chart) (given : bytes ≡ head) (is : head ≡ head_bytes chart) where
+  moments_of : (IsTrue (d.honest old) → Only (d.reads old) (d.may_leave old) → IsUnmade (d.reads old) → LeavesOnly d.moment d.left_since old new (IsUnmadeOrMade bytes)) → MakesInTurn d old new chart
+  moments_of any_moment h only free = subst (λ (b : List ℕ). LeavesOnly d.moment d.left_since old new (IsUnmadeOrMade b)) (given ∙ is) (any_moment h only free)
+
   -- a journal of this header was made
   pub made : d.honest new ≡ d.honest old → (IsTrue (d.honest old) → StandsFor (d.reads new) bytes []) → (IsTrue (d.honest old) → Only (d.reads new) (d.may_leave new)) → d.faults new ≡ d.faults old → IsMakeable d old
-      → IsMakeable d old × IsOnDisk d new chart [] × HasNotFailed d old new
-  made honest stands durable kept free = (
+      → (IsTrue (d.honest old) → Only (d.reads old) (d.may_leave old) → IsUnmade (d.reads old) → LeavesOnly d.moment d.left_since old new (IsUnmadeOrMade bytes))
+      → IsMakeable d old × IsOnDisk d new chart [] × HasNotFailed d old new × MakesInTurn d old new chart
+  made honest stands durable kept free any_moment = (
     free,
     record { stands = λ h. subst (λ (b : List ℕ). StandsFor (d.reads new) b []) (given ∙ is) (stands (sym honest ∙ h)); durable = λ h. durable (sym honest ∙ h) },
     kept,
+    moments_of any_moment,
   )
 
   -- it was not
@@ -60,7 +65,7 @@ module _ {D : Type 0} (d : disks.Ghosts D) (old new : D) (head bytes : List ℕ)
   unmade fault cause untouched any_moment = record {
     cause = cause;
     untouched = untouched;
-    any_moment = λ h only free. subst (λ (b : List ℕ). LeavesOnly d.moment d.left_since old new (IsUnmadeOrMade b)) (given ∙ is) (any_moment h only free);
+    any_moment = moments_of any_moment;
   }
 
 module _ {S K D : Type 0} (source : sources.Ghosts S) (d : disks.Ghosts D) (home : Bic) (old new : Room S K D) where
@@ -77,7 +82,7 @@ module _ {S K D : Type 0} (source : sources.Ghosts S) (d : disks.Ghosts D) (home
 
   -- they were, and the journal was made or it wasn't
   pub init_texts : (chart : Chart) (head : List ℕ) (making : Result (Unit {0}) MakeFault) (texts : Texts) → HasAccounts source old.tables new.tables home chart → IsHead chart → head ≡ head_bytes chart → new ≡ record old { tables = new.tables; disk = new.disk }
-      → MatchResult making (λ _. (c : Chart) → head ≡ head_bytes c → IsMakeable d old.disk × IsOnDisk d new.disk c [] × HasNotFailed d old.disk new.disk) (λ fault. (c : Chart) → head ≡ head_bytes c → StopsMaking d old.disk new.disk c fault)
+      → MatchResult making (λ _. (c : Chart) → head ≡ head_bytes c → IsMakeable d old.disk × IsOnDisk d new.disk c [] × HasNotFailed d old.disk new.disk × MakesInTurn d old.disk new.disk c) (λ fault. (c : Chart) → head ≡ head_bytes c → StopsMaking d old.disk new.disk c fault)
       → texts.report ≡ [] → texts.out ≡ []
       → MatchResult making (λ _. HasTexts source d (Plain (Init home)) old new (Ok texts)) (λ fault. HasTexts source d (Plain (Init home)) old new (Err (status_of_making fault)))
   unfolding report_in out_in
@@ -90,7 +95,7 @@ module _ {S K D : Type 0} (source : sources.Ghosts S) (d : disks.Ghosts D) (home
         gives = (
           record {
             passed = (p.0, (p.1.0, (p.1.1.0, (p.1.1.1.0, (p.1.1.1.1.0, (outcome.0, tt))))));
-            leaves = record { sure = outcome.2; made = subst (λ (c : Chart). IsOnDisk d new.disk c []) has.chart_is outcome.1; journal = new_journal (chart_in has.inputs) (subst IsHead has.chart_is written) };
+            leaves = record { sure = outcome.2; made = subst (λ (c : Chart). IsOnDisk d new.disk c []) has.chart_is outcome.1; journal = new_journal (chart_in has.inputs) (subst IsHead has.chart_is written); any_moment = subst (λ (c : Chart). MakesInTurn d old.disk new.disk c) has.chart_is outcome.3 };
           },
           report,
           out,

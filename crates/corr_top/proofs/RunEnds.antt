@@ -1,12 +1,13 @@
 -- How a run ends before anything is written, from how its parts end.
-use Rattle.std.proofs.Common.{◌≡◌, ◌+◌, ◌<ℤ◌, inl, inr, ℕ, All, List, [], ◌∷◌, Option, None, Some, Result, Ok, Err, refl, sym, ap, ◌∙◌, subst, length, map}
+use Rattle.std.proofs.Common.{◌≡◌, ◌⊎◌, ◌+◌, ◌<ℤ◌, inl, inr, ℕ, All, List, [], ◌∷◌, Option, None, Some, Result, Ok, Err, refl, sym, ap, ◌∙◌, subst, length, map}
 use Rattle.std.specs.Prelude.{IfSome, IsSome, IsTrue, is_some, slice_get}
 use Rattle.std.proofs.lemmas.List.{length-map}
 use Rattle.corr_books.specs.declared.opening.BooksFault.{BooksFault}
 use Rattle.corr_books.specs.declared.opening.BooksFault.TheVariants.{Open, DateBack}
-use Rattle.corr_books.specs.Closing.{LeavesClosed}
+use Rattle.corr_books.specs.Closing.{LeavesClosed, LeavesInTurn}
 use Rattle.corr_books.specs.Finding.{BooksCause, IsDateBack, OpensBack, RefusesAs, ShowsBack, TellsOf, is_of_bytes}
-use Rattle.corr_books.specs.Opening.{Opening, Parts, opening_with}
+use Rattle.corr_books.specs.Moments.{StandsBetween, StandsWithMore}
+use Rattle.corr_books.specs.Opening.{Opening, Parts, opening_with, past_of}
 use Rattle.corr_disk.specs.declared.disk.Disk as disks
 use Rattle.corr_io.specs.declared.source.Source as sources
 use Rattle.corr_text.specs.Faults.{Rose}
@@ -42,13 +43,15 @@ use Rattle.corr_top.specs.Days.{GivesDay, HasDay, StopCause, StopsAtFile, StopsA
 use Rattle.corr_top.specs.Ends.{CommandGives, HasPassed, HasTexts}
 use Rattle.corr_top.specs.Inputs.{Inputs, new_in, pays_of, replies_of, tables_in}
 use Rattle.corr_top.specs.Message.{pays_in, readings_of, replies_in}
-use Rattle.corr_top.specs.OnDisk.{HoldsJournal, IsLeft, IsOnDisk, IsUnwritten, StopsOpening}
+use Rattle.corr_top.specs.OnDisk.{HoldsJournal, IsLeft, IsLeftMidway, IsOnDisk, IsUnwritten, LeavesMidway, StopsOpening}
 use Rattle.corr_top.specs.Origin.{AreSentValid}
 use Rattle.corr_top.specs.Out.{sent_from}
 use Rattle.corr_top.specs.Passing.{StepIsUntouched, Passes, StopsAt}
 use Rattle.corr_top.specs.Steps.{Step}
 use Rattle.corr_top.specs.Stops.{status_of_books, status_of_day, status_of_opening, status_of_table}
 use Rattle.corr_top.specs.Tables.{HasDirectory, StopsDirectory, directory_steps}
+use Rattle.corr_books.proofs.laws.Moments.{leaves_only}
+use Rattle.corr_disk.proofs.laws.Moments.{then_on, weaker}
 use Rattle.corr_top.proofs.Folding.{legal_fold}
 use Rattle.corr_top.proofs.Replying.{get_all}
 use Rattle.corr_top.proofs.Serves.{get_at}
@@ -145,6 +148,19 @@ module _ {S K D : Type 0} (source : sources.Ghosts S) (d : disks.Ghosts D) (day 
       is_left history (inr failed) =
           inr (subst (λ n. Rose n (d.faults new.disk)) at_open failed.0, subst (λ (x : Day). IsLeftBy (d.honest new.disk) (d.may_leave new.disk) opened.accounts history x) of_day failed.1)
 
+      -- what a crash left at a moment since the books were opened, where their count was this, and their day
+      abbrev IsLeftSince : List Entry → ℕ → Day → List ℕ → Type 0
+      IsLeftSince history then today image = StandsBetween opened.accounts opened.base history image ⊎ (Rose then (d.faults new.disk) × StandsWithMore opened.accounts history today 1 image)
+
+      -- and at each moment since the run began
+      midway : (history : List Entry) → LeavesInTurn d books (past_of d opened) history new.disk → LeavesMidway d old.disk new.disk opened.accounts opened.base history day
+      midway history leaves true_here =
+          let since = leaves_only d opened workers new.disk (IsLeftSince history opened.at_open opened.day) (leaves (honest ∙ true_here)) in
+          then_on d.moment d.left_since old.disk (disk_of opened.file) new.disk (IsLeftMidway d old.disk new.disk opened.accounts opened.base history day)
+          (weaker d.moment d.left_since old.disk (disk_of opened.file) (d.may_leave old.disk) (IsLeftMidway d old.disk new.disk opened.accounts opened.base history day) (λ image x. inl x) unwritten.any_moment)
+          (weaker d.moment d.left_since (disk_of opened.file) new.disk (IsLeftSince history opened.at_open opened.day) (IsLeftMidway d old.disk new.disk opened.accounts opened.base history day)
+          (λ image x. inr (subst (λ (y : ℕ × Day). IsLeftSince history y.0 y.1 image) (λ i. (at_open i, of_day i)) x)) since)
+
       -- the first steps passed, up to the message file
       pub file_stops : (s : Status) → StopsAtFile source d directory workers old.messages new.messages opened new.disk s → HasTexts source d (Run day workers) old new (Err s)
       file_stops s stops =
@@ -179,6 +195,7 @@ module _ {S K D : Type 0} (source : sources.Ghosts S) (d : disks.Ghosts D) (day 
                 (subst (λ (x : List Pay × Day). EntersInOrder opened.accounts opened.base x.0 x.1 stops.history stops.stop) (λ k. (sym pays k, of_day k)) (stops.alone one));
             journal = subst (λ es. IsJournal opened.accounts es) served.is served.journal;
             left = subst (λ es. IsLeft d old.disk new.disk opened.accounts es day) served.is (is_left stops.history served.leaves);
+            any_moment = subst (λ es. LeavesMidway d old.disk new.disk opened.accounts opened.base es day) served.is (midway stops.history served.in_turn);
             cause = subst (λ es. BookCause d old.disk new.disk i es stops.stop) served.is
                 (cause_of i stops.history stops.stop refl (subst (λ ps. StopCause books ps stops.history (d.faults new.disk) stops.stop) (sym pays) stops.cause) refl (sym of_day) refl);
           } in
@@ -220,6 +237,7 @@ module _ {S K D : Type 0} (source : sources.Ghosts S) (d : disks.Ghosts D) (day 
                 sure = on.0 ∙ at_open;
                 entered = subst (λ es. IsOnDisk d new.disk opened.accounts es) history_is on.1;
                 journal = subst (λ es. IsJournal opened.accounts es) history_is served.journal;
+                any_moment = subst (λ es. LeavesMidway d old.disk new.disk opened.accounts opened.base es day) history_is (midway history served.in_turn);
               };
             },
             history_is,

@@ -125,9 +125,9 @@ settled_all n chart entries past before = λ k account low at. before k account 
 
 module _ {D : Type 0} (d : disks.Ghosts D) (o : Opening) (accounts : o.accounts ≡ sample_chart) where
   -- what they make of the messages of a day
-  pub served_trial : (count seed : ℕ) (directory : Directory) (cut : List (List ℕ)) (chart : Chart) (entries : List Entry) (left : D) → directory ≡ sample_directory → cut ≡ generated_texts count seed → o.base ≡ [] → o.day ≡ sample_day
-      → HasServed d o (readings_of directory o.accounts cut) chart entries left → ServesTrial count seed chart entries
-  served_trial count seed directory cut chart entries left known texts base day has =
+  pub served_trial : (past : ℕ → List ℕ → Type 0) (count seed : ℕ) (directory : Directory) (cut : List (List ℕ)) (chart : Chart) (entries : List Entry) (left : D) → directory ≡ sample_directory → cut ≡ generated_texts count seed → o.base ≡ [] → o.day ≡ sample_day
+      → HasServed d o past (readings_of directory o.accounts cut) chart entries left → ServesTrial count seed chart entries
+  served_trial past count seed directory cut chart entries left known texts base day has =
       let pays : pays_in (readings_of directory o.accounts cut) ≡ trial_pays count seed = λ k. pays_in (readings_of (known k) (accounts k) (texts k)) in
       let alone : entries ≡ has.added = has.is ∙ ap (λ (es : List Entry). es ++ has.added) base in
       record {

@@ -16,7 +16,7 @@ use Rattle.jrn_file.specs.Faults.{TellsCounts}
 use Rattle.corr_top.specs.declared.answers.BookStop.{BookStop}
 use Rattle.corr_top.specs.declared.answers.BookStop.TheVariants as booking
 use Rattle.corr_top.specs.Inputs.{Inputs, new_in, pays_of, replies_of}
-use Rattle.corr_top.specs.OnDisk.{HasNotFailed, IsLeft}
+use Rattle.corr_top.specs.OnDisk.{HasNotFailed, IsLeft, LeavesMidway}
 
 -- the last entry of a history has this day, and it is after the day of a run
 pub record IsBack (history : List Entry) (day back : Day) : Type 0 where
@@ -143,8 +143,8 @@ pub record EntersInOrder (chart : Chart) (history : List Entry) (pays : List Pay
   pub stops : StopsBefore left stop entered.rest
 
 -- How the entering of the pays stops: by its cause. What is left is the journal's history and further entries of the day, each of
--- a pay of the file, in a journal that may be opened again; where room was wanting each pay of the file was tried, and one worker
--- entered a front part of the pays.
+-- a pay of the file, in a journal that may be opened again, and a crash at each moment of the run left a front part of it; where room
+-- was wanting each pay of the file was tried, and one worker entered a front part of the pays.
 pub record StopsBooking {D : Type 0} (d : outside.Ghosts D) (old new : D) (i : Inputs) (stop : BookStop) : Type 0 where
   pub added : List Entry
   pub each : All (IsEnteredOn i.day (pays_of i)) added
@@ -152,4 +152,5 @@ pub record StopsBooking {D : Type 0} (d : outside.Ghosts D) (old new : D) (i : I
   pub alone : i.workers ≡ 1 → EntersInOrder i.chart i.history (pays_of i) i.day (i.history ++ added) stop
   pub journal : IsJournal i.chart (i.history ++ added)
   pub left : IsLeft d old new i.chart (i.history ++ added) i.day
+  pub any_moment : LeavesMidway d old new i.chart i.history (i.history ++ added) i.day
   pub cause : BookCause d old new i (i.history ++ added) stop

@@ -1,6 +1,6 @@
 -- The part of a run between the opening of the books and their closing.
 use Rattle.std.specs.Prelude.{◌≡◌, ◌⊎◌, ◌+◌, ℕ, All, IfErr, IfOk, List, IsSome, length, slice_get, Some, Result, Ok, Err}
-use Rattle.corr_books.specs.Opening.{Opening, Parts, opening_with}
+use Rattle.corr_books.specs.Opening.{Opening, Parts, opening_with, past_of}
 use Rattle.corr_disk.specs.declared.disk.Disk as disks
 use Rattle.corr_io.specs.declared.source.Source as sources
 use Rattle.corr_text.specs.Faults.{Rose}
@@ -66,7 +66,7 @@ module _ {S D : Type 0} (source : sources.Ghosts S) (disk : disks.Ghosts D) (dir
   -- the message file is these messages, and the workers answered each of them
   pub record HasDay (bytes : List ℕ) (cut : List (List ℕ)) (history : List Entry) (replies : List Reply) : Type 0 where
     pub file : HasMessages source from to bytes cut
-    pub served : HasServed disk (opening_with disk old workers) (readings_in cut) old.accounts history new
+    pub served : HasServed disk (opening_with disk old workers) (past_of disk old) (readings_in cut) old.accounts history new
     pub calm : IsCalm old.at_open (disk.faults new)
     pub answered : HasAnswered (opening_with disk old workers) (readings_in cut) history replies
 
@@ -86,7 +86,7 @@ module _ {S D : Type 0} (source : sources.Ghosts S) (disk : disks.Ghosts D) (dir
     pub history : List Entry
     pub status_is : s ≡ status_of_booking stop
     pub file : HasMessages source from to bytes cut
-    pub served : HasServed disk (opening_with disk old workers) (readings_in cut) old.accounts history new
+    pub served : HasServed disk (opening_with disk old workers) (past_of disk old) (readings_in cut) old.accounts history new
     pub tried : EachTried old.accounts old.base (pays_in (readings_in cut)) old.day history stop
     pub alone : workers ≡ 1 → EntersInOrder old.accounts old.base (pays_in (readings_in cut)) old.day history stop
     pub cause : StopCause (opening_with disk old workers) (pays_in (readings_in cut)) history (disk.faults new) stop

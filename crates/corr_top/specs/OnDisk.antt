@@ -1,6 +1,7 @@
 -- What stands on the journal's disk, and what was done to it.
 use Rattle.std.specs.Prelude.{◌≡◌, ◌⊎◌, ℕ, IsTrue, IfSome, None, List, length}
 use Rattle.acct_locks.specs.Holdings.{LooseHand}
+use Rattle.corr_books.specs.Moments.{StandsBetween, StandsWithMore}
 use Rattle.corr_disk.specs.declared.disk.Disk as outside
 use Rattle.corr_disk.specs.Disk.{LeavesOnly, Only}
 use Rattle.corr_text.specs.Faults.{Rose}
@@ -42,12 +43,17 @@ module _ {D : Type 0} (d : outside.Ghosts D) where
   abbrev pub IsMakeable : D → Type 0
   IsMakeable disk = IsTrue (d.honest disk) → (first : ℕ) → IsOther (d.reads disk) first → ⊥
 
+  -- over bytes that a journal may be made over, a crash at any moment leaves a disk on which nothing is made yet, or the new journal
+  abbrev pub MakesInTurn : D → D → Chart → Type 0
+  MakesInTurn old new chart =
+      IsTrue (d.honest old) → Only (d.reads old) (d.may_leave old) → IsUnmade (d.reads old) → LeavesOnly d.moment d.left_since old new (IsUnmadeOrMade (head_bytes chart))
+
   -- How the making of these accounts' journal stops: by its cause. Where something else stands nothing is written, and a crash at
   -- any moment leaves a disk on which nothing is made yet, or the new journal.
   pub record StopsMaking (old new : D) (chart : Chart) (fault : MakeFault) : Type 0 where
     pub cause : MakeCause (d.faults old) (d.faults new) (λ first. IsTrue (d.honest old) → IsOther (d.reads old) first) fault
     pub untouched : (first : ℕ) → IsTrue (d.honest old) → IsOther (d.reads old) first → IsUnwritten old new
-    pub any_moment : IsTrue (d.honest old) → Only (d.reads old) (d.may_leave old) → IsUnmade (d.reads old) → LeavesOnly d.moment d.left_since old new (IsUnmadeOrMade (head_bytes chart))
+    pub any_moment : MakesInTurn old new chart
 
   -- how its opening stops: by its cause, and what that says of the bytes; nothing is written
   pub record StopsOpening (old new : D) (fault : OpenFault) : Type 0 where
@@ -70,3 +76,13 @@ module _ {D : Type 0} (d : outside.Ghosts D) where
   abbrev pub IsLeft : D → D → Chart → List Entry → Day → Type 0
   IsLeft old new chart history day =
       (HasNotFailed old new × IsOnDisk new chart history) ⊎ (Rose (d.faults old) (d.faults new) × IsLeftBy (d.honest new) (d.may_leave new) chart history day)
+
+  -- What a crash at a moment of it leaves: what it might have left before; or the history at the opening and a front part of what was
+  -- entered since, in its order; or, where a call failed, the last history and one legal entry more of that day.
+  abbrev pub IsLeftMidway : D → D → Chart → List Entry → List Entry → Day → List ℕ → Type 0
+  IsLeftMidway old new chart first last day image =
+      d.may_leave old image ⊎ (StandsBetween chart first last image ⊎ (Rose (d.faults old) (d.faults new) × StandsWithMore chart last day 1 image))
+
+  -- so it is at each moment of the call
+  abbrev pub LeavesMidway : D → D → Chart → List Entry → List Entry → Day → Type 0
+  LeavesMidway old new chart first last day = IsTrue (d.honest old) → LeavesOnly d.moment d.left_since old new (IsLeftMidway old new chart first last day)

@@ -5,7 +5,7 @@ use Rattle.jrn_book.specs.Journal.{IsJournal}
 use Rattle.corr_report.specs.Report.{report_of}
 use Rattle.ref_tables.specs.declared.fault.TableName.TheVariants as names
 use Rattle.corr_top.specs.Inputs.{Inputs, new_in, replies_of}
-use Rattle.corr_top.specs.OnDisk.{HasNotFailed, IsOnDisk}
+use Rattle.corr_top.specs.OnDisk.{HasNotFailed, IsOnDisk, LeavesMidway}
 use Rattle.corr_top.specs.Out.{sent_from}
 use Rattle.corr_top.specs.Steps.{Step}
 
@@ -23,8 +23,10 @@ run_report i = report_of i.chart (new_in i) (replies_of i)
 abbrev pub run_out : Inputs → List ℕ
 run_out i = sent_from i.chart (length i.history + 1) (new_in i)
 
--- what it leaves: that history, in a journal that may be opened again, and nothing else
+-- what it leaves: that history, in a journal that may be opened again, and nothing else; a crash at each moment of the run leaves a
+-- front part of it
 pub record RunLeaves {D : Type 0} (disk : disks.Ghosts D) (old new : D) (i : Inputs) : Type 0 where
   pub sure : HasNotFailed disk old new
   pub entered : IsOnDisk disk new i.chart (new_in i)
   pub journal : IsJournal i.chart (new_in i)
+  pub any_moment : LeavesMidway disk old new i.chart i.history (new_in i) i.day

@@ -3,7 +3,7 @@ use Rattle.std.specs.Prelude.{◌≡◌, ◌⊎◌, ℕ, All, IfErr, IfOk, List,
 use mathlib.Core.List.{IsPrefix}
 use Rattle.corr_disk.specs.declared.disk.Disk as disks
 use Rattle.corr_ids.specs.declared.mir.Mir.{Mir}
-use Rattle.corr_books.specs.Closing.{LeavesClosed}
+use Rattle.corr_books.specs.Closing.{LeavesClosed, LeavesInTurn}
 use Rattle.corr_books.specs.Opening.{Opening}
 use Rattle.corr_books.specs.Telling.{ShowsFull, Told}
 use Rattle.day_model.specs.declared.entry.Entry.{Entry}
@@ -129,20 +129,21 @@ pub record AreServedInOrder (o : Opening) (history : List Entry) (readings : Lis
 -- ---- the journal, when the books are closed
 
 -- The history is that at the opening and further entries of the day, each of a pay of the messages, in a journal that may be
--- opened again. The disk is as closing the books leaves it.
-pub record HasServed {D : Type 0} (disk : disks.Ghosts D) (o : Opening) (readings : List (Result Pay NoPay)) (chart : Chart) (history : List Entry) (left : D) : Type 0 where
+-- opened again. The disk is as closing the books leaves it, and so it was at each moment since they were opened.
+pub record HasServed {D : Type 0} (disk : disks.Ghosts D) (o : Opening) (past : ℕ → List ℕ → Type 0) (readings : List (Result Pay NoPay)) (chart : Chart) (history : List Entry) (left : D) : Type 0 where
   pub accounts : chart ≡ o.accounts
   pub added : List Entry
   pub is : history ≡ o.base ++ added
   pub each : All (IsEnteredOn o.day (pays_in readings)) added
   pub journal : IsJournal o.accounts history
   pub leaves : LeavesClosed disk o history left
+  pub in_turn : LeavesInTurn disk o past history left
   pub honest : disk.honest left ≡ o.honest
 
 -- Messages were served over books, and the books were closed: what is left, and what was made of each message; or there was no
 -- memory to serve any, and nothing was entered.
-pub record AllServed {D : Type 0} (disk : disks.Ghosts D) (o : Opening) (readings : List (Result Pay NoPay)) (day : ServedDay D) : Type 0 where
-  pub left : HasServed disk o readings day.closed.accounts day.closed.history.entries day.closed.disk
+pub record AllServed {D : Type 0} (disk : disks.Ghosts D) (o : Opening) (past : ℕ → List ℕ → Type 0) (readings : List (Result Pay NoPay)) (day : ServedDay D) : Type 0 where
+  pub left : HasServed disk o past readings day.closed.accounts day.closed.history.entries day.closed.disk
   pub told : IfOk day.served (λ made. AreTold o day.closed.history.entries readings made.items)
   pub turn : IfOk day.served (λ made. o.made ≡ 1 → AreServedInOrder o day.closed.history.entries readings made.items)
   pub none : IfErr day.served (λ _. day.closed.history.entries ≡ o.base)

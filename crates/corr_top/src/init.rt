@@ -6,7 +6,7 @@ ghost use Rattle.day_model.specs.Chart.{Chart};
 ghost use Rattle.jrn_codec.specs.Header.{IsHead, head_bytes};
 ghost use Rattle.jrn_file.specs.Journal.{most_header_bytes};
 ghost use Rattle.corr_top.specs.Ends.{HasTexts};
-ghost use Rattle.corr_top.specs.OnDisk.{HasNotFailed, IsMakeable, IsOnDisk, StopsMaking};
+ghost use Rattle.corr_top.specs.OnDisk.{HasNotFailed, IsMakeable, IsOnDisk, MakesInTurn, StopsMaking};
 ghost use Rattle.corr_top.specs.Tables.{HasAccounts, StopsAccounts};
 ghost use Rattle.corr_top.specs.declared.words.Command.TheVariants.{Plain as PlainCommand};
 ghost use Rattle.corr_top.specs.declared.words.Plain.TheVariants.{Init};
@@ -66,7 +66,7 @@ pub fn prepare<S: Source>(
 pub fn make<D: Disk>(alloc: Global, disk: D, head: &Text) -> (D, Result<(), MakeFault>)
     requires { length head.now ≤ most_header_bytes }
     ensures made { MatchResult result.1
-        (λ _. (chart : Chart) → head.now ≡ head_bytes chart → IsMakeable D.Disk disk × IsOnDisk D.Disk result.0 chart [] × HasNotFailed D.Disk disk result.0)
+        (λ _. (chart : Chart) → head.now ≡ head_bytes chart → IsMakeable D.Disk disk × IsOnDisk D.Disk result.0 chart [] × HasNotFailed D.Disk disk result.0 × MakesInTurn D.Disk disk result.0 chart)
         (λ fault. (chart : Chart) → head.now ≡ head_bytes chart → StopsMaking D.Disk disk result.0 chart fault) }
     ensures honest { D.honest result.0 ≡ D.honest disk }
 {

@@ -2,7 +2,7 @@
 
 ghost use Rattle.std.specs.Prelude.{◌≡◌, ◌≤◌, [], IfErr, IfOk, vec_capacity};
 ghost use Rattle.jrn_file.specs.File.{disk_of};
-ghost use Rattle.corr_books.specs.Opening.{IsNamed, opening_with};
+ghost use Rattle.corr_books.specs.Opening.{IsNamed, opening_with, past_of};
 ghost use Rattle.work_pool.specs.Served.{most_workers};
 ghost use Rattle.corr_top.specs.Message.{readings_of};
 ghost use Rattle.corr_top.specs.Serving.{AllServed};
@@ -64,9 +64,9 @@ fn serve_named<
     messages: Vec<Framed<'_>>,
     gate: &G,
 ) -> Result<ServedDay<D>, (D, Memory)>
-    requires named { IsNamed D.Disk N.opening N.table opened workers }
+    requires named { IsNamed D.Disk N.opening N.past N.table opened workers }
     requires count { (1 ≤ workers) × (workers ≤ most_workers) }
-    ensures served { IfOk result (λ day. AllServed D.Disk (opening_with D.Disk opened workers) (readings_of directory.now opened.accounts messages.entry.items) day) }
+    ensures served { IfOk result (λ day. AllServed D.Disk (opening_with D.Disk opened workers) N.past (readings_of directory.now opened.accounts messages.entry.items) day) }
     ensures disk { IfErr result (λ e. e.0 ≡ disk_of opened.file) }
 {
     let Ok(places) = make_places(alloc, workers) else {
@@ -112,7 +112,7 @@ pub fn serve_all<R: Wait + Threads + Sync, D: Disk + Drop + Send, G: Gate + Sync
     gate: &G,
 ) -> Result<ServedDay<D>, (D, Memory)>
     requires count { (1 ≤ workers) × (workers ≤ most_workers) }
-    ensures served { IfOk result (λ day. AllServed D.Disk (opening_with D.Disk opened workers) (readings_of directory.now opened.accounts messages.entry.items) day) }
+    ensures served { IfOk result (λ day. AllServed D.Disk (opening_with D.Disk opened workers) (past_of D.Disk opened) (readings_of directory.now opened.accounts messages.entry.items) day) }
     ensures disk { IfErr result (λ e. e.0 ≡ disk_of opened.file) }
 {
     serve_named::<Brand, _, _, _>(rt, alloc, directory, opened, workers, messages, gate)

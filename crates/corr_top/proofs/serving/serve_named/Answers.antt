@@ -83,7 +83,7 @@ returns-clause-served g c =
     let faults = g.D.Disk.faults closed.disk in
     let closes = subst (λ (ps : List PassKnows). Closes o history faults ps) c.vacate.ensures ends.closes in
     let read : map reading jobs ≡ readings_of directory c.args.opened.accounts jobs = ap (λ (x : Opening). map (pay_asked_of directory x.accounts) jobs) named in
-    let all : AllServed g.D.Disk o (map reading jobs) (record { closed = closed; served = replies }) =
+    let all : AllServed g.D.Disk o g.N.BooksName.past (map reading jobs) (record { closed = closed; served = replies }) =
     record {
       left = record {
         accounts = ends.accounts;
@@ -92,10 +92,11 @@ returns-clause-served g c =
         each = added_of o reading jobs (λ v. v.items) news before after c.seat.ensures history faults new closes replies worked.ensures.served worked.ensures.none;
         journal = subst (λ (chart : Chart). IsJournal chart history) ends.accounts ends.journal;
         leaves = ends.disk;
+        in_turn = ends.any_moment;
         honest = ends.honest;
       };
       told = told_of o reading jobs (λ v. v.items) news before after c.seat.ensures history faults new closes replies worked.ensures.served;
       turn = turn_of o reading jobs (λ v. v.items) news before after c.seat.ensures history faults new closes replies worked.ensures.served;
       none = none_of o reading jobs (λ v. v.items) news before after c.seat.ensures history faults new closes replies worked.ensures.none;
     } in
-    subst (λ (x : Opening × List (Result Pay NoPay)). AllServed g.D.Disk x.0 x.1 (record { closed = closed; served = replies })) (λ i. (named i, read i)) all
+    subst (λ (x : Opening × List (Result Pay NoPay)). AllServed g.D.Disk x.0 g.N.BooksName.past x.1 (record { closed = closed; served = replies })) (λ i. (named i, read i)) all

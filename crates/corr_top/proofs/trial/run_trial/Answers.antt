@@ -15,7 +15,7 @@ returns-in-Ok-served-clause-served g c =
     let messages = c.in_ok-messages.messages in
     let file = subst (λ (bs : List ℕ). IsMessageFile bs messages) (c.bytes.ensures ∙ c.in_ok-text.ensures) c.in_ok-messages.ensures in
     let cut = c.into_vec-messages.ensures ∙ day_cut c.args.count c.args.seed messages c.requires.count file.cut in
-    served_trial _ _ c.in-Ok.ensures.accounts c.args.count c.args.seed c.in_ok-directory.directory c.into_vec-messages.result.items c.in-Ok-served.day.closed.accounts c.in-Ok-served.day.closed.history.entries c.in-Ok-served.day.closed.disk c.in_ok-directory.ensures.value cut c.in-Ok.ensures.base c.in-Ok.ensures.day c.in-Ok-served.ensures.served.left
+    served_trial _ _ c.in-Ok.ensures.accounts _ c.args.count c.args.seed c.in_ok-directory.directory c.into_vec-messages.result.items c.in-Ok-served.day.closed.accounts c.in-Ok-served.day.closed.history.entries c.in-Ok-served.day.closed.disk c.in_ok-directory.ensures.value cut c.in-Ok.ensures.base c.in-Ok.ensures.day c.in-Ok-served.ensures.served.left
 
 pub returns-in-Ok-served-clause-journal : goal.returns-in-Ok-served-clause-journal
 returns-in-Ok-served-clause-journal g c = stands_trial _ _ c.in-Ok.ensures.accounts c.in-Ok-served.day.closed.history.entries c.in-Ok-served.day.closed.disk c.in-Ok.ensures.faults c.in-Ok-served.ensures.served.left.leaves
