@@ -8,7 +8,7 @@ ghost use Rattle.jrn_codec.specs.Record.{IsEntry};
 ghost use Rattle.jrn_book.specs.Opening.{HasPurses};
 
 use crate::books::{HEAD, enter_held, entry_of, is_new, journal, opened as opened_book};
-use crate::locks::{Desk, is_alone, leg, opened};
+use crate::locks::{Desk, is_alone, leg, opened, watched};
 use crate::records::ENTRY;
 use acct_locks::{BookSides, Held, HeldAll, Loose, Name, Purses};
 use corr_disk::{Disk, MemDisk};
@@ -19,11 +19,10 @@ use std::alloc::Global;
 use std::marker::Brand;
 use std::process::Abort;
 use std::sync::atomic::AtomicBool;
-use std::sync::atomic::Ordering::SeqCst;
 use std::sync::{Mutex, Wait};
 use std::test::*;
-use std::thread::{Threads, join, sleep};
-use std::time::{Clock, Duration};
+use std::thread::{Threads, join};
+use std::time::Clock;
 
 // Takes each of these accounts, whose numbers rise.
 fn take_each<N: Name>(rt: &impl Wait, held: &mut HeldAll<'_, N>, numbers: &[u32])
@@ -40,22 +39,24 @@ fn take_each<N: Name>(rt: &impl Wait, held: &mut HeldAll<'_, N>, numbers: &[u32]
     }
 }
 
-// Agrees after the first take, settles two legs after the second, and takes the third account after both.
-fn settled<N: Name, R: Wait + Abort>(
-    rt: &R,
+// The totals of accounts 1 to 3, after an agreement at the first take and the settling of two legs at the second.
+fn settle_pair<N: Name>(
+    rt: &impl Wait,
     alloc: Global,
-    loose: Loose,
+    purses: &Purses<N>,
     mut sides: BookSides,
-) -> Result<(), Fail>
-    requires { (loose.table ≡ N.table) × (sides.table ≡ N.table) × (length loose.purses ≡ 3) }
+) -> Result<[(u64, u64); 3], Memory>
+    requires { (purses.now ≡ 3) × (sides.table ≡ N.table) }
 {
-    let purses = loose.lock::<N>(alloc)?;
     let mut held = purses.hold_all(alloc, 3)?;
     held.take(rt, AcctNo(1));
     held.agree(&mut sides, AcctNo(1));
     held.take(rt, AcctNo(2));
-    let before = (held.totals(AcctNo(1)), held.totals(AcctNo(2)));
-    assert!(rt; before.0 == (0, 25_000) && before.1 == (25_000, 0));
+    let before = [held.totals(AcctNo(1)), held.totals(AcctNo(2)), (0, 0)];
+    if before != [(0, 25_000), (25_000, 0), (0, 0)] {
+        held.give_back();
+        return Ok(before);
+    }
     let legs = [leg(1, Side::Debit, 700), leg(2, Side::Credit, 700)];
     held.settle(&mut sides, &legs);
     held.take(rt, AcctNo(3));
@@ -67,7 +68,25 @@ fn settled<N: Name, R: Wait + Abort>(
         held.totals(AcctNo(3)),
     ];
     held.give_back();
-    assert_eq!(rt; after, [(0, 25_700), (25_700, 0), (0, 0)]);
+    Ok(after)
+}
+
+fn settled<N: Name + Send + Sync, R: Threads + Wait + Abort + Clock + Sync>(
+    rt: &R,
+    alloc: Global,
+    loose: Loose,
+    sides: BookSides,
+) -> Result<(), Fail>
+    requires { (loose.table ≡ N.table) × (sides.table ≡ N.table) × (length loose.purses ≡ 3) }
+{
+    let purses = loose.lock::<N>(alloc)?;
+    let totals = watched(
+        rt,
+        || -> Result<[(u64, u64); 3], Memory>
+            requires { (purses ≡ 3) × (sides.table ≡ N.table) }
+        { settle_pair(rt, alloc, &purses, sides) },
+    );
+    assert_eq!(rt; totals?, [(0, 25_700), (25_700, 0), (0, 0)]);
     Ok(())
 }
 
@@ -80,15 +99,11 @@ fn legs_are_settled_on_a_list(rt: HostRuntime) -> Result<(), Fail> {
 // How often each of two threads takes its accounts.
 const ROUNDS: u32 = 1000;
 
-// How many milliseconds a thread looks for a sign that others give.
-const LOOKS: u32 = 20_000;
-
-// What two threads share: the sides, whether one of them is inside account 2, and whether both are done.
+// What two threads share: the sides, and whether one of them is inside account 2.
 #[derive(Drop)]
 struct Shared<N: Name> {
     desk: Mutex<Desk<N>>,
     inside: AtomicBool,
-    done: AtomicBool,
 }
 
 // Takes two accounts, of which one is account 2, and agrees, again and again: whether account 2 was this thread's alone each time,
@@ -120,8 +135,8 @@ fn take_pairs<N: Name>(
     Ok(true)
 }
 
-// One thread takes accounts 1 and 2, another 2 and 3. Then it is told that both are done.
-fn take_both<N: Name + Send + Sync, R: Threads + Wait + Sync>(
+// One thread takes accounts 1 and 2, another 2 and 3.
+fn take_at_once<N: Name + Send + Sync, R: Threads + Wait + Sync>(
     rt: &R,
     alloc: Global,
     purses: &Purses<N>,
@@ -129,7 +144,7 @@ fn take_both<N: Name + Send + Sync, R: Threads + Wait + Sync>(
 ) -> (Result<bool, Memory>, Result<bool, Memory>)
     requires { purses.now ≡ 3 }
 {
-    let both = join(
+    join(
         rt,
         || -> Result<bool, Memory>
             requires { purses.now ≡ 3 }
@@ -137,23 +152,9 @@ fn take_both<N: Name + Send + Sync, R: Threads + Wait + Sync>(
         || -> Result<bool, Memory>
             requires { purses.now ≡ 3 }
         { take_pairs(rt, alloc, purses, shared, AcctNo(2), AcctNo(3)) },
-    );
-    shared.done.store(true, SeqCst);
-    both
+    )
 }
 
-// Whether a sign is given while a thread looks for it.
-fn is_given(clock: &impl Clock, sign: &AtomicBool) -> bool {
-    for _ in 0..LOOKS {
-        if sign.load(SeqCst) {
-            return true;
-        }
-        sleep(clock, Duration::from_millis(1));
-    }
-    false
-}
-
-// Where two threads wait for each other, a third ends the program.
 fn in_two_threads<N: Name + Send + Sync, R: Threads + Wait + Abort + Clock + Sync>(
     rt: &R,
     alloc: Global,
@@ -166,14 +167,12 @@ fn in_two_threads<N: Name + Send + Sync, R: Threads + Wait + Abort + Clock + Syn
     let shared = Shared {
         desk: Mutex::new(Desk::<N>::new(sides)),
         inside: AtomicBool::new(false),
-        done: AtomicBool::new(false),
     };
-    let ((one, two), _) = join(
+    let (one, two) = watched(
         rt,
         || -> (Result<bool, Memory>, Result<bool, Memory>)
             requires { purses ≡ 3 }
-        { take_both(rt, alloc, &purses, &shared) },
-        || { assert!(rt; is_given(rt, &shared.done)) },
+        { take_at_once(rt, alloc, &purses, &shared) },
     );
     let (one, two) = (one?, two?);
     assert!(rt; one && two);

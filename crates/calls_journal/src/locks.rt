@@ -149,7 +149,7 @@ fn is_given(clock: &impl Clock, sign: &AtomicBool) -> bool {
 }
 
 // Lets a thread do some work. Where it doesn't come to its end, the other thread ends the program.
-fn watched<T: Send, F: FnOnce() -> T + Send, R: Threads + Abort + Clock + Sync>(
+pub(crate) fn watched<T: Send, F: FnOnce() -> T + Send, R: Threads + Abort + Clock + Sync>(
     rt: &R,
     work: F,
 ) -> T
