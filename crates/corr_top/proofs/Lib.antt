@@ -38,3 +38,4 @@ pub mod Spread
 pub mod Trials
 pub mod Sampling
 pub mod Trying
+pub mod promise

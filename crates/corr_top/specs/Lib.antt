@@ -28,5 +28,6 @@ pub mod Collecting
 pub mod Days
 pub mod Commands
 pub mod Ends
+pub mod Promise
 pub mod Complete
 pub mod Workers

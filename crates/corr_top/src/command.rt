@@ -5,6 +5,7 @@ ghost use Rattle.corr_top.specs.Commands.{IsSpelled, command_of, plain_of};
 ghost use Rattle.corr_top.specs.Complete.{IsFaultless};
 ghost use Rattle.corr_top.specs.Ends.{Ends, HasTexts};
 ghost use Rattle.corr_top.specs.Inputs.{Inputs};
+ghost use Rattle.corr_top.specs.Promise.{Promises};
 ghost use Rattle.corr_top.specs.Status.{HasLine};
 ghost use Rattle.corr_top.specs.declared.words.Command.{Command as TheCommand};
 ghost use Rattle.corr_top.specs.declared.words.Command.TheVariants.{Plain as PlainCommand};
@@ -91,6 +92,8 @@ pub fn plain<S: Source, K: Sink, D: Disk>(
 ) -> Done<S, K, D>
     // words of no such command touch nothing
     ensures usage { plain_of words.now ≡ None → (result.status ≡ Status.Usage) × (result.room ≡ room) }
+    // what a bank may rely on
+    ensures promises { IfSome (plain_of words.now) (λ command. Promises S.Source K.Sink D.Disk room result.room result.status (PlainCommand command)) }
     // each other status by its cause
     ensures ends { IfSome (plain_of words.now) (λ command. Ends S.Source D.Disk (PlainCommand command) room result.room K.Sink result.status) }
     // where nothing is wrong and nothing fails, only memory can be wanting
@@ -128,6 +131,8 @@ pub fn corr<R: Wait + Threads + Sync, S: Source, K: Sink, D: Disk + Drop + Send,
 ) -> Done<S, K, D>
     // words of no command touch nothing
     ensures usage { command_of words.now ≡ None → (result.status ≡ Status.Usage) × (result.room ≡ room) }
+    // what a bank may rely on
+    ensures promises { IfSome (command_of words.now) (λ command. Promises S.Source K.Sink D.Disk room result.room result.status command) }
     // each other status by its cause
     ensures ends { IfSome (command_of words.now) (λ command. Ends S.Source D.Disk command room result.room K.Sink result.status) }
     // where nothing is wrong and nothing fails, only memory can be wanting

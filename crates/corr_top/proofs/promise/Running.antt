@@ -1,0 +1,226 @@
+-- The promise of `run`.
+use Rattle.std.proofs.Common.{◌≡◌, ◌⊎◌, ◌+◌, ℕ, All, List, [], ◌++◌, true, false, inl, inr, length, map, Some, refl, sym, ap, ◌∙◌, subst}
+use Rattle.std.proofs.lemmas.List.{length-map}
+use mathlib.Core.Bool.{true≢false}
+use Rattle.std.specs.Prelude.{IsTrue, Result}
+use Rattle.std.specs.List.{Contains}
+use Rattle.std.proofs.lemmas.List.Elements.{All-map, All-weaker}
+use Rattle.corr_disk.specs.declared.disk.Disk as disks
+use Rattle.corr_ids.specs.declared.day.Day.{Day}
+use Rattle.corr_io.specs.declared.sink.Sink as sinks
+use Rattle.corr_io.specs.declared.source.Source as sources
+use Rattle.corr_report.specs.Report.{report_of}
+use Rattle.day_model.specs.Chart.{Chart}
+use Rattle.day_model.specs.Next.{fold_of}
+use Rattle.day_model.specs.declared.entry.Entry.{Entry}
+use Rattle.day_model.specs.declared.pay.Pay.{Pay}
+use Rattle.jrn_book.specs.Journal.{IsJournal, StandsForBook}
+use Rattle.ref_tables.specs.Seen.{Tables as Known}
+use Rattle.ref_tables.specs.Tables.{tables_of}
+use Rattle.ref_tables.specs.declared.fault.TableName.{TableName}
+use Rattle.ref_tables.specs.declared.fault.TableName.TheVariants as names
+use Rattle.ssi_versions.specs.Rows.{instruction_of}
+use Rattle.ref_tables.specs.Rows.{rows_of}
+use Rattle.corr_top.proofs.Folding.{legal_fold}
+use Rattle.corr_top.proofs.Replying.{get_all}
+use Rattle.corr_top.specs.Booking.{AreAnswered, IsEnteredOn, StopsBooking}
+use Rattle.corr_top.specs.Commands.{out_in, report_in}
+use Rattle.corr_top.specs.Ends.{Ends, HasPassed}
+use Rattle.corr_top.specs.Inputs.{Inputs, directory_in, new_in, pays_of, replies_of, tables_in}
+use Rattle.corr_top.specs.Message.{message_reply, pays_in, readings_of}
+use Rattle.corr_top.specs.MessageFile.{IsMessageFile}
+use Rattle.corr_top.specs.OnDisk.{HoldsJournal, IsOnDisk, IsUnwritten}
+use Rattle.corr_top.specs.Origin.{AreSentValid}
+use Rattle.corr_top.specs.Out.{sent_from}
+use Rattle.corr_top.specs.Passing.{HasMessages, IsFine, table_at, table_fault, table_file}
+use Rattle.corr_top.specs.declared.directory.Directory.{Directory}
+use Rattle.corr_top.specs.declared.message.NoPay.{NoPay}
+use Rattle.corr_top.specs.declared.room.Room.{Room}
+use Rattle.corr_top.specs.declared.status.Status.{Status}
+use Rattle.corr_top.specs.declared.words.Command.TheVariants.{Run}
+use Rattle.corr_top.specs.Promise.{AnswersAll, Keeps, KeepsOrMore, RunPromise, Told, Wrote, asked, writes}
+use Rattle.corr_top.proofs.promise.Agreeing.{SameBooks, same_books, same_table, sound_books, took_all}
+use Rattle.corr_top.proofs.promise.Finished.{finished, stopped_silent}
+use Rattle.corr_top.proofs.promise.Lists.{contains_get, filter_map_all, get_contains}
+use Rattle.corr_top.proofs.promise.Untouched.{same_keeps, unwritten_keeps}
+
+-- a journal that stands alone on a disk that tells its bytes
+keeps_on : {D : Type 0} (disk : disks.Ghosts D) (d : D) (chart : Chart) (books : List Entry) → IsTrue (disk.honest d) → IsJournal chart books → IsOnDisk disk d chart books → Keeps disk d chart books
+keeps_on disk d chart books told journal on = record {
+  told = told;
+  sound = sound_books chart books journal;
+  reads = on.stands told;
+  crash = λ image left. subst (λ (b : List ℕ). StandsForBook b chart books) (sym (on.durable told image left)) (on.stands told);
+}
+
+-- entries of pays of a file
+of_pays : (day : Day) (pays : List Pay) (added : List Entry) → All (IsEnteredOn day pays) added → All (Contains pays) (map (λ e. e.pay) added)
+of_pays day pays added each =
+    All-map (Contains pays) (λ (e : Entry). e.pay) added
+    (All-weaker (IsEnteredOn day pays) (λ (e : Entry). Contains pays e.pay) (λ e is. get_contains pays is.place e.pay is.pay_is) added each)
+
+module _ {S K D : Type 0} (source : sources.Ghosts S) (sink : sinks.Ghosts K) (disk : disks.Ghosts D) (old new : Room S K D) (s : Status) (i j : Inputs) where
+  -- what was read up to the messages is what was told
+  record Reached : Type 0 where
+    known : tables_in j ≡ tables_in i
+    directory : directory_in j ≡ directory_in i
+    books : SameBooks j i.chart i.history
+    file : IsMessageFile i.messages j.cut
+    day : j.day ≡ i.day
+
+  Table : TableName → Type 0
+  Table name = IsFine source (table_at name old.tables) (table_at name new.tables) (table_file name j) (table_fault name j)
+
+  reached : Told source sink disk old new s (Run i.day i.workers) i → source.left old.messages ≡ Some i.messages → Keeps disk old.disk i.chart i.history → j.day ≡ i.day
+      → Table names.Bics → Table names.Ccys → Table names.Countries → Table names.Ssi → HoldsJournal disk old.disk j.chart j.history → HasMessages source old.messages new.messages j.messages j.cut → Reached
+  unfolding Table
+  reached told messages kept day bics ccys countries ssi holds had =
+      let b = same_table source names.Bics old.tables new.tables j i (told names.Bics (0, refl)) bics in
+      let c = same_table source names.Ccys old.tables new.tables j i (told names.Ccys (1, refl)) ccys in
+      let n = same_table source names.Countries old.tables new.tables j i (told names.Countries (2, refl)) countries in
+      let t = same_table source names.Ssi old.tables new.tables j i (told names.Ssi (3, refl)) ssi in
+      let known : tables_in j ≡ tables_in i =
+      ap (λ (x : List ℕ). tables_of x j.ccys j.countries) b ∙ ap (λ (x : List ℕ). tables_of i.bics x j.countries) c ∙ ap (λ (x : List ℕ). tables_of i.bics i.ccys x) n in
+      let rows = ap (λ (x : List ℕ). map instruction_of (rows_of x)) t in
+      let bytes = took_all source.left source.faults 67108864 old.messages new.messages j.messages i.messages messages had.are.short had.took in
+      record {
+        known = known;
+        directory = λ k. record { tables = known k; ssi = rows k };
+        books = same_books disk old.disk j i.chart i.history holds kept;
+        file = subst (λ (m : List ℕ). IsMessageFile m j.cut) bytes had.are;
+        day = day;
+      }
+
+  module _ (r : Reached) where
+    asked_is : readings_of (directory_in j) j.chart j.cut ≡ asked i j.cut
+    asked_is = ap (λ (d : Directory). readings_of d j.chart j.cut) r.directory ∙ ap (λ (c : Chart). readings_of (directory_in i) c j.cut) r.books.chart_is
+
+    one_fold : (pays : List Pay) → fold_of j.chart j.history pays j.day ≡ fold_of i.chart i.history pays i.day
+    one_fold pays =
+        ap (λ (c : Chart). fold_of c j.history pays j.day) r.books.chart_is
+        ∙ ap (λ (b : List Entry). fold_of i.chart b pays j.day) r.books.books_is
+        ∙ ap (λ (d : Day). fold_of i.chart i.history pays d) r.day
+
+    of_asked : (entered : List Pay) → All (Contains (pays_of j)) entered → All (Contains (pays_in (asked i j.cut))) entered
+    of_asked entered all = subst (λ (rs : List (Result Pay NoPay)). All (Contains (pays_in rs)) entered) asked_is all
+
+    all_answered : j.workers ≡ i.workers → AreAnswered j → AreSentValid (tables_in j) j.chart (length j.history + 1) (new_in j)
+        → Wrote sink old new s (report_of j.chart (new_in j) (replies_of j)) (sent_from j.chart (length j.history + 1) (new_in j)) → AnswersAll source sink disk old new s i (new_in j)
+    all_answered workers a valid wrote =
+        let readings = readings_of (directory_in j) j.chart j.cut in
+        let full : length (replies_of j) ≡ length readings = a.each ∙ sym (length-map j.cut _) in
+        let V : Known → Chart → List Entry → Type 0 = λ k c b. AreSentValid k c (length b + 1) (new_in j) in
+        let W : Chart → List Entry → Type 0 = λ c b. Wrote sink old new s (report_of c (new_in j) (replies_of j)) (sent_from c (length b + 1) (new_in j)) in
+        record {
+          cut = j.cut;
+          file = r.file;
+          replies = replies_of j;
+          each = filter_map_all (message_reply (new_in j)) readings full ∙ ap (λ (rs : List (Result Pay NoPay)). map (message_reply (new_in j)) rs) asked_is;
+          once = λ pay c.
+              let d : Contains (pays_of j) pay = subst (λ (rs : List (Result Pay NoPay)). Contains (pays_in rs) pay) (sym asked_is) c in
+              a.entered d.0 pay (contains_get (pays_of j) pay d);
+          alone = λ one. a.alone (workers ∙ one) ∙ one_fold (pays_of j) ∙ ap (λ (rs : List (Result Pay NoPay)). fold_of i.chart i.history (pays_in rs) i.day) asked_is;
+          wrote = subst (λ (b : List Entry). W i.chart b) r.books.books_is (subst (λ (c : Chart). W c j.history) r.books.chart_is wrote);
+          valid = subst (λ (b : List Entry). V (tables_in i) i.chart b) r.books.books_is
+              (subst (λ (c : Chart). V (tables_in i) c j.history) r.books.chart_is (subst (λ (k : Known). V k j.chart j.history) r.known valid));
+        }
+
+    -- all was entered
+    entered_all : IsTrue (disk.honest new.disk) → AreAnswered j → IsJournal j.chart (new_in j) → IsOnDisk disk new.disk j.chart (new_in j) → (writes s ≡ true → AnswersAll source sink disk old new s i (new_in j))
+        → RunPromise source sink disk old new s i
+    entered_all sure a journal on answers = record {
+      books = new_in j;
+      entered = j.entered;
+      one_clerk = one_fold j.entered;
+      of_file = inr (j.cut, r.file, of_asked j.entered (subst (λ (ps : List Pay). All (Contains (pays_of j)) ps) a.pays (of_pays j.day (pays_of j) a.added a.of_file)));
+      crash = inl (subst (λ (c : Chart). Keeps disk new.disk c (new_in j)) r.books.chart_is (keeps_on disk new.disk j.chart (new_in j) sure journal on));
+      answers = answers;
+    }
+
+    -- the entering stopped
+    entered_some : IsTrue (disk.honest new.disk) → {stop : _} → StopsBooking disk old.disk new.disk j stop → writes s ≡ false → RunPromise source sink disk old new s i
+    entered_some sure st silent =
+        let books = j.history ++ st.added in
+        let pays = map (λ (e : Entry). e.pay) st.added in
+        let sound = sound_books j.chart books st.journal in
+        let M : Chart → Day → Type 0 = λ c d. Keeps disk new.disk c books ⊎ KeepsOrMore source sink disk old new s c books d in
+        let here : M j.chart j.day = elim st.left [ inl calm ↦ inl (keeps_on disk new.disk j.chart books sure st.journal calm.1) | inr rose ↦ inr (rose.0, sound, rose.1) ] in
+        record {
+          books = books;
+          entered = pays;
+          one_clerk = legal_fold j.chart j.history st.added j.day st.journal.legal (λ k e at. (get_all (IsEnteredOn j.day (pays_of j)) st.added k e st.each at).day_is) ∙ one_fold pays;
+          of_file = inr (j.cut, r.file, of_asked pays (of_pays j.day (pays_of j) st.added st.each));
+          crash = subst (λ (d : Day). M i.chart d) r.day (subst (λ (c : Chart). M c j.day) r.books.chart_is here);
+          answers = λ some. absurd (true≢false (sym some ∙ silent));
+        }
+
+  -- none was entered
+  entered_none : Keeps disk new.disk i.chart i.history → writes s ≡ false → RunPromise source sink disk old new s i
+  entered_none kept silent = record {
+    books = i.history;
+    entered = [];
+    one_clerk = refl;
+    of_file = inl refl;
+    crash = inl kept;
+    answers = λ some. absurd (true≢false (sym some ∙ silent));
+  }
+
+module _ {S K D : Type 0} (source : sources.Ghosts S) (sink : sinks.Ghosts K) (disk : disks.Ghosts D) (old new : Room S K D) (s : Status) (i : Inputs)
+    (honest : disk.honest new.disk ≡ disk.honest old.disk) (told : Told source sink disk old new s (Run i.day i.workers) i) (messages : source.left old.messages ≡ Some i.messages) (kept : Keeps disk old.disk i.chart i.history) where
+  sure : IsTrue (disk.honest new.disk)
+  sure = subst IsTrue (sym honest) kept.told
+
+  same : new.disk ≡ old.disk → Keeps disk new.disk i.chart i.history
+  same is = same_keeps disk old.disk new.disk i.chart i.history is kept
+
+  pub run_promise : Ends source disk (Run i.day i.workers) old new sink s → RunPromise source sink disk old new s i
+  unfolding report_in out_in Table
+  run_promise ended =
+      let j = ended.inputs in
+      let day = ended.are_for.0 in
+      let workers = ended.are_for.1 in
+      let reach = reached source sink disk old new s i j told messages kept day in
+      let whole = (λ (h : HasPassed source disk (Run i.day i.workers) old new j).
+      let p = h.passed in
+      reach p.0 p.1.0 p.1.1.0 p.1.1.1.0 p.1.1.1.1.0 p.1.1.1.1.1.1.0) in
+      let wrote = (λ (h : HasPassed source disk (Run i.day i.workers) old new j).
+      entered_all source sink disk old new s i j (whole h) sure h.passed.1.1.1.1.1.1.1.0 h.leaves.journal h.leaves.entered
+      (λ some. let all = finished source sink disk old new s (Run i.day i.workers) ended some in all_answered source sink disk old new s i j (whole h) workers h.passed.1.1.1.1.1.1.1.0 all.1 all.2)) in
+      elim ended.ends [
+        | inl done ↦ wrote done.passed
+        | inr other ↦ elim other [
+          | inl writing ↦ wrote writing.passed
+          | inr stop ↦
+              let silent = stopped_silent source disk old new j s (Run i.day i.workers) stop.stopped in
+              let none = entered_none source sink disk old new s i j in
+              let unwritten = (λ (is : IsUnwritten disk old.disk new.disk). none (unwritten_keeps disk old.disk new.disk i.chart i.history honest is kept) silent) in
+              elim stop.stopped [
+                | inl halted ↦ elim halted [
+                  | inl at_bics ↦ none (same at_bics.1.1.1.1.0) silent
+                  | inr bics ↦ elim bics.1 [
+                    | inl at_ccys ↦ none (same at_ccys.1.1.1.0) silent
+                    | inr ccys ↦ elim ccys.1 [
+                      | inl at_countries ↦ none (same at_countries.1.1.0) silent
+                      | inr countries ↦ elim countries.1 [
+                        | inl at_ssi ↦ none (same at_ssi.1.0) silent
+                        | inr ssi ↦ elim ssi.1 [
+                          | inl at_journal ↦ unwritten at_journal.0.2.untouched
+                          | inr journal ↦ elim journal.1 [
+                            | inl at_day ↦ unwritten at_day.1.1.0
+                            | inr of_day ↦ elim of_day.1 [
+                              | inl at_messages ↦ unwritten at_messages.1.0
+                              | inr file ↦ elim file.1 [
+                                | inl at_book ↦ entered_some source sink disk old new s i j (reach bics.0 ccys.0 countries.0 ssi.0 journal.0 file.0) sure at_book.0.2 silent
+                                | inr past ↦ absurd past.1
+                              ]
+                            ]
+                          ]
+                        ]
+                      ]
+                    ]
+                  ]
+                ]
+                | inr memory ↦ wrote memory.0
+              ]
+        ]
+      ]

@@ -1,0 +1,132 @@
+-- What a bank may rely on. All of it follows from `Ends`, over rooms whose sources and disk tell their bytes.
+use Rattle.std.specs.Prelude.{ℕ, ◌≡◌, ◌⊎◌, ◌+◌, Bool, true, false, All, IsTrue, IsSome, List, [], length, map, take, Some, Result}
+use Rattle.std.specs.List.{Contains}
+use Rattle.std.specs.Io.KnownBytes.{Appends}
+use Rattle.corr_disk.specs.Disk.{Only}
+use Rattle.corr_disk.specs.declared.disk.Disk as disks
+use Rattle.corr_io.specs.declared.sink.Sink as sinks
+use Rattle.corr_io.specs.declared.source.Source as sources
+use Rattle.corr_ids.specs.declared.day.Day.{Day}
+use Rattle.corr_report.specs.Bookings.{bookings_of}
+use Rattle.corr_report.specs.Generated.{generated_of}
+use Rattle.corr_report.specs.Report.{report_of}
+use Rattle.corr_text.specs.Faults.{Rose}
+use Rattle.day_model.specs.Chart.{Chart}
+use Rattle.day_model.specs.Laws.{BalancesCancel, DebitsEqualCredits}
+use Rattle.day_model.specs.Next.{entered_at, fold_of}
+use Rattle.day_model.specs.declared.entry.Entry.{Entry}
+use Rattle.day_model.specs.declared.pay.Pay.{Pay}
+use Rattle.day_model.specs.declared.reply.Reply.{Reply}
+use Rattle.jrn_book.specs.Book.{IsLeftBy}
+use Rattle.jrn_book.specs.Journal.{IsJournal, StandsForBook}
+use Rattle.jrn_file.specs.Making.{IsUnmade}
+use Rattle.mt950.specs.declared.joining.Statement.{Statement}
+use Rattle.reconcile.specs.Bounds.{IsReceived}
+use Rattle.reconcile.specs.Comparison.{AddsUp, StandOnce, TakesFirst, compared_of}
+use Rattle.ref_tables.specs.declared.fault.TableName.{TableName}
+use Rattle.corr_top.specs.declared.message.NoPay.{NoPay}
+use Rattle.corr_top.specs.declared.room.Room.{Room}
+use Rattle.corr_top.specs.declared.status.Status.{Status}
+use Rattle.corr_top.specs.declared.status.Status.TheVariants.{Done, WriteFault}
+use Rattle.corr_top.specs.declared.words.Command.{Command}
+use Rattle.corr_top.specs.declared.words.Command.TheVariants.{Run, Trial, Plain}
+use Rattle.corr_top.specs.declared.words.Plain.TheVariants.{Generate, Init, Query, Reconcile}
+use Rattle.corr_top.specs.declared.words.Query.TheVariants.{Bookings, Send, Statements}
+use Rattle.corr_top.specs.Commands.{command_steps}
+use Rattle.corr_top.specs.Inputs.{Inputs, chart_in, directory_in, tables_in}
+use Rattle.corr_top.specs.Message.{message_reply, pays_in, readings_of}
+use Rattle.corr_top.specs.MessageFile.{IsMessageFile}
+use Rattle.corr_top.specs.Origin.{AreSentValid}
+use Rattle.corr_top.specs.Out.{sent_from}
+use Rattle.corr_top.specs.Passing.{table_at, table_file}
+use Rattle.corr_top.specs.Reconcile.{break_report}
+use Rattle.corr_top.specs.Statements.{AreStatements, sent_statements}
+use Rattle.corr_top.specs.Steps.{Step}
+use Rattle.corr_top.specs.Trial.{BooksEach, trial_report}
+
+-- what each message asks: a pay, by its verdict and its plan, or the name of what is wrong with it
+abbrev pub asked : Inputs → List (List ℕ) → List (Result Pay NoPay)
+asked i cut = readings_of (directory_in i) i.chart cut
+
+-- sound books: each reference once, each entry booked exactly where funds suffice; debits equal credits, balances sum to 0
+pub record AreBooks (chart : Chart) (books : List Entry) : Type 0 where
+  pub journal : IsJournal chart books
+  pub even : DebitsEqualCredits chart books
+  pub cancel : BalancesCancel chart books
+
+-- the statuses at which something was written
+abbrev pub writes : Status → Bool
+writes Done = true
+writes (WriteFault then now) = true
+writes _ = false
+
+module _ {D : Type 0} (disk : disks.Ghosts D) where
+  -- a disk that tells its bytes: a read gives these books, and so does whatever a crash leaves
+  pub record Keeps (d : D) (chart : Chart) (books : List Entry) : Type 0 where
+    pub told : IsTrue (disk.honest d)
+    pub sound : AreBooks chart books
+    pub reads : StandsForBook (disk.reads d) chart books
+    pub crash : (image : List ℕ) → disk.may_leave d image → StandsForBook image chart books
+
+module _ {S K D : Type 0} (sink : sinks.Ghosts K) (old new : Room S K D) where
+  -- Done: just these texts were received; WriteFault: a front part of the report, or all of it and a front part of what is sent
+  abbrev pub Wrote : Status → List ℕ → List ℕ → Type 0
+  Wrote Done report out = Appends (sink.held old.report) (sink.held new.report) report × Appends (sink.held old.out) (sink.held new.out) out
+  Wrote (WriteFault then now) report out =
+      (n : ℕ) × (m : ℕ) × Appends (sink.held old.report) (sink.held new.report) (take n report)
+      × Appends (sink.held old.out) (sink.held new.out) (take m out) × ((take m out ≡ []) ⊎ (take n report ≡ report))
+  Wrote _ report out = ⊥
+
+module _ {S K D : Type 0} (source : sources.Ghosts S) (sink : sinks.Ghosts K) (disk : disks.Ghosts D) (old new : Room S K D) (s : Status) where
+  -- a call of the disk failed: a crash leaves these books, or them and one legal entry more of the day
+  abbrev pub KeepsOrMore : Chart → List Entry → Day → Type 0
+  KeepsOrMore chart books day = Rose (disk.faults old.disk) (disk.faults new.disk) × AreBooks chart books × IsLeftBy (disk.honest new.disk) (disk.may_leave new.disk) chart books day
+
+  -- the tables that a command reads told these bytes when it began
+  abbrev pub Told : Command → Inputs → Type 0
+  Told command i = (name : TableName) → Contains (command_steps command) (Step.table name) → source.left (table_at name old.tables) ≡ Some (table_file name i)
+
+  -- each message of the file has its reply, each pay its entry; one worker books in the file's order; what is sent is valid
+  pub record AnswersAll (i : Inputs) (books : List Entry) : Type 0 where
+    pub cut : List (List ℕ)
+    pub file : IsMessageFile i.messages cut
+    pub replies : List Reply
+    pub each : map Some replies ≡ map (message_reply books) (asked i cut)
+    pub once : (pay : Pay) → Contains (pays_in (asked i cut)) pay → IsSome (entered_at pay.mir books)
+    pub alone : i.workers ≡ 1 → books ≡ fold_of i.chart i.history (pays_in (asked i cut)) i.day
+    pub wrote : Wrote sink old new s (report_of i.chart books replies) (sent_from i.chart (length i.history + 1) books)
+    pub valid : AreSentValid (tables_in i) i.chart (length i.history + 1) books
+
+  -- run, whatever the status: the books are those of one clerk who entered pays of the file, one after another; a crash keeps them
+  pub record RunPromise (i : Inputs) : Type 0 where
+    pub books : List Entry
+    pub entered : List Pay
+    pub one_clerk : books ≡ fold_of i.chart i.history entered i.day
+    pub of_file : (entered ≡ []) ⊎ ((cut : List (List ℕ)) × IsMessageFile i.messages cut × All (Contains (pays_in (asked i cut))) entered)
+    pub crash : Keeps disk new.disk i.chart books ⊎ KeepsOrMore i.chart books i.day
+    pub answers : writes s ≡ true → AnswersAll i books
+
+  -- reconcile: the report; and each line takes the first free entry that says the same, stands once, and what is left over is the gap's change
+  pub record ReconcilePromise (i : Inputs) : Type 0 where
+    pub cut : List (List ℕ)
+    pub file : IsMessageFile i.messages cut
+    pub wrote : Wrote sink old new s (break_report i.chart i.history (tables_in i) cut) []
+    pub rule : (n : ℕ) (t : Statement) → IsReceived t
+        → TakesFirst n i.history t (compared_of i.chart i.history n t) × StandOnce n i.history t (compared_of i.chart i.history n t) × AddsUp n i.history t (compared_of i.chart i.history n t)
+
+  pub record Promises (command : Command) : Type 0 where
+    -- however it ends, the books on the disk stay; `run` alone adds to them, and `init` makes none over others
+    pub keeps : (chart : Chart) (books : List Entry) → Keeps disk old.disk chart books → ((day : Day) (n : ℕ) → command ≡ Run day n → ⊥) → Keeps disk new.disk chart books
+    pub run : (i : Inputs) → command ≡ Run i.day i.workers → Told command i → source.left old.messages ≡ Some i.messages → Keeps disk old.disk i.chart i.history → RunPromise i
+    pub init : (i : Inputs) → command ≡ Plain (Init i.home) → Told command i → IsTrue (disk.honest old.disk) → writes s ≡ true → Keeps disk new.disk (chart_in i) []
+    pub made_or_not : (i : Inputs) → command ≡ Plain (Init i.home) → Told command i → IsTrue (disk.honest old.disk) → Only (disk.reads old.disk) (disk.may_leave old.disk)
+        → IsUnmade (disk.reads old.disk) → (image : List ℕ) → disk.may_leave new.disk image → IsUnmade image ⊎ StandsForBook image (chart_in i) []
+    pub statements : (day : Day) (chart : Chart) (books : List Entry) → command ≡ Plain (Query (Statements day)) → Keeps disk old.disk chart books → writes s ≡ true
+        → Wrote sink old new s [] (sent_statements chart books day) × AreStatements chart books day
+    pub send : (from until : ℕ) (chart : Chart) (books : List Entry) → command ≡ Plain (Query (Send from until)) → Keeps disk old.disk chart books → writes s ≡ true
+        → Wrote sink old new s [] (sent_from chart from (take until books))
+    pub bookings : (chart : Chart) (books : List Entry) → command ≡ Plain (Query Bookings) → Keeps disk old.disk chart books → writes s ≡ true → Wrote sink old new s (bookings_of chart books) []
+    pub generate : (count seed : ℕ) → command ≡ Plain (Generate count seed) → writes s ≡ true → Wrote sink old new s [] (generated_of count seed)
+    pub trial : (count seed workers : ℕ) → command ≡ Trial count seed workers → writes s ≡ true → Wrote sink old new s (trial_report count seed) [] × BooksEach count seed
+    pub reconcile : (i : Inputs) → command ≡ Plain Reconcile → Told command i → source.left old.received ≡ Some i.messages → Keeps disk old.disk i.chart i.history → writes s ≡ true → ReconcilePromise i
+    pub silent : writes s ≡ false → (new.report ≡ old.report) × (new.out ≡ old.out)
