@@ -13,7 +13,7 @@ use std::fs;
 use std::test::Fail;
 
 // A journal with the header record H, and the same with the record AB.
-const HEAD: &[u8] = b"\x01\0\0\0\x01H\0";
+pub(crate) const HEAD: &[u8] = b"\x01\0\0\0\x01H\0";
 
 const BOTH: &[u8] = b"\x01\0\0\0\x01H\x01\0\0\0\x02AB\0";
 
@@ -28,16 +28,16 @@ fn numbered(number: u32) -> [u8; 9]
     [0, 0, 0, 4, a, b, c, d, 0]
 }
 
-fn memory(alloc: Global, bytes: &[u8]) -> Result<MemDisk, Memory> {
+pub(crate) fn memory(alloc: Global, bytes: &[u8]) -> Result<MemDisk, Memory> {
     Ok(MemDisk::new(alloc, Text::from_bytes(alloc, bytes)?))
 }
 
-fn fuse(alloc: Global, bytes: &[u8], calls: u64, torn: u64) -> Result<FuseDisk, Memory> {
+pub(crate) fn fuse(alloc: Global, bytes: &[u8], calls: u64, torn: u64) -> Result<FuseDisk, Memory> {
     Ok(FuseDisk::new(alloc, Text::from_bytes(alloc, bytes)?, calls, torn))
 }
 
 // The first bytes of a disk, at most 32.
-fn front_of<D: Disk>(alloc: Global, disk: &mut D) -> Result<Text, Fail> {
+pub(crate) fn front_of<D: Disk>(alloc: Global, disk: &mut D) -> Result<Text, Fail> {
     let mut bytes = [0; 32];
     let count = disk.read_at(0, &mut bytes)?;
     Ok(Text::from_bytes(alloc, &bytes[..count.min(32)])?)
@@ -58,7 +58,10 @@ fn add<D: Disk>(file: &mut JFile<D>, frame: &[u8]) -> Result<(), AppendFault>
 }
 
 // Opens, and says that records may be appended.
-fn open<D: Disk + Drop>(alloc: Global, disk: D) -> Result<(JFile<D>, Vec<Text>), OpenFault>
+pub(crate) fn open<D: Disk + Drop>(
+    alloc: Global,
+    disk: D,
+) -> Result<(JFile<D>, Vec<Text>), OpenFault>
     ensures { IfOk result (λ r. IsOpen D.honest D.reads D.may_leave r.0) }
 {
     match open_file(alloc, disk) {
@@ -68,7 +71,7 @@ fn open<D: Disk + Drop>(alloc: Global, disk: D) -> Result<(JFile<D>, Vec<Text>),
 }
 
 // How many records an image holds; none where it is no journal.
-fn count(alloc: Global, image: Text) -> Result<Option<usize>, Fail> {
+pub(crate) fn count(alloc: Global, image: Text) -> Result<Option<usize>, Fail> {
     match open_file(alloc, MemDisk::new(alloc, image)) {
         Ok((_, records)) => Ok(Some(records.len())),
         Err((_, fault)) => match fault {

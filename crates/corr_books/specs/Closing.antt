@@ -57,4 +57,4 @@ LeavesClosed disk o history d =
 abbrev pub LeavesInTurn : {D : Type 0} → disks.Ghosts D → Opening → (ℕ → List ℕ → Type 0) → List Entry → D → Type 0
 LeavesInTurn disk o past history d =
     IsTrue o.honest → LeavesSince disk o past d (λ image. StandsBetween o.accounts o.base history image
-        ⊎ (Rose o.at_open (disk.faults d) × StandsWithMore o.accounts history o.day 1 image))
+    ⊎ (Rose o.at_open (disk.faults d) × StandsWithMore o.accounts history o.day 1 image))
