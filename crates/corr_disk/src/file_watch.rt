@@ -7,6 +7,7 @@ use std::sync::atomic::{AtomicBool, AtomicU64, Ordering};
 
 /// Which file a `FileDisk` has opened, and how long it must be at least: for those who look at it while the disk is away, as
 /// lent to a command. The disk notes it; no clause says what it holds.
+#[derive(Drop)]
 pub struct FileWatch {
     device: AtomicU64,
     node: AtomicU64,

@@ -7,6 +7,7 @@ use corr_io::{Failed, Sink, StdSink, count_fault};
 use corr_text::Text;
 
 /// The journal of a folder: its path, and what its disk knows of its file.
+#[derive(Drop)]
 pub struct Journal {
     pub path: Text,
     pub watch: FileWatch,
