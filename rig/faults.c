@@ -1,9 +1,10 @@
 /* A library to preload (LD_PRELOAD): it lets calls of a program fail, counted from its `main` on.
  *
  *   FAULT_CALL   open (for reading), make (an open for writing), read, write (to any descriptor but 2), tell (a write to descriptor 2),
- *                journal (an open, a read, a write or a sync of a file journal.bin, which is none of the others) or memory
+ *                journal (an open, a read, a write or a sync of a file journal.bin, which is none of the others), hold (a lock of it, or
+ *                a look at its path) or memory
  *   FAULT_KIND   refused (EIO; no memory), short (one byte is moved) or interrupted (EINTR); a call that moves no bytes has
- *                no short kind
+ *                no short kind, and a look isn't interrupted
  *   FAULT_AT     the number of the call, from 1
  *   FAULT_ON     set: each later one fails too
  *   FAULT_COUNT  a file that gets the number of calls of each sort, in the order above
@@ -18,6 +19,7 @@
 #include <stdlib.h>
 #include <string.h>
 #include <sys/mman.h>
+#include <sys/stat.h>
 #include <sys/syscall.h>
 #include <sys/uio.h>
 #include <unistd.h>
@@ -27,10 +29,10 @@ extern void *__libc_calloc(size_t count, size_t size);
 extern void *__libc_realloc(void *old, size_t size);
 extern void *__libc_memalign(size_t align, size_t size);
 
-enum call { OPEN, MAKE, READ, WRITE, TELL, JOURNAL, MEMORY, CALLS };
+enum call { OPEN, MAKE, READ, WRITE, TELL, JOURNAL, HOLD, MEMORY, CALLS };
 enum kind { PASS, REFUSED, SHORT, INTERRUPTED };
 
-static const char *const names[CALLS] = {"open", "make", "read", "write", "tell", "journal", "memory"};
+static const char *const names[CALLS] = {"open", "make", "read", "write", "tell", "journal", "hold", "memory"};
 
 static int armed;
 static long seen[CALLS];
@@ -148,6 +150,21 @@ static int is_journal(const char *path)
 {
     const char *name = strrchr(path, '/');
     return !strcmp(name ? name + 1 : path, "journal.bin");
+}
+
+int flock(int fd, int how)
+{
+    if (fd == journal && fails(next(HOLD)))
+        return -1;
+    return syscall(SYS_flock, fd, how);
+}
+
+int statx(int dir, const char *path, int flags, unsigned mask, struct statx *out)
+{
+    enum kind kind = is_journal(path) ? next(HOLD) : PASS;
+    if (kind == REFUSED && fails(kind))
+        return -1;
+    return syscall(SYS_statx, dir, path, flags, mask, out);
 }
 
 static int open_at(int dir, const char *path, int flags, unsigned mode)

@@ -228,7 +228,7 @@ fn refill(rt: &HostRuntime, bytes: &[u8]) -> Result<(), Fail> {
 }
 
 fn is_gone(disk: &mut FileDisk<'_, HostRuntime>) -> bool {
-    len(disk).is_none() && !is_synced(disk) && disk.trouble() == Some(Trouble::Gone)
+    len(disk).is_none() && disk.trouble() == Some(Trouble::Gone)
 }
 
 #[test]
@@ -242,9 +242,10 @@ fn a_file_disk_misses_what_was_removed_or_cut(rt: HostRuntime) -> Result<(), Fai
     refill(&rt, b"ab")?;
     assert!(rt; is_gone(&mut disk) && !watch.is_there(&rt, &path));
     // a write past the end would hide the cut
-    assert!(rt; !write(&mut disk, 0, b"abcd"));
+    assert!(rt; write(&mut disk, 0, b"xy") && !write(&mut disk, 0, b"abcd"));
+    assert!(rt; disk.trouble() == Some(Trouble::Gone));
     refill(&rt, b"abc")?;
-    assert!(rt; is_synced(&mut disk) && watch.is_there(&rt, &path));
+    assert!(rt; len(&mut disk) == Some(3) && watch.is_there(&rt, &path));
     fs::remove_file(&rt, FILE)?;
     assert!(rt; is_gone(&mut disk) && !watch.is_there(&rt, &path));
     refill(&rt, b"abc")?;

@@ -18,8 +18,8 @@ use std::rt::Files;
 /// tells neither its bytes nor its images: what a file holds, and what a sync of it has made sure of, is trusted of the system.
 ///
 /// With a path that isn't UTF-8 every call fails. Where another program holds the file, the call fails, waits for nobody and
-/// writes nothing. `len` and `sync` fail where another file or none stands at the path, and where the file is shorter than it was
-/// seen or written. A read or a write that a signal interrupts is made again, a bounded number of times.
+/// writes nothing. `len` fails where another file or none stands at the path, and, as a write past the end, where the file is
+/// shorter than it was seen or written. A read or a write that a signal interrupts is made again, a bounded number of times.
 #[derive(Drop)]
 pub struct FileDisk<'a, R: Files> {
     rt: &'a R,
@@ -109,7 +109,7 @@ impl<'a, R: Files<File = File>> FileDisk<'a, R> {
     {
         self.open()?;
         match &mut self.held {
-            Some(held) => held.put(self.rt, &self.path, at, bytes),
+            Some(held) => held.put(at, bytes),
             None => Err(None),
         }
     }
@@ -120,8 +120,8 @@ impl<'a, R: Files<File = File>> FileDisk<'a, R> {
         ensures open { OnOk result (IsTrue (is_utf8 self.old.path)) }
     {
         self.open()?;
-        match &mut self.held {
-            Some(held) => held.settle(self.rt, &self.path),
+        match &self.held {
+            Some(held) => held.settle(),
             None => Err(None),
         }
     }

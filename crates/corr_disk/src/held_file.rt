@@ -8,6 +8,7 @@ use corr_io::{open_at, read_some_at};
 use corr_text::Text;
 use std::fs;
 use std::fs::{File, Metadata, OpenOptions, TryLockError};
+use std::io::{Seek, SeekFrom};
 use std::os::unix::fs::{FileExt, MetadataExt};
 use std::rt::Files;
 
@@ -127,28 +128,29 @@ impl<'a> HeldFile<'a> {
     }
 
     /// Writes all of these bytes from a place on, and again what a signal kept from being written, a bounded number of times.
-    /// Ahead of a write past the end it looks: such a write would hide that the file was cut.
-    pub(crate) fn put<R: Files>(
-        &mut self,
-        rt: &R,
-        path: &Text,
-        at: u64,
-        bytes: &[u8],
-    ) -> Result<(), Cause> {
+    /// Ahead of a write past the end the length is asked: such a write would hide that the file was cut.
+    pub(crate) fn put(&mut self, at: u64, bytes: &[u8]) -> Result<(), Cause> {
         let end = at.saturating_add(bytes.len() as u64);
         if end > self.known.len {
-            self.look(rt, path)?;
+            self.demand_len()?;
         }
         self.file.write_all_at(bytes, at).map_err(|_| None)?;
         self.know_len(end);
         Ok(())
     }
 
-    /// Makes sure that what was written is kept, and that the file still stands at the path, uncut.
-    pub(crate) fn settle<R: Files>(&mut self, rt: &R, path: &Text) -> Result<(), Cause> {
-        self.file.sync_all().map_err(|_| None)?;
-        self.look(rt, path)?;
-        Ok(())
+    /// Makes sure that what was written is kept.
+    pub(crate) fn settle(&self) -> Result<(), Cause> {
+        self.file.sync_all().map_err(|_| None)
+    }
+
+    /// Demands that the file is as long as it must be.
+    fn demand_len(&mut self) -> Result<(), Cause> {
+        match self.file.seek(SeekFrom::End(0)) {
+            Ok(len) if len >= self.known.len => Ok(()),
+            Ok(_) => Err(Some(Trouble::Gone)),
+            Err(_) => Err(None),
+        }
     }
 }
 

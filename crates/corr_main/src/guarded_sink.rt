@@ -1,26 +1,52 @@
-//! A sink that looks at the journal before it writes.
+//! Sinks that look at the journal before they are written to.
 
 ghost use Rattle.std.specs.Prelude.{None};
 
 use corr_disk::FileWatch;
 use corr_io::{Failed, Sink, StdSink, count_fault};
 use corr_text::Text;
+use std::sync::atomic::{AtomicBool, Ordering};
 
-/// The journal of a folder: its path, and what its disk knows of its file.
+/// The journal of a folder: its path, what its disk knows of its file, and whether it was found before anything was written.
 #[derive(Drop)]
 pub struct Journal {
-    pub path: Text,
-    pub watch: FileWatch,
+    path: Text,
+    watch: FileWatch,
+    is_found: AtomicBool,
 }
 
-/// Standard output or a file, to which nothing is written where the journal was removed, renamed or cut since it was opened: its
-/// first write looks, and fails then, and each later one looks again until the journal was there once.
+impl Journal {
+    pub fn new(path: Text) -> Journal {
+        Journal {
+            path,
+            watch: FileWatch::new(),
+            is_found: AtomicBool::new(false),
+        }
+    }
+
+    /// Where the disk notes what it knows of its file.
+    pub fn watch(&self) -> &FileWatch {
+        &self.watch
+    }
+
+    /// Looks for the file of the disk, until it was found once; whether it was.
+    pub fn find(&self, rt: &HostRuntime) -> bool {
+        if self.is_found.load(Ordering::SeqCst) {
+            return true;
+        }
+        let is_there = self.watch.is_there(rt, &self.path);
+        self.is_found.store(is_there, Ordering::SeqCst);
+        is_there
+    }
+}
+
+/// Standard output or a file, to which nothing is written where the journal was removed, replaced or cut since it was opened. Of the
+/// sinks of one journal the first write to any of them looks.
 #[derive(Drop)]
 pub struct GuardedSink<'a> {
     rt: &'a HostRuntime,
     journal: &'a Journal,
     sink: StdSink<'a, HostRuntime>,
-    is_open: bool,
     faults: u64,
 }
 
@@ -34,14 +60,8 @@ impl<'a> GuardedSink<'a> {
             rt,
             journal,
             sink,
-            is_open: false,
             faults: 0,
         }
-    }
-
-    /// Whether a write failed because the journal wasn't there.
-    pub fn is_stopped(&self) -> bool {
-        !self.is_open && self.faults > 0
     }
 }
 
@@ -51,10 +71,9 @@ impl<'a> Sink for GuardedSink<'a> {
     ghost faults = { λ s. s.faults };
 
     fn write(&mut self, piece: &[u8]) -> Result<usize, Failed> {
-        if !self.is_open && !self.journal.watch.is_there(self.rt, &self.journal.path) {
+        if !self.journal.find(self.rt) {
             return Err(count_fault(&mut self.faults));
         }
-        self.is_open = true;
         match self.sink.write(piece) {
             Ok(count) => Ok(count),
             Err(Failed) => Err(count_fault(&mut self.faults)),

@@ -7,10 +7,10 @@ ghost use Rattle.corr_top.specs.Status.{HasLine};
 mod guarded_sink;
 
 use crate::guarded_sink::{GuardedSink, Journal};
-use corr_disk::{FileDisk, FileWatch, Trouble};
+use corr_disk::{FileDisk, Trouble};
 use corr_io::{StdSink, StdSource};
 use corr_text::{Memory, Text, let_go};
-use corr_top::{Room, Status, Tables, corr, put_status_line};
+use corr_top::{Done, Room, Status, Tables, corr, put_status_line};
 use std::env::{Env, FillError};
 use std::fs::File;
 use std::io;
@@ -161,6 +161,9 @@ fn tables<'a>(
 /// What a command is handed: files, and standard output.
 type Files<'a> = Room<StdSource<'a, HostRuntime>, GuardedSink<'a>, FileDisk<'a, HostRuntime>>;
 
+/// How a command ended, with what it was handed.
+type Ended<'a> = Done<StdSource<'a, HostRuntime>, GuardedSink<'a>, FileDisk<'a, HostRuntime>>;
+
 /// The files of a folder, and standard output for the report. What is sent is appended to `out.fin`. The journal is held alone
 /// but for who only reads it, and nothing is written where it was removed or cut meanwhile.
 fn room<'a>(
@@ -176,7 +179,7 @@ fn room<'a>(
         tables: tables(rt, folder)?,
         report: GuardedSink::new(rt, journal, StdSink::out(rt)),
         out: GuardedSink::new(rt, journal, StdSink::file(rt, out)),
-        disk: disk(rt, path(rt, folder, JOURNAL)?, reads).watched(&journal.watch),
+        disk: disk(rt, path(rt, folder, JOURNAL)?, reads).watched(journal.watch()),
         disk2: None,
     })
 }
@@ -190,10 +193,7 @@ fn disk<'a>(rt: &'a HostRuntime, path: Text, reads: bool) -> FileDisk<'a, HostRu
 }
 
 fn journal(rt: &HostRuntime, folder: &[u8]) -> Result<Journal, Memory> {
-    Ok(Journal {
-        path: path(rt, folder, JOURNAL)?,
-        watch: FileWatch::new(),
-    })
+    Ok(Journal::new(path(rt, folder, JOURNAL)?))
 }
 
 /// Whether the command of these words only reads the journal. Words of no command touch nothing.
@@ -204,12 +204,14 @@ fn is_reader(words: &[Text]) -> bool {
     }
 }
 
-/// What is wrong with the journal, where it isn't only that the system refused a call.
-fn trouble(room: &Files<'_>) -> Option<Trouble> {
-    if room.report.is_stopped() || room.out.is_stopped() {
+/// What is wrong with the journal of a command that has ended, where it isn't only that the system refused a call. A command that
+/// has written nothing hasn't looked for it yet.
+fn trouble(rt: &HostRuntime, done: &Ended<'_>, journal: &Journal) -> Option<Trouble> {
+    let is_written = matches!(done.status, Status::Done | Status::WriteFault { .. });
+    if is_written && !journal.find(rt) {
         Some(Trouble::Gone)
     } else {
-        room.disk.trouble()
+        done.room.disk.trouble()
     }
 }
 
@@ -232,7 +234,7 @@ fn run(
         Err(Memory) => return Ok(Status::Memory),
     };
     let done = corr(waiter, rt.alloc(), words, room, &OpenGate);
-    let trouble = trouble(&done.room);
+    let trouble = trouble(rt, &done, &journal);
     let status = done.status;
     let_go(done);
     match trouble {
