@@ -5,4 +5,5 @@ pub mod Counting
 pub mod Taken
 pub mod Closes
 pub mod Made
+pub mod Begun
 pub mod laws

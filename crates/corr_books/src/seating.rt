@@ -4,6 +4,7 @@ ghost use Rattle.std.specs.Prelude.{◌≡◌, ◌≤◌, IfErr, IfOk, length};
 ghost use Rattle.jrn_file.specs.File.{disk_of};
 ghost use Rattle.corr_books.specs.Opening.{IsNamed};
 ghost use Rattle.corr_books.specs.Passes.{AreNew};
+ghost use Rattle.corr_books.specs.Stand.{IsStand};
 ghost use Rattle.corr_books.specs.Taking.{AreMade};
 ghost use Rattle.work_pool.specs.Served.{most_workers};
 
@@ -14,9 +15,11 @@ use crate::opening::Opened;
 use crate::stand::Stand;
 use acct_locks::{Loose, Purses};
 use corr_disk::Disk;
+use corr_ids::Day;
 use corr_text::Memory;
 use day_model::{Accounts, History};
 use front_word::{Front, Pass, Writer};
+use jrn_book::JrnBook;
 use std::alloc::Global;
 use std::marker::PhantomData;
 use std::sync::Mutex;
@@ -82,12 +85,8 @@ impl<D: Disk> Opened<D> {
             passes,
             purses,
         } = parts;
-        let stand = Mutex::new(Stand {
-            book,
-            writer,
-            day,
-            of: PhantomData,
-        });
+        let behind = begin_stand(book, writer, day);
+        let stand = Mutex::new(behind);
         let books = Books {
             accounts,
             front,
@@ -96,6 +95,18 @@ impl<D: Disk> Opened<D> {
             stand,
         };
         Ok((books, passes))
+    }
+}
+
+/// What stands behind the journal's lock at first.
+fn begin_stand<N: BooksName, D: Disk>(book: JrnBook<D>, writer: Writer, day: Day) -> Stand<N, D>
+    requires { IsStand D.Disk N.opening N.past N.table (record { book = book; writer = writer; day = day }) }
+{
+    Stand {
+        book,
+        writer,
+        day,
+        of: PhantomData,
     }
 }
 
