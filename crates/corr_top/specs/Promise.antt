@@ -2,6 +2,7 @@
 use Rattle.std.specs.Prelude.{ℕ, ◌≡◌, ◌⊎◌, ◌+◌, Bool, true, false, All, IsTrue, IsSome, List, [], length, map, take, Some, Result}
 use Rattle.std.specs.List.{Contains}
 use Rattle.std.specs.Io.KnownBytes.{Appends}
+use Rattle.corr_books.specs.Moments.{StandsBetween, StandsWithMore}
 use Rattle.corr_disk.specs.Disk.{Only}
 use Rattle.corr_disk.specs.declared.disk.Disk as disks
 use Rattle.corr_io.specs.declared.sink.Sink as sinks
@@ -78,9 +79,14 @@ module _ {S K D : Type 0} (sink : sinks.Ghosts K) (old new : Room S K D) where
   Wrote _ report out = ⊥
 
 module _ {S K D : Type 0} (source : sources.Ghosts S) (sink : sinks.Ghosts K) (disk : disks.Ghosts D) (old new : Room S K D) (s : Status) where
+  -- a crash at any moment of it leaves bytes that have P, at its end too
+  abbrev pub AtEachMoment : (List ℕ → Type 0) → Type 0
+  AtEachMoment P = (image : List ℕ) → disk.left_since new.disk (disk.moment old.disk) image → P image
+
   -- a call of the disk failed: a crash leaves these books, or them and one legal entry more of the day
   abbrev pub KeepsOrMore : Chart → List Entry → Day → Type 0
-  KeepsOrMore chart books day = Rose (disk.faults old.disk) (disk.faults new.disk) × AreBooks chart books × IsLeftBy (disk.honest new.disk) (disk.may_leave new.disk) chart books day
+  KeepsOrMore chart books day =
+      Rose (disk.faults old.disk) (disk.faults new.disk) × AreBooks chart books × IsLeftBy (disk.honest new.disk) (disk.may_leave new.disk) chart books day
 
   -- the tables that a command reads told these bytes when it began
   abbrev pub Told : Command → Inputs → Type 0
@@ -97,13 +103,16 @@ module _ {S K D : Type 0} (source : sources.Ghosts S) (sink : sinks.Ghosts K) (d
     pub wrote : Wrote sink old new s (report_of i.chart books replies) (sent_from i.chart (length i.history + 1) books)
     pub valid : AreSentValid (tables_in i) i.chart (length i.history + 1) books
 
-  -- run, whatever the status: the books are those of one clerk who entered pays of the file, one after another; a crash keeps them
+  -- run, whatever the status: the books are those of one clerk who entered pays of the file, one after another; a crash keeps them,
+  -- and at each moment of the run leaves the old books and a front part of what was entered, or after a fault one legal entry more
   pub record RunPromise (i : Inputs) : Type 0 where
     pub books : List Entry
     pub entered : List Pay
     pub one_clerk : books ≡ fold_of i.chart i.history entered i.day
     pub of_file : (entered ≡ []) ⊎ ((cut : List (List ℕ)) × IsMessageFile i.messages cut × All (Contains (pays_in (asked i cut))) entered)
     pub crash : Keeps disk new.disk i.chart books ⊎ KeepsOrMore i.chart books i.day
+    pub moments : AtEachMoment (λ image. StandsBetween i.chart i.history books image
+        ⊎ (Rose (disk.faults old.disk) (disk.faults new.disk) × StandsWithMore i.chart books i.day 1 image))
     pub answers : writes s ≡ true → AnswersAll i books
 
   -- reconcile: the report; and each line takes the first free entry that says the same, stands once, and what is left over is the gap's change
@@ -112,21 +121,28 @@ module _ {S K D : Type 0} (source : sources.Ghosts S) (sink : sinks.Ghosts K) (d
     pub file : IsMessageFile i.messages cut
     pub wrote : Wrote sink old new s (break_report i.chart i.history (tables_in i) cut) []
     pub rule : (n : ℕ) (t : Statement) → IsReceived t
-        → TakesFirst n i.history t (compared_of i.chart i.history n t) × StandOnce n i.history t (compared_of i.chart i.history n t) × AddsUp n i.history t (compared_of i.chart i.history n t)
+        → TakesFirst n i.history t (compared_of i.chart i.history n t) × StandOnce n i.history t (compared_of i.chart i.history n t)
+        × AddsUp n i.history t (compared_of i.chart i.history n t)
 
   pub record Promises (command : Command) : Type 0 where
     -- however it ends, the books on the disk stay; `run` alone adds to them, and `init` makes none over others
-    pub keeps : (chart : Chart) (books : List Entry) → Keeps disk old.disk chart books → ((day : Day) (n : ℕ) → command ≡ Run day n → ⊥) → Keeps disk new.disk chart books
-    pub run : (i : Inputs) → command ≡ Run i.day i.workers → Told command i → source.left old.messages ≡ Some i.messages → Keeps disk old.disk i.chart i.history → RunPromise i
-    pub init : (i : Inputs) → command ≡ Plain (Init i.home) → Told command i → IsTrue (disk.honest old.disk) → writes s ≡ true → Keeps disk new.disk (chart_in i) []
-    pub made_or_not : (i : Inputs) → command ≡ Plain (Init i.home) → Told command i → IsTrue (disk.honest old.disk) → Only (disk.reads old.disk) (disk.may_leave old.disk)
-        → IsUnmade (disk.reads old.disk) → (image : List ℕ) → disk.may_leave new.disk image → IsUnmade image ⊎ StandsForBook image (chart_in i) []
-    pub statements : (day : Day) (chart : Chart) (books : List Entry) → command ≡ Plain (Query (Statements day)) → Keeps disk old.disk chart books → writes s ≡ true
-        → Wrote sink old new s [] (sent_statements chart books day) × AreStatements chart books day
-    pub send : (from until : ℕ) (chart : Chart) (books : List Entry) → command ≡ Plain (Query (Send from until)) → Keeps disk old.disk chart books → writes s ≡ true
-        → Wrote sink old new s [] (sent_from chart from (take until books))
-    pub bookings : (chart : Chart) (books : List Entry) → command ≡ Plain (Query Bookings) → Keeps disk old.disk chart books → writes s ≡ true → Wrote sink old new s (bookings_of chart books) []
+    pub keeps : (chart : Chart) (books : List Entry) → Keeps disk old.disk chart books → ((day : Day) (n : ℕ) → command ≡ Run day n → ⊥)
+        → Keeps disk new.disk chart books × AtEachMoment (λ image. StandsForBook image chart books)
+    pub run : (i : Inputs) → command ≡ Run i.day i.workers → Told command i → source.left old.messages ≡ Some i.messages
+        → Keeps disk old.disk i.chart i.history → RunPromise i
+    pub init : (i : Inputs) → command ≡ Plain (Init i.home) → Told command i → IsTrue (disk.honest old.disk) → writes s ≡ true
+        → Keeps disk new.disk (chart_in i) []
+    pub made_or_not : (i : Inputs) → command ≡ Plain (Init i.home) → Told command i → IsTrue (disk.honest old.disk)
+        → Only (disk.reads old.disk) (disk.may_leave old.disk) → IsUnmade (disk.reads old.disk) → AtEachMoment (λ image. IsUnmade image ⊎ StandsForBook image (chart_in i) [])
+    pub statements : (day : Day) (chart : Chart) (books : List Entry) → command ≡ Plain (Query (Statements day)) → Keeps disk old.disk chart books
+        → writes s ≡ true → Wrote sink old new s [] (sent_statements chart books day) × AreStatements chart books day
+    pub send : (from until : ℕ) (chart : Chart) (books : List Entry) → command ≡ Plain (Query (Send from until)) → Keeps disk old.disk chart books
+        → writes s ≡ true → Wrote sink old new s [] (sent_from chart from (take until books))
+    pub bookings : (chart : Chart) (books : List Entry) → command ≡ Plain (Query Bookings) → Keeps disk old.disk chart books → writes s ≡ true
+        → Wrote sink old new s (bookings_of chart books) []
     pub generate : (count seed : ℕ) → command ≡ Plain (Generate count seed) → writes s ≡ true → Wrote sink old new s [] (generated_of count seed)
-    pub trial : (count seed workers : ℕ) → command ≡ Trial count seed workers → writes s ≡ true → Wrote sink old new s (trial_report count seed) [] × BooksEach count seed
-    pub reconcile : (i : Inputs) → command ≡ Plain Reconcile → Told command i → source.left old.received ≡ Some i.messages → Keeps disk old.disk i.chart i.history → writes s ≡ true → ReconcilePromise i
+    pub trial : (count seed workers : ℕ) → command ≡ Trial count seed workers → writes s ≡ true
+        → Wrote sink old new s (trial_report count seed) [] × BooksEach count seed
+    pub reconcile : (i : Inputs) → command ≡ Plain Reconcile → Told command i → source.left old.received ≡ Some i.messages
+        → Keeps disk old.disk i.chart i.history → writes s ≡ true → ReconcilePromise i
     pub silent : writes s ≡ false → (new.report ≡ old.report) × (new.out ≡ old.out)

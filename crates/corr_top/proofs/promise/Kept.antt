@@ -18,20 +18,20 @@ use Rattle.corr_top.specs.declared.words.Command.TheVariants.{Run, Trial, Plain}
 use Rattle.corr_top.specs.declared.words.Plain.TheVariants.{Generate, Init, Query, Reconcile}
 use Rattle.corr_top.specs.Promise.{Keeps}
 use Rattle.corr_top.proofs.promise.Standing.{stands_other}
-use Rattle.corr_top.proofs.promise.Untouched.{generate_keeps, query_keeps, reconcile_keeps, same_keeps, trial_keeps, unwritten_keeps}
+use Rattle.corr_top.proofs.promise.Untouched.{KeepsAll, OnlyNow, generate_keeps, query_keeps, reconcile_keeps, same_keeps, trial_keeps, unwritten_keeps}
 
 module _ {S K D : Type 0} (source : sources.Ghosts S) (sink : sinks.Ghosts K) (disk : disks.Ghosts D) (old new : Room S K D) (s : Status) (chart : Chart) (books : List Entry)
-    (honest : disk.honest new.disk ≡ disk.honest old.disk) (kept : Keeps disk old.disk chart books) where
+    (only : OnlyNow disk) (honest : disk.honest new.disk ≡ disk.honest old.disk) (kept : Keeps disk old.disk chart books) where
   -- no journal may be made over these books
   unmakeable : IsMakeable disk old.disk → ⊥
   unmakeable free =
       let other = stands_other (disk.reads old.disk) (head_bytes chart) (entry_records books) kept.reads in
       free kept.told other.0 other.1
 
-  by_same : new.disk ≡ old.disk → Keeps disk new.disk chart books
-  by_same same = same_keeps disk old.disk new.disk chart books same kept
+  by_same : new.disk ≡ old.disk → KeepsAll disk old.disk new.disk chart books
+  by_same same = same_keeps disk old.disk new.disk chart books only same kept
 
-  pub init_keeps : (home : Bic) → Ends source disk (Plain (Init home)) old new sink s → Keeps disk new.disk chart books
+  pub init_keeps : (home : Bic) → Ends source disk (Plain (Init home)) old new sink s → KeepsAll disk old.disk new.disk chart books
   init_keeps home ended = elim ended.ends [
     | inl done ↦ absurd (unmakeable done.passed.passed.1.1.1.1.1.0)
     | inr other ↦ elim other [
@@ -63,10 +63,10 @@ module _ {S K D : Type 0} (source : sources.Ghosts S) (sink : sinks.Ghosts K) (d
     ]
   ]
 
-  pub all_keep : (command : Command) → Ends source disk command old new sink s → ((day : Day) (n : ℕ) → command ≡ Run day n → ⊥) → Keeps disk new.disk chart books
+  pub all_keep : (command : Command) → Ends source disk command old new sink s → ((day : Day) (n : ℕ) → command ≡ Run day n → ⊥) → KeepsAll disk old.disk new.disk chart books
   all_keep (Run day workers) ended no_run = absurd (no_run day workers refl)
-  all_keep (Trial count seed workers) ended no_run = trial_keeps source sink disk old new s chart books honest kept count seed workers ended
+  all_keep (Trial count seed workers) ended no_run = trial_keeps source sink disk old new s chart books only honest kept count seed workers ended
   all_keep (Plain (Init home)) ended no_run = init_keeps home ended
-  all_keep (Plain (Query asked)) ended no_run = query_keeps source sink disk old new s chart books honest kept asked ended
-  all_keep (Plain Reconcile) ended no_run = reconcile_keeps source sink disk old new s chart books honest kept ended
-  all_keep (Plain (Generate count seed)) ended no_run = generate_keeps source sink disk old new s chart books honest kept count seed ended
+  all_keep (Plain (Query asked)) ended no_run = query_keeps source sink disk old new s chart books only honest kept asked ended
+  all_keep (Plain Reconcile) ended no_run = reconcile_keeps source sink disk old new s chart books only honest kept ended
+  all_keep (Plain (Generate count seed)) ended no_run = generate_keeps source sink disk old new s chart books only honest kept count seed ended

@@ -17,16 +17,17 @@ use Rattle.corr_top.specs.declared.room.Room.{Room}
 use Rattle.corr_top.specs.declared.status.Status.{Status}
 use Rattle.corr_top.specs.declared.words.Command.TheVariants.{Plain}
 use Rattle.corr_top.specs.declared.words.Plain.TheVariants.{Init}
-use Rattle.corr_top.specs.Promise.{Told}
+use Rattle.corr_top.specs.Promise.{AtEachMoment, Told}
 use Rattle.corr_top.proofs.promise.Agreeing.{same_table}
 use Rattle.corr_top.proofs.promise.Promising.{same_chart}
+use Rattle.corr_top.proofs.promise.Untouched.{OnlyNow}
 
 module _ {S K D : Type 0} (source : sources.Ghosts S) (sink : sinks.Ghosts K) (disk : disks.Ghosts D) (old new : Room S K D) (s : Status) (i : Inputs) where
   -- a law of disks, an honest one, and what was told
-  pub made_promise : ((d : D) (t : ℕ) (c : List ℕ) → t ≤ disk.moment d → disk.may_leave d c → disk.left_since d t c) → disk.honest new.disk ≡ disk.honest old.disk
+  pub made_promise : OnlyNow disk → disk.honest new.disk ≡ disk.honest old.disk
       → Ends source disk (Plain (Init i.home)) old new sink s → Told source sink disk old new s (Plain (Init i.home)) i → IsTrue (disk.honest old.disk) → Only (disk.reads old.disk) (disk.may_leave old.disk) → IsUnmade (disk.reads old.disk)
-      → (image : List ℕ) → disk.may_leave new.disk image → IsUnmade image ⊎ StandsForBook image (chart_in i) []
-  made_promise counts honest ended told sure only unmade image left =
+      → AtEachMoment source sink disk old new s (λ image. IsUnmade image ⊎ StandsForBook image (chart_in i) [])
+  made_promise now honest ended told sure only unmade image left =
       let j = ended.inputs in
       let Table : TableName → Type 0 = λ name. IsFine source (table_at name old.tables) (table_at name new.tables) (table_file name j) (table_fault name j) in
       let chart : Table names.Bics → Table names.Ccys → Table names.Countries → Table names.Accounts → chart_in j ≡ chart_in i = λ bics ccys countries accounts.
@@ -36,11 +37,10 @@ module _ {S K D : Type 0} (source : sources.Ghosts S) (sink : sinks.Ghosts K) (d
       (same_table source names.Countries old.tables new.tables j i (told names.Countries (2, refl)) countries)
       (same_table source names.Accounts old.tables new.tables j i (told names.Accounts (3, refl)) accounts) in
       let P : Chart → Type 0 = λ c. IsUnmade image ⊎ StandsForBook image c [] in
-      let same : new.disk ≡ old.disk → P (chart_in i) = λ is. inl (subst IsUnmade (sym (only image (subst (λ (d : D). disk.may_leave d image) is left))) unmade) in
+      let same : new.disk ≡ old.disk → P (chart_in i) = λ is.
+      inl (subst IsUnmade (sym (only image (now old.disk image (subst (λ (d : D). disk.left_since d (disk.moment old.disk) image) is left)))) unmade) in
       let passed : HasPassed source disk (Plain (Init i.home)) old new j → P (chart_in i) = λ h.
-      let now : IsTrue (disk.honest new.disk) = subst IsTrue (sym honest) sure in
-      let stands : StandsForBook image (chart_in j) [] = subst (λ (b : List ℕ). StandsForBook b (chart_in j) []) (sym (h.leaves.made.durable now image left)) (h.leaves.made.stands now) in
-      subst P (chart h.passed.0 h.passed.1.0 h.passed.1.1.0 h.passed.1.1.1.0) (inr stands) in
+      subst P (chart h.passed.0 h.passed.1.0 h.passed.1.1.0 h.passed.1.1.1.0) ((h.leaves.any_moment sure only unmade).each image left) in
       elim ended.ends [
         | inl done ↦ passed done.passed
         | inr other ↦ elim other [
@@ -59,7 +59,7 @@ module _ {S K D : Type 0} (source : sources.Ghosts S) (sink : sinks.Ghosts K) (d
                       | inr sums ↦ elim sums.1 [
                         | inl at_make ↦
                             let any = at_make.0.2.any_moment sure only unmade in
-                            subst P (chart bics.0 ccys.0 countries.0 accounts.0) (any.each image (counts new.disk (disk.moment old.disk) image any.later left))
+                            subst P (chart bics.0 ccys.0 countries.0 accounts.0) (any.each image left)
                         | inr past ↦ absurd past.1
                       ]
                     ]

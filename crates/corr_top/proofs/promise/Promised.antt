@@ -1,5 +1,5 @@
 -- What is proved of the promise.
-use Rattle.std.proofs.Common.{◌≡◌, ◌≤◌, ℕ, List, Option, IfSome, subst}
+use Rattle.std.proofs.Common.{◌≡◌, Option, IfSome, subst}
 use Rattle.std.proofs.lemmas.Option.{IfSome_then}
 use Rattle.corr_disk.specs.declared.disk.Disk as disks
 use Rattle.corr_io.specs.declared.sink.Sink as sinks
@@ -17,19 +17,20 @@ use Rattle.corr_top.proofs.promise.Making.{made_promise}
 use Rattle.corr_top.proofs.promise.Promising.{init_promise, reconcile_promise}
 use Rattle.corr_top.proofs.promise.Running.{run_promise}
 use Rattle.corr_top.proofs.promise.Silence.{silent}
+use Rattle.corr_top.proofs.promise.Untouched.{OnlyNow}
 
 pub promised : {S K D : Type 0} (source : sources.Ghosts S) (sink : sinks.Ghosts K) (disk : disks.Ghosts D) (command : Command) (old new : Room S K D) (s : Status)
-    → ((d : D) (t : ℕ) (c : List ℕ) → t ≤ disk.moment d → disk.may_leave d c → disk.left_since d t c) → disk.honest new.disk ≡ disk.honest old.disk → Ends source disk command old new sink s
+    → OnlyNow disk → disk.honest new.disk ≡ disk.honest old.disk → Ends source disk command old new sink s
     → Promises source sink disk old new s command
-promised source sink disk command old new s counts honest ended =
+promised source sink disk command old new s only honest ended =
     let of : (c : Command) → command ≡ c → Ends source disk c old new sink s = λ c is. subst (λ (x : Command). Ends source disk x old new sink s) is ended in
     let told_by : (c : Command) (i : Inputs) → command ≡ c → Told source sink disk old new s command i → Told source sink disk old new s c i = λ c i is told.
     subst (λ (x : Command). Told source sink disk old new s x i) is told in
     record {
-      keeps = λ chart books kept no_run. all_keep source sink disk old new s chart books honest kept command ended no_run;
-      run = λ i is told messages kept. run_promise source sink disk old new s i honest (told_by _ i is told) messages kept (of _ is);
+      keeps = λ chart books kept no_run. let all = all_keep source sink disk old new s chart books only honest kept command ended no_run in (all.kept, all.moments);
+      run = λ i is told messages kept. run_promise source sink disk old new s i only honest (told_by _ i is told) messages kept (of _ is);
       init = λ i is told sure some. init_promise source sink disk old new s i honest (of _ is) (told_by _ i is told) sure some;
-      made_or_not = λ i is told sure only unmade image left. made_promise source sink disk old new s i counts honest (of _ is) (told_by _ i is told) sure only unmade image left;
+      made_or_not = λ i is told sure alone unmade. made_promise source sink disk old new s i only honest (of _ is) (told_by _ i is told) sure alone unmade;
       statements = λ day chart books is kept some. let all = query_promise source sink disk old new s (Statements day) chart books (of _ is) kept some in all;
       send = λ from until chart books is kept some. (query_promise source sink disk old new s (Send from until) chart books (of _ is) kept some).0;
       bookings = λ chart books is kept some. (query_promise source sink disk old new s Bookings chart books (of _ is) kept some).0;
@@ -41,6 +42,6 @@ promised source sink disk command old new s counts honest ended =
 
 -- the same where the words may name no command
 pub promised_if : {S K D X : Type 0} (source : sources.Ghosts S) (sink : sinks.Ghosts K) (disk : disks.Ghosts D) (make : X → Command) (named : Option X) (old new : Room S K D) (s : Status)
-    → ((d : D) (t : ℕ) (c : List ℕ) → t ≤ disk.moment d → disk.may_leave d c → disk.left_since d t c) → disk.honest new.disk ≡ disk.honest old.disk
+    → OnlyNow disk → disk.honest new.disk ≡ disk.honest old.disk
     → IfSome named (λ x. Ends source disk (make x) old new sink s) → IfSome named (λ x. Promises source sink disk old new s (make x))
-promised_if source sink disk make named old new s counts honest ended = IfSome_then named ended (λ x is. promised source sink disk (make x) old new s counts honest is)
+promised_if source sink disk make named old new s only honest ended = IfSome_then named ended (λ x is. promised source sink disk (make x) old new s only honest is)

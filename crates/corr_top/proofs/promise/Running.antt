@@ -1,15 +1,18 @@
 -- The promise of `run`.
 use Rattle.std.proofs.Common.{◌≡◌, ◌⊎◌, ◌+◌, ℕ, All, List, [], ◌++◌, true, false, inl, inr, length, map, Some, refl, sym, ap, ◌∙◌, subst}
-use Rattle.std.proofs.lemmas.List.{length-map}
+use Rattle.std.proofs.lemmas.List.{append-nil, length-map}
+use mathlib.Core.List.{IsPrefix, prefix-append}
 use mathlib.Core.Bool.{true≢false}
 use Rattle.std.specs.Prelude.{IsTrue, Result}
 use Rattle.std.specs.List.{Contains}
 use Rattle.std.proofs.lemmas.List.Elements.{All-map, All-weaker}
+use Rattle.corr_books.specs.Moments.{StandsBetween, StandsWithMore}
 use Rattle.corr_disk.specs.declared.disk.Disk as disks
 use Rattle.corr_ids.specs.declared.day.Day.{Day}
 use Rattle.corr_io.specs.declared.sink.Sink as sinks
 use Rattle.corr_io.specs.declared.source.Source as sources
 use Rattle.corr_report.specs.Report.{report_of}
+use Rattle.corr_text.specs.Faults.{Rose}
 use Rattle.day_model.specs.Chart.{Chart}
 use Rattle.day_model.specs.Next.{fold_of}
 use Rattle.day_model.specs.declared.entry.Entry.{Entry}
@@ -29,7 +32,7 @@ use Rattle.corr_top.specs.Ends.{Ends, HasPassed}
 use Rattle.corr_top.specs.Inputs.{Inputs, directory_in, new_in, pays_of, replies_of, tables_in}
 use Rattle.corr_top.specs.Message.{message_reply, pays_in, readings_of}
 use Rattle.corr_top.specs.MessageFile.{IsMessageFile}
-use Rattle.corr_top.specs.OnDisk.{HoldsJournal, IsOnDisk, IsUnwritten}
+use Rattle.corr_top.specs.OnDisk.{HoldsJournal, IsOnDisk, IsUnwritten, LeavesMidway}
 use Rattle.corr_top.specs.Origin.{AreSentValid}
 use Rattle.corr_top.specs.Out.{sent_from}
 use Rattle.corr_top.specs.Passing.{HasMessages, IsFine, table_at, table_fault, table_file}
@@ -38,11 +41,15 @@ use Rattle.corr_top.specs.declared.message.NoPay.{NoPay}
 use Rattle.corr_top.specs.declared.room.Room.{Room}
 use Rattle.corr_top.specs.declared.status.Status.{Status}
 use Rattle.corr_top.specs.declared.words.Command.TheVariants.{Run}
-use Rattle.corr_top.specs.Promise.{AnswersAll, Keeps, KeepsOrMore, RunPromise, Told, Wrote, asked, writes}
+use Rattle.corr_top.specs.Promise.{AnswersAll, AtEachMoment, Keeps, KeepsOrMore, RunPromise, Told, Wrote, asked, writes}
 use Rattle.corr_top.proofs.promise.Agreeing.{SameBooks, same_books, same_table, sound_books, took_all}
 use Rattle.corr_top.proofs.promise.Finished.{finished, stopped_silent}
 use Rattle.corr_top.proofs.promise.Lists.{contains_get, filter_map_all, get_contains}
-use Rattle.corr_top.proofs.promise.Untouched.{same_keeps, unwritten_keeps}
+use Rattle.corr_top.proofs.promise.Untouched.{KeepsAll, OnlyNow, same_keeps, unwritten_keeps}
+
+-- a list is a front of itself
+whole_front : (books : List Entry) → IsPrefix books books
+whole_front books = ([], append-nil books)
 
 -- a journal that stands alone on a disk that tells its bytes
 keeps_on : {D : Type 0} (disk : disks.Ghosts D) (d : D) (chart : Chart) (books : List Entry) → IsTrue (disk.honest d) → IsJournal chart books → IsOnDisk disk d chart books → Keeps disk d chart books
@@ -125,21 +132,43 @@ module _ {S K D : Type 0} (source : sources.Ghosts S) (sink : sinks.Ghosts K) (d
               (subst (λ (c : Chart). V (tables_in i) c j.history) r.books.chart_is (subst (λ (k : Known). V k j.chart j.history) r.known valid));
         }
 
+    -- what a crash leaves at each moment, said of the books that the disk had
+    Midway : List Entry → Type 0
+    Midway books = AtEachMoment source sink disk old new s (λ image. StandsBetween i.chart i.history books image
+        ⊎ (Rose (disk.faults old.disk) (disk.faults new.disk) × StandsWithMore i.chart books i.day 1 image))
+
+    midway : Keeps disk old.disk i.chart i.history → (books : List Entry) → IsPrefix j.history books → LeavesMidway disk old.disk new.disk j.chart j.history books j.day → Midway books
+    midway kept books begins leaves =
+        let same : LeavesMidway disk old.disk new.disk i.chart i.history books i.day =
+        subst (λ (d : Day). LeavesMidway disk old.disk new.disk i.chart i.history books d) r.day
+        (subst (λ (b : List Entry). LeavesMidway disk old.disk new.disk i.chart b books j.day) r.books.books_is
+        (subst (λ (c : Chart). LeavesMidway disk old.disk new.disk c j.history books j.day) r.books.chart_is leaves)) in
+        λ image left. elim ((same kept.told).each image left) [
+          | inl before ↦ inl (record {
+            history = i.history;
+            goes_on = whole_front i.history;
+            begins = subst (λ (b : List Entry). IsPrefix b books) r.books.books_is begins;
+            stands = kept.crash image before;
+          })
+          | inr since ↦ since
+        ]
+
     -- all was entered
-    entered_all : IsTrue (disk.honest new.disk) → AreAnswered j → IsJournal j.chart (new_in j) → IsOnDisk disk new.disk j.chart (new_in j) → (writes s ≡ true → AnswersAll source sink disk old new s i (new_in j))
+    entered_all : Keeps disk old.disk i.chart i.history → LeavesMidway disk old.disk new.disk j.chart j.history (new_in j) j.day → IsTrue (disk.honest new.disk) → AreAnswered j → IsJournal j.chart (new_in j) → IsOnDisk disk new.disk j.chart (new_in j) → (writes s ≡ true → AnswersAll source sink disk old new s i (new_in j))
         → RunPromise source sink disk old new s i
-    entered_all sure a journal on answers = record {
+    entered_all kept leaves sure a journal on answers = record {
       books = new_in j;
       entered = j.entered;
       one_clerk = one_fold j.entered;
       of_file = inr (j.cut, r.file, of_asked j.entered (subst (λ (ps : List Pay). All (Contains (pays_of j)) ps) a.pays (of_pays j.day (pays_of j) a.added a.of_file)));
       crash = inl (subst (λ (c : Chart). Keeps disk new.disk c (new_in j)) r.books.chart_is (keeps_on disk new.disk j.chart (new_in j) sure journal on));
+      moments = midway kept (new_in j) (subst (λ (b : List Entry). IsPrefix j.history b) (sym a.is) (prefix-append j.history a.added)) leaves;
       answers = answers;
     }
 
     -- the entering stopped
-    entered_some : IsTrue (disk.honest new.disk) → {stop : _} → StopsBooking disk old.disk new.disk j stop → writes s ≡ false → RunPromise source sink disk old new s i
-    entered_some sure st silent =
+    entered_some : Keeps disk old.disk i.chart i.history → IsTrue (disk.honest new.disk) → {stop : _} → StopsBooking disk old.disk new.disk j stop → writes s ≡ false → RunPromise source sink disk old new s i
+    entered_some kept sure st silent =
         let books = j.history ++ st.added in
         let pays = map (λ (e : Entry). e.pay) st.added in
         let sound = sound_books j.chart books st.journal in
@@ -150,28 +179,30 @@ module _ {S K D : Type 0} (source : sources.Ghosts S) (sink : sinks.Ghosts K) (d
           entered = pays;
           one_clerk = legal_fold j.chart j.history st.added j.day st.journal.legal (λ k e at. (get_all (IsEnteredOn j.day (pays_of j)) st.added k e st.each at).day_is) ∙ one_fold pays;
           of_file = inr (j.cut, r.file, of_asked pays (of_pays j.day (pays_of j) st.added st.each));
+          moments = midway kept books (prefix-append j.history st.added) st.any_moment;
           crash = subst (λ (d : Day). M i.chart d) r.day (subst (λ (c : Chart). M c j.day) r.books.chart_is here);
           answers = λ some. absurd (true≢false (sym some ∙ silent));
         }
 
   -- none was entered
-  entered_none : Keeps disk new.disk i.chart i.history → writes s ≡ false → RunPromise source sink disk old new s i
+  entered_none : KeepsAll disk old.disk new.disk i.chart i.history → writes s ≡ false → RunPromise source sink disk old new s i
   entered_none kept silent = record {
     books = i.history;
     entered = [];
     one_clerk = refl;
     of_file = inl refl;
-    crash = inl kept;
+    crash = inl kept.kept;
+    moments = λ image left. inl (record { history = i.history; goes_on = whole_front i.history; begins = whole_front i.history; stands = kept.moments image left });
     answers = λ some. absurd (true≢false (sym some ∙ silent));
   }
 
 module _ {S K D : Type 0} (source : sources.Ghosts S) (sink : sinks.Ghosts K) (disk : disks.Ghosts D) (old new : Room S K D) (s : Status) (i : Inputs)
-    (honest : disk.honest new.disk ≡ disk.honest old.disk) (told : Told source sink disk old new s (Run i.day i.workers) i) (messages : source.left old.messages ≡ Some i.messages) (kept : Keeps disk old.disk i.chart i.history) where
+    (only : OnlyNow disk) (honest : disk.honest new.disk ≡ disk.honest old.disk) (told : Told source sink disk old new s (Run i.day i.workers) i) (messages : source.left old.messages ≡ Some i.messages) (kept : Keeps disk old.disk i.chart i.history) where
   sure : IsTrue (disk.honest new.disk)
   sure = subst IsTrue (sym honest) kept.told
 
-  same : new.disk ≡ old.disk → Keeps disk new.disk i.chart i.history
-  same is = same_keeps disk old.disk new.disk i.chart i.history is kept
+  same : new.disk ≡ old.disk → KeepsAll disk old.disk new.disk i.chart i.history
+  same is = same_keeps disk old.disk new.disk i.chart i.history only is kept
 
   pub run_promise : Ends source disk (Run i.day i.workers) old new sink s → RunPromise source sink disk old new s i
   unfolding report_in out_in Table
@@ -184,7 +215,7 @@ module _ {S K D : Type 0} (source : sources.Ghosts S) (sink : sinks.Ghosts K) (d
       let p = h.passed in
       reach p.0 p.1.0 p.1.1.0 p.1.1.1.0 p.1.1.1.1.0 p.1.1.1.1.1.1.0) in
       let wrote = (λ (h : HasPassed source disk (Run i.day i.workers) old new j).
-      entered_all source sink disk old new s i j (whole h) sure h.passed.1.1.1.1.1.1.1.0 h.leaves.journal h.leaves.entered
+      entered_all source sink disk old new s i j (whole h) kept h.leaves.any_moment sure h.passed.1.1.1.1.1.1.1.0 h.leaves.journal h.leaves.entered
       (λ some. let all = finished source sink disk old new s (Run i.day i.workers) ended some in all_answered source sink disk old new s i j (whole h) workers h.passed.1.1.1.1.1.1.1.0 all.1 all.2)) in
       elim ended.ends [
         | inl done ↦ wrote done.passed
@@ -210,7 +241,7 @@ module _ {S K D : Type 0} (source : sources.Ghosts S) (sink : sinks.Ghosts K) (d
                             | inr of_day ↦ elim of_day.1 [
                               | inl at_messages ↦ unwritten at_messages.1.0
                               | inr file ↦ elim file.1 [
-                                | inl at_book ↦ entered_some source sink disk old new s i j (reach bics.0 ccys.0 countries.0 ssi.0 journal.0 file.0) sure at_book.0.2 silent
+                                | inl at_book ↦ entered_some source sink disk old new s i j (reach bics.0 ccys.0 countries.0 ssi.0 journal.0 file.0) kept sure at_book.0.2 silent
                                 | inr past ↦ absurd past.1
                               ]
                             ]

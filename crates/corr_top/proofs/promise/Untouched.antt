@@ -15,20 +15,35 @@ use Rattle.corr_top.specs.declared.words.Plain.TheVariants.{Generate, Query, Rec
 use Rattle.corr_top.specs.declared.words.Query.{Query as Asked}
 use Rattle.corr_top.specs.Promise.{Keeps}
 
+-- a disk keeps its books, at each moment too
+pub record KeepsAll {D : Type 0} (disk : disks.Ghosts D) (old new : D) (chart : Chart) (books : List Entry) : Type 0 where
+  pub kept : Keeps disk new chart books
+  pub moments : (image : List ℕ) → disk.left_since new (disk.moment old) image → StandsForBook image chart books
+
+-- a law of disks: since this moment there is no other
+abbrev pub OnlyNow : {D : Type 0} → disks.Ghosts D → Type 0
+OnlyNow {D = D} disk = (d : D) (c : List ℕ) → disk.left_since d (disk.moment d) c → disk.may_leave d c
+
 -- a disk to which nothing was written keeps its books
 pub unwritten_keeps : {D : Type 0} (disk : disks.Ghosts D) (old new : D) (chart : Chart) (books : List Entry)
-    → disk.honest new ≡ disk.honest old → IsUnwritten disk old new → Keeps disk old chart books → Keeps disk new chart books
+    → disk.honest new ≡ disk.honest old → IsUnwritten disk old new → Keeps disk old chart books → KeepsAll disk old new chart books
 unwritten_keeps disk old new chart books honest unwritten kept = record {
-  told = subst IsTrue (sym honest) kept.told;
-  sound = kept.sound;
-  reads = subst (λ bytes. StandsForBook bytes chart books) (sym unwritten.same) kept.reads;
-  crash = λ image left. kept.crash image (unwritten.no_more image left);
+  kept = record {
+    told = subst IsTrue (sym honest) kept.told;
+    sound = kept.sound;
+    reads = subst (λ bytes. StandsForBook bytes chart books) (sym unwritten.same) kept.reads;
+    crash = λ image left. kept.crash image (unwritten.no_more image left);
+  };
+  moments = λ image left. kept.crash image (unwritten.any_moment.each image left);
 }
 
 -- a disk that is the same does
 pub same_keeps : {D : Type 0} (disk : disks.Ghosts D) (old new : D) (chart : Chart) (books : List Entry)
-    → new ≡ old → Keeps disk old chart books → Keeps disk new chart books
-same_keeps disk old new chart books same kept = subst (λ d. Keeps disk d chart books) (sym same) kept
+    → OnlyNow disk → new ≡ old → Keeps disk old chart books → KeepsAll disk old new chart books
+same_keeps disk old new chart books only same kept = record {
+  kept = subst (λ d. Keeps disk d chart books) (sym same) kept;
+  moments = λ image left. kept.crash image (only old image (subst (λ d. disk.left_since d (disk.moment old) image) same left));
+}
 
 module _ {S K D : Type 0} (source : sources.Ghosts S) (sink : sinks.Ghosts K) (disk : disks.Ghosts D) (old new : Room S K D) (s : Status) where
   -- a query writes nothing to the disk
@@ -65,23 +80,23 @@ module _ {S K D : Type 0} (source : sources.Ghosts S) (sink : sinks.Ghosts K) (d
   ]
 
   -- the books stay over each of them
-  module _ (chart : Chart) (books : List Entry) (honest : disk.honest new.disk ≡ disk.honest old.disk) (kept : Keeps disk old.disk chart books) where
-    by_unwritten : IsUnwritten disk old.disk new.disk → Keeps disk new.disk chart books
+  module _ (chart : Chart) (books : List Entry) (only : OnlyNow disk) (honest : disk.honest new.disk ≡ disk.honest old.disk) (kept : Keeps disk old.disk chart books) where
+    by_unwritten : IsUnwritten disk old.disk new.disk → KeepsAll disk old.disk new.disk chart books
     by_unwritten unwritten = unwritten_keeps disk old.disk new.disk chart books honest unwritten kept
 
-    by_same : new.disk ≡ old.disk → Keeps disk new.disk chart books
-    by_same same = same_keeps disk old.disk new.disk chart books same kept
+    by_same : new.disk ≡ old.disk → KeepsAll disk old.disk new.disk chart books
+    by_same same = same_keeps disk old.disk new.disk chart books only same kept
 
-    pub query_keeps : (asked : Asked) → Ends source disk (Plain (Query asked)) old new sink s → Keeps disk new.disk chart books
+    pub query_keeps : (asked : Asked) → Ends source disk (Plain (Query asked)) old new sink s → KeepsAll disk old.disk new.disk chart books
     query_keeps asked ended = by_unwritten (query_unwritten asked ended)
 
-    pub generate_keeps : (count seed : ℕ) → Ends source disk (Plain (Generate count seed)) old new sink s → Keeps disk new.disk chart books
+    pub generate_keeps : (count seed : ℕ) → Ends source disk (Plain (Generate count seed)) old new sink s → KeepsAll disk old.disk new.disk chart books
     generate_keeps count seed ended = by_same (generate_same count seed ended)
 
-    pub trial_keeps : (count seed workers : ℕ) → Ends source disk (Trial count seed workers) old new sink s → Keeps disk new.disk chart books
+    pub trial_keeps : (count seed workers : ℕ) → Ends source disk (Trial count seed workers) old new sink s → KeepsAll disk old.disk new.disk chart books
     trial_keeps count seed workers ended = by_same (trial_same count seed workers ended)
 
-    pub reconcile_keeps : Ends source disk (Plain Reconcile) old new sink s → Keeps disk new.disk chart books
+    pub reconcile_keeps : Ends source disk (Plain Reconcile) old new sink s → KeepsAll disk old.disk new.disk chart books
     reconcile_keeps ended = elim ended.ends [
       | inl done ↦ by_unwritten done.passed.leaves.unwritten
       | inr other ↦ elim other [
