@@ -25,9 +25,9 @@ use std::test::*;
 use std::thread::{Threads, join, yield_now};
 use work_pool::{Gate, OpenGate};
 
-type Answer = Result<Committed, CommitFault>;
+pub(crate) type Answer = Result<Committed, CommitFault>;
 
-const DAY: Day = Day(19_877);
+pub(crate) const DAY: Day = Day(19_877);
 
 fn account(
     alloc: Global,
@@ -108,7 +108,13 @@ fn record(alloc: Global, number: u32, debit: u8, credit: u8, amount: u64) -> Res
     Ok(bytes)
 }
 
-fn pay(alloc: Global, number: u32, debit: u8, credit: u8, amount: u64) -> Result<Pay, Fail>
+pub(crate) fn pay(
+    alloc: Global,
+    number: u32,
+    debit: u8,
+    credit: u8,
+    amount: u64,
+) -> Result<Pay, Fail>
     ensures { IfOk result HasShape }
 {
     let bytes = record(alloc, number, debit, credit, amount)?;
@@ -126,7 +132,7 @@ fn add_record(bytes: &mut Text, record: &[u8]) -> Result<(), Memory> {
 }
 
 // The journal of these accounts with so many entries, each of 0.01 from account 1 to account 3.
-fn journal<R: Abort>(rt: &R, alloc: Global, entries: u32) -> Result<Text, Fail> {
+pub(crate) fn journal<R: Abort>(rt: &R, alloc: Global, entries: u32) -> Result<Text, Fail> {
     let accounts = sample_accounts(rt, alloc)?;
     let mut head = Text::from_bytes(alloc, b"")?;
     put_head(&accounts, &mut head)?;
@@ -140,7 +146,7 @@ fn journal<R: Abort>(rt: &R, alloc: Global, entries: u32) -> Result<Text, Fail> 
     Ok(bytes)
 }
 
-fn new(place: u32) -> Answer {
+pub(crate) fn new(place: u32) -> Answer {
     Ok(Committed::New {
         place,
         outcome: Outcome::Booked,
@@ -174,7 +180,7 @@ struct Both {
     entries: u32,
 }
 
-fn book_as<N: BooksName, D: Disk, R: Wait, G: Gate>(
+pub(crate) fn book_as<N: BooksName, D: Disk, R: Wait, G: Gate>(
     rt: &R,
     books: &Books<N, D>,
     mut pass: Pass,
@@ -236,7 +242,7 @@ fn book_at_once<
 }
 
 // Books under a name, and their two passes.
-fn begin<N: BooksName, D: Disk + Drop>(
+pub(crate) fn begin<N: BooksName, D: Disk + Drop>(
     alloc: Global,
     opened: Opened<D>,
     made: u32,
@@ -258,7 +264,7 @@ fn begin<N: BooksName, D: Disk + Drop>(
 }
 
 // How many entries there are once books were closed with two passes. Promises nothing; likewise the next.
-fn close<N: BooksName, D: Disk + Drop>(
+pub(crate) fn close<N: BooksName, D: Disk + Drop>(
     alloc: Global,
     books: Books<N, D>,
     front: Pass,

@@ -4,6 +4,8 @@
 #[cfg(test)]
 mod books;
 #[cfg(test)]
+mod broken;
+#[cfg(test)]
 mod fronts;
 #[cfg(test)]
 mod places;
