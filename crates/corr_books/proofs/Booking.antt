@@ -157,9 +157,9 @@ module _ {D : Type 0} (disk : disks.Ghosts D) (o : Opening) (past : ℕ → List
         let legal_here : IsLegal o.accounts b.history = subst (λ (x : Chart × List Entry). IsLegal x.0 x.1) (λ i. ((e.accounts ∙ s.accounts) i, e.history i)) e.legal in
         let few : length b.history < 100000 = shows.2.entries in
         let legal : IsLegal o.accounts (b.history ++ entry ∷ []) = one_pay_more o.accounts b.history pay o.day legal_here fits s.latest few (ap is_some shows.1) in
-        let After : List Entry → List ℕ → Type 0 = λ h image. StandsBetween o.accounts o.base h image ⊎ StandsWithMore o.accounts h o.day 1 image in
-        let within : LeavesSince disk o past (disk_of b'.file) (After b.history) =
-        leaves_next disk o past (disk_of b.file) (disk_of b'.file) (StandsBetween o.accounts o.base b.history) (IsBeforeOrNext o.accounts b.history pay o.day) (After b.history)
+        let Left : List Entry → List ℕ → Type 0 = λ h image. StandsBetween o.accounts o.base h image ⊎ StandsWithMore o.accounts h o.day 1 image in
+        let within : LeavesSince disk o past (disk_of b'.file) (Left b.history) =
+        leaves_next disk o past (disk_of b.file) (disk_of b'.file) (StandsBetween o.accounts o.base b.history) (IsBeforeOrNext o.accounts b.history pay o.day) (Left b.history)
         (left_before honest) (left_within (Err (DiskFault before after)) e honest)
         (λ image x. inl x)
         (λ image x. ⊎_elim
