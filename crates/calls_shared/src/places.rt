@@ -18,6 +18,6 @@ fn a_pass_has_room_for_two_places(rt: HostRuntime) -> Result<(), Fail> {
     pass.meet(&f, &mut w, Some(1));
     w.publish(&f);
     pass.meet(&f, &mut w, Some(2));
-    assert_eq!(rt; pass.mine(), &[1, 2]);
+    assert_eq!(rt; pass.mine(), [1, 2].as_slice());
     Ok(())
 }
