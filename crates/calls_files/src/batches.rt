@@ -1,10 +1,12 @@
 //! Many records under one sync, over disks in memory.
 
 ghost use Rattle.std.specs.Prelude.{◌<◌, [], ◌∷◌};
+ghost use Rattle.jrn_file.specs.File.{IsOpen};
 ghost use Rattle.jrn_file.specs.Journal.{AreFrames};
 
 use crate::files::{HEAD, count, front_of, fuse, memory, open};
-use jrn_file::AppendFault;
+use corr_disk::Disk;
+use jrn_file::{AppendFault, JFile};
 use std::alloc::Global;
 use std::test::Fail;
 
@@ -18,11 +20,18 @@ fn batch() -> [u8; 18]
     *b"\0\0\0\x02AB\x01\0\0\0\0\x01\0\0\0\x01C\0"
 }
 
+// Appends the three of them.
+fn add_batch<D: Disk>(file: &mut JFile<D>) -> Result<(), AppendFault>
+    requires { IsOpen D.honest D.reads D.may_leave file.old }
+{
+    file.append_all(&batch())
+}
+
 #[test]
 fn three_records_are_appended_together(rt: HostRuntime) -> Result<(), Fail> {
     let alloc = rt.alloc();
     let (mut file, _) = open(alloc, memory(alloc, HEAD)?)?;
-    file.append_all(&batch())?;
+    add_batch(&mut file)?;
     assert_eq!(rt; file.end(), 24);
     assert_eq!(rt; front_of(alloc, &mut file.into_disk())?.bytes(), FOUR);
     Ok(())
@@ -37,7 +46,7 @@ fn append_all_with(
     requires { calls < 5 }
 {
     let (mut file, _) = open(alloc, fuse(alloc, HEAD, calls + 2, torn)?)?;
-    let answer = file.append_all(&batch());
+    let answer = add_batch(&mut file);
     let left = count(alloc, file.into_disk().left())?;
     Ok((answer, left))
 }
