@@ -24,7 +24,7 @@ use Rattle.ssi_versions.specs.Rows.{instruction_of}
 use Rattle.corr_top.specs.declared.directory.Directory.{Directory}
 use Rattle.corr_top.specs.declared.room.Tables.{Tables as Files}
 use Rattle.corr_top.specs.Inputs.{Inputs, chart_in, directory_in, opened}
-use Rattle.corr_top.specs.OnDisk.{HasNotFailed, IsMakeable, IsOnDisk, StopsMaking}
+use Rattle.corr_top.specs.OnDisk.{HasNotFailed, IsMakeable, IsOnDisk, MakesInTurn, StopsMaking}
 use Rattle.corr_top.specs.Passing.{IsFine, table_fault, table_file, table_at}
 use Rattle.corr_top.specs.Reading.{IsRead, Took}
 use Rattle.corr_top.specs.Samples.{sample_accounts, sample_bics, sample_ccys, sample_countries, sample_home, sample_ssi}
@@ -100,7 +100,7 @@ home_formed = refl
 
 -- the journal was made on a new disk
 pub made_new : {D : Type 0} (d : disks.Ghosts D) (old new : D) (head : List ℕ) (making : Result (Unit {0}) MakeFault) → making ≡ Ok tt
-    → MatchResult making (λ _. (c : Chart) → head ≡ head_bytes c → IsMakeable d old × IsOnDisk d new c [] × HasNotFailed d old new) (λ fault. (c : Chart) → head ≡ head_bytes c → StopsMaking d old new c fault)
+    → MatchResult making (λ _. (c : Chart) → head ≡ head_bytes c → IsMakeable d old × IsOnDisk d new c [] × HasNotFailed d old new × MakesInTurn d old new c) (λ fault. (c : Chart) → head ≡ head_bytes c → StopsMaking d old new c fault)
     → head ≡ head_bytes sample_chart → IsTrue (d.honest new) → d.faults old ≡ 0 → IsNewDisk d new
 made_new d old new head (Ok done) is made written honest sure = let m = made sample_chart written in record { honest = honest; holds = m.1; faults = m.2 ∙ sure }
 made_new d old new head (Err fault) is made written honest sure = absurd cc

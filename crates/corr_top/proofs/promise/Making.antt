@@ -18,7 +18,10 @@ use Rattle.corr_top.specs.declared.status.Status.{Status}
 use Rattle.corr_top.specs.declared.words.Command.TheVariants.{Plain}
 use Rattle.corr_top.specs.declared.words.Plain.TheVariants.{Init}
 use Rattle.corr_top.specs.Promise.{AtEachMoment, Told}
+use Rattle.corr_top.specs.Init.{init_steps}
+use Rattle.corr_top.specs.Steps.{Step}
 use Rattle.corr_top.proofs.promise.Agreeing.{same_table}
+use Rattle.corr_top.proofs.promise.Lists.{get_contains}
 use Rattle.corr_top.proofs.promise.Promising.{same_chart}
 use Rattle.corr_top.proofs.promise.Untouched.{OnlyNow}
 
@@ -32,10 +35,10 @@ module _ {S K D : Type 0} (source : sources.Ghosts S) (sink : sinks.Ghosts K) (d
       let Table : TableName → Type 0 = λ name. IsFine source (table_at name old.tables) (table_at name new.tables) (table_file name j) (table_fault name j) in
       let chart : Table names.Bics → Table names.Ccys → Table names.Countries → Table names.Accounts → chart_in j ≡ chart_in i = λ bics ccys countries accounts.
       same_chart source sink disk old new s j i ended.are_for
-      (same_table source names.Bics old.tables new.tables j i (told names.Bics (0, refl)) bics)
-      (same_table source names.Ccys old.tables new.tables j i (told names.Ccys (1, refl)) ccys)
-      (same_table source names.Countries old.tables new.tables j i (told names.Countries (2, refl)) countries)
-      (same_table source names.Accounts old.tables new.tables j i (told names.Accounts (3, refl)) accounts) in
+      (same_table source names.Bics old.tables new.tables j i (told names.Bics (get_contains init_steps 0 (Step.table names.Bics) refl)) bics)
+      (same_table source names.Ccys old.tables new.tables j i (told names.Ccys (get_contains init_steps 1 (Step.table names.Ccys) refl)) ccys)
+      (same_table source names.Countries old.tables new.tables j i (told names.Countries (get_contains init_steps 2 (Step.table names.Countries) refl)) countries)
+      (same_table source names.Accounts old.tables new.tables j i (told names.Accounts (get_contains init_steps 3 (Step.table names.Accounts) refl)) accounts) in
       let P : Chart → Type 0 = λ c. IsUnmade image ⊎ StandsForBook image c [] in
       let same : new.disk ≡ old.disk → P (chart_in i) = λ is.
       inl (subst IsUnmade (sym (only image (now old.disk image (subst (λ (d : D). disk.left_since d (disk.moment old.disk) image) is left)))) unmade) in

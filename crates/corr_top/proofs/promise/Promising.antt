@@ -15,12 +15,15 @@ use Rattle.corr_top.specs.Commands.{out_in, report_in}
 use Rattle.corr_top.specs.Ends.{Ends}
 use Rattle.corr_top.specs.Inputs.{Inputs, chart_in, tables_in}
 use Rattle.corr_top.specs.MessageFile.{IsMessageFile}
-use Rattle.corr_top.specs.Reconcile.{break_report}
+use Rattle.corr_top.specs.Reconcile.{break_report, reconcile_steps}
 use Rattle.corr_top.specs.declared.room.Room.{Room}
 use Rattle.corr_top.specs.declared.status.Status.{Status}
 use Rattle.corr_top.specs.declared.words.Command.TheVariants.{Plain}
 use Rattle.corr_top.specs.declared.words.Plain.TheVariants.{Init, Reconcile}
 use Rattle.corr_top.specs.Promise.{Keeps, ReconcilePromise, Told, Wrote, writes}
+use Rattle.corr_top.specs.Init.{init_steps}
+use Rattle.corr_top.specs.Steps.{Step}
+use Rattle.corr_top.proofs.promise.Lists.{get_contains}
 use Rattle.corr_top.proofs.promise.Agreeing.{same_books, same_table, sound_books, took_all}
 use Rattle.corr_top.proofs.promise.Finished.{finished}
 
@@ -40,9 +43,9 @@ module _ {S K D : Type 0} (source : sources.Ghosts S) (sink : sinks.Ghosts K) (d
       let all = finished source sink disk old new s (Plain Reconcile) ended some in
       let p = all.0.passed in
       let known = same_known j i
-      (same_table source names.Bics old.tables new.tables j i (told names.Bics (0, refl)) p.0)
-      (same_table source names.Ccys old.tables new.tables j i (told names.Ccys (1, refl)) p.1.0)
-      (same_table source names.Countries old.tables new.tables j i (told names.Countries (2, refl)) p.1.1.0) in
+      (same_table source names.Bics old.tables new.tables j i (told names.Bics (get_contains reconcile_steps 0 (Step.table names.Bics) refl)) p.0)
+      (same_table source names.Ccys old.tables new.tables j i (told names.Ccys (get_contains reconcile_steps 1 (Step.table names.Ccys) refl)) p.1.0)
+      (same_table source names.Countries old.tables new.tables j i (told names.Countries (get_contains reconcile_steps 2 (Step.table names.Countries) refl)) p.1.1.0) in
       let books = same_books disk old.disk j i.chart i.history p.1.1.1.0 kept in
       let had = p.1.1.1.1.0 in
       let bytes = took_all source.left source.faults 67108864 old.received new.received j.messages i.messages received had.are.short had.took in
@@ -68,10 +71,10 @@ module _ {S K D : Type 0} (source : sources.Ghosts S) (sink : sinks.Ghosts K) (d
       let p = all.0.passed in
       let leaves = all.0.leaves in
       let chart = same_chart j i ended.are_for
-      (same_table source names.Bics old.tables new.tables j i (told names.Bics (0, refl)) p.0)
-      (same_table source names.Ccys old.tables new.tables j i (told names.Ccys (1, refl)) p.1.0)
-      (same_table source names.Countries old.tables new.tables j i (told names.Countries (2, refl)) p.1.1.0)
-      (same_table source names.Accounts old.tables new.tables j i (told names.Accounts (3, refl)) p.1.1.1.0) in
+      (same_table source names.Bics old.tables new.tables j i (told names.Bics (get_contains init_steps 0 (Step.table names.Bics) refl)) p.0)
+      (same_table source names.Ccys old.tables new.tables j i (told names.Ccys (get_contains init_steps 1 (Step.table names.Ccys) refl)) p.1.0)
+      (same_table source names.Countries old.tables new.tables j i (told names.Countries (get_contains init_steps 2 (Step.table names.Countries) refl)) p.1.1.0)
+      (same_table source names.Accounts old.tables new.tables j i (told names.Accounts (get_contains init_steps 3 (Step.table names.Accounts) refl)) p.1.1.1.0) in
       let now : IsTrue (disk.honest new.disk) = subst IsTrue (sym honest) sure in
       let stands = leaves.made.stands now in
       let made : Keeps disk new.disk (chart_in j) [] = record {

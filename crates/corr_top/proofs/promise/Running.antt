@@ -35,6 +35,8 @@ use Rattle.corr_top.specs.MessageFile.{IsMessageFile}
 use Rattle.corr_top.specs.OnDisk.{HoldsJournal, IsOnDisk, IsUnwritten, LeavesMidway}
 use Rattle.corr_top.specs.Origin.{AreSentValid}
 use Rattle.corr_top.specs.Out.{sent_from}
+use Rattle.corr_top.specs.Run.{run_steps}
+use Rattle.corr_top.specs.Steps.{Step}
 use Rattle.corr_top.specs.Passing.{HasMessages, IsFine, table_at, table_fault, table_file}
 use Rattle.corr_top.specs.declared.directory.Directory.{Directory}
 use Rattle.corr_top.specs.declared.message.NoPay.{NoPay}
@@ -82,10 +84,10 @@ module _ {S K D : Type 0} (source : sources.Ghosts S) (sink : sinks.Ghosts K) (d
       → Table names.Bics → Table names.Ccys → Table names.Countries → Table names.Ssi → HoldsJournal disk old.disk j.chart j.history → HasMessages source old.messages new.messages j.messages j.cut → Reached
   unfolding Table
   reached told messages kept day bics ccys countries ssi holds had =
-      let b = same_table source names.Bics old.tables new.tables j i (told names.Bics (0, refl)) bics in
-      let c = same_table source names.Ccys old.tables new.tables j i (told names.Ccys (1, refl)) ccys in
-      let n = same_table source names.Countries old.tables new.tables j i (told names.Countries (2, refl)) countries in
-      let t = same_table source names.Ssi old.tables new.tables j i (told names.Ssi (3, refl)) ssi in
+      let b = same_table source names.Bics old.tables new.tables j i (told names.Bics (get_contains run_steps 0 (Step.table names.Bics) refl)) bics in
+      let c = same_table source names.Ccys old.tables new.tables j i (told names.Ccys (get_contains run_steps 1 (Step.table names.Ccys) refl)) ccys in
+      let n = same_table source names.Countries old.tables new.tables j i (told names.Countries (get_contains run_steps 2 (Step.table names.Countries) refl)) countries in
+      let t = same_table source names.Ssi old.tables new.tables j i (told names.Ssi (get_contains run_steps 3 (Step.table names.Ssi) refl)) ssi in
       let known : tables_in j ≡ tables_in i =
       ap (λ (x : List ℕ). tables_of x j.ccys j.countries) b ∙ ap (λ (x : List ℕ). tables_of i.bics x j.countries) c ∙ ap (λ (x : List ℕ). tables_of i.bics i.ccys x) n in
       let rows = ap (λ (x : List ℕ). map instruction_of (rows_of x)) t in
@@ -133,7 +135,7 @@ module _ {S K D : Type 0} (source : sources.Ghosts S) (sink : sinks.Ghosts K) (d
         }
 
     -- what a crash leaves at each moment, said of the books that the disk had
-    Midway : List Entry → Type 0
+    abbrev Midway : List Entry → Type 0
     Midway books = AtEachMoment source sink disk old new s (λ image. StandsBetween i.chart i.history books image
         ⊎ (Rose (disk.faults old.disk) (disk.faults new.disk) × StandsWithMore i.chart books i.day 1 image))
 
