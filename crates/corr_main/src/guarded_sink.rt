@@ -7,12 +7,14 @@ use corr_io::{Failed, Sink, StdSink, count_fault};
 use corr_text::Text;
 use std::sync::atomic::{AtomicBool, Ordering};
 
-/// The journal of a folder: its path, what its disk knows of its file, and whether it was found before anything was written.
+/// The journal of a folder: its path, what its disk knows of its file, and whether it was looked for and found before anything was
+/// written.
 #[derive(Drop)]
 pub struct Journal {
     path: Text,
     watch: FileWatch,
-    is_found: AtomicBool,
+    was_sought: AtomicBool,
+    was_found: AtomicBool,
 }
 
 impl Journal {
@@ -20,7 +22,8 @@ impl Journal {
         Journal {
             path,
             watch: FileWatch::new(),
-            is_found: AtomicBool::new(false),
+            was_sought: AtomicBool::new(false),
+            was_found: AtomicBool::new(false),
         }
     }
 
@@ -29,14 +32,14 @@ impl Journal {
         &self.watch
     }
 
-    /// Looks for the file of the disk, until it was found once; whether it was.
+    /// Whether the file of the disk is there. It looks once, and answers the same ever after.
     pub fn find(&self, rt: &HostRuntime) -> bool {
-        if self.is_found.load(Ordering::SeqCst) {
-            return true;
+        if !self.was_sought.load(Ordering::SeqCst) {
+            let is_there = self.watch.is_there(rt, &self.path);
+            self.was_found.store(is_there, Ordering::SeqCst);
+            self.was_sought.store(true, Ordering::SeqCst);
         }
-        let is_there = self.watch.is_there(rt, &self.path);
-        self.is_found.store(is_there, Ordering::SeqCst);
-        is_there
+        self.was_found.load(Ordering::SeqCst)
     }
 }
 
