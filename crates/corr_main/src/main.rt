@@ -10,7 +10,7 @@ use crate::guarded_sink::{GuardedSink, Journal};
 use corr_disk::{FileDisk, Trouble};
 use corr_io::{StdSink, StdSource};
 use corr_text::{Memory, Text, let_go};
-use corr_top::{Done, Room, Status, Tables, corr, put_status_line};
+use corr_top::{Room, Status, Tables, corr, put_status_line};
 use std::env::{Env, FillError};
 use std::fs::File;
 use std::io;
@@ -161,9 +161,6 @@ fn tables<'a>(
 /// What a command is handed: files, and standard output.
 type Files<'a> = Room<StdSource<'a, HostRuntime>, GuardedSink<'a>, FileDisk<'a, HostRuntime>>;
 
-/// How a command ended, with what it was handed.
-type Ended<'a> = Done<StdSource<'a, HostRuntime>, GuardedSink<'a>, FileDisk<'a, HostRuntime>>;
-
 /// The files of a folder, and standard output for the report. What is sent is appended to `out.fin`. The journal is held alone
 /// but for who only reads it, and nothing is written where it was removed or cut meanwhile.
 fn room<'a>(
@@ -204,14 +201,19 @@ fn is_reader(words: &[Text]) -> bool {
     }
 }
 
-/// What is wrong with the journal of a command that has ended, where it isn't only that the system refused a call. A command that
+/// What is wrong with the journal of a command that has ended so, where it isn't only that the system refused a call. A command that
 /// has written nothing hasn't looked for it yet.
-fn trouble(rt: &HostRuntime, done: &Ended<'_>, journal: &Journal) -> Option<Trouble> {
-    let is_written = matches!(done.status, Status::Done | Status::WriteFault { .. });
+fn trouble(
+    rt: &HostRuntime,
+    status: &Status,
+    room: &Files<'_>,
+    journal: &Journal,
+) -> Option<Trouble> {
+    let is_written = matches!(status, Status::Done | Status::WriteFault { .. });
     if is_written && !journal.find(rt) {
         Some(Trouble::Gone)
     } else {
-        done.room.disk.trouble()
+        room.disk.trouble()
     }
 }
 
@@ -234,9 +236,10 @@ fn run(
         Err(Memory) => return Ok(Status::Memory),
     };
     let done = corr(waiter, rt.alloc(), words, room, &OpenGate);
-    let trouble = trouble(rt, &done, &journal);
     let status = done.status;
-    let_go(done);
+    let room = done.room;
+    let trouble = trouble(rt, &status, &room, &journal);
+    let_go(room);
     match trouble {
         Some(trouble) => Err(trouble),
         None => Ok(status),
