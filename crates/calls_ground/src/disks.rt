@@ -198,7 +198,9 @@ fn a_file_disk_keeps_what_was_written(rt: HostRuntime) -> Result<(), Fail> {
 // Whether each call fails and is counted, because the file is held.
 fn is_in_use(disk: &mut FileDisk<'_, HostRuntime>) -> bool {
     let faults = disk.faults();
-    is_stopped(disk) && disk.faults() == faults + 4 && disk.trouble() == Some(Trouble::InUse)
+    is_stopped(disk)
+        && disk.faults() == faults.saturating_add(4)
+        && disk.trouble() == Some(Trouble::InUse)
 }
 
 #[test]
