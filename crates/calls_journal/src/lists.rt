@@ -1,20 +1,11 @@
-//! Lists of held accounts: taken in rising order, also by two threads, agreed, settled and committed.
+//! Lists of held accounts: taken in rising order, also by two threads, agreed and settled.
 
-ghost use Rattle.std.specs.Prelude.{◌≡◌, ◌<◌, ◌≤◌, [], All, IfOk, length, map};
-ghost use Rattle.std.specs.Ordering.{nat_cmp};
-ghost use Rattle.std.specs.List.Sorted.{IsStrictlySortedBy};
-ghost use Rattle.acct_locks.specs.Holdings.{EachOnce, HoldsOnce};
-ghost use Rattle.jrn_codec.specs.Record.{IsEntry};
-ghost use Rattle.jrn_book.specs.Opening.{HasPurses};
+ghost use Rattle.std.specs.Prelude.{◌≡◌, ◌<◌, ◌≤◌, length};
 
-use crate::books::{HEAD, enter_held, entry_of, is_new, journal, opened as opened_book};
 use crate::locks::{Desk, is_alone, leg, opened, watched};
-use crate::records::ENTRY;
-use acct_locks::{BookSides, Held, HeldAll, Loose, Name, Purses};
-use corr_disk::{Disk, MemDisk};
+use acct_locks::{BookSides, Held, Loose, Name, Purses};
 use corr_text::Memory;
-use day_model::{AcctNo, Entry, Side};
-use jrn_book::{CommitFault, Committed, JrnBook};
+use day_model::{AcctNo, Side};
 use std::alloc::Global;
 use std::marker::Brand;
 use std::process::Abort;
@@ -23,21 +14,6 @@ use std::sync::{Mutex, Wait};
 use std::test::*;
 use std::thread::{Threads, join};
 use std::time::Clock;
-
-// Takes each of these accounts, whose numbers rise.
-fn take_each<N: Name>(rt: &impl Wait, held: &mut HeldAll<'_, N>, numbers: &[u32])
-    requires none { held.old.held ≡ [] }
-    requires room { length numbers.now ≤ held.old.most }
-    requires there { All (λ n. (0 < n) × (n ≤ held.old.count)) numbers.now }
-    requires rising { IsStrictlySortedBy nat_cmp numbers.now }
-    ensures held { map (λ h. h.number) held.new.held ≡ numbers.now }
-    ensures once { EachOnce held.new.held }
-    ensures same { (held.new.table ≡ held.old.table) × (held.new.count ≡ held.old.count) × (held.new.most ≡ held.old.most) }
-{
-    for n in numbers {
-        held.take(rt, AcctNo(*n));
-    }
-}
 
 // The totals of accounts 1 to 3, after an agreement at the first take and the settling of two legs at the second.
 fn settle_pair<N: Name>(
@@ -183,51 +159,4 @@ fn in_two_threads<N: Name + Send + Sync, R: Threads + Wait + Abort + Clock + Syn
 fn two_threads_take_lists(rt: HostRuntime) -> Result<(), Fail> {
     let (loose, sides) = opened(&rt, rt.alloc())?;
     in_two_threads::<Brand, _>(&rt, rt.alloc(), loose, sides)
-}
-
-// Accounts 1 and 2 are held.
-fn hold_both<'a, N: Name>(
-    rt: &impl Wait,
-    alloc: Global,
-    purses: &'a Purses<N>,
-) -> Result<HeldAll<'a, N>, Memory>
-    requires two { purses.now ≡ 2 }
-    ensures table { IfOk result (λ h. h.table ≡ N.table) }
-    ensures holds { IfOk result (λ h. HoldsOnce h.held 1 × HoldsOnce h.held 2) }
-{
-    let mut held = purses.hold_all(alloc, 2)?;
-    take_each(rt, &mut held, &[1, 2]);
-    Ok(held)
-}
-
-fn committed<N: Name, D: Disk + Drop, R: Wait>(
-    rt: &R,
-    alloc: Global,
-    book: JrnBook<D>,
-    loose: Loose,
-    e: &Entry,
-) -> Result<Option<Result<Committed, CommitFault>>, Fail>
-    requires written { IsEntry e.now }
-    requires table { book.table ≡ N.table }
-    requires purses { HasPurses book loose }
-{
-    let mut book = book;
-    if book.accounts().count() != 2 {
-        return Err("other accounts".into());
-    }
-    let purses = loose.lock::<N>(alloc)?;
-    let mut held = hold_both(rt, alloc, &purses)?;
-    let answer = enter_held(&mut book, &mut held, e);
-    held.give_back();
-    Ok(answer)
-}
-
-#[test]
-fn a_pay_is_committed_on_a_list(rt: HostRuntime) -> Result<(), Fail> {
-    let alloc = rt.alloc();
-    let e = entry_of(alloc, ENTRY)?;
-    let (book, loose) = opened_book(alloc, MemDisk::new(alloc, journal(alloc, &[HEAD])?))?;
-    let answer = committed::<Brand, _, _>(&rt, alloc, book, loose, &e)?;
-    assert!(rt; is_new(&answer));
-    Ok(())
 }
