@@ -1,10 +1,11 @@
 //! Each call once; cases stand in rows (tables.rows and limits.rows).
 
 use corr_ids::Bic;
-use corr_money::Ccy;
+use corr_money::{Ccy, Minor};
 use ref_tables::{
-    AccountRow, RefTables, TableFault, TableName, Why, bad, ccy, cell, is_account_id,
-    read_accounts, read_banks, read_rows, read_tables, with_countries, with_currencies,
+    AccountRow, Charges, RefTables, TableFault, TableName, Why, bad, ccy, cell, is_account_id,
+    read_account_words, read_accounts, read_banks, read_charges, read_rows, read_tables,
+    with_countries, with_currencies,
 };
 use std::alloc::Global;
 use std::test::Fail;
@@ -20,6 +21,15 @@ fn tables(alloc: Global) -> Result<RefTables, TableFault> {
 
 fn accounts(alloc: Global) -> Result<Vec<AccountRow>, TableFault> {
     read_accounts(alloc, b"A,C,HOMEUS33,EUR,0,9,5", &HOME, &tables(alloc)?)
+}
+
+fn account_of_words(alloc: Global) -> Result<AccountRow, TableFault> {
+    let words: [&[u8]; 7] = [b"FEEEUR", b"F", b"HOMEUS33", b"EUR", b"0", b"9", b"5"];
+    read_account_words(alloc, &words, &HOME, &tables(alloc)?)
+}
+
+fn charges(alloc: Global) -> Result<Charges, TableFault> {
+    read_charges(alloc, b"EUR,500", &tables(alloc)?)
 }
 
 #[test]
@@ -49,6 +59,29 @@ fn accounts_are_read(rt: HostRuntime) -> Result<(), Fail> {
     assert_eq!(rt; accounts.len(), 1);
     assert_eq!(rt; accounts[0].opening, 5);
     Ok(())
+}
+
+#[test]
+fn an_account_is_read_of_words(rt: HostRuntime) -> Result<(), Fail> {
+    let account = account_of_words(rt.alloc())?;
+    assert_eq!(rt; account.id.bytes(), b"FEEEUR".as_slice());
+    assert_eq!(rt; account.kind, b'F');
+    assert_eq!(rt; account.opening, 5);
+    Ok(())
+}
+
+#[test]
+fn charges_are_read(rt: HostRuntime) -> Result<(), Fail> {
+    let charges = charges(rt.alloc())?;
+    assert_eq!(rt; charges.of(Ccy(*b"EUR")), Some(Minor(500)));
+    assert_eq!(rt; charges.of(Ccy(*b"USD")), None);
+    Ok(())
+}
+
+#[test]
+fn nothing_is_charged_without_rows(rt: HostRuntime) {
+    let none = Charges::empty(rt.alloc());
+    assert_eq!(rt; none.of(Ccy(*b"EUR")), None);
 }
 
 #[test]

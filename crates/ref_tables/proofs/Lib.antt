@@ -1,5 +1,6 @@
 pub mod laws
 pub mod ReadFaults
 pub mod Numbers
+pub mod Cells
 pub mod Standing
 pub mod Entering

@@ -1,7 +1,7 @@
 -- Numbers of 15 digits fit.
-use Rattle.std.proofs.Common.{◌≡◌, ℕ, ◌^◌, ◌<◌, ◌≤◌, true, List, length, Some, arith, rules, FitsSigned, w64, pos, to_z}
+use Rattle.std.proofs.Common.{◌≡◌, ℕ, ◌^◌, ◌<◌, ◌≤◌, true, List, length, Option, Some, None, sym, arith, rules, FitsSigned, w64, pos, to_z}
 use Rattle.std.proofs.lemmas.Int.{ints, to_z_pos}
-use Rattle.ref_tables.specs.Columns.{magnitude_of}
+use Rattle.std.specs.Prelude.{IfSome}
 use Rattle.std.specs.Str.{all_ascii_digits}
 use Rattle.std.specs.Str.Parse.{digits_value, digits_value_after}
 use Rattle.std.proofs.lemmas.Str.Parse.{IsNumeralModel, numerals_by_fold}
@@ -14,7 +14,7 @@ use Rattle.corr_text.proofs.laws.Number.{digit_is}
 own : IsNumeralModel (λ ds. all_ascii_digits ds ≡ true) (digits_value_after 10 0)
 own = numerals_by_fold _ (search rules) (digits_value_after 10) (search (rules, digit_is))
 
-pub number-short : (bs : List ℕ) (n : ℕ) → length bs ≤ 15 → number_of bs ≡ Some n → n < 10 ^ 15
+number-short : (bs : List ℕ) (n : ℕ) → length bs ≤ 15 → number_of bs ≡ Some n → n < 10 ^ 15
 number-short bs n short e =
     let all : all_ascii_digits bs ≡ true = grind (arith, nat_tests) in
     let value : digits_value 10 bs ≡ n = grind (arith, nat_tests) in
@@ -22,8 +22,10 @@ number-short bs n short e =
     let most : 10 ^ length bs ≤ 10 ^ 15 = pow-le-pow_right some short in
     omega (arith, digits_value-lt 10 bs (own.to bs all), most, value)
 
-pub magnitude-short : (bs : List ℕ) (n : ℕ) → length bs ≤ 15 → number_of bs ≡ Some n → magnitude_of bs ≡ Some n
-magnitude-short bs n short e = rw e (grind (arith, nat_tests))
+-- what 15 digits write is below 10^15
+pub written-short : (bs : List ℕ) (o : Option ℕ) → length bs ≤ 15 → o ≡ number_of bs → IfSome o (λ n. n < 10 ^ 15)
+written-short bs None short e = tt
+written-short bs (Some n) short e = number-short bs n short (sym e)
 
 pub fits : (n : ℕ) → n < 10 ^ 15 → FitsSigned w64 (pos n)
 fits n small = omega (arith, ints)

@@ -101,7 +101,7 @@ limited a e = record {
 spelled : (text : List ℕ) → is_bic text ≡ true → bic_of text ≡ Some (record { head = take 8 text; branch = branch_of text })
 spelled text e = rw e refl
 
--- the account of a row that fails no test
+-- the account of a row whose parts are right
 is-account : (home : List ℕ) (t : Tables) (row : Cells) → Formed row → Limited (account_of t row) → (has_head t (account_of t row).owner.head && owner_fits home (account_of t row)) ≡ true
     → is_some (decimals_in t (cell 3 row)) ≡ true → (account_of t row).decimals ≤ 4 → IsAccount home t (account_of t row)
 is-account home t row form limits owner ccy few =
@@ -121,6 +121,14 @@ is-account home t row form limits owner ccy few =
       above_floor = limits.above_floor;
       below_ceil = limits.below_ceil;
     }
+
+-- the account of a row that fails no test
+pub row-is-account : (home : List ℕ) (t : Tables) (earlier : List AccountRow) (row : Cells) → account_fault home t earlier row ≡ None → (account_of t row).decimals ≤ 4
+    → IsAccount home t (account_of t row)
+row-is-account home t earlier row fine few =
+    let parts = both-none _ _ fine in
+    let s = stands home t earlier (account_of t row) parts.1 in
+    is-account home t row (formed row parts.0) (limited _ s.limits) s.owner s.ccy few
 
 -- accounts that clash
 same-bytes : (xs ys : List ℕ) → xs ≡ ys → bytes_eq xs ys ≡ true
@@ -158,10 +166,7 @@ module _ (home : List ℕ) (t : Tables) (rows : List Cells) (fine : first_bad_ro
       rw (get_or-map (account_of t) (take j rows) i d (account_of t d) short, get_or-take j rows i d lt) at met
 
   stands-at : (i : ℕ) (d : Cells) → i < length rows → (account_of t (get_or rows i d)).decimals ≤ 4 → IsAccount home t (account_of t (get_or rows i d))
-  stands-at i d lt few =
-      let parts = both-none _ _ (row-fine i d lt) in
-      let s = stands home t (map (account_of t) (take i rows)) (account_of t (get_or rows i d)) parts.1 in
-      is-account home t (get_or rows i d) (formed (get_or rows i d) parts.0) (limited _ s.limits) s.owner s.ccy few
+  stands-at i d lt few = row-is-account home t (map (account_of t) (take i rows)) (get_or rows i d) (row-fine i d lt) few
 
   -- the row of an account
   row-of : (i : ℕ) (a : AccountRow) → slice_get (map (account_of t) rows) i ≡ Some a → (i < length rows) × (a ≡ account_of t (get_or rows i []))

@@ -2,3 +2,4 @@ pub mod Records
 pub mod Entered
 pub mod Fine
 pub mod Decimals
+pub mod Charged

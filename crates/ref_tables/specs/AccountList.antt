@@ -24,7 +24,7 @@ pub record IsAccount (home : List ℕ) (t : Tables) (a : AccountRow) : Type 0 wh
   pub above_floor : a.floor ≤ℤ a.opening
   pub below_ceil : a.opening ≤ℤ a.ceil
 
--- vostro or nostro accounts of one kind, one owner (by head) and one currency
+-- accounts of one kind that is not a customer's, one owner (by head) and one currency
 pub record IsSameRelation (a b : AccountRow) : Type 0 where
   pub bank : a.kind ≢ customer
   pub kind : a.kind ≡ b.kind

@@ -1,5 +1,5 @@
 -- The table of accounts: what its rows say, and its first fault.
-use Rattle.std.specs.Prelude.{ℕ, ◌==◌, ◌&&◌, ◌||◌, Bool, not, List, [], ◌∷◌, take, Option, unwrap_or, is_some, nat_lt, ℤ, pos, int_le, unsigned_abs, if◌then◌else◌}
+use Rattle.std.specs.Prelude.{ℕ, ◌==◌, ◌&&◌, ◌||◌, Bool, not, List, [], ◌∷◌, take, Option, option_map, unwrap_or, is_some, nat_lt, ℤ, pos, int_le, unsigned_abs, if◌then◌else◌}
 use Rattle.std.specs.Option.{option_or}
 use Rattle.std.specs.Str.{bytes_eq}
 use Rattle.corr_text.specs.First.{first_of, unless}
@@ -16,6 +16,10 @@ use Rattle.ref_tables.specs.declared.fault.Why.TheVariants as why
 -- the kind of a customer's account, C
 abbrev pub customer : ℕ
 customer = 67
+
+-- the kind of an account of fees, F
+abbrev pub fee : ℕ
+fee = 70
 
 -- the account that a row says: id, kind, owner, currency, floor, ceiling, opening; the currency's decimals are the table's
 abbrev pub account_of : Tables → Cells → AccountRow
@@ -43,7 +47,7 @@ form_fault row = first_of (
     ∷ value 7 (is_some (signed_of (cell 6 row)))
     ∷ [])
 
--- V and N accounts of one kind, one owner (by head) and one currency
+-- V, N and F accounts of one kind, one owner (by head) and one currency
 abbrev pub same_relation : AccountRow → AccountRow → Bool
 same_relation a b = not (a.kind == customer) && (a.kind == b.kind) && bytes_eq a.owner.head b.owner.head && bytes_eq a.ccy.0 b.ccy.0
 
@@ -51,9 +55,13 @@ same_relation a b = not (a.kind == customer) && (a.kind == b.kind) && bytes_eq a
 abbrev pub clashes : AccountRow → AccountRow → Bool
 clashes a b = bytes_eq a.id b.id || same_relation a b
 
--- a customer's account is owned by the home bank, a vostro or nostro account by another bank
+-- the kinds of the accounts that the home bank owns
+abbrev pub is_home_kind : ℕ → Bool
+is_home_kind kind = (kind == customer) || (kind == fee)
+
+-- a customer's account and one of fees are owned by the home bank, a vostro or nostro account by another bank
 abbrev pub owner_fits : List ℕ → AccountRow → Bool
-owner_fits home a = if a.kind == customer then bytes_eq a.owner.head home else not (bytes_eq a.owner.head home)
+owner_fits home a = if is_home_kind a.kind then bytes_eq a.owner.head home else not (bytes_eq a.owner.head home)
 
 -- a balance below 10^14 in size
 abbrev pub is_balance : ℤ → Bool
@@ -75,6 +83,10 @@ standing_fault home t earlier a = first_of (
 -- what is wrong with a row: its columns, else the account that it says
 abbrev pub account_fault : List ℕ → Tables → List AccountRow → Cells → Option Why
 account_fault home t earlier row = option_or (form_fault row) (standing_fault home t earlier (account_of t row))
+
+-- what is wrong with an account that is given alone, as row 1
+abbrev pub lone_account_fault : List ℕ → Tables → Cells → Option (ℕ × Why)
+lone_account_fault home t row = option_map (λ w. (1, w)) (account_fault home t [] row)
 
 -- the first fault of a file, for a home bank with this head
 abbrev pub accounts_fault : List ℕ → Tables → List ℕ → Option (ℕ × Why)

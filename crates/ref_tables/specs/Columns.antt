@@ -1,9 +1,11 @@
 -- The forms of columns.
-use Rattle.std.specs.Prelude.{ℕ, ◌-◌, ◌==◌, ◌&&◌, ◌||◌, Bool, List, [], ◌∷◌, length, drop, Option, Some, None, option_map, nat_le, slice_index, ℤ, pos, neg_ℤ, if◌then◌else◌}
+use Rattle.std.specs.Prelude.{ℕ, ◌-◌, ◌==◌, ◌&&◌, ◌||◌, Bool, List, [], ◌∷◌, length, drop, Option, Some, None, option_and_then, option_map, nat_le, nat_lt, slice_index, ℤ, pos, neg_ℤ, if◌then◌else◌}
 use Rattle.std.specs.List.{list_all}
 use Rattle.std.specs.Char.{is_ascii_uppercase}
 use Rattle.corr_text.specs.Digits.{number_of}
 use Rattle.corr_text.specs.Sets.{is_c_byte}
+use Rattle.corr_money.specs.Amounts.{amount_end}
+use Rattle.corr_money.specs.declared.amount.Minor.{Minor}
 
 -- a currency code: three capital letters
 abbrev pub is_ccy : List ℕ → Bool
@@ -27,9 +29,9 @@ yes_of _ = None
 abbrev pub is_account_id : List ℕ → Bool
 is_account_id bs = nat_le 1 (length bs) && nat_le (length bs) 34 && list_all is_c_byte bs
 
--- the kinds of accounts: C (a customer's), V (vostro) and N (nostro)
+-- the kinds of accounts: C (a customer's), V (vostro), N (nostro) and F (of fees)
 abbrev pub is_kind : ℕ → Bool
-is_kind b = (b == 67) || (b == 86) || (b == 78)
+is_kind b = (b == 67) || (b == 86) || (b == 78) || (b == 70)
 
 -- a kind, of one letter
 abbrev pub kind_in_cell : List ℕ → Option ℕ
@@ -44,3 +46,11 @@ magnitude_of bs = if nat_le (length bs) 15 then number_of bs else None
 abbrev pub signed_of : List ℕ → Option ℤ
 signed_of bs =
     if slice_index bs 0 == 45 then option_map (λ n. neg_ℤ (pos n)) (magnitude_of (drop 1 bs)) else option_map pos (magnitude_of bs)
+
+-- an amount that can be charged: above 0 and below 10^14
+abbrev pub is_charge : ℕ → Bool
+is_charge n = nat_lt 0 n && nat_lt n amount_end
+
+-- a charge, in minor units: 1 to 15 digits that write such an amount
+abbrev pub charge_in_cell : List ℕ → Option Minor
+charge_in_cell bs = option_and_then (λ n. if is_charge n then Some (record { 0 = n }) else None) (magnitude_of bs)

@@ -1,5 +1,6 @@
 -- The rows of a table file.
-use Rattle.std.specs.Prelude.{ℕ, List, [], length, Option, Some, None, unwrap_or, nat_le, if◌then◌else◌}
+use Rattle.std.specs.Prelude.{ℕ, List, [], length, map, Option, Some, None, unwrap_or, nat_le, if◌then◌else◌}
+use Rattle.std.specs.Borrow.{Bor}
 use Rattle.csv.specs.Reading.{default_config, records, strip_bom}
 use Rattle.csv.specs.Records.{field_at}
 use Rattle.csv.specs.declared.error.ErrorKind.{ErrorKind}
@@ -26,6 +27,10 @@ rows_of file = records default_config (strip_bom file)
 abbrev pub cell : ℕ → Cells → List ℕ
 cell k row = unwrap_or (field_at row k) []
 
+-- words as the cells of a row
+abbrev pub cells_of : List (Bor (List ℕ)) → Cells
+cells_of words = map (λ word. word.now) words
+
 -- the items, unless there are more than this
 abbrev pub up_to : {A : Type 0} → ℕ → List A → Option (List A)
 up_to most xs = if nat_le (length xs) most then Some xs else None
@@ -38,7 +43,7 @@ most_table_bytes = 8388608
 abbrev pub most_banks : ℕ
 most_banks = 100000
 
--- the most rows of a table of currencies, countries or accounts
+-- the most rows of a table of currencies, countries, accounts or charges
 abbrev pub most_rows : ℕ
 most_rows = 1000
 

@@ -5,6 +5,8 @@ use Rattle.std.specs.Map.{lookup}
 use Rattle.std.specs.Str.{bytes_eq}
 use Rattle.corr_ids.specs.declared.bic.Bic.{Bic}
 use Rattle.corr_money.specs.Amounts.{most_decimals}
+use Rattle.corr_money.specs.declared.amount.Minor.{Minor}
+use Rattle.ref_tables.specs.Columns.{is_charge}
 
 -- banks by head, with their branches; currencies by code, with their decimals; countries by code, and whether they are listed
 pub record Tables : Type 0 where
@@ -31,3 +33,11 @@ is_listed_country t country = unwrap_or (lookup (bytes_eq country) t.countries) 
 -- each currency has at most 4 decimals
 abbrev pub few_decimals : List (List ℕ × ℕ) → Bool
 few_decimals ccys = list_all (λ c. nat_le c.1 most_decimals) ccys
+
+-- the charge of a currency, none where it has no row
+abbrev pub charge_in : List (List ℕ × Minor) → List ℕ → Option Minor
+charge_in charges ccy = lookup (bytes_eq ccy) charges
+
+-- each charge is above 0 and below 10^14
+abbrev pub are_charges : List (List ℕ × Minor) → Bool
+are_charges charges = list_all (λ c. is_charge c.1.0) charges

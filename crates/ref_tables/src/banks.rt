@@ -15,9 +15,10 @@ pub struct BankRow;
 impl KeyedRow<8, [u8; 3]> for BankRow {
     ghost entry = { bank_in_row };
 
-    ghost fault = { bank_fault };
+    ghost fault = { λ _. bank_fault };
 
     fn read(
+        &self,
         seen: &IndexMap<[u8; 8], [u8; 3]>,
         row: &ByteRecord,
     ) -> Result<([u8; 8], [u8; 3]), Why> {

@@ -1,9 +1,9 @@
 //! The forms of columns (docs/tables.md, "Columns"). What is read of a cell is none where the cell has another form.
 
-ghost use Rattle.std.specs.Prelude.{◌≡◌, None, option_map, pos, Some, if◌then◌else◌};
-ghost use Rattle.ref_tables.specs.Columns.{decimals_in_cell, is_account_id as is_account_id_of, is_ccy, is_country, kind_in_cell, magnitude_of, signed_of, yes_of};
+ghost use Rattle.std.specs.Prelude.{◌≡◌, ◌<◌, ◌^◌, IfSome, None, option_map, pos, Some, if◌then◌else◌};
+ghost use Rattle.ref_tables.specs.Columns.{charge_in_cell, decimals_in_cell, is_account_id as is_account_id_of, is_ccy, is_country, kind_in_cell, magnitude_of, signed_of, yes_of};
 
-use corr_money::Ccy;
+use corr_money::{AMOUNT_END, Ccy, Minor};
 use corr_text::{Set, digits, is_all_of};
 
 /// A currency code: three capital letters; none of any other bytes.
@@ -58,23 +58,31 @@ pub fn is_account_id(b: &[u8]) -> bool
     1 <= b.len() && b.len() <= 34 && is_all_of(Set::C, b)
 }
 
-/// `C`, `V` or `N`.
+/// `C`, `V`, `N` or `F`.
 pub fn kind(b: &[u8]) -> Option<u8>
     ensures { result ≡ kind_in_cell b.now }
 {
     match b {
-        [b] if *b == b'C' || *b == b'V' || *b == b'N' => Some(*b),
+        [b] if *b == b'C' || *b == b'V' || *b == b'N' || *b == b'F' => Some(*b),
         _ => None,
     }
 }
 
-fn magnitude(b: &[u8]) -> Option<i64>
-    ensures { result ≡ option_map pos (magnitude_of b.now) }
+// The number that 1 to 15 digits write.
+fn magnitude(b: &[u8]) -> Option<u64>
+    ensures value { result ≡ magnitude_of b.now }
+    ensures short { IfSome result (λ n. n < 10 ^ 15) }
 {
     if b.len() > 15 {
         return None;
     }
-    let n = digits(b)?;
+    digits(b)
+}
+
+fn unsigned(b: &[u8]) -> Option<i64>
+    ensures { result ≡ option_map pos (magnitude_of b.now) }
+{
+    let n = magnitude(b)?;
     Some(n as i64)
 }
 
@@ -83,7 +91,18 @@ pub fn signed(b: &[u8]) -> Option<i64>
     ensures { result ≡ signed_of b.now }
 {
     match b {
-        [b'-', rest @ ..] => Some(-magnitude(rest)?),
-        _ => magnitude(b),
+        [b'-', rest @ ..] => Some(-unsigned(rest)?),
+        _ => unsigned(b),
     }
+}
+
+/// A charge in minor units: 1 to 15 digits that write a number above 0 and below 10^14.
+pub fn charge(b: &[u8]) -> Option<Minor>
+    ensures { result ≡ charge_in_cell b.now }
+{
+    let n = magnitude(b)?;
+    if n == 0 || n >= AMOUNT_END {
+        return None;
+    }
+    Some(Minor(n))
 }

@@ -15,9 +15,13 @@ pub struct CountryRow;
 impl KeyedRow<2, bool> for CountryRow {
     ghost entry = { country_in_row };
 
-    ghost fault = { country_fault };
+    ghost fault = { λ _. country_fault };
 
-    fn read(seen: &IndexMap<[u8; 2], bool>, row: &ByteRecord) -> Result<([u8; 2], bool), Why> {
+    fn read(
+        &self,
+        seen: &IndexMap<[u8; 2], bool>,
+        row: &ByteRecord,
+    ) -> Result<([u8; 2], bool), Why> {
         if row.len() != 2 {
             return Err(Why::Columns);
         }

@@ -15,9 +15,9 @@ pub struct CurrencyRow;
 impl KeyedRow<3, u8> for CurrencyRow {
     ghost entry = { ccy_of };
 
-    ghost fault = { ccy_fault };
+    ghost fault = { λ _. ccy_fault };
 
-    fn read(seen: &IndexMap<[u8; 3], u8>, row: &ByteRecord) -> Result<([u8; 3], u8), Why> {
+    fn read(&self, seen: &IndexMap<[u8; 3], u8>, row: &ByteRecord) -> Result<([u8; 3], u8), Why> {
         if row.len() != 2 {
             return Err(Why::Columns);
         }

@@ -6,7 +6,7 @@ ghost use Rattle.ref_tables.specs.declared.fault.TableFault.TheVariants.{Memory 
 use corr_text::Memory;
 use std::alloc::{AllocError, AllocFailed};
 
-/// A table, by its name: `bics`, `ccys`, `countries`, `accounts` or `ssi` (docs/tables.md).
+/// A table, by its name: `bics`, `ccys`, `countries`, `accounts`, `ssi` or `charges` (docs/tables.md).
 #[derive(Clone, Copy, Debug, PartialEq, Eq)]
 pub enum TableName {
     Bics,
@@ -14,6 +14,7 @@ pub enum TableName {
     Countries,
     Accounts,
     Ssi,
+    Charges,
 }
 
 /// What is wrong with a row, or with the whole file (docs/tables.md, "Refusals").
@@ -25,8 +26,8 @@ pub enum Why {
     Value { col: u8 },
     /// An earlier row, the first of them at `row`, has the same key.
     Double { row: u32 },
-    /// A bank that the row names is not in the table of banks; or another bank owns a `C` account, or the home bank a `V` or `N`
-    /// account.
+    /// A bank that the row names is not in the table of banks; or another bank owns a `C` or `F` account, or the home bank a `V` or
+    /// `N` account.
     Bic,
     /// The row's currency is not in the table of currencies.
     Currency,

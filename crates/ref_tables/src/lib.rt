@@ -1,9 +1,10 @@
-//! The reference tables: banks, currencies, countries and accounts, read from their files (docs/tables.md).
+//! The reference tables: banks, currencies, countries, accounts and charges, read from their files (docs/tables.md).
 #![tactic(auto)]
 
 mod account;
 mod accounts;
 mod banks;
+mod charges;
 mod columns;
 mod countries;
 mod currencies;
@@ -13,7 +14,8 @@ mod rows;
 mod tables;
 
 pub use account::AccountRow;
-pub use accounts::read_accounts;
+pub use accounts::{read_account_words, read_accounts};
+pub use charges::{Charges, read_charges};
 pub use columns::{ccy, is_account_id};
 pub use fault::{TableFault, TableName, Why, bad};
 pub use rows::{cell, read_rows};

@@ -79,7 +79,13 @@ pub fn read_banks(alloc: Global, file: &[u8]) -> Result<RefTables, TableFault>
     ensures value { IfOk result (λ t. t ≡ record { bics = map bank_in_row (rows_of file.now); ccys = []; countries = [] }) }
     ensures bad { IfErr result (Tells (named names.Bics (bics_fault file.now))) }
 {
-    let bics = read_keyed::<8, [u8; 3], BankRow>(alloc, TableName::Bics, MAX_BANKS, file)?;
+    let bics = read_keyed::<8, [u8; 3], BankRow>(
+        alloc,
+        &BankRow,
+        TableName::Bics,
+        MAX_BANKS,
+        file,
+    )?;
     Ok(RefTables {
         bics,
         ccys: IndexMap::new(alloc),
@@ -101,7 +107,13 @@ pub fn with_currencies(
     ensures few { IfOk result (λ t. IsTrue (few_decimals t.ccys)) }
     ensures bad { IfErr result (Tells (named names.Ccys (ccys_fault file.now))) }
 {
-    let ccys = read_keyed::<3, u8, CurrencyRow>(alloc, TableName::Ccys, MAX_CURRENCIES, file)?;
+    let ccys = read_keyed::<3, u8, CurrencyRow>(
+        alloc,
+        &CurrencyRow,
+        TableName::Ccys,
+        MAX_CURRENCIES,
+        file,
+    )?;
     Ok(RefTables { ccys, ..tables })
 }
 
@@ -120,6 +132,7 @@ pub fn with_countries(
 {
     let countries = read_keyed::<2, bool, CountryRow>(
         alloc,
+        &CountryRow,
         TableName::Countries,
         MAX_COUNTRIES,
         file,

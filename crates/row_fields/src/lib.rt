@@ -1,6 +1,7 @@
 //! Calls of rows over fields, their contents and tables.
 #![tactic(auto)]
 
+mod charges;
 mod contents;
 mod fields;
 mod layout;
@@ -23,6 +24,7 @@ pub fn call(name: &[u8], words: &mut Words, answer: &mut Answer) -> Result<bool,
             || layout::call(name, words, answer)?
             || contents::call(name, words, answer)?
             || tables::call(name, words, answer)?
+            || charges::call(name, words, answer)?
             || ssi::call(name, words, answer)?,
     )
 }

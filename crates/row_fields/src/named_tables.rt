@@ -42,6 +42,7 @@ fn name(table: TableName) -> &'static [u8] {
         TableName::Countries => b"countries",
         TableName::Accounts => b"accounts",
         TableName::Ssi => b"ssi",
+        TableName::Charges => b"charges",
     }
 }
 

@@ -3,7 +3,9 @@
 use crate::named_tables::{Files, put_table_fault, read_files, tables};
 use corr_ids::{Bic, read_bic};
 use corr_money::Ccy;
-use ref_tables::{AccountRow, TableFault, ccy, is_account_id, read_accounts, read_tables};
+use ref_tables::{
+    AccountRow, TableFault, ccy, is_account_id, read_account_words, read_accounts, read_tables,
+};
 use row_words::answer::Answer;
 use row_words::stop::Stop;
 use row_words::words::Words;
@@ -17,6 +19,7 @@ pub fn call(name: &[u8], words: &mut Words, answer: &mut Answer) -> Result<bool,
         b"decimals" => decimals(words, answer)?,
         b"listed" => country(words, answer)?,
         b"read_accounts" => accounts(words, answer)?,
+        b"read_account_words" => account(words, answer)?,
         b"ccy" => answer.flag(ccy(words.next()?).is_some())?,
         b"is_account_id" => answer.flag(is_account_id(words.next()?))?,
         _ => return Ok(false),
@@ -114,6 +117,36 @@ fn accounts(words: &mut Words, answer: &mut Answer) -> Result<(), Stop> {
     let file = words.next()?;
     match accounts_in(answer.alloc(), files, &home, file)? {
         Ok(accounts) => put_accounts(accounts.as_slice(), answer),
+        Err(fault) => put_table_fault(fault, answer),
+    }
+}
+
+/// The account of words. Promises nothing.
+fn account_of(
+    alloc: Global,
+    files: Files,
+    home: &Bic,
+    words: &[&[u8]; 7],
+) -> Result<Result<AccountRow, TableFault>, Stop> {
+    let tables = tables(alloc, files)?;
+    Ok(read_account_words(alloc, words, home, &tables))
+}
+
+/// `read_account_words BICS CCYS COUNTRIES HOME ID KIND OWNER CCY FLOOR CEILING OPENING`
+fn account(words: &mut Words, answer: &mut Answer) -> Result<(), Stop> {
+    let files = read_files(words)?;
+    let home = read_bic(words.next()?).ok_or(Stop::Unreadable)?;
+    let cells = [
+        words.next()?,
+        words.next()?,
+        words.next()?,
+        words.next()?,
+        words.next()?,
+        words.next()?,
+        words.next()?,
+    ];
+    match account_of(answer.alloc(), files, &home, &cells)? {
+        Ok(account) => put_account(&account, answer),
         Err(fault) => put_table_fault(fault, answer),
     }
 }
