@@ -11,7 +11,7 @@ use std::alloc::Global;
 use std::test::Fail;
 
 // A journal with the header record H and the records AB, none and C.
-const FOUR: &[u8] = b"\x01\0\0\0\x01H\x01\0\0\0\x02AB\x01\0\0\0\0\x01\0\0\0\x01C\0";
+pub(crate) const FOUR: &[u8] = b"\x01\0\0\0\x01H\x01\0\0\0\x02AB\x01\0\0\0\0\x01\0\0\0\x01C\0";
 
 // The records AB, none and C as they are appended together.
 fn batch() -> [u8; 18]
@@ -21,7 +21,7 @@ fn batch() -> [u8; 18]
 }
 
 // Appends the three of them.
-fn add_batch<D: Disk>(file: &mut JFile<D>) -> Result<(), AppendFault>
+pub(crate) fn add_batch<D: Disk>(file: &mut JFile<D>) -> Result<(), AppendFault>
     requires { IsOpen D.honest D.reads D.may_leave file.old }
 {
     file.append_all(&batch())

@@ -4,4 +4,6 @@
 #[cfg(test)]
 mod batches;
 #[cfg(test)]
+mod carried;
+#[cfg(test)]
 mod files;

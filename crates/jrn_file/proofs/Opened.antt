@@ -8,7 +8,7 @@ use Rattle.jrn_file.specs.Opening.{IsReadAs, ReadCause, OpenCause, IsOpened}
 use Rattle.jrn_file.specs.Pieces.{OfBytes}
 use Rattle.jrn_file.specs.declared.file.JFile.{JFile}
 use Rattle.jrn_file.specs.declared.fault.OpenFault.{OpenFault}
-use Rattle.jrn_file.specs.declared.fault.OpenFault.TheVariants.{NotAJournal, Damaged, DiskFault, Memory}
+use Rattle.jrn_file.specs.declared.fault.OpenFault.TheVariants.{NotAJournal, Version, Damaged, DiskFault, Memory}
 use Rattle.jrn_file.proofs.laws.Places.{at-places}
 
 -- what holds of the bytes that a disk tells
@@ -26,6 +26,7 @@ read-places reads reading is = subst (λ (x : Reading). AreAt reads (all_of x)) 
 -- what keeps a disk from being read keeps it from being opened
 pub read-cause : (old new : ℕ) (honest : Bool) (reads : List ℕ) (fault : OpenFault) → ReadCause old new honest reads fault → OpenCause old new honest reads fault
 read-cause old new honest reads NotAJournal cause = cause
+read-cause old new honest reads (Version found) cause = absurd cause
 read-cause old new honest reads (Damaged at) cause = absurd cause
 read-cause old new honest reads (DiskFault before after) cause = cause
 read-cause old new honest reads Memory cause = cause

@@ -27,15 +27,25 @@ abbrev pub AppendCause : ℕ → ℕ → ℕ → ℕ → Type 0 → AppendFault 
 AppendCause old new at more untouched (append.Full end need) = PassesLimit at more end need untouched
 AppendCause old new at more untouched (append.DiskFault before after) = TellsCounts old before after new
 
--- Exists tells the first byte of what is there. Where the disk didn't fail, its count is as it was.
+-- Exists tells the first byte of what is there. Where the disk didn't fail, its count is as it was. A journal without records is never
+-- too long.
 abbrev pub MakeCause : ℕ → ℕ → (ℕ → Type 0) → MakeFault → Type 0
 MakeCause old new is_other (making.Exists first) = (new ≡ old) × is_other first
+MakeCause old new is_other (making.Full end need) = ⊥
 MakeCause old new is_other (making.DiskFault before after) = TellsCounts old before after new
 MakeCause old new is_other making.Memory = new ≡ old
+
+-- the same of a journal of so many bytes: Full tells 0 and these, which are more than the limit
+abbrev pub MakeWithCause : ℕ → ℕ → (ℕ → Type 0) → ℕ → Type 0 → MakeFault → Type 0
+MakeWithCause old new is_other size untouched (making.Exists first) = (new ≡ old) × is_other first
+MakeWithCause old new is_other size untouched (making.Full end need) = (new ≡ old) × PassesLimit 0 size end need untouched
+MakeWithCause old new is_other size untouched (making.DiskFault before after) = TellsCounts old before after new
+MakeWithCause old new is_other size untouched making.Memory = new ≡ old
 
 -- where this byte is in front of something else, the answer is Exists, unless the disk or memory failed
 abbrev pub IsRefusal : ℕ → MakeFault → Type 0
 IsRefusal front (making.Exists first) = first ≡ front
+IsRefusal front (making.Full end need) = ⊥
 IsRefusal front (making.DiskFault before after) = Unit {0}
 IsRefusal front making.Memory = Unit {0}
 

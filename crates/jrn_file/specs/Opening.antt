@@ -10,7 +10,7 @@ use Rattle.jrn_file.specs.declared.file.Ending.{Ending}
 use Rattle.jrn_file.specs.declared.file.Ending.TheVariants as ending
 use Rattle.jrn_file.specs.declared.file.JFile.{JFile}
 use Rattle.jrn_file.specs.declared.fault.OpenFault.{OpenFault}
-use Rattle.jrn_file.specs.declared.fault.OpenFault.TheVariants.{NotAJournal, Damaged, DiskFault, Memory}
+use Rattle.jrn_file.specs.declared.fault.OpenFault.TheVariants.{NotAJournal, Version, Damaged, DiskFault, Memory}
 use Rattle.jrn_file.specs.declared.loading.LoadFault.{LoadFault}
 use Rattle.jrn_file.specs.declared.loading.LoadFault.TheVariants as load
 
@@ -51,9 +51,10 @@ ExplainsLoad honest reads (load.Cut at records) = OfBytes honest reads (λ bytes
 ExplainsLoad honest reads load.Memory = Unit {0}
 
 -- A fault of the disk tells its counts, and NotAJournal what the bytes are, where they are told. Where the disk didn't fail, its
--- count is as it was. There is no other fault.
+-- count is as it was. There is no other fault: the bytes of a header are not read here.
 abbrev pub ReadCause : ℕ → ℕ → Bool → List ℕ → OpenFault → Type 0
 ReadCause old new honest image NotAJournal = (new ≡ old) × (IsTrue honest → opened_of image ≡ no_journal)
+ReadCause old new honest image (Version found) = ⊥
 ReadCause old new honest image (Damaged at) = ⊥
 ReadCause old new honest image (DiskFault before after) = TellsCounts old before after new
 ReadCause old new honest image Memory = new ≡ old
@@ -61,6 +62,7 @@ ReadCause old new honest image Memory = new ≡ old
 -- the same, and Damaged tells the place of damage after whole records
 abbrev pub OpenCause : ℕ → ℕ → Bool → List ℕ → OpenFault → Type 0
 OpenCause old new honest image NotAJournal = (new ≡ old) × (IsTrue honest → opened_of image ≡ no_journal)
+OpenCause old new honest image (Version found) = ⊥
 OpenCause old new honest image (Damaged at) = (new ≡ old) × (IsTrue honest → (all : List (List ℕ)) × (opened_of image ≡ cut all at))
 OpenCause old new honest image (DiskFault before after) = TellsCounts old before after new
 OpenCause old new honest image Memory = new ≡ old

@@ -9,7 +9,7 @@ ghost use Rattle.jrn_file.specs.Making.{IsEntering};
 use corr_disk::{Disk, Failed};
 
 /// An open gate, as it is written.
-const OPEN: u8 = 1;
+pub(crate) const OPEN: u8 = 1;
 
 /// Writes a frame after the closed gate at this place, and opens the gate once the frame is on the disk.
 pub(crate) fn enter<D: Disk>(disk: &mut D, gate: u64, frame: &[u8]) -> Result<(), Failed>

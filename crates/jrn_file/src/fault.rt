@@ -13,6 +13,9 @@ pub enum OpenFault {
     /// too where the first is no header.
     #[error("no journal")]
     NotAJournal,
+    /// The header record is one of this version, which the call does not read. Only whoever reads the records says so.
+    #[error("version {found}")]
+    Version { found: u8 },
     /// The open gate at this place, in bytes from 0, has no whole record with a gate after it. Whoever reads the records says so
     /// too where the record after it is whole and may not stand there.
     #[error("damaged at {at}")]
@@ -31,6 +34,9 @@ pub enum MakeFault {
     /// The disk has more than one byte, and its first is this one, not 0.
     #[error("exists {first}")]
     Exists { first: u8 },
+    /// The file would pass 2^30 bytes: `end` is 0, and `need` the length that it would have. Only `create_with` says so.
+    #[error("full {end} {need}")]
+    Full { end: u64, need: u64 },
     /// A call of the disk failed: its count of faults before and after.
     #[error("disk fault {before} {after}")]
     DiskFault { before: u64, after: u64 },

@@ -2,8 +2,8 @@
 
 ghost use Rattle.std.specs.Prelude.{◌≡◌, ◌+◌, ◌<◌, ◌↔◌, ◌∷◌, [], ◌++◌, ℕ, List, length, IsTrue, OnOk, OnErr, IfErr, IsErrOf};
 ghost use Rattle.corr_disk.specs.Calls.{CallsMade, AtMostCalls};
-ghost use Rattle.corr_disk.specs.Disk.{written, LeavesOnly, most_disk_bytes};
-ghost use Rattle.jrn_file.specs.Journal.{IsFrame, AreFrames, record_in, IsBeforeOrAfter, IsBeforeOrAll};
+ghost use Rattle.corr_disk.specs.Disk.{written, LeavesOnly, Only, most_disk_bytes};
+ghost use Rattle.jrn_file.specs.Journal.{IsFrame, AreFrames, StandsFor, record_in, IsBeforeOrAfter, IsBeforeOrAll};
 ghost use Rattle.jrn_file.specs.File.{disk_of, end_of, IsSettled, IsOpen};
 ghost use Rattle.jrn_file.specs.Faults.{AppendCause};
 
@@ -12,7 +12,7 @@ use crate::fault::AppendFault;
 use corr_disk::{Disk, Failed};
 
 /// The most bytes that a journal has.
-const MAX_BYTES: u64 = 1 << 30;
+pub(crate) const MAX_BYTES: u64 = 1 << 30;
 
 /// A journal that was opened, ready for more records.
 #[derive(Drop)]
@@ -32,6 +32,17 @@ pub enum Ending<D: Disk> {
 }
 
 impl<D: Disk> JFile<D> {
+    /// The file of a disk that holds a journal of this header record and no record, all of it synced, as `create` leaves it: ready for
+    /// records without being opened. It makes no call of the disk and takes no memory.
+    pub fn made(disk: D, head: &[u8]) -> JFile<D>
+        requires stands { IsTrue (D.honest disk) → StandsFor (D.reads disk) head.now [] }
+        requires durable { IsTrue (D.honest disk) → Only (D.reads disk) (D.may_leave disk) }
+        ensures disk { disk_of result ≡ disk }
+        ensures settled { IsSettled D.honest D.reads D.may_leave result head.now [] }
+    {
+        JFile::at(disk, head.len() as u64 + 5)
+    }
+
     /// A file whose closed gate stands at this place.
     pub(crate) fn at(disk: D, end: u64) -> JFile<D>
         ensures disk { disk_of result ≡ disk }

@@ -18,7 +18,7 @@ use std::alloc::Global;
 
 /// What stands in front on a disk.
 #[derive(Drop)]
-enum Front {
+pub(crate) enum Front {
     /// At most one byte.
     Short,
     /// More, after a closed gate.
@@ -111,7 +111,7 @@ fn make<D: Disk>(disk: &mut D, frame: &[u8]) -> Result<Option<u8>, Failed>
 }
 
 /// Looks at the front of a disk.
-fn look_in_front<D: Disk>(disk: &mut D) -> Result<Front, Failed>
+pub(crate) fn look_in_front<D: Disk>(disk: &mut D) -> Result<Front, Failed>
     ensures front { IsTrue (D.honest disk.old) → IfOk result (λ front. IsFront front (D.reads disk.old)) }
     ensures honest { D.honest disk.new ≡ D.honest disk.old }
     ensures cause { HasCause (D.faults disk.old) (D.faults disk.new) result }
@@ -131,7 +131,7 @@ fn look_in_front<D: Disk>(disk: &mut D) -> Result<Front, Failed>
 }
 
 /// Puts a closed gate on a disk that has at most one byte.
-fn blank<D: Disk>(disk: &mut D) -> Result<(), Failed>
+pub(crate) fn blank<D: Disk>(disk: &mut D) -> Result<(), Failed>
     requires { IsTrue (D.honest disk.old) → length (D.reads disk.old) ≤ 1 }
     ensures honest { D.honest disk.new ≡ D.honest disk.old }
     ensures cause { HasCause (D.faults disk.old) (D.faults disk.new) result }
