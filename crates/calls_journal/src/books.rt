@@ -90,7 +90,7 @@ fn is_between(legs: &[Leg]) -> bool
 }
 
 // Whether the last entry of a legal history has no later day.
-fn is_latest(a: &Accounts, h: &History, day: Day) -> bool
+pub(crate) fn is_latest(a: &Accounts, h: &History, day: Day) -> bool
     requires legal { IsLegal a.now h.now.entries }
     ensures { OnTrue result (IsLatest h.now.entries day) }
 {

@@ -4,6 +4,8 @@
 #[cfg(test)]
 mod books;
 #[cfg(test)]
+mod charged;
+#[cfg(test)]
 mod lists;
 #[cfg(test)]
 mod locks;

@@ -1,4 +1,5 @@
 pub mod Opens
+pub mod Sorting
 pub mod Locking
 pub mod Booking
 pub mod Counting

@@ -2,7 +2,7 @@ pub mod Opening
 pub mod Finding
 pub mod Moments
 pub mod Passes
-pub mod Pairs
+pub mod Numbers
 pub mod Entering
 pub mod Stand
 pub mod Telling

@@ -4,15 +4,16 @@ ghost use Rattle.std.specs.Prelude.{◌≡◌, length};
 ghost use Rattle.day_model.specs.Chart.{IsChart};
 ghost use Rattle.day_model.specs.Fit.{FitsAccounts};
 ghost use Rattle.day_model.specs.Shape.{HasShape};
-ghost use Rattle.corr_books.specs.Pairs.{AreTwoOf};
+ghost use Rattle.jrn_book.specs.Deciding.{HoldsAll};
 ghost use Rattle.corr_books.specs.Passes.{Belongs};
 ghost use Rattle.corr_books.specs.Telling.{Told};
 
 use crate::naming::BooksName;
+use crate::rising::rising;
 use crate::stand::Stand;
-use acct_locks::Purses;
+use acct_locks::{Held, Purses};
 use corr_disk::Disk;
-use day_model::{Accounts, AcctNo, Pay};
+use day_model::{Accounts, Pay};
 use front_word::{Front, Pass};
 use jrn_book::{CommitFault, Committed};
 use std::sync::{Mutex, Wait};
@@ -35,20 +36,6 @@ pub struct Books<N: BooksName, D: Disk> {
     ghost made_is: { made ≡ N.opening.made },
 }
 
-/// The accounts of a pay's legs, the lower number first.
-fn rising(a: &Accounts, p: &Pay) -> (AcctNo, AcctNo)
-    requires { FitsAccounts a.now p.now }
-    ensures { AreTwoOf a.now p.now.legs result.0.0 result.1.0 }
-{
-    let legs = p.legs.as_slice();
-    let (debit, credit) = (legs[0].account, legs[1].account);
-    if debit.0 < credit.0 {
-        (debit, credit)
-    } else {
-        (credit, debit)
-    }
-}
-
 impl<N: BooksName, D: Disk> Books<N, D> {
     /// The accounts. Takes no memory.
     pub fn accounts(&self) -> &Accounts
@@ -60,8 +47,8 @@ impl<N: BooksName, D: Disk> Books<N, D> {
         &self.accounts
     }
 
-    /// Books a pay, by any thread that has a pass of these books: waits for the locks of its two accounts in rising order,
-    /// passes the gate, waits for the journal and commits. The pass then knows all that was entered before, and its own
+    /// Books a pay, by any thread that has a pass of these books: waits for the locks of its two accounts, or three, in rising
+    /// order, passes the gate, waits for the journal and commits. The pass then knows all that was entered before, and its own
     /// places have that of the answer after `New` and `Kept`. `worker` is told to the gate alone.
     ///
     /// The pay fits the accounts of the books and has the shape of what is written down. It answers as `commit` does, and each
@@ -82,11 +69,40 @@ impl<N: BooksName, D: Disk> Books<N, D> {
         ensures told { Told N.opening p.now pass.old result pass.new }
         ensures pass { Belongs N.opening pass.new }
     {
-        let (low, high) = rising(&self.accounts, p);
-        let mut held = self.purses.hold().take(rt, low).take(rt, high);
+        let accounts = rising(&self.accounts, p);
+        let held = self.purses.hold();
+        let held = held.take(rt, accounts.low).take(rt, accounts.next);
+        match accounts.last {
+            None => self.book_held(rt, held, pass, worker, p, gate),
+            Some(last) => {
+                let held = held.take(rt, last);
+                self.book_held(rt, held, pass, worker, p, gate)
+            }
+        }
+    }
+
+    // Books a pay whose accounts are held, and gives them back.
+    fn book_held<H: Held + Drop, R: Wait, G: Gate>(
+        &self,
+        rt: &R,
+        held: H,
+        pass: &mut Pass,
+        worker: u32,
+        p: &Pay,
+        gate: &G,
+    ) -> Result<Committed, CommitFault>
+        requires pass { Belongs N.opening pass.old }
+        requires fits { FitsAccounts N.opening.accounts p.now }
+        requires shape { HasShape p.now }
+        requires held { HoldsAll (H.held held) p.now.legs }
+        requires table { H.table held ≡ N.table }
+        ensures told { Told N.opening p.now pass.old result pass.new }
+        ensures pass { Belongs N.opening pass.new }
+    {
+        let mut held = held;
         gate.pass(worker, &p.mir);
         let answer = self.stand.lock(rt).book(&self.front, &mut held, pass, p);
-        held.give_back();
+        drop(held);
         answer
     }
 }

@@ -9,6 +9,7 @@ mod entering;
 mod law;
 mod naming;
 mod opening;
+mod rising;
 mod seating;
 mod stand;
 mod taking;

@@ -1,19 +1,21 @@
 -- What a job holds and what it wants.
-use Rattle.std.proofs.Common.{◌≡◌, ◌≢◌, ℕ, zero, suc, ◌+◌, ◌-◌, ◌≤◌, Bool, true, false, cond, eqb, ltb, List, [], ◌∷◌, Option, Some, None, refl, sym, ap, ◌∙◌, subst, arith, length, inl, inr}
+use Rattle.std.proofs.Common.{◌≡◌, ◌≢◌, ℕ, zero, suc, ◌+◌, ◌-◌, ◌≤◌, Bool, true, false, cond, eqb, ltb, List, [], ◌∷◌, Option, Some, None, refl, sym, ap, ◌∙◌}
+use Rattle.std.proofs.Common.{subst, arith, length, inl, inr}
 use Rattle.std.specs.Prelude.{◌⊎◌, ◌||◌, slice_get, is_some, option_and_then}
 use Rattle.std.specs.List.{list_any, position_from}
-use Rattle.std.proofs.lemmas.Bool.{cases_Bool, cond-true, cond-false, eq-eqb, eqb-true, eqb-false, false≢true, or_cases, or_left, or_parts, or_right, ltb-true, ltb-false}
+use Rattle.std.proofs.lemmas.Bool.{cases_Bool, cond-true, cond-false, eq-eqb, eqb-true, eqb-false, false≢true, or_cases, or_left, or_parts, or_right, ltb-true}
+use Rattle.std.proofs.lemmas.Bool.{ltb-false}
 use Rattle.std.proofs.lemmas.List.Folds.{list_any-append}
 use Rattle.std.proofs.lemmas.Option.{none-some, same_Some}
 use Rattle.day_model.specs.declared.account.AcctNo.{AcctNo}
 use Rattle.day_model.specs.declared.pay.Leg.{Leg}
 use Rattle.day_model.specs.declared.pay.Pay.{Pay}
 use Rattle.day_model.specs.declared.core_job.Job.{Job}
-use Rattle.day_model.specs.Chart.{Chart}
+use Rattle.day_model.specs.Chart.{Chart, IsListed}
 use Rattle.day_model.specs.Fit.{FitsAccounts}
 use Rattle.day_model.specs.CoreStep.{also_holding, has_held, holder_of, holds, job_at, least_unheld, lesser, wanted_by, worker_at}
 use Rattle.day_model.specs.CoreSound.{HasHeld, HoldsLeast, has_leg_on}
-use Rattle.day_model.proofs.laws.Fitting.{transfer}
+use Rattle.day_model.proofs.laws.Fitting.{fitting}
 use Rattle.day_model.proofs.laws.Growth.{none_passes}
 use Rattle.day_model.proofs.CoreWorkers.{job_there, worker_at-from_one}
 
@@ -133,16 +135,20 @@ least_after job account wanted before = record {
       ];
 }
 
+account_among : (chart : Chart) (legs : List Leg) (n : ℕ) → ((i : ℕ) (leg : Leg) → slice_get legs i ≡ Some leg → IsListed chart leg.account.0)
+    → list_any (λ (leg : Leg). eqb leg.account.0 n) legs ≡ true → n ≤ length chart.accounts
+account_among chart [] n there own = absurd (false≢true own)
+account_among chart (leg ∷ legs) n there own =
+    elim (or_cases (eqb leg.account.0 n) (list_any (λ (x : Leg). eqb x.account.0 n) legs) own) [
+      | inl here ↦ let is = eqb-true leg.account.0 n here in omega (arith, (there 0 leg refl).1)
+      | inr later ↦ account_among chart legs n (λ i x at. there (suc i) x at) later
+    ]
+
 -- each account of a pay that fits is listed
 pub account_listed : (chart : Chart) (pay : Pay) (n : ℕ) → FitsAccounts chart pay → has_leg_on pay n ≡ true → n ≤ length chart.accounts
 account_listed chart pay n fits own =
-    let t = transfer chart pay.legs fits in
-    let there : (eqb t.debit.account.0 n || (eqb t.credit.account.0 n || false)) ≡ true =
-    subst (λ (ls : List Leg). list_any (λ (leg : Leg). eqb leg.account.0 n) ls ≡ true) t.legs_are own in
-    elim (or_cases (eqb t.debit.account.0 n) (eqb t.credit.account.0 n || false) there) [
-      | inl debit ↦ let is = eqb-true t.debit.account.0 n debit in omega (arith, t.debit_listed.1)
-      | inr credit ↦ let is = eqb-true t.credit.account.0 n (no_other (eqb t.credit.account.0 n) credit) in omega (arith, t.credit_listed.1)
-    ]
+    let fit = fitting chart pay.legs fits in
+    account_among chart pay.legs n (λ i leg at. (fit.each i leg at).listed) own
 
 -- the first place that passes
 pub position_at : {A : Type 0} (t : A → Bool) (i k : ℕ) (xs : List A) → position_from t i xs ≡ Some k

@@ -12,7 +12,7 @@ use Rattle.day_model.specs.Fit.{FitsAccounts}
 use Rattle.day_model.specs.Balance.{is_booked, outcome_of}
 use Rattle.day_model.specs.Next.{entered_at, entry_of, next_history}
 use Rattle.day_model.specs.CoreLedger.{AreAtBalance, CanAddAll, IsSoundLedger, LedgerState, is_entered, ledger_after, mark_of, may_enter}
-use Rattle.day_model.proofs.laws.Fitting.{transfer}
+use Rattle.day_model.proofs.laws.Fitting.{fitting}
 use Rattle.day_model.proofs.laws.Growth.{enters_new, next_begins, one_pay_more, still, still_latest}
 use Rattle.day_model.proofs.CorePurses.{can_add_all, purses_more, purses_with}
 
@@ -21,7 +21,7 @@ can_add_now ledger pay sound fits =
     let n = length ledger.entries in
     let all : take n ledger.entries ≡ ledger.entries = take_all n ledger.entries (omega arith) in
     can_add_all ledger.chart ledger.entries ledger.purses n pay.legs sound.chart sound.legal (omega arith)
-    (subst (λ (es : List Entry). AreAtBalance ledger.chart es ledger.purses) (sym all) sound.purses) (transfer ledger.chart pay.legs fits)
+    (subst (λ (es : List Entry). AreAtBalance ledger.chart es ledger.purses) (sym all) sound.purses) (fitting ledger.chart pay.legs fits)
 
 -- the ledger after a pay, by whether its reference is entered and whether it is booked
 abbrev with_pay : LedgerState → Pay → Bool → Bool → LedgerState
@@ -52,7 +52,7 @@ with_pay_sound ledger pay false booked sound fits is out room =
       legal = one_pay_more ledger.chart ledger.entries pay ledger.day sound.legal fits sound.latest (room refl) is;
       latest = still_latest ledger.chart ledger.entries pay ledger.day false sound.latest;
       purses = subst (λ (es : List Entry). AreAtBalance ledger.chart es (purses_with booked ledger.purses pay.legs)) after
-          (purses_more ledger.chart more ledger.purses n e booked (transfer ledger.chart pay.legs fits) at out
+          (purses_more ledger.chart more ledger.purses n e booked (fitting ledger.chart pay.legs fits) at out
           (subst (λ (es : List Entry). AreAtBalance ledger.chart es ledger.purses) (sym before) sound.purses));
     }
 

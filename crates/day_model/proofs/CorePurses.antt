@@ -1,24 +1,28 @@
 -- Purses stay at their balances.
-use Rattle.std.proofs.Common.{◌≡◌, ◌≢◌, ℕ, ◌+◌, ◌-◌, ◌<◌, ◌≤◌, Bool, true, false, cond, eqb, List, [], ◌∷◌, ◌++◌, Option, Some, get_or, length-append, sym, ap, ◌∙◌, subst, arith, length, take, ℤ, pos, ◌+ℤ◌, ◌-ℤ◌, inl, inr}
-use Rattle.std.specs.Prelude.{slice_get, unwrap_or, option_map, if◌then◌else◌}
-use Rattle.std.proofs.lemmas.Bool.{cases_eq, eq-eqb, ne_eqb}
+use Rattle.std.proofs.Common.{◌≡◌, ◌≢◌, ℕ, suc, ◌+◌, ◌-◌, ◌≤◌, Bool, true, false, cond, eqb, List, [], ◌∷◌, ◌++◌, Option, Some, get_or, length-append, refl}
+use Rattle.std.proofs.Common.{sym, ap, ◌∙◌, subst, arith, length, take, ℤ, pos, ◌+ℤ◌, ◌-ℤ◌, inl, inr}
+use Rattle.std.specs.Prelude.{◌&&◌, slice_get, sum_by, unwrap_or, option_map, if◌then◌else◌}
+use Rattle.std.proofs.lemmas.Bool.{and_parts, cases_eq, eq-eqb, eqb-false, ne_eqb, not-true}
 use Rattle.std.proofs.lemmas.Int.{ints}
+use Rattle.std.specs.List.{list_all}
+use Rattle.std.proofs.lemmas.List.Sums.{sum_by-cons}
 use Rattle.std.proofs.lemmas.List.{length-set, get_or_append_left, take_all}
 use Rattle.std.proofs.Math.Seq.{get_or-append_seam}
 use Rattle.std.proofs.lemmas.Option.{get_or_from_slice_get, same_Some, slice_get-get_or}
-use Rattle.corr_money.specs.Amounts.{amount_end}
 use Rattle.day_model.specs.declared.account.Account.{Account}
+use Rattle.day_model.specs.declared.pay.Side.{Side}
 use Rattle.day_model.specs.declared.pay.Side.TheVariants.{Debit, Credit}
 use Rattle.day_model.specs.declared.pay.Leg.{Leg}
 use Rattle.day_model.specs.declared.entry.Entry.{Entry}
 use Rattle.day_model.specs.Chart.{Chart, IsChart, IsListed, IsSmall, account_at}
-use Rattle.day_model.specs.Balance.{balance_of, changed, is_booked, credits_of, debits_of, moved_by, opening_of}
+use Rattle.day_model.specs.Fit.{are_apart, is_apart_from, is_side}
+use Rattle.day_model.specs.Balance.{balance_of, changed, is_booked, credits_of, debits_of, moved, moved_by, opening_of}
 use Rattle.day_model.specs.Legal.{IsLegal}
 use Rattle.day_model.specs.CoreLedger.{AreAtBalance, CanAdd, CanAddAll, purse_of, with_leg, with_legs}
 use Rattle.day_model.specs.Totals.{Pair, HasTotals, pair_at, totals_of}
 use Rattle.day_model.proofs.laws.PairLists.{pair_read}
-use Rattle.day_model.proofs.laws.Fitting.{Transfer}
-use Rattle.day_model.proofs.laws.Balances.{balance_more, booked_moves, unmoved, credits_moved, debits_moved, small_at}
+use Rattle.day_model.proofs.laws.Fitting.{LegsFit, all_at}
+use Rattle.day_model.proofs.laws.Balances.{balance_more, booked_moves, unmoved, small_at}
 use Rattle.day_model.proofs.CoreWorkers.{slice_get-set_same, slice_get-set_other}
 
 purse_is : (purses : List ℤ) (n : ℕ) (b : ℤ) → slice_get purses (n - 1) ≡ Some b → purse_of purses n ≡ b
@@ -45,54 +49,62 @@ leg_at purses leg n b from there one at =
 length-with_leg : (purses : List ℤ) (leg : Leg) → length (with_leg purses leg) ≡ length purses
 length-with_leg purses leg = length-set purses (leg.account.0 - 1) (changed leg.side leg.amount.0 (purse_of purses leg.account.0))
 
-both_sides : (p q : Bool) (x y : ℕ) (b : ℤ) → cond q (cond p (b -ℤ pos x) b +ℤ pos y) (cond p (b -ℤ pos x) b) ≡ (b +ℤ pos (cond q y 0)) -ℤ pos (cond p x 0)
-both_sides true true x y b = omega (arith, ints)
-both_sides true false x y b = omega (arith, ints)
-both_sides false true x y b = omega (arith, ints)
-both_sides false false x y b = omega (arith, ints)
+adds : (s : Side) (own : Bool) (x : ℕ) (b : ℤ)
+    → cond own (changed s x b) b ≡ (b +ℤ pos (cond (is_side Credit s && own) x 0)) -ℤ pos (cond (is_side Debit s && own) x 0)
+adds Debit true x b = omega (arith, ints)
+adds Debit false x b = omega (arith, ints)
+adds Credit true x b = omega (arith, ints)
+adds Credit false x b = omega (arith, ints)
 
--- both legs of a pay that fits
-legs_at : (chart : Chart) (purses : List ℤ) (legs : List Leg) (n : ℕ) (b : ℤ) (t : Transfer chart legs) → length purses ≡ length chart.accounts → 1 ≤ n
+-- what legs leave in purse n
+legs_at : (purses : List ℤ) (legs : List Leg) (n : ℕ) (b : ℤ)
+    → ((i : ℕ) (leg : Leg) → slice_get legs i ≡ Some leg → (1 ≤ leg.account.0) × (leg.account.0 ≤ length purses)) → 1 ≤ n
     → slice_get purses (n - 1) ≡ Some b
-    → slice_get (with_legs purses legs) (n - 1)
-    ≡ Some ((b +ℤ pos (cond (eqb t.credit.account.0 n) t.credit.amount.0 0)) -ℤ pos (cond (eqb t.debit.account.0 n) t.debit.amount.0 0))
-legs_at chart purses legs n b t size one at =
-    let d = t.debit in
-    let c = t.credit in
-    let first = leg_at purses d n b t.debit_listed.0 (omega (arith, t.debit_listed.1)) one at in
-    let middle : ℤ = cond (eqb d.account.0 n) (changed d.side d.amount.0 b) b in
-    let kept = length-with_leg purses d in
-    let second = leg_at (with_leg purses d) c n middle t.credit_listed.0 (omega (arith, t.credit_listed.1)) one first in
-    let sides : cond (eqb c.account.0 n) (changed c.side c.amount.0 middle) middle
-    ≡ (b +ℤ pos (cond (eqb c.account.0 n) c.amount.0 0)) -ℤ pos (cond (eqb d.account.0 n) d.amount.0 0) =
-    rw (t.debit_side, t.credit_side) (both_sides (eqb d.account.0 n) (eqb c.account.0 n) d.amount.0 c.amount.0 b) in
-    ap (λ (ls : List Leg). slice_get (with_legs purses ls) (n - 1)) t.legs_are ∙ second ∙ ap (λ (z : ℤ). Some z) sides
+    → slice_get (with_legs purses legs) (n - 1) ≡ Some ((b +ℤ pos (sum_by (moved Credit n) legs)) -ℤ pos (sum_by (moved Debit n) legs))
+legs_at purses [] n b there one at = let same : b ≡ (b +ℤ pos 0) -ℤ pos 0 = omega (arith, ints) in at ∙ ap (λ (z : ℤ). Some z) same
+legs_at purses (leg ∷ legs) n b there one at =
+    let place = there 0 leg refl in
+    let next : ℤ = cond (eqb leg.account.0 n) (changed leg.side leg.amount.0 b) b in
+    let first : slice_get (with_leg purses leg) (n - 1) ≡ Some next = leg_at purses leg n b place.0 place.1 one at in
+    let kept = length-with_leg purses leg in
+    let rest =
+    legs_at (with_leg purses leg) legs n next
+    (λ i x found. let other = there (suc i) x found in (other.0, omega (arith, other.1, kept))) one first in
+    let step : next ≡ (b +ℤ pos (moved Credit n leg)) -ℤ pos (moved Debit n leg) = adds leg.side (eqb leg.account.0 n) leg.amount.0 b in
+    let all : (next +ℤ pos (sum_by (moved Credit n) legs)) -ℤ pos (sum_by (moved Debit n) legs)
+    ≡ (b +ℤ pos (sum_by (moved Credit n) (leg ∷ legs))) -ℤ pos (sum_by (moved Debit n) (leg ∷ legs)) =
+    omega (arith, ints, step, sum_by-cons (moved Credit n) leg legs, sum_by-cons (moved Debit n) leg legs) in
+    rest ∙ ap (λ (z : ℤ). Some z) all
 
-length-with_legs : (chart : Chart) (purses : List ℤ) (legs : List Leg) → Transfer chart legs → length (with_legs purses legs) ≡ length purses
-length-with_legs chart purses legs t =
-    ap (λ (ls : List Leg). length (with_legs purses ls)) t.legs_are ∙ length-with_leg (with_leg purses t.debit) t.credit ∙ length-with_leg purses t.debit
+length-with_legs : (purses : List ℤ) (legs : List Leg) → length (with_legs purses legs) ≡ length purses
+length-with_legs purses [] = refl
+length-with_legs purses (leg ∷ legs) = length-with_legs (with_leg purses leg) legs ∙ length-with_leg purses leg
 
 abbrev pub purses_with : Bool → List ℤ → List Leg → List ℤ
 purses_with booked purses legs = if booked then with_legs purses legs else purses
 
 -- one entry more: its legs are added where it is booked
-pub purses_more : (chart : Chart) (entries : List Entry) (purses : List ℤ) (i : ℕ) (e : Entry) (booked : Bool) → Transfer chart e.pay.legs
+pub purses_more : (chart : Chart) (entries : List Entry) (purses : List ℤ) (i : ℕ) (e : Entry) (booked : Bool) → LegsFit chart e.pay.legs
     → slice_get entries i ≡ Some e → is_booked e.outcome ≡ booked → AreAtBalance chart (take i entries) purses
     → AreAtBalance chart (take (i + 1) entries) (purses_with booked purses e.pay.legs)
-purses_more chart entries purses i e true t at booked before = record {
-  one_each = length-with_legs chart purses e.pay.legs t ∙ before.one_each;
+purses_more chart entries purses i e true fit at booked before = record {
+  one_each = length-with_legs purses e.pay.legs ∙ before.one_each;
   balances = λ n there.
       let more = balance_more chart entries n i e at in
-      let credit = booked_moves Credit n e booked ∙ credits_moved chart e.pay.legs n t in
-      let debit = booked_moves Debit n e booked ∙ debits_moved chart e.pay.legs n t in
+      let credit = booked_moves Credit n e booked in
+      let debit = booked_moves Debit n e booked in
       let b : ℤ = balance_of chart (take i entries) n in
-      legs_at chart purses e.pay.legs n b t before.one_each there.0 (before.balances n there)
+      legs_at purses e.pay.legs n b
+      (λ k leg found.
+      let listed = (fit.each k leg found).listed in
+      (listed.0, omega (arith, listed.1, before.one_each)))
+      there.0 (before.balances n there)
       ∙ ap (λ (z : ℤ). Some z)
       (sym
       (more ∙ ap (λ (x : ℕ). (b +ℤ pos x) -ℤ pos (moved_by Debit n e)) credit
-      ∙ ap (λ (x : ℕ). (b +ℤ pos (cond (eqb t.credit.account.0 n) t.credit.amount.0 0)) -ℤ pos x) debit));
+      ∙ ap (λ (x : ℕ). (b +ℤ pos (sum_by (moved Credit n) e.pay.legs)) -ℤ pos x) debit));
 }
-purses_more chart entries purses i e false t at booked before = record {
+purses_more chart entries purses i e false fit at booked before = record {
   one_each = before.one_each;
   balances = λ n there.
       let more = balance_more chart entries n i e at in
@@ -105,37 +117,49 @@ purses_more chart entries purses i e false t at booked before = record {
       ∙ ap (λ (x : ℕ). (b +ℤ pos 0) -ℤ pos x) (unmoved Debit n e booked) ∙ still));
 }
 
+-- a leg on another account can still be added
+still_can : (purses : List ℤ) (leg other : Leg) → leg.account.0 ≢ other.account.0 → CanAdd purses leg → CanAdd purses other
+    → CanAdd (with_leg purses leg) other
+still_can purses leg other apart can next =
+    let from : 1 ≤ leg.account.0 = can.from_one in
+    let one : 1 ≤ other.account.0 = next.from_one in
+    let place : other.account.0 - 1 ≢ leg.account.0 - 1 = λ e. apart (omega arith) in
+    let same : purse_of (with_leg purses leg) other.account.0 ≡ purse_of purses other.account.0 =
+    ap (λ (o : Option ℤ). unwrap_or o (pos 0))
+    (slice_get-set_other purses (leg.account.0 - 1) (other.account.0 - 1) (changed leg.side leg.amount.0 (purse_of purses leg.account.0)) place) in
+    record {
+      from_one = one;
+      there = omega (arith, next.there, length-with_leg purses leg);
+      small = subst (λ (z : ℤ). IsSmall z) (sym same) next.small;
+      amount = next.amount;
+    }
+
+-- legs on distinct accounts can be added one after another where each can be first
+can_add_each : (purses : List ℤ) (legs : List Leg) → are_apart legs ≡ true → ((i : ℕ) (leg : Leg) → slice_get legs i ≡ Some leg → CanAdd purses leg)
+    → CanAddAll purses legs
+can_add_each purses [] apart each = tt
+can_add_each purses (leg ∷ legs) apart each =
+    let parts = and_parts (list_all (is_apart_from leg) legs) (are_apart legs) apart in
+    let first = each 0 leg refl in (
+      first,
+      can_add_each (with_leg purses leg) legs parts.1
+          (λ i x at. still_can purses leg x (eqb-false _ _ (not-true _ (all_at (is_apart_from leg) legs i x parts.0 at))) first (each (suc i) x at)),
+    )
+
 -- the legs of a pay that fits can be added
 pub can_add_all : (chart : Chart) (entries : List Entry) (purses : List ℤ) (i : ℕ) (legs : List Leg) → IsChart chart → IsLegal chart entries
-    → i ≤ length entries → AreAtBalance chart (take i entries) purses → Transfer chart legs → CanAddAll purses legs
-can_add_all chart entries purses i legs sound legal le before t =
-    let d = t.debit in
-    let c = t.credit in
-    let debit = before.balances d.account.0 t.debit_listed in
-    let credit = before.balances c.account.0 t.credit_listed in
-    let kept = length-with_leg purses d in
-    let after : slice_get (with_leg purses d) (c.account.0 - 1) ≡ Some (balance_of chart (take i entries) c.account.0) =
-    leg_at purses d c.account.0 (balance_of chart (take i entries) c.account.0) t.debit_listed.0
-    (omega (arith, t.debit_listed.1, before.one_each)) t.credit_listed.0 credit
-    ∙ ap
-    (λ (b : Bool).
-    Some (cond b (changed d.side d.amount.0 (balance_of chart (take i entries) c.account.0)) (balance_of chart (take i entries) c.account.0)))
-    (ne_eqb d.account.0 c.account.0 t.distinct) in
-    let first : CanAdd purses d = record {
-      from_one = t.debit_listed.0;
-      there = omega (arith, t.debit_listed.1, before.one_each);
-      small = subst (λ (z : ℤ). IsSmall z) (sym (purse_is purses d.account.0 (balance_of chart (take i entries) d.account.0) debit))
-          (small_at chart entries d.account.0 i sound legal t.debit_listed le);
-      amount = t.below;
-    } in
-    let second : CanAdd (with_leg purses d) c = record {
-      from_one = t.credit_listed.0;
-      there = omega (arith, t.credit_listed.1, before.one_each);
-      small = subst (λ (z : ℤ). IsSmall z) (sym (purse_is (with_leg purses d) c.account.0 (balance_of chart (take i entries) c.account.0) after))
-          (small_at chart entries c.account.0 i sound legal t.credit_listed le);
-      amount = subst (λ (x : ℕ). x < amount_end) t.equal t.below;
-    } in
-    subst (λ (ls : List Leg). CanAddAll purses ls) (sym t.legs_are) (first, (second, tt))
+    → i ≤ length entries → AreAtBalance chart (take i entries) purses → LegsFit chart legs → CanAddAll purses legs
+can_add_all chart entries purses i legs sound legal le before fit =
+    can_add_each purses legs fit.apart (λ k leg at.
+    let own = fit.each k leg at in
+    let n = leg.account.0 in
+    record {
+      from_one = own.listed.0;
+      there = omega (arith, own.listed.1, before.one_each);
+      small = subst (λ (z : ℤ). IsSmall z) (sym (purse_is purses n (balance_of chart (take i entries) n) (before.balances n own.listed)))
+          (small_at chart entries n i sound legal own.listed le);
+      amount = own.below;
+    })
 
 -- the purses of the first accounts are at their balances
 pub record Opened (chart : Chart) (entries : List Entry) (count : ℕ) (purses : List ℤ) : Type 0 where

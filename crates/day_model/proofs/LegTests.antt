@@ -1,5 +1,5 @@
 -- The tests of a pay's legs, one after another.
-use Rattle.std.proofs.Common.{◌≡◌, ℕ, ◌+◌, ◌<◌, Bool, true, List, [], ◌∷◌, Option, Some, None, refl, sym, ap, ◌∙◌, length, drop, get_or}
+use Rattle.std.proofs.Common.{◌≡◌, ℕ, ◌+◌, ◌<◌, Bool, List, [], ◌∷◌, Option, Some, None, refl, sym, ap, ◌∙◌, length, drop, get_or}
 use Rattle.std.proofs.lemmas.List.{drop_more}
 use Rattle.std.specs.Prelude.{ℤ}
 use Rattle.corr_text.specs.First.{first_of, unless}
@@ -40,11 +40,12 @@ pub none_at_all : (chart : Chart) (entries : List Entry) (legs : List Leg) (i : 
     → first_of (leg_tests chart entries 1 legs) ≡ None
 none_at_all chart entries legs i before end = before.later ∙ ap (λ ls. first_of (leg_tests chart entries (i + 1) ls)) end
 
--- a leg that leaves its account within the limits passes
-pub leg_passes : (chart : Chart) (entries : List Entry) (k : ℕ) (leg : Leg) (a : Account) (b : ℤ) → account_at chart leg.account.0 ≡ Some a
-    → b ≡ balance_of chart entries leg.account.0 → is_within (Some a) (changed leg.side leg.amount.0 b) ≡ true → leg_test chart entries k leg ≡ None
-leg_passes chart entries k leg a b there is pass =
-    let e : is_within (account_at chart leg.account.0) (changed leg.side leg.amount.0 (balance_of chart entries leg.account.0)) ≡ true =
+-- a leg passes where it leaves its account within the limits, and fails with the balance before it where it doesn't
+pub leg_tested : (chart : Chart) (entries : List Entry) (k : ℕ) (leg : Leg) (a : Account) (b : ℤ) (pass : Bool) → account_at chart leg.account.0 ≡ Some a
+    → b ≡ balance_of chart entries leg.account.0 → is_within (Some a) (changed leg.side leg.amount.0 b) ≡ pass
+    → leg_test chart entries k leg ≡ unless pass (Unfunded k b)
+leg_tested chart entries k leg a b pass there is tested =
+    let e : is_within (account_at chart leg.account.0) (changed leg.side leg.amount.0 (balance_of chart entries leg.account.0)) ≡ pass =
     ap (λ (o : Option Account). is_within o (changed leg.side leg.amount.0 (balance_of chart entries leg.account.0))) there
-    ∙ ap (λ (x : ℤ). is_within (Some a) (changed leg.side leg.amount.0 x)) (sym is) ∙ pass in
-    ap (λ (t : Bool). unless t (Unfunded k (balance_of chart entries leg.account.0))) e
+    ∙ ap (λ (x : ℤ). is_within (Some a) (changed leg.side leg.amount.0 x)) (sym is) ∙ tested in
+    ap (λ (t : Bool). unless t (Unfunded k (balance_of chart entries leg.account.0))) e ∙ ap (λ (x : ℤ). unless pass (Unfunded k x)) (sym is)

@@ -1,7 +1,7 @@
 pub mod laws
+pub mod Amounts
 pub mod LegTests
 pub mod Openings
-pub mod Sums
 pub mod Testing
 pub mod CoreWorkers
 pub mod CorePurses

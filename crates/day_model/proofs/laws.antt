@@ -1,9 +1,11 @@
 pub mod Places
 pub mod Fitting
+pub mod Legs
 pub mod Balances
 pub mod Growth
 pub mod Pairs
 pub mod PairLists
 pub mod Histories
+pub mod Sums
 pub mod Turnovers
 pub mod Lookups

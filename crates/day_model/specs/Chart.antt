@@ -11,7 +11,7 @@ use Rattle.corr_money.specs.declared.amount.Ccy.{Ccy}
 use Rattle.day_model.specs.declared.account.Account.{Account}
 use Rattle.day_model.specs.declared.account.AcctNo.{AcctNo}
 use Rattle.day_model.specs.declared.kind.Kind.{Kind}
-use Rattle.day_model.specs.declared.kind.Kind.TheVariants.{Customer, Vostro, Nostro}
+use Rattle.day_model.specs.declared.kind.Kind.TheVariants.{Customer, Fee, Nostro, Vostro}
 
 -- the most accounts that a book has
 abbrev pub most_accounts : ℕ
@@ -59,15 +59,20 @@ vostro = 86
 abbrev pub nostro : ℕ
 nostro = 78
 
+-- the letter F, of the home bank's account for charges
+abbrev pub fee : ℕ
+fee = 70
+
 -- the letter of a kind
 abbrev pub kind_letter : Kind → ℕ
 kind_letter Customer = customer
 kind_letter Vostro = vostro
 kind_letter Nostro = nostro
+kind_letter Fee = fee
 
--- one of the three letters
+-- one of the four letters
 abbrev pub is_kind : ℕ → Bool
-is_kind kind = (kind == customer) || (kind == vostro) || (kind == nostro)
+is_kind kind = (kind == customer) || (kind == vostro) || (kind == nostro) || (kind == fee)
 
 -- the form of an account's columns
 pub record IsFormed (account : Account) : Type 0 where
@@ -94,7 +99,7 @@ pub record IsLimited (account : Account) : Type 0 where
   pub above_floor : account.floor ≤ℤ account.opening
   pub below_ceil : account.opening ≤ℤ account.ceil
 
--- of one bank: vostro or nostro accounts of one kind, owner's head and currency
+-- of one bank: vostro, nostro or fee accounts of one kind, owner's head and currency
 pub record IsSameBank (a b : Account) : Type 0 where
   pub bank : a.kind ≢ customer
   pub kind : a.kind ≡ b.kind

@@ -1,5 +1,5 @@
 -- The shape of a pay, whatever the book.
-use Rattle.std.specs.Prelude.{ℕ, ◌≤◌, ◌==◌, ◌&&◌, not, Bool, false, All, IfSome, IsTrue, List, [], ◌∷◌, length}
+use Rattle.std.specs.Prelude.{ℕ, ◌≤◌, not, All, IfSome, IsTrue, List, length}
 use Rattle.std.specs.List.{list_all}
 use Rattle.corr_text.specs.declared.set.Set.TheVariants.{X}
 use Rattle.corr_text.specs.Sets.{is_in}
@@ -14,9 +14,8 @@ use Rattle.day_model.specs.declared.pay.Order.TheVariants as order
 use Rattle.day_model.specs.declared.pay.Pay.{Pay}
 use Rattle.day_model.specs.declared.pay.Quote.{Quote}
 use Rattle.day_model.specs.declared.pay.Quote.TheVariants.{Ours, Theirs}
-use Rattle.day_model.specs.declared.pay.Side.TheVariants.{Credit, Debit}
 use Rattle.day_model.specs.Chart.{most_accounts}
-use Rattle.day_model.specs.Fit.{amounts_fit, is_side}
+use Rattle.day_model.specs.Fit.{are_legs}
 
 -- a reference: 1 to 16 of X, without a stray slash
 pub record IsReference (text : List ℕ) : Type 0 where
@@ -34,12 +33,6 @@ IsQuote (Ours order) = Unit {0}
 pub record IsLeg (leg : Leg) : Type 0 where
   pub account : (1 ≤ leg.account.0) × (leg.account.0 ≤ most_accounts)
   pub quote : IsQuote leg.quote
-
--- a debit and then a credit of one amount above 0 and below 10^14, on distinct accounts
-abbrev pub are_legs : List Leg → Bool
-are_legs (debit ∷ credit ∷ []) =
-    is_side Debit debit.side && is_side Credit credit.side && amounts_fit debit.amount.0 credit.amount.0 && not (debit.account.0 == credit.account.0)
-are_legs _ = false
 
 -- a leg's number, from 1, among so many
 abbrev pub IsNumbered : ℕ → ℕ → Type 0

@@ -8,7 +8,7 @@ use corr_text::Text;
 #[derive(Clone, Copy, Debug, PartialEq, Eq)]
 pub struct AcctNo(pub u32);
 
-/// An account: `kind` is `C` (a customer's), `V` (vostro) or `N` (nostro).
+/// An account: `kind` is `C` (a customer's), `V` (vostro), `N` (nostro) or `F` (the home bank's own, for charges).
 ///
 /// `floor` and `ceil` are the least and the greatest balance that a booking may leave, `opening` is the balance before the
 /// first entry: in minor units, credits positive.

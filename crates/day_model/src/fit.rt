@@ -1,56 +1,136 @@
 //! Which pays fit a book's accounts.
 
-ghost use Rattle.std.specs.Prelude.{◌≡◌, IsTrue};
+ghost use Rattle.std.specs.Prelude.{◌≡◌, ◌<◌, ◌≤◌, ◌^◌, IsTrue, length};
+ghost use Rattle.std.specs.List.{list_all};
 ghost use Rattle.day_model.specs.Chart.{IsListed};
-ghost use Rattle.day_model.specs.Fit.{accounts_fit, amounts_fit, is_listed, is_side, legs_fit};
+ghost use Rattle.day_model.specs.Fit.{amount_on, are_apart, are_even, are_legs, begin_with_debit, fit_in, has_amount, is_apart_from, is_beside, is_in};
+ghost use Rattle.day_model.specs.Fit.{legs_fit, side_sum};
 
 use crate::account::AcctNo;
 use crate::accounts::Accounts;
 use crate::pay::{Leg, Pay, Side};
 use corr_money::AMOUNT_END;
 
-fn has_side(leg: &Leg, side: Side) -> bool
-    ensures { result ≡ is_side side leg.now.side }
+/// The fewest legs of a pay.
+const FEWEST_LEGS: usize = 2;
+
+/// The most legs of a pay.
+const MOST_LEGS: usize = 3;
+
+fn amount_on(side: Side, leg: &Leg) -> u64
+    ensures { result ≡ amount_on side leg.now }
 {
-    leg.side == side
+    if leg.side == side { leg.amount.0 } else { 0 }
 }
 
-fn have_amount(debit: u64, credit: u64) -> bool
-    ensures { result ≡ amounts_fit debit credit }
+/// What legs have on one side together, in minor units: less than 2^64.
+pub fn legs_sum(side: Side, legs: &[Leg]) -> u64
+    requires { side_sum side legs.now < 2 ^ 64 }
+    ensures { result ≡ side_sum side legs.now }
 {
-    debit == credit && 0 < debit && debit < AMOUNT_END
+    legs.iter().map(|leg| amount_on(side, leg)).sum()
 }
 
-fn is_numbered(a: &Accounts, n: AcctNo) -> bool
-    ensures value { result ≡ is_listed a.now n.0 }
+fn has_amount(leg: &Leg) -> bool
+    ensures { result ≡ has_amount leg.now }
+{
+    0 < leg.amount.0 && leg.amount.0 < AMOUNT_END
+}
+
+fn have_amounts(legs: &[Leg]) -> bool
+    ensures { result ≡ list_all has_amount legs.now }
+{
+    legs.iter().all(|leg| has_amount(leg))
+}
+
+fn is_apart_from(leg: &Leg, other: &Leg) -> bool
+    ensures { result ≡ is_apart_from leg.now other.now }
+{
+    leg.account != other.account
+}
+
+fn is_apart_from_all(leg: &Leg, others: &[Leg]) -> bool
+    ensures { result ≡ list_all (is_apart_from leg.now) others.now }
+{
+    others.iter().all(|other| is_apart_from(leg, other))
+}
+
+fn are_apart(legs: &[Leg]) -> bool
+    ensures { result ≡ are_apart legs.now }
+{
+    match legs {
+        [] => true,
+        [leg, others @ ..] => is_apart_from_all(leg, others) && are_apart(others),
+    }
+}
+
+fn begin_with_debit(legs: &[Leg]) -> bool
+    ensures { result ≡ begin_with_debit legs.now }
+{
+    match legs {
+        [] => false,
+        [leg, ..] => leg.side == Side::Debit,
+    }
+}
+
+fn are_even(legs: &[Leg]) -> bool
+    requires few { length legs.now ≤ 3 }
+    requires small { IsTrue (list_all has_amount legs.now) }
+    ensures { result ≡ are_even legs.now }
+{
+    legs_sum(Side::Debit, legs) == legs_sum(Side::Credit, legs)
+}
+
+/// Whether these are the legs of a pay, whatever its accounts: two or three on distinct accounts, each amount above 0
+/// and below 10^14, the first a debit, and the debits sum to what the credits sum to.
+pub fn are_legs(legs: &[Leg]) -> bool
+    ensures { result ≡ are_legs legs.now }
+{
+    FEWEST_LEGS <= legs.len()
+        && legs.len() <= MOST_LEGS
+        && begin_with_debit(legs)
+        && have_amounts(legs)
+        && are_apart(legs)
+        && are_even(legs)
+}
+
+fn is_in(a: &Accounts, n: AcctNo) -> bool
+    ensures value { result ≡ is_in a.now.accounts n.0 }
     ensures listed { IsTrue result → IsListed a.now n.0 }
 {
     1 <= n.0 && n.0 <= a.count()
 }
 
-fn share_currency(a: &Accounts, debit: AcctNo, credit: AcctNo) -> bool
-    ensures { result ≡ accounts_fit a.now debit.0 credit.0 }
+fn is_beside(a: &Accounts, n: AcctNo, leg: &Leg) -> bool
+    requires { IsListed a.now n.0 }
+    ensures { result ≡ is_beside a.now.accounts n.0 leg.now }
 {
-    is_numbered(a, debit)
-        && is_numbered(a, credit)
-        && debit != credit
-        && a.get(debit).ccy == a.get(credit).ccy
+    is_in(a, leg.account) && a.get(n).ccy == a.get(leg.account).ccy
+}
+
+fn are_beside(a: &Accounts, n: AcctNo, legs: &[Leg]) -> bool
+    requires { IsListed a.now n.0 }
+    ensures { result ≡ list_all (is_beside a.now.accounts n.0) legs.now }
+{
+    legs.iter().all(|leg| is_beside(a, n, leg))
+}
+
+fn fit_in(a: &Accounts, legs: &[Leg]) -> bool
+    ensures { result ≡ fit_in a.now.accounts legs.now }
+{
+    match legs {
+        [] => true,
+        [leg, others @ ..] => is_in(a, leg.account) && are_beside(a, leg.account, others),
+    }
 }
 
 impl Accounts {
-    /// Whether a pay fits these accounts: it has two legs, a debit and then a credit, of one amount above 0 and
-    /// below 10^14, on distinct accounts of one currency.
+    /// Whether a pay fits these accounts: its legs are those of a pay (`are_legs`), on accounts of this book that have
+    /// one currency.
     pub fn fits(&self, pay: &Pay) -> bool
         ensures { result ≡ legs_fit self.now pay.now.legs }
     {
-        match pay.legs.as_slice() {
-            [debit, credit] => {
-                has_side(debit, Side::Debit)
-                    && has_side(credit, Side::Credit)
-                    && have_amount(debit.amount.0, credit.amount.0)
-                    && share_currency(self, debit.account, credit.account)
-            }
-            _ => false,
-        }
+        let legs = pay.legs.as_slice();
+        are_legs(legs) && fit_in(self, legs)
     }
 }

@@ -31,6 +31,7 @@ pub use core_event::Event;
 pub use core_machine::Core;
 pub use entry::{Entry, Outcome};
 pub use fault::AccountsFault;
+pub use fit::{are_legs, legs_sum};
 pub use funds::{after_leg, balance, decide, may_hold};
 pub use history::History;
 pub use kind::Kind;

@@ -75,7 +75,10 @@ pub enum Order {
     },
 }
 
-/// What one message asks: two legs, the debit first, and the messages to send on.
+/// What one message asks: what is booked, and the messages to send on.
+///
+/// A pay has two or three legs on distinct accounts of one currency. Each amount is above 0 and below 10^14, the first
+/// leg is a debit, and the debits sum to what the credits sum to.
 ///
 /// `mir` is the message's reference, `uetr` that of the payment, if it has one; `text` is the message's block 4, its lines each
 /// ended by CR LF; `value` is the value date.

@@ -37,7 +37,10 @@ fn is_customer(kind: u8) -> bool
 fn is_letter(kind: u8) -> bool
     ensures { result ≡ is_kind kind }
 {
-    is_customer(kind) || kind == Kind::Vostro.letter() || kind == Kind::Nostro.letter()
+    is_customer(kind)
+        || kind == Kind::Vostro.letter()
+        || kind == Kind::Nostro.letter()
+        || kind == Kind::Fee.letter()
 }
 
 fn is_plain(id: &[u8]) -> bool
@@ -119,9 +122,9 @@ fn are_fit(rows: &[Account]) -> bool
 
 /// Whether these rows may be the accounts of a book, but for the sums of their openings.
 ///
-/// There are at most 1,000. Each has an id of 1 to 34 capital letters and digits, one of the three kinds, an owner's BIC, a
+/// There are at most 1,000. Each has an id of 1 to 34 capital letters and digits, one of the four kinds, an owner's BIC, a
 /// currency of three capital letters, at most 4 decimals, and floor ≤ opening ≤ ceiling, each below 10^14 in size. No two have
-/// one id, no two vostro or nostro accounts one kind, owner's head and currency, and one currency has one number of decimals.
+/// one id, no two accounts of a kind but a customer's one owner's head and currency, and one currency has one number of decimals.
 pub fn rows_hold(rows: &[Account]) -> bool
     ensures sound { IsTrue result → AreRows rows.now }
     ensures complete { AreRows rows.now → IsTrue result }

@@ -1,18 +1,19 @@
 -- What totals tell is what balances tell.
-use Rattle.std.proofs.Common.{◌≡◌, ◌≢◌, ℕ, zero, suc, ◌+◌, ◌-◌, ◌≤◌, All, List, [], ◌∷◌, length, take, get_or, Some, ℤ, sym, ap, ◌∙◌, subst, arith, inl, inr, ⊎_elim}
+use Rattle.std.proofs.Common.{◌≡◌, ◌≢◌, ℕ, zero, suc, ◌+◌, ◌-◌, ◌≤◌, All, Bool, true, false, List, [], ◌∷◌, length, take, get_or, Option, Some, ℤ, sym, ap, ◌∙◌, subst, arith, inl, inr, ⊎_elim}
 use Rattle.std.specs.Prelude.{IsTrue}
 use Rattle.std.proofs.lemmas.List.{take_all}
-use Rattle.std.proofs.lemmas.Option.{same_Some, slice_get-get_or}
-use Rattle.corr_text.specs.First.{unless}
+use Rattle.std.proofs.lemmas.Option.{none-some, same_Some, slice_get-get_or}
+use Rattle.corr_text.specs.First.{first_of, unless}
 use Rattle.day_model.specs.declared.pay.Leg.{Leg}
 use Rattle.day_model.specs.declared.entry.Entry.{Entry}
-use Rattle.day_model.specs.declared.entry.Outcome.TheVariants.{Unfunded}
-use Rattle.day_model.specs.Balance.{balance_of, changed, is_within, leg_test}
+use Rattle.day_model.specs.declared.entry.Outcome.{Outcome}
+use Rattle.day_model.specs.declared.entry.Outcome.TheVariants.{Booked, Unfunded}
+use Rattle.day_model.specs.Balance.{balance_of, changed, is_within, leg_test, leg_tests}
 use Rattle.day_model.specs.Chart.{Chart, IsChart, IsListed, IsSmall, account_at}
 use Rattle.day_model.specs.Fit.{legs_fit}
 use Rattle.day_model.specs.Legal.{IsLegal}
 use Rattle.day_model.specs.Totals.{Pair, balance_with, pair_at, totals_of}
-use Rattle.day_model.proofs.laws.Fitting.{Sound, leg_sound, transfer, two_legs}
+use Rattle.day_model.proofs.laws.Fitting.{Sound, fitting, leg_sound}
 use Rattle.day_model.proofs.laws.Balances.{small_at}
 use Rattle.day_model.proofs.laws.Pairs.{balance_is_by_totals}
 use Rattle.acct_locks.specs.Holdings.{Holding, Holds, HoldsOnce}
@@ -20,11 +21,24 @@ use Rattle.jrn_book.specs.Deciding.{leg_test_by}
 
 -- each leg of a pay that fits is of a listed account, with an amount below 10^14
 pub sound_legs : (chart : Chart) (legs : List Leg) → IsTrue (legs_fit chart legs) → All (Sound chart) legs
-sound_legs chart legs fits k d lt = leg_sound chart legs k (get_or legs k d) (transfer chart legs fits) (slice_get-get_or legs k d lt)
+sound_legs chart legs fits k d lt = leg_sound chart legs k (get_or legs k d) (fitting chart legs fits) (slice_get-get_or legs k d lt)
 
--- it has two of them
+-- it has at most three of them
 pub few_legs : (chart : Chart) (legs : List Leg) → IsTrue (legs_fit chart legs) → 1 + length legs ≤ 255
-few_legs chart legs fits = omega (arith, two_legs chart legs (transfer chart legs fits))
+few_legs chart legs fits = let fit = fitting chart legs fits in let few = fit.few in omega (arith, few)
+
+-- what a leg fails with is never that the pay is booked
+fails_so : (within : Bool) (k : ℕ) (balance : ℤ) (rest : List (Option Outcome)) (o : Outcome) → (first_of rest ≡ Some o → o ≡ Booked → ⊥)
+    → first_of (unless within (Unfunded k balance) ∷ rest) ≡ Some o → o ≡ Booked → ⊥
+fails_so true k balance rest o on e is = on e is
+fails_so false k balance rest o on e is = absurd (cc (e, is))
+
+pub never_booked : (chart : Chart) (entries : List Entry) (k : ℕ) (legs : List Leg) (o : Outcome) → first_of (leg_tests chart entries k legs) ≡ Some o → o ≡ Booked → ⊥
+never_booked chart entries k [] o e is = absurd (none-some o e)
+never_booked chart entries k (leg ∷ legs) o e is =
+    let balance = balance_of chart entries leg.account.0 in
+    fails_so (is_within (account_at chart leg.account.0) (changed leg.side leg.amount.0 balance)) k balance (leg_tests chart entries (k + 1) legs) o
+    (never_booked chart entries (k + 1) legs o) e is
 
 module _ (chart : Chart) (entries : List Entry) (n : ℕ) (p : Pair) (is : p ≡ totals_of n entries) where
   -- the balance is that by the totals

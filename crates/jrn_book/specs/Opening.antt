@@ -9,7 +9,7 @@ use Rattle.jrn_file.specs.Faults.{TellsCounts}
 use Rattle.jrn_file.specs.File.{disk_of, IsSettled}
 use Rattle.jrn_file.specs.Reading.{Reading, no_journal, whole, cut, size_of}
 use Rattle.jrn_file.specs.declared.fault.OpenFault.{OpenFault}
-use Rattle.jrn_file.specs.declared.fault.OpenFault.TheVariants.{NotAJournal, Damaged, DiskFault, Memory}
+use Rattle.jrn_file.specs.declared.fault.OpenFault.TheVariants.{NotAJournal, Version, Damaged, DiskFault, Memory}
 use Rattle.jrn_codec.specs.Header.{IsHead, head_bytes}
 use Rattle.jrn_codec.specs.Record.{IsEntry, entry_bytes}
 use Rattle.jrn_book.specs.Book.{Book}
@@ -75,9 +75,10 @@ IsFound reading (faulty at) = IsFaultyAt reading at
 abbrev pub Opened : Type 0 → Type 0
 Opened D = Result (Book D × LooseHand) (D × OpenFault)
 
--- what a refusal says that the bytes are; a fault of the disk and out of memory say nothing of them
+-- what a refusal says that the bytes are; a fault of the disk and out of memory say nothing of them, and no call here tells a version
 abbrev pub found_by : OpenFault → Option Finding
 found_by NotAJournal = Some no_book
+found_by (Version found) = None
 found_by (Damaged at) = Some (faulty at)
 found_by (DiskFault before after) = None
 found_by Memory = None
@@ -87,9 +88,10 @@ abbrev pub finding_in : {D : Type 0} → Opened D → Option Finding
 finding_in (Ok opened) = Some (book opened.0.accounts opened.0.history)
 finding_in (Err refused) = found_by refused.1
 
--- a fault of the disk tells its counts; where the disk didn't fail, its count is as it was
+-- a fault of the disk tells its counts; where the disk didn't fail, its count is as it was; no version is told
 abbrev pub BookOpenCause : ℕ → ℕ → OpenFault → Type 0
 BookOpenCause old new NotAJournal = new ≡ old
+BookOpenCause old new (Version found) = ⊥
 BookOpenCause old new (Damaged at) = new ≡ old
 BookOpenCause old new (DiskFault before after) = TellsCounts old before after new
 BookOpenCause old new Memory = new ≡ old

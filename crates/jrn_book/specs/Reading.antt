@@ -32,6 +32,7 @@ ReadsRecord old r (Err entry_fault.Memory) new = Unit {0}
 -- memory tells nothing.
 abbrev pub RefusesRecords : List (List ℕ) → OpenFault → Type 0
 RefusesRecords all open_fault.NotAJournal = HasNoHead all
+RefusesRecords all (open_fault.Version found) = ⊥
 RefusesRecords all (open_fault.Damaged at) = size_of all < 2 ^ 64 → IsFaultyAt (whole all) at
 RefusesRecords all (open_fault.DiskFault before after) = ⊥
 RefusesRecords all open_fault.Memory = Unit {0}
@@ -39,13 +40,15 @@ RefusesRecords all open_fault.Memory = Unit {0}
 -- what a refusal of a header tells: the bytes are no header; out of memory tells nothing
 abbrev pub RefusesHead : List ℕ → OpenFault → Type 0
 RefusesHead bytes open_fault.NotAJournal = HasNoHead (bytes ∷ [])
+RefusesHead bytes (open_fault.Version found) = ⊥
 RefusesHead bytes (open_fault.Damaged at) = ⊥
 RefusesHead bytes (open_fault.DiskFault before after) = ⊥
 RefusesHead bytes open_fault.Memory = Unit {0}
 
--- the fault isn't the disk's
+-- the fault isn't the disk's, and tells no version
 abbrev pub IsOfBytes : OpenFault → Type 0
 IsOfBytes open_fault.NotAJournal = Unit {0}
+IsOfBytes (open_fault.Version found) = ⊥
 IsOfBytes (open_fault.Damaged at) = Unit {0}
 IsOfBytes (open_fault.DiskFault before after) = ⊥
 IsOfBytes open_fault.Memory = Unit {0}

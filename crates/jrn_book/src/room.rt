@@ -56,13 +56,13 @@ fn put_frame(frame: &mut Buf, body: &[u8]) -> Result<(), Memory>
 const ORDER_BYTES: u64 = 25;
 
 /// The most bytes of a record beside its text and its orders.
-const OTHER_BYTES: u64 = 148;
+const OTHER_BYTES: u64 = 177;
 
 /// As many bytes as the record of a pay takes at most: its text, its orders, and what else there is.
 fn most_bytes(p: &Pay) -> u64
     requires { HasShape p.now }
     ensures room { longest_record p.now ≤ result }
-    ensures few { result ≤ 39291 }
+    ensures few { result ≤ 39320 }
 {
     let orders = p.orders.as_slice().len() as u64;
     p.text.bytes().len() as u64 + orders * ORDER_BYTES + OTHER_BYTES

@@ -1,9 +1,8 @@
 -- What is read is the record of an entry, and each entry's record is read.
 use Rattle.std.proofs.Common.{◌≡◌, ℕ, ◌<◌, ◌≤◌, ◌^◌, ◌==◌, ◌&&◌, Bool, true, cond, List, [], ◌∷◌, ◌++◌, length, All, Option, Some, None, Result, Ok, Err, refl, sym, ap, subst, ◌∙◌, append_assoc, arith}
-use Rattle.std.specs.Prelude.{IfOk, IfSome, nat_le, nat_lt, not, option_and_then}
+use Rattle.std.specs.Prelude.{IfOk, IfSome, nat_le, option_and_then}
 use Rattle.std.specs.List.{AllByRecursion}
 use Rattle.std.proofs.lemmas.Bool.{eqb-true}
-use Rattle.std.proofs.lemmas.Bool.Decides.{nat_tests}
 use Rattle.std.proofs.lemmas.Option.{same_Some}
 use Rattle.std.proofs.lemmas.List.{append-nil, nil_from_length}
 use Rattle.std.proofs.lemmas.List.Elements.{All-from_recursion, recursion_from_All}
@@ -15,12 +14,11 @@ use Rattle.corr_ids.specs.declared.uetr.Uetr.{Uetr}
 use Rattle.corr_ids.specs.declared.day.Day.{Day}
 use Rattle.day_model.specs.declared.pay.Mt.{Mt}
 use Rattle.day_model.specs.declared.pay.Leg.{Leg}
-use Rattle.day_model.specs.declared.pay.Side.TheVariants.{Credit, Debit}
 use Rattle.day_model.specs.declared.pay.Order.{Order}
 use Rattle.day_model.specs.declared.entry.Outcome.{Outcome}
 use Rattle.day_model.specs.declared.entry.Entry.{Entry}
-use Rattle.day_model.specs.Fit.{is_side}
-use Rattle.day_model.specs.Shape.{HasShape, IsLeg, IsOrder, are_legs}
+use Rattle.day_model.specs.Fit.{are_legs}
+use Rattle.day_model.specs.Shape.{HasShape, IsLeg, IsOrder}
 use Rattle.jrn_codec.specs.declared.entry.Stamp.{Stamp}
 use Rattle.jrn_codec.specs.declared.entry.Fate.{Fate}
 use Rattle.jrn_codec.specs.declared.fault.EntryFault.{EntryFault}
@@ -34,7 +32,7 @@ use Rattle.jrn_codec.proofs.Fields.{IsBytes, IsField, step, resume, tested, join
 use Rattle.jrn_codec.proofs.Parts.{mark_field, optional_field, listed_field, long_field}
 use Rattle.jrn_codec.proofs.Marks.{mt_marks}
 use Rattle.jrn_codec.proofs.Identifiers.{mir_field, uetr_field, day_field}
-use Rattle.jrn_codec.proofs.Legs.{FitsLeg, outcome_field, leg_field, both, le_true, true_le}
+use Rattle.jrn_codec.proofs.Legs.{FitsLeg, few_legs, legs_fit, outcome_field, leg_field, both, le_true, true_le}
 use Rattle.jrn_codec.proofs.Orders.{order_field}
 
 -- ---- which message it was
@@ -186,25 +184,6 @@ entry_takes bytes e b read =
     } in
     subst (λ (x : Entry). IsEntry x × (bytes ≡ entry_bytes x)) t.1 (record { pay = shape; day = fate.fits.0; outcome = fate.fits.2 }, whole)
 
--- the legs of a pay have amounts that fit
-small_amounts : (p q r : Bool) (m n : ℕ) → (p && q && ((m == n) && nat_lt 0 m && nat_lt m 100000000000000) && r) ≡ true → (m < 100000000000000) × (n < 100000000000000)
-small_amounts p q r m n e = grind (arith, nat_tests)
-
-legs_fit : (legs : List Leg) → are_legs legs ≡ true → All IsLeg legs → AllByRecursion FitsLeg legs
-legs_fit [] e each = absurd cc
-legs_fit (debit ∷ []) e each = absurd cc
-legs_fit (debit ∷ credit ∷ []) e each =
-    let legs = recursion_from_All IsLeg (debit ∷ credit ∷ []) each in
-    let small = small_amounts (is_side Debit debit.side) (is_side Credit credit.side) (not (debit.account.0 == credit.account.0)) debit.amount.0 credit.amount.0 e in
-    ((legs.0, omega (arith, small.0)), ((legs.1.0, omega (arith, small.1)), tt))
-legs_fit (debit ∷ credit ∷ third ∷ legs) e each = absurd cc
-
-legs_few : (legs : List Leg) → are_legs legs ≡ true → length legs < 256
-legs_few [] e = absurd cc
-legs_few (debit ∷ []) e = absurd cc
-legs_few (debit ∷ credit ∷ []) e = omega arith
-legs_few (debit ∷ credit ∷ third ∷ legs) e = absurd cc
-
 entry_again : (e : Entry) → IsEntry e → entry_read (entry_bytes e) ≡ Some e
 unfolding entry_read
 entry_again e h =
@@ -221,7 +200,7 @@ entry_again e h =
     ap entry_read regrouped
     ∙ resume stamp_field entry_stamp stamp (fated fate ++ legs) (Some e) (h.pay.mir, h.pay.uetr)
     (resume fate_field (entry_fate stamp) fate legs (Some e) (h.day, h.pay.value, h.outcome)
-    (resume (listed_field leg_field) (entry_legs stamp fate) e.pay.legs orders (Some e) (legs_few e.pay.legs h.pay.legs, legs_fit e.pay.legs h.pay.legs h.pay.each_leg)
+    (resume (listed_field leg_field) (entry_legs stamp fate) e.pay.legs orders (Some e) (omega (arith, few_legs e.pay.legs h.pay.legs), legs_fit e.pay.legs h.pay.legs h.pay.each_leg)
     (resume (listed_field (order_field (length e.pay.legs))) (entry_orders stamp fate e.pay.legs) e.pay.orders text (Some e) (omega (arith, h.pay.few_orders), recursion_from_All (IsOrder (length e.pay.legs)) e.pay.orders h.pay.each_order)
     (resume long_field (entry_text stamp fate e.pay.legs e.pay.orders) e.pay.text [] (Some e) few
     (rw whole refl)))))

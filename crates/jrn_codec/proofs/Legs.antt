@@ -1,9 +1,10 @@
 -- Outcomes, quotes and legs as fields.
 use Rattle.std.proofs.Common.{◌≡◌, ℕ, zero, suc, ◌<◌, ◌≤◌, ◌^◌, ◌&&◌, Bool, true, cond, List, [], ◌∷◌, ◌++◌, length, Option, Some, None, refl, sym, ap, subst, ◌∙◌, append_assoc, arith}
-use Rattle.std.specs.Prelude.{ℤ, nat_le, not, option_and_then}
-use Rattle.std.specs.List.{list_all}
+use Rattle.std.specs.Prelude.{All, ℤ, nat_le, nat_lt, not, option_and_then}
+use Rattle.std.specs.List.{AllByRecursion, list_all}
 use Rattle.std.specs.Int.{w16, w64, to_be_bytes}
 use Rattle.std.proofs.lemmas.Bool.Decides.{nat_tests}
+use Rattle.std.proofs.lemmas.List.Elements.{recursion_from_All}
 use Rattle.std.proofs.lemmas.Option.{same_Some, none-some}
 use Rattle.corr_text.specs.declared.set.Set.TheVariants.{X}
 use Rattle.corr_text.specs.Sets.{is_in}
@@ -14,6 +15,7 @@ use Rattle.day_model.specs.declared.pay.Quote.TheVariants.{Ours, Theirs}
 use Rattle.day_model.specs.declared.pay.Leg.{Leg}
 use Rattle.day_model.specs.declared.entry.Outcome.{Outcome}
 use Rattle.day_model.specs.declared.entry.Outcome.TheVariants.{Booked, Unfunded}
+use Rattle.day_model.specs.Fit.{are_apart, are_even, are_legs, begin_with_debit, has_amount}
 use Rattle.day_model.specs.Shape.{IsReference, IsQuote, IsLeg}
 use Rattle.jrn_codec.specs.Spelling.{signed_bytes}
 use Rattle.jrn_codec.specs.Record.{IsOutcome, outcome_bytes, quote_bytes, leg_bytes, posting_bytes, side_mark}
@@ -108,9 +110,36 @@ quote_field = record { takes = quote_takes; again = quote_again }
 
 -- ---- legs
 
+-- a pay has at most three legs, each with an amount
+legs_parts : (legs : List Leg) → are_legs legs ≡ true → (length legs ≤ 3) × (list_all has_amount legs ≡ true)
+legs_parts legs e =
+    let n : ℕ = length legs in
+    let even = both (nat_le 2 n && nat_le n 3 && begin_with_debit legs && list_all has_amount legs && are_apart legs) (are_even legs) e in
+    let apart = both (nat_le 2 n && nat_le n 3 && begin_with_debit legs && list_all has_amount legs) (are_apart legs) even.0 in
+    let amounts = both (nat_le 2 n && nat_le n 3 && begin_with_debit legs) (list_all has_amount legs) apart.0 in
+    let first = both (nat_le 2 n && nat_le n 3) (begin_with_debit legs) amounts.0 in
+    (le_true n 3 (both (nat_le 2 n) (nat_le n 3) first.0).1, amounts.1)
+
+pub few_legs : (legs : List Leg) → are_legs legs ≡ true → length legs ≤ 3
+few_legs legs e = (legs_parts legs e).0
+
+-- which is below 10^14, and so fits
+small_amount : (m : ℕ) → (nat_lt 0 m && nat_lt m 100000000000000) ≡ true → m < 2 ^ 64
+small_amount m e = let small : m < 100000000000000 = grind (arith, nat_tests) in omega (arith, small)
+
 -- a leg whose amount fits eight bytes
 abbrev pub FitsLeg : Leg → Type 0
 FitsLeg leg = IsLeg leg × (leg.amount.0 < 2 ^ 64)
+
+with_amounts : (legs : List Leg) → list_all has_amount legs ≡ true → AllByRecursion IsLeg legs → AllByRecursion FitsLeg legs
+with_amounts [] e each = tt
+with_amounts (leg ∷ legs) e each =
+    let parts = both (has_amount leg) (list_all has_amount legs) e in
+    ((each.0, small_amount leg.amount.0 parts.0), with_amounts legs parts.1 each.1)
+
+-- so it fits for each leg of a pay
+pub legs_fit : (legs : List Leg) → are_legs legs ≡ true → All IsLeg legs → AllByRecursion FitsLeg legs
+legs_fit legs e each = with_amounts legs (legs_parts legs e).1 (recursion_from_All IsLeg legs each)
 
 -- the parts of a leg, however they are grouped
 leg_parts : (account : List ℕ) (side : ℕ) (amount quote rest : List ℕ) → account ++ (side ∷ (amount ++ (quote ++ rest))) ≡ (account ++ side ∷ [] ++ amount) ++ quote ++ rest

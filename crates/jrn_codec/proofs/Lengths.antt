@@ -25,12 +25,13 @@ use Rattle.day_model.specs.declared.entry.Outcome.TheVariants.{Booked, Unfunded}
 use Rattle.day_model.specs.declared.entry.Entry.{Entry}
 use Rattle.day_model.specs.declared.account.Account.{Account}
 use Rattle.day_model.specs.Chart.{Chart, IsFormed, HasCode}
-use Rattle.day_model.specs.Shape.{HasShape, IsLeg, IsOrder, IsQuote, are_legs}
+use Rattle.day_model.specs.Shape.{HasShape, IsLeg, IsOrder, IsQuote}
 use Rattle.jrn_codec.specs.Spelling.{signed_bytes, bic_bytes, short_bytes, optional_bytes, long_bytes, listed_bytes}
 use Rattle.jrn_codec.specs.Record.{skip_mark, mt_mark, day_bytes, outcome_bytes, quote_bytes, posting_bytes, leg_bytes, order_bytes, stamp_bytes, fate_bytes, front_bytes, back_bytes, entry_bytes}
 use Rattle.jrn_codec.specs.Header.{version, column_bytes, balance_bytes, account_bytes, title_bytes, head_bytes, IsHead}
 use Rattle.jrn_codec.specs.Reading.{cut, spelled_at}
 use Rattle.jrn_codec.proofs.Identifiers.{bic_field, mir_field, uetr_field}
+use Rattle.jrn_codec.proofs.Legs.{few_legs}
 
 -- ---- parts one after another
 
@@ -148,16 +149,10 @@ order_short legs (order.Pass to skip) h = omega (arith, noticed_long 3 to (skip_
 order_short legs (order.Debit to leg) h = omega (arith, noticed_long 4 to leg h.0)
 order_short legs (order.Credit to leg) h = omega (arith, noticed_long 5 to leg h.0)
 
-two_legs : (legs : List Leg) → are_legs legs ≡ true → length legs ≤ 2
-two_legs [] e = absurd cc
-two_legs (debit ∷ []) e = absurd cc
-two_legs (debit ∷ credit ∷ []) e = omega arith
-two_legs (debit ∷ credit ∷ third ∷ legs) e = absurd cc
-
-legs_short : (pay : Pay) → HasShape pay → length (listed_bytes leg_bytes pay.legs) ≤ 59
+legs_short : (pay : Pay) → HasShape pay → length (listed_bytes leg_bytes pay.legs) ≤ 88
 legs_short pay h =
     let each = all_short leg_bytes 29 IsLeg leg_short pay.legs (recursion_from_All IsLeg pay.legs h.each_leg) in
-    omega (arith, each, two_legs pay.legs h.legs)
+    omega (arith, each, few_legs pay.legs h.legs)
 
 orders_short : (pay : Pay) → HasShape pay → length (listed_bytes order_bytes pay.orders) ≤ length pay.orders * 25 + 1
 orders_short pay h =
@@ -176,7 +171,7 @@ text_long text =
 -- ---- an entry
 
 -- an entry's record: its text, its orders, and what else there is
-pub entry_within : (e : Entry) → HasShape e.pay → length (entry_bytes e) ≤ length e.pay.text + length e.pay.orders * 25 + 148
+pub entry_within : (e : Entry) → HasShape e.pay → length (entry_bytes e) ≤ length e.pay.text + length e.pay.orders * 25 + 177
 entry_within e h =
     let stamp : List ℕ = stamp_bytes e.pay.mir e.pay.mt e.pay.uetr in
     let fate : List ℕ = fate_bytes e.day e.pay.value e.outcome in
@@ -188,13 +183,13 @@ entry_within e h =
     let whole : length (entry_bytes e) ≡ length (front_bytes e) + length (back_bytes e) = length-append (front_bytes e) (back_bytes e) in
     let a : length stamp ≤ 66 = stamp_short e.pay h in
     let b : length fate ≤ 18 = fate_short e.day e.pay.value e.outcome in
-    let c : length legs ≤ 59 = legs_short e.pay h in
+    let c : length legs ≤ 88 = legs_short e.pay h in
     let d : length orders ≤ length e.pay.orders * 25 + 1 = orders_short e.pay h in
     let f : length text ≡ length e.pay.text + 4 = text_long e.pay.text in
     omega (arith, whole, front, back, a, b, c, d, f)
 
 -- with a text of 32,768 bytes and 255 orders
-pub entry_short : (e : Entry) → HasShape e.pay → length (entry_bytes e) ≤ 39291
+pub entry_short : (e : Entry) → HasShape e.pay → length (entry_bytes e) ≤ 39320
 entry_short e h = omega (arith, entry_within e h, h.text, h.few_orders)
 
 -- ---- a header

@@ -27,7 +27,8 @@ use Rattle.day_model.specs.declared.pay.Order.TheVariants as order
 use Rattle.day_model.specs.declared.entry.Outcome.{Outcome}
 use Rattle.day_model.specs.declared.entry.Outcome.TheVariants.{Booked, Unfunded}
 use Rattle.day_model.specs.declared.entry.Entry.{Entry}
-use Rattle.day_model.specs.Shape.{are_legs, most_text}
+use Rattle.day_model.specs.Fit.{are_legs}
+use Rattle.day_model.specs.Shape.{most_text}
 use Rattle.jrn_codec.specs.declared.entry.Stamp.{Stamp}
 use Rattle.jrn_codec.specs.declared.entry.Fate.{Fate}
 use Rattle.jrn_codec.specs.Reading.{byte_at, number_at, signed_at, spelled_at, mark_at, bic_at, optional_at, short_at, long_at, listed_at}

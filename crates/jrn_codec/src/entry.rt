@@ -9,11 +9,11 @@ ghost use Rattle.jrn_codec.specs.RecordReading.{day_at, entry_read, entry_with, 
 
 use crate::fault::EntryFault;
 use crate::field::{byte_at, cut, i32_at, i64_at, long_at};
-use crate::leg::{are_legs, legs_at};
+use crate::leg::legs_at;
 use crate::order::orders_at;
 use corr_ids::{Day, FIRST_DAY, LAST_DAY, Mir, Uetr, read_mir, read_uetr};
 use corr_text::{List, Text};
-use day_model::{Entry, Leg, Mt, Order, Outcome, Pay};
+use day_model::{Entry, Leg, Mt, Order, Outcome, Pay, are_legs};
 use std::alloc::Global;
 
 /// The most bytes that the text of a pay has.

@@ -4,14 +4,13 @@ ghost use Rattle.std.specs.Prelude.{◌≡◌, ◌==◌, ◌&&◌};
 ghost use Rattle.std.specs.List.{list_any, zip};
 ghost use Rattle.corr_text.specs.declared.set.Set.TheVariants.{X};
 ghost use Rattle.corr_text.specs.Slashes.{has_double_slash, has_stray_slash};
-ghost use Rattle.day_model.specs.Shape.{are_legs};
 ghost use Rattle.jrn_codec.specs.Answers.{AnswersRead};
 ghost use Rattle.jrn_codec.specs.Reading.{byte_at, items_at, listed_at, mark_at};
 ghost use Rattle.jrn_codec.specs.RecordReading.{is_reference, leg_at, ours_at, quote_at, side_of, theirs_at};
 
 use crate::fault::EntryFault;
 use crate::field::{byte_at, short_at, u16_at, u64_at};
-use corr_money::{AMOUNT_END, Minor};
+use corr_money::Minor;
 use corr_text::{List, Set, Text, is_all_of};
 use day_model::{AcctNo, Leg, Quote, Side};
 use std::alloc::Global;
@@ -131,21 +130,4 @@ pub fn legs_at(alloc: Global, bytes: &[u8]) -> Result<(List<Leg>, &[u8]), EntryF
 {
     let (count, rest) = byte_at(bytes)?;
     legs_of(alloc, count, rest)
-}
-
-/// Whether legs are a debit and then a credit of one amount above 0 and below 10^14, on distinct accounts.
-pub fn are_legs(legs: &[Leg]) -> bool
-    ensures { result ≡ are_legs legs.now }
-{
-    match legs {
-        [debit, credit] => {
-            debit.side == Side::Debit
-                && credit.side == Side::Credit
-                && debit.amount == credit.amount
-                && 0 < debit.amount.0
-                && debit.amount.0 < AMOUNT_END
-                && debit.account != credit.account
-        }
-        _ => false,
-    }
 }

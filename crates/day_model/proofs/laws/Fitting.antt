@@ -1,92 +1,166 @@
--- What a pay that fits has.
-use Rattle.std.proofs.Common.{◌≡◌, ◌≢◌, ℕ, zero, suc, ◌<◌, true, List, [], ◌∷◌, Some, refl, ap, subst, leb, ltb, eqb}
-use Rattle.std.specs.Prelude.{not, ◌&&◌, length, slice_get}
-use Rattle.std.proofs.lemmas.Bool.{and_parts, leb-true, ltb-true, eqb-true, eqb-false, not-true, false≢true}
-use Rattle.std.proofs.lemmas.Option.{same_Some, none-some}
+-- What legs that fit have.
+use Rattle.std.proofs.Common.{◌≡◌, ℕ, zero, suc, ◌+◌, ◌<◌, ◌≤◌, Bool, true, List, [], ◌∷◌, Option, Some, refl, ◌-◌, subst, arith, cond, leb, ltb, eqb, length}
+use Rattle.std.proofs.Common.{inl, inr}
+use Rattle.std.specs.Prelude.{not, ◌&&◌, slice_get}
+use Rattle.std.specs.List.{list_all}
+use Rattle.std.proofs.lemmas.Bool.{and_parts, leb-true, lt-ltb, ltb-true, eqb-true, eq-eqb, false≢true}
+use Rattle.std.proofs.lemmas.Option.{same_Some, none-some, slice_get_cases}
+use Rattle.std.proofs.lemmas.Slice.Eq.{bytes_eq-Decides}
 use Rattle.corr_money.specs.Amounts.{amount_end}
+use Rattle.day_model.specs.declared.account.Account.{Account}
 use Rattle.day_model.specs.declared.pay.Side.{Side}
 use Rattle.day_model.specs.declared.pay.Side.TheVariants.{Debit, Credit}
 use Rattle.day_model.specs.declared.pay.Leg.{Leg}
 use Rattle.day_model.specs.Chart.{Chart, IsListed, account_at}
-use Rattle.day_model.specs.Fit.{is_side, is_listed, same_ccy, amounts_fit, accounts_fit, legs_fit}
+use Rattle.day_model.specs.Fit.{accounts_fit, are_apart, are_even, are_legs, begin_with_debit, fit_in, has_amount, is_beside, is_in, is_listed, is_side}
+use Rattle.day_model.specs.Fit.{legs_fit, same_ccy, side_sum}
 
--- a debit and a credit of one amount, between two accounts of one currency
-pub record Transfer (chart : Chart) (legs : List Leg) : Type 0 where
-  pub debit : Leg
-  pub credit : Leg
-  pub legs_are : legs ≡ debit ∷ credit ∷ []
-  pub debit_side : debit.side ≡ Debit
-  pub credit_side : credit.side ≡ Credit
-  pub equal : debit.amount.0 ≡ credit.amount.0
-  pub above : 0 < debit.amount.0
-  pub below : debit.amount.0 < amount_end
-  pub debit_listed : IsListed chart debit.account.0
-  pub credit_listed : IsListed chart credit.account.0
-  pub distinct : debit.account.0 ≢ credit.account.0
-  pub one_ccy : same_ccy (account_at chart debit.account.0) (account_at chart credit.account.0) ≡ true
+-- a leg on an account of the book, with an amount above 0 and below 10^14
+pub record Sound (chart : Chart) (leg : Leg) : Type 0 where
+  pub listed : IsListed chart leg.account.0
+  pub above : 0 < leg.amount.0
+  pub below : leg.amount.0 < amount_end
 
-is_debit : (s : Side) → is_side Debit s ≡ true → s ≡ Debit
-is_debit Debit e = refl
-is_debit Credit e = absurd (false≢true e)
+-- two or three legs, a debit first, each sound, no two on one account, with as much debited as credited, in the currency of the first
+pub record LegsFit (chart : Chart) (legs : List Leg) : Type 0 where
+  pub many : 2 ≤ length legs
+  pub few : length legs ≤ 3
+  pub first : begin_with_debit legs ≡ true
+  pub each : (i : ℕ) (leg : Leg) → slice_get legs i ≡ Some leg → Sound chart leg
+  pub apart : are_apart legs ≡ true
+  pub even : side_sum Debit legs ≡ side_sum Credit legs
+  pub one_ccy : (i : ℕ) (first leg : Leg) → slice_get legs 0 ≡ Some first → slice_get legs i ≡ Some leg
+      → same_ccy (account_at chart first.account.0) (account_at chart leg.account.0) ≡ true
 
-is_credit : (s : Side) → is_side Credit s ≡ true → s ≡ Credit
-is_credit Credit e = refl
-is_credit Debit e = absurd (false≢true e)
+-- what all pass, each passes
+pub all_at : {A : Type 0} (p : A → Bool) (xs : List A) (i : ℕ) (x : A) → list_all p xs ≡ true → slice_get xs i ≡ Some x → p x ≡ true
+all_at p [] i x all at = absurd (none-some x at)
+all_at p (y ∷ xs) zero x all at = subst (λ z. p z ≡ true) (same_Some y x at) (and_parts (p y) (list_all p xs) all).0
+all_at p (y ∷ xs) (suc i) x all at = all_at p xs i x (and_parts (p y) (list_all p xs) all).1 at
 
 listed : (chart : Chart) (n : ℕ) → is_listed chart n ≡ true → IsListed chart n
 listed chart n e =
     let parts = and_parts (leb 1 n) (leb n (length chart.accounts)) e in
     (leb-true _ _ parts.0, leb-true _ _ parts.1)
 
--- legs that fit are a debit and a credit of one amount
-pub transfer : (chart : Chart) (legs : List Leg) → legs_fit chart legs ≡ true → Transfer chart legs
-transfer chart [] e = absurd (false≢true e)
-transfer chart (d ∷ []) e = absurd (false≢true e)
-transfer chart (d ∷ c ∷ []) e =
-    let accounts =
-    and_parts (is_side Debit d.side && is_side Credit c.side && amounts_fit d.amount.0 c.amount.0) (accounts_fit chart d.account.0 c.account.0) e in
-    let amounts = and_parts (is_side Debit d.side && is_side Credit c.side) (amounts_fit d.amount.0 c.amount.0) accounts.0 in
-    let sides = and_parts (is_side Debit d.side) (is_side Credit c.side) amounts.0 in
-    let below = and_parts (eqb d.amount.0 c.amount.0 && ltb 0 d.amount.0) (ltb d.amount.0 amount_end) amounts.1 in
-    let equal = and_parts (eqb d.amount.0 c.amount.0) (ltb 0 d.amount.0) below.0 in
+sound : (chart : Chart) (leg : Leg) → is_listed chart leg.account.0 ≡ true → has_amount leg ≡ true → Sound chart leg
+sound chart leg there amount =
+    let parts = and_parts (ltb 0 leg.amount.0) (ltb leg.amount.0 amount_end) amount in
+    record { listed = listed chart leg.account.0 there; above = ltb-true _ _ parts.0; below = ltb-true _ _ parts.1 }
+
+-- an account of the book has its own currency
+same_as_itself : (a : Option Account) (b : Account) → a ≡ Some b → same_ccy a a ≡ true
+same_as_itself a b is = rw is ((bytes_eq-Decides b.ccy.0 b.ccy.0).1 refl)
+
+-- a listed number has an account
+pub listed_account : (chart : Chart) (n : ℕ) → IsListed chart n → (a : Account) × (account_at chart n ≡ Some a)
+listed_account chart n there =
+    elim (slice_get_cases chart.accounts (n - 1)).1 [
+      | inl found ↦ (found.0, found.2)
+      | inr past ↦ absurd (omega (arith, past.0))
+    ]
+
+-- legs that fit are of a pay
+pub legs_of_fit : (chart : Chart) (legs : List Leg) → legs_fit chart legs ≡ true → are_legs legs ≡ true
+legs_of_fit chart legs e = (and_parts (are_legs legs) (fit_in chart.accounts legs) e).0
+
+-- the first leg is of the book, and each other is too and has its currency
+beside : (chart : Chart) (first : Leg) (legs : List Leg) (i : ℕ) (leg : Leg) → fit_in chart.accounts (first ∷ legs) ≡ true
+    → slice_get (first ∷ legs) i ≡ Some leg
+    → (is_listed chart leg.account.0 ≡ true) × (same_ccy (account_at chart first.account.0) (account_at chart leg.account.0) ≡ true)
+beside chart first legs zero leg e at =
+    let there = (and_parts (is_in chart.accounts first.account.0) (list_all (is_beside chart.accounts first.account.0) legs) e).0 in
+    let a = listed_account chart first.account.0 (listed chart first.account.0 there) in
+    let own = same_as_itself (account_at chart first.account.0) a.0 a.1 in
+    subst
+    (λ (x : Leg). (is_listed chart x.account.0 ≡ true) × (same_ccy (account_at chart first.account.0) (account_at chart x.account.0) ≡ true))
+    (same_Some first leg at) (there, own)
+beside chart first legs (suc i) leg e at =
+    let all = (and_parts (is_in chart.accounts first.account.0) (list_all (is_beside chart.accounts first.account.0) legs) e).1 in
+    and_parts (is_in chart.accounts leg.account.0) (same_ccy (account_at chart first.account.0) (account_at chart leg.account.0))
+    (all_at (is_beside chart.accounts first.account.0) legs i leg all at)
+
+-- what legs that fit have
+pub fitting : (chart : Chart) (legs : List Leg) → legs_fit chart legs ≡ true → LegsFit chart legs
+fitting chart [] e = absurd (false≢true e)
+fitting chart (d ∷ others) e =
+    let legs : List Leg = d ∷ others in
+    let number : Bool = leb 2 (length legs) && leb (length legs) 3 in
+    let both = and_parts (are_legs legs) (fit_in chart.accounts legs) e in
+    let even = and_parts (number && begin_with_debit legs && list_all has_amount legs && are_apart legs) (are_even legs) both.0 in
+    let apart = and_parts (number && begin_with_debit legs && list_all has_amount legs) (are_apart legs) even.0 in
+    let amounts = and_parts (number && begin_with_debit legs) (list_all has_amount legs) apart.0 in
+    let first = and_parts number (begin_with_debit legs) amounts.0 in
+    let sizes = and_parts (leb 2 (length legs)) (leb (length legs) 3) first.0 in
+    record {
+      many = leb-true _ _ sizes.0;
+      few = leb-true _ _ sizes.1;
+      first = first.1;
+      each = λ i leg at. sound chart leg (beside chart d others i leg both.1 at).0 (all_at has_amount legs i leg amounts.1 at);
+      apart = apart.1;
+      even = eqb-true _ _ even.1;
+      one_ccy = λ i a leg at_first at.
+          subst (λ (x : Leg). same_ccy (account_at chart x.account.0) (account_at chart leg.account.0) ≡ true) (same_Some d a at_first)
+          (beside chart d others i leg both.1 at).1;
+    }
+
+-- each leg of a pay that fits is on an account of the book, with an amount above 0 and below 10^14
+pub leg_sound : (chart : Chart) (legs : List Leg) (i : ℕ) (leg : Leg) → LegsFit chart legs → slice_get legs i ≡ Some leg → Sound chart leg
+leg_sound chart legs i leg fit at = fit.each i leg at
+
+-- there are at most three legs
+pub few_legs : (chart : Chart) (legs : List Leg) → LegsFit chart legs → length legs ≤ 3
+few_legs chart legs fit = fit.few
+
+-- of two amounts on the two sides, or of three, the debits are below 10^14 where they equal the credits
+abbrev on : Side → Side → ℕ → ℕ
+on side own amount = cond (is_side side own) amount 0
+
+two_small : (s t : Side) (a b : ℕ) → is_side Debit s ≡ true → 0 < a → a < amount_end → 0 + on Debit s a + on Debit t b ≡ 0 + on Credit s a + on Credit t b
+    → 0 + on Debit s a + on Debit t b < amount_end
+two_small Credit t a b first above below even = absurd (false≢true first)
+two_small Debit Debit a b first above below even = let same : 0 + a + b ≡ 0 + 0 + 0 = even in absurd (omega arith)
+two_small Debit Credit a b first above below even = omega arith
+
+three_small : (s t u : Side) (a b c : ℕ) → is_side Debit s ≡ true → 0 < a → a < amount_end → b < amount_end → c < amount_end
+    → 0 + on Debit s a + on Debit t b + on Debit u c ≡ 0 + on Credit s a + on Credit t b + on Credit u c
+    → 0 + on Debit s a + on Debit t b + on Debit u c < amount_end
+three_small Credit t u a b c first above below second third even = absurd (false≢true first)
+three_small Debit Debit Debit a b c first above below second third even = let same : 0 + a + b + c ≡ 0 + 0 + 0 + 0 = even in absurd (omega arith)
+three_small Debit Debit Credit a b c first above below second third even = let same : 0 + a + b + 0 ≡ 0 + 0 + 0 + c = even in omega arith
+three_small Debit Credit Debit a b c first above below second third even = let same : 0 + a + 0 + c ≡ 0 + 0 + b + 0 = even in omega arith
+three_small Debit Credit Credit a b c first above below second third even = omega arith
+
+debits_small : (chart : Chart) (legs : List Leg) → LegsFit chart legs → side_sum Debit legs < amount_end
+debits_small chart [] fit = omega arith
+debits_small chart (a ∷ []) fit = absurd (let many : 2 ≤ 1 = fit.many in omega arith)
+debits_small chart (a ∷ b ∷ []) fit =
+    let x = fit.each 0 a refl in
+    two_small a.side b.side a.amount.0 b.amount.0 fit.first x.above x.below fit.even
+debits_small chart (a ∷ b ∷ c ∷ []) fit =
+    let x = fit.each 0 a refl in
+    let y = fit.each 1 b refl in
+    let z = fit.each 2 c refl in
+    three_small a.side b.side c.side a.amount.0 b.amount.0 c.amount.0 fit.first x.above x.below y.below z.below fit.even
+debits_small chart (a ∷ b ∷ c ∷ d ∷ legs) fit = absurd (let few : length (a ∷ b ∷ c ∷ d ∷ legs) ≤ 3 = fit.few in omega arith)
+
+-- what each side has together is below 10^14
+pub sides_small : (chart : Chart) (legs : List Leg) (side : Side) → LegsFit chart legs → side_sum side legs < amount_end
+sides_small chart legs Debit fit = debits_small chart legs fit
+sides_small chart legs Credit fit = subst (λ (x : ℕ). x < amount_end) fit.even (debits_small chart legs fit)
+
+-- a debit and a credit of one amount, on two accounts of the book that have one currency, fit
+pub two_fit : (chart : Chart) (d c : Leg) → d.side ≡ Debit → c.side ≡ Credit → d.amount.0 ≡ c.amount.0 → 0 < d.amount.0 → d.amount.0 < amount_end
+    → accounts_fit chart d.account.0 c.account.0 ≡ true → legs_fit chart (d ∷ c ∷ []) ≡ true
+two_fit chart d c debit credit equal above below accounts =
     let ccy =
     and_parts (is_listed chart d.account.0 && is_listed chart c.account.0 && not (eqb d.account.0 c.account.0))
-    (same_ccy (account_at chart d.account.0) (account_at chart c.account.0)) accounts.1 in
+    (same_ccy (account_at chart d.account.0) (account_at chart c.account.0)) accounts in
     let apart = and_parts (is_listed chart d.account.0 && is_listed chart c.account.0) (not (eqb d.account.0 c.account.0)) ccy.0 in
     let there = and_parts (is_listed chart d.account.0) (is_listed chart c.account.0) apart.0 in
-    record {
-      debit = d;
-      credit = c;
-      legs_are = refl;
-      debit_side = is_debit d.side sides.0;
-      credit_side = is_credit c.side sides.1;
-      equal = eqb-true _ _ equal.0;
-      above = ltb-true _ _ equal.1;
-      below = ltb-true _ _ below.1;
-      debit_listed = listed chart _ there.0;
-      credit_listed = listed chart _ there.1;
-      distinct = eqb-false _ _ (not-true _ apart.1);
-      one_ccy = ccy.1;
-    }
-transfer chart (d ∷ c ∷ x ∷ legs) e = absurd (false≢true e)
-
--- every leg is of a listed account, with an amount below 10^14
-pub record Sound (chart : Chart) (leg : Leg) : Type 0 where
-  pub listed : IsListed chart leg.account.0
-  pub below : leg.amount.0 < amount_end
-
-sound_of_two : (chart : Chart) (d c : Leg) → Sound chart d → Sound chart c → (i : ℕ) (leg : Leg) → slice_get (d ∷ c ∷ []) i ≡ Some leg → Sound chart leg
-sound_of_two chart d c first second zero leg at = subst (Sound chart) (same_Some d leg at) first
-sound_of_two chart d c first second (suc zero) leg at = subst (Sound chart) (same_Some c leg at) second
-sound_of_two chart d c first second (suc (suc i)) leg at = absurd (none-some leg at)
-
--- each leg of a transfer is on an account of the book, with an amount below 10^14
-pub leg_sound : (chart : Chart) (legs : List Leg) (i : ℕ) (leg : Leg) → Transfer chart legs → slice_get legs i ≡ Some leg → Sound chart leg
-leg_sound chart legs i leg t at =
-    sound_of_two chart t.debit t.credit (record { listed = t.debit_listed; below = t.below })
-    (record { listed = t.credit_listed; below = subst (λ (x : ℕ). x < amount_end) t.equal t.below }) i leg
-    (subst (λ (ls : List Leg). slice_get ls i ≡ Some leg) t.legs_are at)
-
--- a transfer has two legs
-pub two_legs : (chart : Chart) (legs : List Leg) → Transfer chart legs → length legs ≡ 2
-two_legs chart legs t = ap length t.legs_are
+    let d_above : ltb 0 d.amount.0 ≡ true = lt-ltb _ _ above in
+    let d_below : ltb d.amount.0 amount_end ≡ true = lt-ltb _ _ below in
+    let c_above : ltb 0 c.amount.0 ≡ true = lt-ltb _ _ (subst (λ (x : ℕ). 0 < x) equal above) in
+    let c_below : ltb c.amount.0 amount_end ≡ true = lt-ltb _ _ (subst (λ (x : ℕ). x < amount_end) equal below) in
+    let same : eqb (0 + d.amount.0 + 0) (0 + 0 + c.amount.0) ≡ true = eq-eqb _ _ (omega (arith, equal)) in
+    rw (debit, credit, d_above, d_below, c_above, c_below, apart.1, same, there.0, there.1, ccy.1) refl

@@ -12,8 +12,8 @@ use Rattle.day_model.specs.Chart.{Chart, IsListed}
 use Rattle.day_model.specs.Balance.{is_booked, moved, moved_by, credits_of, debits_of}
 use Rattle.day_model.specs.Legal.{IsLegal}
 use Rattle.day_model.specs.Totals.{Pair, plus, leg_pair, legs_pair, booked_legs, totals_of, BalanceIsByTotals, EntryAddsItsLegs, LegalTotalsFit}
-use Rattle.day_model.proofs.laws.Fitting.{transfer, leg_sound}
-use Rattle.day_model.proofs.Sums.{totals_fit}
+use Rattle.day_model.proofs.laws.Fitting.{fitting, leg_sound}
+use Rattle.day_model.proofs.laws.Sums.{totals_fit}
 
 pub plus_assoc : (p q r : Pair) → plus (plus p q) r ≡ plus p (plus q r)
 plus_assoc p q r =
@@ -107,5 +107,5 @@ pub booked_listed : (chart : Chart) (entries : List Entry) (e : Entry) (i : ℕ)
 booked_listed chart entries e i legal at =
     cond_both (is_booked e.outcome) e.pay.legs [] (All (λ (leg : Leg). IsListed chart leg.account.0))
     (λ _. λ k d lt.
-    (leg_sound chart e.pay.legs k (get_or e.pay.legs k d) (transfer chart e.pay.legs (legal.fits i e at)) (slice_get-get_or e.pay.legs k d lt)).listed)
+    (leg_sound chart e.pay.legs k (get_or e.pay.legs k d) (fitting chart e.pay.legs (legal.fits i e at)) (slice_get-get_or e.pay.legs k d lt)).listed)
     (λ _. λ k d lt. absurd (omega (arith, lt)))

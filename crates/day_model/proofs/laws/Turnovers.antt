@@ -1,6 +1,7 @@
 -- What a history moves on one side of a currency, which is the sum over the currency's accounts.
-use Rattle.std.proofs.Common.{◌≡◌, ℕ, zero, suc, ◌+◌, ◌*◌, ◌^◌, ◌<◌, ◌≤◌, Bool, true, false, List, [], ◌∷◌, Some, refl, sym, ap, ◌∙◌, subst, arith, length, take, get_or, ℤ, pos, ◌+ℤ◌, inl, inr}
-use Rattle.std.specs.Prelude.{slice_get, sum_by, if◌then◌else◌}
+use Rattle.std.proofs.Common.{◌≡◌, ℕ, zero, suc, ◌+◌, ◌*◌, ◌^◌, ◌<◌, ◌≤◌, List, [], ◌∷◌, Some, refl, sym, ap, ◌∙◌, subst, arith, length, take, get_or, ℤ, pos}
+use Rattle.std.proofs.Common.{◌+ℤ◌, inl, inr}
+use Rattle.std.specs.Prelude.{slice_get, sum_by}
 use Rattle.std.proofs.lemmas.Bool.{cond_both}
 use Rattle.std.proofs.lemmas.Int.{ints}
 use Rattle.std.proofs.lemmas.List.{take_all}
@@ -8,37 +9,16 @@ use Rattle.std.proofs.lemmas.List.Sums.{sum_by-cons, sum_by_more}
 use Rattle.std.proofs.lemmas.Option.{slice_get_cases}
 use Rattle.corr_money.specs.Amounts.{amount_end}
 use Rattle.corr_money.specs.declared.amount.Ccy.{Ccy}
-use Rattle.day_model.specs.declared.account.Account.{Account}
 use Rattle.day_model.specs.declared.pay.Side.{Side}
 use Rattle.day_model.specs.declared.pay.Side.TheVariants.{Debit, Credit}
 use Rattle.day_model.specs.declared.entry.Entry.{Entry}
-use Rattle.day_model.specs.Chart.{Chart, account_at, is_same_ccy}
+use Rattle.day_model.specs.Chart.{Chart}
 use Rattle.day_model.specs.Balance.{is_booked, moved_by}
 use Rattle.day_model.specs.Legal.{IsLegal}
-use Rattle.day_model.specs.Laws.{sum_in, in_ccy, moved_in, entry_in, turnover, DebitsEqualCredits}
-use Rattle.day_model.proofs.laws.Fitting.{Transfer, transfer}
-use Rattle.day_model.proofs.Sums.{sum_in-same, sum_moved, even_credit, even_debit, even_entry}
-
-nothing_step : (b : Bool) → (if b then pos 0 else pos 0) +ℤ pos 0 ≡ pos 0
-nothing_step true = refl
-nothing_step false = refl
-
-sum_in-nothing : (ccy : Ccy) (n : ℕ) (accounts : List Account) → sum_in ccy (λ k. pos 0) n accounts ≡ pos 0
-sum_in-nothing ccy n [] = refl
-sum_in-nothing ccy n (a ∷ accounts) =
-    ap (λ (z : ℤ). (if is_same_ccy a.ccy ccy then pos 0 else pos 0) +ℤ z) (sum_in-nothing ccy (n + 1) accounts) ∙ nothing_step (is_same_ccy a.ccy ccy)
-
-add_step : (b : Bool) (x y : ℕ) (s u : ℤ)
-    → (if b then pos (x + y) else pos 0) +ℤ (s +ℤ u) ≡ ((if b then pos x else pos 0) +ℤ s) +ℤ ((if b then pos y else pos 0) +ℤ u)
-add_step true x y s u = omega (arith, ints)
-add_step false x y s u = omega (arith, ints)
-
-sum_in-add : (ccy : Ccy) (f g : ℕ → ℕ) (n : ℕ) (accounts : List Account)
-    → sum_in ccy (λ k. pos (f k + g k)) n accounts ≡ sum_in ccy (λ k. pos (f k)) n accounts +ℤ sum_in ccy (λ k. pos (g k)) n accounts
-sum_in-add ccy f g n [] = refl
-sum_in-add ccy f g n (a ∷ accounts) =
-    ap (λ (z : ℤ). (if is_same_ccy a.ccy ccy then pos (f n + g n) else pos 0) +ℤ z) (sum_in-add ccy f g (n + 1) accounts)
-    ∙ add_step (is_same_ccy a.ccy ccy) (f n) (g n) (sum_in ccy (λ k. pos (f k)) (n + 1) accounts) (sum_in ccy (λ k. pos (g k)) (n + 1) accounts)
+use Rattle.day_model.specs.Laws.{sum_in, moved_in, entry_in, turnover, DebitsEqualCredits}
+use Rattle.day_model.proofs.laws.Fitting.{LegsFit, fitting}
+use Rattle.day_model.proofs.laws.Legs.{moved_in_small}
+use Rattle.day_model.proofs.laws.Sums.{sum_in-add, sum_in-nothing, sum_in-same, sum_moved, even_entry}
 
 -- the sum over the accounts of what the first entries move on each
 abbrev moved_over : Chart → Ccy → Side → List Entry → ℤ
@@ -52,7 +32,7 @@ turnover_at side chart entries ccy (suc i) legal le =
       | inl found ↦
           let e : Entry = found.0 in
           let item : get_or entries i e ≡ e = found.3 in
-          let t = transfer chart e.pay.legs (legal.fits i e found.2) in
+          let fit = fitting chart e.pay.legs (legal.fits i e found.2) in
           let before = turnover_at side chart entries ccy i legal (omega arith) in
           let more : (n : ℕ) → sum_by (moved_by side n) (take (i + 1) entries) ≡ sum_by (moved_by side n) (take i entries) + moved_by side n e =
           λ n.
@@ -68,7 +48,7 @@ turnover_at side chart entries ccy (suc i) legal le =
           (λ n. pos (sum_by (moved_by side n) (take i entries) + moved_by side n e)) 1 chart.accounts (λ n. ap (λ (x : ℕ). pos x) (more n))
           ∙ sum_in-add ccy (λ n. sum_by (moved_by side n) (take i entries)) (λ n. moved_by side n e) 1 chart.accounts
           ∙ ap (λ (z : ℤ). z +ℤ sum_in ccy (λ n. pos (moved_by side n e)) 1 chart.accounts) before
-          ∙ ap (λ (z : ℤ). pos so_far +ℤ z) (sum_moved side chart ccy e t)
+          ∙ ap (λ (z : ℤ). pos so_far +ℤ z) (sum_moved side chart ccy e fit)
           ∙ both
           ∙ ap (λ (x : ℕ). pos x) (sym total)
           ∙ ap (λ (k : ℕ). pos (turnover chart ccy side (take k entries))) (sym next)
@@ -83,18 +63,10 @@ turnover_by_accounts side chart entries ccy legal =
     (turnover_at side chart entries ccy (length entries) legal (omega arith))
 
 -- each entry moves less than 10^14 on one side of a currency
-entry_small : (side : Side) (chart : Chart) (ccy : Ccy) (e : Entry) → Transfer chart e.pay.legs → entry_in chart ccy side e < amount_end
-entry_small Debit chart ccy e t =
-    cond_both (is_booked e.outcome) (sum_by (moved_in chart ccy Debit) e.pay.legs) 0 (λ (x : ℕ). x < amount_end)
-    (λ _. rw (even_debit chart ccy e.pay.legs t)
-    (cond_both (in_ccy ccy (account_at chart t.debit.account.0)) t.debit.amount.0 0 (λ (x : ℕ). x < amount_end) (λ _. t.below) (λ _. omega arith)))
-    (λ _. omega arith)
-entry_small Credit chart ccy e t =
-    cond_both (is_booked e.outcome) (sum_by (moved_in chart ccy Credit) e.pay.legs) 0 (λ (x : ℕ). x < amount_end)
-    (λ _. rw (even_credit chart ccy e.pay.legs t)
-    (cond_both (in_ccy ccy (account_at chart t.credit.account.0)) t.credit.amount.0 0 (λ (x : ℕ). x < amount_end)
-    (λ _. subst (λ (x : ℕ). x < amount_end) t.equal t.below) (λ _. omega arith)))
-    (λ _. omega arith)
+entry_small : (side : Side) (chart : Chart) (ccy : Ccy) (e : Entry) → LegsFit chart e.pay.legs → entry_in chart ccy side e < amount_end
+entry_small side chart ccy e fit =
+    cond_both (is_booked e.outcome) (sum_by (moved_in chart ccy side) e.pay.legs) 0 (λ (x : ℕ). x < amount_end)
+    (λ _. moved_in_small chart ccy e.pay.legs side fit) (λ _. omega arith)
 
 bounded : (f : Entry → ℕ) (xs : List Entry) → ((i : ℕ) (x : Entry) → slice_get xs i ≡ Some x → f x < amount_end) → sum_by f xs ≤ length xs * amount_end
 bounded f [] h = omega arith
@@ -105,7 +77,7 @@ pub turnover_fits : (side : Side) (chart : Chart) (entries : List Entry) (ccy : 
 turnover_fits side chart entries ccy legal =
     omega (
       arith,
-      bounded (entry_in chart ccy side) entries (λ i e at. entry_small side chart ccy e (transfer chart e.pay.legs (legal.fits i e at))),
+      bounded (entry_in chart ccy side) entries (λ i e at. entry_small side chart ccy e (fitting chart e.pay.legs (legal.fits i e at))),
       legal.short,
     )
 
@@ -118,7 +90,7 @@ even_at chart entries ccy (suc i) legal le =
           let e : Entry = found.0 in
           let item : get_or entries i e ≡ e = found.3 in
           let before = even_at chart entries ccy i legal (omega arith) in
-          let here = even_entry chart ccy e (transfer chart e.pay.legs (legal.fits i e found.2)) in
+          let here = even_entry chart ccy e (fitting chart e.pay.legs (legal.fits i e found.2)) in
           let debits : turnover chart ccy Debit (take (i + 1) entries) ≡ turnover chart ccy Debit (take i entries) + entry_in chart ccy Debit e =
           sum_by_more (entry_in chart ccy Debit) entries i e found.1
           ∙ ap (λ (x : Entry). turnover chart ccy Debit (take i entries) + entry_in chart ccy Debit x) item in

@@ -31,12 +31,12 @@ read_head_once a b bytes None is ha hb ia ib = absurd (heads.is_refused bytes fa
 pub one_head : (a b : Chart) → IsHead a → IsHead b → head_bytes a ≡ head_bytes b → a ≡ b
 one_head a b ha hb same = read_head_once a b (head_bytes a) (header_read (head_bytes a)) refl ha hb refl same
 
--- a record has the bytes of its text, 25 an order, and 148 more at most
-pub record_within : (e : Entry) → HasShape e.pay → length (entry_bytes e) ≤ length e.pay.text + length e.pay.orders * 25 + 148
+-- a record has the bytes of its text, 25 an order, and 177 more at most
+pub record_within : (e : Entry) → HasShape e.pay → length (entry_bytes e) ≤ length e.pay.text + length e.pay.orders * 25 + 177
 record_within e h = entry_within e h
 
 -- the longest record: a text of 32,768 bytes, 255 orders and what else there is
-pub short_record : (e : Entry) → HasShape e.pay → length (entry_bytes e) ≤ 39291
+pub short_record : (e : Entry) → HasShape e.pay → length (entry_bytes e) ≤ 39320
 short_record e h = entry_short e h
 
 -- so it is no longer than a record of a journal may be

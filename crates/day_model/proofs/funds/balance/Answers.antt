@@ -4,10 +4,11 @@ use Rattle.std.proofs.lemmas.Option.{slice_get_read}
 use Rattle.day_model.specs.declared.pay.Side.TheVariants.{Debit, Credit}
 use Rattle.day_model.specs.Balance.{moved_by}
 use Rattle.day_model.specs.Legal.{IsLegal}
-use Rattle.day_model.proofs.laws.Fitting.{transfer}
-use Rattle.day_model.proofs.laws.Balances.{within_at, small_at, credits_small, debits_small, balance_more}
+use Rattle.day_model.proofs.laws.Fitting.{fitting}
+use Rattle.day_model.proofs.laws.Legs.{moved_small}
+use Rattle.day_model.proofs.laws.Balances.{within_at, small_at, balance_more}
 use Rattle.day_model.proofs.laws.Turnovers.{debits_equal_credits}
-use Rattle.day_model.proofs.Sums.{balances_cancel, totals_fit}
+use Rattle.day_model.proofs.laws.Sums.{balances_cancel, totals_fit}
 use Rattle.day_model.proofs.funds.balance.Goals as goal
 
 pub after_entry-balance-requires-clause-small : goal.after_entry-balance-requires-clause-small
@@ -22,14 +23,14 @@ after_entry-balance-requires-clause-credits c =
     let items = c.entries-entry-items.result.now in
     let legal : IsLegal c.args.a.now items = subst (IsLegal c.args.a.now) (sym c.entries-entry-items.ensures.value) c.requires.legal in
     let at = slice_get_read items _ c.loop-entry.entry-index c.entry-item.result refl c.loop-entry-test.true c.entry-item.is in
-    credits_small c.args.a.now c.entry-item.result.pay.legs c.args.n.0 (transfer c.args.a.now c.entry-item.result.pay.legs (legal.fits _ _ at))
+    moved_small c.args.a.now c.entry-item.result.pay.legs Credit c.args.n.0 (fitting c.args.a.now c.entry-item.result.pay.legs (legal.fits _ _ at))
 
 pub after_entry-balance-requires-clause-debits : goal.after_entry-balance-requires-clause-debits
 after_entry-balance-requires-clause-debits c =
     let items = c.entries-entry-items.result.now in
     let legal : IsLegal c.args.a.now items = subst (IsLegal c.args.a.now) (sym c.entries-entry-items.ensures.value) c.requires.legal in
     let at = slice_get_read items _ c.loop-entry.entry-index c.entry-item.result refl c.loop-entry-test.true c.entry-item.is in
-    debits_small c.args.a.now c.entry-item.result.pay.legs c.args.n.0 (transfer c.args.a.now c.entry-item.result.pay.legs (legal.fits _ _ at))
+    moved_small c.args.a.now c.entry-item.result.pay.legs Debit c.args.n.0 (fitting c.args.a.now c.entry-item.result.pay.legs (legal.fits _ _ at))
 
 pub loop-entry-preserved : goal.loop-entry-preserved
 loop-entry-preserved c =
