@@ -1,2 +1,3 @@
 pub mod laws
 pub mod Growth
+pub mod Fitting

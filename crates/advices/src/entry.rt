@@ -14,7 +14,7 @@ ghost use Rattle.advices.specs.Valid.{AreAccepted};
 
 use crate::advice::{credit_fields, debit_fields};
 use crate::cover::cover_fields;
-use crate::legs::{leg_account, leg_amount};
+use crate::legs::{debited_amount, leg_account, leg_amount, sent_amount};
 use crate::ordered::ordered_of;
 use crate::pass::pass_fields;
 use crate::received::{Received, received_of};
@@ -57,20 +57,20 @@ fn order_fields(
     let reference = ours(alloc, place, k)?;
     match order {
         Order::Transfer { skip, via, .. } => {
-            let ordered = ordered_of(received, &leg_amount(a, pay, 1));
-            let value = value_of(pay, leg_amount(a, pay, 2));
+            let ordered = ordered_of(received, &debited_amount(a, pay));
+            let value = value_of(pay, sent_amount(a, pay));
             transfer_fields(alloc, received, &reference, &value, &ordered, skip, &via)
         }
         Order::Cover { end, skip, .. } => {
-            let ordered = ordered_of(received, &leg_amount(a, pay, 1));
-            let value = value_of(pay, leg_amount(a, pay, 2));
+            let ordered = ordered_of(received, &debited_amount(a, pay));
+            let value = value_of(pay, sent_amount(a, pay));
             let related = ours(alloc, place, 1)?;
             cover_fields(
                 alloc, received, &reference, &related, &value, &ordered, &end, skip,
             )
         }
         Order::Pass { skip, .. } => {
-            let value = value_of(pay, leg_amount(a, pay, 2));
+            let value = value_of(pay, sent_amount(a, pay));
             pass_fields(alloc, received, &reference, &value, skip)
         }
         Order::Debit { leg, .. } => {

@@ -4,11 +4,11 @@ ghost use Rattle.std.specs.Prelude.{◌≡◌, ◌-◌, Some, length, slice_get}
 ghost use Rattle.day_model.specs.Chart.{IsChart, IsFormed};
 ghost use Rattle.day_model.specs.Fit.{FitsAccounts};
 ghost use Rattle.day_model.specs.Shape.{IsNumbered};
-ghost use Rattle.advices.specs.Legs.{leg_account, leg_amount};
+ghost use Rattle.advices.specs.Legs.{debited_amount, leg_account, leg_amount};
 ghost use Rattle.advices.specs.Spelled.{IsWritableAmount};
 
-use corr_money::Amount;
-use day_model::{Account, Accounts, Leg, Pay};
+use corr_money::{Amount, Minor};
+use day_model::{Account, Accounts, Leg, Pay, Side, legs_sum};
 
 fn leg_at(legs: &[Leg], n: u8) -> &Leg
     requires { IsNumbered (length legs.now) n }
@@ -42,4 +42,29 @@ pub fn leg_amount(a: &Accounts, pay: &Pay, n: u8) -> Amount
         minor: leg_at(pay.legs.as_slice(), n).amount,
         decimals: account.decimals,
     }
+}
+
+/// The sum of the debit legs, in the currency of the first leg's account.
+pub fn debited_amount(a: &Accounts, pay: &Pay) -> Amount
+    requires { FitsAccounts a.now pay.now }
+    ensures value { debited_amount a.now pay.now ≡ Some result }
+    ensures spelled { IsWritableAmount result }
+    ensures sound { IsChart a.now }
+{
+    let account = leg_account(a, pay, 1);
+    Amount {
+        ccy: account.ccy,
+        minor: Minor(legs_sum(Side::Debit, pay.legs.as_slice())),
+        decimals: account.decimals,
+    }
+}
+
+/// The amount of the second leg, the credit, which is sent on.
+pub fn sent_amount(a: &Accounts, pay: &Pay) -> Amount
+    requires { FitsAccounts a.now pay.now }
+    ensures value { leg_amount a.now pay.now 2 ≡ Some result }
+    ensures spelled { IsWritableAmount result }
+    ensures sound { IsChart a.now }
+{
+    leg_amount(a, pay, 2)
 }

@@ -67,6 +67,15 @@ pub(crate) fn customers(alloc: Global) -> Result<Accounts, Fail> {
     book(first, second, List::new(alloc))
 }
 
+// Account F for charges, and accounts A and B of customers, with 0,05 and as much less.
+pub(crate) fn customers_and_fees(alloc: Global) -> Result<Accounts, Fail> {
+    let mut rows = List::new(alloc);
+    rows.push(account(alloc, b"F", b'F', HOME, 0)?)?;
+    let first = account(alloc, b"A", b'C', HOME, 5)?;
+    let second = account(alloc, b"B", b'C', HOME, -5)?;
+    book(first, second, rows)
+}
+
 // Account V of another bank, and account C of a customer.
 pub(crate) fn bank_and_customer(alloc: Global) -> Result<Accounts, Fail> {
     let first = account(alloc, b"V", b'V', OTHER, 0)?;
@@ -74,11 +83,11 @@ pub(crate) fn bank_and_customer(alloc: Global) -> Result<Accounts, Fail> {
     book(first, second, List::new(alloc))
 }
 
-pub(crate) fn leg(alloc: Global, account: u32, side: Side) -> Result<Leg, Memory> {
+pub(crate) fn leg(alloc: Global, account: u32, side: Side, amount: u64) -> Result<Leg, Memory> {
     Ok(Leg {
         account: AcctNo(account),
         side,
-        amount: Minor(3),
+        amount: Minor(amount),
         quote: Quote::Theirs(Text::from_bytes(alloc, b"R")?),
     })
 }
@@ -86,8 +95,21 @@ pub(crate) fn leg(alloc: Global, account: u32, side: Side) -> Result<Leg, Memory
 // 0,03 from the first account to the second.
 pub(crate) fn pay(alloc: Global) -> Result<Pay, Memory> {
     let mut legs = List::new(alloc);
-    legs.push(leg(alloc, 1, Side::Debit)?)?;
-    legs.push(leg(alloc, 2, Side::Credit)?)?;
+    legs.push(leg(alloc, 1, Side::Debit, 3)?)?;
+    legs.push(leg(alloc, 2, Side::Credit, 3)?)?;
+    pay_of(alloc, legs)
+}
+
+// 0,03 from the second account to the third, of which 0,01 are a charge and go to the first.
+pub(crate) fn charged(alloc: Global) -> Result<Pay, Memory> {
+    let mut legs = List::new(alloc);
+    legs.push(leg(alloc, 2, Side::Debit, 3)?)?;
+    legs.push(leg(alloc, 3, Side::Credit, 2)?)?;
+    legs.push(leg(alloc, 1, Side::Credit, 1)?)?;
+    pay_of(alloc, legs)
+}
+
+fn pay_of(alloc: Global, legs: List<Leg>) -> Result<Pay, Memory> {
     Ok(Pay {
         mir: FIRST,
         mt: Mt::Transfer,

@@ -1,10 +1,10 @@
-//! The report, the bookings and the summary of one pay, the words of a line, and a generated day of one message.
+//! The report, the bookings and the summary of one pay, also of one with a charge, the words of a line, and a generated day of one message.
 
 ghost use Rattle.std.specs.Prelude.{◌≡◌, length};
 ghost use Rattle.day_model.specs.Legal.{IsLegal};
 ghost use Rattle.corr_report.specs.Bookings.{AreInCentury};
 
-use crate::given::{FIRST, customers, history_of, pay};
+use crate::given::{FIRST, charged, customers, customers_and_fees, history_of, pay};
 use corr_money::Minor;
 use corr_report::{
     bookings, generated, put_amount, put_balance, put_number, put_reply_line, put_report_end,
@@ -96,6 +96,24 @@ fn a_booked_pay_is_reported(rt: HostRuntime) -> Result<(), Fail> {
     assert!(rt; text.bytes().starts_with(b"000007 240603ALPHDEFF"));
     let text = summed(rt.alloc(), &a, &h)?;
     assert!(rt; text.bytes().ends_with(b"BALANCE A 0,02\nBALANCE B -0,02\n"));
+    Ok(())
+}
+
+#[test]
+fn a_charged_pay_is_reported(rt: HostRuntime) -> Result<(), Fail> {
+    let a = customers_and_fees(rt.alloc())?;
+    let pay = charged(rt.alloc())?;
+    assert!(rt; a.fits(&pay));
+    let h = history_of(rt.alloc(), &a, pay)?;
+    let text = reported(rt.alloc(), &a, &h)?;
+    assert!(rt;
+        text.bytes().starts_with(b"000001 240603ALPHDEFFAXXX0001000001 BOOKED 00000001 EUR 0,03\n")
+    );
+    let text = booked(rt.alloc(), &a, &h)?;
+    assert!(rt;
+        text.bytes()
+            .ends_with(b" BOOKED D A 0,03 C B 0,02 C F 0,01\n")
+    );
     Ok(())
 }
 

@@ -8,8 +8,8 @@ use crate::given::{customers, history_of, leg, pay};
 use corr_money::Minor;
 use corr_text::Memory;
 use day_model::{
-    Account, Accounts, AcctNo, History, Leg, Quote, Side, add_legs, after_leg, balance_with,
-    legs_booked, totals, with_leg,
+    Account, Accounts, AcctNo, History, Leg, Quote, Side, add_legs, after_leg, are_legs,
+    balance_with, legs_booked, legs_sum, totals, with_leg,
 };
 use std::alloc::Global;
 use std::test::Fail;
@@ -26,8 +26,38 @@ fn is_copied(alloc: Global, leg: &Leg, quote: &[u8]) -> Result<bool, Memory> {
 
 #[test]
 fn a_leg_is_copied(rt: HostRuntime) -> Result<(), Fail> {
-    let leg = leg(rt.alloc(), 2, Side::Credit)?;
+    let leg = leg(rt.alloc(), 2, Side::Credit, 3)?;
     assert!(rt; is_copied(rt.alloc(), &leg, b"R")?);
+    Ok(())
+}
+
+// A leg on an account.
+fn leg_on(account: u32, side: Side, amount: u64) -> Leg
+    ensures account { result.account.0 ≡ account }
+    ensures amount { result.amount.0 ≡ amount }
+    ensures side { result.side ≡ side }
+{
+    Leg {
+        account: AcctNo(account),
+        side,
+        amount: Minor(amount),
+        quote: Quote::Ours(1),
+    }
+}
+
+// Whether a charge of 0,01 out of 0,03 makes legs, and what these debit.
+fn charged() -> (bool, u64) {
+    let legs = [
+        leg_on(1, Side::Debit, 3),
+        leg_on(2, Side::Credit, 2),
+        leg_on(3, Side::Credit, 1),
+    ];
+    (are_legs(&legs), legs_sum(Side::Debit, &legs))
+}
+
+#[test]
+fn three_legs_are_summed(rt: HostRuntime) -> Result<(), Fail> {
+    assert!(rt; charged() == (true, 3));
     Ok(())
 }
 
@@ -37,12 +67,7 @@ fn credit() -> Leg
     ensures amount { result.amount.0 ≡ 3 }
     ensures side { result.side ≡ Credit }
 {
-    Leg {
-        account: AcctNo(1),
-        side: Side::Credit,
-        amount: Minor(3),
-        quote: Quote::Ours(1),
-    }
+    leg_on(1, Side::Credit, 3)
 }
 
 // What it makes of a balance of 0,05, and of credits of 0,05 and debits of 0,04.

@@ -32,6 +32,11 @@ const CORR: Bic = Bic {
     branch: *b"XXX",
 };
 
+// The record of an entry with three legs: a debit of 1234,50, and credits of 1229,50 and 5,00.
+const CHARGED: &[u8] = b"240603ALPHDEFFAXXX0001000001\x01\0\0\0\x4d\xa5\0\0\x4d\xa5\0\
+\x03\0\x01\0\0\0\0\0\0\x01\xe2\x3a\0\x04REF1\0\x03\x01\0\0\0\0\0\x01\xe0\x46\x01\x01\
+\0\x05\x01\0\0\0\0\0\0\x01\xf4\0\x04REF1\x01\x04ALPHDEFFXXX\x01\0\0\0\x0a:20:REF1\r\n";
+
 fn row(alloc: Global, id: &[u8], kind: u8, owner: Bic, opening: i64) -> Result<Account, Memory> {
     Ok(Account {
         id: Text::from_bytes(alloc, id)?,
@@ -51,6 +56,7 @@ fn rows(alloc: Global, home: Bic) -> Result<List<Account>, Memory> {
     rows.push(row(alloc, b"VBETAEUR", b'V', BETA, 1_000_000)?)?;
     rows.push(row(alloc, b"CUST1", b'C', home, 0)?)?;
     rows.push(row(alloc, b"NCORREUR", b'N', CORR, -6_000_000)?)?;
+    rows.push(row(alloc, b"FEEEUR", b'F', home, 0)?)?;
     Ok(rows)
 }
 
@@ -87,7 +93,21 @@ pub fn pay(alloc: Global, number: u32, amount: u64) -> Result<Pay, Fail>
     ensures { IfOk result HasShape }
 {
     let bytes = record(alloc, number, amount)?;
-    match read_entry(alloc, bytes.bytes()) {
+    pay_in(alloc, bytes.bytes())
+}
+
+/// The pay of an entry of the day with a charge: 1234,50 from account 1, 1229,50 of it to account 3 and 5,00 to account 5.
+pub fn charged_pay(alloc: Global) -> Result<Pay, Fail>
+    ensures { IfOk result HasShape }
+{
+    pay_in(alloc, CHARGED)
+}
+
+// The pay of an entry's record.
+fn pay_in(alloc: Global, record: &[u8]) -> Result<Pay, Fail>
+    ensures { IfOk result HasShape }
+{
+    match read_entry(alloc, record) {
         Ok(entry) => Ok(entry.pay),
         Err(_) => Err("no entry".into()),
     }
@@ -128,6 +148,17 @@ pub fn grown(
     for number in 0..count {
         enter(a, &mut h, &mut index, pay(alloc, number, amount)?)?;
     }
+    Ok((h, index))
+}
+
+/// The entry of the day with a charge, and its index.
+#[tactic(auto, using(day_model::proofs::laws::Growth::legal_here))]
+pub fn charged(alloc: Global, a: &Accounts) -> Result<(History, HistoryIndex), Fail>
+    ensures { IfOk result (λ g. IsGrown a.now g.0.entries g.1) }
+{
+    let mut h = History::new(alloc);
+    let mut index = HistoryIndex::new(alloc, a, &h)?;
+    enter(a, &mut h, &mut index, charged_pay(alloc)?)?;
     Ok((h, index))
 }
 

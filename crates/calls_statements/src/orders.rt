@@ -4,7 +4,7 @@ ghost use Rattle.corr_ids.specs.Bic.{IsBic};
 ghost use Rattle.day_model.specs.Fit.{FitsAccounts};
 ghost use Rattle.day_model.specs.Shape.{HasShape};
 
-use crate::given::{DAY, accounts, is_only, pay};
+use crate::given::{DAY, accounts, charged_pay, is_only, pay};
 use advices::{orders, sent_messages_pass, sent_onward_reads};
 use corr_text::{List, Memory, Text};
 use day_model::{Accounts, Entry, Outcome, Pay};
@@ -38,20 +38,33 @@ fn sent(alloc: Global, a: &Accounts, pay: Pay) -> Result<List<Text>, Memory>
     orders(alloc, a, &entry, 1)
 }
 
-// What is sent of 1234,50 from account 1.
-fn sent_of_one(alloc: Global) -> Result<List<Text>, Fail> {
+// What is sent of a pay that fits.
+fn sent_of(alloc: Global, pay: Pay) -> Result<List<Text>, Fail>
+    requires { HasShape pay }
+{
     let a = accounts(alloc)?;
-    let pay = pay(alloc, 1, 123_450)?;
     if !a.fits(&pay) {
         return Err("no entry".into());
     }
     Ok(sent(alloc, &a, pay)?)
 }
 
+// What is sent of 1234,50 from account 1.
+fn sent_of_one(alloc: Global) -> Result<List<Text>, Fail> {
+    sent_of(alloc, pay(alloc, 1, 123_450)?)
+}
+
+// The same of which a charge is taken.
+fn sent_of_a_charge(alloc: Global) -> Result<List<Text>, Fail> {
+    sent_of(alloc, charged_pay(alloc)?)
+}
+
 #[test]
 fn a_debit_is_told_to_its_bank(rt: HostRuntime) -> Result<(), Fail> {
     laws();
     let texts = sent_of_one(rt.alloc())?;
+    assert!(rt; is_only(&texts, NOTICE));
+    let texts = sent_of_a_charge(rt.alloc())?;
     assert!(rt; is_only(&texts, NOTICE));
     Ok(())
 }

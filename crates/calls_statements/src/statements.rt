@@ -5,7 +5,7 @@ ghost use Rattle.corr_ids.specs.Bic.{IsBic};
 ghost use Rattle.day_model.specs.Chart.{IsListed};
 ghost use Rattle.calls_statements.specs.Grown.{IsGrown};
 
-use crate::given::{DAY, accounts, grown, is_only};
+use crate::given::{DAY, accounts, charged, grown, is_only};
 use corr_ids::Day;
 use corr_text::{List, Memory, Text};
 use day_model::{Accounts, AcctNo, History};
@@ -86,6 +86,42 @@ fn holds(text: &Text, part: &[u8]) -> bool
     requires { 0 < length part.now }
 {
     text.bytes().windows(part.len()).any(|w| w == part)
+}
+
+// The messages of an account after an entry with a charge, from its index.
+fn charged_statement(alloc: Global, n: u32) -> Result<List<Text>, Fail> {
+    let a = accounts(alloc)?;
+    let (h, index) = charged(alloc, &a)?;
+    if n < 1 || a.count() < n {
+        return Err("no account".into());
+    }
+    Ok(printed_with(&a, &h, &index, n)?)
+}
+
+// Whether there is one message, and it has a part.
+fn only_holds(texts: &List<Text>, part: &[u8]) -> bool
+    requires { 0 < length part.now }
+{
+    match texts.as_slice() {
+        [only] => holds(only, part),
+        _ => false,
+    }
+}
+
+#[test]
+fn a_payment_with_a_charge_is_a_line_of_each_account(rt: HostRuntime) -> Result<(), Fail> {
+    let debited = charged_statement(rt.alloc(), 1)?;
+    let credited = charged_statement(rt.alloc(), 3)?;
+    let charged = charged_statement(rt.alloc(), 5)?;
+    assert!(rt; is_only(&debited, DEBITED));
+    assert!(rt;
+        only_holds(
+            &credited,
+            b":61:2406030603C1229,50S103P00000001K1//P00000001"
+        )
+    );
+    assert!(rt; only_holds(&charged, b":61:2406030603C5,00S103REF1//P00000001"));
+    Ok(())
 }
 
 // Two messages, each with these balances.

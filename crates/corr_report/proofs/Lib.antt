@@ -4,3 +4,4 @@ pub mod LineLists
 pub mod FailingLeg
 pub mod Currencies
 pub mod Days
+pub mod Fitting

@@ -8,9 +8,11 @@ use Rattle.day_model.specs.declared.entry.Entry.{Entry}
 use Rattle.day_model.specs.declared.entry.Outcome.{Outcome}
 use Rattle.day_model.specs.declared.entry.Outcome.TheVariants.{Booked, Unfunded}
 use Rattle.day_model.specs.declared.pay.Leg.{Leg}
+use Rattle.day_model.specs.declared.pay.Side.TheVariants.{Debit}
 use Rattle.day_model.specs.declared.reply.Reply.{Reply}
 use Rattle.day_model.specs.declared.reply.Reply.TheVariants.{Entered, Conflict, Refused, Unrouted}
 use Rattle.day_model.specs.Chart.{Chart, account_at}
+use Rattle.day_model.specs.Fit.{side_sum}
 use Rattle.corr_report.specs.Lines.{line, numbered, said}
 use Rattle.corr_report.specs.Totals.{total_lines}
 
@@ -41,13 +43,17 @@ tag_text tag = if slice_index tag 2 == 32 then take 2 tag else tag
 abbrev pub balance_words : Chart → ℤ → Leg → List (List ℕ)
 balance_words chart balance leg = said (account_at chart leg.account.0) (λ account. account.id ∷ signed_text account.decimals balance ∷ [])
 
--- the currency and the amount of a leg
-abbrev pub amount_words : Chart → Leg → List (List ℕ)
-amount_words chart leg = said (account_at chart leg.account.0) (λ account. account.ccy.0 ∷ amount_text account.decimals leg.amount.0 ∷ [])
+-- an amount in the currency of a leg's account
+abbrev pub amount_words : Chart → ℕ → Leg → List (List ℕ)
+amount_words chart amount leg = said (account_at chart leg.account.0) (λ account. account.ccy.0 ∷ amount_text account.decimals amount ∷ [])
 
--- the debit leg, which is the first, or leg k, from 1, that failed: `BOOKED 00000001 EUR 1234,50`, or `UNFUNDED 00000001 VBETAEUR 10000,00`
+-- the sum of the debit legs, in the currency of the first leg
+abbrev pub debited_words : Chart → List Leg → List (List ℕ)
+debited_words chart legs = said (slice_get legs 0) (amount_words chart (side_sum Debit legs))
+
+-- what was debited, or the account of leg k, from 1, that failed: `BOOKED 00000001 EUR 1234,50`, or `UNFUNDED 00000001 VBETAEUR 10000,00`
 abbrev pub entry_words : Chart → ℕ → List Leg → Outcome → List (List ℕ)
-entry_words chart place legs Booked = codes "BOOKED" ∷ padded 8 place ∷ said (slice_get legs 0) (amount_words chart)
+entry_words chart place legs Booked = codes "BOOKED" ∷ padded 8 place ∷ debited_words chart legs
 entry_words chart place legs (Unfunded k balance) = codes "UNFUNDED" ∷ padded 8 place ∷ said (slice_get legs (k - 1)) (balance_words chart balance)
 
 -- what became of a message

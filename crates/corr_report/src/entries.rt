@@ -34,7 +34,7 @@ fn put_line(
     out.push(b"\n")
 }
 
-/// The entries of a journal, a line each: its place, its day, its message's MIR, and `BOOKED` with both legs (`D` or
+/// The entries of a journal, a line each: its place, its day, its message's MIR, and `BOOKED` with all legs (`D` or
 /// `C`, the account's id and the amount) or `UNFUNDED` with the account of the failing leg and its balance then
 /// (docs/operating.md, "Bookings"). The history is legal for the accounts, and each entry has a day from 1980 to 2079.
 ///

@@ -6,13 +6,14 @@ ghost use Rattle.corr_money.specs.Amounts.{amount_end, most_decimals};
 ghost use Rattle.day_model.specs.Chart.{IsListed, account_at};
 ghost use Rattle.day_model.specs.Fit.{FitsAccounts};
 ghost use Rattle.corr_report.specs.Bookings.{leg_words, outcome_words};
-ghost use Rattle.corr_report.specs.Lines.{spaced};
+ghost use Rattle.corr_report.specs.Lines.{said, spaced};
 ghost use Rattle.corr_report.specs.Outcomes.{NamesLeg};
-ghost use Rattle.corr_report.specs.Report.{amount_words, balance_words, entry_words};
+ghost use Rattle.corr_report.specs.Report.{amount_words, balance_words, debited_words, entry_words};
 
 use crate::words::{put_amount, put_balance, put_number, put_word, side_letter};
+use corr_money::Minor;
 use corr_text::{Memory, Text};
-use day_model::{Account, Accounts, Entry, Leg, Outcome};
+use day_model::{Account, Accounts, Entry, Leg, Outcome, Pay, Side, legs_sum};
 use std::alloc::Global;
 
 fn account_of<'a>(a: &'a Accounts, leg: &Leg) -> &'a Account
@@ -31,32 +32,53 @@ fn leg_at(legs: &[Leg], k: u8) -> &Leg
     &legs[k as usize - 1]
 }
 
+// Adds the account of leg `k`, from 1, and its balance.
 fn put_leg_balance(
     alloc: Global,
     a: &Accounts,
-    leg: &Leg,
+    pay: &Pay,
+    k: u8,
     balance: i64,
     out: &mut Text,
 ) -> Result<(), Memory>
-    requires { IsListed a.now leg.now.account.0 }
-    ensures { OnOk result (out.new ≡ out.old ++ spaced (balance_words a.now balance leg.now)) }
+    requires fits { FitsAccounts a.now pay.now }
+    requires from_one { 1 ≤ k }
+    requires there { k ≤ length pay.now.legs }
+    ensures { OnOk result (out.new ≡ out.old ++ spaced (said (slice_get pay.now.legs (k - 1)) (balance_words a.now balance))) }
 {
-    let account = account_of(a, leg);
+    let account = account_of(a, leg_at(pay.legs.as_slice(), k));
     put_word(account.id.bytes(), out)?;
     put_balance(alloc, balance, account.decimals, out)
 }
 
-fn put_leg_amount(alloc: Global, a: &Accounts, leg: &Leg, out: &mut Text) -> Result<(), Memory>
+// Adds an amount in the currency of a leg's account.
+fn put_in_currency(
+    alloc: Global,
+    a: &Accounts,
+    leg: &Leg,
+    amount: Minor,
+    out: &mut Text,
+) -> Result<(), Memory>
     requires listed { IsListed a.now leg.now.account.0 }
-    requires bound { leg.now.amount.0 < amount_end }
-    ensures { OnOk result (out.new ≡ out.old ++ spaced (amount_words a.now leg.now)) }
+    requires bound { amount.0 < amount_end }
+    ensures { OnOk result (out.new ≡ out.old ++ spaced (amount_words a.now amount.0 leg.now)) }
 {
     let account = account_of(a, leg);
     put_word(&account.ccy.0, out)?;
-    put_amount(alloc, leg.amount, account.decimals, out)
+    put_amount(alloc, amount, account.decimals, out)
 }
 
-/// Adds what became of the entry at a place: `BOOKED` with the amount of the debit leg, or `UNFUNDED` with the account
+// Adds the sum of the debit legs in the currency of the first.
+fn put_debited(alloc: Global, a: &Accounts, pay: &Pay, out: &mut Text) -> Result<(), Memory>
+    requires { FitsAccounts a.now pay.now }
+    ensures { OnOk result (out.new ≡ out.old ++ spaced (debited_words a.now pay.now.legs)) }
+{
+    let legs = pay.legs.as_slice();
+    let debited = Minor(legs_sum(Side::Debit, legs));
+    put_in_currency(alloc, a, leg_at(legs, 1), debited, out)
+}
+
+/// Adds what became of the entry at a place: `BOOKED` with the sum of the debit legs, or `UNFUNDED` with the account
 /// of the failing leg and its balance.
 pub(crate) fn put_entry(
     alloc: Global,
@@ -69,17 +91,16 @@ pub(crate) fn put_entry(
     requires leg { NamesLeg (length entry.now.pay.legs) entry.now.outcome }
     ensures { OnOk result (out.new ≡ out.old ++ spaced (entry_words a.now place entry.now.pay.legs entry.now.outcome)) }
 {
-    let legs = entry.pay.legs.as_slice();
     match entry.outcome {
         Outcome::Booked => {
             put_word(b"BOOKED", out)?;
             put_number(alloc, place as u64, 8, out)?;
-            put_leg_amount(alloc, a, leg_at(legs, 1), out)
+            put_debited(alloc, a, &entry.pay, out)
         }
         Outcome::Unfunded { leg, balance } => {
             put_word(b"UNFUNDED", out)?;
             put_number(alloc, place as u64, 8, out)?;
-            put_leg_balance(alloc, a, leg_at(legs, leg), balance, out)
+            put_leg_balance(alloc, a, &entry.pay, leg, balance, out)
         }
     }
 }
@@ -123,13 +144,7 @@ pub(crate) fn put_outcome(
         }
         Outcome::Unfunded { leg, balance } => {
             put_word(b"UNFUNDED", out)?;
-            put_leg_balance(
-                alloc,
-                a,
-                leg_at(entry.pay.legs.as_slice(), leg),
-                balance,
-                out,
-            )
+            put_leg_balance(alloc, a, &entry.pay, leg, balance, out)
         }
     }
 }

@@ -1,8 +1,8 @@
 -- The shape of a pay that is planned.
-use Rattle.std.proofs.Common.{◌≡◌, ◌≢◌, ℕ, ◌≤◌, ◌==◌, ◌&&◌, not, Bool, true, false, cond, IfSome, List, [], ◌∷◌, length, Option, Some, None, refl, arith, eqb, leb}
+use Rattle.std.proofs.Common.{◌≡◌, ℕ, ◌≤◌, ◌==◌, ◌&&◌, Bool, true, false, cond, IfSome, List, [], ◌∷◌, length, Option, Some, None, refl, arith, leb}
 use Rattle.std.specs.Prelude.{All, IsSome, unwrap_or}
 use Rattle.std.specs.Option.{option_map_or}
-use Rattle.std.proofs.lemmas.Bool.{and_parts, leb-true, ne_eqb}
+use Rattle.std.proofs.lemmas.Bool.{and_parts, leb-true}
 use Rattle.std.proofs.lemmas.List.{length-append}
 use Rattle.std.proofs.lemmas.List.Elements.{All-append, All-cons, All-nil}
 use Rattle.corr_text.specs.First.{first_of}
@@ -13,8 +13,8 @@ use Rattle.corr_ids.specs.declared.bic.Bic.{Bic}
 use Rattle.corr_ids.specs.declared.envelope.Envelope.{Envelope}
 use Rattle.corr_ids.specs.declared.mir.Mir.{Mir}
 use Rattle.day_model.specs.Chart.{Chart, IsChart, account_at, vostro}
-use Rattle.day_model.specs.Fit.{accounts_fit, amounts_fit, is_listed, legs_fit}
-use Rattle.day_model.specs.Shape.{HasShape, IsLeg, IsOrder, IsQuote, IsReference, are_legs}
+use Rattle.day_model.specs.Fit.{are_legs, is_listed}
+use Rattle.day_model.specs.Shape.{HasShape, IsLeg, IsOrder, IsQuote, IsReference}
 use Rattle.day_model.specs.declared.account.Account.{Account}
 use Rattle.day_model.specs.declared.pay.Leg.{Leg}
 use Rattle.day_model.specs.declared.pay.Order.{Order}
@@ -129,17 +129,6 @@ each-leg t chart way asked routed sound h between =
     let second : Leg = record { account = routed.credit; side = Credit; amount = asked.amount.minor; quote = quote_of way asked } in
     two first second (record { account = debit; quote = h.reference }) (record { account = credit; quote = quote-form t way asked h })
 
-both : (a b : Bool) → a ≡ true → b ≡ true → (a && b) ≡ true
-both a b e f = rw (e, f) refl
-
--- legs that fit accounts are legs
-legs-form : (chart : Chart) (way : Way) (asked : Asked) (routed : Routed) → legs_fit chart (legs_of way asked routed) ≡ true → routed.debit.0 ≢ routed.credit.0 → are_legs (legs_of way asked routed) ≡ true
-legs-form chart way asked routed fits_amount distinct =
-    let amounts = amounts_fit asked.amount.minor.0 asked.amount.minor.0 in
-    let paid = (and_parts amounts (accounts_fit chart routed.debit.0 routed.credit.0) fits_amount).0 in
-    let same : eqb routed.debit.0 routed.credit.0 ≡ false = ne_eqb routed.debit.0 routed.credit.0 distinct in
-    both amounts (not (eqb routed.debit.0 routed.credit.0)) paid (rw same refl)
-
 -- ---- the orders
 
 receiver-form : (bank : Bic) (via : Option Bic) → IsBic bank → IfSome via IsBic → IsBic (receiver bank via)
@@ -204,9 +193,9 @@ given (Some m) d some h = h
 given None d some h = absurd (cc some)
 
 pub shaped : (t : Tables) (env : Envelope) (text : List ℕ) (asked : Asked) (routed : Routed) (chart : Chart) → IsSome env.mir → IsWritable env text
-    → AskedForm t asked → AreBetween chart asked.amount routed → IfSome routed.via IsBic → legs_fit chart (legs_of (way_of asked.mt asked.target routed.method) asked routed) ≡ true
+    → AskedForm t asked → AreBetween chart asked.amount routed → IfSome routed.via IsBic → are_legs (legs_of (way_of asked.mt asked.target routed.method) asked routed) ≡ true
     → IsChart chart → ((a : Account) → account_at chart routed.debit.0 ≡ Some a → IsBic a.owner) → HasShape (pay_of env text asked routed chart)
-shaped t env text asked routed chart received writable form between via fits_amount sound owner =
+shaped t env text asked routed chart received writable form between via are sound owner =
     let way = way_of asked.mt asked.target routed.method in
     let orders = there-form t way asked.target routed.via (account_at chart routed.debit.0) form.target via owner in
     record {
@@ -214,7 +203,7 @@ shaped t env text asked routed chart received writable form between via fits_amo
       uetr = writable.uetr;
       text = writable.short;
       value = form.value;
-      legs = legs-form chart way asked routed fits_amount between.distinct;
+      legs = are;
       each_leg = each-leg t chart way asked routed sound form between;
       few_orders = omega (arith, orders.few);
       each_order = orders.each;

@@ -11,7 +11,7 @@ pub mod Gaps
 pub mod Bounded
 pub mod Left
 pub mod Queues
-pub mod Promises
+pub mod laws
 pub mod Printed
 pub mod Nostro
 pub mod Growing

@@ -1,64 +1,32 @@
 -- One entry more in an index.
-use Rattle.std.proofs.Common.{◌≡◌, ◌≢◌, ℕ, zero, suc, ◌+◌, ◌-◌, ◌<◌, ◌≤◌, ◌==◌, true, false, List, [], ◌∷◌, ◌++◌, map, length, take, get_or, Some, refl, sym, ap, ◌∙◌, subst, arith, inl, inr, ℤ, length-append}
+use Rattle.std.proofs.Common.{◌≡◌, ℕ, zero, suc, ◌+◌, ◌-◌, ◌<◌, false, List, [], ◌∷◌, ◌++◌, map, length, take, Some, refl, sym, ap, ◌∙◌, subst, arith, ℤ, length-append}
 use Rattle.std.specs.Prelude.{All, int_lt, slice_get}
 use Rattle.std.specs.List.{filter}
-use Rattle.std.proofs.lemmas.Bool.Decides.{nat_tests}
-use Rattle.std.proofs.lemmas.Bool.{cases_eq}
 use Rattle.std.proofs.lemmas.List.{append-nil, length-map, take_all}
 use Rattle.std.proofs.lemmas.List.Elements.{All-append, All-nil}
 use Rattle.std.proofs.lemmas.Option.{same_Some}
 use Rattle.corr_ids.specs.declared.day.Day.{Day}
-use Rattle.corr_money.specs.Amounts.{amount_end}
 use Rattle.day_model.specs.Balance.{balance_of, changed, is_booked}
 use Rattle.day_model.specs.Chart.{Chart, IsChart, IsListed, IsSmall, account_at, HasCode}
 use Rattle.day_model.specs.Legal.{IsLegal}
-use Rattle.day_model.specs.Totals.{booked_legs}
 use Rattle.day_model.specs.declared.account.Account.{Account}
 use Rattle.day_model.specs.declared.entry.Entry.{Entry}
 use Rattle.day_model.specs.declared.pay.Leg.{Leg}
 use Rattle.day_model.proofs.laws.Balances.{listed_account, small_at}
-use Rattle.day_model.proofs.laws.Fitting.{transfer}
-use Rattle.statement.specs.Index.{AreLedgersOf, IsIndexOf, Rise, TakesNext, balance_at, changed_at, grown, is_of_earlier_day, last_balance, ledger_with, movement_of, movements_of, pushed}
+use Rattle.day_model.proofs.laws.Fitting.{LegsFit, fitting}
+use Rattle.statement.specs.Index.{AreLedgersOf, IsIndexOf, Rise, TakesNext, balance_at, grown, is_of_earlier_day, last_balance, ledger_with, movement_of, movements_of}
 use Rattle.statement.specs.Legs.{HasQuotes, IsByteQuote, before_day, legs_on, quote_text}
 use Rattle.statement.specs.Seen.{SeenBook}
 use Rattle.statement.specs.declared.index.HistoryIndex.{HistoryIndex}
 use Rattle.statement.specs.declared.ledger.Ledger.{Ledger}
 use Rattle.statement.specs.declared.movement.Movement.{Movement}
-use Rattle.statement.proofs.Changes.{changed-here, changed-length, changed-there}
 use Rattle.statement.proofs.Days.{entry_day, kept-balance, lt-down, movement_day, moves-rise, rise-at, rising}
 use Rattle.statement.proofs.Legs.{one-moves}
 use Rattle.statement.proofs.Moves.{last-balance, moves-append, opening-is}
 use Rattle.statement.proofs.Prefixes.{last-get, legal-take, map-get, take-next}
 
-met : (a b : ℕ) → a ≡ b → (a == b) ≡ true
-met a b e = grind (arith, nat_tests)
-
-unmet : (a b : ℕ) → a ≢ b → (a == b) ≡ false
-unmet a b e = grind (arith, nat_tests)
-
--- ---- the two legs of an entry
-
-module _ (entry : Entry) (d c : Leg) (legs : booked_legs entry ≡ d ∷ c ∷ []) (apart : d.account.0 ≢ c.account.0) where
-  abbrev on : ℕ → List Leg → List Leg
-  on n ls = filter (λ leg. leg.account.0 == n) ls
-
-  pub on-debit : legs_on d.account.0 entry ≡ d ∷ []
-  on-debit = ap (on d.account.0) legs ∙ rw (met d.account.0 d.account.0 refl, unmet c.account.0 d.account.0 (λ e. apart (sym e))) refl
-
-  pub on-credit : legs_on c.account.0 entry ≡ c ∷ []
-  on-credit = ap (on c.account.0) legs ∙ rw (unmet d.account.0 c.account.0 apart, met c.account.0 c.account.0 refl) refl
-
-  pub on-other : (n : ℕ) → d.account.0 ≢ n → c.account.0 ≢ n → legs_on n entry ≡ []
-  on-other n e f = ap (on n) legs ∙ rw (unmet d.account.0 n e, unmet c.account.0 n f) refl
-
 pub on-none : (n : ℕ) (entry : Entry) → is_booked entry.outcome ≡ false → legs_on n entry ≡ []
 on-none n entry e = rw e refl
-
-pub two-of : (legs : List Leg) (d c : Leg) → length legs ≡ 2 → d ≡ get_or legs 0 d → c ≡ get_or legs 1 c → legs ≡ d ∷ c ∷ []
-two-of [] d c two e f = absurd (omega (arith, two))
-two-of (x ∷ []) d c two e f = absurd (omega (arith, two))
-two-of (x ∷ y ∷ []) d c two e f = λ i. sym e i ∷ sym f i ∷ []
-two-of (x ∷ y ∷ z ∷ legs) d c two e f = absurd (omega (arith, two))
 
 pub all-one : {A : Type 0} (P : A → Type 0) (x : A) → P x → All P (x ∷ [])
 all-one P x p zero d lt = p
@@ -66,10 +34,6 @@ all-one P x p (suc k) d lt = absurd (omega (arith, lt))
 
 pub quotes-none : (entry : Entry) → is_booked entry.outcome ≡ false → HasQuotes entry
 quotes-none entry e = rw e (All-nil (λ (leg : Leg). IsByteQuote leg.quote))
-
-pub quotes-two : (entry : Entry) (d c : Leg) → booked_legs entry ≡ d ∷ c ∷ [] → IsByteQuote d.quote → IsByteQuote c.quote → HasQuotes entry
-quotes-two entry d c legs of_d of_c =
-    subst (All (λ (leg : Leg). IsByteQuote leg.quote)) (sym legs) (All-append (λ (leg : Leg). IsByteQuote leg.quote) (d ∷ []) (c ∷ []) (all-one (λ (leg : Leg). IsByteQuote leg.quote) d of_d) (all-one (λ (leg : Leg). IsByteQuote leg.quote) c of_c))
 
 -- ---- movements of one entry more
 
@@ -81,10 +45,6 @@ pub more-none : (chart : Chart) (n : ℕ) (entries : List Entry) (entry : Entry)
 more-none chart n entries entry e =
     more chart n entries entry ∙ ap (λ (ls : List Leg). movements_of chart n entries ++ map (movement_of chart n entries entry) ls) e ∙ append-nil (movements_of chart n entries)
 
-pub more-one : (chart : Chart) (n : ℕ) (entries : List Entry) (entry : Entry) (leg : Leg) → legs_on n entry ≡ leg ∷ [] → movements_of chart n (entries ++ entry ∷ []) ≡ movements_of chart n entries ++ movement_of chart n entries entry leg ∷ []
-more-one chart n entries entry leg e =
-    more chart n entries entry ∙ ap (λ (ls : List Leg). movements_of chart n entries ++ map (movement_of chart n entries entry) ls) e
-
 -- ---- the ledgers
 
 module _ (chart : Chart) (entries : List Entry) (entry : Entry) (ledgers : List Ledger) (are : AreLedgersOf ledgers chart entries) where
@@ -94,84 +54,11 @@ module _ (chart : Chart) (entries : List Entry) (entry : Entry) (ledgers : List 
     each = λ i account at. are.each i account at ∙ ap (λ (ms : List Movement). Some (ledger_with account ms)) (sym (more-none chart (i + 1) entries entry (on-none (i + 1) entry e)));
   }
 
-  module _ (d c : Leg) (legs : booked_legs entry ≡ d ∷ c ∷ []) (apart : d.account.0 ≢ c.account.0) (d_one : 1 ≤ d.account.0) (c_one : 1 ≤ c.account.0) (md mc : Movement)
-      (is_d : md ≡ movement_of chart d.account.0 entries entry d) (is_c : mc ≡ movement_of chart c.account.0 entries entry c) where
-    abbrev kd : ℕ
-    kd = d.account.0 - 1
-
-    abbrev kc : ℕ
-    kc = c.account.0 - 1
-
-    abbrev first : List Ledger
-    first = changed_at kd (pushed md) ledgers
-
-    one-more : (i n : ℕ) (account : Account) (leg : Leg) (m : Movement) → n ≡ i + 1 → legs_on n entry ≡ leg ∷ [] → m ≡ movement_of chart n entries entry leg
-        → ledger_with account (movements_of chart (i + 1) entries ++ m ∷ []) ≡ ledger_with account (movements_of chart (i + 1) (entries ++ entry ∷ []))
-    one-more i n account leg m place only is =
-        let here : movements_of chart (i + 1) (entries ++ entry ∷ []) ≡ movements_of chart (i + 1) entries ++ movement_of chart (i + 1) entries entry leg ∷ [] =
-        more-one chart (i + 1) entries entry leg (ap (λ (k : ℕ). legs_on k entry) (sym place) ∙ only) in
-        let moved : m ≡ movement_of chart (i + 1) entries entry leg = is ∙ ap (λ (k : ℕ). movement_of chart k entries entry leg) place in
-        ap (ledger_with account) (ap (λ (x : Movement). movements_of chart (i + 1) entries ++ x ∷ []) moved ∙ sym here)
-
-    each : (i : ℕ) (account : Account) → slice_get chart.accounts i ≡ Some account → slice_get (changed_at kc (pushed mc) first) i ≡ Some (ledger_with account (movements_of chart (i + 1) (entries ++ entry ∷ [])))
-    each i account at =
-        let old : Ledger = ledger_with account (movements_of chart (i + 1) entries) in
-        let there : slice_get ledgers i ≡ Some old = are.each i account at in
-        elim (cases_eq i kd) [
-          | inl is ↦
-              let other : i ≢ kc = λ e. apart (omega (arith, is, e, d_one, c_one)) in
-              let pushed_here : slice_get first i ≡ Some (pushed md old) = subst (λ (k : ℕ). slice_get (changed_at k (pushed md) ledgers) i ≡ Some (pushed md old)) is (changed-here (pushed md) i ledgers old there) in
-              changed-there (pushed mc) kc i first (pushed md old) other pushed_here
-              ∙ ap Some (one-more i d.account.0 account d md (omega (arith, is, d_one)) (on-debit entry d c legs apart) is_d)
-          | inr not_d ↦
-              let kept : slice_get first i ≡ Some old = changed-there (pushed md) kd i ledgers old not_d there in
-              elim (cases_eq i kc) [
-                | inl is ↦
-                    subst (λ (k : ℕ). slice_get (changed_at k (pushed mc) first) i ≡ Some (pushed mc old)) is (changed-here (pushed mc) i first old kept)
-                    ∙ ap Some (one-more i c.account.0 account c mc (omega (arith, is, c_one)) (on-credit entry d c legs apart) is_c)
-                | inr not_c ↦
-                    let none : legs_on (i + 1) entry ≡ [] = on-other entry d c legs apart (i + 1) (λ e. not_d (omega (arith, e))) (λ e. not_c (omega (arith, e))) in
-                    changed-there (pushed mc) kc i first old not_c kept ∙ ap (λ (ms : List Movement). Some (ledger_with account ms)) (sym (more-none chart (i + 1) entries entry none))
-              ]
-        ]
-
-    pub ledgers-more : AreLedgersOf (changed_at kc (pushed mc) first) chart (entries ++ entry ∷ [])
-    ledgers-more = record { size = changed-length (pushed mc) kc first ∙ changed-length (pushed md) kd ledgers ∙ are.size; each = each }
-
 -- ---- the next entry
 
--- the legs of a booked entry that comes next
-pub record Booking (chart : Chart) (entry : Entry) (d c : Leg) : Type 0 where
-  pub legs : booked_legs entry ≡ d ∷ c ∷ []
-  pub apart : d.account.0 ≢ c.account.0
-  pub d_listed : IsListed chart d.account.0
-  pub c_listed : IsListed chart c.account.0
-  pub d_small : d.amount.0 < amount_end
-  pub c_small : c.amount.0 < amount_end
-
-pub booking : (index : HistoryIndex) (entry : Entry) (book : SeenBook) (d c : Leg) → TakesNext index entry book → is_booked entry.outcome ≡ true → entry.pay.legs ≡ d ∷ c ∷ [] → Booking book.chart entry d c
-booking index entry book d c next booked are =
-    let fits = next.legal.fits (length book.entries) entry (last-get book.entries entry) in
-    let t = transfer book.chart entry.pay.legs fits in
-    let both : d ∷ c ∷ [] ≡ t.debit ∷ t.credit ∷ [] = sym are ∙ t.legs_are in
-    let is_d : t.debit ≡ d = sym (ap (λ (ls : List Leg). get_or ls 0 d) both) in
-    let is_c : t.credit ≡ c = sym (ap (λ (ls : List Leg). get_or ls 1 d) both) in
-    let c_below : t.credit.amount.0 < amount_end = subst (λ (x : ℕ). x < amount_end) t.equal t.below in
-    record {
-      legs = rw booked are;
-      apart = λ e. t.distinct (ap (λ (l : Leg). l.account.0) is_d ∙ e ∙ sym (ap (λ (l : Leg). l.account.0) is_c));
-      d_listed = subst (λ (l : Leg). IsListed book.chart l.account.0) is_d t.debit_listed;
-      c_listed = subst (λ (l : Leg). IsListed book.chart l.account.0) is_c t.credit_listed;
-      d_small = subst (λ (l : Leg). l.amount.0 < amount_end) is_d t.below;
-      c_small = subst (λ (l : Leg). l.amount.0 < amount_end) is_c c_below;
-    }
-
-pub booked-two : (index : HistoryIndex) (entry : Entry) (book : SeenBook) (d c : Leg) (legs : List Leg) → TakesNext index entry book → is_booked entry.outcome ≡ true → legs ≡ entry.pay.legs
-    → 2 ≤ length legs → length legs < 3 → d ≡ get_or legs 0 d → c ≡ get_or legs 1 c → Booking book.chart entry d c
-booked-two index entry book d c legs next booked same low high e f = booking index entry book d c next booked (sym same ∙ two-of legs d c (omega (arith, low, high)) e f)
-
-pub two-legs : (index : HistoryIndex) (entry : Entry) (book : SeenBook) → TakesNext index entry book → length entry.pay.legs ≡ 2
-two-legs index entry book next = ap length (transfer book.chart entry.pay.legs (next.legal.fits (length book.entries) entry (last-get book.entries entry))).legs_are
+-- the legs of the next entry fit
+pub next-fit : (index : HistoryIndex) (entry : Entry) (book : SeenBook) → TakesNext index entry book → LegsFit book.chart entry.pay.legs
+next-fit index entry book next = fitting book.chart entry.pay.legs (next.legal.fits (length book.entries) entry (last-get book.entries entry))
 
 pub balance-small : (index : HistoryIndex) (book : SeenBook) (n : ℕ) → IsIndexOf index book → IsListed book.chart n → IsSmall (balance_of book.chart book.entries n)
 balance-small index book n is listed =

@@ -26,7 +26,7 @@ use Rattle.day_model.specs.declared.pay.Mt.TheVariants.{Transfer, Cover}
 use Rattle.day_model.specs.declared.pay.Quote.{Quote}
 use Rattle.day_model.specs.declared.pay.Quote.TheVariants.{Ours, Theirs}
 use Rattle.day_model.proofs.laws.Balances.{small_at}
-use Rattle.day_model.proofs.laws.Fitting.{leg_sound, transfer}
+use Rattle.day_model.proofs.laws.Fitting.{fitting, leg_sound}
 use Rattle.advices.proofs.laws.Bytes.{day-digits}
 use Rattle.mt950.specs.Parts.{is_entry_type}
 use Rattle.mt950.specs.Writing.{IsWritableLine}
@@ -57,13 +57,13 @@ booked P entry all = cond_both (is_booked entry.outcome) entry.pay.legs [] (All 
 
 pub entry-fit : (chart : Chart) (n : ℕ) (entry : Entry) → FitsAccounts chart entry.pay → HasShape entry.pay → HasQuotes entry → OneLeg n entry → IsFit n entry
 entry-fit chart n entry fits shape quotes one =
-    let t = transfer chart entry.pay.legs fits in
+    let fit = fitting chart entry.pay.legs fits in
     let on : Leg → Bool = λ leg. leg.account.0 == n in
     let Small : Leg → Type 0 = λ leg. leg.amount.0 < amount_end in
     let Quotes : Leg → Type 0 = λ leg. IsQuote leg.quote in
     let Bytes : Leg → Type 0 = λ leg. IsByteQuote leg.quote in
     let a : All Small (legs_on n entry) =
-    All-filter on Small (booked_legs entry) (booked Small entry (λ k d lt. (leg_sound chart entry.pay.legs k (get_or entry.pay.legs k d) t (slice_get-get_or entry.pay.legs k d lt)).below)) in
+    All-filter on Small (booked_legs entry) (booked Small entry (λ k d lt. (leg_sound chart entry.pay.legs k (get_or entry.pay.legs k d) fit (slice_get-get_or entry.pay.legs k d lt)).below)) in
     let b : All Quotes (legs_on n entry) = All-filter on Quotes (booked_legs entry) (booked Quotes entry (λ k d lt. (shape.each_leg k d lt).quote)) in
     let c : All Bytes (legs_on n entry) = All-filter on Bytes (booked_legs entry) quotes in
     record {

@@ -5,6 +5,8 @@ pub mod Changes
 pub mod Prefixes
 pub mod Parted
 pub mod Adding
+pub mod Distinct
+pub mod Pushing
 pub mod DayParts
 pub mod Walking
 pub mod Joined

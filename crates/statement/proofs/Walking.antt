@@ -1,9 +1,9 @@
 -- The lines of a day lead from the balance before it to the balance after it.
-use Rattle.std.proofs.Common.{◌≡◌, ◌≢◌, ℕ, ◌+◌, ◌==◌, true, List, [], ◌∷◌, ◌++◌, map, length, take, refl, sym, ap, ◌∙◌, subst, arith, inl, inr, pos, ◌+ℤ◌, ℤ, append_assoc, length-append}
+use Rattle.std.proofs.Common.{◌≡◌, ℕ, ◌+◌, true, List, [], ◌∷◌, ◌++◌, map, length, take, refl, sym, ap, ◌∙◌, subst, arith, inl, inr, pos, ◌+ℤ◌, ℤ, append_assoc, length-append}
 use Rattle.std.specs.Prelude.{◌⊎◌}
 use Rattle.std.specs.Ordering.{int_eq}
-use Rattle.std.specs.List.{AllByRecursion, filter}
-use Rattle.std.proofs.lemmas.Bool.{cases_Bool, cases_eq, eq-eqb, ne_eqb}
+use Rattle.std.specs.List.{AllByRecursion}
+use Rattle.std.proofs.lemmas.Bool.{cases_Bool}
 use Rattle.std.proofs.lemmas.Int.{ints}
 use Rattle.std.proofs.lemmas.List.{append-nil, take_at}
 use Rattle.corr_ids.specs.declared.day.Day.{Day}
@@ -14,12 +14,13 @@ use Rattle.day_model.specs.declared.entry.Entry.{Entry}
 use Rattle.day_model.specs.declared.pay.Leg.{Leg}
 use Rattle.day_model.specs.declared.pay.Side.{Side}
 use Rattle.day_model.specs.declared.pay.Side.TheVariants.{Credit, Debit}
-use Rattle.day_model.proofs.laws.Fitting.{transfer}
+use Rattle.day_model.proofs.laws.Fitting.{fitting}
 use Rattle.mt950.specs.Entry.{effect_of, signed_amount}
 use Rattle.mt950.specs.Joining.{effects_of}
 use Rattle.statement.specs.Legs.{before_day, legs_on}
 use Rattle.statement.specs.Lines.{Placed, entry_lines, entry_line, lines_from, statement_mark}
 use Rattle.statement.specs.Pages.{balance_after}
+use Rattle.statement.proofs.Distinct.{on-one}
 use Rattle.statement.proofs.Legs.{one-moves, unmoved}
 
 -- ---- an entry has one leg on an account at most
@@ -28,24 +29,10 @@ use Rattle.statement.proofs.Legs.{one-moves, unmoved}
 abbrev pub OneLeg : ℕ → Entry → Type 0
 OneLeg n entry = (legs_on n entry ≡ []) ⊎ ((leg : Leg) × (leg.account.0 ≡ n) × (legs_on n entry ≡ leg ∷ []))
 
-on-two : (n : ℕ) (d c : Leg) → d.account.0 ≢ c.account.0
-    → (filter (λ leg. leg.account.0 == n) (d ∷ c ∷ []) ≡ []) ⊎ ((leg : Leg) × (leg.account.0 ≡ n) × (filter (λ leg. leg.account.0 == n) (d ∷ c ∷ []) ≡ leg ∷ []))
-on-two n d c apart =
-    elim (cases_eq d.account.0 n) [
-      | inl here ↦
-          let other : c.account.0 ≢ n = λ e. apart (here ∙ sym e) in
-          inr (d, here, rw (eq-eqb d.account.0 n here, ne_eqb c.account.0 n other) refl)
-      | inr not_d ↦ elim (cases_eq c.account.0 n) [
-        | inl here ↦ inr (c, here, rw (ne_eqb d.account.0 n not_d, eq-eqb c.account.0 n here) refl)
-        | inr not_c ↦ inl (rw (ne_eqb d.account.0 n not_d, ne_eqb c.account.0 n not_c) refl)
-      ]
-    ]
-
 pub one-leg : (chart : Chart) (n : ℕ) (entry : Entry) → FitsAccounts chart entry.pay → OneLeg n entry
 one-leg chart n entry fits =
-    let t = transfer chart entry.pay.legs fits in
     elim (cases_Bool (is_booked entry.outcome)) [
-      | inl met ↦ rw (met, t.legs_are) (on-two n t.debit t.credit t.distinct)
+      | inl met ↦ rw met (on-one n entry.pay.legs (fitting chart entry.pay.legs fits).apart)
       | inr unmet ↦ inl (rw unmet refl)
     ]
 

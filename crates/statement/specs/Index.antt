@@ -12,6 +12,7 @@ use Rattle.day_model.specs.declared.pay.Leg.{Leg}
 use Rattle.statement.specs.Legs.{HasQuotes, legs_on, quote_text}
 use Rattle.statement.specs.Seen.{SeenBook}
 use Rattle.statement.specs.declared.index.HistoryIndex.{HistoryIndex}
+use Rattle.statement.specs.declared.ledger.Booking.{Booking}
 use Rattle.statement.specs.declared.ledger.Ledger.{Ledger}
 use Rattle.statement.specs.declared.movement.Movement.{Movement}
 
@@ -94,6 +95,19 @@ pushed movement ledger = record ledger { movements = ledger.movements ++ movemen
 -- a ledger without its last movement
 abbrev pub undone : Ledger → Ledger
 undone ledger = record ledger { movements = take (length ledger.movements - 1) ledger.movements }
+
+-- a movement is on one of so many accounts
+abbrev pub IsOnOneOf : ℕ → Booking → Type 0
+IsOnOneOf count booking = (0 < booking.account.0) × (booking.account.0 - 1 < count)
+
+-- ledgers with more movements, each on its account
+abbrev pub pushed_each : List Booking → List Ledger → List Ledger
+pushed_each [] ledgers = ledgers
+pushed_each (booking ∷ bookings) ledgers = changed_at (booking.account.0 - 1) (pushed booking.movement) (pushed_each bookings ledgers)
+
+-- what legs of the entry that follows these move, each on its account
+abbrev pub bookings_of : Chart → List Entry → Entry → List Leg → List Booking
+bookings_of chart before entry legs = map (λ leg. record { account = leg.account; movement = movement_of chart leg.account.0 before entry leg }) legs
 
 -- ---- what a ledger tells
 

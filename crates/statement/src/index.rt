@@ -6,17 +6,17 @@ ghost use Rattle.corr_money.specs.Amounts.{amount_end};
 ghost use Rattle.day_model.specs.Balance.{balance_of, is_booked};
 ghost use Rattle.day_model.specs.Chart.{IsChart, IsListed, HasCode};
 ghost use Rattle.day_model.specs.Legal.{IsLegal};
-ghost use Rattle.statement.specs.Index.{AreLedgersOf, HasAccount, IsIndexOf, TakesNext, grown, ledger_with, movement_of};
+ghost use Rattle.statement.specs.Index.{AreLedgersOf, HasAccount, IsIndexOf, TakesNext, bookings_of, grown, ledger_with, movement_of};
 ghost use Rattle.statement.specs.Legs.{HasQuotes, IsByteQuote, before_day, legs_on};
 ghost use Rattle.statement.specs.Lines.{lines_on, up_to_day};
 ghost use Rattle.statement.specs.Running.{placed_by};
 ghost use Rattle.statement.specs.Seen.{SeenBook};
 
-use crate::ledger::{Ledger, at, day_after, push, undo};
+use crate::ledger::{Booking, Ledger, at, day_after, push_each};
 use crate::movement::Movement;
 use crate::references::quote_text;
 use corr_ids::{Bic, Day};
-use corr_text::Memory;
+use corr_text::{List, Memory};
 use day_model::{Accounts, AcctNo, Entry, History, Leg, Outcome};
 use std::alloc::Global;
 
@@ -84,7 +84,24 @@ impl HistoryIndex {
         })
     }
 
-    /// The legs of a booked entry, which are on two accounts.
+    /// What a booked entry moves: a movement for each of its legs, in their order.
+    fn bookings(&self, e: &Entry) -> Result<List<Booking>, Memory>
+        requires next { (book : SeenBook) × TakesNext self.now e.now book }
+        requires booked { is_booked e.now.outcome ≡ true }
+        ensures value { IfOk result (λ bookings. (book : SeenBook) → TakesNext self.now e.now book → bookings ≡ bookings_of book.chart book.entries e.now e.now.pay.legs) }
+        ensures quotes { OnOk result (HasQuotes e.now) }
+    {
+        let mut bookings = List::new(self.alloc);
+        for leg in e.pay.legs.as_slice() {
+            bookings.push(Booking {
+                account: leg.account,
+                movement: self.movement(e, leg)?,
+            })?;
+        }
+        Ok(bookings)
+    }
+
+    /// The legs of a booked entry, which are on distinct accounts.
     fn book(&mut self, e: &Entry) -> Result<(), Memory>
         requires next { (book : SeenBook) × TakesNext self.old e.now book }
         requires booked { is_booked e.now.outcome ≡ true }
@@ -94,17 +111,8 @@ impl HistoryIndex {
         ensures home { self.new.home ≡ self.old.home }
         ensures count { self.new.entries ≡ self.old.entries }
     {
-        let [debit, credit] = e.pay.legs.as_slice() else {
-            return Ok(());
-        };
-        let debited = self.movement(e, debit)?;
-        let credited = self.movement(e, credit)?;
-        push(&mut self.ledgers, debit.account, debited)?;
-        if let Err(memory) = push(&mut self.ledgers, credit.account, credited) {
-            undo(&mut self.ledgers, debit.account);
-            return Err(memory);
-        }
-        Ok(())
+        let bookings = self.bookings(e)?;
+        push_each(&mut self.ledgers, bookings)
     }
 
     /// Adds the next entry of the history, which stays legal with it. Where memory runs out, the index is as it was.

@@ -1,17 +1,17 @@
 //! What an index keeps of an account.
 
-ghost use Rattle.std.specs.Prelude.{◌≡◌, ◌<◌, ◌≤◌, ◌-◌, ◌+ℤ◌, pos, true, false, [], drop, length, take, IfOk, OnErr, OnOk};
+ghost use Rattle.std.specs.Prelude.{◌≡◌, ◌<◌, ◌≤◌, ◌-◌, ◌+ℤ◌, pos, true, false, [], drop, length, take, All, IfOk, OnErr, OnOk};
 ghost use Rattle.std.specs.List.Sorted.{IsPartitionPoint};
 ghost use Rattle.corr_money.specs.Amounts.{amount_end};
 ghost use Rattle.day_model.specs.Balance.{changed};
 ghost use Rattle.day_model.specs.Chart.{IsSmall, HasCode};
 ghost use Rattle.corr_ids.specs.Day.{InCentury};
-ghost use Rattle.statement.specs.Index.{Rise, balance_at, changed_at, is_of_earlier_day, last_balance, ledger_with, on_day, pushed, undone};
+ghost use Rattle.statement.specs.Index.{IsOnOneOf, Rise, balance_at, changed_at, is_of_earlier_day, last_balance, ledger_with, on_day, pushed, pushed_each, undone};
 
 use crate::movement::{Movement, Movements, balance_after};
 use corr_ids::{Bic, Day};
 use corr_money::Ccy;
-use corr_text::{Memory, Text};
+use corr_text::{List, Memory, Text};
 use day_model::{Account, AcctNo, Leg, Side};
 use std::alloc::Global;
 
@@ -25,6 +25,13 @@ pub struct Ledger {
     pub decimals: u8,
     pub opening: i64,
     pub movements: Movements,
+}
+
+/// A movement, and the account that it is on.
+#[derive(Debug, Drop)]
+pub struct Booking {
+    pub account: AcctNo,
+    pub movement: Movement,
 }
 
 impl Ledger {
@@ -118,7 +125,7 @@ pub fn at(n: AcctNo) -> usize
 }
 
 /// Adds a movement to an account's ledger. Where memory runs out, the ledgers are as they were.
-pub fn push(ledgers: &mut Vec<Ledger>, n: AcctNo, movement: Movement) -> Result<(), Memory>
+fn push(ledgers: &mut Vec<Ledger>, n: AcctNo, movement: Movement) -> Result<(), Memory>
     requires from_one { 0 < n.0 }
     requires there { n.0 - 1 < length ledgers.old.items }
     ensures ok { OnOk result (ledgers.new.items ≡ changed_at (n.0 - 1) (pushed movement) ledgers.old.items) }
@@ -128,10 +135,28 @@ pub fn push(ledgers: &mut Vec<Ledger>, n: AcctNo, movement: Movement) -> Result<
 }
 
 /// Takes the last movement of an account's ledger away.
-pub fn undo(ledgers: &mut Vec<Ledger>, n: AcctNo)
+fn undo(ledgers: &mut Vec<Ledger>, n: AcctNo)
     requires from_one { 0 < n.0 }
     requires there { n.0 - 1 < length ledgers.old.items }
     ensures { ledgers.new.items ≡ changed_at (n.0 - 1) undone ledgers.old.items }
 {
     ledgers[at(n)].movements.undo();
+}
+
+/// Adds each movement to the ledger of its account, those of one account from the last to the first. Where memory runs out, the
+/// ledgers are as they were.
+pub fn push_each(ledgers: &mut Vec<Ledger>, mut bookings: List<Booking>) -> Result<(), Memory>
+    requires { All (IsOnOneOf (length ledgers.old.items)) bookings }
+    ensures ok { OnOk result (ledgers.new.items ≡ pushed_each bookings ledgers.old.items) }
+    ensures err { OnErr result (ledgers.new.items ≡ ledgers.old.items) }
+{
+    let Some(last) = bookings.pop() else {
+        return Ok(());
+    };
+    push(ledgers, last.account, last.movement)?;
+    if let Err(memory) = push_each(ledgers, bookings) {
+        undo(ledgers, last.account);
+        return Err(memory);
+    }
+    Ok(())
 }

@@ -1,5 +1,5 @@
 -- The transfer and the covers that are sent of a pay are read of their fields, and break no rule.
-use Rattle.std.proofs.Common.{◌≡◌, ℕ, List, length, Some, None, Ok, ap, ◌∙◌, sym, arith, subst}
+use Rattle.std.proofs.Common.{◌≡◌, ℕ, List, Some, None, Ok, ap, ◌∙◌, sym, arith, subst}
 use Rattle.std.specs.Prelude.{codes, find}
 use Rattle.corr_money.specs.declared.amount.Amount.{Amount}
 use Rattle.ref_tables.specs.Seen.{Tables}
@@ -16,17 +16,17 @@ use Rattle.mt202cov.specs.declared.message.Mt202Cov.{Mt202Cov}
 use Rattle.corr_text.specs.First.{first_of}
 use Rattle.day_model.specs.Chart.{Chart}
 use Rattle.day_model.specs.declared.pay.Pay.{Pay}
-use Rattle.day_model.proofs.laws.Fitting.{transfer, two_legs}
+use Rattle.day_model.proofs.laws.Fitting.{fitting}
 use Rattle.advices.specs.Cover.{cover_fields}
 use Rattle.advices.specs.Fields.{is_named, ours}
-use Rattle.advices.specs.Legs.{leg_amount, value_of_pay}
+use Rattle.advices.specs.Legs.{debited_amount, leg_amount, value_of_pay}
 use Rattle.advices.specs.Received.{ordered_of, received_of}
 use Rattle.advices.specs.Spelled.{IsWritableAmount}
 use Rattle.advices.specs.Transfer.{transfer_fields}
 use Rattle.advices.specs.Valid.{CameFrom, CoverReads, IsTabled, PassReads, TransferReads, amount_32a}
 use Rattle.advices.proofs.laws.Covers.{cover-fields-pass, cover-parted}
 use Rattle.advices.proofs.laws.Made.{ours-read}
-use Rattle.advices.proofs.laws.Orders.{leg-moved, ordered-spelled, received-cut}
+use Rattle.advices.proofs.laws.Orders.{debits, leg-moved, ordered-spelled, received-cut}
 use Rattle.advices.proofs.laws.Ordered.{ordered-ccy, ordered-tabled}
 use Rattle.advices.proofs.laws.Origin.{given, like-tabled}
 use Rattle.advices.proofs.laws.Passes.{pass-fields-read}
@@ -39,7 +39,7 @@ use Rattle.advices.proofs.laws.Values.{ordered-made, value-made}
 record Legs (t : Tables) (chart : Chart) (pay : Pay) (money : Amount) : Type 0 where
   own : Amount
   sent : Amount
-  of_own : leg_amount chart pay 1 ≡ Some own
+  of_own : debited_amount chart pay ≡ Some own
   of_sent : leg_amount chart pay 2 ≡ Some sent
   value : value_of t (value_field (value_of_pay pay sent)) ≡ Ok (value_of_pay pay sent)
   spelled : IsWritableAmount (ordered_of (received_of pay) own)
@@ -50,27 +50,28 @@ record Legs (t : Tables) (chart : Chart) (pay : Pay) (money : Amount) : Type 0 w
 legs : (t : Tables) (chart : Chart) (pay : Pay) (m : Message) → CameFrom t chart pay m → Legs t chart pay (amount_32a m)
 legs t chart pay m came =
     let g = given t pay m came.received in
-    let two : length pay.legs ≡ 2 = two_legs chart pay.legs (transfer chart pay.legs came.fits) in
-    let first = leg-moved chart pay 1 came.accounts came.fits (omega arith, omega (arith, two)) in
-    let second = leg-moved chart pay 2 came.accounts came.fits (omega arith, omega (arith, two)) in
+    let many = (fitting chart pay.legs came.fits).many in
+    let first = leg-moved chart pay 1 came.accounts came.fits (omega arith, omega (arith, many)) in
+    let second = leg-moved chart pay 2 came.accounts came.fits (omega arith, many) in
+    let debited = debits chart pay first.account came.fits first.on_account first.formed in
     let money = came.money 1 first.account first.on_account in
     let moneys = came.money 2 second.account second.on_account in
-    let like = like-tabled t (amount_32a m) first.amount (first.in_ccy ∙ money.ccy) (first.in_decimals ∙ money.decimals) g.tabled in
+    let like = like-tabled t (amount_32a m) debited.amount (debited.in_ccy ∙ money.ccy) (debited.in_decimals ∙ money.decimals) g.tabled in
     let likes = like-tabled t (amount_32a m) second.amount (second.in_ccy ∙ moneys.ccy) (second.in_decimals ∙ moneys.decimals) g.tabled in
-    let decimals = first.in_decimals ∙ money.decimals ∙ sym (ap (λ (a : Amount). a.decimals) g.same) in
+    let decimals = debited.in_decimals ∙ money.decimals ∙ sym (ap (λ (a : Amount). a.decimals) g.same) in
     let found : find (is_named 32 (codes "A")) (received_of pay).fields ≡ Some g.dated = ap (find (is_named 32 (codes "A"))) g.fields ∙ g.found_32 in
     record {
-      own = first.amount;
+      own = debited.amount;
       sent = second.amount;
-      of_own = first.of_amount;
+      of_own = debited.of_amount;
       of_sent = second.of_amount;
       value = value-made t (value_of_pay pay second.amount) (record { day = came.shape.value; amount = second.spelled }) likes second.above;
-      spelled = ordered-spelled (received_of pay) first.amount first.spelled;
-      tabled = ordered-tabled t (received_of pay) first.amount g.dated g.value found g.says_32 decimals like;
+      spelled = ordered-spelled (received_of pay) debited.amount debited.spelled;
+      tabled = ordered-tabled t (received_of pay) debited.amount g.dated g.value found g.says_32 decimals like;
       ccy = second.in_ccy ∙ moneys.ccy;
       ordered_ccy =
           let same : g.value.amount.ccy ≡ (amount_32a m).ccy = ap (λ (a : Amount). a.ccy) g.same in
-          ordered-ccy t (received_of pay) first.amount g.dated g.value found g.says_32 (first.in_ccy ∙ money.ccy ∙ sym same) ∙ same;
+          ordered-ccy t (received_of pay) debited.amount g.dated g.value found g.says_32 (debited.in_ccy ∙ money.ccy ∙ sym same) ∙ same;
     }
 
 transfer-tests : (t : Tables) (pay : Pay) (m : Mt103) (text : List ℕ) → text ≡ pay.text → Say tests_103 mt103_of t text m

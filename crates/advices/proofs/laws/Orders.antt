@@ -1,5 +1,5 @@
 -- The fields of each order of a pay that fits and has its shape may stand in a text.
-use Rattle.std.proofs.Common.{◌≡◌, ◌≢◌, ℕ, zero, suc, ◌-◌, ◌<◌, ◌≤◌, ◌^◌, Bool, true, false, cond, List, [], ◌∷◌, length, take, drop, Option, Some, None, Result, Ok, Err, refl, ap, arith, nat_lt, nat_le, subst}
+use Rattle.std.proofs.Common.{◌≡◌, ◌≢◌, ℕ, zero, suc, ◌-◌, ◌<◌, ◌≤◌, ◌^◌, Bool, true, false, cond, List, [], ◌∷◌, length, take, drop, Option, Some, None, Result, Ok, Err, refl, arith, nat_lt, nat_le}
 use Rattle.std.specs.Prelude.{codes, find, is_some, option_and_then, option_map, slice_get, unwrap_or, IfSome}
 use Rattle.std.specs.List.{All, list_all}
 use Rattle.std.proofs.lemmas.Bool.Decides.{nat_tests}
@@ -25,20 +25,20 @@ use Rattle.fin_contents.specs.declared.value.Value.{Value}
 use Rattle.fin_contents.proofs.laws.Bytes.{and-three}
 use Rattle.fin_contents.proofs.laws.Steps.{checked}
 use Rattle.day_model.specs.Chart.{Chart, IsChart, IsFormed}
-use Rattle.day_model.specs.Fit.{FitsAccounts}
+use Rattle.day_model.specs.Fit.{FitsAccounts, side_sum}
 use Rattle.day_model.specs.Shape.{HasShape, IsNumbered, IsOrder}
 use Rattle.day_model.specs.declared.account.Account.{Account}
-use Rattle.day_model.specs.declared.pay.Leg.{Leg}
 use Rattle.day_model.specs.declared.pay.Order.{Order}
 use Rattle.day_model.specs.declared.pay.Order.TheVariants.{Transfer, Cover, Pass, Debit, Credit}
 use Rattle.day_model.specs.declared.pay.Pay.{Pay}
+use Rattle.day_model.specs.declared.pay.Side.TheVariants.{Debit}
 use Rattle.day_model.specs.declared.pay.Skip.{Skip}
-use Rattle.day_model.proofs.laws.Fitting.{leg_sound, transfer, Transfer as LegsFit}
+use Rattle.day_model.proofs.laws.Fitting.{fitting, leg_sound, sides_small}
 use Rattle.advices.specs.declared.received.Received.{Received}
 use Rattle.advices.specs.Advice.{credit_fields, debit_fields}
 use Rattle.advices.specs.Cover.{cover_fields}
 use Rattle.advices.specs.Fields.{is_named, ours}
-use Rattle.advices.specs.Legs.{amount_on, leg_account, leg_amount, value_of_pay}
+use Rattle.advices.specs.Legs.{amount_on, debited_amount, leg_account, leg_amount, value_of_pay}
 use Rattle.advices.specs.Messages.{order_fields}
 use Rattle.advices.specs.Pass.{pass_fields}
 use Rattle.advices.specs.Received.{amount_if, amount_in, minor_if, ordered_of, received_of}
@@ -136,19 +136,10 @@ there [] i lt = absurd (omega arith)
 there (x ∷ xs) zero lt = (x, refl)
 there (x ∷ xs) (suc i) lt = there xs i (omega arith)
 
--- both legs move an amount above 0
-of-two : (d c : Leg) → 0 < d.amount.0 → d.amount.0 ≡ c.amount.0 → (i : ℕ) (leg : Leg) → slice_get (d ∷ c ∷ []) i ≡ Some leg → 0 < leg.amount.0
-of-two d c above equal zero leg at = let same : d ≡ leg = cc at in rw (← same) above
-of-two d c above equal (suc zero) leg at = let same : c ≡ leg = cc at in rw (← same, ← equal) above
-of-two d c above equal (suc (suc i)) leg at = absurd (cc at)
-
-leg-above : (chart : Chart) (legs : List Leg) (i : ℕ) (leg : Leg) → LegsFit chart legs → slice_get legs i ≡ Some leg → 0 < leg.amount.0
-leg-above chart legs i leg t at = of-two t.debit t.credit t.above t.equal i leg (subst (λ (ls : List Leg). slice_get ls i ≡ Some leg) t.legs_are at)
-
 pub leg-moved : (chart : Chart) (pay : Pay) (n : ℕ) → IsChart chart → FitsAccounts chart pay → IsNumbered (length pay.legs) n → Moved chart pay n
 leg-moved chart pay n sound fits numbered =
     let (leg, at) = there pay.legs (n - 1) (omega (arith, numbered.0, numbered.1)) in
-    let leg_is = leg_sound chart pay.legs (n - 1) leg (transfer chart pay.legs fits) at in
+    let leg_is = leg_sound chart pay.legs (n - 1) leg (fitting chart pay.legs fits) at in
     let (account, own) = there chart.accounts (leg.account.0 - 1) (omega (arith, leg_is.listed.0, leg_is.listed.1)) in
     let formed = sound.rows.formed (leg.account.0 - 1) account own in
     record {
@@ -160,8 +151,25 @@ leg-moved chart pay n sound fits numbered =
       spelled = record { amount = record { small = leg_is.below; few = formed.decimals }; letters = formed.ccy };
       in_ccy = refl;
       in_decimals = refl;
-      above = leg-above chart pay.legs (n - 1) leg (transfer chart pay.legs fits) at;
+      above = leg_is.above;
     }
+
+-- what is debited, in the currency of the first leg
+pub record Debited (chart : Chart) (pay : Pay) (account : Account) : Type 0 where
+  pub amount : Amount
+  pub of_amount : debited_amount chart pay ≡ Some amount
+  pub spelled : IsWritableAmount amount
+  pub in_ccy : amount.ccy ≡ account.ccy
+  pub in_decimals : amount.decimals ≡ account.decimals
+
+pub debits : (chart : Chart) (pay : Pay) (account : Account) → FitsAccounts chart pay → leg_account chart pay 1 ≡ Some account → IsFormed account → Debited chart pay account
+debits chart pay account fits on formed = record {
+  amount = record { ccy = account.ccy; minor = record { 0 = side_sum Debit pay.legs }; decimals = account.decimals };
+  of_amount = rw on refl;
+  spelled = record { amount = record { small = sides_small chart pay.legs Debit (fitting chart pay.legs fits); few = formed.decimals }; letters = formed.ccy };
+  in_ccy = refl;
+  in_decimals = refl;
+}
 
 -- ---- each order
 
@@ -197,17 +205,15 @@ module _ (chart : Chart) (pay : Pay) (place k : ℕ) (sound : IsChart chart) (fi
   on-day : (amount : Amount) → IsWritableAmount amount → IsMoved (value_of_pay pay amount)
   on-day amount is = record { day = shape.value; amount = is }
 
-  two-legs : (n : ℕ) → 1 ≤ n → n ≤ 2 → Moved chart pay n
-  two-legs n from to =
-      let t = transfer chart pay.legs fits in
-      let two : length pay.legs ≡ 2 = ap length t.legs_are in
-      leg-moved chart pay n sound fits (from, rw two to)
+  numbered : (n : ℕ) → 1 ≤ n → n ≤ 2 → Moved chart pay n
+  numbered n from to = leg-moved chart pay n sound fits (from, omega (arith, to, (fitting chart pay.legs fits).many))
 
   pub order-writable : (order : Order) → IsOrder (length pay.legs) order → AreWritable (order_fields chart pay place k order)
   order-writable (Transfer to skip via) o =
       let r = received_of pay in
-      let one = two-legs 1 (omega arith) (omega arith) in
-      let two = two-legs 2 (omega arith) (omega arith) in
+      let first = numbered 1 (omega arith) (omega arith) in
+      let one = debits chart pay first.account fits first.on_account first.formed in
+      let two = numbered 2 (omega arith) (omega arith) in
       let v = value_of_pay pay two.amount in
       let ordered = ordered_of r one.amount in
       rw (one.of_amount, two.of_amount) (record {
@@ -217,8 +223,9 @@ module _ (chart : Chart) (pay : Pay) (place k : ℕ) (sound : IsChart chart) (fi
       })
   order-writable (Cover to end skip) o =
       let r = received_of pay in
-      let one = two-legs 1 (omega arith) (omega arith) in
-      let two = two-legs 2 (omega arith) (omega arith) in
+      let first = numbered 1 (omega arith) (omega arith) in
+      let one = debits chart pay first.account fits first.on_account first.formed in
+      let two = numbered 2 (omega arith) (omega arith) in
       let v = value_of_pay pay two.amount in
       let ordered = ordered_of r one.amount in
       rw (one.of_amount, two.of_amount) (record {
@@ -228,7 +235,7 @@ module _ (chart : Chart) (pay : Pay) (place k : ℕ) (sound : IsChart chart) (fi
       })
   order-writable (Pass to skip) o =
       let r = received_of pay in
-      let two = two-legs 2 (omega arith) (omega arith) in
+      let two = numbered 2 (omega arith) (omega arith) in
       let v = value_of_pay pay two.amount in
       rw (two.of_amount) (record {
         some = pass-some r (ours place k) v skip;

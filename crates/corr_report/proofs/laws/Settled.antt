@@ -1,26 +1,28 @@
 -- Where each account bears all debits of some pays, and all their credits, each pay is booked, in whatever order they come.
-use Rattle.std.proofs.Common.{◌≡◌, ℕ, ◌+◌, ◌≤◌, Bool, true, false, List, [], ◌∷◌, ◌++◌, map, Some, ℤ, pos, ◌+ℤ◌, ◌-ℤ◌, ◌≤ℤ◌, refl, sym, ap, ◌∙◌, subst, arith, cond, append_assoc}
-use Rattle.std.specs.Prelude.{int_le, is_some, sum_by, unwrap_or}
+use Rattle.std.proofs.Common.{◌≡◌, ℕ, zero, suc, ◌+◌, ◌≤◌, true, false, List, [], ◌∷◌, ◌++◌, map, Some, None, ℤ, pos, ◌+ℤ◌, ◌-ℤ◌, ◌≤ℤ◌, refl, sym, ap, ◌∙◌, subst, arith, append_assoc}
+use Rattle.std.specs.Prelude.{int_le, is_some, slice_get, sum_by, unwrap_or}
 use Rattle.std.specs.List.{AllByRecursion}
-use Rattle.std.proofs.lemmas.Bool.{and_from, cond-false, eq-eqb, false≢true}
+use Rattle.std.proofs.lemmas.Bool.{and_from, cond-false, eq-eqb}
 use Rattle.std.proofs.lemmas.Int.{ints}
 use Rattle.std.proofs.lemmas.List.{append-nil}
 use Rattle.std.proofs.lemmas.List.Sums.{sum_by-append, sum_by-cons}
+use Rattle.std.proofs.lemmas.Option.{none-some, same_Some}
 use Rattle.corr_ids.specs.declared.day.Day.{Day}
 use Rattle.day_model.specs.declared.account.Account.{Account}
 use Rattle.day_model.specs.declared.entry.Entry.{Entry}
 use Rattle.day_model.specs.declared.entry.Outcome.{Outcome}
-use Rattle.day_model.specs.declared.entry.Outcome.TheVariants.{Booked, Unfunded}
+use Rattle.day_model.specs.declared.entry.Outcome.TheVariants.{Booked}
+use Rattle.day_model.specs.declared.pay.Leg.{Leg}
 use Rattle.day_model.specs.declared.pay.Pay.{Pay}
 use Rattle.day_model.specs.declared.pay.Side.{Side}
 use Rattle.day_model.specs.declared.pay.Side.TheVariants.{Debit, Credit}
-use Rattle.day_model.specs.Balance.{balance_of, changed, credits_of, debits_of, is_within, leg_tests, moved_by, opening_of, outcome_of}
-use Rattle.day_model.specs.Chart.{Chart, account_at}
-use Rattle.day_model.specs.Fit.{FitsAccounts}
+use Rattle.day_model.specs.Balance.{balance_of, changed, credits_of, debits_of, is_within, leg_tests, moved, moved_by, opening_of, outcome_of}
+use Rattle.day_model.specs.Chart.{Chart, IsListed, account_at}
+use Rattle.day_model.specs.Fit.{FitsAccounts, is_side}
 use Rattle.day_model.specs.Next.{entered_at, entry_of, fold_of, next_history}
-use Rattle.day_model.proofs.laws.Balances.{credits_moved, debits_moved, listed_account}
-use Rattle.day_model.proofs.laws.Fitting.{Transfer, transfer}
-use Rattle.corr_text.specs.First.{first_of, unless}
+use Rattle.day_model.proofs.laws.Balances.{listed_account}
+use Rattle.day_model.proofs.laws.Fitting.{LegsFit, fitting, leg_sound}
+use Rattle.corr_text.specs.First.{first_of}
 
 -- a pay as a booked entry of a day
 abbrev pub booked_on : Day → Pay → Entry
@@ -56,40 +58,55 @@ held account balance done_c done_d all_c all_d is few less floor ceil =
 part : (f : Entry → ℕ) (done rest : List Entry) (e : Entry) → sum_by f done + f e ≤ sum_by f (done ++ e ∷ rest)
 part f done rest e = omega (arith, sum_by-append f done (e ∷ rest), sum_by-cons f e rest)
 
-both_booked : (a b : Bool) (u v : Outcome) → a ≡ true → b ≡ true → unwrap_or (first_of (unless a u ∷ unless b v ∷ [])) Booked ≡ Booked
-both_booked true true u v p q = refl
-both_booked true false u v p q = absurd (false≢true q)
-both_booked false b u v p q = absurd (false≢true p)
+side_itself : (side : Side) → is_side side side ≡ true
+side_itself Debit = refl
+side_itself Credit = refl
 
--- both legs pass
-pay_passes : (chart : Chart) (done rest : List Entry) (day : Day) (pay : Pay) (t : Transfer chart pay.legs) → AreBorne chart (done ++ booked_on day pay ∷ rest) → outcome_of chart done pay ≡ Booked
-pay_passes chart done rest day pay t borne =
-    let d = t.debit.account.0 in
-    let c = t.credit.account.0 in
-    let all = done ++ booked_on day pay ∷ rest in
-    let debtor = listed_account chart d t.debit_listed in
-    let creditor = listed_account chart c t.credit_listed in
-    let d_bears = borne d debtor.0 t.debit_listed.0 debtor.1 in
-    let c_bears = borne c creditor.0 t.credit_listed.0 creditor.1 in
-    let d_moves : moved_by Debit d (booked_on day pay) ≡ t.debit.amount.0 = debits_moved chart pay.legs d t ∙ ap (λ b. cond b t.debit.amount.0 0) (eq-eqb d d refl) in
-    let c_moves : moved_by Credit c (booked_on day pay) ≡ t.credit.amount.0 = credits_moved chart pay.legs c t ∙ ap (λ b. cond b t.credit.amount.0 0) (eq-eqb c c refl) in
-    let d_opening : opening_of chart d ≡ debtor.0.opening = rw debtor.1 refl in
-    let c_opening : opening_of chart c ≡ creditor.0.opening = rw creditor.1 refl in
-    let d_balance : balance_of chart done d -ℤ pos t.debit.amount.0 ≡ (debtor.0.opening +ℤ pos (credits_of done d)) -ℤ pos (debits_of done d + t.debit.amount.0) = omega (arith, ints, d_opening) in
-    let c_balance : balance_of chart done c +ℤ pos t.credit.amount.0 ≡ (creditor.0.opening +ℤ pos (credits_of done c + t.credit.amount.0)) -ℤ pos (debits_of done c) = omega (arith, ints, c_opening) in
-    let d_credits : credits_of done d ≤ credits_of all d = omega (arith, part (moved_by Credit d) done rest (booked_on day pay)) in
-    let d_debits : debits_of done d + t.debit.amount.0 ≤ debits_of all d = omega (arith, part (moved_by Debit d) done rest (booked_on day pay), d_moves) in
-    let c_credits : credits_of done c + t.credit.amount.0 ≤ credits_of all c = omega (arith, part (moved_by Credit c) done rest (booked_on day pay), c_moves) in
-    let c_debits : debits_of done c ≤ debits_of all c = omega (arith, part (moved_by Debit c) done rest (booked_on day pay)) in
-    let first : is_within (account_at chart d) (balance_of chart done d -ℤ pos t.debit.amount.0) ≡ true =
-    ap (λ o. is_within o (balance_of chart done d -ℤ pos t.debit.amount.0)) debtor.1 ∙ held debtor.0 _ _ _ _ _ d_balance d_credits d_debits d_bears.floor d_bears.ceil in
-    let second : is_within (account_at chart c) (balance_of chart done c +ℤ pos t.credit.amount.0) ≡ true =
-    ap (λ o. is_within o (balance_of chart done c +ℤ pos t.credit.amount.0)) creditor.1 ∙ held creditor.0 _ _ _ _ _ c_balance c_credits c_debits c_bears.floor c_bears.ceil in
-    ap (λ legs. unwrap_or (first_of (leg_tests chart done 1 legs)) Booked) t.legs_are
-    ∙ both_booked (is_within (account_at chart d) (changed t.debit.side t.debit.amount.0 (balance_of chart done d))) (is_within (account_at chart c) (changed t.credit.side t.credit.amount.0 (balance_of chart done c)))
-    (Unfunded 1 (balance_of chart done d)) (Unfunded 2 (balance_of chart done c))
-    (subst (λ (s : Side). is_within (account_at chart d) (changed s t.debit.amount.0 (balance_of chart done d)) ≡ true) (sym t.debit_side) first)
-    (subst (λ (s : Side). is_within (account_at chart c) (changed s t.credit.amount.0 (balance_of chart done c)) ≡ true) (sym t.credit_side) second)
+-- a leg moves its amount on its side of its account
+own : (leg : Leg) → moved leg.side leg.account.0 leg ≡ leg.amount.0
+own leg = rw (side_itself leg.side, eq-eqb leg.account.0 leg.account.0 refl) refl
+
+-- and the legs of a pay together no less
+own_part : (legs : List Leg) (i : ℕ) (leg : Leg) → slice_get legs i ≡ Some leg → leg.amount.0 ≤ sum_by (moved leg.side leg.account.0) legs
+own_part [] i leg at = absurd (none-some leg at)
+own_part (x ∷ legs) zero leg at =
+    subst (λ (y : Leg). y.amount.0 ≤ sum_by (moved y.side y.account.0) (x ∷ legs)) (same_Some x leg at) (omega (arith, own x, sum_by-cons (moved x.side x.account.0) x legs))
+own_part (x ∷ legs) (suc i) leg at = omega (arith, own_part legs i leg at, sum_by-cons (moved leg.side leg.account.0) x legs)
+
+module _ (chart : Chart) (done rest : List Entry) (day : Day) (pay : Pay) (borne : AreBorne chart (done ++ booked_on day pay ∷ rest)) where
+  abbrev all : List Entry
+  all = done ++ booked_on day pay ∷ rest
+
+  -- a leg leaves its account within its limits
+  leg_passes : (side : Side) (n amount : ℕ) → IsListed chart n → amount ≤ sum_by (moved side n) pay.legs → is_within (account_at chart n) (changed side amount (balance_of chart done n)) ≡ true
+  leg_passes Debit n amount listed moves =
+      let (account, at) = listed_account chart n listed in
+      let bears = borne n account listed.0 at in
+      let opening : opening_of chart n ≡ account.opening = rw at refl in
+      let balance : balance_of chart done n -ℤ pos amount ≡ (account.opening +ℤ pos (credits_of done n)) -ℤ pos (debits_of done n + amount) = omega (arith, ints, opening) in
+      let credits : credits_of done n ≤ credits_of all n = omega (arith, part (moved_by Credit n) done rest (booked_on day pay)) in
+      let debits : debits_of done n + amount ≤ debits_of all n = omega (arith, part (moved_by Debit n) done rest (booked_on day pay), moves) in
+      ap (λ o. is_within o (balance_of chart done n -ℤ pos amount)) at ∙ held account _ _ _ _ _ balance credits debits bears.floor bears.ceil
+  leg_passes Credit n amount listed moves =
+      let (account, at) = listed_account chart n listed in
+      let bears = borne n account listed.0 at in
+      let opening : opening_of chart n ≡ account.opening = rw at refl in
+      let balance : balance_of chart done n +ℤ pos amount ≡ (account.opening +ℤ pos (credits_of done n + amount)) -ℤ pos (debits_of done n) = omega (arith, ints, opening) in
+      let credits : credits_of done n + amount ≤ credits_of all n = omega (arith, part (moved_by Credit n) done rest (booked_on day pay), moves) in
+      let debits : debits_of done n ≤ debits_of all n = omega (arith, part (moved_by Debit n) done rest (booked_on day pay)) in
+      ap (λ o. is_within o (balance_of chart done n +ℤ pos amount)) at ∙ held account _ _ _ _ _ balance credits debits bears.floor bears.ceil
+
+  -- legs of the pay that pass
+  all_pass : (k : ℕ) (legs : List Leg) → ((i : ℕ) (leg : Leg) → slice_get legs i ≡ Some leg → IsListed chart leg.account.0 × (leg.amount.0 ≤ sum_by (moved leg.side leg.account.0) pay.legs))
+      → first_of (leg_tests chart done k legs) ≡ None
+  all_pass k [] each = refl
+  all_pass k (leg ∷ legs) each =
+      let here = each 0 leg refl in
+      rw (leg_passes leg.side leg.account.0 leg.amount.0 here.0 here.1) (all_pass (k + 1) legs (λ i. each (suc i)))
+
+  -- each leg passes
+  pay_passes : LegsFit chart pay.legs → outcome_of chart done pay ≡ Booked
+  pay_passes fit = ap (λ o. unwrap_or o Booked) (all_pass 1 pay.legs (λ i leg at. ((leg_sound chart pay.legs i leg fit at).listed, own_part pay.legs i leg at)))
 
 -- a pay with a new reference that is booked
 entered : (chart : Chart) (done : List Entry) (pay : Pay) (day : Day) → IsFresh done pay → outcome_of chart done pay ≡ Booked → next_history chart done pay day ≡ done ++ booked_on day pay ∷ []
@@ -101,8 +118,7 @@ settled_from : (chart : Chart) (done : List Entry) (day : Day) (pays : List Pay)
     → fold_of chart done pays day ≡ done ++ map (booked_on day) pays
 settled_from chart done day [] fit fresh borne = sym (append-nil done)
 settled_from chart done day (pay ∷ pays) fit fresh borne =
-    let t = transfer chart pay.legs fit.0 in
-    let next = entered chart done pay day fresh.0 (pay_passes chart done (map (booked_on day) pays) day pay t borne) in
+    let next = entered chart done pay day fresh.0 (pay_passes chart done (map (booked_on day) pays) day pay borne (fitting chart pay.legs fit.0)) in
     let same = append_assoc done (booked_on day pay ∷ []) (map (booked_on day) pays) in
     ap (λ entries. fold_of chart entries pays day) next
     ∙ (settled_from chart (done ++ booked_on day pay ∷ []) day pays fit.1 fresh.1 (subst (AreBorne chart) (sym same) borne) ∙ same)

@@ -10,7 +10,7 @@ use Rattle.pay_plan.specs.Asked.{Asked, target_in}
 use Rattle.pay_plan.specs.Plan.{pay_of}
 use Rattle.pay_plan.specs.Way.{way_of}
 use Rattle.pay_plan.proofs.Planned.{amount-asked, asked-of-parts, on-pay}
-use Rattle.pay_plan.proofs.Fitting.{legs-fit}
+use Rattle.pay_plan.proofs.Fitting.{legs-are, legs-fit}
 use Rattle.pay_plan.proofs.Readable.{asked-amount}
 use Rattle.pay_plan.proofs.Shaped.{AskedForm, asked-form, shaped}
 use Rattle.pay_plan.proofs.planning.pay_on.Goals as goal
@@ -35,7 +35,7 @@ returns-clause-fit c =
     let Q : Asked → Type 0 = λ q. IsPayable q.amount in
     let amount : IsPayable asked.amount = subst Q (sym asked_is) (asked-amount c.requires.message.0 home ask c.requires.message.1) in
     on-pay c.pay_of.result (pay_of c.args.env.now c.args.text.now asked routed chart) (λ p. FitsAccounts chart p) c.pay_of.ensures.value c.pay_of.ensures.sound c.pay_of.ensures.owner
-    (λ sound owner. legs-fit chart (way_of asked.mt asked.target routed.method) asked routed c.requires.accounts.fit amount)
+    (λ sound owner. legs-fit chart (way_of asked.mt asked.target routed.method) asked routed c.requires.accounts.distinct c.requires.accounts.fit amount)
 
 pub returns-clause-form : goal.returns-clause-form
 returns-clause-form c = λ writable.
@@ -51,6 +51,6 @@ returns-clause-form c = λ writable.
     let amount : IsPayable asked.amount = subst Q (sym asked_is) (asked-amount t home ask c.requires.message.1) in
     let B : Amount → Type 0 = λ a. AreBetween chart a routed in
     let between : B asked.amount = subst B (amount-asked home ask ∙ ap (λ (q : Asked). q.amount) (sym asked_is)) c.requires.accounts in
-    let fits = legs-fit chart (way_of asked.mt asked.target routed.method) asked routed c.requires.accounts.fit amount in
+    let are = legs-are (way_of asked.mt asked.target routed.method) asked routed c.requires.accounts.distinct amount in
     on-pay c.pay_of.result (pay_of c.args.env.now c.args.text.now asked routed chart) HasShape c.pay_of.ensures.value c.pay_of.ensures.sound c.pay_of.ensures.owner
-    (λ sound owner. shaped t c.args.env.now c.args.text.now asked routed chart c.requires.received writable form between c.requires.via fits sound owner)
+    (λ sound owner. shaped t c.args.env.now c.args.text.now asked routed chart c.requires.received writable form between c.requires.via are sound owner)

@@ -1,7 +1,7 @@
 use Rattle.std.proofs.Common.{sym, subst}
 use Rattle.std.proofs.lemmas.Result.{IfOk-weaker}
 use Rattle.reconcile.specs.Comparison.{AddsUp, StandOnce, TakesFirst}
-use Rattle.reconcile.proofs.Promises.{adds-up, stand-once, takes-first}
+use Rattle.reconcile.proofs.laws.Promises.{adds-up, stand-once, takes-first}
 use Rattle.reconcile.proofs.comparing.compare.Goals as goal
 
 pub compare_with-requires : goal.compare_with-requires
