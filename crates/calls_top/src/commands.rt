@@ -73,6 +73,7 @@ fn tables(alloc: Global, failing: Failing, files: Files) -> Result<Tables<MemSou
         countries: source(alloc, failing, 2, countries)?,
         accounts: source(alloc, failing, 3, accounts)?,
         ssi: source(alloc, failing, 4, ssi)?,
+        charges: source(alloc, WHOLE, 7, b"")?,
     })
 }
 

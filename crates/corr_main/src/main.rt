@@ -155,6 +155,7 @@ fn tables<'a>(
         countries: source(rt, folder, b"countries.csv")?,
         accounts: source(rt, folder, b"accounts.csv")?,
         ssi: source(rt, folder, b"ssi.csv")?,
+        charges: source(rt, folder, b"charges.csv")?,
     })
 }
 

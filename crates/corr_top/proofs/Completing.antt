@@ -28,6 +28,7 @@ use Rattle.jrn_file.specs.declared.fault.MakeFault.{MakeFault}
 use Rattle.jrn_file.specs.declared.fault.MakeFault.TheVariants as making
 use Rattle.jrn_file.specs.declared.fault.OpenFault.{OpenFault}
 use Rattle.jrn_file.specs.declared.fault.OpenFault.TheVariants as opening
+use Rattle.ref_tables.specs.Charges.{charges_fault}
 use Rattle.ref_tables.specs.Accounts.{account_of, accounts_fault}
 use Rattle.ref_tables.specs.Refusals.{RowTest, first_bad_row, first_fault, named}
 use Rattle.ref_tables.specs.Rows.{Cells, rows_of, up_to}
@@ -97,6 +98,7 @@ small_table names.Ccys i none = small _ _ _ i.ccys none
 small_table names.Countries i none = small _ _ _ i.countries none
 small_table names.Accounts i none = small _ _ _ i.accounts none
 small_table names.Ssi i none = small _ _ _ i.ssi none
+small_table names.Charges i none = small _ _ _ i.charges none
 
 -- ---- what was read up to a step is what was told
 
@@ -139,6 +141,7 @@ IsAfter done (Step.table names.Ccys) = Unit {0}
 IsAfter done (Step.table names.Countries) = Unit {0}
 IsAfter done (Step.table names.Accounts) = HasThree done
 IsAfter done (Step.table names.Ssi) = HasThree done
+IsAfter done (Step.table names.Charges) = HasThree done
 IsAfter done Step.sums = HasThree done × Has done (Step.table names.Accounts)
 IsAfter done Step.make = Unit {0}
 IsAfter done Step.open_journal = Unit {0}
@@ -167,6 +170,9 @@ same_fault j i done names.Accounts home after all own =
     ∙ ap (λ (f : List ℕ). named names.Accounts (accounts_fault i.home.head (tables_in i) f)) own
 same_fault j i done names.Ssi home after all own =
     ap (λ (t : Tables). named names.Ssi (ssi_fault t j.ssi)) (same_tables j i done after all) ∙ ap (λ (f : List ℕ). named names.Ssi (ssi_fault (tables_in i) f)) own
+same_fault j i done names.Charges home after all own =
+    ap (λ (t : Tables). named names.Charges (charges_fault t j.charges)) (same_tables j i done after all)
+    ∙ ap (λ (f : List ℕ). named names.Charges (charges_fault (tables_in i) f)) own
 
 same_accounts : (j i : Inputs) (done : List Step) → HasThree done → Has done (Step.table names.Accounts) → Walks (Agrees j i) done → accounts_in j ≡ accounts_in i
 same_accounts j i done three has all =
@@ -205,6 +211,7 @@ sums_memory j i accounts.Memory same balanced stops = refl
 
 making_memory : {D : Type 0} (d : disks.Ghosts D) (old new : D) (chart : Chart) (stop : MakeFault) → IsSure d old new → IsMakeable d old → StopsMaking d old new chart stop → status_of_making stop ≡ status.Memory
 making_memory d old new chart (making.Exists first) sure free stops = absurd (free sure.told first (stops.cause.1 sure.told))
+making_memory d old new chart (making.Full end need) sure free stops = absurd stops.cause
 making_memory d old new chart (making.DiskFault b a) sure free stops = absurd (sure.sound (tells_rose (d.faults old) b a (d.faults new) stops.cause))
 making_memory d old new chart making.Memory sure free stops = refl
 
@@ -216,6 +223,7 @@ opening_memory : {D : Type 0} (d : disks.Ghosts D) (old new : D) (chart : Chart)
     → status_of_opening stop ≡ status.Memory
 opening_memory d old new chart history opening.NotAJournal sure holds stops =
     absurd (other_finding (opened_of (d.reads old)) chart history no_book (holds.journal, holds.stands sure.told) (stops.told sure.told) (λ same. cc))
+opening_memory d old new chart history (opening.Version found) sure holds stops = absurd stops.cause
 opening_memory d old new chart history (opening.Damaged at) sure holds stops =
     absurd (other_finding (opened_of (d.reads old)) chart history (faulty at) (holds.journal, holds.stands sure.told) (stops.told sure.told) (λ same. cc))
 opening_memory d old new chart history (opening.DiskFault b a) sure holds stops = absurd (sure.sound (tells_rose (d.faults old) b a (d.faults new) stops.cause))

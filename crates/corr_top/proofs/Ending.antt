@@ -43,11 +43,13 @@ sums_line i accounts.Memory stops = tt
 
 making_line : (stop : MakeFault) → HasLine (status_of_making stop)
 making_line (making.Exists first) = tt
+making_line (making.Full end need) = tt
 making_line (making.DiskFault before after) = tt
 making_line making.Memory = tt
 
 opening_line : (stop : OpenFault) → HasLine (status_of_opening stop)
 opening_line opening.NotAJournal = tt
+opening_line (opening.Version found) = tt
 opening_line (opening.Damaged at) = tt
 opening_line (opening.DiskFault before after) = tt
 opening_line opening.Memory = tt

@@ -75,7 +75,7 @@ module _ {S K D : Type 0} (source : sources.Ghosts S) (d : disks.Ghosts D) (home
     inputs = stops.inputs;
     are_for = stops.home_is;
     gives = inl (halts_front (Passes source d old new stops.inputs) (StopsAt source d old new stops.inputs s) (StepIsUntouched d old new) account_steps (Step.make ∷ []) stops.halted (ap (λ (r : Room S K D). r.disk) rest, tt));
-    rest = (stops.ssi, ap (λ (r : Room S K D). r.messages) rest, ap (λ (r : Room S K D). r.received) rest, ap (λ (r : Room S K D). r.disk2) rest);
+    rest = (stops.ssi, stops.charges, ap (λ (r : Room S K D). r.messages) rest, ap (λ (r : Room S K D). r.received) rest, ap (λ (r : Room S K D). r.disk2) rest);
     report = ap (λ (r : Room S K D). r.report) rest;
     out = ap (λ (r : Room S K D). r.out) rest;
   }
@@ -101,7 +101,7 @@ module _ {S K D : Type 0} (source : sources.Ghosts S) (d : disks.Ghosts D) (home
           out,
           tt,
         );
-        rest = (has.ssi, ap (λ (r : Room S K D). r.messages) rest, ap (λ (r : Room S K D). r.received) rest, ap (λ (r : Room S K D). r.disk2) rest);
+        rest = (has.ssi, has.charges, ap (λ (r : Room S K D). r.messages) rest, ap (λ (r : Room S K D). r.received) rest, ap (λ (r : Room S K D). r.disk2) rest);
         report = ap (λ (r : Room S K D). r.report) rest;
         out = ap (λ (r : Room S K D). r.out) rest;
       }
@@ -112,7 +112,7 @@ module _ {S K D : Type 0} (source : sources.Ghosts S) (d : disks.Ghosts D) (home
         inputs = has.inputs;
         are_for = has.home_is;
         gives = inl (inr (p.0, inr (p.1.0, inr (p.1.1.0, inr (p.1.1.1.0, inr (p.1.1.1.1.0, inl ((fault, refl, subst (λ (c : Chart). StopsMaking d old.disk new.disk c fault) has.chart_is outcome), tt)))))));
-        rest = (has.ssi, ap (λ (r : Room S K D). r.messages) rest, ap (λ (r : Room S K D). r.received) rest, ap (λ (r : Room S K D). r.disk2) rest);
+        rest = (has.ssi, has.charges, ap (λ (r : Room S K D). r.messages) rest, ap (λ (r : Room S K D). r.received) rest, ap (λ (r : Room S K D). r.disk2) rest);
         report = ap (λ (r : Room S K D). r.report) rest;
         out = ap (λ (r : Room S K D). r.out) rest;
       }

@@ -26,16 +26,17 @@ use Rattle.corr_top.specs.Stops.{status_of_opening, status_of_table}
 use Rattle.corr_top.specs.Tables.{HasKnown, StopsKnown, known_steps}
 use Rattle.corr_top.proofs.Walking.{halts_front}
 
--- what it leaves as it is, beside the tables of accounts and instructions
+-- what it leaves as it is, beside the tables of accounts, instructions and charges
 pub record IsRest {S K D : Type 0} (old new : Room S K D) : Type 0 where
   pub messages : new.messages ≡ old.messages
   pub disk2 : new.disk2 ≡ old.disk2
   pub report : new.report ≡ old.report
   pub out : new.out ≡ old.out
 
-module _ {S K D : Type 0} (source : sources.Ghosts S) (d : disks.Ghosts D) (old new : Room S K D) (rest : IsRest old new) (accounts : new.tables.accounts ≡ old.tables.accounts) (ssi : new.tables.ssi ≡ old.tables.ssi) where
+module _ {S K D : Type 0} (source : sources.Ghosts S) (d : disks.Ghosts D) (old new : Room S K D) (rest : IsRest old new) (accounts : new.tables.accounts ≡ old.tables.accounts) (ssi : new.tables.ssi ≡ old.tables.ssi)
+    (charges : new.tables.charges ≡ old.tables.charges) where
   gives_reconcile : (r : Result Texts Status) (i : Inputs) → CommandGives source d (Plain Reconcile) old new r i → HasTexts source d (Plain Reconcile) old new r
-  gives_reconcile r i gives = record { inputs = i; are_for = tt; gives = gives; rest = (accounts, ssi, rest.messages, rest.disk2); report = rest.report; out = rest.out }
+  gives_reconcile r i gives = record { inputs = i; are_for = tt; gives = gives; rest = (accounts, ssi, charges, rest.messages, rest.disk2); report = rest.report; out = rest.out }
 
   -- a table stopped it
   pub known_stop : (stop : TableStop) → StopsKnown source old.tables new.tables stop → new.disk ≡ old.disk → new.received ≡ old.received → HasTexts source d (Plain Reconcile) old new (Err (status_of_table stop))

@@ -60,6 +60,7 @@ use Rattle.corr_top.proofs.Walking.{halts_front}
 -- what a run leaves as it is
 pub record IsRest {S K D : Type 0} (old new : Room S K D) : Type 0 where
   pub accounts : new.tables.accounts ≡ old.tables.accounts
+  pub charges : new.tables.charges ≡ old.tables.charges
   pub received : new.received ≡ old.received
   pub disk2 : new.disk2 ≡ old.disk2
   pub report : new.report ≡ old.report
@@ -82,7 +83,7 @@ is_back chart history day last journal back =
 
 module _ {S K D : Type 0} (source : sources.Ghosts S) (d : disks.Ghosts D) (day : Day) (workers : ℕ) (old new : Room S K D) (rest : IsRest old new) where
   gives_run : (r : Result Texts Status) (i : Inputs) → i.day ≡ day → i.workers ≡ workers → CommandGives source d (Run day workers) old new r i → HasTexts source d (Run day workers) old new r
-  gives_run r i is number gives = record { inputs = i; are_for = (is, number); gives = gives; rest = (rest.accounts, rest.received, rest.disk2); report = rest.report; out = rest.out }
+  gives_run r i is number gives = record { inputs = i; are_for = (is, number); gives = gives; rest = (rest.accounts, rest.charges, rest.received, rest.disk2); report = rest.report; out = rest.out }
 
   -- a table stopped it
   pub tables_stop : (stop : TableStop) → StopsDirectory source old.tables new.tables stop → new.messages ≡ old.messages → new.disk ≡ old.disk → IsUnwritten d old.disk new.disk

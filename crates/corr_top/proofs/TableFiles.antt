@@ -87,6 +87,7 @@ no_inputs = record {
   countries = [];
   accounts = [];
   ssi = [];
+  charges = [];
   messages = [];
   cut = [];
   chart = record { home = record { head = []; branch = [] }; accounts = [] };
@@ -103,6 +104,7 @@ module _ {S : Type 0} (source : sources.Ghosts S) (old new : Files S) where
       halted = halts_front (PassesTables source old new q.at.inputs) (StopsAtTables source old new q.at.inputs (status_of_table stop)) (AreUntouched source old new) known_steps (Step.table names.Ssi ∷ []) q.at.halted (q.ssi, tt);
     };
     accounts = q.accounts;
+    charges = q.charges;
   }
 
   pub accounts_after : (home : Bic) (stop : TableStop) → StopsKnown source old new stop → StopsAccounts source old new home (status_of_table stop)
@@ -113,6 +115,7 @@ module _ {S : Type 0} (source : sources.Ghosts S) (old new : Files S) where
         home_is = refl;
         halted = halts_front (PassesTables source old new i) (StopsAtTables source old new i (status_of_table stop)) (AreUntouched source old new) known_steps (Step.table names.Accounts ∷ Step.sums ∷ []) q.at.halted (q.accounts, (tt, tt));
         ssi = q.ssi;
+        charges = q.charges;
       }
 
   -- memory ran out after the accounts were read
@@ -124,4 +127,5 @@ module _ {S : Type 0} (source : sources.Ghosts S) (old new : Files S) where
         home_is = has.home_is;
         halted = inr (p.0, inr (p.1.0, inr (p.1.1.0, inr (p.1.1.1.0, inl ((accounts.Memory, refl, tt), tt)))));
         ssi = has.ssi;
+        charges = has.charges;
       }

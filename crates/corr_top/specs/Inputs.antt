@@ -30,6 +30,7 @@ pub record Inputs : Type 0 where
   pub countries : List ℕ
   pub accounts : List ℕ
   pub ssi : List ℕ
+  pub charges : List ℕ
   pub messages : List ℕ
   pub cut : List (List ℕ)
   pub chart : Chart

@@ -17,6 +17,7 @@ use Rattle.ref_tables.specs.declared.fault.TableName.{TableName}
 use Rattle.ref_tables.specs.declared.fault.TableName.TheVariants as names
 use Rattle.ref_tables.specs.declared.fault.Why.{Why}
 use Rattle.ref_tables.specs.Accounts.{accounts_fault}
+use Rattle.ref_tables.specs.Charges.{charges_fault}
 use Rattle.ref_tables.specs.Refusals.{named}
 use Rattle.ref_tables.specs.Tables.{bics_fault, ccys_fault, countries_fault}
 use Rattle.ssi_versions.specs.Rows.{ssi_fault}
@@ -45,6 +46,7 @@ table_at names.Ccys tables = tables.ccys
 table_at names.Countries tables = tables.countries
 table_at names.Accounts tables = tables.accounts
 table_at names.Ssi tables = tables.ssi
+table_at names.Charges tables = tables.charges
 
 -- its bytes
 abbrev pub table_file : TableName → Inputs → List ℕ
@@ -53,6 +55,7 @@ table_file names.Ccys i = i.ccys
 table_file names.Countries i = i.countries
 table_file names.Accounts i = i.accounts
 table_file names.Ssi i = i.ssi
+table_file names.Charges i = i.charges
 
 -- a fault of a table: which, the row, and why
 abbrev pub Bad : Type 0
@@ -65,6 +68,7 @@ table_fault names.Ccys i = named names.Ccys (ccys_fault i.ccys)
 table_fault names.Countries i = named names.Countries (countries_fault i.countries)
 table_fault names.Accounts i = named names.Accounts (accounts_fault i.home.head (tables_in i) i.accounts)
 table_fault names.Ssi i = named names.Ssi (ssi_fault (tables_in i) i.ssi)
+table_fault names.Charges i = named names.Charges (charges_fault (tables_in i) i.charges)
 
 -- a table was read, of at most 8 MiB, and has no fault
 pub record IsFine {S : Type 0} (source : sources.Ghosts S) (old new : S) (bytes : List ℕ) (fault : Option Bad) : Type 0 where

@@ -45,6 +45,7 @@ name_text table.Ccys = codes "ccys"
 name_text table.Countries = codes "countries"
 name_text table.Accounts = codes "accounts"
 name_text table.Ssi = codes "ssi"
+name_text table.Charges = codes "charges"
 
 -- what is wrong with a row
 abbrev pub why_text : Why → List ℕ

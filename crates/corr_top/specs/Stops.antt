@@ -56,15 +56,17 @@ abbrev pub status_of_sums : AccountsFault → Status
 status_of_sums (accounts.Unbalanced ccy decimals sum) = status.Unbalanced ccy decimals sum
 status_of_sums accounts.Memory = status.Memory
 
--- the status where a journal couldn't be made
+-- the status where a journal couldn't be made; one without records is never too long, so that Full doesn't come
 abbrev pub status_of_making : MakeFault → Status
 status_of_making (making.Exists first) = status.Exists first
+status_of_making (making.Full end need) = status.NotAJournal
 status_of_making (making.DiskFault before after) = status.DiskFault before after
 status_of_making making.Memory = status.Memory
 
--- the status where a journal couldn't be opened
+-- the status where a journal couldn't be opened; there is one version, so that Version doesn't come
 abbrev pub status_of_opening : OpenFault → Status
 status_of_opening opening.NotAJournal = status.NotAJournal
+status_of_opening (opening.Version found) = status.NotAJournal
 status_of_opening (opening.Damaged at) = status.Damaged at
 status_of_opening (opening.DiskFault before after) = status.DiskFault before after
 status_of_opening opening.Memory = status.Memory

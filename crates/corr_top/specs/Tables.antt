@@ -53,6 +53,7 @@ module _ {S : Type 0} (source : sources.Ghosts S) (old new : Tables S) where
     pub known_is : known ≡ tables_in inputs
     pub accounts : new.accounts ≡ old.accounts
     pub ssi : new.ssi ≡ old.ssi
+    pub charges : new.charges ≡ old.charges
 
   -- the instructions too
   pub record HasDirectory (directory : Directory) : Type 0 where
@@ -60,6 +61,7 @@ module _ {S : Type 0} (source : sources.Ghosts S) (old new : Tables S) where
     pub passed : Walks (PassesTables inputs) directory_steps
     pub directory_is : directory ≡ directory_in inputs
     pub accounts : new.accounts ≡ old.accounts
+    pub charges : new.charges ≡ old.charges
 
   -- the accounts too, those of this home bank, and their openings sum to 0
   pub record HasAccounts (home : Bic) (chart : Chart) : Type 0 where
@@ -68,6 +70,7 @@ module _ {S : Type 0} (source : sources.Ghosts S) (old new : Tables S) where
     pub passed : Walks (PassesTables inputs) account_steps
     pub chart_is : chart ≡ chart_in inputs
     pub ssi : new.ssi ≡ old.ssi
+    pub charges : new.charges ≡ old.charges
 
   -- one of these steps stopped
   pub record StopsIn (steps : List Step) (s : Status) : Type 0 where
@@ -79,11 +82,13 @@ module _ {S : Type 0} (source : sources.Ghosts S) (old new : Tables S) where
     pub at : StopsIn known_steps (status_of_table stop)
     pub accounts : new.accounts ≡ old.accounts
     pub ssi : new.ssi ≡ old.ssi
+    pub charges : new.charges ≡ old.charges
 
   -- reading the directory stops
   pub record StopsDirectory (stop : TableStop) : Type 0 where
     pub at : StopsIn directory_steps (status_of_table stop)
     pub accounts : new.accounts ≡ old.accounts
+    pub charges : new.charges ≡ old.charges
 
   -- reading the accounts of a home bank stops
   pub record StopsAccounts (home : Bic) (s : Status) : Type 0 where
@@ -91,3 +96,4 @@ module _ {S : Type 0} (source : sources.Ghosts S) (old new : Tables S) where
     pub home_is : inputs.home ≡ home
     pub halted : Halts (PassesTables inputs) (StopsAtTables inputs s) AreUntouched account_steps
     pub ssi : new.ssi ≡ old.ssi
+    pub charges : new.charges ≡ old.charges

@@ -39,6 +39,7 @@ pub record AreSampleFiles (files : Files Supply) : Type 0 where
   pub countries : files.countries ≡ supply_of sample_countries
   pub accounts : files.accounts ≡ supply_of sample_accounts
   pub ssi : files.ssi ≡ supply_of sample_ssi
+  pub charges : files.charges ≡ supply_of []
 
 -- the tables of the sample bank
 abbrev pub sample_tables : Tables

@@ -31,6 +31,8 @@ impl From<MakeFault> for Status {
     fn from(fault: MakeFault) -> Status {
         match fault {
             MakeFault::Exists { first } => Status::Exists { first },
+            // `create` never says so: a journal without records is short.
+            MakeFault::Full { .. } => Status::NotAJournal,
             MakeFault::DiskFault { before, after } => Status::DiskFault { before, after },
             MakeFault::Memory => Status::Memory,
         }

@@ -29,6 +29,7 @@ fn table_name(table: TableName) -> &'static [u8]
         TableName::Countries => b"countries",
         TableName::Accounts => b"accounts",
         TableName::Ssi => b"ssi",
+        TableName::Charges => b"charges",
     }
 }
 

@@ -22,6 +22,8 @@ impl From<OpenFault> for Status {
     fn from(fault: OpenFault) -> Status {
         match fault {
             OpenFault::NotAJournal => Status::NotAJournal,
+            // Nothing here says so: there is one version.
+            OpenFault::Version { .. } => Status::NotAJournal,
             OpenFault::Damaged { at } => Status::Damaged { at },
             OpenFault::DiskFault { before, after } => Status::DiskFault { before, after },
             OpenFault::Memory => Status::Memory,

@@ -2,7 +2,7 @@
 
 use crate::status::Status;
 
-/// The table files, each a source (docs/tables.md).
+/// The table files, each a source (docs/tables.md). No command reads that of charges yet.
 #[derive(Drop)]
 pub struct Tables<S> {
     pub bics: S,
@@ -10,6 +10,7 @@ pub struct Tables<S> {
     pub countries: S,
     pub accounts: S,
     pub ssi: S,
+    pub charges: S,
 }
 
 /// What a command is handed: the table files, the message file, the file of received statements, the sink of its report,

@@ -55,6 +55,7 @@ fn sample_tables(alloc: Global) -> Result<Tables<MemSource>, Memory>
         countries: source(alloc, sample_countries())?,
         accounts: source(alloc, sample_accounts())?,
         ssi: source(alloc, sample_ssi())?,
+        charges: source(alloc, b"")?,
     })
 }
 

@@ -6,7 +6,7 @@ use Rattle.std.proofs.lemmas.List.{append-nil}
 use Rattle.std.proofs.lemmas.Bool.Decides.{nat_tests}
 use Rattle.corr_disk.specs.declared.disk.Disk as disks
 use Rattle.corr_io.specs.declared.source.Source as sources
-use Rattle.day_model.proofs.Sums.{balances_cancel}
+use Rattle.day_model.proofs.laws.Sums.{balances_cancel}
 use Rattle.day_model.proofs.laws.Turnovers.{debits_equal_credits}
 use Rattle.day_model.specs.Chart.{Chart}
 use Rattle.day_model.specs.declared.entry.Entry.{Entry}
@@ -52,6 +52,7 @@ small_table names.Ccys i none = small _ _ _ i.ccys none
 small_table names.Countries i none = small _ _ _ i.countries none
 small_table names.Accounts i none = small _ _ _ i.accounts none
 small_table names.Ssi i none = small _ _ _ i.ssi none
+small_table names.Charges i none = small _ _ _ i.charges none
 
 -- a table that was read and is fine is the one that was told
 pub same_table : {S : Type 0} (source : sources.Ghosts S) (name : TableName) (old new : Tables S) (j i : Inputs) → source.left (table_at name old) ≡ Some (table_file name i)

@@ -54,11 +54,13 @@ sums_silent accounts.Memory = refl
 
 making_silent : (stop : MakeFault) → writes (status_of_making stop) ≡ false
 making_silent (making.Exists first) = refl
+making_silent (making.Full end need) = refl
 making_silent (making.DiskFault before after) = refl
 making_silent making.Memory = refl
 
 opening_silent : (stop : OpenFault) → writes (status_of_opening stop) ≡ false
 opening_silent opening.NotAJournal = refl
+opening_silent (opening.Version found) = refl
 opening_silent (opening.Damaged at) = refl
 opening_silent (opening.DiskFault before after) = refl
 opening_silent opening.Memory = refl

@@ -7,7 +7,7 @@ use Rattle.corr_io.specs.declared.source.Source as sources
 use Rattle.day_model.specs.Chart.{Chart}
 use Rattle.day_model.specs.declared.entry.Entry.{Entry}
 use Rattle.jrn_book.specs.Journal.{StandsForBook}
-use Rattle.reconcile.proofs.Promises.{adds-up, stand-once, takes-first}
+use Rattle.reconcile.proofs.laws.Promises.{adds-up, stand-once, takes-first}
 use Rattle.ref_tables.specs.Seen.{Tables as Known}
 use Rattle.ref_tables.specs.Tables.{tables_of}
 use Rattle.ref_tables.specs.declared.fault.TableName.TheVariants as names

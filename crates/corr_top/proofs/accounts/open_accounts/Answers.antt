@@ -24,6 +24,7 @@ returns-in_err-rows-clause-stopped g c =
       home_is = refl;
       halted = inr (known.passed.0, inr (known.passed.1.0, inr (known.passed.1.1.0, inl ((c.in_err-rows.field-0.0, refl, stops), (tt, tt)))));
       ssi = known.ssi;
+      charges = known.charges;
     })
 
 pub returns-in_err-make_accounts-clause-stopped : goal.returns-in_err-make_accounts-clause-stopped
@@ -39,6 +40,7 @@ returns-in_err-make_accounts-clause-stopped g c =
       home_is = refl;
       halted = inr (known.passed.0, inr (known.passed.1.0, inr (known.passed.1.1.0, inr (accounts, inl ((c.in_err-make_accounts.field-0.0, refl, stops), tt)))));
       ssi = known.ssi;
+      charges = known.charges;
     })
 
 pub returns-clause-fine : goal.returns-clause-fine
@@ -54,4 +56,5 @@ returns-clause-fine g c =
       passed = (known.passed.0, (known.passed.1.0, (known.passed.1.1.0, (accounts, (sums_balance i _ list c.in_ok-make_accounts.ensures.balanced, tt)))));
       chart_is = c.in_ok-make_accounts.ensures.ok ∙ ap (λ (l : List Account). record { home = c.args.home; accounts = l }) list;
       ssi = known.ssi;
+      charges = known.charges;
     }

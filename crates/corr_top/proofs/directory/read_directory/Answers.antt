@@ -21,6 +21,7 @@ returns-in_err-ssi-clause-stopped g c =
     rw (p.1, p.2) (record {
       at = record { inputs = record known.inputs { ssi = q.0 }; halted = inr (known.passed.0, inr (known.passed.1.0, inr (known.passed.1.1.0, inl ((c.in_err-ssi.field-0.0, refl, stops), tt)))) };
       accounts = known.accounts;
+      charges = known.charges;
     })
 
 pub returns-clause-fine : goal.returns-clause-fine
@@ -33,4 +34,5 @@ returns-clause-fine g c =
       passed = (known.passed.0, (known.passed.1.0, (known.passed.1.1.0, (fine, tt))));
       directory_is = same_directory (record known.inputs { ssi = q.0 }) _ _ known.known_is q.2;
       accounts = known.accounts;
+      charges = known.charges;
     }

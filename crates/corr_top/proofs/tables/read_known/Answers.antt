@@ -12,6 +12,7 @@ returns-in_err-banks-clause-stopped g c =
       at = record { inputs = record no_inputs { bics = q.0 }; halted = inl ((c.in_err-banks.field-0.0, refl, q.1), (refl, (refl, tt))) };
       accounts = refl;
       ssi = refl;
+      charges = refl;
     })
 
 pub returns-in_err-with_ccys-clause-stopped : goal.returns-in_err-with_ccys-clause-stopped
@@ -23,6 +24,7 @@ returns-in_err-with_ccys-clause-stopped g c =
       at = record { inputs = record no_inputs { bics = first.0; ccys = q.0 }; halted = inr (first.1, inl ((c.in_err-with_ccys.field-0.0, refl, q.1), (refl, tt))) };
       accounts = refl;
       ssi = refl;
+      charges = refl;
     })
 
 pub returns-clause-fine : goal.returns-clause-fine
@@ -35,6 +37,7 @@ returns-clause-fine g c =
       known_is = q.2 ∙ ap (with_countries q.0) (second.2 ∙ ap (with_ccys second.0) first.2);
       accounts = refl;
       ssi = refl;
+      charges = refl;
     }) c.read_countries.ensures.fine
 
 pub returns-clause-stopped : goal.returns-clause-stopped
@@ -48,4 +51,5 @@ returns-clause-stopped g c =
       };
       accounts = refl;
       ssi = refl;
+      charges = refl;
     }) c.read_countries.ensures.stopped
