@@ -19,7 +19,8 @@ use std::rt::Files;
 ///
 /// With a path that isn't UTF-8 every call fails. Where another program holds the file, the call fails, waits for nobody and
 /// writes nothing. `len` fails where another file or none stands at the path, and, as a write past the end, where the file is
-/// shorter than it was seen or written. A read or a write that a signal interrupts is made again, a bounded number of times.
+/// shorter than it was seen or written. A read that a signal interrupts is made again, 1,000 times at most; an opening, a write
+/// and a sync as often as one does.
 #[derive(Drop)]
 pub struct FileDisk<'a, R: Files> {
     rt: &'a R,

@@ -127,7 +127,7 @@ impl<'a> HeldFile<'a> {
         Ok(count)
     }
 
-    /// Writes all of these bytes from a place on, and again what a signal kept from being written, a bounded number of times.
+    /// Writes all of these bytes from a place on, and again what a signal kept from being written, as often as one does.
     /// Ahead of a write past the end the length is asked: such a write would hide that the file was cut.
     pub(crate) fn put(&mut self, at: u64, bytes: &[u8]) -> Result<(), Cause> {
         let end = at.saturating_add(bytes.len() as u64);
