@@ -277,7 +277,7 @@ const THREE: &[u8] = b"\x01\0\0\0\x02AB\x01\0\0\0\0\x01\0\0\0\x0dABCDEFGHIJKLM\0
 const PIECE: usize = 1 << 16;
 
 // A header record that ends at this place, and these bytes after it.
-fn after_head(alloc: Global, place: usize, bytes: &[u8]) -> Result<Text, Memory>
+pub(crate) fn after_head(alloc: Global, place: usize, bytes: &[u8]) -> Result<Text, Memory>
     requires { (5 ≤ place) × (place ≤ most_disk_bytes) }
 {
     let size = place - 5;

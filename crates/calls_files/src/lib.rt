@@ -7,3 +7,5 @@ mod batches;
 mod carried;
 #[cfg(test)]
 mod files;
+#[cfg(test)]
+mod lengths;

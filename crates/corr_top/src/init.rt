@@ -4,7 +4,7 @@ ghost use Rattle.std.specs.Prelude.{◌≡◌, ◌≤◌, [], length, IfErr, IfO
 ghost use Rattle.corr_ids.specs.Bic.{IsBic};
 ghost use Rattle.day_model.specs.Chart.{Chart};
 ghost use Rattle.jrn_codec.specs.Header.{IsHead, head_bytes};
-ghost use Rattle.jrn_file.specs.Journal.{most_header_bytes};
+ghost use Rattle.jrn_file.specs.Reading.{most_record_bytes};
 ghost use Rattle.corr_top.specs.Ends.{HasTexts};
 ghost use Rattle.corr_top.specs.OnDisk.{HasNotFailed, IsMakeable, IsOnDisk, MakesInTurn, StopsMaking};
 ghost use Rattle.corr_top.specs.Tables.{HasAccounts, StopsAccounts};
@@ -66,7 +66,7 @@ pub fn prepare<S: Source>(
 
 /// Makes the journal of this header on a disk, and hands the disk back.
 pub fn make<D: Disk>(alloc: Global, disk: D, head: &Text) -> (D, Result<(), MakeFault>)
-    requires { length head.now ≤ most_header_bytes }
+    requires { length head.now ≤ most_record_bytes }
     ensures made { MatchResult result.1
         (λ _. (chart : Chart) → head.now ≡ head_bytes chart → IsMakeable D.Disk disk × IsOnDisk D.Disk result.0 chart [] × HasNotFailed D.Disk disk result.0 × MakesInTurn D.Disk disk result.0 chart)
         (λ fault. (chart : Chart) → head.now ≡ head_bytes chart → StopsMaking D.Disk disk result.0 chart fault) }

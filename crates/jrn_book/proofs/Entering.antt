@@ -1,5 +1,5 @@
 -- What a new entry adds to a book.
-use Rattle.std.proofs.Common.{◌≡◌, ℕ, ◌+◌, ◌<◌, ◌^◌, All, Bool, true, false, cond, List, [], ◌∷◌, ◌++◌, length, get_or, Option, Some, None, refl, sym, ap, ◌∙◌, subst}
+use Rattle.std.proofs.Common.{◌≡◌, ℕ, ◌+◌, ◌<◌, ◌≤◌, All, Bool, true, false, cond, List, [], ◌∷◌, ◌++◌, length, get_or, Option, Some, None, refl, sym, ap, ◌∙◌, subst}
 use Rattle.std.specs.Prelude.{◌⊎◌, is_some}
 use Rattle.std.specs.List.{position_from}
 use Rattle.std.specs.Str.{bytes_eq}
@@ -25,6 +25,7 @@ use Rattle.day_model.proofs.laws.Growth.{one_pay_more}
 use Rattle.day_model.proofs.laws.Pairs.{entry_adds_its_legs, legal_totals_fit, plus_nothing}
 use Rattle.acct_locks.specs.Holdings.{CanSettle, Holding, HoldsOnce, held_totals, held_with}
 use Rattle.jrn_file.specs.Journal.{IsFrame, StandsFor, frame_of}
+use Rattle.jrn_file.specs.Reading.{most_record_bytes}
 use Rattle.jrn_file.proofs.laws.Frames.{record_in-frame}
 use Rattle.jrn_codec.specs.Header.{head_bytes}
 use Rattle.jrn_codec.specs.Record.{entry_bytes}
@@ -48,10 +49,10 @@ pub references_more : (history : List Entry) (e : Entry) → references_of (hist
 references_more history e = map-append (λ (x : Entry). x.pay.mir.0) history (e ∷ [])
 
 -- the frame of a record that is short enough
-pub is_frame : (r frame : List ℕ) → frame ≡ frame_of r → length r < 2 ^ 32 → IsFrame frame
+pub is_frame : (r frame : List ℕ) → frame ≡ frame_of r → length r ≤ most_record_bytes → IsFrame frame
 is_frame r frame is few =
     let same = record_in-frame r frame is in
-    record { is = is ∙ ap frame_of (sym same); fits = subst (λ (x : List ℕ). length x < 2 ^ 32) (sym same) few }
+    record { is = is ∙ ap frame_of (sym same); fits = subst (λ (x : List ℕ). length x ≤ most_record_bytes) (sym same) few }
 
 -- two ways round
 eq_flip : (a b : List ℕ) → bytes_eq a b ≡ bytes_eq b a

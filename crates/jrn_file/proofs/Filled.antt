@@ -1,14 +1,16 @@
 -- A journal of many records behind one gate, and its bytes as they are given to a sender.
-use Rattle.std.proofs.Common.{◌≡◌, ◌≢◌, inl, inr, ℕ, ◌+◌, ◌^◌, ◌<◌, ◌≤◌, List, [], ◌∷◌, ◌++◌, length, map, get_or, take, drop, refl, sym, ◌∙◌, ap, subst, arith, append_assoc, length-append, take-append-drop}
+use Rattle.std.specs.List.{All}
+use Rattle.std.proofs.Common.{◌≡◌, ◌≢◌, inl, inr, ℕ, ◌+◌, ◌<◌, ◌≤◌, List, [], ◌∷◌, ◌++◌, length, map, get_or, take, drop, refl, sym, ◌∙◌, ap, subst, arith, append_assoc, length-append, take-append-drop}
 use Rattle.std.proofs.lemmas.List.{append-nil, drop-drop, drop_all, map-append, take_more}
 use Rattle.std.proofs.lemmas.Bool.{cases_eq}
 use Rattle.corr_disk.specs.Disk.{written, Torn}
-use Rattle.jrn_file.specs.Reading.{with_length, size_of}
+use Rattle.jrn_file.specs.Reading.{most_record_bytes, with_length, size_of}
 use Rattle.jrn_file.specs.Journal.{after_gates, frames_of, journal_bytes, AreOpen, StandsFor}
 use Rattle.jrn_file.specs.Making.{IsUnmadeOrMadeWith, made_with_over}
 use Rattle.jrn_file.specs.Sending.{open_frames, IsShutFront}
 use Rattle.jrn_file.proofs.Bytes.{written-after, written-gate, torn-gate}
 use Rattle.jrn_file.proofs.Readings.{spelled-stands}
+use Rattle.jrn_file.proofs.Records.{gates-one}
 use Rattle.jrn_file.proofs.laws.Sizes.{length-sized, length-after_gates, length-journal_bytes, map-with_gates, size_of-append, after_gates-append}
 
 -- the closed gate at the end is all that lacks
@@ -75,22 +77,16 @@ pub frames-step : (head : List ℕ) (records : List (List ℕ)) (i : ℕ) (r giv
 frames-step head records i r given within is same =
     ap (λ (l : List ℕ). open_frames head (take i records) ++ l) (same ∙ ap (λ (x : List ℕ). 1 ∷ with_length x) is) ∙ sym (frames-more head records i r within)
 
--- records that take few bytes together are short
-pub gates-small : (records : List (List ℕ)) → size_of records < 2 ^ 32 → AreOpen (map (λ (r : List ℕ). (1, r)) records)
-gates-small [] small = tt
-gates-small (r ∷ records) small = (omega arith, omega (arith, small), gates-small records (omega (arith, small)))
-
 -- what any gate before the frames makes of them
-pub stands-all : (gate : ℕ) (head : List ℕ) (records : List (List ℕ)) (rest image : List ℕ) → gate ≢ 0 → length (frames_of head records) < 2 ^ 32
+pub stands-all : (gate : ℕ) (head : List ℕ) (records : List (List ℕ)) (rest image : List ℕ) → gate ≢ 0 → All (λ r. length r ≤ most_record_bytes) (head ∷ records)
     → image ≡ gate ∷ (frames_of head records ++ rest) → StandsFor image head records
 stands-all gate head records rest image open_gate small is =
     let gated : List (ℕ × List ℕ) = map (λ (r : List ℕ). (1, r)) records in
-    let size : 5 + length head + size_of records < 2 ^ 32 =
-    omega (arith, small, ap length (frames-closed head records), length-append (open_frames head records) (0 ∷ []), length-open_frames head records) in
+    let fit = gates-one (head ∷ records) small in
     spelled-stands image head records (record {
       entries = (gate, head) ∷ gated;
       rest = rest;
-      gates = (open_gate, omega (arith, size), gates-small records (omega (arith, size)));
+      gates = (open_gate, fit.1, fit.2);
       same = ap (λ (l : List (List ℕ)). head ∷ l) (map-with_gates records);
       is = is
           ∙ ap (λ (l : List ℕ). gate ∷ (l ++ rest)) (sym (frames-closed head records))
@@ -114,7 +110,7 @@ module _ (bytes : List ℕ) (shut : IsShutFront bytes) (head : List ℕ) (record
   between = ap (λ (b : List ℕ). written 1 frames b) split ∙ written-after [] 0 refl 0 (drop 1 bytes) frames
 
   -- while the gate is written
-  pub filling-gate : length frames < 2 ^ 32 → (mid c : List ℕ) → mid ≡ written 1 frames bytes → Torn 0 1 mid c → IsUnmadeOrMadeWith head records c
+  pub filling-gate : All (λ r. length r ≤ most_record_bytes) (head ∷ records) → (mid c : List ℕ) → mid ≡ written 1 frames bytes → Torn 0 1 mid c → IsUnmadeOrMadeWith head records c
   filling-gate small mid c is torn =
       let now : c ≡ get_or c 0 0 ∷ (frames ++ beyond) =
       torn-gate [] 0 refl 0 (frames ++ beyond) c (subst (λ b. Torn 0 1 b c) (is ∙ between) torn) in
@@ -127,7 +123,7 @@ module _ (bytes : List ℕ) (shut : IsShutFront bytes) (head : List ℕ) (record
   opened c is = is ∙ ap (λ (b : List ℕ). written 0 (1 ∷ []) b) between ∙ written-gate [] 0 refl 0 1 (frames ++ beyond)
 
   -- and once it is
-  pub filled-stands : length frames < 2 ^ 32 → (c : List ℕ) → c ≡ written 0 (1 ∷ []) (written 1 frames bytes) → StandsFor c head records
+  pub filled-stands : All (λ r. length r ≤ most_record_bytes) (head ∷ records) → (c : List ℕ) → c ≡ written 0 (1 ∷ []) (written 1 frames bytes) → StandsFor c head records
   filled-stands small c is = stands-all 1 head records beyond c (omega arith) small (opened c is)
 
   pub filled-bytes : (c : List ℕ) → c ≡ written 0 (1 ∷ []) (written 1 frames bytes) → c ≡ made_with_over head records bytes

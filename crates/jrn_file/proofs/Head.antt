@@ -1,16 +1,16 @@
 -- The first entry, of the header record.
-use Rattle.std.proofs.Common.{◌≡◌, ◌≢◌, inl, inr, ℕ, ◌+◌, ◌^◌, ◌<◌, ◌≤◌, List, [], ◌∷◌, ◌++◌, length, get_or, take, drop, refl, sym, ◌∙◌, ap, subst, arith, append_assoc, length-append, take-append-drop}
+use Rattle.std.proofs.Common.{◌≡◌, ◌≢◌, inl, inr, ℕ, ◌+◌, ◌<◌, ◌≤◌, List, [], ◌∷◌, ◌++◌, length, get_or, take, drop, refl, sym, ◌∙◌, ap, subst, arith, append_assoc, length-append, take-append-drop}
 use Rattle.std.proofs.lemmas.List.{append-nil, drop-drop, drop_all}
 use Rattle.std.proofs.lemmas.Bool.{cases_eq}
 use Rattle.corr_disk.specs.Disk.{written, Torn, Follows, Only}
-use Rattle.jrn_file.specs.Reading.{with_length}
+use Rattle.jrn_file.specs.Reading.{most_record_bytes, with_length}
 use Rattle.jrn_file.specs.Journal.{frame_of, record_in, journal_bytes, IsFrame, StandsFor}
 use Rattle.jrn_file.specs.Making.{IsUnmade, IsUnmadeOrMade, IsEntering, made_over}
 use Rattle.jrn_file.proofs.Bytes.{written-after, written-gate, torn-after, torn-gate}
 use Rattle.jrn_file.proofs.Readings.{spelled-stands}
 use Rattle.jrn_file.proofs.laws.Sizes.{length-sized, length-journal_bytes}
 
-stands-first : (gate : ℕ) (head rest image : List ℕ) → gate ≢ 0 → length head < 2 ^ 32 → image ≡ gate ∷ (frame_of head ++ rest) → StandsFor image head []
+stands-first : (gate : ℕ) (head rest image : List ℕ) → gate ≢ 0 → length head ≤ most_record_bytes → image ≡ gate ∷ (frame_of head ++ rest) → StandsFor image head []
 stands-first gate head rest image open_gate fits is = spelled-stands image head [] (record {
   entries = (gate, head) ∷ [];
   rest = rest;

@@ -1,15 +1,15 @@
 -- A record that was cut short before a piece came ends within that piece.
-use Rattle.std.proofs.Common.{◌≡◌, inl, inr, ℕ, suc, refl, ◌+◌, ◌-◌, ◌^◌, ◌<◌, ◌≤◌, List, [], ◌∷◌, ◌++◌, length, get_or, take, drop, sym, ◌∙◌, ap, arith, append_assoc, length-append}
+use Rattle.std.proofs.Common.{◌≡◌, inl, inr, ℕ, suc, refl, ◌+◌, ◌-◌, ◌<◌, ◌≤◌, List, [], ◌∷◌, ◌++◌, length, get_or, take, drop, sym, ◌∙◌, ap, arith, append_assoc, length-append}
 use Rattle.std.proofs.lemmas.List.{take_at}
 use Rattle.std.proofs.lemmas.Bool.{cases_lt}
 use Rattle.std.proofs.Math.Seq.{take-append-add}
-use Rattle.jrn_file.specs.Reading.{with_length}
+use Rattle.jrn_file.specs.Reading.{most_record_bytes, with_length}
 use Rattle.jrn_file.specs.Journal.{after_gates, AreOpen}
 use Rattle.jrn_file.specs.Opening.{IsWhole, HasNoRecord, IsShut}
 use Rattle.jrn_file.specs.Pieces.{AreTakenOff}
 
 -- a front that is longer than a record has it whole
-whole-in-front : (r next after piece : List ℕ) → length r < 2 ^ 32 → after ++ piece ≡ with_length r ++ next → length (with_length r) < length after → IsWhole after
+whole-in-front : (r next after piece : List ℕ) → length r ≤ most_record_bytes → after ++ piece ≡ with_length r ++ next → length (with_length r) < length after → IsWhole after
 whole-in-front r [] after piece fits is long =
     absurd (omega (arith, long, ap length is, length-append after piece, length-append (with_length r) []))
 whole-in-front r (gate ∷ next) after piece fits is long =

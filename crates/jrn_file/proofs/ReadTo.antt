@@ -1,13 +1,13 @@
 -- Bytes of a disk that were read up to a place.
-use Rattle.std.proofs.Common.{◌≡◌, ℕ, ◌+◌, ◌-◌, ◌*◌, ◌/◌, ◌<◌, ◌≤◌, Bool, IsTrue, List, [], ◌∷◌, ◌++◌, length, take, drop, refl, sym, ◌∙◌, ap, subst, arith, append_assoc, length-append, length-drop, take-append-drop}
+use Rattle.std.proofs.Common.{◌≡◌, ◌⊎◌, inl, inr, ℕ, ◌+◌, ◌-◌, ◌*◌, ◌/◌, ◌<◌, ◌≤◌, Bool, IsTrue, List, [], ◌∷◌, ◌++◌, length, take, drop, refl, sym, ◌∙◌, ap, subst, arith, append_assoc, length-append, length-drop, take-append-drop}
 use Rattle.std.proofs.lemmas.List.{append-nil, drop_all, drop_min, drop-drop, length-take}
 use Rattle.std.proofs.lemmas.Nat.{div-mul-add}
 use Rattle.std.proofs.Math.Nat.{le-div_iff_mul-le}
 use Rattle.jrn_file.specs.Reading.{no_journal, cut, opened_of}
-use Rattle.jrn_file.specs.Opening.{HasNoRecord, IsShut, IsReadAs}
+use Rattle.jrn_file.specs.Opening.{HasNoRecord, IsShut, IsTooLong, IsReadAs}
 use Rattle.jrn_file.specs.Journal.{after_gates}
 use Rattle.jrn_file.specs.Pieces.{IsPiece, AreTakenOff, OfBytes, calls_to_open}
-use Rattle.jrn_file.proofs.Taken.{taken-start, taken-then, taken-end, taken-none, taken-refused, taken-cut}
+use Rattle.jrn_file.proofs.Taken.{taken-start, taken-then, taken-end, taken-none, taken-refused, taken-cut, long-refused, long-cut}
 use Rattle.jrn_file.proofs.LastPiece.{in-last-piece}
 
 -- so many bytes were read, those of the disk where it tells them, and these records were taken out of them
@@ -63,9 +63,15 @@ read-on honest reads at asked n all grown held mid rest so_far piece taken =
     subst (λ l. ReadTo honest reads (at + n) l rest) (sym taken.1) (read-more honest reads at asked n all taken.0 held mid rest so_far piece taken.2)
 
 -- nothing is left after a piece that is short
-pub short-piece : (honest : Bool) (reads : List ℕ) (at asked n : ℕ) (held mid : List ℕ) → IsPiece honest reads at asked n held mid → n < asked → IsTrue honest → drop (at + n) reads ≡ []
+short-piece : (honest : Bool) (reads : List ℕ) (at asked n : ℕ) (held mid : List ℕ) → IsPiece honest reads at asked n held mid → n < asked → IsTrue honest → drop (at + n) reads ≡ []
 short-piece honest reads at asked n held mid piece short told =
     drop_all (at + n) reads (omega (arith, short, piece.count, ap length (piece.told told), length-take asked (drop at reads), length-drop at reads))
+
+-- the last piece that is to be read: a short one, or one after which the length that is seen is too long
+pub last-piece : (honest : Bool) (reads : List ℕ) (at asked n : ℕ) (held mid seen rest : List ℕ) → IsPiece honest reads at asked n held mid → seen ≡ rest
+    → (n < asked) ⊎ IsTooLong seen → (IsTrue honest → drop (at + n) reads ≡ []) ⊎ IsTooLong rest
+last-piece honest reads at asked n held mid seen rest piece same (inl short) = inl (short-piece honest reads at asked n held mid piece short)
+last-piece honest reads at asked n held mid seen rest piece same (inr long) = inr (subst IsTooLong same long)
 
 module _ (honest : Bool) (reads : List ℕ) (place : ℕ) (all : List (List ℕ)) (held : List ℕ) (read : ReadTo honest reads place all held) where
   -- a closed gate after the records
@@ -84,17 +90,23 @@ module _ (honest : Bool) (reads : List ℕ) (place : ℕ) (all : List (List ℕ)
   all-told : (IsTrue honest → drop place reads ≡ []) → IsTrue honest → read.bytes ≡ reads
   all-told all_read told = sym (append-nil read.bytes) ∙ ap (λ (l : List ℕ). read.bytes ++ l) (sym (all_read told)) ∙ read.told told
 
-  -- an open gate, or nothing, and no whole record after it up to the end: before the first record
-  pub read-refused : (IsTrue honest → drop place reads ≡ []) → HasNoRecord held → length all ≡ 0 → OfBytes honest reads (λ bytes. opened_of bytes ≡ no_journal)
-  read-refused all_read stopped none = (read.bytes, taken-refused read.bytes held all read.taken stopped none, all-told all_read)
+  -- an open gate, or nothing, and no whole record after it up to the end, or its length is too long: before the first record
+  pub read-refused : (IsTrue honest → drop place reads ≡ []) ⊎ IsTooLong held → HasNoRecord held → length all ≡ 0 → OfBytes honest reads (λ bytes. opened_of bytes ≡ no_journal)
+  read-refused (inl all_read) stopped none = (read.bytes, taken-refused read.bytes held all read.taken stopped none, all-told all_read)
+  read-refused (inr long) stopped none = (read.bytes ++ drop place reads, long-refused read.bytes held all read.taken long (drop place reads) none, read.told)
 
   -- and after records
-  pub read-cut : (IsTrue honest → drop place reads ≡ []) → HasNoRecord held → (IsShut held → ⊥) → 0 < length all
+  pub read-cut : (IsTrue honest → drop place reads ≡ []) ⊎ IsTooLong held → HasNoRecord held → (IsShut held → ⊥) → 0 < length all
       → OfBytes honest reads (λ bytes. opened_of bytes ≡ cut all (place - length held))
-  read-cut all_read stopped open_gate some = (
+  read-cut (inl all_read) stopped open_gate some = (
     read.bytes,
     taken-cut read.bytes held all read.taken stopped open_gate some ∙ ap (λ (n : ℕ). cut all (n - length held)) read.size,
     all-told all_read,
+  )
+  read-cut (inr long) stopped open_gate some = (
+    read.bytes ++ drop place reads,
+    long-cut read.bytes held all read.taken long (drop place reads) open_gate some ∙ ap (λ (n : ℕ). cut all (n - length held)) read.size,
+    read.told,
   )
 
   -- no more is held than was read

@@ -1,19 +1,37 @@
 -- What bytes hold as a journal, and how they are spelled.
-use Rattle.std.proofs.Common.{◌≡◌, ◌≢◌, inl, inr, ℕ, zero, suc, ◌+◌, ◌^◌, ◌<◌, ◌≤◌, Bool, true, false, cond, List, [], ◌∷◌, ◌++◌, length, map, get_or, take, drop, Option, Some, None, refl, sym, ◌∙◌, ap, subst, arith, append_assoc, length-append, length-drop, take-append-drop}
-use Rattle.std.specs.Prelude.{◌==◌, ◌&&◌, not, nat_lt}
+use Rattle.std.proofs.Common.{◌≡◌, ◌≢◌, inl, inr, ℕ, zero, suc, ◌+◌, ◌<◌, ◌≤◌, Bool, true, false, cond, List, [], ◌∷◌, ◌++◌, length, map, get_or, take, drop, Option, Some, None, refl, sym, ◌∙◌, ap, subst, arith, append_assoc, length-append, length-drop, take-append-drop}
+use Rattle.std.specs.Prelude.{◌==◌, ◌&&◌, not, nat_le, nat_lt}
 use Rattle.std.specs.Int.{w32, to_be_bytes, from_be_bytes}
 use Rattle.std.specs.Str.{bytes_eq}
-use Rattle.std.proofs.lemmas.Bool.{and_from, and_parts, cases_Bool, cond_both, false_from_ne_true, lt-ltb, ltb-true, true≢false}
+use Rattle.std.proofs.lemmas.Bool.{and_from, and_parts, cases_Bool, cond_both, false_from_ne_true, le-leb, leb-true, lt-ltb, ltb-true, true≢false}
 use Rattle.std.proofs.lemmas.Bool.Decides.{Decides-eqb}
-use Rattle.std.proofs.lemmas.List.{take_at, drop_at, drop_more, drop-drop}
+use Rattle.std.proofs.lemmas.List.{take-append-le, take_at, drop_at, drop_more, drop-drop}
 use Rattle.std.proofs.lemmas.Nat.{from_be_bytes-to_be_bytes_4}
 use Rattle.std.proofs.lemmas.Option.{same_Some, none-some}
 use Rattle.std.proofs.lemmas.Slice.Eq.{bytes_eq-Decides}
-use Rattle.jrn_file.specs.Reading.{Reading, no_journal, whole, cut, begins_with_record, is_whole, opened_of, reading_of, record_at, records_in, records_of, size_of, with_length}
+use Rattle.jrn_file.specs.Reading.{Reading, no_journal, whole, cut, begins_with_record, is_whole, most_record_bytes, opened_of, reading_of, record_at, records_in, records_of, size_of, with_length}
 use Rattle.jrn_file.specs.Journal.{after_gates, AreOpen, StandsFor}
-use Rattle.jrn_file.specs.Opening.{BeginsWith, HasNoRecord}
+use Rattle.jrn_file.specs.Opening.{BeginsWith, HasNoRecord, IsWhole}
 use Rattle.jrn_file.specs.Pieces.{AreTakenOff}
 use Rattle.jrn_file.proofs.laws.Sizes.{length-sized, length-after_gates}
+
+-- the length that is told of a record that was begun
+told-length : (after r : List ℕ) → BeginsWith after r → from_be_bytes w32 (take 4 after) ≡ length r
+told-length after r b =
+    let size = to_be_bytes w32 (length r) in
+    let beyond = r ++ b.gate ∷ b.rest in
+    let is : after ≡ size ++ beyond = b.is ∙ append_assoc size r (b.gate ∷ b.rest) in
+    let front : take 4 after ≡ size = ap (λ (l : List ℕ). take 4 l) is ∙ take_at size beyond 4 refl in
+    ap (from_be_bytes w32) front ∙ from_be_bytes-to_be_bytes_4 (length r) (omega (arith, b.fits))
+
+-- no record is whole whose length tells more than one may have
+pub past-whole : (after : List ℕ) → most_record_bytes < from_be_bytes w32 (take 4 after) → IsWhole after → ⊥
+past-whole after past whole_one = omega (arith, past, told-length after whole_one.0 whole_one.1, whole_one.1.fits)
+
+-- and none is where more bytes come
+pub none-beyond : (gate : ℕ) (after beyond : List ℕ) → 4 ≤ length after → most_record_bytes < from_be_bytes w32 (take 4 after) → HasNoRecord (gate ∷ (after ++ beyond))
+none-beyond gate after beyond enough past =
+    inr (past-whole (after ++ beyond) (subst (λ l. most_record_bytes < from_be_bytes w32 l) (sym (take-append-le 4 after beyond enough)) past))
 
 -- a record that was begun is the one that its length tells
 pub record-begun : (after r : List ℕ) → BeginsWith after r → record_at after ≡ r
@@ -21,34 +39,32 @@ record-begun after r b =
     let size = to_be_bytes w32 (length r) in
     let beyond = r ++ b.gate ∷ b.rest in
     let is : after ≡ size ++ beyond = b.is ∙ append_assoc size r (b.gate ∷ b.rest) in
-    let front : take 4 after ≡ size = ap (λ (l : List ℕ). take 4 l) is ∙ take_at size beyond 4 refl in
     let back : drop 4 after ≡ beyond = ap (λ (l : List ℕ). drop 4 l) is ∙ drop_at size beyond 4 refl in
-    let n : from_be_bytes w32 (take 4 after) ≡ length r = ap (from_be_bytes w32) front ∙ from_be_bytes-to_be_bytes_4 (length r) b.fits in
-    ap (λ (k : ℕ). take k (drop 4 after)) n ∙ ap (λ (l : List ℕ). take (length r) l) back ∙ take_at r (b.gate ∷ b.rest) (length r) refl
+    ap (λ (k : ℕ). take k (drop 4 after)) (told-length after r b) ∙ ap (λ (l : List ℕ). take (length r) l) back ∙ take_at r (b.gate ∷ b.rest) (length r) refl
 
 -- the test by which one is told
 begins-true : (after r : List ℕ) → BeginsWith after r → begins_with_record after r ≡ true
 begins-true after r b =
     let n = length (with_length r) in
-    let short : nat_lt (length r) (2 ^ 32) ≡ true = lt-ltb (length r) (2 ^ 32) b.fits in
+    let short : nat_le (length r) most_record_bytes ≡ true = le-leb (length r) most_record_bytes b.fits in
     let long : nat_lt n (length after) ≡ true = lt-ltb n (length after) (omega (arith, ap length b.is, length-append (with_length r) (b.gate ∷ b.rest))) in
     let same : take n after ≡ with_length r = ap (λ (l : List ℕ). take n l) b.is ∙ take_at (with_length r) (b.gate ∷ b.rest) n refl in
-    and_from (nat_lt (length r) (2 ^ 32) && nat_lt n (length after)) (bytes_eq (take n after) (with_length r))
-    (and_from (nat_lt (length r) (2 ^ 32)) (nat_lt n (length after)) short long)
+    and_from (nat_le (length r) most_record_bytes && nat_lt n (length after)) (bytes_eq (take n after) (with_length r))
+    (and_from (nat_le (length r) most_record_bytes) (nat_lt n (length after)) short long)
     ((bytes_eq-Decides (take n after) (with_length r)).1 same)
 
 begins-is : (after r : List ℕ) → begins_with_record after r ≡ true → BeginsWith after r
 begins-is after r holds =
     let n = length (with_length r) in
-    let parts = and_parts (nat_lt (length r) (2 ^ 32) && nat_lt n (length after)) (bytes_eq (take n after) (with_length r)) holds in
-    let sizes = and_parts (nat_lt (length r) (2 ^ 32)) (nat_lt n (length after)) parts.0 in
+    let parts = and_parts (nat_le (length r) most_record_bytes && nat_lt n (length after)) (bytes_eq (take n after) (with_length r)) holds in
+    let sizes = and_parts (nat_le (length r) most_record_bytes) (nat_lt n (length after)) parts.0 in
     let long : n < length after = ltb-true n (length after) sizes.1 in
     let same : take n after ≡ with_length r = (bytes_eq-Decides (take n after) (with_length r)).0 parts.1 in
     let left = drop n after in
     record {
       gate = get_or left 0 0;
       rest = drop 1 left;
-      fits = ltb-true (length r) (2 ^ 32) sizes.0;
+      fits = leb-true (length r) most_record_bytes sizes.0;
       is = sym (take-append-drop n after)
           ∙ ap (λ (l : List ℕ). l ++ left) same
           ∙ ap (λ (l : List ℕ). with_length r ++ l) (drop_more left 0 0 (omega (arith, long, length-drop n after)));

@@ -1,11 +1,11 @@
 -- Records after their gates, and what an entry makes of them.
 use Rattle.std.specs.Prelude.{slice_index_or}
 use Rattle.std.specs.List.{All}
-use Rattle.std.proofs.Common.{◌≡◌, ◌≢◌, inl, inr, ℕ, zero, suc, ◌+◌, ◌^◌, ◌<◌, List, [], ◌∷◌, ◌++◌, length, map, get_or, drop, sym, ◌∙◌, ap, subst, arith, append_assoc, length-append}
+use Rattle.std.proofs.Common.{◌≡◌, ◌≢◌, inl, inr, ℕ, zero, suc, ◌+◌, ◌<◌, ◌≤◌, List, [], ◌∷◌, ◌++◌, length, map, get_or, drop, sym, ◌∙◌, ap, subst, arith, append_assoc, length-append}
 use Rattle.std.proofs.lemmas.List.{map-append}
 use Rattle.std.proofs.lemmas.Bool.{cases_eq}
 use Rattle.corr_disk.specs.Disk.{written, Torn}
-use Rattle.jrn_file.specs.Reading.{with_length, size_of}
+use Rattle.jrn_file.specs.Reading.{most_record_bytes, with_length, size_of}
 use Rattle.jrn_file.specs.Journal.{frames_of, record_in, IsFrame, AreFrames, after_gates, journal_bytes, AreOpen, StandsFor, IsBeforeOrAll}
 use Rattle.jrn_file.specs.Making.{IsEntering}
 use Rattle.jrn_file.proofs.Readings.{Spelled, spelled-stands}
@@ -13,13 +13,13 @@ use Rattle.jrn_file.proofs.laws.Sizes.{length-sized, length-after_gates, length-
 use Rattle.jrn_file.proofs.Bytes.{length-gate, written-after, written-gate, torn-after, torn-gate}
 
 -- records of such lengths, each after the gate 1
-gates-one : (records : List (List ℕ)) → All (λ r. length r < 2 ^ 32) records → AreOpen (map (λ (r : List ℕ). (1, r)) records)
+pub gates-one : (records : List (List ℕ)) → All (λ r. length r ≤ most_record_bytes) records → AreOpen (map (λ (r : List ℕ). (1, r)) records)
 gates-one [] fits = tt
 gates-one (r ∷ records) fits = (omega arith, fits 0 r (omega arith), gates-one records (λ k d below. fits (suc k) d (omega (arith, below))))
 
 -- more open records, and a closed gate
 pub stands-more : (entries : List (ℕ × List ℕ)) (head : List ℕ) (records : List (List ℕ)) (gate : ℕ) (first : List ℕ) (more : List (List ℕ)) (rest image : List ℕ)
-    → AreOpen entries → map (λ e. e.1) entries ≡ head ∷ records → gate ≢ 0 → All (λ r. length r < 2 ^ 32) (first ∷ more)
+    → AreOpen entries → map (λ e. e.1) entries ≡ head ∷ records → gate ≢ 0 → All (λ r. length r ≤ most_record_bytes) (first ∷ more)
     → image ≡ after_gates entries ++ gate ∷ (frames_of first more ++ rest) → StandsFor image head (records ++ first ∷ more)
 stands-more entries head records gate first more rest image gates same open_gate fits is =
     let gated : List (ℕ × List ℕ) = map (λ (r : List ℕ). (1, r)) more in
@@ -40,7 +40,7 @@ stands-more entries head records gate first more rest image gates same open_gate
 
 -- what any gate before whole frames makes of the records
 pub stands-gate : (entries : List (ℕ × List ℕ)) (head : List ℕ) (records : List (List ℕ)) (gate : ℕ) (first : List ℕ) (more : List (List ℕ)) (rest image : List ℕ)
-    → AreOpen entries → map (λ e. e.1) entries ≡ head ∷ records → All (λ r. length r < 2 ^ 32) (first ∷ more)
+    → AreOpen entries → map (λ e. e.1) entries ≡ head ∷ records → All (λ r. length r ≤ most_record_bytes) (first ∷ more)
     → image ≡ after_gates entries ++ gate ∷ (frames_of first more ++ rest) → IsBeforeOrAll head records (first ∷ more) image
 stands-gate entries head records gate first more rest image gates same fits is = elim (cases_eq gate 0) [
   | inl shut ↦ inl (spelled-stands image head records (record {
@@ -118,6 +118,6 @@ module _ (bytes head : List ℕ) (records : List (List ℕ)) (stands : Spelled b
 pub one-framed : (frame : List ℕ) → IsFrame frame → AreFrames frame (record_in frame) []
 one-framed frame framed = record { is = framed.is; fits = λ k d below. fits-alone k d below }
   where
-    fits-alone : (k : ℕ) (d : List ℕ) → k < length (record_in frame ∷ []) → length (slice_index_or (record_in frame ∷ []) k d) < 2 ^ 32
+    fits-alone : (k : ℕ) (d : List ℕ) → k < length (record_in frame ∷ []) → length (slice_index_or (record_in frame ∷ []) k d) ≤ most_record_bytes
     fits-alone zero d below = framed.fits
     fits-alone (suc k) d below = absurd (omega (arith, below))

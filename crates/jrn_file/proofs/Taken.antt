@@ -6,9 +6,9 @@ use Rattle.std.proofs.lemmas.Bool.{cases_lt, false_from_ne_true}
 use Rattle.std.proofs.lemmas.Slice.Eq.{bytes_eq-Decides}
 use Rattle.jrn_file.specs.Reading.{no_journal, whole, cut, opened_of, reading_of, size_of, with_length}
 use Rattle.jrn_file.specs.Journal.{after_gates}
-use Rattle.jrn_file.specs.Opening.{BeginsWith, IsWhole, HasNoRecord, IsShut, IsReadAs}
+use Rattle.jrn_file.specs.Opening.{BeginsWith, IsWhole, HasNoRecord, IsShut, IsTooLong, IsReadAs}
 use Rattle.jrn_file.specs.Pieces.{AreTakenOff}
-use Rattle.jrn_file.proofs.Readings.{taken-read}
+use Rattle.jrn_file.proofs.Readings.{none-beyond, taken-read}
 use Rattle.jrn_file.proofs.laws.Sizes.{length-after_gates, length-journal_bytes, length-sized, after_gates-append, AreOpen-append}
 
 pub taken-start : (bytes : List ℕ) → AreTakenOff bytes [] bytes
@@ -149,3 +149,28 @@ taken-cut bytes (gate ∷ after) (r ∷ all) taken stopped open_gate some =
     taken-read bytes (r ∷ all) (gate ∷ after) taken stopped
     ∙ ap (λ b. cond b (whole (r ∷ all)) (cut (r ∷ all) (size_of (r ∷ all)))) (not-closed gate after open_gate)
     ∙ ap (λ (n : ℕ). cut (r ∷ all) n) size
+
+-- the same where a length tells more than a record may have, whatever comes after it
+module _ (bytes held : List ℕ) (all : List (List ℕ)) (taken : AreTakenOff bytes all held) (long : IsTooLong held) (beyond : List ℕ) where
+  none-after : (l : List ℕ) → IsTooLong l → HasNoRecord (l ++ beyond)
+  none-after [] past = absurd past
+  none-after (gate ∷ after) past = none-beyond gate after beyond past.0 past.1
+
+  open-after : (l : List ℕ) → IsTooLong l → (IsShut l → ⊥) → IsShut (l ++ beyond) → ⊥
+  open-after [] past open_gate = absurd past
+  open-after (gate ∷ after) past open_gate = open_gate
+
+  some-held : (l : List ℕ) → IsTooLong l → 0 < length l
+  some-held [] past = absurd past
+  some-held (gate ∷ after) past = omega arith
+
+  further : AreTakenOff (bytes ++ beyond) all (held ++ beyond)
+  further = taken-after bytes held all beyond taken (some-held held long)
+
+  pub long-refused : length all ≡ 0 → opened_of (bytes ++ beyond) ≡ no_journal
+  long-refused none = taken-refused (bytes ++ beyond) (held ++ beyond) all further (none-after held long) none
+
+  pub long-cut : (IsShut held → ⊥) → 0 < length all → opened_of (bytes ++ beyond) ≡ cut all (length bytes - length held)
+  long-cut open_gate some =
+      taken-cut (bytes ++ beyond) (held ++ beyond) all further (none-after held long) (open-after held long open_gate) some
+      ∙ ap (λ (n : ℕ). cut all n) (omega (arith, length-append bytes beyond, length-append held beyond))

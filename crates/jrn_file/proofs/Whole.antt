@@ -1,9 +1,9 @@
 -- Whole records.
-use Rattle.std.proofs.Common.{◌≡◌, ℕ, zero, suc, ◌+◌, ◌^◌, ◌<◌, ◌≤◌, List, [], ◌∷◌, ◌++◌, length, get_or, take, drop, sym, ◌∙◌, ap, arith, append_assoc, length-drop, take-append-drop}
+use Rattle.std.proofs.Common.{◌≡◌, ℕ, zero, suc, ◌+◌, ◌<◌, ◌≤◌, List, [], ◌∷◌, ◌++◌, length, get_or, take, drop, sym, ◌∙◌, ap, arith, append_assoc, length-drop, take-append-drop}
 use Rattle.std.specs.Int.{w32, to_be_bytes, from_be_bytes}
 use Rattle.std.proofs.lemmas.List.{drop_more, length-take-le}
 use Rattle.std.proofs.lemmas.Nat.{be_bytes_4}
-use Rattle.jrn_file.specs.Reading.{with_length}
+use Rattle.jrn_file.specs.Reading.{most_record_bytes, with_length}
 use Rattle.jrn_file.specs.Opening.{BeginsWith}
 
 small-take : (n : ℕ) (xs : List ℕ) → ((i : ℕ) → get_or xs i 0 < 256) → (i : ℕ) → get_or (take n xs) i 0 < 256
@@ -13,7 +13,7 @@ small-take (suc n) (x ∷ xs) small zero = small 0
 small-take (suc n) (x ∷ xs) small (suc i) = small-take n xs (λ j. small (suc j)) i
 
 -- with enough bytes there is one
-pub begins-with : (after : List ℕ) (size : ℕ) → ((i : ℕ) → get_or after i 0 < 256) → size ≡ from_be_bytes w32 (take 4 after) → size < 2 ^ 32
+pub begins-with : (after : List ℕ) (size : ℕ) → ((i : ℕ) → get_or after i 0 < 256) → size ≡ from_be_bytes w32 (take 4 after) → size ≤ most_record_bytes
     → size + 5 ≤ length after → BeginsWith after (take size (drop 4 after))
 begins-with after size bytes is fits enough =
     let r = take size (drop 4 after) in

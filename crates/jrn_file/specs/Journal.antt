@@ -1,10 +1,6 @@
 -- The bytes of a journal, and what the bytes of a disk stand for.
-use Rattle.std.specs.Prelude.{◌≡◌, ◌≢◌, ◌⊎◌, ℕ, ◌-◌, ◌^◌, ◌<◌, List, [], ◌∷◌, ◌++◌, length, map, take, drop, All}
-use Rattle.jrn_file.specs.Reading.{with_length, opened_of, whole}
-
--- a journal's first record, its header, has at most so many bytes
-abbrev pub most_header_bytes : ℕ
-most_header_bytes = 1048576
+use Rattle.std.specs.Prelude.{◌≡◌, ◌≢◌, ◌⊎◌, ℕ, ◌-◌, ◌≤◌, List, [], ◌∷◌, ◌++◌, length, map, take, drop, All}
+use Rattle.jrn_file.specs.Reading.{most_record_bytes, with_length, opened_of, whole}
 
 -- a record as it is appended: after its length, and a closed gate after it
 abbrev pub frame_of : List ℕ → List ℕ
@@ -17,7 +13,7 @@ record_in frame = take (length frame - 5) (drop 4 frame)
 -- these bytes are a frame
 pub record IsFrame (frame : List ℕ) : Type 0 where
   pub is : frame ≡ frame_of (record_in frame)
-  pub fits : length (record_in frame) < 2 ^ 32
+  pub fits : length (record_in frame) ≤ most_record_bytes
 
 -- records, each after its gate
 abbrev pub after_gates : List (ℕ × List ℕ) → List ℕ
@@ -31,16 +27,16 @@ frames_of first more = with_length first ++ (after_gates (map (λ r. (1, r)) mor
 -- these bytes are the frames of these records
 pub record AreFrames (frames first : List ℕ) (more : List (List ℕ)) : Type 0 where
   pub is : frames ≡ frames_of first more
-  pub fits : All (λ r. length r < 2 ^ 32) (first ∷ more)
+  pub fits : All (λ r. length r ≤ most_record_bytes) (first ∷ more)
 
 -- the journal of a header and records: each after the gate 1, and then a closed gate
 abbrev pub journal_bytes : List ℕ → List (List ℕ) → List ℕ
 journal_bytes head records = after_gates (map (λ r. (1, r)) (head ∷ records)) ++ 0 ∷ []
 
--- each gate is open, which any byte but 0 is, and four bytes tell each record's length
+-- each gate is open, which any byte but 0 is, and no record is longer than one may be
 abbrev pub AreOpen : List (ℕ × List ℕ) → Type 0
 AreOpen [] = Unit {0}
-AreOpen (entry ∷ more) = (entry.0 ≢ 0) × (length entry.1 < 2 ^ 32) × AreOpen more
+AreOpen (entry ∷ more) = (entry.0 ≢ 0) × (length entry.1 ≤ most_record_bytes) × AreOpen more
 
 -- The bytes hold the journal of this header and these records: these are the whole records in front, after which a closed gate
 -- stands. What follows it is anything.

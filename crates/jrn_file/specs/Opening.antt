@@ -1,7 +1,8 @@
 -- What opening a journal tells of the bytes of a disk.
-use Rattle.std.specs.Prelude.{◌≡◌, ◌⊎◌, ℕ, ◌+◌, ◌^◌, ◌<◌, Bool, Option, IsTrue, List, [], ◌∷◌, ◌++◌, length}
+use Rattle.std.specs.Prelude.{◌≡◌, ◌⊎◌, ℕ, ◌+◌, ◌<◌, ◌≤◌, Bool, Option, IsTrue, List, [], ◌∷◌, ◌++◌, length, take}
+use Rattle.std.specs.Int.{w32, from_be_bytes}
 use Rattle.corr_disk.specs.Calls.{CallsMade}
-use Rattle.jrn_file.specs.Reading.{Reading, no_journal, whole, cut, with_length, opened_of}
+use Rattle.jrn_file.specs.Reading.{Reading, no_journal, whole, cut, most_record_bytes, with_length, opened_of}
 use Rattle.jrn_file.specs.Journal.{journal_bytes, StandsFor}
 use Rattle.jrn_file.specs.File.{IsSettled}
 use Rattle.jrn_file.specs.Faults.{TellsCounts}
@@ -18,7 +19,7 @@ use Rattle.jrn_file.specs.declared.loading.LoadFault.TheVariants as load
 pub record BeginsWith (after r : List ℕ) : Type 0 where
   pub gate : ℕ
   pub rest : List ℕ
-  pub fits : length r < 2 ^ 32
+  pub fits : length r ≤ most_record_bytes
   pub is : after ≡ with_length r ++ gate ∷ rest
 
 -- a whole record stands after the gate
@@ -29,6 +30,11 @@ IsWhole after = (r : List ℕ) × BeginsWith after r
 abbrev pub HasNoRecord : List ℕ → Type 0
 HasNoRecord [] = Unit {0}
 HasNoRecord (gate ∷ after) = (gate ≡ 0) ⊎ (IsWhole after → ⊥)
+
+-- after a gate in front, four bytes that tell more than a record may have
+abbrev pub IsTooLong : List ℕ → Type 0
+IsTooLong [] = ⊥
+IsTooLong (gate ∷ after) = (4 ≤ length after) × (most_record_bytes < from_be_bytes w32 (take 4 after))
 
 -- a closed gate in front
 abbrev pub IsShut : List ℕ → Type 0

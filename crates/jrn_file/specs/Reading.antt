@@ -1,7 +1,11 @@
 -- What bytes hold, read as a journal.
-use Rattle.std.specs.Prelude.{ℕ, zero, suc, ◌+◌, ◌^◌, ◌==◌, ◌&&◌, ◌≡◌, Bool, not, List, [], ◌∷◌, ◌++◌, length, take, drop, slice_get, Some, nat_lt, if◌then◌else◌}
+use Rattle.std.specs.Prelude.{ℕ, zero, suc, ◌+◌, ◌==◌, ◌&&◌, ◌≡◌, Bool, not, List, [], ◌∷◌, ◌++◌, length, take, drop, slice_get, Some, nat_le, nat_lt, if◌then◌else◌}
 use Rattle.std.specs.Int.{w32, to_be_bytes, from_be_bytes}
 use Rattle.std.specs.Str.{bytes_eq}
+
+-- a record has at most so many bytes
+abbrev pub most_record_bytes : ℕ
+most_record_bytes = 1048576
 
 -- a record after the four bytes of its length
 abbrev pub with_length : List ℕ → List ℕ
@@ -11,9 +15,9 @@ with_length r = to_be_bytes w32 (length r) ++ r
 abbrev pub record_at : List ℕ → List ℕ
 record_at after = take (from_be_bytes w32 (take 4 after)) (drop 4 after)
 
--- these bytes begin with a record after its length, and a byte more, which is the next gate
+-- These bytes begin with a record after its length, and a byte more, which is the next gate. A longer one than a record may be is none.
 abbrev pub begins_with_record : List ℕ → List ℕ → Bool
-begins_with_record after r = nat_lt (length r) (2 ^ 32) && nat_lt (length (with_length r)) (length after) && bytes_eq (take (length (with_length r)) after) (with_length r)
+begins_with_record after r = nat_le (length r) most_record_bytes && nat_lt (length (with_length r)) (length after) && bytes_eq (take (length (with_length r)) after) (with_length r)
 
 -- a whole record stands after the gate
 abbrev pub is_whole : List ℕ → Bool

@@ -1,12 +1,13 @@
 //! The records of a new journal onto the disk.
 
-ghost use Rattle.std.specs.Prelude.{◌≡◌, ◌+◌, ◌-◌, ◌/◌, ◌<◌, ◌≤◌, ◌++◌, length, IsTrue, OnOk};
+ghost use Rattle.std.specs.Prelude.{◌≡◌, ◌+◌, ◌-◌, ◌/◌, ◌<◌, ◌≤◌, ◌∷◌, ◌++◌, All, length, IsTrue, OnOk};
 ghost use Rattle.std.specs.Int.{div_ceil};
 ghost use Rattle.corr_disk.specs.Calls.{AtMostCalls, CallsMade};
 ghost use Rattle.corr_disk.specs.Disk.{LeavesOnly, Only, most_disk_bytes, written};
 ghost use Rattle.corr_text.specs.Faults.{HasCause};
 ghost use Rattle.jrn_file.specs.Journal.{StandsFor, frames_of, journal_bytes};
 ghost use Rattle.jrn_file.specs.Making.{IsUnmadeOrMadeWith, made_with_over};
+ghost use Rattle.jrn_file.specs.Reading.{most_record_bytes};
 ghost use Rattle.jrn_file.specs.Sending.{IsSent, IsShutFront, LeavesShut, SendsBy, StartsAt, StaysShut, open_frames, place_of};
 
 use crate::entering::OPEN;
@@ -26,6 +27,7 @@ pub(crate) fn fill<D: Disk>(
     records: &[Text],
 ) -> Result<(), Failed>
     requires shut { IsTrue (D.honest disk.old) → IsShutFront (D.reads disk.old) }
+    requires short { All (λ r. length r ≤ most_record_bytes) (head.now ∷ records.now) }
     requires room { length (journal_bytes head.now records.now) ≤ most_disk_bytes }
     requires sender { StartsAt (length sender.old.buffer.items) 1 sender.old }
     ensures honest { D.honest disk.new ≡ D.honest disk.old }

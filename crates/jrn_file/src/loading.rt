@@ -9,7 +9,7 @@ ghost use Rattle.jrn_file.specs.Pieces.{OfBytes, calls_to_open};
 ghost use Rattle.jrn_file.specs.Untouched.{IsUntouched};
 
 use crate::held::{Held, read_piece};
-use crate::reading::{is_closed, refusal, take_records};
+use crate::reading::{is_closed, is_last, refusal, take_records};
 use corr_disk::{Disk, Failed};
 use corr_text::{Memory, Text};
 use std::alloc::{AllocError, Global};
@@ -93,7 +93,7 @@ pub(crate) fn load<D: Disk>(
             }
             return Ok((gate, records));
         }
-        if count < piece {
+        if is_last(count, piece, held.bytes()) {
             return Err(refusal(gate, records));
         }
     }

@@ -5,8 +5,9 @@ ghost use Rattle.corr_disk.specs.Calls.{CallsMade, AtMostCalls};
 ghost use Rattle.corr_disk.specs.Disk.{Only, LeavesOnly, most_disk_bytes};
 ghost use Rattle.corr_text.specs.Faults.{HasCause};
 ghost use Rattle.jrn_file.specs.Faults.{MakeCause, IsRefusal};
-ghost use Rattle.jrn_file.specs.Journal.{StandsFor, IsFrame, record_in, most_header_bytes};
+ghost use Rattle.jrn_file.specs.Journal.{StandsFor, IsFrame, record_in};
 ghost use Rattle.jrn_file.specs.Making.{IsOther, IsUnmade, IsUnmadeOrMade, IsFront, calls_to_look, calls_to_make, made_over};
+ghost use Rattle.jrn_file.specs.Reading.{most_record_bytes};
 ghost use Rattle.jrn_file.specs.Untouched.{IsUntouched};
 
 use crate::entering::enter;
@@ -35,7 +36,7 @@ pub(crate) enum Front {
 /// before any call of the disk. Bytes after the new journal stay as they are. Where the disk stops at any moment, it
 /// holds the new journal, or `create` may be given again. The header record has at most 1,048,576 bytes.
 pub fn create<D: Disk>(alloc: Global, disk: D, head: &[u8]) -> Result<D, (D, MakeFault)>
-    requires { length head.now ≤ most_header_bytes }
+    requires { length head.now ≤ most_record_bytes }
 
     ensures made { IsTrue (D.honest disk) → IfOk result (λ made. StandsFor (D.reads made) head.now []) }
     ensures bytes { IsTrue (D.honest disk) → IfOk result (λ made. D.reads made ≡ made_over head.now (D.reads disk)) }

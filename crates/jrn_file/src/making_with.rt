@@ -1,12 +1,13 @@
 //! A new journal with records in it.
 
-ghost use Rattle.std.specs.Prelude.{◌≡◌, ◌<◌, ◌≤◌, ◌^◌, ℕ, length, Some, IsTrue, IsErr, IsSome, IfOk, IfErr, IfNone, IfSome, MatchResult};
+ghost use Rattle.std.specs.Prelude.{◌≡◌, ◌<◌, ◌≤◌, ◌∷◌, ◌^◌, ℕ, All, length, Some, IsTrue, IsErr, IsSome, IfOk, IfErr, IfNone, IfSome, MatchResult};
 ghost use Rattle.corr_disk.specs.Calls.{AtMostCalls, CallsMade};
 ghost use Rattle.corr_disk.specs.Disk.{LeavesOnly, Only, most_disk_bytes};
 ghost use Rattle.corr_text.specs.Faults.{HasCause};
 ghost use Rattle.jrn_file.specs.Faults.{IsRefusal, MakeWithCause};
 ghost use Rattle.jrn_file.specs.Journal.{StandsFor, journal_bytes};
 ghost use Rattle.jrn_file.specs.Making.{IsOther, IsUnmade, IsUnmadeOrMadeWith, calls_to_make_with, made_with_over, most_piece_bytes, Refuses};
+ghost use Rattle.jrn_file.specs.Reading.{most_record_bytes};
 ghost use Rattle.jrn_file.specs.Sending.{StartsAt};
 ghost use Rattle.jrn_file.specs.Untouched.{IsUntouched};
 
@@ -39,14 +40,16 @@ pub(crate) enum Refusal {
 /// written then. `DiskFault` comes only where the disk's count of faults rose, which it does at nothing else. `Memory`
 /// comes before any call of the disk. Bytes after the new journal stay as they are. The records are written in pieces of
 /// 2^20 bytes behind a closed gate, which is opened once all of them are on the disk: where the disk stops at any moment,
-/// it holds the new journal with all of its records, or `create_with` may be given again.
+/// it holds the new journal with all of its records, or `create_with` may be given again. The header and each record have
+/// at most 1,048,576 bytes.
 pub fn create_with<D: Disk>(
     alloc: Global,
     disk: D,
     head: &[u8],
     records: &[Text],
 ) -> Result<D, (D, MakeFault)>
-    requires { length (journal_bytes head.now records.now) < 2 ^ 64 }
+    requires size { length (journal_bytes head.now records.now) < 2 ^ 64 }
+    requires short { All (λ r. length r ≤ most_record_bytes) (head.now ∷ records.now) }
 
     ensures made { IsTrue (D.honest disk) → IfOk result (λ made. StandsFor (D.reads made) head.now records.now) }
     ensures bytes { IsTrue (D.honest disk) → IfOk result (λ made. D.reads made ≡ made_with_over head.now records.now (D.reads disk)) }
@@ -116,6 +119,7 @@ fn make_with<D: Disk>(
     records: &[Text],
 ) -> Result<Option<Refusal>, Failed>
     requires size { size ≡ length (journal_bytes head.now records.now) }
+    requires short { All (λ r. length r ≤ most_record_bytes) (head.now ∷ records.now) }
     requires sender { StartsAt most_piece_bytes 1 sender.old }
     ensures honest { D.honest disk.new ≡ D.honest disk.old }
     ensures cause { HasCause (D.faults disk.old) (D.faults disk.new) result }

@@ -1,15 +1,18 @@
 //! The records in a journal's bytes.
 
-ghost use Rattle.std.specs.Prelude.{◌≡◌, ◌≢◌, ◌<◌, ◌≤◌, ◌++◌, ℕ, List, length, take, drop, slice_index, IfOk, OnOk, IfSome, IfNone};
+ghost use Rattle.std.specs.Prelude.{◌≡◌, ◌≢◌, ◌<◌, ◌≤◌, ◌⊎◌, ◌++◌, ℕ, List, length, take, drop, slice_index, IfOk, OnOk, IfSome, IfNone};
 ghost use Rattle.std.specs.Bool.{OnTrue, OnFalse};
 ghost use Rattle.std.specs.Int.{w32, from_be_bytes};
-ghost use Rattle.jrn_file.specs.Opening.{BeginsWith, IsWhole, HasNoRecord, IsShut};
+ghost use Rattle.jrn_file.specs.Opening.{BeginsWith, IsWhole, HasNoRecord, IsShut, IsTooLong};
 ghost use Rattle.jrn_file.specs.Pieces.{AreTakenOff};
 
 use crate::held::Held;
 use crate::loading::LoadFault;
 use corr_text::{Memory, Text};
 use std::alloc::Global;
+
+/// The most bytes of a record.
+const MAX_RECORD: usize = 1 << 20;
 
 /// Takes the whole records in front out of the held bytes.
 pub(crate) fn take_records(
@@ -60,6 +63,22 @@ pub(crate) fn is_closed(held: &[u8]) -> bool
     !held.is_empty() && held[0] == 0
 }
 
+/// Whether no more bytes make a record whole after the open gate in front: the last were read, which are fewer than were asked
+/// for, or its length tells more than a record has.
+pub(crate) fn is_last(count: usize, asked: usize, held: &[u8]) -> bool
+    ensures last { OnTrue result ((count < asked) ⊎ IsTooLong held.now) }
+    ensures more { OnFalse result (asked ≤ count) }
+{
+    count < asked || is_too_long(held)
+}
+
+/// Whether the length after the gate in front is there and tells more bytes than a record has.
+fn is_too_long(held: &[u8]) -> bool
+    ensures long { OnTrue result (IsTooLong held.now) }
+{
+    held.len() >= 5 && size_in_front(&held[1..]) as usize > MAX_RECORD
+}
+
 /// What an open gate at this place tells with no whole record after it, after these records.
 pub(crate) fn refusal(gate: u64, records: Vec<Text>) -> LoadFault
     ensures none { length records.items ≡ 0 → result ≡ LoadFault.NotAJournal }
@@ -80,6 +99,9 @@ fn whole_record(after: &[u8]) -> Option<&[u8]>
         return None;
     }
     let size = size_in_front(after) as usize;
+    if size > MAX_RECORD {
+        return None;
+    }
     if after.len() - 5 < size {
         return None;
     }

@@ -1,4 +1,4 @@
-use Rattle.std.proofs.Common.{◌≡◌, ◌+◌, ◌-◌, ◌<◌, ◌≤◌, ◌^◌, ◌∷◌, [], IsTrue, inl, inr, length, List, ℕ, sym, ◌∙◌, ap, subst, arith}
+use Rattle.std.proofs.Common.{◌≡◌, ◌+◌, ◌-◌, ◌<◌, ◌≤◌, ◌∷◌, [], IsTrue, inl, inr, length, List, ℕ, sym, ◌∙◌, ap, subst, arith}
 use Rattle.std.specs.Int.{div_ceil}
 use Rattle.std.proofs.lemmas.Result.{on_ok_weaker}
 use Rattle.std.specs.Prelude.{Bool, Option}
@@ -16,10 +16,6 @@ use Rattle.jrn_file.proofs.filling.fill.Goals as goal
 -- the only image begins with a closed gate
 leaves-shut : (bytes : List ℕ) (images : List ℕ → Type 0) → IsShutFront bytes → Only bytes images → LeavesShut images
 leaves-shut bytes images shut only c left = subst IsShutFront (sym (only c left)) shut
-
--- frames of a journal that fits a disk are short
-short-frames : (head : List ℕ) (records : List (List ℕ)) → length (journal_bytes head records) ≤ 2 ^ 30 → length (frames_of head records) < 2 ^ 32
-short-frames head records room = omega (arith, room, ap length (journal-framed head records))
 
 more : (n k : ℕ) → n ≤ n + k
 more n k = omega arith
@@ -61,7 +57,7 @@ returns-in_err-write_at-clause-any_moment g c honest only =
     goes_on D.moment D.left_since old c.sync.new.self c.write_at.new.self (IsUnmadeOrMadeWith head records) _ before c.write_at.ensures.time
     (λ b left.
     let from = c.write_at.ensures.crash b left in
-    filling-gate _ shut head records (short-frames head records c.requires.room) from.0 b (c.in_ok-sync.ensures.durable from.0 from.1 ∙ c.in_ok-send.ensures.written honest) from.2)
+    filling-gate _ shut head records c.requires.short from.0 b (c.in_ok-sync.ensures.durable from.0 from.1 ∙ c.in_ok-send.ensures.written honest) from.2)
 
 pub returns-clause-any_moment : goal.returns-clause-any_moment
 returns-clause-any_moment g c honest only =
@@ -76,7 +72,7 @@ returns-clause-any_moment g c honest only =
     let opening : (b : List ℕ) → D.may_leave c.write_at.new.self b → IsUnmadeOrMadeWith head records b =
     λ b left.
     let from = c.write_at.ensures.crash b left in
-    filling-gate _ shut head records (short-frames head records c.requires.room) from.0 b (c.in_ok-sync.ensures.durable from.0 from.1 ∙ c.in_ok-send.ensures.written honest) from.2 in
+    filling-gate _ shut head records c.requires.short from.0 b (c.in_ok-sync.ensures.durable from.0 from.1 ∙ c.in_ok-send.ensures.written honest) from.2 in
     let opened = goes_on D.moment D.left_since old c.sync.new.self c.write_at.new.self (IsUnmadeOrMadeWith head records) _ before c.write_at.ensures.time opening in
     goes_on D.moment D.left_since old c.write_at.new.self c.sync-2.new.self (IsUnmadeOrMadeWith head records) _ opened c.sync-2.ensures.time
     (λ b left. opening b (c.sync-2.ensures.crash b left))
@@ -88,7 +84,7 @@ returns-clause-made g c honest =
     let here = subst IsTrue (sym (c.sync.ensures.honest ∙ c.send.ensures.honest)) honest in
     let now = c.sync-2.ensures.reads ∙ c.in_ok-write_at.ensures.answer here
     ∙ ap (written 0 (1 ∷ [])) (c.sync.ensures.reads ∙ c.in_ok-send.ensures.written honest) in
-    on_ok_weaker c.sync-2.result (λ _. filled-stands _ (c.requires.shut honest) head records (short-frames head records c.requires.room) _ now) c.sync-2.ensures.cause.kept
+    on_ok_weaker c.sync-2.result (λ _. filled-stands _ (c.requires.shut honest) head records c.requires.short _ now) c.sync-2.ensures.cause.kept
 
 pub returns-clause-bytes : goal.returns-clause-bytes
 returns-clause-bytes g c honest =

@@ -3,11 +3,12 @@ use Rattle.std.proofs.lemmas.Bool.{cases_lt}
 use Rattle.std.proofs.lemmas.Grind.{common_steps}
 use Rattle.corr_disk.specs.Calls.{CallsMade}
 use Rattle.corr_disk.proofs.laws.Counted.{calls_in_turn, calls_then, calls_within}
+use Rattle.jrn_file.specs.Faults.{LoadCause}
 use Rattle.jrn_file.specs.Reading.{cut, opened_of}
 use Rattle.jrn_file.specs.Opening.{ExplainsLoad, HasNoRecord, IsShut, IsReadAs}
 use Rattle.jrn_file.specs.Pieces.{OfBytes, calls_to_open}
 use Rattle.jrn_file.proofs.Calls.{untouched-start, untouched-call, untouched-then, untouched-only}
-use Rattle.jrn_file.proofs.ReadTo.{ReadTo, read-begun, piece-of, read-on, short-piece, read-end, read-none, read-refused, read-cut, read-within, held-within, gate-in-piece, calls-within, in-range}
+use Rattle.jrn_file.proofs.ReadTo.{ReadTo, read-begun, piece-of, read-on, last-piece, read-end, read-none, read-refused, read-cut, read-within, held-within, gate-in-piece, calls-within, in-range}
 use Rattle.jrn_file.specs.declared.loading.LoadFault.{LoadFault}
 use Rattle.jrn_file.proofs.loading.load.Goals as goal
 
@@ -177,8 +178,8 @@ returns-then-is_closed-clause-no_more_calls g c told =
     (calls_in_turn (1 + index) 1 (D.plan old) (D.plan mid) (D.plan new) c.loop-index.invariant.calls c.in_ok-count.ensures.calls)
     (omega (arith, calls-within index c.args.piece (length (D.reads old)) c.requires.some within))
 
-pub returns-then-count-piece-clause-fault : goal.returns-then-count-piece-clause-fault
-returns-then-count-piece-clause-fault g c =
+pub returns-then-is_last-clause-fault : goal.returns-then-is_last-clause-fault
+returns-then-is_last-clause-fault g c =
     let D = g.D.Disk in
     let old = c.args.disk.now in
     let at = c.loop-index.index * c.args.piece in
@@ -191,24 +192,35 @@ returns-then-count-piece-clause-fault g c =
     c.loop-index.invariant.read piece c.in_ok-take_records.ensures.taken in
     let open_gate = subst (λ l. IsShut l → ⊥) c.bytes.ensures c.if-is_closed.ensures.open in
     let stopped = c.in_ok-take_records.ensures.stopped in
-    let short = short-piece (D.honest old) (D.reads old) at c.args.piece n c.loop-index.held c.read_piece.new.held piece c.if-count-piece.true in
+    let last = last-piece (D.honest old) (D.reads old) at c.args.piece n c.loop-index.held c.read_piece.new.held c.bytes-in-loop-index.result.now held piece
+    c.bytes-in-loop-index.ensures c.if-is_last.ensures.last in
     let P : LoadFault → Type 0 = λ f. ExplainsLoad (D.honest old) (D.reads old) f in
     let Q : ℕ → Type 0 = λ k. OfBytes (D.honest old) (D.reads old) (λ bytes. opened_of bytes ≡ cut all (at + n - k)) in
     elim (cases_lt 0 (length all)) [
       | inl some ↦ subst P (sym (c.refusal.ensures.some some))
-          (subst Q (sym c.len.ensures) (read-cut (D.honest old) (D.reads old) (at + n) all held now short stopped open_gate some))
+          (subst Q (sym c.len.ensures) (read-cut (D.honest old) (D.reads old) (at + n) all held now last stopped open_gate some))
       | inr none ↦
           let empty : length all ≡ 0 = omega (arith, none) in
-          subst P (sym (c.refusal.ensures.none empty)) (read-refused (D.honest old) (D.reads old) (at + n) all held now short stopped empty)
+          subst P (sym (c.refusal.ensures.none empty)) (read-refused (D.honest old) (D.reads old) (at + n) all held now last stopped empty)
     ]
 
-pub returns-then-count-piece-clause-untouched : goal.returns-then-count-piece-clause-untouched
-returns-then-count-piece-clause-untouched g c =
+pub returns-then-is_last-clause-cause : goal.returns-then-is_last-clause-cause
+returns-then-is_last-clause-cause g c =
+    let D = g.D.Disk in
+    let P : LoadFault → Type 0 = λ f. LoadCause (D.faults c.args.disk.now) (D.faults c.read_piece.new.disk) f in
+    let kept = c.in_ok-count.ensures.kept ∙ c.loop-index.invariant.kept in
+    elim (cases_lt 0 (length c.take_records.new.records.items)) [
+      | inl some ↦ subst P (sym (c.refusal.ensures.some some)) kept
+      | inr none ↦ subst P (sym (c.refusal.ensures.none (omega (arith, none)))) kept
+    ]
+
+pub returns-then-is_last-clause-untouched : goal.returns-then-is_last-clause-untouched
+returns-then-is_last-clause-untouched g c =
     let D = g.D.Disk in
     untouched-then D.reads D.may_leave D.moment D.left_since g.met.D.Disk.only_now c.args.disk.now c.loop-index.disk c.read_piece.new.disk c.loop-index.invariant.untouched c.read_piece.ensures.untouched
 
-pub returns-then-count-piece-clause-no_more_calls : goal.returns-then-count-piece-clause-no_more_calls
-returns-then-count-piece-clause-no_more_calls g c told =
+pub returns-then-is_last-clause-no_more_calls : goal.returns-then-is_last-clause-no_more_calls
+returns-then-is_last-clause-no_more_calls g c told =
     let D = g.D.Disk in
     let old = c.args.disk.now in
     let mid = c.loop-index.disk in
@@ -234,7 +246,7 @@ loop-index-preserved g c =
     let mid = c.loop-index.disk in
     let new = c.read_piece.new.disk in
     let index = c.loop-index.index in
-    let next : at + n ≡ (index + 1) * c.args.piece = omega (arith, piece.most, c.if-count-piece.false) in
+    let next : at + n ≡ (index + 1) * c.args.piece = omega (arith, piece.most, c.if-is_last.ensures.more) in
     let untouched = untouched-then D.reads D.may_leave D.moment D.left_since g.met.D.Disk.only_now old mid new c.loop-index.invariant.untouched c.read_piece.ensures.untouched in
     record {
       read = subst (λ p. ReadTo (D.honest old) (D.reads old) p all held) next now;

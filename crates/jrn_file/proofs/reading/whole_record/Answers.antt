@@ -8,4 +8,4 @@ returns-clause-whole c =
     let size = c.size_in_front-size.result in
     let same : size ≡ 4 + size - 4 = omega arith in
     subst (λ n. BeginsWith c.args.after.now (take n (drop 4 c.args.after.now))) same
-    (begins-with c.args.after.now size (λ i. (c.type_inv.after i).fits) c.size_in_front-size.ensures c.size_in_front-size.type_inv (omega (arith, c.if-after-size.false, c.if-after-lt5.false)))
+    (begins-with c.args.after.now size (λ i. (c.type_inv.after i).fits) c.size_in_front-size.ensures c.if-size-gt-MAX_RECORD.false (omega (arith, c.if-after-size.false, c.if-after-lt5.false)))
