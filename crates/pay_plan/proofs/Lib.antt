@@ -7,3 +7,4 @@ pub mod Words
 pub mod TransferForm
 pub mod CoverForm
 pub mod Shaped
+pub mod Apart

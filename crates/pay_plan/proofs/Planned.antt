@@ -1,5 +1,5 @@
 -- A plan step by step.
-use Rattle.std.proofs.Common.{◌≡◌, ℕ, true, false, IfOk, List, Result, Ok, Err, refl, sym, ap, ◌∙◌, subst}
+use Rattle.std.proofs.Common.{◌≡◌, ℕ, true, false, IfOk, List, Option, Result, Ok, Err, refl, sym, ap, ◌∙◌, subst}
 use Rattle.std.specs.Prelude.{IsErrAnd, OnOk}
 use Rattle.corr_text.specs.Codes.{code}
 use Rattle.corr_text.specs.declared.fault.Code.{Code}
@@ -20,27 +20,65 @@ use Rattle.pay_plan.specs.declared.ask.Ask.TheVariants as asks
 use Rattle.pay_plan.specs.declared.fault.PlanFault.{PlanFault}
 use Rattle.pay_plan.specs.declared.fault.PlanFault.TheVariants as fault
 use Rattle.pay_plan.specs.Asked.{Asked, amount_in, asked_of, asked_with, cover_in, is_for_home, target_in, value_in}
+use Rattle.pay_plan.specs.Charging.{ChargeRows, charge_of}
+use Rattle.pay_plan.specs.declared.charging.Charge.{Charge}
+use Rattle.pay_plan.specs.declared.charging.Charged.{Charged}
 use Rattle.pay_plan.specs.Plan.{Plans, Refuses, accounts_of, booked, plan_of, route_asked}
-
--- a cover for the home bank has no plan
-pub home-refused : (env : Envelope) (text : List ℕ) (ask : Ask) (rows : List SsiRow) (chart : Chart) (home : Bic) → home ≡ chart.home →
-    is_for_home home ask ≡ true → plan_of env text ask rows chart ≡ Err (code "P34")
-unfolding plan_of
-home-refused env text ask rows chart home home_is named =
-    let at : is_for_home chart.home ask ≡ true = ap (λ (h : Bic). is_for_home h ask) (sym home_is) ∙ named in
-    rw at refl
+use Rattle.corr_text.specs.First.{◌>>=◌}
 
 -- a cover for the home bank has no accounts
-pub home-alone : (env : Envelope) (ask : Ask) (rows : List SsiRow) (chart : Chart) (home : Bic) → home ≡ chart.home →
-    is_for_home home ask ≡ true → Err (code "P34") ≡ accounts_of env ask rows chart
-home-alone env ask rows chart home home_is named =
+pub home-alone : (env : Envelope) (ask : Ask) (rows : List SsiRow) (charges : ChargeRows) (chart : Chart) (home : Bic) → home ≡ chart.home →
+    is_for_home home ask ≡ true → Err (code "P34") ≡ accounts_of env ask rows charges chart
+home-alone env ask rows charges chart home home_is named =
     let at : is_for_home chart.home ask ≡ true = ap (λ (h : Bic). is_for_home h ask) (sym home_is) ∙ named in
     rw at refl
 
--- the accounts, by the route
-pub on-route : (env : Envelope) (ask : Ask) (rows : List SsiRow) (chart : Chart) (route : Result Routed Code) →
-    is_for_home chart.home ask ≡ false → route_asked env ask rows chart ≡ route → route ≡ accounts_of env ask rows chart
-on-route env ask rows chart route apart found = rw (apart, found) refl
+-- what isn't a cover for the home bank, whose BIC is this
+not-home : (ask : Ask) (chart : Chart) (home : Bic) → home ≡ chart.home → is_for_home home ask ≡ false → is_for_home chart.home ask ≡ false
+not-home ask chart home home_is named = ap (λ (h : Bic). is_for_home h ask) (sym home_is) ∙ named
+
+-- a route, and then a charge
+abbrev then_charged : Result Routed Code → Result (Option Charge) Code → Result Charged Code
+then_charged route charge = do
+  routed ← route
+  taken ← charge
+  Ok (record { routed = routed; charge = taken })
+
+-- the accounts, by the route and the charge
+on-route : (env : Envelope) (ask : Ask) (rows : List SsiRow) (charges : ChargeRows) (chart : Chart) (route : Result Routed Code) (charge : Result (Option Charge) Code) →
+    is_for_home chart.home ask ≡ false → route_asked env ask rows chart ≡ route → charge_of ask charges chart ≡ charge
+    → then_charged route charge ≡ accounts_of env ask rows charges chart
+on-route env ask rows charges chart route charge apart found taken = rw (apart, found, taken) refl
+
+-- a message whose route is refused is refused so
+pub refused-route : (env : Envelope) (ask : Ask) (rows : List SsiRow) (charges : ChargeRows) (chart : Chart) (home : Bic) (r : Result Charged Code) (why : Code) →
+    home ≡ chart.home → is_for_home home ask ≡ false → Err why ≡ route_asked env ask rows chart → IsErrAnd r (λ e. e ≡ why) → r ≡ accounts_of env ask rows charges chart
+refused-route env ask rows charges chart home (Ok x) why home_is named found is = absurd is
+refused-route env ask rows charges chart home (Err e) why home_is named found is =
+    let apart = not-home ask chart home home_is named in
+    rw is (on-route env ask rows charges chart (Err why) (charge_of ask charges chart) apart (sym found) refl)
+
+-- and one whose charge is
+pub refused-charge : (env : Envelope) (ask : Ask) (rows : List SsiRow) (charges : ChargeRows) (chart : Chart) (home : Bic) (routed : Routed) (r : Result Charged Code) (why : Code) →
+    home ≡ chart.home → is_for_home home ask ≡ false → Ok routed ≡ route_asked env ask rows chart → Err why ≡ charge_of ask charges chart → IsErrAnd r (λ e. e ≡ why)
+    → r ≡ accounts_of env ask rows charges chart
+refused-charge env ask rows charges chart home routed (Ok x) why home_is named found taken is = absurd is
+refused-charge env ask rows charges chart home routed (Err e) why home_is named found taken is =
+    let apart = not-home ask chart home home_is named in
+    rw is (on-route env ask rows charges chart (Ok routed) (Err why) apart (sym found) (sym taken))
+
+-- one that has both has these accounts
+pub charged-route : (env : Envelope) (ask : Ask) (rows : List SsiRow) (charges : ChargeRows) (chart : Chart) (home : Bic) (routed : Routed) (charge : Option Charge) →
+    home ≡ chart.home → is_for_home home ask ≡ false → Ok routed ≡ route_asked env ask rows chart → Ok charge ≡ charge_of ask charges chart
+    → Ok (record { routed = routed; charge = charge }) ≡ accounts_of env ask rows charges chart
+charged-route env ask rows charges chart home routed charge home_is named found taken =
+    on-route env ask rows charges chart (Ok routed) (Ok charge) (not-home ask chart home home_is named) (sym found) (sym taken)
+
+-- the plan, by the accounts
+pub plan-by : (env : Envelope) (text : List ℕ) (ask : Ask) (rows : List SsiRow) (charges : ChargeRows) (chart : Chart) (accounts : Result Charged Code) →
+    accounts ≡ accounts_of env ask rows charges chart → plan_of env text ask rows charges chart ≡ booked env text ask chart accounts
+unfolding plan_of
+plan-by env text ask rows charges chart accounts is = ap (booked env text ask chart) (sym is)
 
 -- it is asked for part by part
 pub route-of-parts : (env : Envelope) (ask : Ask) (rows : List SsiRow) (chart : Chart) (amount : Amount) (value : Day) (cover : Cover) (target : Target) →
@@ -52,12 +90,6 @@ route-of-parts env (asks.Cover m) rows chart amount value cover target a v c t =
 pub amount-asked : (home : Bic) (ask : Ask) → amount_in ask ≡ (asked_of home ask).amount
 amount-asked home (asks.Transfer m) = refl
 amount-asked home (asks.Cover m) = refl
-
--- the plan, by the route
-pub booked-on-route : (env : Envelope) (text : List ℕ) (ask : Ask) (rows : List SsiRow) (chart : Chart) (route : Result Routed Code) →
-    is_for_home chart.home ask ≡ false → route_asked env ask rows chart ≡ route → plan_of env text ask rows chart ≡ booked env text ask chart route
-unfolding plan_of
-booked-on-route env text ask rows chart route apart found = rw (apart, found) refl
 
 -- what a message asks, read part by part
 pub asked-of-parts : (home : Bic) (ask : Ask) (asked : Asked) (cover : Cover) (target : Target) →

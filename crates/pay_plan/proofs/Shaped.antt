@@ -4,7 +4,7 @@ use Rattle.std.specs.Prelude.{All, IsSome, unwrap_or}
 use Rattle.std.specs.Option.{option_map_or}
 use Rattle.std.proofs.lemmas.Bool.{and_parts, leb-true}
 use Rattle.std.proofs.lemmas.List.{length-append}
-use Rattle.std.proofs.lemmas.List.Elements.{All-append, All-cons, All-nil}
+use Rattle.std.proofs.lemmas.List.Elements.{All-append, All-cons, All-nil, All-weaker}
 use Rattle.corr_text.specs.First.{first_of}
 use Rattle.corr_ids.specs.Bic.{IsBic}
 use Rattle.corr_ids.specs.Day.{InCentury}
@@ -24,24 +24,28 @@ use Rattle.day_model.specs.declared.pay.Side.TheVariants.{Credit, Debit}
 use Rattle.ref_tables.specs.Seen.{Tables, IsKnown}
 use Rattle.fin_parties.specs.declared.party.Party.{Party}
 use Rattle.fin_parties.specs.declared.party.Party.TheVariants as party
-use Rattle.routing.specs.Accounts.{AreBetween, fits_amount}
+use Rattle.routing.specs.Accounts.{fits_amount}
 use Rattle.routing.specs.Route.{is_bank}
 use Rattle.routing.specs.declared.routed.Routed.{Routed}
 use Rattle.routing.specs.declared.target.Target.{Target}
 use Rattle.routing.specs.declared.target.Target.TheVariants.{Bank, Customer, NoBic}
 use Rattle.pay_plan.specs.declared.ask.Ask.{Ask}
 use Rattle.pay_plan.specs.declared.ask.Ask.TheVariants.{Cover, Transfer}
+use Rattle.pay_plan.specs.declared.charging.Charge.{Charge}
+use Rattle.pay_plan.specs.declared.charging.Charged.{Charged}
 use Rattle.pay_plan.specs.Asked.{Asked}
+use Rattle.pay_plan.specs.Charging.{AreCharged, IsTaken}
 use Rattle.pay_plan.specs.declared.way.Way.{Way}
 use Rattle.pay_plan.specs.declared.way.Way.TheVariants.{Covered, Credited, Ends, Onward, Passed}
 use Rattle.pay_plan.specs.Asked.{asked_of}
 use Rattle.pay_plan.specs.Orders.{next_orders, notices_of, orders_by, orders_of, receiver, skip_of}
-use Rattle.pay_plan.specs.Pay.{legs_of, quote_of}
-use Rattle.pay_plan.specs.Plan.{pay_of}
+use Rattle.pay_plan.specs.Pay.{charge_legs, legs_of, quote_of, rest_after}
+use Rattle.pay_plan.specs.Plan.{orders_in, pay_of}
 use Rattle.pay_plan.specs.Readable.{IsReadBy, IsWritable}
 use Rattle.pay_plan.specs.Target.{aimed, bank_target, customer_target, names_home}
 use Rattle.pay_plan.specs.Way.{way_of}
 use Rattle.pay_plan.proofs.CoverForm.{cover-form}
+use Rattle.pay_plan.proofs.Fitting.{with_charge}
 use Rattle.pay_plan.proofs.Parties.{HasBank}
 use Rattle.pay_plan.proofs.TransferForm.{transfer-form}
 
@@ -118,16 +122,23 @@ number-form chart n more sound e =
     let high = leb-true n (length chart.accounts) parts.1 in
     (low, omega (arith, high, sound.rows.few))
 
-two : (x y : Leg) → IsLeg x → IsLeg y → All IsLeg (x ∷ y ∷ [])
-two x y h k = All-cons IsLeg x (y ∷ []) h (All-cons IsLeg y [] k (All-nil IsLeg))
+charge-leg : (t : Tables) (chart : Chart) (asked : Asked) (charge : Option Charge) → IsChart chart → AskedForm t asked → IfSome charge (IsTaken chart asked.amount) → All IsLeg (charge_legs asked charge)
+charge-leg t chart asked None sound h taken = All-nil IsLeg
+charge-leg t chart asked (Some charge) sound h taken =
+    let third : Leg = record { account = charge.account; side = Credit; amount = charge.amount; quote = Theirs asked.reference } in
+    let number = number-form chart charge.account.0 (option_map_or (fits_amount asked.amount) (account_at chart charge.account.0) false) sound taken.fits in
+    All-cons IsLeg third [] (record { account = number; quote = h.reference }) (All-nil IsLeg)
 
-each-leg : (t : Tables) (chart : Chart) (way : Way) (asked : Asked) (routed : Routed) → IsChart chart → AskedForm t asked → AreBetween chart asked.amount routed → All IsLeg (legs_of way asked routed)
-each-leg t chart way asked routed sound h between =
-    let debit = number-form chart routed.debit.0 (option_map_or (fits_amount asked.amount) (account_at chart routed.debit.0) false) sound between.debit in
-    let credit = number-form chart routed.credit.0 (option_map_or (fits_amount asked.amount) (account_at chart routed.credit.0) false) sound between.credit in
+each-leg : (t : Tables) (chart : Chart) (way : Way) (asked : Asked) (charged : Charged) → IsChart chart → AskedForm t asked → AreCharged chart asked.amount charged → All IsLeg (legs_of way asked charged)
+each-leg t chart way asked charged sound h are =
+    let routed = charged.routed in
+    let debit = number-form chart routed.debit.0 (option_map_or (fits_amount asked.amount) (account_at chart routed.debit.0) false) sound are.between.debit in
+    let credit = number-form chart routed.credit.0 (option_map_or (fits_amount asked.amount) (account_at chart routed.credit.0) false) sound are.between.credit in
     let first : Leg = record { account = routed.debit; side = Debit; amount = asked.amount.minor; quote = Theirs asked.reference } in
-    let second : Leg = record { account = routed.credit; side = Credit; amount = asked.amount.minor; quote = quote_of way asked } in
-    two first second (record { account = debit; quote = h.reference }) (record { account = credit; quote = quote-form t way asked h })
+    let second : Leg = record { account = routed.credit; side = Credit; amount = rest_after asked.amount.minor charged.charge; quote = quote_of way asked } in
+    let last = charge_legs asked charged.charge in
+    All-cons IsLeg first (second ∷ last) (record { account = debit; quote = h.reference })
+    (All-cons IsLeg second last (record { account = credit; quote = quote-form t way asked h }) (charge-leg t chart asked charged.charge sound h are.taken))
 
 -- ---- the orders
 
@@ -186,16 +197,30 @@ there-form : (t : Tables) (way : Way) (target : Target) (via : Option Bic) (o : 
 there-form t way target via None h v owner = record { each = All-nil (IsOrder 2); few = omega arith }
 there-form t way target via (Some a) h v owner = both-form t way target via a h v (owner a refl)
 
+-- orders that name one of two legs name one of three
+order-more : (o : Order) → IsOrder 2 o → IsOrder 3 o
+order-more (order.Transfer to skip via) h = h
+order-more (order.Cover to end skip) h = h
+order-more (order.Pass to skip) h = h
+order-more (order.Debit to leg) h = (h.0, (h.1.0, omega (arith, h.1.1)))
+order-more (order.Credit to leg) h = (h.0, (h.1.0, omega (arith, h.1.1)))
+
+orders-of-legs : (way : Way) (asked : Asked) (routed : Routed) (charge : Option Charge) (orders : List Order) → All (IsOrder 2) orders
+    → All (IsOrder (length (legs_of way asked (with_charge routed charge)))) orders
+orders-of-legs way asked routed None orders each = each
+orders-of-legs way asked routed (Some charge) orders each = All-weaker (IsOrder 2) (IsOrder 3) order-more orders each
+
 -- ---- the pay
 
 given : (o : Option Mir) (d : Mir) → IsSome o → IfSome o IsMir → IsMir (unwrap_or o d)
 given (Some m) d some h = h
 given None d some h = absurd (cc some)
 
-pub shaped : (t : Tables) (env : Envelope) (text : List ℕ) (asked : Asked) (routed : Routed) (chart : Chart) → IsSome env.mir → IsWritable env text
-    → AskedForm t asked → AreBetween chart asked.amount routed → IfSome routed.via IsBic → are_legs (legs_of (way_of asked.mt asked.target routed.method) asked routed) ≡ true
-    → IsChart chart → ((a : Account) → account_at chart routed.debit.0 ≡ Some a → IsBic a.owner) → HasShape (pay_of env text asked routed chart)
-shaped t env text asked routed chart received writable form between via are sound owner =
+pub shaped : (t : Tables) (env : Envelope) (text : List ℕ) (asked : Asked) (charged : Charged) (chart : Chart) → IsSome env.mir → IsWritable env text
+    → AskedForm t asked → AreCharged chart asked.amount charged → IfSome charged.routed.via IsBic → are_legs (legs_of (way_of asked.mt asked.target charged.routed.method) asked charged) ≡ true
+    → IsChart chart → ((a : Account) → account_at chart charged.routed.debit.0 ≡ Some a → IsBic a.owner) → HasShape (pay_of env text asked charged chart)
+shaped t env text asked charged chart received writable form between via are sound owner =
+    let routed = charged.routed in
     let way = way_of asked.mt asked.target routed.method in
     let orders = there-form t way asked.target routed.via (account_at chart routed.debit.0) form.target via owner in
     record {
@@ -204,7 +229,7 @@ shaped t env text asked routed chart received writable form between via are soun
       text = writable.short;
       value = form.value;
       legs = are;
-      each_leg = each-leg t chart way asked routed sound form between;
+      each_leg = each-leg t chart way asked charged sound form between;
       few_orders = omega (arith, orders.few);
-      each_order = orders.each;
+      each_order = orders-of-legs way asked routed charged.charge (orders_in chart way asked.target routed) orders.each;
     }

@@ -1,6 +1,7 @@
 pub mod Cover
 pub mod Target
 pub mod Asked
+pub mod Charging
 pub mod Way
 pub mod Orders
 pub mod Pay

@@ -15,7 +15,9 @@ use Rattle.routing.specs.Route.{route_of}
 use Rattle.routing.specs.declared.routed.Routed.{Routed}
 use Rattle.routing.specs.declared.target.Target.{Target}
 use Rattle.pay_plan.specs.declared.ask.Ask.{Ask}
+use Rattle.pay_plan.specs.declared.charging.Charged.{Charged}
 use Rattle.pay_plan.specs.Asked.{Asked}
+use Rattle.pay_plan.specs.Charging.{ChargeRows, charge_of}
 use Rattle.pay_plan.specs.declared.fault.PlanFault.{PlanFault}
 use Rattle.pay_plan.specs.declared.fault.PlanFault.TheVariants as fault
 use Rattle.pay_plan.specs.declared.way.Way.{Way}
@@ -32,18 +34,18 @@ mir_of_envelope env = unwrap_or env.mir (record { 0 = [] })
 abbrev pub orders_in : Chart → Way → Target → Routed → List Order
 orders_in chart way target routed = option_map_or (orders_of way target routed.via) (account_at chart routed.debit.0) []
 
--- what a message asks, booked on the accounts of its route
-abbrev pub pay_of : Envelope → List ℕ → Asked → Routed → Chart → Pay
-pay_of env text asked routed chart =
-    let way = way_of asked.mt asked.target routed.method in
+-- what a message asks, booked on the accounts of its route, with the charge that is taken out of it
+abbrev pub pay_of : Envelope → List ℕ → Asked → Charged → Chart → Pay
+pay_of env text asked charged chart =
+    let way = way_of asked.mt asked.target charged.routed.method in
     record {
       mir = mir_of_envelope env;
       mt = asked.mt;
       uetr = env.uetr;
       text = text;
       value = asked.value;
-      legs = legs_of way asked routed;
-      orders = orders_in chart way asked.target routed;
+      legs = legs_of way asked charged;
+      orders = orders_in chart way asked.target charged.routed;
     }
 
 -- the route of what a message asks
@@ -52,24 +54,24 @@ route_asked env ask rows chart =
     let asked = asked_of chart.home ask in
     route_of env.sender asked.amount asked.value asked.cover asked.target rows chart
 
--- the accounts of a message, or the code with which it has none: a cover for the home bank is refused before they are looked for
-abbrev pub accounts_of : Envelope → Ask → List SsiRow → Chart → Result Routed Code
-accounts_of env ask rows chart = do
+-- the accounts of a message and its charge, or the code of the first test that it fails: a cover for the home bank is refused before
+-- its accounts are looked for, and the charge is looked at last
+abbrev pub accounts_of : Envelope → Ask → List SsiRow → ChargeRows → Chart → Result Charged Code
+accounts_of env ask rows charges chart = do
   _ ← check (not (is_for_home chart.home ask)) (code "P34")
-  route_asked env ask rows chart
+  routed ← route_asked env ask rows chart
+  charge ← charge_of ask charges chart
+  Ok (record { routed = routed; charge = charge })
 
 -- what a message asks, booked on the accounts that it has, or the code with which it has none
-abbrev pub booked : Envelope → List ℕ → Ask → Chart → Result Routed Code → Result Pay Code
+abbrev pub booked : Envelope → List ℕ → Ask → Chart → Result Charged Code → Result Pay Code
 booked env text ask chart accounts = do
-  routed ← accounts
-  Ok (pay_of env text (asked_of chart.home ask) routed chart)
+  charged ← accounts
+  Ok (pay_of env text (asked_of chart.home ask) charged chart)
 
--- a cover for the home bank is refused before its accounts are looked for
-unfoldable pub plan_of : Envelope → List ℕ → Ask → List SsiRow → Chart → Result Pay Code
-plan_of env text ask rows chart = do
-  _ ← check (not (is_for_home chart.home ask)) (code "P34")
-  routed ← route_of env.sender (asked_of chart.home ask).amount (asked_of chart.home ask).value (asked_of chart.home ask).cover (asked_of chart.home ask).target rows chart
-  Ok (pay_of env text (asked_of chart.home ask) routed chart)
+-- what a message asks, booked on its accounts
+unfoldable pub plan_of : Envelope → List ℕ → Ask → List SsiRow → ChargeRows → Chart → Result Pay Code
+plan_of env text ask rows charges chart = booked env text ask chart (accounts_of env ask rows charges chart)
 
 -- the code that a refusal tells, none where memory is out
 abbrev pub told : PlanFault → Option Code

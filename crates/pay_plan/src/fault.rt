@@ -8,10 +8,16 @@ use corr_text::{Code, Memory};
 /// A cover payment whose beneficiary institution is the home bank.
 pub const P34: Code = Code(*b"P34");
 
+/// A charge that isn't below the amount out of which it is taken.
+pub const P39: Code = Code(*b"P39");
+
+/// A charge for which there is no account of fees in the amount's currency and decimals.
+pub const P40: Code = Code(*b"P40");
+
 /// Why a message has no pay.
 #[derive(Clone, Copy, Debug, PartialEq, Eq)]
 pub enum PlanFault {
-    /// The first test that fails: P34, or a code of `route`.
+    /// The first test that fails: P34, a code of `route`, P39 or P40.
     Code(Code),
     /// There was no memory for the pay.
     Memory,

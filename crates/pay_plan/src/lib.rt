@@ -5,6 +5,7 @@
 mod ask;
 mod asked;
 mod asking;
+mod charging;
 mod cover;
 mod fault;
 mod legs;
@@ -14,5 +15,6 @@ mod target;
 mod way;
 
 pub use ask::Ask;
-pub use fault::{P34, PlanFault};
+pub use charging::{Charge, Charged};
+pub use fault::{P34, P39, P40, PlanFault};
 pub use planning::{accounts_of, pay_on, plan};

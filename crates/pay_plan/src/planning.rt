@@ -1,6 +1,6 @@
 //! The pay of a message.
 
-ghost use Rattle.std.specs.Prelude.{◌≡◌, ℕ, IfOk, IfSome, IsSome, List, OnOk, Some};
+ghost use Rattle.std.specs.Prelude.{◌≡◌, ◌≤◌, ℕ, IfOk, IfSome, IsSome, List, OnOk, Some};
 ghost use Rattle.corr_ids.specs.Bic.{IsBic};
 ghost use Rattle.day_model.specs.Chart.{IsChart, IsListed, account_at};
 ghost use Rattle.day_model.specs.Fit.{FitsAccounts};
@@ -8,12 +8,14 @@ ghost use Rattle.day_model.specs.Shape.{HasShape};
 ghost use Rattle.day_model.specs.declared.account.Account.{Account};
 ghost use Rattle.routing.specs.Accounts.{AreBetween};
 ghost use Rattle.pay_plan.specs.Asked.{amount_in, asked_of};
-ghost use Rattle.pay_plan.specs.Plan.{Plans, accounts_of, booked, pay_of, plan_of};
+ghost use Rattle.pay_plan.specs.Charging.{AreCharged};
+ghost use Rattle.pay_plan.specs.Plan.{Plans, accounts_of, booked, pay_of, plan_of, route_asked};
 ghost use Rattle.pay_plan.specs.Readable.{IsSomeReading, IsWritable};
 
 use crate::ask::Ask;
 use crate::asked::Asked;
 use crate::asking::{amount_in, asked_with, cover_in, is_for_home, target_in, value_in};
+use crate::charging::{Charged, charge_of};
 use crate::fault::{P34, PlanFault};
 use crate::legs::legs_of;
 use crate::orders::orders_of;
@@ -21,6 +23,7 @@ use crate::way::way_of;
 use corr_ids::{Envelope, Mir};
 use corr_text::{Code, Memory, Text};
 use day_model::{Accounts, Pay};
+use ref_tables::Charges;
 use routing::{Routed, route_lent};
 use ssi_versions::Ssi;
 use std::alloc::Global;
@@ -32,15 +35,17 @@ fn pay_of(
     env: &Envelope,
     text: &Text,
     asked: &Asked<'_>,
-    routed: &Routed,
+    charged: &Charged,
     a: &Accounts,
 ) -> Result<Pay, Memory>
     requires reference { env.now.mir ≡ Some mir }
-    requires debit { IsListed a.now routed.now.debit.0 }
-    ensures value { IfOk result (λ pay. pay ≡ pay_of env.now text.now asked.now routed.now a.now) }
+    requires debit { IsListed a.now charged.now.routed.debit.0 }
+    requires charge { IfSome charged.now.charge (λ c. c.amount.0 ≤ asked.now.amount.minor.0) }
+    ensures value { IfOk result (λ pay. pay ≡ pay_of env.now text.now asked.now charged.now a.now) }
     ensures sound { OnOk result (IsChart a.now) }
-    ensures owner { OnOk result ((x : Account) → account_at a.now routed.now.debit.0 ≡ Some x → IsBic x.owner) }
+    ensures owner { OnOk result ((x : Account) → account_at a.now charged.now.routed.debit.0 ≡ Some x → IsBic x.owner) }
 {
+    let routed = &charged.routed;
     let way = way_of(asked.mt, asked.target, routed.method);
     Ok(Pay {
         mir,
@@ -48,27 +53,17 @@ fn pay_of(
         uetr: env.uetr,
         text: text.copy(alloc)?,
         value: asked.value,
-        legs: legs_of(alloc, way, asked, routed)?,
+        legs: legs_of(alloc, way, asked, charged)?,
         orders: orders_of(alloc, way, asked.target, routed.via, a.get(routed.debit))?,
     })
 }
 
-/// The accounts of a message, or the code with which it is refused: P34, or one of `route`. Takes no memory; `pay_on` gives the
-/// pay between them.
-pub fn accounts_of(
-    env: &Envelope,
-    ask: Ask<'_>,
-    ssi: &Ssi,
-    accounts: &Accounts,
-) -> Result<Routed, Code>
-    ensures routed { result ≡ accounts_of env.now ask.entry ssi.now accounts.now }
-    ensures value { (text : List ℕ) → plan_of env.now text ask.entry ssi.now accounts.now ≡ booked env.now text ask.entry accounts.now result }
+// The route of what a message asks.
+fn route_asked(env: &Envelope, ask: Ask<'_>, ssi: &Ssi, accounts: &Accounts) -> Result<Routed, Code>
+    ensures value { result ≡ route_asked env.now ask.entry ssi.now accounts.now }
     ensures accounts { IfOk result (AreBetween accounts.now (amount_in ask.entry)) }
     ensures via { IfOk result (λ routed. IfSome routed.via IsBic) }
 {
-    if is_for_home(accounts.home(), ask) {
-        return Err(P34);
-    }
     let cover = cover_in(ask);
     let target = target_in(accounts.home(), ask);
     let amount = amount_in(ask);
@@ -83,6 +78,29 @@ pub fn accounts_of(
     )
 }
 
+/// The accounts of a message and the charge that is taken out of it, or the code with which it is refused: P34, one of `route`, or
+/// P39 or P40 of its charge (docs/operating.md, "Accounts of a payment" and "Charges"). Takes no memory; `pay_on` gives the pay
+/// between them.
+pub fn accounts_of(
+    env: &Envelope,
+    ask: Ask<'_>,
+    ssi: &Ssi,
+    accounts: &Accounts,
+    charges: &Charges,
+) -> Result<Charged, Code>
+    ensures charged { result ≡ accounts_of env.now ask.entry ssi.now charges.now accounts.now }
+    ensures value { (text : List ℕ) → plan_of env.now text ask.entry ssi.now charges.now accounts.now ≡ booked env.now text ask.entry accounts.now result }
+    ensures accounts { IfOk result (AreCharged accounts.now (amount_in ask.entry)) }
+    ensures via { IfOk result (λ charged. IfSome charged.routed.via IsBic) }
+{
+    if is_for_home(accounts.home(), ask) {
+        return Err(P34);
+    }
+    let routed = route_asked(env, ask, ssi, accounts)?;
+    let charge = charge_of(ask, charges, accounts)?;
+    Ok(Charged { routed, charge })
+}
+
 /// The pay that a message asks for on the accounts that `accounts_of` gives it. `Memory`: there was no room for it.
 ///
 /// The pay can be written down where the reference and the UETR of `env` meet their grammar and the text has at most
@@ -92,14 +110,14 @@ pub fn pay_on(
     env: &Envelope,
     text: &Text,
     ask: Ask<'_>,
-    routed: &Routed,
+    charged: &Charged,
     accounts: &Accounts,
 ) -> Result<Pay, Memory>
     requires received { IsSome env.now.mir }
     requires message { IsSomeReading ask }
-    requires accounts { AreBetween accounts.now (amount_in ask) routed.now }
-    requires via { IfSome routed.now.via IsBic }
-    ensures value { IfOk result (λ pay. pay ≡ pay_of env.now text.now (asked_of accounts.now.home ask.entry) routed.now accounts.now) }
+    requires accounts { AreCharged accounts.now (amount_in ask) charged.now }
+    requires via { IfSome charged.now.routed.via IsBic }
+    ensures value { IfOk result (λ pay. pay ≡ pay_of env.now text.now (asked_of accounts.now.home ask.entry) charged.now accounts.now) }
     ensures fit { IfOk result (FitsAccounts accounts.now) }
     ensures form { IsWritable env.now text.now → IfOk result HasShape }
     ensures sound { OnOk result (IsChart accounts.now) }
@@ -107,14 +125,15 @@ pub fn pay_on(
     let Some(mir) = env.mir else { unreachable!() };
     let target = target_in(accounts.home(), ask);
     let asked = asked_with(ask, cover_in(ask), target);
-    pay_of(alloc, mir, env, text, &asked, routed, accounts)
+    pay_of(alloc, mir, env, text, &asked, charged, accounts)
 }
 
 /// The pay that a message asks for under these instructions and accounts, or the first reason why it has none
 /// (docs/operating.md, "Accounts of a payment").
 ///
 /// `env` has a reference, and the message is one that its reader gives. P34 comes exactly where it is a cover whose 58a names
-/// the home bank by its BIC; else the codes of `route`. `Memory`: there was no room for the pay.
+/// the home bank by its BIC; else the codes of `route`; then P39 where the charge isn't below the amount, and P40 where no account
+/// of fees has its currency and decimals. `Memory`: there was no room for the pay.
 ///
 /// The pay can be written down where the reference and the UETR of `env` meet their grammar and the text has at most
 /// 32,768 bytes.
@@ -125,14 +144,15 @@ pub fn plan(
     ask: Ask<'_>,
     ssi: &Ssi,
     accounts: &Accounts,
+    charges: &Charges,
 ) -> Result<Pay, PlanFault>
     requires received { IsSome env.now.mir }
     requires message { IsSomeReading ask }
-    ensures plan { Plans result (plan_of env.now text.now ask.entry ssi.now accounts.now) }
+    ensures plan { Plans result (plan_of env.now text.now ask.entry ssi.now charges.now accounts.now) }
     ensures fit { IfOk result (FitsAccounts accounts.now) }
     ensures form { IsWritable env.now text.now → IfOk result HasShape }
     ensures sound { OnOk result (IsChart accounts.now) }
 {
-    let routed = accounts_of(env, ask, ssi, accounts)?;
-    Ok(pay_on(alloc, env, text, ask, &routed, accounts)?)
+    let charged = accounts_of(env, ask, ssi, accounts, charges)?;
+    Ok(pay_on(alloc, env, text, ask, &charged, accounts)?)
 }

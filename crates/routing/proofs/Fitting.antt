@@ -1,9 +1,9 @@
 -- Accounts that are found fit, and an id names one account.
-use Rattle.std.proofs.Common.{◌≡◌, ℕ, ◌-◌, Bool, true, false, List, length, Option, Some, None, IsTrue, IfSome, refl, sym, ap, ◌∙◌, arith, leb, eqb}
+use Rattle.std.proofs.Common.{◌≡◌, ℕ, ◌-◌, Bool, true, false, List, length, Option, Some, None, IsTrue, IfSome, refl, sym, ap, ◌∙◌, subst, arith, leb, eqb}
 use Rattle.std.specs.Prelude.{◌&&◌, ◌||◌, option_map, slice_get}
 use Rattle.std.specs.List.{position_from}
 use Rattle.std.specs.Str.{bytes_eq}
-use Rattle.std.proofs.lemmas.Bool.{and_parts, le-leb}
+use Rattle.std.proofs.lemmas.Bool.{and_parts, eqb-true, le-leb}
 use Rattle.std.proofs.lemmas.Option.{same_Some}
 use Rattle.std.proofs.lemmas.Slice.Eq.{bytes_eq-Decides}
 use Rattle.corr_money.specs.declared.amount.Amount.{Amount}
@@ -53,6 +53,18 @@ serves-fits (Nostro bank) amount x e = owned-fits nostro bank.head amount x e
 pub owned-Fits : (kind : ℕ) (head : List ℕ) (amount : Amount) (chart : Chart) (o : Option AcctNo) → o ≡ number_of_first (is_owned kind head amount.ccy amount.decimals) chart.accounts → IfSome o (λ n. IsTrue (fits_at chart amount n))
 owned-Fits kind head amount chart (Some n) e = first-fits (is_owned kind head amount.ccy amount.decimals) chart amount n (owned-fits kind head amount) (sym e)
 owned-Fits kind head amount chart None e = tt
+
+-- the account that is found is of the kind
+pub owned-kind : (kind : ℕ) (head : List ℕ) (amount : Amount) (chart : Chart) (o : Option AcctNo) → o ≡ number_of_first (is_owned kind head amount.ccy amount.decimals) chart.accounts
+    → IfSome o (λ n. (x : Account) → account_at chart n.0 ≡ Some x → x.kind ≡ kind)
+owned-kind kind head amount chart (Some n) e = λ x at.
+    let s = stands (is_owned kind head amount.ccy amount.decimals) chart n (sym e) in
+    let same : s.item ≡ x = same_Some _ _ (sym s.there ∙ at) in
+    let is = subst (λ (y : Account). is_owned kind head amount.ccy amount.decimals y ≡ true) same s.passes in
+    let money = and_parts (eqb x.kind kind && bytes_eq x.owner.head head && is_same_ccy x.ccy amount.ccy) (eqb x.decimals amount.decimals) is in
+    let bank = and_parts (eqb x.kind kind && bytes_eq x.owner.head head) (is_same_ccy x.ccy amount.ccy) money.0 in
+    eqb-true x.kind kind (and_parts (eqb x.kind kind) (bytes_eq x.owner.head head) bank.0).0
+owned-kind kind head amount chart None e = tt
 
 abbrev numbered : ℕ → AcctNo
 numbered k = record { 0 = k }

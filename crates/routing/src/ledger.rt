@@ -1,7 +1,8 @@
 //! The accounts that a payment may be booked on.
 
-ghost use Rattle.std.specs.Prelude.{◌≡◌, IfSome, IsTrue};
-ghost use Rattle.day_model.specs.Chart.{is_owned, kind_letter};
+ghost use Rattle.std.specs.Prelude.{◌≡◌, IfSome, IsTrue, Some};
+ghost use Rattle.day_model.specs.declared.account.Account.{Account};
+ghost use Rattle.day_model.specs.Chart.{account_at, is_owned, kind_letter};
 ghost use Rattle.routing.specs.Accounts.{account_with, fits_amount, fits_at, account_named, serves};
 
 use corr_ids::Bic;
@@ -47,10 +48,11 @@ fn serves(wanted: &Wanted, amount: &Amount, account: &Account) -> bool
     }
 }
 
-/// The account of this kind that a bank owns, in the amount's currency and decimals; none where there is none.
+/// The account of this kind that a bank owns, in the amount's currency and decimals; none where there is none. Takes no memory.
 pub fn account_with(kind: Kind, bank: &Bic, amount: &Amount, a: &Accounts) -> Option<AcctNo>
     ensures value { result ≡ account_with (kind_letter kind) bank.now amount.now a.now }
     ensures fits { IfSome result (λ n. IsTrue (fits_at a.now amount.now n)) }
+    ensures kind { IfSome result (λ n. (x : Account) → account_at a.now n.0 ≡ Some x → x.kind ≡ kind_letter kind) }
 {
     a.owned(kind.letter(), &bank.head, amount.ccy, amount.decimals)
 }

@@ -15,6 +15,7 @@ mod target;
 pub use choice::{route, route_lent};
 pub use codes::{P30, P31, P32, P33, P35, P36, P38};
 pub use cover::Cover;
+pub use ledger::account_with;
 pub use lent::{LentCover, LentTarget};
 pub use routed::Routed;
 pub use target::Target;

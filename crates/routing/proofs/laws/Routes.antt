@@ -1,11 +1,11 @@
 -- What a route rests on: its accounts fit the amount, a vostro account that is debited is the sender's, and the bank between
 -- stands in the table of banks where those of the instructions do.
-use Rattle.std.proofs.Common.{◌≡◌, ℕ, Bool, true, false, List, [], ◌∷◌, IfSome, IsTrue, Option, Some, None, Result, Ok, Err, refl, sym, ap, ◌∙◌, subst, eqb}
+use Rattle.std.proofs.Common.{◌≡◌, ◌≢◌, arith, ℕ, Bool, true, false, List, [], ◌∷◌, IfSome, IsTrue, Option, Some, None, Result, Ok, Err, refl, sym, ap, ◌∙◌, subst, eqb}
 use Rattle.std.specs.Prelude.{◌&&◌, ◌||◌, ◌==◌, ◌++◌, cond, filter, find, not}
 use Rattle.std.specs.List.{All}
 use Rattle.std.specs.Option.{option_or}
 use Rattle.std.specs.Str.{bytes_eq}
-use Rattle.std.proofs.lemmas.Bool.{and_parts}
+use Rattle.std.proofs.lemmas.Bool.{and_parts, eqb-true}
 use Rattle.std.proofs.lemmas.List.Elements.{All-filter, All-head, All-tail}
 use Rattle.std.proofs.lemmas.Option.{same_Some}
 use Rattle.std.proofs.lemmas.Slice.Eq.{bytes_eq-Decides}
@@ -17,7 +17,7 @@ use Rattle.corr_money.specs.declared.amount.Amount.{Amount}
 use Rattle.ref_tables.specs.Seen.{Tables, has_head}
 use Rattle.day_model.specs.declared.account.Account.{Account}
 use Rattle.day_model.specs.declared.account.AcctNo.{AcctNo}
-use Rattle.day_model.specs.Chart.{Chart, account_at, has_id, is_same_ccy, is_owned, nostro, number_of_first, vostro}
+use Rattle.day_model.specs.Chart.{Chart, account_at, customer, fee, has_id, is_same_ccy, is_owned, nostro, number_of_first, vostro}
 use Rattle.ssi_versions.specs.declared.method.Method.{Method}
 use Rattle.ssi_versions.specs.declared.method.Method.TheVariants as method
 use Rattle.ssi_versions.specs.declared.row.SsiRow.{SsiRow}
@@ -72,9 +72,10 @@ AccountIs chart P n = (x : Account) → account_at chart n.0 ≡ Some x → P x
 abbrev Fits : Amount → Account → Type 0
 Fits amount x = fits_amount amount x ≡ true
 
--- it fits, and a vostro account is this bank's
+-- it fits, it is none of fees, and a vostro account is this bank's
 record IsOwn (bank : Bic) (amount : Amount) (x : Account) : Type 0 where
   fit : fits_amount amount x ≡ true
+  kind : x.kind ≢ fee
   owner : x.kind ≡ vostro → x.owner.head ≡ bank.head
 
 -- the kind and the owner of an account that is owned
@@ -84,9 +85,33 @@ owned-parts kind head amount x e =
     let bank = and_parts (eqb x.kind kind && bytes_eq x.owner.head head) (is_same_ccy x.ccy amount.ccy) money.0 in
     and_parts (eqb x.kind kind) (bytes_eq x.owner.head head) bank.0
 
-owned-own : (kind : ℕ) (bank : Bic) (amount : Amount) (x : Account) → is_owned kind bank.head amount.ccy amount.decimals x ≡ true → IsOwn bank amount x
-owned-own kind bank amount x e =
-    record { fit = owned-fits kind bank.head amount x e; owner = λ _. (bytes_eq-Decides x.owner.head bank.head).0 (owned-parts kind bank.head amount x e).1 }
+-- what an account of a kind has that was found for an amount
+pub record IsFound (kind : ℕ) (amount : Amount) (chart : Chart) (n : AcctNo) : Type 0 where
+  pub fit : (x : Account) → account_at chart n.0 ≡ Some x → fits_amount amount x ≡ true
+  pub kind_is : (x : Account) → account_at chart n.0 ≡ Some x → x.kind ≡ kind
+
+pub found-is : (kind : ℕ) (bank : Bic) (amount : Amount) (chart : Chart) (n : AcctNo) → account_with kind bank amount chart ≡ Some n → IsFound kind amount chart n
+found-is kind bank amount chart n e = record {
+  fit = λ x at. owned-fits kind bank.head amount x (passes (is_owned kind bank.head amount.ccy amount.decimals) chart n x e at);
+  kind_is = λ x at. eqb-true x.kind kind (owned-parts kind bank.head amount x (passes (is_owned kind bank.head amount.ccy amount.decimals) chart n x e at)).0;
+}
+
+-- an account of a kind that isn't that of fees is none of fees
+other-kind : (kind : ℕ) (head : List ℕ) (amount : Amount) (x : Account) → kind ≢ fee → is_owned kind head amount.ccy amount.decimals x ≡ true → x.kind ≢ fee
+other-kind kind head amount x other e = λ is. other (sym (eqb-true x.kind kind (owned-parts kind head amount x e).0) ∙ is)
+
+vostro-other : vostro ≢ fee
+vostro-other e = omega (arith, e)
+
+nostro-other : nostro ≢ fee
+nostro-other e = omega (arith, e)
+
+customer-other : customer ≢ fee
+customer-other e = omega (arith, e)
+
+owned-own : (kind : ℕ) (bank : Bic) (amount : Amount) (x : Account) → kind ≢ fee → is_owned kind bank.head amount.ccy amount.decimals x ≡ true → IsOwn bank amount x
+owned-own kind bank amount x other e =
+    record { fit = owned-fits kind bank.head amount x e; kind = other-kind kind bank.head amount x other e; owner = λ _. (bytes_eq-Decides x.owner.head bank.head).0 (owned-parts kind bank.head amount x e).1 }
 
 not-vostro : (kind : ℕ) → eqb kind nostro ≡ true → kind ≡ vostro → ⊥
 not-vostro kind e same = let false_is : eqb vostro nostro ≡ true = subst (λ (k : ℕ). eqb k nostro ≡ true) same e in cc false_is
@@ -94,7 +119,7 @@ not-vostro kind e same = let false_is : eqb vostro nostro ≡ true = subst (λ (
 -- a nostro account may be another bank's
 nostro-own : (sender bank : Bic) (amount : Amount) (x : Account) → is_owned nostro bank.head amount.ccy amount.decimals x ≡ true → IsOwn sender amount x
 nostro-own sender bank amount x e =
-    record { fit = owned-fits nostro bank.head amount x e; owner = λ same. absurd (not-vostro x.kind (owned-parts nostro bank.head amount x e).0 same) }
+    record { fit = owned-fits nostro bank.head amount x e; kind = other-kind nostro bank.head amount x nostro-other e; owner = λ same. absurd (not-vostro x.kind (owned-parts nostro bank.head amount x e).0 same) }
 
 either-own : (sender : Bic) (amount : Amount) (x : Account) (a b : Bool) → (a ≡ true → IsOwn sender amount x) → (b ≡ true → IsOwn sender amount x) → (a || b) ≡ true → IsOwn sender amount x
 either-own sender amount x true b f g e = f refl
@@ -103,7 +128,7 @@ either-own sender amount x false b f g e = g e
 relation-own : (sender : Bic) (amount : Amount) (x : Account) → serves (wanted.Relation sender) amount x ≡ true → IsOwn sender amount x
 relation-own sender amount x e =
     either-own sender amount x (is_owned vostro sender.head amount.ccy amount.decimals x) (is_owned nostro sender.head amount.ccy amount.decimals x)
-    (owned-own vostro sender amount x) (owned-own nostro sender amount x) e
+    (owned-own vostro sender amount x vostro-other) (owned-own nostro sender amount x nostro-other) e
 
 -- ---- the account that is debited
 
@@ -114,8 +139,8 @@ either-of P None b x f g e = g x e
 relation-debit : (sender : Bic) (amount : Amount) (chart : Chart) (n : AcctNo) → relation_of sender amount chart ≡ Ok n → AccountIs chart (IsOwn sender amount) n
 relation-debit sender amount chart n e =
     either-of (AccountIs chart (IsOwn sender amount)) (account_with vostro sender amount chart) (account_with nostro sender amount chart) n
-    (λ m is x at. owned-own vostro sender amount x (passes (is_owned vostro sender.head amount.ccy amount.decimals) chart m x is at))
-    (λ m is x at. owned-own nostro sender amount x (passes (is_owned nostro sender.head amount.ccy amount.decimals) chart m x is at))
+    (λ m is x at. owned-own vostro sender amount x vostro-other (passes (is_owned vostro sender.head amount.ccy amount.decimals) chart m x is at))
+    (λ m is x at. owned-own nostro sender amount x nostro-other (passes (is_owned nostro sender.head amount.ccy amount.decimals) chart m x is at))
     (given (option_or (account_with vostro sender amount chart) (account_with nostro sender amount chart)) (code "P31") n e)
 
 bank-debit : (bank sender : Bic) (amount : Amount) (chart : Chart) (n : AcctNo) (related : Bool)
@@ -232,3 +257,68 @@ route-is t sender amount value c aim rows chart routed known e =
       owner = λ x at. (own x at).owner;
       via = is.via;
     })
+
+-- ---- no account of a route is one of fees
+
+serves-other : (w : Wanted) (amount : Amount) (x : Account) → serves w amount x ≡ true → x.kind ≢ fee
+serves-other wanted.Customer amount x e =
+    λ is. customer-other (sym (eqb-true x.kind customer (and_parts (eqb x.kind customer) (fits_amount amount x) e).0) ∙ is)
+serves-other (wanted.Relation bank) amount x e = (relation-own bank amount x e).kind
+serves-other (wanted.Vostro bank) amount x e = other-kind vostro bank.head amount x vostro-other e
+serves-other (wanted.Nostro bank) amount x e = other-kind nostro bank.head amount x nostro-other e
+
+-- an account is none of fees
+abbrev IsOther : Account → Type 0
+IsOther x = x.kind ≢ fee
+
+named-other : (id : List ℕ) (w : Wanted) (amount : Amount) (chart : Chart) (n : AcctNo) → account_named id w amount chart ≡ Some n → AccountIs chart IsOther n
+named-other id w amount chart n is = λ x at.
+    serves-other w amount x (and_parts (has_id id x) (serves w amount x) (passes (λ y. has_id id y && serves w amount y) chart n x is at)).1
+
+abbrev CreditIsOther : Chart → Credit → Type 0
+CreditIsOther chart credit = AccountIs chart IsOther credit.account
+
+customer-credit : (account : Option (List ℕ)) (amount : Amount) (chart : Chart) (credit : Credit) → customer_credit account amount chart ≡ Ok credit → CreditIsOther chart credit
+customer-credit account amount chart credit e =
+    let id = there account (code "P33") _ credit e in
+    let n = there (account_named id.0 wanted.Customer amount chart) (code "P33") _ credit id.2 in
+    subst (CreditIsOther chart) (ok-is _ credit n.2) (named-other id.0 wanted.Customer amount chart n.0 n.1)
+
+booked-credit : (bank : Bic) (id : List ℕ) (amount : Amount) (chart : Chart) (credit : Credit) → booked_credit bank id amount chart ≡ Ok credit → CreditIsOther chart credit
+booked-credit bank id amount chart credit e =
+    let n = there (account_named id (wanted.Vostro bank) amount chart) (code "P36") _ credit e in
+    subst (CreditIsOther chart) (ok-is _ credit n.2) (named-other id (wanted.Vostro bank) amount chart n.0 n.1)
+
+carried-credit : (row : SsiRow) (amount : Amount) (chart : Chart) (credit : Credit) → carried_credit row amount chart ≡ Ok credit → CreditIsOther chart credit
+carried-credit row amount chart credit e =
+    let via = there row.via (code "P36") _ credit e in
+    let n = there (account_named row.account (wanted.Nostro via.0) amount chart) (code "P36") _ credit via.2 in
+    subst (CreditIsOther chart) (ok-is _ credit n.2) (named-other row.account (wanted.Nostro via.0) amount chart n.0 n.1)
+
+instructed-credit : (m : Method) (bank : Bic) (row : SsiRow) (amount : Amount) (chart : Chart) (credit : Credit) → credit_by m bank row amount chart ≡ Ok credit → CreditIsOther chart credit
+instructed-credit method.Book bank row amount chart credit e = booked-credit bank row.account amount chart credit e
+instructed-credit method.Serial bank row amount chart credit e = carried-credit row amount chart credit e
+instructed-credit method.Cover bank row amount chart credit e = carried-credit row amount chart credit e
+
+other-credit : (amount : Amount) (value : Day) (aim : Target) (rows : List SsiRow) (chart : Chart) (credit : Credit) → credit_of amount value aim rows chart ≡ Ok credit → CreditIsOther chart credit
+other-credit amount value (target.Customer account) rows chart credit e = customer-credit account amount chart credit e
+other-credit amount value (target.Bank bank field) rows chart credit e =
+    let row = there (instruction_at rows amount.ccy bank value) (code "P30") _ credit e in
+    instructed-credit row.0.method bank row.0 amount chart credit row.2
+other-credit amount value target.NoBic rows chart credit e = absurd (cc e)
+
+-- the accounts that a route has are none of fees
+pub record AreNoFees (chart : Chart) (routed : Routed) : Type 0 where
+  pub debit : (x : Account) → account_at chart routed.debit.0 ≡ Some x → x.kind ≢ fee
+  pub credit : (x : Account) → account_at chart routed.credit.0 ≡ Some x → x.kind ≢ fee
+
+pub route-no-fees : (sender : Bic) (amount : Amount) (value : Day) (c : Cover) (aim : Target) (rows : List SsiRow) (chart : Chart) (routed : Routed)
+    → route_of sender amount value c aim rows chart ≡ Ok routed → AreNoFees chart routed
+unfolding route_of
+route-no-fees sender amount value c aim rows chart routed e =
+    let debit = read-then (debit_of sender amount c chart) _ routed e in
+    let credit = read-then (credit_of amount value aim rows chart) _ routed debit.2 in
+    let last = checked (not (debit.0.0 == credit.0.account.0)) (code "P38") _ routed credit.2 in
+    let own = debit-own sender amount c chart debit.0 debit.1 in
+    let same : record { debit = debit.0; credit = credit.0.account; method = credit.0.method; via = credit.0.via } ≡ routed = ok-is _ routed last in
+    subst (AreNoFees chart) same (record { debit = λ x at. (own x at).kind; credit = other-credit amount value aim rows chart credit.0 credit.1 })

@@ -1,40 +1,51 @@
-use Rattle.std.proofs.Common.{◌≡◌, IfOk, false, sym, ap, ◌∙◌, subst}
-use Rattle.corr_ids.specs.declared.bic.Bic.{Bic}
-use Rattle.corr_money.specs.declared.amount.Amount.{Amount}
-use Rattle.routing.specs.Accounts.{AreBetween}
-use Rattle.routing.specs.Lent.{cover_lent, target_lent}
-use Rattle.pay_plan.specs.Asked.{is_for_home, target_in}
-use Rattle.pay_plan.proofs.Planned.{booked-on-route, home-alone, home-refused, on-route, route-of-parts}
+use Rattle.std.proofs.Common.{sym, ◌∙◌}
+use Rattle.pay_plan.proofs.Apart.{charged-are}
+use Rattle.pay_plan.proofs.Planned.{charged-route, home-alone, plan-by, refused-charge, refused-route}
 use Rattle.pay_plan.proofs.planning.accounts_of.Goals as goal
 
-pub returns-then-is_for_home-clause-routed : goal.returns-then-is_for_home-clause-routed
-returns-then-is_for_home-clause-routed c =
-    home-alone c.args.env.now c.args.ask c.args.ssi.now c.args.accounts.now c.home.result.now c.home.ensures (sym c.is_for_home.ensures ∙ c.if-is_for_home.true)
+pub returns-then-is_for_home-clause-charged : goal.returns-then-is_for_home-clause-charged
+returns-then-is_for_home-clause-charged c =
+    home-alone c.args.env.now c.args.ask c.args.ssi.now c.args.charges.now c.args.accounts.now c.home.result.now c.home.ensures (sym c.is_for_home.ensures ∙ c.if-is_for_home.true)
 
 pub returns-then-is_for_home-clause-value : goal.returns-then-is_for_home-clause-value
 returns-then-is_for_home-clause-value c = λ text.
-    home-refused c.args.env.now text c.args.ask c.args.ssi.now c.args.accounts.now c.home.result.now c.home.ensures (sym c.is_for_home.ensures ∙ c.if-is_for_home.true)
+    plan-by c.args.env.now text c.args.ask c.args.ssi.now c.args.charges.now c.args.accounts.now _
+    (home-alone c.args.env.now c.args.ask c.args.ssi.now c.args.charges.now c.args.accounts.now c.home.result.now c.home.ensures (sym c.is_for_home.ensures ∙ c.if-is_for_home.true))
 
-pub returns-clause-routed : goal.returns-clause-routed
-returns-clause-routed c =
-    let chart = c.args.accounts.now in
-    let ask = c.args.ask in
-    let apart : is_for_home chart.home ask ≡ false = ap (λ (h : Bic). is_for_home h ask) (sym c.home.ensures) ∙ sym c.if-is_for_home.ensures in
-    let target_is : target_lent c.target_in-target.result ≡ target_in chart.home ask = c.target_in-target.ensures ∙ ap (λ (h : Bic). target_in h ask) c.home-2.ensures in
-    let parts = route-of-parts c.args.env.now ask c.args.ssi.now chart c.amount_in-amount.result.now c.value_in.result (cover_lent c.cover_in-cover.result) (target_lent c.target_in-target.result)
-    c.amount_in-amount.ensures c.value_in.ensures c.cover_in-cover.ensures target_is in
-    on-route c.args.env.now ask c.args.ssi.now chart c.route_lent.result apart (parts ∙ sym c.route_lent.ensures.value)
+pub returns-in_err-routed-clause-charged : goal.returns-in_err-routed-clause-charged
+returns-in_err-routed-clause-charged c =
+    refused-route c.args.env.now c.args.ask c.args.ssi.now c.args.charges.now c.args.accounts.now c.home.result.now c.from_residual.result c.in_err-routed.field-0.0
+    c.home.ensures (sym c.if-is_for_home.ensures) c.in_err-routed.ensures.value c.from_residual.ensures.1
+
+pub returns-in_err-routed-clause-value : goal.returns-in_err-routed-clause-value
+returns-in_err-routed-clause-value c = λ text.
+    plan-by c.args.env.now text c.args.ask c.args.ssi.now c.args.charges.now c.args.accounts.now _
+    (refused-route c.args.env.now c.args.ask c.args.ssi.now c.args.charges.now c.args.accounts.now c.home.result.now c.from_residual.result c.in_err-routed.field-0.0
+    c.home.ensures (sym c.if-is_for_home.ensures) c.in_err-routed.ensures.value c.from_residual.ensures.1)
+
+pub returns-in_err-charge-clause-charged : goal.returns-in_err-charge-clause-charged
+returns-in_err-charge-clause-charged c =
+    refused-charge c.args.env.now c.args.ask c.args.ssi.now c.args.charges.now c.args.accounts.now c.home.result.now c.in_ok-routed.routed c.from_residual-in_err-charge.result
+    c.in_err-charge.field-0.0 c.home.ensures (sym c.if-is_for_home.ensures) c.in_ok-routed.ensures.value c.in_err-charge.ensures.value c.from_residual-in_err-charge.ensures.1
+
+pub returns-in_err-charge-clause-value : goal.returns-in_err-charge-clause-value
+returns-in_err-charge-clause-value c = λ text.
+    plan-by c.args.env.now text c.args.ask c.args.ssi.now c.args.charges.now c.args.accounts.now _
+    (refused-charge c.args.env.now c.args.ask c.args.ssi.now c.args.charges.now c.args.accounts.now c.home.result.now c.in_ok-routed.routed c.from_residual-in_err-charge.result
+    c.in_err-charge.field-0.0 c.home.ensures (sym c.if-is_for_home.ensures) c.in_ok-routed.ensures.value c.in_err-charge.ensures.value c.from_residual-in_err-charge.ensures.1)
+
+pub returns-clause-charged : goal.returns-clause-charged
+returns-clause-charged c =
+    charged-route c.args.env.now c.args.ask c.args.ssi.now c.args.charges.now c.args.accounts.now c.home.result.now c.in_ok-routed.routed c.in_ok-charge.charge
+    c.home.ensures (sym c.if-is_for_home.ensures) c.in_ok-routed.ensures.value c.in_ok-charge.ensures.value
 
 pub returns-clause-value : goal.returns-clause-value
 returns-clause-value c = λ text.
-    let chart = c.args.accounts.now in
-    let ask = c.args.ask in
-    let apart : is_for_home chart.home ask ≡ false = ap (λ (h : Bic). is_for_home h ask) (sym c.home.ensures) ∙ sym c.if-is_for_home.ensures in
-    let target_is : target_lent c.target_in-target.result ≡ target_in chart.home ask = c.target_in-target.ensures ∙ ap (λ (h : Bic). target_in h ask) c.home-2.ensures in
-    let parts = route-of-parts c.args.env.now ask c.args.ssi.now chart c.amount_in-amount.result.now c.value_in.result (cover_lent c.cover_in-cover.result) (target_lent c.target_in-target.result)
-    c.amount_in-amount.ensures c.value_in.ensures c.cover_in-cover.ensures target_is in
-    booked-on-route c.args.env.now text ask c.args.ssi.now chart c.route_lent.result apart (parts ∙ sym c.route_lent.ensures.value)
+    plan-by c.args.env.now text c.args.ask c.args.ssi.now c.args.charges.now c.args.accounts.now _
+    (charged-route c.args.env.now c.args.ask c.args.ssi.now c.args.charges.now c.args.accounts.now c.home.result.now c.in_ok-routed.routed c.in_ok-charge.charge
+    c.home.ensures (sym c.if-is_for_home.ensures) c.in_ok-routed.ensures.value c.in_ok-charge.ensures.value)
 
 pub returns-clause-accounts : goal.returns-clause-accounts
 returns-clause-accounts c =
-    subst (λ (a : Amount). IfOk c.route_lent.result (AreBetween c.args.accounts.now a)) c.amount_in-amount.ensures c.route_lent.ensures.accounts
+    charged-are c.args.env.now c.args.ask c.args.ssi.now c.args.accounts.now c.in_ok-routed.routed c.in_ok-charge.charge (sym c.in_ok-routed.ensures.value) c.in_ok-routed.ensures.accounts
+    c.in_ok-charge.ensures.taken
