@@ -1,7 +1,7 @@
 -- The legs of a pay, with their accounts.
-use Rattle.std.specs.Prelude.{ℕ, ◌-◌, Option, option_map, option_and_then, slice_get}
+use Rattle.std.specs.Prelude.{ℕ, ◌-◌, ◌==◌, Option, None, option_map, option_and_then, slice_get, if◌then◌else◌}
 use Rattle.corr_money.specs.declared.amount.Amount.{Amount}
-use Rattle.day_model.specs.Chart.{Chart, account_at}
+use Rattle.day_model.specs.Chart.{Chart, account_at, fee}
 use Rattle.day_model.specs.Fit.{side_sum}
 use Rattle.day_model.specs.declared.account.Account.{Account}
 use Rattle.day_model.specs.declared.pay.Leg.{Leg}
@@ -25,6 +25,10 @@ leg_amount chart pay n = option_and_then (λ leg. option_map (amount_on leg) (ac
 abbrev pub debited_amount : Chart → Pay → Option Amount
 debited_amount chart pay =
     option_map (λ account. record { ccy = account.ccy; minor = record { 0 = side_sum Debit pay.legs }; decimals = account.decimals }) (leg_account chart pay 1)
+
+-- the charge that a pay takes: the amount of a third leg on an account for charges, none where there is no such leg
+abbrev pub charge_of : Chart → Pay → Option Amount
+charge_of chart pay = option_and_then (λ account. if account.kind == fee then leg_amount chart pay 3 else None) (leg_account chart pay 3)
 
 -- an amount on the value date: what 32A says
 abbrev pub value_of_pay : Pay → Amount → Value

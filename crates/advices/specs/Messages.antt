@@ -20,7 +20,7 @@ use Rattle.day_model.specs.declared.pay.Pay.{Pay}
 use Rattle.advices.specs.Advice.{credit_fields, debit_fields}
 use Rattle.advices.specs.Cover.{cover_fields}
 use Rattle.advices.specs.Fields.{ours}
-use Rattle.advices.specs.Legs.{debited_amount, leg_account, leg_amount, value_of_pay}
+use Rattle.advices.specs.Legs.{charge_of, debited_amount, leg_account, leg_amount, value_of_pay}
 use Rattle.advices.specs.Pass.{pass_fields}
 use Rattle.advices.specs.Received.{ordered_of, received_of}
 use Rattle.advices.specs.Transfer.{transfer_fields}
@@ -66,12 +66,12 @@ with_account chart pay n write = option_map_or write (leg_account chart pay n) [
 abbrev pub with_debited : Chart → Pay → (Amount → List Field) → List Field
 with_debited chart pay write = option_map_or write (debited_amount chart pay) []
 
--- the fields of the k-th order, from 1, of the pay at a place. The second leg is the credit whose amount is sent on; where 32A
--- has no amount, what is debited was ordered
+-- the fields of the k-th order, from 1, of the pay at a place. The second leg is the credit whose amount is sent on; where the
+-- received 32A has no amount, what is debited was ordered
 abbrev pub order_fields : Chart → Pay → ℕ → ℕ → Order → List Field
 order_fields chart pay place k (Transfer to skip via) =
     with_debited chart pay (λ own. with_amount chart pay 2 (λ sent.
-    transfer_fields (received_of pay) (ours place k) (value_of_pay pay sent) (ordered_of (received_of pay) own) skip via))
+    transfer_fields (received_of pay) (ours place k) (value_of_pay pay sent) (ordered_of (received_of pay) own) (charge_of chart pay) skip via))
 order_fields chart pay place k (Cover to end skip) =
     with_debited chart pay (λ own. with_amount chart pay 2 (λ sent.
     cover_fields (received_of pay) (ours place k) (ours place 1) (value_of_pay pay sent) (ordered_of (received_of pay) own) end skip))

@@ -83,18 +83,22 @@ party_fields r skip via =
     ∷ copied 59 (codes " AF") r.fields
     ∷ []
 
+-- what was taken off the amount: each 71F as it came, then our own charge
+abbrev pub taken_fields : Option Amount → List Field → List Field
+taken_fields charge fs = copied_all (is_named 71 (codes "F")) fs ++ some_field (ccy_amount_field 71 (Some 70)) charge
+
 -- from 70 to 77B
-abbrev pub detail_fields : List Field → List (List Field)
-detail_fields fs =
+abbrev pub detail_fields : Option Amount → List Field → List (List Field)
+detail_fields charge fs =
     copied 70 (codes " ") fs
     ∷ copied 71 (codes "A") fs
-    ∷ copied_all (is_named 71 (codes "F")) fs
+    ∷ taken_fields charge fs
     ∷ copied 71 (codes "G") fs
     ∷ copied 72 (codes " ") fs
     ∷ copied 77 (codes "B") fs
     ∷ []
 
--- the fields of a transfer of this reference, value and ordered amount
-unfoldable pub transfer_fields : Received → List ℕ → Value → Amount → Skip → Option Bic → List Field
-transfer_fields r reference value ordered skip via =
-    joined (term_fields r.fields reference value ordered skip ++ party_fields r skip via ++ detail_fields r.fields)
+-- the fields of a transfer of this reference, value and ordered amount, of which a charge is taken
+unfoldable pub transfer_fields : Received → List ℕ → Value → Amount → Option Amount → Skip → Option Bic → List Field
+transfer_fields r reference value ordered charge skip via =
+    joined (term_fields r.fields reference value ordered skip ++ party_fields r skip via ++ detail_fields charge r.fields)

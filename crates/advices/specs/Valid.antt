@@ -1,5 +1,5 @@
 -- What is sent of an entry passes the tests of its type, under the tables under which the received message passed its own.
-use Rattle.std.specs.Prelude.{◌≡◌, ℕ, ◌≤◌, true, false, List, Option, Some, None, IfSome, Ok, length}
+use Rattle.std.specs.Prelude.{◌≡◌, ℕ, ◌≤◌, ◌||◌, Bool, true, false, List, Option, Some, None, IfSome, Ok, codes, length}
 use Rattle.std.specs.List.{All}
 use Rattle.corr_text.specs.First.{first_of}
 use Rattle.corr_ids.specs.Address.{bank_of}
@@ -16,13 +16,13 @@ use Rattle.fin_message.specs.declared.message.Message.{Message}
 use Rattle.fin_message.specs.declared.message.Message.TheVariants as message
 use Rattle.mt103.specs.Message.{mt103_of}
 use Rattle.mt103.specs.declared.message.Mt103.{Mt103}
-use Rattle.mt103_rules.specs.Rules.{all_rules as rules_103}
+use Rattle.mt103_rules.specs.Rules.{all_rules as rules_103, is_charge}
 use Rattle.mt202cov.specs.Message.{mt202cov_of}
 use Rattle.mt202cov.specs.declared.message.Mt202Cov.{Mt202Cov}
 use Rattle.mt9_advice.specs.Advice.{mt900_of, mt910_of, tests_900, tests_910}
 use Rattle.mt9_advice.specs.declared.credit.Mt910.{Mt910}
 use Rattle.mt9_advice.specs.declared.debit.Mt900.{Mt900}
-use Rattle.day_model.specs.Chart.{Chart, IsChart}
+use Rattle.day_model.specs.Chart.{Chart, IsChart, fee}
 use Rattle.day_model.specs.Fit.{FitsAccounts}
 use Rattle.day_model.specs.Shape.{HasShape, IsNumbered}
 use Rattle.day_model.specs.declared.account.Account.{Account}
@@ -71,14 +71,25 @@ pub record IsInMoney (account : Account) (a : Amount) : Type 0 where
   pub ccy : account.ccy ≡ a.ccy
   pub decimals : account.decimals ≡ a.decimals
 
+-- a charge may be taken out of a transfer whose charges are shared (71A is SHA) or borne by the beneficiary (BEN)
+abbrev pub bears_charges : Mt103 → Bool
+bears_charges m = is_charge m (codes "SHA") || is_charge m (codes "BEN")
+
+-- and out of no other message
+abbrev pub may_be_charged : Message → Bool
+may_be_charged (message.Transfer envelope text transfer) = bears_charges transfer
+may_be_charged _ = false
+
 -- a pay that came from a message: it fits the accounts and can be written down; each leg's account has the currency and the
--- decimals of 32A; and the tables hold the sender's head
+-- decimals of 32A; a third leg is on an account for charges only where the message may be charged; and the tables hold the
+-- sender's head
 pub record CameFrom (t : Tables) (chart : Chart) (pay : Pay) (m : Message) : Type 0 where
   pub accounts : IsChart chart
   pub fits : FitsAccounts chart pay
   pub shape : HasShape pay
   pub received : WasReceivedAs t pay m
   pub money : (n : ℕ) (account : Account) → leg_account chart pay n ≡ Some account → IsInMoney account (amount_32a m)
+  pub charged : (account : Account) → leg_account chart pay 3 ≡ Some account → account.kind ≡ fee → may_be_charged m ≡ true
   pub sender : has_head t (bank_of (sender_of pay.mir)).head ≡ true
 
 -- ---- the laws

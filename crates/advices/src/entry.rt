@@ -14,7 +14,7 @@ ghost use Rattle.advices.specs.Valid.{AreAccepted};
 
 use crate::advice::{credit_fields, debit_fields};
 use crate::cover::cover_fields;
-use crate::legs::{debited_amount, leg_account, leg_amount, sent_amount};
+use crate::legs::{charge_of, debited_amount, leg_account, leg_amount, sent_amount};
 use crate::ordered::ordered_of;
 use crate::pass::pass_fields;
 use crate::received::{Received, received_of};
@@ -59,7 +59,10 @@ fn order_fields(
         Order::Transfer { skip, via, .. } => {
             let ordered = ordered_of(received, &debited_amount(a, pay));
             let value = value_of(pay, sent_amount(a, pay));
-            transfer_fields(alloc, received, &reference, &value, &ordered, skip, &via)
+            let charge = charge_of(a, pay);
+            transfer_fields(
+                alloc, received, &reference, &value, &ordered, charge, skip, &via,
+            )
         }
         Order::Cover { end, skip, .. } => {
             let ordered = ordered_of(received, &debited_amount(a, pay));
@@ -151,8 +154,8 @@ fn messages(alloc: Global, a: &Accounts, pay: &Pay, place: u32) -> Result<List<T
 /// unfunded one (docs/messages.md, "What is sent when"). Out of memory is the only error.
 ///
 /// Each text is `accepted`: under tables under which the pay came from a message that passes its tests, whose 32A has the
-/// currency and decimals of the accounts and which asks for these orders at banks that the tables hold, it passes the tests of
-/// a sent message.
+/// currency and decimals of the accounts, which is a transfer under SHA or BEN where a third leg is on an account of fees, and
+/// which asks for these orders at banks that the tables hold, it passes the tests of a sent message.
 ///
 /// The pay fits the accounts and has the shape of one that can be written down; the home BIC meets its grammar; `place` is 1 to
 /// 100,000.

@@ -1,14 +1,14 @@
 //! The legs of a pay, with their accounts.
 
-ghost use Rattle.std.specs.Prelude.{◌≡◌, ◌-◌, Some, length, slice_get};
+ghost use Rattle.std.specs.Prelude.{◌≡◌, ◌-◌, IfSome, Some, length, slice_get};
 ghost use Rattle.day_model.specs.Chart.{IsChart, IsFormed};
 ghost use Rattle.day_model.specs.Fit.{FitsAccounts};
 ghost use Rattle.day_model.specs.Shape.{IsNumbered};
-ghost use Rattle.advices.specs.Legs.{debited_amount, leg_account, leg_amount};
+ghost use Rattle.advices.specs.Legs.{charge_of, debited_amount, leg_account, leg_amount};
 ghost use Rattle.advices.specs.Spelled.{IsWritableAmount};
 
 use corr_money::{Amount, Minor};
-use day_model::{Account, Accounts, Leg, Pay, Side, legs_sum};
+use day_model::{Account, Accounts, Kind, Leg, Pay, Side, legs_sum};
 
 fn leg_at(legs: &[Leg], n: u8) -> &Leg
     requires { IsNumbered (length legs.now) n }
@@ -67,4 +67,16 @@ pub fn sent_amount(a: &Accounts, pay: &Pay) -> Amount
     ensures sound { IsChart a.now }
 {
     leg_amount(a, pay, 2)
+}
+
+/// The charge that a pay takes: the amount of a third leg on an account for charges, none where there is no such leg.
+pub fn charge_of(a: &Accounts, pay: &Pay) -> Option<Amount>
+    requires { FitsAccounts a.now pay.now }
+    ensures value { result ≡ charge_of a.now pay.now }
+    ensures spelled { IfSome result IsWritableAmount }
+{
+    if pay.legs.as_slice().len() < 3 || leg_account(a, pay, 3).kind != Kind::Fee.letter() {
+        return None;
+    }
+    Some(leg_amount(a, pay, 3))
 }

@@ -1,10 +1,11 @@
 //! The MT103 that is sent on.
 
-ghost use Rattle.std.specs.Prelude.{◌≡◌, ◌++◌, [], IfOk, OnOk, codes};
+ghost use Rattle.std.specs.Prelude.{◌≡◌, ◌++◌, [], IfOk, IfSome, OnOk, Some, codes};
 ghost use Rattle.fin_layout.specs.Segments.{joined};
-ghost use Rattle.fin_contents.specs.Writing.{IsAmount, IsValue, some_field};
+ghost use Rattle.fin_contents.specs.Writing.{IsAmount, IsValue, ccy_amount_field, some_field};
 ghost use Rattle.advices.specs.Fields.{bank_field, copied_all, is_named, kept};
-ghost use Rattle.advices.specs.Transfer.{account_bank, detail_fields, has_code, passed_instructions, intermediary, is_passed_on, ordered_amount, party_fields, tells_account_bank, tells_intermediary, term_fields, transfer_fields};
+ghost use Rattle.advices.specs.Spelled.{IsWritableAmount};
+ghost use Rattle.advices.specs.Transfer.{account_bank, detail_fields, has_code, passed_instructions, intermediary, is_passed_on, ordered_amount, party_fields, taken_fields, tells_account_bank, tells_intermediary, term_fields, transfer_fields};
 
 use crate::copying::{bank_field, first_named, is_named, push_copied};
 use crate::received::{Received, push_ordering};
@@ -216,24 +217,56 @@ fn push_if_charge(alloc: Global, f: &FieldLines<'_>, out: &mut List<Field>) -> R
     Ok(())
 }
 
+// Our own charge as a 71F, where there is one.
+fn push_own_charge(
+    alloc: Global,
+    charge: Option<Amount>,
+    out: &mut List<Field>,
+) -> Result<(), Memory>
+    requires { IfSome charge IsWritableAmount }
+    ensures { OnOk result (out.new ≡ out.old ++ some_field (ccy_amount_field 71 (Some 70)) charge) }
+{
+    match charge {
+        Some(amount) => out.push(put_ccy_amount(alloc, 71, Some(b'F'), &amount)?),
+        None => Ok(()),
+    }
+}
+
+// Each 71F as it came, and our own charge after them.
+fn push_taken(
+    alloc: Global,
+    fields: &[FieldLines<'_>],
+    charge: Option<Amount>,
+    out: &mut List<Field>,
+) -> Result<(), Memory>
+    requires { IfSome charge IsWritableAmount }
+    ensures { OnOk result (out.new ≡ out.old ++ taken_fields charge fields.now) }
+{
+    push_charges(alloc, fields, out)?;
+    push_own_charge(alloc, charge, out)
+}
+
 // 70 to 77B.
 fn push_details(
     alloc: Global,
     fields: &[FieldLines<'_>],
+    charge: Option<Amount>,
     out: &mut List<Field>,
 ) -> Result<(), Memory>
-    ensures { OnOk result (out.new ≡ out.old ++ joined (detail_fields fields.now)) }
+    requires { IfSome charge IsWritableAmount }
+    ensures { OnOk result (out.new ≡ out.old ++ joined (detail_fields charge fields.now)) }
 {
     push_copied(alloc, fields, 70, b" ", out)?;
     push_copied(alloc, fields, 71, b"A", out)?;
-    push_charges(alloc, fields, out)?;
+    push_taken(alloc, fields, charge, out)?;
     push_copied(alloc, fields, 71, b"G", out)?;
     push_copied(alloc, fields, 72, b" ", out)?;
     push_copied(alloc, fields, 77, b"B", out)
 }
 
 /// The fields of the MT103 that is sent on: the received ones, but with our reference, the value that is credited, 33B and
-/// 52A where they have none, `via` as 53A, and of 56a, 57a and 23E what the next bank needs.
+/// 52A where they have none, `via` as 53A, of 56a, 57a and 23E what the next bank needs, and after the received 71F one of
+/// our own charge.
 #[tactic(auto, unfolding(crate::specs::Transfer::transfer_fields))]
 pub fn transfer_fields(
     alloc: Global,
@@ -241,17 +274,19 @@ pub fn transfer_fields(
     reference: &Text,
     value: &Value,
     ordered: &Amount,
+    charge: Option<Amount>,
     skip: Skip,
     via: &Option<Bic>,
 ) -> Result<List<Field>, Memory>
     requires value { IsValue value.now }
     requires ordered { IsAmount ordered.now }
-    ensures { IfOk result (λ fields. fields ≡ transfer_fields received.now reference.now value.now ordered.now skip via.now) }
+    requires charge { IfSome charge IsWritableAmount }
+    ensures { IfOk result (λ fields. fields ≡ transfer_fields received.now reference.now value.now ordered.now charge skip via.now) }
 {
     let fields = received.fields.as_slice();
     let mut out = List::new(alloc);
     push_terms(alloc, fields, reference, value, ordered, skip, &mut out)?;
     push_parties(alloc, received, skip, via, &mut out)?;
-    push_details(alloc, fields, &mut out)?;
+    push_details(alloc, fields, charge, &mut out)?;
     Ok(out)
 }

@@ -10,7 +10,7 @@ use Rattle.fin_fields.specs.declared.field.Field.{Field}
 use Rattle.fin_fields.specs.Writing.{IsField}
 use Rattle.fin_layout.specs.Segments.{joined}
 use Rattle.fin_contents.specs.declared.value.Value.{Value}
-use Rattle.fin_contents.specs.Writing.{IsHeading, ccy_amount_text, line_field, lines_field, some_field, value_field}
+use Rattle.fin_contents.specs.Writing.{IsHeading, ccy_amount_field, ccy_amount_text, line_field, lines_field, some_field, value_field}
 use Rattle.fin_contents.proofs.laws.Bytes.{all-of-x}
 use Rattle.fin_contents.proofs.laws.Fit.{kept-fit, line-fit}
 use Rattle.fin_contents.proofs.laws.Placed.{Each, each-append, each-joined, each-of, all-of}
@@ -25,7 +25,7 @@ use Rattle.advices.specs.Cover.{cover_fields, covered_fields, covering_fields}
 use Rattle.advices.specs.Fields.{bank_field, copied, copied_all, copied_as, is_named, kept}
 use Rattle.advices.specs.Pass.{pass_fields, passed_fields}
 use Rattle.advices.specs.Received.{fields_for_52, first_fields, or_bank, ordering, sequence_a, sequence_b}
-use Rattle.advices.specs.Transfer.{account_bank, detail_fields, intermediary, is_passed_on, is_there, or_amount, ordered_amount, party_fields, term_fields, transfer_fields}
+use Rattle.advices.specs.Transfer.{account_bank, detail_fields, intermediary, is_passed_on, is_there, or_amount, ordered_amount, party_fields, taken_fields, term_fields, transfer_fields}
 use Rattle.advices.specs.Spelled.{IsReceivedWhole, IsMoved, IsPlain, IsWritableAmount}
 use Rattle.advices.proofs.laws.Bytes.{bic-plain, ccy_amount-plain, day-plain, joined-plain}
 
@@ -50,6 +50,11 @@ kept-one P f more false here later = later
 kept-each : (P : Field → Type 0) (test : Field → Bool) (fs : List Field) → AllByRecursion P fs → AllByRecursion P (flat_map (kept test) fs)
 kept-each P test [] all = tt
 kept-each P test (f ∷ fs) all = kept-one P f (flat_map (kept test) fs) (test f) all.0 (kept-each P test fs all.1)
+
+-- what holds of each of two lists holds of both together
+pub both-each : (P : Field → Type 0) (front back : List Field) → AllByRecursion P front → AllByRecursion P back → AllByRecursion P (front ++ back)
+both-each P [] back p q = q
+both-each P (f ∷ fs) back p q = (p.0, both-each P fs back p.1 q)
 
 -- fields that may stand in a text
 abbrev pub AreFit : List Field → Type 0
@@ -130,6 +135,15 @@ or_amount-fit a (f ∷ fs) is all = all
 ordered-fit : (a : Amount) (fs : List Field) → IsWritableAmount a → AreFit fs → AreFit (ordered_amount a fs)
 ordered-fit a fs is all = or_amount-fit a (copied 33 (codes "B") fs) is (copied-fit 33 (codes "B") fs all)
 
+charge-fit : (charge : Option Amount) → IfSome charge IsWritableAmount → AreFit (some_field (ccy_amount_field 71 (Some 70)) charge)
+charge-fit None is = tt
+charge-fit (Some a) is = made 71 (Some 70) (ccy_amount_text a) (record { two_digits = omega arith; capital = refl }) (ccy_amount-plain a is)
+
+charges-fit : (charge : Option Amount) (fs : List Field) → IfSome charge IsWritableAmount → AreFit fs → AreFit (taken_fields charge fs)
+charges-fit charge fs is all =
+    both-each IsField (copied_all (is_named 71 (codes "F")) fs) (some_field (ccy_amount_field 71 (Some 70)) charge)
+    (copied_all-fit (is_named 71 (codes "F")) fs all) (charge-fit charge is)
+
 via-fit : (via : Option Bic) → IfSome via IsBic → AreFit (some_field (bank_field 53) via)
 via-fit None is = tt
 via-fit (Some bic) is = bank-fit 53 bic (omega arith) is
@@ -170,28 +184,28 @@ party-fit r skip via s is = (
   ),
 )
 
-detail-fit : (fs : List Field) → AreFit fs → Each IsField (detail_fields fs)
-detail-fit fs all = (
+detail-fit : (charge : Option Amount) (fs : List Field) → IfSome charge IsWritableAmount → AreFit fs → Each IsField (detail_fields charge fs)
+detail-fit charge fs is all = (
   copied-fit 70 (codes " ") fs all,
   (
     copied-fit 71 (codes "A") fs all,
     (
-      copied_all-fit (is_named 71 (codes "F")) fs all,
+      charges-fit charge fs is all,
       (copied-fit 71 (codes "G") fs all, (copied-fit 72 (codes " ") fs all, (copied-fit 77 (codes "B") fs all, tt))),
     ),
   ),
 )
 
-pub transfer-fit : (r : Received) (reference : List ℕ) (v : Value) (ordered : Amount) (skip : Skip) (via : Option Bic) → IsReceivedWhole r
-    → IsPlain reference → IsMoved v → IsWritableAmount ordered → IfSome via IsBic
-    → All IsField (transfer_fields r reference v ordered skip via)
+pub transfer-fit : (r : Received) (reference : List ℕ) (v : Value) (ordered : Amount) (charge : Option Amount) (skip : Skip) (via : Option Bic)
+    → IsReceivedWhole r → IsPlain reference → IsMoved v → IsWritableAmount ordered → IfSome charge IsWritableAmount → IfSome via IsBic
+    → All IsField (transfer_fields r reference v ordered charge skip via)
 unfolding transfer_fields
-transfer-fit r reference v ordered skip via s plain is spelled to =
-    each-joined IsField (term_fields r.fields reference v ordered skip ++ party_fields r skip via ++ detail_fields r.fields)
-    (each-append IsField (term_fields r.fields reference v ordered skip ++ party_fields r skip via) (detail_fields r.fields)
+transfer-fit r reference v ordered charge skip via s plain is spelled taken to =
+    each-joined IsField (term_fields r.fields reference v ordered skip ++ party_fields r skip via ++ detail_fields charge r.fields)
+    (each-append IsField (term_fields r.fields reference v ordered skip ++ party_fields r skip via) (detail_fields charge r.fields)
     (each-append IsField (term_fields r.fields reference v ordered skip) (party_fields r skip via)
     (term-fit r.fields reference v ordered skip (cut-fit r s) plain is spelled) (party-fit r skip via s to))
-    (detail-fit r.fields (cut-fit r s)))
+    (detail-fit charge r.fields taken (cut-fit r s)))
 
 covered-fit : (r : Received) (ordered : Amount) (skip : Skip) → IsReceivedWhole r → IsWritableAmount ordered → Each IsField (covered_fields r ordered skip)
 covered-fit r ordered skip s spelled = (
@@ -226,12 +240,8 @@ cover-fit r reference related v ordered end skip s plain other is spelled to =
     )
     (covered-fit r ordered skip s spelled))
 
-both-each : (front back : List Field) → AreFit front → AreFit back → AreFit (front ++ back)
-both-each [] back p q = q
-both-each (f ∷ fs) back p q = (p.0, both-each fs back p.1 q)
-
 both-fit : (front back : List Field) → All IsField front → AreFit back → All IsField (front ++ back)
-both-fit front back p q = all-of IsField (front ++ back) (both-each front back (each-of IsField front p) q)
+both-fit front back p q = all-of IsField (front ++ back) (both-each IsField front back (each-of IsField front p) q)
 
 passed-fit : (r : Received) (first : List Field) (reference : List ℕ) (v : Value) (skip : Skip) → IsReceivedWhole r → AreFit first → IsPlain reference
     → IsMoved v → Each IsField (passed_fields r first reference v skip)

@@ -1,6 +1,8 @@
 -- The transfer and the covers that are sent of a pay are read of their fields, and break no rule.
-use Rattle.std.proofs.Common.{◌≡◌, ℕ, List, Some, None, Ok, ap, ◌∙◌, sym, arith, subst}
-use Rattle.std.specs.Prelude.{codes, find}
+use Rattle.std.proofs.Common.{◌≡◌, ℕ, true, List, Some, None, Ok, ap, ◌∙◌, sym, arith, subst}
+use Rattle.std.specs.Prelude.{IfSome, codes, find}
+use Rattle.std.proofs.lemmas.Option.{IfSome_then}
+use Rattle.corr_ids.specs.declared.envelope.Envelope.{Envelope}
 use Rattle.corr_money.specs.declared.amount.Amount.{Amount}
 use Rattle.ref_tables.specs.Seen.{Tables}
 use Rattle.fin_fields.specs.Fields.{fields_of}
@@ -19,21 +21,21 @@ use Rattle.day_model.specs.declared.pay.Pay.{Pay}
 use Rattle.day_model.proofs.laws.Fitting.{fitting}
 use Rattle.advices.specs.Cover.{cover_fields}
 use Rattle.advices.specs.Fields.{is_named, ours}
-use Rattle.advices.specs.Legs.{debited_amount, leg_amount, value_of_pay}
+use Rattle.advices.specs.Legs.{charge_of, debited_amount, leg_amount, value_of_pay}
 use Rattle.advices.specs.Received.{ordered_of, received_of}
 use Rattle.advices.specs.Spelled.{IsWritableAmount}
 use Rattle.advices.specs.Transfer.{transfer_fields}
-use Rattle.advices.specs.Valid.{CameFrom, CoverReads, IsTabled, PassReads, TransferReads, amount_32a}
+use Rattle.advices.specs.Valid.{CameFrom, CoverReads, IsTabled, PassReads, TransferReads, amount_32a, bears_charges}
 use Rattle.advices.proofs.laws.Covers.{cover-fields-pass, cover-parted}
 use Rattle.advices.proofs.laws.Made.{ours-read}
-use Rattle.advices.proofs.laws.Orders.{debits, leg-moved, ordered-spelled, received-cut}
+use Rattle.advices.proofs.laws.Orders.{charge-taken, debits, leg-moved, ordered-spelled, received-cut}
 use Rattle.advices.proofs.laws.Ordered.{ordered-ccy, ordered-tabled}
 use Rattle.advices.proofs.laws.Origin.{given, like-tabled}
 use Rattle.advices.proofs.laws.Passes.{pass-fields-read}
 use Rattle.advices.proofs.laws.SentCover.{sent-cover-reads}
 use Rattle.advices.proofs.laws.SentTransfer.{transfer-reads}
 use Rattle.advices.proofs.laws.Transfers.{transfer-fields-pass, transfer-parted}
-use Rattle.advices.proofs.laws.Values.{ordered-made, value-made}
+use Rattle.advices.proofs.laws.Values.{ChargeReads, amount-made, charge-made, value-made}
 
 -- what the legs give: the value that is sent on, and what was ordered
 record Legs (t : Tables) (chart : Chart) (pay : Pay) (money : Amount) : Type 0 where
@@ -74,6 +76,23 @@ legs t chart pay m came =
           ordered-ccy t (received_of pay) debited.amount g.dated g.value found g.says_32 (debited.in_ccy ∙ money.ccy ∙ sym same) ∙ same;
     }
 
+-- the charge has the currency of 32A, so it is read
+charge-reads : (t : Tables) (chart : Chart) (pay : Pay) (m : Message) → CameFrom t chart pay m → ChargeReads t (charge_of chart pay)
+charge-reads t chart pay m came =
+    let g = given t pay m came.received in
+    charge-made t (charge_of chart pay) (IfSome_then (charge_of chart pay) (charge-taken chart pay came.accounts came.fits) (λ a is.
+    let third = is.third in
+    let money = came.money 3 third.account third.on_account in
+    let like = like-tabled t (amount_32a m) third.amount (third.in_ccy ∙ money.ccy) (third.in_decimals ∙ money.decimals) g.tabled in
+    subst (λ (x : Amount). IsWritableAmount x × IsTabled t x) is.same (third.spelled, like)))
+
+-- and is taken out of a transfer alone that bears it
+charge-borne : (t : Tables) (chart : Chart) (pay : Pay) (envelope : Envelope) (text : List ℕ) (m : Mt103) → CameFrom t chart pay (message.Transfer envelope text m)
+    → IfSome (charge_of chart pay) (λ a. bears_charges m ≡ true)
+charge-borne t chart pay envelope text m came =
+    IfSome_then (charge_of chart pay) (charge-taken chart pay came.accounts came.fits)
+    (λ a is. came.charged is.third.account is.third.on_account is.kind)
+
 transfer-tests : (t : Tables) (pay : Pay) (m : Mt103) (text : List ℕ) → text ≡ pay.text → Say tests_103 mt103_of t text m
     → first_of (tests_103 t (fields_of pay.text)) ≡ None
 transfer-tests t pay m text same said = rw (← same) (said.tests)
@@ -104,12 +123,17 @@ transfer-onward t chart pay envelope text m place k to skip via came small few v
     let one = ours-read place k small few 20 in
     let v = value_of_pay pay l.sent in
     let ordered = ordered_of r l.own in
-    let parted = transfer-parted t r fs kept.0 g.fields none is came.sender (ours place k) one v l.value ordered l.spelled l.tabled skip via via_is in
-    let pass = transfer-fields-pass t r fs kept.0 g.fields none is came.sender (ours place k) one v l.value ordered l.spelled l.tabled skip via via_is in
+    let charge = charge_of chart pay in
+    let reads = charge-reads t chart pay (message.Transfer envelope text m) came in
+    let parted =
+    transfer-parted t r fs kept.0 g.fields none is came.sender (ours place k) one v l.value ordered l.spelled l.tabled charge reads skip via via_is in
+    let pass =
+    transfer-fields-pass t r fs kept.0 g.fields none is came.sender (ours place k) one v l.value ordered l.spelled l.tabled charge reads skip via via_is in
     rw (l.of_own, l.of_sent)
-    (transfer-reads t fs (ours place k) v ordered skip via parted.0 (transfer_fields r (ours place k) v ordered skip via) none pass parted.1 l.value
-    (ordered-made t 33 ordered l.spelled l.tabled) via_is
-    m (transfer-read t pay m text kept.1 came.received.said) l.ccy l.ordered_ccy envelope.sender envelope.receiver sender receiver came.received.rules)
+    (transfer-reads t fs (ours place k) v ordered charge skip via parted.0 (transfer_fields r (ours place k) v ordered charge skip via) none pass parted.1
+    l.value (amount-made t 33 (Some 66) ordered l.spelled l.tabled) reads via_is
+    m (transfer-read t pay m text kept.1 came.received.said) l.ccy l.ordered_ccy
+    (charge-borne t chart pay envelope text m came) envelope.sender envelope.receiver sender receiver came.received.rules)
 
 pub cover-onward : CoverReads
 cover-onward t chart pay envelope text m place k to end skip came small few end_is end_known =

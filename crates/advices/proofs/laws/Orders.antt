@@ -1,8 +1,10 @@
 -- The fields of each order of a pay that fits and has its shape may stand in a text.
-use Rattle.std.proofs.Common.{◌≡◌, ◌≢◌, ℕ, zero, suc, ◌-◌, ◌<◌, ◌≤◌, ◌^◌, Bool, true, false, cond, List, [], ◌∷◌, length, take, drop, Option, Some, None, Result, Ok, Err, refl, arith, nat_lt, nat_le}
+use Rattle.std.proofs.Common.{◌≡◌, ◌≢◌, ℕ, zero, suc, ◌-◌, ◌<◌, ◌≤◌, ◌^◌, Bool, true, false, cond, List, [], ◌∷◌, length, take, drop, Option, Some, None, Result, Ok, Err, refl, sym, ap, ◌∙◌, subst, arith, ◌==◌, nat_lt, nat_le}
 use Rattle.std.specs.Prelude.{codes, find, is_some, option_and_then, option_map, slice_get, unwrap_or, IfSome}
 use Rattle.std.specs.List.{All, list_all}
+use Rattle.std.proofs.lemmas.Bool.{eqb-true}
 use Rattle.std.proofs.lemmas.Bool.Decides.{nat_tests}
+use Rattle.std.proofs.lemmas.Option.{IfSome_then, none-some, same_Some, slice_get_within}
 use Rattle.corr_text.specs.Sets.{is_in}
 use Rattle.corr_text.specs.declared.set.Set.TheVariants.{X, N, A}
 use Rattle.corr_ids.specs.declared.bic.Bic.{Bic}
@@ -24,12 +26,13 @@ use Rattle.fin_contents.specs.Plain.{one_line}
 use Rattle.fin_contents.specs.declared.value.Value.{Value}
 use Rattle.fin_contents.proofs.laws.Bytes.{and-three}
 use Rattle.fin_contents.proofs.laws.Steps.{checked}
-use Rattle.day_model.specs.Chart.{Chart, IsChart, IsFormed}
+use Rattle.day_model.specs.Chart.{Chart, IsChart, IsFormed, account_at, fee}
 use Rattle.day_model.specs.Fit.{FitsAccounts, side_sum}
 use Rattle.day_model.specs.Shape.{HasShape, IsNumbered, IsOrder}
 use Rattle.day_model.specs.declared.account.Account.{Account}
 use Rattle.day_model.specs.declared.pay.Order.{Order}
 use Rattle.day_model.specs.declared.pay.Order.TheVariants.{Transfer, Cover, Pass, Debit, Credit}
+use Rattle.day_model.specs.declared.pay.Leg.{Leg}
 use Rattle.day_model.specs.declared.pay.Pay.{Pay}
 use Rattle.day_model.specs.declared.pay.Side.TheVariants.{Debit}
 use Rattle.day_model.specs.declared.pay.Skip.{Skip}
@@ -38,7 +41,7 @@ use Rattle.advices.specs.declared.received.Received.{Received}
 use Rattle.advices.specs.Advice.{credit_fields, debit_fields}
 use Rattle.advices.specs.Cover.{cover_fields}
 use Rattle.advices.specs.Fields.{is_named, ours}
-use Rattle.advices.specs.Legs.{amount_on, debited_amount, leg_account, leg_amount, value_of_pay}
+use Rattle.advices.specs.Legs.{amount_on, charge_of, debited_amount, leg_account, leg_amount, value_of_pay}
 use Rattle.advices.specs.Messages.{order_fields}
 use Rattle.advices.specs.Pass.{pass_fields}
 use Rattle.advices.specs.Received.{amount_if, amount_in, minor_if, ordered_of, received_of}
@@ -154,6 +157,40 @@ leg-moved chart pay n sound fits numbered =
       above = leg_is.above;
     }
 
+-- a charge that a pay takes is what its third leg moves, on an account for charges
+pub record IsTakenBy (chart : Chart) (pay : Pay) (charge : Amount) : Type 0 where
+  pub third : Moved chart pay 3
+  pub kind : third.account.kind ≡ fee
+  pub same : third.amount ≡ charge
+
+third-there : (chart : Chart) (legs : List Leg) (account : Account) (o : Option Leg) → slice_get legs 2 ≡ o
+    → option_and_then (λ leg. account_at chart leg.account.0) o ≡ Some account → 3 ≤ length legs
+third-there chart legs account None at e = absurd (none-some account e)
+third-there chart legs account (Some leg) at e = omega (arith, slice_get_within legs 2 leg at)
+
+module _ (chart : Chart) (pay : Pay) (sound : IsChart chart) (fits : FitsAccounts chart pay) where
+  by-kind : (third : Moved chart pay 3) (b : Bool) → (third.account.kind == fee) ≡ b → IfSome (cond b (leg_amount chart pay 3) None) (IsTakenBy chart pay)
+  by-kind third false e = tt
+  by-kind third true e =
+      subst (λ (o : Option Amount). IfSome o (IsTakenBy chart pay)) (sym third.of_amount)
+      (record { third = third; kind = eqb-true third.account.kind fee e; same = refl })
+
+  of-third : (o : Option Account) → leg_account chart pay 3 ≡ o
+      → IfSome (option_and_then (λ account. cond (account.kind == fee) (leg_amount chart pay 3) None) o) (IsTakenBy chart pay)
+  of-third None e = tt
+  of-third (Some account) e =
+      let many : 3 ≤ length pay.legs = third-there chart pay.legs account (slice_get pay.legs 2) refl e in
+      let third = leg-moved chart pay 3 sound fits (omega arith, many) in
+      let same : third.account ≡ account = same_Some third.account account (sym third.on_account ∙ e) in
+      by-kind third (account.kind == fee) (ap (λ (a : Account). a.kind == fee) same)
+
+  pub charge-taken : IfSome (charge_of chart pay) (IsTakenBy chart pay)
+  charge-taken = of-third (leg_account chart pay 3) refl
+
+  -- so it can be written
+  pub charge-spelled : IfSome (charge_of chart pay) IsWritableAmount
+  charge-spelled = IfSome_then (charge_of chart pay) charge-taken (λ a is. subst IsWritableAmount is.same is.third.spelled)
+
 -- what is debited, in the currency of the first leg
 pub record Debited (chart : Chart) (pay : Pay) (account : Account) : Type 0 where
   pub amount : Amount
@@ -178,10 +215,10 @@ pub record AreWritable (fs : List Field) : Type 0 where
   pub some : fs ≢ []
   pub fit : All IsField fs
 
-transfer-some : (r : Received) (reference : List ℕ) (v : Value) (ordered : Amount) (skip : Skip) (via : Option Bic)
-    → transfer_fields r reference v ordered skip via ≢ []
+transfer-some : (r : Received) (reference : List ℕ) (v : Value) (ordered : Amount) (charge : Option Amount) (skip : Skip) (via : Option Bic)
+    → transfer_fields r reference v ordered charge skip via ≢ []
 unfolding transfer_fields
-transfer-some r reference v ordered skip via e = absurd (cc e)
+transfer-some r reference v ordered charge skip via e = absurd (cc e)
 
 cover-some : (r : Received) (reference related : List ℕ) (v : Value) (ordered : Amount) (end : Bic) (skip : Skip)
     → cover_fields r reference related v ordered end skip ≢ []
@@ -217,9 +254,9 @@ module _ (chart : Chart) (pay : Pay) (place k : ℕ) (sound : IsChart chart) (fi
       let v = value_of_pay pay two.amount in
       let ordered = ordered_of r one.amount in
       rw (one.of_amount, two.of_amount) (record {
-        some = transfer-some r (ours place k) v ordered skip via;
-        fit = transfer-fit r (ours place k) v ordered skip via (received-cut pay shape) (ours-plain place k small few) (on-day two.amount two.spelled)
-            (ordered-spelled r one.amount one.spelled) o.1;
+        some = transfer-some r (ours place k) v ordered (charge_of chart pay) skip via;
+        fit = transfer-fit r (ours place k) v ordered (charge_of chart pay) skip via (received-cut pay shape) (ours-plain place k small few)
+            (on-day two.amount two.spelled) (ordered-spelled r one.amount one.spelled) (charge-spelled chart pay sound fits) o.1;
       })
   order-writable (Cover to end skip) o =
       let r = received_of pay in

@@ -130,6 +130,16 @@ pub group-said : {A : Type 0} (read : Field → Result A Code) (segs : List (Lis
 group-said read segs n s xs at h e =
     told-is xs (all_said read s) (sym e ∙ grouped-all (joined segs) read segs 0 n 0 n s (all_said read s) (omega arith) at (reads-all read s h))
 
+-- the fields of one list and then those of another
+pub both-said : {A : Type 0} (read : Field → Result A Code) (fs gs : List Field) → all_said read (fs ++ gs) ≡ all_said read fs ++ all_said read gs
+both-said read [] gs = refl
+both-said {A} read (f ∷ fs) gs = go (ok_of (read f)) (both-said read fs gs)
+  where
+    go : (o : Option A) → all_said read (fs ++ gs) ≡ all_said read fs ++ all_said read gs
+        → some_first o (all_said read (fs ++ gs)) ≡ some_first o (all_said read fs) ++ all_said read gs
+    go None later = later
+    go (Some x) later = ap (λ (xs : List A). x ∷ xs) later
+
 said-first : {A : Type 0} (read : Field → Result A Code) (f : Field) (fs : List Field) (x : A) (xs : List A) → read f ≡ Ok x → xs ≡ all_said read fs
     → x ∷ xs ≡ some_first (ok_of (read f)) (all_said read fs)
 said-first {A} read f fs x xs reads later = rw reads (ap (λ (ys : List A). x ∷ ys) later)

@@ -16,6 +16,7 @@ use Rattle.day_model.specs.declared.pay.Skip.TheVariants.{Keep, Mid, Both}
 use Rattle.advices.specs.Fields.{copied, copied_all, is_named, kept}
 use Rattle.advices.specs.Transfer.{account_bank, intermediary}
 use Rattle.advices.proofs.laws.Copies.{SaysNamed, each-says, found-each, only_from}
+use Rattle.advices.proofs.laws.Fit.{both-each}
 use Rattle.advices.proofs.laws.Fitted.{Fine, first-named, first_for, no-field, one-named}
 
 -- the fields of the place n after `low`: they stand there, and each passes its test
@@ -25,6 +26,14 @@ pub record Seated (order : List Place) (test : ℕ → Field → Option Code) (l
 
 pub none-seated : (order : List Place) (test : ℕ → Field → Option Code) (low n : ℕ) → Seated order test low n []
 none-seated order test low n = record { placed = no-field order low (low + n); passing = tt }
+
+-- and so are some fields and others together, at a place that takes more than one
+pub both-seated : (order : List Place) (test : ℕ → Field → Option Code) (low n : ℕ) (s r : List Field) → free_after order (low + n) ≡ low + n
+    → Seated order test low n s → Seated order test low n r → Seated order test low n (s ++ r)
+both-seated order test low n s r many one other = record {
+  placed = record { each = both-each (IsFirst order low (low + n)) s r one.placed.each other.placed.each; single = inl many };
+  passing = both-each (λ f. test (low + n) f ≡ None) s r one.passing other.passing;
+}
 
 -- the fields of each place from j on, in turn: they stand there, and each passes the test of its place
 pub record AllSeated (order : List Place) (test : ℕ → Field → Option Code) (low j : ℕ) (segs : List (List Field)) : Type 0 where

@@ -1,6 +1,6 @@
 -- A transfer that is sent on is read of its fields, and breaks no rule.
-use Rattle.std.proofs.Common.{◌≡◌, ℕ, Bool, true, false, List, [], ◌∷◌, slice_get, Option, Some, None, Result, Ok, refl, sym, ap, ◌∙◌, subst, inl, inr}
-use Rattle.std.specs.Prelude.{codes, filter, find, is_some, IfSome}
+use Rattle.std.proofs.Common.{◌≡◌, ℕ, Bool, true, false, List, [], ◌∷◌, ◌++◌, slice_get, Option, Some, None, Result, Ok, refl, sym, ap, ◌∙◌, subst, inl, inr}
+use Rattle.std.specs.Prelude.{codes, filter, find, is_some, option_to_list, IfSome}
 use Rattle.corr_text.specs.First.{first_of}
 use Rattle.corr_text.specs.declared.fault.Code.{Code}
 use Rattle.corr_ids.specs.Bic.{IsBic}
@@ -31,18 +31,20 @@ use Rattle.mt103_rules.specs.Rules.{all_rules}
 use Rattle.day_model.specs.declared.pay.Skip.{Skip}
 use Rattle.day_model.specs.declared.pay.Skip.TheVariants.{Keep, Mid, Both}
 use Rattle.advices.specs.Fields.{bank_field, copied, copied_all, is_named}
-use Rattle.advices.specs.Transfer.{account_bank, passed_instructions, intermediary, is_there, or_amount, ordered_amount}
+use Rattle.advices.specs.Transfer.{account_bank, passed_instructions, intermediary, is_there, or_amount, ordered_amount, taken_fields}
+use Rattle.advices.specs.Valid.{bears_charges}
 use Rattle.advices.proofs.laws.Banks.{bank-read}
 use Rattle.advices.proofs.laws.Copies.{each-says}
 use Rattle.advices.proofs.laws.Finding.{agree, any-field, copied-at, tells_from}
 use Rattle.advices.proofs.laws.Fitted.{IsPartedInto, row}
 use Rattle.advices.proofs.laws.Instructions.{staying, stays, together}
 use Rattle.advices.proofs.laws.Origin.{found-read}
-use Rattle.advices.proofs.laws.Said.{all_said, at_place, chosen-said, first, first-some, ok_of, option-said, option-there, said_in, same-option, same-place}
+use Rattle.advices.proofs.laws.Said.{all_said, at_place, both-said, chosen-said, first, first-some, ok_of, option-said, option-there, said_in, same-option, same-place, some_first}
 use Rattle.advices.proofs.laws.TransferRules.{IsOrdered, IsSentOn, kept_56, kept_57, rules-kept}
 use Rattle.advices.proofs.laws.TransferSays.{TransferSays, contents-fine, contents-say, read-fine, read-says}
 use Rattle.advices.proofs.laws.Transfers.{form-53, transfer_segs}
 use Rattle.advices.proofs.laws.Parted.{parted-at, parted-said}
+use Rattle.advices.proofs.laws.Values.{ChargeReads}
 
 -- ---- single places
 
@@ -86,17 +88,25 @@ ordered-on t a ccy (Some f) came sent in_ccy made c some e = go came refl some
     go None h is = absurd (cc is)
     go (Some b) h is = record { amount = b; there = e ∙ sym c ∙ h; same = inl h }
 
+-- our own charge
+charge-said : (t : Tables) (charge : Option Amount) → ChargeReads t charge
+    → all_said (ccy_amount_of t) (some_field (ccy_amount_field 71 (Some 70)) charge) ≡ option_to_list charge
+charge-said t None made = refl
+charge-said t (Some a) made = ap (λ (r : Result Amount Code). some_first (ok_of r) []) made
+
 -- ---- the whole
 
-module _ (t : Tables) (fs : List Field) (reference : List ℕ) (v : Value) (ordered : Amount) (skip : Skip) (via : Option Bic) (f52 : Field)
-    (sent : List Field)
+module _ (t : Tables) (fs : List Field) (reference : List ℕ) (v : Value) (ordered : Amount) (charge : Option Amount) (skip : Skip) (via : Option Bic)
+    (f52 : Field) (sent : List Field)
     (none : first_of (field_tests t fs) ≡ None) (pass : first_of (field_tests t sent) ≡ None)
-    (p : IsPartedInto order_103 (content_test t) sent (transfer_segs fs reference v ordered skip via f52))
+    (p : IsPartedInto order_103 (content_test t) sent (transfer_segs fs reference v ordered charge skip via f52))
     (four : value_of t (value_field v) ≡ Ok v) (made : ccy_amount_of t (ccy_amount_field 33 (Some 66) ordered) ≡ Ok ordered)
+    (charge_reads : ChargeReads t charge)
     (via_is : IfSome via (λ b. IsBic b × (has_head t b.head ≡ true)))
-    (m : Mt103) (read : mt103_of t fs ≡ Ok m) (ccy : v.amount.ccy ≡ m.amount.ccy) (ordered_ccy : ordered.ccy ≡ m.amount.ccy) where
+    (m : Mt103) (read : mt103_of t fs ≡ Ok m) (ccy : v.amount.ccy ≡ m.amount.ccy) (ordered_ccy : ordered.ccy ≡ m.amount.ccy)
+    (bears : IfSome charge (λ a. bears_charges m ≡ true)) where
   abbrev segs : List (List Field)
-  segs = transfer_segs fs reference v ordered skip via f52
+  segs = transfer_segs fs reference v ordered charge skip via f52
 
   abbrev found : List ℕ
   found = places_from order_103 0 fs
@@ -146,11 +156,16 @@ module _ (t : Tables) (fs : List Field) (reference : List ℕ) (v : Value) (orde
         ∙ ap (λ (b : Bool). filter (stays b (is_there (account_bank skip fs))) m.instrs) has_56
         ∙ ap (λ (b : Bool). filter (stays (is_some n.p56) b) m.instrs) has_57
 
-    taken-on : n.taken ≡ m.taken
+    -- what was taken off before, and then our own charge
+    taken-on : n.taken ≡ m.taken ++ option_to_list charge
     taken-on =
-        parted-said order_103 row (content_test t) sent segs p 18 (copied_all (is_named 71 (codes "F")) fs) (ccy_amount_of t) n.taken
-        (λ f. refl) refl d.taken
-        ∙ sym (chosen 71 (codes "F") 18 (ccy_amount_of t) m.taken refl c.taken)
+        let came = copied_all (is_named 71 (codes "F")) fs in
+        let own = some_field (ccy_amount_field 71 (Some 70)) charge in
+        let before = chosen 71 (codes "F") 18 (ccy_amount_of t) m.taken refl c.taken in
+        parted-said order_103 row (content_test t) sent segs p 18 (taken_fields charge fs) (ccy_amount_of t) n.taken (λ f. refl) refl d.taken
+        ∙ both-said (ccy_amount_of t) came own
+        ∙ ap (λ (xs : List Amount). xs ++ all_said (ccy_amount_of t) own) (sym before)
+        ∙ ap (λ (xs : List Amount). m.taken ++ xs) (charge-said t charge charge_reads)
 
     -- what 32A says is what was written
     moved-on : n.amount.ccy ≡ m.amount.ccy
@@ -168,7 +183,7 @@ module _ (t : Tables) (fs : List Field) (reference : List ℕ) (v : Value) (orde
         → x ≡ said_in (known_party_of t) (first s)
     party-on k s x e says = option-said sent held k (known_party_of t) x says ∙ ap (said_in (known_party_of t)) (here k s e)
 
-    sent-on : IsSentOn skip m n
+    sent-on : IsSentOn skip charge m n
     sent-on =
         let o = c.ordered in
         let banks = via-said t via n.p53 via_is (party-on 10 (some_field (bank_field 53) via) n.p53 refl d.p53) in
@@ -197,6 +212,7 @@ module _ (t : Tables) (fs : List Field) (reference : List ℕ) (v : Value) (orde
           charge =
               same-place order_103 order_103 fs sent found held 17 17 charge_of m.charge n.charge c.charge d.charge (again 71 (codes "A") 17 refl refl);
           taken = taken-on;
+          bears = bears;
           given = same-option fs sent found held 19 19 (ccy_amount_of t) m.given n.given c.given d.given (again 71 (codes "G") 19 refl refl);
         }
 
@@ -208,4 +224,4 @@ module _ (t : Tables) (fs : List Field) (reference : List ℕ) (v : Value) (orde
       let stand = together (stays (is_some says.0.p56) (is_some says.0.p57)) m.instrs (instructions-pass t fs m read) in
       let kept : first_of (e46 says.0.instrs ∷ d98 says.0.instrs ∷ []) ≡ None =
       subst (λ (xs : List Instr). first_of (e46 xs ∷ d98 xs ∷ []) ≡ None) (sym on.instrs) stand in
-      (says.0, read-fine t sent pass says.0 says.1 kept, rules-kept skip m says.0 on t sender receiver from to rules)
+      (says.0, read-fine t sent pass says.0 says.1 kept, rules-kept skip charge m says.0 on t sender receiver from to rules)

@@ -23,7 +23,7 @@ use Rattle.advices.proofs.laws.Copies.{SaysNamed, each-says, found-each}
 use Rattle.advices.proofs.laws.Finding.{must-copy}
 use Rattle.advices.proofs.laws.Fitted.{first_for}
 use Rattle.advices.proofs.laws.Seats.{Seated, one-seated, some-seated}
-use Rattle.advices.proofs.laws.Values.{ordered-made}
+use Rattle.advices.proofs.laws.Values.{amount-made}
 
 -- the first field of a name that is found is taken over
 there-of : (tag : ℕ) (letters : List ℕ) (fs : List Field) (f : Field) → find (is_named tag letters) fs ≡ Some f → is_there (copied tag letters fs) ≡ true
@@ -73,7 +73,7 @@ module _ (t : Tables) (fs : List Field) (none : first_of (field_tests t fs) ≡ 
         → IfSome o (λ f. (is_named 33 (codes "B") f ≡ true) × SaysNamed 33 (codes "B") (ccy_amount_of t) f)
         → Seated order test low n (or_amount a (some_field (λ f. f) o))
     amount-or a None spelled tabled h =
-        one-seated order test low n 33 (codes "B") (ccy_amount_of t) of is (ccy_amount_field 33 (Some 66) a) a refl (ordered-made t 33 a spelled tabled)
+        one-seated order test low n 33 (codes "B") (ccy_amount_of t) of is (ccy_amount_field 33 (Some 66) a) a refl (amount-made t 33 (Some 66) a spelled tabled)
     amount-or a (Some f) spelled tabled h = some-seated order test low n 33 (codes "B") (ccy_amount_of t) of is (Some f) h
 
     pub ordered-seated : (a : Amount) → IsWritableAmount a → IsTabled t a → Seated order test low n (ordered_amount a fs)

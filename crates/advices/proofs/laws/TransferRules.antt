@@ -1,6 +1,6 @@
 -- The rules of a transfer: one that is sent on breaks none, since the one that came broke none.
-use Rattle.std.proofs.Common.{◌≡◌, ℕ, ◌==◌, ◌&&◌, ◌||◌, ◌⊎◌, not, Bool, true, false, cond, List, [], ◌∷◌, ◌++◌, length, option_map, Option, Some, None, refl, arith, inl, inr}
-use Rattle.std.specs.Prelude.{codes, filter, is_none, is_some}
+use Rattle.std.proofs.Common.{◌≡◌, ℕ, ◌==◌, ◌&&◌, ◌||◌, ◌⊎◌, not, Bool, true, false, cond, List, [], ◌∷◌, ◌++◌, length, option_map, Option, Some, None, refl, ap, append-nil, arith, inl, inr}
+use Rattle.std.specs.Prelude.{IfSome, codes, filter, is_none, is_some, option_to_list}
 use Rattle.std.specs.List.{list_any}
 use Rattle.std.specs.Str.{bytes_eq}
 use Rattle.std.proofs.lemmas.Bool.{eqb-true}
@@ -19,6 +19,7 @@ use Rattle.mt103_rules.specs.Parties.{has_account, is_b, is_bare_b, is_bare_d, i
 use Rattle.mt103_rules.specs.Rules.{all_rules, amount_rules, c02, c81, charge_rules, contact_rules, d49, d50, d51, d75, e01, e02, e03, e04, e05, e06, e07, e09, e10, e13, e15_given, e15_taken, e16, e17, e18, e44, e45, has_level, institution_rules, is_foreign, is_given, is_listed_bank, is_op, is_standard, level_rules}
 use Rattle.day_model.specs.declared.pay.Skip.{Skip}
 use Rattle.day_model.specs.declared.pay.Skip.TheVariants.{Keep, Mid, Both}
+use Rattle.advices.specs.Valid.{bears_charges}
 use Rattle.advices.proofs.laws.Instructions.{and-false, any-kept, none-kept, none-tells-56, none-tells-57, stays}
 
 -- ---- a transfer that is sent on
@@ -40,8 +41,8 @@ pub record IsOrdered (ccy : Ccy) (came sent : Option Amount) : Type 0 where
   pub there : sent ≡ Some amount
   pub same : (came ≡ Some amount) ⊎ ((came ≡ None) × (amount.ccy ≡ ccy))
 
--- what the one that is sent, n, has of the one that came, m
-pub record IsSentOn (skip : Skip) (m n : Mt103) : Type 0 where
+-- what the one that is sent, n, has of the one that came, m, out of which our own charge may be taken
+pub record IsSentOn (skip : Skip) (own : Option Amount) (m n : Mt103) : Type 0 where
   pub op : n.op ≡ m.op
   pub instrs : n.instrs ≡ filter (stays (is_some n.p56) (is_some n.p57)) m.instrs
   pub ccy : n.amount.ccy ≡ m.amount.ccy
@@ -55,7 +56,8 @@ pub record IsSentOn (skip : Skip) (m n : Mt103) : Type 0 where
   pub p57 : n.p57 ≡ kept_57 skip m.p57
   pub payee : n.payee ≡ m.payee
   pub charge : n.charge ≡ m.charge
-  pub taken : n.taken ≡ m.taken
+  pub taken : n.taken ≡ m.taken ++ option_to_list own
+  pub bears : IfSome own (λ a. bears_charges m ≡ true)
   pub given : n.given ≡ m.given
 
 -- ---- tests
@@ -114,6 +116,27 @@ none-given (x ∷ xs) e =
     not-false true e = refl
     not-false false e = absurd (cc e)
 
+-- and one that has something is given, whatever follows
+some-given : {X : Type 0} (x : X) (xs : List X) → is_given (x ∷ xs) ≡ true
+some-given x xs = go (length (x ∷ xs) == 0) refl
+  where
+    go : (b : Bool) → (length (x ∷ xs) == 0) ≡ b → not b ≡ true
+    go true e = absurd (omega (arith, eqb-true (length (x ∷ xs)) 0 e))
+    go false e = refl
+
+given-on : {X : Type 0} (b : Bool) (xs ys : List X) → (b && not (is_given xs)) ≡ false → (b && not (is_given (xs ++ ys))) ≡ false
+given-on false xs ys e = refl
+given-on true [] ys e = absurd (cc e)
+given-on true (x ∷ xs) ys e = ap (λ (b : Bool). not b) (some-given x (xs ++ ys))
+
+-- charges that are shared, or borne by the beneficiary, aren't the payer's
+not-ours : (whose : List ℕ) → (bytes_eq whose (codes "SHA") || bytes_eq whose (codes "BEN")) ≡ true → bytes_eq whose (codes "OUR") ≡ false
+not-ours whose e = go (bytes_eq whose (codes "SHA")) refl e
+  where
+    go : (b : Bool) → bytes_eq whose (codes "SHA") ≡ b → (b || bytes_eq whose (codes "BEN")) ≡ true → bytes_eq whose (codes "OUR") ≡ false
+    go true is h = let same : whose ≡ codes "SHA" = (bytes_eq-Decides whose (codes "SHA")).0 is in rw same refl
+    go false is h = let same : whose ≡ codes "BEN" = (bytes_eq-Decides whose (codes "BEN")).0 h in rw same refl
+
 -- ---- each rule
 
 -- the one answer or the other, each the fault of a test
@@ -143,7 +166,7 @@ and-any true p q xs e = go (list_any q xs) refl e
     go false h e = rw (any-kept p q xs h) refl
 and-any false p q xs e = and-false (list_any q (filter p xs))
 
-module _ (skip : Skip) (m n : Mt103) (s : IsSentOn skip m n) where
+module _ (skip : Skip) (own : Option Amount) (m n : Mt103) (s : IsSentOn skip own m n) where
   -- 36 and 33B
   rate-fits : cond (is_foreign m m.ordered) (is_none m.rate) (is_some m.rate) ≡ false
       → cond (is_foreign n n.ordered) (is_none n.rate) (is_some n.rate) ≡ false
@@ -246,7 +269,12 @@ module _ (skip : Skip) (m n : Mt103) (s : IsSentOn skip m n) where
 
   e13-on : e13 m ≡ None → e13 n ≡ None
   unfolding e13
-  e13-on e = rw (s.charge, s.taken) e
+  e13-on e = rw (s.charge, s.taken) (if-false _ _ (go own s.bears (if-true _ _ e)))
+    where
+      go : (o : Option Amount) → IfSome o (λ a. bears_charges m ≡ true) → (bytes_eq m.charge (codes "OUR") && is_given m.taken) ≡ false
+          → (bytes_eq m.charge (codes "OUR") && is_given (m.taken ++ option_to_list o)) ≡ false
+      go None bears e = rw (append-nil m.taken) e
+      go (Some a) bears e = rw (not-ours m.charge bears) refl
 
   d50-on : d50 m ≡ None → d50 n ≡ None
   unfolding d50
@@ -254,7 +282,7 @@ module _ (skip : Skip) (m n : Mt103) (s : IsSentOn skip m n) where
 
   e15-taken-on : e15_taken m ≡ None → e15_taken n ≡ None
   unfolding e15_taken
-  e15-taken-on e = rw (s.charge, s.taken) e
+  e15-taken-on e = rw (s.charge, s.taken) (if-false _ _ (given-on _ m.taken (option_to_list own) (if-true _ _ e)))
 
   e15-given-on : e15_given m ≡ None → e15_given n ≡ None
   unfolding e15_given

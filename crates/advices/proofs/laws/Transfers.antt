@@ -19,7 +19,7 @@ use Rattle.fin_contents.specs.declared.value.Value.{Value}
 use Rattle.fin_contents.specs.Money.{ccy_amount_of, rate_of, value_of}
 use Rattle.fin_contents.specs.Parties.{known_party_of}
 use Rattle.fin_contents.specs.Plain.{reference_of, texts_of}
-use Rattle.fin_contents.specs.Writing.{line_field, some_field, value_field}
+use Rattle.fin_contents.specs.Writing.{ccy_amount_field, line_field, some_field, value_field}
 use Rattle.fin_contents.proofs.laws.Bytes.{and-three}
 use Rattle.mt103.specs.Codes.{charge_of, instr_of, kind_of, operation_of}
 use Rattle.mt103.specs.Message.{content_test, field_tests}
@@ -29,14 +29,15 @@ use Rattle.day_model.specs.declared.pay.Skip.{Skip}
 use Rattle.advices.specs.declared.received.Received.{Received}
 use Rattle.advices.specs.Fields.{bank_field, copied, copied_all, is_named}
 use Rattle.advices.specs.Received.{ordering}
-use Rattle.advices.specs.Transfer.{account_bank, passed_instructions, intermediary, is_passed_on, is_there, ordered_amount, tells_account_bank, tells_intermediary, transfer_fields}
+use Rattle.advices.specs.Transfer.{account_bank, passed_instructions, intermediary, is_passed_on, is_there, ordered_amount, taken_fields, tells_account_bank, tells_intermediary, transfer_fields}
 use Rattle.advices.specs.Spelled.{IsWritableAmount}
 use Rattle.advices.specs.Valid.{IsTabled}
 use Rattle.advices.proofs.laws.Banks.{bank-read, ordering-of-transfer}
 use Rattle.advices.proofs.laws.Copies.{SaysNamed, each-says, only_from}
 use Rattle.advices.proofs.laws.Fitted.{covers, first_for, IsPartedInto, parted-pass, row}
-use Rattle.advices.proofs.laws.Seats.{AllSeated, Seated, ◌▸◌, all-seated, copy-seated, no-more, none-seated, one-seated, seated-56, seated-57}
+use Rattle.advices.proofs.laws.Seats.{AllSeated, Seated, ◌▸◌, all-seated, both-seated, copy-seated, no-more, none-seated, one-seated, seated-56, seated-57}
 use Rattle.advices.proofs.laws.TakenOver.{has-charge, has-operation, has-payee, has-payer, ordered-seated}
+use Rattle.advices.proofs.laws.Values.{ChargeReads}
 
 pub form-53 : form_of 53 (Some 65) ≡ Some BankA
 unfolding form_of
@@ -50,13 +51,20 @@ via-seated t (Some b) h =
     one-seated order_103 (content_test t) 0 10 53 (codes "A") (known_party_of t) (λ f. refl) refl (bank_field 53 b) (party.A None b) refl
     (bank-read t 53 b form-53 h.0 h.1)
 
+-- our own charge
+charge-seated : (t : Tables) (charge : Option Amount) → ChargeReads t charge
+    → Seated order_103 (content_test t) 0 18 (some_field (ccy_amount_field 71 (Some 70)) charge)
+charge-seated t None made = none-seated order_103 (content_test t) 0 18
+charge-seated t (Some a) made =
+    one-seated order_103 (content_test t) 0 18 71 (codes "F") (ccy_amount_of t) (λ f. refl) refl (ccy_amount_field 71 (Some 70) a) a refl made
+
 -- an instruction that is passed on is one
 passed-named : (has_56 has_57 : Bool) (f : Field) → is_passed_on has_56 has_57 f ≡ true → is_named 23 (codes "E") f ≡ true
 passed-named has_56 has_57 f e = (and-three (is_named 23 (codes "E") f) (has_56 || not (tells_intermediary f)) (has_57 || not (tells_account_bank f)) e).0
 
 -- the fields of each place of a transfer that is sent, with this 52a
-abbrev pub transfer_segs : List Field → List ℕ → Value → Amount → Skip → Option Bic → Field → List (List Field)
-transfer_segs fs reference v ordered skip via f52 =
+abbrev pub transfer_segs : List Field → List ℕ → Value → Amount → Option Amount → Skip → Option Bic → Field → List (List Field)
+transfer_segs fs reference v ordered charge skip via f52 =
     (line_field 20 None reference ∷ [])
     ∷ []
     ∷ copied 23 (codes "B") fs
@@ -75,7 +83,7 @@ transfer_segs fs reference v ordered skip via f52 =
     ∷ copied 59 (codes " AF") fs
     ∷ copied 70 (codes " ") fs
     ∷ copied 71 (codes "A") fs
-    ∷ copied_all (is_named 71 (codes "F")) fs
+    ∷ taken_fields charge fs
     ∷ copied 71 (codes "G") fs
     ∷ copied 72 (codes " ") fs
     ∷ copied 77 (codes "B") fs
@@ -85,7 +93,7 @@ module _ (t : Tables) (r : Received) (fs : List Field) (mt : r.mt ≡ Transfer) 
     (sender : IsBic r.sender) (known : has_head t r.sender.head ≡ true) (reference : List ℕ)
     (one : reference_of (line_field 20 None reference) ≡ Ok reference)
     (v : Value) (four : value_of t (value_field v) ≡ Ok v) (ordered : Amount) (spelled : IsWritableAmount ordered) (tabled : IsTabled t ordered)
-    (skip : Skip) (via : Option Bic) (via_is : IfSome via (λ b. IsBic b × (has_head t b.head ≡ true))) where
+    (charge : Option Amount) (charge_reads : ChargeReads t charge) (skip : Skip) (via : Option Bic) (via_is : IfSome via (λ b. IsBic b × (has_head t b.head ≡ true))) where
   abbrev Here : ℕ → List Field → Type 0
   Here n s = Seated order_103 (content_test t) 0 n s
 
@@ -156,10 +164,13 @@ module _ (t : Tables) (r : Received) (fs : List Field) (mt : r.mt ≡ Transfer) 
   s17 : Here 17 (copied 71 (codes "A") fs)
   s17 = over 17 71 (codes "A") charge_of refl (λ f. refl) (λ f. refl) refl
 
-  s18 : Here 18 (copied_all (is_named 71 (codes "F")) fs)
+  s18 : Here 18 (taken_fields charge fs)
   s18 =
+      let came =
       all-seated order_103 (content_test t) 0 18 71 (codes "F") (ccy_amount_of t) (λ f. refl) refl (is_named 71 (codes "F")) (λ f e. e) fs refl
-      (each 18 71 (codes "F") (ccy_amount_of t) refl (λ f. refl))
+      (each 18 71 (codes "F") (ccy_amount_of t) refl (λ f. refl)) in
+      both-seated order_103 (content_test t) 0 18 (copied_all (is_named 71 (codes "F")) fs) (some_field (ccy_amount_field 71 (Some 70)) charge) refl
+      came (charge-seated t charge charge_reads)
 
   s19 : Here 19 (copied 71 (codes "G") fs)
   s19 = over 19 71 (codes "G") (ccy_amount_of t) refl (λ f. refl) (λ f. refl) refl
@@ -178,7 +189,7 @@ module _ (t : Tables) (r : Received) (fs : List Field) (mt : r.mt ≡ Transfer) 
 
   module _ (f52 : Field) (bank : Party) (is_52 : is_named 52 (codes "AD") f52 ≡ true) (says_52 : known_party_of t f52 ≡ Ok bank) where
     abbrev segs : List (List Field)
-    segs = transfer_segs fs reference v ordered skip via f52
+    segs = transfer_segs fs reference v ordered charge skip via f52
 
     from-parties : AllSeated order_103 (content_test t) 0 8 (drop 8 segs)
     from-parties =
@@ -194,14 +205,14 @@ module _ (t : Tables) (r : Received) (fs : List Field) (mt : r.mt ≡ Transfer) 
   -- the fields that are sent are these
   sent-fields : (f52 : Field) (bank : Party) (is_52 : is_named 52 (codes "AD") f52 ≡ true) (says_52 : known_party_of t f52 ≡ Ok bank)
       → ordering r ≡ f52 ∷ []
-      → transfer_fields r reference v ordered skip via ≡ joined (segs f52 bank is_52 says_52)
+      → transfer_fields r reference v ordered charge skip via ≡ joined (segs f52 bank is_52 says_52)
   unfolding transfer_fields
   sent-fields f52 bank is_52 says_52 e = rw (e, same) refl
 
   -- place by place
   pub transfer-parted : (f52 : Field)
-      × IsPartedInto order_103 (content_test t) (transfer_fields r reference v ordered skip via) (transfer_segs fs reference v ordered skip via f52)
-      × (covers order_103 (transfer_segs fs reference v ordered skip via f52) ≡ true)
+      × IsPartedInto order_103 (content_test t) (transfer_fields r reference v ordered charge skip via) (transfer_segs fs reference v ordered charge skip via f52)
+      × (covers order_103 (transfer_segs fs reference v ordered charge skip via f52) ≡ true)
   transfer-parted =
       let b = ordering-of-transfer t r fs mt same none sender known in
       let sent = seated b.field b.bank b.named b.says in (
@@ -210,8 +221,8 @@ module _ (t : Tables) (r : Received) (fs : List Field) (mt : r.mt ≡ Transfer) 
         whole b.field b.bank b.named b.says,
       )
 
-  pub transfer-fields-pass : first_of (field_tests t (transfer_fields r reference v ordered skip via)) ≡ None
+  pub transfer-fields-pass : first_of (field_tests t (transfer_fields r reference v ordered charge skip via)) ≡ None
   transfer-fields-pass =
       let p = transfer-parted in
-      parted-pass order_103 row (content_test t) (transfer_fields r reference v ordered skip via)
-      (transfer_segs fs reference v ordered skip via p.0) p.1 p.2
+      parted-pass order_103 row (content_test t) (transfer_fields r reference v ordered charge skip via)
+      (transfer_segs fs reference v ordered charge skip via p.0) p.1 p.2

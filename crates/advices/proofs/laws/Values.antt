@@ -1,5 +1,6 @@
--- A field 32A that is made new is read as its value, under tables that hold its currency.
-use Rattle.std.proofs.Common.{◌≡◌, ℕ, ◌+◌, ◌<◌, ◌==◌, true, false, List, ◌++◌, length, take, drop, Some, Ok, refl, ap, ◌∙◌, arith, nat_le}
+-- Fields of amounts that are made new are read as what they were made of, under tables that hold their currency.
+use Rattle.std.proofs.Common.{◌≡◌, ℕ, ◌+◌, ◌<◌, ◌==◌, true, false, List, ◌++◌, length, take, drop, Option, Some, None, Ok, refl, ap, ◌∙◌, arith, nat_le}
+use Rattle.std.specs.Prelude.{IfSome}
 use Rattle.std.specs.List.{list_all}
 use Rattle.std.proofs.lemmas.Bool.{le-leb}
 use Rattle.std.proofs.lemmas.Bool.Decides.{nat_tests}
@@ -45,10 +46,19 @@ written t a is tabled =
       long = long;
     }
 
--- 33B
-pub ordered-made : (t : Tables) (tag : ℕ) (a : Amount) → IsWritableAmount a → IsTabled t a → ccy_amount_of t (ccy_amount_field tag (Some 66) a) ≡ Ok a
+-- 33B and 71F
+pub amount-made : (t : Tables) (tag : ℕ) (letter : Option ℕ) (a : Amount) → IsWritableAmount a → IsTabled t a
+    → ccy_amount_of t (ccy_amount_field tag letter a) ≡ Ok a
 unfolding ccy_amount_of
-ordered-made t tag a is tabled = let w = written t a is tabled in rw (w.form, w.read) refl
+amount-made t tag letter a is tabled = let w = written t a is tabled in rw (w.form, w.read) refl
+
+-- a charge is read of its 71F
+abbrev pub ChargeReads : Tables → Option Amount → Type 0
+ChargeReads t charge = IfSome charge (λ a. ccy_amount_of t (ccy_amount_field 71 (Some 70) a) ≡ Ok a)
+
+pub charge-made : (t : Tables) (charge : Option Amount) → IfSome charge (λ a. IsWritableAmount a × IsTabled t a) → ChargeReads t charge
+charge-made t None is = tt
+charge-made t (Some a) is = amount-made t 71 (Some 70) a is.0 is.1
 
 dated-long : (n : ℕ) → nat_le 4 n ≡ true → nat_le 10 (6 + n) ≡ true
 dated-long n e = grind (arith, nat_tests)
