@@ -39,8 +39,8 @@ corr FOLDER generate COUNT SEED       appends to out.fin a day of COUNT messages
 corr FOLDER trial COUNT SEED WORKERS  books such a day in memory with 1 to 16 WORKERS, and prints its
                                       summary
 
-A folder has bics.csv, ccys.csv, countries.csv, accounts.csv, ssi.csv, messages.fin and, for
-reconcile, received.fin. generate and trial read no file.
+A folder has bics.csv, ccys.csv, countries.csv, accounts.csv, ssi.csv, charges.csv, messages.fin
+and, for reconcile, received.fin. generate and trial read no file.
 
 corr --help     prints this
 corr --version  prints the version

@@ -28,7 +28,7 @@ use Rattle.jrn_file.specs.declared.fault.MakeFault.{MakeFault}
 use Rattle.jrn_file.specs.declared.fault.MakeFault.TheVariants as making
 use Rattle.jrn_file.specs.declared.fault.OpenFault.{OpenFault}
 use Rattle.jrn_file.specs.declared.fault.OpenFault.TheVariants as opening
-use Rattle.ref_tables.specs.Charges.{charges_fault}
+use Rattle.ref_tables.specs.Charges.{charge_in_row, charges_fault}
 use Rattle.ref_tables.specs.Accounts.{account_of, accounts_fault}
 use Rattle.ref_tables.specs.Refusals.{RowTest, first_bad_row, first_fault, named}
 use Rattle.ref_tables.specs.Rows.{Cells, rows_of, up_to}
@@ -56,7 +56,7 @@ use Rattle.corr_top.specs.Booking.{IsEnteredOn, IsBack, LacksRoomThen, StopsBook
 use Rattle.corr_top.specs.Commands.{IsFor, command_steps}
 use Rattle.corr_top.specs.Complete.{HasRoomForAll, IsReady, IsFaultless, IsSure, TellsAll}
 use Rattle.corr_top.specs.Ends.{Ends, HasStopped}
-use Rattle.corr_top.specs.Inputs.{Inputs, accounts_in, directory_in, instructions_in, opened, pays_of, tables_in}
+use Rattle.corr_top.specs.Inputs.{Inputs, accounts_in, charges_in, directory_in, instructions_in, opened, pays_of, tables_in}
 use Rattle.corr_top.specs.Message.{pays_in, readings_of}
 use Rattle.corr_top.specs.MessageFile.{IsMessageFile, StopsCutting}
 use Rattle.corr_top.specs.OnDisk.{HoldsJournal, IsMakeable, StopsMaking, StopsOpening}
@@ -68,6 +68,7 @@ use Rattle.corr_top.specs.Writing.{FailsWriting}
 use Rattle.corr_top.proofs.MessageFiles.{no-fault}
 use Rattle.corr_top.proofs.Rooms.{has_room}
 use Rattle.corr_top.proofs.Fronts.{All-front, legal_front}
+use Rattle.corr_top.proofs.Walking.{Has, walked}
 
 -- ---- files that are told whole
 
@@ -113,15 +114,6 @@ Agrees j i Step.messages = j.cut ≡ i.cut
 Agrees j i Step.received = j.cut ≡ i.cut
 Agrees j i _ = Unit {0}
 
-abbrev Has : List Step → Step → Type 0
-Has [] s = ⊥
-Has (d ∷ done) s = (d ≡ s) ⊎ Has done s
-
-agreed : (j i : Inputs) (done : List Step) (s : Step) → Walks (Agrees j i) done → Has done s → Agrees j i s
-agreed j i [] s all has = absurd has
-agreed j i (d ∷ done) s all (inl is) = subst (Agrees j i) is all.0
-agreed j i (d ∷ done) s all (inr has) = agreed j i done s all.1 has
-
 -- the tables of banks, currencies and countries are passed
 record HasThree (done : List Step) : Type 0 where
   pub bics : Has done (Step.table names.Bics)
@@ -132,6 +124,7 @@ record HasThree (done : List Step) : Type 0 where
 record HasBooked (done : List Step) : Type 0 where
   pub three : HasThree done
   pub ssi : Has done (Step.table names.Ssi)
+  pub charges : Has done (Step.table names.Charges)
   pub journal : Has done Step.open_journal
   pub messages : Has done Step.messages
 
@@ -156,9 +149,9 @@ AreOrdered done (s ∷ steps) = IsAfter done s × AreOrdered (s ∷ done) steps
 
 same_tables : (j i : Inputs) (done : List Step) → HasThree done → Walks (Agrees j i) done → tables_in j ≡ tables_in i
 same_tables j i done has all =
-    ap (λ (f : List ℕ). tables_of f j.ccys j.countries) (agreed j i done (Step.table names.Bics) all has.bics)
-    ∙ ap (λ (f : List ℕ). tables_of i.bics f j.countries) (agreed j i done (Step.table names.Ccys) all has.ccys)
-    ∙ ap (λ (f : List ℕ). tables_of i.bics i.ccys f) (agreed j i done (Step.table names.Countries) all has.countries)
+    ap (λ (f : List ℕ). tables_of f j.ccys j.countries) (walked (Agrees j i) done (Step.table names.Bics) all has.bics)
+    ∙ ap (λ (f : List ℕ). tables_of i.bics f j.countries) (walked (Agrees j i) done (Step.table names.Ccys) all has.ccys)
+    ∙ ap (λ (f : List ℕ). tables_of i.bics i.ccys f) (walked (Agrees j i) done (Step.table names.Countries) all has.countries)
 
 same_fault : (j i : Inputs) (done : List Step) (name : TableName) → j.home ≡ i.home → IsAfter done (Step.table name) → Walks (Agrees j i) done → table_file name j ≡ table_file name i → table_fault name j ≡ table_fault name i
 same_fault j i done names.Bics home after all own = ap (λ (f : List ℕ). named names.Bics (bics_fault f)) own
@@ -177,18 +170,21 @@ same_fault j i done names.Charges home after all own =
 same_accounts : (j i : Inputs) (done : List Step) → HasThree done → Has done (Step.table names.Accounts) → Walks (Agrees j i) done → accounts_in j ≡ accounts_in i
 same_accounts j i done three has all =
     ap (λ (t : Tables). map opened (map (account_of t) (rows_of j.accounts))) (same_tables j i done three all)
-    ∙ ap (λ (f : List ℕ). map opened (map (account_of (tables_in i)) (rows_of f))) (agreed j i done (Step.table names.Accounts) all has)
+    ∙ ap (λ (f : List ℕ). map opened (map (account_of (tables_in i)) (rows_of f))) (walked (Agrees j i) done (Step.table names.Accounts) all has)
 
 same_directory : (j i : Inputs) (done : List Step) → HasBooked done → Walks (Agrees j i) done → directory_in j ≡ directory_in i
 same_directory j i done has all =
-    ap (λ (t : Tables). record { tables = t; ssi = instructions_in j }) (same_tables j i done has.three all)
-    ∙ ap (λ (f : List ℕ). record { tables = tables_in i; ssi = map instruction_of (rows_of f) }) (agreed j i done (Step.table names.Ssi) all has.ssi)
+    ap (λ (t : Tables). record { tables = t; ssi = instructions_in j; charges = charges_in j }) (same_tables j i done has.three all)
+    ∙ ap (λ (f : List ℕ). record { tables = tables_in i; ssi = map instruction_of (rows_of f); charges = charges_in j })
+    (walked (Agrees j i) done (Step.table names.Ssi) all has.ssi)
+    ∙ ap (λ (f : List ℕ). record { tables = tables_in i; ssi = instructions_in i; charges = map charge_in_row (rows_of f) })
+    (walked (Agrees j i) done (Step.table names.Charges) all has.charges)
 
 same_pays : (j i : Inputs) (done : List Step) → HasBooked done → Walks (Agrees j i) done → pays_of j ≡ pays_of i
 same_pays j i done has all =
     ap (λ (x : Directory). pays_in (readings_of x j.chart j.cut)) (same_directory j i done has all)
-    ∙ ap (λ (c : Chart). pays_in (readings_of (directory_in i) c j.cut)) (agreed j i done Step.open_journal all has.journal).chart
-    ∙ ap (λ (ms : List (List ℕ)). pays_in (readings_of (directory_in i) i.chart ms)) (agreed j i done Step.messages all has.messages)
+    ∙ ap (λ (c : Chart). pays_in (readings_of (directory_in i) c j.cut)) (walked (Agrees j i) done Step.open_journal all has.journal).chart
+    ∙ ap (λ (ms : List (List ℕ)). pays_in (readings_of (directory_in i) i.chart ms)) (walked (Agrees j i) done Step.messages all has.messages)
 
 -- ---- a step that stops wants memory
 
@@ -279,10 +275,10 @@ module _ {S K D : Type 0} (source : sources.Ghosts S) (d : disks.Ghosts D) (old 
   step_memory s done Step.make after all ready stops = stops.1 ∙ making_memory d old.disk new.disk _ stops.0 ready.0 ready.1 stops.2
   step_memory s done Step.open_journal after all ready stops = stops.1 ∙ opening_memory d old.disk new.disk i.chart i.history stops.0 ready.0 ready.1 stops.2
   step_memory s done Step.day after all ready stops =
-      absurd (day_memory j.history i.history i.day stops.0 (agreed j i done Step.open_journal all after).history ready (subst (λ (x : Day). IsBack j.history x stops.0) day stops.2))
+      absurd (day_memory j.history i.history i.day stops.0 (walked (Agrees j i) done Step.open_journal all after).history ready (subst (λ (x : Day). IsBack j.history x stops.0) day stops.2))
   step_memory s done Step.messages after all ready stops = stops.1 ∙ messages_memory source old.messages new.messages j.messages i.messages i.cut stops.0 ready.0 ready.1 stops.2
   step_memory s done Step.book after all ready stops =
-      let journal = agreed j i done Step.open_journal all after.journal in
+      let journal = walked (Agrees j i) done Step.open_journal all after.journal in
       stops.1 ∙ booking_memory d old.disk new.disk j i stops.0 ready.0 ready.1 journal.chart journal.history (same_pays j i done after all) stops.2
   step_memory s done Step.received after all ready stops = stops.1 ∙ messages_memory source old.received new.received j.messages i.messages i.cut stops.0 ready.0 ready.1 stops.2
 
@@ -321,8 +317,41 @@ later s done three = record { bics = inr three.bics; ccys = inr three.ccys; coun
 ordered : (command : Command) → AreOrdered [] (command_steps command)
 ordered (Run day workers) =
     let three = three_read in
-    let five = later Step.messages _ (later Step.day _ (later Step.open_journal _ (later (Step.table names.Ssi) _ three))) in
-    (tt, (tt, (tt, (three, (tt, (inl refl, (tt, (record { three = five; ssi = inr (inr (inr (inl refl))); journal = inr (inr (inl refl)); messages = inl refl }, tt))))))))
+    let four = later (Step.table names.Ssi) _ three in
+    let all = later Step.messages _ (later Step.day _ (later Step.open_journal _ (later (Step.table names.Charges) _ four))) in (
+      tt,
+      (
+        tt,
+        (
+          tt,
+          (
+            three,
+            (
+              four,
+              (
+                tt,
+                (
+                  inl refl,
+                  (
+                    tt,
+                    (
+                      record {
+                        three = all;
+                        ssi = inr (inr (inr (inr (inl refl))));
+                        charges = inr (inr (inr (inl refl)));
+                        journal = inr (inr (inl refl));
+                        messages = inl refl;
+                      },
+                      tt,
+                    ),
+                  ),
+                ),
+              ),
+            ),
+          ),
+        ),
+      ),
+    )
 ordered (Trial count seed workers) = tt
 ordered (Plain (Init home)) =
     let three = three_read in

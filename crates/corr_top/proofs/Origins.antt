@@ -1,6 +1,6 @@
 -- Each pay that is entered came from a message that is accepted, so what is sent of it is accepted.
 use Rattle.std.proofs.Common.{◌≡◌, ℕ, ◌+◌, ◌-◌, ◌≤◌, zero, suc, true, List, [], ◌∷◌, ◌++◌, Option, Some, None, Result, Ok, Err, length, refl, sym, ap, subst, eqb, arith, inl, inr, ◌⊎◌}
-use Rattle.std.specs.Prelude.{All, option_and_then, slice_get}
+use Rattle.std.specs.Prelude.{All, IsTrue, option_and_then, slice_get}
 use Rattle.std.specs.List.{cons_option}
 use Rattle.std.specs.Result.{result_ok}
 use Rattle.std.proofs.lemmas.Bool.{and_parts, eqb-true}
@@ -38,12 +38,13 @@ use Rattle.mt103.specs.declared.message.Mt103.{Mt103}
 use Rattle.mt202cov.specs.declared.message.Mt202Cov.{Mt202Cov}
 use Rattle.routing.specs.Accounts.{fits_amount}
 use Rattle.routing.proofs.laws.Routes.{KnowsVia}
-use Rattle.pay_plan.specs.Asked.{asked_of}
+use Rattle.pay_plan.specs.Asked.{amount_in}
 use Rattle.pay_plan.specs.Plan.{plan_of}
-use Rattle.pay_plan.specs.Sends.{FollowsMessage, IsPayOf}
-use Rattle.pay_plan.specs.Asked.{Asked}
+use Rattle.pay_plan.specs.Charging as charging
+use Rattle.pay_plan.specs.Sends.{FollowsMessage, IsChargeOf, IsPayOf}
+use Rattle.pay_plan.specs.declared.ask.Ask.{Ask}
 use Rattle.pay_plan.proofs.laws.Sent.{plan-is}
-use Rattle.advices.specs.Valid.{Asks, CameFrom, IsInMoney, IsTextOf, amount_32a}
+use Rattle.advices.specs.Valid.{Asks, CameFrom, IsInMoney, IsTextOf, amount_32a, may_be_charged}
 use Rattle.corr_top.specs.declared.directory.Directory.{Directory}
 use Rattle.corr_top.specs.Asks.{asks_cover, asks_transfer}
 use Rattle.corr_top.specs.Booking.{IsEnteredOn}
@@ -89,6 +90,11 @@ of-leg : (chart : Chart) (amount : Amount) (o : Option Leg) (x : Account) → ((
 of-leg chart amount None x each at = absurd (none-some x at)
 of-leg chart amount (Some leg) x each at = in-money amount x (each leg refl at)
 
+-- an account of a third leg is there only where a charge may be taken
+of-charge : (chart : Chart) (ask : Ask) (o : Option Leg) (x : Account) → ((leg : Leg) → o ≡ Some leg → IsChargeOf chart ask leg) → option_and_then (λ leg. account_at chart leg.account.0) o ≡ Some x → IsTrue (charging.may_be_charged ask)
+of-charge chart ask None x each at = absurd (none-some x at)
+of-charge chart ask (Some leg) x each at = (each leg refl).asked
+
 -- ---- the orders
 
 follows-transfer : (t : Tables) (envelope : Envelope) (text : List ℕ) (m : Mt103) (o : Order) → FollowsMessage t mt.Transfer o → Asks t (message.Transfer envelope text m) o
@@ -113,14 +119,16 @@ record HasOrigin (t : Tables) (chart : Chart) (pay : Pay) : Type 0 where
   came : CameFrom t chart pay source
   asks : All (Asks t source) pay.orders
 
-came-from : (t : Tables) (chart : Chart) (envelope : Envelope) (text : List ℕ) (asked : Asked) (pay : Pay) (m : Message) → IsChart chart → FitsAccounts chart pay → HasShape pay
-    → IsGood t envelope m → IsPayOf t chart envelope text asked pay → IsTextOf pay m → asked.amount ≡ amount_32a m → CameFrom t chart pay m
-came-from t chart envelope text asked pay m sound fit shape good is kept same = record {
+came-from : (t : Tables) (chart : Chart) (envelope : Envelope) (text : List ℕ) (ask : Ask) (pay : Pay) (m : Message) → IsChart chart → FitsAccounts chart pay → HasShape pay
+    → IsGood t envelope m → IsPayOf t chart envelope text ask pay → IsTextOf pay m → amount_in ask ≡ amount_32a m → (IsTrue (charging.may_be_charged ask) → IsTrue (may_be_charged m))
+    → CameFrom t chart pay m
+came-from t chart envelope text ask pay m sound fit shape good is kept same may = record {
   accounts = sound;
   fits = fit;
   shape = shape;
   received = record { said = good.said; rules = good.rules; kept = kept };
-  money = λ n x at. subst (IsInMoney x) same (of-leg chart asked.amount (slice_get pay.legs (n - 1)) x (λ leg there on. is.accounts (n - 1) leg x there on) at);
+  money = λ n x at. subst (IsInMoney x) same (of-leg chart (amount_in ask) (slice_get pay.legs (n - 1)) x (λ leg there on. is.accounts (n - 1) leg x there on) at);
+  charged = λ x at kind. may (of-charge chart ask (slice_get pay.legs 2) x is.charge at);
   sender = subst (λ (mir : Mir). has_head t (bank_of (sender_of mir)).head ≡ true) (sym is.mir_is) good.sender.named;
 }
 
@@ -138,22 +146,22 @@ module _ (directory : Directory) (chart : Chart) (are : AreInstructions director
       let t = directory.tables in
       let source : Message = message.Transfer envelope text m in
       let known = rows-known t directory.ssi are in
-      let plan = planned envelope (plan_of envelope text (asks_transfer m) directory.ssi chart) pay e in
-      let is = plan-is t envelope text (asks_transfer m) directory.ssi chart pay (record { fields = fields_of text; read = good.said.says }) good.sender.known known plan in
+      let plan = planned envelope (plan_of envelope text (asks_transfer m) directory.ssi directory.charges chart) pay e in
+      let is = plan-is t envelope text (asks_transfer m) directory.ssi directory.charges chart pay (record { fields = fields_of text; read = good.said.says }) good.sender.known known plan in
       record {
         source = source;
-        came = came-from t chart envelope text (asked_of chart.home (asks_transfer m)) pay source sound fit shape good is (is.mt_is, sym is.text_is) refl;
+        came = came-from t chart envelope text (asks_transfer m) pay source sound fit shape good is (is.mt_is, sym is.text_is) refl (λ may. may);
         asks = All-weaker (FollowsMessage t mt.Transfer) (Asks t source) (follows-transfer t envelope text m) pay.orders is.orders;
       }
   origin-of (message.Cover envelope text m) good e =
       let t = directory.tables in
       let source : Message = message.Cover envelope text m in
       let known = rows-known t directory.ssi are in
-      let plan = planned envelope (plan_of envelope text (asks_cover m) directory.ssi chart) pay e in
-      let is = plan-is t envelope text (asks_cover m) directory.ssi chart pay (record { fields = fields_of text; read = good.said.says }) good.sender.known known plan in
+      let plan = planned envelope (plan_of envelope text (asks_cover m) directory.ssi directory.charges chart) pay e in
+      let is = plan-is t envelope text (asks_cover m) directory.ssi directory.charges chart pay (record { fields = fields_of text; read = good.said.says }) good.sender.known known plan in
       record {
         source = source;
-        came = came-from t chart envelope text (asked_of chart.home (asks_cover m)) pay source sound fit shape good is (is.mt_is, sym is.text_is) refl;
+        came = came-from t chart envelope text (asks_cover m) pay source sound fit shape good is (is.mt_is, sym is.text_is) refl (λ may. may);
         asks = All-weaker (FollowsMessage t mt.Cover) (Asks t source) (follows-cover t envelope text m) pay.orders is.orders;
       }
   origin-of (message.Debit envelope advice) good e = absurd (cc e)

@@ -1,5 +1,5 @@
 -- How a run ends before anything is written, from how its parts end.
-use Rattle.std.proofs.Common.{◌≡◌, ◌⊎◌, ◌+◌, ◌<ℤ◌, inl, inr, ℕ, All, List, [], ◌∷◌, Option, None, Some, Result, Ok, Err, refl, sym, ap, ◌∙◌, subst, length, map}
+use Rattle.std.proofs.Common.{◌≡◌, ◌⊎◌, ◌+◌, ◌<ℤ◌, inl, inr, ℕ, All, List, [], ◌∷◌, ◌++◌, Option, None, Some, Result, Ok, Err, refl, sym, ap, ◌∙◌, subst, length, map}
 use Rattle.std.specs.Prelude.{IfSome, IsSome, IsTrue, is_some, slice_get}
 use Rattle.std.proofs.lemmas.List.{length-map}
 use Rattle.corr_books.specs.declared.opening.BooksFault.{BooksFault}
@@ -47,7 +47,7 @@ use Rattle.corr_top.specs.OnDisk.{HoldsJournal, IsLeft, IsLeftMidway, IsOnDisk, 
 use Rattle.corr_top.specs.Origin.{AreSentValid}
 use Rattle.corr_top.specs.Out.{sent_from}
 use Rattle.corr_top.specs.Passing.{StepIsUntouched, Passes, StopsAt}
-use Rattle.corr_top.specs.Steps.{Step}
+use Rattle.corr_top.specs.Steps.{Halts, Step, Walks}
 use Rattle.corr_top.specs.Stops.{status_of_books, status_of_day, status_of_opening, status_of_table}
 use Rattle.corr_top.specs.Tables.{HasDirectory, StopsDirectory, directory_steps}
 use Rattle.corr_books.proofs.laws.Moments.{leaves_only}
@@ -55,12 +55,15 @@ use Rattle.corr_disk.proofs.laws.Moments.{then_on, weaker}
 use Rattle.corr_top.proofs.Folding.{legal_fold}
 use Rattle.corr_top.proofs.Replying.{get_all}
 use Rattle.corr_top.proofs.Serves.{get_at}
-use Rattle.corr_top.proofs.Walking.{halts_front}
+use Rattle.corr_top.proofs.Walking.{halts_back, halts_front, walks_both}
+
+-- the steps of a run after its tables
+abbrev pub day_steps : List Step
+day_steps = Step.open_journal ∷ Step.day ∷ Step.messages ∷ Step.book ∷ []
 
 -- what a run leaves as it is
 pub record IsRest {S K D : Type 0} (old new : Room S K D) : Type 0 where
   pub accounts : new.tables.accounts ≡ old.tables.accounts
-  pub charges : new.tables.charges ≡ old.tables.charges
   pub received : new.received ≡ old.received
   pub disk2 : new.disk2 ≡ old.disk2
   pub report : new.report ≡ old.report
@@ -83,7 +86,7 @@ is_back chart history day last journal back =
 
 module _ {S K D : Type 0} (source : sources.Ghosts S) (d : disks.Ghosts D) (day : Day) (workers : ℕ) (old new : Room S K D) (rest : IsRest old new) where
   gives_run : (r : Result Texts Status) (i : Inputs) → i.day ≡ day → i.workers ≡ workers → CommandGives source d (Run day workers) old new r i → HasTexts source d (Run day workers) old new r
-  gives_run r i is number gives = record { inputs = i; are_for = (is, number); gives = gives; rest = (rest.accounts, rest.charges, rest.received, rest.disk2); report = rest.report; out = rest.out }
+  gives_run r i is number gives = record { inputs = i; are_for = (is, number); gives = gives; rest = (rest.accounts, rest.received, rest.disk2); report = rest.report; out = rest.out }
 
   -- a table stopped it
   pub tables_stop : (stop : TableStop) → StopsDirectory source old.tables new.tables stop → new.messages ≡ old.messages → new.disk ≡ old.disk → IsUnwritten d old.disk new.disk
@@ -92,25 +95,32 @@ module _ {S K D : Type 0} (source : sources.Ghosts S) (d : disks.Ghosts D) (day 
       let i = record stops.at.inputs { day = day; workers = workers } in
       gives_run (Err (status_of_table stop)) i refl refl
       (inl (halts_front (Passes source d old new i) (StopsAt source d old new i (status_of_table stop)) (StepIsUntouched d old new)
-      directory_steps (Step.open_journal ∷ Step.day ∷ Step.messages ∷ Step.book ∷ []) stops.at.halted (disk, (tt, (messages, (unwritten, tt))))))
+      directory_steps day_steps stops.at.halted (disk, (tt, (messages, (unwritten, tt))))))
+
+  -- the tables were read, and a step after them stopped it
+  after_tables : (i : Inputs) (s : Status) (steps : List Step) → Walks (Passes source d old new i) directory_steps
+      → Halts (Passes source d old new i) (StopsAt source d old new i s) (StepIsUntouched d old new) steps
+      → Halts (Passes source d old new i) (StopsAt source d old new i s) (StepIsUntouched d old new) (directory_steps ++ steps)
+  after_tables i s steps passed halts = halts_back (Passes source d old new i) (StopsAt source d old new i s) (StepIsUntouched d old new) directory_steps steps passed halts
 
   module _ (directory : Directory) (has : HasDirectory source old.tables new.tables directory) where
     -- the books were not opened, for a reason that opening the journal gave
     open_stops : (fault : OpenFault) → StopsOpening d old.disk new.disk fault → new.messages ≡ old.messages → HasTexts source d (Run day workers) old new (Err (status_of_opening fault))
     open_stops fault stops messages =
-        let p = has.passed in
-        gives_run (Err (status_of_opening fault)) (record has.inputs { day = day; workers = workers }) refl refl
-        (inl (inr (p.0, inr (p.1.0, inr (p.1.1.0, inr (p.1.1.1.0, inl ((fault, refl, stops), (tt, (messages, (stops.untouched, tt))))))))))
+        let i = record has.inputs { day = day; workers = workers } in
+        gives_run (Err (status_of_opening fault)) i refl refl
+        (inl (after_tables i (status_of_opening fault) day_steps has.passed
+        (inl ((fault, refl, stops), (tt, (messages, (stops.untouched, tt)))))))
 
     -- or for the day of the last entry
     back_stops : (last : Day) → OpensBack (opened_of (d.reads old.disk)) (d.honest old.disk) day last → d.faults new.disk ≡ d.faults old.disk → IsUnwritten d old.disk new.disk → new.messages ≡ old.messages
         → HasTexts source d (Run day workers) old new (Err (status_of_day last))
     back_stops last shows sure unwritten messages =
-        let p = has.passed in
         let i = record has.inputs { day = day; workers = workers; chart = shows.accounts; history = shows.history } in
         let holds : HoldsJournal d old.disk shows.accounts shows.history = record { journal = shows.journal; stands = λ honest. (shows.found honest).1 } in
         gives_run (Err (status_of_day last)) i refl refl
-        (inl (inr (p.0, inr (p.1.0, inr (p.1.1.0, inr (p.1.1.1.0, inr (holds, inl ((last, refl, is_back shows.accounts shows.history day last shows.journal shows.back, sure), (messages, (unwritten, tt))))))))))
+        (inl (after_tables i (status_of_day last) day_steps has.passed
+        (inr (holds, inl ((last, refl, is_back shows.accounts shows.history day last shows.journal shows.back, sure), (messages, (unwritten, tt)))))))
 
     -- opening the books stopped it
     pub books_stop : (fault : BooksFault) → BooksCause (d.faults old.disk) (d.faults new.disk) fault → (IsTrue (d.honest old.disk) → IsTrue (is_of_bytes fault) → (finding : Finding) × IsFound (opened_of (d.reads old.disk)) finding × RefusesAs day fault finding)
@@ -165,10 +175,11 @@ module _ {S K D : Type 0} (source : sources.Ghosts S) (d : disks.Ghosts D) (day 
       -- the first steps passed, up to the message file
       pub file_stops : (s : Status) → StopsAtFile source d directory workers old.messages new.messages opened new.disk s → HasTexts source d (Run day workers) old new (Err s)
       file_stops s stops =
-          let p = has.passed in
           let disk = stops.same in
-          gives_run (Err s) (i_of stops.bytes [] []) refl refl
-          (inl (inr (p.0, inr (p.1.0, inr (p.1.1.0, inr (p.1.1.1.0, inr (holds, inr (latest, inl ((stops.stop, stops.status_is, stops.stops, ap d.faults disk ∙ kept), (subst (IsUnwritten d old.disk) (sym disk) unwritten, tt))))))))))
+          let i = i_of stops.bytes [] [] in
+          gives_run (Err s) i refl refl
+          (inl (after_tables i s day_steps has.passed
+          (inr (holds, inr (latest, inl ((stops.stop, stops.status_is, stops.stops, ap d.faults disk ∙ kept), (subst (IsUnwritten d old.disk) (sym disk) unwritten, tt)))))))
 
       cause_of : (i : Inputs) (history : List Entry) (stop : BookStop) → i.chart ≡ opened.accounts → StopCause books (pays_of i) history (d.faults new.disk) stop → i.history ≡ opened.base → i.day ≡ opened.day → i.workers ≡ workers
           → BookCause d old.disk new.disk i history stop
@@ -183,7 +194,6 @@ module _ {S K D : Type 0} (source : sources.Ghosts S) (d : disks.Ghosts D) (day 
       -- not each pay was entered
       pub pays_stop : (s : Status) → StopsAtPays source d directory workers old.messages new.messages opened new.disk s → HasTexts source d (Run day workers) old new (Err s)
       pays_stop s stops =
-          let p = has.passed in
           let served = stops.served in
           let i = i_of stops.bytes stops.cut [] in
           let pays = same_pays stops.bytes stops.cut [] in
@@ -201,7 +211,8 @@ module _ {S K D : Type 0} (source : sources.Ghosts S) (d : disks.Ghosts D) (day 
                 (cause_of i stops.history stops.stop refl (subst (λ ps. StopCause books ps stops.history (d.faults new.disk) stops.stop) (sym pays) stops.cause) refl (sym of_day) refl);
           } in
           gives_run (Err s) i refl refl
-          (inl (inr (p.0, inr (p.1.0, inr (p.1.1.0, inr (p.1.1.1.0, inr (holds, inr (latest, inr (stops.file, inl ((stops.stop, stops.status_is, booked), tt))))))))))
+          (inl (after_tables i s day_steps has.passed
+          (inr (holds, inr (latest, inr (stops.file, inl ((stops.stop, stops.status_is, booked), tt)))))))
 
       -- the pays that were entered, in the order of the journal
       abbrev entered_of : List Entry → List Pay
@@ -211,7 +222,6 @@ module _ {S K D : Type 0} (source : sources.Ghosts S) (d : disks.Ghosts D) (day 
       has_passed : (bytes : List ℕ) (cut : List (List ℕ)) (history : List Entry) (replies : List Reply) → (had : HasDay source d directory workers old.messages new.messages opened new.disk bytes cut history replies)
           → HasPassed source d (Run day workers) old new (i_of bytes cut (entered_of had.served.added)) × (history ≡ new_in (i_of bytes cut (entered_of had.served.added))) × (replies ≡ replies_of (i_of bytes cut (entered_of had.served.added)))
       has_passed bytes cut history replies had =
-          let p = has.passed in
           let served = had.served in
           let a = had.answered in
           let i = i_of bytes cut (entered_of served.added) in
@@ -233,7 +243,8 @@ module _ {S K D : Type 0} (source : sources.Ghosts S) (d : disks.Ghosts D) (day 
           } in
           let on : (d.faults new.disk ≡ opened.at_open) × IsOnDisk d new.disk opened.accounts history = alone_on history had.calm served.leaves in (
             record {
-              passed = (p.0, (p.1.0, (p.1.1.0, (p.1.1.1.0, (holds, (latest, (had.file, (answered, tt))))))));
+              passed = walks_both (Passes source d old new i) directory_steps day_steps has.passed
+                  (holds, (latest, (had.file, (answered, tt))));
               leaves = record {
                 sure = on.0 ∙ at_open;
                 entered = subst (λ es. IsOnDisk d new.disk opened.accounts es) history_is on.1;

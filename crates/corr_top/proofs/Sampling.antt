@@ -9,6 +9,8 @@ use Rattle.corr_ids.specs.Bic.{IsBic, is_bic}
 use Rattle.corr_ids.specs.declared.day.Day.{Day}
 use Rattle.corr_io.specs.declared.source.Source as sources
 use Rattle.corr_io.specs.InMemory.{Supply}
+use Rattle.csv.specs.Machine.{next_record}
+use Rattle.csv.specs.Reading.{records_from, strip_bom}
 use Rattle.day_model.specs.Chart.{Chart}
 use Rattle.jrn_book.specs.Journal.{IsJournal}
 use Rattle.jrn_book.specs.Opening.{book}
@@ -17,13 +19,14 @@ use Rattle.jrn_codec.specs.Header.{head_bytes}
 use Rattle.jrn_file.specs.Reading.{opened_of}
 use Rattle.jrn_file.specs.declared.fault.MakeFault.{MakeFault}
 use Rattle.ref_tables.specs.Accounts.{account_of}
+use Rattle.ref_tables.specs.Charges.{charge_in_row}
 use Rattle.ref_tables.specs.Rows.{rows_of}
 use Rattle.ref_tables.specs.Tables.{tables_of}
 use Rattle.ref_tables.specs.declared.fault.TableName.TheVariants as names
 use Rattle.ssi_versions.specs.Rows.{instruction_of}
 use Rattle.corr_top.specs.declared.directory.Directory.{Directory}
 use Rattle.corr_top.specs.declared.room.Tables.{Tables as Files}
-use Rattle.corr_top.specs.Inputs.{Inputs, chart_in, directory_in, opened}
+use Rattle.corr_top.specs.Inputs.{Inputs, charges_in, chart_in, directory_in, opened}
 use Rattle.corr_top.specs.OnDisk.{HasNotFailed, IsMakeable, IsOnDisk, MakesInTurn, StopsMaking}
 use Rattle.corr_top.specs.Passing.{IsFine, table_fault, table_file, table_at}
 use Rattle.corr_top.specs.Reading.{IsRead, Took}
@@ -39,6 +42,11 @@ whole_of limit (Some rest) bytes file short read =
     let sizes : length file ≡ length bytes + length rest = ap length read.taken ∙ length-append bytes rest in
     let none : rest ≡ [] = read.ended (omega arith) in
     sym (read.taken ∙ ap (λ l. bytes ++ l) none ∙ append-nil bytes)
+
+-- a file without bytes has no rows
+no_rows : rows_of [] ≡ []
+unfolding rows_of records_from strip_bom next_record
+no_rows = refl
 
 -- sources tell what is left of them
 abbrev pub Tells : sources.Ghosts Supply → Type 0
@@ -64,6 +72,9 @@ module _ (source : sources.Ghosts Supply) (tells : Tells source) (old new : File
   ssi_is : (i : Inputs) → IsFine source (table_at names.Ssi old) (table_at names.Ssi new) (table_file names.Ssi i) (table_fault names.Ssi i) → i.ssi ≡ sample_ssi
   ssi_is i fine = read_as old.ssi new.ssi i.ssi sample_ssi are.ssi (omega arith) fine.took
 
+  charges_are : (i : Inputs) → IsFine source (table_at names.Charges old) (table_at names.Charges new) (table_file names.Charges i) (table_fault names.Charges i) → i.charges ≡ []
+  charges_are i fine = read_as old.charges new.charges i.charges [] are.charges (omega arith) fine.took
+
   -- the directory of the sample bank
   pub directory_sampled : (directory : Directory) → HasDirectory source old new directory → directory ≡ sample_directory
   unfolding sample_directory
@@ -74,7 +85,9 @@ module _ (source : sources.Ghosts Supply) (tells : Tells source) (old new : File
       let ccys = ccys_are i p.1.0 in
       let countries = countries_are i p.1.1.0 in
       let ssi = ssi_is i p.1.1.1.0 in
-      let same : directory_in i ≡ sample_directory = λ k. record { tables = tables_of (bics k) (ccys k) (countries k); ssi = map instruction_of (rows_of (ssi k)) } in
+      let charges : charges_in i ≡ [] = ap (λ (f : List ℕ). map charge_in_row (rows_of f)) (charges_are i p.1.1.1.1.0) ∙ ap (map charge_in_row) no_rows in
+      let same : directory_in i ≡ sample_directory =
+      λ k. record { tables = tables_of (bics k) (ccys k) (countries k); ssi = map instruction_of (rows_of (ssi k)); charges = charges k } in
       has.directory_is ∙ same
 
   -- its accounts

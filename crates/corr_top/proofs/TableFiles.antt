@@ -10,6 +10,7 @@ use Rattle.ref_tables.specs.Seen.{Tables}
 use Rattle.corr_io.specs.declared.source.Source as sources
 use Rattle.corr_ids.specs.declared.bic.Bic.{Bic}
 use Rattle.corr_money.specs.declared.amount.Ccy.{Ccy}
+use Rattle.corr_money.specs.declared.amount.Minor.{Minor}
 use Rattle.day_model.specs.declared.account.Account.{Account}
 use Rattle.day_model.specs.declared.fault.AccountsFault.{AccountsFault}
 use Rattle.day_model.specs.declared.fault.AccountsFault.TheVariants as accounts
@@ -20,12 +21,12 @@ use Rattle.corr_top.specs.declared.directory.Directory.{Directory}
 use Rattle.corr_top.specs.declared.reading.ReadStop.{ReadStop}
 use Rattle.corr_top.specs.declared.reading.ReadStop.TheVariants as stop
 use Rattle.corr_top.specs.declared.tables.TableStop.{TableStop}
-use Rattle.corr_top.specs.Inputs.{Inputs, accounts_in, directory_in, instructions_in, opened, tables_in}
+use Rattle.corr_top.specs.Inputs.{Inputs, accounts_in, charges_in, directory_in, instructions_in, opened, tables_in}
 use Rattle.corr_top.specs.Passing.{Bad, Balances, IsFine, StopsAtSums, StopsAtTable, TellsDecimals}
 use Rattle.corr_top.specs.Reading.{IsStopped}
-use Rattle.corr_top.specs.Steps.{Step}
-use Rattle.corr_top.specs.Tables.{AreUntouched, HasAccounts, PassesTables, StopsAccounts, StopsAtTables, StopsDirectory, StopsKnown, known_steps}
-use Rattle.corr_top.proofs.Walking.{halts_front}
+use Rattle.corr_top.specs.Steps.{Halts, Step, Walks}
+use Rattle.corr_top.specs.Tables.{AreUntouched, HasAccounts, HasDirectory, PassesTables, StopsAccounts, StopsAtTables, StopsDirectory, StopsKnown, known_steps}
+use Rattle.corr_top.proofs.Walking.{halts_back, halts_front, walks_both}
 use Rattle.corr_top.specs.declared.room.Tables.{Tables as Files}
 use Rattle.corr_top.specs.declared.status.Status.TheVariants as no_memory
 use Rattle.corr_top.specs.Stops.{status_of_table, table_stop_of_read}
@@ -71,10 +72,13 @@ pub sums_balance : (i : Inputs) (list : List Account) → list ≡ accounts_in i
 sums_balance i list same balanced = λ ccy. ap (opening_sum ccy) (sym same) ∙ balanced ccy
 
 -- the directory over them
-pub same_directory : (i : Inputs) (t : Tables) (ssi : List SsiRow) → t ≡ tables_in i → ssi ≡ instructions_in i → (record { tables = t; ssi = ssi }) ≡ directory_in i
-same_directory i t ssi tables instructions =
-    let with : Tables → List SsiRow → Directory = λ x rows. record { tables = x; ssi = rows } in
-    ap (λ (x : Tables). with x ssi) tables ∙ ap (λ (rows : List SsiRow). with (tables_in i) rows) instructions
+pub same_directory : (i : Inputs) (t : Tables) (ssi : List SsiRow) (charges : List (List ℕ × Minor)) → t ≡ tables_in i → ssi ≡ instructions_in i → charges ≡ charges_in i
+    → (record { tables = t; ssi = ssi; charges = charges }) ≡ directory_in i
+same_directory i t ssi charges tables instructions charged =
+    let with : Tables → List SsiRow → List (List ℕ × Minor) → Directory = λ x rows taken. record { tables = x; ssi = rows; charges = taken } in
+    ap (λ (x : Tables). with x ssi charges) tables
+    ∙ ap (λ (rows : List SsiRow). with (tables_in i) rows charges) instructions
+    ∙ ap (λ (taken : List (List ℕ × Minor)). with (tables_in i) (instructions_in i) taken) charged
 
 -- nothing was read
 abbrev pub no_inputs : Inputs
@@ -95,16 +99,40 @@ no_inputs = record {
   entered = [];
 }
 
+-- the tables of a directory after those three
+abbrev pub more_steps : List Step
+more_steps = Step.table names.Ssi ∷ Step.table names.Charges ∷ []
+
 module _ {S : Type 0} (source : sources.Ghosts S) (old new : Files S) where
   -- one of the first three stopped the directory, or the accounts
   pub directory_after : (stop : TableStop) → StopsKnown source old new stop → StopsDirectory source old new stop
   directory_after stop q = record {
     at = record {
       inputs = q.at.inputs;
-      halted = halts_front (PassesTables source old new q.at.inputs) (StopsAtTables source old new q.at.inputs (status_of_table stop)) (AreUntouched source old new) known_steps (Step.table names.Ssi ∷ []) q.at.halted (q.ssi, tt);
+      halted = halts_front (PassesTables source old new q.at.inputs) (StopsAtTables source old new q.at.inputs (status_of_table stop)) (AreUntouched source old new) known_steps more_steps q.at.halted (q.ssi, (q.charges, tt));
     };
     accounts = q.accounts;
-    charges = q.charges;
+  }
+
+  -- one of the two after them stopped the directory
+  pub directory_stopped : (i : Inputs) (stop : TableStop) → Walks (PassesTables source old new i) known_steps → new.accounts ≡ old.accounts
+      → Halts (PassesTables source old new i) (StopsAtTables source old new i (status_of_table stop)) (AreUntouched source old new) more_steps → StopsDirectory source old new stop
+  directory_stopped i stop passed accounts halts = record {
+    at = record {
+      inputs = i;
+      halted = halts_back (PassesTables source old new i) (StopsAtTables source old new i (status_of_table stop)) (AreUntouched source old new) known_steps more_steps passed halts;
+    };
+    accounts = accounts;
+  }
+
+  -- all of them passed
+  pub directory_read : (i : Inputs) (directory : Directory) → Walks (PassesTables source old new i) known_steps → Walks (PassesTables source old new i) more_steps → directory ≡ directory_in i → new.accounts ≡ old.accounts
+      → HasDirectory source old new directory
+  directory_read i directory passed more is accounts = record {
+    inputs = i;
+    passed = walks_both (PassesTables source old new i) known_steps more_steps passed more;
+    directory_is = is;
+    accounts = accounts;
   }
 
   pub accounts_after : (home : Bic) (stop : TableStop) → StopsKnown source old new stop → StopsAccounts source old new home (status_of_table stop)

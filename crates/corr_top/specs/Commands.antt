@@ -163,8 +163,7 @@ KeepsSources old new = (new.tables ≡ old.tables) × (new.messages ≡ old.mess
 
 -- the sources that it doesn't read are as they were, and so is the second disk
 abbrev pub KeepsRest : {S K D : Type 0} → Command → Room S K D → Room S K D → Type 0
-KeepsRest (Run day workers) old new =
-    (new.tables.accounts ≡ old.tables.accounts) × (new.tables.charges ≡ old.tables.charges) × (new.received ≡ old.received) × (new.disk2 ≡ old.disk2)
+KeepsRest (Run day workers) old new = (new.tables.accounts ≡ old.tables.accounts) × (new.received ≡ old.received) × (new.disk2 ≡ old.disk2)
 KeepsRest (Trial count seed workers) old new = KeepsSources old new
 KeepsRest (Plain (Init home)) old new =
     (new.tables.ssi ≡ old.tables.ssi) × (new.tables.charges ≡ old.tables.charges) × (new.messages ≡ old.messages) × (new.received ≡ old.received)

@@ -2,6 +2,7 @@
 use Rattle.std.specs.Prelude.{ℕ, List, map}
 use Rattle.corr_ids.specs.declared.bic.Bic.{Bic}
 use Rattle.corr_ids.specs.declared.day.Day.{Day}
+use Rattle.corr_money.specs.declared.amount.Minor.{Minor}
 use Rattle.day_model.specs.declared.account.Account.{Account}
 use Rattle.day_model.specs.declared.entry.Entry.{Entry}
 use Rattle.day_model.specs.declared.pay.Pay.{Pay}
@@ -10,6 +11,7 @@ use Rattle.day_model.specs.Chart.{Chart}
 use Rattle.day_model.specs.Next.{fold_of}
 use Rattle.ref_tables.specs.declared.account.AccountRow.{AccountRow}
 use Rattle.ref_tables.specs.Accounts.{account_of}
+use Rattle.ref_tables.specs.Charges.{charge_in_row}
 use Rattle.ref_tables.specs.Rows.{rows_of}
 use Rattle.ref_tables.specs.Seen.{Tables}
 use Rattle.ref_tables.specs.Tables.{tables_of}
@@ -57,9 +59,13 @@ chart_in i = record { home = i.home; accounts = accounts_in i }
 abbrev pub instructions_in : Inputs → List SsiRow
 instructions_in i = map instruction_of (rows_of i.ssi)
 
--- what messages are judged and routed by
+-- the charges: a currency's code and the amount, a row each
+abbrev pub charges_in : Inputs → List (List ℕ × Minor)
+charges_in i = map charge_in_row (rows_of i.charges)
+
+-- what messages are judged, routed and charged by
 abbrev pub directory_in : Inputs → Directory
-directory_in i = record { tables = tables_in i; ssi = instructions_in i }
+directory_in i = record { tables = tables_in i; ssi = instructions_in i; charges = charges_in i }
 
 -- the pays that the messages ask for, in their order
 abbrev pub pays_of : Inputs → List Pay

@@ -19,9 +19,9 @@ use Rattle.corr_top.specs.Stops.{status_of_sums, status_of_table}
 abbrev pub known_steps : List Step
 known_steps = Step.table names.Bics ∷ Step.table names.Ccys ∷ Step.table names.Countries ∷ []
 
--- with the instructions
+-- with the instructions and the charges
 abbrev pub directory_steps : List Step
-directory_steps = Step.table names.Bics ∷ Step.table names.Ccys ∷ Step.table names.Countries ∷ Step.table names.Ssi ∷ []
+directory_steps = Step.table names.Bics ∷ Step.table names.Ccys ∷ Step.table names.Countries ∷ Step.table names.Ssi ∷ Step.table names.Charges ∷ []
 
 -- with the accounts, and the sums of their openings
 abbrev pub account_steps : List Step
@@ -55,13 +55,12 @@ module _ {S : Type 0} (source : sources.Ghosts S) (old new : Tables S) where
     pub ssi : new.ssi ≡ old.ssi
     pub charges : new.charges ≡ old.charges
 
-  -- the instructions too
+  -- the instructions and the charges too
   pub record HasDirectory (directory : Directory) : Type 0 where
     pub inputs : Inputs
     pub passed : Walks (PassesTables inputs) directory_steps
     pub directory_is : directory ≡ directory_in inputs
     pub accounts : new.accounts ≡ old.accounts
-    pub charges : new.charges ≡ old.charges
 
   -- the accounts too, those of this home bank, and their openings sum to 0
   pub record HasAccounts (home : Bic) (chart : Chart) : Type 0 where
@@ -88,7 +87,6 @@ module _ {S : Type 0} (source : sources.Ghosts S) (old new : Tables S) where
   pub record StopsDirectory (stop : TableStop) : Type 0 where
     pub at : StopsIn directory_steps (status_of_table stop)
     pub accounts : new.accounts ≡ old.accounts
-    pub charges : new.charges ≡ old.charges
 
   -- reading the accounts of a home bank stops
   pub record StopsAccounts (home : Bic) (s : Status) : Type 0 where

@@ -45,9 +45,9 @@ pub record AreSampleFiles (files : Files Supply) : Type 0 where
 abbrev pub sample_tables : Tables
 sample_tables = tables_of sample_bics sample_ccys sample_countries
 
--- what messages are judged and routed by
+-- what messages are judged, routed and charged by: nothing is charged
 unfoldable pub sample_directory : Directory
-sample_directory = record { tables = sample_tables; ssi = map instruction_of (rows_of sample_ssi) }
+sample_directory = record { tables = sample_tables; ssi = map instruction_of (rows_of sample_ssi); charges = [] }
 
 -- the accounts of its book
 unfoldable pub sample_chart : Chart

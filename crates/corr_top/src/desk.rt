@@ -25,8 +25,7 @@ use fin_layout::Found;
 use fin_message::Message;
 use front_word::Pass;
 use jrn_book::{CommitFault, Committed};
-use pay_plan::{Ask, pay_on};
-use routing::Routed;
+use pay_plan::{Ask, Charged, pay_on};
 use std::alloc::Global;
 use std::sync::Wait;
 use work_pool::{Desk, Gate};
@@ -54,7 +53,8 @@ pub enum Served {
     Stopped(Halt),
 }
 
-/// What the workers of a run share: what messages are judged and routed by, and the books into which their pays are entered.
+/// What the workers of a run share: what messages are judged, routed and charged by, and the books into which their pays are
+/// entered.
 #[derive(Drop)]
 pub struct RunDesk<'a, N: BooksName, D: Disk> {
     pub alloc: Global,
@@ -135,37 +135,37 @@ impl<'a, N: BooksName, D: Disk> RunDesk<'a, N, D> {
     {
         let accounts = self.books.accounts();
         match read_message(self.alloc, self.directory, accounts, text, found, room) {
-            Ok(routed) => self.enter(rt, pass, room, &routed, worker, gate),
+            Ok(charged) => self.enter(rt, pass, room, &charged, worker, gate),
             Err(Stop::NoPay(why)) => Served::Reply(reply_for(why)),
             Err(Stop::Memory) => Served::Stopped(Halt::Memory),
         }
     }
 
-    /// Enters the pay that a valid message asks for on these accounts.
+    /// Enters the pay that a valid message asks for on these accounts, less what it is charged.
     fn enter<R: Wait, G: Gate>(
         &self,
         rt: &R,
         pass: &mut Pass,
         message: &Message,
-        routed: &Routed,
+        charged: &Charged,
         worker: u32,
         gate: &G,
     ) -> Served
         requires pass { Belongs N.opening pass.old }
         requires received { Goes Received message.now × TextSays self.now.directory.now.tables message.now × HasEnvelope message.now }
         requires short { length (lines_in message.now) ≤ most_text }
-        requires routed { IsRouted self.now.directory.now N.opening.accounts message.now routed.now }
+        requires routed { IsRouted self.now.directory.now N.opening.accounts message.now charged.now }
         ensures pass { Belongs N.opening pass.new }
         ensures answered { AnswersMessage N.opening (pay_in self.now.directory.now N.opening.accounts message.now) pass.old pass.new result }
     {
         match message {
             Message::Transfer(envelope, text, transfer) => {
                 let ask = Ask::Transfer(transfer);
-                self.enter_pay(rt, pass, envelope, text, ask, routed, worker, gate)
+                self.enter_pay(rt, pass, envelope, text, ask, charged, worker, gate)
             }
             Message::Cover(envelope, text, cover) => {
                 let ask = Ask::Cover(cover);
-                self.enter_pay(rt, pass, envelope, text, ask, routed, worker, gate)
+                self.enter_pay(rt, pass, envelope, text, ask, charged, worker, gate)
             }
             Message::Debit(..) | Message::Credit(..) | Message::Page(..) => unreachable!(),
         }
@@ -181,7 +181,7 @@ impl<'a, N: BooksName, D: Disk> RunDesk<'a, N, D> {
         envelope: &Envelope,
         text: &Text,
         ask: Ask<'_>,
-        routed: &Routed,
+        charged: &Charged,
         worker: u32,
         gate: &G,
     ) -> Served
@@ -189,12 +189,12 @@ impl<'a, N: BooksName, D: Disk> RunDesk<'a, N, D> {
         requires received { IsSome envelope.now.mir }
         requires read { IsSomeReading ask }
         requires writable { IsWritable envelope.now text.now }
-        requires routed { IsRoutedAs self.now.directory.now N.opening.accounts envelope.now text.now (unplaced ask) routed.now }
+        requires routed { IsRoutedAs self.now.directory.now N.opening.accounts envelope.now text.now (unplaced ask) charged.now }
         ensures pass { Belongs N.opening pass.new }
-        ensures answered { AnswersMessage N.opening (unrouted envelope.now (plan_of envelope.now text.now (unplaced ask.entry) self.now.directory.now.ssi N.opening.accounts)) pass.old pass.new result }
+        ensures answered { AnswersMessage N.opening (unrouted envelope.now (plan_of envelope.now text.now (unplaced ask.entry) self.now.directory.now.ssi self.now.directory.now.charges N.opening.accounts)) pass.old pass.new result }
     {
         let accounts = self.books.accounts();
-        match pay_on(self.alloc, envelope, text, ask, routed, accounts) {
+        match pay_on(self.alloc, envelope, text, ask, charged, accounts) {
             Ok(pay) => as_served(pay.mir, self.books.book(rt, pass, worker, &pay, gate)),
             Err(_) => Served::Stopped(Halt::Memory),
         }

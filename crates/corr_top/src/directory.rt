@@ -1,25 +1,26 @@
-//! The directory of a day: banks, currencies, countries, and instructions.
+//! The directory of a day: banks, currencies, countries, instructions, and charges.
 
 ghost use Rattle.std.specs.Prelude.{IfOk, IfErr};
 ghost use Rattle.ssi_versions.specs.InstructionList.{AreInstructions};
 ghost use Rattle.corr_top.specs.Tables.{HasDirectory, StopsDirectory};
 
 use crate::room::Tables;
-use crate::tables::{TableStop, read_instructions, read_known};
+use crate::tables::{TableStop, read_charged, read_instructions, read_known};
 use corr_io::Source;
-use ref_tables::RefTables;
+use ref_tables::{Charges, RefTables};
 use ssi_versions::Ssi;
 use std::alloc::Global;
 
-/// What messages are judged and routed by: banks, currencies and countries, and the instructions.
+/// What messages are judged, routed and charged by: banks, currencies and countries, the instructions, and the charges.
 #[derive(Drop)]
 pub struct Directory {
     pub tables: RefTables,
     pub ssi: Ssi,
+    pub charges: Charges,
 }
 
-/// The directory of the table files, each read and tested before the next: banks, currencies, countries, instructions; or why
-/// the first that fails wasn't taken.
+/// The directory of the table files, each read and tested before the next: banks, currencies, countries, instructions, charges;
+/// or why the first that fails wasn't taken.
 pub fn read_directory<S: Source>(
     alloc: Global,
     files: &mut Tables<S>,
@@ -30,5 +31,10 @@ pub fn read_directory<S: Source>(
 {
     let tables = read_known(alloc, files)?;
     let ssi = read_instructions(alloc, &tables, &mut files.ssi)?;
-    Ok(Directory { tables, ssi })
+    let charges = read_charged(alloc, &tables, &mut files.charges)?;
+    Ok(Directory {
+        tables,
+        ssi,
+        charges,
+    })
 }

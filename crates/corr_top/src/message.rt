@@ -16,8 +16,7 @@ use corr_text::{Code, Fault};
 use day_model::{Accounts, Reply};
 use fin_layout::Found;
 use fin_message::{Message, MessageFault, verdict_into};
-use pay_plan::{Ask, accounts_of};
-use routing::Routed;
+use pay_plan::{Ask, Charged, accounts_of};
 use std::alloc::Global;
 
 /// An advice or a page of a statement: it tells of an account and asks for no pay.
@@ -73,19 +72,19 @@ pub fn reference(envelope: &Envelope) -> Mir
     }
 }
 
-/// The accounts of a message that asks for a pay, or why it has none.
+/// The accounts of a message that asks for a pay and what it is charged, or why it has none.
 fn find_accounts(
     directory: &Directory,
     accounts: &Accounts,
     envelope: &Envelope,
     ask: Ask<'_>,
-) -> Result<Routed, NoPay>
+) -> Result<Charged, NoPay>
     requires received { IsSome envelope.now.mir }
     ensures routed { (text : List ℕ) → IfOk result (IsRoutedAs directory.now accounts.now envelope.now text (unplaced ask.entry)) }
-    ensures refused { IfErr result (λ why. (text : List ℕ) → unrouted envelope.now (plan_of envelope.now text (unplaced ask.entry) directory.now.ssi accounts.now) ≡ Err why) }
+    ensures refused { IfErr result (λ why. (text : List ℕ) → unrouted envelope.now (plan_of envelope.now text (unplaced ask.entry) directory.now.ssi directory.now.charges accounts.now) ≡ Err why) }
 {
-    match accounts_of(envelope, ask, &directory.ssi, accounts) {
-        Ok(routed) => Ok(routed),
+    match accounts_of(envelope, ask, &directory.ssi, accounts, &directory.charges) {
+        Ok(charged) => Ok(charged),
         Err(code) => Err(NoPay::Unrouted {
             mir: reference(envelope),
             code,
@@ -93,12 +92,13 @@ fn find_accounts(
     }
 }
 
-/// The accounts of a valid message, or why it has no pay. An advice and a page of a statement ask for none. Takes no memory.
+/// The accounts of a valid message and what it is charged, or why it has no pay. An advice and a page of a statement ask for
+/// none. Takes no memory.
 fn route_message(
     directory: &Directory,
     accounts: &Accounts,
     message: &Message,
-) -> Result<Routed, NoPay>
+) -> Result<Charged, NoPay>
     requires received { Goes Received message.now }
     requires envelope { HasEnvelope message.now }
     ensures routed { IfOk result (IsRouted directory.now accounts.now message.now) }
@@ -120,8 +120,8 @@ fn route_message(
     }
 }
 
-/// Reads a message of at most 16,384 bytes into `room` and answers its accounts, or tells why it gives no pay: then `room` may say
-/// anything. `found` is room for the places of its fields.
+/// Reads a message of at most 16,384 bytes into `room` and answers its accounts with what it is charged, or tells why it gives no
+/// pay: then `room` may say anything. `found` is room for the places of its fields.
 #[tactic(auto, unfolding(crate::specs::Message::pay_asked_of))]
 pub fn read_message(
     alloc: Global,
@@ -130,7 +130,7 @@ pub fn read_message(
     b: &[u8],
     found: &mut Found,
     room: &mut Message,
-) -> Result<Routed, Stop>
+) -> Result<Charged, Stop>
     requires { length b.now ≤ most_bytes }
     ensures stopped { IfErr result (λ stop. FailsAs stop (pay_asked_of directory.now accounts.now b.now)) }
     ensures read { OnOk result (pay_asked_of directory.now accounts.now b.now ≡ pay_in directory.now accounts.now room.new) }
@@ -140,7 +140,7 @@ pub fn read_message(
 {
     verdict_into(alloc, b, accounts.home(), &directory.tables, found, room)?;
     match route_message(directory, accounts, room) {
-        Ok(routed) => Ok(routed),
+        Ok(charged) => Ok(charged),
         Err(why) => Err(Stop::NoPay(why)),
     }
 }

@@ -2,7 +2,7 @@
 
 use crate::status::Status;
 
-/// The table files, each a source (docs/tables.md). No command reads that of charges yet.
+/// The table files, each a source (docs/tables.md).
 #[derive(Drop)]
 pub struct Tables<S> {
     pub bics: S,

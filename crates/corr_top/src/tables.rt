@@ -2,6 +2,7 @@
 
 ghost use Rattle.std.specs.Prelude.{◌≡◌, ℕ, List, [], Option, IfOk, IfErr, IsTrue, map};
 ghost use Rattle.ref_tables.specs.AccountList.{AreAccounts};
+ghost use Rattle.ref_tables.specs.Charges.{charge_in_row, charges_fault};
 ghost use Rattle.ref_tables.specs.Accounts.{account_of, accounts_fault};
 ghost use Rattle.ref_tables.specs.Refusals.{named};
 ghost use Rattle.ref_tables.specs.Rows.{most_table_bytes, rows_of};
@@ -21,8 +22,8 @@ use corr_ids::Bic;
 use corr_io::Source;
 use corr_text::Text;
 use ref_tables::{
-    AccountRow, RefTables, TableFault, TableName, Why, read_accounts, read_banks, with_countries,
-    with_currencies,
+    AccountRow, Charges, RefTables, TableFault, TableName, Why, read_accounts, read_banks,
+    read_charges, with_countries, with_currencies,
 };
 use ssi_versions::Ssi;
 use std::alloc::Global;
@@ -176,4 +177,18 @@ pub fn read_instructions<S: Source>(
 {
     let file = read_table(alloc, source)?;
     Ok(Ssi::read(alloc, file.bytes(), known)?)
+}
+
+/// The table of charges, or why it wasn't taken.
+pub fn read_charged<S: Source>(
+    alloc: Global,
+    known: &RefTables,
+    source: &mut S,
+) -> Result<Charges, TableStop>
+    ensures fine { IfOk result (λ charges. (file : List ℕ) × IsFine S.Source source.old source.new file (named names.Charges (charges_fault known.now file))
+        × (charges ≡ map charge_in_row (rows_of file))) }
+    ensures stopped { IfErr result (λ stop. (file : List ℕ) × StopsAtTable S.Source source.old source.new file (named names.Charges (charges_fault known.now file)) stop) }
+{
+    let file = read_table(alloc, source)?;
+    Ok(read_charges(alloc, file.bytes(), known)?)
 }

@@ -59,7 +59,7 @@ fn sample_tables(alloc: Global) -> Result<Tables<MemSource>, Memory>
     })
 }
 
-/// What messages of the sample bank are judged and routed by.
+/// What messages of the sample bank are judged, routed and charged by.
 fn sample_directory(alloc: Global) -> Result<Directory, Memory>
     ensures value { IfOk result (λ directory. directory ≡ sample_directory) }
     ensures instructions { IfOk result (λ directory. AreInstructions directory.tables directory.ssi) }

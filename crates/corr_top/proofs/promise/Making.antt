@@ -1,5 +1,5 @@
 -- Where `init` ends in whatever way, a crash leaves nothing made, or the new journal.
-use Rattle.std.proofs.Common.{◌≡◌, ◌⊎◌, ◌≤◌, ℕ, List, [], inl, inr, refl, sym, subst}
+use Rattle.std.proofs.Common.{◌≡◌, ◌⊎◌, [], inl, inr, refl, sym, subst}
 use Rattle.std.specs.Prelude.{IsTrue}
 use Rattle.corr_disk.specs.Disk.{Only}
 use Rattle.corr_disk.specs.declared.disk.Disk as disks

@@ -1,9 +1,9 @@
 -- The promise of `run`.
-use Rattle.std.proofs.Common.{◌≡◌, ◌⊎◌, ◌+◌, ℕ, All, List, [], ◌++◌, true, false, inl, inr, length, map, Some, refl, sym, ap, ◌∙◌, subst}
+use Rattle.std.proofs.Common.{◌≡◌, ◌⊎◌, ◌+◌, ℕ, suc, All, List, [], ◌∷◌, ◌++◌, true, false, inl, inr, length, map, Some, refl, sym, ap, ◌∙◌, subst}
 use Rattle.std.proofs.lemmas.List.{append-nil, length-map}
 use mathlib.Core.List.{IsPrefix, prefix-append}
 use mathlib.Core.Bool.{true≢false}
-use Rattle.std.specs.Prelude.{IsTrue, Result}
+use Rattle.std.specs.Prelude.{IsTrue, Result, slice_get}
 use Rattle.std.specs.List.{Contains}
 use Rattle.std.proofs.lemmas.List.Elements.{All-map, All-weaker}
 use Rattle.corr_books.specs.Moments.{StandsBetween, StandsWithMore}
@@ -22,10 +22,13 @@ use Rattle.ref_tables.specs.Seen.{Tables as Known}
 use Rattle.ref_tables.specs.Tables.{tables_of}
 use Rattle.ref_tables.specs.declared.fault.TableName.{TableName}
 use Rattle.ref_tables.specs.declared.fault.TableName.TheVariants as names
+use Rattle.ref_tables.specs.Charges.{charge_in_row}
 use Rattle.ssi_versions.specs.Rows.{instruction_of}
 use Rattle.ref_tables.specs.Rows.{rows_of}
 use Rattle.corr_top.proofs.Folding.{legal_fold}
 use Rattle.corr_top.proofs.Replying.{get_all}
+use Rattle.corr_top.proofs.RunEnds.{day_steps}
+use Rattle.corr_top.proofs.Walking.{Has, halts_parts, walked, walks_parts}
 use Rattle.corr_top.specs.Booking.{AreAnswered, IsEnteredOn, StopsBooking}
 use Rattle.corr_top.specs.Commands.{out_in, report_in}
 use Rattle.corr_top.specs.Ends.{Ends, HasPassed}
@@ -35,9 +38,9 @@ use Rattle.corr_top.specs.MessageFile.{IsMessageFile}
 use Rattle.corr_top.specs.OnDisk.{HoldsJournal, IsOnDisk, IsUnwritten, LeavesMidway}
 use Rattle.corr_top.specs.Origin.{AreSentValid}
 use Rattle.corr_top.specs.Out.{sent_from}
-use Rattle.corr_top.specs.Run.{run_steps}
-use Rattle.corr_top.specs.Steps.{Step}
-use Rattle.corr_top.specs.Passing.{HasMessages, IsFine, table_at, table_fault, table_file}
+use Rattle.corr_top.specs.Steps.{Step, Walks}
+use Rattle.corr_top.specs.Tables.{directory_steps}
+use Rattle.corr_top.specs.Passing.{HasMessages, Passes, StepIsUntouched, StopsAt, table_file}
 use Rattle.corr_top.specs.declared.directory.Directory.{Directory}
 use Rattle.corr_top.specs.declared.message.NoPay.{NoPay}
 use Rattle.corr_top.specs.declared.room.Room.{Room}
@@ -68,6 +71,15 @@ of_pays day pays added each =
     All-map (Contains pays) (λ (e : Entry). e.pay) added
     (All-weaker (IsEnteredOn day pays) (λ (e : Entry). Contains pays e.pay) (λ e is. get_contains pays is.place e.pay is.pay_is) added each)
 
+-- a step of a front part is one of the whole
+place_of : (front back : List Step) (s : Step) → Has front s → (k : ℕ) × (slice_get (front ++ back) k ≡ Some s)
+place_of [] back s at = absurd at
+place_of (d ∷ front) back s (inl is) = (0, ap (λ (x : Step). Some x) is)
+place_of (d ∷ front) back s (inr at) = let later = place_of front back s at in (suc later.0, later.1)
+
+in_front : (front back : List Step) (s : Step) → Has front s → Contains (front ++ back) s
+in_front front back s at = let place = place_of front back s at in get_contains (front ++ back) place.0 s place.1
+
 module _ {S K D : Type 0} (source : sources.Ghosts S) (sink : sinks.Ghosts K) (disk : disks.Ghosts D) (old new : Room S K D) (s : Status) (i j : Inputs) where
   -- what was read up to the messages is what was told
   record Reached : Type 0 where
@@ -77,24 +89,22 @@ module _ {S K D : Type 0} (source : sources.Ghosts S) (sink : sinks.Ghosts K) (d
     file : IsMessageFile i.messages j.cut
     day : j.day ≡ i.day
 
-  Table : TableName → Type 0
-  Table name = IsFine source (table_at name old.tables) (table_at name new.tables) (table_file name j) (table_fault name j)
-
   reached : Told source sink disk old new s (Run i.day i.workers) i → source.left old.messages ≡ Some i.messages → Keeps disk old.disk i.chart i.history → j.day ≡ i.day
-      → Table names.Bics → Table names.Ccys → Table names.Countries → Table names.Ssi → HoldsJournal disk old.disk j.chart j.history → HasMessages source old.messages new.messages j.messages j.cut → Reached
-  unfolding Table
-  reached told messages kept day bics ccys countries ssi holds had =
-      let b = same_table source names.Bics old.tables new.tables j i (told names.Bics (get_contains run_steps 0 (Step.table names.Bics) refl)) bics in
-      let c = same_table source names.Ccys old.tables new.tables j i (told names.Ccys (get_contains run_steps 1 (Step.table names.Ccys) refl)) ccys in
-      let n = same_table source names.Countries old.tables new.tables j i (told names.Countries (get_contains run_steps 2 (Step.table names.Countries) refl)) countries in
-      let t = same_table source names.Ssi old.tables new.tables j i (told names.Ssi (get_contains run_steps 3 (Step.table names.Ssi) refl)) ssi in
+      → Walks (Passes source disk old new j) directory_steps → HoldsJournal disk old.disk j.chart j.history → HasMessages source old.messages new.messages j.messages j.cut → Reached
+  reached told messages kept day passed holds had =
+      let same : (name : TableName) → Has directory_steps (Step.table name) → table_file name j ≡ table_file name i = λ name at.
+      same_table source name old.tables new.tables j i (told name (in_front directory_steps day_steps (Step.table name) at))
+      (walked (Passes source disk old new j) directory_steps (Step.table name) passed at) in
       let known : tables_in j ≡ tables_in i =
-      ap (λ (x : List ℕ). tables_of x j.ccys j.countries) b ∙ ap (λ (x : List ℕ). tables_of i.bics x j.countries) c ∙ ap (λ (x : List ℕ). tables_of i.bics i.ccys x) n in
-      let rows = ap (λ (x : List ℕ). map instruction_of (rows_of x)) t in
+      ap (λ (x : List ℕ). tables_of x j.ccys j.countries) (same names.Bics (inl refl))
+      ∙ ap (λ (x : List ℕ). tables_of i.bics x j.countries) (same names.Ccys (inr (inl refl)))
+      ∙ ap (λ (x : List ℕ). tables_of i.bics i.ccys x) (same names.Countries (inr (inr (inl refl)))) in
+      let rows = ap (λ (x : List ℕ). map instruction_of (rows_of x)) (same names.Ssi (inr (inr (inr (inl refl))))) in
+      let taken = ap (λ (x : List ℕ). map charge_in_row (rows_of x)) (same names.Charges (inr (inr (inr (inr (inl refl)))))) in
       let bytes = took_all source.left source.faults 67108864 old.messages new.messages j.messages i.messages messages had.are.short had.took in
       record {
         known = known;
-        directory = λ k. record { tables = known k; ssi = rows k };
+        directory = λ k. record { tables = known k; ssi = rows k; charges = taken k };
         books = same_books disk old.disk j i.chart i.history holds kept;
         file = subst (λ (m : List ℕ). IsMessageFile m j.cut) bytes had.are;
         day = day;
@@ -207,18 +217,19 @@ module _ {S K D : Type 0} (source : sources.Ghosts S) (sink : sinks.Ghosts K) (d
   same is = same_keeps disk old.disk new.disk i.chart i.history only is kept
 
   pub run_promise : Ends source disk (Run i.day i.workers) old new sink s → RunPromise source sink disk old new s i
-  unfolding report_in out_in Table
+  unfolding report_in out_in
   run_promise ended =
       let j = ended.inputs in
       let day = ended.are_for.0 in
       let workers = ended.are_for.1 in
+      let passes = Passes source disk old new j in
       let reach = reached source sink disk old new s i j told messages kept day in
-      let whole = (λ (h : HasPassed source disk (Run i.day i.workers) old new j).
-      let p = h.passed in
-      reach p.0 p.1.0 p.1.1.0 p.1.1.1.0 p.1.1.1.1.0 p.1.1.1.1.1.1.0) in
       let wrote = (λ (h : HasPassed source disk (Run i.day i.workers) old new j).
-      entered_all source sink disk old new s i j (whole h) kept h.leaves.any_moment sure h.passed.1.1.1.1.1.1.1.0 h.leaves.journal h.leaves.entered
-      (λ some. let all = finished source sink disk old new s (Run i.day i.workers) ended some in all_answered source sink disk old new s i j (whole h) workers h.passed.1.1.1.1.1.1.1.0 all.1 all.2)) in
+      let parts = walks_parts passes directory_steps day_steps h.passed in
+      let read = reach parts.0 parts.1.0 parts.1.1.1.0 in
+      let answered = parts.1.1.1.1.0 in
+      entered_all source sink disk old new s i j read kept h.leaves.any_moment sure answered h.leaves.journal h.leaves.entered
+      (λ some. let all = finished source sink disk old new s (Run i.day i.workers) ended some in all_answered source sink disk old new s i j read workers answered all.1 all.2)) in
       elim ended.ends [
         | inl done ↦ wrote done.passed
         | inr other ↦ elim other [
@@ -228,26 +239,17 @@ module _ {S K D : Type 0} (source : sources.Ghosts S) (sink : sinks.Ghosts K) (d
               let none = entered_none source sink disk old new s i j in
               let unwritten = (λ (is : IsUnwritten disk old.disk new.disk). none (unwritten_keeps disk old.disk new.disk i.chart i.history honest is kept) silent) in
               elim stop.stopped [
-                | inl halted ↦ elim halted [
-                  | inl at_bics ↦ none (same at_bics.1.1.1.1.0) silent
-                  | inr bics ↦ elim bics.1 [
-                    | inl at_ccys ↦ none (same at_ccys.1.1.1.0) silent
-                    | inr ccys ↦ elim ccys.1 [
-                      | inl at_countries ↦ none (same at_countries.1.1.0) silent
-                      | inr countries ↦ elim countries.1 [
-                        | inl at_ssi ↦ none (same at_ssi.1.0) silent
-                        | inr ssi ↦ elim ssi.1 [
-                          | inl at_journal ↦ unwritten at_journal.0.2.untouched
-                          | inr journal ↦ elim journal.1 [
-                            | inl at_day ↦ unwritten at_day.1.1.0
-                            | inr of_day ↦ elim of_day.1 [
-                              | inl at_messages ↦ unwritten at_messages.1.0
-                              | inr file ↦ elim file.1 [
-                                | inl at_book ↦ entered_some source sink disk old new s i j (reach bics.0 ccys.0 countries.0 ssi.0 journal.0 file.0) kept sure at_book.0.2 silent
-                                | inr past ↦ absurd past.1
-                              ]
-                            ]
-                          ]
+                | inl halted ↦ elim (halts_parts passes (StopsAt source disk old new j s) (StepIsUntouched disk old new) directory_steps day_steps halted) [
+                  | inl tables ↦ none (same tables.1.0) silent
+                  | inr after ↦ elim after.1 [
+                    | inl at_journal ↦ unwritten at_journal.0.2.untouched
+                    | inr journal ↦ elim journal.1 [
+                      | inl at_day ↦ unwritten at_day.1.1.0
+                      | inr of_day ↦ elim of_day.1 [
+                        | inl at_messages ↦ unwritten at_messages.1.0
+                        | inr file ↦ elim file.1 [
+                          | inl at_book ↦ entered_some source sink disk old new s i j (reach after.0 journal.0 file.0) kept sure at_book.0.2 silent
+                          | inr past ↦ absurd past.1
                         ]
                       ]
                     ]

@@ -1,4 +1,4 @@
-use Rattle.std.proofs.Common.{◌≤◌, arith}
+use Rattle.std.proofs.Common.{arith}
 use Rattle.corr_top.proofs.cutting.piece_len.Goals as goal
 
 pub returns-clause-quiet : goal.returns-clause-quiet

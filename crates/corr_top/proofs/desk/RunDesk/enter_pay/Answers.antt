@@ -9,6 +9,6 @@ returns-in-Ok-clause-answered g c =
     let chart = g.N.BooksName.opening.accounts in
     let directory = c.args.self.now.directory.now in
     let books = c.accounts-accounts in
-    let planned : plan_of c.args.envelope.now c.args.text.now (unplaced c.args.ask) directory.ssi chart ≡ Ok c.in-Ok.pay =
-    plan_on directory chart books.result.now c.args.envelope.now c.args.text.now c.args.ask c.args.routed.now c.in-Ok.pay books.ensures.value c.in-Ok.ensures.value c.requires.routed in
+    let planned : plan_of c.args.envelope.now c.args.text.now (unplaced c.args.ask) directory.ssi directory.charges chart ≡ Ok c.in-Ok.pay =
+    plan_on directory chart books.result.now c.args.envelope.now c.args.text.now c.args.ask c.args.charged.now c.in-Ok.pay books.ensures.value c.in-Ok.ensures.value c.requires.routed in
     search (planned, rules)
