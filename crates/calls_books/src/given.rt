@@ -83,6 +83,15 @@ pub(crate) fn bank_and_customer(alloc: Global) -> Result<Accounts, Fail> {
     book(first, second, List::new(alloc))
 }
 
+// The same, and after them account F for charges.
+pub(crate) fn bank_customer_and_fees(alloc: Global) -> Result<Accounts, Fail> {
+    let mut rows = List::new(alloc);
+    rows.push(account(alloc, b"V", b'V', OTHER, 0)?)?;
+    let second = account(alloc, b"C", b'C', HOME, 0)?;
+    let third = account(alloc, b"F", b'F', HOME, 0)?;
+    book(second, third, rows)
+}
+
 pub(crate) fn leg(alloc: Global, account: u32, side: Side, amount: u64) -> Result<Leg, Memory> {
     Ok(Leg {
         account: AcctNo(account),

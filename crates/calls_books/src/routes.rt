@@ -1,11 +1,11 @@
 //! A route between two accounts.
 
-use crate::given::{EUR, OTHER, TODAY, bank_and_customer};
+use crate::given::{EUR, HOME, OTHER, TODAY, bank_and_customer, bank_customer_and_fees};
 use corr_money::{Amount, Minor};
 use corr_text::{Code, Text};
-use day_model::{Accounts, AcctNo};
+use day_model::{Accounts, AcctNo, Kind};
 use ref_tables::{TableFault, read_tables};
-use routing::{Cover, LentCover, LentTarget, Routed, Target, route, route_lent};
+use routing::{Cover, LentCover, LentTarget, Routed, Target, account_with, route, route_lent};
 use ssi_versions::Ssi;
 use std::alloc::Global;
 use std::test::Fail;
@@ -65,5 +65,24 @@ fn a_payment_is_routed(rt: HostRuntime) -> Result<(), Fail> {
         routed(&ssi, &book, &target)
     );
     assert_eq!(rt; routed(&ssi, &book, &target), Ok(want));
+    Ok(())
+}
+
+// The home bank's account of fees for an amount. Promises nothing.
+fn fees(book: &Accounts) -> Option<AcctNo> {
+    let amount = Amount {
+        ccy: EUR,
+        minor: Minor(5),
+        decimals: 2,
+    };
+    account_with(Kind::Fee, &HOME, &amount, book)
+}
+
+#[test]
+fn an_account_of_a_kind_is_found(rt: HostRuntime) -> Result<(), Fail> {
+    let book = bank_customer_and_fees(rt.alloc())?;
+    assert_eq!(rt; fees(&book), Some(AcctNo(3)));
+    let book = bank_and_customer(rt.alloc())?;
+    assert_eq!(rt; fees(&book), None);
     Ok(())
 }

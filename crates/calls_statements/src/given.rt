@@ -37,6 +37,13 @@ const CHARGED: &[u8] = b"240603ALPHDEFFAXXX0001000001\x01\0\0\0\x4d\xa5\0\0\x4d\
 \x03\0\x01\0\0\0\0\0\0\x01\xe2\x3a\0\x04REF1\0\x03\x01\0\0\0\0\0\x01\xe0\x46\x01\x01\
 \0\x05\x01\0\0\0\0\0\0\x01\xf4\0\x04REF1\x01\x04ALPHDEFFXXX\x01\0\0\0\x0a:20:REF1\r\n";
 
+// The record of such an entry that is sent on: 1229,50 of it go to account 2, for a customer of its bank.
+const CHARGED_ONWARD: &[u8] = b"240603ALPHDEFFAXXX0001000001\x01\0\0\0\x4d\xa5\0\0\x4d\xa5\0\
+\x03\0\x01\0\0\0\0\0\0\x01\xe2\x3a\0\x04REF1\0\x02\x01\0\0\0\0\0\x01\xe0\x46\x01\x01\
+\0\x05\x01\0\0\0\0\0\0\x01\xf4\0\x04REF1\x02\x01BETAFRPPXXX\x02\0\x04ALPHDEFFXXX\x01\0\0\0\x67\
+:20:REF1\r\n:23B:CRED\r\n:32A:240603EUR1234,5\r\n:50K:A PAYER\r\n:57A:BETAFRPP\r\n:59:/CUST9\r\nA PAYEE\r\n\
+:71A:SHA\r\n";
+
 fn row(alloc: Global, id: &[u8], kind: u8, owner: Bic, opening: i64) -> Result<Account, Memory> {
     Ok(Account {
         id: Text::from_bytes(alloc, id)?,
@@ -101,6 +108,13 @@ pub fn charged_pay(alloc: Global) -> Result<Pay, Fail>
     ensures { IfOk result HasShape }
 {
     pay_in(alloc, CHARGED)
+}
+
+/// The pay of an entry of the day with a charge, which is sent on to the bank of account 2.
+pub fn charged_onward(alloc: Global) -> Result<Pay, Fail>
+    ensures { IfOk result HasShape }
+{
+    pay_in(alloc, CHARGED_ONWARD)
 }
 
 // The pay of an entry's record.

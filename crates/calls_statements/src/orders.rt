@@ -4,7 +4,7 @@ ghost use Rattle.corr_ids.specs.Bic.{IsBic};
 ghost use Rattle.day_model.specs.Fit.{FitsAccounts};
 ghost use Rattle.day_model.specs.Shape.{HasShape};
 
-use crate::given::{DAY, accounts, charged_pay, is_only, pay};
+use crate::given::{DAY, accounts, charged_onward, charged_pay, is_only, pay};
 use advices::{orders, sent_messages_pass, sent_onward_reads};
 use corr_text::{List, Memory, Text};
 use day_model::{Accounts, Entry, Outcome, Pay};
@@ -13,6 +13,27 @@ use std::test::Fail;
 
 const NOTICE: &[u8] = b"{1:F01HOMEUS33AXXX0000000000}{2:I900ALPHDEFFXXXXN}{4:\r
 :20:P00000001K1\r
+:21:REF1\r
+:25:VALPHEUR\r
+:32A:240603EUR1234,50\r
+-}";
+
+// The transfer that is sent on when a charge is taken out of it.
+const ONWARD: &[u8] = b"{1:F01HOMEUS33AXXX0000000000}{2:I103BETAFRPPXXXXN}{4:\r
+:20:P00000001K1\r
+:23B:CRED\r
+:32A:240603EUR1229,50\r
+:33B:EUR1234,50\r
+:50K:A PAYER\r
+:52A:ALPHDEFF\r
+:59:/CUST9\r
+A PAYEE\r
+:71A:SHA\r
+:71F:EUR5,00\r
+-}";
+
+const NOTICE_BEHIND: &[u8] = b"{1:F01HOMEUS33AXXX0000000000}{2:I900ALPHDEFFXXXXN}{4:\r
+:20:P00000001K2\r
 :21:REF1\r
 :25:VALPHEUR\r
 :32A:240603EUR1234,50\r
@@ -66,5 +87,20 @@ fn a_debit_is_told_to_its_bank(rt: HostRuntime) -> Result<(), Fail> {
     assert!(rt; is_only(&texts, NOTICE));
     let texts = sent_of_a_charge(rt.alloc())?;
     assert!(rt; is_only(&texts, NOTICE));
+    Ok(())
+}
+
+// Whether these two messages are sent of a charged transfer to a bank.
+fn are_sent_onward(texts: &List<Text>) -> bool {
+    match texts.as_slice() {
+        [order, notice] => order.bytes() == ONWARD && notice.bytes() == NOTICE_BEHIND,
+        _ => false,
+    }
+}
+
+#[test]
+fn a_charge_is_told_to_the_next_bank(rt: HostRuntime) -> Result<(), Fail> {
+    let texts = sent_of(rt.alloc(), charged_onward(rt.alloc())?)?;
+    assert!(rt; are_sent_onward(&texts));
     Ok(())
 }

@@ -13,7 +13,7 @@ use work_pool::{Gate, OpenGate};
 // The bytes of the table files, in the order in which they are read, of the message file, and of the file of received statements.
 #[derive(Clone, Copy)]
 pub(crate) struct Files {
-    pub(crate) tables: [&'static [u8]; 5],
+    pub(crate) tables: [&'static [u8]; 6],
     pub(crate) messages: &'static [u8],
     pub(crate) received: &'static [u8],
 }
@@ -41,7 +41,7 @@ pub(crate) struct Ended<D: Disk> {
     pub(crate) status: Status,
     pub(crate) report: Text,
     pub(crate) out: Text,
-    pub(crate) faults: [u64; 8],
+    pub(crate) faults: [u64; 9],
     pub(crate) disk: D,
 }
 
@@ -66,14 +66,14 @@ fn source(
 }
 
 fn tables(alloc: Global, failing: Failing, files: Files) -> Result<Tables<MemSource>, Memory> {
-    let [bics, ccys, countries, accounts, ssi] = files.tables;
+    let [bics, ccys, countries, accounts, ssi, charges] = files.tables;
     Ok(Tables {
         bics: source(alloc, failing, 0, bics)?,
         ccys: source(alloc, failing, 1, ccys)?,
         countries: source(alloc, failing, 2, countries)?,
         accounts: source(alloc, failing, 3, accounts)?,
         ssi: source(alloc, failing, 4, ssi)?,
-        charges: source(alloc, WHOLE, 7, b"")?,
+        charges: source(alloc, failing, 5, charges)?,
     })
 }
 
@@ -89,8 +89,8 @@ fn room<D: Disk + Drop>(
 ) -> Result<Room<MemSource, MemSink, D>, Memory> {
     Ok(Room {
         tables: tables(alloc, failing, files)?,
-        messages: source(alloc, failing, 5, files.messages)?,
-        received: source(alloc, WHOLE, 6, files.received)?,
+        messages: source(alloc, failing, 6, files.messages)?,
+        received: source(alloc, WHOLE, 7, files.received)?,
         report: sink(alloc, failing.report)?,
         out: sink(alloc, failing.out)?,
         disk,
@@ -121,6 +121,7 @@ fn leave<D: Disk + Drop>(
             room.tables.countries.faults(),
             room.tables.accounts.faults(),
             room.tables.ssi.faults(),
+            room.tables.charges.faults(),
             room.messages.faults(),
             room.report.faults(),
             room.out.faults(),

@@ -14,16 +14,17 @@ const FILES: Files = Files {
         b"HOMEUS33\nALPHDEFF\n",
         b"EUR,2\n",
         b"US,N\nDE,Y\n",
-        b"VALPH,V,ALPHDEFF,EUR,-900000,900000,0\nCUST,C,HOMEUS33,EUR,0,900000,0\n",
+        b"VALPH,V,ALPHDEFF,EUR,-900000,900000,0\nCUST,C,HOMEUS33,EUR,0,900000,0\nFEE,F,HOMEUS33,EUR,0,900000,0\n",
         b"EUR,ALPHDEFF,BOOK,,VALPH,240101,791231\n",
+        b"EUR,500\n",
     ],
     messages: b"{1:F01HOMEUS33AXXX0001000007}{2:O1031200240603ALPHDEFFAXXX00010000012406031205N}{4:\r\n:20:REF1\r\n:23B:CRED\r\n:32A:240603EUR9,5\r\n:50K:A PAYER\r\n:59:/CUST\r\nA PAYEE\r\n:71A:SHA\r\n-}",
     received: b"",
 };
 
 // The counts of faults where that at one place is 1, and each other 0.
-fn one_fault(place: usize) -> [u64; 8] {
-    let mut faults = [0; 8];
+fn one_fault(place: usize) -> [u64; 9] {
+    let mut faults = [0; 9];
     if let Some(fault) = faults.get_mut(place) {
         *fault = 1;
     }
@@ -105,7 +106,7 @@ fn is_ended<R: Wait + Threads + Sync>(
 #[test]
 fn each_failed_read_ends_a_run(rt: HostRuntime) -> Result<(), Fail> {
     let journal = journal(&rt, rt.alloc(), FILES)?;
-    for place in [0, 1, 2, 4, 5usize] {
+    for place in [0, 1, 2, 4, 5, 6usize] {
         assert!(rt; is_ended(&rt, rt.alloc(), &journal, place, 1)?);
         assert!(rt; is_ended(&rt, rt.alloc(), &journal, place, 2)?);
     }
@@ -133,9 +134,9 @@ fn cut<R: Wait + Threads + Sync>(
 fn a_failed_write_ends_a_run(rt: HostRuntime) -> Result<(), Fail> {
     let alloc = rt.alloc();
     let journal = journal(&rt, alloc, FILES)?;
-    let (told, report) = cut(&rt, alloc, &journal, Failing { report: 1, ..WHOLE }, 6)?;
+    let (told, report) = cut(&rt, alloc, &journal, Failing { report: 1, ..WHOLE }, 7)?;
     assert!(rt; told && report.bytes().is_empty());
-    let (told, report) = cut(&rt, alloc, &journal, Failing { out: 1, ..WHOLE }, 7)?;
+    let (told, report) = cut(&rt, alloc, &journal, Failing { out: 1, ..WHOLE }, 8)?;
     assert!(rt; told && report.bytes().starts_with(b"000001 "));
     Ok(())
 }

@@ -2,6 +2,8 @@
 #![tactic(auto)]
 
 #[cfg(test)]
+mod charges;
+#[cfg(test)]
 mod commands;
 #[cfg(test)]
 mod faults;

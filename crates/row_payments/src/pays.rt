@@ -1,9 +1,9 @@
-//! A pay as an answer: account and quote of each leg, then the messages that are sent on, as
-//! `1 REF1, 2 K1; TRANSFER BETAFRPP BOTH; DEBIT ALPHDEFF 1`.
+//! A pay as an answer: side, account, amount and quote of each leg, then the messages that are sent on, as
+//! `D 1 123450 REF1, C 2 123450 K1; TRANSFER BETAFRPP BOTH; DEBIT ALPHDEFF 1`.
 
 use corr_ids::{Bic, put_bic};
 use corr_text::{Memory, Text, put_digits};
-use day_model::{Leg, Order, Pay, Quote, Skip};
+use day_model::{Leg, Order, Pay, Quote, Side, Skip};
 use row_words::answer::Answer;
 
 fn skip_word(skip: Skip) -> &'static [u8] {
@@ -11,6 +11,13 @@ fn skip_word(skip: Skip) -> &'static [u8] {
         Skip::Keep => b"KEEP",
         Skip::Mid => b"MID",
         Skip::Both => b"BOTH",
+    }
+}
+
+fn side_word(side: Side) -> &'static [u8] {
+    match side {
+        Side::Debit => b"D",
+        Side::Credit => b"C",
     }
 }
 
@@ -62,7 +69,9 @@ fn put_order(order: &Order, answer: &mut Answer) -> Result<(), Memory> {
 }
 
 fn put_leg(leg: &Leg, answer: &mut Answer) -> Result<(), Memory> {
+    answer.word(side_word(leg.side))?;
     answer.number(leg.account.0 as u64)?;
+    answer.number(leg.amount.0)?;
     match &leg.quote {
         Quote::Theirs(text) => answer.word(text.bytes()),
         Quote::Ours(order) => {

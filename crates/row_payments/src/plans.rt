@@ -51,7 +51,15 @@ fn planned(
     requires read { IsReadBy desk.now.tables ask }
     requires named { IsSome env.now.mir }
 {
-    plan(alloc, env, text, ask, &desk.ssi, &desk.accounts)
+    plan(
+        alloc,
+        env,
+        text,
+        ask,
+        &desk.ssi,
+        &desk.accounts,
+        &desk.charges,
+    )
 }
 
 /// Adds the pay of a message, or the code why it has none.
