@@ -126,7 +126,7 @@ class Reader:
 def read_account(read):
     ident = read.take(read.number(1))
     demand(re.fullmatch(rb"[A-Z0-9]{1,34}", ident))
-    kind = read.form(1, re.compile(rb"[CVN]"))
+    kind = read.form(1, re.compile(rb"[CVNF]"))
     owner, ccy = read.form(11, BIC), read.form(3, re.compile(rb"[A-Z]{3}"))
     account = Account(ident, kind, owner, ccy, read.number(1, 4), read.signed(8), read.signed(8), read.signed(8))
     demand(-MOST_MINOR < account.floor <= account.opening <= account.ceil < MOST_MINOR)
@@ -180,8 +180,9 @@ def read_entry(data):
     uetr = read.form(36, UETR) if read.number(1, 1) else None
     day, value = read.day(), read.day()
     outcome = (read.number(1), read.signed(8)) if read.number(1, 1) else None
-    legs = [read_leg(read) for _ in range(read.number(1, 2))]
-    demand([it.side for it in legs] == [0, 1] and legs[0].amount == legs[1].amount and legs[0].account != legs[1].account)
+    legs = [read_leg(read) for _ in range(read.number(1, 3))]
+    demand(len(legs) >= 2 and legs[0].side == 0 and len({it.account for it in legs}) == len(legs))
+    demand(sum(it.amount if it.side else -it.amount for it in legs) == 0)
     orders = [read_order(read, len(legs)) for _ in range(read.number(1))]
     text = read.take(read.number(4, MOST_TEXT))
     read.end()
@@ -227,7 +228,7 @@ def frames(data):
 
 
 def outcome_of(accounts, balances, legs):
-    """None where both accounts can take their leg, else the first leg that fails and the balance of its account."""
+    """None where each account can take its leg, else the first leg that fails and the balance of its account."""
     for number, leg in enumerate(legs, 1):
         account, balance = accounts[leg.account - 1], balances[leg.account - 1]
         if not account.floor <= balance + (leg.amount if leg.side else -leg.amount) <= account.ceil:

@@ -7,7 +7,7 @@ from inputs import cut
 
 TOP = pathlib.Path(__file__).resolve().parent.parent
 EXAMPLES = TOP / "examples"
-TABLES = ["bics.csv", "ccys.csv", "countries.csv", "accounts.csv", "ssi.csv"]
+TABLES = ["bics.csv", "ccys.csv", "countries.csv", "accounts.csv", "ssi.csv", "charges.csv"]
 HOME = b"HOMEUS33"
 DAYS = [b"240603"] * 12 + [b"240602", b"240604", b"240701", b"800101", b"791231", b"241231", b"240229"]
 AMOUNTS = [b"0,", b"0,01", b"0,1", b"1,", b"00012,5", b"999999999999,99", b"1000000000000,", b"99999999999999,", b"90000000000,", b",5", b"5"]
@@ -373,13 +373,24 @@ def roads(dice, made):
     return made["ssi.csv"].rstrip(b"\n") + b"\n" + b"".join(lines)
 
 
+def charging(dice, made):
+    """Charges in some currencies of the accounts, and for most of them an account of fees, where none is there."""
+    ccys = sorted({it[3] for it in Bank(made).accounts})
+    without = [it for it in ccys if it not in {row[3] for row in Bank(made).of_kind(b"F")}]
+    rows = [b"FEES%s,F,HOMEUS33,%s,%d,%d,0\n" % (it, it, dice.choice([0, -10]), dice.choice([10**3, 10**13])) for it in without if some(dice, 0.8)]
+    charges = [b"%s,%d\n" % (it, dice.choice([1, 7, 100, 500, 10**5, 10**14 - 1])) for it in ccys if some(dice, 0.7)]
+    return {"accounts.csv": made["accounts.csv"].rstrip(b"\n") + b"\n" + b"".join(rows), "charges.csv": b"".join(charges)}
+
+
 def tables(dice, samples, spoiled):
-    """The five tables of a folder, of which one is changed where they are to be spoiled."""
+    """The tables of a folder, of which one is changed where they are to be spoiled."""
     made = dict(dice.choice(samples.banks[:1] * 6 + samples.banks))
     if some(dice, 0.8):
         made["accounts.csv"] = wide(made["accounts.csv"]) if some(dice, 0.6) else tight(dice, made["accounts.csv"])
     if some(dice, 0.6):
         made["ssi.csv"] = roads(dice, made)
+    if some(dice, 0.5):
+        made |= charging(dice, made)
     if spoiled:
         name = dice.choice(TABLES)
         made[name] = turn_table(dice, made[name], [row for bank in samples.banks for row in bank[name].splitlines()])

@@ -5,10 +5,10 @@ import re
 from books import BIC, MOST_MINOR, day_of
 
 MOST_MESSAGE, MOST_MESSAGES, MOST_FILE, MOST_TABLE = 16_384, 50_000, 1 << 26, 1 << 23
-ROWS = {"bics": 100_000, "ccys": 1_000, "countries": 1_000, "accounts": 1_000, "ssi": 10_000}
+ROWS = {"bics": 100_000, "ccys": 1_000, "countries": 1_000, "accounts": 1_000, "ssi": 10_000, "charges": 1_000}
 READS = {
     b"init": ["bics", "ccys", "countries", "accounts"],
-    b"run": ["bics", "ccys", "countries", "ssi"],
+    b"run": ["bics", "ccys", "countries", "ssi", "charges"],
     b"reconcile": ["bics", "ccys", "countries"],
 }
 FILES = {b"run": "messages.fin", b"reconcile": "received.fin"}
@@ -154,8 +154,9 @@ FORMS = {
     "decimals": re.compile(rb"[0-4]").fullmatch,
     "listed": re.compile(rb"[YN]").fullmatch,
     "id": re.compile(rb"[A-Z0-9]{1,34}").fullmatch,
-    "kind": re.compile(rb"[CVN]").fullmatch,
+    "kind": re.compile(rb"[CVNF]").fullmatch,
     "number": re.compile(rb"-?\d{1,15}").fullmatch,
+    "charge": lambda it: re.fullmatch(rb"\d{1,15}", it) is not None and 0 < int(it) < MOST_MINOR,
     "bank": lambda it: it == b"*" or is_bic(it),
     "way": re.compile(rb"BOOK|SERIAL|COVER").fullmatch,
     "via": lambda it: it == b"" or is_bic(it),
@@ -167,6 +168,7 @@ COLUMNS = {
     "countries": ["country", "listed"],
     "accounts": ["id", "kind", "bic", "ccy", "number", "number", "number"],
     "ssi": ["ccy", "bank", "way", "via", "id", "date", "date"],
+    "charges": ["ccy", "charge"],
 }
 
 
@@ -179,7 +181,7 @@ def keys_of(name, row):
 
 
 def account_fault(row, tables, home):
-    if row[2][:8] not in tables["bics"] or (row[1] == b"C") != (row[2][:8] == home[:8]):
+    if row[2][:8] not in tables["bics"] or (row[1] in (b"C", b"F")) != (row[2][:8] == home[:8]):
         return "bic"
     if row[3] not in tables["ccys"]:
         return "currency"
@@ -232,6 +234,8 @@ def read_table(name, data, tables, home):
                 fault = account_fault(row, tables, home)
             elif name == "ssi":
                 fault = instruction_fault(number, row, tables, spans)
+            elif name == "charges" and row[0] not in tables["ccys"]:
+                fault = "currency"
             if fault:
                 raise Refused(fault)
         except Refused as why:

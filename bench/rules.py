@@ -4,7 +4,7 @@ import re
 import books
 import breaks
 from books import amount_text, day_of, read_journal
-from inputs import FILES, MOST_FILE, MOST_MESSAGES, READS, Refused, cut, is_command, is_word, read_table
+from inputs import FILES, MOST_FILE, MOST_MESSAGES, READS, Refused, cut, is_command, is_word, read_table, rows_of
 
 # the line of each status, after `corr: `
 LINES = {
@@ -234,7 +234,7 @@ def wrong_report(run, journal):
         yield "the last lines of the report aren't those of the journal"
     if any(it[3] != it[5] for it in map(bytes.split, lines[len(messages) + 1 :])):
         yield "debits aren't equal to credits"
-    named = {}
+    named, charges = {}, {ccy: int(much) for ccy, much in rows_of(run.before["charges.csv"])}
     for number, (line, message) in enumerate(zip(lines, messages), 1):
         fields = BECAME.fullmatch(line[:-1])
         if not fields or int(fields[1]) != number:
@@ -245,6 +245,7 @@ def wrong_report(run, journal):
         yield from wrong_line(number, fields, message, place, journal)
         if place > old and not fields[10]:
             yield from wrong_entry(journal, place)
+            yield from wrong_charge(journal, place, charges)
     if sorted(named) != list(range(old + 1, len(journal.entries) + 1)):
         yield "not each new entry has a line"
     if run.words[2].lstrip(b"0") == b"1" and list(named) != sorted(named):
@@ -279,7 +280,7 @@ def wrong_line(number, fields, message, place, journal):
 def wrong_entry(journal, place):
     """What is wrong with a new entry, by field 32A of its text, and by 59 where nobody but a customer of ours can be paid."""
     entry = journal.entries[place - 1]
-    account, credited = (journal.accounts[it.account - 1] for it in entry.legs)
+    account, credited, *_ = (journal.accounts[it.account - 1] for it in entry.legs)
     value, ccy, much = re.search(rb"^:32A:(\d{6})([A-Z]{3})([\d,]+)\r$", entry.text, re.M).groups()
     whole, rest = much.split(b",")
     units = int(whole) * 10**account.decimals + int(rest.ljust(account.decimals, b"0") or b"0")
@@ -289,6 +290,18 @@ def wrong_entry(journal, place):
     is_ours = not entry.cover and not re.search(rb"^:5[67][A-D]:", entry.text, re.M)
     if is_ours and (not payee or credited.ident != payee[1] or entry.outcome is None and any(it[0] != 4 for it in entry.orders)):
         yield f"entry {place} isn't for the customer of its field 59"
+
+
+def wrong_charge(journal, place, charges):
+    """What is wrong with the legs of a new entry: a charge is taken out of a transfer under SHA and BEN, where its currency has one."""
+    entry = journal.entries[place - 1]
+    whole, account = entry.legs[0].amount, journal.accounts[entry.legs[0].account - 1]
+    is_charged = not entry.cover and re.search(rb"^:71A:(SHA|BEN)\r$", entry.text, re.M)
+    charge = charges.get(account.ccy, 0) if is_charged else 0
+    meant = [whole, whole - charge] + ([charge] if charge else [])
+    fees = [journal.accounts[it.account - 1] for it in entry.legs[2:]]
+    if [it.amount for it in entry.legs] != meant or any(it.kind != b"F" for it in fees):
+        yield f"entry {place} has another charge than {charge}"
 
 
 def messages_of(sent):

@@ -7,7 +7,7 @@ import sys
 TOP = pathlib.Path(__file__).resolve().parent.parent
 SAMPLE = TOP / "examples" / "tables"
 PROGRAM = TOP / "crates" / "corr_main" / "out" / "corr_main"
-TABLES = ["bics.csv", "ccys.csv", "countries.csv", "accounts.csv", "ssi.csv"]
+TABLES = ["bics.csv", "ccys.csv", "countries.csv", "accounts.csv", "ssi.csv", "charges.csv"]
 DAY = "240603"
 
 # who sends, in which currency, with how many decimals, and who is paid
