@@ -6,3 +6,12 @@ mod Serving
 mod Replies
 mod Lists
 mod Whole
+mod Rule
+mod Going
+mod Told
+mod Answered
+mod Seated
+mod Slots
+mod Ended
+mod Placed
+mod Finished

@@ -1,0 +1,4 @@
+//! Tests of workers over a feed.
+#![tactic(auto)]
+
+mod feeds;

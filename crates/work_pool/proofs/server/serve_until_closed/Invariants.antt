@@ -1,0 +1,8 @@
+use Rattle.work_pool.specs.Serving.{Goes, IsReady}
+use Rattle.work_pool.proofs.server.serve_until_closed.Given as goal
+
+abbrev pub invariant-loop : goal.invariant-loop
+invariant-loop g l = record {
+  ready : IsReady (g.K.Desk.takes l.desk) l.line l.server;
+  goes : Goes (g.K.Desk.serves l.desk) l.fn.server l.server;
+}
