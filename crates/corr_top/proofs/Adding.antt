@@ -1,16 +1,16 @@
 -- Texts that are added one after another.
 use Rattle.std.proofs.Common.{◌≡◌, ℕ, zero, suc, ◌+◌, ◌-◌, ◌<◌, ◌≤◌, List, [], ◌∷◌, ◌++◌, Some, sym, ap, ◌∙◌, arith, append_assoc, append-nil, drop, length, take}
-use Rattle.std.specs.Prelude.{min, slice_get}
+use Rattle.std.specs.Prelude.{codes, min, slice_get}
 use Rattle.std.proofs.lemmas.List.{drop_all, length-take}
 use Rattle.std.proofs.lemmas.Option.{none-some}
 use Rattle.corr_report.specs.Lines.{numbered}
-use Rattle.corr_top.specs.Out.{parted, parted_all}
+use Rattle.corr_top.specs.Out.{parted_all}
 
 -- one of the messages that are still to be added
-pub parted_more : (all out text more : List ℕ) (left rest : List (List ℕ)) → left ≡ text ∷ rest → all ≡ out ++ parted_all left → more ≡ out ++ parted text → all ≡ more ++ parted_all rest
+pub parted_more : (all out text more : List ℕ) (left rest : List (List ℕ)) → left ≡ text ∷ rest → all ≡ out ++ parted_all left → more ≡ out ++ (text ++ codes "$") → all ≡ more ++ parted_all rest
 parted_more all out text more left rest is so_far added =
     so_far ∙ ap (λ (l : List (List ℕ)). out ++ parted_all l) is
-    ∙ sym (append_assoc out (parted text) (parted_all rest)) ∙ ap (λ (l : List ℕ). l ++ parted_all rest) (sym added)
+    ∙ sym (append_assoc out (text ++ codes "$") (parted_all rest)) ∙ ap (λ (l : List ℕ). l ++ parted_all rest) (sym added)
 
 -- the messages of one of the entries that are still to be added
 pub numbered_next : {A : Type 0} (line_of : ℕ → A → List ℕ) (n : ℕ) (all out more : List ℕ) (x : A) (left rest : List A) → left ≡ x ∷ rest → all ≡ out ++ numbered line_of n left

@@ -1,8 +1,6 @@
 -- Where nothing is wrong, a command is done or wants memory.
-use Rattle.std.proofs.Common.{◌≡◌, ℕ, ◌+◌, ◌≤◌, ◌⊎◌, inl, inr, All, Bool, true, false, cond, List, [], ◌∷◌, ◌++◌, length, map, Option, Some, None, refl, sym, ap, ◌∙◌, subst, arith, append-nil, nat_le, length-append}
+use Rattle.std.proofs.Common.{◌≡◌, ℕ, ◌≤◌, ◌⊎◌, inl, inr, All, true, List, [], ◌∷◌, ◌++◌, length, Option, Some, None, refl, sym, ap, ◌∙◌, subst, arith}
 use Rattle.std.specs.Prelude.{IfSome, slice_get}
-use Rattle.std.specs.Option.{option_map_or}
-use Rattle.std.proofs.lemmas.Bool.Decides.{nat_tests}
 use Rattle.std.proofs.lemmas.Int.{ints}
 use Rattle.std.proofs.lemmas.Option.{none-some}
 use Rattle.corr_disk.specs.declared.disk.Disk as disks
@@ -28,17 +26,14 @@ use Rattle.jrn_file.specs.declared.fault.MakeFault.{MakeFault}
 use Rattle.jrn_file.specs.declared.fault.MakeFault.TheVariants as making
 use Rattle.jrn_file.specs.declared.fault.OpenFault.{OpenFault}
 use Rattle.jrn_file.specs.declared.fault.OpenFault.TheVariants as opening
-use Rattle.ref_tables.specs.Charges.{charge_in_row, charges_fault}
-use Rattle.ref_tables.specs.Accounts.{account_of, accounts_fault}
-use Rattle.ref_tables.specs.Refusals.{RowTest, first_bad_row, first_fault, named}
-use Rattle.ref_tables.specs.Rows.{Cells, rows_of, up_to}
+use Rattle.ref_tables.specs.Charges.{charges_fault}
+use Rattle.ref_tables.specs.Accounts.{accounts_fault}
+use Rattle.ref_tables.specs.Refusals.{named}
 use Rattle.ref_tables.specs.Seen.{Tables}
-use Rattle.ref_tables.specs.Tables.{bics_fault, ccys_fault, countries_fault, tables_of}
+use Rattle.ref_tables.specs.Tables.{bics_fault, ccys_fault, countries_fault}
 use Rattle.ref_tables.specs.declared.fault.TableName.{TableName}
 use Rattle.ref_tables.specs.declared.fault.TableName.TheVariants as names
-use Rattle.ref_tables.specs.declared.fault.Why.{Why}
-use Rattle.ref_tables.specs.declared.fault.Why.TheVariants.{Rows}
-use Rattle.ssi_versions.specs.Rows.{instruction_of, ssi_fault}
+use Rattle.ssi_versions.specs.Rows.{ssi_fault}
 use Rattle.corr_top.specs.declared.directory.Directory.{Directory}
 use Rattle.corr_top.specs.declared.answers.BookStop.{BookStop}
 use Rattle.corr_top.specs.declared.answers.BookStop.TheVariants as booking
@@ -53,53 +48,27 @@ use Rattle.corr_top.specs.declared.words.Command.{Command}
 use Rattle.corr_top.specs.declared.words.Command.TheVariants.{Run, Trial, Plain}
 use Rattle.corr_top.specs.declared.words.Plain.TheVariants.{Generate, Init, Query, Reconcile}
 use Rattle.corr_top.specs.Booking.{IsEnteredOn, IsBack, LacksRoomThen, StopsBooking}
-use Rattle.corr_top.specs.Commands.{IsFor, command_steps}
+use Rattle.corr_top.specs.Commands.{meaning_of}
 use Rattle.corr_top.specs.Complete.{HasRoomForAll, IsReady, IsFaultless, IsSure, TellsAll}
 use Rattle.corr_top.specs.Ends.{Ends, HasStopped}
-use Rattle.corr_top.specs.Inputs.{Inputs, accounts_in, charges_in, directory_in, instructions_in, opened, pays_of, tables_in}
+use Rattle.corr_top.specs.Init.{init_steps}
+use Rattle.corr_top.specs.Inputs.{Inputs, accounts_in, directory_in, pays_of, tables_in}
 use Rattle.corr_top.specs.Message.{pays_in, readings_of}
 use Rattle.corr_top.specs.MessageFile.{IsMessageFile, StopsCutting}
 use Rattle.corr_top.specs.OnDisk.{HoldsJournal, IsMakeable, StopsMaking, StopsOpening}
 use Rattle.corr_top.specs.Passing.{Bad, Balances, HasMessages, StepIsUntouched, Passes, StopsAt, StopsAtMessages, StopsAtSums, StopsAtTable, table_fault, table_file}
-use Rattle.corr_top.specs.Reading.{Failed, IsRead, Took}
+use Rattle.corr_top.specs.Reading.{Failed}
+use Rattle.corr_top.specs.Query.{query_steps}
+use Rattle.corr_top.specs.Reconcile.{reconcile_steps}
+use Rattle.corr_top.specs.Run.{run_steps}
 use Rattle.corr_top.specs.Steps.{Halts, Step, Walks}
 use Rattle.corr_top.specs.Stops.{status_of_booking, status_of_file, status_of_making, status_of_opening, status_of_sums, status_of_table}
 use Rattle.corr_top.specs.Writing.{FailsWriting}
 use Rattle.corr_top.proofs.MessageFiles.{no-fault}
 use Rattle.corr_top.proofs.Rooms.{has_room}
 use Rattle.corr_top.proofs.Fronts.{All-front, legal_front}
-use Rattle.corr_top.proofs.Walking.{Has, walked}
-
--- ---- files that are told whole
-
-whole_of : (limit : ℕ) (after : Option (List ℕ)) (bytes file : List ℕ) → length file ≤ limit → IsRead limit (Some file) after bytes → bytes ≡ file
-whole_of limit None bytes file short read = absurd read.taken
-whole_of limit (Some rest) bytes file short read =
-    let sizes : length file ≡ length bytes + length rest = ap length read.taken ∙ length-append bytes rest in
-    let none : rest ≡ [] = read.ended (omega arith) in
-    sym (read.taken ∙ ap (λ l. bytes ++ l) none ∙ append-nil bytes)
-
-took_whole : {S : Type 0} (left : S → Option (List ℕ)) (reads : S → ℕ) (limit : ℕ) (old new : S) (bytes file : List ℕ) → left old ≡ Some file → length file ≤ limit → Took left reads limit old new bytes → bytes ≡ file
-took_whole left reads limit old new bytes file told short took = whole_of limit (left new) bytes file short (subst (λ o. IsRead limit o (left new) bytes) told took.read)
-
--- a table past its limit has a fault
-small_if : (b : Bool) (name : TableName) (test : List Cells → Option (ℕ × Why)) (rows : Option (List Cells))
-    → named name (option_map_or test (cond b rows None) (Some (0, Rows))) ≡ None → b ≡ true
-small_if true name test rows e = refl
-small_if false name test rows e = absurd (cc e)
-
-small : (name : TableName) (most : ℕ) (test : RowTest) (file : List ℕ) → named name (first_fault most test file) ≡ None → length file ≤ 8388608
-small name most test file e =
-    let b : nat_le (length file) 8388608 ≡ true = small_if (nat_le (length file) 8388608) name (first_bad_row test []) (up_to most (rows_of file)) e in
-    grind (arith, nat_tests)
-
-small_table : (name : TableName) (i : Inputs) → table_fault name i ≡ None → length (table_file name i) ≤ 8388608
-small_table names.Bics i none = small _ _ _ i.bics none
-small_table names.Ccys i none = small _ _ _ i.ccys none
-small_table names.Countries i none = small _ _ _ i.countries none
-small_table names.Accounts i none = small _ _ _ i.accounts none
-small_table names.Ssi i none = small _ _ _ i.ssi none
-small_table names.Charges i none = small _ _ _ i.charges none
+use Rattle.corr_top.proofs.Told.{same_accounts, same_directory, same_tables, small_table, took_whole}
+use Rattle.corr_top.proofs.Walking.{Has, find, is_named, walked}
 
 -- ---- what was read up to a step is what was told
 
@@ -147,11 +116,10 @@ abbrev AreOrdered : List Step → List Step → Type 0
 AreOrdered done [] = Unit {0}
 AreOrdered done (s ∷ steps) = IsAfter done s × AreOrdered (s ∷ done) steps
 
-same_tables : (j i : Inputs) (done : List Step) → HasThree done → Walks (Agrees j i) done → tables_in j ≡ tables_in i
-same_tables j i done has all =
-    ap (λ (f : List ℕ). tables_of f j.ccys j.countries) (walked (Agrees j i) done (Step.table names.Bics) all has.bics)
-    ∙ ap (λ (f : List ℕ). tables_of i.bics f j.countries) (walked (Agrees j i) done (Step.table names.Ccys) all has.ccys)
-    ∙ ap (λ (f : List ℕ). tables_of i.bics i.ccys f) (walked (Agrees j i) done (Step.table names.Countries) all has.countries)
+same_three : (j i : Inputs) (done : List Step) → HasThree done → Walks (Agrees j i) done → tables_in j ≡ tables_in i
+same_three j i done has all =
+    same_tables j i (walked (Agrees j i) done (Step.table names.Bics) all has.bics) (walked (Agrees j i) done (Step.table names.Ccys) all has.ccys)
+    (walked (Agrees j i) done (Step.table names.Countries) all has.countries)
 
 same_fault : (j i : Inputs) (done : List Step) (name : TableName) → j.home ≡ i.home → IsAfter done (Step.table name) → Walks (Agrees j i) done → table_file name j ≡ table_file name i → table_fault name j ≡ table_fault name i
 same_fault j i done names.Bics home after all own = ap (λ (f : List ℕ). named names.Bics (bics_fault f)) own
@@ -159,30 +127,18 @@ same_fault j i done names.Ccys home after all own = ap (λ (f : List ℕ). named
 same_fault j i done names.Countries home after all own = ap (λ (f : List ℕ). named names.Countries (countries_fault f)) own
 same_fault j i done names.Accounts home after all own =
     ap (λ (b : Bic). named names.Accounts (accounts_fault b.head (tables_in j) j.accounts)) home
-    ∙ ap (λ (t : Tables). named names.Accounts (accounts_fault i.home.head t j.accounts)) (same_tables j i done after all)
+    ∙ ap (λ (t : Tables). named names.Accounts (accounts_fault i.home.head t j.accounts)) (same_three j i done after all)
     ∙ ap (λ (f : List ℕ). named names.Accounts (accounts_fault i.home.head (tables_in i) f)) own
 same_fault j i done names.Ssi home after all own =
-    ap (λ (t : Tables). named names.Ssi (ssi_fault t j.ssi)) (same_tables j i done after all) ∙ ap (λ (f : List ℕ). named names.Ssi (ssi_fault (tables_in i) f)) own
+    ap (λ (t : Tables). named names.Ssi (ssi_fault t j.ssi)) (same_three j i done after all) ∙ ap (λ (f : List ℕ). named names.Ssi (ssi_fault (tables_in i) f)) own
 same_fault j i done names.Charges home after all own =
-    ap (λ (t : Tables). named names.Charges (charges_fault t j.charges)) (same_tables j i done after all)
+    ap (λ (t : Tables). named names.Charges (charges_fault t j.charges)) (same_three j i done after all)
     ∙ ap (λ (f : List ℕ). named names.Charges (charges_fault (tables_in i) f)) own
-
-same_accounts : (j i : Inputs) (done : List Step) → HasThree done → Has done (Step.table names.Accounts) → Walks (Agrees j i) done → accounts_in j ≡ accounts_in i
-same_accounts j i done three has all =
-    ap (λ (t : Tables). map opened (map (account_of t) (rows_of j.accounts))) (same_tables j i done three all)
-    ∙ ap (λ (f : List ℕ). map opened (map (account_of (tables_in i)) (rows_of f))) (walked (Agrees j i) done (Step.table names.Accounts) all has)
-
-same_directory : (j i : Inputs) (done : List Step) → HasBooked done → Walks (Agrees j i) done → directory_in j ≡ directory_in i
-same_directory j i done has all =
-    ap (λ (t : Tables). record { tables = t; ssi = instructions_in j; charges = charges_in j }) (same_tables j i done has.three all)
-    ∙ ap (λ (f : List ℕ). record { tables = tables_in i; ssi = map instruction_of (rows_of f); charges = charges_in j })
-    (walked (Agrees j i) done (Step.table names.Ssi) all has.ssi)
-    ∙ ap (λ (f : List ℕ). record { tables = tables_in i; ssi = instructions_in i; charges = map charge_in_row (rows_of f) })
-    (walked (Agrees j i) done (Step.table names.Charges) all has.charges)
 
 same_pays : (j i : Inputs) (done : List Step) → HasBooked done → Walks (Agrees j i) done → pays_of j ≡ pays_of i
 same_pays j i done has all =
-    ap (λ (x : Directory). pays_in (readings_of x j.chart j.cut)) (same_directory j i done has all)
+    ap (λ (x : Directory). pays_in (readings_of x j.chart j.cut)) (same_directory j i (same_three j i done has.three all) (walked (Agrees j i) done (Step.table names.Ssi) all has.ssi)
+    (walked (Agrees j i) done (Step.table names.Charges) all has.charges))
     ∙ ap (λ (c : Chart). pays_in (readings_of (directory_in i) c j.cut)) (walked (Agrees j i) done Step.open_journal all has.journal).chart
     ∙ ap (λ (ms : List (List ℕ)). pays_in (readings_of (directory_in i) i.chart ms)) (walked (Agrees j i) done Step.messages all has.messages)
 
@@ -271,7 +227,7 @@ module _ {S K D : Type 0} (source : sources.Ghosts S) (d : disks.Ghosts D) (old 
   step_memory : (s : Status) (done : List Step) (step : Step) → IsAfter done step → Walks (Agrees j i) done → IsReady source d old new i step → StopsAt source d old new j s step → s ≡ status.Memory
   step_memory s done (Step.table name) after all ready stops =
       stops.1 ∙ table_memory source _ _ (table_file name j) (table_file name i) (table_fault name j) (table_fault name i) stops.0 ready.0 ready.1 (small_table name i ready.1) (same_fault j i done name home after all) stops.2
-  step_memory s done Step.sums after all ready stops = stops.1 ∙ sums_memory j i stops.0 (same_accounts j i done after.0 after.1 all) ready stops.2
+  step_memory s done Step.sums after all ready stops = stops.1 ∙ sums_memory j i stops.0 (same_accounts j i (same_three j i done after.0 all) (walked (Agrees j i) done (Step.table names.Accounts) all after.1)) ready stops.2
   step_memory s done Step.make after all ready stops = stops.1 ∙ making_memory d old.disk new.disk _ stops.0 ready.0 ready.1 stops.2
   step_memory s done Step.open_journal after all ready stops = stops.1 ∙ opening_memory d old.disk new.disk i.chart i.history stops.0 ready.0 ready.1 stops.2
   step_memory s done Step.day after all ready stops =
@@ -308,54 +264,45 @@ module _ {S K D : Type 0} (source : sources.Ghosts S) (d : disks.Ghosts D) (old 
 
 -- ---- the commands
 
-three_read : HasThree (Step.table names.Countries ∷ Step.table names.Ccys ∷ Step.table names.Bics ∷ [])
-three_read = record { bics = inr (inr (inl refl)); ccys = inr (inl refl); countries = inl refl }
+-- the tables of banks, currencies and countries stand in a list
+three_in : (done : List Step) → is_named (Step.table names.Bics) done ≡ true → is_named (Step.table names.Ccys) done ≡ true
+    → is_named (Step.table names.Countries) done ≡ true → HasThree done
+three_in done bics ccys countries = record {
+  bics = find (Step.table names.Bics) done bics;
+  ccys = find (Step.table names.Ccys) done ccys;
+  countries = find (Step.table names.Countries) done countries;
+}
 
-later : (s : Step) (done : List Step) → HasThree done → HasThree (s ∷ done)
-later s done three = record { bics = inr three.bics; ccys = inr three.ccys; countries = inr three.countries }
+-- what a run has behind it after the tables of banks, currencies and countries; after the journal; and after the message file
+abbrev after_banks : List Step
+after_banks = Step.table names.Countries ∷ Step.table names.Ccys ∷ Step.table names.Bics ∷ []
 
-ordered : (command : Command) → AreOrdered [] (command_steps command)
+abbrev after_journal : List Step
+after_journal = Step.open_journal ∷ Step.table names.Charges ∷ Step.table names.Ssi ∷ after_banks
+
+abbrev after_file : List Step
+after_file = Step.messages ∷ Step.day ∷ after_journal
+
+all_read : HasBooked after_file
+all_read = record {
+  three = three_in after_file refl refl refl;
+  ssi = find (Step.table names.Ssi) after_file refl;
+  charges = find (Step.table names.Charges) after_file refl;
+  journal = find Step.open_journal after_file refl;
+  messages = find Step.messages after_file refl;
+}
+
+ordered : (command : Command) → AreOrdered [] (meaning_of command).steps
+unfolding meaning_of
 ordered (Run day workers) =
-    let three = three_read in
-    let four = later (Step.table names.Ssi) _ three in
-    let all = later Step.messages _ (later Step.day _ (later Step.open_journal _ (later (Step.table names.Charges) _ four))) in (
-      tt,
-      (
-        tt,
-        (
-          tt,
-          (
-            three,
-            (
-              four,
-              (
-                tt,
-                (
-                  inl refl,
-                  (
-                    tt,
-                    (
-                      record {
-                        three = all;
-                        ssi = inr (inr (inr (inr (inl refl))));
-                        charges = inr (inr (inr (inl refl)));
-                        journal = inr (inr (inl refl));
-                        messages = inl refl;
-                      },
-                      tt,
-                    ),
-                  ),
-                ),
-              ),
-            ),
-          ),
-        ),
-      ),
-    )
+    let ssi = three_in after_banks refl refl refl in
+    let charges = three_in (Step.table names.Ssi ∷ after_banks) refl refl refl in
+    (tt, (tt, (tt, (ssi, (charges, (tt, (find Step.open_journal after_journal refl, (tt, (all_read, tt)))))))))
 ordered (Trial count seed workers) = tt
 ordered (Plain (Init home)) =
-    let three = three_read in
-    (tt, (tt, (tt, (three, ((later (Step.table names.Accounts) _ three, inl refl), (tt, tt))))))
+    let accounts = Step.table names.Accounts ∷ after_banks in
+    let three = three_in accounts refl refl refl in
+    (tt, (tt, (tt, (three_in after_banks refl refl refl, ((three, find (Step.table names.Accounts) accounts refl), (tt, tt))))))
 ordered (Plain (Query asked)) = (tt, tt)
 ordered (Plain Reconcile) = (tt, (tt, (tt, (tt, (tt, tt)))))
 ordered (Plain (Generate count seed)) = tt
@@ -366,22 +313,23 @@ no_write_fault sink old new report from to out then now sound sent (inl f) = sou
 no_write_fault sink old new report from to out then now sound sent (inr f) = sent (same_rose sink.faults from to then now f.1.failed)
 
 -- a command that stopped wants memory
-stopped_memory : {S K D : Type 0} (source : sources.Ghosts S) (d : disks.Ghosts D) (sink : sinks.Ghosts K) (command : Command) (old new : Room S K D) (j i : Inputs) (s : Status) → IsFor command j → IsFaultless source sink d command old new i
-    → HasStopped source d command old new s j → s ≡ status.Memory
+stopped_memory : {S K D : Type 0} (source : sources.Ghosts S) (d : disks.Ghosts D) (sink : sinks.Ghosts K) (command : Command) (old new : Room S K D) (j i : Inputs) (s : Status)
+    → (meaning_of command).is_for j → IsFaultless source sink d (meaning_of command) old new i → HasStopped source d (meaning_of command) old new s j → s ≡ status.Memory
+unfolding meaning_of
 stopped_memory source d sink (Run day workers) old new j i s is sound (inl halts) =
-    halts_memory source d old new j (record i { home = j.home }) refl (is.0 ∙ sym sound.are_for.0) s [] (command_steps (Run day workers)) (ordered (Run day workers)) tt sound.ready halts
+    halts_memory source d old new j (record i { home = j.home }) refl (is.0 ∙ sym sound.are_for.0) s [] run_steps (ordered (Run day workers)) tt sound.ready halts
 stopped_memory source d sink (Trial count seed workers) old new j i s is sound (inl halts) = absurd halts
 stopped_memory source d sink (Plain (Init home)) old new j i s is sound (inl halts) =
-    halts_memory source d old new j (record i { day = j.day }) (is ∙ sym sound.are_for) refl s [] (command_steps (Plain (Init home))) (ordered (Plain (Init home))) tt sound.ready halts
+    halts_memory source d old new j (record i { day = j.day }) (is ∙ sym sound.are_for) refl s [] init_steps (ordered (Plain (Init home))) tt sound.ready halts
 stopped_memory source d sink (Plain (Query asked)) old new j i s is sound (inl halts) =
-    halts_memory source d old new j (record i { home = j.home; day = j.day }) refl refl s [] (command_steps (Plain (Query asked))) (ordered (Plain (Query asked))) tt sound.ready halts
+    halts_memory source d old new j (record i { home = j.home; day = j.day }) refl refl s [] query_steps (ordered (Plain (Query asked))) tt sound.ready halts
 stopped_memory source d sink (Plain Reconcile) old new j i s is sound (inl halts) =
-    halts_memory source d old new j (record i { home = j.home; day = j.day }) refl refl s [] (command_steps (Plain Reconcile)) (ordered (Plain Reconcile)) tt sound.ready halts
+    halts_memory source d old new j (record i { home = j.home; day = j.day }) refl refl s [] reconcile_steps (ordered (Plain Reconcile)) tt sound.ready halts
 stopped_memory source d sink (Plain (Generate count seed)) old new j i s is sound (inl halts) = absurd halts
 stopped_memory source d sink command old new j i s is sound (inr memory) = memory.1
 
-pub done_or_memory : {S K D : Type 0} (source : sources.Ghosts S) (d : disks.Ghosts D) (sink : sinks.Ghosts K) (command : Command) (old new : Room S K D) (s : Status) (i : Inputs) → Ends source d command old new sink s
-    → IsFaultless source sink d command old new i → (s ≡ status.Done) ⊎ (s ≡ status.Memory)
+pub done_or_memory : {S K D : Type 0} (source : sources.Ghosts S) (d : disks.Ghosts D) (sink : sinks.Ghosts K) (command : Command) (old new : Room S K D) (s : Status) (i : Inputs)
+    → Ends source d (meaning_of command) old new sink s → IsFaultless source sink d (meaning_of command) old new i → (s ≡ status.Done) ⊎ (s ≡ status.Memory)
 done_or_memory source d sink command old new s i e sound = elim e.ends [
   | inl done ↦ inl done.status_is
   | inr rest ↦ elim rest [
@@ -392,7 +340,7 @@ done_or_memory source d sink command old new s i e sound = elim e.ends [
 
 -- the same of a command that words may spell
 pub complete_if : {S K D C : Type 0} (source : sources.Ghosts S) (d : disks.Ghosts D) (sink : sinks.Ghosts K) (of : C → Command) (spelled : Option C) (old new : Room S K D) (s : Status)
-    → IfSome spelled (λ command. Ends source d (of command) old new sink s)
-    → IfSome spelled (λ command. (i : Inputs) → IsFaultless source sink d (of command) old new i → (s ≡ status.Done) ⊎ (s ≡ status.Memory))
+    → IfSome spelled (λ command. Ends source d (meaning_of (of command)) old new sink s)
+    → IfSome spelled (λ command. (i : Inputs) → IsFaultless source sink d (meaning_of (of command)) old new i → (s ≡ status.Done) ⊎ (s ≡ status.Memory))
 complete_if source d sink of None old new s ends = ends
 complete_if source d sink of (Some command) old new s ends = λ i sound. done_or_memory source d sink (of command) old new s i ends sound

@@ -14,7 +14,6 @@ use Rattle.day_model.specs.declared.reply.Reply.{Reply}
 use Rattle.day_model.specs.Chart.{Chart, IsChart}
 use Rattle.day_model.specs.Next.{entered_at}
 use Rattle.front_word.proofs.laws.Prefixes.{get_below}
-use Rattle.jrn_book.specs.Answers.{IsFull}
 use Rattle.jrn_codec.specs.Record.{IsEntry}
 use Rattle.ssi_versions.specs.InstructionList.{AreInstructions}
 use Rattle.corr_report.specs.Report.{NamesPlace}
@@ -41,7 +40,7 @@ use Rattle.corr_top.proofs.Adding.{in_front}
 use Rattle.corr_top.proofs.Answering.{all_places, entered_by, has_answered}
 use Rattle.corr_top.proofs.FrontPart.{front_on}
 use Rattle.corr_top.proofs.Fronts.{All-after}
-use Rattle.corr_top.proofs.NoRoom.{no_room}
+use Rattle.corr_top.proofs.NoRoom.{finds_none}
 use Rattle.corr_top.proofs.Origins.{sent-valid}
 use Rattle.corr_top.proofs.Replying.{get_all}
 use Rattle.corr_top.proofs.Workers.{get_there, unmapped}
@@ -104,11 +103,7 @@ module _ (o : Opening) (readings : List (Result Pay NoPay)) (history : List Entr
         front = short.from.0;
         later = short.begins.0;
         left_is = sym short.begins.1 ∙ ap (λ (h : List Entry). h ++ short.begins.0) (sym short.from.1);
-        new = shows.missing;
-        entries_are = shows.entries_are;
-        end_is = shows.end_is;
-        need_is = shows.need_is;
-        full = shows.full;
+        finds = finds_none o short.pay (o.base ++ short.from.0) entries end need shows;
       }
 
   lacks_of : (entries end need : ℕ) → IsFirstFull made entries end need → LacksRoomThen o.accounts o.base (pays_in readings) o.day history entries end need
@@ -124,13 +119,14 @@ module _ (o : Opening) (readings : List (Result Pay NoPay)) (history : List Entr
   one_tried pay (served.Full entries end need) short answered =
       let same : short.pay ≡ pay = let a = short.asks in cc (a) in
       let shows = subst (λ (h : List Entry). ShowsFull o short.pay h entries end need) (sym short.from.1) short.shows in
-      let full = subst (λ (n : ℕ). IsFull (o.base ++ short.from.0) end n) shows.need_is shows.full in
       inr (subst (HadNoRoom o.accounts o.base o.day history) same (record {
         front = short.from.0;
         later = short.begins.0;
         left_is = sym short.begins.1 ∙ ap (λ (h : List Entry). h ++ short.begins.0) (sym short.from.1);
-        new = shows.missing;
-        lacks = no_room o.accounts (o.base ++ short.from.0) short.pay o.day end shows.end_is full;
+        entries = entries;
+        end = end;
+        need = need;
+        finds = finds_none o short.pay (o.base ++ short.from.0) entries end need shows;
       }))
   one_tried pay (served.Stopped why) is answered = absurd answered
 

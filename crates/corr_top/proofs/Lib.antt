@@ -4,6 +4,7 @@ pub mod Routes
 pub mod TableFiles
 pub mod AccountRows
 pub mod Walking
+pub mod Told
 pub mod Outcomes
 pub mod Adding
 pub mod Sending
@@ -31,6 +32,7 @@ pub mod Workers
 pub mod Folding
 pub mod Answering
 pub mod Fronts
+pub mod Stopping
 pub mod Ending
 pub mod Initial
 pub mod Completing

@@ -2,6 +2,8 @@
 use Rattle.std.proofs.Common.{◌≡◌, inl, inr, ℕ, ◌+◌, ◌<◌, ◌≤◌, ◌^◌, Bool, true, false, cond, List, [], ◌∷◌, ◌++◌, length, Option, Some, refl, ap, arith}
 use Rattle.std.specs.Prelude.{nat_le, is_some}
 use Rattle.std.proofs.lemmas.Bool.{le-leb, lt-leb, or_from, or_left, or_right}
+use Rattle.corr_books.specs.Opening.{Opening}
+use Rattle.corr_books.specs.Telling.{ShowsFull}
 use Rattle.day_model.specs.declared.entry.Entry.{Entry}
 use Rattle.day_model.specs.declared.pay.Pay.{Pay}
 use Rattle.day_model.specs.Chart.{Chart}
@@ -11,7 +13,7 @@ use Rattle.corr_ids.specs.declared.day.Day.{Day}
 use Rattle.jrn_book.specs.Answers.{HasRoomFor, IsFull, need_of}
 use Rattle.jrn_book.specs.Journal.{file_of}
 use Rattle.jrn_codec.specs.Record.{entry_bytes}
-use Rattle.corr_top.specs.Booking.{history_with, lacks_room}
+use Rattle.corr_top.specs.Booking.{FindsNoRoom, history_with, lacks_room}
 use Rattle.corr_top.proofs.Rooms.{file_more}
 
 -- the bytes of a file with an entry more, by the place of its closed gate
@@ -36,6 +38,11 @@ some_room chart h pay day end place room =
     or_from (nat_le most_entries (length h)) (nat_le (2 ^ 30 + 1) (length (file_of chart (h ++ e ∷ [])))) (lt-leb most_entries (length h) room.entries)
     (lt-leb (2 ^ 30 + 1) (length (file_of chart (h ++ e ∷ [])))
     (within_file (length (file_of chart h)) (length (entry_bytes e)) end (need_of chart h pay day) (2 ^ 30) (length (file_of chart (h ++ e ∷ []))) (file_more chart h e) place refl room.bytes))
+
+-- what an answer of the books shows
+pub finds_none : (o : Opening) (pay : Pay) (h : List Entry) (entries end need : ℕ) → ShowsFull o pay h entries end need → FindsNoRoom o.accounts h pay o.day entries end need
+finds_none o pay h entries end need shows =
+    record { new = shows.missing; entries_are = shows.entries_are; end_is = shows.end_is; need_is = shows.need_is; full = shows.full }
 
 same_both : {A : Type 0} (b : Bool) (x y : A) → y ≡ x → cond b x y ≡ x
 same_both true x y is = refl

@@ -30,6 +30,7 @@ use Rattle.corr_top.specs.Serving.{AnswersMessage, AreEntered, AreServedInOrder,
 use Rattle.corr_top.proofs.Chains.{Chain, grew}
 use Rattle.corr_top.proofs.FrontPart.{front_on}
 use Rattle.corr_top.proofs.InTurn.{AllTagged, fails_new, first_is, full_shows, goes_on, stops_here, tries_on}
+use Rattle.corr_top.proofs.NoRoom.{finds_none}
 use Rattle.corr_top.proofs.Replying.{get_all}
 use Rattle.corr_top.proofs.Serves.{goes}
 
@@ -345,11 +346,7 @@ module _ {Job : Type 0} (o : Opening) (reading : Job → Result Pay NoPay) (jobs
           pays_are = cut_at first.at n.job s.0 n.there s.1;
           later = b.0;
           left_is = sym b.1 ∙ ap (λ (h : List Entry). h ++ b.0) knows;
-          new = shows.missing;
-          entries_are = shows.entries_are;
-          end_is = shows.end_is;
-          need_is = shows.need_is;
-          full = shows.full;
+          finds = finds_none o s.0 fold entries end need shows;
         }
 
     -- each of the first was tried, and so none of them says that the disk failed

@@ -151,16 +151,16 @@ pub has_room : (chart : Chart) (history : List Entry) (pays : List Pay) (day : D
 has_room chart history pays day left entries end need room lacks legal added =
     let now = history ++ lacks.front in
     let some = map (λ (e : Entry). e.pay) lacks.front in
-    let among = among_all chart history lacks.front day pays lacks.pay lacks.place legal added lacks.pay_is lacks.new in
+    let among = among_all chart history lacks.front day pays lacks.pay lacks.place legal added lacks.pay_is lacks.finds.new in
     let bytes = sum_among most_of (lacks.pay ∷ some) pays among in
     let ones = sum_among (λ (p : Pay). 1) (lacks.pay ∷ some) pays among in
     let of_pay = sum_by-cons most_of lacks.pay some in
     let count = sum_ones (lacks.pay ∷ some) in
     let all = sum_ones pays in
     let long : length some ≡ length lacks.front = Rattle.std.proofs.lemmas.List.length-map lacks.front (λ (e : Entry). e.pay) in
-    elim (lacks.full) [
+    elim (lacks.finds.full) [
       | inl full ↦ entries_left (length history) (length lacks.front) (length pays) (length now) (length-append history lacks.front) (omega (arith, ones, count, all, long)) room.entries full
       | inr full ↦ bytes_left (length (file_of chart history)) (sum_by most_of some) (longest_record lacks.pay) (sum_by most_of pays)
           (length (entry_bytes (entry_of chart now lacks.pay day))) (length (file_of chart now)) end need (2 ^ 30)
-          (file_all chart history lacks.front) (omega (arith, bytes, of_pay)) (no_longer (entry_of chart now lacks.pay day)) lacks.end_is lacks.need_is room.bytes full
+          (file_all chart history lacks.front) (omega (arith, bytes, of_pay)) (no_longer (entry_of chart now lacks.pay day)) lacks.finds.end_is lacks.finds.need_is room.bytes full
     ]

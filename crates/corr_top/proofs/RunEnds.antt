@@ -2,6 +2,7 @@
 use Rattle.std.proofs.Common.{◌≡◌, ◌⊎◌, ◌+◌, ◌<ℤ◌, inl, inr, ℕ, All, List, [], ◌∷◌, ◌++◌, Option, None, Some, Result, Ok, Err, refl, sym, ap, ◌∙◌, subst, length, map}
 use Rattle.std.specs.Prelude.{IfSome, IsSome, IsTrue, is_some, slice_get}
 use Rattle.std.proofs.lemmas.List.{length-map}
+use Rattle.std.specs.List.{Contains}
 use Rattle.corr_books.specs.declared.opening.BooksFault.{BooksFault}
 use Rattle.corr_books.specs.declared.opening.BooksFault.TheVariants.{Open, DateBack}
 use Rattle.corr_books.specs.Closing.{LeavesClosed, LeavesInTurn}
@@ -28,6 +29,8 @@ use Rattle.jrn_codec.specs.Record.{IsEntry}
 use Rattle.jrn_file.specs.File.{disk_of}
 use Rattle.jrn_file.specs.Reading.{Reading, opened_of}
 use Rattle.jrn_file.specs.declared.fault.OpenFault.{OpenFault}
+use Rattle.ref_tables.specs.declared.fault.TableName.{TableName}
+use Rattle.ref_tables.specs.declared.fault.TableName.TheVariants as names
 use Rattle.corr_top.specs.declared.answers.BookStop.{BookStop}
 use Rattle.corr_top.specs.declared.answers.BookStop.TheVariants as booking
 use Rattle.corr_top.specs.declared.directory.Directory.{Directory}
@@ -38,15 +41,17 @@ use Rattle.corr_top.specs.declared.words.Command.TheVariants.{Run}
 use Rattle.corr_top.specs.declared.writing.Texts.{Texts}
 use Rattle.corr_top.specs.Booking.{AreAnswered, BookCause, EachTried, EntersInOrder, IsEnteredOn, IsBack, LacksRoom, LacksRoomThen, StopsBooking}
 use Rattle.corr_top.specs.Collecting.{IsCalm}
-use Rattle.corr_top.specs.Commands.{out_in, report_in}
+use Rattle.corr_top.specs.Commands.{meaning_of}
 use Rattle.corr_top.specs.Days.{GivesDay, HasDay, StopCause, StopsAtFile, StopsAtPays}
 use Rattle.corr_top.specs.Ends.{CommandGives, HasPassed, HasTexts}
 use Rattle.corr_top.specs.Inputs.{Inputs, new_in, pays_of, replies_of, tables_in}
 use Rattle.corr_top.specs.Message.{pays_in, readings_of, replies_in}
+use Rattle.corr_top.specs.Meaning.{KeepsRest}
 use Rattle.corr_top.specs.OnDisk.{HoldsJournal, IsLeft, IsLeftMidway, IsOnDisk, IsUnwritten, LeavesMidway, StopsOpening}
 use Rattle.corr_top.specs.Origin.{AreSentValid}
 use Rattle.corr_top.specs.Out.{sent_from}
-use Rattle.corr_top.specs.Passing.{StepIsUntouched, Passes, StopsAt}
+use Rattle.corr_top.specs.Passing.{StepIsUntouched, Passes, StopsAt, table_at}
+use Rattle.corr_top.specs.Run.{run_out, run_report, run_steps}
 use Rattle.corr_top.specs.Steps.{Halts, Step, Walks}
 use Rattle.corr_top.specs.Stops.{status_of_books, status_of_day, status_of_opening, status_of_table}
 use Rattle.corr_top.specs.Tables.{HasDirectory, StopsDirectory, directory_steps}
@@ -55,7 +60,7 @@ use Rattle.corr_disk.proofs.laws.Moments.{then_on, weaker}
 use Rattle.corr_top.proofs.Folding.{legal_fold}
 use Rattle.corr_top.proofs.Replying.{get_all}
 use Rattle.corr_top.proofs.Serves.{get_at}
-use Rattle.corr_top.proofs.Walking.{halts_back, halts_front, walks_both}
+use Rattle.corr_top.proofs.Walking.{contained, halts_back, halts_front, walks_both}
 
 -- the steps of a run after its tables
 abbrev pub day_steps : List Step
@@ -85,12 +90,32 @@ is_back chart history day last journal back =
     }
 
 module _ {S K D : Type 0} (source : sources.Ghosts S) (d : disks.Ghosts D) (day : Day) (workers : ℕ) (old new : Room S K D) (rest : IsRest old new) where
-  gives_run : (r : Result Texts Status) (i : Inputs) → i.day ≡ day → i.workers ≡ workers → CommandGives source d (Run day workers) old new r i → HasTexts source d (Run day workers) old new r
-  gives_run r i is number gives = record { inputs = i; are_for = (is, number); gives = gives; rest = (rest.accounts, rest.received, rest.disk2); report = rest.report; out = rest.out }
+  -- what it doesn't read is as it was
+  tables_rest : (name : TableName) → (Contains run_steps (Step.table name) → ⊥) → table_at name new.tables ≡ table_at name old.tables
+  tables_rest names.Bics unread = absurd (unread (contained (Step.table names.Bics) run_steps refl))
+  tables_rest names.Ccys unread = absurd (unread (contained (Step.table names.Ccys) run_steps refl))
+  tables_rest names.Countries unread = absurd (unread (contained (Step.table names.Countries) run_steps refl))
+  tables_rest names.Accounts unread = rest.accounts
+  tables_rest names.Ssi unread = absurd (unread (contained (Step.table names.Ssi) run_steps refl))
+  tables_rest names.Charges unread = absurd (unread (contained (Step.table names.Charges) run_steps refl))
+
+  keeps_rest : KeepsRest run_steps old new
+  keeps_rest = record {
+    tables = tables_rest;
+    messages = λ unread. absurd (unread (contained Step.messages run_steps refl));
+    received = λ unread. rest.received;
+    disk2 = rest.disk2;
+  }
+
+  gives_run : (r : Result Texts Status) (i : Inputs) → i.day ≡ day → i.workers ≡ workers → CommandGives source d (meaning_of (Run day workers)) old new r i
+      → HasTexts source d (meaning_of (Run day workers)) old new r
+  unfolding meaning_of
+  gives_run r i is number gives = record { inputs = i; are_for = (is, number); gives = gives; rest = keeps_rest; report = rest.report; out = rest.out }
 
   -- a table stopped it
   pub tables_stop : (stop : TableStop) → StopsDirectory source old.tables new.tables stop → new.messages ≡ old.messages → new.disk ≡ old.disk → IsUnwritten d old.disk new.disk
-      → HasTexts source d (Run day workers) old new (Err (status_of_table stop))
+      → HasTexts source d (meaning_of (Run day workers)) old new (Err (status_of_table stop))
+  unfolding meaning_of
   tables_stop stop stops messages disk unwritten =
       let i = record stops.at.inputs { day = day; workers = workers } in
       gives_run (Err (status_of_table stop)) i refl refl
@@ -105,7 +130,8 @@ module _ {S K D : Type 0} (source : sources.Ghosts S) (d : disks.Ghosts D) (day 
 
   module _ (directory : Directory) (has : HasDirectory source old.tables new.tables directory) where
     -- the books were not opened, for a reason that opening the journal gave
-    open_stops : (fault : OpenFault) → StopsOpening d old.disk new.disk fault → new.messages ≡ old.messages → HasTexts source d (Run day workers) old new (Err (status_of_opening fault))
+    open_stops : (fault : OpenFault) → StopsOpening d old.disk new.disk fault → new.messages ≡ old.messages → HasTexts source d (meaning_of (Run day workers)) old new (Err (status_of_opening fault))
+    unfolding meaning_of
     open_stops fault stops messages =
         let i = record has.inputs { day = day; workers = workers } in
         gives_run (Err (status_of_opening fault)) i refl refl
@@ -114,7 +140,8 @@ module _ {S K D : Type 0} (source : sources.Ghosts S) (d : disks.Ghosts D) (day 
 
     -- or for the day of the last entry
     back_stops : (last : Day) → OpensBack (opened_of (d.reads old.disk)) (d.honest old.disk) day last → d.faults new.disk ≡ d.faults old.disk → IsUnwritten d old.disk new.disk → new.messages ≡ old.messages
-        → HasTexts source d (Run day workers) old new (Err (status_of_day last))
+        → HasTexts source d (meaning_of (Run day workers)) old new (Err (status_of_day last))
+    unfolding meaning_of
     back_stops last shows sure unwritten messages =
         let i = record has.inputs { day = day; workers = workers; chart = shows.accounts; history = shows.history } in
         let holds : HoldsJournal d old.disk shows.accounts shows.history = record { journal = shows.journal; stands = λ honest. (shows.found honest).1 } in
@@ -124,7 +151,7 @@ module _ {S K D : Type 0} (source : sources.Ghosts S) (d : disks.Ghosts D) (day 
 
     -- opening the books stopped it
     pub books_stop : (fault : BooksFault) → BooksCause (d.faults old.disk) (d.faults new.disk) fault → (IsTrue (d.honest old.disk) → IsTrue (is_of_bytes fault) → (finding : Finding) × IsFound (opened_of (d.reads old.disk)) finding × RefusesAs day fault finding)
-        → ShowsBack (opened_of (d.reads old.disk)) (d.honest old.disk) day fault → IsUnwritten d old.disk new.disk → new.messages ≡ old.messages → HasTexts source d (Run day workers) old new (Err (status_of_books fault))
+        → ShowsBack (opened_of (d.reads old.disk)) (d.honest old.disk) day fault → IsUnwritten d old.disk new.disk → new.messages ≡ old.messages → HasTexts source d (meaning_of (Run day workers)) old new (Err (status_of_books fault))
     books_stop (Open fault) cause told shows unwritten messages =
         open_stops fault (record { cause = cause; told = λ honest. found_is (found_by fault) (opened_of (d.reads old.disk)) (told honest); untouched = unwritten }) messages
       where
@@ -173,7 +200,8 @@ module _ {S K D : Type 0} (source : sources.Ghosts S) (d : disks.Ghosts D) (day 
           (λ image x. inr (subst (λ (y : ℕ × Day). IsLeftSince history y.0 y.1 image) (λ i. (at_open i, of_day i)) x)) since)
 
       -- the first steps passed, up to the message file
-      pub file_stops : (s : Status) → StopsAtFile source d directory workers old.messages new.messages opened new.disk s → HasTexts source d (Run day workers) old new (Err s)
+      pub file_stops : (s : Status) → StopsAtFile source d directory workers old.messages new.messages opened new.disk s → HasTexts source d (meaning_of (Run day workers)) old new (Err s)
+      unfolding meaning_of
       file_stops s stops =
           let disk = stops.same in
           let i = i_of stops.bytes [] [] in
@@ -192,7 +220,8 @@ module _ {S K D : Type 0} (source : sources.Ghosts S) (d : disks.Ghosts D) (day 
       cause_of i history booking.Memory chart cause base is number = tt
 
       -- not each pay was entered
-      pub pays_stop : (s : Status) → StopsAtPays source d directory workers old.messages new.messages opened new.disk s → HasTexts source d (Run day workers) old new (Err s)
+      pub pays_stop : (s : Status) → StopsAtPays source d directory workers old.messages new.messages opened new.disk s → HasTexts source d (meaning_of (Run day workers)) old new (Err s)
+      unfolding meaning_of
       pays_stop s stops =
           let served = stops.served in
           let i = i_of stops.bytes stops.cut [] in
@@ -220,7 +249,8 @@ module _ {S K D : Type 0} (source : sources.Ghosts S) (d : disks.Ghosts D) (day 
 
       -- each message was answered
       has_passed : (bytes : List ℕ) (cut : List (List ℕ)) (history : List Entry) (replies : List Reply) → (had : HasDay source d directory workers old.messages new.messages opened new.disk bytes cut history replies)
-          → HasPassed source d (Run day workers) old new (i_of bytes cut (entered_of had.served.added)) × (history ≡ new_in (i_of bytes cut (entered_of had.served.added))) × (replies ≡ replies_of (i_of bytes cut (entered_of had.served.added)))
+          → HasPassed source d (meaning_of (Run day workers)) old new (i_of bytes cut (entered_of had.served.added)) × (history ≡ new_in (i_of bytes cut (entered_of had.served.added))) × (replies ≡ replies_of (i_of bytes cut (entered_of had.served.added)))
+      unfolding meaning_of
       has_passed bytes cut history replies had =
           let served = had.served in
           let a = had.answered in
@@ -262,8 +292,8 @@ module _ {S K D : Type 0} (source : sources.Ghosts S) (d : disks.Ghosts D) (day 
           alone_on h calm (inr failed) = absurd (calm failed.0)
 
       -- the part of a run after the opening of the books
-      pub day_ends : (r : Result Texts Status) → GivesDay source d directory workers old.messages new.messages opened new.disk r → HasTexts source d (Run day workers) old new r
-      unfolding report_in out_in
+      pub day_ends : (r : Result Texts Status) → GivesDay source d directory workers old.messages new.messages opened new.disk r → HasTexts source d (meaning_of (Run day workers)) old new r
+      unfolding meaning_of run_report run_out
       day_ends (Ok texts) gives =
           let history = gives.2 in
           let had = gives.4 in

@@ -26,7 +26,7 @@ use Rattle.ref_tables.specs.declared.fault.TableName.TheVariants as names
 use Rattle.ssi_versions.specs.Rows.{instruction_of}
 use Rattle.corr_top.specs.declared.directory.Directory.{Directory}
 use Rattle.corr_top.specs.declared.room.Tables.{Tables as Files}
-use Rattle.corr_top.specs.Inputs.{Inputs, charges_in, chart_in, directory_in, opened}
+use Rattle.corr_top.specs.Inputs.{Inputs, chart_in, directory_in, opened}
 use Rattle.corr_top.specs.OnDisk.{HasNotFailed, IsMakeable, IsOnDisk, MakesInTurn, StopsMaking}
 use Rattle.corr_top.specs.Passing.{IsFine, table_fault, table_file, table_at}
 use Rattle.corr_top.specs.Reading.{IsRead, Took}
@@ -85,7 +85,7 @@ module _ (source : sources.Ghosts Supply) (tells : Tells source) (old new : File
       let ccys = ccys_are i p.1.0 in
       let countries = countries_are i p.1.1.0 in
       let ssi = ssi_is i p.1.1.1.0 in
-      let charges : charges_in i ≡ [] = ap (λ (f : List ℕ). map charge_in_row (rows_of f)) (charges_are i p.1.1.1.1.0) ∙ ap (map charge_in_row) no_rows in
+      let charges : map charge_in_row (rows_of i.charges) ≡ [] = ap (λ (f : List ℕ). map charge_in_row (rows_of f)) (charges_are i p.1.1.1.1.0) ∙ ap (map charge_in_row) no_rows in
       let same : directory_in i ≡ sample_directory =
       λ k. record { tables = tables_of (bics k) (ccys k) (countries k); ssi = map instruction_of (rows_of (ssi k)); charges = charges k } in
       has.directory_is ∙ same

@@ -6,6 +6,7 @@ use Rattle.ref_tables.specs.Rows.{rows_of}
 use Rattle.ref_tables.specs.Tables.{ccy_of, country_in_row}
 use Rattle.ref_tables.specs.declared.account.AccountRow.{AccountRow}
 use Rattle.ref_tables.specs.Accounts.{account_of}
+use Rattle.ref_tables.specs.Charges.{charge_in_row}
 use Rattle.ref_tables.specs.Seen.{Tables}
 use Rattle.corr_io.specs.declared.source.Source as sources
 use Rattle.corr_ids.specs.declared.bic.Bic.{Bic}
@@ -16,12 +17,13 @@ use Rattle.day_model.specs.declared.fault.AccountsFault.{AccountsFault}
 use Rattle.day_model.specs.declared.fault.AccountsFault.TheVariants as accounts
 use Rattle.day_model.specs.Chart.{Chart, opening_sum}
 use Rattle.day_model.specs.Gap.{TellsUnbalanced}
+use Rattle.ssi_versions.specs.Rows.{instruction_of}
 use Rattle.ssi_versions.specs.declared.row.SsiRow.{SsiRow}
 use Rattle.corr_top.specs.declared.directory.Directory.{Directory}
 use Rattle.corr_top.specs.declared.reading.ReadStop.{ReadStop}
 use Rattle.corr_top.specs.declared.reading.ReadStop.TheVariants as stop
 use Rattle.corr_top.specs.declared.tables.TableStop.{TableStop}
-use Rattle.corr_top.specs.Inputs.{Inputs, accounts_in, charges_in, directory_in, instructions_in, opened, tables_in}
+use Rattle.corr_top.specs.Inputs.{Inputs, accounts_in, directory_in, opened, tables_in}
 use Rattle.corr_top.specs.Passing.{Bad, Balances, IsFine, StopsAtSums, StopsAtTable, TellsDecimals}
 use Rattle.corr_top.specs.Reading.{IsStopped}
 use Rattle.corr_top.specs.Steps.{Halts, Step, Walks}
@@ -72,13 +74,13 @@ pub sums_balance : (i : Inputs) (list : List Account) → list ≡ accounts_in i
 sums_balance i list same balanced = λ ccy. ap (opening_sum ccy) (sym same) ∙ balanced ccy
 
 -- the directory over them
-pub same_directory : (i : Inputs) (t : Tables) (ssi : List SsiRow) (charges : List (List ℕ × Minor)) → t ≡ tables_in i → ssi ≡ instructions_in i → charges ≡ charges_in i
+pub same_directory : (i : Inputs) (t : Tables) (ssi : List SsiRow) (charges : List (List ℕ × Minor)) → t ≡ tables_in i → ssi ≡ map instruction_of (rows_of i.ssi) → charges ≡ map charge_in_row (rows_of i.charges)
     → (record { tables = t; ssi = ssi; charges = charges }) ≡ directory_in i
 same_directory i t ssi charges tables instructions charged =
     let with : Tables → List SsiRow → List (List ℕ × Minor) → Directory = λ x rows taken. record { tables = x; ssi = rows; charges = taken } in
     ap (λ (x : Tables). with x ssi charges) tables
     ∙ ap (λ (rows : List SsiRow). with (tables_in i) rows charges) instructions
-    ∙ ap (λ (taken : List (List ℕ × Minor)). with (tables_in i) (instructions_in i) taken) charged
+    ∙ ap (λ (taken : List (List ℕ × Minor)). with (tables_in i) (map instruction_of (rows_of i.ssi)) taken) charged
 
 -- nothing was read
 abbrev pub no_inputs : Inputs

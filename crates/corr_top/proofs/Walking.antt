@@ -1,6 +1,12 @@
 -- Lists of steps, put together.
-use Rattle.std.proofs.Common.{◌≡◌, ◌⊎◌, List, [], ◌∷◌, ◌++◌, inl, inr, subst}
+use Rattle.std.proofs.Common.{◌≡◌, ◌⊎◌, ◌||◌, ◌==◌, ℕ, suc, Bool, true, false, cond, List, [], ◌∷◌, ◌++◌, Some, inl, inr, refl, sym, ap, ◌∙◌, subst}
+use mathlib.Core.Bool.{true≢false}
+use Rattle.std.specs.Prelude.{slice_get}
+use Rattle.std.specs.List.{Contains}
+use Rattle.std.proofs.lemmas.Bool.{eqb-true}
+use Rattle.ref_tables.specs.declared.fault.TableName.TheVariants as names
 use Rattle.corr_top.specs.Steps.{Halts, Step, Walks}
+use Rattle.corr_top.proofs.promise.Lists.{get_contains}
 
 -- ---- the steps of a list
 
@@ -14,6 +20,92 @@ pub walked : (has : Step → Type 0) (steps : List Step) (s : Step) → Walks ha
 walked has [] s all at = absurd at
 walked has (d ∷ steps) s all (inl is) = subst has is all.0
 walked has (d ∷ steps) s all (inr at) = walked has steps s all.1 at
+
+-- ---- a step by its name
+
+-- the kinds of steps
+abbrev all_steps : List Step
+all_steps =
+    Step.sums ∷ Step.make ∷ Step.open_journal ∷ Step.day ∷ Step.messages ∷ Step.book ∷ Step.received
+    ∷ Step.table names.Bics ∷ Step.table names.Ccys ∷ Step.table names.Countries ∷ Step.table names.Accounts ∷ Step.table names.Ssi
+    ∷ Step.table names.Charges ∷ []
+
+-- the place of a step among them
+abbrev step_place : Step → ℕ
+step_place Step.sums = 0
+step_place Step.make = 1
+step_place Step.open_journal = 2
+step_place Step.day = 3
+step_place Step.messages = 4
+step_place Step.book = 5
+step_place Step.received = 6
+step_place (Step.table names.Bics) = 7
+step_place (Step.table names.Ccys) = 8
+step_place (Step.table names.Countries) = 9
+step_place (Step.table names.Accounts) = 10
+step_place (Step.table names.Ssi) = 11
+step_place (Step.table names.Charges) = 12
+
+at_place : (s : Step) → slice_get all_steps (step_place s) ≡ Some s
+at_place Step.sums = refl
+at_place Step.make = refl
+at_place Step.open_journal = refl
+at_place Step.day = refl
+at_place Step.messages = refl
+at_place Step.book = refl
+at_place Step.received = refl
+at_place (Step.table names.Bics) = refl
+at_place (Step.table names.Ccys) = refl
+at_place (Step.table names.Countries) = refl
+at_place (Step.table names.Accounts) = refl
+at_place (Step.table names.Ssi) = refl
+at_place (Step.table names.Charges) = refl
+
+same_step : (d s : Step) → step_place d ≡ step_place s → d ≡ s
+same_step d s same = let both : Some d ≡ Some s = sym (at_place d) ∙ ap (λ (n : ℕ). slice_get all_steps n) same ∙ at_place s in cc
+
+-- a list names a step: it computes where both are written out
+abbrev pub is_named : Step → List Step → Bool
+is_named s [] = false
+is_named s (d ∷ steps) = step_place d == step_place s || is_named s steps
+
+named_first : (b : Bool) (s d : Step) (steps : List Step) → (step_place d == step_place s) ≡ b → (b || is_named s steps) ≡ true → (is_named s steps ≡ true → Has steps s) → Has (d ∷ steps) s
+named_first true s d steps is named later = inl (same_step d s (eqb-true (step_place d) (step_place s) is))
+named_first false s d steps is named later = inr (later named)
+
+pub find : (s : Step) (steps : List Step) → is_named s steps ≡ true → Has steps s
+find s [] named = absurd (true≢false (sym named))
+find s (d ∷ steps) named = named_first (step_place d == step_place s) s d steps refl named (find s steps)
+
+has_get : (s : Step) (steps : List Step) → Has steps s → (k : ℕ) × (slice_get steps k ≡ Some s)
+has_get s [] at = absurd at
+has_get s (d ∷ steps) (inl is) = (0, ap (λ (x : Step). Some x) is)
+has_get s (d ∷ steps) (inr at) = let later = has_get s steps at in (suc later.0, later.1)
+
+-- what a list names stands in it
+pub contained : (s : Step) (steps : List Step) → is_named s steps ≡ true → Contains steps s
+contained s steps named = let place = has_get s steps (find s steps named) in get_contains steps place.0 s place.1
+
+-- what each step of a list has, a step that it names has
+pub named_has : (has : Step → Type 0) (s : Step) (steps : List Step) → is_named s steps ≡ true → Walks has steps → has s
+named_has has s steps named all = walked has steps s all (find s steps named)
+
+-- the steps ahead of the first one of this name
+abbrev pub ahead_of : Step → List Step → List Step
+ahead_of s [] = []
+ahead_of s (d ∷ steps) = cond (step_place d == step_place s) [] (d ∷ ahead_of s steps)
+
+walks_cond : (has : Step → Type 0) (b : Bool) (d : Step) (steps : List Step) → has d → Walks has steps → Walks has (cond b [] (d ∷ steps))
+walks_cond has true d steps first all = tt
+walks_cond has false d steps first all = (first, all)
+
+pub walks_ahead : (has : Step → Type 0) (s : Step) (steps : List Step) → Walks has steps → Walks has (ahead_of s steps)
+walks_ahead has s [] all = tt
+walks_ahead has s (d ∷ steps) all = walks_cond has (step_place d == step_place s) d (ahead_of s steps) all.0 (walks_ahead has s steps all.1)
+
+-- with one more step before them
+pub walks_more : (has : Step → Type 0) (s d : Step) (steps : List Step) → has d → Walks has (ahead_of s steps) → Walks has (ahead_of s (d ∷ steps))
+walks_more has s d steps first all = walks_cond has (step_place d == step_place s) d (ahead_of s steps) first all
 
 -- ---- a front part and the rest
 

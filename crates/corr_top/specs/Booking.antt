@@ -1,5 +1,5 @@
 -- Pays that workers enter, and how that stops.
-use Rattle.std.specs.Prelude.{◌≡◌, ◌⊎◌, ℕ, ◌+◌, ◌<◌, ◌<ℤ◌, ◌||◌, Bool, true, nat_le, All, List, [], ◌∷◌, ◌++◌, IsSome, length, map, slice_get, Some, None, if◌then◌else◌}
+use Rattle.std.specs.Prelude.{◌≡◌, ◌⊎◌, ℕ, ◌+◌, ◌<◌, ◌<ℤ◌, ◌||◌, Bool, nat_le, All, List, [], ◌∷◌, ◌++◌, IsSome, length, map, slice_get, Some, None, if◌then◌else◌}
 use Rattle.corr_disk.specs.declared.disk.Disk as outside
 use Rattle.corr_ids.specs.Day.{InCentury}
 use Rattle.corr_ids.specs.declared.day.Day.{Day}
@@ -46,9 +46,17 @@ pub record AreAnswered (i : Inputs) : Type 0 where
   pub entered : (k : ℕ) (pay : Pay) → slice_get (pays_of i) k ≡ Some pay → IsSome (entered_at pay.mir (new_in i))
   pub alone : i.workers ≡ 1 → new_in i ≡ fold_of i.chart i.history (pays_of i) i.day
 
+-- A pay is new after a history and finds no room there, since it has the most entries, or the file would have more than 2^30 bytes.
+-- The numbers are those of that history: how many entries, the place of the closed gate, and the bytes that this pay needs.
+pub record FindsNoRoom (chart : Chart) (history : List Entry) (pay : Pay) (day : Day) (entries end need : ℕ) : Type 0 where
+  pub new : entered_at pay.mir history ≡ None
+  pub entries_are : entries ≡ length history
+  pub end_is : end + 1 ≡ length (file_of chart history)
+  pub need_is : need ≡ need_of chart history pay day
+  pub full : IsFull history end need
+
 -- The first pay of the file that found no room in what was entered then: a beginning of what is left, which has all of the
--- journal as it was opened. Those ahead of it in the file are entered. The numbers are those of that history: how many entries,
--- the place of the closed gate, and the bytes that this pay needed.
+-- journal as it was opened. Those ahead of it in the file are entered.
 pub record LacksRoomThen (chart : Chart) (history : List Entry) (pays : List Pay) (day : Day) (left : List Entry) (entries end need : ℕ) : Type 0 where
   pub place : ℕ
   pub pay : Pay
@@ -57,14 +65,9 @@ pub record LacksRoomThen (chart : Chart) (history : List Entry) (pays : List Pay
   pub front : List Entry
   pub later : List Entry
   pub left_is : left ≡ (history ++ front) ++ later
-  pub new : entered_at pay.mir (history ++ front) ≡ None
-  pub entries_are : entries ≡ length (history ++ front)
-  pub end_is : end + 1 ≡ length (file_of chart (history ++ front))
-  pub need_is : need ≡ need_of chart (history ++ front) pay day
-  pub full : IsFull (history ++ front) end need
+  pub finds : FindsNoRoom chart (history ++ front) pay day entries end need
 
--- Of one worker: the first pay that found no room. Those ahead of it were entered as one thread does, and the numbers are those
--- of the history that they made: how many entries, the place of the closed gate, and the bytes that this pay needed.
+-- Of one worker: the first pay that found no room, in the history that those ahead of it make, entered as one thread does.
 pub record LacksRoom (chart : Chart) (history : List Entry) (pays : List Pay) (day : Day) (left : List Entry) (entries end need : ℕ) : Type 0 where
   pub front : List Pay
   pub pay : Pay
@@ -72,11 +75,7 @@ pub record LacksRoom (chart : Chart) (history : List Entry) (pays : List Pay) (d
   pub pays_are : pays ≡ front ++ pay ∷ rest
   pub later : List Entry
   pub left_is : left ≡ fold_of chart history front day ++ later
-  pub new : entered_at pay.mir (fold_of chart history front day) ≡ None
-  pub entries_are : entries ≡ length (fold_of chart history front day)
-  pub end_is : end + 1 ≡ length (file_of chart (fold_of chart history front day))
-  pub need_is : need ≡ need_of chart (fold_of chart history front day) pay day
-  pub full : IsFull (fold_of chart history front day) end need
+  pub finds : FindsNoRoom chart (fold_of chart history front day) pay day entries end need
 
 -- the cause: a call of the disk failed; or a pay found no room, of one worker the first in the order of the file, and no call
 -- failed; out of memory tells nothing
@@ -105,8 +104,10 @@ pub record HadNoRoom (chart : Chart) (history : List Entry) (day : Day) (left : 
   pub front : List Entry
   pub later : List Entry
   pub left_is : left ≡ (history ++ front) ++ later
-  pub new : entered_at pay.mir (history ++ front) ≡ None
-  pub lacks : lacks_room chart (history ++ front) pay day ≡ true
+  pub entries : ℕ
+  pub end : ℕ
+  pub need : ℕ
+  pub finds : FindsNoRoom chart (history ++ front) pay day entries end need
 
 -- Where room was wanting, each pay of the file was tried: its reference is entered, or it found no room. A failed disk and out
 -- of memory leave pays that were not tried.

@@ -1,28 +1,25 @@
--- The commands: which words spell them, what each reads, what it writes, and what it leaves on the disk.
-use Rattle.std.specs.Prelude.{ℕ, ◌≡◌, ◌≤◌, ◌+◌, ◌&&◌, nat_le, List, [], ◌∷◌, length, Option, Some, None, codes, option_and_then, if◌then◌else◌}
+-- The commands: which words spell them, and what each means.
+use Rattle.std.specs.Prelude.{ℕ, ◌≤◌, ◌&&◌, nat_le, List, [], ◌∷◌, Option, Some, None, codes, option_and_then, if◌then◌else◌}
 use Rattle.std.specs.Option.{option_map}
 use Rattle.std.specs.Str.{bytes_eq}
-use Rattle.corr_disk.specs.declared.disk.Disk as disks
 use Rattle.corr_text.specs.Digits.{number_of}
 use Rattle.corr_ids.specs.Bic.{IsBic, bic_of}
 use Rattle.corr_ids.specs.Day.{InCentury, day_of}
 use Rattle.day_model.specs.Log.{most_entries}
-use Rattle.corr_report.specs.Generated.{generated_of, most_generated}
+use Rattle.corr_report.specs.Generated.{most_generated}
 use Rattle.work_pool.specs.Served.{most_workers}
-use Rattle.corr_top.specs.declared.room.Room.{Room}
 use Rattle.corr_top.specs.declared.words.Command.{Command}
 use Rattle.corr_top.specs.declared.words.Command.TheVariants.{Run, Trial, Plain}
 use Rattle.corr_top.specs.declared.words.Plain.{Plain as PlainCommand}
 use Rattle.corr_top.specs.declared.words.Plain.TheVariants.{Init, Query, Reconcile, Generate}
 use Rattle.corr_top.specs.declared.words.Query.TheVariants.{Send, Bookings, Statements}
-use Rattle.corr_top.specs.Init.{InitLeaves, init_steps}
-use Rattle.corr_top.specs.Inputs.{Inputs, new_in, tables_in}
-use Rattle.corr_top.specs.Origin.{AreSentValid}
-use Rattle.corr_top.specs.Query.{QueryLeaves, QuerySends, query_out, query_report, query_steps}
-use Rattle.corr_top.specs.Reconcile.{reconcile_report, reconcile_steps}
-use Rattle.corr_top.specs.Run.{RunLeaves, run_out, run_report, run_steps}
-use Rattle.corr_top.specs.Steps.{Step}
-use Rattle.corr_top.specs.Trial.{BooksEach, trial_report}
+use Rattle.corr_top.specs.Generate.{generate_meaning}
+use Rattle.corr_top.specs.Init.{init_meaning}
+use Rattle.corr_top.specs.Meaning.{Meaning}
+use Rattle.corr_top.specs.Query.{query_meaning}
+use Rattle.corr_top.specs.Reconcile.{reconcile_meaning}
+use Rattle.corr_top.specs.Run.{run_meaning}
+use Rattle.corr_top.specs.Trial.{trial_meaning}
 
 -- two places of a journal, the second not before the first
 abbrev pub two_places : List ℕ → List ℕ → Option (ℕ × ℕ)
@@ -102,74 +99,11 @@ IsSpelled (Plain (Query (Statements day))) = InCentury day
 IsSpelled (Plain Reconcile) = Unit {0}
 IsSpelled (Plain (Generate count seed)) = (1 ≤ count) × (count ≤ most_generated)
 
--- what was read for a command names what its words name
-abbrev pub IsFor : Command → Inputs → Type 0
-IsFor (Run day workers) i = (i.day ≡ day) × (i.workers ≡ workers)
-IsFor (Trial count seed workers) i = Unit {0}
-IsFor (Plain (Init home)) i = i.home ≡ home
-IsFor (Plain (Query asked)) i = Unit {0}
-IsFor (Plain Reconcile) i = Unit {0}
-IsFor (Plain (Generate count seed)) i = Unit {0}
-
--- what a command reads, tests and does before it writes, in this order
-abbrev pub command_steps : Command → List Step
-command_steps (Run day workers) = run_steps
-command_steps (Trial count seed workers) = []
-command_steps (Plain (Init home)) = init_steps
-command_steps (Plain (Query asked)) = query_steps
-command_steps (Plain Reconcile) = reconcile_steps
-command_steps (Plain (Generate count seed)) = []
-
--- its report
-unfoldable pub report_in : Command → Inputs → List ℕ
-report_in (Run day workers) i = run_report i
-report_in (Trial count seed workers) i = trial_report count seed
-report_in (Plain (Init home)) i = []
-report_in (Plain (Query asked)) i = query_report asked i.chart i.history
-report_in (Plain Reconcile) i = reconcile_report i
-report_in (Plain (Generate count seed)) i = []
-
--- what it sends
-unfoldable pub out_in : Command → Inputs → List ℕ
-out_in (Run day workers) i = run_out i
-out_in (Trial count seed workers) i = []
-out_in (Plain (Init home)) i = []
-out_in (Plain (Query asked)) i = query_out asked i.chart i.history
-out_in (Plain Reconcile) i = []
-out_in (Plain (Generate count seed)) i = generated_of count seed
-
--- What is known of the messages that a command sends: each message of a run passes the tests of a sent message under the tables
--- that it read; each message of a trial is booked.
-abbrev pub SendsValid : Command → Inputs → Type 0
-SendsValid (Run day workers) i = AreSentValid (tables_in i) i.chart (length i.history + 1) (new_in i)
-SendsValid (Trial count seed workers) i = BooksEach count seed
-SendsValid (Plain (Init home)) i = Unit {0}
-SendsValid (Plain (Query asked)) i = QuerySends asked i.chart i.history
-SendsValid (Plain Reconcile) i = Unit {0}
-SendsValid (Plain (Generate count seed)) i = Unit {0}
-
--- what it leaves on the disk where it comes to its end
-abbrev pub Leaves : {D : Type 0} → disks.Ghosts D → Command → D → D → Inputs → Type 0
-Leaves disk (Run day workers) old new i = RunLeaves disk old new i
-Leaves disk (Trial count seed workers) old new i = new ≡ old
-Leaves disk (Plain (Init home)) old new i = InitLeaves disk old new i
-Leaves disk (Plain (Query asked)) old new i = QueryLeaves disk old new
-Leaves disk (Plain Reconcile) old new i = QueryLeaves disk old new
-Leaves disk (Plain (Generate count seed)) old new i = new ≡ old
-
--- all sources are as they were, and so is the second disk
-abbrev pub KeepsSources : {S K D : Type 0} → Room S K D → Room S K D → Type 0
-KeepsSources old new = (new.tables ≡ old.tables) × (new.messages ≡ old.messages) × (new.received ≡ old.received) × (new.disk2 ≡ old.disk2)
-
--- the sources that it doesn't read are as they were, and so is the second disk
-abbrev pub KeepsRest : {S K D : Type 0} → Command → Room S K D → Room S K D → Type 0
-KeepsRest (Run day workers) old new = (new.tables.accounts ≡ old.tables.accounts) × (new.received ≡ old.received) × (new.disk2 ≡ old.disk2)
-KeepsRest (Trial count seed workers) old new = KeepsSources old new
-KeepsRest (Plain (Init home)) old new =
-    (new.tables.ssi ≡ old.tables.ssi) × (new.tables.charges ≡ old.tables.charges) × (new.messages ≡ old.messages) × (new.received ≡ old.received)
-    × (new.disk2 ≡ old.disk2)
-KeepsRest (Plain (Query asked)) old new = KeepsSources old new
-KeepsRest (Plain Reconcile) old new =
-    (new.tables.accounts ≡ old.tables.accounts) × (new.tables.ssi ≡ old.tables.ssi) × (new.tables.charges ≡ old.tables.charges)
-    × (new.messages ≡ old.messages) × (new.disk2 ≡ old.disk2)
-KeepsRest (Plain (Generate count seed)) old new = KeepsSources old new
+-- what each command means
+unfoldable pub meaning_of : Command → Meaning
+meaning_of (Run day workers) = run_meaning day workers
+meaning_of (Trial count seed workers) = trial_meaning count seed
+meaning_of (Plain (Init home)) = init_meaning home
+meaning_of (Plain (Query asked)) = query_meaning asked
+meaning_of (Plain Reconcile) = reconcile_meaning
+meaning_of (Plain (Generate count seed)) = generate_meaning count seed

@@ -13,9 +13,8 @@ use Rattle.day_model.specs.Log.{most_entries}
 use Rattle.jrn_book.specs.Journal.{file_of as book_file_of}
 use Rattle.jrn_book.specs.Room.{longest_record}
 use Rattle.corr_top.specs.declared.room.Room.{Room}
-use Rattle.corr_top.specs.declared.words.Command.{Command}
-use Rattle.corr_top.specs.Commands.{IsFor, command_steps}
 use Rattle.corr_top.specs.Inputs.{Inputs, pays_of}
+use Rattle.corr_top.specs.Meaning.{Meaning}
 use Rattle.corr_top.specs.MessageFile.{IsMessageFile}
 use Rattle.corr_top.specs.OnDisk.{HoldsJournal, IsMakeable}
 use Rattle.corr_top.specs.Passing.{Balances, table_fault, table_file, table_at}
@@ -49,8 +48,8 @@ IsReady source disk old new i Step.book = IsSure disk old.disk new.disk × HasRo
 IsReady source disk old new i Step.received = TellsAll source old.received new.received i.messages × IsMessageFile i.messages i.cut
 
 -- nothing is wrong with what a command reads, and neither a source nor a sink nor the disk failed
-pub record IsFaultless {S K D : Type 0} (source : sources.Ghosts S) (sink : sinks.Ghosts K) (disk : disks.Ghosts D) (command : Command) (old new : Room S K D) (i : Inputs) : Type 0 where
-  pub are_for : IsFor command i
-  pub ready : Walks (IsReady source disk old new i) (command_steps command)
+pub record IsFaultless {S K D : Type 0} (source : sources.Ghosts S) (sink : sinks.Ghosts K) (disk : disks.Ghosts D) (m : Meaning) (old new : Room S K D) (i : Inputs) : Type 0 where
+  pub are_for : m.is_for i
+  pub ready : Walks (IsReady source disk old new i) m.steps
   pub report : Rose (sink.faults old.report) (sink.faults new.report) → ⊥
   pub out : Rose (sink.faults old.out) (sink.faults new.out) → ⊥

@@ -1,4 +1,4 @@
--- How a command ends.
+-- How a command ends, by what it means.
 use Rattle.std.specs.Prelude.{ℕ, ◌≡◌, ◌⊎◌, Result, Ok, Err}
 use Rattle.corr_disk.specs.declared.disk.Disk as disks
 use Rattle.corr_io.specs.declared.sink.Sink as sinks
@@ -6,38 +6,37 @@ use Rattle.corr_io.specs.declared.source.Source as sources
 use Rattle.corr_top.specs.declared.room.Room.{Room}
 use Rattle.corr_top.specs.declared.status.Status.{Status}
 use Rattle.corr_top.specs.declared.status.Status.TheVariants as status
-use Rattle.corr_top.specs.declared.words.Command.{Command}
 use Rattle.corr_top.specs.declared.writing.Texts.{Texts}
-use Rattle.corr_top.specs.Commands.{IsFor, KeepsRest, Leaves, SendsValid, out_in, report_in, command_steps}
 use Rattle.corr_top.specs.Inputs.{Inputs}
+use Rattle.corr_top.specs.Meaning.{KeepsRest, Meaning}
 use Rattle.corr_top.specs.Passing.{StepIsUntouched, Passes, StopsAt}
 use Rattle.corr_top.specs.Steps.{Halts, Walks}
 use Rattle.corr_top.specs.Writing.{FailsWriting, Received}
 
-module _ {S K D : Type 0} (source : sources.Ghosts S) (disk : disks.Ghosts D) (command : Command) (old new : Room S K D) where
+module _ {S K D : Type 0} (source : sources.Ghosts S) (disk : disks.Ghosts D) (m : Meaning) (old new : Room S K D) where
   -- each step passed, and the disk is as the command leaves it
   pub record HasPassed (i : Inputs) : Type 0 where
-    pub passed : Walks (Passes source disk old new i) (command_steps command)
-    pub leaves : Leaves disk command old.disk new.disk i
+    pub passed : Walks (Passes source disk old new i) m.steps
+    pub leaves : m.leaves D disk old.disk new.disk i
 
   -- the first step that didn't pass stopped it, or memory ran out after the last one
   abbrev pub HasStopped : Status → Inputs → Type 0
   HasStopped stop i =
-      Halts (Passes source disk old new i) (StopsAt source disk old new i stop) (StepIsUntouched disk old new) (command_steps command)
+      Halts (Passes source disk old new i) (StopsAt source disk old new i stop) (StepIsUntouched disk old new) m.steps
       ⊎ (HasPassed i × (stop ≡ status.Memory))
 
   -- before anything is written: the texts of a command that passed, and whose messages are valid, or the status of one that
   -- stopped; the sinks are as they were
   abbrev pub CommandGives : Result Texts Status → Inputs → Type 0
-  CommandGives (Ok texts) i = HasPassed i × (texts.report ≡ report_in command i) × (texts.out ≡ out_in command i) × SendsValid command i
+  CommandGives (Ok texts) i = HasPassed i × (texts.report ≡ m.report i) × (texts.out ≡ m.out i) × m.valid i
   CommandGives (Err stop) i = HasStopped stop i
 
   -- what a command made of what it read, and what it left beside the sinks
   pub record HasTexts (texts : Result Texts Status) : Type 0 where
     pub inputs : Inputs
-    pub are_for : IsFor command inputs
+    pub are_for : m.is_for inputs
     pub gives : CommandGives texts inputs
-    pub rest : KeepsRest command old new
+    pub rest : KeepsRest m.steps old new
     pub report : new.report ≡ old.report
     pub out : new.out ≡ old.out
 
@@ -45,9 +44,9 @@ module _ {S K D : Type 0} (source : sources.Ghosts S) (disk : disks.Ghosts D) (c
   pub record EndsDone (sink : sinks.Ghosts K) (s : Status) (i : Inputs) : Type 0 where
     pub status_is : s ≡ status.Done
     pub passed : HasPassed i
-    pub valid : SendsValid command i
-    pub report : Received sink.held sink.faults old.report new.report (report_in command i)
-    pub out : Received sink.held sink.faults old.out new.out (out_in command i)
+    pub valid : m.valid i
+    pub report : Received sink.held sink.faults old.report new.report (m.report i)
+    pub out : Received sink.held sink.faults old.out new.out (m.out i)
 
   -- WriteFault: all was read and found right, and a sink failed: the report was received in part and nothing was sent, or the
   -- report whole and the outgoing messages in part
@@ -56,8 +55,8 @@ module _ {S K D : Type 0} (source : sources.Ghosts S) (disk : disks.Ghosts D) (c
     pub now : ℕ
     pub status_is : s ≡ status.WriteFault then now
     pub passed : HasPassed i
-    pub valid : SendsValid command i
-    pub failed : FailsWriting sink.held sink.faults old.report new.report (report_in command i) old.out new.out (out_in command i) then now
+    pub valid : m.valid i
+    pub failed : FailsWriting sink.held sink.faults old.report new.report (m.report i) old.out new.out (m.out i) then now
 
   -- else: it stopped, and the sinks are as they were
   pub record EndsStopped (s : Status) (i : Inputs) : Type 0 where
@@ -68,6 +67,6 @@ module _ {S K D : Type 0} (source : sources.Ghosts S) (disk : disks.Ghosts D) (c
   -- each status by its cause, over what was read
   pub record Ends (sink : sinks.Ghosts K) (s : Status) : Type 0 where
     pub inputs : Inputs
-    pub are_for : IsFor command inputs
+    pub are_for : m.is_for inputs
     pub ends : EndsDone sink s inputs ⊎ (EndsWriting sink s inputs ⊎ EndsStopped s inputs)
-    pub rest : KeepsRest command old new
+    pub rest : KeepsRest m.steps old new

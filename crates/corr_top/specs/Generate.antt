@@ -4,8 +4,20 @@ use Rattle.corr_report.specs.Generated.{generated_of}
 use Rattle.corr_top.specs.declared.status.Status.{Status}
 use Rattle.corr_top.specs.declared.status.Status.TheVariants as status
 use Rattle.corr_top.specs.declared.writing.Texts.{Texts}
+use Rattle.corr_top.specs.Meaning.{Meaning}
 
 -- what making a day gives: the day to be sent and an empty report, or out of memory
 abbrev pub GivesGenerated : ℕ → ℕ → Result Texts Status → Type 0
 GivesGenerated count seed (Ok texts) = (texts.report ≡ []) × (texts.out ≡ generated_of count seed)
 GivesGenerated count seed (Err s) = s ≡ status.Memory
+
+-- it reads nothing, and leaves the disk
+abbrev pub generate_meaning : ℕ → ℕ → Meaning
+generate_meaning count seed = record {
+  is_for = λ i. Unit {0};
+  steps = [];
+  report = λ i. [];
+  out = λ i. generated_of count seed;
+  valid = λ i. Unit {0};
+  leaves = λ D disk old new i. new ≡ old;
+}

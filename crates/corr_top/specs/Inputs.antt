@@ -2,7 +2,6 @@
 use Rattle.std.specs.Prelude.{ℕ, List, map}
 use Rattle.corr_ids.specs.declared.bic.Bic.{Bic}
 use Rattle.corr_ids.specs.declared.day.Day.{Day}
-use Rattle.corr_money.specs.declared.amount.Minor.{Minor}
 use Rattle.day_model.specs.declared.account.Account.{Account}
 use Rattle.day_model.specs.declared.entry.Entry.{Entry}
 use Rattle.day_model.specs.declared.pay.Pay.{Pay}
@@ -15,7 +14,6 @@ use Rattle.ref_tables.specs.Charges.{charge_in_row}
 use Rattle.ref_tables.specs.Rows.{rows_of}
 use Rattle.ref_tables.specs.Seen.{Tables}
 use Rattle.ref_tables.specs.Tables.{tables_of}
-use Rattle.ssi_versions.specs.declared.row.SsiRow.{SsiRow}
 use Rattle.ssi_versions.specs.Rows.{instruction_of}
 use Rattle.corr_top.specs.declared.directory.Directory.{Directory}
 use Rattle.corr_top.specs.Message.{pays_in, readings_of, replies_in}
@@ -55,17 +53,9 @@ accounts_in i = map opened (map (account_of (tables_in i)) (rows_of i.accounts))
 abbrev pub chart_in : Inputs → Chart
 chart_in i = record { home = i.home; accounts = accounts_in i }
 
--- the instructions
-abbrev pub instructions_in : Inputs → List SsiRow
-instructions_in i = map instruction_of (rows_of i.ssi)
-
--- the charges: a currency's code and the amount, a row each
-abbrev pub charges_in : Inputs → List (List ℕ × Minor)
-charges_in i = map charge_in_row (rows_of i.charges)
-
--- what messages are judged, routed and charged by
+-- what messages are judged, routed and charged by: these tables, the instructions, and the charges, a currency's code and the amount a row
 abbrev pub directory_in : Inputs → Directory
-directory_in i = record { tables = tables_in i; ssi = instructions_in i; charges = charges_in i }
+directory_in i = record { tables = tables_in i; ssi = map instruction_of (rows_of i.ssi); charges = map charge_in_row (rows_of i.charges) }
 
 -- the pays that the messages ask for, in their order
 abbrev pub pays_of : Inputs → List Pay

@@ -12,6 +12,7 @@ pub mod Inputs
 pub mod OnDisk
 pub mod Booking
 pub mod Passing
+pub mod Meaning
 pub mod Tables
 pub mod Writing
 pub mod Init

@@ -6,13 +6,9 @@ use Rattle.day_model.specs.declared.entry.Entry.{Entry}
 use Rattle.day_model.specs.Chart.{Chart}
 use Rattle.corr_report.specs.Lines.{numbered}
 
--- a message, followed by `$`
-abbrev pub parted : List ℕ → List ℕ
-parted text = text ++ codes "$"
-
 -- messages one after the other, each followed by `$`
 abbrev pub parted_all : List (List ℕ) → List ℕ
-parted_all texts = flat_map parted texts
+parted_all texts = flat_map (λ text. text ++ codes "$") texts
 
 -- the outgoing messages of the entry at a place, each followed by `$`
 abbrev pub entry_out : Chart → ℕ → Entry → List ℕ

@@ -33,14 +33,15 @@ use Rattle.corr_top.specs.declared.words.Command.{Command}
 use Rattle.corr_top.specs.declared.words.Command.TheVariants.{Run, Trial, Plain}
 use Rattle.corr_top.specs.declared.words.Plain.TheVariants.{Generate, Init, Query, Reconcile}
 use Rattle.corr_top.specs.declared.words.Query.TheVariants.{Bookings, Send, Statements}
-use Rattle.corr_top.specs.Commands.{command_steps}
+use Rattle.corr_top.specs.Init.{init_steps}
 use Rattle.corr_top.specs.Inputs.{Inputs, chart_in, directory_in, tables_in}
 use Rattle.corr_top.specs.Message.{message_reply, pays_in, readings_of}
 use Rattle.corr_top.specs.MessageFile.{IsMessageFile}
 use Rattle.corr_top.specs.Origin.{AreSentValid}
 use Rattle.corr_top.specs.Out.{sent_from}
 use Rattle.corr_top.specs.Passing.{table_at, table_file}
-use Rattle.corr_top.specs.Reconcile.{break_report}
+use Rattle.corr_top.specs.Reconcile.{break_report, reconcile_steps}
+use Rattle.corr_top.specs.Run.{run_steps}
 use Rattle.corr_top.specs.Statements.{AreStatements, sent_statements}
 use Rattle.corr_top.specs.Steps.{Step}
 use Rattle.corr_top.specs.Trial.{BooksEach, trial_report}
@@ -83,14 +84,9 @@ module _ {S K D : Type 0} (source : sources.Ghosts S) (sink : sinks.Ghosts K) (d
   abbrev pub AtEachMoment : (List ℕ → Type 0) → Type 0
   AtEachMoment P = (image : List ℕ) → disk.left_since new.disk (disk.moment old.disk) image → P image
 
-  -- a call of the disk failed: a crash leaves these books, or them and one legal entry more of the day
-  abbrev pub KeepsOrMore : Chart → List Entry → Day → Type 0
-  KeepsOrMore chart books day =
-      Rose (disk.faults old.disk) (disk.faults new.disk) × AreBooks chart books × IsLeftBy (disk.honest new.disk) (disk.may_leave new.disk) chart books day
-
-  -- the tables that a command reads told these bytes when it began
-  abbrev pub Told : Command → Inputs → Type 0
-  Told command i = (name : TableName) → Contains (command_steps command) (Step.table name) → source.left (table_at name old.tables) ≡ Some (table_file name i)
+  -- the tables that these steps read told these bytes when the command began
+  abbrev pub Told : List Step → Inputs → Type 0
+  Told steps i = (name : TableName) → Contains steps (Step.table name) → source.left (table_at name old.tables) ≡ Some (table_file name i)
 
   -- each message of the file has its reply, each pay its entry; one worker books in the file's order; what is sent is valid
   pub record AnswersAll (i : Inputs) (books : List Entry) : Type 0 where
@@ -103,14 +99,16 @@ module _ {S K D : Type 0} (source : sources.Ghosts S) (sink : sinks.Ghosts K) (d
     pub wrote : Wrote sink old new s (report_of i.chart books replies) (sent_from i.chart (length i.history + 1) books)
     pub valid : AreSentValid (tables_in i) i.chart (length i.history + 1) books
 
-  -- run, whatever the status: the books are those of one clerk who entered pays of the file, one after another; a crash keeps them,
-  -- and at each moment of the run leaves the old books and a front part of what was entered, or after a fault one legal entry more
+  -- run, whatever the status: the books are those of one clerk who entered pays of the file, one after another; a crash keeps them, or,
+  -- after a fault, them or them and one legal entry more; at each moment of the run it leaves the old books and a front part of what was
+  -- entered, or that entry more
   pub record RunPromise (i : Inputs) : Type 0 where
     pub books : List Entry
     pub entered : List Pay
     pub one_clerk : books ≡ fold_of i.chart i.history entered i.day
     pub of_file : (entered ≡ []) ⊎ ((cut : List (List ℕ)) × IsMessageFile i.messages cut × All (Contains (pays_in (asked i cut))) entered)
-    pub crash : Keeps disk new.disk i.chart books ⊎ KeepsOrMore i.chart books i.day
+    pub crash : Keeps disk new.disk i.chart books
+        ⊎ (Rose (disk.faults old.disk) (disk.faults new.disk) × AreBooks i.chart books × IsLeftBy (disk.honest new.disk) (disk.may_leave new.disk) i.chart books i.day)
     pub moments : AtEachMoment (λ image. StandsBetween i.chart i.history books image
         ⊎ (Rose (disk.faults old.disk) (disk.faults new.disk) × StandsWithMore i.chart books i.day 1 image))
     pub answers : writes s ≡ true → AnswersAll i books
@@ -128,11 +126,11 @@ module _ {S K D : Type 0} (source : sources.Ghosts S) (sink : sinks.Ghosts K) (d
     -- however it ends, the books on the disk stay; `run` alone adds to them, and `init` makes none over others
     pub keeps : (chart : Chart) (books : List Entry) → Keeps disk old.disk chart books → ((day : Day) (n : ℕ) → command ≡ Run day n → ⊥)
         → Keeps disk new.disk chart books × AtEachMoment (λ image. StandsForBook image chart books)
-    pub run : (i : Inputs) → command ≡ Run i.day i.workers → Told command i → source.left old.messages ≡ Some i.messages
+    pub run : (i : Inputs) → command ≡ Run i.day i.workers → Told run_steps i → source.left old.messages ≡ Some i.messages
         → Keeps disk old.disk i.chart i.history → RunPromise i
-    pub init : (i : Inputs) → command ≡ Plain (Init i.home) → Told command i → IsTrue (disk.honest old.disk) → writes s ≡ true
+    pub init : (i : Inputs) → command ≡ Plain (Init i.home) → Told init_steps i → IsTrue (disk.honest old.disk) → writes s ≡ true
         → Keeps disk new.disk (chart_in i) []
-    pub made_or_not : (i : Inputs) → command ≡ Plain (Init i.home) → Told command i → IsTrue (disk.honest old.disk)
+    pub made_or_not : (i : Inputs) → command ≡ Plain (Init i.home) → Told init_steps i → IsTrue (disk.honest old.disk)
         → Only (disk.reads old.disk) (disk.may_leave old.disk) → IsUnmade (disk.reads old.disk) → AtEachMoment (λ image. IsUnmade image ⊎ StandsForBook image (chart_in i) [])
     pub statements : (day : Day) (chart : Chart) (books : List Entry) → command ≡ Plain (Query (Statements day)) → Keeps disk old.disk chart books
         → writes s ≡ true → Wrote sink old new s [] (sent_statements chart books day) × AreStatements chart books day
@@ -143,6 +141,6 @@ module _ {S K D : Type 0} (source : sources.Ghosts S) (sink : sinks.Ghosts K) (d
     pub generate : (count seed : ℕ) → command ≡ Plain (Generate count seed) → writes s ≡ true → Wrote sink old new s [] (generated_of count seed)
     pub trial : (count seed workers : ℕ) → command ≡ Trial count seed workers → writes s ≡ true
         → Wrote sink old new s (trial_report count seed) [] × BooksEach count seed
-    pub reconcile : (i : Inputs) → command ≡ Plain Reconcile → Told command i → source.left old.received ≡ Some i.messages
+    pub reconcile : (i : Inputs) → command ≡ Plain Reconcile → Told reconcile_steps i → source.left old.received ≡ Some i.messages
         → Keeps disk old.disk i.chart i.history → writes s ≡ true → ReconcilePromise i
     pub silent : writes s ≡ false → (new.report ≡ old.report) × (new.out ≡ old.out)

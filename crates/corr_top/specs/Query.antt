@@ -10,6 +10,7 @@ use Rattle.corr_top.specs.declared.words.Query.TheVariants as query
 use Rattle.corr_top.specs.declared.status.Status.{Status}
 use Rattle.corr_top.specs.declared.status.Status.TheVariants as status
 use Rattle.corr_top.specs.declared.writing.Texts.{Texts}
+use Rattle.corr_top.specs.Meaning.{Meaning}
 use Rattle.corr_top.specs.OnDisk.{HasNotFailed, HoldsJournal, IsUnwritten, StopsOpening}
 use Rattle.corr_top.specs.Out.{sent_from}
 use Rattle.corr_top.specs.Statements.{AreStatements, sent_statements}
@@ -59,3 +60,14 @@ module _ {D : Type 0} (disk : disks.Ghosts D) (old new : D) where
   GivesAsked asked (Err s) =
       ((stop : OpenFault) × (s ≡ status_of_opening stop) × StopsOpening disk old new stop)
       ⊎ ((chart : Chart) × (history : List Entry) × WasRead chart history × (s ≡ status.Memory))
+
+-- a query is of the journal that was read
+abbrev pub query_meaning : Query → Meaning
+query_meaning asked = record {
+  is_for = λ i. Unit {0};
+  steps = query_steps;
+  report = λ i. query_report asked i.chart i.history;
+  out = λ i. query_out asked i.chart i.history;
+  valid = λ i. QuerySends asked i.chart i.history;
+  leaves = λ D disk old new i. QueryLeaves disk old new;
+}

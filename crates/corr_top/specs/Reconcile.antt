@@ -27,7 +27,9 @@ use Rattle.corr_top.specs.declared.status.Status.{Status}
 use Rattle.corr_top.specs.declared.status.Status.TheVariants as status
 use Rattle.corr_top.specs.declared.writing.Texts.{Texts}
 use Rattle.corr_top.specs.Inputs.{Inputs, tables_in}
+use Rattle.corr_top.specs.Meaning.{Meaning}
 use Rattle.corr_top.specs.Passing.{HasMessages, StopsAtMessages}
+use Rattle.corr_top.specs.Query.{QueryLeaves}
 use Rattle.corr_top.specs.Steps.{Step}
 use Rattle.corr_top.specs.Stops.{status_of_file}
 
@@ -99,8 +101,19 @@ break_report chart entries t messages =
     other_lines chart entries (all_received chart.home t messages) ++ breaks_of chart entries (pages_in (all_received chart.home t messages))
 
 -- the report of what was read
-abbrev pub reconcile_report : Inputs → List ℕ
+unfoldable pub reconcile_report : Inputs → List ℕ
 reconcile_report i = break_report i.chart i.history (tables_in i) i.cut
+
+-- it sends nothing, and writes nothing to the disk
+abbrev pub reconcile_meaning : Meaning
+reconcile_meaning = record {
+  is_for = λ i. Unit {0};
+  steps = reconcile_steps;
+  report = reconcile_report;
+  out = λ i. [];
+  valid = λ i. Unit {0};
+  leaves = λ D disk old new i. QueryLeaves disk old new;
+}
 
 -- ---- the part of the command after the opening of the journal
 

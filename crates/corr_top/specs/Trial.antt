@@ -24,6 +24,7 @@ use Rattle.corr_top.specs.declared.status.Status.TheVariants as status
 use Rattle.corr_top.specs.declared.writing.Texts.{Texts}
 use Rattle.corr_top.specs.Booking.{IsEnteredOn}
 use Rattle.corr_top.specs.Inputs.{opened}
+use Rattle.corr_top.specs.Meaning.{Meaning}
 use Rattle.corr_top.specs.Message.{pays_in, readings_of}
 use Rattle.corr_top.specs.OnDisk.{IsOnDisk}
 use Rattle.corr_top.specs.Samples.{sample_accounts, sample_bics, sample_ccys, sample_countries, sample_day, sample_home, sample_ssi}
@@ -110,3 +111,14 @@ IsTrial count seed texts = (texts.report ≡ trial_report count seed) × (texts.
 abbrev pub GivesTrial : ℕ → ℕ → Result Texts Status → Type 0
 GivesTrial count seed (Ok texts) = IsTrial count seed texts
 GivesTrial count seed (Err s) = s ≡ status.Memory
+
+-- it reads nothing and leaves the disk, whatever the number of workers; each message of the day is booked
+abbrev pub trial_meaning : ℕ → ℕ → Meaning
+trial_meaning count seed = record {
+  is_for = λ i. Unit {0};
+  steps = [];
+  report = λ i. trial_report count seed;
+  out = λ i. [];
+  valid = λ i. BooksEach count seed;
+  leaves = λ D disk old new i. new ≡ old;
+}

@@ -1,7 +1,7 @@
 //! The top calls: the words of a command, and what it is handed.
 
 ghost use Rattle.std.specs.Prelude.{◌≡◌, ◌⊎◌, None, IfSome};
-ghost use Rattle.corr_top.specs.Commands.{IsSpelled, command_of, plain_of};
+ghost use Rattle.corr_top.specs.Commands.{IsSpelled, command_of, meaning_of, plain_of};
 ghost use Rattle.corr_top.specs.Complete.{IsFaultless};
 ghost use Rattle.corr_top.specs.Ends.{Ends, HasTexts};
 ghost use Rattle.corr_top.specs.Inputs.{Inputs};
@@ -43,7 +43,8 @@ fn end<S: Source, K: Sink, D: Disk>(
     room: Room<S, K, D>,
     texts: Result<Texts, Status>,
 ) -> Done<S, K, D>
-    ensures ends { (command : TheCommand) (old : Room S K D) → HasTexts S.Source D.Disk command old room texts → Ends S.Source D.Disk command old result.room K.Sink result.status }
+    ensures ends { (command : TheCommand) (old : Room S K D) → HasTexts S.Source D.Disk (meaning_of command) old room texts
+        → Ends S.Source D.Disk (meaning_of command) old result.room K.Sink result.status }
     ensures disk { result.room.disk ≡ room.disk }
 {
     let mut room = room;
@@ -63,7 +64,7 @@ fn perform<S: Source, K: Sink, D: Disk>(
     room: Room<S, K, D>,
 ) -> Done<S, K, D>
     requires { IsSpelled (PlainCommand command) }
-    ensures ends { Ends S.Source D.Disk (PlainCommand command) room result.room K.Sink result.status }
+    ensures ends { Ends S.Source D.Disk (meaning_of (PlainCommand command)) room result.room K.Sink result.status }
     ensures honest { D.honest result.room.disk ≡ D.honest room.disk }
 {
     match command {
@@ -93,12 +94,15 @@ pub fn plain<S: Source, K: Sink, D: Disk>(
     // words of no such command touch nothing
     ensures usage { plain_of words.now ≡ None → (result.status ≡ Status.Usage) × (result.room ≡ room) }
     // what a bank may rely on
-    ensures promises { IfSome (plain_of words.now) (λ command. Promises S.Source K.Sink D.Disk room result.room result.status (PlainCommand command)) }
+    ensures promises { IfSome (plain_of words.now)
+        (λ command. Promises S.Source K.Sink D.Disk room result.room result.status (PlainCommand command)) }
     // each other status by its cause
-    ensures ends { IfSome (plain_of words.now) (λ command. Ends S.Source D.Disk (PlainCommand command) room result.room K.Sink result.status) }
+    ensures ends { IfSome (plain_of words.now)
+        (λ command. Ends S.Source D.Disk (meaning_of (PlainCommand command)) room result.room K.Sink result.status) }
     // where nothing is wrong and nothing fails, only memory can be wanting
-    ensures complete { IfSome (plain_of words.now) (λ command. (i : Inputs) → IsFaultless S.Source K.Sink D.Disk (PlainCommand command) room result.room i →
-        (result.status ≡ Status.Done) ⊎ (result.status ≡ Status.Memory)) }
+    ensures complete { IfSome (plain_of words.now)
+        (λ command. (i : Inputs) → IsFaultless S.Source K.Sink D.Disk (meaning_of (PlainCommand command)) room result.room i
+        → (result.status ≡ Status.Done) ⊎ (result.status ≡ Status.Memory)) }
     // a line can tell the status
     ensures line { HasLine result.status }
     ensures honest { D.honest result.room.disk ≡ D.honest room.disk }
@@ -134,10 +138,12 @@ pub fn corr<R: Wait + Threads + Sync, S: Source, K: Sink, D: Disk + Drop + Send,
     // what a bank may rely on
     ensures promises { IfSome (command_of words.now) (λ command. Promises S.Source K.Sink D.Disk room result.room result.status command) }
     // each other status by its cause
-    ensures ends { IfSome (command_of words.now) (λ command. Ends S.Source D.Disk command room result.room K.Sink result.status) }
+    ensures ends { IfSome (command_of words.now)
+        (λ command. Ends S.Source D.Disk (meaning_of command) room result.room K.Sink result.status) }
     // where nothing is wrong and nothing fails, only memory can be wanting
-    ensures complete { IfSome (command_of words.now) (λ command. (i : Inputs) → IsFaultless S.Source K.Sink D.Disk command room result.room i →
-        (result.status ≡ Status.Done) ⊎ (result.status ≡ Status.Memory)) }
+    ensures complete { IfSome (command_of words.now)
+        (λ command. (i : Inputs) → IsFaultless S.Source K.Sink D.Disk (meaning_of command) room result.room i
+        → (result.status ≡ Status.Done) ⊎ (result.status ≡ Status.Memory)) }
     // a line can tell the status
     ensures line { HasLine result.status }
     // whether the disk tells its bytes stays

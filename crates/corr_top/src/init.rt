@@ -5,6 +5,7 @@ ghost use Rattle.corr_ids.specs.Bic.{IsBic};
 ghost use Rattle.day_model.specs.Chart.{Chart};
 ghost use Rattle.jrn_codec.specs.Header.{IsHead, head_bytes};
 ghost use Rattle.jrn_file.specs.Reading.{most_record_bytes};
+ghost use Rattle.corr_top.specs.Commands.{meaning_of};
 ghost use Rattle.corr_top.specs.Ends.{HasTexts};
 ghost use Rattle.corr_top.specs.OnDisk.{HasNotFailed, IsMakeable, IsOnDisk, MakesInTurn, StopsMaking};
 ghost use Rattle.corr_top.specs.Tables.{HasAccounts, StopsAccounts};
@@ -86,7 +87,7 @@ pub fn init<S: Source, K: Sink, D: Disk>(
     room: Room<S, K, D>,
 ) -> (Room<S, K, D>, Result<Texts, Status>)
     requires { IsBic home }
-    ensures texts { HasTexts S.Source D.Disk (PlainCommand (Init home)) room result.0 result.1 }
+    ensures texts { HasTexts S.Source D.Disk (meaning_of (PlainCommand (Init home))) room result.0 result.1 }
     ensures honest { D.honest result.0.disk ≡ D.honest room.disk }
 {
     let mut room = room;

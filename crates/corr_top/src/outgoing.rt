@@ -1,6 +1,6 @@
 //! The messages that leave, as one text.
 
-ghost use Rattle.std.specs.Prelude.{◌≡◌, ◌≤◌, ◌++◌, All, IfOk, OnOk, take};
+ghost use Rattle.std.specs.Prelude.{◌≡◌, ◌≤◌, ◌++◌, All, IfOk, OnOk, codes, take};
 ghost use Rattle.std.specs.Int.{IsInRange};
 ghost use Rattle.day_model.specs.Log.{most_entries};
 ghost use Rattle.advices.specs.Messages.{messages_of};
@@ -8,7 +8,7 @@ ghost use Rattle.advices.specs.Valid.{AreAccepted};
 ghost use Rattle.corr_ids.specs.Bic.{IsBic};
 ghost use Rattle.corr_top.specs.Serving.{HasPayShape};
 ghost use Rattle.corr_top.specs.Origin.{SendsAccepted};
-ghost use Rattle.corr_top.specs.Out.{parted, parted_all, sent_from, entry_out};
+ghost use Rattle.corr_top.specs.Out.{parted_all, sent_from, entry_out};
 ghost use Rattle.day_model.specs.Fit.{FitsAccounts};
 ghost use Rattle.day_model.specs.Legal.{IsLegal};
 ghost use Rattle.day_model.specs.Shape.{HasShape};
@@ -20,7 +20,7 @@ use std::alloc::Global;
 
 /// Appends a message, followed by `$`.
 fn push_message(message: &Text, out: &mut Text) -> Result<(), Memory>
-    ensures { OnOk result (out.new ≡ out.old ++ parted message.now) }
+    ensures { OnOk result (out.new ≡ out.old ++ (message.now ++ codes "$")) }
 {
     out.push(message.bytes())?;
     out.push(b"$")

@@ -1,7 +1,7 @@
 //! The commands that read the journal and print what it says: `send`, `bookings` and `statements`.
 
 ghost use Rattle.std.specs.Prelude.{◌≡◌, IfOk, OnOk};
-ghost use Rattle.corr_top.specs.Commands.{IsSpelled};
+ghost use Rattle.corr_top.specs.Commands.{IsSpelled, meaning_of};
 ghost use Rattle.corr_top.specs.Ends.{HasTexts};
 ghost use Rattle.corr_top.specs.Query.{GivesAsked, QuerySends, query_out, query_report};
 ghost use Rattle.corr_top.specs.declared.words.Command.TheVariants.{Plain};
@@ -71,7 +71,7 @@ pub fn query<S: Source, K: Sink, D: Disk>(
     room: Room<S, K, D>,
 ) -> (Room<S, K, D>, Result<Texts, Status>)
     requires { IsSpelled (Plain (plain.Query asked)) }
-    ensures texts { HasTexts S.Source D.Disk (Plain (plain.Query asked)) room result.0 result.1 }
+    ensures texts { HasTexts S.Source D.Disk (meaning_of (Plain (plain.Query asked))) room result.0 result.1 }
     ensures honest { D.honest result.0.disk ≡ D.honest room.disk }
 {
     let mut room = room;

@@ -10,6 +10,7 @@ ghost use Rattle.fin_message.specs.declared.direction.Direction.TheVariants.{Rec
 ghost use Rattle.jrn_book.specs.Journal.{IsJournal};
 ghost use Rattle.mt950.specs.Page.{mt950_of};
 ghost use Rattle.ref_tables.specs.Seen.{few_decimals};
+ghost use Rattle.corr_top.specs.Commands.{meaning_of};
 ghost use Rattle.corr_top.specs.Ends.{HasTexts};
 ghost use Rattle.corr_top.specs.MessageFile.{most_messages};
 ghost use Rattle.corr_top.specs.Reconcile.{CanBeTold, Collects, GivesBreaks, break_report, envelope_in, read_as, read_from};
@@ -177,7 +178,7 @@ pub fn reconcile<S: Source, K: Sink, D: Disk>(
     alloc: Global,
     room: Room<S, K, D>,
 ) -> (Room<S, K, D>, Result<Texts, Status>)
-    ensures texts { HasTexts S.Source D.Disk (PlainCommand plain.Reconcile) room result.0 result.1 }
+    ensures texts { HasTexts S.Source D.Disk (meaning_of (PlainCommand plain.Reconcile)) room result.0 result.1 }
     ensures honest { D.honest result.0.disk ≡ D.honest room.disk }
 {
     let mut room = room;

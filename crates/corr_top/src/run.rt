@@ -8,6 +8,7 @@ ghost use Rattle.day_model.specs.Legal.{IsLegal};
 ghost use Rattle.jrn_book.specs.Journal.{IsJournal};
 ghost use Rattle.ssi_versions.specs.InstructionList.{AreInstructions};
 ghost use Rattle.work_pool.specs.Served.{most_workers};
+ghost use Rattle.corr_top.specs.Commands.{meaning_of};
 ghost use Rattle.corr_top.specs.Days.{GivesDay, GivesServed, GivesTexts};
 ghost use Rattle.corr_top.specs.Ends.{HasTexts};
 ghost use Rattle.corr_top.specs.Origin.{SendsAccepted};
@@ -195,7 +196,7 @@ pub fn run<R: Wait + Threads + Sync, S: Source, K: Sink, D: Disk + Drop + Send, 
 ) -> (Room<S, K, D>, Result<Texts, Status>)
     requires day { InCentury day }
     requires workers { (1 ≤ workers) × (workers ≤ most_workers) }
-    ensures texts { HasTexts S.Source D.Disk (Run day workers) room result.0 result.1 }
+    ensures texts { HasTexts S.Source D.Disk (meaning_of (Run day workers)) room result.0 result.1 }
     ensures honest { D.honest result.0.disk ≡ D.honest room.disk }
 {
     let mut room = room;

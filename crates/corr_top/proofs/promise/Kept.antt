@@ -1,5 +1,6 @@
 -- The books on a disk stay, whatever the command, but `run`.
-use Rattle.std.proofs.Common.{◌≡◌, ℕ, List, inl, inr, refl}
+use Rattle.std.proofs.Common.{◌≡◌, ℕ, List, true, false, inl, inr, refl, sym}
+use mathlib.Core.Bool.{true≢false}
 use Rattle.corr_disk.specs.declared.disk.Disk as disks
 use Rattle.corr_ids.specs.declared.bic.Bic.{Bic}
 use Rattle.corr_ids.specs.declared.day.Day.{Day}
@@ -9,64 +10,66 @@ use Rattle.day_model.specs.Chart.{Chart}
 use Rattle.day_model.specs.declared.entry.Entry.{Entry}
 use Rattle.jrn_book.specs.Journal.{entry_records}
 use Rattle.jrn_codec.specs.Header.{head_bytes}
-use Rattle.corr_top.specs.Ends.{Ends}
-use Rattle.corr_top.specs.OnDisk.{IsMakeable}
+use Rattle.corr_top.specs.Commands.{meaning_of}
+use Rattle.corr_top.specs.Ends.{Ends, HasPassed}
+use Rattle.corr_top.specs.Init.{init_meaning, init_steps}
+use Rattle.corr_top.specs.Meaning.{Meaning}
+use Rattle.corr_top.specs.OnDisk.{IsMakeable, IsUnwritten}
+use Rattle.corr_top.specs.Passing.{Passes}
+use Rattle.corr_top.specs.Steps.{Step}
 use Rattle.corr_top.specs.declared.room.Room.{Room}
 use Rattle.corr_top.specs.declared.status.Status.{Status}
 use Rattle.corr_top.specs.declared.words.Command.{Command}
 use Rattle.corr_top.specs.declared.words.Command.TheVariants.{Run, Trial, Plain}
 use Rattle.corr_top.specs.declared.words.Plain.TheVariants.{Generate, Init, Query, Reconcile}
 use Rattle.corr_top.specs.Promise.{Keeps}
+use Rattle.corr_top.proofs.Journals.{same_unwritten}
+use Rattle.corr_top.proofs.Walking.{is_named, named_has}
+use Rattle.corr_top.proofs.promise.Finished.{came}
 use Rattle.corr_top.proofs.promise.Standing.{stands_other}
-use Rattle.corr_top.proofs.promise.Untouched.{KeepsAll, OnlyNow, generate_keeps, query_keeps, reconcile_keeps, same_keeps, trial_keeps, unwritten_keeps}
+use Rattle.corr_top.proofs.promise.Untouched.{KeepsAll, OnlyNow, are_told, stops_somewhere, stops_unwritten, unwritten_keeps}
 
 module _ {S K D : Type 0} (source : sources.Ghosts S) (sink : sinks.Ghosts K) (disk : disks.Ghosts D) (old new : Room S K D) (s : Status) (chart : Chart) (books : List Entry)
     (only : OnlyNow disk) (honest : disk.honest new.disk ≡ disk.honest old.disk) (kept : Keeps disk old.disk chart books) where
+  by_unwritten : IsUnwritten disk old.disk new.disk → KeepsAll disk old.disk new.disk chart books
+  by_unwritten unwritten = unwritten_keeps disk old.disk new.disk chart books honest unwritten kept
+
+  -- a command that neither makes a journal nor enters pays, and writes nothing where it comes to its end
+  reads_only : (m : Meaning) (ended : Ends source disk m old new sink s) → (HasPassed source disk m old new ended.inputs → IsUnwritten disk old.disk new.disk)
+      → are_told m.steps ≡ true → is_named Step.make m.steps ≡ false → is_named Step.book m.steps ≡ false → KeepsAll disk old.disk new.disk chart books
+  reads_only m ended at_end told no_make no_book = by_unwritten (elim (came source sink disk old new s m ended) [
+    | inl passed ↦ at_end passed
+    | inr halted ↦ stops_unwritten source disk old new ended.inputs s only m.steps told no_make no_book halted.halts
+  ])
+
   -- no journal may be made over these books
   unmakeable : IsMakeable disk old.disk → ⊥
   unmakeable free =
       let other = stands_other (disk.reads old.disk) (head_bytes chart) (entry_records books) kept.reads in
       free kept.told other.0 other.1
 
-  by_same : new.disk ≡ old.disk → KeepsAll disk old.disk new.disk chart books
-  by_same same = same_keeps disk old.disk new.disk chart books only same kept
-
-  pub init_keeps : (home : Bic) → Ends source disk (Plain (Init home)) old new sink s → KeepsAll disk old.disk new.disk chart books
-  init_keeps home ended = elim ended.ends [
-    | inl done ↦ absurd (unmakeable done.passed.passed.1.1.1.1.1.0)
-    | inr other ↦ elim other [
-      | inl writing ↦ absurd (unmakeable writing.passed.passed.1.1.1.1.1.0)
-      | inr stop ↦ elim stop.stopped [
-        | inl halted ↦ elim halted [
-          | inl at_bics ↦ by_same at_bics.1.1.1.1.1.0
-          | inr bics ↦ elim bics.1 [
-            | inl at_ccys ↦ by_same at_ccys.1.1.1.1.0
-            | inr ccys ↦ elim ccys.1 [
-              | inl at_countries ↦ by_same at_countries.1.1.1.0
-              | inr countries ↦ elim countries.1 [
-                | inl at_accounts ↦ by_same at_accounts.1.1.0
-                | inr accounts ↦ elim accounts.1 [
-                  | inl at_sums ↦ by_same at_sums.1.0
-                  | inr sums ↦ elim sums.1 [
-                    | inl at_make ↦
-                        let first = stands_other (disk.reads old.disk) (head_bytes chart) (entry_records books) kept.reads in
-                        unwritten_keeps disk old.disk new.disk chart books honest (at_make.0.2.untouched first.0 kept.told first.1) kept
-                    | inr past ↦ absurd past.1
-                  ]
-                ]
-              ]
-            ]
-          ]
-        ]
-        | inr memory ↦ absurd (unmakeable memory.0.passed.1.1.1.1.1.0)
+  init_keeps : (home : Bic) → Ends source disk (init_meaning home) old new sink s → KeepsAll disk old.disk new.disk chart books
+  init_keeps home ended = elim (came source sink disk old new s (init_meaning home) ended) [
+    | inl passed ↦ absurd (unmakeable (named_has (Passes source disk old new ended.inputs) Step.make init_steps refl passed.passed))
+    | inr halted ↦ elim (stops_somewhere source disk old new ended.inputs s only init_steps refl halted.halts) [
+      | inl unwritten ↦ by_unwritten unwritten
+      | inr at ↦ elim at [
+        | inl make ↦
+            let other = stands_other (disk.reads old.disk) (head_bytes chart) (entry_records books) kept.reads in
+            by_unwritten (make.stops.2.untouched other.0 kept.told other.1)
+        | inr book ↦ absurd (true≢false (sym book.named))
       ]
     ]
   ]
 
-  pub all_keep : (command : Command) → Ends source disk command old new sink s → ((day : Day) (n : ℕ) → command ≡ Run day n → ⊥) → KeepsAll disk old.disk new.disk chart books
+  same_disk : new.disk ≡ old.disk → IsUnwritten disk old.disk new.disk
+  same_disk same = same_unwritten disk only old.disk new.disk same
+
+  pub all_keep : (command : Command) → Ends source disk (meaning_of command) old new sink s → ((day : Day) (n : ℕ) → command ≡ Run day n → ⊥) → KeepsAll disk old.disk new.disk chart books
+  unfolding meaning_of
   all_keep (Run day workers) ended no_run = absurd (no_run day workers refl)
-  all_keep (Trial count seed workers) ended no_run = trial_keeps source sink disk old new s chart books only honest kept count seed workers ended
+  all_keep (Trial count seed workers) ended no_run = reads_only (meaning_of (Trial count seed workers)) ended (λ passed. same_disk passed.leaves) refl refl refl
   all_keep (Plain (Init home)) ended no_run = init_keeps home ended
-  all_keep (Plain (Query asked)) ended no_run = query_keeps source sink disk old new s chart books only honest kept asked ended
-  all_keep (Plain Reconcile) ended no_run = reconcile_keeps source sink disk old new s chart books only honest kept ended
-  all_keep (Plain (Generate count seed)) ended no_run = generate_keeps source sink disk old new s chart books only honest kept count seed ended
+  all_keep (Plain (Query asked)) ended no_run = reads_only (meaning_of (Plain (Query asked))) ended (λ passed. passed.leaves.unwritten) refl refl refl
+  all_keep (Plain Reconcile) ended no_run = reads_only (meaning_of (Plain Reconcile)) ended (λ passed. passed.leaves.unwritten) refl refl refl
+  all_keep (Plain (Generate count seed)) ended no_run = reads_only (meaning_of (Plain (Generate count seed))) ended (λ passed. same_disk passed.leaves) refl refl refl

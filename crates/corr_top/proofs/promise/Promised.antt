@@ -4,44 +4,41 @@ use Rattle.std.proofs.lemmas.Option.{IfSome_then}
 use Rattle.corr_disk.specs.declared.disk.Disk as disks
 use Rattle.corr_io.specs.declared.sink.Sink as sinks
 use Rattle.corr_io.specs.declared.source.Source as sources
+use Rattle.corr_top.specs.Commands.{meaning_of}
 use Rattle.corr_top.specs.Ends.{Ends}
 use Rattle.corr_top.specs.declared.room.Room.{Room}
 use Rattle.corr_top.specs.declared.status.Status.{Status}
 use Rattle.corr_top.specs.declared.words.Command.{Command}
 use Rattle.corr_top.specs.declared.words.Query.TheVariants.{Bookings, Send, Statements}
-use Rattle.corr_top.specs.Inputs.{Inputs}
-use Rattle.corr_top.specs.Promise.{Promises, Told}
-use Rattle.corr_top.proofs.promise.Finished.{generate_promise, query_promise, trial_promise}
+use Rattle.corr_top.specs.Promise.{Promises}
+use Rattle.corr_top.proofs.promise.Finished.{generate_promise, query_promise, silent, trial_promise}
 use Rattle.corr_top.proofs.promise.Kept.{all_keep}
 use Rattle.corr_top.proofs.promise.Making.{made_promise}
 use Rattle.corr_top.proofs.promise.Promising.{init_promise, reconcile_promise}
 use Rattle.corr_top.proofs.promise.Running.{run_promise}
-use Rattle.corr_top.proofs.promise.Silence.{silent}
 use Rattle.corr_top.proofs.promise.Untouched.{OnlyNow}
 
 pub promised : {S K D : Type 0} (source : sources.Ghosts S) (sink : sinks.Ghosts K) (disk : disks.Ghosts D) (command : Command) (old new : Room S K D) (s : Status)
-    → OnlyNow disk → disk.honest new.disk ≡ disk.honest old.disk → Ends source disk command old new sink s
+    → OnlyNow disk → disk.honest new.disk ≡ disk.honest old.disk → Ends source disk (meaning_of command) old new sink s
     → Promises source sink disk old new s command
 promised source sink disk command old new s only honest ended =
-    let of : (c : Command) → command ≡ c → Ends source disk c old new sink s = λ c is. subst (λ (x : Command). Ends source disk x old new sink s) is ended in
-    let told_by : (c : Command) (i : Inputs) → command ≡ c → Told source sink disk old new s command i → Told source sink disk old new s c i = λ c i is told.
-    subst (λ (x : Command). Told source sink disk old new s x i) is told in
+    let of : (c : Command) → command ≡ c → Ends source disk (meaning_of c) old new sink s = λ c is. subst (λ (x : Command). Ends source disk (meaning_of x) old new sink s) is ended in
     record {
       keeps = λ chart books kept no_run. let all = all_keep source sink disk old new s chart books only honest kept command ended no_run in (all.kept, all.moments);
-      run = λ i is told messages kept. run_promise source sink disk old new s i only honest (told_by _ i is told) messages kept (of _ is);
-      init = λ i is told sure some. init_promise source sink disk old new s i honest (of _ is) (told_by _ i is told) sure some;
-      made_or_not = λ i is told sure alone unmade. made_promise source sink disk old new s i only honest (of _ is) (told_by _ i is told) sure alone unmade;
+      run = λ i is told messages kept. run_promise source sink disk old new s i only honest told messages kept (of _ is);
+      init = λ i is told sure some. init_promise source sink disk old new s i honest (of _ is) told sure some;
+      made_or_not = λ i is told sure alone unmade. made_promise source sink disk old new s i only (of _ is) told sure alone unmade;
       statements = λ day chart books is kept some. let all = query_promise source sink disk old new s (Statements day) chart books (of _ is) kept some in all;
       send = λ from until chart books is kept some. (query_promise source sink disk old new s (Send from until) chart books (of _ is) kept some).0;
       bookings = λ chart books is kept some. (query_promise source sink disk old new s Bookings chart books (of _ is) kept some).0;
       generate = λ count seed is some. generate_promise source sink disk old new s count seed (of _ is) some;
       trial = λ count seed workers is some. trial_promise source sink disk old new s count seed workers (of _ is) some;
-      reconcile = λ i is told received kept some. reconcile_promise source sink disk old new s i (of _ is) (told_by _ i is told) received kept some;
-      silent = silent source sink disk command old new s ended;
+      reconcile = λ i is told received kept some. reconcile_promise source sink disk old new s i (of _ is) told received kept some;
+      silent = silent source sink disk old new s (meaning_of command) ended;
     }
 
 -- the same where the words may name no command
 pub promised_if : {S K D X : Type 0} (source : sources.Ghosts S) (sink : sinks.Ghosts K) (disk : disks.Ghosts D) (make : X → Command) (named : Option X) (old new : Room S K D) (s : Status)
     → OnlyNow disk → disk.honest new.disk ≡ disk.honest old.disk
-    → IfSome named (λ x. Ends source disk (make x) old new sink s) → IfSome named (λ x. Promises source sink disk old new s (make x))
+    → IfSome named (λ x. Ends source disk (meaning_of (make x)) old new sink s) → IfSome named (λ x. Promises source sink disk old new s (make x))
 promised_if source sink disk make named old new s only honest ended = IfSome_then named ended (λ x is. promised source sink disk (make x) old new s only honest is)

@@ -1,9 +1,9 @@
 -- The promise of `run`.
-use Rattle.std.proofs.Common.{◌≡◌, ◌⊎◌, ◌+◌, ℕ, suc, All, List, [], ◌∷◌, ◌++◌, true, false, inl, inr, length, map, Some, refl, sym, ap, ◌∙◌, subst}
+use Rattle.std.proofs.Common.{◌≡◌, ◌⊎◌, ◌+◌, ℕ, All, List, [], ◌++◌, true, false, inl, inr, length, map, Some, refl, sym, ap, ◌∙◌, subst}
 use Rattle.std.proofs.lemmas.List.{append-nil, length-map}
 use mathlib.Core.List.{IsPrefix, prefix-append}
 use mathlib.Core.Bool.{true≢false}
-use Rattle.std.specs.Prelude.{IsTrue, Result, slice_get}
+use Rattle.std.specs.Prelude.{IsTrue, Result}
 use Rattle.std.specs.List.{Contains}
 use Rattle.std.proofs.lemmas.List.Elements.{All-map, All-weaker}
 use Rattle.corr_books.specs.Moments.{StandsBetween, StandsWithMore}
@@ -17,40 +17,37 @@ use Rattle.day_model.specs.Chart.{Chart}
 use Rattle.day_model.specs.Next.{fold_of}
 use Rattle.day_model.specs.declared.entry.Entry.{Entry}
 use Rattle.day_model.specs.declared.pay.Pay.{Pay}
+use Rattle.jrn_book.specs.Book.{IsLeftBy}
 use Rattle.jrn_book.specs.Journal.{IsJournal, StandsForBook}
 use Rattle.ref_tables.specs.Seen.{Tables as Known}
-use Rattle.ref_tables.specs.Tables.{tables_of}
 use Rattle.ref_tables.specs.declared.fault.TableName.{TableName}
 use Rattle.ref_tables.specs.declared.fault.TableName.TheVariants as names
-use Rattle.ref_tables.specs.Charges.{charge_in_row}
-use Rattle.ssi_versions.specs.Rows.{instruction_of}
-use Rattle.ref_tables.specs.Rows.{rows_of}
 use Rattle.corr_top.proofs.Folding.{legal_fold}
 use Rattle.corr_top.proofs.Replying.{get_all}
-use Rattle.corr_top.proofs.RunEnds.{day_steps}
-use Rattle.corr_top.proofs.Walking.{Has, halts_parts, walked, walks_parts}
+use Rattle.corr_top.proofs.Told.{same_directory, took_all}
+use Rattle.corr_top.proofs.Walking.{ahead_of, is_named, named_has, walks_ahead}
 use Rattle.corr_top.specs.Booking.{AreAnswered, IsEnteredOn, StopsBooking}
-use Rattle.corr_top.specs.Commands.{out_in, report_in}
-use Rattle.corr_top.specs.Ends.{Ends, HasPassed}
+use Rattle.corr_top.specs.Commands.{meaning_of}
+use Rattle.corr_top.specs.Ends.{Ends}
 use Rattle.corr_top.specs.Inputs.{Inputs, directory_in, new_in, pays_of, replies_of, tables_in}
 use Rattle.corr_top.specs.Message.{message_reply, pays_in, readings_of}
 use Rattle.corr_top.specs.MessageFile.{IsMessageFile}
-use Rattle.corr_top.specs.OnDisk.{HoldsJournal, IsOnDisk, IsUnwritten, LeavesMidway}
+use Rattle.corr_top.specs.OnDisk.{IsOnDisk, LeavesMidway}
 use Rattle.corr_top.specs.Origin.{AreSentValid}
 use Rattle.corr_top.specs.Out.{sent_from}
+use Rattle.corr_top.specs.Run.{run_meaning, run_out, run_report, run_steps}
 use Rattle.corr_top.specs.Steps.{Step, Walks}
-use Rattle.corr_top.specs.Tables.{directory_steps}
-use Rattle.corr_top.specs.Passing.{HasMessages, Passes, StepIsUntouched, StopsAt, table_file}
+use Rattle.corr_top.specs.Passing.{Passes, table_file}
 use Rattle.corr_top.specs.declared.directory.Directory.{Directory}
 use Rattle.corr_top.specs.declared.message.NoPay.{NoPay}
 use Rattle.corr_top.specs.declared.room.Room.{Room}
 use Rattle.corr_top.specs.declared.status.Status.{Status}
 use Rattle.corr_top.specs.declared.words.Command.TheVariants.{Run}
-use Rattle.corr_top.specs.Promise.{AnswersAll, AtEachMoment, Keeps, KeepsOrMore, RunPromise, Told, Wrote, asked, writes}
-use Rattle.corr_top.proofs.promise.Agreeing.{SameBooks, same_books, same_table, sound_books, took_all}
-use Rattle.corr_top.proofs.promise.Finished.{finished, stopped_silent}
+use Rattle.corr_top.specs.Promise.{AnswersAll, AreBooks, AtEachMoment, Keeps, RunPromise, Told, Wrote, asked, writes}
+use Rattle.corr_top.proofs.promise.Agreeing.{SameBooks, known_told, same_books, sound_books, table_told}
+use Rattle.corr_top.proofs.promise.Finished.{came, finished}
 use Rattle.corr_top.proofs.promise.Lists.{contains_get, filter_map_all, get_contains}
-use Rattle.corr_top.proofs.promise.Untouched.{KeepsAll, OnlyNow, same_keeps, unwritten_keeps}
+use Rattle.corr_top.proofs.promise.Untouched.{KeepsAll, OnlyNow, stops_somewhere, unwritten_keeps}
 
 -- a list is a front of itself
 whole_front : (books : List Entry) → IsPrefix books books
@@ -71,14 +68,9 @@ of_pays day pays added each =
     All-map (Contains pays) (λ (e : Entry). e.pay) added
     (All-weaker (IsEnteredOn day pays) (λ (e : Entry). Contains pays e.pay) (λ e is. get_contains pays is.place e.pay is.pay_is) added each)
 
--- a step of a front part is one of the whole
-place_of : (front back : List Step) (s : Step) → Has front s → (k : ℕ) × (slice_get (front ++ back) k ≡ Some s)
-place_of [] back s at = absurd at
-place_of (d ∷ front) back s (inl is) = (0, ap (λ (x : Step). Some x) is)
-place_of (d ∷ front) back s (inr at) = let later = place_of front back s at in (suc later.0, later.1)
-
-in_front : (front back : List Step) (s : Step) → Has front s → Contains (front ++ back) s
-in_front front back s at = let place = place_of front back s at in get_contains (front ++ back) place.0 s place.1
+-- the steps of a run ahead of the entering of its pays
+abbrev file_steps : List Step
+file_steps = ahead_of Step.book run_steps
 
 module _ {S K D : Type 0} (source : sources.Ghosts S) (sink : sinks.Ghosts K) (disk : disks.Ghosts D) (old new : Room S K D) (s : Status) (i j : Inputs) where
   -- what was read up to the messages is what was told
@@ -89,23 +81,20 @@ module _ {S K D : Type 0} (source : sources.Ghosts S) (sink : sinks.Ghosts K) (d
     file : IsMessageFile i.messages j.cut
     day : j.day ≡ i.day
 
-  reached : Told source sink disk old new s (Run i.day i.workers) i → source.left old.messages ≡ Some i.messages → Keeps disk old.disk i.chart i.history → j.day ≡ i.day
-      → Walks (Passes source disk old new j) directory_steps → HoldsJournal disk old.disk j.chart j.history → HasMessages source old.messages new.messages j.messages j.cut → Reached
-  reached told messages kept day passed holds had =
-      let same : (name : TableName) → Has directory_steps (Step.table name) → table_file name j ≡ table_file name i = λ name at.
-      same_table source name old.tables new.tables j i (told name (in_front directory_steps day_steps (Step.table name) at))
-      (walked (Passes source disk old new j) directory_steps (Step.table name) passed at) in
-      let known : tables_in j ≡ tables_in i =
-      ap (λ (x : List ℕ). tables_of x j.ccys j.countries) (same names.Bics (inl refl))
-      ∙ ap (λ (x : List ℕ). tables_of i.bics x j.countries) (same names.Ccys (inr (inl refl)))
-      ∙ ap (λ (x : List ℕ). tables_of i.bics i.ccys x) (same names.Countries (inr (inr (inl refl)))) in
-      let rows = ap (λ (x : List ℕ). map instruction_of (rows_of x)) (same names.Ssi (inr (inr (inr (inl refl))))) in
-      let taken = ap (λ (x : List ℕ). map charge_in_row (rows_of x)) (same names.Charges (inr (inr (inr (inr (inl refl)))))) in
+  reached : Told source sink disk old new s run_steps i → source.left old.messages ≡ Some i.messages → Keeps disk old.disk i.chart i.history → j.day ≡ i.day
+      → Walks (Passes source disk old new j) file_steps → Reached
+  reached told messages kept day passed =
+      let P = Passes source disk old new j in
+      let same : (name : TableName) → is_named (Step.table name) run_steps ≡ true → is_named (Step.table name) file_steps ≡ true → table_file name j ≡ table_file name i =
+      table_told source sink disk old new s j i run_steps file_steps told passed in
+      let known = known_told source sink disk old new s j i run_steps file_steps told passed
+      (record { bics = refl; ccys = refl; countries = refl }) (record { bics = refl; ccys = refl; countries = refl }) in
+      let had = named_has P Step.messages file_steps refl passed in
       let bytes = took_all source.left source.faults 67108864 old.messages new.messages j.messages i.messages messages had.are.short had.took in
       record {
         known = known;
-        directory = λ k. record { tables = known k; ssi = rows k; charges = taken k };
-        books = same_books disk old.disk j i.chart i.history holds kept;
+        directory = same_directory j i known (same names.Ssi refl refl) (same names.Charges refl refl);
+        books = same_books disk old.disk j i.chart i.history (named_has P Step.open_journal file_steps refl passed) kept;
         file = subst (λ (m : List ℕ). IsMessageFile m j.cut) bytes had.are;
         day = day;
       }
@@ -184,7 +173,8 @@ module _ {S K D : Type 0} (source : sources.Ghosts S) (sink : sinks.Ghosts K) (d
         let books = j.history ++ st.added in
         let pays = map (λ (e : Entry). e.pay) st.added in
         let sound = sound_books j.chart books st.journal in
-        let M : Chart → Day → Type 0 = λ c d. Keeps disk new.disk c books ⊎ KeepsOrMore source sink disk old new s c books d in
+        let M : Chart → Day → Type 0 = λ c d.
+        Keeps disk new.disk c books ⊎ (Rose (disk.faults old.disk) (disk.faults new.disk) × AreBooks c books × IsLeftBy (disk.honest new.disk) (disk.may_leave new.disk) c books d) in
         let here : M j.chart j.day = elim st.left [ inl calm ↦ inl (keeps_on disk new.disk j.chart books sure st.journal calm.1) | inr rose ↦ inr (rose.0, sound, rose.1) ] in
         record {
           books = books;
@@ -209,53 +199,29 @@ module _ {S K D : Type 0} (source : sources.Ghosts S) (sink : sinks.Ghosts K) (d
   }
 
 module _ {S K D : Type 0} (source : sources.Ghosts S) (sink : sinks.Ghosts K) (disk : disks.Ghosts D) (old new : Room S K D) (s : Status) (i : Inputs)
-    (only : OnlyNow disk) (honest : disk.honest new.disk ≡ disk.honest old.disk) (told : Told source sink disk old new s (Run i.day i.workers) i) (messages : source.left old.messages ≡ Some i.messages) (kept : Keeps disk old.disk i.chart i.history) where
+    (only : OnlyNow disk) (honest : disk.honest new.disk ≡ disk.honest old.disk) (told : Told source sink disk old new s run_steps i)
+    (messages : source.left old.messages ≡ Some i.messages) (kept : Keeps disk old.disk i.chart i.history) where
   sure : IsTrue (disk.honest new.disk)
   sure = subst IsTrue (sym honest) kept.told
 
-  same : new.disk ≡ old.disk → KeepsAll disk old.disk new.disk i.chart i.history
-  same is = same_keeps disk old.disk new.disk i.chart i.history only is kept
-
-  pub run_promise : Ends source disk (Run i.day i.workers) old new sink s → RunPromise source sink disk old new s i
-  unfolding report_in out_in
+  pub run_promise : Ends source disk (meaning_of (Run i.day i.workers)) old new sink s → RunPromise source sink disk old new s i
+  unfolding meaning_of run_report run_out
   run_promise ended =
+      let m = run_meaning i.day i.workers in
       let j = ended.inputs in
-      let day = ended.are_for.0 in
-      let workers = ended.are_for.1 in
       let passes = Passes source disk old new j in
-      let reach = reached source sink disk old new s i j told messages kept day in
-      let wrote = (λ (h : HasPassed source disk (Run i.day i.workers) old new j).
-      let parts = walks_parts passes directory_steps day_steps h.passed in
-      let read = reach parts.0 parts.1.0 parts.1.1.1.0 in
-      let answered = parts.1.1.1.1.0 in
-      entered_all source sink disk old new s i j read kept h.leaves.any_moment sure answered h.leaves.journal h.leaves.entered
-      (λ some. let all = finished source sink disk old new s (Run i.day i.workers) ended some in all_answered source sink disk old new s i j read workers answered all.1 all.2)) in
-      elim ended.ends [
-        | inl done ↦ wrote done.passed
-        | inr other ↦ elim other [
-          | inl writing ↦ wrote writing.passed
-          | inr stop ↦
-              let silent = stopped_silent source disk old new j s (Run i.day i.workers) stop.stopped in
-              let none = entered_none source sink disk old new s i j in
-              let unwritten = (λ (is : IsUnwritten disk old.disk new.disk). none (unwritten_keeps disk old.disk new.disk i.chart i.history honest is kept) silent) in
-              elim stop.stopped [
-                | inl halted ↦ elim (halts_parts passes (StopsAt source disk old new j s) (StepIsUntouched disk old new) directory_steps day_steps halted) [
-                  | inl tables ↦ none (same tables.1.0) silent
-                  | inr after ↦ elim after.1 [
-                    | inl at_journal ↦ unwritten at_journal.0.2.untouched
-                    | inr journal ↦ elim journal.1 [
-                      | inl at_day ↦ unwritten at_day.1.1.0
-                      | inr of_day ↦ elim of_day.1 [
-                        | inl at_messages ↦ unwritten at_messages.1.0
-                        | inr file ↦ elim file.1 [
-                          | inl at_book ↦ entered_some source sink disk old new s i j (reach after.0 journal.0 file.0) kept sure at_book.0.2 silent
-                          | inr past ↦ absurd past.1
-                        ]
-                      ]
-                    ]
-                  ]
-                ]
-                | inr memory ↦ wrote memory.0
-              ]
+      let reach = reached source sink disk old new s i j told messages kept ended.are_for.0 in
+      elim (came source sink disk old new s m ended) [
+        | inl done ↦
+            let read = reach (walks_ahead passes Step.book run_steps done.passed) in
+            let answered = named_has passes Step.book run_steps refl done.passed in
+            entered_all source sink disk old new s i j read kept done.leaves.any_moment sure answered done.leaves.journal done.leaves.entered
+            (λ some. let all = finished source sink disk old new s m ended some in all_answered source sink disk old new s i j read ended.are_for.1 answered all.1 all.2)
+        | inr halted ↦ elim (stops_somewhere source disk old new j s only run_steps refl halted.halts) [
+          | inl unwritten ↦ entered_none source sink disk old new s i j (unwritten_keeps disk old.disk new.disk i.chart i.history honest unwritten kept) halted.silent
+          | inr at ↦ elim at [
+            | inl make ↦ absurd (true≢false (sym make.named))
+            | inr book ↦ entered_some source sink disk old new s i j (reach book.ahead) kept sure book.stops.2 halted.silent
+          ]
         ]
       ]

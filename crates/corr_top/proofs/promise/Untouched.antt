@@ -1,19 +1,21 @@
--- The commands that write nothing to the disk keep the books.
-use Rattle.std.proofs.Common.{◌≡◌, ℕ, List, IsTrue, inl, inr, sym, subst}
+-- What a stop says of the disk, and that a disk to which nothing was written keeps its books.
+use Rattle.std.proofs.Common.{◌≡◌, ◌⊎◌, ◌||◌, ◌&&◌, ℕ, List, [], ◌∷◌, Bool, true, false, IsTrue, inl, inr, refl, sym, ◌∙◌, subst}
+use mathlib.Core.Bool.{true≢false}
+use Rattle.std.specs.List.{list_any}
 use Rattle.corr_disk.specs.declared.disk.Disk as disks
-use Rattle.corr_io.specs.declared.sink.Sink as sinks
 use Rattle.corr_io.specs.declared.source.Source as sources
 use Rattle.day_model.specs.Chart.{Chart}
 use Rattle.day_model.specs.declared.entry.Entry.{Entry}
 use Rattle.jrn_book.specs.Journal.{StandsForBook}
-use Rattle.corr_top.specs.Ends.{Ends}
+use Rattle.corr_top.specs.Inputs.{Inputs}
 use Rattle.corr_top.specs.OnDisk.{IsUnwritten}
+use Rattle.corr_top.specs.Passing.{Passes, StepIsUntouched, StopsAt}
+use Rattle.corr_top.specs.Steps.{Halts, Step, Walks}
 use Rattle.corr_top.specs.declared.room.Room.{Room}
 use Rattle.corr_top.specs.declared.status.Status.{Status}
-use Rattle.corr_top.specs.declared.words.Command.TheVariants.{Trial, Plain}
-use Rattle.corr_top.specs.declared.words.Plain.TheVariants.{Generate, Query, Reconcile}
-use Rattle.corr_top.specs.declared.words.Query.{Query as Asked}
 use Rattle.corr_top.specs.Promise.{Keeps}
+use Rattle.corr_top.proofs.Journals.{same_unwritten}
+use Rattle.corr_top.proofs.Walking.{ahead_of, is_named, walks_more}
 
 -- a disk keeps its books, at each moment too
 pub record KeepsAll {D : Type 0} (disk : disks.Ghosts D) (old new : D) (chart : Chart) (books : List Entry) : Type 0 where
@@ -37,85 +39,106 @@ unwritten_keeps disk old new chart books honest unwritten kept = record {
   moments = λ image left. kept.crash image (unwritten.any_moment.each image left);
 }
 
--- a disk that is the same does
-pub same_keeps : {D : Type 0} (disk : disks.Ghosts D) (old new : D) (chart : Chart) (books : List Entry)
-    → OnlyNow disk → new ≡ old → Keeps disk old chart books → KeepsAll disk old new chart books
-same_keeps disk old new chart books only same kept = record {
-  kept = subst (λ d. Keeps disk d chart books) (sym same) kept;
-  moments = λ image left. kept.crash image (only old image (subst (λ d. disk.left_since d (disk.moment old) image) same left));
-}
+-- ---- where a command stopped
 
-module _ {S K D : Type 0} (source : sources.Ghosts S) (sink : sinks.Ghosts K) (disk : disks.Ghosts D) (old new : Room S K D) (s : Status) where
-  -- a query writes nothing to the disk
-  pub query_unwritten : (asked : Asked) → Ends source disk (Plain (Query asked)) old new sink s → IsUnwritten disk old.disk new.disk
-  query_unwritten asked ended = elim ended.ends [
-    | inl done ↦ done.passed.leaves.unwritten
-    | inr other ↦ elim other [
-      | inl writing ↦ writing.passed.leaves.unwritten
-      | inr stop ↦ elim stop.stopped [
-        | inl halted ↦ elim halted [ inl here ↦ here.0.2.untouched | inr later ↦ absurd later.1 ]
-        | inr memory ↦ memory.0.leaves.unwritten
-      ]
+-- a step that isn't reached says that the disk is as it was
+abbrev leaves_disk : Step → Bool
+leaves_disk Step.make = true
+leaves_disk Step.open_journal = true
+leaves_disk Step.book = true
+leaves_disk _ = false
+
+-- a stop at this step says itself what was done to the disk
+abbrev tells_disk : Step → Bool
+tells_disk Step.make = true
+tells_disk Step.open_journal = true
+tells_disk Step.book = true
+tells_disk Step.received = true
+tells_disk _ = false
+
+-- of each step, a stop there tells it, or a step after it does
+abbrev pub are_told : List Step → Bool
+are_told [] = true
+are_told (step ∷ steps) = (tells_disk step || list_any leaves_disk steps) && are_told steps
+
+both_true : (a b : Bool) → (a && b) ≡ true → (a ≡ true) × (b ≡ true)
+both_true true b e = (refl, e)
+both_true false b e = absurd (true≢false (sym e))
+
+or_true : (a b : Bool) → b ≡ true → (a || b) ≡ true
+or_true true b e = refl
+or_true false b e = e
+
+module _ {S K D : Type 0} (source : sources.Ghosts S) (disk : disks.Ghosts D) (old new : Room S K D) (i : Inputs) (s : Status) (only : OnlyNow disk) where
+  -- it stopped at the first step of this name, and those ahead of it passed
+  pub record StopsNamed (step : Step) (steps : List Step) : Type 0 where
+    pub named : is_named step steps ≡ true
+    pub stops : StopsAt source disk old new i s step
+    pub ahead : Walks (Passes source disk old new i) (ahead_of step steps)
+
+  -- nothing was written to the disk, or it stopped at the making of a journal, or at the entering of pays
+  abbrev pub StopsSomewhere : List Step → Type 0
+  StopsSomewhere steps = IsUnwritten disk old.disk new.disk ⊎ (StopsNamed Step.make steps ⊎ StopsNamed Step.book steps)
+
+  unreached : (step : Step) → leaves_disk step ≡ true → StepIsUntouched disk old new step → IsUnwritten disk old.disk new.disk
+  unreached Step.make told same = same_unwritten disk only old.disk new.disk same
+  unreached Step.open_journal told same = same_unwritten disk only old.disk new.disk same
+  unreached Step.book told unwritten = unwritten
+  unreached (Step.table name) told same = absurd (true≢false (sym told))
+  unreached Step.sums told same = absurd (true≢false (sym told))
+  unreached Step.day told same = absurd (true≢false (sym told))
+  unreached Step.messages told same = absurd (true≢false (sym told))
+  unreached Step.received told same = absurd (true≢false (sym told))
+
+  unreached_if : (b : Bool) (step : Step) (steps : List Step) → leaves_disk step ≡ b → (b || list_any leaves_disk steps) ≡ true → StepIsUntouched disk old new step
+      → (list_any leaves_disk steps ≡ true → IsUnwritten disk old.disk new.disk) → IsUnwritten disk old.disk new.disk
+  unreached_if true step steps is told here later = unreached step is here
+  unreached_if false step steps is told here later = later told
+
+  rest_unwritten : (steps : List Step) → list_any leaves_disk steps ≡ true → Walks (StepIsUntouched disk old new) steps → IsUnwritten disk old.disk new.disk
+  rest_unwritten [] told all = absurd (true≢false (sym told))
+  rest_unwritten (step ∷ steps) told all = unreached_if (leaves_disk step) step steps refl told all.0 (λ more. rest_unwritten steps more all.1)
+
+  stops_here : (step : Step) (steps : List Step) → (tells_disk step || list_any leaves_disk steps) ≡ true → StopsAt source disk old new i s step → Walks (StepIsUntouched disk old new) steps
+      → StopsSomewhere (step ∷ steps)
+  stops_here Step.make steps told stops all = inr (inl (record { named = refl; stops = stops; ahead = tt }))
+  stops_here Step.book steps told stops all = inr (inr (record { named = refl; stops = stops; ahead = tt }))
+  stops_here Step.open_journal steps told stops all = inl stops.2.untouched
+  stops_here Step.received steps told stops all = inl stops.4
+  stops_here (Step.table name) steps told stops all = inl (rest_unwritten steps told all)
+  stops_here Step.sums steps told stops all = inl (rest_unwritten steps told all)
+  stops_here Step.day steps told stops all = inl (rest_unwritten steps told all)
+  stops_here Step.messages steps told stops all = inl (rest_unwritten steps told all)
+
+  with_more : (at step : Step) (steps : List Step) → Passes source disk old new i step → StopsNamed at steps → StopsNamed at (step ∷ steps)
+  with_more at step steps passed stop = record {
+    named = or_true _ (is_named at steps) stop.named;
+    stops = stop.stops;
+    ahead = walks_more (Passes source disk old new i) at step steps passed stop.ahead;
+  }
+
+  stops_later : (step : Step) (steps : List Step) → Passes source disk old new i step → StopsSomewhere steps → StopsSomewhere (step ∷ steps)
+  stops_later step steps passed stop = elim stop [
+    | inl unwritten ↦ inl unwritten
+    | inr at ↦ elim at [
+      | inl make ↦ inr (inl (with_more Step.make step steps passed make))
+      | inr book ↦ inr (inr (with_more Step.book step steps passed book))
     ]
   ]
 
-  -- `generate` leaves the disk
-  pub generate_same : (count seed : ℕ) → Ends source disk (Plain (Generate count seed)) old new sink s → new.disk ≡ old.disk
-  generate_same count seed ended = elim ended.ends [
-    | inl done ↦ done.passed.leaves
-    | inr other ↦ elim other [
-      | inl writing ↦ writing.passed.leaves
-      | inr stop ↦ elim stop.stopped [ inl halted ↦ absurd halted | inr memory ↦ memory.0.leaves ]
+  pub stops_somewhere : (steps : List Step) → are_told steps ≡ true → Halts (Passes source disk old new i) (StopsAt source disk old new i s) (StepIsUntouched disk old new) steps → StopsSomewhere steps
+  stops_somewhere [] told halts = absurd halts
+  stops_somewhere (step ∷ steps) told (inl here) = stops_here step steps (both_true (tells_disk step || list_any leaves_disk steps) (are_told steps) told).0 here.0 here.1
+  stops_somewhere (step ∷ steps) told (inr later) =
+      stops_later step steps later.0 (stops_somewhere steps (both_true (tells_disk step || list_any leaves_disk steps) (are_told steps) told).1 later.1)
+
+  -- a command that neither makes a journal nor enters pays wrote nothing where it stopped
+  pub stops_unwritten : (steps : List Step) → are_told steps ≡ true → is_named Step.make steps ≡ false → is_named Step.book steps ≡ false
+      → Halts (Passes source disk old new i) (StopsAt source disk old new i s) (StepIsUntouched disk old new) steps → IsUnwritten disk old.disk new.disk
+  stops_unwritten steps told no_make no_book halts = elim (stops_somewhere steps told halts) [
+    | inl unwritten ↦ unwritten
+    | inr at ↦ elim at [
+      | inl make ↦ absurd (true≢false (sym make.named ∙ no_make))
+      | inr book ↦ absurd (true≢false (sym book.named ∙ no_book))
     ]
   ]
-
-  -- so does `trial`
-  pub trial_same : (count seed workers : ℕ) → Ends source disk (Trial count seed workers) old new sink s → new.disk ≡ old.disk
-  trial_same count seed workers ended = elim ended.ends [
-    | inl done ↦ done.passed.leaves
-    | inr other ↦ elim other [
-      | inl writing ↦ writing.passed.leaves
-      | inr stop ↦ elim stop.stopped [ inl halted ↦ absurd halted | inr memory ↦ memory.0.leaves ]
-    ]
-  ]
-
-  -- the books stay over each of them
-  module _ (chart : Chart) (books : List Entry) (only : OnlyNow disk) (honest : disk.honest new.disk ≡ disk.honest old.disk) (kept : Keeps disk old.disk chart books) where
-    by_unwritten : IsUnwritten disk old.disk new.disk → KeepsAll disk old.disk new.disk chart books
-    by_unwritten unwritten = unwritten_keeps disk old.disk new.disk chart books honest unwritten kept
-
-    by_same : new.disk ≡ old.disk → KeepsAll disk old.disk new.disk chart books
-    by_same same = same_keeps disk old.disk new.disk chart books only same kept
-
-    pub query_keeps : (asked : Asked) → Ends source disk (Plain (Query asked)) old new sink s → KeepsAll disk old.disk new.disk chart books
-    query_keeps asked ended = by_unwritten (query_unwritten asked ended)
-
-    pub generate_keeps : (count seed : ℕ) → Ends source disk (Plain (Generate count seed)) old new sink s → KeepsAll disk old.disk new.disk chart books
-    generate_keeps count seed ended = by_same (generate_same count seed ended)
-
-    pub trial_keeps : (count seed workers : ℕ) → Ends source disk (Trial count seed workers) old new sink s → KeepsAll disk old.disk new.disk chart books
-    trial_keeps count seed workers ended = by_same (trial_same count seed workers ended)
-
-    pub reconcile_keeps : Ends source disk (Plain Reconcile) old new sink s → KeepsAll disk old.disk new.disk chart books
-    reconcile_keeps ended = elim ended.ends [
-      | inl done ↦ by_unwritten done.passed.leaves.unwritten
-      | inr other ↦ elim other [
-        | inl writing ↦ by_unwritten writing.passed.leaves.unwritten
-        | inr stop ↦ elim stop.stopped [
-          | inl halted ↦ elim halted [
-            | inl at_bics ↦ by_same at_bics.1.1.1.0
-            | inr bics ↦ elim bics.1 [
-              | inl at_ccys ↦ by_same at_ccys.1.1.0
-              | inr ccys ↦ elim ccys.1 [
-                | inl at_countries ↦ by_same at_countries.1.0
-                | inr countries ↦ elim countries.1 [
-                  | inl at_journal ↦ by_unwritten at_journal.0.2.untouched
-                  | inr journal ↦ elim journal.1 [ inl at_received ↦ by_unwritten at_received.0.4 | inr past ↦ absurd past.1 ]
-                ]
-              ]
-            ]
-          ]
-          | inr memory ↦ by_unwritten memory.0.leaves.unwritten
-        ]
-      ]
-    ]

@@ -1,13 +1,29 @@
 use Rattle.std.proofs.Common.{subst, sym}
 use Rattle.corr_top.specs.declared.words.Command.TheVariants.{Plain as PlainCommand}
 use Rattle.corr_top.specs.declared.words.Plain.{Plain as ThePlain}
+use Rattle.corr_top.specs.Commands.{meaning_of}
 use Rattle.corr_top.specs.Ends.{HasTexts}
 use Rattle.corr_top.proofs.Generating.{generated_texts}
 use Rattle.corr_top.proofs.command.perform.Goals as goal
+
+pub returns-in-Init-clause-ends : goal.returns-in-Init-clause-ends
+returns-in-Init-clause-ends g c =
+    c.end.ensures.ends (PlainCommand c.args.command) c.args.room
+    (subst (λ (command : ThePlain). HasTexts g.S.Source g.D.Disk (meaning_of (PlainCommand command)) c.args.room c.init-room.result.0 c.init-room.result.1) (sym c.in-Init.is) c.init-room.ensures.texts)
+
+pub returns-in-Query-clause-ends : goal.returns-in-Query-clause-ends
+returns-in-Query-clause-ends g c =
+    c.end-in-Query.ensures.ends (PlainCommand c.args.command) c.args.room
+    (subst (λ (command : ThePlain). HasTexts g.S.Source g.D.Disk (meaning_of (PlainCommand command)) c.args.room c.query-room.result.0 c.query-room.result.1) (sym c.in-Query.is) c.query-room.ensures.texts)
+
+pub returns-in-Reconcile-clause-ends : goal.returns-in-Reconcile-clause-ends
+returns-in-Reconcile-clause-ends g c =
+    c.end-in-Reconcile.ensures.ends (PlainCommand c.args.command) c.args.room
+    (subst (λ (command : ThePlain). HasTexts g.S.Source g.D.Disk (meaning_of (PlainCommand command)) c.args.room c.reconcile-room.result.0 c.reconcile-room.result.1) (sym c.in-Reconcile.is) c.reconcile-room.ensures.texts)
 
 pub returns-in-Generate-clause-ends : goal.returns-in-Generate-clause-ends
 returns-in-Generate-clause-ends g c =
     let made = c.in-Generate in
     c.end-in-Generate.ensures.ends (PlainCommand c.args.command) c.args.room
-    (subst (λ (command : ThePlain). HasTexts g.S.Source g.D.Disk (PlainCommand command) c.args.room c.args.room c.generate.result) (sym made.is)
+    (subst (λ (command : ThePlain). HasTexts g.S.Source g.D.Disk (meaning_of (PlainCommand command)) c.args.room c.args.room c.generate.result) (sym made.is)
     (generated_texts g.S.Source g.D.Disk made.count made.seed c.args.room c.generate.result c.generate.ensures))

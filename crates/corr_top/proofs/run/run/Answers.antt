@@ -1,4 +1,5 @@
 use Rattle.std.proofs.Common.{◌∙◌, Err, refl, subst, sym}
+use Rattle.corr_top.specs.Commands.{meaning_of}
 use Rattle.corr_top.specs.Ends.{HasTexts}
 use Rattle.corr_top.specs.declared.status.Status.{Status}
 use Rattle.corr_top.specs.declared.words.Command.TheVariants.{Run}
@@ -9,7 +10,7 @@ use Rattle.corr_top.proofs.run.run.Goals as goal
 pub returns-in-Err-clause-texts : goal.returns-in-Err-clause-texts
 returns-in-Err-clause-texts g c =
     let new = record c.args.room { tables = c.read_directory.new.files } in
-    subst (λ (s : Status). HasTexts g.S.Source g.D.Disk (Run c.args.day c.args.workers) c.args.room new (Err s)) (sym c.from.ensures)
+    subst (λ (s : Status). HasTexts g.S.Source g.D.Disk (meaning_of (Run c.args.day c.args.workers)) c.args.room new (Err s)) (sym c.from.ensures)
     (tables_stop g.S.Source g.D.Disk c.args.day c.args.workers c.args.room new (record { accounts = c.in-Err.ensures.stopped.accounts; received = refl; disk2 = refl; report = refl; out = refl }) c.in-Err.stop c.in-Err.ensures.stopped refl refl
     (same_unwritten g.D.Disk (g.met.D.Disk g.world.𝓛 g.world.𝓜 g.world.𝓡 ((λ s x. x), (λ x. x), (λ x. x), λ x. x)).only_now c.args.room.disk c.args.room.disk refl))
 
@@ -18,7 +19,7 @@ returns-in-Err-open_books-clause-texts g c =
     let has = c.in-Ok.ensures.fine in
     let e = c.in-Err-open_books.ensures in
     let new = record c.args.room { tables = c.read_directory.new.files; disk = c.in-Err-open_books.disk } in
-    subst (λ (s : Status). HasTexts g.S.Source g.D.Disk (Run c.args.day c.args.workers) c.args.room new (Err s)) (sym c.from-in-Err-open_books.ensures)
+    subst (λ (s : Status). HasTexts g.S.Source g.D.Disk (meaning_of (Run c.args.day c.args.workers)) c.args.room new (Err s)) (sym c.from-in-Err-open_books.ensures)
     (books_stop g.S.Source g.D.Disk c.args.day c.args.workers c.args.room new (record { accounts = has.accounts; received = refl; disk2 = refl; report = refl; out = refl }) c.in-Ok.directory has
     c.in-Err-open_books.fault e.cause e.told e.back e.untouched refl)
 

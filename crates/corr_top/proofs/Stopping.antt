@@ -1,0 +1,88 @@
+-- A status at which a command stopped: a line can tell it, and nothing was written.
+use Rattle.std.proofs.Common.{◌≡◌, List, [], ◌∷◌, false, inl, inr, refl, sym, subst}
+use Rattle.corr_disk.specs.declared.disk.Disk as disks
+use Rattle.corr_io.specs.declared.source.Source as sources
+use Rattle.day_model.specs.declared.fault.AccountsFault.{AccountsFault}
+use Rattle.day_model.specs.declared.fault.AccountsFault.TheVariants as accounts
+use Rattle.jrn_file.specs.declared.fault.MakeFault.{MakeFault}
+use Rattle.jrn_file.specs.declared.fault.MakeFault.TheVariants as making
+use Rattle.jrn_file.specs.declared.fault.OpenFault.{OpenFault}
+use Rattle.jrn_file.specs.declared.fault.OpenFault.TheVariants as opening
+use Rattle.corr_top.specs.declared.answers.BookStop.{BookStop}
+use Rattle.corr_top.specs.declared.answers.BookStop.TheVariants as booking
+use Rattle.corr_top.specs.declared.cutting.FileStop.{FileStop}
+use Rattle.corr_top.specs.declared.cutting.FileStop.TheVariants as file
+use Rattle.corr_top.specs.declared.room.Room.{Room}
+use Rattle.corr_top.specs.declared.status.Status.{Status}
+use Rattle.corr_top.specs.declared.status.Status.TheVariants as status
+use Rattle.corr_top.specs.declared.tables.TableStop.{TableStop}
+use Rattle.corr_top.specs.declared.tables.TableStop.TheVariants as table
+use Rattle.corr_top.specs.Ends.{HasStopped}
+use Rattle.corr_top.specs.Inputs.{Inputs}
+use Rattle.corr_top.specs.Meaning.{Meaning}
+use Rattle.corr_top.specs.Passing.{StepIsUntouched, Passes, StopsAt, StopsAtSums}
+use Rattle.corr_top.specs.Promise.{writes}
+use Rattle.corr_top.specs.Status.{HasLine}
+use Rattle.corr_top.specs.Steps.{Halts, Step}
+use Rattle.corr_top.specs.Stops.{status_of_booking, status_of_file, status_of_making, status_of_opening, status_of_sums, status_of_table}
+
+-- a line can tell it, and it isn't one at which something was written
+pub record IsStop (s : Status) : Type 0 where
+  pub line : HasLine s
+  pub silent : writes s ≡ false
+
+table_stop : (stop : TableStop) → IsStop (status_of_table stop)
+table_stop (table.Fault before after) = record { line = tt; silent = refl }
+table_stop (table.Bad name row why) = record { line = tt; silent = refl }
+table_stop table.Memory = record { line = tt; silent = refl }
+
+sums_stop : (i : Inputs) (stop : AccountsFault) → StopsAtSums i stop → IsStop (status_of_sums stop)
+sums_stop i (accounts.Unbalanced ccy decimals sum) stops = record { line = stops.1; silent = refl }
+sums_stop i accounts.Memory stops = record { line = tt; silent = refl }
+
+making_stop : (stop : MakeFault) → IsStop (status_of_making stop)
+making_stop (making.Exists first) = record { line = tt; silent = refl }
+making_stop (making.Full end need) = record { line = tt; silent = refl }
+making_stop (making.DiskFault before after) = record { line = tt; silent = refl }
+making_stop making.Memory = record { line = tt; silent = refl }
+
+opening_stop : (stop : OpenFault) → IsStop (status_of_opening stop)
+opening_stop opening.NotAJournal = record { line = tt; silent = refl }
+opening_stop (opening.Version found) = record { line = tt; silent = refl }
+opening_stop (opening.Damaged at) = record { line = tt; silent = refl }
+opening_stop (opening.DiskFault before after) = record { line = tt; silent = refl }
+opening_stop opening.Memory = record { line = tt; silent = refl }
+
+file_stop : (stop : FileStop) → IsStop (status_of_file stop)
+file_stop (file.Fault before after) = record { line = tt; silent = refl }
+file_stop (file.TooLarge bytes messages) = record { line = tt; silent = refl }
+file_stop (file.Framing at) = record { line = tt; silent = refl }
+file_stop file.Memory = record { line = tt; silent = refl }
+
+booking_stop : (stop : BookStop) → IsStop (status_of_booking stop)
+booking_stop (booking.DiskFault before after) = record { line = tt; silent = refl }
+booking_stop (booking.Full entries end need) = record { line = tt; silent = refl }
+booking_stop booking.Memory = record { line = tt; silent = refl }
+
+memory_stop : IsStop status.Memory
+memory_stop = record { line = tt; silent = refl }
+
+module _ {S K D : Type 0} (source : sources.Ghosts S) (disk : disks.Ghosts D) (old new : Room S K D) (i : Inputs) (s : Status) where
+  step_stop : (step : Step) → StopsAt source disk old new i s step → IsStop s
+  step_stop (Step.table name) stops = subst IsStop (sym stops.1) (table_stop stops.0)
+  step_stop Step.sums stops = subst IsStop (sym stops.1) (sums_stop i stops.0 stops.2)
+  step_stop Step.make stops = subst IsStop (sym stops.1) (making_stop stops.0)
+  step_stop Step.open_journal stops = subst IsStop (sym stops.1) (opening_stop stops.0)
+  step_stop Step.day stops = subst IsStop (sym stops.1) (record { line = stops.2.century; silent = refl })
+  step_stop Step.messages stops = subst IsStop (sym stops.1) (file_stop stops.0)
+  step_stop Step.book stops = subst IsStop (sym stops.1) (booking_stop stops.0)
+  step_stop Step.received stops = subst IsStop (sym stops.1) (file_stop stops.0)
+
+  pub halts_stop : (steps : List Step) → Halts (Passes source disk old new i) (StopsAt source disk old new i s) (StepIsUntouched disk old new) steps → IsStop s
+  halts_stop [] halts = absurd halts
+  halts_stop (step ∷ steps) (inl here) = step_stop step here.0
+  halts_stop (step ∷ steps) (inr later) = halts_stop steps later.1
+
+  pub stopped : (m : Meaning) → HasStopped source disk m old new s i → IsStop s
+  stopped m (inl halts) = halts_stop m.steps halts
+  stopped m (inr memory) = subst IsStop (sym memory.1) memory_stop
