@@ -1,4 +1,4 @@
-//! The public calls of a journal's file, over disks in memory and a real file.
+//! The public calls of a journal's file, over disks in memory and a real file, and of the file of messages that leave.
 #![tactic(auto)]
 
 #[cfg(test)]
@@ -9,3 +9,5 @@ mod carried;
 mod files;
 #[cfg(test)]
 mod lengths;
+#[cfg(test)]
+mod mending;
