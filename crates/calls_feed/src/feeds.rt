@@ -13,9 +13,10 @@ use std::test::*;
 use std::thread::{Threads, yield_now};
 use work_pool::{Desk, Feed, Gate, OpenGate, Streamed, run_feed};
 
-// Gives the numbers from 1 to `last`.
+// Gives the numbers from 1 to `last`, the first one after some turns, each of which yields.
 #[derive(Drop)]
 struct Numbers {
+    turns: u32,
     given: u32,
     last: u32,
     over: bool,
@@ -31,6 +32,11 @@ impl Feed for Numbers {
     ghost ended = { λ f. f.over };
 
     fn next(&mut self) -> Option<u32> {
+        if self.given == 0 {
+            for _ in 0..self.turns {
+                yield_now();
+            }
+        }
         if self.given >= self.last {
             self.over = true;
             return None;
@@ -69,13 +75,14 @@ impl Desk for Adding {
     }
 }
 
-// Serves the jobs 1, 2, .. with new passes, in a line of this depth, under this gate.
+// Serves the jobs 1, 2, .. with new passes, in a line of this depth, under this gate; the first one comes after so many turns.
 fn served_at<R: Wait + Threads + Sync, G: Gate + Sync>(
     rt: &R,
     alloc: Global,
     passes: usize,
     jobs: u32,
     depth: u32,
+    turns: u32,
     gate: &G,
 ) -> Result<Streamed<Adding, Numbers>, Fail>
     requires passes { (1 ≤ passes) × (passes ≤ most_workers) }
@@ -83,6 +90,7 @@ fn served_at<R: Wait + Threads + Sync, G: Gate + Sync>(
 {
     let passes = vec![in alloc; (0u32, 0u64); passes]?;
     let feed = Numbers {
+        turns,
         given: 0,
         last: jobs,
         over: false,
@@ -101,7 +109,7 @@ fn is_whole<R: Wait + Threads + Sync>(
     requires passes { (1 ≤ passes) × (passes ≤ most_workers) }
     requires depth { (1 ≤ depth) × (depth ≤ most_depth) }
 {
-    let done = served_at(rt, alloc, passes, jobs, depth, &OpenGate)?;
+    let done = served_at(rt, alloc, passes, jobs, depth, 0, &OpenGate)?;
     let mut next = 0u32;
     for reply in done.replies? {
         next = next.wrapping_add(1);
@@ -135,14 +143,14 @@ fn each_job_is_served_once_and_answered_in_order(rt: HostRuntime) -> Result<(), 
 #[test]
 fn one_pass_serves_in_the_order_of_the_feed(rt: HostRuntime) -> Result<(), Fail> {
     let alloc = rt.alloc();
-    let shallow = served_at(&rt, alloc, 1, 9, 1, &OpenGate)?;
+    let shallow = served_at(&rt, alloc, 1, 9, 1, 0, &OpenGate)?;
     assert_eq!(rt; shallow.replies?.len(), 9);
     assert_eq!(rt; shallow.passes.as_slice(), [(9, 123_456_789)].as_slice());
-    let deep = served_at(&rt, alloc, 1, 9, 64, &OpenGate)?;
+    let deep = served_at(&rt, alloc, 1, 9, 64, 0, &OpenGate)?;
     assert_eq!(rt; deep.replies?.len(), 9);
     assert_eq!(rt; deep.passes.as_slice(), [(9, 123_456_789)].as_slice());
     let replies = [(1, 1), (1, 2), (1, 3)];
-    let three = served_at(&rt, alloc, 1, 3, 2, &OpenGate)?;
+    let three = served_at(&rt, alloc, 1, 3, 2, 0, &OpenGate)?;
     assert_eq!(rt; three.replies?.as_slice(), replies.as_slice());
     Ok(())
 }
@@ -178,6 +186,7 @@ impl Gate for FullGate {
     }
 }
 
+// The workers look at an empty line for a while before the first job comes.
 #[test]
 fn sixteen_workers_are_at_the_gate_at_once(rt: HostRuntime) -> Result<(), Fail> {
     let gate = FullGate {
@@ -185,7 +194,7 @@ fn sixteen_workers_are_at_the_gate_at_once(rt: HostRuntime) -> Result<(), Fail> 
         numbers: AtomicU32::new(0),
         late: AtomicBool::new(false),
     };
-    let all = served_at(&rt, rt.alloc(), 16, 16, 16, &gate)?;
+    let all = served_at(&rt, rt.alloc(), 16, 16, 16, 100_000, &gate)?;
     assert_eq!(rt; all.replies?.len(), 16);
     assert_eq!(rt; gate.come.load(SeqCst), 16);
     assert!(rt; !gate.late.load(SeqCst));
