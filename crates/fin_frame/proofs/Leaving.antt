@@ -2,7 +2,7 @@
 use Rattle.std.proofs.Common.{◌≡◌, ◌≤◌, ◌⊎◌, ℕ, zero, suc, ◌+◌, ◌||◌, Bool, true, false, List, [], ◌∷◌, ◌++◌, length, take, Option, Some, None, refl, ap, sym, ◌∙◌, arith, subst, inl, inr, append_assoc, length-append}
 use Rattle.std.proofs.lemmas.List.{append-nil}
 use Rattle.fin_frame.specs.File.{lead}
-use Rattle.fin_frame.specs.Shown.{is_marked, stands_apart, AreWhole, Begins, HasBegun, HaveBegun}
+use Rattle.fin_frame.specs.Shown.{is_marked, stands_apart, ShowsNoFault, AreWhole, Begins, HasBegun, HaveBegun}
 use Rattle.fin_frame.specs.Machine.{State, at_start, run, state_of}
 use Rattle.fin_frame.specs.Cutting.{IsShown, Knows, LeavesOff, WasFed}
 use Rattle.fin_frame.specs.Cutting.LeavesOff.{between as leaves_between, opening as leaves_opening, inside as leaves_inside, after as leaves_after}
@@ -29,7 +29,7 @@ comes-by : (stage : Stage) (held : Option (List ℕ)) (given : List (List ℕ)) 
 comes-by stage held given s t same there = subst (λ x. Comes stage held given x) (sym same) there
 
 -- after a gap that stands apart
-gap-so : {n : ℕ} {messages : List (List ℕ)} {gap : List ℕ} {s : State} → Rests n messages gap s → stands_apart messages gap ≡ true
+pub gap-so : {n : ℕ} {messages : List (List ℕ)} {gap : List ℕ} {s : State} → Rests n messages gap s → stands_apart messages gap ≡ true
     → s ≡ at_gap n messages (is_marked messages gap)
 gap-so (rests_apart n messages gap far) apart = refl
 gap-so (rests_after n from messages message) apart =
@@ -72,6 +72,15 @@ leaves-come (leaves_after file gap message given n front closed le) =
     (run-append (at_start []) (file ++ message) (take n lead)
     ∙ ap (λ t. run t (take n lead)) (run-append (at_start []) file message ∙ message-run closed.0 (file-run front) closed.1))
     (follows n (length file) (length file + length message) message given le)
+
+-- what bytes show that leave off there
+pub leaves-show : {bytes : List ℕ} {given : List (List ℕ)} {stage : Stage} {held : Option (List ℕ)} → LeavesOff bytes given stage held
+    → ShowsNoFault bytes × AreWhole bytes given
+leaves-show {bytes} {given} leaves =
+    let there = leaves-come leaves in (
+      (λ messages fault shown. let e : Some fault ≡ None = sym (shown-comes shown) ∙ there.sound in cc),
+      subst (λ g. AreWhole bytes g) there.gave (are-whole bytes),
+    )
 
 -- ---- what bytes show is one
 

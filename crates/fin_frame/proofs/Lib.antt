@@ -7,3 +7,5 @@ pub mod Leaving
 pub mod Feeding
 pub mod Ending
 pub mod WholeFile
+pub mod PieceFile
+pub mod Resuming

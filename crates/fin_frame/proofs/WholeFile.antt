@@ -11,10 +11,13 @@ use Rattle.fin_frame.specs.Shown.Shows.{stray as shows_stray, long as shows_long
 use Rattle.fin_frame.specs.Shown.EndsWithin.{inside as ends_inside, after as ends_after, apart as ends_apart}
 use Rattle.fin_frame.specs.Shown.HasBegun.{begun as has_begun}
 use Rattle.fin_frame.specs.Machine.{State, at_start, run, stage_between}
-use Rattle.fin_frame.specs.Whole.{is_led, has_group, gap_goes_on, IsOpenGroup, CutsNoFile}
+use Rattle.fin_frame.specs.Whole.{is_led, has_group, gap_goes_on, IsFront, IsOpenGroup, IsPart, EndsOpen, RunsOver, CutsNoFile}
+use Rattle.fin_frame.specs.Whole.EndsOpen.{inside as ends_open_inside, after as ends_open_after}
 use Rattle.fin_frame.specs.declared.fault.FrameFault.{FrameFault}
 use Rattle.fin_frame.specs.declared.fault.FrameFault.TheVariants.{TooLong}
 use Rattle.fin_frame.specs.declared.stage.Stage.TheVariants.{Between}
+use Rattle.fin_frame.specs.declared.whole.Front.{Front}
+use Rattle.fin_frame.specs.declared.whole.Front.TheVariants.{Whole, Open, Long}
 use Rattle.fin_frame.proofs.laws.Running.{lt-test}
 use Rattle.fin_frame.proofs.laws.Led.{Rests, file-run, limit, and-parts, or-parts, or-none, some-test, blank-stage, no-more-joined, or-true, message-leads}
 use Rattle.fin_frame.proofs.laws.Led.Rests.{rests_apart, rests_after}
@@ -105,17 +108,14 @@ no-cut-ends {bytes} {at} others ends cut =
     let e : None ≡ Some at = sym done.balanced ∙ ends-come ends done.sound in cc
 
 -- a message that is too long
-pub long-message : {d : ℕ} (message rest : List ℕ) → IsMessageTo d message → most_bytes < length message → CutsNoFile (message ++ rest)
+long-message : {d : ℕ} (message rest : List ℕ) → IsMessageTo d message → most_bytes < length message → CutsNoFile (message ++ rest)
 long-message message rest is over = λ file gap messages others front cut.
     no-cut-shown others
     (subst (λ x. Shows x messages (TooLong (length file))) (append_assoc file message rest) (shows_long file message rest front is over)) cut
 
 -- a message that doesn't end
-open-message : {d : ℕ} (message rest : List ℕ) → IsMessageTo (suc d) message → (rest ≡ []) ⊎ (most_bytes < length message) → CutsNoFile (message ++ rest)
-open-message message rest is (inl none) = λ file gap messages others front cut.
-    let same : file ++ message ≡ file ++ (message ++ rest) = ap (λ x. file ++ x) (sym (append-nil message) ∙ ap (λ x. message ++ x) (sym none)) in
-    no-cut-ends others (subst (λ x. EndsWithin x (length file)) same (ends_inside file message front is)) cut
-open-message message rest is (inr over) = long-message message rest is over
+open-message : {d : ℕ} (message : List ℕ) → IsMessageTo (suc d) message → CutsNoFile message
+open-message message is = λ file gap messages others front cut. no-cut-ends others (ends_inside file message front is) cut
 
 -- a front of `{1:` at the end, directly after a message
 after-message : (n : ℕ) (message : List ℕ) → IsMessage message → n ≤ 1 → CutsNoFile (message ++ take (suc n) lead)
@@ -152,6 +152,29 @@ open-group (b ∷ bytes) inside (suc reach) len (suc left) some begun deep is op
         let size : length inside ≡ reach = ap length is ∙ length-take-le reach bytes (omega (arith, cut.1)) in
         inr (omega (arith, size, far (omega (arith, cut.1))))
 
+-- a message whose last group is open
+
+open-all : (bytes : List ℕ) (o : IsOpenGroup bytes) → o.rest ≡ [] → bytes ≡ o.group
+open-all bytes o none = o.whole ∙ ap (λ x. o.group ++ x) none ∙ append-nil o.group
+
+runs-over : {d : ℕ} (bytes message rest : List ℕ) → bytes ≡ message ++ rest → IsMessageTo d message → (rest ≡ []) ⊎ (most_bytes < length message)
+    → most_bytes < length bytes → RunsOver bytes
+runs-over {d} bytes message rest whole is far long =
+    record { depth = d; message = message; rest = rest; whole = whole; is = is; over = by-far far }
+  where
+    by-far : (rest ≡ []) ⊎ (most_bytes < length message) → most_bytes < length message
+    by-far (inl none) = let same : bytes ≡ message = whole ∙ ap (λ x. message ++ x) none ∙ append-nil message in omega (arith, ap length same)
+    by-far (inr over) = over
+
+ends-within : {d : ℕ} (bytes message rest : List ℕ) → bytes ≡ message ++ rest → IsMessageTo (suc d) message → (rest ≡ []) ⊎ (most_bytes < length message)
+    → length bytes ≤ most_bytes → EndsOpen bytes
+ends-within bytes message rest whole is (inl none) short =
+    let same : bytes ≡ message = whole ∙ ap (λ x. message ++ x) none ∙ append-nil message in
+    subst (λ x. EndsOpen x) (sym same) (ends_open_inside is (omega (arith, ap length same)))
+ends-within bytes message rest whole is (inr over) short =
+    let size : length bytes ≡ length message + length rest = ap length whole ∙ length-append message rest in
+    absurd (omega arith)
+
 -- the first group of a message
 
 pub led-bytes : (bytes : List ℕ) → is_led bytes ≡ true → bytes ≡ lead ++ drop 3 bytes
@@ -178,19 +201,21 @@ closed-long bytes (a ∷ b ∷ c ∷ group) rest whole led is = omega arith
 pub first-group : (bytes group rest : List ℕ) → bytes ≡ group ++ rest → is_led bytes ≡ true → IsGroupTo 0 group → IsMessageTo 0 group
 first-group bytes group rest whole led is = message_head is (begins-so bytes group rest whole led (closed-long bytes group rest whole led is))
 
-pub first-open : (bytes : List ℕ) → is_led bytes ≡ true → IsOpenGroup bytes → CutsNoFile bytes
-first-open bytes led o =
+-- the first group, as far as it goes
+first-so : (bytes : List ℕ) → is_led bytes ≡ true → (o : IsOpenGroup bytes) → IsMessageTo (suc o.depth) o.group
+first-so bytes led o =
     let parts = and-parts (nat_lt 2 (length bytes)) (agrees lead bytes) led in
-    subst (λ x. CutsNoFile x) (sym o.whole)
-    (open-message o.group o.rest
-    (message_head o.«open» (begins-so bytes o.group o.rest o.whole led (far-long o.far (ltb-true 2 (length bytes) parts.0)))) o.far)
+    message_head o.«open» (begins-so bytes o.group o.rest o.whole led (far-long o.far (ltb-true 2 (length bytes) parts.0)))
   where
     far-long : (o.rest ≡ []) ⊎ (most_bytes < length o.group) → 2 < length bytes → 2 < length o.group
-    far-long (inl none) long =
-        let size : length bytes ≡ length o.group + length o.rest = ap length o.whole ∙ length-append o.group o.rest in
-        let ends : length o.rest ≡ 0 = ap length none in
-        omega arith
+    far-long (inl none) long = let same = open-all bytes o none in omega (arith, ap length same)
     far-long (inr over) long = omega arith
+
+pub first-over : (bytes : List ℕ) → is_led bytes ≡ true → IsOpenGroup bytes → most_bytes < length bytes → RunsOver bytes
+first-over bytes led o long = runs-over bytes o.group o.rest o.whole (first-so bytes led o) o.far long
+
+pub first-ends : (bytes : List ℕ) → is_led bytes ≡ true → IsOpenGroup bytes → length bytes ≤ most_bytes → EndsOpen bytes
+first-ends bytes led o short = ends-within bytes o.group o.rest o.whole (first-so bytes led o) o.far short
 
 -- the next group of a message
 
@@ -242,63 +267,121 @@ front-short zero le = omega arith
 front-short (suc zero) le = omega arith
 front-short (suc (suc n)) le = absurd (omega arith)
 
-pub next-open : (message bytes : List ℕ) → IsMessage message → has_group bytes ≡ true → IsOpenGroup bytes → CutsNoFile (message ++ bytes)
-next-open message bytes is has o =
-    subst (λ x. CutsNoFile (message ++ x)) (sym o.whole) (by-front (next-so message bytes o.group o.rest is.0 has o.whole o.«open») o.far)
+far-short : (n : ℕ) (group rest : List ℕ) → n ≤ 1 → group ≡ take (suc n) lead → (rest ≡ []) ⊎ (most_bytes < length group) → rest ≡ []
+far-short n group rest le part (inl none) = none
+far-short n group rest le part (inr over) =
+    absurd
+    (let short : length (take (suc n) lead) ≤ 2 = front-short n le in
+    let size : length group ≡ length (take (suc n) lead) = ap length part in omega arith)
+
+-- the next group, as far as it goes, or a part of `{1:`
+next-part : (message bytes : List ℕ) → IsMessage message → has_group bytes ≡ true → (o : IsOpenGroup bytes)
+    → IsMessageTo (suc o.depth) (message ++ o.group) ⊎ IsPart bytes
+next-part message bytes is has o = by-front (next-so message bytes o.group o.rest is.0 has o.whole o.«open»)
   where
     by-front : IsMessageTo (suc o.depth) (message ++ o.group) ⊎ ((n : ℕ) × (n ≤ 1) × (o.group ≡ take (suc n) lead))
-        → (o.rest ≡ []) ⊎ (most_bytes < length o.group) → CutsNoFile (message ++ (o.group ++ o.rest))
-    by-front (inl on) (inl none) = subst (λ x. CutsNoFile x) (append_assoc message o.group o.rest) (open-message (message ++ o.group) o.rest on (inl none))
-    by-front (inl on) (inr over) =
-        let size : length (message ++ o.group) ≡ length message + length o.group = length-append message o.group in
-        subst (λ x. CutsNoFile x) (append_assoc message o.group o.rest) (open-message (message ++ o.group) o.rest on (inr (omega arith)))
-    by-front (inr part) (inl none) =
-        let same : take (suc part.0) lead ≡ o.group ++ o.rest = sym part.2 ∙ sym (append-nil o.group) ∙ ap (λ x. o.group ++ x) (sym none) in
-        subst (λ x. CutsNoFile (message ++ x)) same (after-message part.0 message is part.1)
-    by-front (inr part) (inr over) =
-        absurd
-        (let short : length (take (suc part.0) lead) ≤ 2 = front-short part.0 part.1 in
-        let size : length o.group ≡ length (take (suc part.0) lead) = ap length part.2 in omega arith)
+        → IsMessageTo (suc o.depth) (message ++ o.group) ⊎ IsPart bytes
+    by-front (inl on) = inl on
+    by-front (inr part) =
+        inr (part.0, part.1, open-all bytes o (far-short part.0 o.group o.rest part.1 part.2 o.far) ∙ part.2)
+
+-- the message with its next group, before the bytes behind
+next-whole : (message bytes : List ℕ) (o : IsOpenGroup bytes) → message ++ bytes ≡ (message ++ o.group) ++ o.rest
+next-whole message bytes o = ap (λ x. message ++ x) o.whole ∙ sym (append_assoc message o.group o.rest)
+
+next-far : (message bytes : List ℕ) (o : IsOpenGroup bytes) → (o.rest ≡ []) ⊎ (most_bytes < length (message ++ o.group))
+next-far message bytes o = by-far o.far
+  where
+    by-far : (o.rest ≡ []) ⊎ (most_bytes < length o.group) → (o.rest ≡ []) ⊎ (most_bytes < length (message ++ o.group))
+    by-far (inl none) = inl none
+    by-far (inr over) = let size : length (message ++ o.group) ≡ length message + length o.group = length-append message o.group in inr (omega arith)
+
+pub next-over : (message bytes : List ℕ) → IsMessage message → has_group bytes ≡ true → IsOpenGroup bytes → (IsPart bytes → ⊥)
+    → most_bytes < length (message ++ bytes) → RunsOver (message ++ bytes)
+next-over message bytes is has o other long = by-part (next-part message bytes is has o)
+  where
+    by-part : IsMessageTo (suc o.depth) (message ++ o.group) ⊎ IsPart bytes → RunsOver (message ++ bytes)
+    by-part (inl on) = runs-over (message ++ bytes) (message ++ o.group) o.rest (next-whole message bytes o) on (next-far message bytes o) long
+    by-part (inr part) = absurd (other part)
+
+pub next-ends : (message bytes : List ℕ) → IsMessage message → has_group bytes ≡ true → IsOpenGroup bytes
+    → (length (message ++ bytes) ≤ most_bytes) ⊎ IsPart bytes → EndsOpen (message ++ bytes)
+next-ends message bytes is has o (inr part) =
+    subst (λ x. EndsOpen (message ++ x)) (sym part.2) (ends_open_after part.0 message is part.1)
+next-ends message bytes is has o (inl short) = by-part (next-part message bytes is has o)
+  where
+    by-part : IsMessageTo (suc o.depth) (message ++ o.group) ⊎ IsPart bytes → EndsOpen (message ++ bytes)
+    by-part (inl on) = ends-within (message ++ bytes) (message ++ o.group) o.rest (next-whole message bytes o) on (next-far message bytes o) short
+    by-part (inr part) = subst (λ x. EndsOpen (message ++ x)) (sym part.2) (ends_open_after part.0 message is part.1)
+
+-- what isn't whole has no cut
+
+ends-no-file : {bytes : List ℕ} → EndsOpen bytes → CutsNoFile bytes
+ends-no-file {bytes} (ends_open_inside is short) = open-message bytes is
+ends-no-file (ends_open_after n message is le) = after-message n message is le
+
+over-no-file : (bytes : List ℕ) → RunsOver bytes → CutsNoFile bytes
+over-no-file bytes o = subst (λ x. CutsNoFile x) (sym o.whole) (long-message o.message o.rest o.is o.over)
+
+pub unwhole-no-file : (bytes : List ℕ) (front : Front) → IsFront bytes front → (front ≡ Open) ⊎ (front ≡ Long) → CutsNoFile bytes
+unwhole-no-file bytes Open is other = ends-no-file is
+unwhole-no-file bytes Long is other = over-no-file bytes is
+unwhole-no-file bytes (Whole len) is (inl same) = absurd (cc)
+unwhole-no-file bytes (Whole len) is (inr same) = absurd (cc)
+
+-- a message of too many bytes
+pub whole-over : (bytes : List ℕ) (len : ℕ) → IsMessageTo 0 (take len bytes) → most_bytes < length (take len bytes) → RunsOver bytes
+whole-over bytes len is over =
+    record { depth = 0; message = take len bytes; rest = drop len bytes; whole = sym (take-append-drop len bytes); is = is; over = over }
 
 -- after a gap
 
--- where no message can begin
-pub no-message : (front gap rest : List ℕ) (messages others : List (List ℕ)) → IsFileOf front messages gap → 0 < length rest → is_led rest ≡ false
-    → gap_goes_on (is_marked messages gap) rest ≡ false → (has_group rest ≡ true → stands_apart messages gap ≡ true) → IsCutInto (front ++ rest) others → ⊥
-no-message front gap [] messages others is some other stops apart cut = omega arith
-no-message front gap (b ∷ rest) messages others is some other stops apart cut = by-brace (eqb_tells b 123)
+-- where no message begins: a byte that can't follow, or a part of `{1:`
+pub strays-or-part : (gap rest : List ℕ) (messages : List (List ℕ)) → 0 < length rest → is_led rest ≡ false → gap_goes_on (is_marked messages gap) rest ≡ false
+    → (has_group rest ≡ true → stands_apart messages gap ≡ true)
+    → (cannot_follow messages gap rest ≡ true) ⊎ (IsPart rest × (stands_apart messages gap ≡ true))
+strays-or-part gap [] messages some other stops apart = absurd (omega arith)
+strays-or-part gap (b ∷ rest) messages some other stops apart = by-brace (eqb_tells b 123)
   where
     off : (is_blank b ≡ false) × ((b == 36 && not (is_marked messages gap)) ≡ false)
     off = or-none (is_blank b) (b == 36 && not (is_marked messages gap)) stops
 
-    strays : cannot_follow messages gap (b ∷ rest) ≡ true → ⊥
-    strays wrong = no-cut-shown others (shows_stray front (b ∷ rest) is wrong) cut
-
     by-group : (b == 123) ≡ true → b ≡ 123 → stands_apart messages gap ≡ true
-        → (agrees lead (123 ∷ rest) ≡ false) ⊎ ((n : ℕ) × (n ≤ 1) × (123 ∷ rest ≡ take (suc n) lead)) → ⊥
+        → (agrees lead (123 ∷ rest) ≡ false) ⊎ ((n : ℕ) × (n ≤ 1) × (123 ∷ rest ≡ take (suc n) lead))
+        → (cannot_follow messages gap (b ∷ rest) ≡ true) ⊎ (IsPart (b ∷ rest) × (stands_apart messages gap ≡ true))
     by-group brace same far (inl differ) =
         let wrong : cannot_follow messages gap (123 ∷ rest) ≡ true =
         both-true (stands_apart messages gap) (not (agrees lead (123 ∷ rest))) far (not-true (agrees lead (123 ∷ rest)) differ) in
-        strays (subst (λ x. cannot_follow messages gap (x ∷ rest) ≡ true) (sym same) wrong)
-    by-group brace same far (inr part) =
-        let there : front ++ take (suc part.0) lead ≡ front ++ b ∷ rest = ap (λ x. front ++ x) (sym part.2 ∙ ap (λ x. x ∷ rest) (sym same)) in
-        no-cut-ends others (subst (λ x. EndsWithin x (length front)) there (ends_apart part.0 front is far part.1)) cut
+        inl (subst (λ x. cannot_follow messages gap (x ∷ rest) ≡ true) (sym same) wrong)
+    by-group brace same far (inr part) = inr ((part.0, part.1, ap (λ x. x ∷ rest) same ∙ part.2), far)
 
-    by-mark : (marked : Bool) → is_marked messages gap ≡ marked → (b == 123) ≡ false → (b == 36) ≡ true → ⊥
-    by-mark true marks brace dollar = strays (rw (brace, dollar) marks)
-    by-mark false marks brace dollar = let t : (true && true) ≡ false = rw (dollar, marks) at off.1 in cc
+    by-mark : (marked : Bool) → is_marked messages gap ≡ marked → (b == 123) ≡ false → (b == 36) ≡ true → cannot_follow messages gap (b ∷ rest) ≡ true
+    by-mark true marks brace dollar = rw (brace, dollar) marks
+    by-mark false marks brace dollar = absurd (let t : (true && true) ≡ false = rw (dollar, marks) at off.1 in cc)
 
-    by-dollar : (b == 123) ≡ false → (((b == 36) ≡ true) × (b ≡ 36)) ⊎ (((b == 36) ≡ false) × (b ≢ 36)) → ⊥
+    by-dollar : (b == 123) ≡ false → (((b == 36) ≡ true) × (b ≡ 36)) ⊎ (((b == 36) ≡ false) × (b ≢ 36)) → cannot_follow messages gap (b ∷ rest) ≡ true
     by-dollar brace (inl same) = by-mark (is_marked messages gap) refl brace same.0
-    by-dollar brace (inr differ) = strays (rw (brace, differ.0, off.0) refl)
+    by-dollar brace (inr differ) = rw (brace, differ.0, off.0) refl
 
-    by-brace : (((b == 123) ≡ true) × (b ≡ 123)) ⊎ (((b == 123) ≡ false) × (b ≢ 123)) → ⊥
+    by-brace : (((b == 123) ≡ true) × (b ≡ 123)) ⊎ (((b == 123) ≡ false) × (b ≢ 123))
+        → (cannot_follow messages gap (b ∷ rest) ≡ true) ⊎ (IsPart (b ∷ rest) × (stands_apart messages gap ≡ true))
     by-brace (inl same) =
         let has : has_group (b ∷ rest) ≡ true = both-true (b == 123) (not (is_led (b ∷ rest))) same.0 (not-true (is_led (b ∷ rest)) other) in
         let nil : (123 ∷ rest) ++ [] ≡ 123 ∷ rest = append-nil (123 ∷ rest) in
         let led : is_led (123 ∷ rest ++ []) ≡ false = subst (λ x. is_led x ≡ false) (sym nil) (subst (λ x. is_led (x ∷ rest) ≡ false) same.1 other) in
         by-group same.0 same.1 (apart has) (other-group rest [] led)
-    by-brace (inr differ) = by-dollar differ.0 (eqb_tells b 36)
+    by-brace (inr differ) = inl (by-dollar differ.0 (eqb_tells b 36))
+
+-- where no message can begin
+no-message : (front gap rest : List ℕ) (messages others : List (List ℕ)) → IsFileOf front messages gap → 0 < length rest → is_led rest ≡ false
+    → gap_goes_on (is_marked messages gap) rest ≡ false → (has_group rest ≡ true → stands_apart messages gap ≡ true) → IsCutInto (front ++ rest) others → ⊥
+no-message front gap rest messages others is some other stops apart cut = by-rest (strays-or-part gap rest messages some other stops apart)
+  where
+    by-rest : (cannot_follow messages gap rest ≡ true) ⊎ (IsPart rest × (stands_apart messages gap ≡ true)) → ⊥
+    by-rest (inl wrong) = no-cut-shown others (shows_stray front rest is wrong) cut
+    by-rest (inr part) =
+        no-cut-ends others
+        (subst (λ x. EndsWithin (front ++ x) (length front)) (sym part.0.2) (ends_apart part.0.0 front is part.1 part.0.1)) cut
 
 -- A file as far as messages and a gap: the gap doesn't go on, and a group directly after the last message begins `{1:`.
 pub record HasCome (file rest : List ℕ) (messages : List (List ℕ)) : Type 0 where

@@ -4,3 +4,5 @@ pub mod Whole
 pub mod Machine
 pub mod Cutting
 pub mod Tidy
+pub mod Pieces
+pub mod Next

@@ -1,6 +1,8 @@
 -- The front of a file as it is read at once: gaps, groups and messages that begin here.
-use Rattle.std.specs.Prelude.{◌≡◌, ◌<◌, ◌⊎◌, ℕ, suc, ◌==◌, ◌||◌, ◌&&◌, not, nat_lt, Bool, false, List, [], ◌∷◌, ◌++◌, length}
-use Rattle.fin_frame.specs.File.{lead, agrees, is_blank, most_bytes, IsGroupTo, IsFileOf, IsCutInto}
+use Rattle.std.specs.Prelude.{◌≡◌, ◌<◌, ◌≤◌, ◌⊎◌, ℕ, suc, ◌==◌, ◌||◌, ◌&&◌, not, nat_lt, Bool, false, List, [], ◌∷◌, ◌++◌, length, take, drop}
+use Rattle.fin_frame.specs.File.{lead, agrees, is_blank, most_bytes, IsGroupTo, IsMessageTo, IsMessage, IsFileOf, IsCutInto}
+use Rattle.fin_frame.specs.declared.whole.Front.{Front}
+use Rattle.fin_frame.specs.declared.whole.Front.TheVariants.{Whole, Open, Long}
 
 -- whether the bytes begin `{1:`
 abbrev pub is_led : List ℕ → Bool
@@ -24,6 +26,30 @@ pub record IsOpenGroup (bytes : List ℕ) : Type 0 where
   pub whole : bytes ≡ group ++ rest
   pub «open» : IsGroupTo (suc depth) group
   pub far : (rest ≡ []) ⊎ (most_bytes < length group)
+
+-- One or two bytes of `{1:`.
+abbrev pub IsPart : List ℕ → Type 0
+IsPart bytes = (n : ℕ) × (n ≤ 1) × (bytes ≡ take (suc n) lead)
+
+-- The bytes end within the message that they begin with, or with a part of `{1:` directly after it.
+pub data EndsOpen : List ℕ → Type 0 where
+  inside : {d : ℕ} {message : List ℕ} → IsMessageTo (suc d) message → length message ≤ most_bytes → EndsOpen message
+  after : (n : ℕ) (message : List ℕ) → IsMessage message → n ≤ 1 → EndsOpen (message ++ take (suc n) lead)
+
+-- The message that the bytes begin with passes what a message may have.
+pub record RunsOver (bytes : List ℕ) : Type 0 where
+  pub depth : ℕ
+  pub message : List ℕ
+  pub rest : List ℕ
+  pub whole : bytes ≡ message ++ rest
+  pub is : IsMessageTo depth message
+  pub over : most_bytes < length message
+
+-- what bytes begin with that begin `{1:`
+abbrev pub IsFront : List ℕ → Front → Type 0
+IsFront bytes (Whole len) = (len ≤ length bytes) × IsMessage (take len bytes) × (has_group (drop len bytes) ≡ false)
+IsFront bytes Open = EndsOpen bytes
+IsFront bytes Long = RunsOver bytes
 
 -- no file has a cut in which these bytes stand after some messages and a gap
 abbrev pub CutsNoFile : List ℕ → Type 0

@@ -4,6 +4,7 @@ ghost use Rattle.std.specs.Prelude.{◌≡◌, ◌+◌, ◌^◌, ◌<◌, ◌≤
 ghost use Rattle.fin_frame.specs.Tidy.{is_tidy};
 
 use crate::fault::FrameFault;
+use crate::pieces::PieceCutter;
 use crate::stage::Stage;
 use crate::{group, stage};
 use corr_text::{List, Memory, Text};
@@ -37,12 +38,14 @@ pub struct Cutter {
 }
 
 impl Cutter {
-    ghost use Rattle.std.specs.Prelude.{◌≡◌, ◌+◌, ◌^◌, ◌<◌, ◌≤◌, [], ◌++◌, length, take, Some, None, IsSome, IsTrue, OnOk, OnErr};
+    ghost use Rattle.std.specs.Prelude.{◌≡◌, ◌+◌, ◌^◌, ◌<◌, ◌≤◌, [], ◌++◌, length, take, Some, None, true, false, IfOk, IsSome, IsTrue, OnOk, OnErr};
     ghost use Rattle.corr_text.specs.First.{unless_fault};
     ghost use Rattle.fin_frame.specs.Tidy.{is_tidy};
     ghost use Rattle.fin_frame.specs.File.{IsCutInto};
     ghost use Rattle.fin_frame.specs.Machine.{begins, gives, to, held_bytes, resumes, next_between, next_opening, next_close, state_of, HasTaken, HasTakenByte, HasTakenAll};
     ghost use Rattle.fin_frame.specs.Cutting.{Knows, WasFed, EndsInput};
+    ghost use Rattle.fin_frame.specs.Pieces.{HasTakenFile};
+    ghost use Rattle.fin_frame.specs.Whole.{is_led};
 
     /// A cutter that was fed nothing yet.
     pub fn new(alloc: Global) -> Cutter
@@ -59,6 +62,49 @@ impl Cutter {
             begun: 0,
             failed: None,
         }
+    }
+
+    /// A cutter that goes on where one of pieces stands, and how many bytes of the next piece it was fed: the `{1:` directly after a
+    /// message that was given, or none.
+    pub fn resumed(
+        alloc: Global,
+        pieces: &PieceCutter,
+        piece: &[u8],
+    ) -> Result<(Cutter, usize), Memory>
+        requires few { pieces.now.fed + length piece.now < 2 ^ 32 }
+        requires led { pieces.now.apart ≡ false → is_led piece.now ≡ true }
+        ensures sound { IfOk result (λ made. made.0.failed ≡ None) }
+        ensures count { IfOk result (λ made. (made.0.fed ≡ pieces.now.fed + made.1) × (made.1 ≤ length piece.now)) }
+        // The cutter has been fed what the other one has taken and these bytes, and gave the same messages.
+        ensures fed { (file : _) (messages : _) → HasTakenFile pieces.now file messages →
+            IfOk result (λ made. WasFed made.0 (file ++ take made.1 piece.now) messages) }
+    {
+        if pieces.apart {
+            let cutter = Cutter {
+                alloc,
+                stage: Stage::Between {
+                    marked: pieces.marked,
+                },
+                held: None,
+                fed: pieces.fed,
+                begun: pieces.begun,
+                failed: None,
+            };
+            return Ok((cutter, 0));
+        }
+        let first = Text::with_room(alloc, &LEAD, ROOM)?;
+        let cutter = Cutter {
+            alloc,
+            stage: Stage::Within {
+                from: pieces.fed,
+                depth: 1,
+            },
+            held: Some(first),
+            fed: pieces.fed + LEAD.len() as u64,
+            begun: pieces.begun + 1,
+            failed: None,
+        };
+        Ok((cutter, LEAD.len()))
     }
 
     /// Takes the next bytes of the file, and adds each message that they show to be whole.

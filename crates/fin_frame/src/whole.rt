@@ -4,7 +4,7 @@ ghost use Rattle.std.specs.Prelude.{◌≡◌, ◌<◌, ◌≤◌, ◌-◌, ◌|
 ghost use Rattle.std.specs.List.{list_any, slice_range};
 ghost use Rattle.corr_text.specs.Braces.{is_brace};
 ghost use Rattle.fin_frame.specs.File.{dollars, IsGap, IsGroupTo, IsMessage, IsCutInto, most_bytes};
-ghost use Rattle.fin_frame.specs.Whole.{is_led, has_group, gap_goes_on, IsOpenGroup, CutsNoFile};
+ghost use Rattle.fin_frame.specs.Whole.{is_led, has_group, gap_goes_on, IsFront, IsOpenGroup, IsPart, CutsNoFile};
 
 use crate::cutter::{LEAD, MOST_BYTES};
 use crate::stage::Stage;
@@ -81,30 +81,31 @@ pub fn cut_whole(
 fn after_gap(bytes: &[u8], marked: bool) -> &[u8]
     ensures after { (gap : List ℕ) × (bytes.now ≡ gap ++ result.now) × IsGap (if marked then 0 else 1) gap × (gap_goes_on (marked || nat_lt 0 (dollars gap)) result.now ≡ false) }
 {
-    bytes.split_at(gap_len(bytes, marked)).1
+    bytes.split_at(gap_len(bytes, marked).0).1
 }
 
-/// How many bytes of a gap are in front, without `$` where `marked`.
+/// How many bytes of a gap are in front, without `$` where `marked`, and whether no `$` may come after them.
 #[inline(never)]
-fn gap_len(bytes: &[u8], marked: bool) -> usize
-    ensures most { result ≤ length bytes.now }
-    ensures gap { IsGap (if marked then 0 else 1) (take result bytes.now) }
-    ensures end { gap_goes_on (marked || nat_lt 0 (dollars (take result bytes.now))) (drop result bytes.now) ≡ false }
+pub(crate) fn gap_len(bytes: &[u8], marked: bool) -> (usize, bool)
+    ensures most { result.0 ≤ length bytes.now }
+    ensures gap { IsGap (if marked then 0 else 1) (take result.0 bytes.now) }
+    ensures marked { result.1 ≡ (marked || nat_lt 0 (dollars (take result.0 bytes.now))) }
+    ensures end { gap_goes_on result.1 (drop result.0 bytes.now) ≡ false }
 {
     let mut ended = marked;
     let mut len = 0;
     while len < bytes.len() {
         match stage::between(ended, bytes[len]) {
             Some(Stage::Between { marked }) => ended = marked,
-            _ => return len,
+            _ => return (len, ended),
         }
         len += 1;
     }
-    len
+    (len, ended)
 }
 
 /// Whether the bytes begin `{1:`.
-fn is_led(bytes: &[u8]) -> bool
+pub(crate) fn is_led(bytes: &[u8]) -> bool
     ensures { result ≡ is_led bytes.now }
 {
     bytes.starts_with(&LEAD)
@@ -118,20 +119,66 @@ fn has_group(bytes: &[u8]) -> bool
 }
 
 /// How long the message is that the bytes begin with. None where it isn't whole, or too long.
-#[inline(never)]
 fn message_len(bytes: &[u8]) -> Option<usize>
     requires led { is_led bytes.now ≡ true }
     ensures whole { IfSome result (λ len. (len ≤ length bytes.now) × IsMessage (take len bytes.now) × (has_group (drop len bytes.now) ≡ false)) }
     ensures none { result ≡ None → CutsNoFile bytes.now }
 {
-    let mut len = group_len(bytes, FIRST)?;
+    match message_front(bytes) {
+        Front::Whole(len) => Some(len),
+        Front::Open | Front::Long => None,
+    }
+}
+
+/// What bytes begin with that begin `{1:`.
+pub(crate) enum Front {
+    /// A message of so many bytes, after which no group of it comes.
+    Whole(usize),
+    /// A message that isn't whole yet: the bytes end within it, or with a part of `{1:` after it.
+    Open,
+    /// A message of more than 16,384 bytes.
+    Long,
+}
+
+/// What the bytes begin with.
+#[inline(never)]
+pub(crate) fn message_front(bytes: &[u8]) -> Front
+    requires led { is_led bytes.now ≡ true }
+    ensures { IsFront bytes.now result }
+{
+    let Some(first) = group_len(bytes, FIRST) else {
+        return if bytes.len() > MOST_BYTES {
+            Front::Long
+        } else {
+            Front::Open
+        };
+    };
+    let mut len = first;
     while len <= MOST_BYTES && has_group(&bytes[len..]) {
-        len += group_len(&bytes[len..], SECOND)?;
+        let Some(next) = group_len(&bytes[len..], SECOND) else {
+            return if bytes.len() > MOST_BYTES && !is_part(&bytes[len..]) {
+                Front::Long
+            } else {
+                Front::Open
+            };
+        };
+        len += next;
     }
     if len > MOST_BYTES {
-        return None;
+        return Front::Long;
     }
-    Some(len)
+    Front::Whole(len)
+}
+
+/// Whether the bytes are one or two of `{1:`.
+pub(crate) fn is_part(bytes: &[u8]) -> bool
+    ensures part { result ≡ true → IsPart bytes.now }
+    ensures other { result ≡ false → IsPart bytes.now → ⊥ }
+{
+    match bytes {
+        [b'{'] | [b'{', b'1'] => true,
+        _ => false,
+    }
 }
 
 /// Whether a brace ends so many bytes, and none stands after the first and before it.

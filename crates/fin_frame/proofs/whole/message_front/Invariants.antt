@@ -1,6 +1,6 @@
 use Rattle.std.proofs.Common.{◌≤◌, ◌-◌, length, take}
 use Rattle.fin_frame.specs.File.{IsMessageTo}
-use Rattle.fin_frame.proofs.whole.message_len.Given as goal
+use Rattle.fin_frame.proofs.whole.message_front.Given as goal
 
 abbrev pub invariant-loop-len : goal.invariant-loop-len
 invariant-loop-len l = record {
