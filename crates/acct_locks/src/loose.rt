@@ -1,6 +1,7 @@
 //! The purses before they have a name.
 
 ghost use Rattle.std.specs.Prelude.{◌≡◌, ◌<◌, ◌^◌, ◌+◌, ℕ, [], length, Some, IfOk};
+ghost use Rattle.day_model.specs.Chart.{accounts_of};
 ghost use Rattle.day_model.specs.Legal.{IsLegal};
 ghost use Rattle.day_model.specs.Totals.{HasTotals, pair_at};
 ghost use Rattle.acct_locks.specs.Seats.{IsBookSeat, pairs_in, away_in};
@@ -64,8 +65,8 @@ impl Loose {
         requires legal { IsLegal a.now h.now.entries }
         ensures table { IfOk result (λ r. r.0.table ≡ r.1.table) }
         ensures purses { IfOk result (λ r. r.0.purses ≡ purses_of r.0.table r.1.pairs) }
-        ensures count { IfOk result (λ r. length r.0.purses ≡ length a.now.accounts) }
-        ensures sides { IfOk result (λ r. HasTotals r.1.pairs (length a.now.accounts) h.now.entries) }
+        ensures count { IfOk result (λ r. length r.0.purses ≡ length (accounts_of a.now)) }
+        ensures sides { IfOk result (λ r. HasTotals r.1.pairs (length (accounts_of a.now)) h.now.entries) }
     {
         let pairs = totals(alloc, a, h)?;
         Loose::of_pairs(alloc, pairs)

@@ -11,7 +11,7 @@ use Rattle.day_model.specs.declared.account.AcctNo.{AcctNo}
 use Rattle.day_model.specs.declared.pay.Leg.{Leg}
 use Rattle.day_model.specs.declared.pay.Pay.{Pay}
 use Rattle.day_model.specs.declared.core_job.Job.{Job}
-use Rattle.day_model.specs.Chart.{Chart, IsListed}
+use Rattle.day_model.specs.Chart.{Chart, IsListed, accounts_of}
 use Rattle.day_model.specs.Fit.{FitsAccounts}
 use Rattle.day_model.specs.CoreStep.{also_holding, has_held, holder_of, holds, job_at, least_unheld, lesser, wanted_by, worker_at}
 use Rattle.day_model.specs.CoreSound.{HasHeld, HoldsLeast, has_leg_on}
@@ -136,7 +136,7 @@ least_after job account wanted before = record {
 }
 
 account_among : (chart : Chart) (legs : List Leg) (n : ℕ) → ((i : ℕ) (leg : Leg) → slice_get legs i ≡ Some leg → IsListed chart leg.account.0)
-    → list_any (λ (leg : Leg). eqb leg.account.0 n) legs ≡ true → n ≤ length chart.accounts
+    → list_any (λ (leg : Leg). eqb leg.account.0 n) legs ≡ true → n ≤ length (accounts_of chart)
 account_among chart [] n there own = absurd (false≢true own)
 account_among chart (leg ∷ legs) n there own =
     elim (or_cases (eqb leg.account.0 n) (list_any (λ (x : Leg). eqb x.account.0 n) legs) own) [
@@ -145,7 +145,7 @@ account_among chart (leg ∷ legs) n there own =
     ]
 
 -- each account of a pay that fits is listed
-pub account_listed : (chart : Chart) (pay : Pay) (n : ℕ) → FitsAccounts chart pay → has_leg_on pay n ≡ true → n ≤ length chart.accounts
+pub account_listed : (chart : Chart) (pay : Pay) (n : ℕ) → FitsAccounts chart pay → has_leg_on pay n ≡ true → n ≤ length (accounts_of chart)
 account_listed chart pay n fits own =
     let fit = fitting chart pay.legs fits in
     account_among chart pay.legs n (λ i leg at. (fit.each i leg at).listed) own

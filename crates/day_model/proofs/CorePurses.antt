@@ -14,7 +14,7 @@ use Rattle.day_model.specs.declared.pay.Side.{Side}
 use Rattle.day_model.specs.declared.pay.Side.TheVariants.{Debit, Credit}
 use Rattle.day_model.specs.declared.pay.Leg.{Leg}
 use Rattle.day_model.specs.declared.entry.Entry.{Entry}
-use Rattle.day_model.specs.Chart.{Chart, IsChart, IsListed, IsSmall, account_at}
+use Rattle.day_model.specs.Chart.{Chart, IsChart, IsListed, IsSmall, account_at, accounts_of}
 use Rattle.day_model.specs.Fit.{are_apart, is_apart_from, is_side}
 use Rattle.day_model.specs.Balance.{balance_of, changed, is_booked, credits_of, debits_of, moved, moved_by, opening_of}
 use Rattle.day_model.specs.Legal.{IsLegal}
@@ -22,8 +22,9 @@ use Rattle.day_model.specs.CoreLedger.{AreAtBalance, CanAdd, CanAddAll, purse_of
 use Rattle.day_model.specs.Totals.{Pair, HasTotals, pair_at, totals_of}
 use Rattle.day_model.proofs.laws.PairLists.{pair_read}
 use Rattle.day_model.proofs.laws.Fitting.{LegsFit, all_at}
-use Rattle.day_model.proofs.laws.Balances.{balance_more, booked_moves, unmoved, small_at}
-use Rattle.day_model.proofs.CoreWorkers.{slice_get-set_same, slice_get-set_other}
+use Rattle.day_model.proofs.laws.Balances.{balance_more, booked_moves, unmoved}
+use Rattle.day_model.proofs.laws.Standing.{small_at}
+use Rattle.day_model.proofs.laws.Slices.{slice_get-set_same, slice_get-set_other}
 
 purse_is : (purses : List ℤ) (n : ℕ) (b : ℤ) → slice_get purses (n - 1) ≡ Some b → purse_of purses n ≡ b
 purse_is purses n b at = ap (λ (o : Option ℤ). unwrap_or o (pos 0)) at
@@ -185,7 +186,7 @@ opened_more chart entries count purses new b is balance before =
 
 -- an account's opening with its totals is its balance
 pub balance_by_pair : (chart : Chart) (entries : List Entry) (pairs : List Pair) (n : ℕ) (p : Pair) (a : Account)
-    → HasTotals pairs (length chart.accounts) entries → IsListed chart n → p ≡ get_or pairs (n - 1) p → account_at chart n ≡ Some a
+    → HasTotals pairs (length (accounts_of chart)) entries → IsListed chart n → p ≡ get_or pairs (n - 1) p → account_at chart n ≡ Some a
     → (a.opening +ℤ pos p.0) -ℤ pos p.1 ≡ balance_of chart entries n
 balance_by_pair chart entries pairs n p a has there is at =
     let read : pair_at pairs n ≡ Some p = pair_read pairs n p there.0 (omega (arith, there.1, has.size)) is in

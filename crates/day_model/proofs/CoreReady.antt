@@ -4,6 +4,7 @@ use Rattle.std.specs.Prelude.{◌⊎◌, ◌||◌, slice_get, is_some, is_none, 
 use Rattle.std.specs.List.{position_from}
 use Rattle.std.proofs.lemmas.Bool.{and_from, and_parts, cases_Bool, eq-eqb, eqb-true, false≢true, or_left, or_right}
 use Rattle.std.proofs.lemmas.Option.{none-some}
+use Rattle.day_model.specs.Chart.{accounts_of}
 use Rattle.day_model.specs.declared.core_event.Event.{Event}
 use Rattle.day_model.specs.declared.core_event.Event.TheVariants.{Draw, Take, Commit, GiveBack, Fault}
 use Rattle.day_model.specs.declared.core_job.Job.{Job}
@@ -112,7 +113,7 @@ option_cases (Some n) = inr (n, refl)
 
 -- a worker that wants an account goes on, or the account's holder does, or what that one wants is greater: the numbers end
 waits : (fuel : ℕ) (s : CoreState) (w : ℕ) (job : Job) (n : ℕ) → IsSound s → job_at s.workers w ≡ Some job → wanted_by job ≡ Some n
-    → length s.ledger.chart.accounts < n + fuel → Someone s
+    → length (accounts_of s.ledger.chart) < n + fuel → Someone s
 waits zero s w job n sound at wants below =
     let listed = account_listed s.ledger.chart job.pay n (sound.jobs w job at).fits (wanted_own job n wants).0 in
     absurd (omega arith)
@@ -142,7 +143,7 @@ someone : (s : CoreState) (w : ℕ) (job : Job) → IsSound s → job_at s.worke
 someone s w job sound at =
     elim (option_cases (wanted_by job)) [
       | inl all ↦ (w, record { job = job; at = at; can = or_right (is_some job.mark) (is_free s.workers (wanted_by job)) (ap (is_free s.workers) all) })
-      | inr more ↦ waits (suc (length s.ledger.chart.accounts)) s w job more.0 sound at more.1 (omega arith)
+      | inr more ↦ waits (suc (length (accounts_of s.ledger.chart))) s w job more.0 sound at more.1 (omega arith)
     ]
 
 pub no_deadlock : (s : CoreState) → IsSound s → NoDeadlock s

@@ -1,29 +1,14 @@
 -- The workers of a core: which jobs they have, before and after one of them changes.
-use Rattle.std.proofs.Common.{◌≡◌, ◌≢◌, ℕ, ◌-◌, ◌<◌, ◌≤◌, true, List, [], ◌∷◌, ◌++◌, Option, Some, None, refl, sym, ap, ◌∙◌, arith, length, get_or, set, inl, inr}
+use Rattle.std.proofs.Common.{◌≡◌, ◌≢◌, ℕ, ◌-◌, ◌≤◌, true, List, [], ◌∷◌, ◌++◌, Option, Some, None, refl, sym, ap, ◌∙◌, arith, length, get_or, inl, inr}
 use Rattle.std.specs.Prelude.{◌⊎◌, slice_get, slice_set, option_and_then}
 use Rattle.std.specs.Option.{option_map_or}
 use Rattle.std.proofs.lemmas.Bool.{cases_eq, cases_lt, cond-true, cond-false, lt-ltb, le-ltb}
-use Rattle.std.proofs.lemmas.List.{length-set, get_or-set_same, get_or-set_other, set-get_or}
-use Rattle.std.proofs.lemmas.Option.{slice_get-get_or, slice_get_past, slice_get_within, slice_get_read, none-some, same_Some}
+use Rattle.std.proofs.lemmas.List.{set-get_or}
+use Rattle.std.proofs.lemmas.Option.{slice_get_past, slice_get_within, slice_get_read, none-some, same_Some}
 use Rattle.day_model.specs.declared.core_job.Job.{Job}
 use Rattle.day_model.specs.CoreStep.{worker_at, job_at, with_worker, is_idle}
 use Rattle.day_model.specs.CoreSound.{AllIdle}
-use Rattle.day_model.proofs.laws.Growth.{in_pushed}
-
--- a list after one element was changed
-pub slice_get-set_same : {A : Type 0} (xs : List A) (i : ℕ) (y : A) → i < length xs → slice_get (slice_set xs i y) i ≡ Some y
-slice_get-set_same {A = A} xs i y lt =
-    let size = length-set xs i y in
-    slice_get-get_or (set xs i y) i y (omega arith) ∙ ap (λ (z : A). Some z) (get_or-set_same xs i y y lt)
-
-pub slice_get-set_other : {A : Type 0} (xs : List A) (i j : ℕ) (y : A) → j ≢ i → slice_get (slice_set xs i y) j ≡ slice_get xs j
-slice_get-set_other {A = A} xs i j y ne =
-    let size = length-set xs i y in
-    elim (cases_lt j (length xs)) [
-      | inl lt ↦ slice_get-get_or (set xs i y) j y (omega arith) ∙ ap (λ (z : A). Some z) (get_or-set_other xs i j y y ne)
-          ∙ sym (slice_get-get_or xs j y lt)
-      | inr past ↦ slice_get_past (set xs i y) j (omega arith) ∙ sym (slice_get_past xs j past)
-    ]
+use Rattle.day_model.proofs.laws.Slices.{in_pushed, slice_get-set_other, slice_get-set_same}
 
 -- a worker of this number
 pub record There (workers : List (Option Job)) (n : ℕ) (worker : Option Job) : Type 0 where

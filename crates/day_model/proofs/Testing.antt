@@ -14,9 +14,9 @@ use Rattle.corr_ids.specs.Bic.{bic_of}
 use Rattle.corr_ids.specs.declared.bic.Bic.{Bic}
 use Rattle.corr_money.specs.declared.amount.Ccy.{Ccy}
 use Rattle.day_model.specs.declared.account.Account.{Account}
-use Rattle.day_model.specs.Chart.{AreRows, IsFormed, IsLimited, IsSameBank, is_same_ccy, is_kind, customer}
+use Rattle.day_model.specs.Chart.{AreApart, AreEnds, AreRows, IsFormed, IsSameBank, is_same_ccy, is_kind, customer}
 use Rattle.day_model.proofs.laws.Fitting.{all_at}
-use Rattle.day_model.specs.RowTests.{is_same_bic, reads_itself, is_formed, has_limits, is_row, apart, all_apart, rows_fit}
+use Rattle.day_model.specs.RowTests.{agrees, all_apart, apart, are_ends, has_limits, is_formed, is_row, is_same_bank, is_same_bic, meets, reads_itself, rows_fit}
 
 -- each is apart from every later one
 apart_at : (xs : List Account) (i j : ℕ) (a b : Account) → all_apart xs ≡ true → i < j → slice_get xs i ≡ Some a → slice_get xs j ≡ Some b
@@ -42,7 +42,7 @@ bic_same o b e =
     (and_from (bytes_eq b.head b.head) (bytes_eq b.branch b.branch) ((bytes_eq-Decides b.head b.head).1 refl)
     ((bytes_eq-Decides b.branch b.branch).1 refl))
 
-formed : (a : Account) → is_formed a ≡ true → IsFormed a
+pub formed : (a : Account) → is_formed a ≡ true → IsFormed a
 formed a e =
     let decimals =
     and_parts
@@ -71,29 +71,28 @@ below x y e = grind (arith, ints)
 before : (x y z : ℤ) → x ≤ℤ y → y ≤ℤ z → x ≤ℤ z
 before x y z p q = omega (arith, ints)
 
-limited : (a : Account) → has_limits a ≡ true → IsLimited a
-limited a e =
-    let high =
-    and_parts (int_le (negsuc 99999999999998) a.floor && int_le a.ceil (pos 99999999999999) && int_le a.floor a.opening) (int_le a.opening a.ceil) e in
-    let low = and_parts (int_le (negsuc 99999999999998) a.floor && int_le a.ceil (pos 99999999999999)) (int_le a.floor a.opening) high.0 in
-    let ends = and_parts (int_le (negsuc 99999999999998) a.floor) (int_le a.ceil (pos 99999999999999)) low.0 in
-    let least = below (negsuc 99999999999998) a.floor ends.0 in
-    let most = below a.ceil (pos 99999999999999) ends.1 in
-    let above_floor = below a.floor a.opening low.1 in
-    let below_ceil = below a.opening a.ceil high.1 in
-    let between = before a.floor a.opening a.ceil above_floor below_ceil in
+pub ends_sound : (floor ceil balance : ℤ) → are_ends floor ceil balance ≡ true → AreEnds floor ceil balance
+ends_sound floor ceil balance e =
+    let high = and_parts (int_le (negsuc 99999999999998) floor && int_le ceil (pos 99999999999999) && int_le floor balance) (int_le balance ceil) e in
+    let low = and_parts (int_le (negsuc 99999999999998) floor && int_le ceil (pos 99999999999999)) (int_le floor balance) high.0 in
+    let ends = and_parts (int_le (negsuc 99999999999998) floor) (int_le ceil (pos 99999999999999)) low.0 in
+    let least = below (negsuc 99999999999998) floor ends.0 in
+    let most = below ceil (pos 99999999999999) ends.1 in
+    let above_floor = below floor balance low.1 in
+    let below_ceil = below balance ceil high.1 in
+    let between = before floor balance ceil above_floor below_ceil in
     record {
-      floor_small = (least, before a.floor a.ceil (pos 99999999999999) between most);
-      ceil_small = (before (negsuc 99999999999998) a.floor a.ceil least between, most);
+      floor_small = (least, before floor ceil (pos 99999999999999) between most);
+      ceil_small = (before (negsuc 99999999999998) floor ceil least between, most);
       above_floor = above_floor;
       below_ceil = below_ceil;
     }
 
 -- what two accounts that are apart have
-record Apart (a b : Account) : Type 0 where
-  ids : a.id ≢ b.id
-  banks : IsSameBank a b → ⊥
-  decimals : a.ccy ≡ b.ccy → a.decimals ≡ b.decimals
+pub record Apart (a b : Account) : Type 0 where
+  pub ids : a.id ≢ b.id
+  pub banks : IsSameBank a b → ⊥
+  pub decimals : a.ccy ≡ b.ccy → a.decimals ≡ b.decimals
 
 same_bytes : (xs ys : List ℕ) → xs ≡ ys → bytes_eq xs ys ≡ true
 same_bytes xs ys e = (bytes_eq-Decides xs ys).1 e
@@ -102,31 +101,33 @@ same_decimals : (c d : Bool) → (not c || d) ≡ true → c ≡ true → d ≡ 
 same_decimals true d e is = e
 same_decimals false d e is = absurd (false≢true is)
 
-parted : (a b : Account) → apart a b ≡ true → Apart a b
+not_either : (x y : Bool) → not (x || y) ≡ true → (x ≡ false) × (y ≡ false)
+not_either true y e = absurd (false≢true e)
+not_either false y e = (refl, not-true y e)
+
+pub parted : (a b : Account) → apart a b ≡ true → Apart a b
 parted a b e =
-    let bank : Bool = not (eqb a.kind customer) && eqb a.kind b.kind && bytes_eq a.owner.head b.owner.head && is_same_ccy a.ccy b.ccy in
-    let last = and_parts (not (bytes_eq a.id b.id) && not bank) (not (is_same_ccy a.ccy b.ccy) || eqb a.decimals b.decimals) e in
-    let first = and_parts (not (bytes_eq a.id b.id)) (not bank) last.0 in
+    let parts = and_parts (not (meets a b)) (agrees a b) e in
+    let others = not_either (bytes_eq a.id b.id) (is_same_bank a b) parts.0 in
     record {
-      ids = λ is. false≢true (sym (not-true (bytes_eq a.id b.id) first.0) ∙ same_bytes a.id b.id is);
+      ids = λ is. false≢true (sym others.0 ∙ same_bytes a.id b.id is);
       banks = λ is. false≢true
-          (sym (not-true bank first.1)
+          (sym others.1
           ∙ and_from (not (eqb a.kind customer) && eqb a.kind b.kind && bytes_eq a.owner.head b.owner.head) (is_same_ccy a.ccy b.ccy)
           (and_from (not (eqb a.kind customer) && eqb a.kind b.kind) (bytes_eq a.owner.head b.owner.head)
           (and_from (not (eqb a.kind customer)) (eqb a.kind b.kind) (not_from_false (eqb a.kind customer) (ne_eqb a.kind customer is.bank))
           (eq-eqb a.kind b.kind is.kind)) (same_bytes a.owner.head b.owner.head is.head)) (same_bytes a.ccy.0 b.ccy.0 (ap (λ (c : Ccy). c.0) is.ccy)));
       decimals = λ is. eqb-true _ _
-          (same_decimals (is_same_ccy a.ccy b.ccy) (eqb a.decimals b.decimals) last.1 (same_bytes a.ccy.0 b.ccy.0 (ap (λ (c : Ccy). c.0) is)));
+          (same_decimals (is_same_ccy a.ccy b.ccy) (eqb a.decimals b.decimals) parts.1 (same_bytes a.ccy.0 b.ccy.0 (ap (λ (c : Ccy). c.0) is)));
     }
 
 pub rows_sound : (accounts : List Account) → rows_fit accounts ≡ true → AreRows accounts
 rows_sound accounts e =
     let split = and_parts (leb (length accounts) 1000 && list_all is_row accounts) (all_apart accounts) e in
     let ends = and_parts (leb (length accounts) 1000) (list_all is_row accounts) split.0 in
-    record {
+    let apart_rows : AreApart accounts = record {
       few = leb-true _ _ ends.0;
       formed = λ i a at. formed a (and_parts (is_formed a) (has_limits a) (all_at is_row accounts i a ends.1 at)).0;
-      limited = λ i a at. limited a (and_parts (is_formed a) (has_limits a) (all_at is_row accounts i a ends.1 at)).1;
       ids = λ i j a b ati atj is. elim (cases_order i j) [
         | inl same ↦ same
         | inr other ↦ elim other [
@@ -150,10 +151,14 @@ rows_sound accounts e =
           | inr gt ↦ sym ((parted b a (apart_at accounts j i b a split.1 gt atj ati)).decimals (sym is))
         ]
       ];
+    } in
+    record {
+      apart = apart_rows;
+      limited = λ i a at. ends_sound a.floor a.ceil a.opening (and_parts (is_formed a) (has_limits a) (all_at is_row accounts i a ends.1 at)).1;
     }
 
 -- what each passes, all pass
-all_pass : {A : Type 0} (p : A → Bool) (xs : List A) → ((i : ℕ) (x : A) → slice_get xs i ≡ Some x → p x ≡ true) → list_all p xs ≡ true
+pub all_pass : {A : Type 0} (p : A → Bool) (xs : List A) → ((i : ℕ) (x : A) → slice_get xs i ≡ Some x → p x ≡ true) → list_all p xs ≡ true
 all_pass p [] each = refl
 all_pass p (x ∷ xs) each = and_from (p x) (list_all p xs) (each 0 x refl) (all_pass p xs (λ i y at. each (suc i) y at))
 
@@ -165,7 +170,7 @@ all_apart_from (x ∷ xs) each =
     and_from (list_all (apart x) xs) (all_apart xs) (all_pass (apart x) xs (λ j b at. each 0 (suc j) x b (omega arith) refl at))
     (all_apart_from xs (λ i j a b lt ati atj. each (suc i) (suc j) a b (omega arith) ati atj))
 
-formed_passes : (a : Account) → IsFormed a → is_formed a ≡ true
+pub formed_passes : (a : Account) → IsFormed a → is_formed a ≡ true
 formed_passes a f =
     let sizes = and_from (leb 1 (length a.id)) (leb (length a.id) 34) (le-leb _ _ f.id_given) (le-leb _ _ f.id_short) in
     let plain = and_from (leb 1 (length a.id) && leb (length a.id) 34) (list_all is_c_byte a.id) sizes f.id_plain in
@@ -183,16 +188,16 @@ formed_passes a f =
 not_above : (x y : ℤ) → x ≤ℤ y → int_le x y ≡ true
 not_above x y e = grind (arith, ints)
 
-limits_pass : (a : Account) → IsLimited a → has_limits a ≡ true
-limits_pass a l =
+pub ends_complete : (floor ceil balance : ℤ) → AreEnds floor ceil balance → are_ends floor ceil balance ≡ true
+ends_complete floor ceil balance l =
     let ends =
-    and_from (int_le (negsuc 99999999999998) a.floor) (int_le a.ceil (pos 99999999999999)) (not_above (negsuc 99999999999998) a.floor l.floor_small.0)
-    (not_above a.ceil (pos 99999999999999) l.ceil_small.1) in
+    and_from (int_le (negsuc 99999999999998) floor) (int_le ceil (pos 99999999999999)) (not_above (negsuc 99999999999998) floor l.floor_small.0)
+    (not_above ceil (pos 99999999999999) l.ceil_small.1) in
     let low =
-    and_from (int_le (negsuc 99999999999998) a.floor && int_le a.ceil (pos 99999999999999)) (int_le a.floor a.opening) ends
-    (not_above a.floor a.opening l.above_floor) in
-    and_from (int_le (negsuc 99999999999998) a.floor && int_le a.ceil (pos 99999999999999) && int_le a.floor a.opening) (int_le a.opening a.ceil) low
-    (not_above a.opening a.ceil l.below_ceil)
+    and_from (int_le (negsuc 99999999999998) floor && int_le ceil (pos 99999999999999)) (int_le floor balance) ends
+    (not_above floor balance l.above_floor) in
+    and_from (int_le (negsuc 99999999999998) floor && int_le ceil (pos 99999999999999) && int_le floor balance) (int_le balance ceil) low
+    (not_above balance ceil l.below_ceil)
 
 not_of : (b : Bool) → (b ≡ true → ⊥) → not b ≡ true
 not_of true fails = absurd (fails refl)
@@ -218,13 +223,16 @@ same_bank a b e =
       ccy = ccy_of a.ccy b.ccy ccy.1;
     }
 
-apart_from : (a b : Account) → Apart a b → apart a b ≡ true
+neither : (x y : Bool) → x ≡ false → y ≡ false → not (x || y) ≡ true
+neither true y a b = absurd (false≢true (sym a))
+neither false y a b = not_from_false y b
+
+pub apart_from : (a b : Account) → Apart a b → apart a b ≡ true
 apart_from a b p =
-    let bank : Bool = not (eqb a.kind customer) && eqb a.kind b.kind && bytes_eq a.owner.head b.owner.head && is_same_ccy a.ccy b.ccy in
-    let first =
-    and_from (not (bytes_eq a.id b.id)) (not bank) (not_of (bytes_eq a.id b.id) (λ is. p.ids ((bytes_eq-Decides a.id b.id).0 is)))
-    (not_of bank (λ is. p.banks (same_bank a b is))) in
-    and_from (not (bytes_eq a.id b.id) && not bank) (not (is_same_ccy a.ccy b.ccy) || eqb a.decimals b.decimals) first
+    and_from (not (meets a b)) (agrees a b)
+    (neither (bytes_eq a.id b.id) (is_same_bank a b)
+    (not-true (bytes_eq a.id b.id) (not_of (bytes_eq a.id b.id) (λ is. p.ids ((bytes_eq-Decides a.id b.id).0 is))))
+    (not-true (is_same_bank a b) (not_of (is_same_bank a b) (λ is. p.banks (same_bank a b is)))))
     (either (is_same_ccy a.ccy b.ccy) (eqb a.decimals b.decimals) (λ is. eq-eqb a.decimals b.decimals (p.decimals (ccy_of a.ccy b.ccy is))))
 
 later : (i j : ℕ) → i < j → i ≡ j → ⊥
@@ -234,11 +242,11 @@ pub rows_complete : (accounts : List Account) → AreRows accounts → rows_fit 
 rows_complete accounts rows =
     let each =
     all_pass is_row accounts
-    (λ i a at. and_from (is_formed a) (has_limits a) (formed_passes a (rows.formed i a at)) (limits_pass a (rows.limited i a at))) in
-    let ends = and_from (leb (length accounts) 1000) (list_all is_row accounts) (le-leb _ _ rows.few) each in
+    (λ i a at. and_from (is_formed a) (has_limits a) (formed_passes a (rows.apart.formed i a at)) (ends_complete a.floor a.ceil a.opening (rows.limited i a at))) in
+    let ends = and_from (leb (length accounts) 1000) (list_all is_row accounts) (le-leb _ _ rows.apart.few) each in
     and_from (leb (length accounts) 1000 && list_all is_row accounts) (all_apart accounts) ends
     (all_apart_from accounts (λ i j a b lt ati atj. apart_from a b (record {
-      ids = λ is. later i j lt (rows.ids i j a b ati atj is);
-      banks = λ is. later i j lt (rows.banks i j a b ati atj is);
-      decimals = λ is. rows.decimals i j a b ati atj is;
+      ids = λ is. later i j lt (rows.apart.ids i j a b ati atj is);
+      banks = λ is. later i j lt (rows.apart.banks i j a b ati atj is);
+      decimals = λ is. rows.apart.decimals i j a b ati atj is;
     })))

@@ -1,5 +1,5 @@
 -- Balances, and what decides whether a pay is booked.
-use Rattle.std.specs.Prelude.{ℕ, ◌+◌, ◌==◌, ◌&&◌, Bool, true, false, List, [], ◌∷◌, Option, Some, None, ℤ, pos, ◌+ℤ◌, ◌-ℤ◌, int_le, sum_by, unwrap_or, option_map, if◌then◌else◌}
+use Rattle.std.specs.Prelude.{ℕ, ◌+◌, ◌==◌, ◌&&◌, Bool, true, false, List, [], ◌∷◌, length, Option, Some, None, ℤ, pos, ◌+ℤ◌, ◌-ℤ◌, int_le, sum_by, unwrap_or, option_map, if◌then◌else◌}
 use Rattle.corr_text.specs.First.{first_of, unless}
 use Rattle.day_model.specs.declared.account.Account.{Account}
 use Rattle.day_model.specs.declared.pay.Side.{Side}
@@ -9,7 +9,7 @@ use Rattle.day_model.specs.declared.pay.Pay.{Pay}
 use Rattle.day_model.specs.declared.entry.Entry.{Entry}
 use Rattle.day_model.specs.declared.entry.Outcome.{Outcome}
 use Rattle.day_model.specs.declared.entry.Outcome.TheVariants.{Booked, Unfunded}
-use Rattle.day_model.specs.Chart.{Chart, account_at}
+use Rattle.day_model.specs.Chart.{Chart, account_at, chart_at}
 use Rattle.day_model.specs.Fit.{is_side}
 
 -- whether an outcome is Booked
@@ -51,11 +51,11 @@ abbrev pub is_within : Option Account → ℤ → Bool
 is_within (Some account) balance = int_le account.floor balance && int_le balance account.ceil
 is_within None balance = false
 
--- leg k must leave its account within floor and ceiling
+-- leg k must leave its account within the floor and the ceiling that it has after these entries
 abbrev pub leg_test : Chart → List Entry → ℕ → Leg → Option Outcome
 leg_test chart entries k leg =
     let balance = balance_of chart entries leg.account.0 in
-    unless (is_within (account_at chart leg.account.0) (changed leg.side leg.amount.0 balance)) (Unfunded k balance)
+    unless (is_within (account_at (chart_at chart (length entries)) leg.account.0) (changed leg.side leg.amount.0 balance)) (Unfunded k balance)
 
 -- the tests of the legs one by one, the first of which is leg k
 abbrev pub leg_tests : Chart → List Entry → ℕ → List Leg → List (Option Outcome)

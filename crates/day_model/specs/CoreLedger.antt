@@ -7,7 +7,7 @@ use Rattle.day_model.specs.declared.pay.Pay.{Pay}
 use Rattle.day_model.specs.declared.entry.Entry.{Entry}
 use Rattle.day_model.specs.declared.core_job.Mark.{Mark}
 use Rattle.day_model.specs.declared.core_job.Mark.TheVariants.{Entered, Refused}
-use Rattle.day_model.specs.Chart.{Chart, IsChart, IsListed, IsSmall}
+use Rattle.day_model.specs.Chart.{Chart, IsChart, IsListed, IsSmall, accounts_of}
 use Rattle.day_model.specs.Log.{most_entries}
 use Rattle.day_model.specs.Balance.{balance_of, changed, is_booked, outcome_of}
 use Rattle.day_model.specs.Next.{entered_at, next_history}
@@ -78,7 +78,7 @@ day_of_last entries = unwrap_or (option_map (λ entry. entry.day) (slice_get ent
 
 -- each account's purse is its balance
 pub record AreAtBalance (chart : Chart) (entries : List Entry) (purses : List ℤ) : Type 0 where
-  pub one_each : length purses ≡ length chart.accounts
+  pub one_each : length purses ≡ length (accounts_of chart)
   pub balances : (n : ℕ) → IsListed chart n → slice_get purses (n - 1) ≡ Some (balance_of chart entries n)
 
 -- the history is legal, no entry has a later day, and purses are at their balances

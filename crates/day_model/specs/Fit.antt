@@ -7,7 +7,7 @@ use Rattle.day_model.specs.declared.pay.Side.{Side}
 use Rattle.day_model.specs.declared.pay.Side.TheVariants.{Debit, Credit}
 use Rattle.day_model.specs.declared.pay.Leg.{Leg}
 use Rattle.day_model.specs.declared.pay.Pay.{Pay}
-use Rattle.day_model.specs.Chart.{Chart, is_same_ccy}
+use Rattle.day_model.specs.Chart.{Chart, accounts_of, is_same_ccy}
 
 -- two sides are the same
 abbrev pub is_side : Side → Side → Bool
@@ -75,7 +75,7 @@ fit_in accounts (first ∷ legs) = is_in accounts first.account.0 && list_all (i
 
 -- legs of a pay, on accounts of a book that have one currency
 abbrev pub legs_fit : Chart → List Leg → Bool
-legs_fit chart legs = are_legs legs && fit_in chart.accounts legs
+legs_fit chart legs = are_legs legs && fit_in (accounts_of chart) legs
 
 -- the pay fits the accounts of a book
 abbrev pub FitsAccounts : Chart → Pay → Type 0
@@ -83,9 +83,9 @@ FitsAccounts chart pay = IsTrue (legs_fit chart pay.legs)
 
 -- an account has this number
 abbrev pub is_listed : Chart → ℕ → Bool
-is_listed chart n = is_in chart.accounts n
+is_listed chart n = is_in (accounts_of chart) n
 
 -- distinct accounts of the book, of one currency
 abbrev pub accounts_fit : Chart → ℕ → ℕ → Bool
 accounts_fit chart debit credit =
-    is_listed chart debit && is_listed chart credit && not (debit == credit) && same_ccy (account_in chart.accounts debit) (account_in chart.accounts credit)
+    is_listed chart debit && is_listed chart credit && not (debit == credit) && same_ccy (account_in (accounts_of chart) debit) (account_in (accounts_of chart) credit)

@@ -1,3 +1,4 @@
+pub mod Changes
 pub mod Chart
 pub mod Gap
 pub mod Log
@@ -6,9 +7,11 @@ pub mod Shape
 pub mod Balance
 pub mod Next
 pub mod Legal
+pub mod Items
 pub mod Same
 pub mod Laws
 pub mod RowTests
+pub mod Refusals
 pub mod Totals
 pub mod Pairs
 pub mod CoreLedger

@@ -1,5 +1,5 @@
 -- The test of accounts, as a program makes it.
-use Rattle.std.specs.Prelude.{Option, Some, None, ◌==◌, ◌&&◌, ◌||◌, Bool, true, false, not, List, [], ◌∷◌, ◌++◌, length, nat_le, pos, neg_ℤ, int_le, ◌-◌}
+use Rattle.std.specs.Prelude.{Option, Some, None, ◌==◌, ◌&&◌, ◌||◌, Bool, true, false, not, List, [], ◌∷◌, ◌++◌, length, nat_le, ℤ, pos, neg_ℤ, int_le, ◌-◌}
 use Rattle.std.specs.Str.{bytes_eq}
 use Rattle.std.specs.List.{list_all}
 use Rattle.std.specs.Char.{is_ascii_uppercase}
@@ -25,21 +25,34 @@ is_formed a =
     nat_le 1 (length a.id) && nat_le (length a.id) 34 && list_all is_c_byte a.id && is_kind a.kind && reads_itself a.owner
     && list_all is_ascii_uppercase a.ccy.0 && nat_le a.decimals most_decimals
 
--- floor, opening and ceiling are in order and small
+-- floor, balance and ceiling are in order and small
+abbrev pub are_ends : ℤ → ℤ → ℤ → Bool
+are_ends floor ceil balance =
+    int_le (neg_ℤ (pos (amount_end - 1))) floor && int_le ceil (pos (amount_end - 1)) && int_le floor balance && int_le balance ceil
+
+-- the opening lies between the ends
 abbrev pub has_limits : Account → Bool
-has_limits a =
-    int_le (neg_ℤ (pos (amount_end - 1))) a.floor && int_le a.ceil (pos (amount_end - 1)) && int_le a.floor a.opening && int_le a.opening a.ceil
+has_limits a = are_ends a.floor a.ceil a.opening
 
 -- an account alone passes
 abbrev pub is_row : Account → Bool
 is_row a = is_formed a && has_limits a
 
+-- vostro, nostro or fee accounts of one kind, owner's head and currency
+abbrev pub is_same_bank : Account → Account → Bool
+is_same_bank a b = not (a.kind == customer) && (a.kind == b.kind) && bytes_eq a.owner.head b.owner.head && is_same_ccy a.ccy b.ccy
+
+-- of one id or of one bank
+abbrev pub meets : Account → Account → Bool
+meets a b = bytes_eq a.id b.id || is_same_bank a b
+
+-- one currency has one number of decimals
+abbrev pub agrees : Account → Account → Bool
+agrees a b = not (is_same_ccy a.ccy b.ccy) || (a.decimals == b.decimals)
+
 -- other ids and other banks; one currency has one number of decimals
 abbrev pub apart : Account → Account → Bool
-apart a b =
-    not (bytes_eq a.id b.id)
-    && not (not (a.kind == customer) && (a.kind == b.kind) && bytes_eq a.owner.head b.owner.head && is_same_ccy a.ccy b.ccy)
-    && (not (is_same_ccy a.ccy b.ccy) || (a.decimals == b.decimals))
+apart a b = not (meets a b) && agrees a b
 
 -- each two accounts are apart
 abbrev pub all_apart : List Account → Bool

@@ -1,7 +1,7 @@
 //! Each account's totals after a history.
 
 ghost use Rattle.std.specs.Prelude.{◌≡◌, ◌≤◌, [], ◌∷◌, pos, ◌+ℤ◌, ◌-ℤ◌, length, All, IfOk};
-ghost use Rattle.day_model.specs.Chart.{IsSmall, most_accounts};
+ghost use Rattle.day_model.specs.Chart.{IsSmall, accounts_of, most_accounts};
 ghost use Rattle.day_model.specs.Legal.{IsLegal};
 ghost use Rattle.day_model.specs.Totals.{Fits64, HasTotals, booked_legs, leg_pair, plus};
 ghost use Rattle.day_model.specs.Pairs.{PairsFit, pairs_with};
@@ -68,7 +68,7 @@ pub fn balance_with(account: &Account, totals: (u64, u64)) -> i64
 /// account 1's come first.
 pub fn totals(alloc: Global, a: &Accounts, h: &History) -> Result<Vec<(u64, u64)>, Memory>
     requires legal { IsLegal a.now h.now.entries }
-    ensures value { IfOk result (λ pairs. HasTotals pairs.items (length a.now.accounts) h.now.entries) }
+    ensures value { IfOk result (λ pairs. HasTotals pairs.items (length (accounts_of a.now)) h.now.entries) }
     ensures few { IfOk result (λ pairs. length pairs.items ≤ most_accounts) }
 {
     let mut pairs = vec![in alloc; (0, 0); a.count() as usize]?;

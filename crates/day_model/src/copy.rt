@@ -1,10 +1,51 @@
-//! Copies of pays.
+//! Copies of accounts and of pays.
 
 ghost use Rattle.std.specs.Prelude.{◌≡◌, IfOk};
 
+use crate::account::Account;
 use crate::pay::{Leg, Order, Pay, Quote};
 use corr_text::{List, Memory};
 use std::alloc::Global;
+
+impl Account {
+    /// The same account once more.
+    pub fn copy(&self, alloc: Global) -> Result<Account, Memory>
+        ensures { IfOk result (λ account. account ≡ self.now) }
+    {
+        Ok(Account {
+            id: self.id.copy(alloc)?,
+            kind: self.kind,
+            owner: self.owner,
+            ccy: self.ccy,
+            decimals: self.decimals,
+            floor: self.floor,
+            ceil: self.ceil,
+            opening: self.opening,
+        })
+    }
+}
+
+/// The same accounts once more, as a vector.
+pub(crate) fn copy_accounts(alloc: Global, accounts: &[Account]) -> Result<Vec<Account>, Memory>
+    ensures { IfOk result (λ copies. copies.items ≡ accounts.now) }
+{
+    let mut copies = Vec::new(alloc);
+    for account in accounts {
+        copies.push(account.copy(alloc)?)?;
+    }
+    Ok(copies)
+}
+
+/// The same accounts once more, as a list.
+pub(crate) fn copy_list(alloc: Global, accounts: &[Account]) -> Result<List<Account>, Memory>
+    ensures { IfOk result (λ copies. copies ≡ accounts.now) }
+{
+    let mut copies = List::new(alloc);
+    for account in accounts {
+        copies.push(account.copy(alloc)?)?;
+    }
+    Ok(copies)
+}
 
 impl Quote {
     /// The same quote once more.

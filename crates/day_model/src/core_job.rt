@@ -4,7 +4,8 @@ ghost use Rattle.std.specs.Prelude.{◌≡◌, ◌<◌, ◌≤◌, ◌^◌, [], 
 ghost use Rattle.std.specs.Option.{option_copied};
 ghost use Rattle.std.specs.List.{position_from};
 ghost use Rattle.day_model.specs.CoreSound.{AllIdle};
-ghost use Rattle.day_model.specs.CoreStep.{also_holding, drawn, has_held, holder_of, holds, is_idle, job_at, least_unheld, lesser, marked, may_commit, may_give_back, may_take, wanted_by, with_job, with_worker, worker_at};
+ghost use Rattle.day_model.specs.CoreStep.{also_holding, drawn, has_held, holder_of, holds, is_idle, job_at, least_unheld, lesser};
+ghost use Rattle.day_model.specs.CoreStep.{marked, may_commit, may_give_back, may_take, wanted_by, with_job, with_worker, worker_at};
 
 use crate::account::AcctNo;
 use crate::pay::{Leg, Pay};

@@ -2,9 +2,9 @@
 
 ghost use Rattle.std.specs.Prelude.{◌≡◌, ◌<◌, ◌≤◌, ◌^◌, IsTrue, length};
 ghost use Rattle.std.specs.List.{list_all};
-ghost use Rattle.day_model.specs.Chart.{IsListed};
-ghost use Rattle.day_model.specs.Fit.{amount_on, are_apart, are_even, are_legs, begin_with_debit, fit_in, has_amount, is_apart_from, is_beside, is_in};
-ghost use Rattle.day_model.specs.Fit.{legs_fit, side_sum};
+ghost use Rattle.day_model.specs.Chart.{IsListed, accounts_of};
+ghost use Rattle.day_model.specs.Fit.{amount_on, are_apart, are_even, are_legs, begin_with_debit, fit_in, has_amount, is_apart_from};
+ghost use Rattle.day_model.specs.Fit.{is_beside, is_in, legs_fit, side_sum};
 
 use crate::account::AcctNo;
 use crate::accounts::Accounts;
@@ -95,7 +95,7 @@ pub fn are_legs(legs: &[Leg]) -> bool
 }
 
 fn is_in(a: &Accounts, n: AcctNo) -> bool
-    ensures value { result ≡ is_in a.now.accounts n.0 }
+    ensures value { result ≡ is_in (accounts_of a.now) n.0 }
     ensures listed { IsTrue result → IsListed a.now n.0 }
 {
     1 <= n.0 && n.0 <= a.count()
@@ -103,20 +103,20 @@ fn is_in(a: &Accounts, n: AcctNo) -> bool
 
 fn is_beside(a: &Accounts, n: AcctNo, leg: &Leg) -> bool
     requires { IsListed a.now n.0 }
-    ensures { result ≡ is_beside a.now.accounts n.0 leg.now }
+    ensures { result ≡ is_beside (accounts_of a.now) n.0 leg.now }
 {
     is_in(a, leg.account) && a.get(n).ccy == a.get(leg.account).ccy
 }
 
 fn are_beside(a: &Accounts, n: AcctNo, legs: &[Leg]) -> bool
     requires { IsListed a.now n.0 }
-    ensures { result ≡ list_all (is_beside a.now.accounts n.0) legs.now }
+    ensures { result ≡ list_all (is_beside (accounts_of a.now) n.0) legs.now }
 {
     legs.iter().all(|leg| is_beside(a, n, leg))
 }
 
 fn fit_in(a: &Accounts, legs: &[Leg]) -> bool
-    ensures { result ≡ fit_in a.now.accounts legs.now }
+    ensures { result ≡ fit_in (accounts_of a.now) legs.now }
 {
     match legs {
         [] => true,

@@ -7,7 +7,7 @@ ghost use Rattle.day_model.specs.Chart.{IsListed, IsSmall, account_at};
 ghost use Rattle.day_model.specs.Fit.{FitsAccounts};
 ghost use Rattle.day_model.specs.Balance.{balance_of, changed, is_within, moved, moved_by, outcome_of};
 ghost use Rattle.day_model.specs.Legal.{IsLegal};
-ghost use Rattle.day_model.specs.Laws.{BalancesCancel, DebitsEqualCredits, StaysLegal, TotalsFit};
+ghost use Rattle.day_model.specs.Laws.{BalancesCancel, DebitsEqualCredits, StaysLegal, TotalsFit, WasWithin};
 
 use crate::account::{Account, AcctNo};
 use crate::accounts::Accounts;
@@ -54,7 +54,8 @@ fn after_entry(balance: i64, entry: &Entry, n: AcctNo) -> i64
 }
 
 /// The balance of an account after a history, in minor units: its opening, plus the credits and minus the debits
-/// of the booked entries. It lies within the account's floor and ceiling, and the balances of a currency sum to 0.
+/// of the booked entries. It lies within the account's floor and ceiling, and at each time before it lay within those of
+/// then. The balances of a currency sum to 0.
 ///
 /// The history is legal for the accounts, and the account is one of them.
 pub fn balance(a: &Accounts, h: &History, n: AcctNo) -> i64
@@ -62,6 +63,7 @@ pub fn balance(a: &Accounts, h: &History, n: AcctNo) -> i64
     requires listed { IsListed a.now n.0 }
     ensures value { result ≡ balance_of a.now h.now.entries n.0 }
     ensures within { is_within (account_at a.now n.0) result ≡ true }
+    ensures was { WasWithin a.now h.now.entries n.0 }
     ensures cancel { BalancesCancel a.now h.now.entries }
     ensures even { DebitsEqualCredits a.now h.now.entries }
     ensures totals { TotalsFit h.now.entries n.0 }

@@ -1,6 +1,6 @@
 //! The history of a journal.
 
-ghost use Rattle.std.specs.Prelude.{◌≡◌, ◌<◌, ◌≤◌, ◌-◌, ◌++◌, [], ◌∷◌, length, slice_get, OnOk, OnErr, IsOk};
+ghost use Rattle.std.specs.Prelude.{◌≡◌, ◌<◌, ◌≤◌, ◌+◌, ◌-◌, ◌++◌, [], ◌∷◌, length, slice_get, OnOk, OnErr, IsOk};
 ghost use Rattle.std.specs.List.{position_from};
 ghost use Rattle.day_model.specs.Log.{most_entries};
 ghost use Rattle.day_model.specs.Next.{entered_at, has_mir};
@@ -54,17 +54,26 @@ impl History {
         ensures same { self.new.entries ≡ self.old.entries }
         ensures room { OnOk result (1 ≤ self.new.spare) }
     {
-        self.log.reserve(1)?;
+        self.reserve_for(1)
+    }
+
+    /// Makes room for so many entries more. The entries are as they were, whatever it answers.
+    pub fn reserve_for(&mut self, entries: usize) -> Result<(), Memory>
+        ensures same { self.new.entries ≡ self.old.entries }
+        ensures room { OnOk result (entries ≤ self.new.spare) }
+    {
+        self.log.reserve(entries)?;
         Ok(())
     }
 
-    /// Adds an entry at the end of fewer than 100,000. It needs no memory where there is room; where memory runs out, the
-    /// entries are as they were.
+    /// Adds an entry at the end of fewer than 100,000. It needs no memory where there is room, and takes room for one; where
+    /// memory runs out, the entries are as they were.
     pub fn push(&mut self, e: Entry) -> Result<(), Memory>
         requires { length self.old.entries < most_entries }
         ensures ok { OnOk result (self.new.entries ≡ self.old.entries ++ e ∷ []) }
         ensures err { OnErr result (self.new.entries ≡ self.old.entries) }
         ensures room { 0 < self.old.spare → IsOk result }
+        ensures left { self.old.spare ≤ self.new.spare + 1 }
     {
         self.log.push(e)?;
         Ok(())

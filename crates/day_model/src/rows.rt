@@ -4,8 +4,9 @@ ghost use Rattle.std.specs.Prelude.{◌≡◌, ◌==◌, IsTrue};
 ghost use Rattle.std.specs.List.{list_all};
 ghost use Rattle.std.specs.Char.{is_ascii_uppercase};
 ghost use Rattle.corr_text.specs.Sets.{is_c_byte};
-ghost use Rattle.day_model.specs.RowTests.{all_apart, apart, has_limits, is_formed, is_row, reads_itself, rows_fit};
-ghost use Rattle.day_model.specs.Chart.{AreRows, customer, is_kind};
+ghost use Rattle.day_model.specs.RowTests.{agrees, all_apart, apart, are_ends, has_limits, is_formed, is_row, is_same_bank, meets};
+ghost use Rattle.day_model.specs.RowTests.{reads_itself, rows_fit};
+ghost use Rattle.day_model.specs.Chart.{AreRows, IsFormed, customer, is_kind};
 
 use crate::account::Account;
 use crate::accounts::MOST_ACCOUNTS;
@@ -55,7 +56,7 @@ fn is_code(ccy: &[u8]) -> bool
     is_all_of(Set::A, ccy)
 }
 
-fn has_form(a: &Account) -> bool
+fn has_columns(a: &Account) -> bool
     ensures { result ≡ is_formed a.now }
 {
     let id = a.id.bytes();
@@ -68,29 +69,58 @@ fn has_form(a: &Account) -> bool
         && a.decimals <= 4
 }
 
-fn is_limited(a: &Account) -> bool
+/// Whether an account's columns have their forms: those that `rows_hold` asks of an account alone, but for its limits.
+pub fn has_form(a: &Account) -> bool
+    ensures sound { IsTrue result → IsFormed a.now }
+    ensures complete { IsFormed a.now → IsTrue result }
+{
+    has_columns(a)
+}
+
+/// Whether floor and ceiling are below 10^14 in size, and the balance lies between them.
+pub(crate) fn are_ends(floor: i64, ceil: i64, balance: i64) -> bool
+    ensures { result ≡ are_ends floor ceil balance }
+{
+    -MOST_BALANCE <= floor && ceil <= MOST_BALANCE && floor <= balance && balance <= ceil
+}
+
+/// Whether the opening lies between the account's ends.
+pub(crate) fn has_limits(a: &Account) -> bool
     ensures { result ≡ has_limits a.now }
 {
-    -MOST_BALANCE <= a.floor
-        && a.ceil <= MOST_BALANCE
-        && a.floor <= a.opening
-        && a.opening <= a.ceil
+    are_ends(a.floor, a.ceil, a.opening)
 }
 
 fn is_book_row(a: &Account) -> bool
     ensures { result ≡ is_row a.now }
 {
-    has_form(a) && is_limited(a)
+    has_columns(a) && has_limits(a)
+}
+
+fn is_same_bank(a: &Account, b: &Account) -> bool
+    ensures { result ≡ is_same_bank a.now b.now }
+{
+    !is_customer(a.kind) && a.kind == b.kind && a.owner.head == b.owner.head && a.ccy == b.ccy
+}
+
+/// Whether two accounts have one id, or are of one bank: of one kind but a customer's, owner's head and currency.
+pub(crate) fn meet(a: &Account, b: &Account) -> bool
+    ensures { result ≡ meets a.now b.now }
+{
+    a.id.bytes() == b.id.bytes() || is_same_bank(a, b)
+}
+
+/// Whether two accounts of one currency have one number of decimals.
+pub(crate) fn agree(a: &Account, b: &Account) -> bool
+    ensures { result ≡ agrees a.now b.now }
+{
+    a.ccy != b.ccy || a.decimals == b.decimals
 }
 
 fn are_apart(a: &Account, b: &Account) -> bool
     ensures { result ≡ apart a.now b.now }
 {
-    let same_bank = !is_customer(a.kind)
-        && a.kind == b.kind
-        && a.owner.head == b.owner.head
-        && a.ccy == b.ccy;
-    a.id.bytes() != b.id.bytes() && !same_bank && (a.ccy != b.ccy || a.decimals == b.decimals)
+    !meet(a, b) && agree(a, b)
 }
 
 fn is_apart_from(a: &Account, others: &[Account]) -> bool

@@ -11,7 +11,7 @@ use Rattle.day_model.specs.declared.account.Account.{Account}
 use Rattle.day_model.specs.declared.pay.Side.{Side}
 use Rattle.day_model.specs.declared.pay.Side.TheVariants.{Debit, Credit}
 use Rattle.day_model.specs.declared.pay.Leg.{Leg}
-use Rattle.day_model.specs.Chart.{Chart, IsListed, account_at}
+use Rattle.day_model.specs.Chart.{Chart, IsListed, account_at, accounts_of}
 use Rattle.day_model.specs.Fit.{accounts_fit, are_apart, are_even, are_legs, begin_with_debit, fit_in, has_amount, is_beside, is_in, is_listed, is_side}
 use Rattle.day_model.specs.Fit.{legs_fit, same_ccy, side_sum}
 
@@ -40,7 +40,7 @@ all_at p (y ∷ xs) (suc i) x all at = all_at p xs i x (and_parts (p y) (list_al
 
 listed : (chart : Chart) (n : ℕ) → is_listed chart n ≡ true → IsListed chart n
 listed chart n e =
-    let parts = and_parts (leb 1 n) (leb n (length chart.accounts)) e in
+    let parts = and_parts (leb 1 n) (leb n (length (accounts_of chart))) e in
     (leb-true _ _ parts.0, leb-true _ _ parts.1)
 
 sound : (chart : Chart) (leg : Leg) → is_listed chart leg.account.0 ≡ true → has_amount leg ≡ true → Sound chart leg
@@ -55,30 +55,30 @@ same_as_itself a b is = rw is ((bytes_eq-Decides b.ccy.0 b.ccy.0).1 refl)
 -- a listed number has an account
 pub listed_account : (chart : Chart) (n : ℕ) → IsListed chart n → (a : Account) × (account_at chart n ≡ Some a)
 listed_account chart n there =
-    elim (slice_get_cases chart.accounts (n - 1)).1 [
+    elim (slice_get_cases (accounts_of chart) (n - 1)).1 [
       | inl found ↦ (found.0, found.2)
       | inr past ↦ absurd (omega (arith, past.0))
     ]
 
 -- legs that fit are of a pay
 pub legs_of_fit : (chart : Chart) (legs : List Leg) → legs_fit chart legs ≡ true → are_legs legs ≡ true
-legs_of_fit chart legs e = (and_parts (are_legs legs) (fit_in chart.accounts legs) e).0
+legs_of_fit chart legs e = (and_parts (are_legs legs) (fit_in (accounts_of chart) legs) e).0
 
 -- the first leg is of the book, and each other is too and has its currency
-beside : (chart : Chart) (first : Leg) (legs : List Leg) (i : ℕ) (leg : Leg) → fit_in chart.accounts (first ∷ legs) ≡ true
+beside : (chart : Chart) (first : Leg) (legs : List Leg) (i : ℕ) (leg : Leg) → fit_in (accounts_of chart) (first ∷ legs) ≡ true
     → slice_get (first ∷ legs) i ≡ Some leg
     → (is_listed chart leg.account.0 ≡ true) × (same_ccy (account_at chart first.account.0) (account_at chart leg.account.0) ≡ true)
 beside chart first legs zero leg e at =
-    let there = (and_parts (is_in chart.accounts first.account.0) (list_all (is_beside chart.accounts first.account.0) legs) e).0 in
+    let there = (and_parts (is_in (accounts_of chart) first.account.0) (list_all (is_beside (accounts_of chart) first.account.0) legs) e).0 in
     let a = listed_account chart first.account.0 (listed chart first.account.0 there) in
     let own = same_as_itself (account_at chart first.account.0) a.0 a.1 in
     subst
     (λ (x : Leg). (is_listed chart x.account.0 ≡ true) × (same_ccy (account_at chart first.account.0) (account_at chart x.account.0) ≡ true))
     (same_Some first leg at) (there, own)
 beside chart first legs (suc i) leg e at =
-    let all = (and_parts (is_in chart.accounts first.account.0) (list_all (is_beside chart.accounts first.account.0) legs) e).1 in
-    and_parts (is_in chart.accounts leg.account.0) (same_ccy (account_at chart first.account.0) (account_at chart leg.account.0))
-    (all_at (is_beside chart.accounts first.account.0) legs i leg all at)
+    let all = (and_parts (is_in (accounts_of chart) first.account.0) (list_all (is_beside (accounts_of chart) first.account.0) legs) e).1 in
+    and_parts (is_in (accounts_of chart) leg.account.0) (same_ccy (account_at chart first.account.0) (account_at chart leg.account.0))
+    (all_at (is_beside (accounts_of chart) first.account.0) legs i leg all at)
 
 -- what legs that fit have
 pub fitting : (chart : Chart) (legs : List Leg) → legs_fit chart legs ≡ true → LegsFit chart legs
@@ -86,7 +86,7 @@ fitting chart [] e = absurd (false≢true e)
 fitting chart (d ∷ others) e =
     let legs : List Leg = d ∷ others in
     let number : Bool = leb 2 (length legs) && leb (length legs) 3 in
-    let both = and_parts (are_legs legs) (fit_in chart.accounts legs) e in
+    let both = and_parts (are_legs legs) (fit_in (accounts_of chart) legs) e in
     let even = and_parts (number && begin_with_debit legs && list_all has_amount legs && are_apart legs) (are_even legs) both.0 in
     let apart = and_parts (number && begin_with_debit legs && list_all has_amount legs) (are_apart legs) even.0 in
     let amounts = and_parts (number && begin_with_debit legs) (list_all has_amount legs) apart.0 in

@@ -1,6 +1,6 @@
 -- How histories grow: what stays, what is legal, and what folds give.
 use Rattle.std.proofs.Common.{◌≡◌, ℕ, zero, suc, ◌+◌, ◌<◌, ◌≤◌, Bool, true, false, cond, List, [], ◌∷◌, ◌++◌, Option, Some, None, refl, sym, ap, ◌∙◌, subst, arith, length, take, append_assoc, length-append, ℤ, ◌≤ℤ◌, inl, inr}
-use Rattle.std.specs.Prelude.{◌⊎◌, slice_get, is_some, if◌then◌else◌}
+use Rattle.std.specs.Prelude.{slice_get, is_some, if◌then◌else◌}
 use Rattle.std.proofs.lemmas.Bool.{false≢true}
 use Rattle.std.proofs.lemmas.Int.{ints}
 use Rattle.std.proofs.lemmas.List.{take-append-le, take_all, append-nil}
@@ -11,12 +11,15 @@ use Rattle.corr_ids.specs.declared.mir.Mir.{Mir}
 use Rattle.corr_ids.specs.declared.day.Day.{Day}
 use Rattle.day_model.specs.declared.pay.Pay.{Pay}
 use Rattle.day_model.specs.declared.entry.Entry.{Entry}
-use Rattle.day_model.specs.Chart.{Chart}
+use Rattle.day_model.specs.declared.change.Change.{Change}
+use Rattle.day_model.specs.Chart.{Chart, chart_at}
 use Rattle.day_model.specs.Fit.{FitsAccounts}
 use Rattle.day_model.specs.Balance.{outcome_of}
 use Rattle.day_model.specs.Next.{has_mir, entered_at, entry_of, next_history, fold_of}
-use Rattle.day_model.specs.Legal.{IsLegal}
+use Rattle.day_model.specs.Legal.{AreLegalChanges, FollowsRules, IsLegal}
 use Rattle.day_model.specs.Laws.{EmptyIsLegal, IsLatest, StaysLegal, FoldBegins, FoldOfAppend, FoldAgain, FoldIsLegal, PlacesStay}
+use Rattle.day_model.proofs.laws.Fronts.{changes_longer, fits_then}
+use Rattle.day_model.proofs.laws.Slices.{in_pushed}
 
 -- an element that passes keeps its place when others follow
 first_stays : {A : Type 0} (t : A → Bool) (i k : ℕ) (xs ys : List A) → position_from t i xs ≡ Some k → position_from t i (xs ++ ys) ≡ Some k
@@ -46,18 +49,6 @@ none_passes t i k [] x none at = absurd (none-some x at)
 none_passes t i zero (y ∷ xs) x none at = ap t (sym (same_Some y x at)) ∙ head_fails (t y) i (position_from t (i + 1) xs) none
 none_passes t i (suc k) (y ∷ xs) x none at = none_passes t (i + 1) k xs x (tail_fails (t y) i (position_from t (i + 1) xs) none) at
 
--- an element of a list and one more is an old one, or the new one
-pub in_pushed : {A : Type 0} (xs : List A) (y : A) (k : ℕ) (x : A) → slice_get (xs ++ y ∷ []) k ≡ Some x
-    → (slice_get xs k ≡ Some x) ⊎ ((k ≡ length xs) × (y ≡ x))
-in_pushed [] y zero x at = inr (refl, same_Some y x at)
-in_pushed [] y (suc k) x at = absurd (none-some x at)
-in_pushed (z ∷ xs) y zero x at = inl at
-in_pushed (z ∷ xs) y (suc k) x at =
-    elim (in_pushed xs y k x at) [
-      | inl old ↦ inl old
-      | inr new ↦ inr (ap suc new.0, new.1)
-    ]
-
 same_mir : (mir : Mir) (e : Entry) → e.pay.mir ≡ mir → has_mir mir e ≡ true
 same_mir mir e is = (bytes_eq-Decides e.pay.mir.0 mir.0).1 (ap (λ (m : Mir). m.0) is)
 
@@ -66,16 +57,18 @@ pub one_pay_more : (chart : Chart) (entries : List Entry) (pay : Pay) (day : Day
     → length entries < 100000 → is_some (entered_at pay.mir entries) ≡ false → IsLegal chart (entries ++ entry_of chart entries pay day ∷ [])
 one_pay_more chart entries pay day legal fit latest room new =
     let e : Entry = entry_of chart entries pay day in
-    record {
+    let rules = legal.rules in
+    let follows : FollowsRules chart (entries ++ e ∷ []) = record {
       short = rw (length-append entries (e ∷ [])) (omega arith);
       fits = λ i x at. elim (in_pushed entries e i x at) [
-        | inl old ↦ legal.fits i x old
-        | inr is ↦ subst (λ (y : Entry). FitsAccounts chart y.pay) is.1 fit
+        | inl old ↦ rules.fits i x old
+        | inr is ↦ subst (λ (y : Entry). FitsAccounts (chart_at chart i) y.pay) is.1
+            (subst (λ (k : ℕ). FitsAccounts (chart_at chart k) pay) (sym is.0) (fits_then chart (length entries) pay legal.changes.by_now fit))
       ];
       decided = λ i x at. elim (in_pushed entries e i x at) [
         | inl old ↦
             let lt = slice_get_within entries i x old in
-            legal.decided i x old ∙ ap (λ (es : List Entry). outcome_of chart es x.pay) (sym (take-append-le i entries (e ∷ []) (omega arith)))
+            rules.decided i x old ∙ ap (λ (es : List Entry). outcome_of chart es x.pay) (sym (take-append-le i entries (e ∷ []) (omega arith)))
         | inr is ↦
             let all : take i (entries ++ e ∷ []) ≡ entries =
             take-append-le i entries (e ∷ []) (omega (arith, is.0)) ∙ take_all i entries (omega (arith, is.0)) in
@@ -84,7 +77,7 @@ one_pay_more chart entries pay day legal fit latest room new =
       ];
       single = λ i j x y ati atj same. elim (in_pushed entries e i x ati) [
         | inl oldi ↦ elim (in_pushed entries e j y atj) [
-          | inl oldj ↦ legal.single i j x y oldi oldj same
+          | inl oldj ↦ rules.single i j x y oldi oldj same
           | inr isj ↦ absurd
               (false≢true
               (sym (none_passes (has_mir pay.mir) 1 i entries x new oldi) ∙ same_mir pay.mir x (same ∙ ap (λ (z : Entry). z.pay.mir) (sym isj.1))))
@@ -98,7 +91,7 @@ one_pay_more chart entries pay day legal fit latest room new =
       ];
       days = λ i j x y lt ati atj. elim (in_pushed entries e j y atj) [
         | inl oldj ↦ elim (in_pushed entries e i x ati) [
-          | inl oldi ↦ legal.days i j x y lt oldi oldj
+          | inl oldi ↦ rules.days i j x y lt oldi oldj
           | inr isi ↦ let within = slice_get_within entries j y oldj in absurd (omega (arith, isi.0))
         ]
         | inr isj ↦ elim (in_pushed entries e i x ati) [
@@ -106,7 +99,8 @@ one_pay_more chart entries pay day legal fit latest room new =
           | inr isi ↦ absurd (omega (arith, isi.0, isj.0))
         ]
       ];
-    }
+    } in
+    record { rules = follows; changes = changes_longer chart entries (e ∷ []) legal.changes }
 
 next_cases : (chart : Chart) (entries : List Entry) (pay : Pay) (day : Day) (b : Bool) → is_some (entered_at pay.mir entries) ≡ b
     → IsLegal chart entries → FitsAccounts chart pay → IsLatest entries day → length entries < 100000
@@ -114,6 +108,7 @@ next_cases : (chart : Chart) (entries : List Entry) (pay : Pay) (day : Day) (b :
 next_cases chart entries pay day true is legal fit latest room = legal
 next_cases chart entries pay day false is legal fit latest room = one_pay_more chart entries pay day legal fit latest room is
 
+-- with a pay entered a legal history is legal still
 pub stays_legal : (chart : Chart) (entries : List Entry) (pay : Pay) → IsLegal chart entries → FitsAccounts chart pay → StaysLegal chart entries pay
 stays_legal chart entries pay legal fit day latest room =
     next_cases chart entries pay day (is_some (entered_at pay.mir entries)) refl legal fit latest room
@@ -124,10 +119,12 @@ begins : (chart : Chart) (entries : List Entry) (pay : Pay) (day : Day) (b : Boo
 begins chart entries pay day true = ([], sym (append-nil entries))
 begins chart entries pay day false = (entry_of chart entries pay day ∷ [], refl)
 
+-- the next history begins with the one before
 pub next_begins : (chart : Chart) (entries : List Entry) (pay : Pay) (day : Day)
     → (more : List Entry) × (next_history chart entries pay day ≡ entries ++ more)
 next_begins chart entries pay day = begins chart entries pay day (is_some (entered_at pay.mir entries))
 
+-- and so does a fold
 pub fold_begins : FoldBegins
 fold_begins chart entries [] day = ([], sym (append-nil entries))
 fold_begins chart entries (pay ∷ pays) day =
@@ -163,6 +160,7 @@ last_found t i (x ∷ xs) y e =
       | false ↦ last_found t (i + 1) xs y e
     ]
 
+-- a pay that is entered is found
 pub enters_new : (chart : Chart) (entries : List Entry) (pay : Pay) (day : Day) (b : Bool) → is_some (entered_at pay.mir entries) ≡ b
     → is_some (entered_at pay.mir (if b then entries else entries ++ entry_of chart entries pay day ∷ [])) ≡ true
 enters_new chart entries pay day true is = is
@@ -212,6 +210,7 @@ still_latest chart entries pay day false latest = λ i x at. elim (in_pushed ent
   | inr is ↦ subst (λ (e : Entry). e.day.0 ≤ℤ day.0) is.1 (let d : ℤ = day.0 in omega (arith, ints))
 ]
 
+-- a fold of pays that fit is legal
 pub fold_is_legal : FoldIsLegal
 fold_is_legal chart entries [] day legal fit latest room = legal
 fold_is_legal chart entries (pay ∷ pays) day legal fit latest room =
@@ -223,16 +222,24 @@ fold_is_legal chart entries (pay ∷ pays) day legal fit latest room =
     (still_latest chart entries pay day b latest)
     (omega arith)
 
--- a history without entries is legal
+-- without changes a history without entries is legal
 pub empty_is_legal : EmptyIsLegal
-empty_is_legal chart = record {
-  short = omega arith;
-  fits = λ i e at. absurd (none-some e at);
-  decided = λ i e at. absurd (none-some e at);
-  single = λ i j d e at. absurd (none-some d at);
-  days = λ i j d e lt at. absurd (none-some d at);
+empty_is_legal chart none = record {
+  rules = record {
+    short = omega arith;
+    fits = λ i e at. absurd (none-some e at);
+    decided = λ i e at. absurd (none-some e at);
+    single = λ i j d e at. absurd (none-some d at);
+    days = λ i j d e lt at. absurd (none-some d at);
+  };
+  changes = subst (λ (cs : List Change). AreLegalChanges (record chart { changes = cs }) []) (sym none) (record {
+    few = omega arith;
+    by_now = refl;
+    in_order = refl;
+    in_turn = tt;
+  });
 }
 
 -- so is one that is known to be empty
-pub legal_here : (chart : Chart) (entries : List Entry) → entries ≡ [] → IsLegal chart entries
-legal_here chart entries none = subst (IsLegal chart) (sym none) (empty_is_legal chart)
+pub legal_here : (chart : Chart) (entries : List Entry) → chart.changes ≡ [] → entries ≡ [] → IsLegal chart entries
+legal_here chart entries none empty = subst (IsLegal chart) (sym empty) (empty_is_legal chart none)

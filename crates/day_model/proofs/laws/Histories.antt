@@ -4,7 +4,7 @@ use Rattle.std.specs.Prelude.{slice_get}
 use Rattle.std.proofs.lemmas.List.{get_or-replicate, length-replicate}
 use Rattle.std.proofs.lemmas.Option.{same_Some, slice_get-get_or}
 use Rattle.day_model.specs.declared.entry.Entry.{Entry}
-use Rattle.day_model.specs.Chart.{Chart}
+use Rattle.day_model.specs.Chart.{Chart, accounts_of}
 use Rattle.day_model.specs.Legal.{IsLegal}
 use Rattle.day_model.specs.Totals.{Pair, plus, Fits64, legs_pair, booked_legs, totals_of, pair_at, HasTotals}
 use Rattle.day_model.proofs.laws.Pairs.{totals_more, totals_so_far, legal_totals_fit, entry_adds_its_legs}
@@ -25,7 +25,7 @@ has_none count = record { size = length-replicate count (0, 0); each = pair_of_n
 
 -- each pair fits after the next entry of a legal history
 pub entry_fits : (chart : Chart) (entries : List Entry) (e : Entry) (i : ℕ) (pairs : List Pair) → IsLegal chart entries → slice_get entries i ≡ Some e
-    → HasTotals pairs (length chart.accounts) (take i entries) → PairsFit (booked_legs e) pairs
+    → HasTotals pairs (length (accounts_of chart)) (take i entries) → PairsFit (booked_legs e) pairs
 entry_fits chart entries e i pairs legal at has = λ n p here.
     let there = there_is pairs n p here in
     let is : p ≡ totals_of n (take i entries) =

@@ -11,6 +11,7 @@ use Rattle.day_model.specs.declared.pay.Mt.{Mt}
 use Rattle.day_model.specs.declared.pay.Mt.TheVariants.{Transfer, Cover}
 use Rattle.day_model.specs.declared.reply.Reply.TheVariants as reply
 use Rattle.day_model.specs.Next.{has_mir, entered_at}
+use Rattle.day_model.proofs.laws.Slices.{push_last}
 use Rattle.day_model.specs.Same.{is_mt, is_same_uetr, is_same_pay, reply_at, reply_to}
 
 -- a new entry is found at its place
@@ -24,10 +25,6 @@ found_last t i (x ∷ xs) y none passes =
       | false ↦ λ h. found_last t (i + 1) xs y h passes ∙ ap Some (let s : i + 1 + length xs ≡ i + length (x ∷ xs) = omega arith in s)
     ] none
 
-get_last : {A : Type 0} (xs : List A) (y : A) → slice_get (xs ++ y ∷ []) (length xs) ≡ Some y
-get_last [] y = refl
-get_last (x ∷ xs) y = get_last xs y
-
 same_bytes : (bs : List ℕ) → bytes_eq bs bs ≡ true
 same_bytes bs = (bytes_eq-Decides bs bs).1 refl
 
@@ -39,6 +36,7 @@ same_uetr : (u : Option Uetr) → is_same_uetr u u ≡ true
 same_uetr None = refl
 same_uetr (Some u) = same_bytes u.0
 
+-- a pay is the same as itself
 pub same_pay : (p : Pay) → is_same_pay p p ≡ true
 same_pay p = rw (same_bytes p.mir.0, same_mt p.mt, same_uetr p.uetr, same_bytes p.text) refl
 
@@ -50,7 +48,7 @@ reply_new entries e none =
     found_last (has_mir e.pay.mir) 1 entries e none (same_bytes e.pay.mir.0) in
     let place = 1 + length entries in
     let last : slice_get (entries ++ e ∷ []) (place - 1) ≡ Some e =
-    ap (slice_get (entries ++ e ∷ [])) (let s : place - 1 ≡ length entries = omega arith in s) ∙ get_last entries e in
+    ap (slice_get (entries ++ e ∷ [])) (let s : place - 1 ≡ length entries = omega arith in s) ∙ push_last entries e in
     ap (λ (o : Option ℕ). option_and_then (λ k. reply_at e.pay k (slice_get (entries ++ e ∷ []) (k - 1))) o) at
     ∙ ap (reply_at e.pay place) last
     ∙ ap (λ b. Some (cond b (reply.Entered e.pay.mir place) (reply.Conflict e.pay.mir place))) (same_pay e.pay)

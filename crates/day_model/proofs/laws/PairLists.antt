@@ -45,6 +45,7 @@ slice_get_with n legs (x ∷ pairs) (suc k) p at =
     let there : (n + 1) + k ≡ n + suc k = omega arith in
     subst (λ (m : ℕ). slice_get (pairs_from (n + 1) legs pairs) k ≡ Some (plus p (legs_pair m legs))) there (slice_get_with (n + 1) legs pairs k p at)
 
+-- the pair of an account after legs
 pub pair_after : (legs : List Leg) (pairs : List Pair) (n : ℕ) (p : Pair) → pair_at pairs n ≡ Some p
     → pair_at (pairs_with legs pairs) n ≡ Some (plus p (legs_pair n legs))
 pair_after legs pairs zero p at = absurd (none-some p at)
@@ -92,6 +93,7 @@ pairs_from-cons n leg legs (p ∷ pairs) =
     let tail = pairs_from-cons (n + 1) leg legs pairs in
     λ i. head i ∷ tail i
 
+-- legs are added one after another
 pub pairs_with-cons : (leg : Leg) (legs : List Leg) (pairs : List Pair) → pairs_with (leg ∷ legs) pairs ≡ pairs_with legs (pairs_with (leg ∷ []) pairs)
 pairs_with-cons leg legs pairs = pairs_from-cons 1 leg legs pairs
 
@@ -170,6 +172,7 @@ fit_rest leg legs pairs fits = λ n q at.
 pub left_at : (legs : List Leg) (i : ℕ) (leg : Leg) → i < length legs → leg ≡ get_or legs i leg → drop i legs ≡ leg ∷ drop (i + 1) legs
 left_at legs i leg lt is = drop_more legs i leg lt ∙ ap (λ (x : Leg). x ∷ drop (i + 1) legs) (sym is)
 
+-- the next of the legs fits alone
 pub next_fits : (left rest : List Leg) (leg : Leg) (pairs : List Pair) → left ≡ leg ∷ rest → PairsFit left pairs → PairsFit (leg ∷ []) pairs
 next_fits left rest leg pairs is fits = fit_first leg rest pairs (subst (λ (ls : List Leg). PairsFit ls pairs) is fits)
 

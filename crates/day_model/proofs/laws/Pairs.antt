@@ -12,9 +12,11 @@ use Rattle.day_model.specs.Chart.{Chart, IsListed}
 use Rattle.day_model.specs.Balance.{is_booked, moved, moved_by, credits_of, debits_of}
 use Rattle.day_model.specs.Legal.{IsLegal}
 use Rattle.day_model.specs.Totals.{Pair, plus, leg_pair, legs_pair, booked_legs, totals_of, BalanceIsByTotals, EntryAddsItsLegs, LegalTotalsFit}
+use Rattle.day_model.proofs.laws.Fronts.{fits_now}
 use Rattle.day_model.proofs.laws.Fitting.{fitting, leg_sound}
 use Rattle.day_model.proofs.laws.Sums.{totals_fit}
 
+-- pairs add up in either grouping
 pub plus_assoc : (p q r : Pair) → plus (plus p q) r ≡ plus p (plus q r)
 plus_assoc p q r =
     let credits : (p.0 + q.0) + r.0 ≡ p.0 + (q.0 + r.0) = omega arith in
@@ -28,6 +30,7 @@ plus_nothing p =
     let debits : p.1 + 0 ≡ p.1 = omega arith in
     λ i. (credits i, debits i)
 
+-- what legs add is what the first adds, and what the others do
 pub legs_pair-cons : (n : ℕ) (leg : Leg) (legs : List Leg) → legs_pair n (leg ∷ legs) ≡ plus (legs_pair n (leg ∷ [])) (legs_pair n legs)
 legs_pair-cons n leg legs =
     let credits : sum_by (moved Credit n) (leg ∷ legs) ≡ (0 + moved Credit n leg) + sum_by (moved Credit n) legs =
@@ -54,6 +57,7 @@ other_leg_on : (s : Side) (n : ℕ) (leg : Leg) → leg.side ≡ s → leg.accou
 other_leg_on Credit n leg is apart = rw (is, ne_eqb leg.account.0 n apart) refl
 other_leg_on Debit n leg is apart = rw (is, ne_eqb leg.account.0 n apart) refl
 
+-- a leg on another account adds nothing
 pub other_leg : (n : ℕ) (leg : Leg) → leg.account.0 ≢ n → legs_pair n (leg ∷ []) ≡ (0, 0)
 other_leg n leg apart = other_leg_on leg.side n leg refl apart
 
@@ -107,5 +111,5 @@ pub booked_listed : (chart : Chart) (entries : List Entry) (e : Entry) (i : ℕ)
 booked_listed chart entries e i legal at =
     cond_both (is_booked e.outcome) e.pay.legs [] (All (λ (leg : Leg). IsListed chart leg.account.0))
     (λ _. λ k d lt.
-    (leg_sound chart e.pay.legs k (get_or e.pay.legs k d) (fitting chart e.pay.legs (legal.fits i e at)) (slice_get-get_or e.pay.legs k d lt)).listed)
+    (leg_sound chart e.pay.legs k (get_or e.pay.legs k d) (fitting chart e.pay.legs (fits_now chart entries i e legal at)) (slice_get-get_or e.pay.legs k d lt)).listed)
     (λ _. λ k d lt. absurd (omega (arith, lt)))

@@ -5,7 +5,7 @@ use Rattle.std.specs.List.{position_from}
 use Rattle.std.proofs.lemmas.Option.{same_Some}
 use Rattle.day_model.specs.declared.account.Account.{Account}
 use Rattle.day_model.specs.declared.account.AcctNo.{AcctNo}
-use Rattle.day_model.specs.Chart.{Chart, IsListed, number_of_first}
+use Rattle.day_model.specs.Chart.{Chart, IsListed, number_of_first, accounts_of}
 
 -- counted from one more, it is one more
 pub position_from-next : {A : Type 0} (t : A → Bool) (i : ℕ) (xs : List A) → position_from t (i + 1) xs ≡ option_map (λ k. k + 1) (position_from t i xs)
@@ -16,6 +16,7 @@ position_from-next t i (x ∷ xs) =
       | false ↦ position_from-next t (i + 1) xs
     ]
 
+-- places from 1 are those from 0, and one more
 pub position_from-one : {A : Type 0} (t : A → Bool) (xs : List A) → position_from t 1 xs ≡ option_map (λ k. k + 1) (position_from t 0 xs)
 position_from-one t xs = position_from-next t 0 xs
 
@@ -45,5 +46,5 @@ place-of t accounts n e =
     ] e
 
 -- an account that is found is listed
-pub listed : (t : Account → Bool) (chart : Chart) (n : AcctNo) → number_of_first t chart.accounts ≡ Some n → IsListed chart n.0
-listed t chart n e = let w = position_from-within t 1 n.0 chart.accounts (place-of t chart.accounts n e) in (omega arith, omega arith)
+pub listed : (t : Account → Bool) (chart : Chart) (n : AcctNo) → number_of_first t (accounts_of chart) ≡ Some n → IsListed chart n.0
+listed t chart n e = let w = position_from-within t 1 n.0 (accounts_of chart) (place-of t (accounts_of chart) n e) in (omega arith, omega arith)

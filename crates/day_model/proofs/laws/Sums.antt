@@ -16,15 +16,17 @@ use Rattle.day_model.specs.declared.pay.Side.{Side}
 use Rattle.day_model.specs.declared.pay.Side.TheVariants.{Debit, Credit}
 use Rattle.day_model.specs.declared.pay.Leg.{Leg}
 use Rattle.day_model.specs.declared.entry.Entry.{Entry}
-use Rattle.day_model.specs.Chart.{Chart, IsChart, IsListed, account_at, is_same_ccy, opening_sum}
+use Rattle.day_model.specs.Chart.{Chart, IsChart, IsListed, account_at, is_same_ccy, opening_sum, accounts_of}
 use Rattle.day_model.specs.Fit.{amount_on, is_side, same_ccy, side_sum}
 use Rattle.day_model.specs.Balance.{is_booked, moved, moved_by, credits_of, debits_of, balance_of}
 use Rattle.day_model.specs.Legal.{IsLegal}
 use Rattle.day_model.specs.Laws.{sum_in, in_ccy, moved_in, entry_in, BalancesCancel, TotalsFit}
+use Rattle.day_model.proofs.laws.Fronts.{fits_now}
 use Rattle.day_model.proofs.laws.Fitting.{LegsFit, fitting}
 use Rattle.day_model.proofs.laws.Legs.{moved_small}
 use Rattle.day_model.proofs.laws.Balances.{balance_more, booked_moves, unmoved}
 
+-- amounts that agree have one sum
 pub sum_in-same : (ccy : Ccy) (f g : ℕ → ℤ) (n : ℕ) (accounts : List Account) → ((k : ℕ) → f k ≡ g k) → sum_in ccy f n accounts ≡ sum_in ccy g n accounts
 sum_in-same ccy f g n [] same = refl
 sum_in-same ccy f g n (a ∷ accounts) same =
@@ -48,6 +50,7 @@ nothing_step : (b : Bool) → (if b then pos 0 else pos 0) +ℤ pos 0 ≡ pos 0
 nothing_step true = refl
 nothing_step false = refl
 
+-- nothing on each account sums to 0
 pub sum_in-nothing : (ccy : Ccy) (n : ℕ) (accounts : List Account) → sum_in ccy (λ k. pos 0) n accounts ≡ pos 0
 sum_in-nothing ccy n [] = refl
 sum_in-nothing ccy n (a ∷ accounts) =
@@ -58,6 +61,7 @@ add_step : (b : Bool) (x y : ℕ) (s u : ℤ)
 add_step true x y s u = omega (arith, ints)
 add_step false x y s u = omega (arith, ints)
 
+-- sums of two amounts on each account add up
 pub sum_in-add : (ccy : Ccy) (f g : ℕ → ℕ) (n : ℕ) (accounts : List Account)
     → sum_in ccy (λ k. pos (f k + g k)) n accounts ≡ sum_in ccy (λ k. pos (f k)) n accounts +ℤ sum_in ccy (λ k. pos (g k)) n accounts
 sum_in-add ccy f g n [] = refl
@@ -143,74 +147,76 @@ even_in chart ccy (first ∷ legs) fit =
     λ i leg at. sym (same_in_ccy ccy (account_at chart first.account.0) (account_at chart leg.account.0) (fit.one_ccy i first leg refl at)) in
     in_one_ccy chart ccy Debit b (first ∷ legs) of ∙ ap (λ (x : ℕ). cond b x 0) fit.even ∙ sym (in_one_ccy chart ccy Credit b (first ∷ legs) of)
 
+-- an entry debits in each currency as much as it credits
 pub even_entry : (chart : Chart) (ccy : Ccy) (e : Entry) → LegsFit chart e.pay.legs → entry_in chart ccy Debit e ≡ entry_in chart ccy Credit e
 even_entry chart ccy e fit = ap (λ (x : ℕ). cond (is_booked e.outcome) x 0) (even_in chart ccy e.pay.legs fit)
 
 -- what a leg moves over the accounts of a currency
 leg_over : (chart : Chart) (ccy : Ccy) (b : Bool) (m amount : ℕ) → IsListed chart m
-    → sum_in ccy (λ k. pos (cond (b && eqb m k) amount 0)) 1 chart.accounts ≡ pos (cond (b && in_ccy ccy (account_at chart m)) amount 0)
-leg_over chart ccy true m amount there = sum_in-one ccy m amount 1 chart.accounts there.0 (omega (arith, there.1))
-leg_over chart ccy false m amount there = sum_in-nothing ccy 1 chart.accounts
+    → sum_in ccy (λ k. pos (cond (b && eqb m k) amount 0)) 1 (accounts_of chart) ≡ pos (cond (b && in_ccy ccy (account_at chart m)) amount 0)
+leg_over chart ccy true m amount there = sum_in-one ccy m amount 1 (accounts_of chart) there.0 (omega (arith, there.1))
+leg_over chart ccy false m amount there = sum_in-nothing ccy 1 (accounts_of chart)
 
 -- what legs move over the accounts of a currency
 legs_over : (chart : Chart) (ccy : Ccy) (side : Side) (legs : List Leg)
     → ((i : ℕ) (leg : Leg) → slice_get legs i ≡ Some leg → IsListed chart leg.account.0)
-    → sum_in ccy (λ k. pos (sum_by (moved side k) legs)) 1 chart.accounts ≡ pos (sum_by (moved_in chart ccy side) legs)
-legs_over chart ccy side [] there = sum_in-nothing ccy 1 chart.accounts
+    → sum_in ccy (λ k. pos (sum_by (moved side k) legs)) 1 (accounts_of chart) ≡ pos (sum_by (moved_in chart ccy side) legs)
+legs_over chart ccy side [] there = sum_in-nothing ccy 1 (accounts_of chart)
 legs_over chart ccy side (leg ∷ legs) there =
     let one = leg_over chart ccy (is_side side leg.side) leg.account.0 leg.amount.0 (there 0 leg refl) in
     let rest = legs_over chart ccy side legs (λ i x at. there (suc i) x at) in
     let both : pos (moved_in chart ccy side leg) +ℤ pos (sum_by (moved_in chart ccy side) legs) ≡ pos (sum_by (moved_in chart ccy side) (leg ∷ legs)) =
     omega (arith, ints, sum_by-cons (moved_in chart ccy side) leg legs) in
-    sum_in-same ccy (λ k. pos (sum_by (moved side k) (leg ∷ legs))) (λ k. pos (moved side k leg + sum_by (moved side k) legs)) 1 chart.accounts
+    sum_in-same ccy (λ k. pos (sum_by (moved side k) (leg ∷ legs))) (λ k. pos (moved side k leg + sum_by (moved side k) legs)) 1 (accounts_of chart)
     (λ k. ap (λ (x : ℕ). pos x) (sum_by-cons (moved side k) leg legs))
-    ∙ sum_in-add ccy (λ k. moved side k leg) (λ k. sum_by (moved side k) legs) 1 chart.accounts
-    ∙ ap (λ (z : ℤ). z +ℤ sum_in ccy (λ k. pos (sum_by (moved side k) legs)) 1 chart.accounts) one
+    ∙ sum_in-add ccy (λ k. moved side k leg) (λ k. sum_by (moved side k) legs) 1 (accounts_of chart)
+    ∙ ap (λ (z : ℤ). z +ℤ sum_in ccy (λ k. pos (sum_by (moved side k) legs)) 1 (accounts_of chart)) one
     ∙ ap (λ (z : ℤ). pos (moved_in chart ccy side leg) +ℤ z) rest ∙ both
 
 -- what an entry moves over the accounts of a currency
 pub sum_moved : (side : Side) (chart : Chart) (ccy : Ccy) (e : Entry) → LegsFit chart e.pay.legs
-    → sum_in ccy (λ k. pos (moved_by side k e)) 1 chart.accounts ≡ pos (entry_in chart ccy side e)
+    → sum_in ccy (λ k. pos (moved_by side k e)) 1 (accounts_of chart) ≡ pos (entry_in chart ccy side e)
 sum_moved side chart ccy e fit =
     elim (cases_Bool (is_booked e.outcome)) [
       | inl booked ↦
-          sum_in-same ccy (λ k. pos (moved_by side k e)) (λ k. pos (sum_by (moved side k) e.pay.legs)) 1 chart.accounts
+          sum_in-same ccy (λ k. pos (moved_by side k e)) (λ k. pos (sum_by (moved side k) e.pay.legs)) 1 (accounts_of chart)
           (λ k. ap (λ (x : ℕ). pos x) (booked_moves side k e booked))
           ∙ legs_over chart ccy side e.pay.legs (λ i leg at. (fit.each i leg at).listed)
           ∙ ap (λ (x : ℕ). pos x) (sym (cond-true (is_booked e.outcome) (sum_by (moved_in chart ccy side) e.pay.legs) 0 booked))
       | inr out ↦
-          sum_in-same ccy (λ k. pos (moved_by side k e)) (λ k. pos 0) 1 chart.accounts (λ k. ap (λ (x : ℕ). pos x) (unmoved side k e out))
-          ∙ sum_in-nothing ccy 1 chart.accounts
+          sum_in-same ccy (λ k. pos (moved_by side k e)) (λ k. pos 0) 1 (accounts_of chart) (λ k. ap (λ (x : ℕ). pos x) (unmoved side k e out))
+          ∙ sum_in-nothing ccy 1 (accounts_of chart)
           ∙ ap (λ (x : ℕ). pos x) (sym (cond-false (is_booked e.outcome) (sum_by (moved_in chart ccy side) e.pay.legs) 0 out))
     ]
 
 cancel_at : (chart : Chart) (entries : List Entry) (ccy : Ccy) (i : ℕ) → IsChart chart → IsLegal chart entries → i ≤ length entries
-    → sum_in ccy (balance_of chart (take i entries)) 1 chart.accounts ≡ pos 0
+    → sum_in ccy (balance_of chart (take i entries)) 1 (accounts_of chart) ≡ pos 0
 cancel_at chart entries ccy zero sound legal le =
-    sum_in-openings ccy (balance_of chart (take 0 entries)) 1 chart.accounts
+    sum_in-openings ccy (balance_of chart (take 0 entries)) 1 (accounts_of chart)
     (λ j. let at : (1 + j) - 1 ≡ j = omega arith in rw at (omega (arith, ints))) ∙ sound.balanced ccy
 cancel_at chart entries ccy (suc i) sound legal le =
     elim (slice_get_cases entries i).1 [
       | inl found ↦
           let e : Entry = found.0 in
-          let fit = fitting chart e.pay.legs (legal.fits i e found.2) in
+          let fit = fitting chart e.pay.legs (fits_now chart entries i e legal found.2) in
           let before = cancel_at chart entries ccy i sound legal (omega arith) in
           let credits = sum_moved Credit chart ccy e fit in
           let debits = sum_moved Debit chart ccy e fit in
           let same : entry_in chart ccy Debit e ≡ entry_in chart ccy Credit e = even_entry chart ccy e fit in
           let next : suc i ≡ i + 1 = omega arith in
-          ap (λ (k : ℕ). sum_in ccy (balance_of chart (take k entries)) 1 chart.accounts) next
+          ap (λ (k : ℕ). sum_in ccy (balance_of chart (take k entries)) 1 (accounts_of chart)) next
           ∙ sum_in-same ccy (balance_of chart (take (i + 1) entries))
-          (λ n. (balance_of chart (take i entries) n +ℤ pos (moved_by Credit n e)) -ℤ pos (moved_by Debit n e)) 1 chart.accounts
+          (λ n. (balance_of chart (take i entries) n +ℤ pos (moved_by Credit n e)) -ℤ pos (moved_by Debit n e)) 1 (accounts_of chart)
           (λ n. balance_more chart entries n i e found.2)
-          ∙ sum_in-plus ccy (balance_of chart (take i entries)) (λ n. pos (moved_by Credit n e)) (λ n. pos (moved_by Debit n e)) 1 chart.accounts
+          ∙ sum_in-plus ccy (balance_of chart (take i entries)) (λ n. pos (moved_by Credit n e)) (λ n. pos (moved_by Debit n e)) 1 (accounts_of chart)
           ∙ rw (before, credits, debits, same) (omega (arith, ints))
       | inr past ↦ absurd (omega (arith, past.0))
     ]
 
+-- balances of a currency sum to 0
 pub balances_cancel : (chart : Chart) (entries : List Entry) → IsChart chart → IsLegal chart entries → BalancesCancel chart entries
 balances_cancel chart entries sound legal ccy =
-    subst (λ (es : List Entry). sum_in ccy (balance_of chart es) 1 chart.accounts ≡ pos 0) (take_all (length entries) entries (omega arith))
+    subst (λ (es : List Entry). sum_in ccy (balance_of chart es) 1 (accounts_of chart) ≡ pos 0) (take_all (length entries) entries (omega arith))
     (cancel_at chart entries ccy (length entries) sound legal (omega arith))
 
 -- one entry moves less than 10^14 on one side of an account
@@ -228,7 +234,7 @@ totals_at chart entries n (suc i) legal le =
           let e : Entry = found.0 in
           let item : get_or entries i e ≡ e = found.3 in
           let before = totals_at chart entries n i legal (omega arith) in
-          let fit = fitting chart e.pay.legs (legal.fits i e found.2) in
+          let fit = fitting chart e.pay.legs (fits_now chart entries i e legal found.2) in
           let credit = entry_small Credit chart n e fit in
           let debit = entry_small Debit chart n e fit in
           let credits : credits_of (take (i + 1) entries) n ≡ credits_of (take i entries) n + moved_by Credit n e =
@@ -240,11 +246,12 @@ totals_at chart entries n (suc i) legal le =
       | inr past ↦ absurd (omega (arith, past.0))
     ]
 
+-- credits and debits of an account fit 64 bits
 pub totals_fit : (chart : Chart) (entries : List Entry) (n : ℕ) → IsLegal chart entries → TotalsFit entries n
 totals_fit chart entries n legal =
     let all = take_all (length entries) entries (omega arith) in
     let at = totals_at chart entries n (length entries) legal (omega arith) in
-    let short = legal.short in
+    let short = legal.rules.short in
     let credits : credits_of entries n ≤ length entries * amount_end =
     subst (λ (es : List Entry). credits_of es n ≤ length entries * amount_end) all at.0 in
     let debits : debits_of entries n ≤ length entries * amount_end = subst (λ (es : List Entry). debits_of es n ≤ length entries * amount_end) all at.1 in

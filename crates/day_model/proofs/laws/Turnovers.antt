@@ -12,27 +12,28 @@ use Rattle.corr_money.specs.declared.amount.Ccy.{Ccy}
 use Rattle.day_model.specs.declared.pay.Side.{Side}
 use Rattle.day_model.specs.declared.pay.Side.TheVariants.{Debit, Credit}
 use Rattle.day_model.specs.declared.entry.Entry.{Entry}
-use Rattle.day_model.specs.Chart.{Chart}
+use Rattle.day_model.specs.Chart.{Chart, accounts_of}
 use Rattle.day_model.specs.Balance.{is_booked, moved_by}
 use Rattle.day_model.specs.Legal.{IsLegal}
 use Rattle.day_model.specs.Laws.{sum_in, moved_in, entry_in, turnover, DebitsEqualCredits}
+use Rattle.day_model.proofs.laws.Fronts.{fits_now}
 use Rattle.day_model.proofs.laws.Fitting.{LegsFit, fitting}
 use Rattle.day_model.proofs.laws.Legs.{moved_in_small}
 use Rattle.day_model.proofs.laws.Sums.{sum_in-add, sum_in-nothing, sum_in-same, sum_moved, even_entry}
 
 -- the sum over the accounts of what the first entries move on each
 abbrev moved_over : Chart → Ccy → Side → List Entry → ℤ
-moved_over chart ccy side entries = sum_in ccy (λ n. pos (sum_by (moved_by side n) entries)) 1 chart.accounts
+moved_over chart ccy side entries = sum_in ccy (λ n. pos (sum_by (moved_by side n) entries)) 1 (accounts_of chart)
 
 turnover_at : (side : Side) (chart : Chart) (entries : List Entry) (ccy : Ccy) (i : ℕ) → IsLegal chart entries → i ≤ length entries
     → moved_over chart ccy side (take i entries) ≡ pos (turnover chart ccy side (take i entries))
-turnover_at side chart entries ccy zero legal le = sum_in-nothing ccy 1 chart.accounts
+turnover_at side chart entries ccy zero legal le = sum_in-nothing ccy 1 (accounts_of chart)
 turnover_at side chart entries ccy (suc i) legal le =
     elim (slice_get_cases entries i).1 [
       | inl found ↦
           let e : Entry = found.0 in
           let item : get_or entries i e ≡ e = found.3 in
-          let fit = fitting chart e.pay.legs (legal.fits i e found.2) in
+          let fit = fitting chart e.pay.legs (fits_now chart entries i e legal found.2) in
           let before = turnover_at side chart entries ccy i legal (omega arith) in
           let more : (n : ℕ) → sum_by (moved_by side n) (take (i + 1) entries) ≡ sum_by (moved_by side n) (take i entries) + moved_by side n e =
           λ n.
@@ -45,9 +46,9 @@ turnover_at side chart entries ccy (suc i) legal le =
           let both : pos so_far +ℤ pos (entry_in chart ccy side e) ≡ pos (so_far + entry_in chart ccy side e) = omega (arith, ints) in
           ap (λ (k : ℕ). moved_over chart ccy side (take k entries)) next
           ∙ sum_in-same ccy (λ n. pos (sum_by (moved_by side n) (take (i + 1) entries)))
-          (λ n. pos (sum_by (moved_by side n) (take i entries) + moved_by side n e)) 1 chart.accounts (λ n. ap (λ (x : ℕ). pos x) (more n))
-          ∙ sum_in-add ccy (λ n. sum_by (moved_by side n) (take i entries)) (λ n. moved_by side n e) 1 chart.accounts
-          ∙ ap (λ (z : ℤ). z +ℤ sum_in ccy (λ n. pos (moved_by side n e)) 1 chart.accounts) before
+          (λ n. pos (sum_by (moved_by side n) (take i entries) + moved_by side n e)) 1 (accounts_of chart) (λ n. ap (λ (x : ℕ). pos x) (more n))
+          ∙ sum_in-add ccy (λ n. sum_by (moved_by side n) (take i entries)) (λ n. moved_by side n e) 1 (accounts_of chart)
+          ∙ ap (λ (z : ℤ). z +ℤ sum_in ccy (λ n. pos (moved_by side n e)) 1 (accounts_of chart)) before
           ∙ ap (λ (z : ℤ). pos so_far +ℤ z) (sum_moved side chart ccy e fit)
           ∙ both
           ∙ ap (λ (x : ℕ). pos x) (sym total)
@@ -57,7 +58,7 @@ turnover_at side chart entries ccy (suc i) legal le =
 
 -- after a legal history a currency's turnover is the sum of what was moved on its accounts
 pub turnover_by_accounts : (side : Side) (chart : Chart) (entries : List Entry) (ccy : Ccy) → IsLegal chart entries
-    → sum_in ccy (λ n. pos (sum_by (moved_by side n) entries)) 1 chart.accounts ≡ pos (turnover chart ccy side entries)
+    → sum_in ccy (λ n. pos (sum_by (moved_by side n) entries)) 1 (accounts_of chart) ≡ pos (turnover chart ccy side entries)
 turnover_by_accounts side chart entries ccy legal =
     subst (λ (es : List Entry). moved_over chart ccy side es ≡ pos (turnover chart ccy side es)) (take_all (length entries) entries (omega arith))
     (turnover_at side chart entries ccy (length entries) legal (omega arith))
@@ -77,8 +78,8 @@ pub turnover_fits : (side : Side) (chart : Chart) (entries : List Entry) (ccy : 
 turnover_fits side chart entries ccy legal =
     omega (
       arith,
-      bounded (entry_in chart ccy side) entries (λ i e at. entry_small side chart ccy e (fitting chart e.pay.legs (legal.fits i e at))),
-      legal.short,
+      bounded (entry_in chart ccy side) entries (λ i e at. entry_small side chart ccy e (fitting chart e.pay.legs (fits_now chart entries i e legal at))),
+      legal.rules.short,
     )
 
 even_at : (chart : Chart) (entries : List Entry) (ccy : Ccy) (i : ℕ) → IsLegal chart entries → i ≤ length entries
@@ -90,7 +91,7 @@ even_at chart entries ccy (suc i) legal le =
           let e : Entry = found.0 in
           let item : get_or entries i e ≡ e = found.3 in
           let before = even_at chart entries ccy i legal (omega arith) in
-          let here = even_entry chart ccy e (fitting chart e.pay.legs (legal.fits i e found.2)) in
+          let here = even_entry chart ccy e (fitting chart e.pay.legs (fits_now chart entries i e legal found.2)) in
           let debits : turnover chart ccy Debit (take (i + 1) entries) ≡ turnover chart ccy Debit (take i entries) + entry_in chart ccy Debit e =
           sum_by_more (entry_in chart ccy Debit) entries i e found.1
           ∙ ap (λ (x : Entry). turnover chart ccy Debit (take i entries) + entry_in chart ccy Debit x) item in

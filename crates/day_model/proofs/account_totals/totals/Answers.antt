@@ -2,6 +2,7 @@ use Rattle.std.proofs.Common.{◌≡◌, ◌≤◌, ◌+◌, ◌-◌, ℕ, List,
 use Rattle.std.specs.Prelude.{slice_get}
 use Rattle.day_model.specs.declared.pay.Leg.{Leg}
 use Rattle.day_model.specs.declared.entry.Entry.{Entry}
+use Rattle.day_model.specs.Chart.{accounts_of}
 use Rattle.day_model.specs.Totals.{Pair, HasTotals, booked_legs}
 use Rattle.day_model.proofs.laws.Pairs.{booked_listed}
 use Rattle.day_model.specs.Pairs.{PairsFit, pairs_with}
@@ -31,7 +32,7 @@ add_legs-requires-clause-fits c =
 pub loop-at-preserved : goal.loop-at-preserved
 loop-at-preserved c =
     let entries = c.args.h.now.entries in
-    let count = length c.args.a.now.accounts in
+    let count = length (accounts_of c.args.a.now) in
     let pairs = c.loop-at.pairs.items in
     let e = c.get.result.now in
     let at = placed entries c.loop-at.at e c.get.ensures in

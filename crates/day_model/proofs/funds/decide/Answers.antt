@@ -7,7 +7,7 @@ use Rattle.day_model.specs.declared.entry.Outcome.{Outcome}
 use Rattle.day_model.specs.declared.entry.Outcome.TheVariants.{Booked, Unfunded}
 use Rattle.day_model.specs.Balance.{changed, is_within}
 use Rattle.day_model.proofs.laws.Fitting.{fitting, leg_sound}
-use Rattle.day_model.proofs.laws.Balances.{small_balance}
+use Rattle.day_model.proofs.laws.Standing.{small_balance}
 use Rattle.day_model.proofs.LegTests.{fault_here, none_more, leg_tested}
 use Rattle.day_model.proofs.laws.Growth.{stays_legal}
 use Rattle.day_model.proofs.funds.decide.Goals as goal
@@ -74,7 +74,7 @@ loop-at-preserved c =
     let pass : is_within (Some a) (changed leg.side leg.amount.0 (to_z w64 (of_z w64 c.balance-before.result))) ≡ true =
     ap (is_within (Some a)) (sym (after ∙ c.after_leg.ensures)) ∙ sym c.may_hold.ensures ∙ c.if-not-may_hold.false in
     none_more c.args.a.now c.args.h.now.entries legs c.loop-at.at leg c.loop-at.invariant at lt
-    (leg_tested c.args.a.now c.args.h.now.entries (c.loop-at.at + 1) leg a (to_z w64 (of_z w64 c.balance-before.result)) true c.get.ensures.value
+    (leg_tested c.args.a.now c.args.h.now.entries (c.loop-at.at + 1) leg a (to_z w64 (of_z w64 c.balance-before.result)) true c.requires.legal.changes.by_now c.get.ensures.value
     (held ∙ c.balance-before.ensures.value) pass)
 
 pub returns-clause-next : goal.returns-clause-next
@@ -99,7 +99,7 @@ returns-then-not-may_hold-clause-value c =
     let fails : is_within (Some a) (changed leg.side leg.amount.0 balance) ≡ false =
     ap (is_within (Some a)) (sym (after ∙ c.after_leg.ensures)) ∙ sym c.may_hold.ensures ∙ c.if-not-may_hold.true in
     let tested =
-    leg_tested chart entries (c.loop-at.at + 1) leg a balance false c.get.ensures.value (held ∙ c.balance-before.ensures.value) fails in
+    leg_tested chart entries (c.loop-at.at + 1) leg a balance false c.requires.legal.changes.by_now c.get.ensures.value (held ∙ c.balance-before.ensures.value) fails in
     sym
     (ap (λ (o : Option Outcome). unwrap_or o Booked)
     (fault_here chart entries legs c.loop-at.at leg (Unfunded (c.loop-at.at + 1) balance) c.loop-at.invariant at lt tested))

@@ -12,7 +12,7 @@ overflow_add-sums c =
     let row : Account = c.row-item.result in
     let here = slice_get_read rows _ c.loop-row.row-index row refl c.loop-row-test.true c.row-item.is in
     let was : c.or_insert.result.now ≡ sum_in c.loop-row.sums.entries row.ccy = rw (c.or_insert.ensures.value, c.in_ok-sums.ensures.value) refl in
-    let fit = sums_fit rows c.loop-row.row-index row c.loop-row.sums.entries _ c.requires.limited c.requires.few here c.loop-row-test.true c.loop-row.invariant was in
+    let fit = sums_fit rows c.loop-row.row-index row c.loop-row.sums.entries _ c.requires.limited c.requires.apart.few here c.loop-row-test.true c.loop-row.invariant was in
     rw (fit.sum, fit.opening) fit.together
 
 pub loop-row-preserved : goal.loop-row-preserved
@@ -22,7 +22,7 @@ loop-row-preserved c =
     let row : Account = c.row-item.result in
     let here = slice_get_read rows _ i row refl c.loop-row-test.true c.row-item.is in
     let was : c.or_insert.result.now ≡ sum_in c.loop-row.sums.entries row.ccy = rw (c.or_insert.ensures.value, c.in_ok-sums.ensures.value) refl in
-    let fit = sums_fit rows i row c.loop-row.sums.entries _ c.requires.limited c.requires.few here c.loop-row-test.true c.loop-row.invariant was in
+    let fit = sums_fit rows i row c.loop-row.sums.entries _ c.requires.limited c.requires.apart.few here c.loop-row-test.true c.loop-row.invariant was in
     let put = to_z w64 (of_z w64 (to_z w64 (of_z w64 c.or_insert.result.now) +ℤ to_z w64 (of_z w64 row.opening))) in
     let is : put ≡ sum_in c.loop-row.sums.entries row.ccy +ℤ row.opening = rw (fit.sum, fit.opening) (to_z-of_z w64 _ fit.together) ∙ ap (λ (z : ℤ). z +ℤ row.opening) was in
     let updated = c.in_ok-sums.ensures.update.0 put in

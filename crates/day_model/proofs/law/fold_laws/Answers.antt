@@ -1,4 +1,5 @@
 use Rattle.day_model.proofs.laws.Growth.{empty_is_legal, fold_again, fold_begins, fold_is_legal, fold_of_append, places_stay}
+use Rattle.day_model.proofs.laws.Folds.{legal_fold}
 use Rattle.day_model.proofs.law.fold_laws.Goals as goal
 
 pub returns-clause-begins : goal.returns-clause-begins
@@ -18,3 +19,6 @@ returns-clause-places c = places_stay
 
 pub returns-clause-empty : goal.returns-clause-empty
 returns-clause-empty c = empty_is_legal
+
+pub returns-clause-history : goal.returns-clause-history
+returns-clause-history c = legal_fold

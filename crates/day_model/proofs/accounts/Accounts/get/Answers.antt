@@ -1,7 +1,6 @@
 use Rattle.std.proofs.Common.{◌≡◌, ℕ, ◌-◌, ◌≤◌, List, get_or, length, Some, refl, ap, ◌∙◌, arith}
 use Rattle.std.specs.Prelude.{slice_get}
 use Rattle.std.proofs.lemmas.Option.{slice_get_read}
-use Rattle.day_model.specs.Chart.{Chart}
 use Rattle.day_model.specs.declared.account.Account.{Account}
 use Rattle.day_model.proofs.accounts.Accounts.get.Goals as goal
 
@@ -13,13 +12,9 @@ there rows accounts n item same within is =
 
 pub returns-clause-owner : goal.returns-clause-owner
 returns-clause-owner c =
-    let item = c.index-as_slice-a.result in
-    let i = c.args.a.0 - 1 in
-    let rows = c.as_slice.ensures ∙ ap (λ (v : Chart). v.accounts) c.self.view_is in
-    let at = there c.as_slice.result.now c.args.self.now.accounts c.args.a.0 item rows c.requires c.index-as_slice-a.is in
-    (c.self.invariant.rows.formed i item (ap (λ (v : Chart). slice_get v.accounts i) c.self.view_is ∙ at)).owner
+    let item = c.index-after_changes-a.result in
+    let at = there c.after_changes.result.now _ c.args.a.0 item c.after_changes.ensures.value c.requires c.index-after_changes-a.is in
+    (c.after_changes.ensures.sound.rows.apart.formed (c.args.a.0 - 1) item at).owner
 
 pub returns-clause-value : goal.returns-clause-value
-returns-clause-value c =
-    let rows = c.as_slice.ensures ∙ ap (λ (v : Chart). v.accounts) c.self.view_is in
-    there c.as_slice.result.now c.args.self.now.accounts c.args.a.0 c.index-as_slice-a.result rows c.requires c.index-as_slice-a.is
+returns-clause-value c = there c.after_changes.result.now _ c.args.a.0 c.index-after_changes-a.result c.after_changes.ensures.value c.requires c.index-after_changes-a.is
