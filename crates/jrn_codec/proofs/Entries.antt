@@ -1,5 +1,5 @@
 -- What is read is the record of an entry, and each entry's record is read.
-use Rattle.std.proofs.Common.{◌≡◌, ℕ, ◌<◌, ◌≤◌, ◌^◌, ◌==◌, ◌&&◌, Bool, true, cond, List, [], ◌∷◌, ◌++◌, length, All, Option, Some, None, Result, Ok, Err, refl, sym, ap, subst, ◌∙◌, append_assoc, arith}
+use Rattle.std.proofs.Common.{◌≡◌, ℕ, ◌<◌, ◌≤◌, ◌^◌, ◌==◌, ◌&&◌, true, cond, List, [], ◌∷◌, ◌++◌, length, All, Option, Some, None, Result, Ok, Err, refl, sym, ap, subst, ◌∙◌, append_assoc, arith}
 use Rattle.std.specs.Prelude.{IfOk, IfSome, nat_le, option_and_then}
 use Rattle.std.specs.List.{AllByRecursion}
 use Rattle.std.proofs.lemmas.Bool.{eqb-true}
@@ -25,7 +25,7 @@ use Rattle.jrn_codec.specs.declared.fault.EntryFault.{EntryFault}
 use Rattle.jrn_codec.specs.declared.fault.EntryFault.TheVariants as faults
 use Rattle.jrn_codec.specs.Answers.{AnswersRead, IsGiven}
 use Rattle.jrn_codec.specs.Spelling.{optional_bytes, listed_bytes, long_bytes}
-use Rattle.jrn_codec.specs.Record.{IsEntry, IsOutcome, mt_mark, day_bytes, outcome_bytes, stamp_bytes, fate_bytes, leg_bytes, order_bytes, entry_bytes}
+use Rattle.jrn_codec.specs.Record.{IsEntry, IsOutcome, mt_mark, day_bytes, outcome_bytes, stamp_bytes, fate_bytes, leg_bytes, order_bytes, entry_bytes_1}
 use Rattle.jrn_codec.specs.Reading.{mark_at, optional_at, listed_at, long_at}
 use Rattle.jrn_codec.specs.RecordReading.{mt_of, uetr_at, day_at, outcome_at, leg_at, order_at, stamp_at, fate_at, is_whole_pay, entry_with, entry_read}
 use Rattle.jrn_codec.proofs.Fields.{IsBytes, IsField, step, resume, tested, joined5}
@@ -155,7 +155,7 @@ whole_parts legs text rest e =
     let c = both (are_legs legs) (nat_le (length text) 32768) a.0 in
     record { legs_are = c.0; short = le_true (length text) 32768 c.1; ended = nil_from_length rest (eqb-true (length rest) 0 a.1) }
 
-entry_takes : (bytes : List ℕ) (e : Entry) → IsBytes bytes → entry_read bytes ≡ Some e → IsEntry e × (bytes ≡ entry_bytes e)
+entry_takes : (bytes : List ℕ) (e : Entry) → IsBytes bytes → entry_read bytes ≡ Some e → IsEntry e × (bytes ≡ entry_bytes_1 e)
 unfolding entry_read
 entry_takes bytes e b read =
     let stamp = step stamp_field entry_stamp bytes e b read in
@@ -169,7 +169,7 @@ entry_takes bytes e b read =
     let last : orders.rest ≡ long_bytes text.value = text.parts ∙ ap (λ (s : List ℕ). long_bytes text.value ++ s) w.ended ∙ append-nil (long_bytes text.value) in
     let on = stamp.parts ∙ ap (λ (s : List ℕ). stamped stamp.value ++ s) (fate.parts ∙ ap (λ (s : List ℕ). fated fate.value ++ s)
     (legs.parts ∙ ap (λ (s : List ℕ). listed_bytes leg_bytes legs.value ++ s) (orders.parts ∙ ap (λ (s : List ℕ). listed_bytes order_bytes orders.value ++ s) last))) in
-    let whole : bytes ≡ entry_bytes made = on ∙ joined5 (stamped stamp.value) (fated fate.value) (listed_bytes leg_bytes legs.value) (listed_bytes order_bytes orders.value) (long_bytes text.value) in
+    let whole : bytes ≡ entry_bytes_1 made = on ∙ joined5 (stamped stamp.value) (fated fate.value) (listed_bytes leg_bytes legs.value) (listed_bytes order_bytes orders.value) (long_bytes text.value) in
     let each_leg : All IsLeg legs.value = All-from_recursion IsLeg legs.value (weaker FitsLeg IsLeg (λ leg h. h.0) legs.value legs.fits.1) in
     let each_order : All (IsOrder (length legs.value)) orders.value = All-from_recursion (IsOrder (length legs.value)) orders.value orders.fits.1 in
     let shape : HasShape made.pay = record {
@@ -182,9 +182,9 @@ entry_takes bytes e b read =
       few_orders = omega (arith, orders.fits.0);
       each_order = each_order;
     } in
-    subst (λ (x : Entry). IsEntry x × (bytes ≡ entry_bytes x)) t.1 (record { pay = shape; day = fate.fits.0; outcome = fate.fits.2 }, whole)
+    subst (λ (x : Entry). IsEntry x × (bytes ≡ entry_bytes_1 x)) t.1 (record { pay = shape; day = fate.fits.0; outcome = fate.fits.2 }, whole)
 
-entry_again : (e : Entry) → IsEntry e → entry_read (entry_bytes e) ≡ Some e
+entry_again : (e : Entry) → IsEntry e → entry_read (entry_bytes_1 e) ≡ Some e
 unfolding entry_read
 entry_again e h =
     let stamp : Stamp = record { mir = e.pay.mir; mt = e.pay.mt; uetr = e.pay.uetr } in
@@ -193,7 +193,7 @@ entry_again e h =
     let orders : List ℕ = listed_bytes order_bytes e.pay.orders ++ text in
     let legs : List ℕ = listed_bytes leg_bytes e.pay.legs ++ orders in
     let lists : List ℕ = listed_bytes leg_bytes e.pay.legs ++ listed_bytes order_bytes e.pay.orders in
-    let regrouped : entry_bytes e ≡ stamped stamp ++ (fated fate ++ legs) =
+    let regrouped : entry_bytes_1 e ≡ stamped stamp ++ (fated fate ++ legs) =
     ap (λ (s : List ℕ). (stamped stamp ++ fated fate) ++ (lists ++ s)) (sym (append-nil (long_bytes e.pay.text))) ∙ sym (joined5 (stamped stamp) (fated fate) (listed_bytes leg_bytes e.pay.legs) (listed_bytes order_bytes e.pay.orders) text) in
     let few : length e.pay.text < 2 ^ 32 = omega (arith, h.pay.text) in
     let whole : is_whole_pay e.pay.legs e.pay.text [] ≡ true = rw (h.pay.legs, true_le (length e.pay.text) 32768 h.pay.text) refl in
@@ -207,7 +207,7 @@ entry_again e h =
 
 -- ---- what the reader answers
 
-pub is_found : (bytes : List ℕ) (r : Result Entry EntryFault) → IsBytes bytes → AnswersRead (λ e. e) r (entry_read bytes) → IfOk r (λ e. IsEntry e × (bytes ≡ entry_bytes e))
+pub is_found : (bytes : List ℕ) (r : Result Entry EntryFault) → IsBytes bytes → AnswersRead (λ e. e) r (entry_read bytes) → IfOk r (λ e. IsEntry e × (bytes ≡ entry_bytes_1 e))
 is_found bytes (Ok e) b given = entry_takes bytes e b given
 is_found bytes (Err e) b given = tt
 
@@ -216,5 +216,5 @@ is_read e (Ok x) given = sym (same_Some e x given)
 is_read e (Err faults.NoEntry) given = absurd cc
 is_read e (Err faults.Memory) given = tt
 
-pub is_only : (bytes : List ℕ) (r : Result Entry EntryFault) → AnswersRead (λ e. e) r (entry_read bytes) → (e : Entry) → IsEntry e → bytes ≡ entry_bytes e → IsGiven e r
+pub is_only : (bytes : List ℕ) (r : Result Entry EntryFault) → AnswersRead (λ e. e) r (entry_read bytes) → (e : Entry) → IsEntry e → bytes ≡ entry_bytes_1 e → IsGiven e r
 is_only bytes r given e h is = is_read e r (subst (λ (o : Option Entry). AnswersRead (λ x. x) r o) (ap entry_read is ∙ entry_again e h) given)

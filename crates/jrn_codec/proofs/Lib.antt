@@ -6,8 +6,11 @@ pub mod Identifiers
 pub mod Legs
 pub mod Orders
 pub mod Entries
+pub mod Accounts
 pub mod Heads
+pub mod Changes
 pub mod Lengths
 pub mod Fronts
 pub mod HeadWriting
+pub mod ChangeWriting
 pub mod laws

@@ -1,8 +1,11 @@
 pub mod Spelling
 pub mod Record
 pub mod Header
+pub mod Change
+pub mod Items
 pub mod Reading
 pub mod RecordReading
 pub mod HeaderReading
+pub mod ChangeReading
 pub mod Answers
 pub mod Writing

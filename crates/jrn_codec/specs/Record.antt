@@ -88,9 +88,13 @@ front_bytes e = stamp_bytes e.pay.mir e.pay.mt e.pay.uetr ++ fate_bytes e.day e.
 abbrev pub back_bytes : Entry → List ℕ
 back_bytes e = listed_bytes leg_bytes e.pay.legs ++ listed_bytes order_bytes e.pay.orders ++ long_bytes e.pay.text
 
--- the parts of an entry in their order
+-- the record of an entry in a journal of version 1: the parts in their order
+abbrev pub entry_bytes_1 : Entry → List ℕ
+entry_bytes_1 e = front_bytes e ++ back_bytes e
+
+-- the record of an entry: 0, then the parts
 abbrev pub entry_bytes : Entry → List ℕ
-entry_bytes e = front_bytes e ++ back_bytes e
+entry_bytes e = 0 ∷ entry_bytes_1 e
 
 -- the leg's number has one byte, the balance eight
 abbrev pub IsOutcome : Outcome → Type 0

@@ -4,7 +4,7 @@ ghost use Rattle.std.specs.Prelude.{◌≡◌, IfOk};
 ghost use Rattle.day_model.specs.declared.entry.Entry.{Entry};
 ghost use Rattle.jrn_codec.specs.Answers.{AnswersRead, IsGiven};
 ghost use Rattle.jrn_codec.specs.Reading.{mark_at, optional_at};
-ghost use Rattle.jrn_codec.specs.Record.{IsEntry, entry_bytes};
+ghost use Rattle.jrn_codec.specs.Record.{IsEntry, entry_bytes, entry_bytes_1};
 ghost use Rattle.jrn_codec.specs.RecordReading.{day_at, entry_read, entry_with, fate_at, in_century, is_whole_pay, mir_at, mt_of, outcome_at, stamp_at, uetr_at, unfunded_at};
 
 use crate::fault::EntryFault;
@@ -190,6 +190,16 @@ fn entry_of(alloc: Global, bytes: &[u8]) -> Result<Entry, EntryFault>
     Ok(entry_with(stamp, fate, legs, orders, text))
 }
 
+/// The entry whose record in a journal of version 1 these bytes are, all of them.
+///
+/// `NoEntry` comes exactly where they are no entry's record of that version; `Memory` where there is no room for the entry.
+pub fn read_entry_1(alloc: Global, b: &[u8]) -> Result<Entry, EntryFault>
+    ensures found { IfOk result (λ e. IsEntry e × (b.now ≡ entry_bytes_1 e)) }
+    ensures only { (e : Entry) → IsEntry e → b.now ≡ entry_bytes_1 e → IsGiven e result }
+{
+    entry_of(alloc, b)
+}
+
 /// The entry whose record these bytes are, all of them.
 ///
 /// `NoEntry` comes exactly where they are no entry's record; `Memory` where there is no room for the entry.
@@ -197,5 +207,8 @@ pub fn read_entry(alloc: Global, b: &[u8]) -> Result<Entry, EntryFault>
     ensures found { IfOk result (λ e. IsEntry e × (b.now ≡ entry_bytes e)) }
     ensures only { (e : Entry) → IsEntry e → b.now ≡ entry_bytes e → IsGiven e result }
 {
-    entry_of(alloc, b)
+    match b {
+        [0, parts @ ..] => read_entry_1(alloc, parts),
+        _ => Err(EntryFault::NoEntry),
+    }
 }

@@ -3,7 +3,7 @@
 ghost use Rattle.std.specs.Prelude.{◌≡◌, ◌++◌, [], ◌∷◌, ◌≤◌, ◌+◌, length, flat_map, All, IsOk, OnErr, OnOk};
 ghost use Rattle.corr_ids.specs.Day.{InCentury};
 ghost use Rattle.day_model.specs.Shape.{HasShape, IsLeg, IsQuote, most_text};
-ghost use Rattle.jrn_codec.specs.Record.{IsEntry, IsOutcome, back_bytes, entry_bytes, fate_bytes, front_bytes, leg_bytes, mt_mark, order_bytes, outcome_bytes, posting_bytes, quote_bytes, side_mark, skip_mark, stamp_bytes, most_record_bytes};
+ghost use Rattle.jrn_codec.specs.Record.{IsEntry, IsOutcome, back_bytes, entry_bytes, entry_bytes_1, fate_bytes, front_bytes, leg_bytes, mt_mark, order_bytes, outcome_bytes, posting_bytes, quote_bytes, side_mark, skip_mark, stamp_bytes, most_record_bytes};
 ghost use Rattle.jrn_codec.specs.Spelling.{bic_bytes, listed_bytes, long_bytes, optional_bytes};
 ghost use Rattle.jrn_codec.specs.Writing.{WritesInRoom, IsFrontOf};
 ghost use Rattle.day_model.specs.Chart.{most_accounts};
@@ -259,13 +259,25 @@ fn put_back(out: &mut Buf, e: &Entry) -> Result<(), Memory>
 #[tactic(auto, using(crate::proofs::Fronts::goes_on))]
 fn put_parts(out: &mut Buf, e: &Entry) -> Result<(), Memory>
     requires { HasShape e.now.pay }
-    ensures ok { OnOk result (out.new.bytes ≡ out.old.bytes ++ entry_bytes e.now) }
-    ensures room { WritesInRoom (entry_bytes e.now) out.old.spare out.new.spare result }
+    ensures ok { OnOk result (out.new.bytes ≡ out.old.bytes ++ entry_bytes_1 e.now) }
+    ensures room { WritesInRoom (entry_bytes_1 e.now) out.old.spare out.new.spare result }
     ensures front { IsFrontOf out.old.bytes out.new.bytes }
     ensures fits { OnOk result (IsOutcome e.now.outcome) }
 {
     put_front(out, e)?;
     put_back(out, e)
+}
+
+#[tactic(auto, using(crate::proofs::Fronts::goes_on))]
+fn put_record(out: &mut Buf, e: &Entry) -> Result<(), Memory>
+    requires { HasShape e.now.pay }
+    ensures ok { OnOk result (out.new.bytes ≡ out.old.bytes ++ entry_bytes e.now) }
+    ensures room { WritesInRoom (entry_bytes e.now) out.old.spare out.new.spare result }
+    ensures front { IsFrontOf out.old.bytes out.new.bytes }
+    ensures fits { OnOk result (IsOutcome e.now.outcome) }
+{
+    push(out, &[0])?;
+    put_parts(out, e)
 }
 
 /// Adds the record of an entry.
@@ -285,7 +297,7 @@ pub fn put_entry(e: &Entry, out: &mut Buf) -> Result<(), Memory>
     ensures err { OnErr result (out.new.bytes ≡ out.old.bytes) }
 {
     let before = out.bytes().len();
-    let written = put_parts(out, e);
+    let written = put_record(out, e);
     if written.is_err() {
         out.truncate(before);
     }

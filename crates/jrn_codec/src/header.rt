@@ -1,10 +1,10 @@
 //! Reading headers.
 
-ghost use Rattle.std.specs.Prelude.{◌≡◌, IfOk};
+ghost use Rattle.std.specs.Prelude.{◌≡◌, IfOk, length};
 ghost use Rattle.day_model.specs.Chart.{Chart, IsChart};
 ghost use Rattle.jrn_codec.specs.Answers.{AnswersRead, IsGiven};
-ghost use Rattle.jrn_codec.specs.Header.{IsHead, head_bytes};
-ghost use Rattle.jrn_codec.specs.HeaderReading.{account_read, chart_read, header_read, limits_at};
+ghost use Rattle.jrn_codec.specs.Header.{IsHead, head_bytes, head_bytes_1, headed_bytes};
+ghost use Rattle.jrn_codec.specs.HeaderReading.{account_read, balances_at, chart_read, header_read, unchanged};
 ghost use Rattle.jrn_codec.specs.Reading.{items_at};
 
 use crate::fault::EntryFault;
@@ -17,28 +17,34 @@ use std::alloc::Global;
 
 /// What a balance may be, and what it is before the first entry.
 #[derive(Clone, Copy, Drop)]
-pub struct Limits {
+pub struct Balances {
     pub floor: i64,
     pub ceil: i64,
     pub opening: i64,
 }
 
-/// A home bank and rows, which may or may not be the accounts of a book.
+/// A home bank and rows, which may or may not be the accounts that a book begins with.
 #[derive(Drop)]
 pub struct Rows {
     pub home: Bic,
     pub accounts: List<Account>,
 }
 
-#[tactic(auto, unfolding(crate::specs::HeaderReading::limits_at))]
-fn limits_at(bytes: &[u8]) -> Result<(Limits, &[u8]), EntryFault>
-    ensures { AnswersRead (λ x. (x.0, x.1.now)) result (limits_at bytes.now) }
+/// The first bytes of a header: the version of the journal.
+pub const VERSION: [u8; 6] = *b"CORRJ2";
+
+/// Those of version 1.
+const VERSION_1: [u8; 6] = *b"CORRJ1";
+
+#[tactic(auto, unfolding(crate::specs::HeaderReading::balances_at))]
+fn balances_at(bytes: &[u8]) -> Result<(Balances, &[u8]), EntryFault>
+    ensures { AnswersRead (λ x. (x.0, x.1.now)) result (balances_at bytes.now) }
 {
     let (floor, rest) = i64_at(bytes)?;
     let (ceil, rest) = i64_at(rest)?;
     let (opening, rest) = i64_at(rest)?;
     Ok((
-        Limits {
+        Balances {
             floor,
             ceil,
             opening,
@@ -47,8 +53,9 @@ fn limits_at(bytes: &[u8]) -> Result<(Limits, &[u8]), EntryFault>
     ))
 }
 
+/// An account, in the form of its columns or not.
 #[tactic(auto, unfolding(crate::specs::HeaderReading::account_read))]
-fn account_at(alloc: Global, bytes: &[u8]) -> Result<(Account, &[u8]), EntryFault>
+pub fn account_at(alloc: Global, bytes: &[u8]) -> Result<(Account, &[u8]), EntryFault>
     ensures { AnswersRead (λ x. (x.0, x.1.now)) result (account_read bytes.now) }
 {
     let (id, rest) = short_at(bytes)?;
@@ -56,16 +63,16 @@ fn account_at(alloc: Global, bytes: &[u8]) -> Result<(Account, &[u8]), EntryFaul
     let (owner, rest) = bic_at(rest)?;
     let (ccy, rest) = cut(rest, 3)?;
     let (decimals, rest) = byte_at(rest)?;
-    let (limits, rest) = limits_at(rest)?;
+    let (balances, rest) = balances_at(rest)?;
     let account = Account {
         id: Text::from_bytes(alloc, id)?,
         kind,
         owner,
         ccy: Ccy([ccy[0], ccy[1], ccy[2]]),
         decimals,
-        floor: limits.floor,
-        ceil: limits.ceil,
-        opening: limits.opening,
+        floor: balances.floor,
+        ceil: balances.ceil,
+        opening: balances.opening,
     };
     Ok((account, rest))
 }
@@ -89,7 +96,7 @@ fn accounts_of(
 
 #[tactic(auto, unfolding(crate::specs::HeaderReading::chart_read))]
 fn rows_of(alloc: Global, bytes: &[u8]) -> Result<Rows, EntryFault>
-    ensures { AnswersRead (λ rows. record { home = rows.home; accounts = rows.accounts }) result (chart_read bytes.now) }
+    ensures { AnswersRead (λ rows. unchanged rows.home rows.accounts) result (chart_read bytes.now) }
 {
     let (home, rest) = bic_at(bytes)?;
     let (count, rest) = u16_at(rest)?;
@@ -101,19 +108,19 @@ fn rows_of(alloc: Global, bytes: &[u8]) -> Result<Rows, EntryFault>
 }
 
 #[tactic(auto, unfolding(crate::specs::HeaderReading::header_read))]
-fn head_of(alloc: Global, bytes: &[u8]) -> Result<Rows, EntryFault>
-    ensures { AnswersRead (λ rows. record { home = rows.home; accounts = rows.accounts }) result (header_read bytes.now) }
+fn head_of(alloc: Global, version: &[u8; 6], bytes: &[u8]) -> Result<Rows, EntryFault>
+    ensures { AnswersRead (λ rows. unchanged rows.home rows.accounts) result (header_read version.now bytes.now) }
 {
     let (mark, rest) = cut(bytes, 6)?;
-    if mark != b"CORRJ1".as_slice() {
+    if mark != version.as_slice() {
         return Err(EntryFault::NoEntry);
     }
     rows_of(alloc, rest)
 }
 
 fn accounts_with(rows: Rows) -> Result<Accounts, EntryFault>
-    ensures found { IfOk result (λ a. (a ≡ record { home = rows.home; accounts = rows.accounts }) × IsChart a) }
-    ensures only { IsChart (record { home = rows.home; accounts = rows.accounts }) → IsGiven (record { home = rows.home; accounts = rows.accounts }) result }
+    ensures found { IfOk result (λ a. (a ≡ unchanged rows.home rows.accounts) × IsChart a) }
+    ensures only { IsChart (unchanged rows.home rows.accounts) → IsGiven (unchanged rows.home rows.accounts) result }
 {
     if !rows_hold(rows.accounts.as_slice()) {
         return Err(EntryFault::NoEntry);
@@ -125,13 +132,29 @@ fn accounts_with(rows: Rows) -> Result<Accounts, EntryFault>
     }
 }
 
-/// The home bank and the accounts whose header record these bytes are, all of them.
+fn read_version(alloc: Global, version: &[u8; 6], b: &[u8]) -> Result<Accounts, EntryFault>
+    requires { length version.now ≡ 6 }
+    ensures found { IfOk result (λ a. IsHead a × (b.now ≡ headed_bytes version.now a)) }
+    ensures only { (chart : Chart) → IsHead chart → b.now ≡ headed_bytes version.now chart → IsGiven chart result }
+{
+    let rows = head_of(alloc, version, b)?;
+    accounts_with(rows)
+}
+
+/// The home bank and the accounts, without changes, whose header record these bytes are, all of them.
 ///
 /// `NoEntry` comes exactly where they are no header of accounts of a book; `Memory` where there is no room for them.
 pub fn read_head(alloc: Global, b: &[u8]) -> Result<Accounts, EntryFault>
     ensures found { IfOk result (λ a. IsHead a × (b.now ≡ head_bytes a)) }
     ensures only { (chart : Chart) → IsHead chart → b.now ≡ head_bytes chart → IsGiven chart result }
 {
-    let rows = head_of(alloc, b)?;
-    accounts_with(rows)
+    read_version(alloc, &VERSION, b)
+}
+
+/// The same of the header record of a journal of version 1.
+pub fn read_head_1(alloc: Global, b: &[u8]) -> Result<Accounts, EntryFault>
+    ensures found { IfOk result (λ a. IsHead a × (b.now ≡ head_bytes_1 a)) }
+    ensures only { (chart : Chart) → IsHead chart → b.now ≡ head_bytes_1 chart → IsGiven chart result }
+{
+    read_version(alloc, &VERSION_1, b)
 }
