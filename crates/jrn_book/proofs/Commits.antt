@@ -15,7 +15,8 @@ use Rattle.jrn_book.specs.Answers.{Answer, IsAnswered, AnswerShows, calls_disk, 
 use Rattle.jrn_book.specs.Appending.{Repeats}
 use Rattle.jrn_book.specs.Book.{Book, Counts, IsBook, StandsOnDisk}
 use Rattle.jrn_book.specs.Commits.{Commits}
-use Rattle.jrn_book.specs.Journal.{IsBeforeOrNext, StandsForBook, entry_records}
+use Rattle.jrn_book.specs.Journal.{IsBeforeOrNext, StandsForBook, item_records}
+use Rattle.jrn_book.specs.declared.answer.Failed.{Failed}
 use Rattle.jrn_book.specs.declared.answer.Committed.TheVariants.{New, Kept}
 use Rattle.jrn_book.specs.declared.answer.CommitFault.TheVariants.{Conflict, Full, DiskFault, Broken, Memory}
 use Rattle.jrn_book.proofs.Entering.{held_with-nil}
@@ -26,9 +27,9 @@ next_entered chart history pay day place at =
     ap (λ (o : Option ℕ). cond (is_some o) history (history ++ entry_of chart history pay day ∷ [])) at
 
 -- a count that rose since the opening
-risen : (failed : Option Day) (at_open now : ℕ) → IsSome failed → Counts failed at_open now → Rose at_open now
+pub risen : (failed : Option Failed) (at_open now : ℕ) → IsSome failed → Counts failed at_open now → Rose at_open now
 risen None at_open now some counts = absurd (cc)
-risen (Some day) at_open now some counts = counts
+risen (Some failure) at_open now some counts = counts
 
 module _ {D : Type 0} (honest : D → Bool) (reads : D → List ℕ) (may_leave : D → List ℕ → Type 0) (moment : D → ℕ) (left_since : D → ℕ → List ℕ → Type 0)
     (faults : D → ℕ) (plan : D → ℕ → Option Bool) (only_now : (disk : D) (c : List ℕ) → left_since disk (moment disk) c → may_leave disk c) where
@@ -36,11 +37,11 @@ module _ {D : Type 0} (honest : D → Bool) (reads : D → List ℕ) (may_leave 
   Told old new held after pay day answer = Commits honest reads may_leave moment left_since faults plan old new held after pay day answer
 
   -- a whole book's file
-  pub settled : (b : Book D) → IsBook honest reads may_leave faults b → b.failed ≡ None → IsSettled honest reads may_leave b.file (head_bytes b.accounts) (entry_records b.history)
-  settled b is whole = subst (λ (f : Option Day). StandsOnDisk honest reads may_leave f b.file b.accounts b.history) whole is.disk
+  pub settled : (b : Book D) → IsBook honest reads may_leave faults b → b.failed ≡ None → IsSettled honest reads may_leave b.file (head_bytes b.accounts) (item_records b.accounts b.history)
+  settled b is whole = subst (λ (f : Option Failed). StandsOnDisk honest reads may_leave f b.file b.accounts b.history) whole is.disk
 
   -- while nothing is called, a crash leaves the history
-  rests : (b : Book D) (pay : Pay) (day : Day) → IsSettled honest reads may_leave b.file (head_bytes b.accounts) (entry_records b.history) → IsTrue (honest (disk_of b.file))
+  rests : (b : Book D) (pay : Pay) (day : Day) → IsSettled honest reads may_leave b.file (head_bytes b.accounts) (item_records b.accounts b.history) → IsTrue (honest (disk_of b.file))
       → LeavesOnly moment left_since (disk_of b.file) (disk_of b.file) (IsBeforeOrNext b.accounts b.history pay day)
   rests b pay day file told = record {
     later = omega arith;
@@ -56,8 +57,8 @@ module _ {D : Type 0} (honest : D → Bool) (reads : D → List ℕ) (may_leave 
         → AnswerShows old.accounts old.history pay day (end_of old.file) old.failed old.at_open (faults (disk_of old.file)) (faults (disk_of old.file)) answer
         → old.history ≡ history_after old.accounts old.history pay day answer
         → legs_entered old.accounts old.history pay day answer ≡ []
-        → old.failed ≡ failed_after old.failed day answer
-        → OnOk answer (IsSettled honest reads may_leave old.file (head_bytes old.accounts) (entry_records old.history))
+        → old.failed ≡ failed_after 1 old.failed day answer
+        → OnOk answer (IsSettled honest reads may_leave old.file (head_bytes old.accounts) (item_records old.accounts old.history))
         → calls_disk answer ≡ false
         → (old.room ≡ Some pay → IsAnswered answer)
         → Told old (record old { room = room }) held held pay day answer

@@ -1,8 +1,9 @@
 -- What a new entry adds to a book.
-use Rattle.std.proofs.Common.{◌≡◌, ℕ, ◌+◌, ◌<◌, ◌≤◌, All, Bool, true, false, cond, List, [], ◌∷◌, ◌++◌, length, get_or, Option, Some, None, refl, sym, ap, ◌∙◌, subst}
-use Rattle.std.specs.Prelude.{◌⊎◌, is_some}
+use Rattle.std.proofs.Common.{◌≡◌, ℕ, ◌+◌, ◌<◌, ◌≤◌, All, Bool, true, false, cond, List, [], ◌∷◌, ◌++◌, length, get_or, take, Option, Some, None, refl, sym, ap, ◌∙◌, subst, arith, append_assoc, append-nil, length-append}
+use Rattle.std.specs.Prelude.{◌⊎◌, is_some, map}
 use Rattle.std.specs.List.{position_from}
 use Rattle.std.specs.Str.{bytes_eq}
+use Rattle.std.proofs.lemmas.Bool.{le-leb, leb-true}
 use Rattle.std.proofs.lemmas.List.{map-append}
 use Rattle.std.proofs.lemmas.List.Elements.{All-nil}
 use Rattle.std.proofs.lemmas.Slice.Eq.{bytes_eq-Decides}
@@ -15,23 +16,31 @@ use Rattle.day_model.specs.declared.entry.Entry.{Entry}
 use Rattle.day_model.specs.declared.entry.Outcome.{Outcome}
 use Rattle.day_model.specs.declared.entry.Outcome.TheVariants.{Booked, Unfunded}
 use Rattle.day_model.specs.Balance.{is_booked}
-use Rattle.day_model.specs.Chart.{Chart}
+use Rattle.day_model.specs.Changes.{is_by}
+use Rattle.day_model.specs.Chart.{AreBy, Chart}
+use Rattle.day_model.specs.Items.{items_of}
+use Rattle.day_model.specs.declared.change.Item.{Item}
+use Rattle.day_model.specs.declared.change.Item.TheVariants.{Entered}
 use Rattle.day_model.specs.Fit.{FitsAccounts}
 use Rattle.day_model.specs.Laws.{IsLatest}
 use Rattle.day_model.specs.Legal.{IsLegal}
 use Rattle.day_model.specs.Next.{entered_at, entry_of, has_mir, next_history}
 use Rattle.day_model.specs.Totals.{Pair, Fits64, booked_legs, legs_pair, plus, totals_of}
+use Rattle.day_model.proofs.laws.Changes.{list_all-then}
 use Rattle.day_model.proofs.laws.Growth.{one_pay_more}
+use Rattle.day_model.proofs.laws.Items.{items_entered}
 use Rattle.day_model.proofs.laws.Pairs.{entry_adds_its_legs, legal_totals_fit, plus_nothing}
 use Rattle.acct_locks.specs.Holdings.{CanSettle, Holding, HoldsOnce, held_totals, held_with}
 use Rattle.jrn_file.specs.Journal.{IsFrame, StandsFor, frame_of}
 use Rattle.jrn_file.specs.Reading.{most_record_bytes}
 use Rattle.jrn_file.proofs.laws.Frames.{record_in-frame}
 use Rattle.jrn_codec.specs.Header.{head_bytes}
+use Rattle.jrn_codec.specs.Items.{item_bytes}
 use Rattle.jrn_codec.specs.Record.{entry_bytes}
 use Rattle.jrn_book.specs.Deciding.{HoldsAll}
 use Rattle.jrn_book.specs.Index.{place_in, references_of}
-use Rattle.jrn_book.specs.Journal.{IsBeforeOrNext, entry_records}
+use Rattle.jrn_book.specs.Drafting.{records_of}
+use Rattle.jrn_book.specs.Journal.{IsBeforeOrNext, item_records}
 
 -- the next history of a pay whose reference is new
 pub next_new : (chart : Chart) (history : List Entry) (pay : Pay) (day : Day) → entered_at pay.mir history ≡ None → next_history chart history pay day ≡ history ++ entry_of chart history pay day ∷ []
@@ -41,12 +50,33 @@ next_new chart history pay day new = ap (λ (o : Option ℕ). cond (is_some o) h
 pub next_legal : (chart : Chart) (history : List Entry) (pay : Pay) (day : Day) → IsLegal chart history → FitsAccounts chart pay → IsLatest history day → length history < 100000 → entered_at pay.mir history ≡ None → IsLegal chart (history ++ entry_of chart history pay day ∷ [])
 next_legal chart history pay day legal fits latest few new = one_pay_more chart history pay day legal fits latest few (ap is_some new)
 
--- the records and the references of a history with an entry more
-pub records_more : (history : List Entry) (e : Entry) → entry_records (history ++ e ∷ []) ≡ entry_records history ++ entry_bytes e ∷ []
-records_more history e = map-append entry_bytes history (e ∷ [])
+-- changes that came by then came by later
+pub by_later : (chart : Chart) (k m : ℕ) → k ≤ m → AreBy k chart → AreBy m chart
+by_later chart k m le by =
+    list_all-then (is_by k) (is_by m) chart.changes (λ c is. le-leb c.after m (let l = leb-true c.after k is in omega (arith, l, le))) by
+
+-- the records and the references of a history with an entry more, which comes after all changes
+pub records_more : (chart : Chart) (history : List Entry) (e : Entry) → AreBy (length history) chart → item_records chart (history ++ e ∷ []) ≡ item_records chart history ++ entry_bytes e ∷ []
+records_more chart history e by =
+    ap (λ (items : List Item). map item_bytes items) (items_entered chart history e by) ∙ map-append item_bytes (items_of chart history) (Entered e ∷ [])
+
+-- and with several more
+pub records_all : (chart : Chart) (history entries : List Entry) → AreBy (length history) chart → item_records chart (history ++ entries) ≡ item_records chart history ++ records_of entries
+records_all chart history [] by = ap (item_records chart) (append-nil history) ∙ sym (append-nil (item_records chart history))
+records_all chart history (e ∷ entries) by =
+    let later = by_later chart (length history) (length (history ++ e ∷ [])) (omega (arith, length-append history (e ∷ []))) by in
+    ap (item_records chart) (sym (append_assoc history (e ∷ []) entries))
+    ∙ records_all chart (history ++ e ∷ []) entries later
+    ∙ ap (λ (rs : List (List ℕ)). rs ++ records_of entries) (records_more chart history e by)
+    ∙ append_assoc (item_records chart history) (entry_bytes e ∷ []) (records_of entries)
 
 pub references_more : (history : List Entry) (e : Entry) → references_of (history ++ e ∷ []) ≡ references_of history ++ e.pay.mir.0 ∷ []
 references_more history e = map-append (λ (x : Entry). x.pay.mir.0) history (e ∷ [])
+
+-- those of a front
+pub references_front : (history entries : List Entry) → take (length history) (references_of (history ++ entries)) ≡ references_of history
+references_front [] entries = refl
+references_front (e ∷ history) entries = ap (λ (rs : List (List ℕ)). e.pay.mir.0 ∷ rs) (references_front history entries)
 
 -- the frame of a record that is short enough
 pub is_frame : (r frame : List ℕ) → frame ≡ frame_of r → length r ≤ most_record_bytes → IsFrame frame
@@ -106,17 +136,17 @@ held_with-nil (h ∷ held) =
     λ i. record { table = h.table; number = h.number; pair = totals i } ∷ rest i
 
 -- the records of the next history
-pub records_next : (chart : Chart) (history : List Entry) (pay : Pay) (day : Day) (e : Entry) (r : List ℕ) → entered_at pay.mir history ≡ None → e ≡ entry_of chart history pay day → r ≡ entry_bytes e
-    → entry_records history ++ r ∷ [] ≡ entry_records (next_history chart history pay day)
-records_next chart history pay day e r new is same =
-    ap (λ (x : List ℕ). entry_records history ++ x ∷ []) (same ∙ ap entry_bytes is)
-    ∙ sym (records_more history (entry_of chart history pay day))
-    ∙ ap entry_records (sym (next_new chart history pay day new))
+pub records_next : (chart : Chart) (history : List Entry) (pay : Pay) (day : Day) (e : Entry) (r : List ℕ) → AreBy (length history) chart → entered_at pay.mir history ≡ None → e ≡ entry_of chart history pay day
+    → r ≡ entry_bytes e → item_records chart history ++ r ∷ [] ≡ item_records chart (next_history chart history pay day)
+records_next chart history pay day e r by new is same =
+    ap (λ (x : List ℕ). item_records chart history ++ x ∷ []) (same ∙ ap entry_bytes is)
+    ∙ sym (records_more chart history (entry_of chart history pay day) by)
+    ∙ ap (item_records chart) (sym (next_new chart history pay day new))
 
 -- each moment of an append is one of the commit
 pub moments : {D : Type 0} (moment : D → ℕ) (left_since : D → ℕ → List ℕ → Type 0) (old new : D) (chart : Chart) (history : List Entry) (pay : Pay) (day : Day) (rs : List (List ℕ))
-    → rs ≡ entry_records (next_history chart history pay day)
-    → LeavesOnly moment left_since old new (λ image. StandsFor image (head_bytes chart) (entry_records history) ⊎ StandsFor image (head_bytes chart) rs)
+    → rs ≡ item_records chart (next_history chart history pay day)
+    → LeavesOnly moment left_since old new (λ image. StandsFor image (head_bytes chart) (item_records chart history) ⊎ StandsFor image (head_bytes chart) rs)
     → LeavesOnly moment left_since old new (IsBeforeOrNext chart history pay day)
 moments moment left_since old new chart history pay day rs is leaves =
-    subst (λ (more : List (List ℕ)). LeavesOnly moment left_since old new (λ image. StandsFor image (head_bytes chart) (entry_records history) ⊎ StandsFor image (head_bytes chart) more)) is leaves
+    subst (λ (more : List (List ℕ)). LeavesOnly moment left_since old new (λ image. StandsFor image (head_bytes chart) (item_records chart history) ⊎ StandsFor image (head_bytes chart) more)) is leaves

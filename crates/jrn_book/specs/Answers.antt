@@ -13,6 +13,7 @@ use Rattle.day_model.specs.Next.{entered_at, entry_of, next_history}
 use Rattle.day_model.specs.Same.{is_same_pay}
 use Rattle.day_model.specs.Totals.{booked_legs}
 use Rattle.jrn_codec.specs.Record.{entry_bytes}
+use Rattle.jrn_book.specs.declared.answer.Failed.{Failed}
 use Rattle.jrn_book.specs.declared.answer.Committed.{Committed}
 use Rattle.jrn_book.specs.declared.answer.Committed.TheVariants.{New, Kept}
 use Rattle.jrn_book.specs.declared.answer.CommitFault.{CommitFault}
@@ -45,7 +46,7 @@ IsFull history end need = (length history ≡ most_entries) ⊎ (most_disk_bytes
 -- What an answer to a pay on a day tells of the history before it, the place `end` of the closed gate, and the disk's count of
 -- faults at the opening, before the call and after it. Each case says that those before it in the order don't hold: a commit
 -- failed before, memory is wanting, the reference is entered, there is no room, the disk failed.
-abbrev pub AnswerShows : Chart → List Entry → Pay → Day → ℕ → Option Day → ℕ → ℕ → ℕ → Answer → Type 0
+abbrev pub AnswerShows : Chart → List Entry → Pay → Day → ℕ → Option Failed → ℕ → ℕ → ℕ → Answer → Type 0
 AnswerShows chart history pay day end failed at_open old new (Err (Broken from now)) =
     IsSome failed × (from ≡ at_open) × (now ≡ new) × Rose from now × (new ≡ old)
 AnswerShows chart history pay day end failed at_open old new (Err Memory) = (failed ≡ None) × (new ≡ old)
@@ -74,10 +75,10 @@ legs_entered chart history pay day (Ok (New place outcome)) = booked_legs (entry
 legs_entered chart history pay day (Ok (Kept place outcome)) = []
 legs_entered chart history pay day (Err fault) = []
 
--- on which day a commit has failed, after this answer
-abbrev pub failed_after : Option Day → Day → Answer → Option Day
-failed_after failed day (Err (DiskFault before after)) = Some day
-failed_after failed day _ = failed
+-- the failure of a commit, after this answer, where it was writing at most so many entries
+abbrev pub failed_after : ℕ → Option Failed → Day → Answer → Option Failed
+failed_after most failed day (Err (DiskFault before after)) = Some record { day = day; most = most }
+failed_after most failed day _ = failed
 
 -- whether the disk was called: a new entry was written, or the disk failed over it
 abbrev pub calls_disk : Answer → Bool

@@ -1,54 +1,118 @@
--- Records that are read one after another as a history.
-use Rattle.std.specs.Prelude.{◌≡◌, ℕ, ◌<◌, ◌^◌, List, [], ◌∷◌, ◌++◌, Result, Ok, Err}
+-- Records that are read one after another as accounts and a history.
+use Rattle.std.specs.Prelude.{◌≡◌, ℕ, ◌<◌, ◌^◌, List, [], ◌∷◌, ◌++◌, length, nat_lt, Option, None, Some, Result, Ok, Err, if◌then◌else◌}
+use Rattle.day_model.specs.declared.change.Item.{Item}
+use Rattle.day_model.specs.declared.change.Item.TheVariants.{Entered, Changed}
+use Rattle.day_model.specs.declared.change.What.{What}
 use Rattle.day_model.specs.declared.entry.Entry.{Entry}
-use Rattle.day_model.specs.Chart.{Chart}
+use Rattle.day_model.specs.Chart.{Chart, with_change}
+use Rattle.day_model.specs.Log.{Log}
+use Rattle.day_model.specs.Totals.{Pair}
 use Rattle.jrn_file.specs.Reading.{size_of, whole}
 use Rattle.jrn_file.specs.declared.fault.OpenFault.{OpenFault}
 use Rattle.jrn_file.specs.declared.fault.OpenFault.TheVariants as open_fault
-use Rattle.jrn_codec.specs.Record.{entry_bytes}
+use Rattle.jrn_file.specs.declared.file.JFile.{JFile}
 use Rattle.jrn_codec.specs.declared.fault.EntryFault.{EntryFault}
 use Rattle.jrn_codec.specs.declared.fault.EntryFault.TheVariants as entry_fault
-use Rattle.jrn_book.specs.Opening.{HasNoHead, IsFaultyAt, IsNextOf, IsNoNext}
+use Rattle.jrn_book.specs.declared.past.Ready.{Ready}
+use Rattle.jrn_book.specs.declared.past.Ready.TheVariants as ready
+use Rattle.jrn_book.specs.declared.version.Version.{Version}
+use Rattle.jrn_book.specs.declared.version.Version.TheVariants.{Two}
+use Rattle.jrn_book.specs.Opening.{Finding, HasNoHead, HasOtherHead, IsFaultyAt, IsNextOf, IsNoNext, book, found_by}
+use Rattle.jrn_book.specs.Versions.{bytes_in}
 
--- what was read: accounts, and entries
+-- what was read: accounts with their changes so far, and entries; and for how many items more there is room
 pub record Read : Type 0 where
   pub accounts : Chart
   pub history : List Entry
+  pub spare : ℕ
 
--- the next record was read: it is that of an entry that may stand next, which is added
-pub record IsReadNext (old : Read) (r : List ℕ) (new : Read) : Type 0 where
-  pub entry : Entry
-  pub next : IsNextOf old.accounts old.history entry
-  pub is : r ≡ entry_bytes entry
-  pub now : new ≡ record old { history = old.history ++ entry ∷ [] }
+-- totals of accounts, with none for a new account where there are more accounts than that
+abbrev pub widened : ℕ → List Pair → List Pair
+widened count pairs = if nat_lt (length pairs) count then pairs ++ (0, 0) ∷ [] else pairs
+
+-- accounts and entries with one item more
+abbrev pub chart_with : Chart → List Entry → Item → Chart
+chart_with chart history (Entered entry) = chart
+chart_with chart history (Changed what) = with_change chart (length history) what
+
+-- the entries of these
+abbrev pub entries_with : List Entry → Item → List Entry
+entries_with history (Entered entry) = history ++ entry ∷ []
+entries_with history (Changed what) = history
+
+-- the accounts and the entries are those of before with an item more
+pub record GrowsBy (old : Read) (item : Item) (new : Read) : Type 0 where
+  pub accounts : new.accounts ≡ chart_with old.accounts old.history item
+  pub history : new.history ≡ entries_with old.history item
+
+-- the accounts and the entries are those of before
+pub record IsSameRead (old new : Read) : Type 0 where
+  pub accounts : new.accounts ≡ old.accounts
+  pub history : new.history ≡ old.history
+
+-- what an item is where its memory was taken: the entry, or the accounts with the change
+abbrev pub IsReadyFor : Read → Item → Ready → Type 0
+IsReadyFor old (Entered entry) (ready.Entry e) = e ≡ entry
+IsReadyFor old (Entered entry) (ready.Accounts chart) = ⊥
+IsReadyFor old (Changed what) (ready.Entry e) = ⊥
+IsReadyFor old (Changed what) (ready.Accounts chart) = chart ≡ with_change old.accounts (length old.history) what
+
+-- such a thing is of an item that may stand next
+abbrev pub IsReady : Read → Ready → Type 0
+IsReady old (ready.Entry e) = IsNextOf Two old.accounts old.history (Entered e)
+IsReady old (ready.Accounts chart) =
+    (what : What) × IsNextOf Two old.accounts old.history (Changed what) × (chart ≡ with_change old.accounts (length old.history) what)
+
+-- the next record was read: it is that of an item that may stand next, which is added
+pub record IsReadNext (version : Version) (old : Read) (r : List ℕ) (new : Read) : Type 0 where
+  pub item : Item
+  pub next : IsNextOf version old.accounts old.history item
+  pub is : r ≡ bytes_in version item
+  pub grows : GrowsBy old item new
 
 -- it is added, or refused and all is as before; out of memory tells nothing
-abbrev pub ReadsRecord : Read → List ℕ → Result (Unit {0}) EntryFault → Read → Type 0
-ReadsRecord old r (Ok done) new = IsReadNext old r new
-ReadsRecord old r (Err entry_fault.NoEntry) new = IsNoNext old.accounts old.history r × (new ≡ old)
-ReadsRecord old r (Err entry_fault.Memory) new = Unit {0}
+abbrev pub ReadsRecord : Version → Read → List ℕ → Result (Unit {0}) EntryFault → Read → Type 0
+ReadsRecord version old r (Ok done) new = IsReadNext version old r new
+ReadsRecord version old r (Err entry_fault.NoEntry) new = IsNoNext version old.accounts old.history r × (new ≡ old)
+ReadsRecord version old r (Err entry_fault.Memory) new = Unit {0}
 
--- What a refusal of records tells: their first is no header, or one is refused at this place, where it has 64 bits; want of
--- memory tells nothing.
-abbrev pub RefusesRecords : List (List ℕ) → OpenFault → Type 0
-RefusesRecords all open_fault.NotAJournal = HasNoHead all
-RefusesRecords all (open_fault.Version found) = ⊥
-RefusesRecords all (open_fault.Damaged at) = size_of all < 2 ^ 64 → IsFaultyAt (whole all) at
-RefusesRecords all (open_fault.DiskFault before after) = ⊥
-RefusesRecords all open_fault.Memory = Unit {0}
+-- what a test of a record tells: the item that may stand next, or that there is none; out of memory tells nothing
+abbrev pub FitsNext : Version → Read → List ℕ → Result Item EntryFault → Type 0
+FitsNext version old r (Ok item) = IsNextOf version old.accounts old.history item × (r ≡ bytes_in version item)
+FitsNext version old r (Err entry_fault.NoEntry) = IsNoNext version old.accounts old.history r
+FitsNext version old r (Err entry_fault.Memory) = Unit {0}
 
--- what a refusal of a header tells: the bytes are no header; out of memory tells nothing
-abbrev pub RefusesHead : List ℕ → OpenFault → Type 0
-RefusesHead bytes open_fault.NotAJournal = HasNoHead (bytes ∷ [])
-RefusesHead bytes (open_fault.Version found) = ⊥
-RefusesHead bytes (open_fault.Damaged at) = ⊥
-RefusesHead bytes (open_fault.DiskFault before after) = ⊥
-RefusesHead bytes open_fault.Memory = Unit {0}
+-- What a refusal of records tells: their first is no header, or one of the other version, or one is refused at this place, where
+-- it has 64 bits; want of memory tells nothing.
+abbrev pub RefusesRecords : Version → List (List ℕ) → OpenFault → Type 0
+RefusesRecords version all open_fault.NotAJournal = HasNoHead all
+RefusesRecords version all (open_fault.Version found) = HasOtherHead version all found
+RefusesRecords version all (open_fault.Damaged at) = size_of all < 2 ^ 64 → IsFaultyAt version (whole all) at
+RefusesRecords version all (open_fault.DiskFault before after) = ⊥
+RefusesRecords version all open_fault.Memory = Unit {0}
 
--- the fault isn't the disk's, and tells no version
+-- what a refusal of a header tells: the bytes are none, or one of the other version; out of memory tells nothing
+abbrev pub RefusesHead : Version → List ℕ → OpenFault → Type 0
+RefusesHead version bytes open_fault.NotAJournal = HasNoHead (bytes ∷ [])
+RefusesHead version bytes (open_fault.Version found) = HasOtherHead version (bytes ∷ []) found
+RefusesHead version bytes (open_fault.Damaged at) = ⊥
+RefusesHead version bytes (open_fault.DiskFault before after) = ⊥
+RefusesHead version bytes open_fault.Memory = Unit {0}
+
+-- the fault isn't the disk's
 abbrev pub IsOfBytes : OpenFault → Type 0
 IsOfBytes open_fault.NotAJournal = Unit {0}
-IsOfBytes (open_fault.Version found) = ⊥
+IsOfBytes (open_fault.Version found) = Unit {0}
 IsOfBytes (open_fault.Damaged at) = Unit {0}
 IsOfBytes (open_fault.DiskFault before after) = ⊥
 IsOfBytes open_fault.Memory = Unit {0}
+
+-- what reading a disk's past says that its bytes are
+abbrev pub past_in : {D : Type 0} → Result (Read × JFile D) (D × OpenFault) → Option Finding
+past_in (Ok opened) = Some (book opened.0.accounts opened.0.history)
+past_in (Err refused) = found_by refused.1
+
+-- what reading a journal of the older version says that its bytes are
+abbrev pub old_in : {D : Type 0} → Result (Chart × Log × D) (D × OpenFault) → Option Finding
+old_in (Ok opened) = Some (book opened.0 opened.1.entries)
+old_in (Err refused) = found_by refused.1

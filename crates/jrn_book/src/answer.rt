@@ -1,5 +1,6 @@
 //! What a commit answers.
 
+use corr_ids::Day;
 use day_model::Outcome;
 
 /// A pay stands in the history, at this place from 1, with this outcome.
@@ -21,10 +22,17 @@ pub enum CommitFault {
     Full { entries: u32, end: u64, need: u64 },
     /// A call of the disk failed: its count of faults before and after.
     DiskFault { before: u64, after: u64 },
-    /// An earlier commit answered DiskFault: the disk's count of faults at the opening and now.
+    /// An earlier commit, or a pay ahead of it in its batch, answered DiskFault: the disk's count of faults at the opening and now.
     Broken { at_open: u64, now: u64 },
     /// There was no memory.
     Memory,
+}
+
+/// A commit that the disk failed: on which day, and how many entries it was writing at most.
+#[derive(Clone, Copy, Debug, PartialEq, Eq, Drop)]
+pub struct Failed {
+    pub day: Day,
+    pub most: u32,
 }
 
 impl From<corr_text::Memory> for CommitFault {

@@ -10,11 +10,12 @@ ghost use Rattle.jrn_file.specs.File.{disk_of};
 ghost use Rattle.jrn_book.specs.Book.{Counts, StandsOnDisk};
 ghost use Rattle.jrn_book.specs.Journal.{IsJournal};
 
+use crate::answer::Failed;
 use crate::index::Index;
 use crate::room::Room;
 use acct_locks::BookSides;
 use corr_disk::Disk;
-use corr_ids::{Day, Mir};
+use corr_ids::Mir;
 use corr_text::Memory;
 use day_model::{Accounts, History, Pay};
 use jrn_file::JFile;
@@ -24,16 +25,17 @@ use std::marker::Model;
 /// Accounts and their history, each entry of which is on the disk.
 ///
 /// Contracts see the accounts, the history, the table of the purses that belong to it, the open file, the disk's count of
-/// faults at the opening, the day of a commit that failed, if one did, and the pay for which there is room, if any.
+/// faults at the opening, the failure of a commit, if one failed, and the pay for which there is room, if any.
 #[derive(Drop)]
 pub struct JrnBook<D: Disk> {
     pub(crate) accounts: Accounts,
     pub(crate) history: History,
     pub(crate) index: Index,
     pub(crate) sides: BookSides,
+    pub(crate) pairs: Vec<(u64, u64)>,
     pub(crate) file: JFile<D>,
     pub(crate) at_open: u64,
-    pub(crate) failed: Option<Day>,
+    pub(crate) failed: Option<Failed>,
     pub(crate) room: Option<Room>,
     pub(crate) alloc: Global,
 }
@@ -46,7 +48,7 @@ impl<D: Disk> Model for JrnBook<D> {
     ghost view = { λ b. record { accounts = b.accounts; history = b.history.entries; table = b.sides.table; file = b.file; at_open = b.at_open; failed = b.failed; room = b.room } };
 
     ghost invariant = { λ b. IsBook D.honest D.reads D.may_leave D.faults (record { accounts = b.accounts; history = b.history.entries; table = b.sides.table; file = b.file; at_open = b.at_open; failed = b.failed; room = b.room })
-        × IsBacked b.accounts b.history b.index b.sides b.room };
+        × IsBacked b.accounts b.history b.index b.sides b.pairs.items b.failed b.room };
 }
 
 impl<D: Disk> JrnBook<D> {
@@ -114,7 +116,7 @@ impl<D: Disk> JrnBook<D> {
     /// The accounts, the history and the disk. Takes no memory.
     ///
     /// What a crash may leave of the disk stands for the history; where a commit failed, it may also stand for the history
-    /// and one legal entry of that commit's day.
+    /// and the legal entries that it was writing, all of them, each of that commit's day.
     pub fn into_parts(self) -> (Accounts, History, D)
         ensures accounts { result.0 ≡ self.accounts }
         ensures history { result.1.entries ≡ self.history }
@@ -129,6 +131,7 @@ impl<D: Disk> JrnBook<D> {
             history,
             index: _,
             sides: _,
+            pairs: _,
             file,
             at_open: _,
             failed: _,

@@ -9,7 +9,7 @@ ghost use Rattle.day_model.specs.Laws.{IsLatest};
 ghost use Rattle.day_model.specs.Legal.{IsLegal};
 ghost use Rattle.day_model.specs.Log.{most_entries};
 ghost use Rattle.day_model.specs.declared.entry.Outcome.TheVariants.{Booked};
-ghost use Rattle.day_model.specs.Chart.{IsChart};
+ghost use Rattle.day_model.specs.Chart.{IsChart, accounts_of};
 ghost use Rattle.day_model.specs.declared.pay.Pay.{Pay as ThePay};
 ghost use Rattle.day_model.specs.declared.entry.Entry.{Entry as TheEntry};
 ghost use Rattle.day_model.specs.Next.{entered_at, entry_of, fold_of};
@@ -26,10 +26,10 @@ ghost use Rattle.jrn_book.specs.Commits.{Commits};
 ghost use Rattle.jrn_book.specs.Appending.{Repeats, ShowsAppend};
 ghost use Rattle.jrn_book.specs.Deciding.{HoldsAll};
 ghost use Rattle.jrn_book.specs.Index.{place_in};
-ghost use Rattle.jrn_book.specs.Journal.{IsBeforeOrNext, IsJournal, file_of, entry_records};
+ghost use Rattle.jrn_book.specs.Journal.{IsBeforeOrNext, IsJournal, file_of, item_records};
 ghost use Rattle.jrn_book.specs.Resuming.{IsResumable};
 
-use crate::answer::{CommitFault, Committed};
+use crate::answer::{CommitFault, Committed, Failed};
 use crate::book::JrnBook;
 use crate::deciding::{decide_held, settle_entry};
 use crate::index::Index;
@@ -38,7 +38,7 @@ use acct_locks::{BookSides, Held};
 use corr_disk::Disk;
 use corr_ids::Day;
 use corr_text::Buf;
-use day_model::{Accounts, Entry, History, Pay};
+use day_model::{Accounts, Entry, History, Pay, add_legs, legs_booked};
 use jrn_file::{AppendFault, JFile};
 
 /// How many entries a history has at most.
@@ -87,7 +87,7 @@ fn prepare<H: Held>(
 ) -> (Entry, Buf)
     requires chart { IsChart a.now }
     requires legal { IsLegal a.now h.now.entries }
-    requires totals { HasTotals sides.old.pairs (length a.now.accounts) h.now.entries }
+    requires totals { HasTotals sides.old.pairs (length (accounts_of a.now)) h.now.entries }
     requires fits { FitsAccounts a.now room }
     requires held { HoldsAll (H.held held.old) room.legs }
     requires table { sides.old.table ≡ H.table held.old }
@@ -117,12 +117,12 @@ pub(crate) fn note(history: &mut History, index: &mut Index, entry: Entry)
     history.push(entry).unwrap();
 }
 
-/// On which day a commit has failed, where this fault comes on a day.
-fn failed_by(fault: CommitFault, day: Day) -> Option<Day>
-    ensures { result ≡ failed_after None day (Err fault) }
+/// The failure of a commit of one pay, where this fault comes on a day.
+fn failed_by(fault: CommitFault, day: Day) -> Option<Failed>
+    ensures { result ≡ failed_after 1 None day (Err fault) }
 {
     match fault {
-        CommitFault::DiskFault { .. } => Some(day),
+        CommitFault::DiskFault { .. } => Some(Failed { day, most: 1 }),
         CommitFault::Conflict { .. } | CommitFault::Full { .. } | CommitFault::Broken { .. } =>
             None,
         CommitFault::Memory => None,
@@ -161,7 +161,7 @@ impl<D: Disk> JrnBook<D> {
         ensures held { H.held held.new ≡ held_with (legs_entered self.old.accounts self.old.history p.now day result) (H.held held.old) }
         ensures purses { (H.table held.new ≡ H.table held.old) × (H.count held.new ≡ H.count held.old) }
         ensures same { self.new ≡ record self.old { history = self.new.history; file = self.new.file; failed = self.new.failed; room = self.new.room } }
-        ensures failed { self.new.failed ≡ failed_after self.old.failed day result }
+        ensures failed { self.new.failed ≡ failed_after 1 self.old.failed day result }
         ensures legal { IsLegal self.new.accounts self.new.history }
         ensures journal { IsJournal self.new.accounts self.new.history }
 
@@ -172,7 +172,7 @@ impl<D: Disk> JrnBook<D> {
         // A crash at any moment of the call leaves the history from before it or the next one; after Ok the next one alone.
         ensures any_moment { self.old.failed ≡ None → IsTrue (D.honest (disk_of self.old.file))
             → LeavesOnly D.moment D.left_since (disk_of self.old.file) (disk_of self.new.file) (IsBeforeOrNext self.old.accounts self.old.history p.now day) }
-        ensures durable { OnOk result (IsSettled D.honest D.reads D.may_leave self.new.file (head_bytes self.old.accounts) (entry_records self.new.history)) }
+        ensures durable { OnOk result (IsSettled D.honest D.reads D.may_leave self.new.file (head_bytes self.old.accounts) (item_records self.old.accounts self.new.history)) }
         ensures place { self.old.failed ≡ None → end_of self.old.file + 1 ≡ length (file_of self.old.accounts self.old.history) }
 
         // Where the history is that of a run so far, whatever a crash leaves stands for one from which the same run, given
@@ -249,7 +249,7 @@ impl<D: Disk> JrnBook<D> {
         ensures held { H.held held.new ≡ held_with (legs_entered self.old.accounts self.old.history p.now day result) (H.held held.old) }
         ensures purses { (H.table held.new ≡ H.table held.old) × (H.count held.new ≡ H.count held.old) }
         ensures same { self.new ≡ record self.old { history = self.new.history; file = self.new.file; failed = self.new.failed; room = self.new.room } }
-        ensures failed { self.new.failed ≡ failed_after self.old.failed day result }
+        ensures failed { self.new.failed ≡ failed_after 1 self.old.failed day result }
         ensures any_moment { IsTrue (D.honest (disk_of self.old.file))
             → LeavesOnly D.moment D.left_since (disk_of self.old.file) (disk_of self.new.file) (IsBeforeOrNext self.old.accounts self.old.history p.now day) }
         ensures file { calls_disk result ≡ false → self.new.file ≡ self.old.file }
@@ -259,7 +259,7 @@ impl<D: Disk> JrnBook<D> {
         ensures later { D.faults (disk_of self.old.file) ≤ D.faults (disk_of self.new.file) }
         ensures no_memory { IsAnswered result }
         ensures legal { IsLegal self.new.accounts self.new.history }
-        ensures durable { OnOk result (IsSettled D.honest D.reads D.may_leave self.new.file (head_bytes self.old.accounts) (entry_records self.new.history)) }
+        ensures durable { OnOk result (IsSettled D.honest D.reads D.may_leave self.new.file (head_bytes self.old.accounts) (item_records self.old.accounts self.new.history)) }
     {
         let Some(room) = self.room.take() else {
             unreachable!()
@@ -278,6 +278,7 @@ impl<D: Disk> JrnBook<D> {
             return Err(fault);
         }
         settle_entry(&entry, &mut self.sides, held);
+        add_legs(&mut self.pairs, legs_booked(&entry));
         let outcome = entry.outcome;
         note(&mut self.history, &mut self.index, entry);
         Ok(Committed::New {

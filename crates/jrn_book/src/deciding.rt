@@ -1,11 +1,12 @@
 //! Decisions by the totals of accounts.
 
-ghost use Rattle.std.specs.Prelude.{◌≡◌, ◌+◌, ◌<◌, ◌≤◌, All, IsTrue, IfNone, length, unwrap_or};
+ghost use Rattle.std.specs.Prelude.{◌≡◌, ◌+◌, ◌<◌, ◌≤◌, All, IsTrue, IfNone, List, length, unwrap_or};
 ghost use Rattle.corr_text.specs.First.{first_of};
 ghost use Rattle.corr_money.specs.Amounts.{amount_end};
+ghost use Rattle.day_model.specs.declared.entry.Entry.{Entry as TheEntry};
 ghost use Rattle.day_model.specs.declared.entry.Outcome.TheVariants.{Booked};
 ghost use Rattle.day_model.specs.Balance.{leg_test, leg_tests};
-ghost use Rattle.day_model.specs.Chart.{IsChart, IsListed, IsSmall};
+ghost use Rattle.day_model.specs.Chart.{IsChart, IsListed, IsSmall, accounts_of};
 ghost use Rattle.day_model.specs.Fit.{legs_fit};
 ghost use Rattle.day_model.specs.Legal.{IsLegal};
 ghost use Rattle.day_model.specs.Pairs.{pairs_with};
@@ -54,7 +55,7 @@ fn held_outcome<H: Held>(
 ) -> Option<Outcome>
     requires chart { IsChart a.now }
     requires legal { IsLegal a.now h.now.entries }
-    requires totals { HasTotals sides.old.pairs (length a.now.accounts) h.now.entries }
+    requires totals { HasTotals sides.old.pairs (length (accounts_of a.now)) h.now.entries }
     requires sound { Sound a.now leg.now }
     requires held { HoldsOnce (H.held held.old) leg.now.account.0 }
     requires table { sides.old.table ≡ H.table held.old }
@@ -78,7 +79,7 @@ fn held_test<H: Held>(
 ) -> Option<Outcome>
     requires chart { IsChart a.now }
     requires legal { IsLegal a.now h.now.entries }
-    requires totals { HasTotals sides.old.pairs (length a.now.accounts) h.now.entries }
+    requires totals { HasTotals sides.old.pairs (length (accounts_of a.now)) h.now.entries }
     requires sound { All (Sound a.now) legs.now }
     requires few { number + length legs.now ≤ 255 }
     requires held { HoldsAll (H.held held.old) legs.now }
@@ -107,7 +108,7 @@ pub(crate) fn decide_held<H: Held>(
 ) -> Outcome
     requires chart { IsChart a.now }
     requires legal { IsLegal a.now h.now.entries }
-    requires totals { HasTotals sides.old.pairs (length a.now.accounts) h.now.entries }
+    requires totals { HasTotals sides.old.pairs (length (accounts_of a.now)) h.now.entries }
     requires fits { IsTrue (legs_fit a.now legs.now) }
     requires held { HoldsAll (H.held held.old) legs.now }
     requires table { sides.old.table ≡ H.table held.old }
@@ -122,59 +123,57 @@ pub(crate) fn decide_held<H: Held>(
     }
 }
 
-// What a leg fails with, by the pair of its account.
-fn pair_outcome(
-    a: &Accounts,
-    h: &History,
-    pairs: &[(u64, u64)],
-    number: u8,
-    leg: &Leg,
-) -> Option<Outcome>
+// What a leg fails with, by the pair of its account after some history.
+fn pair_outcome(a: &Accounts, pairs: &[(u64, u64)], number: u8, leg: &Leg) -> Option<Outcome>
     requires chart { IsChart a.now }
-    requires legal { IsLegal a.now h.now.entries }
-    requires totals { HasTotals pairs.now (length a.now.accounts) h.now.entries }
+    requires past { (entries : List TheEntry) × IsLegal a.now entries × HasTotals pairs.now (length (accounts_of a.now)) entries }
     requires sound { Sound a.now leg.now }
-    ensures value { result ≡ leg_test a.now h.now.entries number leg.now }
+    ensures value { (entries : List TheEntry) → IsLegal a.now entries → HasTotals pairs.now (length (accounts_of a.now)) entries → result ≡ leg_test a.now entries number leg.now }
 {
-    let _ = h;
     leg_outcome(a, number, leg, pairs[leg.account.0 as usize - 1])
 }
 
-fn pairs_test(
-    a: &Accounts,
-    h: &History,
-    pairs: &[(u64, u64)],
-    number: u8,
-    legs: &[Leg],
-) -> Option<Outcome>
+fn pairs_test(a: &Accounts, pairs: &[(u64, u64)], number: u8, legs: &[Leg]) -> Option<Outcome>
     requires chart { IsChart a.now }
-    requires legal { IsLegal a.now h.now.entries }
-    requires totals { HasTotals pairs.now (length a.now.accounts) h.now.entries }
+    requires past { (entries : List TheEntry) × IsLegal a.now entries × HasTotals pairs.now (length (accounts_of a.now)) entries }
     requires sound { All (Sound a.now) legs.now }
     requires few { number + length legs.now ≤ 255 }
-    ensures value { result ≡ first_of (leg_tests a.now h.now.entries number legs.now) }
+    ensures value { (entries : List TheEntry) → IsLegal a.now entries → HasTotals pairs.now (length (accounts_of a.now)) entries
+        → result ≡ first_of (leg_tests a.now entries number legs.now) }
 {
     match legs {
         [] => None,
-        [leg, others @ ..] => match pair_outcome(a, h, pairs, number, leg) {
+        [leg, others @ ..] => match pair_outcome(a, pairs, number, leg) {
             Some(outcome) => Some(outcome),
-            None => pairs_test(a, h, pairs, number + 1, others),
+            None => pairs_test(a, pairs, number + 1, others),
         },
     }
 }
 
-/// Decides by the pairs of all accounts.
-pub(crate) fn decide_by(a: &Accounts, h: &History, pairs: &[(u64, u64)], legs: &[Leg]) -> Outcome
+/// Decides by the pairs that all accounts have after some history.
+pub(crate) fn decide_by_pairs(a: &Accounts, pairs: &[(u64, u64)], legs: &[Leg]) -> Outcome
     requires chart { IsChart a.now }
-    requires legal { IsLegal a.now h.now.entries }
-    requires totals { HasTotals pairs.now (length a.now.accounts) h.now.entries }
+    requires past { (entries : List TheEntry) × IsLegal a.now entries × HasTotals pairs.now (length (accounts_of a.now)) entries }
     requires fits { IsTrue (legs_fit a.now legs.now) }
-    ensures value { result ≡ unwrap_or (first_of (leg_tests a.now h.now.entries 1 legs.now)) Booked }
+    ensures value { (entries : List TheEntry) → IsLegal a.now entries → HasTotals pairs.now (length (accounts_of a.now)) entries
+        → result ≡ unwrap_or (first_of (leg_tests a.now entries 1 legs.now)) Booked }
 {
-    match pairs_test(a, h, pairs, 1, legs) {
+    match pairs_test(a, pairs, 1, legs) {
         Some(outcome) => outcome,
         None => Outcome::Booked,
     }
+}
+
+/// Decides by the pairs of all accounts after a history.
+pub(crate) fn decide_by(a: &Accounts, h: &History, pairs: &[(u64, u64)], legs: &[Leg]) -> Outcome
+    requires chart { IsChart a.now }
+    requires legal { IsLegal a.now h.now.entries }
+    requires totals { HasTotals pairs.now (length (accounts_of a.now)) h.now.entries }
+    requires fits { IsTrue (legs_fit a.now legs.now) }
+    ensures value { result ≡ unwrap_or (first_of (leg_tests a.now h.now.entries 1 legs.now)) Booked }
+{
+    let _ = h;
+    decide_by_pairs(a, pairs, legs)
 }
 
 /// Adds what an entry books to the held totals and to the sides.

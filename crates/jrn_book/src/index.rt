@@ -1,6 +1,6 @@
 //! The places of entries by their references.
 
-ghost use Rattle.std.specs.Prelude.{◌≡◌, ◌<◌, ◌≤◌, ◌++◌, [], ◌∷◌, None, length, OnErr, OnOk, IsOk};
+ghost use Rattle.std.specs.Prelude.{◌≡◌, ◌+◌, ◌<◌, ◌≤◌, ◌++◌, [], ◌∷◌, None, length, take, OnErr, OnOk, IsOk};
 ghost use Rattle.day_model.specs.Log.{most_entries};
 ghost use Rattle.jrn_book.specs.Index.{place_in};
 
@@ -54,8 +54,23 @@ impl Index {
         ensures same { self.new.references ≡ self.old.references }
         ensures room { OnOk result (1 ≤ self.new.spare) }
     {
-        self.references.reserve(1)?;
+        self.reserve_for(1)
+    }
+
+    /// Makes room for so many references more.
+    pub(crate) fn reserve_for(&mut self, count: usize) -> Result<(), Memory>
+        ensures same { self.new.references ≡ self.old.references }
+        ensures room { OnOk result (count ≤ self.new.spare) }
+    {
+        self.references.reserve(count)?;
         Ok(())
+    }
+
+    /// Keeps the first references, up to this many.
+    pub(crate) fn truncate(&mut self, count: usize)
+        ensures { self.new.references ≡ take count self.old.references }
+    {
+        self.references.truncate(count);
     }
 
     /// Adds a new reference at the end of fewer than 100,000. It needs no memory where there is room.
@@ -65,6 +80,7 @@ impl Index {
         ensures ok { OnOk result (self.new.references ≡ self.old.references ++ mir.now.0 ∷ []) }
         ensures err { OnErr result (self.new.references ≡ self.old.references) }
         ensures room { 0 < self.old.spare → IsOk result }
+        ensures left { self.old.spare ≤ self.new.spare + 1 }
     {
         self.references.insert(mir.0)?;
         Ok(())

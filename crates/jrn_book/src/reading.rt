@@ -1,163 +1,22 @@
-//! The records of a journal as a history.
+//! The records of a journal, read as its past.
 
-ghost use Rattle.std.specs.Prelude.{◌≡◌, ◌+◌, ◌<◌, ◌≤ℤ◌, ◌++◌, ◌∷◌, [], None, length, IfErr, IfOk, IsTrue, OnOk};
-ghost use Rattle.std.specs.Bool.{OnTrue};
-ghost use Rattle.day_model.specs.Balance.{outcome_of};
-ghost use Rattle.day_model.specs.Fit.{FitsAccounts};
-ghost use Rattle.day_model.specs.Laws.{IsLatest};
-ghost use Rattle.day_model.specs.Legal.{IsLegal};
-ghost use Rattle.day_model.specs.Log.{most_entries};
-ghost use Rattle.day_model.specs.Next.{entered_at};
-ghost use Rattle.jrn_codec.specs.Header.{IsHead, head_bytes};
-ghost use Rattle.jrn_codec.specs.Record.{IsEntry};
+ghost use Rattle.std.specs.Prelude.{◌≡◌, ◌+◌, ◌++◌, ◌∷◌, length, map, IfErr, IfOk, OnOk};
+ghost use Rattle.day_model.specs.Chart.{Chart};
+ghost use Rattle.day_model.specs.Items.{items_of};
+ghost use Rattle.jrn_codec.specs.Answers.{IsGiven};
+ghost use Rattle.jrn_codec.specs.Header.{IsHead};
 ghost use Rattle.jrn_file.specs.Reading.{size_of};
-ghost use Rattle.jrn_book.specs.Journal.{IsJournal, all_records, entry_records};
-ghost use Rattle.jrn_book.specs.Following.{MayStandNext};
-ghost use Rattle.jrn_book.specs.Reading.{ReadsRecord, RefusesHead, RefusesRecords};
+ghost use Rattle.jrn_book.specs.Journal.{IsJournalIn, all_records_in};
+ghost use Rattle.jrn_book.specs.Reading.{RefusesHead, RefusesRecords};
+ghost use Rattle.jrn_book.specs.Versions.{head_in};
 
-use crate::committing::{MOST_ENTRIES, note};
-use crate::deciding::decide_by;
-use crate::index::Index;
-use corr_ids::Day;
-use corr_text::{Memory, Text};
-use day_model::{Accounts, Entry, History, Outcome, add_legs, legs_booked};
-use jrn_codec::{EntryFault, read_entry, read_head};
+use crate::past::Past;
+use crate::version::Version;
+use corr_text::Text;
+use day_model::Accounts;
+use jrn_codec::{EntryFault, read_head, read_head_1};
 use jrn_file::OpenFault;
 use std::alloc::Global;
-use std::marker::Model;
-
-/// What the records so far say: accounts, and entries with their references and each account's totals.
-///
-/// Contracts see the accounts and the entries, which are legal.
-#[derive(Drop)]
-pub(crate) struct Past {
-    pub(crate) accounts: Accounts,
-    pub(crate) history: History,
-    pub(crate) index: Index,
-    pub(crate) pairs: Vec<(u64, u64)>,
-}
-
-impl Model for Past {
-    ghost use Rattle.std.specs.Prelude.{◌≡◌, length};
-    ghost use Rattle.day_model.specs.Totals.{HasTotals};
-    ghost use Rattle.jrn_book.specs.Index.{references_of};
-    ghost use Rattle.jrn_book.specs.Journal.{IsJournal};
-    ghost use Rattle.jrn_book.specs.Reading.{Read};
-
-    ghost Value = { Read };
-
-    ghost view = { λ p. record { accounts = p.accounts; history = p.history.entries } };
-
-    ghost invariant = { λ p. IsJournal p.accounts p.history.entries × HasTotals p.pairs.items (length p.accounts.accounts) p.history.entries × (p.index.references ≡ references_of p.history.entries) };
-}
-
-fn is_no_later(a: Day, b: Day) -> bool
-    ensures before { OnTrue result (a.0 ≤ℤ b.0) }
-    ensures all { a.0 ≤ℤ b.0 → IsTrue result }
-{
-    a.0 <= b.0
-}
-
-/// Whether no entry of a legal history has a later day: the last one has none.
-pub(crate) fn is_latest(a: &Accounts, h: &History, day: Day) -> bool
-    requires legal { IsLegal a.now h.now.entries }
-    ensures latest { OnTrue result (IsLatest h.now.entries day) }
-    ensures all { IsLatest h.now.entries day → IsTrue result }
-{
-    let _ = a;
-    let count = h.len();
-    count == 0 || is_no_later(h.get(count).day, day)
-}
-
-fn is_outcome(a: Outcome, b: Outcome) -> bool
-    ensures same { OnTrue result (a ≡ b) }
-    ensures all { a ≡ b → IsTrue result }
-{
-    a == b
-}
-
-impl Past {
-    fn new(alloc: Global, accounts: Accounts) -> Result<Past, Memory>
-        requires { IsHead accounts }
-        ensures past { IfOk result (λ past. past ≡ record { accounts = accounts; history = [] }) }
-        ensures good { IsJournal accounts [] }
-    {
-        let pairs = vec![in alloc; (0, 0); accounts.count() as usize]?;
-        Ok(Past {
-            accounts,
-            history: History::new(alloc),
-            index: Index::new(alloc),
-            pairs,
-        })
-    }
-
-    /// Whether there is a place for an entry: there are fewer than 100,000, its pay fits, and its reference is new.
-    fn has_place_for(&self, e: &Entry) -> bool
-        ensures few { OnTrue result (length self.now.history < most_entries) }
-        ensures fits { OnTrue result (FitsAccounts self.now.accounts e.now.pay) }
-        ensures new { OnTrue result (entered_at e.now.pay.mir self.now.history ≡ None) }
-        ensures all { MayStandNext self.now.accounts self.now.history e.now → IsTrue result }
-    {
-        self.history.len() < MOST_ENTRIES
-            && self.accounts.fits(&e.pay)
-            && self.index.place(&e.pay.mir).is_none()
-    }
-
-    /// Whether an entry may stand next.
-    fn may_follow(&self, e: &Entry) -> bool
-        ensures legal { OnTrue result (IsLegal self.now.accounts (self.now.history ++ e.now ∷ [])) }
-        ensures only { IsLegal self.now.accounts (self.now.history ++ e.now ∷ []) → IsTrue result }
-    {
-        if !self.has_place_for(e) {
-            return false;
-        }
-        if !is_latest(&self.accounts, &self.history, e.day) {
-            return false;
-        }
-        self.decides(e)
-    }
-
-    /// Whether an entry has the outcome that the entries before it give.
-    fn decides(&self, e: &Entry) -> bool
-        requires fits { FitsAccounts self.now.accounts e.now.pay }
-        ensures same { OnTrue result (e.now.outcome ≡ outcome_of self.now.accounts self.now.history e.now.pay) }
-        ensures all { e.now.outcome ≡ outcome_of self.now.accounts self.now.history e.now.pay → IsTrue result }
-    {
-        let legs = e.pay.legs.as_slice();
-        let pairs = self.pairs.as_slice();
-        is_outcome(
-            decide_by(&self.accounts, &self.history, pairs, legs),
-            e.outcome,
-        )
-    }
-
-    /// Adds an entry that may stand next.
-    fn add(&mut self, e: Entry) -> Result<(), Memory>
-        requires written { IsEntry e }
-        requires legal { IsLegal self.old.accounts (self.old.history ++ e ∷ []) }
-        ensures { OnOk result (self.new ≡ record self.old { history = self.old.history ++ e ∷ [] }) }
-    {
-        self.index.reserve()?;
-        self.history.reserve()?;
-        add_legs(&mut self.pairs, legs_booked(&e));
-        note(&mut self.history, &mut self.index, e);
-        Ok(())
-    }
-
-    /// Reads the next record.
-    ///
-    /// `NoEntry` comes exactly where it is no record of an entry that may stand next; then all is as before.
-    fn read(&mut self, alloc: Global, bytes: &[u8]) -> Result<(), EntryFault>
-        ensures { ReadsRecord self.old bytes.now result self.new }
-    {
-        let entry = read_entry(alloc, bytes)?;
-        if !self.may_follow(&entry) {
-            return Err(EntryFault::NoEntry);
-        }
-        self.add(entry)?;
-        Ok(())
-    }
-}
 
 /// How many bytes a record takes after its gate, and the gate's.
 fn size(bytes: &[u8]) -> u64
@@ -166,36 +25,62 @@ fn size(bytes: &[u8]) -> u64
     5 + bytes.len() as u64
 }
 
-/// The accounts of a header record.
-fn read_accounts(alloc: Global, head: &[u8]) -> Result<Accounts, OpenFault>
-    ensures found { IfOk result (λ a. IsHead a × (head.now ≡ head_bytes a)) }
-    ensures fault { IfErr result (RefusesHead head.now) }
+/// The accounts of a header record of a version.
+fn head_of(alloc: Global, version: Version, head: &[u8]) -> Result<Accounts, EntryFault>
+    ensures found { IfOk result (λ a. IsHead a × (head.now ≡ head_in version a)) }
+    ensures only { (chart : Chart) → IsHead chart → head.now ≡ head_in version chart → IsGiven chart result }
 {
-    match read_head(alloc, head) {
+    match version {
+        Version::One => read_head_1(alloc, head),
+        Version::Two => read_head(alloc, head),
+    }
+}
+
+/// Why a record is no header of a version.
+fn no_head(alloc: Global, version: Version, head: &[u8]) -> OpenFault
+    requires { (chart : Chart) → IsHead chart → head.now ≡ head_in version chart → ⊥ }
+    ensures { RefusesHead version head.now result }
+{
+    let other = version.other();
+    match head_of(alloc, other, head) {
+        Ok(_) => OpenFault::Version {
+            found: other.number(),
+        },
+        Err(EntryFault::NoEntry) => OpenFault::NotAJournal,
+        Err(EntryFault::Memory) => OpenFault::Memory,
+    }
+}
+
+/// The accounts of a header record of this version.
+fn read_accounts(alloc: Global, version: Version, head: &[u8]) -> Result<Accounts, OpenFault>
+    ensures found { IfOk result (λ a. IsHead a × (head.now ≡ head_in version a)) }
+    ensures fault { IfErr result (RefusesHead version head.now) }
+{
+    match head_of(alloc, version, head) {
         Ok(accounts) => Ok(accounts),
-        Err(EntryFault::NoEntry) => Err(OpenFault::NotAJournal),
+        Err(EntryFault::NoEntry) => Err(no_head(alloc, version, head)),
         Err(EntryFault::Memory) => Err(OpenFault::Memory),
     }
 }
 
-/// Reads the records of entries after others, which end at this place, up to the first that is refused.
-fn read_entries(
+/// Reads the records of items after others, which end at this place, up to the first that is refused.
+fn read_items(
     alloc: Global,
+    version: Version,
     past: &mut Past,
-    entries: &[Text],
+    records: &[Text],
     start: u64,
 ) -> Result<(), OpenFault>
-    requires good { IsJournal past.old.accounts past.old.history }
-    requires place { start ≡ size_of (all_records past.old.accounts past.old.history) }
-    ensures accounts { OnOk result (past.new.accounts ≡ past.old.accounts) }
-    ensures read { OnOk result (entry_records past.new.history ≡ entry_records past.old.history ++ entries.now) }
-    ensures good { OnOk result (IsJournal past.new.accounts past.new.history) }
-    ensures fault { IfErr result (RefusesRecords (all_records past.old.accounts past.old.history ++ entries.now)) }
+    requires good { IsJournalIn version past.old.accounts past.old.history }
+    requires place { start ≡ size_of (all_records_in version past.old.accounts past.old.history) }
+    ensures read { OnOk result (all_records_in version past.new.accounts past.new.history ≡ all_records_in version past.old.accounts past.old.history ++ records.now) }
+    ensures good { OnOk result (IsJournalIn version past.new.accounts past.new.history) }
+    ensures fault { IfErr result (RefusesRecords version (all_records_in version past.old.accounts past.old.history ++ records.now)) }
 {
     let mut at = start;
-    for entry in entries {
-        match past.read(alloc, entry.bytes()) {
-            Ok(()) => at = at.saturating_add(size(entry.bytes())),
+    for next in records {
+        match past.read_next(alloc, version, next.bytes()) {
+            Ok(()) => at = at.saturating_add(size(next.bytes())),
             Err(EntryFault::NoEntry) => return Err(OpenFault::Damaged { at }),
             Err(EntryFault::Memory) => return Err(OpenFault::Memory),
         }
@@ -203,18 +88,22 @@ fn read_entries(
     Ok(())
 }
 
-/// The history of a header record and the records after it, or the first of them that is refused.
-pub(crate) fn read_records(alloc: Global, records: &[Text]) -> Result<Past, OpenFault>
-    ensures past { IfOk result (λ past. records.now ≡ all_records past.accounts past.history) }
-    ensures good { IfOk result (λ past. IsJournal past.accounts past.history) }
-    ensures fault { IfErr result (RefusesRecords records.now) }
+/// The past that a header record and the records after it say, or the first of them that is refused.
+pub(crate) fn read_records(
+    alloc: Global,
+    version: Version,
+    records: &[Text],
+) -> Result<Past, OpenFault>
+    ensures past { IfOk result (λ past. records.now ≡ all_records_in version past.accounts past.history) }
+    ensures good { IfOk result (λ past. IsJournalIn version past.accounts past.history) }
+    ensures fault { IfErr result (RefusesRecords version records.now) }
 {
     match records {
         [] => Err(OpenFault::NotAJournal),
-        [head, entries @ ..] => {
-            let accounts = read_accounts(alloc, head.bytes())?;
+        [head, items @ ..] => {
+            let accounts = read_accounts(alloc, version, head.bytes())?;
             let mut past = Past::new(alloc, accounts)?;
-            read_entries(alloc, &mut past, entries, size(head.bytes()))?;
+            read_items(alloc, version, &mut past, items, size(head.bytes()))?;
             Ok(past)
         }
     }

@@ -8,7 +8,6 @@ ghost use Rattle.jrn_file.specs.Journal.{frame_of};
 ghost use Rattle.jrn_codec.specs.Record.{IsEntry, entry_bytes, most_record_bytes};
 ghost use Rattle.jrn_book.specs.Room.{longest_record};
 
-use crate::same::is_pay;
 use corr_ids::Day;
 use corr_text::{Buf, Memory};
 use day_model::{Entry, Leg, Outcome, Pay};
@@ -40,7 +39,7 @@ impl Model for Room {
 }
 
 /// Puts a record into an empty buffer as it is appended: its length in four bytes, the record and a byte 0.
-fn put_frame(frame: &mut Buf, body: &[u8]) -> Result<(), Memory>
+pub(crate) fn put_frame(frame: &mut Buf, body: &[u8]) -> Result<(), Memory>
     requires empty { frame.old.bytes ≡ [] }
     requires few { length body.now < 2 ^ 32 }
     requires room { length body.now + 5 ≤ frame.old.spare }
@@ -56,13 +55,13 @@ fn put_frame(frame: &mut Buf, body: &[u8]) -> Result<(), Memory>
 const ORDER_BYTES: u64 = 25;
 
 /// The most bytes of a record beside its text and its orders.
-const OTHER_BYTES: u64 = 177;
+const OTHER_BYTES: u64 = 178;
 
 /// As many bytes as the record of a pay takes at most: its text, its orders, and what else there is.
-fn most_bytes(p: &Pay) -> u64
+pub(crate) fn most_bytes(p: &Pay) -> u64
     requires { HasShape p.now }
     ensures room { longest_record p.now ≤ result }
-    ensures few { result ≤ 39320 }
+    ensures few { result ≤ 39321 }
 {
     let orders = p.orders.as_slice().len() as u64;
     p.text.bytes().len() as u64 + orders * ORDER_BYTES + OTHER_BYTES
@@ -98,7 +97,7 @@ impl Room {
         ensures same { OnTrue result (self.now ≡ p.now) }
         ensures all { self.now ≡ p.now → IsTrue result }
     {
-        is_pay(&self.pay, p)
+        self.pay.equals(p)
     }
 
     /// The entry that the pay becomes, and its record as it is appended. Takes no memory.

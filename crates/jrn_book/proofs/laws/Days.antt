@@ -17,7 +17,7 @@ latest_by_last chart entries count last day legal is here before = λ i e at.
     let within = slice_get_within entries i e at in
     elim (cases_lt i (count - 1)) [
       | inl less ↦
-          let earlier = legal.days i (count - 1) e last less at here in
+          let earlier = legal.rules.days i (count - 1) e last less at here in
           omega (arith, ints, earlier, before)
       | inr more ↦
           let same : i ≡ count - 1 = omega (arith, within, is, more) in

@@ -28,5 +28,6 @@ between front middle longer back le =
 pub no_longer : (e : Entry) → length (entry_bytes e) ≤ longest_record e.pay
 no_longer e =
     let day : Day = record { 0 = pos 3652 } in
-    between (stamp_bytes e.pay.mir e.pay.mt e.pay.uetr) (fate_bytes e.day e.pay.value e.outcome) (fate_bytes day e.pay.value (Unfunded 1 (pos 0))) (back_bytes e)
-    (omega (arith, fate_length e.day e.pay.value e.outcome, fate_length day e.pay.value (Unfunded 1 (pos 0)), outcome_short e.outcome))
+    let longer = between (stamp_bytes e.pay.mir e.pay.mt e.pay.uetr) (fate_bytes e.day e.pay.value e.outcome) (fate_bytes day e.pay.value (Unfunded 1 (pos 0))) (back_bytes e)
+    (omega (arith, fate_length e.day e.pay.value e.outcome, fate_length day e.pay.value (Unfunded 1 (pos 0)), outcome_short e.outcome)) in
+    omega (arith, longer)

@@ -36,4 +36,4 @@ returns-clause-value g c =
     let listed = c.requires.sound.listed in
     let agreed : held_totals (g.H.Holder.held c.args.held.now) n ≡ totals_of n entries = same_Some _ _ (sym c.agree.ensures.agreed ∙ c.requires.totals.each n listed.0 listed.1) in
     let is : c.totals.result ≡ totals_of n entries = c.totals.ensures.value ∙ ap (λ (held : List Holding). held_totals held n) c.agree.ensures.held_same ∙ agreed in
-    c.leg_outcome.ensures.value ∙ test_by c.args.a.now entries c.args.leg.now c.totals.result c.args.number is
+    c.leg_outcome.ensures.value ∙ test_by c.args.a.now entries c.args.leg.now c.totals.result c.args.number c.requires.legal.changes.by_now is
