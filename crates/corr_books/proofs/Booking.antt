@@ -18,12 +18,14 @@ use Rattle.day_model.specs.Fit.{FitsAccounts}
 use Rattle.day_model.specs.Laws.{IsLatest}
 use Rattle.day_model.specs.Legal.{IsLegal}
 use Rattle.day_model.specs.Next.{entered_at, entry_of, next_history}
-use Rattle.day_model.proofs.laws.Growth.{in_pushed, one_pay_more}
+use Rattle.day_model.proofs.laws.Growth.{one_pay_more}
+use Rattle.day_model.proofs.laws.Slices.{in_pushed}
 use Rattle.front_word.specs.declared.view.Act.{Act}
 use Rattle.front_word.specs.Known.{WriterKnows, PassKnows}
 use Rattle.front_word.specs.Rule.{OwedPast, IsNumber}
 use Rattle.front_word.proofs.laws.Prefixes.{prefix_self, prefix_trans, prefix_length, get_snoc, get_last}
 use Rattle.jrn_book.specs.Answers.{Answer, StandsAt, calls_disk, failed_after}
+use Rattle.jrn_book.specs.declared.answer.Failed.{Failed}
 use Rattle.jrn_book.specs.Book.{Book, Counts}
 use Rattle.jrn_book.specs.Journal.{IsBeforeOrNext, StandsForBook}
 use Rattle.jrn_book.specs.declared.answer.Committed.TheVariants.{New, Kept}
@@ -40,17 +42,17 @@ use Rattle.corr_books.proofs.laws.Histories.{history_of-push, length-history_of,
 use Rattle.corr_books.proofs.laws.Moments.{leaves_next}
 
 -- the history after an answer other than New is as before; the reference is entered where the answer is Kept
-kept_history : (chart : Chart) (history : List Entry) (pay : Pay) (day : Day) (place : ℕ) → entered_at pay.mir history ≡ Some place → next_history chart history pay day ≡ history
+pub kept_history : (chart : Chart) (history : List Entry) (pay : Pay) (day : Day) (place : ℕ) → entered_at pay.mir history ≡ Some place → next_history chart history pay day ≡ history
 kept_history chart history pay day place at =
     ap (λ (found : Option ℕ). if is_some found then history else history ++ entry_of chart history pay day ∷ []) at
 
 -- and it has one entry more where the reference is new
-new_history : (chart : Chart) (history : List Entry) (pay : Pay) (day : Day) → entered_at pay.mir history ≡ None → next_history chart history pay day ≡ history ++ entry_of chart history pay day ∷ []
+pub new_history : (chart : Chart) (history : List Entry) (pay : Pay) (day : Day) → entered_at pay.mir history ≡ None → next_history chart history pay day ≡ history ++ entry_of chart history pay day ∷ []
 new_history chart history pay day none =
     ap (λ (found : Option ℕ). if is_some found then history else history ++ entry_of chart history pay day ∷ []) none
 
 -- no entry has a later day, with one more of this day
-latest_more : (history : List Entry) (e : Entry) (day : Day) → IsLatest history day → e.day ≡ day → IsLatest (history ++ e ∷ []) day
+pub latest_more : (history : List Entry) (e : Entry) (day : Day) → IsLatest history day → e.day ≡ day → IsLatest (history ++ e ∷ []) day
 latest_more history e day latest same i d at =
     ⊎_elim
     (λ (t : slice_get history i ≡ Some d). latest i d t)
@@ -59,7 +61,7 @@ latest_more history e day latest same i d at =
     subst (λ (x : Day). x.0 ≤ℤ day.0) (sym s) (omega (arith, ints)))
     (in_pushed history e i d at)
 
-module _ {D : Type 0} (disk : disks.Ghosts D) (o : Opening) (past : ℕ → List ℕ → Type 0) (purses : TableId) (b b' : Book D) (w : WriterKnows) (number : ℕ) (pay : Pay) where
+module _ {D : Type 0} (disk : disks.Ghosts D) (o : Opening) (past : ℕ → List ℕ → Type 0) (purses : TableId) (b b' : Book D) (w : WriterKnows) (number most : ℕ) (pay : Pay) where
   -- what stands behind the lock, before and after
   abbrev Before : Type 0
   Before = IsStand disk o past purses record { book = b; writer = w; day = o.day }
@@ -68,15 +70,19 @@ module _ {D : Type 0} (disk : disks.Ghosts D) (o : Opening) (past : ℕ → List
   After answer = IsStand disk o past purses record { book = b'; writer = writer_after w number pay o.day answer; day = o.day }
 
   abbrev Entered : Answer → Type 0
-  Entered answer = Enters disk o.day b b' pay answer
+  Entered answer = Enters disk o.day most b b' pay answer
+
+  -- a commit failed on the day of the books, if one did, over no more entries than the name tells
+  abbrev Dated : Option Failed → Type 0
+  Dated failed = IfSome failed (λ f. (f.day ≡ o.day) × (f.most ≤ o.most))
 
   -- what a crash since the opening leaves of a file, with a history and a failure
-  abbrev Crash : JFile D → List Entry → Option Day → Type 0
+  abbrev Crash : JFile D → List Entry → Option Failed → Type 0
   Crash file history failed = IsTrue o.honest → LeavesSince disk o past (disk_of file) (IsLeftInTurn o.accounts o.base history failed)
 
   -- nothing was entered: the mark is no more than the disk's count
   still : (answer : Answer) (mark : ℕ) → Before → Entered answer → b'.history ≡ b.history → mark ≤ disk.faults (disk_of b'.file)
-      → IfSome b'.failed (λ day. day ≡ o.day) → Counts b'.failed b'.at_open (disk.faults (disk_of b'.file)) → Crash b'.file b'.history b'.failed
+      → Dated b'.failed → Counts b'.failed b'.at_open (disk.faults (disk_of b'.file)) → Crash b'.file b'.history b'.failed
       → IsStand disk o past purses record { book = b'; writer = record w { mark = mark }; day = o.day }
   still answer mark s e same le failed counts crash = record {
     accounts = e.accounts ∙ s.accounts;
@@ -93,6 +99,7 @@ module _ {D : Type 0} (disk : disks.Ghosts D) (o : Opening) (past : ℕ → List
     tags = s.tags;
     century = s.century;
     latest = subst (λ (h : List Entry). IsLatest h o.day) (sym same) s.latest;
+    some = s.some;
     failed = failed;
     counts = counts;
     mark = le;
@@ -100,18 +107,18 @@ module _ {D : Type 0} (disk : disks.Ghosts D) (o : Opening) (past : ℕ → List
   }
 
   -- where the disk was not called, or didn't fail: what is known of failures and counts is as before
-  failed_still : (answer : Answer) → Before → Entered answer → failed_after b.failed o.day answer ≡ b.failed → IfSome b'.failed (λ day. day ≡ o.day)
-  failed_still answer s e same = subst (λ (f : Option Day). IfSome f (λ day. day ≡ o.day)) (sym (e.failed ∙ same)) s.failed
+  failed_still : (answer : Answer) → Before → Entered answer → failed_after most b.failed o.day answer ≡ b.failed → Dated b'.failed
+  failed_still answer s e same = subst Dated (sym (e.failed ∙ same)) s.failed
 
-  counts_still : (answer : Answer) → Before → Entered answer → failed_after b.failed o.day answer ≡ b.failed → disk.faults (disk_of b'.file) ≡ disk.faults (disk_of b.file)
+  counts_still : (answer : Answer) → Before → Entered answer → failed_after most b.failed o.day answer ≡ b.failed → disk.faults (disk_of b'.file) ≡ disk.faults (disk_of b.file)
       → Counts b'.failed b'.at_open (disk.faults (disk_of b'.file))
   counts_still answer s e same count =
-      subst (λ (x : Option Day × (ℕ × ℕ)). Counts x.0 x.1.0 x.1.1) (λ i. (sym (e.failed ∙ same) i, (sym e.at_open i, sym count i))) s.counts
+      subst (λ (x : Option Failed × (ℕ × ℕ)). Counts x.0 x.1.0 x.1.1) (λ i. (sym (e.failed ∙ same) i, (sym e.at_open i, sym count i))) s.counts
 
   -- the disk was not called
-  crash_still : (answer : Answer) → Before → Entered answer → b'.history ≡ b.history → failed_after b.failed o.day answer ≡ b.failed → calls_disk answer ≡ false → Crash b'.file b'.history b'.failed
+  crash_still : (answer : Answer) → Before → Entered answer → b'.history ≡ b.history → failed_after most b.failed o.day answer ≡ b.failed → calls_disk answer ≡ false → Crash b'.file b'.history b'.failed
   crash_still answer s e same failed none =
-      subst (λ (x : JFile D × (List Entry × Option Day)). Crash x.0 x.1.0 x.1.1) (λ i. (sym (e.file none) i, (sym same i, sym (e.failed ∙ failed) i))) s.crash
+      subst (λ (x : JFile D × (List Entry × Option Failed)). Crash x.0 x.1.0 x.1.1) (λ i. (sym (e.file none) i, (sym same i, sym (e.failed ∙ failed) i))) s.crash
 
   -- A pay was entered, or the disk failed over it, in books in which no commit had failed.
   module _ (whole : b.failed ≡ None) (s : Before) where
@@ -120,7 +127,7 @@ module _ {D : Type 0} (disk : disks.Ghosts D) (o : Opening) (past : ℕ → List
 
     -- what a crash left before the call
     left_before : IsTrue o.honest → LeavesSince disk o past (disk_of b.file) (StandsBetween o.accounts o.base b.history)
-    left_before honest = subst (λ (f : Option Day). LeavesSince disk o past (disk_of b.file) (IsLeftInTurn o.accounts o.base b.history f)) whole (s.crash honest)
+    left_before honest = subst (λ (f : Option Failed). LeavesSince disk o past (disk_of b.file) (IsLeftInTurn o.accounts o.base b.history f)) whole (s.crash honest)
 
     -- and within it
     left_within : (answer : Answer) → Entered answer → IsTrue o.honest → LeavesOnly disk.moment disk.left_since (disk_of b.file) (disk_of b'.file) (IsBeforeOrNext o.accounts b.history pay o.day)
@@ -134,7 +141,7 @@ module _ {D : Type 0} (disk : disks.Ghosts D) (o : Opening) (past : ℕ → List
 
     crash_new : (place : ℕ) (outcome : Outcome) → Entered (Ok (New place outcome)) → IsPrefix b.history b'.history → Crash b'.file b'.history b'.failed
     crash_new place outcome e more honest =
-        subst (λ (f : Option Day). LeavesSince disk o past (disk_of b'.file) (IsLeftInTurn o.accounts o.base b'.history f)) (sym (e.failed ∙ whole))
+        subst (λ (f : Option Failed). LeavesSince disk o past (disk_of b'.file) (IsLeftInTurn o.accounts o.base b'.history f)) (sym (e.failed ∙ whole))
         (leaves_next disk o past (disk_of b.file) (disk_of b'.file) (StandsBetween o.accounts o.base b.history) (IsBeforeOrNext o.accounts b.history pay o.day) (StandsBetween o.accounts o.base b'.history)
         (left_before honest) (left_within (Ok (New place outcome)) e honest)
         (λ image x. between_more image more x)
@@ -150,14 +157,14 @@ module _ {D : Type 0} (disk : disks.Ghosts D) (o : Opening) (past : ℕ → List
         })
         x))
 
-    crash_failed : (before after : ℕ) → Entered (Err (DiskFault before after)) → FitsAccounts o.accounts pay → Crash b'.file b'.history b'.failed
-    crash_failed before after e fits honest =
+    crash_failed : 1 ≤ most → (before after : ℕ) → Entered (Err (DiskFault before after)) → FitsAccounts o.accounts pay → Crash b'.file b'.history b'.failed
+    crash_failed some before after e fits honest =
         let shows = e.shows in
         let entry = entry_of o.accounts b.history pay o.day in
         let legal_here : IsLegal o.accounts b.history = subst (λ (x : Chart × List Entry). IsLegal x.0 x.1) (λ i. ((e.accounts ∙ s.accounts) i, e.history i)) e.legal in
         let few : length b.history < 100000 = shows.2.entries in
         let legal : IsLegal o.accounts (b.history ++ entry ∷ []) = one_pay_more o.accounts b.history pay o.day legal_here fits s.latest few (ap is_some shows.1) in
-        let Left : List Entry → List ℕ → Type 0 = λ h image. StandsBetween o.accounts o.base h image ⊎ StandsWithMore o.accounts h o.day 1 image in
+        let Left : List Entry → List ℕ → Type 0 = λ h image. StandsBetween o.accounts o.base h image ⊎ StandsWithMore o.accounts h o.day most image in
         let within : LeavesSince disk o past (disk_of b'.file) (Left b.history) =
         leaves_next disk o past (disk_of b.file) (disk_of b'.file) (StandsBetween o.accounts o.base b.history) (IsBeforeOrNext o.accounts b.history pay o.day) (Left b.history)
         (left_before honest) (left_within (Err (DiskFault before after)) e honest)
@@ -166,23 +173,23 @@ module _ {D : Type 0} (disk : disks.Ghosts D) (o : Opening) (past : ℕ → List
         (λ (y : StandsForBook image o.accounts b.history). inl (record { history = b.history; goes_on = goes_on; begins = prefix_self b.history; stands = y }))
         (λ (y : StandsForBook image o.accounts (next_history o.accounts b.history pay o.day)). inr (record {
           more = entry ∷ [];
-          few = omega arith;
+          few = omega (arith, some);
           of_day = All-cons (λ (x : Entry). x.day ≡ o.day) entry [] refl (All-nil (λ (x : Entry). x.day ≡ o.day));
           legal = legal;
           stands = subst (λ (h : List Entry). StandsForBook image o.accounts h) (new_history o.accounts b.history pay o.day shows.1) y;
         }))
         x) in
-        subst (λ (x : List Entry × Option Day). LeavesSince disk o past (disk_of b'.file) (IsLeftInTurn o.accounts o.base x.0 x.1)) (λ i. (sym e.history i, sym e.failed i)) within
+        subst (λ (x : List Entry × Option Failed). LeavesSince disk o past (disk_of b'.file) (IsLeftInTurn o.accounts o.base x.0 x.1)) (λ i. (sym e.history i, sym e.failed i)) within
 
   -- an answer that entered nothing and left the disk's count
-  quiet : (answer : Answer) → Before → Entered answer → b'.history ≡ b.history → failed_after b.failed o.day answer ≡ b.failed → disk.faults (disk_of b'.file) ≡ disk.faults (disk_of b.file) → calls_disk answer ≡ false
+  quiet : (answer : Answer) → Before → Entered answer → b'.history ≡ b.history → failed_after most b.failed o.day answer ≡ b.failed → disk.faults (disk_of b'.file) ≡ disk.faults (disk_of b.file) → calls_disk answer ≡ false
       → IsStand disk o past purses record { book = b'; writer = w; day = o.day }
   quiet answer s e same failed count none =
       still answer w.mark s e same (let m = s.mark in omega (arith, count)) (failed_still answer s e failed) (counts_still answer s e failed count) (crash_still answer s e same failed none)
 
   -- what holds wherever the lock is free holds again
-  pub stand_after : (answer : Answer) → Before → Entered answer → IsNumber o.made number → FitsAccounts o.accounts pay → After answer
-  stand_after (Ok (New place outcome)) s e by fits =
+  pub stand_after : (answer : Answer) → 1 ≤ most → most ≤ o.most → Before → Entered answer → IsNumber o.made number → FitsAccounts o.accounts pay → After answer
+  stand_after (Ok (New place outcome)) some within s e by fits =
       let shows = e.shows in
       let entry = entry_of b.accounts b.history pay o.day in
       let act : Act = record { by = number; entry = record { pay = pay; day = o.day; outcome = outcome } } in
@@ -204,30 +211,31 @@ module _ {D : Type 0} (disk : disks.Ghosts D) (o : Opening) (past : ℕ → List
         tags = tags_more o.made w.acts act s.tags by;
         century = s.century;
         latest = subst (λ (h : List Entry). IsLatest h o.day) (sym grown) (latest_more b.history act.entry o.day s.latest refl);
+        some = s.some;
         failed = failed_still (Ok (New place outcome)) s e refl;
         counts = counts_still (Ok (New place outcome)) s e refl shows.5;
         mark = let m = s.mark in omega (arith, e.later);
         crash = crash_new shows.0 s place outcome e (act.entry ∷ [], sym grown);
       }
-  stand_after (Ok (Kept place outcome)) s e by fits =
+  stand_after (Ok (Kept place outcome)) some within s e by fits =
       quiet (Ok (Kept place outcome)) s e (e.history ∙ kept_history b.accounts b.history pay o.day place e.shows.1.first) refl e.shows.3 refl
-  stand_after (Err (Conflict place)) s e by fits = quiet (Err (Conflict place)) s e e.history refl e.shows.2 refl
-  stand_after (Err (Full entries end need)) s e by fits = quiet (Err (Full entries end need)) s e e.history refl e.shows.6 refl
-  stand_after (Err (DiskFault before after)) s e by fits =
+  stand_after (Err (Conflict place)) some within s e by fits = quiet (Err (Conflict place)) s e e.history refl e.shows.2 refl
+  stand_after (Err (Full entries end need)) some within s e by fits = quiet (Err (Full entries end need)) s e e.history refl e.shows.6 refl
+  stand_after (Err (DiskFault before after)) some within s e by fits =
       let shows = e.shows in
-      let at_open : disk.faults (disk_of b.file) ≡ b.at_open = subst (λ (f : Option Day). Counts f b.at_open (disk.faults (disk_of b.file))) shows.0 s.counts in
+      let at_open : disk.faults (disk_of b.file) ≡ b.at_open = subst (λ (f : Option Failed). Counts f b.at_open (disk.faults (disk_of b.file))) shows.0 s.counts in
       let rose : Rose b'.at_open (disk.faults (disk_of b'.file)) = subst (λ (x : ℕ × ℕ). Rose x.0 x.1) (λ i. ((shows.3 ∙ at_open ∙ sym e.at_open) i, shows.4 i)) shows.5 in
       still (Err (DiskFault before after)) (max w.mark after) s e e.history (let m = s.mark in omega (arith, shows.4, e.later))
-      (subst (λ (f : Option Day). IfSome f (λ day. day ≡ o.day)) (sym e.failed) refl)
-      (subst (λ (f : Option Day). Counts f b'.at_open (disk.faults (disk_of b'.file))) (sym e.failed) rose)
-      (crash_failed shows.0 s before after e fits)
-  stand_after (Err (Broken from now)) s e by fits =
+      (subst Dated (sym e.failed) (refl, within))
+      (subst (λ (f : Option Failed). Counts f b'.at_open (disk.faults (disk_of b'.file))) (sym e.failed) rose)
+      (crash_failed shows.0 s some before after e fits)
+  stand_after (Err (Broken from now)) some within s e by fits =
       let shows = e.shows in
       still (Err (Broken from now)) (max w.mark now) s e e.history (let m = s.mark in omega (arith, shows.2, e.later))
       (failed_still (Err (Broken from now)) s e refl)
       (counts_still (Err (Broken from now)) s e refl shows.4)
       (crash_still (Err (Broken from now)) s e e.history refl refl)
-  stand_after (Err Memory) s e by fits = quiet (Err Memory) s e e.history refl e.shows.1 refl
+  stand_after (Err Memory) some within s e by fits = quiet (Err Memory) s e e.history refl e.shows.1 refl
 
   -- a new place is the next one of the writer's
   pub next_place : (answer : Answer) → Before → Entered answer → IsNext w.base w.acts answer
@@ -320,7 +328,7 @@ module _ {D : Type 0} (disk : disks.Ghosts D) (o : Opening) (past : ℕ → List
   says_after (Err (Full entries end need)) old new num s e m = (full entries end need old new s e m, none_past old new w.acts m.owed m.known)
   says_after (Err (DiskFault before after)) old new num s e m =
       let shows = e.shows in
-      let at_open : disk.faults (disk_of b.file) ≡ b.at_open = subst (λ (f : Option Day). Counts f b.at_open (disk.faults (disk_of b.file))) shows.0 s.counts in
+      let at_open : disk.faults (disk_of b.file) ≡ b.at_open = subst (λ (f : Option Failed). Counts f b.at_open (disk.faults (disk_of b.file))) shows.0 s.counts in
       let missing = subst (λ (h : List Entry). entered_at pay.mir h ≡ None) (as_known old new None (Err (DiskFault before after)) s m refl) shows.1 in
       (shows.3 ∙ at_open ∙ s.at_open, shows.5, (let k = m.mark in omega arith), missing, none_past old new w.acts m.owed m.known, (let a = m.marked in let k = s.mark in omega (arith, s.at_open, at_open)))
   says_after (Err (Broken from now)) old new num s e m =
@@ -333,7 +341,7 @@ module _ {D : Type 0} (disk : disks.Ghosts D) (o : Opening) (past : ℕ → List
       → (writer_after w number pay o.day answer).mark ≡ w.mark → is_of_whole answer ≡ true → new.mark ≤ o.at_open
   whole_after answer place old new s e m same is =
       let whole : b.failed ≡ None = was_whole answer e is in
-      let now : disk.faults (disk_of b.file) ≡ b.at_open = subst (λ (f : Option Day). Counts f b.at_open (disk.faults (disk_of b.file))) whole s.counts in
+      let now : disk.faults (disk_of b.file) ≡ b.at_open = subst (λ (f : Option Failed). Counts f b.at_open (disk.faults (disk_of b.file))) whole s.counts in
       let mark : new.mark ≡ w.mark = m.mark ∙ same in
       let most = s.mark in omega (arith, mark, now, s.at_open)
     where

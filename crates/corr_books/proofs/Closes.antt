@@ -1,11 +1,12 @@
 -- All passes were taken back, and know the whole list together.
-use Rattle.std.proofs.Common.{◌≡◌, ◌⊎◌, ⊎_elim, inl, inr, ℕ, ◌+◌, List, [], length, Option, Some, None, slice_get, sym, ◌∙◌, subst, arith}
+use Rattle.std.proofs.Common.{◌≡◌, ◌⊎◌, ⊎_elim, inl, inr, ℕ, ◌+◌, ◌≤◌, All, List, [], length, Option, Some, None, slice_get, sym, ◌∙◌, subst, arith}
 use Rattle.std.specs.Prelude.{IfSome, IsTrue}
 use mathlib.Core.Logic.{dite}
 use native.Mathlib.Decide.{dec_lt}
 use Rattle.corr_disk.specs.declared.disk.Disk as disks
 use Rattle.corr_text.specs.Faults.{Rose}
 use Rattle.corr_ids.specs.declared.day.Day.{Day}
+use Rattle.jrn_book.specs.declared.answer.Failed.{Failed}
 use Rattle.day_model.specs.declared.entry.Entry.{Entry}
 use Rattle.day_model.specs.Chart.{Chart}
 use Rattle.day_model.specs.Legal.{IsLegal}
@@ -68,25 +69,36 @@ module _ {D : Type 0} (disk : disks.Ghosts D) (o : Opening) (past : ℕ → List
     marks = λ k p at. let m = (t.done k p at (omega arith)).mark in let n = stand.mark in omega arith;
   }
 
+-- entries of one commit that failed are of the books' day, and no more than the name tells
+more_days : (o : Opening) (history : List Entry) (failed : Failed) → (failed.day ≡ o.day) × (failed.most ≤ o.most) → (image : List ℕ) → StandsWithMore o.accounts history failed.day failed.most image
+    → StandsWithMore o.accounts history o.day o.most image
+more_days o history failed days image y = record {
+  more = y.more;
+  few = let few = y.few in omega (arith, few, days.1);
+  of_day = subst (λ (d : Day). All (λ (e : Entry). e.day ≡ d) y.more) days.0 y.of_day;
+  legal = y.legal;
+  stands = y.stands;
+}
+
 -- what it left at each moment since the opening
-pub in_turn : {D : Type 0} (disk : disks.Ghosts D) (o : Opening) (past : ℕ → List ℕ → Type 0) (d : D) (history : List Entry) (at_open : ℕ) (failed : Option Day) → IfSome failed (λ day. day ≡ o.day) → at_open ≡ o.at_open
+pub in_turn : {D : Type 0} (disk : disks.Ghosts D) (o : Opening) (past : ℕ → List ℕ → Type 0) (d : D) (history : List Entry) (at_open : ℕ) (failed : Option Failed) → IfSome failed (λ f. (f.day ≡ o.day) × (f.most ≤ o.most)) → at_open ≡ o.at_open
     → Counts failed at_open (disk.faults d) → (IsTrue o.honest → LeavesSince disk o past d (IsLeftInTurn o.accounts o.base history failed)) → LeavesInTurn disk o past history d
 in_turn disk o past d history at_open None days opened counts crash honest =
     leaves_as disk o past d (StandsBetween o.accounts o.base history)
-    (λ image. StandsBetween o.accounts o.base history image ⊎ (Rose o.at_open (disk.faults d) × StandsWithMore o.accounts history o.day 1 image))
+    (λ image. StandsBetween o.accounts o.base history image ⊎ (Rose o.at_open (disk.faults d) × StandsWithMore o.accounts history o.day o.most image))
     (crash honest) (λ image x. inl x)
-in_turn disk o past d history at_open (Some day) days opened counts crash honest =
+in_turn disk o past d history at_open (Some failed) days opened counts crash honest =
     let rose = subst (λ (n : ℕ). Rose n (disk.faults d)) opened counts in
-    leaves_as disk o past d (λ image. StandsBetween o.accounts o.base history image ⊎ StandsWithMore o.accounts history day 1 image)
-    (λ image. StandsBetween o.accounts o.base history image ⊎ (Rose o.at_open (disk.faults d) × StandsWithMore o.accounts history o.day 1 image))
+    leaves_as disk o past d (λ image. StandsBetween o.accounts o.base history image ⊎ StandsWithMore o.accounts history failed.day failed.most image)
+    (λ image. StandsBetween o.accounts o.base history image ⊎ (Rose o.at_open (disk.faults d) × StandsWithMore o.accounts history o.day o.most image))
     (crash honest)
     (λ image x. ⊎_elim
     (λ (y : StandsBetween o.accounts o.base history image). inl y)
-    (λ (y : StandsWithMore o.accounts history day 1 image). inr (rose, subst (λ (e : Day). StandsWithMore o.accounts history e 1 image) days y))
+    (λ (y : StandsWithMore o.accounts history failed.day failed.most image). inr (rose, more_days o history failed days image y))
     x)
 
 -- what a crash leaves of the closed books' disk
-pub leaves : {D : Type 0} (disk : disks.Ghosts D) (o : Opening) (file : JFile D) (chart : Chart) (history : List Entry) (at_open : ℕ) (failed : Option Day) → IfSome failed (λ day. day ≡ o.day) → at_open ≡ o.at_open → chart ≡ o.accounts
+pub leaves : {D : Type 0} (disk : disks.Ghosts D) (o : Opening) (file : JFile D) (chart : Chart) (history : List Entry) (at_open : ℕ) (failed : Option Failed) → IfSome failed (λ f. (f.day ≡ o.day) × (f.most ≤ o.most)) → at_open ≡ o.at_open → chart ≡ o.accounts
     → StandsOnDisk disk.honest disk.reads disk.may_leave failed file chart history → Counts failed at_open (disk.faults (disk_of file)) → LeavesClosed disk o history (disk_of file)
 leaves disk o file chart history at_open None days opened charts settled counts =
     inl (record {
@@ -94,7 +106,17 @@ leaves disk o file chart history at_open None days opened charts settled counts 
       durable = settled.durable;
       sure = counts ∙ opened;
     })
-leaves disk o file chart history at_open (Some day) days opened charts left counts =
+leaves disk o file chart history at_open (Some failed) days opened charts left counts =
     let rose = subst (λ (n : ℕ). Rose n (disk.faults (disk_of file))) opened counts in
-    let of_chart = subst (λ (c : Chart). IsLeftBy (disk.honest (disk_of file)) (disk.may_leave (disk_of file)) c history day) charts left in
-    inr (rose, subst (IsLeftBy (disk.honest (disk_of file)) (disk.may_leave (disk_of file)) o.accounts history) days of_chart)
+    let of_chart = subst (λ (c : Chart). IsLeftBy (disk.honest (disk_of file)) (disk.may_leave (disk_of file)) c history failed) charts left in
+    inr (
+      rose,
+      record {
+        entries = of_chart.entries;
+        few = let few = of_chart.few in omega (arith, few, days.1);
+        days_are = subst (λ (d : Day). All (λ (e : Entry). e.day ≡ d) of_chart.entries) days.0 of_chart.days_are;
+        written = of_chart.written;
+        legal = of_chart.legal;
+        images = of_chart.images;
+      },
+    )

@@ -2,6 +2,11 @@ pub mod Opens
 pub mod Sorting
 pub mod Locking
 pub mod Booking
+pub mod Grown
+pub mod Gathered
+pub mod Telling
+pub mod Batching
+pub mod Batched
 pub mod Counting
 pub mod Taken
 pub mod Closes

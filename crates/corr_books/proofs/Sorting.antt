@@ -4,7 +4,7 @@ use Rattle.std.specs.Prelude.{◌&&◌, IsTrue, if◌then◌else◌}
 use Rattle.std.specs.List.{list_all}
 use Rattle.std.proofs.lemmas.Bool.{and_parts, cases_lt, eqb-false, le-ltb, lt-ltb, not-true}
 use Rattle.day_model.specs.declared.pay.Leg.{Leg}
-use Rattle.day_model.specs.Chart.{Chart, IsListed}
+use Rattle.day_model.specs.Chart.{Chart, IsListed, accounts_of}
 use Rattle.day_model.specs.Fit.{are_apart, is_apart_from, legs_fit}
 use Rattle.day_model.proofs.laws.Fitting.{LegsFit, fitting}
 use Rattle.corr_books.specs.Numbers.{AreRising, IsOneOf, RiseBetween, inserted, sorted_accounts}
@@ -77,12 +77,12 @@ on_none leg (other ∷ legs) apart it =
 
 -- the accounts of legs that are apart rise
 accounts_rise : (chart : Chart) (legs : List Leg) → ((i : ℕ) (leg : Leg) → slice_get legs i ≡ Some leg → IsListed chart leg.account.0) → are_apart legs ≡ true
-    → RiseBetween 0 (length chart.accounts) (sorted_accounts legs)
+    → RiseBetween 0 (length (accounts_of chart)) (sorted_accounts legs)
 accounts_rise chart [] listed apart = tt
 accounts_rise chart (leg ∷ legs) listed apart =
     let parts = and_parts (list_all (is_apart_from leg) legs) (are_apart legs) apart in
     let here : IsListed chart leg.account.0 = listed 0 leg refl in
-    still_rise leg.account.0 0 (length chart.accounts) (sorted_accounts legs) (omega (arith, here.0)) here.1 (on_none leg legs parts.0)
+    still_rise leg.account.0 0 (length (accounts_of chart)) (sorted_accounts legs) (omega (arith, here.0)) here.1 (on_none leg legs parts.0)
     (accounts_rise chart legs (λ i other at. listed (suc i) other at) parts.1)
 
 -- there are as many as legs

@@ -45,16 +45,17 @@ pub record StandsAlone {D : Type 0} (disk : disks.Ghosts D) (o : Opening) (histo
   pub durable : IsTrue (disk.honest d) → Only (disk.reads d) (disk.may_leave d)
   pub sure : disk.faults d ≡ o.at_open
 
--- The disk stands for the closed history alone; or, where its count of faults rose since the opening, every image stands for it
--- or for it and one legal entry of the books' day. Of a disk that doesn't tell its bytes nothing is said but the count.
+-- The disk stands for the closed history alone; or, where its count of faults rose since the opening, every image stands for it,
+-- or for it and the legal entries of the books' day that one commit was writing, at most as many as the name tells. Of a disk that
+-- doesn't tell its bytes nothing is said but the count.
 abbrev pub LeavesClosed : {D : Type 0} → disks.Ghosts D → Opening → List Entry → D → Type 0
 LeavesClosed disk o history d =
     StandsAlone disk o history d
-    ⊎ (Rose o.at_open (disk.faults d) × IsLeftBy (disk.honest d) (disk.may_leave d) o.accounts history o.day)
+    ⊎ (Rose o.at_open (disk.faults d) × IsLeftBy (disk.honest d) (disk.may_leave d) o.accounts history (record { day = o.day; most = o.most }))
 
 -- So it was at each moment since the opening: of a disk that tells its bytes a crash leaves the history at the opening and a front
--- part of what was entered since, in its order; or, where the count of faults rose, the closed history and one legal entry more.
+-- part of what was entered since, in its order; or, where the count of faults rose, the closed history and the legal entries of one commit.
 abbrev pub LeavesInTurn : {D : Type 0} → disks.Ghosts D → Opening → (ℕ → List ℕ → Type 0) → List Entry → D → Type 0
 LeavesInTurn disk o past history d =
     IsTrue o.honest → LeavesSince disk o past d (λ image. StandsBetween o.accounts o.base history image
-    ⊎ (Rose o.at_open (disk.faults d) × StandsWithMore o.accounts history o.day 1 image))
+    ⊎ (Rose o.at_open (disk.faults d) × StandsWithMore o.accounts history o.day o.most image))

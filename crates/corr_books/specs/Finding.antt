@@ -5,7 +5,7 @@ use Rattle.day_model.specs.declared.entry.Entry.{Entry}
 use Rattle.day_model.specs.Chart.{Chart}
 use Rattle.day_model.specs.Laws.{IsLatest}
 use Rattle.jrn_book.specs.Journal.{IsJournal}
-use Rattle.jrn_book.specs.Opening.{Finding, book, no_book, faulty, IsFound, BookOpenCause, found_by}
+use Rattle.jrn_book.specs.Opening.{Finding, book, no_book, other_version, faulty, IsFound, BookOpenCause, found_by}
 use Rattle.jrn_file.specs.Reading.{Reading}
 use Rattle.jrn_file.specs.declared.fault.OpenFault.TheVariants as open_fault
 use Rattle.corr_books.specs.declared.opening.BooksFault.{BooksFault}
@@ -33,6 +33,7 @@ abbrev pub RefusesAs : Day → BooksFault → Finding → Type 0
 RefusesAs day (Open fault) finding = IfSome (found_by fault) (λ found. found ≡ finding)
 RefusesAs day (DateBack last) (book chart history) = IsDateBack history day last
 RefusesAs day (DateBack last) no_book = ⊥
+RefusesAs day (DateBack last) (other_version found) = ⊥
 RefusesAs day (DateBack last) (faulty at) = ⊥
 
 -- An answer is what the bytes give: books of the accounts and the history that they hold, of which no entry has a later day; or a refusal.

@@ -1,5 +1,5 @@
 -- What calls of books told, and the history when the books are closed.
-use Rattle.std.specs.Prelude.{◌≡◌, ℕ, ◌-◌, true, List, [], ◌∷◌, ◌++◌, Some, Ok, slice_get}
+use Rattle.std.specs.Prelude.{◌≡◌, ℕ, ◌-◌, true, List, ◌++◌, Some, Ok, slice_get}
 use mathlib.Core.List.{IsPrefix}
 use Rattle.day_model.specs.declared.entry.Entry.{Entry}
 use Rattle.day_model.specs.declared.entry.Outcome.{Outcome}
@@ -48,6 +48,6 @@ abbrev pub BaseStands : Type 0
 BaseStands = (o : Opening) (history : List Entry) (faults : ℕ) (passes : List PassKnows) (place : ℕ) (entry : Entry)
     → Closes o history faults passes → HasAt o.base place entry → HasAt history place entry
 
--- an entry keeps its place where one more is added: so whatever a crash leaves has it too
-abbrev pub OneMoreKeepsPlaces : Type 0
-OneMoreKeepsPlaces = (history : List Entry) (more : Entry) (place : ℕ) (entry : Entry) → HasAt history place entry → HasAt (history ++ more ∷ []) place entry
+-- an entry keeps its place where more are added: so whatever a crash leaves has it too
+abbrev pub MoreKeepPlaces : Type 0
+MoreKeepPlaces = (history more : List Entry) (place : ℕ) (entry : Entry) → HasAt history place entry → HasAt (history ++ more) place entry

@@ -6,6 +6,7 @@ pub mod Numbers
 pub mod Entering
 pub mod Stand
 pub mod Telling
+pub mod TellingAll
 pub mod Meeting
 pub mod Taking
 pub mod Closing

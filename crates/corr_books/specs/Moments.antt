@@ -3,6 +3,7 @@ use Rattle.std.specs.Prelude.{◌≡◌, ◌⊎◌, ℕ, ◌≤◌, All, List, �
 use mathlib.Core.List.{IsPrefix}
 use Rattle.corr_disk.specs.declared.disk.Disk as disks
 use Rattle.corr_ids.specs.declared.day.Day.{Day}
+use Rattle.jrn_book.specs.declared.answer.Failed.{Failed}
 use Rattle.day_model.specs.declared.entry.Entry.{Entry}
 use Rattle.day_model.specs.Chart.{Chart}
 use Rattle.day_model.specs.Legal.{IsLegal}
@@ -25,10 +26,10 @@ pub record StandsWithMore (chart : Chart) (history : List Entry) (day : Day) (mo
   pub stands : StandsForBook image chart (history ++ more)
 
 -- What a crash leaves of a book that had the first of these histories at its opening and has the last one now: the first one and a
--- front part of what was entered since, in its order; or, where a commit failed on a day, the last one and one legal entry more.
-abbrev pub IsLeftInTurn : Chart → List Entry → List Entry → Option Day → List ℕ → Type 0
+-- front part of what was entered since, in its order; or, where a commit failed, the last one and the legal entries that it was writing.
+abbrev pub IsLeftInTurn : Chart → List Entry → List Entry → Option Failed → List ℕ → Type 0
 IsLeftInTurn chart first last None image = StandsBetween chart first last image
-IsLeftInTurn chart first last (Some day) image = StandsBetween chart first last image ⊎ StandsWithMore chart last day 1 image
+IsLeftInTurn chart first last (Some failed) image = StandsBetween chart first last image ⊎ StandsWithMore chart last failed.day failed.most image
 
 -- At each moment since the opening a crash leaves bytes that have P. Of a crash since an earlier moment: it leaves such bytes, or
 -- what it might have left before the opening, which the name of the books tells.

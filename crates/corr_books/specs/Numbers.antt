@@ -2,7 +2,7 @@
 use Rattle.std.specs.Prelude.{◌≡◌, ◌⊎◌, ℕ, ◌<◌, ◌≤◌, All, List, [], ◌∷◌, length, Option, Some, None, nat_lt, if◌then◌else◌}
 use Rattle.day_model.specs.declared.account.AcctNo.{AcctNo}
 use Rattle.day_model.specs.declared.pay.Leg.{Leg}
-use Rattle.day_model.specs.Chart.{Chart}
+use Rattle.day_model.specs.Chart.{Chart, accounts_of}
 use Rattle.corr_books.specs.declared.rising.TwoOrThree.{TwoOrThree}
 
 -- n is one of the numbers
@@ -19,7 +19,7 @@ RiseBetween low most (n ∷ numbers) = (low < n) × (n ≤ most) × RiseBetween 
 pub record AreRising (chart : Chart) (legs : List Leg) (numbers : List ℕ) : Type 0 where
   pub many : 2 ≤ length numbers
   pub few : length numbers ≤ 3
-  pub rise : RiseBetween 0 (length chart.accounts) numbers
+  pub rise : RiseBetween 0 (length (accounts_of chart)) numbers
   pub are : All (λ leg. IsOneOf numbers leg.account.0) legs
 
 -- a number put before the first that is greater

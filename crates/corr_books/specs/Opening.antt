@@ -1,5 +1,5 @@
 -- One opening of books: what its name names.
-use Rattle.std.specs.Prelude.{◌≡◌, ℕ, Bool, false, List, [], pos}
+use Rattle.std.specs.Prelude.{◌≡◌, ◌≤◌, ℕ, Bool, false, List, [], pos}
 use Rattle.atomic_table.specs.Seated.{TableId}
 use Rattle.acct_locks.specs.Sides.{no_table}
 use Rattle.corr_disk.specs.declared.disk.Disk as disks
@@ -11,7 +11,8 @@ use Rattle.jrn_file.specs.declared.file.JFile.{JFile}
 use Rattle.jrn_file.specs.File.{disk_of}
 
 -- The accounts, the history at the opening, the day that entries get, the disk's count of faults at the opening, its moment then and
--- whether it tells its bytes, how many passes there are, and the table of the word. None of them changes while the books are open.
+-- whether it tells its bytes, how many passes there are, the table of the word, and how many entries come under one sync at most. None of
+-- them changes while the books are open.
 pub record Opening : Type 0 where
   pub accounts : Chart
   pub base : List Entry
@@ -21,11 +22,12 @@ pub record Opening : Type 0 where
   pub honest : Bool
   pub made : ℕ
   pub word : TableId
+  pub most : ℕ
 
 -- what a name of an opening is where no call has picked one
 abbrev pub no_opening : Opening
 no_opening = record {
-  accounts = record { home = record { head = []; branch = [] }; accounts = [] };
+  accounts = record { home = record { head = []; branch = [] }; first = []; changes = [] };
   base = [];
   day = record { 0 = pos 0 };
   at_open = 0;
@@ -33,6 +35,7 @@ no_opening = record {
   honest = false;
   made = 0;
   word = no_table;
+  most = 1;
 }
 
 -- and what a crash before it might have left
@@ -63,9 +66,9 @@ parts_from book day word = record {
 }
 
 module _ {D : Type 0} (disk : disks.Ghosts D) where
-  -- the opening of these parts, with so many passes
-  abbrev pub opening_with : Parts D → ℕ → Opening
-  opening_with parts made = record {
+  -- the opening of these parts, with so many passes, and at most so many entries under one sync
+  abbrev pub opening_with : Parts D → ℕ → ℕ → Opening
+  opening_with parts made most = record {
     accounts = parts.accounts;
     base = parts.base;
     day = parts.day;
@@ -74,14 +77,17 @@ module _ {D : Type 0} (disk : disks.Ghosts D) where
     honest = disk.honest (disk_of parts.file);
     made = made;
     word = parts.word;
+    most = most;
   }
 
   -- what a crash at some moment from an earlier one until the opening might have left of their disk
   abbrev pub past_of : Parts D → ℕ → List ℕ → Type 0
   past_of parts t image = disk.left_since (disk_of parts.file) t image
 
-  -- these parts, with so many passes, are what the name names, and it names no less of what a crash might have left until then
+  -- these parts, with so many passes, are what the name names; it names at least one entry under one sync, and no less of what a crash
+  -- might have left until then
   pub record IsNamed (opening : Opening) (past : ℕ → List ℕ → Type 0) (purses : TableId) (parts : Parts D) (made : ℕ) : Type 0 where
-    pub opening_is : opening ≡ opening_with parts made
+    pub opening_is : opening ≡ opening_with parts made opening.most
+    pub some : 1 ≤ opening.most
     pub past_has : (t : ℕ) (image : List ℕ) → past_of parts t image → past t image
     pub purses_are : purses ≡ parts.purses

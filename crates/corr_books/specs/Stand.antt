@@ -30,9 +30,9 @@ pub record StandKnows (D : Type 0) : Type 0 where
 
 -- Wherever the lock is free: the parts are those that the name names; nothing is owed to a pass, and none was taken back; the
 -- history is that at the opening and the published entries, each tagged with a pass of the books; no entry has a later day than
--- the books, and a commit failed on that day, if one did; the disk's count is that at the opening but for that failure, and no
--- less than the writer's mark. Of a disk that tells its bytes a crash at each moment since the opening leaves the history then and a
--- front part of what was entered, or one legal entry more after a failure.
+-- the books, and a commit failed on that day, if one did, over no more entries than the name tells; the disk's count is that at the
+-- opening but for that failure, and no less than the writer's mark. Of a disk that tells its bytes a crash at each moment since the
+-- opening leaves the history then and a front part of what was entered, or the legal entries of one commit more after a failure.
 pub record IsStand {D : Type 0} (disk : disks.Ghosts D) (o : Opening) (past : ℕ → List ℕ → Type 0) (purses : TableId) (s : StandKnows D) : Type 0 where
   pub accounts : s.book.accounts ≡ o.accounts
   pub purses_are : s.book.table ≡ purses
@@ -48,7 +48,8 @@ pub record IsStand {D : Type 0} (disk : disks.Ghosts D) (o : Opening) (past : �
   pub tags : AreTagged o.made s.writer.acts
   pub century : InCentury o.day
   pub latest : IsLatest s.book.history o.day
-  pub failed : IfSome s.book.failed (λ d. d ≡ o.day)
+  pub some : 1 ≤ o.most
+  pub failed : IfSome s.book.failed (λ f. (f.day ≡ o.day) × (f.most ≤ o.most))
   pub counts : Counts s.book.failed s.book.at_open (disk.faults (disk_of s.book.file))
   pub mark : s.writer.mark ≤ disk.faults (disk_of s.book.file)
   pub crash : IsTrue o.honest → LeavesSince disk o past (disk_of s.book.file) (IsLeftInTurn o.accounts o.base s.book.history s.book.failed)

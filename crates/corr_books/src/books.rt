@@ -1,7 +1,7 @@
 //! Books: the parts of one opening under a name, behind their locks.
 
 ghost use Rattle.std.specs.Prelude.{◌≡◌, length};
-ghost use Rattle.day_model.specs.Chart.{IsChart};
+ghost use Rattle.day_model.specs.Chart.{IsChart, accounts_of};
 ghost use Rattle.day_model.specs.Fit.{FitsAccounts};
 ghost use Rattle.day_model.specs.Shape.{HasShape};
 ghost use Rattle.jrn_book.specs.Deciding.{HoldsAll};
@@ -32,7 +32,7 @@ pub struct Books<N: BooksName, D: Disk> {
     pub(crate) stand: Mutex<Stand<N, D>>,
     ghost accounts_are: { accounts ≡ N.opening.accounts },
     ghost front_is: { front ≡ N.opening.word },
-    ghost purses_are: { purses ≡ length N.opening.accounts.accounts },
+    ghost purses_are: { purses ≡ length (accounts_of N.opening.accounts) },
     ghost made_is: { made ≡ N.opening.made },
 }
 

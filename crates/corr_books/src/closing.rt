@@ -44,11 +44,12 @@ impl<N: BooksName, D: Disk> Books<N, D> {
         // The history may be opened again from this disk.
         ensures journal { IfOk result (λ c. IsJournal c.accounts c.history.entries) }
 
-        // A crash leaves this history, or, where the disk failed since the opening, it and one legal entry more.
+        // A crash leaves this history, or, where the disk failed since the opening, it and the legal entries of one commit.
         ensures disk { IfOk result (λ c. LeavesClosed D.Disk N.opening c.history.entries c.disk) }
         ensures honest { IfOk result (λ c. D.honest c.disk ≡ N.opening.honest) }
 
-        // So it was at each moment since the opening: with a front part of what was entered, or one legal entry more after a failure.
+        // So it was at each moment since the opening: with a front part of what was entered, or, after a failure, the legal entries
+        // of one commit more.
         ensures any_moment { IfOk result (λ c. LeavesInTurn D.Disk N.opening N.past c.history.entries c.disk) }
 
         ensures all { IfOk result (λ _. vec_len passes ≡ N.opening.made) }

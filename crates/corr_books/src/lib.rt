@@ -2,9 +2,9 @@
 //! knows afterwards.
 #![tactic(auto)]
 
+mod batch;
 mod books;
 mod closing;
-mod copying;
 mod entering;
 mod law;
 mod naming;

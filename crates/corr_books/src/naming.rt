@@ -4,7 +4,8 @@ use acct_locks::Name;
 use std::marker::Brand;
 
 /// Names the parts of one opening beside the table of its purses: the accounts, the history then, the day that entries get,
-/// the disk's count of faults and its moment then and whether its bytes are told, the number of passes, and the table of the word.
+/// the disk's count of faults and its moment then and whether its bytes are told, the number of passes, the table
+/// of the word, and how many entries come under one sync at most.
 pub trait BooksName: Name {
     ghost use Rattle.std.specs.Prelude.{ℕ, List};
     ghost use Rattle.corr_books.specs.Opening.{Opening};
@@ -34,6 +35,33 @@ impl Act for Brand {
     ghost use Rattle.front_word.specs.Blank.{blank_act};
 
     ghost act = { blank_act };
+}
+
+/// Names the pays of a batch.
+pub(crate) trait Batch {
+    ghost use Rattle.std.specs.Prelude.{List};
+    ghost use Rattle.day_model.specs.declared.pay.Pay.{Pay};
+
+    ghost pays: { List Pay };
+}
+
+impl Batch for Brand {
+    ghost use Rattle.std.specs.Prelude.{[]};
+
+    ghost pays = { [] };
+}
+
+/// Names a pay.
+pub(crate) trait Paid {
+    ghost use Rattle.day_model.specs.declared.pay.Pay.{Pay};
+
+    ghost pay: { Pay };
+}
+
+impl Paid for Brand {
+    ghost use Rattle.front_word.specs.Blank.{blank_pay};
+
+    ghost pay = { blank_pay };
 }
 
 /// Names the history that a word begins with.

@@ -9,7 +9,6 @@ ghost use Rattle.corr_books.specs.Taking.{AreMade};
 ghost use Rattle.work_pool.specs.Served.{most_workers};
 
 use crate::books::Books;
-use crate::copying::copy_accounts;
 use crate::naming::BooksName;
 use crate::opening::Opened;
 use crate::stand::Stand;
@@ -57,8 +56,8 @@ impl<D: Disk> Opened<D> {
     /// Makes the passes with the numbers 1 to `made`, gives the parts their name, and puts them behind their locks. These are
     /// all passes that the books ever make.
     ///
-    /// `N` names these parts and `made`, which is 1 to 16, and at least all that a crash might have left until now. `Memory`: there is
-    /// none, and the disk is as it was.
+    /// `N` names these parts and `made`, which is 1 to 16, how many entries come under one sync at most, and at least all that a
+    /// crash might have left until now. `Memory`: there is none, and the disk is as it was.
     pub fn books<N: BooksName>(
         self,
         alloc: Global,
@@ -128,7 +127,7 @@ fn make<N: BooksName>(
     ensures writer { IfOk result (λ m. writer.new ≡ record writer.old { made = made }) }
 {
     Ok(Made {
-        accounts: copy_accounts(alloc, a)?,
+        accounts: a.copy(alloc)?,
         passes: make_passes(alloc, f, writer, made)?,
         purses: loose.lock::<N>(alloc)?,
     })

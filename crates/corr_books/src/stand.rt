@@ -1,6 +1,6 @@
 //! What stands behind the journal's lock: the journal's book, and the seat with which its entries are published.
 
-ghost use Rattle.std.specs.Prelude.{◌≡◌, ◌+◌, ◌<◌, length, None};
+ghost use Rattle.std.specs.Prelude.{◌≡◌, ◌+◌, ◌<◌, ◌≤◌, length, None};
 ghost use Rattle.day_model.specs.Fit.{FitsAccounts};
 ghost use Rattle.day_model.specs.Log.{most_entries};
 ghost use Rattle.day_model.specs.Shape.{HasShape};
@@ -11,7 +11,7 @@ ghost use Rattle.corr_books.specs.Passes.{Belongs};
 ghost use Rattle.corr_books.specs.Telling.{Told};
 
 use crate::entering::enter;
-use crate::naming::{Act, BooksName};
+use crate::naming::{Act, BooksName, Paid};
 use acct_locks::Held;
 use corr_disk::Disk;
 use corr_ids::Day;
@@ -61,18 +61,18 @@ impl<N: BooksName, D: Disk> Stand<N, D> {
             return Err(CommitFault::Memory);
         }
         let answer = enter(&mut self.book, held, p, self.day);
-        tell(&mut self.writer, f, pass, p, self.day, &answer);
+        tell::<Brand, Pay>(&mut self.writer, f, pass, p, self.day, &answer);
         answer
     }
 }
 
 /// Publishes what was entered, and lets the pass know all. The pass meets the writer before the entry is published too: so it
-/// shows that the entry is past all that it knew.
-fn tell(
+/// shows that the entry is past all that it knew. `of` tells proofs which pay was answered: the pay, or its place in a batch.
+pub(crate) fn tell<P: Paid, T>(
     w: &mut Writer,
     f: &Front,
     pass: &mut Pass,
-    p: &Pay,
+    of: &T,
     day: Day,
     answer: &Result<Committed, CommitFault>,
 )
@@ -82,16 +82,18 @@ fn tell(
     requires base { pass.old.base ≡ length w.old.base }
     requires room { 0 < pass.old.spare }
     requires place { IsNext w.old.base w.old.acts answer.now }
-    ensures writer { w.new ≡ writer_after w.old pass.old.number p.now day answer.now }
+    ensures writer { w.new ≡ writer_after w.old pass.old.number P.pay day answer.now }
     ensures pass { MeetsAfter w.old w.new answer.now pass.old pass.new }
+    ensures left { pass.old.spare ≤ pass.new.spare + 1 }
 {
+    let _ = of;
     if let Err(CommitFault::Memory) = answer {
         return;
     }
     pass.meet(f, w, None);
     let place = match answer {
         Ok(Committed::New { place, outcome }) => {
-            publish(w, f, pass, p, day, *outcome);
+            publish::<P>(w, f, pass, day, *outcome);
             Some(*place)
         }
         Ok(Committed::Kept { place, .. }) => Some(*place),
@@ -110,18 +112,18 @@ fn tell(
 }
 
 /// Publishes the entry that a pay became, for a pass.
-fn publish(w: &mut Writer, f: &Front, pass: &Pass, p: &Pay, day: Day, outcome: Outcome)
+fn publish<P: Paid>(w: &mut Writer, f: &Front, pass: &Pass, day: Day, outcome: Outcome)
     requires table { f.now ≡ w.old.table }
     requires owed { w.old.owed ≡ None }
     requires number { IsNumber w.old.made pass.now.number }
     requires room { length w.old.base + length w.old.acts < most_entries }
-    ensures { w.new ≡ owing w.old (act_of pass.now.number p.now day outcome) }
+    ensures { w.new ≡ owing w.old (act_of pass.now.number P.pay day outcome) }
 {
-    publish_as::<Brand>(w, f, pass, p, day, outcome);
+    publish_as::<P, Brand>(w, f, pass, day, outcome);
 }
 
-fn publish_as<A: Act>(w: &mut Writer, f: &Front, pass: &Pass, p: &Pay, day: Day, outcome: Outcome)
-    requires act { A.act ≡ act_of pass.now.number p.now day outcome }
+fn publish_as<P: Paid, A: Act>(w: &mut Writer, f: &Front, pass: &Pass, day: Day, outcome: Outcome)
+    requires act { A.act ≡ act_of pass.now.number P.pay day outcome }
     requires table { f.now ≡ w.old.table }
     requires owed { w.old.owed ≡ None }
     requires number { IsNumber w.old.made A.act.by }
@@ -129,7 +131,6 @@ fn publish_as<A: Act>(w: &mut Writer, f: &Front, pass: &Pass, p: &Pay, day: Day,
     ensures { w.new ≡ owing w.old A.act }
 {
     let _ = pass;
-    let _ = p;
     let _ = day;
     let _ = outcome;
     w.publish(f);

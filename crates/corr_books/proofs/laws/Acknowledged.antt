@@ -7,7 +7,7 @@ use Rattle.day_model.specs.declared.pay.Pay.{Pay}
 use Rattle.front_word.specs.declared.view.Act.{Act}
 use Rattle.front_word.specs.Known.{PassKnows}
 use Rattle.front_word.proofs.laws.Prefixes.{prefix_get, prefix_trans}
-use Rattle.corr_books.specs.Laws.{BaseStands, ClosedWith, HasAt, KeptStands, NewStands, OneMoreKeepsPlaces}
+use Rattle.corr_books.specs.Laws.{BaseStands, ClosedWith, HasAt, KeptStands, NewStands, MoreKeepPlaces}
 use Rattle.corr_books.specs.Opening.{Opening}
 use Rattle.corr_books.specs.Stand.{entries_of, history_of}
 use Rattle.corr_books.specs.Telling.{IsAdded, entry_on, known_to}
@@ -58,5 +58,5 @@ pub base_stands : BaseStands
 base_stands o history faults passes place entry closes at =
     subst (λ (h : List Entry). HasAt h place entry) (sym closes.is) (prefix_get o.base (history_of o.base closes.log) (place - 1) entry (entries_of closes.log, refl) at)
 
-pub one_more_keeps_places : OneMoreKeepsPlaces
-one_more_keeps_places history more place entry at = prefix_get history (history ++ more ∷ []) (place - 1) entry (more ∷ [], refl) at
+pub more_keep_places : MoreKeepPlaces
+more_keep_places history more place entry at = prefix_get history (history ++ more) (place - 1) entry (more, refl) at

@@ -55,6 +55,6 @@ module _ {D : Type 0} (disk : disks.Ghosts D) (o : Opening) (past : ℕ → List
 
 -- Of books whose name names their opening and all that the disk might have left until then: so it was since the disk was opened, for
 -- a run that began earlier too.
-pub leaves_only : {D : Type 0} (disk : disks.Ghosts D) (parts : Parts D) (made : ℕ) (new : D) (P : List ℕ → Type 0)
-    → LeavesSince disk (opening_with disk parts made) (past_of disk parts) new P → LeavesOnly disk.moment disk.left_since (disk_of parts.file) new P
-leaves_only disk parts made new P since = record { later = since.later; each = since.each; before = since.before }
+pub leaves_only : {D : Type 0} (disk : disks.Ghosts D) (parts : Parts D) (made most : ℕ) (new : D) (P : List ℕ → Type 0)
+    → LeavesSince disk (opening_with disk parts made most) (past_of disk parts) new P → LeavesOnly disk.moment disk.left_since (disk_of parts.file) new P
+leaves_only disk parts made most new P since = record { later = since.later; each = since.each; before = since.before }

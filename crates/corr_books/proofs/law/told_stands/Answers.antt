@@ -1,4 +1,4 @@
-use Rattle.corr_books.proofs.laws.Acknowledged.{base_stands, kept_stands, new_stands, one_more_keeps_places}
+use Rattle.corr_books.proofs.laws.Acknowledged.{base_stands, kept_stands, new_stands, more_keep_places}
 use Rattle.corr_books.proofs.law.told_stands.Goals as goal
 
 pub returns-clause-new : goal.returns-clause-new
@@ -11,4 +11,4 @@ pub returns-clause-base : goal.returns-clause-base
 returns-clause-base c = base_stands
 
 pub returns-clause-places : goal.returns-clause-places
-returns-clause-places c = one_more_keeps_places
+returns-clause-places c = more_keep_places

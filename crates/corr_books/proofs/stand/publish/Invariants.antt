@@ -3,4 +3,4 @@ use Rattle.corr_books.proofs.stand.publish.Given as goal
 
 -- the entry that is published
 abbrev pub ghosts-publish_as : goal.ghosts-publish_as
-ghosts-publish_as a = record { act = act_of a.pass.now.number a.p.now a.day a.outcome }
+ghosts-publish_as g a = record { act = act_of a.pass.now.number g.P.Paid.pay a.day a.outcome }

@@ -1,4 +1,4 @@
-use Rattle.std.proofs.Common.{◌∙◌, ℕ, ap, subst, sym}
+use Rattle.std.proofs.Common.{◌∙◌, ℕ, ap, refl, subst, sym}
 use Rattle.front_word.specs.Known.{WriterKnows, beginner}
 use Rattle.corr_books.specs.Opening.{Opening, Parts}
 use Rattle.corr_books.specs.Taking.{AreMade}
@@ -19,5 +19,5 @@ returns-clause-passes g c =
 pub begin_stand-behind-requires : goal.begin_stand-behind-requires
 begin_stand-behind-requires g c =
     let s = c.self.inside in
-    stand_begun g.D.Disk g.N.BooksName.past g.N.Name.table s.book s.day s.front c.args.made g.N.BooksName.opening c.args.self c.make.new.writer c.requires.named (sym c.self.view_is) c.self.invariant.0
+    stand_begun g.D.Disk g.N.BooksName.past g.N.Name.table s.book s.day s.front c.args.made g.N.BooksName.opening.most c.requires.named.some g.N.BooksName.opening c.args.self c.make.new.writer refl c.requires.named (sym c.self.view_is) c.self.invariant.0
     (c.in-Ok.ensures.writer ∙ ap (λ (w : WriterKnows). record w { made = c.args.made }) c.self.invariant.2) c.self.invariant.3 c.self.invariant.4 g.met.D.Disk.only_now
