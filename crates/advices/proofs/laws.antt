@@ -11,6 +11,7 @@ pub mod Copies
 pub mod Banks
 pub mod Debits
 pub mod Credits
+pub mod Notices
 pub mod Seats
 pub mod TakenOver
 pub mod Transfers

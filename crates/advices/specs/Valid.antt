@@ -1,5 +1,5 @@
 -- What is sent of an entry passes the tests of its type, under the tables under which the received message passed its own.
-use Rattle.std.specs.Prelude.{◌≡◌, ℕ, ◌≤◌, ◌||◌, Bool, true, false, List, Option, Some, None, IfSome, Ok, codes, length}
+use Rattle.std.specs.Prelude.{◌≡◌, ℕ, ◌≤◌, Bool, true, false, List, [], ◌∷◌, Option, Some, None, IfSome, Ok, length}
 use Rattle.std.specs.List.{All}
 use Rattle.corr_text.specs.First.{first_of}
 use Rattle.corr_ids.specs.Address.{bank_of}
@@ -10,13 +10,15 @@ use Rattle.corr_ids.specs.declared.envelope.Envelope.{Envelope}
 use Rattle.corr_money.specs.declared.amount.Amount.{Amount}
 use Rattle.ref_tables.specs.Seen.{Tables, decimals_in, has_head, IsKnown}
 use Rattle.fin_contents.specs.Money.{is_metal}
+use Rattle.fin_contents.specs.Writing.{line_field}
 use Rattle.fin_message.specs.Sound.{IsSaid, KeepsRules}
 use Rattle.fin_message.specs.Verdict.{sent_verdict_of}
 use Rattle.fin_message.specs.declared.message.Message.{Message}
 use Rattle.fin_message.specs.declared.message.Message.TheVariants as message
+use Rattle.mt103.specs.Codes.{is_charged}
 use Rattle.mt103.specs.Message.{mt103_of}
 use Rattle.mt103.specs.declared.message.Mt103.{Mt103}
-use Rattle.mt103_rules.specs.Rules.{all_rules as rules_103, is_charge}
+use Rattle.mt103_rules.specs.Rules.{all_rules as rules_103}
 use Rattle.mt202cov.specs.Message.{mt202cov_of}
 use Rattle.mt202cov.specs.declared.message.Mt202Cov.{Mt202Cov}
 use Rattle.mt9_advice.specs.Advice.{mt900_of, mt910_of, tests_900, tests_910}
@@ -24,7 +26,7 @@ use Rattle.mt9_advice.specs.declared.credit.Mt910.{Mt910}
 use Rattle.mt9_advice.specs.declared.debit.Mt900.{Mt900}
 use Rattle.day_model.specs.Chart.{Chart, IsChart, fee}
 use Rattle.day_model.specs.Fit.{FitsAccounts}
-use Rattle.day_model.specs.Shape.{HasShape, IsNumbered}
+use Rattle.day_model.specs.Shape.{HasShape, IsNumbered, IsReference}
 use Rattle.day_model.specs.declared.account.Account.{Account}
 use Rattle.day_model.specs.declared.pay.Mt.TheVariants.{Transfer, Cover}
 use Rattle.day_model.specs.declared.pay.Order.{Order}
@@ -32,8 +34,9 @@ use Rattle.day_model.specs.declared.pay.Order.TheVariants as order
 use Rattle.day_model.specs.declared.pay.Pay.{Pay}
 use Rattle.day_model.specs.declared.pay.Skip.{Skip}
 use Rattle.day_model.specs.Log.{most_entries}
-use Rattle.advices.specs.Legs.{leg_account}
+use Rattle.advices.specs.Legs.{leg_account, leg_amount}
 use Rattle.advices.specs.Messages.{order_fields}
+use Rattle.advices.specs.Received.{fields_in}
 
 -- the tables hold an amount's currency with its decimals, and it is no precious metal
 pub record IsTabled (t : Tables) (a : Amount) : Type 0 where
@@ -71,13 +74,9 @@ pub record IsInMoney (account : Account) (a : Amount) : Type 0 where
   pub ccy : account.ccy ≡ a.ccy
   pub decimals : account.decimals ≡ a.decimals
 
--- a charge may be taken out of a transfer whose charges are shared (71A is SHA) or borne by the beneficiary (BEN)
-abbrev pub bears_charges : Mt103 → Bool
-bears_charges m = is_charge m (codes "SHA") || is_charge m (codes "BEN")
-
--- and out of no other message
+-- a charge may be taken out of a transfer alone, by its 71A
 abbrev pub may_be_charged : Message → Bool
-may_be_charged (message.Transfer envelope text transfer) = bears_charges transfer
+may_be_charged (message.Transfer envelope text transfer) = is_charged transfer.charge
 may_be_charged _ = false
 
 -- a pay that came from a message: it fits the accounts and can be written down; each leg's account has the currency and the
@@ -90,6 +89,24 @@ pub record CameFrom (t : Tables) (chart : Chart) (pay : Pay) (m : Message) : Typ
   pub received : WasReceivedAs t pay m
   pub money : (n : ℕ) (account : Account) → leg_account chart pay n ≡ Some account → IsInMoney account (amount_32a m)
   pub charged : (account : Account) → leg_account chart pay 3 ≡ Some account → account.kind ≡ fee → may_be_charged m ≡ true
+  pub sender : has_head t (bank_of (sender_of pay.mir)).head ≡ true
+
+-- the text of a pay is cut into the lines 20 and 21 alone, both references
+pub record HasReferencesAlone (pay : Pay) : Type 0 where
+  pub reference : List ℕ
+  pub related : List ℕ
+  pub fields : fields_in pay.text ≡ line_field 20 None reference ∷ line_field 21 None related ∷ []
+  pub reference_is : IsReference reference
+  pub related_is : IsReference related
+
+-- a pay of the home bank's own, which came from no message: it fits the accounts and can be written down; its text has references
+-- alone; the tables hold the currency of each leg's account, which is no precious metal, and the sender's head
+pub record IsOwnPay (t : Tables) (chart : Chart) (pay : Pay) : Type 0 where
+  pub accounts : IsChart chart
+  pub fits : FitsAccounts chart pay
+  pub shape : HasShape pay
+  pub text : HasReferencesAlone pay
+  pub money : (n : ℕ) (amount : Amount) → leg_amount chart pay n ≡ Some amount → IsTabled t amount
   pub sender : has_head t (bank_of (sender_of pay.mir)).head ≡ true
 
 -- ---- the laws
@@ -148,7 +165,18 @@ Asks t _ _ = ⊥
 abbrev pub IsAccepted : Bic → Tables → List ℕ → Type 0
 IsAccepted home t text = (said : Message) × (sent_verdict_of home t text ≡ Ok said)
 
+-- a notice, to a bank whose head the tables hold
+abbrev pub IsNotice : Tables → Order → Type 0
+IsNotice t (order.Debit to leg) = IsKnown t to
+IsNotice t (order.Credit to leg) = IsKnown t to
+IsNotice t _ = ⊥
+
 -- the messages that are sent of a pay: under tables under which it came from a message that asks for its orders, each is
 -- accepted
 abbrev pub AreAccepted : Chart → Pay → List (List ℕ) → Type 0
 AreAccepted chart pay texts = (t : Tables) (m : Message) → CameFrom t chart pay m → All (Asks t m) pay.orders → All (IsAccepted chart.home t) texts
+
+-- those of a pay of the home bank's own: under tables that hold its currencies and its sender's head, each is accepted where its
+-- orders are notices alone, to banks whose heads they hold
+abbrev pub NoticesAccepted : Chart → Pay → List (List ℕ) → Type 0
+NoticesAccepted chart pay texts = (t : Tables) → IsOwnPay t chart pay → All (IsNotice t) pay.orders → All (IsAccepted chart.home t) texts

@@ -10,7 +10,7 @@ ghost use Rattle.day_model.specs.Shape.{HasShape, IsOrder};
 ghost use Rattle.day_model.specs.Log.{most_entries};
 ghost use Rattle.advices.specs.Messages.{AllReadBack, OrderReadsBack, order_message, messages_from, messages_of, order_fields};
 ghost use Rattle.advices.specs.Received.{received_of};
-ghost use Rattle.advices.specs.Valid.{AreAccepted};
+ghost use Rattle.advices.specs.Valid.{AreAccepted, NoticesAccepted};
 
 use crate::advice::{credit_fields, debit_fields};
 use crate::cover::cover_fields;
@@ -155,7 +155,9 @@ fn messages(alloc: Global, a: &Accounts, pay: &Pay, place: u32) -> Result<List<T
 ///
 /// Each text is `accepted`: under tables under which the pay came from a message that passes its tests, whose 32A has the
 /// currency and decimals of the accounts, which is a transfer under SHA or BEN where a third leg is on an account of fees, and
-/// which asks for these orders at banks that the tables hold, it passes the tests of a sent message.
+/// which asks for these orders at banks that the tables hold, it passes the tests of a sent message. So does each of the `notices`
+/// of a pay that came from no message, as one that takes another back: its text has the lines 20 and 21 alone, both references, and
+/// its orders are notices alone, to banks that the tables hold, which hold its currencies and its sender's head too.
 ///
 /// The pay fits the accounts and has the shape of one that can be written down; the home BIC meets its grammar; `place` is 1 to
 /// 100,000.
@@ -166,6 +168,7 @@ pub fn orders(alloc: Global, a: &Accounts, e: &Entry, place: u32) -> Result<List
     requires place { IsInRange 1 most_entries place }
     ensures value { IfOk result (λ texts. texts ≡ messages_of a.now e.now place) }
     ensures accepted { IfOk result (λ texts. AreAccepted a.now e.now.pay texts) }
+    ensures notices { IfOk result (λ texts. NoticesAccepted a.now e.now.pay texts) }
 {
     match e.outcome {
         Outcome::Booked => messages(alloc, a, &e.pay, place),

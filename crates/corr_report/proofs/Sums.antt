@@ -7,7 +7,7 @@ use Rattle.day_model.specs.declared.account.Account.{Account}
 use Rattle.day_model.specs.declared.entry.Entry.{Entry}
 use Rattle.day_model.specs.declared.pay.Side.{Side}
 use Rattle.day_model.specs.declared.pay.Side.TheVariants.{Debit, Credit}
-use Rattle.day_model.specs.Chart.{Chart, is_same_ccy}
+use Rattle.day_model.specs.Chart.{Chart, accounts_of, is_same_ccy}
 use Rattle.day_model.specs.Balance.{moved_by}
 use Rattle.day_model.specs.Legal.{IsLegal}
 use Rattle.day_model.specs.Laws.{sum_in, turnover}
@@ -41,18 +41,18 @@ side_of_totals Debit entries n = refl
 side_of_totals Credit entries n = refl
 
 -- each account's totals on one side, summed over a currency, are its turnover
-total_is : (side : Side) (chart : Chart) (entries : List Entry) (ccy : Ccy) (pairs : List Pair) → IsLegal chart entries → HasTotals pairs (length chart.accounts) entries → sum_over (part_at side pairs) ccy 1 chart.accounts ≡ turnover chart ccy side entries
+total_is : (side : Side) (chart : Chart) (entries : List Entry) (ccy : Ccy) (pairs : List Pair) → IsLegal chart entries → HasTotals pairs (length (accounts_of chart)) entries → sum_over (part_at side pairs) ccy 1 (accounts_of chart) ≡ turnover chart ccy side entries
 total_is side chart entries ccy pairs legal has =
-    over_same (part_at side pairs) (λ n. sum_by (moved_by side n) entries) ccy 1 chart.accounts (λ n from upto.
+    over_same (part_at side pairs) (λ n. sum_by (moved_by side n) entries) ccy 1 (accounts_of chart) (λ n from upto.
     ap (λ (o : Option Pair). part_of side (unwrap_or o (0, 0))) (has.each n from (omega arith)) ∙ side_of_totals side entries n)
-    ∙ same_number (sum_over (λ n. sum_by (moved_by side n) entries) ccy 1 chart.accounts) (turnover chart ccy side entries) (sum_in ccy (λ n. pos (sum_by (moved_by side n) entries)) 1 chart.accounts)
-    (over_in (λ n. sum_by (moved_by side n) entries) ccy 1 chart.accounts) (turnover_by_accounts side chart entries ccy legal)
+    ∙ same_number (sum_over (λ n. sum_by (moved_by side n) entries) ccy 1 (accounts_of chart)) (turnover chart ccy side entries) (sum_in ccy (λ n. pos (sum_by (moved_by side n) entries)) 1 (accounts_of chart))
+    (over_in (λ n. sum_by (moved_by side n) entries) ccy 1 (accounts_of chart)) (turnover_by_accounts side chart entries ccy legal)
 
-pub sum_is : (side : Side) (chart : Chart) (entries : List Entry) (ccy : Ccy) (pairs items : List Pair) → IsLegal chart entries → HasTotals pairs (length chart.accounts) entries → items ≡ pairs
-    → sum_over (part_at side items) ccy 1 chart.accounts ≡ turnover chart ccy side entries
+pub sum_is : (side : Side) (chart : Chart) (entries : List Entry) (ccy : Ccy) (pairs items : List Pair) → IsLegal chart entries → HasTotals pairs (length (accounts_of chart)) entries → items ≡ pairs
+    → sum_over (part_at side items) ccy 1 (accounts_of chart) ≡ turnover chart ccy side entries
 sum_is side chart entries ccy pairs items legal has same =
-    ap (λ (ps : List Pair). sum_over (part_at side ps) ccy 1 chart.accounts) same ∙ total_is side chart entries ccy pairs legal has
+    ap (λ (ps : List Pair). sum_over (part_at side ps) ccy 1 (accounts_of chart)) same ∙ total_is side chart entries ccy pairs legal has
 
-pub sum_fits : (side : Side) (chart : Chart) (entries : List Entry) (ccy : Ccy) (pairs items : List Pair) → IsLegal chart entries → HasTotals pairs (length chart.accounts) entries → items ≡ pairs
-    → sum_over (part_at side items) ccy 1 chart.accounts < 2 ^ 64
+pub sum_fits : (side : Side) (chart : Chart) (entries : List Entry) (ccy : Ccy) (pairs items : List Pair) → IsLegal chart entries → HasTotals pairs (length (accounts_of chart)) entries → items ≡ pairs
+    → sum_over (part_at side items) ccy 1 (accounts_of chart) < 2 ^ 64
 sum_fits side chart entries ccy pairs items legal has same = omega (arith, sum_is side chart entries ccy pairs items legal has same, turnover_fits side chart entries ccy legal)

@@ -1,5 +1,4 @@
 pub mod Rests
-pub mod Empty
 pub mod Days
 pub mod DayFile
 pub mod Reordered

@@ -10,7 +10,7 @@ use Rattle.day_model.specs.declared.account.Account.{Account}
 use Rattle.day_model.specs.declared.entry.Entry.{Entry}
 use Rattle.day_model.specs.declared.pay.Side.{Side}
 use Rattle.day_model.specs.declared.pay.Side.TheVariants.{Debit, Credit}
-use Rattle.day_model.specs.Chart.{Chart, is_same_ccy}
+use Rattle.day_model.specs.Chart.{Chart, accounts_of, is_same_ccy}
 use Rattle.day_model.specs.Gap.{is_before}
 use Rattle.day_model.specs.Laws.{turnover}
 use Rattle.day_model.specs.Totals.{Pair, pair_at}
@@ -48,7 +48,7 @@ total_of chart entries unit =
 
 -- a line for each currency
 abbrev pub total_lines : Chart → List Entry → List ℕ
-total_lines chart entries = flat_map (total_of chart entries) (currencies_of [] chart.accounts)
+total_lines chart entries = flat_map (total_of chart entries) (currencies_of [] (accounts_of chart))
 
 -- the sum of a number of each account of a currency, the first account having number n
 abbrev pub sum_over : (ℕ → ℕ) → Ccy → ℕ → List Account → ℕ

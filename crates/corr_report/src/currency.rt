@@ -3,7 +3,7 @@
 ghost use Rattle.std.specs.Prelude.{◌≡◌, ◌≤◌, [], IfOk, OnOk};
 ghost use Rattle.std.specs.List.{All, list_any, position};
 ghost use Rattle.corr_money.specs.Amounts.{most_decimals};
-ghost use Rattle.day_model.specs.Chart.{is_same_ccy};
+ghost use Rattle.day_model.specs.Chart.{accounts_of, is_same_ccy};
 ghost use Rattle.corr_report.specs.Totals.{currencies_of, entered};
 ghost use Rattle.day_model.specs.Gap.{is_before};
 
@@ -54,7 +54,7 @@ fn enter(new: Currency, units: &mut Vec<Currency>) -> Result<(), Memory>
 
 /// The currencies of the accounts, each once, in byte order.
 pub(crate) fn currencies(alloc: Global, a: &Accounts) -> Result<Vec<Currency>, Memory>
-    ensures value { IfOk result (λ units. units.items ≡ currencies_of [] a.now.accounts) }
+    ensures value { IfOk result (λ units. units.items ≡ currencies_of [] (accounts_of a.now)) }
     ensures decimals { IfOk result (λ units. All (λ unit. unit.decimals ≤ most_decimals) units.items) }
 {
     let mut units = Vec::new(alloc);

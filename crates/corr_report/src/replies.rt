@@ -3,6 +3,7 @@
 ghost use Rattle.std.specs.Prelude.{◌≡◌, ◌++◌, ◌∷◌, [], codes, IfOk, OnOk};
 ghost use Rattle.std.specs.Fmt.{decimal};
 ghost use Rattle.std.specs.List.{All};
+ghost use Rattle.day_model.specs.Chart.{accounts_of};
 ghost use Rattle.day_model.specs.Laws.{DebitsEqualCredits};
 ghost use Rattle.day_model.specs.Legal.{IsLegal};
 ghost use Rattle.corr_report.specs.Lines.{line};
@@ -163,7 +164,7 @@ pub fn put_report_end(
     // the debits and the credits of each of its totals are equal
     ensures even { OnOk result (DebitsEqualCredits a.now h.now.entries) }
     // the currencies of its totals are those of the accounts, each once, in byte order
-    ensures currencies { OnOk result (AreCurrencies a.now.accounts (currencies_of [] a.now.accounts)) }
+    ensures currencies { OnOk result (AreCurrencies (accounts_of a.now) (currencies_of [] (accounts_of a.now))) }
 {
     put_counts(alloc, messages, h.len() as u64, out)?;
     put_totals(alloc, a, h, out)
@@ -181,7 +182,7 @@ pub fn report(alloc: Global, a: &Accounts, h: &History, replies: &[Reply]) -> Re
     // the debits and the credits of each of its totals are equal
     ensures even { OnOk result (DebitsEqualCredits a.now h.now.entries) }
     // the currencies of its totals are those of the accounts, each once, in byte order
-    ensures currencies { OnOk result (AreCurrencies a.now.accounts (currencies_of [] a.now.accounts)) }
+    ensures currencies { OnOk result (AreCurrencies (accounts_of a.now) (currencies_of [] (accounts_of a.now))) }
 {
     let mut out = Text::with_room(alloc, b"", replies.len().saturating_mul(LINE_ROOM))?;
     let mut room = Decimal::new();

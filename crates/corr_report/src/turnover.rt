@@ -1,7 +1,7 @@
 //! What the booked entries move in a currency.
 
 ghost use Rattle.std.specs.Prelude.{◌≡◌, ◌<◌, ◌≤◌, ◌^◌, length, if◌then◌else◌};
-ghost use Rattle.day_model.specs.Chart.{is_same_ccy};
+ghost use Rattle.day_model.specs.Chart.{accounts_of, is_same_ccy};
 ghost use Rattle.corr_report.specs.Totals.{part_at, part_of, sum_over};
 
 use corr_money::Ccy;
@@ -33,9 +33,9 @@ fn beside(account: &Account, ccy: Ccy, sum: u64) -> u64
 
 /// The sum of one side of the accounts of a currency.
 pub(crate) fn sum_of(a: &Accounts, ccy: Ccy, side: Side, pairs: &[(u64, u64)]) -> u64
-    requires long { length pairs.now ≡ length a.now.accounts }
-    requires fits { sum_over (part_at side pairs.now) ccy 1 a.now.accounts < 2 ^ 64 }
-    ensures { result ≡ sum_over (part_at side pairs.now) ccy 1 a.now.accounts }
+    requires long { length pairs.now ≡ length (accounts_of a.now) }
+    requires fits { sum_over (part_at side pairs.now) ccy 1 (accounts_of a.now) < 2 ^ 64 }
+    ensures { result ≡ sum_over (part_at side pairs.now) ccy 1 (accounts_of a.now) }
 {
     let mut sum = 0;
     for n in 1..a.count() + 1 {

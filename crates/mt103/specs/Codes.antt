@@ -24,6 +24,10 @@ operations = codes "CRED" ∷ codes "CRTS" ∷ codes "SPAY" ∷ codes "SPRI" ∷
 abbrev pub charges : List (List ℕ)
 charges = codes "OUR" ∷ codes "SHA" ∷ codes "BEN" ∷ []
 
+-- a charge may be taken out of a transfer whose charges are shared (SHA), or borne by the beneficiary (BEN)
+abbrev pub is_charged : List ℕ → Bool
+is_charged whose = bytes_eq whose (codes "SHA") || bytes_eq whose (codes "BEN")
+
 -- the codes of 23E, in the order in which they may stand
 abbrev pub instructions : List (List ℕ)
 instructions =

@@ -7,7 +7,7 @@ use Rattle.std.proofs.lemmas.Slice.Eq.{bytes_eq-Decides}
 use Rattle.corr_money.specs.Amounts.{amount_end}
 use Rattle.corr_money.specs.declared.amount.Amount.{Amount}
 use Rattle.day_model.specs.declared.account.Account.{Account}
-use Rattle.day_model.specs.Chart.{Chart, account_at, is_same_ccy}
+use Rattle.day_model.specs.Chart.{Chart, account_at, accounts_of, is_same_ccy}
 use Rattle.day_model.specs.Fit.{account_in, are_legs, is_listed, legs_fit, same_ccy}
 use Rattle.fin_contents.specs.Money.{IsPayable}
 use Rattle.routing.specs.Accounts.{AreBetween, fits_amount}
@@ -75,7 +75,7 @@ fit-by : (chart : Chart) (way : Way) (asked : Asked) (routed : Routed) (charge :
 fit-by chart way asked routed None between taken are =
     let d = routed.debit.0 in
     let c = routed.credit.0 in
-    let ccy = and_parts (is_listed chart d && is_listed chart c && not (eqb d c)) (same_ccy (account_in chart.accounts d) (account_in chart.accounts c)) between.fit in
+    let ccy = and_parts (is_listed chart d && is_listed chart c && not (eqb d c)) (same_ccy (account_in (accounts_of chart) d) (account_in (accounts_of chart) c)) between.fit in
     let apart = and_parts (is_listed chart d && is_listed chart c) (not (eqb d c)) ccy.0 in
     let there = and_parts (is_listed chart d) (is_listed chart c) apart.0 in
     rw (are, there.0, there.1, ccy.1) refl
@@ -83,12 +83,12 @@ fit-by chart way asked routed (Some charge) between taken are =
     let d = routed.debit.0 in
     let c = routed.credit.0 in
     let n = charge.account.0 in
-    let ccy = and_parts (is_listed chart d && is_listed chart c && not (eqb d c)) (same_ccy (account_in chart.accounts d) (account_in chart.accounts c)) between.fit in
+    let ccy = and_parts (is_listed chart d && is_listed chart c && not (eqb d c)) (same_ccy (account_in (accounts_of chart) d) (account_in (accounts_of chart) c)) between.fit in
     let apart = and_parts (is_listed chart d && is_listed chart c) (not (eqb d c)) ccy.0 in
     let there = and_parts (is_listed chart d) (is_listed chart c) apart.0 in
     let first = and_parts (is_listed chart d) (option_map_or (fits_amount asked.amount) (account_at chart d) false) between.debit in
     let third = and_parts (is_listed chart n) (option_map_or (fits_amount asked.amount) (account_at chart n) false) taken.fits in
-    let same : same_ccy (account_in chart.accounts d) (account_in chart.accounts n) ≡ true = one-ccy asked.amount (account_at chart d) (account_at chart n) first.1 third.1 in
+    let same : same_ccy (account_in (accounts_of chart) d) (account_in (accounts_of chart) n) ≡ true = one-ccy asked.amount (account_at chart d) (account_at chart n) first.1 third.1 in
     rw (are, there.0, there.1, ccy.1, third.0, same) refl
 
 pub legs-fit : (chart : Chart) (way : Way) (asked : Asked) (charged : Charged) → AreCharged chart asked.amount charged → IsPayable asked.amount → legs_fit chart (legs_of way asked charged) ≡ true

@@ -12,7 +12,7 @@ use Rattle.corr_ids.specs.Mir.{IsMir}
 use Rattle.corr_ids.specs.declared.bic.Bic.{Bic}
 use Rattle.corr_ids.specs.declared.envelope.Envelope.{Envelope}
 use Rattle.corr_ids.specs.declared.mir.Mir.{Mir}
-use Rattle.day_model.specs.Chart.{Chart, IsChart, account_at, vostro}
+use Rattle.day_model.specs.Chart.{Chart, IsChart, account_at, accounts_of, vostro}
 use Rattle.day_model.specs.Fit.{are_legs, is_listed}
 use Rattle.day_model.specs.Shape.{HasShape, IsLeg, IsOrder, IsQuote, IsReference}
 use Rattle.day_model.specs.declared.account.Account.{Account}
@@ -117,10 +117,10 @@ quote-form t Passed asked h = tt
 number-form : (chart : Chart) (n : ℕ) (more : Bool) → IsChart chart → (is_listed chart n && more) ≡ true → (1 ≤ n) × (n ≤ 1000)
 number-form chart n more sound e =
     let listed = (and_parts (is_listed chart n) more e).0 in
-    let parts = and_parts (leb 1 n) (leb n (length chart.accounts)) listed in
+    let parts = and_parts (leb 1 n) (leb n (length (accounts_of chart))) listed in
     let low = leb-true 1 n parts.0 in
-    let high = leb-true n (length chart.accounts) parts.1 in
-    (low, omega (arith, high, sound.rows.few))
+    let high = leb-true n (length (accounts_of chart)) parts.1 in
+    (low, omega (arith, high, sound.rows.apart.few))
 
 charge-leg : (t : Tables) (chart : Chart) (asked : Asked) (charge : Option Charge) → IsChart chart → AskedForm t asked → IfSome charge (IsTaken chart asked.amount) → All IsLeg (charge_legs asked charge)
 charge-leg t chart asked None sound h taken = All-nil IsLeg

@@ -1,6 +1,5 @@
 -- What is taken out of a transfer as a charge, and for whom.
-use Rattle.std.specs.Prelude.{◌≡◌, ◌≢◌, ℕ, ◌<◌, ◌||◌, Bool, false, IfSome, IsTrue, List, nat_lt, Option, Some, None, Result, Ok, codes, if◌then◌else◌}
-use Rattle.std.specs.Str.{bytes_eq}
+use Rattle.std.specs.Prelude.{◌≡◌, ◌≢◌, ℕ, ◌<◌, Bool, false, IfSome, IsTrue, List, nat_lt, Option, Some, None, Result, Ok, if◌then◌else◌}
 use Rattle.corr_text.specs.Codes.{code}
 use Rattle.corr_text.specs.First.{check, or_fault, ◌>>=◌}
 use Rattle.corr_text.specs.declared.fault.Code.{Code}
@@ -9,6 +8,7 @@ use Rattle.corr_money.specs.declared.amount.Minor.{Minor}
 use Rattle.day_model.specs.declared.account.Account.{Account}
 use Rattle.day_model.specs.Chart.{Chart, account_at, fee}
 use Rattle.ref_tables.specs.Seen.{charge_in}
+use Rattle.mt103.specs.Codes.{is_charged}
 use Rattle.routing.specs.Accounts.{AreBetween, account_with, fits_at}
 use Rattle.routing.specs.declared.routed.Routed.{Routed}
 use Rattle.pay_plan.specs.declared.ask.Ask.{Ask}
@@ -21,19 +21,14 @@ use Rattle.pay_plan.specs.Asked.{amount_in}
 abbrev pub ChargeRows : Type 0
 ChargeRows = List (List ℕ × Minor)
 
--- charges are shared (SHA), or the beneficiary bears them (BEN)
-abbrev pub is_charged : List ℕ → Bool
-is_charged whose = bytes_eq whose (codes "SHA") || bytes_eq whose (codes "BEN")
-
 -- whether a charge may be taken out of a message: a transfer whose charges aren't the payer's
 abbrev pub may_be_charged : Ask → Bool
 may_be_charged (Transfer m) = is_charged m.now.charge
 may_be_charged (Cover m) = false
 
--- what a message is charged: a transfer whose charges aren't the payer's, where its currency has a row; a cover nothing
+-- what a message is charged: where it may be charged, what its currency's row says, if there is one
 abbrev pub charge_asked : Ask → ChargeRows → Option Minor
-charge_asked (Transfer m) charges = if is_charged m.now.charge then charge_in charges m.now.amount.ccy.0 else None
-charge_asked (Cover m) charges = None
+charge_asked ask charges = if may_be_charged ask then charge_in charges (amount_in ask).ccy.0 else None
 
 -- a charge is below the amount (P39), and is booked on the account of fees that fits the amount (P40)
 abbrev pub charge_on : Amount → Chart → Option Minor → Result (Option Charge) Code

@@ -2,7 +2,8 @@
 
 ghost use Rattle.std.specs.Prelude.{◌≡◌, ◌<◌, IfOk, IfSome};
 ghost use Rattle.pay_plan.specs.Asked.{amount_in};
-ghost use Rattle.pay_plan.specs.Charging.{IsTaken, charge_asked, charge_of, is_charged};
+ghost use Rattle.mt103.specs.Codes.{is_charged};
+ghost use Rattle.pay_plan.specs.Charging.{IsTaken, charge_asked, charge_of};
 
 use crate::ask::Ask;
 use crate::asking::amount_in;

@@ -5,7 +5,7 @@ use Rattle.corr_ids.specs.declared.bic.Bic.{Bic}
 use Rattle.corr_money.specs.declared.amount.Amount.{Amount}
 use Rattle.day_model.specs.declared.account.Account.{Account}
 use Rattle.day_model.specs.declared.account.AcctNo.{AcctNo}
-use Rattle.day_model.specs.Chart.{Chart, account_at, customer, has_id, is_same_ccy, is_owned, nostro, number_of_first, vostro}
+use Rattle.day_model.specs.Chart.{Chart, account_at, accounts_of, customer, has_id, is_owned, is_same_ccy, nostro, number_of_first, vostro}
 use Rattle.day_model.specs.Fit.{accounts_fit, is_listed}
 use Rattle.routing.specs.declared.ledger.Wanted.{Wanted}
 use Rattle.routing.specs.declared.ledger.Wanted.TheVariants.{Customer, Relation, Vostro, Nostro}
@@ -25,11 +25,11 @@ serves (Nostro bank) amount account = is_owned nostro bank.head amount.ccy amoun
 
 -- the account with this id, if it is what is wanted
 abbrev pub account_named : List ℕ → Wanted → Amount → Chart → Option AcctNo
-account_named id wanted amount chart = number_of_first (λ account. has_id id account && serves wanted amount account) chart.accounts
+account_named id wanted amount chart = number_of_first (λ account. has_id id account && serves wanted amount account) (accounts_of chart)
 
 -- the account of this kind that this bank owns, if it has one that fits
 abbrev pub account_with : ℕ → Bic → Amount → Chart → Option AcctNo
-account_with kind bank amount chart = number_of_first (is_owned kind bank.head amount.ccy amount.decimals) chart.accounts
+account_with kind bank amount chart = number_of_first (is_owned kind bank.head amount.ccy amount.decimals) (accounts_of chart)
 
 -- there is an account with this number, and it fits
 abbrev pub fits_at : Chart → Amount → AcctNo → Bool

@@ -34,9 +34,10 @@ use Rattle.day_model.specs.declared.pay.Order.{Order}
 use Rattle.day_model.specs.declared.pay.Order.TheVariants as order
 use Rattle.day_model.specs.declared.pay.Pay.{Pay}
 use Rattle.advices.specs.Messages.{AllReadBack, OrderReadsBack, ReadsBack, order_message, messages_from, order_fields, uetr_block}
-use Rattle.advices.specs.Valid.{AreAccepted, Asks, CameFrom, IsAccepted}
+use Rattle.advices.specs.Valid.{AreAccepted, Asks, CameFrom, IsAccepted, IsNotice, IsOwnPay, NoticesAccepted}
 use Rattle.advices.proofs.laws.Credits.{credit-passes}
 use Rattle.advices.proofs.laws.Debits.{debit-passes}
+use Rattle.advices.proofs.laws.Notices.{credit-notice, debit-notice}
 use Rattle.advices.proofs.laws.Onward.{cover-onward, pass-onward, transfer-onward}
 use Rattle.advices.proofs.laws.TransferRules.{same-bytes}
 
@@ -103,6 +104,22 @@ known-bic t None is known = tt
 known-bic t (Some b) is known = (is, known)
 
 module _ (t : Tables) (chart : Chart) (pay : Pay) (place : ℕ) (small : place ≤ 100000) where
+  debit-accepted : (k leg : ℕ) (to : Bic) → (advice : Mt900) × (mt900_of t (order_fields chart pay place k (order.Debit to leg)) ≡ Ok advice)
+      → IsKnown t to → OrderReadsBack chart pay place k (order.Debit to leg)
+      → IsAccepted chart.home t (order_message chart pay place k (order.Debit to leg))
+  debit-accepted k leg to n known back =
+      let fs = order_fields chart pay place k (order.Debit to leg) in
+      let says = debit-says chart.home t to fs n.0 back.fields n.1 in
+      accepted chart.home t 900 to [] fs back says.0 refl known refl says.1
+
+  credit-accepted : (k leg : ℕ) (to : Bic) → (advice : Mt910) × (mt910_of t (order_fields chart pay place k (order.Credit to leg)) ≡ Ok advice)
+      → IsKnown t to → OrderReadsBack chart pay place k (order.Credit to leg)
+      → IsAccepted chart.home t (order_message chart pay place k (order.Credit to leg))
+  credit-accepted k leg to n known back =
+      let fs = order_fields chart pay place k (order.Credit to leg) in
+      let says = credit-says chart.home t to fs n.0 back.fields n.1 in
+      accepted chart.home t 910 to [] fs back says.0 refl known refl says.1
+
   order-accepted : (m : Message) (k : ℕ) (o : Order) → CameFrom t chart pay m → k ≤ 255 → IsOrder (length pay.legs) o → Asks t m o
       → OrderReadsBack chart pay place k o → IsAccepted chart.home t (order_message chart pay place k o)
   order-accepted (message.Transfer envelope text m) k (order.Transfer to skip via) came few is asks back =
@@ -121,10 +138,7 @@ module _ (t : Tables) (chart : Chart) (pay : Pay) (place : ℕ) (small : place �
       accepted chart.home t 202 to user fs back says.0 refl asks.0 (cover-flag pay.uetr) says.1
   order-accepted (message.Transfer envelope text m) k (order.Pass to skip) came few is asks back = absurd asks
   order-accepted (message.Transfer envelope text m) k (order.Debit to leg) came few is asks back =
-      let fs = order_fields chart pay place k (order.Debit to leg) in
-      let n = (debit-passes t chart pay (message.Transfer envelope text m) place k leg to came small few is.1).1 in
-      let says = debit-says chart.home t to fs n.0 back.fields n.1 in
-      accepted chart.home t 900 to [] fs back says.0 refl asks refl says.1
+      debit-accepted k leg to (debit-passes t chart pay (message.Transfer envelope text m) place k leg to came small few is.1).1 asks back
   order-accepted (message.Transfer envelope text m) k (order.Credit to leg) came few is asks back = absurd asks
   order-accepted (message.Cover envelope text m) k (order.Transfer to skip via) came few is asks back = absurd asks
   order-accepted (message.Cover envelope text m) k (order.Cover to end skip) came few is asks back = absurd asks
@@ -135,28 +149,35 @@ module _ (t : Tables) (chart : Chart) (pay : Pay) (place : ℕ) (small : place �
       let says = cover-says chart.home t to fs user n.0 back.fields n.1 in
       accepted chart.home t 202 to user fs back says.0 refl asks (cover-flag pay.uetr) says.1
   order-accepted (message.Cover envelope text m) k (order.Debit to leg) came few is asks back =
-      let fs = order_fields chart pay place k (order.Debit to leg) in
-      let n = (debit-passes t chart pay (message.Cover envelope text m) place k leg to came small few is.1).1 in
-      let says = debit-says chart.home t to fs n.0 back.fields n.1 in
-      accepted chart.home t 900 to [] fs back says.0 refl asks refl says.1
+      debit-accepted k leg to (debit-passes t chart pay (message.Cover envelope text m) place k leg to came small few is.1).1 asks back
   order-accepted (message.Cover envelope text m) k (order.Credit to leg) came few is asks back =
-      let fs = order_fields chart pay place k (order.Credit to leg) in
-      let n = (credit-passes t chart pay envelope text m place k leg to came small few is.1).1 in
-      let says = credit-says chart.home t to fs n.0 back.fields n.1 in
-      accepted chart.home t 910 to [] fs back says.0 refl asks refl says.1
+      credit-accepted k leg to (credit-passes t chart pay envelope text m place k leg to came small few is.1).1 asks back
   order-accepted (message.Debit envelope m) k o came few is asks back = absurd came.received.kept
   order-accepted (message.Credit envelope m) k o came few is asks back = absurd came.received.kept
   order-accepted (message.Page envelope m) k o came few is asks back = absurd came.received.kept
 
+  -- a notice of a pay of the home bank's own
+  notice-accepted : IsOwnPay t chart pay → (k : ℕ) (o : Order) → k ≤ 255 → IsOrder (length pay.legs) o → IsNotice t o
+      → OrderReadsBack chart pay place k o → IsAccepted chart.home t (order_message chart pay place k o)
+  notice-accepted own k (order.Transfer to skip via) few is notice back = absurd notice
+  notice-accepted own k (order.Cover to end skip) few is notice back = absurd notice
+  notice-accepted own k (order.Pass to skip) few is notice back = absurd notice
+  notice-accepted own k (order.Debit to leg) few is notice back =
+      debit-accepted k leg to (debit-notice t chart pay place k leg to own small few is.1) notice back
+  notice-accepted own k (order.Credit to leg) few is notice back =
+      credit-accepted k leg to (credit-notice t chart pay place k leg to own small few is.1) notice back
+
   -- and so those of orders in turn
-  pub orders-accepted : (m : Message) (k : ℕ) (os : List Order) → CameFrom t chart pay m → k + length os ≤ 256 → All (IsOrder (length pay.legs)) os
-      → All (Asks t m) os → AllReadBack chart pay place k os
-      → All (IsAccepted chart.home t) (messages_from chart pay place k os)
-  orders-accepted m k [] came few is asks back = λ i d lt. absurd (omega arith)
-  orders-accepted m k (o ∷ os) came few is asks back =
-      All-cons (IsAccepted chart.home t) (order_message chart pay place k o) (messages_from chart pay place (k + 1) os)
-      (order-accepted m k o came (omega (arith, few)) (All-head (IsOrder (length pay.legs)) o os is) (All-head (Asks t m) o os asks) back.0)
-      (orders-accepted m (k + 1) os came (omega (arith, few)) (All-tail (IsOrder (length pay.legs)) o os is) (All-tail (Asks t m) o os asks) back.1)
+  module _ (Wanted : Order → Type 0)
+      (one : (k : ℕ) (o : Order) → k ≤ 255 → IsOrder (length pay.legs) o → Wanted o → OrderReadsBack chart pay place k o
+      → IsAccepted chart.home t (order_message chart pay place k o)) where
+    pub each-accepted : (k : ℕ) (os : List Order) → k + length os ≤ 256 → All (IsOrder (length pay.legs)) os → All Wanted os
+        → AllReadBack chart pay place k os → All (IsAccepted chart.home t) (messages_from chart pay place k os)
+    each-accepted k [] few is wanted back = λ i d lt. absurd (omega arith)
+    each-accepted k (o ∷ os) few is wanted back =
+        All-cons (IsAccepted chart.home t) (order_message chart pay place k o) (messages_from chart pay place (k + 1) os)
+        (one k o (omega (arith, few)) (All-head (IsOrder (length pay.legs)) o os is) (All-head Wanted o os wanted) back.0)
+        (each-accepted (k + 1) os (omega (arith, few)) (All-tail (IsOrder (length pay.legs)) o os is) (All-tail Wanted o os wanted) back.1)
 
 -- ---- the answers of the code
 
@@ -166,9 +187,23 @@ pub texts-accepted : {E : Type 0} (chart : Chart) (pay : Pay) (place : ℕ) (r :
     → OnOk r (AllReadBack chart pay place 1 pay.orders) → IfOk r (AreAccepted chart pay)
 texts-accepted chart pay place (Ok texts) small shape same back =
     λ t m came asks. subst (All (IsAccepted chart.home t)) (sym same)
-    (orders-accepted t chart pay place small m 1 pay.orders came (omega (arith, shape.few_orders)) shape.each_order asks back)
+    (each-accepted t chart pay place small (Asks t m) (λ k o few is wanted reads. order-accepted t chart pay place small m k o came few is wanted reads)
+    1 pay.orders (omega (arith, shape.few_orders)) shape.each_order asks back)
 texts-accepted chart pay place (Err e) small shape same back = tt
+
+-- and so are the notices of a pay of the home bank's own
+pub notices-accepted : {E : Type 0} (chart : Chart) (pay : Pay) (place : ℕ) (r : Result (List (List ℕ)) E) → place ≤ 100000 → HasShape pay
+    → IfOk r (λ texts. texts ≡ messages_from chart pay place 1 pay.orders)
+    → OnOk r (AllReadBack chart pay place 1 pay.orders) → IfOk r (NoticesAccepted chart pay)
+notices-accepted chart pay place (Ok texts) small shape same back =
+    λ t own notices. subst (All (IsAccepted chart.home t)) (sym same)
+    (each-accepted t chart pay place small (IsNotice t) (notice-accepted t chart pay place small own)
+    1 pay.orders (omega (arith, shape.few_orders)) shape.each_order notices back)
+notices-accepted chart pay place (Err e) small shape same back = tt
 
 -- and so is nothing
 pub none-accepted : (chart : Chart) (pay : Pay) (texts : List (List ℕ)) → texts ≡ [] → AreAccepted chart pay texts
 none-accepted chart pay texts none = λ t m came asks. subst (All (IsAccepted chart.home t)) (sym none) (λ i d lt. absurd (omega arith))
+
+pub none-told : (chart : Chart) (pay : Pay) (texts : List (List ℕ)) → texts ≡ [] → NoticesAccepted chart pay texts
+none-told chart pay texts none = λ t own notices. subst (All (IsAccepted chart.home t)) (sym none) (λ i d lt. absurd (omega arith))

@@ -66,7 +66,7 @@ pub record OneBank (t : Tables) (fs : List Field) : Type 0 where
   pub named : is_named 52 (codes "AD") field ≡ true
   pub says : known_party_of t field ≡ Ok bank
 
-or-bank : (t : Tables) (sender : Bic) (o : Option Field) → IsBic sender → has_head t sender.head ≡ true
+pub or-bank : (t : Tables) (sender : Bic) (o : Option Field) → IsBic sender → has_head t sender.head ≡ true
     → IfSome o (λ f. (is_named 52 (codes "AD") f ≡ true) × SaysNamed 52 (codes "AD") (known_party_of t) f)
     → OneBank t (or_bank sender (some_field (λ f. f) o))
 or-bank t sender None is known h = record {

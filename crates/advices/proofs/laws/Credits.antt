@@ -2,6 +2,8 @@
 use Rattle.std.proofs.Common.{◌≡◌, ℕ, ◌≤◌, true, List, [], ◌∷◌, length, Some, None, Ok, refl, sym, ◌∙◌, arith}
 use Rattle.std.specs.Prelude.{codes, find}
 use Rattle.corr_text.specs.First.{first_of}
+use Rattle.corr_ids.specs.Day.{InCentury}
+use Rattle.corr_ids.specs.declared.bic.Bic.{Bic}
 use Rattle.ref_tables.specs.Seen.{Tables}
 use Rattle.fin_fields.specs.Fields.{fields_of}
 use Rattle.fin_fields.specs.declared.field.Field.{Field}
@@ -22,21 +24,25 @@ use Rattle.mt9_advice.specs.Parts.{booking_of, ending_of, mt910, orderers_of, pa
 use Rattle.mt9_advice.proofs.laws.Parts.{contents-are-910}
 use Rattle.mt9_advice.specs.Order.{order_910}
 use Rattle.mt9_advice.specs.declared.booking.Booking.{Booking}
+use Rattle.mt9_advice.specs.declared.credit.Mt910.{Mt910}
 use Rattle.fin_message.specs.Sound.{Say}
 use Rattle.fin_message.specs.declared.message.Message.TheVariants as message
+use Rattle.day_model.specs.Chart.{Chart}
+use Rattle.day_model.specs.declared.pay.Order.TheVariants as order
 use Rattle.day_model.specs.declared.pay.Pay.{Pay}
 use Rattle.advices.specs.declared.received.Received.{Received}
 use Rattle.advices.specs.Advice.{credit_fields}
 use Rattle.advices.specs.Fields.{is_named, ours}
 use Rattle.advices.specs.Legs.{value_of_pay}
-use Rattle.advices.specs.Received.{ordering, received_of}
-use Rattle.advices.specs.Valid.{CreditPasses}
-use Rattle.advices.proofs.laws.Banks.{ordering-of-cover}
+use Rattle.advices.specs.Messages.{order_fields}
+use Rattle.advices.specs.Received.{fields_in, ordering, received_of}
+use Rattle.advices.specs.Valid.{CreditPasses, IsTabled}
+use Rattle.advices.proofs.laws.Banks.{OneBank, ordering-of-cover}
 use Rattle.advices.proofs.laws.Bytes.{c-plain}
 use Rattle.advices.proofs.laws.Finding.{found-passes, must-copy}
 use Rattle.advices.proofs.laws.Fitted.{fitted, row}
 use Rattle.advices.proofs.laws.Made.{line-read, ours-read, reference-line}
-use Rattle.advices.proofs.laws.Orders.{leg-moved, received-cut}
+use Rattle.advices.proofs.laws.Orders.{Moved, leg-moved, received-cut}
 use Rattle.advices.proofs.laws.Origin.{given, like-tabled}
 use Rattle.advices.proofs.laws.Seats.{AllSeated, Seated, ◌▸◌, no-more, none-seated, one-seated}
 use Rattle.advices.proofs.laws.Values.{value-made}
@@ -110,6 +116,26 @@ five-fields : (r : Received) (fs : List Field) (reference account : List ℕ) (v
 unfolding credit_fields
 five-fields r fs reference account v f21 f52 same found bank = rw (bank, same, found) refl
 
+-- the notice of a credit, of a pay whose text has a reference in its first 21 and which names a known ordering institution, under
+-- tables that hold the leg's currency
+pub credit-told : (t : Tables) (chart : Chart) (pay : Pay) (place k leg : ℕ) (to : Bic) (fs : List Field) (f : Field) (x : List ℕ) (on : Moved chart pay leg)
+    → InCentury pay.value → IsTabled t on.amount → fields_in pay.text ≡ fs → find (is_named 21 (codes " ")) fs ≡ Some f → reference_of f ≡ Ok x
+    → OneBank t (ordering (received_of pay)) → place ≤ 100000 → k ≤ 255
+    → (first_of (tests_910 t (order_fields chart pay place k (order.Credit to leg))) ≡ None)
+    × ((advice : Mt910) × (mt910_of t (order_fields chart pay place k (order.Credit to leg)) ≡ Ok advice))
+credit-told t chart pay place k leg to fs f x on day tabled same found says bank small few =
+    let v = value_of_pay pay on.amount in
+    let is_21 = found-passes (is_named 21 (codes " ")) fs f found in
+    let one = ours-read place k small few 20 in
+    let two = reference-line f x says in
+    let short : length on.account.id ≤ 35 = omega (arith, on.formed.id_short) in
+    let three = line-read 35 25 on.account.id on.formed.id_given short (c-plain on.account.id on.formed.id_plain) in
+    let four = value-made t v (record { day = day; amount = on.spelled }) tabled on.above in
+    let fields_are = five-fields (received_of pay) fs (ours place k) on.account.id v f bank.field same found bank.same in
+    let tests = passes t (ours place k) x on.account.id v f bank.field bank.bank one is_21 two three four bank.named bank.says in
+    let read = reads t (ours place k) x on.account.id v f bank.field bank.bank one is_21 two three four bank.named bank.says in
+    rw (on.on_account, on.of_amount, fields_are) (tests, (mt910 (booked (ours place k) x on.account.id v) None (Some bank.bank) None [], read))
+
 -- the tests that the received cover passed
 cover-tests : (t : Tables) (pay : Pay) (cover : Mt202Cov) (text : List ℕ) → text ≡ pay.text → Say tests_202 mt202cov_of t text cover
     → first_of (tests_202 t (fields_of pay.text)) ≡ None
@@ -124,18 +150,8 @@ credit-passes t chart pay envelope text cover place k leg to came small few numb
     let on = leg-moved chart pay leg came.accounts came.fits numbered in
     let money = came.money leg on.account on.on_account in
     let tabled = like-tabled t cover.amount on.amount (on.in_ccy ∙ money.ccy) (on.in_decimals ∙ money.decimals) g.tabled in
-    let v = value_of_pay pay on.amount in
     let r = received_of pay in
     let none = cover-tests t pay cover text kept.1 came.received.said in
     let related = must-copy order_202 (content_202 t) fs none 21 (codes " ") 1 refl reference_of _ (λ f. refl) refl refl in
-    let is_21 = found-passes (is_named 21 (codes " ")) fs related.0 related.2 in
     let bank = ordering-of-cover t r fs kept.0 g.fields none (received-cut pay came.shape).sender came.sender in
-    let one = ours-read place k small few 20 in
-    let two = reference-line related.0 related.1 related.3 in
-    let short : length on.account.id ≤ 35 = omega (arith, on.formed.id_short) in
-    let three = line-read 35 25 on.account.id on.formed.id_given short (c-plain on.account.id on.formed.id_plain) in
-    let four = value-made t v (record { day = came.shape.value; amount = on.spelled }) tabled on.above in
-    let same = five-fields r fs (ours place k) on.account.id v related.0 bank.field g.fields related.2 bank.same in
-    let tests = passes t (ours place k) related.1 on.account.id v related.0 bank.field bank.bank one is_21 two three four bank.named bank.says in
-    let read = reads t (ours place k) related.1 on.account.id v related.0 bank.field bank.bank one is_21 two three four bank.named bank.says in
-    rw (on.on_account, on.of_amount, same) (tests, (mt910 (booked (ours place k) related.1 on.account.id v) None (Some bank.bank) None [], read))
+    credit-told t chart pay place k leg to fs related.0 related.1 on came.shape.value tabled g.fields related.2 related.3 bank small few

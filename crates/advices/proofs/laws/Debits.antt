@@ -2,6 +2,8 @@
 use Rattle.std.proofs.Common.{◌≡◌, ℕ, ◌≤◌, List, [], ◌∷◌, length, Some, None, Ok, refl, sym, ◌∙◌, arith}
 use Rattle.std.specs.Prelude.{codes, find}
 use Rattle.corr_text.specs.First.{first_of}
+use Rattle.corr_ids.specs.Day.{InCentury}
+use Rattle.corr_ids.specs.declared.bic.Bic.{Bic}
 use Rattle.ref_tables.specs.Seen.{Tables}
 use Rattle.fin_fields.specs.declared.field.Field.{Field}
 use Rattle.fin_layout.specs.Order.{missing_from, places_from}
@@ -16,16 +18,21 @@ use Rattle.mt9_advice.specs.Parts.{booking_of, mt900, parts_900}
 use Rattle.mt9_advice.proofs.laws.Parts.{contents-are-900}
 use Rattle.mt9_advice.specs.Order.{order_900}
 use Rattle.mt9_advice.specs.declared.booking.Booking.{Booking}
+use Rattle.mt9_advice.specs.declared.debit.Mt900.{Mt900}
+use Rattle.day_model.specs.Chart.{Chart}
+use Rattle.day_model.specs.declared.pay.Order.TheVariants as order
+use Rattle.day_model.specs.declared.pay.Pay.{Pay}
 use Rattle.advices.specs.declared.received.Received.{Received}
 use Rattle.advices.specs.Advice.{debit_fields}
 use Rattle.advices.specs.Fields.{is_named, ours}
 use Rattle.advices.specs.Legs.{value_of_pay}
-use Rattle.advices.specs.Received.{received_of}
-use Rattle.advices.specs.Valid.{DebitPasses, amount_32a}
+use Rattle.advices.specs.Messages.{order_fields}
+use Rattle.advices.specs.Received.{fields_in, received_of}
+use Rattle.advices.specs.Valid.{DebitPasses, IsTabled, amount_32a}
 use Rattle.advices.proofs.laws.Bytes.{c-plain}
 use Rattle.advices.proofs.laws.Fitted.{all-pass}
 use Rattle.advices.proofs.laws.Made.{line-read, ours-read, reference-short}
-use Rattle.advices.proofs.laws.Orders.{leg-moved}
+use Rattle.advices.proofs.laws.Orders.{Moved, leg-moved}
 use Rattle.advices.proofs.laws.Origin.{given, like-tabled}
 use Rattle.advices.proofs.laws.Values.{value-made}
 
@@ -82,21 +89,29 @@ four-fields : (r : Received) (fs : List Field) (reference account : List ℕ) (v
 unfolding debit_fields
 four-fields r fs reference account v f x same found lines = rw (same, found, lines) refl
 
+-- the notice of a debit, of a pay whose text has a reference in its first 20, under tables that hold the leg's currency
+pub debit-told : (t : Tables) (chart : Chart) (pay : Pay) (place k leg : ℕ) (to : Bic) (fs : List Field) (f : Field) (x : List ℕ) (on : Moved chart pay leg)
+    → InCentury pay.value → IsTabled t on.amount → fields_in pay.text ≡ fs → find (is_named 20 (codes " ")) fs ≡ Some f → reference_of f ≡ Ok x
+    → place ≤ 100000 → k ≤ 255
+    → (first_of (tests_900 t (order_fields chart pay place k (order.Debit to leg))) ≡ None)
+    × ((advice : Mt900) × (mt900_of t (order_fields chart pay place k (order.Debit to leg)) ≡ Ok advice))
+debit-told t chart pay place k leg to fs f x on day tabled same found says small few =
+    let v = value_of_pay pay on.amount in
+    let one = ours-read place k small few 20 in
+    let two = reference-short 21 f x says in
+    let short : length on.account.id ≤ 35 = omega (arith, on.formed.id_short) in
+    let three = line-read 35 25 on.account.id on.formed.id_given short (c-plain on.account.id on.formed.id_plain) in
+    let four = value-made t v (record { day = day; amount = on.spelled }) tabled on.above in
+    let fields_are = four-fields (received_of pay) fs (ours place k) on.account.id v f x same found (reference-kept f x says) in
+    rw (on.on_account, on.of_amount, fields_are) (
+      passes t (ours place k) x on.account.id v one two three four,
+      (mt900 (booked (ours place k) x on.account.id v) None [], reads t (ours place k) x on.account.id v one two three four),
+    )
+
 pub debit-passes : DebitPasses
 debit-passes t chart pay m place k leg to came small few numbered =
     let g = given t pay m came.received in
     let on = leg-moved chart pay leg came.accounts came.fits numbered in
     let money = came.money leg on.account on.on_account in
     let tabled = like-tabled t (amount_32a m) on.amount (on.in_ccy ∙ money.ccy) (on.in_decimals ∙ money.decimals) g.tabled in
-    let v = value_of_pay pay on.amount in
-    let one = ours-read place k small few 20 in
-    let two = reference-short 21 g.field g.reference g.says in
-    let short : length on.account.id ≤ 35 = omega (arith, on.formed.id_short) in
-    let three = line-read 35 25 on.account.id on.formed.id_given short (c-plain on.account.id on.formed.id_plain) in
-    let four = value-made t v (record { day = came.shape.value; amount = on.spelled }) tabled on.above in
-    let same =
-    four-fields (received_of pay) _ (ours place k) on.account.id v g.field g.reference g.fields g.found (reference-kept g.field g.reference g.says) in
-    rw (on.on_account, on.of_amount, same) (
-      passes t (ours place k) g.reference on.account.id v one two three four,
-      (mt900 (booked (ours place k) g.reference on.account.id v) None [], reads t (ours place k) g.reference on.account.id v one two three four),
-    )
+    debit-told t chart pay place k leg to _ g.field g.reference on came.shape.value tabled g.fields g.found g.says small few

@@ -20,6 +20,7 @@ use Rattle.fin_contents.specs.Plain.{one_line, reference_of, short_line_of}
 use Rattle.fin_contents.specs.Writing.{line_field}
 use Rattle.fin_contents.proofs.laws.Bytes.{and-both}
 use Rattle.fin_contents.proofs.laws.Steps.{checked, there}
+use Rattle.day_model.specs.Shape.{IsReference}
 use Rattle.advices.specs.Fields.{ours}
 use Rattle.advices.specs.Spelled.{IsPlain}
 use Rattle.advices.proofs.laws.Bytes.{decimal-digits, ours-plain, padded-digits}
@@ -120,3 +121,8 @@ reference-line f x e =
     let run = checked (is_run (is_in X) 16 line.0) _ _ x line.2 in
     let plain = checked (not (has_stray_slash line.0)) _ _ x run.1 in
     rw (line.1, run.0) plain.1
+
+-- and what meets a reference's grammar is read as one
+pub reference-made : (tag : ℕ) (x : List ℕ) → IsReference x → reference_of (line_field tag None x) ≡ Ok x
+unfolding reference_of
+reference-made tag x is = rw (le-leb 1 (length x) is.given, le-leb (length x) 16 is.short, is.plain, is.slashes) refl

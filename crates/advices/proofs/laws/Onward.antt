@@ -11,6 +11,7 @@ use Rattle.fin_contents.specs.Writing.{value_field}
 use Rattle.fin_message.specs.Sound.{Say}
 use Rattle.fin_message.specs.declared.message.Message.{Message}
 use Rattle.fin_message.specs.declared.message.Message.TheVariants as message
+use Rattle.mt103.specs.Codes.{is_charged}
 use Rattle.mt103.specs.Message.{field_tests as tests_103, mt103_of}
 use Rattle.mt103.specs.declared.message.Mt103.{Mt103}
 use Rattle.mt202cov.specs.Message.{field_tests as tests_202, mt202cov_of}
@@ -25,7 +26,7 @@ use Rattle.advices.specs.Legs.{charge_of, debited_amount, leg_amount, value_of_p
 use Rattle.advices.specs.Received.{ordered_of, received_of}
 use Rattle.advices.specs.Spelled.{IsWritableAmount}
 use Rattle.advices.specs.Transfer.{transfer_fields}
-use Rattle.advices.specs.Valid.{CameFrom, CoverReads, IsTabled, PassReads, TransferReads, amount_32a, bears_charges}
+use Rattle.advices.specs.Valid.{CameFrom, CoverReads, IsTabled, PassReads, TransferReads, amount_32a}
 use Rattle.advices.proofs.laws.Covers.{cover-fields-pass, cover-parted}
 use Rattle.advices.proofs.laws.Made.{ours-read}
 use Rattle.advices.proofs.laws.Orders.{charge-taken, debits, leg-moved, ordered-spelled, received-cut}
@@ -88,7 +89,7 @@ charge-reads t chart pay m came =
 
 -- and is taken out of a transfer alone that bears it
 charge-borne : (t : Tables) (chart : Chart) (pay : Pay) (envelope : Envelope) (text : List ℕ) (m : Mt103) → CameFrom t chart pay (message.Transfer envelope text m)
-    → IfSome (charge_of chart pay) (λ a. bears_charges m ≡ true)
+    → IfSome (charge_of chart pay) (λ a. is_charged m.charge ≡ true)
 charge-borne t chart pay envelope text m came =
     IfSome_then (charge_of chart pay) (charge-taken chart pay came.accounts came.fits)
     (λ a is. came.charged is.third.account is.third.on_account is.kind)

@@ -26,7 +26,7 @@ use Rattle.fin_contents.specs.Plain.{one_line}
 use Rattle.fin_contents.specs.declared.value.Value.{Value}
 use Rattle.fin_contents.proofs.laws.Bytes.{and-three}
 use Rattle.fin_contents.proofs.laws.Steps.{checked}
-use Rattle.day_model.specs.Chart.{Chart, IsChart, IsFormed, account_at, fee}
+use Rattle.day_model.specs.Chart.{Chart, IsChart, IsFormed, account_at, accounts_of, fee}
 use Rattle.day_model.specs.Fit.{FitsAccounts, side_sum}
 use Rattle.day_model.specs.Shape.{HasShape, IsNumbered, IsOrder}
 use Rattle.day_model.specs.declared.account.Account.{Account}
@@ -143,8 +143,8 @@ pub leg-moved : (chart : Chart) (pay : Pay) (n : ℕ) → IsChart chart → Fits
 leg-moved chart pay n sound fits numbered =
     let (leg, at) = there pay.legs (n - 1) (omega (arith, numbered.0, numbered.1)) in
     let leg_is = leg_sound chart pay.legs (n - 1) leg (fitting chart pay.legs fits) at in
-    let (account, own) = there chart.accounts (leg.account.0 - 1) (omega (arith, leg_is.listed.0, leg_is.listed.1)) in
-    let formed = sound.rows.formed (leg.account.0 - 1) account own in
+    let (account, own) = there (accounts_of chart) (leg.account.0 - 1) (omega (arith, leg_is.listed.0, leg_is.listed.1)) in
+    let formed = sound.rows.apart.formed (leg.account.0 - 1) account own in
     record {
       account = account;
       amount = amount_on leg account;

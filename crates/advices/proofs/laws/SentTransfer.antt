@@ -19,7 +19,7 @@ use Rattle.fin_contents.specs.Parties.{known_party_of}
 use Rattle.fin_contents.specs.Writing.{ccy_amount_field, some_field, value_field}
 use Rattle.fin_contents.specs.declared.value.Value.{Value}
 use Rattle.fin_contents.proofs.laws.Said.{stand}
-use Rattle.mt103.specs.Codes.{charge_of, instr_of, operation_of}
+use Rattle.mt103.specs.Codes.{charge_of, instr_of, is_charged, operation_of}
 use Rattle.mt103.specs.Instructions.{d98, e46}
 use Rattle.mt103.specs.Message.{content_test, field_tests, mt103_of}
 use Rattle.mt103.specs.Order.{order_103}
@@ -32,7 +32,6 @@ use Rattle.day_model.specs.declared.pay.Skip.{Skip}
 use Rattle.day_model.specs.declared.pay.Skip.TheVariants.{Keep, Mid, Both}
 use Rattle.advices.specs.Fields.{bank_field, copied, copied_all, is_named}
 use Rattle.advices.specs.Transfer.{account_bank, passed_instructions, intermediary, is_there, or_amount, ordered_amount, taken_fields}
-use Rattle.advices.specs.Valid.{bears_charges}
 use Rattle.advices.proofs.laws.Banks.{bank-read}
 use Rattle.advices.proofs.laws.Copies.{each-says}
 use Rattle.advices.proofs.laws.Finding.{agree, any-field, copied-at, tells_from}
@@ -104,7 +103,7 @@ module _ (t : Tables) (fs : List Field) (reference : List ℕ) (v : Value) (orde
     (charge_reads : ChargeReads t charge)
     (via_is : IfSome via (λ b. IsBic b × (has_head t b.head ≡ true)))
     (m : Mt103) (read : mt103_of t fs ≡ Ok m) (ccy : v.amount.ccy ≡ m.amount.ccy) (ordered_ccy : ordered.ccy ≡ m.amount.ccy)
-    (bears : IfSome charge (λ a. bears_charges m ≡ true)) where
+    (bears : IfSome charge (λ a. is_charged m.charge ≡ true)) where
   abbrev segs : List (List Field)
   segs = transfer_segs fs reference v ordered charge skip via f52
 

@@ -13,13 +13,13 @@ use Rattle.corr_money.specs.declared.amount.Ccy.{Ccy}
 use Rattle.ref_tables.specs.Seen.{Tables}
 use Rattle.fin_layout.proofs.laws.Fine.{first-none, map-none}
 use Rattle.fin_parties.specs.declared.party.Party.{Party}
+use Rattle.mt103.specs.Codes.{is_charged}
 use Rattle.mt103.specs.declared.message.Mt103.{Mt103}
 use Rattle.mt103_rules.specs.Instructions.{has_instr, is_priority_instruction}
 use Rattle.mt103_rules.specs.Parties.{has_account, is_b, is_bare_b, is_bare_d, is_d, is_uncleared_c}
 use Rattle.mt103_rules.specs.Rules.{all_rules, amount_rules, c02, c81, charge_rules, contact_rules, d49, d50, d51, d75, e01, e02, e03, e04, e05, e06, e07, e09, e10, e13, e15_given, e15_taken, e16, e17, e18, e44, e45, has_level, institution_rules, is_foreign, is_given, is_listed_bank, is_op, is_standard, level_rules}
 use Rattle.day_model.specs.declared.pay.Skip.{Skip}
 use Rattle.day_model.specs.declared.pay.Skip.TheVariants.{Keep, Mid, Both}
-use Rattle.advices.specs.Valid.{bears_charges}
 use Rattle.advices.proofs.laws.Instructions.{and-false, any-kept, none-kept, none-tells-56, none-tells-57, stays}
 
 -- ---- a transfer that is sent on
@@ -57,7 +57,7 @@ pub record IsSentOn (skip : Skip) (own : Option Amount) (m n : Mt103) : Type 0 w
   pub payee : n.payee ≡ m.payee
   pub charge : n.charge ≡ m.charge
   pub taken : n.taken ≡ m.taken ++ option_to_list own
-  pub bears : IfSome own (λ a. bears_charges m ≡ true)
+  pub bears : IfSome own (λ a. is_charged m.charge ≡ true)
   pub given : n.given ≡ m.given
 
 -- ---- tests
@@ -271,7 +271,7 @@ module _ (skip : Skip) (own : Option Amount) (m n : Mt103) (s : IsSentOn skip ow
   unfolding e13
   e13-on e = rw (s.charge, s.taken) (if-false _ _ (go own s.bears (if-true _ _ e)))
     where
-      go : (o : Option Amount) → IfSome o (λ a. bears_charges m ≡ true) → (bytes_eq m.charge (codes "OUR") && is_given m.taken) ≡ false
+      go : (o : Option Amount) → IfSome o (λ a. is_charged m.charge ≡ true) → (bytes_eq m.charge (codes "OUR") && is_given m.taken) ≡ false
           → (bytes_eq m.charge (codes "OUR") && is_given (m.taken ++ option_to_list o)) ≡ false
       go None bears e = rw (append-nil m.taken) e
       go (Some a) bears e = rw (not-ours m.charge bears) refl

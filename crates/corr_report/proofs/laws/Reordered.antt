@@ -6,7 +6,7 @@ use Rattle.std.proofs.lemmas.List.Sorted.{length_permutation, sum_by-IsPermutati
 use Rattle.day_model.specs.declared.entry.Entry.{Entry}
 use Rattle.day_model.specs.declared.pay.Side.TheVariants.{Debit, Credit}
 use Rattle.day_model.specs.Balance.{balance_of, moved_by, opening_of}
-use Rattle.day_model.specs.Chart.{Chart}
+use Rattle.day_model.specs.Chart.{Chart, accounts_of}
 use Rattle.day_model.specs.Laws.{entry_in}
 use Rattle.corr_report.specs.declared.currency.Currency.{Currency}
 use Rattle.corr_report.specs.Lines.{numbered}
@@ -34,6 +34,6 @@ balance_same chart xs ys moved n =
 pub summary_reordered : (chart : Chart) (xs ys : List Entry) → IsPermutation xs ys → summary_of chart ys ≡ summary_of chart xs
 summary_reordered chart xs ys moved =
     let counts = ap (λ n. count_line n n) (length_permutation xs ys moved) in
-    let totals : total_lines chart ys ≡ total_lines chart xs = flat_same (total_of chart ys) (total_of chart xs) (total_same chart xs ys moved) (currencies_of [] chart.accounts) in
-    let balances = numbered_same (λ n. balance_line (balance_of chart ys n)) (λ n. balance_line (balance_of chart xs n)) (λ n account. ap (λ b. balance_line b account) (balance_same chart xs ys moved n)) 1 chart.accounts in
+    let totals : total_lines chart ys ≡ total_lines chart xs = flat_same (total_of chart ys) (total_of chart xs) (total_same chart xs ys moved) (currencies_of [] (accounts_of chart)) in
+    let balances = numbered_same (λ n. balance_line (balance_of chart ys n)) (λ n. balance_line (balance_of chart xs n)) (λ n account. ap (λ b. balance_line b account) (balance_same chart xs ys moved n)) 1 (accounts_of chart) in
     ap₂ ◌++◌ (ap₂ ◌++◌ counts totals) balances

@@ -1,8 +1,8 @@
 -- Where each account bears all debits of some pays, and all their credits, each pay is booked, in whatever order they come.
-use Rattle.std.proofs.Common.{◌≡◌, ℕ, zero, suc, ◌+◌, ◌≤◌, true, false, List, [], ◌∷◌, ◌++◌, map, Some, None, ℤ, pos, ◌+ℤ◌, ◌-ℤ◌, ◌≤ℤ◌, refl, sym, ap, ◌∙◌, subst, arith, append_assoc}
-use Rattle.std.specs.Prelude.{int_le, is_some, slice_get, sum_by, unwrap_or}
+use Rattle.std.proofs.Common.{◌≡◌, ℕ, zero, suc, ◌+◌, ◌≤◌, true, false, List, [], ◌∷◌, ◌++◌, map, Some, None, ℤ, pos, ◌+ℤ◌, ◌-ℤ◌, ◌≤ℤ◌, refl, sym, ap, ◌∙◌, subst, arith, append_assoc, length-append}
+use Rattle.std.specs.Prelude.{◌-◌, int_le, is_some, length, slice_get, sum_by, unwrap_or}
 use Rattle.std.specs.List.{AllByRecursion}
-use Rattle.std.proofs.lemmas.Bool.{and_from, cond-false, eq-eqb}
+use Rattle.std.proofs.lemmas.Bool.{and_from, cond-false, eq-eqb, le-leb, leb-true}
 use Rattle.std.proofs.lemmas.Int.{ints}
 use Rattle.std.proofs.lemmas.List.{append-nil}
 use Rattle.std.proofs.lemmas.List.Sums.{sum_by-append, sum_by-cons}
@@ -16,12 +16,13 @@ use Rattle.day_model.specs.declared.pay.Leg.{Leg}
 use Rattle.day_model.specs.declared.pay.Pay.{Pay}
 use Rattle.day_model.specs.declared.pay.Side.{Side}
 use Rattle.day_model.specs.declared.pay.Side.TheVariants.{Debit, Credit}
+use Rattle.day_model.specs.Changes.{is_by}
 use Rattle.day_model.specs.Balance.{balance_of, changed, credits_of, debits_of, is_within, leg_tests, moved, moved_by, opening_of, outcome_of}
-use Rattle.day_model.specs.Chart.{Chart, IsListed, account_at}
+use Rattle.day_model.specs.Chart.{AreBy, Chart, IsListed, account_at, chart_at}
 use Rattle.day_model.specs.Fit.{FitsAccounts, is_side}
 use Rattle.day_model.specs.Next.{entered_at, entry_of, fold_of, next_history}
-use Rattle.day_model.proofs.laws.Balances.{listed_account}
-use Rattle.day_model.proofs.laws.Fitting.{LegsFit, fitting, leg_sound}
+use Rattle.day_model.proofs.laws.Changes.{accounts_now, list_all-then}
+use Rattle.day_model.proofs.laws.Fitting.{LegsFit, fitting, leg_sound, listed_account}
 use Rattle.corr_text.specs.First.{first_of}
 
 -- a pay as a booked entry of a day
@@ -73,9 +74,20 @@ own_part (x ∷ legs) zero leg at =
     subst (λ (y : Leg). y.amount.0 ≤ sum_by (moved y.side y.account.0) (x ∷ legs)) (same_Some x leg at) (omega (arith, own x, sum_by-cons (moved x.side x.account.0) x legs))
 own_part (x ∷ legs) (suc i) leg at = omega (arith, own_part legs i leg at, sum_by-cons (moved leg.side leg.account.0) x legs)
 
-module _ (chart : Chart) (done rest : List Entry) (day : Day) (pay : Pay) (borne : AreBorne chart (done ++ booked_on day pay ∷ rest)) where
+-- changes that came by some entries came by one more
+by_longer : (chart : Chart) (done : List Entry) (e : Entry) → AreBy (length done) chart → AreBy (length (done ++ e ∷ [])) chart
+by_longer chart done e by =
+    list_all-then (is_by (length done)) (is_by (length (done ++ e ∷ []))) chart.changes
+    (λ c earlier. le-leb _ _ (omega (arith, leb-true _ _ earlier, length-append done (e ∷ [])))) by
+
+module _ (chart : Chart) (done rest : List Entry) (day : Day) (pay : Pay) (by : AreBy (length done) chart)
+    (borne : AreBorne chart (done ++ booked_on day pay ∷ rest)) where
   abbrev all : List Entry
   all = done ++ booked_on day pay ∷ rest
+
+  -- the accounts of the time are those of now
+  then_now : (n : ℕ) (balance : ℤ) → is_within (account_at (chart_at chart (length done)) n) balance ≡ is_within (account_at chart n) balance
+  then_now n balance = ap (λ (accounts : List Account). is_within (slice_get accounts (n - 1)) balance) (accounts_now chart (length done) by)
 
   -- a leg leaves its account within its limits
   leg_passes : (side : Side) (n amount : ℕ) → IsListed chart n → amount ≤ sum_by (moved side n) pay.legs → is_within (account_at chart n) (changed side amount (balance_of chart done n)) ≡ true
@@ -102,7 +114,8 @@ module _ (chart : Chart) (done rest : List Entry) (day : Day) (pay : Pay) (borne
   all_pass k [] each = refl
   all_pass k (leg ∷ legs) each =
       let here = each 0 leg refl in
-      rw (leg_passes leg.side leg.account.0 leg.amount.0 here.0 here.1) (all_pass (k + 1) legs (λ i. each (suc i)))
+      let passes = then_now leg.account.0 (changed leg.side leg.amount.0 (balance_of chart done leg.account.0)) ∙ leg_passes leg.side leg.account.0 leg.amount.0 here.0 here.1 in
+      rw passes (all_pass (k + 1) legs (λ i. each (suc i)))
 
   -- each leg passes
   pay_passes : LegsFit chart pay.legs → outcome_of chart done pay ≡ Booked
@@ -114,15 +127,16 @@ entered chart done pay day fresh booked =
     cond-false (is_some (entered_at pay.mir done)) done (done ++ entry_of chart done pay day ∷ []) fresh
     ∙ ap (λ (outcome : Outcome). done ++ record { pay = pay; day = day; outcome = outcome } ∷ []) booked
 
-settled_from : (chart : Chart) (done : List Entry) (day : Day) (pays : List Pay) → AllByRecursion (FitsAccounts chart) pays → AreFresh done day pays → AreBorne chart (done ++ map (booked_on day) pays)
-    → fold_of chart done pays day ≡ done ++ map (booked_on day) pays
-settled_from chart done day [] fit fresh borne = sym (append-nil done)
-settled_from chart done day (pay ∷ pays) fit fresh borne =
-    let next = entered chart done pay day fresh.0 (pay_passes chart done (map (booked_on day) pays) day pay borne (fitting chart pay.legs fit.0)) in
+settled_from : (chart : Chart) (done : List Entry) (day : Day) (pays : List Pay) → AreBy (length done) chart → AllByRecursion (FitsAccounts chart) pays → AreFresh done day pays
+    → AreBorne chart (done ++ map (booked_on day) pays) → fold_of chart done pays day ≡ done ++ map (booked_on day) pays
+settled_from chart done day [] by fit fresh borne = sym (append-nil done)
+settled_from chart done day (pay ∷ pays) by fit fresh borne =
+    let next = entered chart done pay day fresh.0 (pay_passes chart done (map (booked_on day) pays) day pay by borne (fitting chart pay.legs fit.0)) in
     let same = append_assoc done (booked_on day pay ∷ []) (map (booked_on day) pays) in
     ap (λ entries. fold_of chart entries pays day) next
-    ∙ (settled_from chart (done ++ booked_on day pay ∷ []) day pays fit.1 fresh.1 (subst (AreBorne chart) (sym same) borne) ∙ same)
+    ∙ (settled_from chart (done ++ booked_on day pay ∷ []) day pays (by_longer chart done (booked_on day pay) by) fit.1 fresh.1 (subst (AreBorne chart) (sym same) borne) ∙ same)
 
--- each pay is booked
-pub settled_fold : (chart : Chart) (day : Day) (pays : List Pay) → AllByRecursion (FitsAccounts chart) pays → AreFresh [] day pays → AreBorne chart (map (booked_on day) pays) → fold_of chart [] pays day ≡ map (booked_on day) pays
-settled_fold chart day pays fit fresh borne = settled_from chart [] day pays fit fresh borne
+-- each pay is booked, where no change of accounts came after an entry
+pub settled_fold : (chart : Chart) (day : Day) (pays : List Pay) → AreBy 0 chart → AllByRecursion (FitsAccounts chart) pays → AreFresh [] day pays → AreBorne chart (map (booked_on day) pays)
+    → fold_of chart [] pays day ≡ map (booked_on day) pays
+settled_fold chart day pays by fit fresh borne = settled_from chart [] day pays by fit fresh borne

@@ -39,7 +39,8 @@ use Rattle.pay_plan.specs.declared.charging.Charged.{Charged}
 use Rattle.pay_plan.specs.declared.way.Way.{Way}
 use Rattle.pay_plan.specs.declared.way.Way.TheVariants.{Credited, Onward, Passed}
 use Rattle.pay_plan.specs.Asked.{Asked, amount_in, asked_of, is_for_home}
-use Rattle.pay_plan.specs.Charging.{ChargeRows, charge_asked, charge_of, charge_on, is_charged, may_be_charged}
+use Rattle.mt103.specs.Codes.{is_charged}
+use Rattle.pay_plan.specs.Charging.{ChargeRows, charge_asked, charge_of, charge_on, may_be_charged}
 use Rattle.pay_plan.specs.Orders.{next_orders, notices_of, orders_by, orders_of, receiver, skip_of}
 use Rattle.pay_plan.specs.Pay.{legs_of, quote_of, rest_after}
 use Rattle.pay_plan.specs.Plan.{accounts_of, pay_of, plan_of, route_asked}

@@ -17,7 +17,7 @@ use Rattle.corr_money.specs.declared.amount.Amount.{Amount}
 use Rattle.ref_tables.specs.Seen.{Tables, has_head}
 use Rattle.day_model.specs.declared.account.Account.{Account}
 use Rattle.day_model.specs.declared.account.AcctNo.{AcctNo}
-use Rattle.day_model.specs.Chart.{Chart, account_at, customer, fee, has_id, is_same_ccy, is_owned, nostro, number_of_first, vostro}
+use Rattle.day_model.specs.Chart.{Chart, account_at, accounts_of, customer, fee, has_id, is_owned, is_same_ccy, nostro, number_of_first, vostro}
 use Rattle.ssi_versions.specs.declared.method.Method.{Method}
 use Rattle.ssi_versions.specs.declared.method.Method.TheVariants as method
 use Rattle.ssi_versions.specs.declared.row.SsiRow.{SsiRow}
@@ -59,7 +59,7 @@ given None fault x e = absurd (cc e)
 -- ---- the account that is found
 
 -- the account with the number of the first that passes a test passes it
-passes : (t : Account → Bool) (chart : Chart) (n : AcctNo) (x : Account) → number_of_first t chart.accounts ≡ Some n → account_at chart n.0 ≡ Some x → t x ≡ true
+passes : (t : Account → Bool) (chart : Chart) (n : AcctNo) (x : Account) → number_of_first t (accounts_of chart) ≡ Some n → account_at chart n.0 ≡ Some x → t x ≡ true
 passes t chart n x e at =
     let s = stands t chart n e in
     subst (λ (y : Account). t y ≡ true) (same_Some _ _ (sym s.there ∙ at)) s.passes

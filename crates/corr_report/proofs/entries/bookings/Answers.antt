@@ -1,9 +1,13 @@
 use Rattle.std.proofs.Common.{◌≡◌, ◌+◌, ◌-◌, [], ◌++◌, ap, sym, ◌∙◌, arith}
 use Rattle.std.proofs.lemmas.Option.{slice_get_within, get_or_from_slice_get}
+use Rattle.day_model.proofs.laws.Fronts.{fits_now}
 use Rattle.corr_report.specs.Bookings.{booking_line}
 use Rattle.corr_report.proofs.FailingLeg.{names_leg}
 use Rattle.corr_report.proofs.LineLists.{numbered_more}
 use Rattle.corr_report.proofs.entries.bookings.Goals as goal
+
+pub put_line-requires-clause-fits : goal.put_line-requires-clause-fits
+put_line-requires-clause-fits c = fits_now c.args.a.now c.args.h.now.entries _ c.get.result.now c.requires.legal c.get.ensures
 
 pub put_line-requires-clause-leg : goal.put_line-requires-clause-leg
 put_line-requires-clause-leg c = names_leg c.args.a.now c.args.h.now.entries _ c.get.result.now c.requires.legal c.get.ensures

@@ -1,18 +1,19 @@
 use Rattle.std.proofs.Common.{◌≡◌, ◌+◌, ◌-◌, ◌++◌, ap, sym, ◌∙◌, arith, to_z, of_z, w64}
 use Rattle.std.proofs.lemmas.Int.{to_z-of_z}
 use Rattle.std.proofs.lemmas.Option.{slice_get_within, get_or_from_slice_get}
+use Rattle.day_model.specs.Chart.{accounts_of}
 use Rattle.day_model.specs.Balance.{balance_of}
 use Rattle.corr_report.specs.Summary.{balance_line}
 use Rattle.corr_report.proofs.LineLists.{numbered_more}
 use Rattle.corr_report.proofs.summing.put_balances.Goals as goal
 
 pub put_line-requires : goal.put_line-requires
-put_line-requires c = (c.get.ensures.sound.rows.formed (c.loop-n.n - 1) c.get.result.now c.get.ensures.value).decimals
+put_line-requires c = (c.get.ensures.sound.rows.apart.formed (c.loop-n.n - 1) c.get.result.now c.get.ensures.value).decimals
 
 pub loop-n-preserved : goal.loop-n-preserved
 loop-n-preserved c =
     let l = c.loop-n in
-    let accounts = c.args.a.now.accounts in
+    let accounts = accounts_of c.args.a.now in
     let account = c.get.result.now in
     let within = slice_get_within accounts (l.n - 1) account c.get.ensures.value in
     let item = get_or_from_slice_get accounts (l.n - 1) account account c.get.ensures.value in
