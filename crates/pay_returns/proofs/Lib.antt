@@ -1,0 +1,15 @@
+pub mod Choices
+pub mod Pieces
+pub mod Faultless
+pub mod FirstField
+pub mod Effects
+pub mod Fits
+pub mod Sided
+pub mod Comparing
+pub mod Mirs
+pub mod Quotes
+pub mod Noticed
+pub mod Shaped
+pub mod TextCut
+pub mod Owned
+pub mod laws

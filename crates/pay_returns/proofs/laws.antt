@@ -1,0 +1,4 @@
+pub mod Equality
+pub mod Noticing
+pub mod Tagging
+pub mod Words
