@@ -119,8 +119,8 @@ module _ (index : HistoryIndex) (n : ℕ) (s : Statement) (book : SeenBook) (is 
     quotes = is.has.is.quotes;
   }
 
-  pub ours-keyed : (ms : List Movement) → map placed_by ms ≡ lines_on n s.day book.entries → All CanBeKeyed ms
-  ours-keyed ms e = let written = lines-written book n s.day printable in entries-keyed written.0 ms (lines_on n s.day book.entries) e written.1
+  pub ours-keyed : (ms : List Movement) → map placed_by ms ≡ lines_on book.chart n s.day book.entries → All CanBeKeyed ms
+  ours-keyed ms e = let written = lines-written book n s.day printable in entries-keyed written.0 ms (lines_on book.chart n s.day book.entries) e written.1
 
 small-number : (z : ℤ) → unsigned_abs z < amount_end → IsSmall z
 small-number (pos k) lt = grind (arith, ints)

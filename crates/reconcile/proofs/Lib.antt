@@ -1,3 +1,4 @@
+pub mod Sides
 pub mod Keyed
 pub mod Matching
 pub mod PairSteps

@@ -146,11 +146,11 @@ module _ (chart : Chart) (entries : List Entry) (s : Statement) (old new : List 
       e ∙ append_assoc old (spaced (codes "UNKNOWN" ∷ [])) line_feed
       ∙ ap (λ (o : Option AcctNo). old ++ option_map_or (statement_lines chart entries s) o (spaced (codes "UNKNOWN" ∷ []) ++ line_feed)) (sym none)
 
-  pub told-lines : (n : AcctNo) (ours : List Placed) (compared : Compared) (mid : List ℕ) → nostro_of chart s ≡ Some n → mid ≡ old ++ line_feed → ours ≡ ours_of n.0 entries s → compared ≡ compared_of chart entries n.0 s
+  pub told-lines : (n : AcctNo) (ours : List Placed) (compared : Compared) (mid : List ℕ) → nostro_of chart s ≡ Some n → mid ≡ old ++ line_feed → ours ≡ ours_of chart n.0 entries s → compared ≡ compared_of chart entries n.0 s
       → new ≡ mid ++ compared_lines s.decimals ours s.lines compared → new ≡ old ++ statement_text chart entries s
   told-lines n ours compared mid some feed are is e =
       e ∙ (λ i. feed i ++ compared_lines s.decimals (are i) s.lines (is i))
-      ∙ append_assoc old line_feed (compared_lines s.decimals (ours_of n.0 entries s) s.lines (compared_of chart entries n.0 s))
+      ∙ append_assoc old line_feed (compared_lines s.decimals (ours_of chart n.0 entries s) s.lines (compared_of chart entries n.0 s))
       ∙ ap (λ (o : Option AcctNo). old ++ option_map_or (statement_lines chart entries s) o (spaced (codes "UNKNOWN" ∷ []) ++ line_feed)) (sym some)
 
 -- ---- pages that belong together

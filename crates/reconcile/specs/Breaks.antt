@@ -4,7 +4,7 @@ use Rattle.std.specs.List.{flat_map}
 use Rattle.std.specs.Option.{option_map_or}
 use Rattle.corr_ids.specs.Day.{yymmdd_of}
 use Rattle.corr_report.specs.Lines.{spaced}
-use Rattle.day_model.specs.Chart.{Chart, account_at, has_id, is_same_ccy, nostro, number_of_first}
+use Rattle.day_model.specs.Chart.{Chart, account_at, accounts_of, has_id, is_same_ccy, nostro, number_of_first}
 use Rattle.day_model.specs.declared.account.Account.{Account}
 use Rattle.day_model.specs.declared.account.AcctNo.{AcctNo}
 use Rattle.day_model.specs.declared.entry.Entry.{Entry}
@@ -27,12 +27,12 @@ is_of_statement s account = (account.kind == nostro) && is_same_ccy account.ccy 
 -- our account of which a statement is: the one with its id, if it is such an account
 abbrev pub nostro_of : Chart → Statement → Option AcctNo
 nostro_of chart s =
-    option_and_then (λ n. if option_map_or (is_of_statement s) (account_at chart n.0) false then Some n else None) (number_of_first (has_id s.account) chart.accounts)
+    option_and_then (λ n. if option_map_or (is_of_statement s) (account_at chart n.0) false then Some n else None) (number_of_first (has_id s.account) (accounts_of chart))
 
 -- its lines against our entries
 abbrev pub statement_lines : Chart → List Entry → Statement → AcctNo → List ℕ
 statement_lines chart entries s n =
-    line_feed ++ compared_lines s.decimals (ours_of n.0 entries s) s.lines (compared_of chart entries n.0 s)
+    line_feed ++ compared_lines s.decimals (ours_of chart n.0 entries s) s.lines (compared_of chart entries n.0 s)
 
 -- what is told of a statement after its name
 abbrev pub statement_text : Chart → List Entry → Statement → List ℕ

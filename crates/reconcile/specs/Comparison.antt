@@ -14,26 +14,26 @@ use Rattle.reconcile.specs.Rule.{IsPairing}
 use Rattle.reconcile.specs.declared.comparing.Compared.{Compared}
 
 -- our entries on account n of the statement's day
-abbrev pub ours_of : ℕ → List Entry → Statement → List Placed
-ours_of n entries s = lines_on n s.day entries
+abbrev pub ours_of : Chart → ℕ → List Entry → Statement → List Placed
+ours_of chart n entries s = lines_on chart n s.day entries
 
 -- the pairs, what is left of ours and of theirs, and the gaps before the day and after it
 abbrev pub compared_of : Chart → List Entry → ℕ → Statement → Compared
 compared_of chart entries n s = record {
-  pairs = pairs_of (ours_of n entries s) s.lines;
-  ours = ours_left (pairs_of (ours_of n entries s) s.lines) (ours_of n entries s);
-  theirs = theirs_left (ours_of n entries s) s.lines;
+  pairs = pairs_of (ours_of chart n entries s) s.lines;
+  ours = ours_left (pairs_of (ours_of chart n entries s) s.lines) (ours_of chart n entries s);
+  theirs = theirs_left (ours_of chart n entries s) s.lines;
   opening_gap = balance_of chart (before_day s.day entries) n +ℤ s.opening;
   closing_gap = balance_of chart (up_to_day s.day entries) n +ℤ s.closing;
 }
 
 -- the pairs are by the rule: each line takes the first entry that is free for it
-abbrev pub TakesFirst : ℕ → List Entry → Statement → Compared → Type 0
-TakesFirst n entries s compared = IsPairing (ours_of n entries s) s.lines compared.pairs
+abbrev pub TakesFirst : Chart → ℕ → List Entry → Statement → Compared → Type 0
+TakesFirst chart n entries s compared = IsPairing (ours_of chart n entries s) s.lines compared.pairs
 
 -- each entry of ours stands in one pair or in `ours`, and each line in one pair or in `theirs`, and nowhere else or twice
-pub record StandOnce (n : ℕ) (entries : List Entry) (s : Statement) (compared : Compared) : Type 0 where
-  pub entries_once : IsPermutation (map (λ pair. pair.0) compared.pairs ++ compared.ours) (entry_places (ours_of n entries s))
+pub record StandOnce (chart : Chart) (n : ℕ) (entries : List Entry) (s : Statement) (compared : Compared) : Type 0 where
+  pub entries_once : IsPermutation (map (λ pair. pair.0) compared.pairs ++ compared.ours) (entry_places (ours_of chart n entries s))
   pub lines_once : IsPermutation (map (λ pair. pair.1) compared.pairs ++ compared.theirs) (line_numbers s.lines)
 
 -- the entry at a place
@@ -62,6 +62,6 @@ abbrev pub effects_at : List Line61 → List ℕ → ℤ
 effects_at theirs numbers = total (line_at theirs) numbers
 
 -- the closing gap is the opening gap with what is in no pair
-abbrev pub AddsUp : ℕ → List Entry → Statement → Compared → Type 0
-AddsUp n entries s compared =
-    compared.closing_gap ≡ (compared.opening_gap +ℤ added_by (ours_of n entries s) compared.ours) +ℤ effects_at s.lines compared.theirs
+abbrev pub AddsUp : Chart → ℕ → List Entry → Statement → Compared → Type 0
+AddsUp chart n entries s compared =
+    compared.closing_gap ≡ (compared.opening_gap +ℤ added_by (ours_of chart n entries s) compared.ours) +ℤ effects_at s.lines compared.theirs

@@ -1,7 +1,9 @@
 -- What an entry and a line share that are a pair, as one value.
-use Rattle.std.specs.Prelude.{ℕ, ◌-◌, ◌&&◌, Bool, List, ◌∷◌, ◌++◌, length, replicate, neg_ℤ}
+use Rattle.std.specs.Prelude.{ℕ, ◌-◌, ◌&&◌, Bool, List, ◌∷◌, ◌++◌, length, replicate, ℤ, pos, neg_ℤ}
 use Rattle.std.specs.Ordering.{int_eq}
 use Rattle.std.specs.Str.{bytes_eq}
+use Rattle.day_model.specs.declared.pay.Side.{Side}
+use Rattle.day_model.specs.declared.pay.Side.TheVariants.{Credit, Debit}
 use Rattle.mt950.specs.Entry.{effect_of}
 use Rattle.mt950.specs.declared.entry.Line61.{Line61}
 use Rattle.reconcile.specs.declared.key.Key.{Key}
@@ -9,6 +11,11 @@ use Rattle.reconcile.specs.declared.key.Key.{Key}
 -- a text of fewer than n bytes as n bytes: its length, its bytes, and zeros
 abbrev pub short_of : ℕ → List ℕ → List ℕ
 short_of n text = length text ∷ text ++ replicate (n - 1 - length text) 0
+
+-- what a leg adds to a balance
+abbrev pub added_on : Side → ℕ → ℤ
+added_on Credit amount = pos amount
+added_on Debit amount = neg_ℤ (pos amount)
 
 -- what a line of ours has
 abbrev pub key_of : Line61 → Key

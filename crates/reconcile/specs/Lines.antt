@@ -7,6 +7,8 @@ use Rattle.corr_money.specs.Amounts.{amount_text, signed_text}
 use Rattle.corr_report.specs.Lines.{line, spaced}
 use Rattle.mt950.specs.Writing.{mark_text}
 use Rattle.mt950.specs.declared.entry.Line61.{Line61}
+use Rattle.mt950.specs.declared.entry.Mark.{Mark}
+use Rattle.mt950.specs.declared.entry.Mark.TheVariants.{C, D, RC, RD}
 use Rattle.mt950.specs.declared.joining.PageFault.{PageFault}
 use Rattle.mt950.specs.declared.joining.PageFault.TheVariants.{Gap, NotCarried, DoesNotAdd, Memory}
 use Rattle.statement.specs.Lines.{Placed}
@@ -21,10 +23,17 @@ pair_line pair = line (codes "PAIR") (padded 8 pair.0 ∷ padded 5 pair.1 ∷ []
 abbrev pub pair_lines : List (ℕ × ℕ) → List ℕ
 pair_lines pairs = flat_map pair_line pairs
 
+-- the side of an entry by its mark: C where it adds to our balance, D where it takes from it
+abbrev pub side_text : Mark → List ℕ
+side_text C = codes "C"
+side_text RD = codes "C"
+side_text D = codes "D"
+side_text RC = codes "D"
+
 -- `OURS 00000001 C 1234,50 P00000001K2`
 abbrev pub ours_line : ℕ → Placed → List ℕ
 ours_line decimals placed =
-    line (codes "OURS") (padded 8 placed.place ∷ mark_text placed.line.mark ∷ amount_text decimals placed.line.amount.0 ∷ placed.line.reference ∷ [])
+    line (codes "OURS") (padded 8 placed.place ∷ side_text placed.line.mark ∷ amount_text decimals placed.line.amount.0 ∷ placed.line.reference ∷ [])
 
 -- a line for each of the entries at places
 abbrev pub ours_lines : ℕ → List Placed → List ℕ → List ℕ

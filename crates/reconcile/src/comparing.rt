@@ -77,9 +77,9 @@ pub fn compare(
     requires listed { IsListed a.now n.0 }
     requires received { IsReceived s.now }
     ensures value { IfOk result (λ compared. compared ≡ compared_of a.now h.now.entries n.0 s.now) }
-    ensures first { IfOk result (TakesFirst n.0 h.now.entries s.now) }
-    ensures once { IfOk result (StandOnce n.0 h.now.entries s.now) }
-    ensures adds { IfOk result (AddsUp n.0 h.now.entries s.now) }
+    ensures first { IfOk result (TakesFirst a.now n.0 h.now.entries s.now) }
+    ensures once { IfOk result (StandOnce a.now n.0 h.now.entries s.now) }
+    ensures adds { IfOk result (AddsUp a.now n.0 h.now.entries s.now) }
 {
     let index = HistoryIndex::new(alloc, a, h)?;
     compare_with(alloc, &index, n, s)

@@ -2,11 +2,9 @@
 
 ghost use Rattle.std.specs.Prelude.{◌≡◌, ◌<◌, ◌≤◌, length};
 ghost use Rattle.corr_money.specs.Amounts.{amount_end};
-ghost use Rattle.mt950.specs.Entry.{signed_amount};
-ghost use Rattle.statement.specs.Lines.{statement_mark};
 ghost use Rattle.statement.specs.Running.{placed_by};
 ghost use Rattle.reconcile.specs.Bounds.{CanBeKeyed, IsLine};
-ghost use Rattle.reconcile.specs.Keys.{key_of, short_of, taken_by};
+ghost use Rattle.reconcile.specs.Keys.{added_on, key_of, short_of, taken_by};
 
 use corr_money::Minor;
 use day_model::Side;
@@ -38,7 +36,7 @@ pub fn short<const N: usize>(text: &[u8]) -> [u8; N]
 /// What a leg adds to our balance.
 fn signed(side: Side, amount: Minor) -> i64
     requires { amount.0 < amount_end }
-    ensures { result ≡ signed_amount (statement_mark side) amount.0 }
+    ensures { result ≡ added_on side amount.0 }
 {
     match side {
         Side::Credit => amount.0 as i64,

@@ -39,6 +39,7 @@ fn put_pairs(alloc: Global, pairs: &[(u32, u32)], out: &mut Text) -> Result<(), 
 }
 
 /// Adds the line of an entry that no line says: its place, its side, its amount and what it quotes.
+#[tactic(auto, using(crate::proofs::Sides::as_lettered))]
 fn put_entry(alloc: Global, entry: &Movement, decimals: u8, out: &mut Text) -> Result<(), Memory>
     requires amount { entry.now.amount.0 < amount_end }
     requires decimals { decimals ≤ most_decimals }

@@ -1,29 +1,34 @@
 -- One entry more in an index.
-use Rattle.std.proofs.Common.{◌≡◌, ℕ, zero, suc, ◌+◌, ◌-◌, ◌<◌, false, List, [], ◌∷◌, ◌++◌, map, length, take, Some, refl, sym, ap, ◌∙◌, subst, arith, ℤ, length-append}
+use Rattle.std.proofs.Common.{◌≡◌, ℕ, zero, suc, ◌+◌, ◌-◌, ◌<◌, Bool, false, List, [], ◌∷◌, ◌++◌, map, length, take, Option, Some, refl, sym, ap, ◌∙◌, subst, arith, ℤ, length-append, Global}
 use Rattle.std.specs.Prelude.{All, int_lt, slice_get}
 use Rattle.std.specs.List.{filter}
+use Rattle.std.specs.declared.vec.Vec.{Vec}
 use Rattle.std.proofs.lemmas.List.{append-nil, length-map, take_all}
 use Rattle.std.proofs.lemmas.List.Elements.{All-append, All-nil}
 use Rattle.std.proofs.lemmas.Option.{same_Some}
 use Rattle.corr_ids.specs.declared.day.Day.{Day}
 use Rattle.day_model.specs.Balance.{balance_of, changed, is_booked}
-use Rattle.day_model.specs.Chart.{Chart, IsChart, IsListed, IsSmall, account_at, HasCode}
+use Rattle.day_model.specs.Chart.{Chart, HasCode, IsChart, IsListed, IsSmall, account_at, accounts_of}
 use Rattle.day_model.specs.Legal.{IsLegal}
 use Rattle.day_model.specs.declared.account.Account.{Account}
 use Rattle.day_model.specs.declared.entry.Entry.{Entry}
 use Rattle.day_model.specs.declared.pay.Leg.{Leg}
-use Rattle.day_model.proofs.laws.Balances.{listed_account, small_at}
-use Rattle.day_model.proofs.laws.Fitting.{LegsFit, fitting}
-use Rattle.statement.specs.Index.{AreLedgersOf, IsIndexOf, Rise, TakesNext, balance_at, grown, is_of_earlier_day, last_balance, ledger_with, movement_of, movements_of}
-use Rattle.statement.specs.Legs.{HasQuotes, IsByteQuote, before_day, legs_on, quote_text}
-use Rattle.statement.specs.Seen.{SeenBook}
+use Rattle.day_model.proofs.laws.Fitting.{LegsFit, fitting, listed_account}
+use Rattle.day_model.proofs.laws.Slices.{push_last}
+use Rattle.pay_returns.specs.References.{IsByteQuote, quote_text}
+use Rattle.pay_returns.specs.declared.origin.Origin.{Origin}
+use Rattle.statement.specs.Index.{AreLedgersOf, IsIndexOf, Rise, TakesNext, balance_at, grown, is_next_return, is_of_earlier_day, last_balance, ledger_with, movement_of, movements_of, payment_of}
+use Rattle.statement.specs.Legs.{HasQuotes, before_day, legs_on}
+use Rattle.statement.specs.Seen.{IsFront, SeenBook}
 use Rattle.statement.specs.declared.index.HistoryIndex.{HistoryIndex}
 use Rattle.statement.specs.declared.ledger.Ledger.{Ledger}
 use Rattle.statement.specs.declared.movement.Movement.{Movement}
 use Rattle.statement.proofs.Days.{entry_day, kept-balance, lt-down, movement_day, moves-rise, rise-at, rising}
 use Rattle.statement.proofs.Legs.{one-moves}
 use Rattle.statement.proofs.Moves.{last-balance, moves-append, opening-is}
-use Rattle.statement.proofs.Prefixes.{last-get, legal-take, map-get, take-next}
+use Rattle.statement.proofs.Payments.{payments-more}
+use Rattle.statement.proofs.Prefixes.{map-get, take-next}
+use Rattle.statement.proofs.laws.Fronts.{front-fits, front-rules, front-small, front-take}
 
 pub on-none : (n : ℕ) (entry : Entry) → is_booked entry.outcome ≡ false → legs_on n entry ≡ []
 on-none n entry e = rw e refl
@@ -58,11 +63,11 @@ module _ (chart : Chart) (entries : List Entry) (entry : Entry) (ledgers : List 
 
 -- the legs of the next entry fit
 pub next-fit : (index : HistoryIndex) (entry : Entry) (book : SeenBook) → TakesNext index entry book → LegsFit book.chart entry.pay.legs
-next-fit index entry book next = fitting book.chart entry.pay.legs (next.legal.fits (length book.entries) entry (last-get book.entries entry))
+next-fit index entry book next = fitting book.chart entry.pay.legs (front-fits book.chart (book.entries ++ entry ∷ []) next.legal (length book.entries) entry (push_last book.entries entry))
 
 pub balance-small : (index : HistoryIndex) (book : SeenBook) (n : ℕ) → IsIndexOf index book → IsListed book.chart n → IsSmall (balance_of book.chart book.entries n)
 balance-small index book n is listed =
-    subst (λ (es : List Entry). IsSmall (balance_of book.chart es n)) (take_all (length book.entries) book.entries (omega arith)) (small_at book.chart book.entries n (length book.entries) is.chart is.legal listed (omega arith))
+    subst (λ (es : List Entry). IsSmall (balance_of book.chart es n)) (take_all (length book.entries) book.entries (omega arith)) (front-small book.chart book.entries is.legal n (length book.entries) is.chart listed (omega arith))
 
 -- ---- what an index keeps of an account
 
@@ -86,7 +91,7 @@ kept-balance-of book n ledger k = ap (λ (l : Ledger). last_balance l.opening l.
 -- its movements stand in the order of their days, and tell the balance before a day
 pub kept-rise : (index : HistoryIndex) (book : SeenBook) (n : ℕ) (ledger : Ledger) → IsIndexOf index book → Kept book n ledger → Rise ledger.movements
 kept-rise index book n ledger is k =
-    let up = moves-rise book.chart n [] book.entries (rising entry_day book.entries is.legal.days) in
+    let up = moves-rise book.chart n [] book.entries (rising entry_day book.entries (front-rules book.chart book.entries is.legal).days) in
     subst (λ (l : Ledger). Rise l.movements) (sym k.same) (rise-at movement_day (movements_of book.chart n book.entries) up)
 
 pub kept-before : (index : HistoryIndex) (book : SeenBook) (n : ℕ) (ledger : Ledger) (day : Day) → IsIndexOf index book → Kept book n ledger → balance_at ledger day ≡ balance_of book.chart (before_day day book.entries) n
@@ -94,13 +99,13 @@ kept-before index book n ledger day is k =
     let earlier : List Movement = filter (is_of_earlier_day day.0) (movements_of book.chart n book.entries) in
     ap (λ (l : Ledger). balance_at l day) k.same
     ∙ ap (λ (b : ℤ). last_balance b earlier) (sym (opening-is book.chart n k.account k.there))
-    ∙ kept-balance book.chart n (λ d. int_lt d day.0) (lt-down day.0) [] book.entries (rising entry_day book.entries is.legal.days)
+    ∙ kept-balance book.chart n (λ d. int_lt d day.0) (lt-down day.0) [] book.entries (rising entry_day book.entries (front-rules book.chart book.entries is.legal).days)
 
 pub within : (index : HistoryIndex) (book : SeenBook) (n : ℕ) → IsIndexOf index book → IsListed book.chart n → n - 1 < length index.ledgers.items
 within index book n is listed = omega (arith, is.ledgers.size, listed.0, listed.1)
 
 pub entry-short : (index : HistoryIndex) (entry : Entry) (book : SeenBook) → TakesNext index entry book → index.entries < 100000
-entry-short index entry book next = omega (arith, next.legal.short, length-append book.entries (entry ∷ []), next.is.count)
+entry-short index entry book next = omega (arith, (front-rules book.chart (book.entries ++ entry ∷ []) next.legal).short, length-append book.entries (entry ∷ []), next.is.count)
 
 pub listed-too : (index : HistoryIndex) (book other : SeenBook) (n : ℕ) → IsIndexOf index book → IsIndexOf index other → IsListed book.chart n → IsListed other.chart n
 listed-too index book other n is too listed = (listed.0, omega (arith, listed.1, is.ledgers.size, too.ledgers.size))
@@ -108,6 +113,7 @@ listed-too index book other n is too listed = (listed.0, omega (arith, listed.1,
 -- a leg of the next entry, with the balance after it
 module _ (index : HistoryIndex) (entry : Entry) (leg : Leg) (book : SeenBook) (ledger : Ledger) (next : TakesNext index entry book) (listed : IsListed book.chart leg.account.0) (only : legs_on leg.account.0 entry ≡ leg ∷ [])
     (at : slice_get index.ledgers.items (leg.account.0 - 1) ≡ Some ledger) (text : List ℕ) (quotes : text ≡ quote_text (index.entries + 1) leg.quote)
+    (returned : Bool) (is_return : returned ≡ is_next_return book.chart book.entries entry)
     (balance : ℤ) (tells : balance ≡ changed leg.side leg.amount.0 (last_balance ledger.opening ledger.movements)) where
   abbrev n : ℕ
   n = leg.account.0
@@ -124,21 +130,22 @@ module _ (index : HistoryIndex) (entry : Entry) (leg : Leg) (book : SeenBook) (l
       ∙ ap (changed leg.side leg.amount.0) (kept-balance-of book n ledger (kept index book n ledger next.is listed at))
       ∙ sym (one-moves book.chart book.entries entry leg only)
 
-  pub moves-by : record { place = index.entries + 1; day = entry.day; value = entry.pay.value; mt = entry.pay.mt; side = leg.side; amount = leg.amount; reference = text; balance = balance } ≡ movement_of book.chart n book.entries entry leg
-  moves-by = λ i. record { place = place-is i; day = entry.day; value = entry.pay.value; mt = entry.pay.mt; side = leg.side; amount = leg.amount; reference = quoted i; balance = balance-is i }
+  pub moves-by : record { place = index.entries + 1; day = entry.day; value = entry.pay.value; mt = entry.pay.mt; side = leg.side; returned = returned; amount = leg.amount; reference = text; balance = balance } ≡ movement_of book.chart n book.entries entry leg
+  moves-by = λ i. record { place = place-is i; day = entry.day; value = entry.pay.value; mt = entry.pay.mt; side = leg.side; returned = is_return i; amount = leg.amount; reference = quoted i; balance = balance-is i }
 
 -- ---- an index made anew
 
-pub begins : (chart : Chart) (index : HistoryIndex) → IsChart chart → All HasCode chart.accounts → IsLegal chart [] → index.home ≡ chart.home → index.entries ≡ 0 → index.ledgers.items ≡ map (λ account. ledger_with account []) chart.accounts → IsIndexOf index (record { chart = chart; entries = [] })
-begins chart index sound codes legal home none made = record {
+pub begins : (chart : Chart) (index : HistoryIndex) → IsChart chart → All HasCode (accounts_of chart) → IsFront chart [] → index.home ≡ chart.home → index.entries ≡ 0 → index.payments.items ≡ [] → index.ledgers.items ≡ map (λ account. ledger_with account []) (accounts_of chart) → IsIndexOf index (record { chart = chart; entries = [] })
+begins chart index sound codes legal home none empty made = record {
   chart = sound;
   legal = legal;
   home = home;
   count = none;
   ledgers = record {
-    size = ap length made ∙ length-map chart.accounts (λ account. ledger_with account []);
-    each = λ i account at. ap (λ (ls : List Ledger). slice_get ls i) made ∙ map-get (λ account. ledger_with account []) chart.accounts i account at;
+    size = ap length made ∙ length-map (accounts_of chart) (λ account. ledger_with account []);
+    each = λ i account at. ap (λ (ls : List Ledger). slice_get ls i) made ∙ map-get (λ account. ledger_with account []) (accounts_of chart) i account at;
   };
+  payments = empty;
   codes = codes;
   quotes = All-nil HasQuotes;
 }
@@ -148,33 +155,39 @@ abbrev pub front : Chart → List Entry → ℕ → SeenBook
 front chart entries k = record { chart = chart; entries = take k entries }
 
 pub next-at : (chart : Chart) (entries : List Entry) (k : ℕ) (entry : Entry) (index : HistoryIndex) → IsLegal chart entries → slice_get entries (k + 1 - 1) ≡ Some entry → IsIndexOf index (front chart entries k) → TakesNext index entry (front chart entries k)
-next-at chart entries k entry index legal at is = record { is = is; legal = subst (IsLegal chart) (take-next entries k entry at) (legal-take chart entries (k + 1) legal) }
+next-at chart entries k entry index legal at is = record { is = is; legal = subst (IsFront chart) (take-next entries k entry at) (front-take chart entries (k + 1) legal) }
 
 -- the index with the next entry
-pub grown-index : (index new : HistoryIndex) (entry : Entry) (book : SeenBook) → TakesNext index entry book → new.home ≡ index.home → new.entries ≡ index.entries + 1 → AreLedgersOf new.ledgers.items book.chart (book.entries ++ entry ∷ []) → HasQuotes entry → IsIndexOf new (grown book entry)
-grown-index index new entry book next home count ledgers quotes = record {
+pub grown-index : (index new : HistoryIndex) (entry : Entry) (book : SeenBook) → TakesNext index entry book → new.home ≡ index.home → new.entries ≡ index.entries + 1 → new.payments.items ≡ index.payments.items ++ payment_of book.chart book.entries entry ∷ []
+    → AreLedgersOf new.ledgers.items book.chart (book.entries ++ entry ∷ []) → HasQuotes entry → IsIndexOf new (grown book entry)
+grown-index index new entry book next home count payments ledgers quotes = record {
   chart = next.is.chart;
   legal = next.legal;
   home = home ∙ next.is.home;
   count = omega (arith, count, next.is.count, length-append book.entries (entry ∷ []));
   ledgers = ledgers;
+  payments = payments ∙ ap (λ (os : List (Option Origin)). os ++ payment_of book.chart book.entries entry ∷ []) next.is.payments ∙ sym (payments-more book.chart book.entries entry);
   codes = next.is.codes;
   quotes = All-append HasQuotes book.entries (entry ∷ []) next.is.quotes (all-one HasQuotes entry quotes);
 }
 
--- its entries are counted last
-pub counted-index : (index mid : HistoryIndex) (entry : Entry) (book : SeenBook) → TakesNext index entry book → mid.home ≡ index.home → mid.entries ≡ index.entries → AreLedgersOf mid.ledgers.items book.chart (book.entries ++ entry ∷ []) → HasQuotes entry
-    → IsIndexOf (record mid { entries = mid.entries + 1 }) (grown book entry)
-counted-index index mid entry book next home count ledgers quotes = grown-index index (record mid { entries = mid.entries + 1 }) entry book next home (ap (λ (k : ℕ). k + 1) count) ledgers quotes
+-- its payment is added and its entries are counted last
+pub counted-index : (index mid : HistoryIndex) (payments : Vec (Option Origin) Global) (entry : Entry) (book : SeenBook) → TakesNext index entry book → mid.home ≡ index.home → mid.entries ≡ index.entries
+    → payments.items ≡ index.payments.items ++ payment_of book.chart book.entries entry ∷ [] → AreLedgersOf mid.ledgers.items book.chart (book.entries ++ entry ∷ []) → HasQuotes entry
+    → IsIndexOf (record mid { payments = payments; entries = mid.entries + 1 }) (grown book entry)
+counted-index index mid payments entry book next home count added ledgers quotes =
+    grown-index index (record mid { payments = payments; entries = mid.entries + 1 }) entry book next home (ap (λ (k : ℕ). k + 1) count) added ledgers quotes
 
--- one with the ledgers, the home and the count of an index
-pub same-index : (index new : HistoryIndex) (book : SeenBook) → IsIndexOf index book → new.home ≡ index.home → new.entries ≡ index.entries → new.ledgers.items ≡ index.ledgers.items → IsIndexOf new book
-same-index index new book is home count ledgers = record {
+-- one with the ledgers, the payments, the home and the count of an index
+pub same-index : (index new : HistoryIndex) (book : SeenBook) → IsIndexOf index book → new.home ≡ index.home → new.entries ≡ index.entries → new.payments.items ≡ index.payments.items
+    → new.ledgers.items ≡ index.ledgers.items → IsIndexOf new book
+same-index index new book is home count payments ledgers = record {
   chart = is.chart;
   legal = is.legal;
   home = home ∙ is.home;
   count = count ∙ is.count;
   ledgers = subst (λ (ls : List Ledger). AreLedgersOf ls book.chart book.entries) (sym ledgers) is.ledgers;
+  payments = payments ∙ is.payments;
   codes = is.codes;
   quotes = is.quotes;
 }

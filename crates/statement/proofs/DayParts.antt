@@ -10,7 +10,7 @@ use Rattle.std.proofs.lemmas.List.Elements.{filter-append}
 use Rattle.corr_ids.specs.declared.day.Day.{Day}
 use Rattle.day_model.specs.declared.entry.Entry.{Entry}
 use Rattle.statement.specs.Legs.{before_day}
-use Rattle.statement.specs.Lines.{Placed, entry_lines, lines_from, lines_on, up_to_day}
+use Rattle.statement.specs.Lines.{Placed, entry_lines, lines_from, up_to_day}
 use Rattle.statement.proofs.Days.{From, Rising, entry_day}
 
 -- ---- lists of which all pass a test, or none
@@ -111,16 +111,16 @@ module _ (day : Day) where
 filter-parts : (p : Entry → Bool) (a b c : List Entry) → filter p ((a ++ b) ++ c) ≡ (filter p a ++ filter p b) ++ filter p c
 filter-parts p a b c = filter-append p (a ++ b) c ∙ ap (λ es. es ++ filter p c) (filter-append p a b)
 
-module _ (n : ℕ) (day : Day) where
-  lines-append : (place : ℕ) (xs ys : List Entry) → lines_from n day place (xs ++ ys) ≡ lines_from n day place xs ++ lines_from n day (place + length xs) ys
-  lines-append place [] ys = ap (λ (k : ℕ). lines_from n day k ys) (omega arith)
+module _ (returned : ℕ → Bool) (n : ℕ) (day : Day) where
+  lines-append : (place : ℕ) (xs ys : List Entry) → lines_from returned n day place (xs ++ ys) ≡ lines_from returned n day place xs ++ lines_from returned n day (place + length xs) ys
+  lines-append place [] ys = ap (λ (k : ℕ). lines_from returned n day k ys) (omega arith)
   lines-append place (x ∷ xs) ys =
-      let here : List Placed = entry_lines n day place x in
+      let here : List Placed = entry_lines returned n day place x in
       let next : place + 1 + length xs ≡ place + length (x ∷ xs) = omega arith in
-      ap (λ (ls : List Placed). here ++ ls) (lines-append (place + 1) xs ys ∙ ap (λ (k : ℕ). lines_from n day (place + 1) xs ++ lines_from n day k ys) next)
-      ∙ sym (append_assoc here (lines_from n day (place + 1) xs) (lines_from n day (place + length (x ∷ xs)) ys))
+      ap (λ (ls : List Placed). here ++ ls) (lines-append (place + 1) xs ys ∙ ap (λ (k : ℕ). lines_from returned n day (place + 1) xs ++ lines_from returned n day k ys) next)
+      ∙ sym (append_assoc here (lines_from returned n day (place + 1) xs) (lines_from returned n day (place + length (x ∷ xs)) ys))
 
-  lines-none : (place : ℕ) (entries : List Entry) → AllByRecursion (λ e. int_eq e.day.0 day.0 ≡ false) entries → lines_from n day place entries ≡ []
+  lines-none : (place : ℕ) (entries : List Entry) → AllByRecursion (λ e. int_eq e.day.0 day.0 ≡ false) entries → lines_from returned n day place entries ≡ []
   lines-none place [] all = refl
   lines-none place (x ∷ entries) all = rw all.0 (lines-none (place + 1) entries all.1)
 
@@ -143,14 +143,14 @@ module _ (day : Day) (entries earlier here later : List Entry) (are : AreParts d
       ap (filter p) are.whole ∙ filter-parts p earlier here later ∙ rw (a, b, c) (append-nil (earlier ++ here))
 
   -- the lines of the day
-  pub lines-are : (n : ℕ) → lines_on n day entries ≡ lines_from n day (length earlier + 1) here
-  lines-are n =
+  pub lines-are : (returned : ℕ → Bool) (n : ℕ) → lines_from returned n day 1 entries ≡ lines_from returned n day (length earlier + 1) here
+  lines-are returned n =
       let off : Entry → Type 0 = λ e. int_eq e.day.0 day.0 ≡ false in
-      let a = lines-none n day 1 earlier (each _ off (λ e. early-on e.day.0 day.0) earlier are.before) in
-      let c = lines-none n day (1 + length (earlier ++ here)) later (each _ off (λ e. late-on e.day.0 day.0) later are.after) in
+      let a = lines-none returned n day 1 earlier (each _ off (λ e. early-on e.day.0 day.0) earlier are.before) in
+      let c = lines-none returned n day (1 + length (earlier ++ here)) later (each _ off (λ e. late-on e.day.0 day.0) later are.after) in
       let place : 1 + length earlier ≡ length earlier + 1 = omega arith in
-      ap (lines_from n day 1) are.whole
-      ∙ lines-append n day 1 (earlier ++ here) later
-      ∙ rw c (append-nil (lines_from n day 1 (earlier ++ here)))
-      ∙ lines-append n day 1 earlier here
+      ap (lines_from returned n day 1) are.whole
+      ∙ lines-append returned n day 1 (earlier ++ here) later
+      ∙ rw c (append-nil (lines_from returned n day 1 (earlier ++ here)))
+      ∙ lines-append returned n day 1 earlier here
       ∙ rw (a, place) refl

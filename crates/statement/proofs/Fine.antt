@@ -16,7 +16,6 @@ use Rattle.corr_money.specs.Amounts.{amount_end}
 use Rattle.day_model.specs.Balance.{balance_of, is_booked}
 use Rattle.day_model.specs.Chart.{Chart, IsChart, IsListed, IsSmall}
 use Rattle.day_model.specs.Fit.{FitsAccounts}
-use Rattle.day_model.specs.Legal.{IsLegal}
 use Rattle.day_model.specs.Shape.{HasShape, IsQuote}
 use Rattle.day_model.specs.Totals.{booked_legs}
 use Rattle.day_model.specs.declared.entry.Entry.{Entry}
@@ -25,16 +24,18 @@ use Rattle.day_model.specs.declared.pay.Mt.{Mt}
 use Rattle.day_model.specs.declared.pay.Mt.TheVariants.{Transfer, Cover}
 use Rattle.day_model.specs.declared.pay.Quote.{Quote}
 use Rattle.day_model.specs.declared.pay.Quote.TheVariants.{Ours, Theirs}
-use Rattle.day_model.proofs.laws.Balances.{small_at}
 use Rattle.day_model.proofs.laws.Fitting.{fitting, leg_sound}
 use Rattle.advices.proofs.laws.Bytes.{day-digits}
 use Rattle.mt950.specs.Parts.{is_entry_type}
 use Rattle.mt950.specs.Writing.{IsWritableLine}
-use Rattle.statement.specs.Legs.{HasQuotes, IsByteQuote, before_day, legs_on, quote_text}
+use Rattle.pay_returns.specs.References.{IsByteQuote, quote_text}
+use Rattle.statement.specs.Legs.{HasQuotes, before_day, legs_on}
 use Rattle.statement.specs.Lines.{Placed, entry_lines, transaction_type, entry_line, lines_from, mmdd_of, up_to_day}
 use Rattle.statement.specs.Pages.{balance_after}
 use Rattle.statement.proofs.DayParts.{before-is, parts, up-to-is}
 use Rattle.statement.proofs.Days.{entry_day, rising}
+use Rattle.statement.specs.Seen.{IsFront}
+use Rattle.statement.proofs.laws.Fronts.{front-rules, front-small}
 use Rattle.statement.proofs.Walking.{OneLeg}
 use Rattle.statement.proofs.Words.{IsQuoted, dropped, ended, quoted-ours, quoted-own, quoted-theirs}
 
@@ -96,8 +97,8 @@ pub record IsFine (decimals most : ℕ) (p : Placed) : Type 0 where
   pub plain : p.line.detail ≡ None
 
 module _ (n : ℕ) (day : Day) (decimals most : ℕ) (few : decimals ≤ 4) (century : InCentury day) (bound : most ≤ 100000) where
-  line-fine : (place : ℕ) (entry : Entry) (leg : Leg) → place ≤ most → InCentury entry.pay.value → IsSound leg → IsFine decimals most (record { place = place; line = entry_line day place entry leg })
-  line-fine place entry leg low value sound =
+  line-fine : (place : ℕ) (returned : Bool) (entry : Entry) (leg : Leg) → place ≤ most → InCentury entry.pay.value → IsSound leg → IsFine decimals most (record { place = place; line = entry_line day place returned entry leg })
+  line-fine place returned entry leg low value sound =
       let small : place ≤ 100000 = omega (arith, low, bound) in
       let quoted = quote-quoted place leg.quote small sound.quote sound.byte in
       record {
@@ -118,24 +119,24 @@ module _ (n : ℕ) (day : Day) (decimals most : ℕ) (few : decimals ≤ 4) (cen
         plain = refl;
       }
 
-  legs-fine : (place : ℕ) (entry : Entry) (legs : List Leg) → place ≤ most → InCentury entry.pay.value → AllByRecursion IsSound legs → AllByRecursion (IsFine decimals most) (map (λ leg. record { place = place; line = entry_line day place entry leg }) legs)
-  legs-fine place entry [] low value all = tt
-  legs-fine place entry (leg ∷ legs) low value all = (line-fine place entry leg low value all.0, legs-fine place entry legs low value all.1)
+  legs-fine : (place : ℕ) (returned : Bool) (entry : Entry) (legs : List Leg) → place ≤ most → InCentury entry.pay.value → AllByRecursion IsSound legs → AllByRecursion (IsFine decimals most) (map (λ leg. record { place = place; line = entry_line day place returned entry leg }) legs)
+  legs-fine place returned entry [] low value all = tt
+  legs-fine place returned entry (leg ∷ legs) low value all = (line-fine place returned entry leg low value all.0, legs-fine place returned entry legs low value all.1)
 
   both-fine : (xs ys : List Placed) → AllByRecursion (IsFine decimals most) xs → AllByRecursion (IsFine decimals most) ys → AllByRecursion (IsFine decimals most) (xs ++ ys)
   both-fine [] ys all more = more
   both-fine (x ∷ xs) ys all more = (all.0, both-fine xs ys all.1 more)
 
   -- each line of entries in turn
-  pub lines-fine : (place : ℕ) (entries : List Entry) → place + length entries ≤ most + 1 → AllByRecursion (IsFit n) entries → AllByRecursion (IsFine decimals most) (lines_from n day place entries)
-  lines-fine place [] low all = tt
-  lines-fine place (e ∷ entries) low all =
-      let here = legs-fine place e (legs_on n e) (omega (arith, low)) all.0.value all.0.legs in
-      let this = cond_both (int_eq e.day.0 day.0) (map (λ leg. record { place = place; line = entry_line day place e leg }) (legs_on n e)) [] (AllByRecursion (IsFine decimals most)) (λ _. here) (λ _. tt) in
-      both-fine (entry_lines n day place e) (lines_from n day (place + 1) entries) this (lines-fine (place + 1) entries (omega (arith, low)) all.1)
+  pub lines-fine : (returned : ℕ → Bool) (place : ℕ) (entries : List Entry) → place + length entries ≤ most + 1 → AllByRecursion (IsFit n) entries → AllByRecursion (IsFine decimals most) (lines_from returned n day place entries)
+  lines-fine returned place [] low all = tt
+  lines-fine returned place (e ∷ entries) low all =
+      let here = legs-fine place (returned place) e (legs_on n e) (omega (arith, low)) all.0.value all.0.legs in
+      let this = cond_both (int_eq e.day.0 day.0) (map (λ leg. record { place = place; line = entry_line day place (returned place) e leg }) (legs_on n e)) [] (AllByRecursion (IsFine decimals most)) (λ _. here) (λ _. tt) in
+      both-fine (entry_lines returned n day place e) (lines_from returned n day (place + 1) entries) this (lines-fine returned (place + 1) entries (omega (arith, low)) all.1)
 
 -- there is one line at most for each entry
-module _ (n : ℕ) (day : Day) where
+module _ (returned : ℕ → Bool) (n : ℕ) (day : Day) where
   legs-few : (entry : Entry) → OneLeg n entry → length (legs_on n entry) ≤ 1
   legs-few entry one =
       elim one [
@@ -143,19 +144,19 @@ module _ (n : ℕ) (day : Day) where
         | inr some ↦ rw some.2 (omega arith)
       ]
 
-  entry-few : (place : ℕ) (entry : Entry) → OneLeg n entry → length (entry_lines n day place entry) ≤ 1
+  entry-few : (place : ℕ) (entry : Entry) → OneLeg n entry → length (entry_lines returned n day place entry) ≤ 1
   entry-few place entry one =
-      let f : Leg → Placed = λ leg. record { place = place; line = entry_line day place entry leg } in
+      let f : Leg → Placed = λ leg. record { place = place; line = entry_line day place (returned place) entry leg } in
       let few = legs-few entry one in
       let same = length-map (legs_on n entry) f in
       cond_both (int_eq entry.day.0 day.0) (map f (legs_on n entry)) [] (λ (ls : List Placed). length ls ≤ 1) (λ _. omega (arith, few, same)) (λ _. omega arith)
 
-  pub lines-few : (place : ℕ) (entries : List Entry) → AllByRecursion (IsFit n) entries → length (lines_from n day place entries) ≤ length entries
+  pub lines-few : (place : ℕ) (entries : List Entry) → AllByRecursion (IsFit n) entries → length (lines_from returned n day place entries) ≤ length entries
   lines-few place [] all = omega arith
   lines-few place (e ∷ entries) all =
       let here = entry-few place e all.0.one in
       let rest = lines-few (place + 1) entries all.1 in
-      let size = length-append (entry_lines n day place e) (lines_from n day (place + 1) entries) in
+      let size = length-append (entry_lines returned n day place e) (lines_from returned n day (place + 1) entries) in
       omega (arith, here, rest, size)
 
 -- ---- balances
@@ -164,25 +165,25 @@ pub abs-small : (b : ℤ) → IsSmall b → unsigned_abs b < amount_end
 abs-small (pos k) small = grind (arith, ints)
 abs-small (negsuc k) small = grind (arith, ints)
 
-module _ (chart : Chart) (entries : List Entry) (n : ℕ) (day : Day) (is : IsChart chart) (legal : IsLegal chart entries) (listed : IsListed chart n) where
+module _ (chart : Chart) (entries : List Entry) (n : ℕ) (day : Day) (is : IsChart chart) (legal : IsFront chart entries) (listed : IsListed chart n) where
   pub before-small : IsSmall (balance_of chart (before_day day entries) n)
   before-small =
-      let (earlier, here, later, are) = parts day entries (rising entry_day entries legal.days) in
+      let (earlier, here, later, are) = parts day entries (rising entry_day entries (front-rules chart entries legal).days) in
       let front : take (length earlier) entries ≡ earlier = ap (take (length earlier)) (are.whole ∙ append_assoc earlier here later) ∙ take_at earlier (here ++ later) (length earlier) refl in
       let size = length-append earlier (here ++ later) in
       let whole = ap length (are.whole ∙ append_assoc earlier here later) in
-      subst (λ (es : List Entry). IsSmall (balance_of chart es n)) (front ∙ sym (before-is day entries earlier here later are)) (small_at chart entries n (length earlier) is legal listed (omega (arith, size, whole)))
+      subst (λ (es : List Entry). IsSmall (balance_of chart es n)) (front ∙ sym (before-is day entries earlier here later are)) (front-small chart entries legal n (length earlier) is listed (omega (arith, size, whole)))
 
   pub up-to-small : IsSmall (balance_of chart (up_to_day day entries) n)
   up-to-small =
-      let (earlier, here, later, are) = parts day entries (rising entry_day entries legal.days) in
+      let (earlier, here, later, are) = parts day entries (rising entry_day entries (front-rules chart entries legal).days) in
       let front : take (length (earlier ++ here)) entries ≡ earlier ++ here = ap (take (length (earlier ++ here))) are.whole ∙ take_at (earlier ++ here) later (length (earlier ++ here)) refl in
       let size = length-append (earlier ++ here) later in
       let whole = ap length are.whole in
       subst (λ (es : List Entry). IsSmall (balance_of chart es n)) (front ∙ sym (up-to-is day entries earlier here later are))
-      (small_at chart entries n (length (earlier ++ here)) is legal listed (omega (arith, size, whole)))
+      (front-small chart entries legal n (length (earlier ++ here)) is listed (omega (arith, size, whole)))
 
   pub after-small : (decimals : ℕ) (ps : List Placed) → AllByRecursion (IsFine decimals (length entries)) ps → IsSmall (balance_after chart entries n day ps)
   after-small decimals [] all = before-small
-  after-small decimals (p ∷ []) all = small_at chart entries n p.place is legal listed all.0.place
+  after-small decimals (p ∷ []) all = front-small chart entries legal n p.place is listed all.0.place
   after-small decimals (p ∷ next ∷ ps) all = after-small decimals (next ∷ ps) all.1

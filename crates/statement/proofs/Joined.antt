@@ -64,10 +64,10 @@ module _ (page : ℕ → Page950) where
 
 module _ (chart : Chart) (entries : List Entry) (n : ℕ) (day : Day) (account : Account) where
   abbrev lines : List Placed
-  lines = lines_on n day entries
+  lines = lines_on chart n day entries
 
   abbrev count : ℕ
-  count = pages_for (length (lines_on n day entries))
+  count = pages_for (length (lines_on chart n day entries))
 
   abbrev page : ℕ → Page950
   page k = page_at chart entries n day account k

@@ -8,6 +8,8 @@ pub mod Adding
 pub mod Distinct
 pub mod Pushing
 pub mod DayParts
+pub mod Payments
+pub mod Returning
 pub mod Walking
 pub mod Joined
 pub mod Words

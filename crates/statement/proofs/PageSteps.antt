@@ -10,7 +10,6 @@ use Rattle.day_model.specs.Chart.{Chart}
 use Rattle.day_model.specs.declared.account.Account.{Account}
 use Rattle.day_model.specs.declared.account.AcctNo.{AcctNo}
 use Rattle.day_model.specs.declared.entry.Entry.{Entry}
-use Rattle.mt950.specs.declared.page.Page950.{Page950}
 use Rattle.statement.specs.Index.{last_balance, ledger_with, movements_of, on_day}
 use Rattle.statement.specs.Legs.{before_day}
 use Rattle.statement.specs.Lines.{lines_on}
@@ -25,12 +24,12 @@ map-map f g [] = refl
 map-map f g (x ∷ xs) = ap (λ ys. g (f x) ∷ ys) (map-map f g xs)
 
 -- one page more
-pub pages-more : (page : ℕ → Page950) (first count : ℕ) → pages_from page first (count + 1) ≡ pages_from page first count ++ page (first + count) ∷ []
+pub pages-more : {A : Type 0} (page : ℕ → A) (first count : ℕ) → pages_from page first (count + 1) ≡ pages_from page first count ++ page (first + count) ∷ []
 pages-more page first zero = ap (λ (k : ℕ). page k ∷ []) (omega arith)
-pages-more page first (suc count) =
+pages-more {A = A} page first (suc count) =
     let place : first + 1 + count ≡ first + suc count = omega arith in
     let longer : suc count + 1 ≡ suc (count + 1) = omega arith in
-    ap (pages_from page first) longer ∙ ap (λ (ps : List Page950). page first ∷ ps) (pages-more page (first + 1) count ∙ ap (λ (k : ℕ). pages_from page (first + 1) count ++ page k ∷ []) place)
+    ap (pages_from page first) longer ∙ ap (λ (ps : List A). page first ∷ ps) (pages-more page (first + 1) count ∙ ap (λ (k : ℕ). pages_from page (first + 1) count ++ page k ∷ []) place)
 
 module _ (chart : Chart) (entries : List Entry) (n : ℕ) (day : Day) where
   abbrev here : List Movement
@@ -39,10 +38,10 @@ module _ (chart : Chart) (entries : List Entry) (n : ℕ) (day : Day) where
   abbrev opening : ℤ
   opening = balance_of chart (before_day day entries) n
 
-  pub placed : map placed_by here ≡ lines_on n day entries
-  placed = lines-are chart n day [] entries
+  pub placed : map placed_by here ≡ lines_on chart n day entries
+  placed = lines-are chart n day entries [] entries refl
 
-  pub line-count : length (lines_on n day entries) ≡ length here
+  pub line-count : length (lines_on chart n day entries) ≡ length here
   line-count = ap length (sym placed) ∙ length-map here placed_by
 
   -- the balance after the first k pages
@@ -53,11 +52,18 @@ module _ (chart : Chart) (entries : List Entry) (n : ℕ) (day : Day) where
       ∙ ap (balance_after chart entries n day) (sym (take-map placed_by (25 * k) here) ∙ ap (take (25 * k)) placed)
 
   -- the lines of a page
-  pub lines-by : (k : ℕ) → map line_by (take 25 (drop (25 * k) here)) ≡ map (λ p. p.line) (lines_of_page (k + 1) (lines_on n day entries))
+  pub lines-by : (k : ℕ) → map line_by (take 25 (drop (25 * k) here)) ≡ map (λ p. p.line) (lines_of_page (k + 1) (lines_on chart n day entries))
   lines-by k =
       let place : k + 1 - 1 ≡ k = omega arith in
       sym (map-map placed_by (λ p. p.line) (take 25 (drop (25 * k) here)))
-      ∙ ap (map (λ p. p.line)) (sym (take-map placed_by 25 (drop (25 * k) here)) ∙ ap (take 25) (sym (drop-map placed_by (25 * k) here) ∙ ap (drop (25 * k)) placed) ∙ ap (λ (j : ℕ). take 25 (drop (25 * j) (lines_on n day entries))) (sym place))
+      ∙ ap (map (λ p. p.line)) (sym (take-map placed_by 25 (drop (25 * k) here)) ∙ ap (take 25) (sym (drop-map placed_by (25 * k) here) ∙ ap (drop (25 * k)) placed) ∙ ap (λ (j : ℕ). take 25 (drop (25 * j) (lines_on chart n day entries))) (sym place))
+
+  -- the places of the lines of a page
+  pub places-by : (k : ℕ) → map (λ m. m.place) (take 25 (drop (25 * k) here)) ≡ map (λ p. p.place) (lines_of_page (k + 1) (lines_on chart n day entries))
+  places-by k =
+      let place : k + 1 - 1 ≡ k = omega arith in
+      sym (map-map placed_by (λ p. p.place) (take 25 (drop (25 * k) here)))
+      ∙ ap (map (λ p. p.place)) (sym (take-map placed_by 25 (drop (25 * k) here)) ∙ ap (take 25) (sym (drop-map placed_by (25 * k) here) ∙ ap (drop (25 * k)) placed) ∙ ap (λ (j : ℕ). take 25 (drop (25 * j) (lines_on chart n day entries))) (sym place))
 
   -- the balance at the end of a page
   pub closing-by : (k : ℕ) → last_balance (last_balance opening (take (25 * k) here)) (take 25 (drop (25 * k) here)) ≡ carried chart entries n day (k + 1)

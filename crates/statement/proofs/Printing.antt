@@ -6,16 +6,13 @@ use Rattle.std.specs.List.{AllByRecursion}
 use Rattle.std.specs.Option.{option_map_or}
 use Rattle.std.proofs.lemmas.Bool.{cases_Bool}
 use Rattle.std.proofs.lemmas.Int.{ints}
-use Rattle.std.proofs.lemmas.List.{map-append}
-use Rattle.std.proofs.lemmas.List.Elements.{All-append, All-drop, All-from_recursion, All-take}
+use Rattle.std.proofs.lemmas.List.Elements.{All-append, All-drop, All-from_recursion, All-take, recursion_from_All}
 use Rattle.std.proofs.lemmas.Option.{same_Some}
 use Rattle.jiff_core.specs.Calendar.{IsBetween}
 use Rattle.corr_ids.specs.Bic.{IsBic}
 use Rattle.corr_ids.specs.Day.{InCentury}
 use Rattle.corr_ids.specs.declared.bic.Bic.{Bic}
 use Rattle.corr_ids.specs.declared.day.Day.{Day}
-use Rattle.fin_blocks.specs.Sending.{sent_text}
-use Rattle.fin_fields.specs.Writing.{fields_text}
 use Rattle.fin_contents.specs.Writing.{IsReadable}
 use Rattle.day_model.specs.Balance.{balance_of}
 use Rattle.day_model.specs.Chart.{Chart, IsListed, account_at}
@@ -23,20 +20,20 @@ use Rattle.day_model.specs.declared.account.Account.{Account}
 use Rattle.day_model.specs.declared.account.AcctNo.{AcctNo}
 use Rattle.day_model.specs.declared.entry.Entry.{Entry}
 use Rattle.mt950.specs.Page.{mt950_of}
-use Rattle.mt950.specs.Writing.{fields_950}
 use Rattle.mt950.specs.declared.page.Page950.{Page950}
 use Rattle.statement.specs.Index.{IsIndexOf, balance_at, last_balance, movements_of, on_day}
 use Rattle.statement.specs.Legs.{before_day}
 use Rattle.statement.specs.Lines.{lines_on}
-use Rattle.statement.specs.Pages.{page_message, page_at, pages_for, pages_from, pages_of, statement_of}
-use Rattle.statement.specs.Running.{message_by, page_by}
+use Rattle.statement.specs.Pages.{page_message, page_at, pages_for, pages_from, pages_of, placed_page, placed_pages_of, statement_of}
+use Rattle.statement.specs.Running.{message_by, page_by, placed_page_by}
 use Rattle.statement.specs.Seen.{SeenBook}
 use Rattle.statement.specs.Valid.{AreShaped, ClosesAtBalance, IsPrintable, Prints, PageReadsBack}
 use Rattle.statement.specs.declared.index.HistoryIndex.{HistoryIndex}
 use Rattle.statement.specs.declared.ledger.Ledger.{Ledger}
 use Rattle.statement.specs.declared.movement.Movement.{Movement}
+use Rattle.statement.specs.declared.page.PlacedPage.{PlacedPage}
 use Rattle.statement.proofs.Adding.{Kept, all-one, kept, kept-before}
-use Rattle.statement.proofs.PageSteps.{line-count, page-is, pages-more}
+use Rattle.statement.proofs.PageSteps.{line-count, page-is, pages-more, places-by}
 use Rattle.statement.proofs.laws.Accepting.{AreReadBack}
 use Rattle.statement.proofs.laws.Closing.{closes}
 use Rattle.statement.proofs.laws.Readable.{page-readable, pages-few}
@@ -88,27 +85,33 @@ part-dated day ms here movements first century are part =
 
 -- ---- the pages so far
 
--- texts are those of the first pages, whose blocks and lines read back
-abbrev pub SoFar : HistoryIndex → ℕ → Day → ℕ → List (List ℕ) → Type 0
-SoFar index n day count texts =
-    (book : SeenBook) → Prints index n day book → (account : Account) → account_at book.chart n ≡ Some account
-    → (texts ≡ map (page_message book.chart account) (pages_from (page_at book.chart book.entries n day account) 1 count))
-    × All (PageReadsBack book.chart.home account.owner) (pages_from (page_at book.chart book.entries n day account) 1 count)
+-- values are those of the first pages, each of which can be read
+pub record PlacedSoFar (book : SeenBook) (n : ℕ) (day : Day) (count : ℕ) (pages : List PlacedPage) : Type 0 where
+  pub value : (account : Account) → account_at book.chart n ≡ Some account → pages ≡ pages_from (placed_page book.chart book.entries n day account) 1 count
+  pub readable : All (λ (placed : PlacedPage). IsReadable mt950_of placed.page) pages
 
--- a message by its home bank, its receiver and its page
-abbrev message_with : Bic → Bic → Page950 → List ℕ
-message_with home to page = sent_text home 950 to [] (fields_text (fields_950 page))
+-- what is made of each page
+map-pages : {A B C : Type 0} (f : A → C) (g : B → C) (from : ℕ → A) (to : ℕ → B) → ((k : ℕ) → f (from k) ≡ g (to k)) → (first more : ℕ) → map f (pages_from from first more) ≡ map g (pages_from to first more)
+map-pages f g from to same first zero = refl
+map-pages f g from to same first (suc more) = λ i. same first i ∷ map-pages f g from to same (first + 1) more i
 
-abbrev Seat : Type 0
-Seat = Bic × Bic × Page950
+-- what holds of the parts of all pages
+all-pages-from : {A B : Type 0} (P : B → Type 0) (from : ℕ → A) (to : ℕ → B) (part : A → B) → ((k : ℕ) → part (from k) ≡ to k) → (first more : ℕ) → All (λ x. P (part x)) (pages_from from first more)
+    → All P (pages_from to first more)
+all-pages-from {A = A} P from to part same first more all =
+    All-from_recursion P (pages_from to first more) (by first more (recursion_from_All (λ (x : A). P (part x)) (pages_from from first more) all))
+  where
+    by : (k n : ℕ) → AllByRecursion (λ (x : A). P (part x)) (pages_from from k n) → AllByRecursion P (pages_from to k n)
+    by k zero each = tt
+    by k (suc n) each = (subst P (same k) each.0, by (k + 1) n each.1)
 
 stated : (book : SeenBook) (n : ℕ) (day : Day) (account : Account) → account_at book.chart n ≡ Some account
-    → statement_of book.chart book.entries n day ≡ pages_from (page_at book.chart book.entries n day account) 1 (pages_for (length (lines_on n day book.entries)))
+    → statement_of book.chart book.entries n day ≡ pages_from (page_at book.chart book.entries n day account) 1 (pages_for (length (lines_on book.chart n day book.entries)))
 stated book n day account there =
-    ap (λ (o : Option Account). option_map_or (λ a. pages_from (page_at book.chart book.entries n day a) 1 (pages_for (length (lines_on n day book.entries)))) o []) there
+    ap (λ (o : Option Account). option_map_or (λ a. pages_from (page_at book.chart book.entries n day a) 1 (pages_for (length (lines_on book.chart n day book.entries)))) o []) there
 
 told : (book : SeenBook) (n : ℕ) (day : Day) (account : Account) → account_at book.chart n ≡ Some account
-    → pages_of book.chart book.entries n day ≡ map (page_message book.chart account) (pages_from (page_at book.chart book.entries n day account) 1 (pages_for (length (lines_on n day book.entries))))
+    → pages_of book.chart book.entries n day ≡ map (page_message book.chart account) (pages_from (page_at book.chart book.entries n day account) 1 (pages_for (length (lines_on book.chart n day book.entries))))
 told book n day account there =
     ap (λ (o : Option Account). option_map_or (λ a. map (page_message book.chart a) (statement_of book.chart book.entries n day)) o []) there
     ∙ ap (map (page_message book.chart account)) (stated book n day account there)
@@ -128,7 +131,7 @@ module _ (index : HistoryIndex) (number : AcctNo) (day : Day) (ledger : Ledger) 
   movements = movements_of book.chart n book.entries
 
   pub owner-is : IsBic ledger.owner
-  owner-is = subst (λ (l : Ledger). IsBic l.owner) (sym of_book.same) (prints.has.is.chart.rows.formed (n - 1) account of_book.there).owner
+  owner-is = subst (λ (l : Ledger). IsBic l.owner) (sym of_book.same) (prints.has.is.chart.rows.apart.formed (n - 1) account of_book.there).owner
 
   abbrev page : ℕ → Page950
   page k = page_at book.chart book.entries n day account k
@@ -137,7 +140,7 @@ module _ (index : HistoryIndex) (number : AcctNo) (day : Day) (ledger : Ledger) 
   few-pages ms count are counted =
       let few = pages-few book n day (printable index n day book prints) account of_book.there in
       let same : ms ≡ on_day day movements = are ∙ ap (λ (l : Ledger). on_day day l.movements) of_book.same in
-      let size : pages_for (length (lines_on n day book.entries)) ≡ count =
+      let size : pages_for (length (lines_on book.chart n day book.entries)) ≡ count =
       ap pages_for (line-count book.chart book.entries n day) ∙ ap (λ (xs : List Movement). pages_for (length xs)) (sym same) ∙ sym counted in
       subst (λ (c : ℕ). c < 5000) size few
 
@@ -168,7 +171,7 @@ module _ (index : HistoryIndex) (number : AcctNo) (day : Day) (ledger : Ledger) 
         (λ i. page_by (of_book.same i) (record { account = number; day = day; page = k + 1; last = k + 1 == counted i }) (balanced i) (here-is i))
         ∙ page-is book.chart book.entries n day account number refl k
 
-    in-count : k < count → k + 1 ≤ pages_for (length (lines_on n day book.entries))
+    in-count : k < count → k + 1 ≤ pages_for (length (lines_on book.chart n day book.entries))
     in-count lt =
         let size = line-count book.chart book.entries n day in
         subst (λ (c : ℕ). k + 1 ≤ pages_for c) (sym size) (omega (arith, lt, counted))
@@ -178,34 +181,64 @@ module _ (index : HistoryIndex) (number : AcctNo) (day : Day) (ledger : Ledger) 
         subst (IsReadable mt950_of) (sym page-made) (page-readable book n day (printable index n day book prints) account of_book.there (k + 1) (in-count lt))
 
     -- one page more
-    pub more-pages : (texts new : List (List ℕ)) (text : List ℕ) (other : Account) → account_at book.chart n ≡ Some other
-        → (texts ≡ map (page_message book.chart other) (pages_from (page_at book.chart book.entries n day other) 1 k)) × All (PageReadsBack book.chart.home other.owner) (pages_from (page_at book.chart book.entries n day other) 1 k)
-        → text ≡ message_by index.home ledger (page_by ledger (record { account = number; day = day; page = k + 1; last = k + 1 == count }) balance here)
-        → PageReadsBack index.home ledger.owner (page_by ledger (record { account = number; day = day; page = k + 1; last = k + 1 == count }) balance here)
-        → new ≡ texts ++ text ∷ []
-        → (new ≡ map (page_message book.chart other) (pages_from (page_at book.chart book.entries n day other) 1 (k + 1))) × All (PageReadsBack book.chart.home other.owner) (pages_from (page_at book.chart book.entries n day other) 1 (k + 1))
-    more-pages texts new text other there so_far is back added =
-        let same : account ≡ other = same_Some account other (sym of_book.there ∙ there) in
-        let made = page-made ∙ ap (λ (a : Account). page_at book.chart book.entries n day a (k + 1)) same in
-        let of_owner : ledger.owner ≡ other.owner = ap (λ (l : Ledger). l.owner) of_book.same ∙ ap (λ (a : Account). a.owner) same in
-        let pages : List Page950 = pages_from (page_at book.chart book.entries n day other) 1 k in
-        let next : Page950 = page_at book.chart book.entries n day other (k + 1) in
-        let grow : pages_from (page_at book.chart book.entries n day other) 1 (k + 1) ≡ pages ++ next ∷ [] =
-        pages-more (page_at book.chart book.entries n day other) 1 k ∙ ap (λ (j : ℕ). pages ++ page_at book.chart book.entries n day other j ∷ []) (omega arith) in
-        let spelled : text ≡ page_message book.chart other next = is ∙ (λ i. message_with (prints.has.is.home i) (of_owner i) (made i)) in
-        let reads : PageReadsBack book.chart.home other.owner next = subst (λ (q : Seat). PageReadsBack q.0 q.1 q.2) (λ i. (prints.has.is.home i, of_owner i, made i)) back in (
-          added ∙ (λ i. so_far.0 i ++ spelled i ∷ []) ∙ sym (map-append (page_message book.chart other) pages (next ∷ [])) ∙ ap (map (page_message book.chart other)) (sym grow),
-          subst (All (PageReadsBack book.chart.home other.owner)) (sym grow) (All-append (PageReadsBack book.chart.home other.owner) pages (next ∷ []) so_far.1 (all-one (PageReadsBack book.chart.home other.owner) next reads)),
-        )
+    pub more-placed : k < count → (pages new : List PlacedPage) (placed : PlacedPage) → PlacedSoFar book n day k pages
+        → placed ≡ placed_page_by ledger (record { account = number; day = day; page = k + 1; last = k + 1 == count }) balance here → new ≡ pages ++ placed ∷ []
+        → PlacedSoFar book n day (k + 1) new
+    more-placed lt pages new placed so_far is added =
+        let Reads : PlacedPage → Type 0 = λ p. IsReadable mt950_of p.page in
+        record {
+          value = λ other there.
+              let same : account ≡ other = same_Some account other (sym of_book.there ∙ there) in
+              let made = page-made ∙ ap (λ (a : Account). page_at book.chart book.entries n day a (k + 1)) same in
+              let places = ap (map (λ m. m.place)) here-is ∙ places-by book.chart book.entries n day k in
+              let next : placed ≡ placed_page book.chart book.entries n day other (k + 1) = is ∙ (λ i. record { page = made i; places = places i }) in
+              added ∙ (λ i. so_far.value other there i ++ next i ∷ [])
+              ∙ sym (pages-more (placed_page book.chart book.entries n day other) 1 k
+              ∙ ap (λ (j : ℕ). pages_from (placed_page book.chart book.entries n day other) 1 k ++ placed_page book.chart book.entries n day other j ∷ []) (omega arith));
+          readable = subst (All Reads) (sym added)
+              (All-append Reads pages (placed ∷ []) so_far.readable (all-one Reads placed (subst (λ (p : PlacedPage). IsReadable mt950_of p.page) (sym is) (made-readable lt))));
+        }
 
   -- all pages
-  pub all-pages : (texts : List (List ℕ)) (count : ℕ) → count ≡ pages_for (length (on_day day ledger.movements)) → SoFar index n day count texts → (texts ≡ pages_of book.chart book.entries n day) × AreReadBack book.chart book.entries n day
-  all-pages texts count counted so_far =
-      let done : count ≡ pages_for (length (lines_on n day book.entries)) =
-      counted ∙ ap (λ (l : Ledger). pages_for (length (on_day day l.movements))) of_book.same ∙ sym (ap pages_for (line-count book.chart book.entries n day)) in (
-        (so_far book prints account of_book.there).0
-            ∙ ap (λ (c : ℕ). map (page_message book.chart account) (pages_from (page_at book.chart book.entries n day account) 1 c)) done
-            ∙ sym (told book n day account of_book.there),
-        λ other there.
-            subst (All (PageReadsBack book.chart.home other.owner)) (ap (pages_from (page_at book.chart book.entries n day other) 1) done ∙ sym (stated book n day other there)) (so_far book prints other there).1,
-      )
+  done : (count : ℕ) → count ≡ pages_for (length (on_day day ledger.movements)) → count ≡ pages_for (length (lines_on book.chart n day book.entries))
+  done count counted =
+      counted ∙ ap (λ (l : Ledger). pages_for (length (on_day day l.movements))) of_book.same ∙ sym (ap pages_for (line-count book.chart book.entries n day))
+
+  pub all-placed : (pages : List PlacedPage) (count : ℕ) → count ≡ pages_for (length (on_day day ledger.movements))
+      → ((other : Account) → account_at book.chart n ≡ Some other → pages ≡ pages_from (placed_page book.chart book.entries n day other) 1 count) → pages ≡ placed_pages_of book.chart book.entries n day
+  all-placed pages count counted so_far =
+      so_far account of_book.there
+      ∙ ap (pages_from (placed_page book.chart book.entries n day account) 1) (done count counted)
+      ∙ sym (ap (λ (o : Option Account). option_map_or (λ a. pages_from (placed_page book.chart book.entries n day a) 1 (pages_for (length (lines_on book.chart n day book.entries)))) o []) of_book.there)
+
+  -- ---- their messages
+
+  -- the values at this account
+  valued : placed_pages_of book.chart book.entries n day ≡ pages_from (placed_page book.chart book.entries n day account) 1 (pages_for (length (lines_on book.chart n day book.entries)))
+  valued =
+      ap (λ (o : Option Account). option_map_or (λ a. pages_from (placed_page book.chart book.entries n day a) 1 (pages_for (length (lines_on book.chart n day book.entries)))) o []) of_book.there
+
+  owner-same : ledger.owner ≡ account.owner
+  owner-same = ap (λ (l : Ledger). l.owner) of_book.same
+
+  pub all-messages : (texts : List (List ℕ)) (pages : List PlacedPage) → pages ≡ placed_pages_of book.chart book.entries n day → texts ≡ map (λ placed. message_by index.home ledger.owner placed.page) pages
+      → texts ≡ pages_of book.chart book.entries n day
+  all-messages texts pages are made =
+      let count : ℕ = pages_for (length (lines_on book.chart n day book.entries)) in
+      made ∙ ap (map (λ placed. message_by index.home ledger.owner placed.page)) (are ∙ valued)
+      ∙ (λ i. map (λ placed. message_by (prints.has.is.home i) (owner-same i) placed.page) (pages_from (placed_page book.chart book.entries n day account) 1 count))
+      ∙ map-pages (λ placed. message_by book.chart.home account.owner placed.page) (page_message book.chart account) (placed_page book.chart book.entries n day account) page (λ k. refl) 1 count
+      ∙ sym (told book n day account of_book.there)
+
+  pub all-read-back : (pages : List PlacedPage) → pages ≡ placed_pages_of book.chart book.entries n day → All (λ (placed : PlacedPage). PageReadsBack index.home ledger.owner placed.page) pages
+      → AreReadBack book.chart book.entries n day
+  all-read-back pages are back = λ other there.
+      let count : ℕ = pages_for (length (lines_on book.chart n day book.entries)) in
+      let same : account ≡ other = same_Some account other (sym of_book.there ∙ there) in
+      let here : All (λ (placed : PlacedPage). PageReadsBack book.chart.home account.owner placed.page) (pages_from (placed_page book.chart book.entries n day account) 1 count) =
+      subst (λ (b : Bic). All (λ (placed : PlacedPage). PageReadsBack book.chart.home b placed.page) (pages_from (placed_page book.chart book.entries n day account) 1 count)) owner-same
+      (subst (λ (b : Bic). All (λ (placed : PlacedPage). PageReadsBack b ledger.owner placed.page) (pages_from (placed_page book.chart book.entries n day account) 1 count)) prints.has.is.home
+      (subst (All (λ (placed : PlacedPage). PageReadsBack index.home ledger.owner placed.page)) (are ∙ valued) back)) in
+      subst (λ (a : Account). All (PageReadsBack book.chart.home a.owner) (statement_of book.chart book.entries n day)) same
+      (subst (All (PageReadsBack book.chart.home account.owner)) (sym (stated book n day account of_book.there))
+      (all-pages-from (PageReadsBack book.chart.home account.owner) (placed_page book.chart book.entries n day account) page (λ p. p.page) (λ k. refl) 1 count here))

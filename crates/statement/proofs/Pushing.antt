@@ -9,7 +9,7 @@ use Rattle.std.proofs.lemmas.List.Elements.{All-from_recursion}
 use Rattle.std.proofs.lemmas.Option.{slice_get-get_or}
 use Rattle.corr_money.specs.Amounts.{amount_end}
 use Rattle.day_model.specs.Balance.{is_booked}
-use Rattle.day_model.specs.Chart.{Chart, IsListed}
+use Rattle.day_model.specs.Chart.{Chart, IsListed, accounts_of}
 use Rattle.day_model.specs.Fit.{are_apart, is_apart_from}
 use Rattle.day_model.specs.Totals.{booked_legs}
 use Rattle.day_model.specs.declared.account.Account.{Account}
@@ -83,14 +83,14 @@ module _ (chart : Chart) (entries : List Entry) (entry : Entry) where
       ∙ sym all
       ∙ ap (bookings_of chart entries entry) (sym (take-leg legs i leg lt is))
 
-  on-accounts : (count : ℕ) (legs : List Leg) → length chart.accounts ≡ count → ((i : ℕ) (leg : Leg) → slice_get legs i ≡ Some leg → IsListed chart leg.account.0) → AllByRecursion (IsOnOneOf count) (bookings_of chart entries entry legs)
+  on-accounts : (count : ℕ) (legs : List Leg) → length (accounts_of chart) ≡ count → ((i : ℕ) (leg : Leg) → slice_get legs i ≡ Some leg → IsListed chart leg.account.0) → AllByRecursion (IsOnOneOf count) (bookings_of chart entries entry legs)
   on-accounts count [] size listed = tt
   on-accounts count (leg ∷ legs) size listed =
       let here = listed 0 leg refl in
       ((omega (arith, here.0), omega (arith, here.0, here.1, size)), on-accounts count legs size (λ i. listed (suc i)))
 
   -- the movements of legs that fit are on accounts of the book
-  pub all-on-accounts : (count : ℕ) → length chart.accounts ≡ count → LegsFit chart entry.pay.legs → All (IsOnOneOf count) (bookings_of chart entries entry entry.pay.legs)
+  pub all-on-accounts : (count : ℕ) → length (accounts_of chart) ≡ count → LegsFit chart entry.pay.legs → All (IsOnOneOf count) (bookings_of chart entries entry entry.pay.legs)
   all-on-accounts count size fit =
       All-from_recursion (IsOnOneOf count) (bookings_of chart entries entry entry.pay.legs) (on-accounts count entry.pay.legs size (λ i leg at. (fit.each i leg at).listed))
 
@@ -99,7 +99,7 @@ module _ (chart : Chart) (entries : List Entry) (entry : Entry) where
     abbrev grown_by : ℕ → Account → List Leg → Ledger
     grown_by n account legs = ledger_with account (movements_of chart n entries ++ map (movement_of chart n entries entry) legs)
 
-    at-account : (legs : List Leg) → are_apart legs ≡ true → ((i : ℕ) (leg : Leg) → slice_get legs i ≡ Some leg → 1 ≤ leg.account.0) → (i : ℕ) (account : Account) → slice_get chart.accounts i ≡ Some account
+    at-account : (legs : List Leg) → are_apart legs ≡ true → ((i : ℕ) (leg : Leg) → slice_get legs i ≡ Some leg → 1 ≤ leg.account.0) → (i : ℕ) (account : Account) → slice_get (accounts_of chart) i ≡ Some account
         → slice_get (pushed_each (bookings_of chart entries entry legs) ledgers) i ≡ Some (grown_by (i + 1) account (on (i + 1) legs))
     at-account [] apart from i account at = are.each i account at ∙ ap (λ (ms : List Movement). Some (ledger_with account ms)) (sym (append-nil (movements_of chart (i + 1) entries)))
     at-account (x ∷ legs) apart from i account at =

@@ -10,42 +10,49 @@ use Rattle.day_model.specs.Balance.{balance_of}
 use Rattle.day_model.specs.Chart.{Chart}
 use Rattle.day_model.specs.declared.entry.Entry.{Entry}
 use Rattle.day_model.specs.declared.pay.Leg.{Leg}
-use Rattle.statement.specs.Index.{last_balance, movement_of, movements_from, on_day}
+use Rattle.statement.specs.Index.{is_next_return, last_balance, movement_of, movements_from, on_day}
 use Rattle.statement.specs.Legs.{before_day, legs_on}
-use Rattle.statement.specs.Lines.{Placed, entry_line, lines_from}
+use Rattle.statement.specs.Lines.{Placed, entry_line, is_return, lines_from}
 use Rattle.statement.specs.Pages.{balance_after}
 use Rattle.statement.specs.Running.{placed_by}
 use Rattle.statement.specs.declared.movement.Movement.{Movement}
+use Rattle.statement.proofs.Payments.{next-return}
 
 same-day : (a b : Day) → int_eq a.0 b.0 ≡ true → a ≡ b
 same-day a b e = let same : a.0 ≡ b.0 = grind (arith, ints) in λ i. record { 0 = same i }
 
 module _ (chart : Chart) (n : ℕ) (day : Day) where
-  legs-here : (before : List Entry) (entry : Entry) (legs : List Leg) (more : List Movement) → int_eq entry.day.0 day.0 ≡ true
-      → map placed_by (on_day day (map (movement_of chart n before entry) legs ++ more)) ≡ map (λ leg. record { place = length before + 1; line = entry_line day (length before + 1) entry leg }) legs ++ map placed_by (on_day day more)
-  legs-here before entry [] more e = refl
-  legs-here before entry (leg ∷ legs) more e =
+  legs-here : (returned : Bool) (before : List Entry) (entry : Entry) (legs : List Leg) (more : List Movement) → int_eq entry.day.0 day.0 ≡ true → is_next_return chart before entry ≡ returned
+      → map placed_by (on_day day (map (movement_of chart n before entry) legs ++ more))
+      ≡ map (λ leg. record { place = length before + 1; line = entry_line day (length before + 1) returned entry leg }) legs ++ map placed_by (on_day day more)
+  legs-here returned before entry [] more e is = refl
+  legs-here returned before entry (leg ∷ legs) more e is =
       let same : entry.day ≡ day = same-day entry.day day e in
-      let line : placed_by (movement_of chart n before entry leg) ≡ record { place = length before + 1; line = entry_line day (length before + 1) entry leg } =
-      ap (λ (d : Day). record { place = length before + 1; line = entry_line d (length before + 1) entry leg }) same in
-      rw e (λ i. line i ∷ legs-here before entry legs more e i)
+      let line : placed_by (movement_of chart n before entry leg) ≡ record { place = length before + 1; line = entry_line day (length before + 1) returned entry leg } =
+      λ i. record { place = length before + 1; line = entry_line (same i) (length before + 1) (is i) entry leg } in
+      rw e (λ i. line i ∷ legs-here returned before entry legs more e is i)
 
   legs-away : (before : List Entry) (entry : Entry) (legs : List Leg) (more : List Movement) → int_eq entry.day.0 day.0 ≡ false
       → on_day day (map (movement_of chart n before entry) legs ++ more) ≡ on_day day more
   legs-away before entry [] more e = refl
   legs-away before entry (leg ∷ legs) more e = rw e (legs-away before entry legs more e)
 
-  pub lines-are : (before entries : List Entry) → map placed_by (on_day day (movements_from chart n before entries)) ≡ lines_from n day (length before + 1) entries
-  lines-are before [] = refl
-  lines-are before (entry ∷ entries) =
+  pub lines-are : (all before entries : List Entry) → all ≡ before ++ entries
+      → map placed_by (on_day day (movements_from chart n before entries)) ≡ lines_from (is_return chart all) n day (length before + 1) entries
+  lines-are all before [] whole = refl
+  lines-are all before (entry ∷ entries) whole =
       let legs : List Leg = legs_on n entry in
       let more : List Movement = movements_from chart n (before ++ entry ∷ []) entries in
       let place : length (before ++ entry ∷ []) + 1 ≡ length before + 1 + 1 = omega (arith, length-append before (entry ∷ [])) in
-      let rest : map placed_by (on_day day more) ≡ lines_from n day (length before + 1 + 1) entries = lines-are (before ++ entry ∷ []) entries ∙ ap (λ (k : ℕ). lines_from n day k entries) place in
+      let next : all ≡ (before ++ entry ∷ []) ++ entries = whole ∙ sym (append_assoc before (entry ∷ []) entries) in
+      let returned : Bool = is_return chart all (length before + 1) in
+      let is : is_next_return chart before entry ≡ returned = next-return chart before entries entry all whole in
+      let rest : map placed_by (on_day day more) ≡ lines_from (is_return chart all) n day (length before + 1 + 1) entries =
+      lines-are all (before ++ entry ∷ []) entries next ∙ ap (λ (k : ℕ). lines_from (is_return chart all) n day k entries) place in
       elim (cases_Bool (int_eq entry.day.0 day.0)) [
         | inl met ↦
-            legs-here before entry legs more met
-            ∙ ap (λ (ls : List Placed). map (λ leg. record { place = length before + 1; line = entry_line day (length before + 1) entry leg }) legs ++ ls) rest
+            legs-here returned before entry legs more met is
+            ∙ ap (λ (ls : List Placed). map (λ leg. record { place = length before + 1; line = entry_line day (length before + 1) returned entry leg }) legs ++ ls) rest
             ∙ rw met refl
         | inr unmet ↦ ap (map placed_by) (legs-away before entry legs more unmet) ∙ rest ∙ rw unmet refl
       ]

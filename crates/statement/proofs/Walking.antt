@@ -1,5 +1,5 @@
 -- The lines of a day lead from the balance before it to the balance after it.
-use Rattle.std.proofs.Common.{◌≡◌, ℕ, ◌+◌, true, List, [], ◌∷◌, ◌++◌, map, length, take, refl, sym, ap, ◌∙◌, subst, arith, inl, inr, pos, ◌+ℤ◌, ℤ, append_assoc, length-append}
+use Rattle.std.proofs.Common.{◌≡◌, ℕ, ◌+◌, Bool, true, false, List, [], ◌∷◌, ◌++◌, map, length, take, refl, sym, ap, ◌∙◌, subst, arith, inl, inr, pos, ◌+ℤ◌, ℤ, append_assoc, length-append}
 use Rattle.std.specs.Prelude.{◌⊎◌}
 use Rattle.std.specs.Ordering.{int_eq}
 use Rattle.std.specs.List.{AllByRecursion}
@@ -45,9 +45,11 @@ nothing-more : (a : ℤ) → a +ℤ pos 0 ≡ a
 nothing-more a = omega (arith, ints)
 
 -- a side changes a balance as its mark says
-as-marked : (side : Side) (amount : ℕ) (balance : ℤ) → changed side amount balance ≡ balance +ℤ signed_amount (statement_mark side) amount
-as-marked Credit amount balance = refl
-as-marked Debit amount balance = omega (arith, ints)
+as-marked : (side : Side) (returned : Bool) (amount : ℕ) (balance : ℤ) → changed side amount balance ≡ balance +ℤ signed_amount (statement_mark side returned) amount
+as-marked Credit true amount balance = refl
+as-marked Credit false amount balance = refl
+as-marked Debit true amount balance = omega (arith, ints)
+as-marked Debit false amount balance = omega (arith, ints)
 
 module _ (chart : Chart) (entries : List Entry) (n : ℕ) where
   -- the balance after the entry at a place
@@ -89,30 +91,30 @@ module _ (chart : Chart) (entries : List Entry) (n : ℕ) where
   after-is day (p ∷ next ∷ ps) = after-is day (next ∷ ps)
 
   -- the lines of entries of a day lead from the balance before them to that after them
-  pub lines-lead : (day : Day) (before here after : List Entry) → entries ≡ (before ++ here) ++ after → AllByRecursion (λ e. int_eq e.day.0 day.0 ≡ true) here → AllByRecursion (OneLeg n) here
-      → Leads (balance_of chart before n) (lines_from n day (length before + 1) here) (balance_of chart (before ++ here) n)
-  lines-lead day before [] after whole on legs = record { walks = tt; end = ap (λ (es : List Entry). balance_of chart es n) (sym (append-nil before)) }
-  lines-lead day before (e ∷ here) after whole on legs =
+  pub lines-lead : (returned : ℕ → Bool) (day : Day) (before here after : List Entry) → entries ≡ (before ++ here) ++ after → AllByRecursion (λ e. int_eq e.day.0 day.0 ≡ true) here → AllByRecursion (OneLeg n) here
+      → Leads (balance_of chart before n) (lines_from returned n day (length before + 1) here) (balance_of chart (before ++ here) n)
+  lines-lead returned day before [] after whole on legs = record { walks = tt; end = ap (λ (es : List Entry). balance_of chart es n) (sym (append-nil before)) }
+  lines-lead returned day before (e ∷ here) after whole on legs =
       let next : before ++ e ∷ here ≡ (before ++ e ∷ []) ++ here = sym (append_assoc before (e ∷ []) here) in
       let place : length (before ++ e ∷ []) + 1 ≡ length before + 1 + 1 = omega (arith, length-append before (e ∷ [])) in
-      let rest : Leads (balance_of chart (before ++ e ∷ []) n) (lines_from n day (length (before ++ e ∷ []) + 1) here) (balance_of chart ((before ++ e ∷ []) ++ here) n) =
-      lines-lead day (before ++ e ∷ []) here after (whole ∙ ap (λ (es : List Entry). es ++ after) next) on.1 legs.1 in
-      let lines : entry_lines n day (length before + 1) e ≡ map (λ leg. record { place = length before + 1; line = entry_line day (length before + 1) e leg }) (legs_on n e) = rw on.0 refl in
-      let more : List Placed = lines_from n day (length before + 1 + 1) here in
-      let same : lines_from n day (length (before ++ e ∷ []) + 1) here ≡ more = ap (λ (k : ℕ). lines_from n day k here) place in
+      let rest : Leads (balance_of chart (before ++ e ∷ []) n) (lines_from returned n day (length (before ++ e ∷ []) + 1) here) (balance_of chart ((before ++ e ∷ []) ++ here) n) =
+      lines-lead returned day (before ++ e ∷ []) here after (whole ∙ ap (λ (es : List Entry). es ++ after) next) on.1 legs.1 in
+      let lines : entry_lines returned n day (length before + 1) e ≡ map (λ leg. record { place = length before + 1; line = entry_line day (length before + 1) (returned (length before + 1)) e leg }) (legs_on n e) = rw on.0 refl in
+      let more : List Placed = lines_from returned n day (length before + 1 + 1) here in
+      let same : lines_from returned n day (length (before ++ e ∷ []) + 1) here ≡ more = ap (λ (k : ℕ). lines_from returned n day k here) place in
       let end : balance_of chart (before ++ e ∷ here) n ≡ balance_of chart ((before ++ e ∷ []) ++ here) n = ap (λ (es : List Entry). balance_of chart es n) next in
       elim legs.0 [
         | inl none ↦
             leads-as _ _ _ _ _ _ (sym (unmoved chart before e n none)) (rw (lines, none) (sym same)) end rest
         | inr one ↦
             let leg : Leg = one.0 in
-            let line : Placed = record { place = length before + 1; line = entry_line day (length before + 1) e leg } in
+            let line : Placed = record { place = length before + 1; line = entry_line day (length before + 1) (returned (length before + 1)) e leg } in
             let front : take (length before + 1) entries ≡ before ++ e ∷ [] =
             ap (take (length before + 1)) (whole ∙ ap (λ (es : List Entry). es ++ after) next ∙ append_assoc (before ++ e ∷ []) here after)
             ∙ take_at (before ++ e ∷ []) (here ++ after) (length before + 1) (length-append before (e ∷ [])) in
             let there : balance_at (length before + 1) ≡ balance_of chart (before ++ e ∷ []) n = ap (λ (es : List Entry). balance_of chart es n) front in
             let moved : balance_of chart (before ++ e ∷ []) n ≡ balance_of chart before n +ℤ effect_of line.line =
-            moves before e n leg one.1 one.2 ∙ as-marked leg.side leg.amount.0 (balance_of chart before n) in
+            moves before e n leg one.1 one.2 ∙ as-marked leg.side (returned (length before + 1)) leg.amount.0 (balance_of chart before n) in
             let tail : Leads (balance_at (length before + 1)) more (balance_of chart (before ++ e ∷ here) n) = leads-as _ _ _ _ _ _ there (sym same) end rest in
             leads-as _ _ _ (line ∷ more) _ _ refl (rw (lines, one.2) refl) refl (record { walks = (there ∙ moved, tail.walks); end = tail.end })
       ]

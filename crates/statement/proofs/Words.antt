@@ -23,7 +23,7 @@ use Rattle.mt950.specs.Parts.{double_slash_in}
 use Rattle.advices.specs.Fields.{ours}
 use Rattle.advices.proofs.laws.Bytes.{c-plain, day-digits, decimal-digits, padded-digits}
 use Rattle.day_model.specs.Shape.{IsReference}
-use Rattle.statement.specs.Lines.{own_reference}
+use Rattle.pay_returns.specs.References.{own_reference}
 use Rattle.statement.specs.Pages.{page_reference}
 
 -- ---- no slash

@@ -16,6 +16,7 @@ use Rattle.mt950.specs.declared.balance.Balance.{Balance}
 use Rattle.mt950.specs.declared.page.Page950.{Page950}
 use Rattle.statement.specs.Legs.{before_day}
 use Rattle.statement.specs.Lines.{Placed, lines_on}
+use Rattle.statement.specs.declared.page.PlacedPage.{PlacedPage}
 
 -- how many lines a page has at most
 abbrev pub most_lines : ℕ
@@ -46,7 +47,7 @@ balance_after chart entries n day (placed ∷ next ∷ lines) = balance_after ch
 
 -- the balance after the first k pages
 abbrev pub carried : Chart → List Entry → ℕ → Day → ℕ → ℤ
-carried chart entries n day k = balance_after chart entries n day (take (most_lines * k) (lines_on n day entries))
+carried chart entries n day k = balance_after chart entries n day (take (most_lines * k) (lines_on chart n day entries))
 
 -- the opening of the k-th page: of the first page with the day before and the letter F
 abbrev pub page_opening : Chart → List Entry → ℕ → Day → ℕ → Balance
@@ -54,7 +55,7 @@ page_opening chart entries n day k = record { last = k == 1; day = if k == 1 the
 
 -- the closing of the k-th page: of the last page with the letter F
 abbrev pub closing_of : Chart → List Entry → ℕ → Day → ℕ → Balance
-closing_of chart entries n day k = record { last = k == pages_for (length (lines_on n day entries)); day = day; signed = carried chart entries n day k }
+closing_of chart entries n day k = record { last = k == pages_for (length (lines_on chart n day entries)); day = day; signed = carried chart entries n day k }
 
 -- the k-th page of account n, which has these columns
 abbrev pub page_at : Chart → List Entry → ℕ → Day → Account → ℕ → Page950
@@ -66,20 +67,30 @@ page_at chart entries n day account k = record {
   ccy = account.ccy;
   decimals = account.decimals;
   opening = page_opening chart entries n day k;
-  lines = map (λ placed. placed.line) (lines_of_page k (lines_on n day entries));
+  lines = map (λ placed. placed.line) (lines_of_page k (lines_on chart n day entries));
   closing = closing_of chart entries n day k;
   available = None;
 }
 
 -- so many pages, the first of which is the k-th
-abbrev pub pages_from : (ℕ → Page950) → ℕ → ℕ → List Page950
+abbrev pub pages_from : {A : Type 0} → (ℕ → A) → ℕ → ℕ → List A
 pages_from page k zero = []
 pages_from page k (suc more) = page k ∷ pages_from page (k + 1) more
 
 -- the pages of an account's statement of a day; none for a number that no account has
 abbrev pub statement_of : Chart → List Entry → ℕ → Day → List Page950
 statement_of chart entries n day =
-    option_map_or (λ account. pages_from (page_at chart entries n day account) 1 (pages_for (length (lines_on n day entries)))) (account_at chart n) []
+    option_map_or (λ account. pages_from (page_at chart entries n day account) 1 (pages_for (length (lines_on chart n day entries)))) (account_at chart n) []
+
+-- the k-th page with the places of its lines
+abbrev pub placed_page : Chart → List Entry → ℕ → Day → Account → ℕ → PlacedPage
+placed_page chart entries n day account k =
+    record { page = page_at chart entries n day account k; places = map (λ placed. placed.place) (lines_of_page k (lines_on chart n day entries)) }
+
+-- the pages of an account's statement of a day, with the places of their lines
+abbrev pub placed_pages_of : Chart → List Entry → ℕ → Day → List PlacedPage
+placed_pages_of chart entries n day =
+    option_map_or (λ account. pages_from (placed_page chart entries n day account) 1 (pages_for (length (lines_on chart n day entries)))) (account_at chart n) []
 
 -- a page as the message that its account's owner is sent
 abbrev pub page_message : Chart → Account → Page950 → List ℕ

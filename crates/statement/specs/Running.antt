@@ -9,18 +9,20 @@ use Rattle.mt950.specs.declared.balance.Balance.{Balance}
 use Rattle.mt950.specs.declared.entry.Line61.{Line61}
 use Rattle.mt950.specs.declared.page.Page950.{Page950}
 use Rattle.statement.specs.Index.{last_balance}
-use Rattle.statement.specs.Lines.{Placed, transaction_type, statement_mark, mmdd_of, own_reference}
+use Rattle.pay_returns.specs.References.{own_reference}
+use Rattle.statement.specs.Lines.{Placed, transaction_type, statement_mark, mmdd_of}
 use Rattle.statement.specs.Pages.{day_before, page_reference}
 use Rattle.statement.specs.declared.ledger.Ledger.{Ledger}
 use Rattle.statement.specs.declared.movement.Movement.{Movement}
 use Rattle.statement.specs.declared.page.Heading.{Heading}
+use Rattle.statement.specs.declared.page.PlacedPage.{PlacedPage}
 
 -- a movement as a line
 abbrev pub line_by : Movement → Line61
 line_by movement = record {
   value = movement.value;
   entry = Some (mmdd_of movement.day);
-  mark = statement_mark movement.side;
+  mark = statement_mark movement.side movement.returned;
   funds = None;
   amount = movement.amount;
   kind = transaction_type movement.mt;
@@ -52,6 +54,10 @@ page_by ledger heading balance movements = record {
   available = None;
 }
 
--- its message, from the home bank to the account's owner
-abbrev pub message_by : Bic → Ledger → Page950 → List ℕ
-message_by home ledger page = sent_text home 950 ledger.owner [] (fields_text (fields_950 page))
+-- with the places of its lines
+abbrev pub placed_page_by : Ledger → Heading → ℤ → List Movement → PlacedPage
+placed_page_by ledger heading balance movements = record { page = page_by ledger heading balance movements; places = map (λ movement. movement.place) movements }
+
+-- a page's message, from one bank to another
+abbrev pub message_by : Bic → Bic → Page950 → List ℕ
+message_by home to page = sent_text home 950 to [] (fields_text (fields_950 page))

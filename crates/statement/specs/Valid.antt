@@ -15,8 +15,7 @@ use Rattle.fin_fields.specs.declared.field.Field.{Field}
 use Rattle.fin_message.specs.Verdict.{sent_verdict_of}
 use Rattle.fin_message.specs.declared.message.Message.TheVariants.{Page}
 use Rattle.day_model.specs.Balance.{balance_of}
-use Rattle.day_model.specs.Chart.{Chart, IsChart, IsListed, account_at, HasCode}
-use Rattle.day_model.specs.Legal.{IsLegal}
+use Rattle.day_model.specs.Chart.{Chart, HasCode, IsChart, IsListed, account_at, accounts_of}
 use Rattle.day_model.specs.Shape.{HasShape}
 use Rattle.day_model.specs.declared.account.Account.{Account}
 use Rattle.day_model.specs.declared.entry.Entry.{Entry}
@@ -29,7 +28,7 @@ use Rattle.statement.specs.Index.{HasAccount}
 use Rattle.statement.specs.Legs.{HasQuotes, before_day}
 use Rattle.statement.specs.Lines.{lines_on, up_to_day}
 use Rattle.statement.specs.Pages.{page_message, statement_of}
-use Rattle.statement.specs.Seen.{SeenBook}
+use Rattle.statement.specs.Seen.{IsFront, SeenBook}
 use Rattle.statement.specs.declared.index.HistoryIndex.{HistoryIndex}
 
 -- entries whose pays can be written down, so that each quotes a reference
@@ -41,7 +40,7 @@ AreShaped entries = All (λ entry. HasShape entry.pay) entries
 pub record ClosesAt (chart : Chart) (entries : List Entry) (n : ℕ) (day : Day) (statement : Statement) : Type 0 where
   pub joined : joined_of (statement_of chart entries n day) ≡ Ok statement
   pub opening : statement.opening ≡ balance_of chart (before_day day entries) n
-  pub lines : statement.lines ≡ map (λ placed. placed.line) (lines_on n day entries)
+  pub lines : statement.lines ≡ map (λ placed. placed.line) (lines_on chart n day entries)
   pub closing : statement.closing ≡ balance_of chart (up_to_day day entries) n
   pub dated : statement.day ≡ day
 
@@ -81,9 +80,9 @@ pub record Prints (index : HistoryIndex) (n : ℕ) (day : Day) (book : SeenBook)
 -- what a statement of account n on a day needs of its book: all of it is in `Prints`
 pub record IsPrintable (book : SeenBook) (n : ℕ) (day : Day) : Type 0 where
   pub chart : IsChart book.chart
-  pub legal : IsLegal book.chart book.entries
+  pub legal : IsFront book.chart book.entries
   pub listed : IsListed book.chart n
   pub shaped : AreShaped book.entries
   pub century : InCentury day
-  pub codes : All HasCode book.chart.accounts
+  pub codes : All HasCode (accounts_of book.chart)
   pub quotes : All HasQuotes book.entries

@@ -1,23 +1,25 @@
 //! An index of a history by its accounts.
 
-ghost use Rattle.std.specs.Prelude.{◌≡◌, ◌<◌, ◌-◌, [], ◌∷◌, ◌++◌, true, All, IfOk, OnErr, OnOk, Some, length, map, slice_get};
+ghost use Rattle.std.specs.Prelude.{◌≡◌, ◌<◌, ◌≤◌, ◌-◌, ◌&&◌, not, None, if◌then◌else◌, [], ◌∷◌, ◌++◌, true, All, IfOk, OnErr, OnOk, Some, length, map, slice_get};
 ghost use Rattle.corr_ids.specs.Day.{InCentury};
 ghost use Rattle.corr_money.specs.Amounts.{amount_end};
 ghost use Rattle.day_model.specs.Balance.{balance_of, is_booked};
-ghost use Rattle.day_model.specs.Chart.{IsChart, IsListed, HasCode};
+ghost use Rattle.day_model.specs.Chart.{HasCode, IsChart, IsListed, accounts_of};
 ghost use Rattle.day_model.specs.Legal.{IsLegal};
-ghost use Rattle.statement.specs.Index.{AreLedgersOf, HasAccount, IsIndexOf, TakesNext, bookings_of, grown, ledger_with, movement_of};
-ghost use Rattle.statement.specs.Legs.{HasQuotes, IsByteQuote, before_day, legs_on};
+ghost use Rattle.pay_returns.specs.Opposite.{credit_notice, debit_notice, origin_of, told_of};
+ghost use Rattle.pay_returns.specs.References.{IsByteQuote};
+ghost use Rattle.statement.specs.Index.{AreLedgersOf, HasAccount, IsIndexOf, IsOnAccount, TakesNext, bookings_of, grown, is_next_return, ledger_with, movement_of};
+ghost use Rattle.statement.specs.Legs.{HasQuotes, before_day, legs_on};
 ghost use Rattle.statement.specs.Lines.{lines_on, up_to_day};
 ghost use Rattle.statement.specs.Running.{placed_by};
 ghost use Rattle.statement.specs.Seen.{SeenBook};
 
 use crate::ledger::{Booking, Ledger, at, day_after, push_each};
 use crate::movement::Movement;
-use crate::references::quote_text;
 use corr_ids::{Bic, Day};
 use corr_text::{List, Memory};
-use day_model::{Accounts, AcctNo, Entry, History, Leg, Outcome};
+use day_model::{Accounts, AcctNo, Entry, History, Kind, Leg, Order, Outcome};
+use pay_returns::{Notices, Origin, first_credit, is_opposite, named_place, quote_text};
 use std::alloc::Global;
 
 /// An index of a history: for each account its booked legs in their order, each with the balance after it. So a statement goes
@@ -29,20 +31,32 @@ pub struct HistoryIndex {
     alloc: Global,
     home: Bic,
     ledgers: Vec<Ledger>,
+    // at each place what a return would take over, if a payment stands there
+    payments: Vec<Option<Origin>>,
     entries: u32,
 }
 
 /// A ledger without movements for each account.
 fn ledgers(alloc: Global, a: &Accounts) -> Result<Vec<Ledger>, Memory>
-    ensures value { IfOk result (λ ledgers. ledgers.items ≡ map (λ account. ledger_with account []) a.now.accounts) }
+    ensures value { IfOk result (λ ledgers. ledgers.items ≡ map (λ account. ledger_with account []) (accounts_of a.now)) }
     ensures sound { IsChart a.now }
-    ensures codes { OnOk result (All HasCode a.now.accounts) }
+    ensures codes { OnOk result (All HasCode (accounts_of a.now)) }
 {
     let mut ledgers = Vec::new(alloc);
     for n in 0..a.count() {
         ledgers.push(Ledger::new(alloc, a.get(AcctNo(n + 1)))?)?;
     }
     Ok(ledgers)
+}
+
+/// What a return takes over from an entry; none of one that isn't booked, or is a return itself.
+fn payment_of(alloc: Global, e: &Entry, returned: bool) -> Result<Option<Origin>, Memory>
+    ensures { IfOk result (λ payment. payment ≡ if is_booked e.now.outcome && not returned then Some (origin_of e.now) else None) }
+{
+    match e.outcome {
+        Outcome::Booked if !returned => Ok(Some(Origin::of(alloc, e)?)),
+        _ => Ok(None),
+    }
 }
 
 impl HistoryIndex {
@@ -55,6 +69,7 @@ impl HistoryIndex {
             alloc,
             home: *a.home(),
             ledgers: ledgers(alloc, a)?,
+            payments: Vec::new(alloc),
             entries: 0,
         };
         for at in 0..h.len() {
@@ -63,9 +78,72 @@ impl HistoryIndex {
         Ok(index)
     }
 
+    /// The bank that is told of a leg of a return: the owner of its account, if that is a vostro account.
+    fn told_of(&self, leg: &Leg) -> Option<Bic>
+        requires from_one { 0 < leg.now.account.0 }
+        requires there { leg.now.account.0 - 1 < length self.now.ledgers.items }
+        ensures { (book : SeenBook) → IsIndexOf self.now book → result ≡ told_of book.chart leg.now }
+    {
+        let ledger = self.ledger(leg.account);
+        if ledger.kind == Kind::Vostro.letter() {
+            Some(ledger.owner)
+        } else {
+            None
+        }
+    }
+
+    fn credit_notice(&self, legs: &[Leg]) -> Option<Order>
+        requires listed { All (λ leg. IsOnAccount (length self.now.ledgers.items) leg) legs.now }
+        requires few { length legs.now ≤ 3 }
+        ensures { (book : SeenBook) → IsIndexOf self.now book → result ≡ credit_notice book.chart legs.now }
+    {
+        let at = first_credit(legs)?;
+        let to = self.told_of(&legs[at])?;
+        Some(Order::Credit {
+            to,
+            leg: at as u8 + 1,
+        })
+    }
+
+    fn debit_notice(&self, legs: &[Leg]) -> Option<Order>
+        requires { All (λ leg. IsOnAccount (length self.now.ledgers.items) leg) legs.now }
+        ensures { (book : SeenBook) → IsIndexOf self.now book → result ≡ debit_notice book.chart legs.now }
+    {
+        match legs {
+            [] => None,
+            [first, ..] => {
+                let to = self.told_of(first)?;
+                Some(Order::Debit { to, leg: 1 })
+            }
+        }
+    }
+
+    /// Whether the next entry takes a payment back.
+    fn takes_back(&self, e: &Entry) -> bool
+        requires { (book : SeenBook) × TakesNext self.now e.now book }
+        ensures { (book : SeenBook) → TakesNext self.now e.now book → result ≡ is_next_return book.chart book.entries e.now }
+    {
+        let Some(place) = named_place(&e.pay) else {
+            return false;
+        };
+        if place == 0 || place > self.entries as u64 {
+            return false;
+        }
+        let Some(origin) = &self.payments[place as usize - 1] else {
+            return false;
+        };
+        let legs = e.pay.legs.as_slice();
+        let notices = Notices {
+            credit: self.credit_notice(legs),
+            debit: self.debit_notice(legs),
+        };
+        is_opposite(&self.home, origin.lend(), place as u32, &e.pay, notices)
+    }
+
     /// A leg of the next entry, the only one on its account, with the balance after it.
-    fn movement(&self, e: &Entry, leg: &Leg) -> Result<Movement, Memory>
+    fn movement(&self, e: &Entry, returned: bool, leg: &Leg) -> Result<Movement, Memory>
         requires next { (book : SeenBook) × TakesNext self.now e.now book × IsListed book.chart leg.now.account.0 }
+        requires returned { (book : SeenBook) → TakesNext self.now e.now book → returned ≡ is_next_return book.chart book.entries e.now }
         requires only { legs_on leg.now.account.0 e.now ≡ leg.now ∷ [] }
         requires amount { leg.now.amount.0 < amount_end }
         ensures quote { OnOk result (IsByteQuote leg.now.quote) }
@@ -78,6 +156,7 @@ impl HistoryIndex {
             value: e.pay.value,
             mt: e.pay.mt,
             side: leg.side,
+            returned,
             amount: leg.amount,
             reference: quote_text(self.alloc, place, &leg.quote)?,
             balance: self.ledger(leg.account).balance_with(leg),
@@ -85,8 +164,9 @@ impl HistoryIndex {
     }
 
     /// What a booked entry moves: a movement for each of its legs, in their order.
-    fn bookings(&self, e: &Entry) -> Result<List<Booking>, Memory>
+    fn bookings(&self, e: &Entry, returned: bool) -> Result<List<Booking>, Memory>
         requires next { (book : SeenBook) × TakesNext self.now e.now book }
+        requires returned { (book : SeenBook) → TakesNext self.now e.now book → returned ≡ is_next_return book.chart book.entries e.now }
         requires booked { is_booked e.now.outcome ≡ true }
         ensures value { IfOk result (λ bookings. (book : SeenBook) → TakesNext self.now e.now book → bookings ≡ bookings_of book.chart book.entries e.now e.now.pay.legs) }
         ensures quotes { OnOk result (HasQuotes e.now) }
@@ -95,23 +175,25 @@ impl HistoryIndex {
         for leg in e.pay.legs.as_slice() {
             bookings.push(Booking {
                 account: leg.account,
-                movement: self.movement(e, leg)?,
+                movement: self.movement(e, returned, leg)?,
             })?;
         }
         Ok(bookings)
     }
 
     /// The legs of a booked entry, which are on distinct accounts.
-    fn book(&mut self, e: &Entry) -> Result<(), Memory>
+    fn book(&mut self, e: &Entry, returned: bool) -> Result<(), Memory>
         requires next { (book : SeenBook) × TakesNext self.old e.now book }
+        requires returned { (book : SeenBook) → TakesNext self.old e.now book → returned ≡ is_next_return book.chart book.entries e.now }
         requires booked { is_booked e.now.outcome ≡ true }
         ensures ok { OnOk result ((book : SeenBook) → TakesNext self.old e.now book → AreLedgersOf self.new.ledgers.items book.chart (book.entries ++ e.now ∷ [])) }
         ensures quotes { OnOk result (HasQuotes e.now) }
         ensures err { OnErr result (self.new.ledgers.items ≡ self.old.ledgers.items) }
         ensures home { self.new.home ≡ self.old.home }
+        ensures payments { self.new.payments ≡ self.old.payments }
         ensures count { self.new.entries ≡ self.old.entries }
     {
-        let bookings = self.bookings(e)?;
+        let bookings = self.bookings(e, returned)?;
         push_each(&mut self.ledgers, bookings)
     }
 
@@ -121,10 +203,14 @@ impl HistoryIndex {
         ensures ok { OnOk result ((book : SeenBook) → TakesNext self.old e.now book → IsIndexOf self.new (grown book e.now)) }
         ensures err { OnErr result ((book : SeenBook) → IsIndexOf self.old book → IsIndexOf self.new book) }
     {
+        let returned = self.takes_back(e);
+        let payment = payment_of(self.alloc, e, returned)?;
+        self.payments.reserve(1)?;
         match e.outcome {
-            Outcome::Booked => self.book(e)?,
+            Outcome::Booked => self.book(e, returned)?,
             Outcome::Unfunded { .. } => {}
         }
+        self.payments.push_reserved(payment);
         self.entries += 1;
         Ok(())
     }
@@ -171,7 +257,7 @@ impl HistoryIndex {
     pub fn booked_on(&self, n: AcctNo, day: Day) -> &[Movement]
         requires account { (book : SeenBook) × HasAccount self.now n.0 book }
         requires day { InCentury day }
-        ensures { (book : SeenBook) → HasAccount self.now n.0 book → map placed_by result.now ≡ lines_on n.0 day book.entries }
+        ensures { (book : SeenBook) → HasAccount self.now n.0 book → map placed_by result.now ≡ lines_on book.chart n.0 day book.entries }
     {
         self.ledger(n).on(day)
     }

@@ -20,6 +20,7 @@ use std::alloc::Global;
 #[derive(Debug, Drop)]
 pub struct Ledger {
     pub id: Text,
+    pub kind: u8,
     pub owner: Bic,
     pub ccy: Ccy,
     pub decimals: u8,
@@ -44,6 +45,7 @@ impl Ledger {
         prove!(code.len() == 3);
         Ok(Ledger {
             id: account.id.copy(alloc)?,
+            kind: account.kind,
             owner: account.owner,
             ccy: account.ccy,
             decimals: account.decimals,

@@ -11,4 +11,5 @@ mod references;
 
 pub use index::HistoryIndex;
 pub use movement::Movement;
-pub use paging::{pages, pages_with};
+pub use page::PlacedPage;
+pub use paging::{page_values, pages, pages_with};

@@ -6,21 +6,23 @@ ghost use Rattle.statement.specs.Lines.{transaction_type, statement_mark, mmdd_o
 ghost use Rattle.statement.specs.Running.{line_by};
 
 use crate::movement::Movement;
-use crate::references::own_reference;
 use corr_ids::{Day, put_yymmdd};
 use corr_text::{List, Memory, Text};
 use day_model::{Mt, Side};
 use fin_contents::array_of;
 use mt950::{Line61, Mark};
+use pay_returns::own_reference;
 use std::alloc::Global;
 
-/// The mark of a side.
-fn mark_of(side: Side) -> Mark
-    ensures { result ≡ statement_mark side }
+/// The mark of a side: in a return a credit reverses a debit, and a debit reverses a credit.
+pub(crate) fn mark_of(side: Side, returned: bool) -> Mark
+    ensures { result ≡ statement_mark side returned }
 {
-    match side {
-        Side::Credit => Mark::C,
-        Side::Debit => Mark::D,
+    match (side, returned) {
+        (Side::Credit, false) => Mark::C,
+        (Side::Credit, true) => Mark::RD,
+        (Side::Debit, false) => Mark::D,
+        (Side::Debit, true) => Mark::RC,
     }
 }
 
@@ -52,7 +54,7 @@ fn line_of(alloc: Global, movement: &Movement) -> Result<Line61, Memory>
     Ok(Line61 {
         value: movement.value,
         entry: mmdd(alloc, movement.day)?,
-        mark: mark_of(movement.side),
+        mark: mark_of(movement.side, movement.returned),
         funds: None,
         amount: movement.amount,
         kind: kind_of(movement.mt),

@@ -13,7 +13,7 @@ use std::marker::Model;
 /// A booked leg on an account: the place (from 1) and the day of its entry, what a line says of it, and the balance after its
 /// entry.
 ///
-/// `value` is the value date, and `reference` what the line quotes. `amount` and `balance` are in minor units, a balance with
+/// `value` is the value date, `returned` tells whether the entry is a return, and `reference` is what the line quotes. `amount` and `balance` are in minor units, a balance with
 /// credits positive.
 #[derive(Debug, Drop)]
 pub struct Movement {
@@ -22,6 +22,7 @@ pub struct Movement {
     pub value: Day,
     pub mt: Mt,
     pub side: Side,
+    pub returned: bool,
     pub amount: Minor,
     pub reference: Text,
     pub balance: i64,

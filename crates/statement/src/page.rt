@@ -1,12 +1,12 @@
 //! A page of a statement.
 
-ghost use Rattle.std.specs.Prelude.{◌≡◌, All, IfOk, OnOk};
+ghost use Rattle.std.specs.Prelude.{◌≡◌, All, IfOk, OnOk, map};
 ghost use Rattle.corr_ids.specs.Bic.{IsBic};
 ghost use Rattle.corr_ids.specs.Day.{InCentury};
 ghost use Rattle.fin_contents.specs.Writing.{IsReadable};
 ghost use Rattle.mt950.specs.Page.{mt950_of};
 ghost use Rattle.statement.specs.Pages.{day_before};
-ghost use Rattle.statement.specs.Running.{message_by, opening_by, page_by};
+ghost use Rattle.statement.specs.Running.{message_by, opening_by, page_by, placed_page_by};
 ghost use Rattle.statement.specs.Valid.{PageReadsBack};
 
 use crate::ledger::Ledger;
@@ -14,7 +14,7 @@ use crate::line::lines_of;
 use crate::movement::{Movement, balance_after};
 use crate::references::page_reference;
 use corr_ids::{Bic, Day, FIRST_DAY, day_of_year};
-use corr_text::{Memory, Text};
+use corr_text::{List, Memory, Text};
 use day_model::AcctNo;
 use fin_blocks::put_blocks;
 use mt950::{Balance, Page950, put_mt950};
@@ -89,24 +89,49 @@ fn filled_page(
     })
 }
 
-/// The message of a page, to the owner of its account.
-pub fn page_message(
+/// A page of a statement, with the place of the entry of each of its lines.
+#[derive(Debug, Drop)]
+pub struct PlacedPage {
+    pub page: Page950,
+    pub places: List<u32>,
+}
+
+fn places_of(alloc: Global, movements: &[Movement]) -> Result<List<u32>, Memory>
+    ensures { IfOk result (λ places. places ≡ map (λ movement. movement.place) movements.now) }
+{
+    let mut places = List::with_room(alloc, movements.len())?;
+    for movement in movements {
+        places.push(movement.place)?;
+    }
+    Ok(places)
+}
+
+/// A page that opens at a balance, with its movements and their places.
+pub fn placed_page(
     alloc: Global,
-    home: &Bic,
     ledger: &Ledger,
     heading: Heading,
     balance: i64,
     movements: &[Movement],
-) -> Result<Text, Memory>
-    requires home { IsBic home.now }
-    requires owner { IsBic ledger.now.owner }
+) -> Result<PlacedPage, Memory>
     requires day { InCentury heading.day }
     requires days { All (λ movement. InCentury movement.day) movements.now }
-    requires readable { IsReadable mt950_of (page_by ledger.now heading balance movements.now) }
-    ensures value { IfOk result (λ text. text ≡ message_by home.now ledger.now (page_by ledger.now heading balance movements.now)) }
-    ensures back { OnOk result (PageReadsBack home.now ledger.now.owner (page_by ledger.now heading balance movements.now)) }
+    ensures { IfOk result (λ placed. placed ≡ placed_page_by ledger.now heading balance movements.now) }
 {
-    let page = filled_page(alloc, ledger, heading, balance, movements)?;
-    let text = put_mt950(alloc, &page)?;
-    put_blocks(alloc, home, 950, &ledger.owner, &[], text.bytes())
+    Ok(PlacedPage {
+        page: filled_page(alloc, ledger, heading, balance, movements)?,
+        places: places_of(alloc, movements)?,
+    })
+}
+
+/// The message of a page, from the home bank to the owner of its account.
+pub fn page_message(alloc: Global, home: &Bic, to: &Bic, page: &Page950) -> Result<Text, Memory>
+    requires home { IsBic home.now }
+    requires owner { IsBic to.now }
+    requires readable { IsReadable mt950_of page.now }
+    ensures value { IfOk result (λ text. text ≡ message_by home.now to.now page.now) }
+    ensures back { OnOk result (PageReadsBack home.now to.now page.now) }
+{
+    let text = put_mt950(alloc, page)?;
+    put_blocks(alloc, home, 950, to, &[], text.bytes())
 }

@@ -1,19 +1,22 @@
 //! The statement of an account on a day.
 
-ghost use Rattle.std.specs.Prelude.{◌≡◌, ◌≤◌, IfOk, OnOk, drop, length, take};
+ghost use Rattle.std.specs.Prelude.{◌≡◌, ◌≤◌, All, IfOk, OnOk, drop, length, map, take};
 ghost use Rattle.corr_ids.specs.Bic.{IsBic};
 ghost use Rattle.corr_ids.specs.Day.{InCentury};
 ghost use Rattle.day_model.specs.Chart.{IsListed};
 ghost use Rattle.day_model.specs.Legal.{IsLegal};
-ghost use Rattle.statement.specs.Pages.{most_lines, pages_for, pages_of};
+ghost use Rattle.fin_contents.specs.Writing.{IsReadable};
+ghost use Rattle.mt950.specs.Page.{mt950_of};
+ghost use Rattle.statement.specs.Pages.{most_lines, pages_for, pages_of, placed_pages_of};
+ghost use Rattle.statement.specs.Running.{message_by};
 ghost use Rattle.statement.specs.Seen.{SeenBook};
-ghost use Rattle.statement.specs.Valid.{PagesAreAccepted, AreShaped, ClosesAtBalance, Prints};
+ghost use Rattle.statement.specs.Valid.{PageReadsBack, PagesAreAccepted, AreShaped, ClosesAtBalance, Prints};
 
 use crate::index::HistoryIndex;
 use crate::ledger::between;
 use crate::movement::{Movement, balance_after};
-use crate::page::{Heading, page_message};
-use corr_ids::Day;
+use crate::page::{Heading, PlacedPage, page_message, placed_page};
+use corr_ids::{Bic, Day};
 use corr_text::{List, Memory, Text};
 use day_model::{Accounts, AcctNo, History};
 use std::alloc::Global;
@@ -43,20 +46,19 @@ fn lines_from(movements: &[Movement], first: usize) -> &[Movement]
     between(rest, 0, LINES)
 }
 
-/// The statement of an account on a day, from an index of the history: what `pages` gives, under its conditions. Of the history
-/// it looks at the account's entries alone.
-pub fn pages_with(ix: &HistoryIndex, n: AcctNo, day: Day) -> Result<List<Text>, Memory>
+/// The pages of an account's statement of a day as values, from an index of the history, under the conditions of `pages`: each
+/// with the places of the entries of its lines. `pages_with` prints them.
+pub fn page_values(ix: &HistoryIndex, n: AcctNo, day: Day) -> Result<List<PlacedPage>, Memory>
     requires { (book : SeenBook) × Prints ix.now n.0 day book }
-    ensures value { IfOk result (λ texts. (book : SeenBook) → Prints ix.now n.0 day book → texts ≡ pages_of book.chart book.entries n.0 day) }
-    ensures closes { (book : SeenBook) → Prints ix.now n.0 day book → ClosesAtBalance book.chart book.entries n.0 day }
-    ensures accepted { OnOk result ((book : SeenBook) → Prints ix.now n.0 day book → PagesAreAccepted book.chart book.entries n.0 day) }
+    ensures value { IfOk result (λ pages. (book : SeenBook) → Prints ix.now n.0 day book → pages ≡ placed_pages_of book.chart book.entries n.0 day) }
+    ensures readable { IfOk result (All (λ placed. IsReadable mt950_of placed.page)) }
 {
     let alloc = ix.alloc();
     let ledger = ix.ledger(n);
     let movements = ledger.on(day);
     let opening = ledger.balance_before(day);
     let count = count_of(movements.len());
-    let mut texts = List::with_room(alloc, count)?;
+    let mut pages = List::with_room(alloc, count)?;
     for k in 0..count {
         let first = k * LINES;
         let heading = Heading {
@@ -67,9 +69,41 @@ pub fn pages_with(ix: &HistoryIndex, n: AcctNo, day: Day) -> Result<List<Text>, 
         };
         let balance = balance_after(opening, &movements[..first]);
         let here = lines_from(movements, first);
-        texts.push(page_message(alloc, ix.home(), ledger, heading, balance, here)?)?;
+        pages.push(placed_page(alloc, ledger, heading, balance, here)?)?;
+    }
+    Ok(pages)
+}
+
+/// The message of each page, from the home bank to the owner of its account.
+fn messages_of(
+    alloc: Global,
+    home: &Bic,
+    to: &Bic,
+    pages: &[PlacedPage],
+) -> Result<List<Text>, Memory>
+    requires home { IsBic home.now }
+    requires owner { IsBic to.now }
+    requires readable { All (λ placed. IsReadable mt950_of placed.page) pages.now }
+    ensures value { IfOk result (λ texts. texts ≡ map (λ placed. message_by home.now to.now placed.page) pages.now) }
+    ensures back { OnOk result (All (λ placed. PageReadsBack home.now to.now placed.page) pages.now) }
+{
+    let mut texts = List::with_room(alloc, pages.len())?;
+    for placed in pages {
+        texts.push(page_message(alloc, home, to, &placed.page)?)?;
     }
     Ok(texts)
+}
+
+/// The statement of an account on a day, from an index of the history: what `pages` gives, under its conditions. Of the history
+/// it looks at the account's entries alone.
+pub fn pages_with(ix: &HistoryIndex, n: AcctNo, day: Day) -> Result<List<Text>, Memory>
+    requires { (book : SeenBook) × Prints ix.now n.0 day book }
+    ensures value { IfOk result (λ texts. (book : SeenBook) → Prints ix.now n.0 day book → texts ≡ pages_of book.chart book.entries n.0 day) }
+    ensures closes { (book : SeenBook) → Prints ix.now n.0 day book → ClosesAtBalance book.chart book.entries n.0 day }
+    ensures accepted { OnOk result ((book : SeenBook) → Prints ix.now n.0 day book → PagesAreAccepted book.chart book.entries n.0 day) }
+{
+    let pages = page_values(ix, n, day)?;
+    messages_of(ix.alloc(), ix.home(), &ix.ledger(n).owner, pages.as_slice())
 }
 
 /// The statement of an account on a day as the messages that its owner is sent, page by page (docs/messages.md, "Statements").

@@ -68,7 +68,7 @@ module _ (book : SeenBook) (n : ℕ) (day : Day) (is : IsPrintable book n day) (
   page k = page_at book.chart book.entries n day account k
 
   abbrev count : ℕ
-  count = pages_for (length (lines_on n day book.entries))
+  count = pages_for (length (lines_on book.chart n day book.entries))
 
   abbrev Back : Page950 → Type 0
   Back p = PageReadsBack book.chart.home account.owner p
@@ -93,7 +93,7 @@ AreReadBack chart entries n day =
 -- the pages of a statement that read back are accepted
 pub accepted : (book : SeenBook) (n : ℕ) (day : Day) → IsPrintable book n day → AreReadBack book.chart book.entries n day → PagesAreAccepted book.chart book.entries n day
 accepted book n day is back t account at holds =
-    let pages : Option Account → List Page950 = λ o. option_map_or (λ a. pages_from (page_at book.chart book.entries n day a) 1 (pages_for (length (lines_on n day book.entries)))) o [] in
+    let pages : Option Account → List Page950 = λ o. option_map_or (λ a. pages_from (page_at book.chart book.entries n day a) 1 (pages_for (length (lines_on book.chart n day book.entries)))) o [] in
     let mine : pages (account_at book.chart n) ≡ pages (Some account) = ap pages at in
     subst (λ (ps : List Page950). All (Accepted book n day is t account at holds) ps) (sym mine)
     (statement-accepted book n day is t account at holds (subst (λ (ps : List Page950). All (Back book n day is t account at holds) ps) mine (back account at)))

@@ -6,20 +6,21 @@ use Rattle.std.specs.Option.{option_map_or}
 use Rattle.corr_ids.specs.declared.day.Day.{Day}
 use Rattle.day_model.specs.Balance.{balance_of}
 use Rattle.day_model.specs.Chart.{Chart, IsListed}
-use Rattle.day_model.specs.Legal.{IsLegal}
 use Rattle.day_model.specs.declared.account.Account.{Account}
 use Rattle.day_model.specs.declared.entry.Entry.{Entry}
-use Rattle.day_model.proofs.laws.Balances.{listed_account}
+use Rattle.day_model.proofs.laws.Fitting.{listed_account}
 use Rattle.mt950.specs.Joining.{effects_of, first_gap, joined_of, joined_with, last_of}
 use Rattle.mt950.specs.declared.joining.Statement.{Statement}
 use Rattle.mt950.specs.declared.page.Page950.{Page950}
 use Rattle.statement.specs.Legs.{before_day}
-use Rattle.statement.specs.Lines.{Placed, lines_on, up_to_day}
+use Rattle.statement.specs.Lines.{Placed, is_return, lines_on, up_to_day}
 use Rattle.statement.specs.Pages.{carried, page_at, pages_for, pages_from}
+use Rattle.statement.specs.Seen.{IsFront}
 use Rattle.statement.specs.Valid.{ClosesAtBalance}
 use Rattle.statement.proofs.DayParts.{before-is, lines-are, parts, up-to-is}
 use Rattle.statement.proofs.Days.{entry_day, rising}
 use Rattle.statement.proofs.Joined.{all-carried, carried-all, joins, last-page, length-pages, lines-joined, no-gap, same-balance, some-page}
+use Rattle.statement.proofs.laws.Fronts.{front-fits, front-rules}
 use Rattle.statement.proofs.Walking.{Leads, OneLeg, after-is, effects-add, lines-lead, one-leg}
 
 pub all-at : {A : Type 0} (P : A → Type 0) (xs : List A) → ((i : ℕ) (x : A) → slice_get xs i ≡ Some x → P x) → AllByRecursion P xs
@@ -34,25 +35,25 @@ pub all-back : {A : Type 0} (P : A → Type 0) (xs ys : List A) → AllByRecursi
 all-back P [] ys all = all
 all-back P (x ∷ xs) ys all = all-back P xs ys all.1
 
-module _ (chart : Chart) (entries : List Entry) (n : ℕ) (day : Day) (legal : IsLegal chart entries) where
+module _ (chart : Chart) (entries : List Entry) (n : ℕ) (day : Day) (legal : IsFront chart entries) where
   -- the lines of the day lead from the balance before it to the balance after it
-  pub day-leads : Leads chart entries n (balance_of chart (before_day day entries) n) (lines_on n day entries) (balance_of chart (up_to_day day entries) n)
+  pub day-leads : Leads chart entries n (balance_of chart (before_day day entries) n) (lines_on chart n day entries) (balance_of chart (up_to_day day entries) n)
   day-leads =
-      let (earlier, here, later, are) = parts day entries (rising entry_day entries legal.days) in
-      let all = all-at (OneLeg n) entries (λ i e at. one-leg chart n e (legal.fits i e at)) in
+      let (earlier, here, later, are) = parts day entries (rising entry_day entries (front-rules chart entries legal).days) in
+      let all = all-at (OneLeg n) entries (λ i e at. one-leg chart n e (front-fits chart entries legal i e at)) in
       let legs = all-back (OneLeg n) earlier here (all-front (OneLeg n) (earlier ++ here) later (subst (AllByRecursion (OneLeg n)) are.whole all)) in
-      rw (before-is day entries earlier here later are, up-to-is day entries earlier here later are, lines-are day entries earlier here later are n)
-      (lines-lead chart entries n day earlier here later are.whole are.on legs)
+      rw (before-is day entries earlier here later are, up-to-is day entries earlier here later are, lines-are day entries earlier here later are (is_return chart entries) n)
+      (lines-lead chart entries n (is_return chart entries) day earlier here later are.whole are.on legs)
 
   module _ (account : Account) where
     abbrev page : ℕ → Page950
     page k = page_at chart entries n day account k
 
     abbrev lines : List Placed
-    lines = lines_on n day entries
+    lines = lines_on chart n day entries
 
     abbrev count : ℕ
-    count = pages_for (length (lines_on n day entries))
+    count = pages_for (length (lines_on chart n day entries))
 
     abbrev pages : List Page950
     pages = pages_from page 1 count
@@ -94,13 +95,13 @@ module _ (chart : Chart) (entries : List Entry) (n : ℕ) (day : Day) (legal : I
         ∙ joins (page 1) (page count) pages (map (λ p. p.line) lines) (last-is some.0 some.1) (lines-joined chart entries n day account) follow (all-carried chart entries n day account 1 1 count _ refl) (same-balance _ _ adds)
 
 -- the pages of an account's statement close at its fold
-pub closes : (chart : Chart) (entries : List Entry) (n : ℕ) (day : Day) → IsLegal chart entries → IsListed chart n → ClosesAtBalance chart entries n day
+pub closes : (chart : Chart) (entries : List Entry) (n : ℕ) (day : Day) → IsFront chart entries → IsListed chart n → ClosesAtBalance chart entries n day
 closes chart entries n day legal listed =
     let account = listed_account chart n listed in (
       statement chart entries n day legal account.0,
       record {
         joined =
-            ap (λ (o : Option Account). joined_of (option_map_or (λ a. pages_from (page_at chart entries n day a) 1 (pages_for (length (lines_on n day entries)))) o [])) account.1
+            ap (λ (o : Option Account). joined_of (option_map_or (λ a. pages_from (page_at chart entries n day a) 1 (pages_for (length (lines_on chart n day entries)))) o [])) account.1
             ∙ joined chart entries n day legal account.0;
         opening = refl;
         lines = refl;

@@ -18,18 +18,19 @@ use Rattle.corr_ids.proofs.laws.Civil.{date_from}
 use Rattle.corr_ids.proofs.laws.Spelling.{some_if}
 use Rattle.ref_tables.specs.Seen.{Tables, decimals_in, few_decimals}
 use Rattle.fin_contents.specs.Writing.{IsReadable}
-use Rattle.day_model.specs.Chart.{Chart, IsFormed, account_at, HasCode}
+use Rattle.day_model.specs.Chart.{Chart, HasCode, IsFormed, account_at, accounts_of}
 use Rattle.day_model.specs.declared.account.Account.{Account}
 use Rattle.day_model.specs.declared.entry.Entry.{Entry}
-use Rattle.day_model.proofs.laws.Balances.{listed_account}
+use Rattle.day_model.proofs.laws.Fitting.{listed_account}
 use Rattle.mt950.specs.Page.{mt950_of}
 use Rattle.mt950.specs.Writing.{IsBalance, IsContinued, IsWritableLine, IsPage}
 use Rattle.mt950.proofs.laws.Pages.{page-given}
-use Rattle.statement.specs.Lines.{Placed, lines_on}
+use Rattle.statement.specs.Lines.{Placed, is_return, lines_on}
 use Rattle.statement.specs.Pages.{carried, day_before, lines_of_page, page_at, pages_for}
 use Rattle.statement.specs.Seen.{SeenBook}
 use Rattle.statement.specs.Valid.{IsPrintable}
 use Rattle.statement.proofs.Fine.{IsFine, IsFit, abs-small, after-small, entry-fit, lines-few, lines-fine}
+use Rattle.statement.proofs.laws.Fronts.{front-fits, front-rules}
 use Rattle.statement.proofs.Walking.{one-leg}
 use Rattle.statement.proofs.Words.{quoted-page, word-run}
 
@@ -93,30 +94,30 @@ module _ (book : SeenBook) (n : ℕ) (day : Day) (is : IsPrintable book n day) w
   entries = book.entries
 
   abbrev lines : List Placed
-  lines = lines_on n day entries
+  lines = lines_on chart n day entries
 
   all-fit : AllByRecursion (IsFit n) entries
   all-fit =
       recursion_from_All (IsFit n) entries (λ k d lt.
       let e : Entry = get_or entries k d in
-      let fits = is.legal.fits k e (slice_get-get_or entries k d lt) in
+      let fits = front-fits chart entries is.legal k e (slice_get-get_or entries k d lt) in
       entry-fit chart n e fits (is.shaped k d lt) (is.quotes k d lt) (one-leg chart n e fits))
 
   module _ (account : Account) (at : account_at chart n ≡ Some account) where
     formed : IsFormed account
-    formed = is.chart.rows.formed (n - 1) account at
+    formed = is.chart.rows.apart.formed (n - 1) account at
 
     all-fine : AllByRecursion (IsFine account.decimals (length entries)) lines
-    all-fine = lines-fine n day account.decimals (length entries) formed.decimals is.century is.legal.short 1 entries (omega arith) all-fit
+    all-fine = lines-fine n day account.decimals (length entries) formed.decimals is.century (front-rules chart entries is.legal).short (is_return chart entries) 1 entries (omega arith) all-fit
 
     pub pages-few : pages_for (length lines) < 5000
     pages-few =
-        let few = lines-few n day 1 entries all-fit in
-        let short = is.legal.short in
+        let few = lines-few (is_return chart entries) n day 1 entries all-fit in
+        let short = (front-rules chart entries is.legal).short in
         few-pages (length lines) (omega (arith, few, short))
 
     three : length account.ccy.0 ≡ 3
-    three = all-get HasCode chart.accounts (n - 1) account (recursion_from_All HasCode chart.accounts is.codes) at
+    three = all-get HasCode (accounts_of chart) (n - 1) account (recursion_from_All HasCode (accounts_of chart) is.codes) at
 
     balance-fine : (last : Bool) (d : Day) (k : ℕ) → InCentury d → IsBalance account.decimals (record { last = last; day = d; signed = carried chart entries n day k })
     balance-fine last d k century = record {
@@ -132,7 +133,7 @@ module _ (book : SeenBook) (n : ℕ) (day : Day) (is : IsPrintable book n day) w
     pub page-written : (t : Tables) (k : ℕ) → decimals_in t account.ccy.0 ≡ Some account.decimals → k ≤ pages_for (length lines) → IsPage t (page_at chart entries n day account k)
     page-written t k known low =
         let few = pages-few in
-        let most = is.chart.rows.few in
+        let most = is.chart.rows.apart.few in
         let within = is.listed.1 in
         let quoted = quoted-page day n k is.century (omega (arith, most, within)) (omega (arith, few, low)) in
         record {
@@ -160,7 +161,7 @@ module _ (book : SeenBook) (n : ℕ) (day : Day) (is : IsPrintable book n day) w
         (All-from_recursion IsContinued _ (all-map (IsFine account.decimals (length entries)) IsContinued (λ p. p.line) (λ p fine. rw fine.plain tt) (lines_of_page k lines) (page-lines k)))
 
 -- each line of a day can be written
-pub lines-written : (book : SeenBook) (n : ℕ) (day : Day) → IsPrintable book n day → (decimals : ℕ) × AllByRecursion (λ (p : Placed). IsWritableLine decimals p.line) (lines_on n day book.entries)
+pub lines-written : (book : SeenBook) (n : ℕ) (day : Day) → IsPrintable book n day → (decimals : ℕ) × AllByRecursion (λ (p : Placed). IsWritableLine decimals p.line) (lines_on book.chart n day book.entries)
 lines-written book n day is =
     let account = listed_account book.chart n is.listed in
-    (account.0.decimals, all-written account.0.decimals (length book.entries) (lines_on n day book.entries) (all-fine book n day is account.0 account.1))
+    (account.0.decimals, all-written account.0.decimals (length book.entries) (lines_on book.chart n day book.entries) (all-fine book n day is account.0 account.1))

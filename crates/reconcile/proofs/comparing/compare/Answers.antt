@@ -17,18 +17,18 @@ returns-clause-value c =
 
 pub returns-clause-first : goal.returns-clause-first
 returns-clause-first c =
-    IfOk-weaker c.compare_with.result _ _ (λ compared h. subst (TakesFirst c.args.n.0 c.args.h.now.entries c.args.s.now) (sym (h (record { chart = c.args.a.now; entries = c.args.h.now.entries })
+    IfOk-weaker c.compare_with.result _ _ (λ compared h. subst (TakesFirst c.args.a.now c.args.n.0 c.args.h.now.entries c.args.s.now) (sym (h (record { chart = c.args.a.now; entries = c.args.h.now.entries })
     (record { has = record { is = c.in_ok-index.ensures; listed = c.requires.listed }; shaped = c.requires.shaped; received = c.requires.received })))
     (takes-first c.args.a.now c.args.h.now.entries c.args.n.0 c.args.s.now c.requires.legal)) c.compare_with.ensures
 
 pub returns-clause-once : goal.returns-clause-once
 returns-clause-once c =
-    IfOk-weaker c.compare_with.result _ _ (λ compared h. subst (StandOnce c.args.n.0 c.args.h.now.entries c.args.s.now) (sym (h (record { chart = c.args.a.now; entries = c.args.h.now.entries })
+    IfOk-weaker c.compare_with.result _ _ (λ compared h. subst (StandOnce c.args.a.now c.args.n.0 c.args.h.now.entries c.args.s.now) (sym (h (record { chart = c.args.a.now; entries = c.args.h.now.entries })
     (record { has = record { is = c.in_ok-index.ensures; listed = c.requires.listed }; shaped = c.requires.shaped; received = c.requires.received })))
     (stand-once c.args.a.now c.args.h.now.entries c.args.n.0 c.args.s.now c.requires.legal)) c.compare_with.ensures
 
 pub returns-clause-adds : goal.returns-clause-adds
 returns-clause-adds c =
-    IfOk-weaker c.compare_with.result _ _ (λ compared h. subst (AddsUp c.args.n.0 c.args.h.now.entries c.args.s.now) (sym (h (record { chart = c.args.a.now; entries = c.args.h.now.entries })
+    IfOk-weaker c.compare_with.result _ _ (λ compared h. subst (AddsUp c.args.a.now c.args.n.0 c.args.h.now.entries c.args.s.now) (sym (h (record { chart = c.args.a.now; entries = c.args.h.now.entries })
     (record { has = record { is = c.in_ok-index.ensures; listed = c.requires.listed }; shaped = c.requires.shaped; received = c.requires.received })))
     (adds-up c.args.a.now c.args.h.now.entries c.args.n.0 c.args.s.now c.requires.legal c.requires.received)) c.compare_with.ensures

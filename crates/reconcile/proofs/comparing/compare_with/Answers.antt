@@ -42,7 +42,7 @@ pub returns : goal.returns
 returns c = λ book is.
     let s = c.args.s.now in
     let n = c.args.n.0 in
-    let ours : List Placed = lines_on n s.day book.entries in
+    let ours : List Placed = lines_on book.chart n s.day book.entries in
     let entries : map placed_by c.booked_on-entries.result.now ≡ ours = c.booked_on-entries.ensures book is.has in
     let lines : c.as_slice.result.now ≡ s.lines = c.as_slice.ensures in
     let pairs : c.in_ok-pairs.field-0.pairs ≡ pairs_of ours s.lines = c.in_ok-pairs.ensures.pairs ∙ (λ i. pairs_of (entries i) (lines i)) in

@@ -40,7 +40,7 @@ put_compared-requires-clause-numbers c =
     let n = c.in-Some.n.0 in
     let (book, tells) = c.requires.book in
     let is : Compares c.args.ix.now n s book = compares c.args.ix.now c.args.a.now n s book tells c.in-Some.ensures.listed c.requires.received in
-    subst (λ (compared : Compared). All (λ number. 1 ≤ number) compared.theirs) (sym (c.in_ok-compared.ensures book is)) (theirs-numbered (ours_of n book.entries s) s.lines)
+    subst (λ (compared : Compared). All (λ number. 1 ≤ number) compared.theirs) (sym (c.in_ok-compared.ensures book is)) (theirs-numbered (ours_of book.chart n book.entries s) s.lines)
 
 pub returns : goal.returns
 returns c =

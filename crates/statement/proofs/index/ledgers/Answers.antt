@@ -3,7 +3,7 @@ use Rattle.std.specs.Prelude.{All, slice_get}
 use Rattle.std.proofs.lemmas.List.{map-append}
 use Rattle.std.proofs.lemmas.List.Elements.{All-append}
 use Rattle.day_model.specs.declared.account.Account.{Account}
-use Rattle.day_model.specs.Chart.{HasCode}
+use Rattle.day_model.specs.Chart.{HasCode, accounts_of}
 use Rattle.statement.specs.Index.{ledger_with}
 use Rattle.statement.specs.declared.ledger.Ledger.{Ledger}
 use Rattle.statement.proofs.Adding.{all-one}
@@ -20,6 +20,6 @@ codes_more xs n a so_far at code = subst (All HasCode) (sym (take-next xs n a at
 
 pub loop-n-preserved : goal.loop-n-preserved
 loop-n-preserved c = (
-  one_more c.args.a.now.accounts c.loop-n.n c.get.result.now c.loop-n.ledgers.items c.push.new.self.items c.in_ok-new.field-0 c.loop-n.invariant.0 c.get.ensures.value c.in_ok-new.ensures.value c.in_ok-push.ensures.items,
-  codes_more c.args.a.now.accounts c.loop-n.n c.get.result.now c.loop-n.invariant.1 c.get.ensures.value c.in_ok-new.ensures.code,
+  one_more (accounts_of c.args.a.now) c.loop-n.n c.get.result.now c.loop-n.ledgers.items c.push.new.self.items c.in_ok-new.field-0 c.loop-n.invariant.0 c.get.ensures.value c.in_ok-new.ensures.value c.in_ok-push.ensures.items,
+  codes_more (accounts_of c.args.a.now) c.loop-n.n c.get.result.now c.loop-n.invariant.1 c.get.ensures.value c.in_ok-new.ensures.code,
 )

@@ -2,6 +2,7 @@ use Rattle.std.proofs.Common.{◌≡◌}
 use Rattle.std.proofs.lemmas.Result.{IfOk-weaker, on_ok_weaker}
 use Rattle.statement.specs.Pages.{pages_of}
 use Rattle.statement.specs.Seen.{SeenBook}
+use Rattle.statement.proofs.laws.Fronts.{whole-front}
 use Rattle.statement.proofs.Printing.{prints-history}
 use Rattle.statement.proofs.laws.Closing.{closes}
 use Rattle.statement.proofs.paging.pages.Goals as goal
@@ -12,10 +13,10 @@ pages_with-requires c =
     (book, prints-history c.in_ok-index.index book.chart book.entries c.args.n.0 c.args.day c.in_ok-index.ensures c.requires.listed c.requires.shaped c.requires.home c.requires.day)
 
 pub returns-in_err-index-clause-closes : goal.returns-in_err-index-clause-closes
-returns-in_err-index-clause-closes c = closes c.args.a.now c.args.h.now.entries c.args.n.0 c.args.day c.requires.legal c.requires.listed
+returns-in_err-index-clause-closes c = closes c.args.a.now c.args.h.now.entries c.args.n.0 c.args.day (whole-front c.args.a.now c.args.h.now.entries c.requires.legal) c.requires.listed
 
 pub returns-clause-closes : goal.returns-clause-closes
-returns-clause-closes c = closes c.args.a.now c.args.h.now.entries c.args.n.0 c.args.day c.requires.legal c.requires.listed
+returns-clause-closes c = closes c.args.a.now c.args.h.now.entries c.args.n.0 c.args.day (whole-front c.args.a.now c.args.h.now.entries c.requires.legal) c.requires.listed
 
 pub returns-clause-value : goal.returns-clause-value
 returns-clause-value c =

@@ -1,4 +1,4 @@
-use Rattle.std.proofs.Common.{[], map, ap, ◌∙◌}
+use Rattle.std.proofs.Common.{[], map, refl, ap, ◌∙◌}
 use Rattle.statement.specs.Index.{on_day}
 use Rattle.statement.specs.Running.{placed_by}
 use Rattle.statement.specs.declared.ledger.Ledger.{Ledger}
@@ -20,4 +20,4 @@ returns c = λ book has.
     let n = c.args.n.0 in
     let k = kept index book n c.ledger.result.now has.is has.listed c.ledger.ensures in
     ap (map placed_by) (c.on.ensures ∙ ap (λ (l : Ledger). on_day c.args.day l.movements) k.same)
-    ∙ lines-are book.chart n c.args.day [] book.entries
+    ∙ lines-are book.chart n c.args.day book.entries [] book.entries refl

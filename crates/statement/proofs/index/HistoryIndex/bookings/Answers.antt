@@ -1,8 +1,8 @@
-use Rattle.std.proofs.Common.{◌∷◌, [], ◌++◌, List, take, sym, subst}
+use Rattle.std.proofs.Common.{◌∷◌, [], take, sym, subst}
 use Rattle.std.specs.Prelude.{All}
 use Rattle.std.proofs.lemmas.List.Elements.{All-append}
 use Rattle.day_model.specs.declared.pay.Leg.{Leg}
-use Rattle.statement.specs.Legs.{IsByteQuote}
+use Rattle.pay_returns.specs.References.{IsByteQuote}
 use Rattle.statement.proofs.Adding.{all-one, next-fit}
 use Rattle.statement.proofs.Pushing.{bookings-more, next-leg, take-leg}
 use Rattle.statement.proofs.index.HistoryIndex.bookings.Goals as goal

@@ -17,4 +17,4 @@ returns-clause-value c = λ book next.
     let index = c.args.self.now in
     let listed = listed-too index c.requires.next.0 book c.args.leg.now.account.0 c.requires.next.1.is next.is c.requires.next.2 in
     let held : to_z w64 (of_z w64 c.balance_with.result) ≡ c.balance_with.result = to_z-of_z w64 c.balance_with.result (record { sfits = c.balance_with.type_inv }) in
-    rw held (moves-by index c.args.e.now c.args.leg.now book c.ledger.result.now next listed c.requires.only c.ledger.ensures c.in_ok-quote_text.field-0 (c.in_ok-quote_text.ensures.value) c.balance_with.result c.balance_with.ensures)
+    rw held (moves-by index c.args.e.now c.args.leg.now book c.ledger.result.now next listed c.requires.only c.ledger.ensures c.in_ok-quote_text.field-0 (c.in_ok-quote_text.ensures.value) c.args.returned (c.requires.returned book next) c.balance_with.result c.balance_with.ensures)

@@ -3,11 +3,12 @@ use Rattle.std.proofs.lemmas.List.{take_all}
 use Rattle.day_model.specs.declared.entry.Entry.{Entry}
 use Rattle.statement.specs.Index.{IsIndexOf}
 use Rattle.statement.proofs.Adding.{begins, front, next-at}
-use Rattle.statement.proofs.Prefixes.{legal-take, take-next}
+use Rattle.statement.proofs.Prefixes.{take-next}
+use Rattle.statement.proofs.laws.Fronts.{front-take}
 use Rattle.statement.proofs.index.HistoryIndex.new.Goals as goal
 
 pub loop-at-init : goal.loop-at-init
-loop-at-init c = begins c.args.a.now _ c.ledgers.ensures.sound (c.in_ok-ledgers.ensures.codes) (legal-take c.args.a.now c.args.h.now.entries 0 c.requires.legal) c.home.ensures refl (c.in_ok-ledgers.ensures.value)
+loop-at-init c = begins c.args.a.now _ c.ledgers.ensures.sound (c.in_ok-ledgers.ensures.codes) (front-take c.args.a.now c.args.h.now.entries 0 c.requires.legal) c.home.ensures refl c.new.ensures.items (c.in_ok-ledgers.ensures.value)
 
 pub add-requires : goal.add-requires
 add-requires c =
