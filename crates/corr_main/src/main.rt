@@ -49,7 +49,7 @@ Status 0 done; 1 other words; 2 a table row is refused; 3 a file can't be read; 
 out.fin can't be written; 5 journal.bin can't be read or written, or is in use; 6 there is no
 journal, it is damaged, or it is there already, or the openings don't balance; 7 no memory; 8 DATE
 is before the last entry's day; 9 the message file is too large; 10 it can't be cut; 11 the journal
-is full. Each but 0 has its line on standard error.
+is full; 12 it is of another version. Each but 0 has its line on standard error.
 
 To read on: docs/operating.md says what each command reads and writes, and what to do after each status;
 docs/messages.md explains each code of the report.

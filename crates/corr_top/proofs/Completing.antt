@@ -1,5 +1,5 @@
 -- Where nothing is wrong, a command is done or wants memory.
-use Rattle.std.proofs.Common.{◌≡◌, ℕ, ◌≤◌, ◌⊎◌, inl, inr, All, true, List, [], ◌∷◌, ◌++◌, length, Option, Some, None, refl, sym, ap, ◌∙◌, subst, arith}
+use Rattle.std.proofs.Common.{length-append, ◌≡◌, ℕ, ◌≤◌, ◌⊎◌, inl, inr, All, true, List, [], ◌∷◌, ◌++◌, length, Option, Some, None, refl, sym, ap, ◌∙◌, subst, arith}
 use Rattle.std.specs.Prelude.{IfSome, slice_get}
 use Rattle.std.proofs.lemmas.Int.{ints}
 use Rattle.std.proofs.lemmas.Option.{none-some}
@@ -13,12 +13,13 @@ use Rattle.day_model.specs.declared.entry.Entry.{Entry}
 use Rattle.day_model.specs.declared.fault.AccountsFault.{AccountsFault}
 use Rattle.day_model.specs.declared.fault.AccountsFault.TheVariants as accounts
 use Rattle.day_model.specs.declared.pay.Pay.{Pay}
-use Rattle.day_model.specs.Chart.{Chart, opening_sum}
+use Rattle.day_model.specs.Chart.{AreBy, Chart, opening_sum}
 use Rattle.day_model.specs.Laws.{IsLatest}
 use Rattle.day_model.specs.Legal.{IsLegal}
 use Rattle.fin_frame.specs.Machine.{at_start, run, with_open}
 use Rattle.fin_frame.proofs.laws.Showing.{cut-comes}
-use Rattle.jrn_book.specs.Opening.{Finding, IsFound, book, faulty, no_book}
+use Rattle.jrn_book.specs.Opening.{Finding, IsFound, book, faulty, no_book, other_version}
+use Rattle.jrn_book.proofs.Entering.{by_later}
 use Rattle.jrn_book.proofs.laws.Findings.{one_finding}
 use Rattle.jrn_file.specs.Faults.{TellsCounts}
 use Rattle.jrn_file.specs.Reading.{Reading, opened_of}
@@ -66,15 +67,17 @@ use Rattle.corr_top.specs.Stops.{status_of_booking, status_of_file, status_of_ma
 use Rattle.corr_top.specs.Writing.{FailsWriting}
 use Rattle.corr_top.proofs.MessageFiles.{no-fault}
 use Rattle.corr_top.proofs.Rooms.{has_room}
-use Rattle.corr_top.proofs.Fronts.{All-front, legal_front}
+use Rattle.day_model.proofs.laws.Fronts.{legal_front}
+use Rattle.corr_top.proofs.Fronts.{All-front}
 use Rattle.corr_top.proofs.Told.{same_accounts, same_directory, same_tables, small_table, took_whole}
 use Rattle.corr_top.proofs.Walking.{Has, find, is_named, walked}
 
--- ---- what was read up to a step is what was told
+-- ---- what was read up to a step is what was told, and changes of accounts came by then
 
 record SameJournal (j i : Inputs) : Type 0 where
   pub chart : j.chart ≡ i.chart
   pub history : j.history ≡ i.history
+  pub by_now : AreBy (length i.history) i.chart
 
 abbrev Agrees : Inputs → Inputs → Step → Type 0
 Agrees j i (Step.table name) = table_file name j ≡ table_file name i
@@ -175,7 +178,8 @@ opening_memory : {D : Type 0} (d : disks.Ghosts D) (old new : D) (chart : Chart)
     → status_of_opening stop ≡ status.Memory
 opening_memory d old new chart history opening.NotAJournal sure holds stops =
     absurd (other_finding (opened_of (d.reads old)) chart history no_book (holds.journal, holds.stands sure.told) (stops.told sure.told) (λ same. cc))
-opening_memory d old new chart history (opening.Version found) sure holds stops = absurd stops.cause
+opening_memory d old new chart history (opening.Version found) sure holds stops =
+    absurd (other_finding (opened_of (d.reads old)) chart history (other_version found) (holds.journal, holds.stands sure.told) (stops.told sure.told) (λ same. cc))
 opening_memory d old new chart history (opening.Damaged at) sure holds stops =
     absurd (other_finding (opened_of (d.reads old)) chart history (faulty at) (holds.journal, holds.stands sure.told) (stops.told sure.told) (λ same. cc))
 opening_memory d old new chart history (opening.DiskFault b a) sure holds stops = absurd (sure.sound (tells_rose (d.faults old) b a (d.faults new) stops.cause))
@@ -208,20 +212,21 @@ added_is : (history added front later : List Entry) → history ++ added ≡ (hi
 added_is [] added front later is = is
 added_is (e ∷ history) added front later is = added_is history added front later (cc (is))
 
-front_legal : (j : Inputs) (added : List Entry) {entries end need : ℕ} → (lacks : LacksRoomThen j.chart j.history (pays_of j) j.day (j.history ++ added) entries end need) → IsLegal j.chart (j.history ++ added) → IsLegal j.chart (j.history ++ lacks.front)
-front_legal j added lacks legal = legal_front j.chart (j.history ++ lacks.front) lacks.later (subst (IsLegal j.chart) lacks.left_is legal)
+front_legal : (j : Inputs) (added : List Entry) {entries end need : ℕ} → AreBy (length j.history) j.chart → (lacks : LacksRoomThen j.chart j.history (pays_of j) j.day (j.history ++ added) entries end need) → IsLegal j.chart (j.history ++ added) → IsLegal j.chart (j.history ++ lacks.front)
+front_legal j added by lacks legal = legal_front j.chart (j.history ++ lacks.front) lacks.later (by_later j.chart (length j.history) (length (j.history ++ lacks.front)) (omega (arith, length-append j.history lacks.front)) by) (subst (IsLegal j.chart) lacks.left_is legal)
 
 front_added : (j : Inputs) (added : List Entry) {entries end need : ℕ} → All (IsEnteredOn j.day (pays_of j)) added → (lacks : LacksRoomThen j.chart j.history (pays_of j) j.day (j.history ++ added) entries end need) → All (IsEnteredOn j.day (pays_of j)) lacks.front
 front_added j added each lacks = All-front (IsEnteredOn j.day (pays_of j)) lacks.front lacks.later (subst (λ (es : List Entry). All (IsEnteredOn j.day (pays_of j)) es) (added_is j.history added lacks.front lacks.later lacks.left_is) each)
 
-booking_memory : {D : Type 0} (d : disks.Ghosts D) (old new : D) (j i : Inputs) (stop : BookStop) → IsSure d old new → HasRoomForAll i.chart i.history (pays_of i) → j.chart ≡ i.chart → j.history ≡ i.history → pays_of j ≡ pays_of i
+booking_memory : {D : Type 0} (d : disks.Ghosts D) (old new : D) (j i : Inputs) (stop : BookStop) → IsSure d old new → HasRoomForAll i.chart i.history (pays_of i) → SameJournal j i → pays_of j ≡ pays_of i
     → StopsBooking d old new j stop → status_of_booking stop ≡ status.Memory
-booking_memory d old new j i (booking.DiskFault b a) sure room chart history pays stops = absurd (sure.sound (tells_rose (d.faults old) b a (d.faults new) stops.cause))
-booking_memory d old new j i (booking.Full entries end need) sure room chart history pays stops =
-    absurd (has_room j.chart j.history (pays_of j) j.day (j.history ++ stops.added) entries end need
-    (subst (λ (c : Chart). HasRoomForAll c j.history (pays_of j)) (sym chart) (subst (λ (h : List Entry). HasRoomForAll i.chart h (pays_of j)) (sym history) (subst (λ (ps : List Pay). HasRoomForAll i.chart i.history ps) (sym pays) room)))
-    stops.cause.1 (front_legal j stops.added stops.cause.1 stops.journal.legal) (front_added j stops.added stops.each stops.cause.1))
-booking_memory d old new j i booking.Memory sure room chart history pays stops = refl
+booking_memory d old new j i (booking.DiskFault b a) sure room same pays stops = absurd (sure.sound (tells_rose (d.faults old) b a (d.faults new) stops.cause))
+booking_memory d old new j i (booking.Full entries end need) sure room same pays stops =
+    let by : AreBy (length j.history) j.chart = subst (λ (x : List Entry × Chart). AreBy (length x.0) x.1) (λ k. (sym same.history k, sym same.chart k)) same.by_now in
+    absurd (has_room j.chart j.history (pays_of j) j.day (j.history ++ stops.added) entries end need by
+    (subst (λ (c : Chart). HasRoomForAll c j.history (pays_of j)) (sym same.chart) (subst (λ (h : List Entry). HasRoomForAll i.chart h (pays_of j)) (sym same.history) (subst (λ (ps : List Pay). HasRoomForAll i.chart i.history ps) (sym pays) room)))
+    stops.cause.1 (front_legal j stops.added by stops.cause.1 stops.journal.legal) (front_added j stops.added stops.each stops.cause.1))
+booking_memory d old new j i booking.Memory sure room same pays stops = refl
 
 module _ {S K D : Type 0} (source : sources.Ghosts S) (d : disks.Ghosts D) (old new : Room S K D) (j i : Inputs) (home : j.home ≡ i.home) (day : j.day ≡ i.day) where
   step_memory : (s : Status) (done : List Step) (step : Step) → IsAfter done step → Walks (Agrees j i) done → IsReady source d old new i step → StopsAt source d old new j s step → s ≡ status.Memory
@@ -235,7 +240,7 @@ module _ {S K D : Type 0} (source : sources.Ghosts S) (d : disks.Ghosts D) (old 
   step_memory s done Step.messages after all ready stops = stops.1 ∙ messages_memory source old.messages new.messages j.messages i.messages i.cut stops.0 ready.0 ready.1 stops.2
   step_memory s done Step.book after all ready stops =
       let journal = walked (Agrees j i) done Step.open_journal all after.journal in
-      stops.1 ∙ booking_memory d old.disk new.disk j i stops.0 ready.0 ready.1 journal.chart journal.history (same_pays j i done after all) stops.2
+      stops.1 ∙ booking_memory d old.disk new.disk j i stops.0 ready.0 ready.1 journal (same_pays j i done after all) stops.2
   step_memory s done Step.received after all ready stops = stops.1 ∙ messages_memory source old.received new.received j.messages i.messages i.cut stops.0 ready.0 ready.1 stops.2
 
   -- the messages of a file that was read are those that were told
@@ -250,7 +255,7 @@ module _ {S K D : Type 0} (source : sources.Ghosts S) (d : disks.Ghosts D) (old 
   step_agrees Step.make ready passes = tt
   step_agrees Step.open_journal ready passes =
       let same = one_finding (opened_of (d.reads old.disk)) (book j.chart j.history) (book i.chart i.history) (passes.journal, passes.stands ready.0.told) (ready.1.journal, ready.1.stands ready.0.told) in
-      record { chart = cc; history = cc }
+      record { chart = cc; history = cc; by_now = ready.1.journal.legal.changes.by_now }
   step_agrees Step.day ready passes = tt
   step_agrees Step.messages ready passes = cut_agrees old.messages new.messages ready.0 ready.1 passes
   step_agrees Step.book ready passes = tt

@@ -158,9 +158,9 @@ module _ (o : Opening) (readings : List (Result Pay NoPay)) (history : List Entr
   cause_of before after booking.Memory was is calm stops = tt
 
 module _ {S D : Type 0} (source : sources.Ghosts S) (d : disks.Ghosts D) (directory : Directory) (workers : ℕ) (from to : S) (old : Parts D) (new : D) (bytes : List ℕ) (cut : List (List ℕ)) (file : HasMessages source from to bytes cut)
-    (history : List Entry) (left : HasServed d (opening_with d old workers) (past_of d old) (readings_of directory old.accounts cut) old.accounts history new) where
+    (history : List Entry) (left : HasServed d (opening_with d old workers 1) (past_of d old) (readings_of directory old.accounts cut) old.accounts history new) where
   abbrev books : Opening
-  books = opening_with d old workers
+  books = opening_with d old workers 1
 
   abbrev readings : List (Result Pay NoPay)
   readings = readings_of directory old.accounts cut
@@ -231,9 +231,9 @@ left_on d o past asked chart history left has = record { accounts = refl; added 
 
 module _ {S D : Type 0} (source : sources.Ghosts S) (d : disks.Ghosts D) (directory : Directory) (workers : ℕ) (from to : S) (old : Parts D) (bytes : List ℕ) (cut : List (List ℕ)) (file : HasMessages source from to bytes cut)
     (are : AreInstructions directory.tables directory.ssi) (sound : IsChart old.accounts) (count before : ℕ) (was : before ≡ old.at_open) (counted : count ≡ length old.base) where
-  by_served : {V M : Type 0} (items : V → List Served) (history : List Entry) (new : D) → HasServed d (opening_with d old workers) (past_of d old) (readings_of directory old.accounts cut) old.accounts history new
-      → (served : Result V M) → IfOk served (λ made. AreTold (opening_with d old workers) history (readings_of directory old.accounts cut) (items made))
-      → IfOk served (λ made. workers ≡ 1 → AreServedInOrder (opening_with d old workers) history (readings_of directory old.accounts cut) (items made)) → IfErr served (λ _. history ≡ old.base)
+  by_served : {V M : Type 0} (items : V → List Served) (history : List Entry) (new : D) → HasServed d (opening_with d old workers 1) (past_of d old) (readings_of directory old.accounts cut) old.accounts history new
+      → (served : Result V M) → IfOk served (λ made. AreTold (opening_with d old workers 1) history (readings_of directory old.accounts cut) (items made))
+      → IfOk served (λ made. workers ≡ 1 → AreServedInOrder (opening_with d old workers 1) history (readings_of directory old.accounts cut) (items made)) → IfErr served (λ _. history ≡ old.base)
       → (r : Result Texts Status) → IfOk served (λ made. GivesTexts old.accounts history (items made) before (d.faults new) count r) → IfErr served (λ _. r ≡ Err status.Memory)
       → GivesDay source d directory workers from to old new r
   by_served items history new left (Ok made) told turn none (Ok texts) gives memory = day_done source d directory workers from to old new bytes cut file history left (items made) told turn count before texts was counted are sound gives
@@ -241,9 +241,9 @@ module _ {S D : Type 0} (source : sources.Ghosts S) (d : disks.Ghosts D) (direct
   by_served items history new left (Err e) told turn none r gives memory =
       subst (GivesDay source d directory workers from to old new) (sym memory) (day_unserved source d directory workers from to old new bytes cut file history left none)
 
-  pub day_ends : (day : ServedDay D) → AllServed d (opening_with d old workers) (past_of d old) (readings_of directory old.accounts cut) day → (r : Result Texts Status) → GivesServed d day before count r → GivesDay source d directory workers from to old day.closed.disk r
+  pub day_ends : (day : ServedDay D) → AllServed d (opening_with d old workers 1) (past_of d old) (readings_of directory old.accounts cut) day → (r : Result Texts Status) → GivesServed d day before count r → GivesDay source d directory workers from to old day.closed.disk r
   day_ends day all r gives =
-      by_served (λ made. made.items) day.closed.history.entries day.closed.disk (left_on d (opening_with d old workers) (past_of d old) (readings_of directory old.accounts cut) day.closed.accounts day.closed.history.entries day.closed.disk all.left)
+      by_served (λ made. made.items) day.closed.history.entries day.closed.disk (left_on d (opening_with d old workers 1) (past_of d old) (readings_of directory old.accounts cut) day.closed.accounts day.closed.history.entries day.closed.disk all.left)
       day.served all.told all.turn all.none r
       (subst (λ (c : Chart). IfOk day.served (λ made. GivesTexts c day.closed.history.entries made.items before (d.faults day.closed.disk) count r)) all.left.accounts gives.texts) gives.none
 

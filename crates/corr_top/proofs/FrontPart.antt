@@ -5,8 +5,9 @@ use Rattle.day_model.specs.declared.entry.Entry.{Entry}
 use Rattle.day_model.specs.declared.pay.Pay.{Pay}
 use Rattle.day_model.specs.Chart.{Chart}
 use Rattle.day_model.specs.Next.{entered_at}
-use Rattle.corr_top.specs.Booking.{EntersFront, entered_of, history_with}
-use Rattle.corr_top.proofs.NoRoom.{with_known}
+use Rattle.jrn_book.specs.Batches.{entered_of, history_with}
+use Rattle.jrn_book.proofs.Roomy.{with_known}
+use Rattle.corr_top.specs.Booking.{EntersFront}
 
 -- one pay more
 pub entered_last : (chart : Chart) (h : List Entry) (pays : List Pay) (pay : Pay) (day : Day) → entered_of chart h (pays ++ pay ∷ []) day ≡ history_with chart (entered_of chart h pays day) pay day

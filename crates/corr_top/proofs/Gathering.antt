@@ -12,7 +12,7 @@ use Rattle.corr_top.specs.declared.desk.Served.{Served}
 use Rattle.corr_top.specs.declared.desk.Served.TheVariants as served
 use Rattle.corr_top.specs.Serving.{IsFirstFull, IsTried, are_replies}
 use Rattle.corr_top.proofs.Replying.{all_one, get_stays}
-use Rattle.corr_top.proofs.Serves.{get_at}
+use Rattle.day_model.proofs.laws.Folds.{get_at}
 
 -- each has a reply so far, or this is the first that found no room
 abbrev pub IsFullAt : List Served → List Reply → Option BookStop → Type 0

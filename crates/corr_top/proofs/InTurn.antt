@@ -5,6 +5,7 @@ use Rattle.std.proofs.lemmas.Bool.{cond-false, cond-true}
 use Rattle.std.proofs.lemmas.Option.{same_Some, none-some}
 use mathlib.Core.List.{IsPrefix}
 use Rattle.day_model.specs.declared.entry.Entry.{Entry}
+use Rattle.day_model.specs.Chart.{AreBy}
 use Rattle.day_model.specs.declared.entry.Outcome.{Outcome}
 use Rattle.day_model.specs.declared.pay.Pay.{Pay}
 use Rattle.day_model.specs.declared.reply.Reply.{Reply}
@@ -22,17 +23,18 @@ use Rattle.corr_books.specs.Opening.{Opening}
 use Rattle.corr_books.specs.Stand.{history_of}
 use Rattle.jrn_book.specs.Answers.{IsFull}
 use Rattle.corr_books.specs.Telling.{NothingAdded, ShowsFull, ShowsRoom, Told, entry_on, known_to}
-use Rattle.corr_books.proofs.laws.Histories.{history_of-push, take_front}
+use Rattle.corr_books.proofs.laws.Histories.{length-history_of, history_of-push, take_front}
 use Rattle.corr_top.specs.declared.desk.Halt.{Halt}
 use Rattle.corr_top.specs.declared.desk.Halt.TheVariants as halt
 use Rattle.corr_top.specs.declared.desk.Served.{Served}
 use Rattle.corr_top.specs.declared.desk.Served.TheVariants as served
 use Rattle.corr_top.specs.declared.message.NoPay.{NoPay}
 use Rattle.corr_top.specs.Message.{pays_in}
-use Rattle.corr_top.specs.Booking.{entered_of, history_with, lacks_room}
+use Rattle.jrn_book.specs.Batches.{entered_of, history_with, lacks_room}
 use Rattle.corr_top.specs.Serving.{AnswersMessage, IsTried, served_of}
-use Rattle.corr_top.proofs.NoRoom.{no_room, some_room, with_known}
-use Rattle.corr_top.proofs.Serves.{get_at, new_before}
+use Rattle.jrn_book.proofs.Entering.{by_later}
+use Rattle.jrn_book.proofs.Roomy.{no_room, some_room, with_known}
+use Rattle.day_model.proofs.laws.Folds.{get_at, new_before}
 
 -- ---- numbers
 
@@ -118,7 +120,7 @@ module _ (o : Opening) where
       let decided : outcome ≡ outcome_of o.accounts (known_to o old) pay =
       added.decided ∙ ap (λ (l : List Act). outcome_of o.accounts (history_of o.base l) pay) (new_front pay old new place outcome t tags) in
       let is : e ≡ entry_of o.accounts (known_to o old) pay o.day = ap (entry_on o pay) decided in
-      let none = new_before o.accounts (known_to o old) e [] (subst (λ (h : List Entry). IsLegal o.accounts h) history (t.grows tt).legal) in
+      let none = new_before o.accounts (known_to o old) e [] (subst (λ (h : List Entry). IsLegal o.accounts h) history (t.grows tt).legal).rules in
       history ∙ ap (λ (x : Entry). known_to o old ++ x ∷ []) is ∙ sym (new_next (known_to o old) pay none)
 
   -- an answer that adds nothing
@@ -150,11 +152,14 @@ module _ (o : Opening) where
   goes_on (Err why) old new reply s tags = ap (λ (p : PassKnows). known_to o p) s.0
 
   -- one that has a reply or finds no room goes on as one thread does that passes over pays without room
-  pub tries_on : (reading : Result Pay NoPay) (old new : PassKnows) (made : Served) → IsTried made → AnswersMessage o reading old new made → AllTagged new old.number
+  pub tries_on : AreBy (length o.base) o.accounts → (reading : Result Pay NoPay) (old new : PassKnows) (made : Served) → IsTried made → AnswersMessage o reading old new made → AllTagged new old.number
       → known_to o new ≡ entered_of o.accounts (known_to o old) (pays_in (reading ∷ [])) o.day
-  tries_on (Ok pay) old new made tried (inl none) tags = absurd (subst IsTried none.1 tried)
-  tries_on (Ok pay) old new made tried (inr s) tags = cases s.0 s.1 (subst IsTried s.3 tried)
+  tries_on by (Ok pay) old new made tried (inl none) tags = absurd (subst IsTried none.1 tried)
+  tries_on by (Ok pay) old new made tried (inr s) tags = cases s.0 s.1 (subst IsTried s.3 tried)
     where
+      since : AreBy (length (known_to o old)) o.accounts
+      since = by_later o.accounts (length o.base) (length (known_to o old)) (let l = length-history_of o.base old.known in omega (arith, l)) by
+
       room_with : (h : List Entry) → lacks_room o.accounts h pay o.day ≡ false → history_with o.accounts h pay o.day ≡ next_history o.accounts h pay o.day
       room_with h has = cond-false (lacks_room o.accounts h pay o.day) h (next_history o.accounts h pay o.day) has
 
@@ -164,7 +169,7 @@ module _ (o : Opening) where
       cases : (answer : Answer) → Told o pay old answer new → IsTried (served_of pay.mir answer) → known_to o new ≡ history_with o.accounts (known_to o old) pay o.day
       cases (Ok (New place outcome)) t is =
           let room = subst (λ (l : List Act). ShowsRoom o pay (history_of o.base l)) (new_front pay old new place outcome t tags) t.says.room in
-          goes_new pay old new place outcome t tags ∙ sym (room_with (known_to o old) (some_room o.accounts (known_to o old) pay o.day room.end room.end_is room.room))
+          goes_new pay old new place outcome t tags ∙ sym (room_with (known_to o old) (some_room o.accounts (known_to o old) pay o.day since room.end room.end_is room.room))
       cases (Ok (Kept place outcome)) t is =
           let same = same_known old new (t.grows tt).known t.says.1 tags in
           same ∙ sym (with_known o.accounts (known_to o old) pay o.day place (stays_known pay old new place t.says.0.0.first same))
@@ -174,12 +179,12 @@ module _ (o : Opening) where
       cases (Err (fault.Full entries end need)) t is =
           let same = same_known old new (t.grows tt).known t.says.1 tags in
           let shows = subst (λ (h : List Entry). ShowsFull o pay h entries end need) same t.says.0 in
-          let lacks = no_room o.accounts (known_to o old) pay o.day end shows.end_is (subst (IsFull (known_to o old) end) shows.need_is shows.full) in
+          let lacks = no_room o.accounts (known_to o old) pay o.day since end shows.end_is (subst (IsFull (known_to o old) end) shows.need_is shows.full) in
           same ∙ sym (none_with (known_to o old) lacks)
       cases (Err (fault.DiskFault before after)) t is = absurd is
       cases (Err (fault.Broken at_open now)) t is = absurd is
       cases (Err fault.Memory) t is = absurd is
-  tries_on (Err why) old new made tried s tags = ap (λ (p : PassKnows). known_to o p) s.0
+  tries_on by (Err why) old new made tried s tags = ap (λ (p : PassKnows). known_to o p) s.0
 
   -- one that stops its worker adds nothing
   pub stops_here : (reading : Result Pay NoPay) (old new : PassKnows) (why : Halt) → AnswersMessage o reading old new (served.Stopped why) → AllTagged new old.number → known_to o new ≡ known_to o old

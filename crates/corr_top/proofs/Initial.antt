@@ -1,17 +1,16 @@
 -- A journal that is made for the accounts of the tables.
-use Rattle.std.proofs.Common.{◌≡◌, inl, ℕ, List, [], ◌∷◌, Result, Ok, Err, refl, sym, ap, ◌∙◌, subst, arith}
-use Rattle.std.proofs.lemmas.List.Elements.{All-nil}
+use Rattle.std.proofs.Common.{◌≡◌, inl, ℕ, List, [], ◌∷◌, Result, Ok, Err, refl, sym, ap, ◌∙◌, subst}
 use Rattle.std.specs.Prelude.{IsTrue, MatchResult}
 use Rattle.std.specs.List.{Contains}
 use Rattle.corr_disk.specs.declared.disk.Disk as disks
 use Rattle.corr_disk.specs.Disk.{LeavesOnly, Only}
 use Rattle.corr_io.specs.declared.source.Source as sources
 use Rattle.corr_ids.specs.declared.bic.Bic.{Bic}
+use Rattle.day_model.specs.declared.change.Change.{Change}
 use Rattle.day_model.specs.Chart.{Chart}
-use Rattle.day_model.specs.Legal.{IsLegal}
-use Rattle.jrn_book.specs.Journal.{IsJournal}
+use Rattle.jrn_book.specs.Journal.{IsJournal, item_records}
+use Rattle.jrn_book.proofs.Growing.{empty_journal}
 use Rattle.jrn_codec.specs.Header.{IsHead, head_bytes}
-use Rattle.jrn_codec.specs.Record.{IsEntry}
 use Rattle.jrn_file.specs.Faults.{MakeCause}
 use Rattle.jrn_file.specs.Journal.{StandsFor}
 use Rattle.jrn_file.specs.Making.{IsOther, IsUnmade, IsUnmadeOrMade}
@@ -35,33 +34,27 @@ use Rattle.corr_top.specs.Stops.{status_of_making}
 use Rattle.corr_top.specs.Tables.{HasAccounts, StopsAccounts, account_steps}
 use Rattle.corr_top.proofs.Walking.{contained, halts_back, halts_front, walks_both}
 
--- a history without entries is legal, and accounts that have a header have a journal
-no_entries : (chart : Chart) → IsLegal chart []
-no_entries chart = record {
-  short = omega arith;
-  fits = λ i e at. absurd (cc at);
-  decided = λ i e at. absurd (cc at);
-  single = λ i j a b at. absurd (cc at);
-  days = λ i j a b less at. absurd (cc at);
-}
-
+-- accounts that have a header have a journal without entries
 pub new_journal : (chart : Chart) → IsHead chart → IsJournal chart []
-new_journal chart head = record { head = head; entries = All-nil IsEntry; legal = no_entries chart }
+new_journal chart head = empty_journal _ chart head
 
 module _ {D : Type 0} (d : disks.Ghosts D) (old new : D) (head bytes : List ℕ) (chart : Chart) (given : bytes ≡ head) (is : head ≡ head_bytes chart) where
   moments_of : (IsTrue (d.honest old) → Only (d.reads old) (d.may_leave old) → IsUnmade (d.reads old) → LeavesOnly d.moment d.left_since old new (IsUnmadeOrMade bytes)) → MakesInTurn d old new chart
   moments_of any_moment h only free = subst (λ (b : List ℕ). LeavesOnly d.moment d.left_since old new (IsUnmadeOrMade b)) (given ∙ is) (any_moment h only free)
 
   -- a journal of this header was made
-  pub made : d.honest new ≡ d.honest old → (IsTrue (d.honest old) → StandsFor (d.reads new) bytes []) → (IsTrue (d.honest old) → Only (d.reads new) (d.may_leave new)) → d.faults new ≡ d.faults old → IsMakeable d old
+  pub made : chart.changes ≡ [] → d.honest new ≡ d.honest old → (IsTrue (d.honest old) → StandsFor (d.reads new) bytes []) → (IsTrue (d.honest old) → Only (d.reads new) (d.may_leave new)) → d.faults new ≡ d.faults old → IsMakeable d old
       → (IsTrue (d.honest old) → Only (d.reads old) (d.may_leave old) → IsUnmade (d.reads old) → LeavesOnly d.moment d.left_since old new (IsUnmadeOrMade bytes))
       → IsMakeable d old × IsOnDisk d new chart [] × HasNotFailed d old new × MakesInTurn d old new chart
-  made honest stands durable kept free any_moment = (
+  made none honest stands durable kept free any_moment = (
     free,
-    record { stands = λ h. subst (λ (b : List ℕ). StandsFor (d.reads new) b []) (given ∙ is) (stands (sym honest ∙ h)); durable = λ h. durable (sym honest ∙ h) },
+    record { stands = λ h. subst (StandsFor (d.reads new) (head_bytes chart)) records (subst (λ (b : List ℕ). StandsFor (d.reads new) b []) (given ∙ is) (stands (sym honest ∙ h))); durable = λ h. durable (sym honest ∙ h) },
     kept,
     moments_of any_moment,
   )
+    where
+      records : [] ≡ item_records chart []
+      records = ap (λ (cs : List Change). item_records (record chart { changes = cs }) []) (sym none)
 
   -- it was not
   pub unmade : (fault : MakeFault) → MakeCause (d.faults old) (d.faults new) (λ first. IsTrue (d.honest old) → IsOther (d.reads old) first) fault
@@ -111,12 +104,12 @@ module _ {S K D : Type 0} (source : sources.Ghosts S) (d : disks.Ghosts D) (home
 
   -- they were, and the journal was made or it wasn't
   pub init_texts : (chart : Chart) (head : List ℕ) (making : Result (Unit {0}) MakeFault) (texts : Texts) → HasAccounts source old.tables new.tables home chart → IsHead chart → head ≡ head_bytes chart → new ≡ record old { tables = new.tables; disk = new.disk }
-      → MatchResult making (λ _. (c : Chart) → head ≡ head_bytes c → IsMakeable d old.disk × IsOnDisk d new.disk c [] × HasNotFailed d old.disk new.disk × MakesInTurn d old.disk new.disk c) (λ fault. (c : Chart) → head ≡ head_bytes c → StopsMaking d old.disk new.disk c fault)
+      → MatchResult making (λ _. (c : Chart) → c.changes ≡ [] → head ≡ head_bytes c → IsMakeable d old.disk × IsOnDisk d new.disk c [] × HasNotFailed d old.disk new.disk × MakesInTurn d old.disk new.disk c) (λ fault. (c : Chart) → head ≡ head_bytes c → StopsMaking d old.disk new.disk c fault)
       → texts.report ≡ [] → texts.out ≡ []
       → MatchResult making (λ _. HasTexts source d (meaning_of (Plain (Init home))) old new (Ok texts)) (λ fault. HasTexts source d (meaning_of (Plain (Init home))) old new (Err (status_of_making fault)))
   unfolding meaning_of
   init_texts chart head (Ok done) texts has written is rest making report out =
-      let outcome = making chart is in
+      let outcome = making chart written.unchanged is in
       record {
         inputs = has.inputs;
         are_for = has.home_is;

@@ -29,7 +29,6 @@ pub mod Chains
 pub mod InTurn
 pub mod OneWorker
 pub mod Workers
-pub mod Folding
 pub mod Answering
 pub mod Fronts
 pub mod Stopping

@@ -8,6 +8,7 @@ use mathlib.Core.Logic.{dite}
 use native.Mathlib.Decide.{dec_lt}
 use Rattle.corr_report.proofs.laws.Rests.{drop_at}
 use Rattle.day_model.specs.declared.entry.Entry.{Entry}
+use Rattle.day_model.specs.Chart.{AreBy}
 use Rattle.day_model.specs.declared.pay.Pay.{Pay}
 use Rattle.day_model.specs.declared.reply.Reply.{Reply}
 use Rattle.day_model.specs.Next.{entered_at, fold_of}
@@ -24,7 +25,8 @@ use Rattle.corr_top.specs.declared.desk.Served.{Served}
 use Rattle.corr_top.specs.declared.desk.Served.TheVariants as served
 use Rattle.corr_top.specs.Workers.{Worker}
 use Rattle.corr_top.specs.declared.message.NoPay.{NoPay}
-use Rattle.corr_top.specs.Booking.{BeginsNew, EntersFront, LacksRoom, entered_of}
+use Rattle.corr_top.specs.Booking.{BeginsNew, EntersFront, LacksRoom}
+use Rattle.jrn_book.specs.Batches.{entered_of}
 use Rattle.corr_top.specs.Message.{pays_in}
 use Rattle.corr_top.specs.Serving.{AnswersMessage, AreEntered, AreServedInOrder, IsFirstFull, IsTried, SaysFailed, Serves, are_replies, halt_of}
 use Rattle.corr_top.proofs.Chains.{Chain, grew}
@@ -186,11 +188,11 @@ module _ {Job : Type 0} (o : Opening) (reading : Job → Result Pay NoPay) (jobs
     on = λ one is. ap halt_of is.1;
   }
 
-  tried_step : IsStep IsTried (λ h pays. entered_of o.accounts h pays o.day)
-  tried_step = record {
+  tried_step : AreBy (length o.base) o.accounts → IsStep IsTried (λ h pays. entered_of o.accounts h pays o.day)
+  tried_step by = record {
     none = λ h. refl;
     more = λ h pay pays. refl;
-    step = λ r old new one is a tags. tries_on o r old new one is a tags;
+    step = λ r old new one is a tags. tries_on o by r old new one is a tags;
     on = goes_tried;
   }
 
@@ -253,6 +255,7 @@ module _ {Job : Type 0} (o : Opening) (reading : Job → Result Pay NoPay) (jobs
   pub record IsAlone (numbers : List ℕ) (before after : Worker) (history : List Entry) : Type 0 where
     pub chain : Chain o reading jobs made numbers before after
     pub on : before.halted ≡ None
+    pub opened : AreBy (length o.base) o.accounts
     pub order : AreInOrder 1 (length jobs + 1) numbers
     pub none : before.pass.known ≡ []
     pub tags : AllTagged o after.pass before.pass.number
@@ -360,7 +363,7 @@ module _ {Job : Type 0} (o : Opening) (reading : Job → Result Pay NoPay) (jobs
         front = asked jobs;
         rest = [];
         pays_are = sym (append-nil (asked jobs));
-        left_is = all_by IsTried (λ h pays. entered_of o.accounts h pays o.day) tried_step tried;
+        left_is = all_by IsTried (λ h pays. entered_of o.accounts h pays o.day) (tried_step a.opened) tried;
         next = inl refl;
       };
       all = λ _. refl;
@@ -371,8 +374,8 @@ module _ {Job : Type 0} (o : Opening) (reading : Job → Result Pay NoPay) (jobs
 
     -- a message stopped it
     module _ (at : ℕ) (tried : AreFirst IsTried made at) (why : Halt) (here : slice_get made at ≡ Some (served.Stopped why)) where
-      stop_until : Until IsTried (λ h pays. entered_of o.accounts h pays o.day) tried_step 0 at before after (length numbers)
-      stop_until = until_here IsTried (λ h pays. entered_of o.accounts h pays o.day) tried_step at (let below = get_below made at (served.Stopped why) here in let e = a.replies in omega (arith, below, e)) tried
+      stop_until : Until IsTried (λ h pays. entered_of o.accounts h pays o.day) (tried_step a.opened) 0 at before after (length numbers)
+      stop_until = until_here IsTried (λ h pays. entered_of o.accounts h pays o.day) (tried_step a.opened) at (let below = get_below made at (served.Stopped why) here in let e = a.replies in omega (arith, below, e)) tried
 
       stop_next : IsNext at (served.Stopped why) stop_until.mid
       stop_next = next_of at (served.Stopped why) stop_until.mid stop_until.rest here stop_until.length_is stop_until.chain stop_until.order

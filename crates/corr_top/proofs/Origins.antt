@@ -19,6 +19,7 @@ use Rattle.ref_tables.specs.Seen.{Tables, has_head}
 use Rattle.ssi_versions.specs.InstructionList.{AreInstructions}
 use Rattle.ssi_versions.specs.declared.row.SsiRow.{SsiRow}
 use Rattle.day_model.specs.Chart.{Chart, IsChart, account_at, is_same_ccy}
+use Rattle.day_model.proofs.laws.Fronts.{fits_now}
 use Rattle.day_model.specs.Fit.{FitsAccounts}
 use Rattle.day_model.specs.Legal.{IsLegal}
 use Rattle.day_model.specs.Shape.{HasShape}
@@ -204,5 +205,5 @@ sent-valid directory chart day cut old added new are sound grown each shapes leg
     let place = after old added i e past (subst (λ (es : List Entry). slice_get es i ≡ Some e) grown at) in
     let is = get-all (IsEnteredOn day (pays_in (readings_of directory chart cut))) added place.0 e each place.1 in
     let bytes = read-from directory chart cut is.place e.pay is.pay_is in
-    let origin = bytes-origin directory chart are sound e.pay (legal.fits i e at) (get-all HasPayShape added place.0 e shapes place.1) bytes.0 bytes.1 in
+    let origin = bytes-origin directory chart are sound e.pay (fits_now chart new i e legal at) (get-all HasPayShape added place.0 e shapes place.1) bytes.0 bytes.1 in
     sends i e from at directory.tables origin.source origin.came origin.asks

@@ -7,7 +7,7 @@ use Rattle.std.proofs.lemmas.Option.{same_Some, slice_get_cases}
 use Rattle.corr_ids.specs.declared.day.Day.{Day}
 use Rattle.corr_report.specs.Lines.{numbered}
 use Rattle.corr_report.proofs.laws.Rests.{rest_at}
-use Rattle.day_model.specs.Chart.{Chart, account_at, vostro}
+use Rattle.day_model.specs.Chart.{Chart, account_at, accounts_of, vostro}
 use Rattle.day_model.specs.declared.account.Account.{Account}
 use Rattle.day_model.specs.declared.entry.Entry.{Entry}
 use Rattle.statement.specs.Pages.{pages_of}
@@ -40,19 +40,19 @@ there_is xs n first last = elim (slice_get_cases xs (n - 1)).1 [
 module _ (chart : Chart) (entries : List Entry) (day : Day) where
   -- the statements of the accounts ahead of number n are as they are to be
   abbrev pub AreSoFar : ℕ → Type 0
-  AreSoFar n = (i : ℕ) (account : Account) → i + 1 < n → slice_get chart.accounts i ≡ Some account → is_vostro account ≡ true → IsStatementOfDay chart entries day (i + 1)
+  AreSoFar n = (i : ℕ) (account : Account) → i + 1 < n → slice_get (accounts_of chart) i ≡ Some account → is_vostro account ≡ true → IsStatementOfDay chart entries day (i + 1)
 
-  pub next-text : (n : ℕ) (all old new : List ℕ) → 1 ≤ n → n ≤ length chart.accounts → all ≡ old ++ numbered (pages_sent chart entries day) n (drop (n - 1) chart.accounts) → Adds chart entries day n old new
-      → all ≡ new ++ numbered (pages_sent chart entries day) (n + 1) (drop (n + 1 - 1) chart.accounts)
+  pub next-text : (n : ℕ) (all old new : List ℕ) → 1 ≤ n → n ≤ length (accounts_of chart) → all ≡ old ++ numbered (pages_sent chart entries day) n (drop (n - 1) (accounts_of chart)) → Adds chart entries day n old new
+      → all ≡ new ++ numbered (pages_sent chart entries day) (n + 1) (drop (n + 1 - 1) (accounts_of chart))
   next-text n all old new first last so_far adds =
-      let account = there_is chart.accounts n first last in
-      numbered_next (pages_sent chart entries day) n all old new account.0 (drop (n - 1) chart.accounts) (drop (n + 1 - 1) chart.accounts)
-      (rest_at chart.accounts n account.0 first account.1) so_far (adds.text account.0 account.1)
+      let account = there_is (accounts_of chart) n first last in
+      numbered_next (pages_sent chart entries day) n all old new account.0 (drop (n - 1) (accounts_of chart)) (drop (n + 1 - 1) (accounts_of chart))
+      (rest_at (accounts_of chart) n account.0 first account.1) so_far (adds.text account.0 account.1)
 
   pub next-valid : (n : ℕ) (old new : List ℕ) → 1 ≤ n → AreSoFar n → Adds chart entries day n old new → AreSoFar (n + 1)
   next-valid n old new first so_far adds i account below at vostro = elim (eq-or-lt_of_le {n = i + 1} {m = n} (omega (arith, below))) [
     | inl last ↦
         subst (IsStatementOfDay chart entries day) (sym last)
-        (adds.valid account (ap (slice_get chart.accounts) (let p : n - 1 ≡ i = omega (arith, last) in p) ∙ at) vostro)
+        (adds.valid account (ap (slice_get (accounts_of chart)) (let p : n - 1 ≡ i = omega (arith, last) in p) ∙ at) vostro)
     | inr less ↦ so_far i account less at vostro
   ]

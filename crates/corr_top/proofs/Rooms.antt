@@ -1,31 +1,26 @@
 -- A journal that has room for all pays has room for each of them.
 use Rattle.std.proofs.Common.{◌≡◌, inl, inr, ℕ, zero, suc, ◌+◌, ◌<◌, ◌≤◌, ◌^◌, All, List, [], ◌∷◌, ◌++◌, length, map, None, Some, refl, sym, ap, ◌∙◌, subst, arith, append_assoc, length-append}
 use Rattle.std.specs.Prelude.{slice_get, sum_by}
-use Rattle.std.proofs.lemmas.List.{map-append}
 use Rattle.std.proofs.lemmas.List.Sums.{sum_by-append, sum_by-cons}
 use Rattle.std.proofs.lemmas.Option.{none-some, same_Some}
 use Rattle.corr_ids.specs.declared.day.Day.{Day}
 use Rattle.day_model.specs.declared.entry.Entry.{Entry}
 use Rattle.day_model.specs.declared.pay.Pay.{Pay}
-use Rattle.day_model.specs.Chart.{Chart}
+use Rattle.day_model.specs.Chart.{AreBy, Chart}
 use Rattle.day_model.specs.Legal.{IsLegal}
 use Rattle.day_model.specs.Next.{entered_at, entry_of}
-use Rattle.jrn_book.specs.Journal.{file_of, entry_records}
+use Rattle.jrn_book.specs.Journal.{file_of}
 use Rattle.jrn_book.specs.Room.{longest_record}
 use Rattle.jrn_book.proofs.laws.Sizes.{no_longer}
-use Rattle.jrn_codec.specs.Header.{head_bytes}
+use Rattle.jrn_book.proofs.Entering.{by_later}
+use Rattle.jrn_book.proofs.Roomy.{file_more}
 use Rattle.jrn_codec.specs.Record.{entry_bytes}
-use Rattle.jrn_file.specs.Reading.{size_of}
-use Rattle.jrn_file.proofs.laws.Sizes.{length-journal_bytes, size_of-append}
 use Rattle.corr_top.specs.Booking.{IsEnteredOn, LacksRoomThen}
 use Rattle.corr_top.specs.Complete.{HasRoomForAll}
 use Rattle.corr_top.proofs.Replying.{get_all}
 use Rattle.corr_top.proofs.Serves.{entered_mir, split}
 
 -- ---- sums of lengths
-
-file_sum : (head all more own file next : ℕ) → file ≡ 5 + head + all + 1 → next ≡ 5 + head + more + 1 → more ≡ all + own → next ≡ file + own
-file_sum head all more own file next is now grown = omega arith
 
 entries_left : (start entered all now : ℕ) → now ≡ start + entered → entered + 1 ≤ all → start + all ≤ 100000 → now ≡ 100000 → ⊥
 entries_left start entered all now grown parts room full = omega arith
@@ -39,30 +34,16 @@ bytes_left start entered longest all own file end need most grown parts short pl
 abbrev most_of : Pay → ℕ
 most_of pay = longest_record pay + 5
 
-file_long : (chart : Chart) (h : List Entry) → length (file_of chart h) ≡ 5 + length (head_bytes chart) + size_of (entry_records h) + 1
-file_long chart h = length-journal_bytes (head_bytes chart) (entry_records h)
-
-last_record : (r : List ℕ) → size_of (r ∷ []) ≡ 5 + length r
-last_record r = omega arith
-
--- a file with an entry more
-pub file_more : (chart : Chart) (h : List Entry) (e : Entry) → length (file_of chart (h ++ e ∷ [])) ≡ length (file_of chart h) + (5 + length (entry_bytes e))
-file_more chart h e =
-    let records : size_of (entry_records (h ++ e ∷ [])) ≡ size_of (entry_records h) + (5 + length (entry_bytes e)) =
-    ap size_of (map-append entry_bytes h (e ∷ [])) ∙ size_of-append (entry_records h) (entry_bytes e ∷ []) ∙ ap (λ (n : ℕ). size_of (entry_records h) + n) (last_record (entry_bytes e)) in
-    file_sum (length (head_bytes chart)) (size_of (entry_records h)) (size_of (entry_records (h ++ e ∷ []))) (5 + length (entry_bytes e)) (length (file_of chart h)) (length (file_of chart (h ++ e ∷ [])))
-    (file_long chart h) (file_long chart (h ++ e ∷ [])) records
-
 -- the file of a history grows by the longest records of the pays of its entries at most
 all_longer : (start one last rest all own : ℕ) → last ≤ start + (5 + own) + rest → own + 5 ≤ one → all ≡ one + rest → last ≤ start + all
 all_longer start one last rest all own grown short sums = omega arith
 
-file_all : (chart : Chart) (h es : List Entry) → length (file_of chart (h ++ es)) ≤ length (file_of chart h) + sum_by most_of (map (λ e. e.pay) es)
-file_all chart h [] = subst (λ (x : List Entry). length (file_of chart x) ≤ length (file_of chart h) + sum_by most_of []) (sym (Rattle.std.proofs.Common.append-nil h)) (omega arith)
-file_all chart h (e ∷ es) =
+file_all : (chart : Chart) (h es : List Entry) → AreBy (length h) chart → length (file_of chart (h ++ es)) ≤ length (file_of chart h) + sum_by most_of (map (λ e. e.pay) es)
+file_all chart h [] by = subst (λ (x : List Entry). length (file_of chart x) ≤ length (file_of chart h) + sum_by most_of []) (sym (Rattle.std.proofs.Common.append-nil h)) (omega arith)
+file_all chart h (e ∷ es) by =
     let whole : (h ++ e ∷ []) ++ es ≡ h ++ e ∷ es = append_assoc h (e ∷ []) es in
-    let rest = file_all chart (h ++ e ∷ []) es in
-    let more = file_more chart h e in
+    let rest = file_all chart (h ++ e ∷ []) es (by_later chart (length h) (length (h ++ e ∷ [])) (omega (arith, length-append h (e ∷ []))) by) in
+    let more = file_more chart h e by in
     let grown : length (file_of chart (h ++ e ∷ es)) ≤ length (file_of chart h) + (5 + length (entry_bytes e)) + sum_by most_of (map (λ (x : Entry). x.pay) es) =
     subst (λ (x : List Entry). length (file_of chart x) ≤ length (file_of chart h) + (5 + length (entry_bytes e)) + sum_by most_of (map (λ (y : Entry). y.pay) es)) whole (omega (arith, rest, more)) in
     all_longer (length (file_of chart h)) (most_of e.pay) (length (file_of chart (h ++ e ∷ es))) (sum_by most_of (map (λ (x : Entry). x.pay) es)) (sum_by most_of (map (λ (x : Entry). x.pay) (e ∷ es))) (length (entry_bytes e))
@@ -143,12 +124,12 @@ among_all chart history front day pays pay place legal added at new = record { t
         let d = get_pay front i p here in
         let e = get_pay front j q also in
         let mirs : d.0.pay.mir ≡ e.0.pay.mir = ap (λ (x : Pay). x.mir) d.2 ∙ same ∙ ap (λ (x : Pay). x.mir) (sym e.2) in
-        let s = legal.single (length history + i) (length history + j) d.0 e.0 (get_after history front i d.0 d.1) (get_after history front j e.0 e.1) mirs in omega (arith, s)
+        let s = legal.rules.single (length history + i) (length history + j) d.0 e.0 (get_after history front i d.0 d.1) (get_after history front j e.0 e.1) mirs in omega (arith, s)
 
 -- no pay finds no room
-pub has_room : (chart : Chart) (history : List Entry) (pays : List Pay) (day : Day) (left : List Entry) (entries end need : ℕ) → HasRoomForAll chart history pays
+pub has_room : (chart : Chart) (history : List Entry) (pays : List Pay) (day : Day) (left : List Entry) (entries end need : ℕ) → AreBy (length history) chart → HasRoomForAll chart history pays
     → (lacks : LacksRoomThen chart history pays day left entries end need) → IsLegal chart (history ++ lacks.front) → All (IsEnteredOn day pays) lacks.front → ⊥
-has_room chart history pays day left entries end need room lacks legal added =
+has_room chart history pays day left entries end need by room lacks legal added =
     let now = history ++ lacks.front in
     let some = map (λ (e : Entry). e.pay) lacks.front in
     let among = among_all chart history lacks.front day pays lacks.pay lacks.place legal added lacks.pay_is lacks.finds.new in
@@ -162,5 +143,5 @@ has_room chart history pays day left entries end need room lacks legal added =
       | inl full ↦ entries_left (length history) (length lacks.front) (length pays) (length now) (length-append history lacks.front) (omega (arith, ones, count, all, long)) room.entries full
       | inr full ↦ bytes_left (length (file_of chart history)) (sum_by most_of some) (longest_record lacks.pay) (sum_by most_of pays)
           (length (entry_bytes (entry_of chart now lacks.pay day))) (length (file_of chart now)) end need (2 ^ 30)
-          (file_all chart history lacks.front) (omega (arith, bytes, of_pay)) (no_longer (entry_of chart now lacks.pay day)) lacks.finds.end_is lacks.finds.need_is room.bytes full
+          (file_all chart history lacks.front by) (omega (arith, bytes, of_pay)) (no_longer (entry_of chart now lacks.pay day)) lacks.finds.end_is lacks.finds.need_is room.bytes full
     ]

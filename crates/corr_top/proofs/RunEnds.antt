@@ -47,7 +47,7 @@ use Rattle.corr_top.specs.Ends.{CommandGives, HasPassed, HasTexts}
 use Rattle.corr_top.specs.Inputs.{Inputs, new_in, pays_of, replies_of, tables_in}
 use Rattle.corr_top.specs.Message.{pays_in, readings_of, replies_in}
 use Rattle.corr_top.specs.Meaning.{KeepsRest}
-use Rattle.corr_top.specs.OnDisk.{HoldsJournal, IsLeft, IsLeftMidway, IsOnDisk, IsUnwritten, LeavesMidway, StopsOpening}
+use Rattle.corr_top.specs.OnDisk.{one_of, HoldsJournal, IsLeft, IsLeftMidway, IsOnDisk, IsUnwritten, LeavesMidway, StopsOpening}
 use Rattle.corr_top.specs.Origin.{AreSentValid}
 use Rattle.corr_top.specs.Out.{sent_from}
 use Rattle.corr_top.specs.Passing.{StepIsUntouched, Passes, StopsAt, table_at}
@@ -57,9 +57,9 @@ use Rattle.corr_top.specs.Stops.{status_of_books, status_of_day, status_of_openi
 use Rattle.corr_top.specs.Tables.{HasDirectory, StopsDirectory, directory_steps}
 use Rattle.corr_books.proofs.laws.Moments.{leaves_only}
 use Rattle.corr_disk.proofs.laws.Moments.{then_on, weaker}
-use Rattle.corr_top.proofs.Folding.{legal_fold}
+use Rattle.day_model.proofs.laws.Folds.{legal_fold}
 use Rattle.corr_top.proofs.Replying.{get_all}
-use Rattle.corr_top.proofs.Serves.{get_at}
+use Rattle.day_model.proofs.laws.Folds.{get_at}
 use Rattle.corr_top.proofs.Walking.{contained, halts_back, halts_front, walks_both}
 
 -- the steps of a run after its tables
@@ -165,7 +165,7 @@ module _ {S K D : Type 0} (source : sources.Ghosts S) (d : disks.Ghosts D) (day 
         (of_day : opened.day ≡ day) (unwritten : IsUnwritten d old.disk (disk_of opened.file)) where
       -- the opening of these books
       abbrev pub books : Opening
-      books = opening_with d opened workers
+      books = opening_with d opened workers 1
 
       -- the inputs of a run that opened its books, and entered these pays
       abbrev i_of : List ℕ → List (List ℕ) → List Pay → Inputs
@@ -184,7 +184,7 @@ module _ {S K D : Type 0} (source : sources.Ghosts S) (d : disks.Ghosts D) (day 
       is_left : (history : List Entry) → LeavesClosed d books history new.disk → IsLeft d old.disk new.disk opened.accounts history day
       is_left history (inl alone) = inl (alone.sure ∙ at_open, record { stands = alone.stands; durable = alone.durable })
       is_left history (inr failed) =
-          inr (subst (λ n. Rose n (d.faults new.disk)) at_open failed.0, subst (λ (x : Day). IsLeftBy (d.honest new.disk) (d.may_leave new.disk) opened.accounts history x) of_day failed.1)
+          inr (subst (λ n. Rose n (d.faults new.disk)) at_open failed.0, subst (λ (x : Day). IsLeftBy (d.honest new.disk) (d.may_leave new.disk) opened.accounts history (one_of x)) of_day failed.1)
 
       -- what a crash left at a moment since the books were opened, where their count was this, and their day
       abbrev IsLeftSince : List Entry → ℕ → Day → List ℕ → Type 0
@@ -193,7 +193,7 @@ module _ {S K D : Type 0} (source : sources.Ghosts S) (d : disks.Ghosts D) (day 
       -- and at each moment since the run began
       midway : (history : List Entry) → LeavesInTurn d books (past_of d opened) history new.disk → LeavesMidway d old.disk new.disk opened.accounts opened.base history day
       midway history leaves true_here =
-          let since = leaves_only d opened workers new.disk (IsLeftSince history opened.at_open opened.day) (leaves (honest ∙ true_here)) in
+          let since = leaves_only d opened workers 1 new.disk (IsLeftSince history opened.at_open opened.day) (leaves (honest ∙ true_here)) in
           then_on d.moment d.left_since old.disk (disk_of opened.file) new.disk (IsLeftMidway d old.disk new.disk opened.accounts opened.base history day)
           (weaker d.moment d.left_since old.disk (disk_of opened.file) (d.may_leave old.disk) (IsLeftMidway d old.disk new.disk opened.accounts opened.base history day) (λ image x. inl x) unwritten.any_moment)
           (weaker d.moment d.left_since (disk_of opened.file) new.disk (IsLeftSince history opened.at_open opened.day) (IsLeftMidway d old.disk new.disk opened.accounts opened.base history day)
@@ -258,7 +258,7 @@ module _ {S K D : Type 0} (source : sources.Ghosts S) (d : disks.Ghosts D) (day 
           let pays = same_pays bytes cut (entered_of served.added) in
           let legal = subst (IsLegal opened.accounts) served.is served.journal.legal in
           let days : (k : ℕ) (e : Entry) → slice_get served.added k ≡ Some e → e.day ≡ day = λ k e at. (get_all (IsEnteredOn opened.day _) served.added k e served.each at).day_is ∙ of_day in
-          let history_is : history ≡ new_in i = served.is ∙ legal_fold opened.accounts opened.base served.added day legal days in
+          let history_is : history ≡ new_in i = served.is ∙ legal_fold opened.accounts opened.base served.added day legal.rules days in
           let told : replies ≡ replies_of i =
           a.replies_are ∙ ap (λ es. replies_in es (readings_of directory opened.accounts cut)) history_is ∙ ap (λ (x : Directory). replies_in (new_in i) (readings_of x opened.accounts cut)) has.directory_is in
           let answered : AreAnswered i = record {

@@ -101,7 +101,7 @@ module _ (source : sources.Ghosts Supply) (tells : Tells source) (old new : File
       let countries = countries_are i p.1.1.0 in
       let accounts = accounts_are i p.1.1.1.0 in
       let bank = has.home_is ∙ is in
-      let same : chart_in i ≡ sample_chart = λ k. record { home = bank k; accounts = map opened (map (account_of (tables_of (bics k) (ccys k) (countries k))) (rows_of (accounts k))) } in
+      let same : chart_in i ≡ sample_chart = λ k. record { home = bank k; first = map opened (map (account_of (tables_of (bics k) (ccys k) (countries k))) (rows_of (accounts k))); changes = [] } in
       has.chart_is ∙ same
 
 -- its home's BIC meets its grammar
@@ -113,10 +113,10 @@ home_formed = refl
 
 -- the journal was made on a new disk
 pub made_new : {D : Type 0} (d : disks.Ghosts D) (old new : D) (head : List ℕ) (making : Result (Unit {0}) MakeFault) → making ≡ Ok tt
-    → MatchResult making (λ _. (c : Chart) → head ≡ head_bytes c → IsMakeable d old × IsOnDisk d new c [] × HasNotFailed d old new × MakesInTurn d old new c) (λ fault. (c : Chart) → head ≡ head_bytes c → StopsMaking d old new c fault)
-    → head ≡ head_bytes sample_chart → IsTrue (d.honest new) → d.faults old ≡ 0 → IsNewDisk d new
-made_new d old new head (Ok done) is made written honest sure = let m = made sample_chart written in record { honest = honest; holds = m.1; faults = m.2 ∙ sure }
-made_new d old new head (Err fault) is made written honest sure = absurd cc
+    → MatchResult making (λ _. (c : Chart) → c.changes ≡ [] → head ≡ head_bytes c → IsMakeable d old × IsOnDisk d new c [] × HasNotFailed d old new × MakesInTurn d old new c) (λ fault. (c : Chart) → head ≡ head_bytes c → StopsMaking d old new c fault)
+    → sample_chart.changes ≡ [] → head ≡ head_bytes sample_chart → IsTrue (d.honest new) → d.faults old ≡ 0 → IsNewDisk d new
+made_new d old new head (Ok done) is made none written honest sure = let m = made sample_chart none written in record { honest = honest; holds = m.1; faults = m.2 ∙ sure }
+made_new d old new head (Err fault) is made none written honest sure = absurd cc
 
 -- a new journal is opened as the accounts and no history
 pub opened_new : {D : Type 0} (d : disks.Ghosts D) (disk : D) (day : Day) (parts : Parts D) → IsNewDisk d disk → IsJournal sample_chart [] → (IsTrue (d.honest disk) → TellsOf (opened_of (d.reads disk)) day (Ok parts))

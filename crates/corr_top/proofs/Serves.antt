@@ -1,23 +1,21 @@
 -- One serve: what it does to a pass, and what of it stands when the books are closed.
-use Rattle.std.proofs.Common.{◌≡◌, inl, inr, ℕ, zero, suc, ◌+◌, ◌-◌, ◌≤◌, Bool, true, false, cond, List, [], ◌∷◌, ◌++◌, length, Option, Some, None, Result, Ok, Err, refl, sym, ap, ◌∙◌, subst, arith, append_assoc}
+use Rattle.std.proofs.Common.{◌≡◌, inl, inr, ℕ, zero, suc, ◌+◌, ◌≤◌, Bool, true, false, cond, List, [], ◌∷◌, ◌++◌, length, Some, None, Result, Ok, Err, refl, sym, ap, ◌∙◌, subst, arith, append_assoc}
 use Rattle.std.specs.Prelude.{is_some, slice_get}
-use Rattle.std.specs.List.{position_from}
 use Rattle.std.proofs.lemmas.Option.{same_Some, none-some}
 use Rattle.std.proofs.lemmas.Slice.Eq.{bytes_eq-Decides}
 use mathlib.Core.List.{IsPrefix}
 use Rattle.corr_ids.specs.declared.mir.Mir.{Mir}
 use Rattle.day_model.specs.declared.entry.Entry.{Entry}
+use Rattle.day_model.proofs.laws.Folds.{new_before}
 use Rattle.day_model.specs.declared.entry.Outcome.{Outcome}
 use Rattle.day_model.specs.declared.pay.Pay.{Pay}
 use Rattle.day_model.specs.declared.reply.Reply.TheVariants as reply
-use Rattle.day_model.specs.Chart.{Chart}
 use Rattle.day_model.specs.Legal.{IsLegal}
 use Rattle.day_model.specs.Next.{entered_at, has_mir}
 use Rattle.day_model.specs.Same.{reply_to}
 use Rattle.day_model.specs.Shape.{HasShape}
 use Rattle.day_model.proofs.laws.Growth.{none_passes}
 use Rattle.day_model.proofs.laws.Lookups.{reply_new}
-use Rattle.day_model.proofs.laws.Places.{position_from-within}
 use Rattle.front_word.specs.declared.view.Act.{Act}
 use Rattle.front_word.specs.Known.{PassKnows}
 use Rattle.front_word.proofs.laws.Prefixes.{get_below, prefix_self}
@@ -32,7 +30,7 @@ use Rattle.corr_top.specs.declared.desk.Served.{Served}
 use Rattle.corr_top.specs.Workers.{Worker}
 use Rattle.corr_top.specs.declared.message.NoPay.{NoPay}
 use Rattle.corr_top.specs.Serving.{AnswersMessage, IsTold, Serves, served_of}
-use Rattle.corr_top.proofs.Replying.{get_stays, reply_here, reply_stays}
+use Rattle.corr_top.proofs.Replying.{reply_here, reply_stays}
 
 -- ---- lists
 
@@ -47,40 +45,6 @@ pub split : {A : Type 0} (xs : List A) (k : ℕ) (x : A) → slice_get xs k ≡ 
 split [] k x at = absurd (none-some x at)
 split (y ∷ xs) zero x at = record { front = []; rest = xs; is = ap (λ z. z ∷ xs) (same_Some y x at); len = refl }
 split (y ∷ xs) (suc k) x at = let s = split xs k x at in record { front = y ∷ s.front; rest = s.rest; is = ap (λ l. y ∷ l) s.is; len = ap suc s.len }
-
-pub get_at : {A : Type 0} (front : List A) (x : A) (more : List A) → slice_get (front ++ x ∷ more) (length front) ≡ Some x
-get_at [] x more = refl
-get_at (y ∷ front) x more = get_at front x more
-
--- what is found passes the test
-found_if : {A : Type 0} (t : A → Bool) (i : ℕ) (y : A) (xs : List A) (k : ℕ) (b : Bool) → t y ≡ b → cond b (Some i) (position_from t (i + 1) xs) ≡ Some k
-    → (position_from t (i + 1) xs ≡ Some k → (x : A) × (slice_get xs (k - (i + 1)) ≡ Some x) × (t x ≡ true)) → (x : A) × (slice_get (y ∷ xs) (k - i) ≡ Some x) × (t x ≡ true)
-found_if t i y xs k true is e rest =
-    let s : i ≡ k = same_Some i k e in
-    let z : zero ≡ k - i = omega (arith, s) in (y, subst (λ (n : ℕ). slice_get (y ∷ xs) n ≡ Some y) z refl, is)
-found_if t i y xs k false is e rest =
-    let r = rest e in
-    let w = position_from-within t (i + 1) k xs e in
-    let z : suc (k - (i + 1)) ≡ k - i = omega (arith, w.0) in (r.0, subst (λ (n : ℕ). slice_get (y ∷ xs) n ≡ Some r.0) z r.1, r.2)
-
-found_at : {A : Type 0} (t : A → Bool) (i : ℕ) (xs : List A) (k : ℕ) → position_from t i xs ≡ Some k → (x : A) × (slice_get xs (k - i) ≡ Some x) × (t x ≡ true)
-found_at t i [] k e = absurd (none-some k e)
-found_at t i (y ∷ xs) k e = found_if t i y xs k (t y) refl e (found_at t (i + 1) xs k)
-
-mir_same : (m n : Mir) → m.0 ≡ n.0 → m ≡ n
-mir_same m n p = λ i. record { 0 = p i }
-
--- in a legal history the reference of an entry is not entered ahead of it
-none_if : (chart : Chart) (front : List Entry) (e : Entry) (more : List Entry) → IsLegal chart (front ++ e ∷ more) → (found : Option ℕ) → entered_at e.pay.mir front ≡ found → found ≡ None
-none_if chart front e more legal None is = refl
-none_if chart front e more legal (Some k) is =
-    let f = found_at (has_mir e.pay.mir) 1 front k is in
-    let same : f.0.pay.mir ≡ e.pay.mir = mir_same f.0.pay.mir e.pay.mir ((bytes_eq-Decides f.0.pay.mir.0 e.pay.mir.0).0 f.2) in
-    let low = get_below front (k - 1) f.0 f.1 in
-    let at : k - 1 ≡ length front = legal.single (k - 1) (length front) f.0 e (get_stays front (e ∷ more) (k - 1) f.0 f.1) (get_at front e more) same in absurd (omega (arith, low, at))
-
-pub new_before : (chart : Chart) (front : List Entry) (e : Entry) (more : List Entry) → IsLegal chart (front ++ e ∷ more) → entered_at e.pay.mir front ≡ None
-new_before chart front e more legal = none_if chart front e more legal (entered_at e.pay.mir front) refl
 
 -- a reference that an entry has is entered
 pub entered_mir : (entries : List Entry) (mir : Mir) (i : ℕ) (e : Entry) → slice_get entries i ≡ Some e → e.pay.mir ≡ mir → entered_at mir entries ≡ None → ⊥
@@ -167,7 +131,7 @@ module _ (o : Opening) where
         let q = begins new.known p in
         let more = entries_of a.1 ++ q.0 in
         let whole : history ≡ front ++ e ∷ more = sym q.1 ∙ ap (λ (h : List Entry). h ++ q.0) a.2 ∙ append_assoc front (e ∷ entries_of a.1) q.0 in
-        let none = new_before o.accounts front e more (subst (λ (h : List Entry). IsLegal o.accounts h) whole legal) in
+        let none = new_before o.accounts front e more (subst (λ (h : List Entry). IsLegal o.accounts h) whole legal).rules in
         let one : reply_to pay (front ++ e ∷ []) ≡ Some (reply.Entered pay.mir (length front + 1)) = reply_new front e none in
         let at : length front + 1 ≡ place = omega (arith, length-history_of o.base a.0, a.3, added.place_is) in
         ap (reply_to pay) (whole ∙ sym (append_assoc front (e ∷ []) more)) ∙ reply_stays pay (front ++ e ∷ []) more (reply.Entered pay.mir (length front + 1)) one

@@ -96,7 +96,7 @@ no_inputs = record {
   charges = [];
   messages = [];
   cut = [];
-  chart = record { home = record { head = []; branch = [] }; accounts = [] };
+  chart = record { home = record { head = []; branch = [] }; first = []; changes = [] };
   history = [];
   entered = [];
 }

@@ -73,7 +73,7 @@ same_accounts j i tables accounts =
     ∙ ap (λ (f : List ℕ). map opened (map (account_of (tables_in i)) (rows_of f))) accounts
 
 pub same_chart : (j i : Inputs) → j.home ≡ i.home → accounts_in j ≡ accounts_in i → chart_in j ≡ chart_in i
-same_chart j i home accounts = λ k. record { home = home k; accounts = accounts k }
+same_chart j i home accounts = λ k. record { home = home k; first = accounts k; changes = [] }
 
 pub same_directory : (j i : Inputs) → tables_in j ≡ tables_in i → j.ssi ≡ i.ssi → j.charges ≡ i.charges → directory_in j ≡ directory_in i
 same_directory j i tables ssi charges =

@@ -10,12 +10,13 @@ use Rattle.std.proofs.lemmas.Slice.Eq.{bytes_eq-Decides}
 use Rattle.corr_ids.specs.declared.day.Day.{Day}
 use Rattle.corr_ids.specs.declared.mir.Mir.{Mir}
 use Rattle.day_model.specs.declared.entry.Entry.{Entry}
+use Rattle.day_model.proofs.laws.Fronts.{fits_now}
 use Rattle.day_model.specs.declared.entry.Outcome.{Outcome}
 use Rattle.day_model.specs.declared.entry.Outcome.TheVariants.{Booked}
 use Rattle.day_model.specs.declared.pay.Pay.{Pay}
 use Rattle.day_model.specs.declared.pay.Side.TheVariants.{Debit, Credit}
 use Rattle.day_model.specs.Balance.{moved_by}
-use Rattle.day_model.specs.Chart.{Chart}
+use Rattle.day_model.specs.Chart.{AreBy, Chart}
 use Rattle.day_model.specs.Fit.{FitsAccounts}
 use Rattle.day_model.specs.Legal.{IsLegal}
 use Rattle.day_model.specs.Next.{fold_of, has_mir}
@@ -109,7 +110,7 @@ all_from P (pay ∷ pays) each = (each pay (inl refl), all_from P pays (λ p sta
 all_fit : (chart : Chart) (day : Day) (pays : List Pay) (es : List Entry) → IsLegal chart es → ((e : Entry) → StandsIn e (map (booked_on day) pays) → StandsIn e es) → AllByRecursion (FitsAccounts chart) pays
 all_fit chart day pays es legal back = all_from (FitsAccounts chart) pays (λ pay stands.
     let at = place_of es (booked_on day pay) (back (booked_on day pay) (booked_in day pays pay stands)) in
-    legal.fits at.0 (booked_on day pay) at.1)
+    fits_now chart es at.0 (booked_on day pay) legal at.1)
 
 borne_moved : (chart : Chart) (xs ys : List Entry) → IsPermutation xs ys → AreBorne chart xs → AreBorne chart ys
 borne_moved chart xs ys moved borne = λ n account from at.
@@ -126,11 +127,11 @@ pub record IsReordered (chart : Chart) (day : Day) (pays : List Pay) (es : List 
   pub fold_is : fold_of chart [] pays day ≡ map (booked_on day) pays
   pub moved : IsPermutation es (fold_of chart [] pays day)
 
--- a legal history of booked entries, each of one of no more pays, where each account bears all of them
-pub reordered : (chart : Chart) (day : Day) (pays : List Pay) (es : List Entry) → IsLegal chart es → Each (IsEnteredOn day pays) es → Each IsBooked es → length pays ≤ length es → AreBorne chart es → IsReordered chart day pays es
-reordered chart day pays es legal added booked few borne =
+-- a legal history of booked entries, each of one of no more pays, where each account bears all of them, and changes came before all
+pub reordered : (chart : Chart) (day : Day) (pays : List Pay) (es : List Entry) → AreBy 0 chart → IsLegal chart es → Each (IsEnteredOn day pays) es → Each IsBooked es → length pays ≤ length es → AreBorne chart es → IsReordered chart day pays es
+reordered chart day pays es by legal added booked few borne =
     let all = map (booked_on day) pays in
-    let spreads = spread mir_of es all (entries_in day pays es added booked) (distinct_entries es legal.single) (omega (arith, length-map pays (booked_on day), few)) in
+    let spreads = spread mir_of es all (entries_in day pays es added booked) (distinct_entries es legal.rules.single) (omega (arith, length-map pays (booked_on day), few)) in
     let fresh = are_fresh day [] pays spreads.distinct (λ mir has had. had) in
-    let fold = settled_fold chart day pays (all_fit chart day pays es legal spreads.back) fresh (borne_moved chart es all spreads.moved borne) in
+    let fold = settled_fold chart day pays by (all_fit chart day pays es legal spreads.back) fresh (borne_moved chart es all spreads.moved borne) in
     record { fold_is = fold; moved = subst (IsPermutation es) (sym fold) spreads.moved }

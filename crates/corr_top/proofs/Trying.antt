@@ -18,7 +18,7 @@ use Rattle.day_model.specs.declared.account.Account.{Account}
 use Rattle.day_model.specs.declared.entry.Entry.{Entry}
 use Rattle.day_model.specs.declared.pay.Pay.{Pay}
 use Rattle.day_model.specs.Balance.{credits_of, debits_of}
-use Rattle.day_model.specs.Chart.{Chart, account_at}
+use Rattle.day_model.specs.Chart.{AreBy, Chart, account_at, accounts_of}
 use Rattle.day_model.specs.Legal.{IsLegal}
 use Rattle.day_model.specs.Totals.{HasTotals, Pair, pair_at, totals_of}
 use Rattle.corr_top.specs.declared.directory.Directory.{Directory}
@@ -61,6 +61,11 @@ all_booked : (day : Day) (pays : List Pay) → All IsBooked (map (booked_on day)
 all_booked day [] = All-nil IsBooked
 all_booked day (pay ∷ pays) = All-append IsBooked (booked_on day pay ∷ []) (map (booked_on day) pays) (all_one IsBooked (booked_on day pay) refl) (all_booked day pays)
 
+-- no change comes to the accounts of the sample bank
+no_change : AreBy 0 sample_chart
+unfolding sample_chart
+no_change = refl
+
 -- what a trial reports, and that one thread books each message
 pub record IsTried (count seed : ℕ) (entries : List Entry) : Type 0 where
   pub report : summary_of sample_chart entries ≡ trial_report count seed
@@ -71,7 +76,7 @@ unfolding trial_report
 tried count seed entries serves whole booked settled =
     let pays = trial_pays count seed in
     let borne : AreBorne sample_chart entries = λ n account from at. let s = settled n account from at in record { floor = s.floor; ceil = s.ceil } in
-    let r = reordered sample_chart sample_day pays entries serves.legal (λ k e at. get_all (IsEnteredOn sample_day pays) entries k e serves.each at) (λ k e at. get_all IsBooked entries k e booked at)
+    let r = reordered sample_chart sample_day pays entries no_change serves.legal (λ k e at. get_all (IsEnteredOn sample_day pays) entries k e serves.each at) (λ k e at. get_all IsBooked entries k e booked at)
     (omega (arith, few_pays count seed, whole)) borne in
     record {
       report = sym (summary_reordered sample_chart entries (trial_history count seed) r.moved);
@@ -107,7 +112,7 @@ booked_all place entries past booked = λ k d within. booked k (get_or entries k
 abbrev pub AreSettledTo : ℕ → Chart → List Entry → Type 0
 AreSettledTo n chart entries = (k : ℕ) (account : Account) → 1 ≤ k → k < n → account_at chart k ≡ Some account → StaysWithin account (credits_of entries k) (debits_of entries k)
 
-pub settled_next : (n : ℕ) (chart : Chart) (entries : List Entry) (pairs : List Pair) (account : Account) (pair : Pair) → 1 ≤ n → n ≤ length chart.accounts → HasTotals pairs (length chart.accounts) entries
+pub settled_next : (n : ℕ) (chart : Chart) (entries : List Entry) (pairs : List Pair) (account : Account) (pair : Pair) → 1 ≤ n → n ≤ length (accounts_of chart) → HasTotals pairs (length (accounts_of chart)) entries
     → pair_at pairs n ≡ Some pair → account_at chart n ≡ Some account → StaysWithin account pair.0 pair.1 → AreSettledTo n chart entries → AreSettledTo (n + 1) chart entries
 settled_next n chart entries pairs account pair from there totals is at within before = λ k x low less found. elim (nat_cases k n) [
   | inl same ↦
@@ -118,8 +123,8 @@ settled_next n chart entries pairs account pair from there totals is at within b
   | inr other ↦ before k x low (omega (arith, low, less, other)) found
 ]
 
-pub settled_all : (n : ℕ) (chart : Chart) (entries : List Entry) → length chart.accounts + 1 ≤ n → AreSettledTo n chart entries → IsBearable chart entries
-settled_all n chart entries past before = λ k account low at. before k account low (omega (arith, past, low, slice_get_within chart.accounts (k - 1) account at)) at
+pub settled_all : (n : ℕ) (chart : Chart) (entries : List Entry) → length (accounts_of chart) + 1 ≤ n → AreSettledTo n chart entries → IsBearable chart entries
+settled_all n chart entries past before = λ k account low at. before k account low (omega (arith, past, low, slice_get_within (accounts_of chart) (k - 1) account at)) at
 
 -- ---- workers over a new journal of the sample bank
 

@@ -7,6 +7,7 @@ use Rattle.std.proofs.lemmas.List.Elements.{All-append, All-nil}
 use Rattle.std.proofs.lemmas.Option.{same_Some, none-some, slice_get-map}
 use mathlib.Core.List.{IsPrefix}
 use Rattle.day_model.specs.declared.entry.Entry.{Entry}
+use Rattle.day_model.specs.Chart.{AreBy}
 use Rattle.day_model.specs.declared.pay.Pay.{Pay}
 use Rattle.front_word.specs.declared.view.Act.{Act}
 use Rattle.front_word.specs.Known.{PassKnows}
@@ -25,7 +26,8 @@ use Rattle.corr_top.specs.Serving.{AreServedInOrder, AreTold, IsTold, Serves, st
 use Rattle.corr_top.proofs.Chains.{Chain, IsServed, each_stands, grew, of_jobs}
 use Rattle.corr_top.proofs.Replying.{all_one}
 use Rattle.corr_top.proofs.OneWorker.{in_order, in_turn}
-use Rattle.corr_top.proofs.Serves.{IsFrom, begins, get_at}
+use Rattle.day_model.proofs.laws.Folds.{get_at}
+use Rattle.corr_top.proofs.Serves.{IsFrom, begins}
 
 -- ---- lists
 
@@ -186,8 +188,8 @@ module _ {Job : Type 0} (o : Opening) (reading : Job → Result Pay NoPay) (jobs
         let same : numbers ≡ stands.0 = same_Some numbers stands.0 (sym at ∙ ap (slice_get served.lists) (sym zero_is) ∙ stands.1) in
         (stands.2, subst (λ (l : List ℕ). slice_get l stands.2 ≡ Some n) (sym same) stands.3)
 
-    alone : AreServedInOrder o history readings made
-    alone =
+    alone : AreBy (length o.base) o.accounts → AreServedInOrder o history readings made
+    alone by =
         let lists = get_there served.lists 0 (let e = served.dealt.one_each in omega (arith, e)) in
         let numbers = lists.0 in
         let chain = served.served 0 numbers (starting q) p lists.1 refl refl in
@@ -195,6 +197,7 @@ module _ {Job : Type 0} (o : Opening) (reading : Job → Result Pay NoPay) (jobs
         in_turn o reading jobs made numbers (starting q) p history (record {
           chain = chain;
           on = refl;
+          opened = by;
           order = in_order 1 (length jobs + 1) numbers (omega arith) (served.dealt.rising 0 numbers lists.1)
               (λ i n at. let w = served.dealt.jobs_only 0 n (numbers, lists.1, i, at) in (w.0, omega (arith, w.1)))
               (λ n low high. every numbers lists.1 n (served.dealt.every_job n low (omega arith)));
@@ -206,13 +209,13 @@ module _ {Job : Type 0} (o : Opening) (reading : Job → Result Pay NoPay) (jobs
         })
 
   pub turn : (news : List PassKnows) (after : List Worker) (history : List Entry) (faults : ℕ) (new : AreNew o news) (closes : Closes o history faults (passes_of after)) (made : List Served) (served : AreServed Serving (map starting news) jobs after made)
-      → o.made ≡ 1 → AreServedInOrder o history readings made
-  turn news after history faults new closes made served one =
+      → AreBy (length o.base) o.accounts → o.made ≡ 1 → AreServedInOrder o history readings made
+  turn news after history faults new closes made served by one =
       let q = single_of news (new.count ∙ one) in
       let count : length after ≡ 1 = served.passes ∙ length-map news starting ∙ new.count ∙ one in
       let p = single_of after count in
       alone q.0 p.0 history faults (subst (AreNew o) q.1 new) (subst (λ (ws : List Worker). Closes o history faults (passes_of ws)) p.1 closes) made
-      (subst (λ (x : List PassKnows × List Worker). AreServed Serving (map starting x.0) jobs x.1 made) (λ i. (q.1 i, p.1 i)) served)
+      (subst (λ (x : List PassKnows × List Worker). AreServed Serving (map starting x.0) jobs x.1 made) (λ i. (q.1 i, p.1 i)) served) by
 
   -- ---- whether the jobs were served or not
 
@@ -248,9 +251,9 @@ module _ {Job : Type 0} (o : Opening) (reading : Job → Result Pay NoPay) (jobs
       told_of (Ok rs) done = are_told news after history faults new closes (items rs) (from_seats news before after (items rs) seated done)
       told_of (Err e) done = tt
 
-      pub turn_of : (r : Result R E) → IsDone r → IfOk r (λ rs. o.made ≡ 1 → AreServedInOrder o history readings (items rs))
-      turn_of (Ok rs) done = turn news after history faults new closes (items rs) (from_seats news before after (items rs) seated done)
-      turn_of (Err e) done = tt
+      pub turn_of : AreBy (length o.base) o.accounts → (r : Result R E) → IsDone r → IfOk r (λ rs. o.made ≡ 1 → AreServedInOrder o history readings (items rs))
+      turn_of by (Ok rs) done = turn news after history faults new closes (items rs) (from_seats news before after (items rs) seated done) by
+      turn_of by (Err e) done = tt
 
       pub none_of : (r : Result R E) → IsNone r → IfErr r (λ _. history ≡ o.base)
       none_of (Ok rs) none = tt

@@ -1,16 +1,15 @@
 -- Pays that workers enter, and how that stops.
-use Rattle.std.specs.Prelude.{◌≡◌, ◌⊎◌, ℕ, ◌+◌, ◌<◌, ◌<ℤ◌, ◌||◌, Bool, nat_le, All, List, [], ◌∷◌, ◌++◌, IsSome, length, map, slice_get, Some, None, if◌then◌else◌}
+use Rattle.std.specs.Prelude.{◌≡◌, ◌⊎◌, ℕ, ◌+◌, ◌<◌, ◌<ℤ◌, All, List, [], ◌∷◌, ◌++◌, IsSome, length, map, slice_get, Some, None}
 use Rattle.corr_disk.specs.declared.disk.Disk as outside
 use Rattle.corr_ids.specs.Day.{InCentury}
 use Rattle.corr_ids.specs.declared.day.Day.{Day}
-use Rattle.corr_disk.specs.Disk.{most_disk_bytes}
 use Rattle.day_model.specs.declared.entry.Entry.{Entry}
 use Rattle.day_model.specs.declared.pay.Pay.{Pay}
 use Rattle.day_model.specs.Chart.{Chart}
 use Rattle.day_model.specs.Legal.{IsLegal}
-use Rattle.day_model.specs.Log.{most_entries}
-use Rattle.day_model.specs.Next.{entered_at, entry_of, fold_of, next_history}
+use Rattle.day_model.specs.Next.{entered_at, fold_of}
 use Rattle.jrn_book.specs.Answers.{IsFull, need_of}
+use Rattle.jrn_book.specs.Batches.{entered_of}
 use Rattle.jrn_book.specs.Journal.{IsJournal, file_of}
 use Rattle.jrn_file.specs.Faults.{TellsCounts}
 use Rattle.corr_top.specs.declared.answers.BookStop.{BookStop}
@@ -84,20 +83,6 @@ BookCause d old new i left (booking.DiskFault before after) = TellsCounts (d.fau
 BookCause d old new i left (booking.Full entries end need) = HasNotFailed d old new × LacksRoomThen i.chart i.history (pays_of i) i.day left entries end need
     × (i.workers ≡ 1 → LacksRoom i.chart i.history (pays_of i) i.day left entries end need)
 BookCause d old new i left booking.Memory = Unit {0}
-
--- there is no room for what a pay becomes: the history has the most entries that it may have, or the file would have more than 2^30 bytes
-abbrev pub lacks_room : Chart → List Entry → Pay → Day → Bool
-lacks_room chart history pay day =
-    nat_le most_entries (length history) || nat_le (most_disk_bytes + 1) (length (file_of chart (history ++ entry_of chart history pay day ∷ [])))
-
--- a pay without room adds nothing; another does as on one thread
-abbrev pub history_with : Chart → List Entry → Pay → Day → List Entry
-history_with chart history pay day = if lacks_room chart history pay day then history else next_history chart history pay day
-
--- what one thread makes of pays, one after another, where it passes over those without room
-abbrev pub entered_of : Chart → List Entry → List Pay → Day → List Entry
-entered_of chart history [] day = history
-entered_of chart history (pay ∷ pays) day = entered_of chart (history_with chart history pay day) pays day
 
 -- a pay found no room in what was entered then, a beginning of what is left
 pub record HadNoRoom (chart : Chart) (history : List Entry) (day : Day) (left : List Entry) (pay : Pay) : Type 0 where

@@ -1,5 +1,5 @@
 -- What a command reads, and what it says.
-use Rattle.std.specs.Prelude.{ℕ, List, map}
+use Rattle.std.specs.Prelude.{ℕ, List, [], map}
 use Rattle.corr_ids.specs.declared.bic.Bic.{Bic}
 use Rattle.corr_ids.specs.declared.day.Day.{Day}
 use Rattle.day_model.specs.declared.account.Account.{Account}
@@ -49,9 +49,9 @@ opened row = record { id = row.id; kind = row.kind; owner = row.owner; ccy = row
 abbrev pub accounts_in : Inputs → List Account
 accounts_in i = map opened (map (account_of (tables_in i)) (rows_of i.accounts))
 
--- the home bank that the words name, and these accounts
+-- the home bank that the words name, and these accounts, without changes
 abbrev pub chart_in : Inputs → Chart
-chart_in i = record { home = i.home; accounts = accounts_in i }
+chart_in i = record { home = i.home; first = accounts_in i; changes = [] }
 
 -- what messages are judged, routed and charged by: these tables, the instructions, and the charges, a currency's code and the amount a row
 abbrev pub directory_in : Inputs → Directory

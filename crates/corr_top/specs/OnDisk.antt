@@ -7,7 +7,7 @@ use Rattle.corr_disk.specs.Disk.{LeavesOnly, Only}
 use Rattle.corr_text.specs.Faults.{Rose}
 use Rattle.corr_ids.specs.declared.day.Day.{Day}
 use Rattle.day_model.specs.declared.entry.Entry.{Entry}
-use Rattle.day_model.specs.Chart.{Chart}
+use Rattle.day_model.specs.Chart.{Chart, accounts_of}
 use Rattle.jrn_codec.specs.Header.{head_bytes}
 use Rattle.jrn_file.specs.Faults.{MakeCause}
 use Rattle.jrn_file.specs.File.{IsSettled, disk_of}
@@ -16,9 +16,14 @@ use Rattle.jrn_file.specs.Reading.{opened_of}
 use Rattle.jrn_file.specs.Untouched.{IsUntouched}
 use Rattle.jrn_file.specs.declared.fault.MakeFault.{MakeFault}
 use Rattle.jrn_file.specs.declared.fault.OpenFault.{OpenFault}
+use Rattle.jrn_book.specs.declared.answer.Failed.{Failed}
 use Rattle.jrn_book.specs.Book.{Book, IsLeftBy}
-use Rattle.jrn_book.specs.Journal.{IsJournal, StandsForBook, entry_records}
+use Rattle.jrn_book.specs.Journal.{IsJournal, StandsForBook, item_records}
 use Rattle.jrn_book.specs.Opening.{IsFound, BookOpenCause, found_by}
+
+-- a commit of this day failed, which was writing one entry
+abbrev pub one_of : Day → Failed
+one_of day = record { day = day; most = 1 }
 
 module _ {D : Type 0} (d : outside.Ghosts D) where
   -- a disk holds the journal of these accounts and this history, and a crash leaves nothing else
@@ -65,9 +70,9 @@ module _ {D : Type 0} (d : outside.Ghosts D) where
   pub record HasOpened (disk : D) (book : Book D) (loose : LooseHand) : Type 0 where
     pub holds : HoldsJournal disk book.accounts book.history
     pub whole : book.failed ≡ None
-    pub settled : IsSettled d.honest d.reads d.may_leave book.file (head_bytes book.accounts) (entry_records book.history)
+    pub settled : IsSettled d.honest d.reads d.may_leave book.file (head_bytes book.accounts) (item_records book.accounts book.history)
     pub table : loose.table ≡ book.table
-    pub count : length loose.purses ≡ length book.accounts.accounts
+    pub count : length loose.purses ≡ length (accounts_of book.accounts)
     pub untouched : IsUnwritten disk (disk_of book.file)
     pub sure : HasNotFailed disk (disk_of book.file)
 
@@ -75,7 +80,7 @@ module _ {D : Type 0} (d : outside.Ghosts D) where
   -- or it and one legal entry more of that day.
   abbrev pub IsLeft : D → D → Chart → List Entry → Day → Type 0
   IsLeft old new chart history day =
-      (HasNotFailed old new × IsOnDisk new chart history) ⊎ (Rose (d.faults old) (d.faults new) × IsLeftBy (d.honest new) (d.may_leave new) chart history day)
+      (HasNotFailed old new × IsOnDisk new chart history) ⊎ (Rose (d.faults old) (d.faults new) × IsLeftBy (d.honest new) (d.may_leave new) chart history (one_of day))
 
   -- What a crash at a moment of it leaves: what it might have left before; or the history at the opening and a front part of what was
   -- entered since, in its order; or, where a call failed, the last history and one legal entry more of that day.

@@ -37,6 +37,7 @@ use Rattle.corr_top.specs.Init.{init_steps}
 use Rattle.corr_top.specs.Inputs.{Inputs, chart_in, directory_in, tables_in}
 use Rattle.corr_top.specs.Message.{message_reply, pays_in, readings_of}
 use Rattle.corr_top.specs.MessageFile.{IsMessageFile}
+use Rattle.corr_top.specs.OnDisk.{one_of}
 use Rattle.corr_top.specs.Origin.{AreSentValid}
 use Rattle.corr_top.specs.Out.{sent_from}
 use Rattle.corr_top.specs.Passing.{table_at, table_file}
@@ -108,7 +109,7 @@ module _ {S K D : Type 0} (source : sources.Ghosts S) (sink : sinks.Ghosts K) (d
     pub one_clerk : books ≡ fold_of i.chart i.history entered i.day
     pub of_file : (entered ≡ []) ⊎ ((cut : List (List ℕ)) × IsMessageFile i.messages cut × All (Contains (pays_in (asked i cut))) entered)
     pub crash : Keeps disk new.disk i.chart books
-        ⊎ (Rose (disk.faults old.disk) (disk.faults new.disk) × AreBooks i.chart books × IsLeftBy (disk.honest new.disk) (disk.may_leave new.disk) i.chart books i.day)
+        ⊎ (Rose (disk.faults old.disk) (disk.faults new.disk) × AreBooks i.chart books × IsLeftBy (disk.honest new.disk) (disk.may_leave new.disk) i.chart books (one_of i.day))
     pub moments : AtEachMoment (λ image. StandsBetween i.chart i.history books image
         ⊎ (Rose (disk.faults old.disk) (disk.faults new.disk) × StandsWithMore i.chart books i.day 1 image))
     pub answers : writes s ≡ true → AnswersAll i books
@@ -119,8 +120,8 @@ module _ {S K D : Type 0} (source : sources.Ghosts S) (sink : sinks.Ghosts K) (d
     pub file : IsMessageFile i.messages cut
     pub wrote : Wrote sink old new s (break_report i.chart i.history (tables_in i) cut) []
     pub rule : (n : ℕ) (t : Statement) → IsReceived t
-        → TakesFirst n i.history t (compared_of i.chart i.history n t) × StandOnce n i.history t (compared_of i.chart i.history n t)
-        × AddsUp n i.history t (compared_of i.chart i.history n t)
+        → TakesFirst i.chart n i.history t (compared_of i.chart i.history n t) × StandOnce i.chart n i.history t (compared_of i.chart i.history n t)
+        × AddsUp i.chart n i.history t (compared_of i.chart i.history n t)
 
   pub record Promises (command : Command) : Type 0 where
     -- however it ends, the books on the disk stay; `run` alone adds to them, and `init` makes none over others

@@ -4,7 +4,7 @@ use Rattle.corr_ids.specs.Bic.{IsBic}
 use Rattle.corr_ids.specs.Day.{InCentury}
 use Rattle.corr_ids.specs.declared.day.Day.{Day}
 use Rattle.corr_report.specs.Lines.{numbered}
-use Rattle.day_model.specs.Chart.{Chart, account_at, vostro}
+use Rattle.day_model.specs.Chart.{Chart, account_at, accounts_of, vostro}
 use Rattle.day_model.specs.declared.account.Account.{Account}
 use Rattle.day_model.specs.declared.entry.Entry.{Entry}
 use Rattle.statement.specs.Index.{IsIndexOf}
@@ -23,7 +23,7 @@ pages_sent chart entries day n account = if is_vostro account then parted_all (p
 
 -- what is sent of a day: that of all accounts, in their order
 abbrev pub sent_statements : Chart → List Entry → Day → List ℕ
-sent_statements chart entries day = numbered (pages_sent chart entries day) 1 chart.accounts
+sent_statements chart entries day = numbered (pages_sent chart entries day) 1 (accounts_of chart)
 
 -- The statement of account n closes at its balance by the entries up to the day, and opens at that by the entries before it. Each
 -- page passes the tests of a sent message under all tables that hold the owner, and the currency with its decimals.
@@ -33,7 +33,7 @@ pub record IsStatementOfDay (chart : Chart) (entries : List Entry) (day : Day) (
 
 -- those of all vostro accounts do
 abbrev pub AreStatements : Chart → List Entry → Day → Type 0
-AreStatements chart entries day = (i : ℕ) (account : Account) → slice_get chart.accounts i ≡ Some account → is_vostro account ≡ true → IsStatementOfDay chart entries day (i + 1)
+AreStatements chart entries day = (i : ℕ) (account : Account) → slice_get (accounts_of chart) i ≡ Some account → is_vostro account ≡ true → IsStatementOfDay chart entries day (i + 1)
 
 -- an index is that of these entries, whose statements of a day can be printed
 pub record MayPrint (index : HistoryIndex) (chart : Chart) (day : Day) (entries : List Entry) : Type 0 where

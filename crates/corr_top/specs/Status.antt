@@ -8,7 +8,7 @@ use Rattle.ref_tables.specs.declared.fault.TableName.TheVariants as table
 use Rattle.ref_tables.specs.declared.fault.Why.{Why}
 use Rattle.ref_tables.specs.declared.fault.Why.TheVariants as why
 use Rattle.corr_top.specs.declared.status.Status.{Status}
-use Rattle.corr_top.specs.declared.status.Status.TheVariants.{Done, Usage, Table, ReadFault, WriteFault, DiskFault, NotAJournal, Damaged, Unbalanced, Exists, Memory, DateBack, TooLarge, Framing, Full}
+use Rattle.corr_top.specs.declared.status.Status.TheVariants.{Done, Usage, Table, ReadFault, WriteFault, DiskFault, NotAJournal, Damaged, Unbalanced, Exists, Memory, DateBack, TooLarge, Framing, Full, Version}
 
 -- a line can tell it: the decimals of an `Unbalanced` are at most 4, and the day of a `DateBack` is of 1980 to 2079
 abbrev pub HasLine : Status → Type 0
@@ -33,6 +33,7 @@ status_number (DateBack last) = 8
 status_number (TooLarge bytes messages) = 9
 status_number (Framing at) = 10
 status_number (Full entries end need) = 11
+status_number (Version found) = 12
 
 -- a number after a space
 unfoldable pub spaced_number : ℕ → List ℕ
@@ -76,6 +77,7 @@ status_text (DateBack last) = codes "date back " ++ yymmdd_of last
 status_text (TooLarge bytes messages) = codes "too large" ++ spaced_number bytes ++ spaced_number messages
 status_text (Framing at) = codes "framing" ++ spaced_number at
 status_text (Full entries end need) = codes "full" ++ spaced_number entries ++ spaced_number end ++ spaced_number need
+status_text (Version found) = codes "version" ++ spaced_number found
 
 -- its line, without a line end
 abbrev pub status_line_of : Status → List ℕ

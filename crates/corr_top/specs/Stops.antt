@@ -63,10 +63,10 @@ status_of_making (making.Full end need) = status.NotAJournal
 status_of_making (making.DiskFault before after) = status.DiskFault before after
 status_of_making making.Memory = status.Memory
 
--- the status where a journal couldn't be opened; there is one version, so that Version doesn't come
+-- the status where a journal couldn't be opened
 abbrev pub status_of_opening : OpenFault → Status
 status_of_opening opening.NotAJournal = status.NotAJournal
-status_of_opening (opening.Version found) = status.NotAJournal
+status_of_opening (opening.Version found) = status.Version found
 status_of_opening (opening.Damaged at) = status.Damaged at
 status_of_opening (opening.DiskFault before after) = status.DiskFault before after
 status_of_opening opening.Memory = status.Memory

@@ -50,9 +50,9 @@ sample_tables = tables_of sample_bics sample_ccys sample_countries
 unfoldable pub sample_directory : Directory
 sample_directory = record { tables = sample_tables; ssi = map instruction_of (rows_of sample_ssi); charges = [] }
 
--- the accounts of its book
+-- the accounts of its book, which no change came to
 unfoldable pub sample_chart : Chart
-sample_chart = record { home = sample_home; accounts = map opened (map (account_of sample_tables) (rows_of sample_accounts)) }
+sample_chart = record { home = sample_home; first = map opened (map (account_of sample_tables) (rows_of sample_accounts)); changes = [] }
 
 -- a disk that tells its bytes, on which its new journal stands alone, and which hasn't failed
 pub record IsNewDisk {D : Type 0} (d : disks.Ghosts D) (disk : D) : Type 0 where

@@ -1,6 +1,6 @@
 //! The accounts of a new journal.
 
-ghost use Rattle.std.specs.Prelude.{◌≡◌, IfOk, IfErr, OnOk, map, pos};
+ghost use Rattle.std.specs.Prelude.{◌≡◌, [], IfOk, IfErr, OnOk, map, pos};
 ghost use Rattle.corr_money.specs.declared.amount.Ccy.{Ccy};
 ghost use Rattle.day_model.specs.Chart.{opening_sum};
 ghost use Rattle.day_model.specs.Gap.{TellsUnbalanced};
@@ -69,7 +69,7 @@ fn make_accounts(
     rows: Vec<AccountRow>,
 ) -> Result<Accounts, AccountsFault>
     requires { AreAccounts home.head known.now rows.items }
-    ensures ok { IfOk result (λ a. a ≡ record { home = home; accounts = map opened rows.items }) }
+    ensures ok { IfOk result (λ a. a ≡ record { home = home; first = map opened rows.items; changes = [] }) }
     ensures balanced { OnOk result ((ccy : Ccy) → opening_sum ccy (map opened rows.items) ≡ pos 0) }
     ensures unbalanced { IfErr result (TellsUnbalanced (map opened rows.items)) }
     ensures decimals { IfErr result TellsDecimals }

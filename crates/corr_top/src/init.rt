@@ -65,11 +65,11 @@ pub fn prepare<S: Source>(
     Ok(Prepared { head, texts })
 }
 
-/// Makes the journal of this header on a disk, and hands the disk back.
+/// Makes the journal of this header on a disk, and hands the disk back. It is that of accounts without changes.
 pub fn make<D: Disk>(alloc: Global, disk: D, head: &Text) -> (D, Result<(), MakeFault>)
     requires { length head.now ≤ most_record_bytes }
     ensures made { MatchResult result.1
-        (λ _. (chart : Chart) → head.now ≡ head_bytes chart → IsMakeable D.Disk disk × IsOnDisk D.Disk result.0 chart [] × HasNotFailed D.Disk disk result.0 × MakesInTurn D.Disk disk result.0 chart)
+        (λ _. (chart : Chart) → chart.changes ≡ [] → head.now ≡ head_bytes chart → IsMakeable D.Disk disk × IsOnDisk D.Disk result.0 chart [] × HasNotFailed D.Disk disk result.0 × MakesInTurn D.Disk disk result.0 chart)
         (λ fault. (chart : Chart) → head.now ≡ head_bytes chart → StopsMaking D.Disk disk result.0 chart fault) }
     ensures honest { D.honest result.0 ≡ D.honest disk }
 {

@@ -139,6 +139,7 @@ fn put_status(alloc: Global, s: &Status, out: &mut Text) -> Result<(), Memory>
             put_two(alloc, b"full", *entries as u64, *end, out)?;
             put_number(alloc, *need, out)
         }
+        Status::Version { found } => put_one(alloc, b"version", *found as u64, out),
     }
 }
 

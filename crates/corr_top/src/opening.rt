@@ -22,8 +22,7 @@ impl From<OpenFault> for Status {
     fn from(fault: OpenFault) -> Status {
         match fault {
             OpenFault::NotAJournal => Status::NotAJournal,
-            // Nothing here says so: there is one version.
-            OpenFault::Version { .. } => Status::NotAJournal,
+            OpenFault::Version { found } => Status::Version { found },
             OpenFault::Damaged { at } => Status::Damaged { at },
             OpenFault::DiskFault { before, after } => Status::DiskFault { before, after },
             OpenFault::Memory => Status::Memory,

@@ -1,6 +1,7 @@
 //! Workers serve the messages of a day over the books of a journal.
 
 ghost use Rattle.std.specs.Prelude.{◌≡◌, ◌≤◌, [], IfErr, IfOk, vec_capacity};
+ghost use Rattle.jrn_book.specs.Journal.{IsJournal};
 ghost use Rattle.jrn_file.specs.File.{disk_of};
 ghost use Rattle.corr_books.specs.Opening.{IsNamed, opening_with, past_of};
 ghost use Rattle.work_pool.specs.Served.{most_workers};
@@ -47,7 +48,7 @@ fn make_places(alloc: Global, workers: u32) -> Result<Places, Memory>
     })
 }
 
-/// What `serve_all` does, where `N` names the opening.
+/// What `serve_all` does, where `N` names the opening, and one entry under one sync.
 ///
 /// Where there is no memory for the books, the disk comes back as it was.
 fn serve_named<
@@ -65,8 +66,10 @@ fn serve_named<
     gate: &G,
 ) -> Result<ServedDay<D>, (D, Memory)>
     requires named { IsNamed D.Disk N.opening N.past N.table opened workers }
+    requires most { N.opening.most ≡ 1 }
+    requires journal { IsJournal opened.accounts opened.base }
     requires count { (1 ≤ workers) × (workers ≤ most_workers) }
-    ensures served { IfOk result (λ day. AllServed D.Disk (opening_with D.Disk opened workers) N.past (readings_of directory.now opened.accounts messages.entry.items) day) }
+    ensures served { IfOk result (λ day. AllServed D.Disk (opening_with D.Disk opened workers 1) N.past (readings_of directory.now opened.accounts messages.entry.items) day) }
     ensures disk { IfErr result (λ e. e.0 ≡ disk_of opened.file) }
 {
     let Ok(places) = make_places(alloc, workers) else {
@@ -112,7 +115,8 @@ pub fn serve_all<R: Wait + Threads + Sync, D: Disk + Drop + Send, G: Gate + Sync
     gate: &G,
 ) -> Result<ServedDay<D>, (D, Memory)>
     requires count { (1 ≤ workers) × (workers ≤ most_workers) }
-    ensures served { IfOk result (λ day. AllServed D.Disk (opening_with D.Disk opened workers) (past_of D.Disk opened) (readings_of directory.now opened.accounts messages.entry.items) day) }
+    requires journal { IsJournal opened.accounts opened.base }
+    ensures served { IfOk result (λ day. AllServed D.Disk (opening_with D.Disk opened workers 1) (past_of D.Disk opened) (readings_of directory.now opened.accounts messages.entry.items) day) }
     ensures disk { IfErr result (λ e. e.0 ≡ disk_of opened.file) }
 {
     serve_named::<Brand, _, _, _>(rt, alloc, directory, opened, workers, messages, gate)

@@ -75,6 +75,10 @@ pub enum Status {
         end: u64,
         need: u64,
     },
+    /// The disk holds a journal of another version, which is told: no command reads it.
+    Version {
+        found: u8,
+    },
 }
 
 impl Status {
@@ -98,6 +102,7 @@ impl Status {
             Status::TooLarge { .. } => 9,
             Status::Framing { .. } => 10,
             Status::Full { .. } => 11,
+            Status::Version { .. } => 12,
         }
     }
 }

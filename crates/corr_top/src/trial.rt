@@ -104,6 +104,7 @@ fn sample_disk(alloc: Global) -> Result<MemDisk, Memory>
 fn sample_books(alloc: Global) -> Result<Opened<MemDisk>, Memory>
     ensures accounts { IfOk result (λ opened. opened.accounts ≡ sample_chart) }
     ensures base { IfOk result (λ opened. opened.base ≡ []) }
+    ensures journal { IfOk result (λ opened. IsJournal opened.accounts opened.base) }
     ensures day { IfOk result (λ opened. opened.day ≡ sample_day) }
     ensures faults { IfOk result (λ opened. opened.at_open ≡ 0) }
 {

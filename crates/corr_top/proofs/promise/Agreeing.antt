@@ -68,5 +68,5 @@ pub sound_books : (chart : Chart) (books : List Entry) → IsJournal chart books
 sound_books chart books journal = record {
   journal = journal;
   even = debits_equal_credits chart books journal.legal;
-  cancel = balances_cancel chart books journal.head.book journal.legal;
+  cancel = balances_cancel chart books journal.book journal.legal;
 }

@@ -8,7 +8,7 @@ use Rattle.corr_io.specs.declared.sink.Sink as sinks
 use Rattle.corr_io.specs.declared.source.Source as sources
 use Rattle.day_model.specs.Chart.{Chart}
 use Rattle.day_model.specs.declared.entry.Entry.{Entry}
-use Rattle.jrn_book.specs.Journal.{entry_records}
+use Rattle.jrn_book.specs.Journal.{item_records}
 use Rattle.jrn_codec.specs.Header.{head_bytes}
 use Rattle.corr_top.specs.Commands.{meaning_of}
 use Rattle.corr_top.specs.Ends.{Ends, HasPassed}
@@ -45,7 +45,7 @@ module _ {S K D : Type 0} (source : sources.Ghosts S) (sink : sinks.Ghosts K) (d
   -- no journal may be made over these books
   unmakeable : IsMakeable disk old.disk → ⊥
   unmakeable free =
-      let other = stands_other (disk.reads old.disk) (head_bytes chart) (entry_records books) kept.reads in
+      let other = stands_other (disk.reads old.disk) (head_bytes chart) (item_records chart books) kept.reads in
       free kept.told other.0 other.1
 
   init_keeps : (home : Bic) → Ends source disk (init_meaning home) old new sink s → KeepsAll disk old.disk new.disk chart books
@@ -55,7 +55,7 @@ module _ {S K D : Type 0} (source : sources.Ghosts S) (sink : sinks.Ghosts K) (d
       | inl unwritten ↦ by_unwritten unwritten
       | inr at ↦ elim at [
         | inl make ↦
-            let other = stands_other (disk.reads old.disk) (head_bytes chart) (entry_records books) kept.reads in
+            let other = stands_other (disk.reads old.disk) (head_bytes chart) (item_records chart books) kept.reads in
             by_unwritten (make.stops.2.untouched other.0 kept.told other.1)
         | inr book ↦ absurd (true≢false (sym book.named))
       ]

@@ -22,7 +22,7 @@ use Rattle.jrn_book.specs.Journal.{IsJournal, StandsForBook}
 use Rattle.ref_tables.specs.Seen.{Tables as Known}
 use Rattle.ref_tables.specs.declared.fault.TableName.{TableName}
 use Rattle.ref_tables.specs.declared.fault.TableName.TheVariants as names
-use Rattle.corr_top.proofs.Folding.{legal_fold}
+use Rattle.day_model.proofs.laws.Folds.{legal_fold}
 use Rattle.corr_top.proofs.Replying.{get_all}
 use Rattle.corr_top.proofs.Told.{same_directory, took_all}
 use Rattle.corr_top.proofs.Walking.{ahead_of, is_named, named_has, walks_ahead}
@@ -32,7 +32,7 @@ use Rattle.corr_top.specs.Ends.{Ends}
 use Rattle.corr_top.specs.Inputs.{Inputs, directory_in, new_in, pays_of, replies_of, tables_in}
 use Rattle.corr_top.specs.Message.{message_reply, pays_in, readings_of}
 use Rattle.corr_top.specs.MessageFile.{IsMessageFile}
-use Rattle.corr_top.specs.OnDisk.{IsOnDisk, LeavesMidway}
+use Rattle.corr_top.specs.OnDisk.{one_of, IsOnDisk, LeavesMidway}
 use Rattle.corr_top.specs.Origin.{AreSentValid}
 use Rattle.corr_top.specs.Out.{sent_from}
 use Rattle.corr_top.specs.Run.{run_meaning, run_out, run_report, run_steps}
@@ -174,12 +174,12 @@ module _ {S K D : Type 0} (source : sources.Ghosts S) (sink : sinks.Ghosts K) (d
         let pays = map (λ (e : Entry). e.pay) st.added in
         let sound = sound_books j.chart books st.journal in
         let M : Chart → Day → Type 0 = λ c d.
-        Keeps disk new.disk c books ⊎ (Rose (disk.faults old.disk) (disk.faults new.disk) × AreBooks c books × IsLeftBy (disk.honest new.disk) (disk.may_leave new.disk) c books d) in
+        Keeps disk new.disk c books ⊎ (Rose (disk.faults old.disk) (disk.faults new.disk) × AreBooks c books × IsLeftBy (disk.honest new.disk) (disk.may_leave new.disk) c books (one_of d)) in
         let here : M j.chart j.day = elim st.left [ inl calm ↦ inl (keeps_on disk new.disk j.chart books sure st.journal calm.1) | inr rose ↦ inr (rose.0, sound, rose.1) ] in
         record {
           books = books;
           entered = pays;
-          one_clerk = legal_fold j.chart j.history st.added j.day st.journal.legal (λ k e at. (get_all (IsEnteredOn j.day (pays_of j)) st.added k e st.each at).day_is) ∙ one_fold pays;
+          one_clerk = legal_fold j.chart j.history st.added j.day st.journal.legal.rules (λ k e at. (get_all (IsEnteredOn j.day (pays_of j)) st.added k e st.each at).day_is) ∙ one_fold pays;
           of_file = inr (j.cut, r.file, of_asked pays (of_pays j.day (pays_of j) st.added st.each));
           moments = midway kept books (prefix-append j.history st.added) st.any_moment;
           crash = subst (λ (d : Day). M i.chart d) r.day (subst (λ (c : Chart). M c j.day) r.books.chart_is here);

@@ -1,4 +1,4 @@
-use Rattle.std.proofs.Common.{◌∙◌, inl, inr, refl, ap, List}
+use Rattle.std.proofs.Common.{◌∙◌, inl, inr, refl, ap, List, []}
 use Rattle.std.proofs.lemmas.Result.{err_from_is_err_and}
 use Rattle.day_model.specs.declared.account.Account.{Account}
 use Rattle.ref_tables.specs.declared.fault.TableName.TheVariants as names
@@ -54,7 +54,7 @@ returns-clause-fine g c =
       inputs = i;
       home_is = refl;
       passed = (known.passed.0, (known.passed.1.0, (known.passed.1.1.0, (accounts, (sums_balance i _ list c.in_ok-make_accounts.ensures.balanced, tt)))));
-      chart_is = c.in_ok-make_accounts.ensures.ok ∙ ap (λ (l : List Account). record { home = c.args.home; accounts = l }) list;
+      chart_is = c.in_ok-make_accounts.ensures.ok ∙ ap (λ (l : List Account). record { home = c.args.home; first = l; changes = [] }) list;
       ssi = known.ssi;
       charges = known.charges;
     }

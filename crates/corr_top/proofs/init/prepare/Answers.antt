@@ -1,9 +1,9 @@
 use Rattle.std.proofs.Common.{◌∙◌, ◌++◌, ℕ, List, subst, sym, ap}
-use Rattle.jrn_codec.specs.Header.{head_bytes}
+use Rattle.jrn_codec.specs.Header.{IsHead, head_bytes}
 use Rattle.std.proofs.lemmas.Result.{err_from_is_err_and}
 use Rattle.corr_ids.specs.Bic.{IsBic}
 use Rattle.corr_ids.specs.declared.bic.Bic.{Bic}
-use Rattle.day_model.specs.Chart.{Chart}
+use Rattle.day_model.specs.Chart.{Chart, bare}
 use Rattle.corr_top.proofs.TableFiles.{memory_after}
 use Rattle.corr_top.proofs.init.prepare.Goals as goal
 
@@ -31,4 +31,4 @@ pub returns-clause-fine : goal.returns-clause-fine
 returns-clause-fine g c =
     let has = c.in_ok-accounts.ensures.fine in
     let home = subst (λ (b : Bic). IsBic b) (sym (ap (λ (x : Chart). x.home) has.chart_is ∙ has.home_is)) c.requires in
-    (c.in_ok-accounts.accounts, has, c.in_ok-put_head.ensures.head home, (c.in_ok-put_head.ensures.ok ∙ ap (λ (t : List ℕ). t ++ head_bytes c.in_ok-accounts.accounts) c.in_ok-head.ensures), c.in_ok-texts.ensures.0, c.in_ok-texts.ensures.1)
+    (c.in_ok-accounts.accounts, has, subst IsHead (ap bare has.chart_is ∙ sym has.chart_is) (c.in_ok-put_head.ensures.head home), (c.in_ok-put_head.ensures.ok ∙ ap (λ (t : List ℕ). t ++ head_bytes c.in_ok-accounts.accounts) c.in_ok-head.ensures), c.in_ok-texts.ensures.0, c.in_ok-texts.ensures.1)

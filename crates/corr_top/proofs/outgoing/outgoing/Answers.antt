@@ -3,10 +3,21 @@ use Rattle.std.specs.Prelude.{min}
 use Rattle.std.proofs.lemmas.List.{length-take}
 use Rattle.std.proofs.lemmas.Option.{slice_get_within}
 use Rattle.corr_report.proofs.laws.Rests.{rest_at}
+use Rattle.day_model.proofs.laws.Fronts.{fits_now}
 use Rattle.corr_top.specs.Out.{entry_out}
+use Rattle.corr_top.specs.Serving.{HasPayShape}
 use Rattle.corr_top.proofs.Adding.{in_front, none_after, numbered_done, numbered_next}
+use Rattle.corr_top.proofs.Replying.{get_all}
 use Rattle.corr_top.proofs.Sending.{more-accepted}
 use Rattle.corr_top.proofs.outgoing.outgoing.Goals as goal
+
+pub push_orders-requires-clause-fits : goal.push_orders-requires-clause-fits
+push_orders-requires-clause-fits c =
+    fits_now c.args.a.now c.args.h.now.entries (c.loop-place.place - 1) c.get.result.now c.requires.legal c.get.ensures
+
+pub push_orders-requires-clause-shape : goal.push_orders-requires-clause-shape
+push_orders-requires-clause-shape c =
+    get_all HasPayShape c.args.h.now.entries (c.loop-place.place - 1) c.get.result.now c.requires.shapes c.get.ensures
 
 pub loop-place-preserved : goal.loop-place-preserved
 loop-place-preserved c =

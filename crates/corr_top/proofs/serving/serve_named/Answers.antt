@@ -2,11 +2,11 @@ use Rattle.std.proofs.Common.{◌≡◌, Result, List, map, sym, ap, ◌∙◌, 
 use Rattle.std.specs.Prelude.{length, slice_get}
 use Rattle.std.proofs.lemmas.List.{length-map}
 use Rattle.corr_books.specs.Closing.{Closes}
-use Rattle.corr_books.specs.Opening.{Opening}
+use Rattle.corr_books.specs.Opening.{Opening, opening_with}
 use Rattle.corr_books.specs.Passes.{Belongs}
 use Rattle.corr_books.specs.Stand.{entries_of}
 use Rattle.day_model.specs.declared.pay.Pay.{Pay}
-use Rattle.day_model.specs.Chart.{Chart}
+use Rattle.day_model.specs.Chart.{AreBy, Chart}
 use Rattle.front_word.specs.Known.{PassKnows}
 use Rattle.jrn_book.specs.Journal.{IsJournal}
 use Rattle.corr_top.specs.Workers.{Worker}
@@ -67,7 +67,8 @@ unreachable-requires g c =
 pub returns-clause-served : goal.returns-clause-served
 returns-clause-served g c =
     let o = g.N.BooksName.opening in
-    let named = c.requires.named.opening_is in
+    let named = c.requires.named.opening_is ∙ ap (opening_with g.D.Disk c.args.opened c.args.workers) c.requires.most in
+    let by : AreBy (length o.base) o.accounts = subst (λ (x : Opening). AreBy (length x.base) x.accounts) (sym named) c.requires.journal.legal.changes.by_now in
     let directory = c.args.directory.now in
     let reading = pay_asked_of directory o.accounts in
     let jobs = c.args.messages.items in
@@ -96,7 +97,7 @@ returns-clause-served g c =
         honest = ends.honest;
       };
       told = told_of o reading jobs (λ v. v.items) news before after c.seat.ensures history faults new closes replies worked.ensures.served;
-      turn = turn_of o reading jobs (λ v. v.items) news before after c.seat.ensures history faults new closes replies worked.ensures.served;
+      turn = turn_of o reading jobs (λ v. v.items) news before after c.seat.ensures history faults new closes by replies worked.ensures.served;
       none = none_of o reading jobs (λ v. v.items) news before after c.seat.ensures history faults new closes replies worked.ensures.none;
     } in
     subst (λ (x : Opening × List (Result Pay NoPay)). AllServed g.D.Disk x.0 g.N.BooksName.past x.1 (record { closed = closed; served = replies })) (λ i. (named i, read i)) all

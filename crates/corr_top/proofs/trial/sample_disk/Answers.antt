@@ -10,7 +10,7 @@ make-disk-requires c = subst (λ (h : List ℕ). length h ≤ 1048576) (sym c.in
 
 pub returns-in-Ok-clause-new : goal.returns-in-Ok-clause-new
 returns-in-Ok-clause-new c =
-    made_new _ c.new-empty.result c.make-disk.result.0 c.in_ok-head.head c.make-disk.result.1 c.in-Ok.is c.make-disk.ensures.made c.in_ok-head.ensures.0
+    made_new _ c.new-empty.result c.make-disk.result.0 c.in_ok-head.head c.make-disk.result.1 c.in-Ok.is c.make-disk.ensures.made c.in_ok-head.ensures.1.unchanged c.in_ok-head.ensures.0
     (c.make-disk.ensures.honest ∙ c.new-empty.ensures.honest) c.new-empty.ensures.faults
 
 pub returns-in-Ok-clause-journal : goal.returns-in-Ok-clause-journal
