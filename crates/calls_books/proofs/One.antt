@@ -13,10 +13,10 @@ use Rattle.day_model.specs.Legal.{IsLegal}
 use Rattle.day_model.proofs.laws.Growth.{empty_is_legal, one_pay_more}
 use Rattle.corr_report.specs.Bookings.{AreInCentury}
 
--- it is legal where the pay fits
-pub only_legal : (chart : Chart) (entries : List Entry) (pay : Pay) (day : Day) → FitsAccounts chart pay → entries ≡ entry_of chart [] pay day ∷ [] → IsLegal chart entries
-only_legal chart entries pay day fit is =
-    subst (IsLegal chart) (sym is) (one_pay_more chart [] pay day (empty_is_legal chart) fit (λ i e at. absurd (none-some e at)) (omega arith) refl)
+-- it is legal where the pay fits accounts without changes
+pub only_legal : (chart : Chart) (entries : List Entry) (pay : Pay) (day : Day) → chart.changes ≡ [] → FitsAccounts chart pay → entries ≡ entry_of chart [] pay day ∷ [] → IsLegal chart entries
+only_legal chart entries pay day bare fit is =
+    subst (IsLegal chart) (sym is) (one_pay_more chart [] pay day (empty_is_legal chart bare) fit (λ i e at. absurd (none-some e at)) (omega arith) refl)
 
 -- the day of the only entry
 day_of_only : (only : Entry) (i : ℕ) (e : Entry) → InCentury only.day → slice_get (only ∷ []) i ≡ Some e → InCentury e.day

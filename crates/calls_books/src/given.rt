@@ -51,7 +51,9 @@ fn account(
     })
 }
 
-fn book(first: Account, second: Account, mut rows: List<Account>) -> Result<Accounts, Fail> {
+fn book(first: Account, second: Account, mut rows: List<Account>) -> Result<Accounts, Fail>
+    ensures { IfOk result (λ a. a.changes ≡ []) }
+{
     rows.push(first)?;
     rows.push(second)?;
     if !rows_hold(rows.as_slice()) {
@@ -61,14 +63,18 @@ fn book(first: Account, second: Account, mut rows: List<Account>) -> Result<Acco
 }
 
 // Accounts A and B of customers, with 0,05 and as much less.
-pub(crate) fn customers(alloc: Global) -> Result<Accounts, Fail> {
+pub(crate) fn customers(alloc: Global) -> Result<Accounts, Fail>
+    ensures { IfOk result (λ a. a.changes ≡ []) }
+{
     let first = account(alloc, b"A", b'C', HOME, 5)?;
     let second = account(alloc, b"B", b'C', HOME, -5)?;
     book(first, second, List::new(alloc))
 }
 
 // Account F for charges, and accounts A and B of customers, with 0,05 and as much less.
-pub(crate) fn customers_and_fees(alloc: Global) -> Result<Accounts, Fail> {
+pub(crate) fn customers_and_fees(alloc: Global) -> Result<Accounts, Fail>
+    ensures { IfOk result (λ a. a.changes ≡ []) }
+{
     let mut rows = List::new(alloc);
     rows.push(account(alloc, b"F", b'F', HOME, 0)?)?;
     let first = account(alloc, b"A", b'C', HOME, 5)?;
@@ -133,6 +139,7 @@ fn pay_of(alloc: Global, legs: List<Leg>) -> Result<Pay, Memory> {
 // Enters the first pay, with its outcome.
 #[tactic(auto, using(day_model::proofs::laws::Growth::legal_here))]
 fn enter(a: &Accounts, h: &mut History, pay: Pay) -> Result<(), Memory>
+    requires bare { a.now.changes ≡ [] }
     requires empty { h.old.entries ≡ [] }
     requires fits { FitsAccounts a.now pay }
     ensures { OnOk result (h.new.entries ≡ entry_of a.now [] pay TODAY ∷ []) }
@@ -150,7 +157,8 @@ fn enter(a: &Accounts, h: &mut History, pay: Pay) -> Result<(), Memory>
 // The history of a pay.
 #[tactic(auto, using(crate::proofs::One::only_legal, crate::proofs::One::only_day))]
 pub(crate) fn history_of(alloc: Global, a: &Accounts, pay: Pay) -> Result<History, Memory>
-    requires { FitsAccounts a.now pay }
+    requires bare { a.now.changes ≡ [] }
+    requires fits { FitsAccounts a.now pay }
     ensures legal { IfOk result (λ h. IsLegal a.now h.entries) }
     ensures one { IfOk result (λ h. length h.entries ≡ 1) }
     ensures days { IfOk result (λ h. AreInCentury h.entries) }

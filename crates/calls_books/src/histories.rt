@@ -23,6 +23,8 @@ fn accounts_are_found(rt: HostRuntime) -> Result<(), Fail> {
 // The laws are theorems, and their calls do nothing. Promises nothing, so that the test carries none of them.
 fn laws() {
     fold_laws();
+    change_laws();
+    item_laws();
     totals_laws();
 }
 

@@ -20,7 +20,7 @@ use std::test::*;
 // HOMEUS33 with a vostro account of ALPHDEFF, a nostro account with CORRBEBB and an account of fees: EUR 60,000.00, as much less,
 // and nothing.
 const HEAD: &[u8] =
-    b"CORRJ1HOMEUS33XXX\0\x03\x08VALPHEURVALPHDEFFXXXEUR\x02\xff\xff\xff\xff\xffgi\x80\0\0\0\x14\xf4k\x04\0\0\0\0\0\0[\x8d\x80\x08NCORREURNCORRBEBBXXXEUR\x02\xff\xff\xff\xeb\x0b\x94\xfc\0\0\0\0\x14\xf4k\x04\0\xff\xff\xff\xff\xff\xa4r\x80\x06FEEEURFHOMEUS33XXXEUR\x02\0\0\0\0\0\0\0\0\0\0\0\x14\xf4k\x04\0\0\0\0\0\0\0\0\0";
+    b"CORRJ2HOMEUS33XXX\0\x03\x08VALPHEURVALPHDEFFXXXEUR\x02\xff\xff\xff\xff\xffgi\x80\0\0\0\x14\xf4k\x04\0\0\0\0\0\0[\x8d\x80\x08NCORREURNCORRBEBBXXXEUR\x02\xff\xff\xff\xeb\x0b\x94\xfc\0\0\0\0\x14\xf4k\x04\0\xff\xff\xff\xff\xff\xa4r\x80\x06FEEEURFHOMEUS33XXXEUR\x02\0\0\0\0\0\0\0\0\0\0\0\x14\xf4k\x04\0\0\0\0\0\0\0\0\0";
 
 // Accounts 1 to 3 are held.
 fn hold<'a, N: Name, R: Wait>(rt: &R, purses: &'a Purses<N>) -> Held3<'a, N>

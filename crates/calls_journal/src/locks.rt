@@ -1,7 +1,8 @@
 //! Account locks: purses taken in rising order, also by two threads, and totals that agree with the sides. Each test that waits for locks
 //! is watched, so that it fails where it would wait for ever.
 
-ghost use Rattle.std.specs.Prelude.{◌≡◌, ◌<◌, ◌≤◌, length, IfOk};
+ghost use Rattle.std.specs.Prelude.{◌≡◌, ◌<◌, ◌≤◌, [], length, IfOk};
+ghost use Rattle.day_model.specs.Chart.{accounts_of};
 ghost use Rattle.day_model.specs.Legal.{IsLegal};
 ghost use Rattle.acct_locks.specs.Holdings.{Holds};
 
@@ -43,7 +44,8 @@ fn customer(alloc: Global, id: &[u8]) -> Result<Account, Memory> {
 }
 
 fn three_accounts<R: Abort>(rt: &R, alloc: Global) -> Result<Accounts, Fail>
-    ensures { IfOk result (λ a. length a.accounts ≡ 3) }
+    ensures count { IfOk result (λ a. length (accounts_of a) ≡ 3) }
+    ensures unchanged { IfOk result (λ a. a.changes ≡ []) }
 {
     let mut rows = List::new(alloc);
     for id in [b"CUST1", b"CUST2", b"CUST3"] {
@@ -82,8 +84,9 @@ fn pay(alloc: Global, debit: u32, credit: u32, amount: u64) -> Result<Pay, Memor
 }
 
 // 250.00 from account 1 to account 2.
-#[tactic(auto, using(day_model::proofs::laws::Growth::legal_here))]
+#[tactic(auto, using(day_model::proofs::laws::Growth::legal_here, crate::proofs::Entering::first_entry))]
 fn one_entry<R: Abort>(rt: &R, alloc: Global, a: &Accounts) -> Result<History, Fail>
+    requires unchanged { a.now.changes ≡ [] }
     ensures { IfOk result (λ h. IsLegal a.now h.entries) }
 {
     let mut history = History::new(alloc);

@@ -91,7 +91,7 @@ fn sample_accounts<R: Abort>(rt: &R, alloc: Global) -> Result<Accounts, Fail> {
 fn record(alloc: Global, number: u32, debit: u8, credit: u8, amount: u64) -> Result<Text, Memory> {
     let amount = amount.to_be_bytes();
     let (from, to) = ([0, debit, 0], [0, credit, 1]);
-    let mut bytes = Text::from_bytes(alloc, b"240603ALPHDEFFAXXX0001")?;
+    let mut bytes = Text::from_bytes(alloc, b"\0240603ALPHDEFFAXXX0001")?;
     put_digits(alloc, u64::from(number), 6, &mut bytes)?;
     let parts: [&[u8]; 7] = [
         b"\x01\0\0\0\x4d\xa5\0\0\x4d\xa5\0\x02",
@@ -153,7 +153,7 @@ pub(crate) fn new(place: u32) -> Answer {
     })
 }
 
-fn kept(place: u32) -> Answer {
+pub(crate) fn kept(place: u32) -> Answer {
     Ok(Committed::Kept {
         place,
         outcome: Outcome::Booked,

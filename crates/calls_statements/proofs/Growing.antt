@@ -12,7 +12,9 @@ use Rattle.day_model.specs.Shape.{HasShape}
 use Rattle.day_model.specs.declared.entry.Entry.{Entry}
 use Rattle.day_model.specs.declared.entry.Outcome.{Outcome}
 use Rattle.day_model.specs.declared.pay.Pay.{Pay}
-use Rattle.day_model.proofs.laws.Growth.{one_pay_more, in_pushed}
+use Rattle.day_model.proofs.laws.Growth.{one_pay_more}
+use Rattle.day_model.proofs.laws.Slices.{in_pushed}
+use Rattle.statement.proofs.laws.Fronts.{whole-front}
 use Rattle.statement.specs.Index.{IsIndexOf, TakesNext, grown}
 use Rattle.statement.specs.Seen.{SeenBook}
 use Rattle.statement.specs.declared.index.HistoryIndex.{HistoryIndex}
@@ -31,7 +33,7 @@ module _ (chart : Chart) (entries : List Entry) (pay : Pay) (outcome : Outcome) 
 
   -- the index takes the entry
   pub takes-next : (book : SeenBook) × TakesNext index (entry_with pay outcome) book
-  takes-next = (record { chart = chart; entries = entries }, record { is = is.indexed; legal = next-legal })
+  takes-next = (record { chart = chart; entries = entries }, record { is = is.indexed; legal = whole-front chart (entries ++ entry_with pay outcome ∷ []) next-legal })
 
   -- and is then that of the history with it
   pub grown-more : (new : HistoryIndex) → HasShape pay → ((book : SeenBook) → TakesNext index (entry_with pay outcome) book → IsIndexOf new (grown book (entry_with pay outcome))) → IsGrown chart (entries ++ entry_with pay outcome ∷ []) new
@@ -44,5 +46,5 @@ module _ (chart : Chart) (entries : List Entry) (pay : Pay) (outcome : Outcome) 
           | inl old ↦ is.latest i e old
           | inr new ↦ subst (λ (x : Entry). x.day.0 ≤ℤ pos 19877) new.1 same-day
         ];
-        indexed = taken (record { chart = chart; entries = entries }) (record { is = is.indexed; legal = next-legal });
+        indexed = taken (record { chart = chart; entries = entries }) (record { is = is.indexed; legal = whole-front chart (entries ++ entry_with pay outcome ∷ []) next-legal });
       }

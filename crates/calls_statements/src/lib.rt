@@ -1,4 +1,4 @@
-//! Each public call of advices, of statement and of reconcile once, on a small value.
+//! Each public call of advices, of pay_returns, of statement and of reconcile once, on a small value.
 #![tactic(auto)]
 
 #[cfg(test)]
@@ -7,5 +7,7 @@ mod given;
 mod orders;
 #[cfg(test)]
 mod received;
+#[cfg(test)]
+mod returns;
 #[cfg(test)]
 mod statements;

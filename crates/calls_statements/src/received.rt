@@ -10,7 +10,7 @@ ghost use Rattle.ref_tables.specs.Seen.{few_decimals};
 ghost use Rattle.reconcile.specs.Bounds.{IsReceived};
 ghost use Rattle.calls_statements.specs.Grown.{IsGrown};
 
-use crate::given::{accounts, grown};
+use crate::given::{accounts, grown, returned};
 use corr_text::{List, Memory, Text};
 use day_model::{Accounts, AcctNo, History};
 use fin_fields::{Field, cut_fields};
@@ -39,6 +39,13 @@ const NOSTRO: &[u8] = b":20:R
 ";
 
 const TOLD: &[u8] = b"STATEMENT NCORREUR 240603
+THEIRS 00001 D 10,00 X
+GAP 0,00 -10,00
+";
+
+const TOLD_OF_A_RETURN: &[u8] = b"STATEMENT NCORREUR 240603
+OURS 00000001 C 1234,50 P00000001K1
+OURS 00000002 D 1234,50 P00000001K1
 THEIRS 00001 D 10,00 X
 GAP 0,00 -10,00
 ";
@@ -148,6 +155,22 @@ fn told_of_a_line(alloc: Global) -> Result<Text, Fail> {
 fn a_line_without_an_entry_is_told(rt: HostRuntime) -> Result<(), Fail> {
     let text = told_of_a_line(rt.alloc())?;
     assert!(rt; text.bytes() == TOLD);
+    Ok(())
+}
+
+// What is told of that statement where an entry of ours and its return are on the account.
+fn told_of_a_return(alloc: Global) -> Result<Text, Fail> {
+    let a = accounts(alloc)?;
+    let (h, _index) = returned(alloc, &a, 4)?;
+    let mut pages = Vec::new(alloc);
+    pages.push(page_in(alloc, NOSTRO)?)?;
+    Ok(told(alloc, &a, &h, pages)?)
+}
+
+#[test]
+fn a_return_is_told_by_its_side(rt: HostRuntime) -> Result<(), Fail> {
+    let text = told_of_a_return(rt.alloc())?;
+    assert!(rt; text.bytes() == TOLD_OF_A_RETURN);
     Ok(())
 }
 

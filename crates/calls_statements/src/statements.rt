@@ -5,11 +5,12 @@ ghost use Rattle.corr_ids.specs.Bic.{IsBic};
 ghost use Rattle.day_model.specs.Chart.{IsListed};
 ghost use Rattle.calls_statements.specs.Grown.{IsGrown};
 
-use crate::given::{DAY, accounts, charged, grown, is_only};
+use crate::given::{DAY, accounts, charged, grown, is_only, returned};
 use corr_ids::Day;
 use corr_text::{List, Memory, Text};
 use day_model::{Accounts, AcctNo, History};
-use statement::{HistoryIndex, pages, pages_with};
+use mt950::{Line61, Mark};
+use statement::{HistoryIndex, PlacedPage, page_values, pages, pages_with};
 use std::alloc::Global;
 use std::test::Fail;
 
@@ -20,6 +21,16 @@ const DEBITED: &[u8] = b"{1:F01HOMEUS33AXXX0000000000}{2:I950ALPHDEFFXXXXN}{4:\r
 :60F:C240602EUR50000,00\r
 :61:2406030603D1234,50S103REF1//P00000001\r
 :62F:C240603EUR48765,50\r
+-}";
+
+const RETURNED: &[u8] = b"{1:F01HOMEUS33AXXX0000000000}{2:I950ALPHDEFFXXXXN}{4:\r
+:20:S2406030001P0001\r
+:25:VALPHEUR\r
+:28C:155/1\r
+:60F:C240602EUR50000,00\r
+:61:2406030603D1234,50S103REF1//P00000001\r
+:61:2406030603RD1234,50S202REF1//P00000002\r
+:62F:C240603EUR50000,00\r
 -}";
 
 const QUIET: &[u8] = b"{1:F01HOMEUS33AXXX0000000000}{2:I950BETAFRPPXXXXN}{4:\r
@@ -121,6 +132,70 @@ fn a_payment_with_a_charge_is_a_line_of_each_account(rt: HostRuntime) -> Result<
         )
     );
     assert!(rt; only_holds(&charged, b":61:2406030603C5,00S103REF1//P00000001"));
+    Ok(())
+}
+
+// The messages of an account after an entry and its return: of their history, and of their index.
+fn returned_statements(alloc: Global, n: u32) -> Result<(List<Text>, List<Text>), Fail> {
+    let a = accounts(alloc)?;
+    let (h, index) = returned(alloc, &a, 3)?;
+    if n < 1 || a.count() < n {
+        return Err("no account".into());
+    }
+    Ok((printed(alloc, &a, &h, n)?, printed_with(&a, &h, &index, n)?))
+}
+
+#[test]
+fn a_return_reverses_a_line(rt: HostRuntime) -> Result<(), Fail> {
+    let (debited, with) = returned_statements(rt.alloc(), 1)?;
+    assert!(rt; is_only(&debited, RETURNED) && is_only(&with, RETURNED));
+    let (credited, with) = returned_statements(rt.alloc(), 3)?;
+    let reversed = b":61:2406030603RC1234,50S202P00000001K1//P00000002";
+    assert!(rt; only_holds(&credited, reversed) && only_holds(&with, reversed));
+    Ok(())
+}
+
+// The pages of account 1 as values, from its index.
+fn values(a: &Accounts, h: &History, index: &HistoryIndex) -> Result<List<PlacedPage>, Memory>
+    requires home { IsBic a.now.home }
+    requires grown { IsGrown a.now h.now.entries index.now }
+    requires listed { IsListed a.now 1 }
+{
+    page_values(index, AcctNo(1), DAY)
+}
+
+fn are_reversed(lines: &[Line61]) -> bool {
+    match lines {
+        [paid, back] => paid.mark == Mark::D && back.mark == Mark::RD,
+        _ => false,
+    }
+}
+
+// One page, with the lines of the entries 1 and 2, of which the second reverses the first.
+fn is_a_page_of_a_return(pages: &List<PlacedPage>) -> bool {
+    match pages.as_slice() {
+        [only] => {
+            only.places.as_slice() == [1, 2].as_slice()
+                && are_reversed(only.page.lines.as_slice())
+                && only.page.closing.signed == 5_000_000
+        }
+        _ => false,
+    }
+}
+
+fn values_of_a_return(alloc: Global) -> Result<List<PlacedPage>, Fail> {
+    let a = accounts(alloc)?;
+    let (h, index) = returned(alloc, &a, 3)?;
+    if a.count() < 1 {
+        return Err("no account".into());
+    }
+    Ok(values(&a, &h, &index)?)
+}
+
+#[test]
+fn pages_are_values(rt: HostRuntime) -> Result<(), Fail> {
+    let pages = values_of_a_return(rt.alloc())?;
+    assert!(rt; is_a_page_of_a_return(&pages));
     Ok(())
 }
 

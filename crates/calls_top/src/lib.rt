@@ -15,3 +15,5 @@ mod reports;
 mod statuses;
 #[cfg(test)]
 mod stops;
+#[cfg(test)]
+mod versions;

@@ -21,6 +21,11 @@ fn no_journal_line(alloc: Global) -> Result<Text, Memory> {
     Ok(line)
 }
 
+// The line of a journal of version 1.
+fn version_line(alloc: Global) -> Result<Text, Memory> {
+    status_line(alloc, &Status::Version { found: 1 })
+}
+
 #[test]
 fn a_status_has_a_number_and_a_line(rt: HostRuntime) -> Result<(), Fail> {
     assert_eq!(rt; Status::NotAJournal.number(), 6);
@@ -28,5 +33,8 @@ fn a_status_has_a_number_and_a_line(rt: HostRuntime) -> Result<(), Fail> {
     assert_eq!(rt; line.bytes(), b"corr: read fault 0 1".as_slice());
     let line = no_journal_line(rt.alloc())?;
     assert_eq!(rt; line.bytes(), b"corr: not a journal".as_slice());
+    assert_eq!(rt; (Status::Version { found: 1 }).number(), 12);
+    let line = version_line(rt.alloc())?;
+    assert_eq!(rt; line.bytes(), b"corr: version 1".as_slice());
     Ok(())
 }

@@ -10,7 +10,8 @@ use Rattle.day_model.specs.Fit.{FitsAccounts}
 use Rattle.day_model.specs.Laws.{IsLatest}
 use Rattle.day_model.specs.Legal.{IsLegal}
 use Rattle.day_model.specs.Next.{entered_at, entry_of}
-use Rattle.day_model.proofs.laws.Growth.{one_pay_more, in_pushed, still_latest}
+use Rattle.day_model.proofs.laws.Growth.{one_pay_more, still_latest}
+use Rattle.day_model.proofs.laws.Slices.{in_pushed}
 use Rattle.corr_report.specs.Bookings.{AreInCentury}
 
 -- it stays legal

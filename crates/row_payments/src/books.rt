@@ -1,6 +1,6 @@
 //! Accounts and pays that rows give.
 
-ghost use Rattle.std.specs.Prelude.{IfOk};
+ghost use Rattle.std.specs.Prelude.{◌≡◌, [], IfOk};
 ghost use Rattle.day_model.specs.Chart.{AreRows};
 
 use corr_ids::{Bic, Day, Mir, Uetr, read_bic, read_uetr};
@@ -111,8 +111,10 @@ pub fn rows_in(alloc: Global, lines: &[u8]) -> Result<List<Account>, Stop>
     Ok(accounts)
 }
 
-/// The book of these lines, whose openings sum to 0.
-pub fn book_in(alloc: Global, lines: &[u8]) -> Result<Accounts, Stop> {
+/// The book of these lines, whose openings sum to 0, without changes.
+pub fn book_in(alloc: Global, lines: &[u8]) -> Result<Accounts, Stop>
+    ensures { IfOk result (λ book. book.changes ≡ []) }
+{
     match Accounts::new(HOME, rows_in(alloc, lines)?) {
         Ok(book) => Ok(book),
         Err(AccountsFault::Memory) => Err(Stop::Memory),

@@ -47,9 +47,10 @@ fn enter(a: &Accounts, h: &mut History, p: Pay) -> Result<(), Stop>
     enter_new(a, h, p)
 }
 
-/// The history of the pays of these lines.
+/// The history of the pays of these lines, over accounts without changes.
 #[tactic(auto, using(day_model::proofs::laws::Growth::legal_here))]
 pub fn history_in(alloc: Global, a: &Accounts, lines: &[u8]) -> Result<History, Stop>
+    requires { a.now.changes ≡ [] }
     ensures legal { IfOk result (λ h. IsLegal a.now h.entries) }
     ensures days { IfOk result (λ h. AreInCentury h.entries) }
 {
