@@ -1,4 +1,4 @@
-"""Reads and writes journals by docs/journal.md, and says what `bookings` and `statements` print of them."""
+"""Reads and writes journals of both versions by docs/journal.md, and says what `bookings` and `statements` print of them."""
 import datetime
 import functools
 import re
@@ -7,7 +7,11 @@ from typing import NamedTuple
 EPOCH = datetime.date(1970, 1, 1).toordinal()
 FIRST_DAY, LAST_DAY = (datetime.date(*it).toordinal() - EPOCH for it in ((1980, 1, 1), (2079, 12, 31)))
 MOST_ENTRIES, MOST_ACCOUNTS, MOST_TEXT, MOST_HEAD, MOST_MINOR = 100_000, 1_000, 32_768, 1_048_576, 10**14
+MOST_CHANGES = 1 << 30
 PAGE_LINES = 25
+# how the header of each version begins
+VERSIONS = {1: b"CORRJ1", 2: b"CORRJ2"}
+ENTERED, CHANGED, OPENED, LIMITS = b"\0", b"\1", b"\0", b"\1"
 BIC = re.compile(rb"[A-Z]{6}[A-Z0-9]{2}[A-Z0-9]{3}")
 UETR = re.compile(rb"[0-9a-f]{8}-[0-9a-f]{4}-4[0-9a-f]{3}-[89ab][0-9a-f]{3}-[0-9a-f]{12}")
 MIR = re.compile(rb"(\d{6})[A-Z]{6}[A-Z0-9]{2}[A-Z0-9][A-Z0-9]{3}\d{10}")
@@ -48,12 +52,24 @@ class Entry(NamedTuple):
     text: bytes
 
 
+class Limits(NamedTuple):
+    """The change of an account's ends: its number, and the new ones. The other change is a new `Account`."""
+
+    number: int
+    floor: int
+    ceil: int
+
+
 class Journal(NamedTuple):
-    """What a journal's bytes stand for. `fault` is the line of the refusal, after `corr: `, or None; `end` is the closed gate's place."""
+    """What a journal's bytes stand for: the accounts after all changes, the entries, and each change with how many entries were before it.
+
+    `fault` is the line of the refusal, after `corr: `, or None; `end` is the closed gate's place.
+    """
 
     home: bytes
     accounts: list
     entries: list
+    changes: list
     end: int
     fault: object
 
@@ -129,23 +145,35 @@ def read_account(read):
     kind = read.form(1, re.compile(rb"[CVNF]"))
     owner, ccy = read.form(11, BIC), read.form(3, re.compile(rb"[A-Z]{3}"))
     account = Account(ident, kind, owner, ccy, read.number(1, 4), read.signed(8), read.signed(8), read.signed(8))
-    demand(-MOST_MINOR < account.floor <= account.opening <= account.ceil < MOST_MINOR)
+    demand(are_ends(account.floor, account.ceil, account.opening))
     return account
+
+
+def are_ends(floor, ceil, balance):
+    return -MOST_MINOR < floor <= balance <= ceil < MOST_MINOR
+
+
+def are_apart(accounts):
+    """Whether accounts may stand in one book, but for the sums of their openings."""
+    banks = [(it.kind, it.owner[:8], it.ccy) for it in accounts if it.kind != b"C"]
+    is_single = len({it.ident for it in accounts}) == len(accounts) and len(set(banks)) == len(banks)
+    return is_single and len(accounts) <= MOST_ACCOUNTS and len({(it.ccy, it.decimals) for it in accounts}) == len({it.ccy for it in accounts})
+
+
+def version_of(head):
+    """The version of which a header says that it is."""
+    return next((version for version, front in VERSIONS.items() if head.startswith(front)), None)
 
 
 def read_head(data):
     """The home bank and the accounts of a header."""
     read = Reader(data)
-    demand(read.take(6) == b"CORRJ1")
+    demand(read.take(6) in VERSIONS.values())
     home = read.form(11, BIC)
     accounts = [read_account(read) for _ in range(read.number(2, MOST_ACCOUNTS))]
     read.end()
-    demand(len({it.ident for it in accounts}) == len(accounts))
-    banks = [(it.kind, it.owner[:8], it.ccy) for it in accounts if it.kind != b"C"]
-    demand(len(set(banks)) == len(banks))
-    ccys = {it.ccy for it in accounts}
-    demand(len({(it.ccy, it.decimals) for it in accounts}) == len(ccys))
-    demand(all(sum(it.opening for it in accounts if it.ccy == ccy) == 0 for ccy in ccys))
+    demand(are_apart(accounts))
+    demand(all(sum(it.opening for it in accounts if it.ccy == ccy) == 0 for ccy in {it.ccy for it in accounts}))
     return home, accounts
 
 
@@ -174,6 +202,7 @@ def read_order(read, legs):
 
 
 def read_entry(data):
+    """The entry of a record of version 1, which is one of version 2 behind its mark."""
     read = Reader(data)
     mir, cover = read.form(28, MIR), read.number(1, 2)
     demand(cover > 0 and day_of(mir[:6]) is not None)
@@ -189,12 +218,41 @@ def read_entry(data):
     return Entry(mir, cover == 2, uetr, day, value, outcome, legs, orders, text)
 
 
-def put_head(home, accounts):
-    out = b"CORRJ1" + home + len(accounts).to_bytes(2, "big")
-    for it in accounts:
-        out += bytes([len(it.ident)]) + it.ident + it.kind + it.owner + it.ccy + bytes([it.decimals])
-        out += b"".join(n.to_bytes(8, "big", signed=True) for n in (it.floor, it.ceil, it.opening))
-    return out
+def read_change(data):
+    """The account that is opened, or the limits that change, of a record behind its mark."""
+    read = Reader(data)
+    if read.number(1, 1):
+        change = Limits(read.number(2), read.signed(8), read.signed(8))
+    else:
+        change = read_account(read)
+    read.end()
+    return change
+
+
+def read_item(data):
+    """The entry or the change of a record of version 2."""
+    demand(data[:1] in (ENTERED, CHANGED))
+    return read_entry(data[1:]) if data[:1] == ENTERED else read_change(data[1:])
+
+
+def put_account(it):
+    out = bytes([len(it.ident)]) + it.ident + it.kind + it.owner + it.ccy + bytes([it.decimals])
+    return out + b"".join(n.to_bytes(8, "big", signed=True) for n in (it.floor, it.ceil, it.opening))
+
+
+def put_head(home, accounts, version=2):
+    return VERSIONS[version] + home + len(accounts).to_bytes(2, "big") + b"".join(map(put_account, accounts))
+
+
+def put_change(it):
+    if isinstance(it, Account):
+        return OPENED + put_account(it)
+    return LIMITS + it.number.to_bytes(2, "big") + b"".join(n.to_bytes(8, "big", signed=True) for n in (it.floor, it.ceil))
+
+
+def put_item(it):
+    """The record of an entry or of a change."""
+    return ENTERED + put_entry(it) if isinstance(it, Entry) else CHANGED + put_change(it)
 
 
 def put_leg(leg):
@@ -242,30 +300,66 @@ def add_entry(entry, balances):
             balances[leg.account - 1] += leg.amount if leg.side else -leg.amount
 
 
+class Book:
+    """The accounts, the entries and the changes of a journal up to a record."""
+
+    def __init__(self, home, accounts):
+        self.home, self.accounts, self.entries, self.changes = home, accounts, [], []
+        self.balances, self.mirs = [it.opening for it in accounts], set()
+
+    def enter(self, entry):
+        """Takes an entry, which must be one that may come next."""
+        demand(len(self.entries) < MOST_ENTRIES and entry.mir not in self.mirs)
+        demand(not self.entries or entry.day >= self.entries[-1].day)
+        demand(all(it.account <= len(self.accounts) for it in entry.legs))
+        demand(len({self.accounts[it.account - 1].ccy for it in entry.legs}) == 1)
+        demand(entry.outcome == outcome_of(self.accounts, self.balances, entry.legs))
+        add_entry(entry, self.balances)
+        self.entries.append(entry)
+        self.mirs.add(entry.mir)
+
+    def change(self, what):
+        """Takes a change, which must be legal now."""
+        demand(len(self.changes) < MOST_CHANGES)
+        if isinstance(what, Account):
+            demand(what.opening == 0 and are_apart([*self.accounts, what]))
+            self.accounts = [*self.accounts, what]
+            self.balances.append(0)
+        else:
+            demand(1 <= what.number <= len(self.accounts))
+            demand(are_ends(what.floor, what.ceil, self.balances[what.number - 1]))
+            self.accounts = list(self.accounts)
+            self.accounts[what.number - 1] = self.accounts[what.number - 1]._replace(floor=what.floor, ceil=what.ceil)
+        self.changes.append((len(self.entries), what))
+
+    def take(self, record, version):
+        item = read_entry(record) if version == 1 else read_item(record)
+        if isinstance(item, Entry):
+            self.enter(item)
+        else:
+            self.change(item)
+
+    def journal(self, end, fault):
+        return Journal(self.home, self.accounts, self.entries, self.changes, end, fault)
+
+
 @functools.lru_cache(maxsize=8)
-def read_journal(data):
-    """What a journal stands for."""
+def read_journal(data, version=2):
+    """What a journal of a version stands for."""
     found, end = frames(data)
     try:
         demand(found and len(found[0][1]) <= MOST_HEAD)
-        home, accounts = read_head(found[0][1])
+        book = Book(*read_head(found[0][1]))
     except NoRecord:
-        return Journal(b"", [], [], 0, "not a journal")
-    balances, entries, mirs, last = [it.opening for it in accounts], [], set(), FIRST_DAY
+        return Book(b"", []).journal(0, "not a journal")
+    if version_of(found[0][1]) != version:
+        return book.journal(0, f"version {version_of(found[0][1])}")
     for gate, record in found[1:]:
         try:
-            entry = read_entry(record)
-            demand(len(entries) < MOST_ENTRIES and entry.mir not in mirs and entry.day >= last)
-            demand(all(it.account <= len(accounts) for it in entry.legs))
-            demand(len({accounts[it.account - 1].ccy for it in entry.legs}) == 1)
-            demand(entry.outcome == outcome_of(accounts, balances, entry.legs))
+            book.take(record, version)
         except NoRecord:
-            return Journal(home, accounts, entries, gate, f"damaged {gate}")
-        add_entry(entry, balances)
-        entries.append(entry)
-        mirs.add(entry.mir)
-        last = entry.day
-    return Journal(home, accounts, entries, end, None if data[end : end + 1] == b"\0" else f"damaged {end}")
+            return book.journal(gate, f"damaged {gate}")
+    return book.journal(end, None if data[end : end + 1] == b"\0" else f"damaged {end}")
 
 
 def bookings(journal):

@@ -401,17 +401,58 @@ def tables(dice, samples, spoiled):
 
 
 def turn_record(dice, record, other):
-    """The record of an entry with something changed, or another one."""
+    """The record of an entry or of a change with something changed, or another one."""
     what = dice.randrange(8)
     if what == 0 and other:
         return dice.choice(other)
     if what <= 2:
         return spoil(dice, record)
     try:
-        entry = books.read_entry(record)
+        item = books.read_item(record)
     except books.NoRecord:
         return record
-    return books.put_entry(turn_entry(dice, entry))
+    return books.put_item(turn_entry(dice, item) if isinstance(item, books.Entry) else turn_change(dice, item))
+
+
+def turn_change(dice, change):
+    """A change with a part at or past its limit."""
+    floor, ceil = dice.choice([-(10**14), 1 - 10**14, -1, 0, 1, 2**63 - 1]), dice.choice([10**14, 10**14 - 1, -1, 0, -(2**63)])
+    if isinstance(change, books.Limits):
+        return change._replace(**dice.choice([{"number": dice.choice([0, 1, 2, 1000, 1001, 65_535])}, {"floor": floor}, {"ceil": ceil}]))
+    parts = [{"floor": floor}, {"ceil": ceil}, {"opening": dice.choice([1, -1])}, {"decimals": dice.choice([0, 4, 5])}, {"ident": b"A" * 34}]
+    parts += [{"ident": b""}, {"kind": dice.choice([b"C", b"V", b"F", b"X"])}, {"ccy": dice.choice([b"USD", b"KWD"])}, {"owner": b"ALPHDEFFXXX"}]
+    return change._replace(**dice.choice(parts))
+
+
+def any_change(dice, accounts):
+    """A change of these accounts that is mostly legal: wider or narrower limits, or a new account of a customer or a bank."""
+    if accounts and some(dice, 0.5):
+        number = dice.randrange(1, len(accounts) + 1)
+        less, more = (dice.choice([0, 1, 10**6, 10**12]) * dice.choice([1, 1, 1, -1]) for _ in range(2))
+        return books.Limits(number, accounts[number - 1].floor - less, accounts[number - 1].ceil + more)
+    ccy, decimals = dice.choice([(it.ccy, it.decimals) for it in accounts] + [(b"KWD", 3), (b"USD", 2)])
+    ident, kind = b"NEW%d" % dice.randrange(30), dice.choice([b"C", b"C", b"V", b"N", b"F"])
+    owner = dice.choice(BICS[:6])[:8] + b"XXX"
+    return books.Account(ident, kind, owner, ccy, decimals, dice.choice([0, -(10**6)]), dice.choice([0, 10**13]), 0)
+
+
+def with_changes(dice, data):
+    """A journal with changes of accounts among its entries."""
+    records = [record for _, record in books.frames(data)[0]]
+    accounts = books.read_journal(data).accounts
+    for _ in range(few(dice, 6)):
+        records.insert(dice.randrange(1, len(records) + 1), books.put_item(any_change(dice, accounts)))
+    return books.put_journal(records)
+
+
+def with_version_1(data):
+    """A journal's header and entries in version 1, without its changes."""
+    head, *records = [record for _, record in books.frames(data)[0]]
+    try:
+        head = books.put_head(*books.read_head(head), version=1)
+    except books.NoRecord:
+        return data
+    return books.put_journal([head, *(it[1:] for it in records if it[:1] == books.ENTERED)])
 
 
 def turn_entry(dice, entry):
@@ -434,8 +475,9 @@ def turn_entry(dice, entry):
 
 
 def turn_journal(dice, data, other):
-    """A journal cut, extended, with bytes or lengths or gates turned, or with records changed, moved, dropped, doubled or another's."""
-    what = dice.randrange(10)
+    """A journal cut, extended, with bytes or lengths or gates turned, of version 1, or with records changed, moved, dropped, doubled,
+    another's, or of changes."""
+    what = dice.randrange(13)
     found, end = books.frames(data)
     if what == 0 or not found:
         return spoil(dice, data)
@@ -447,6 +489,10 @@ def turn_journal(dice, data, other):
         return with_byte(data, dice.choice([gate for gate, _ in found] + [end]), dice.choice([0, 1, 2, 255]))
     if what == 4:
         return with_length(dice, data, found)
+    if what >= 11:
+        return with_changes(dice, data)
+    if what == 10:
+        return with_version_1(data)
     records = [record for _, record in found]
     others = [record for _, record in books.frames(other)[0]]
     if what <= 6 and len(records) > 1:
@@ -474,7 +520,8 @@ def turn_head(dice, record, others):
     if accounts:
         at = dice.randrange(len(accounts))
         accounts[at] = accounts[at]._replace(**dice.choice(parts))
-    return books.put_head(dice.choice([home, home, b"ALPHDEFF500"]), accounts * dice.choice([1, 1, 1, 2]))
+    version = dice.choice([1, 2, 2, 2, 2])
+    return books.put_head(dice.choice([home, home, b"ALPHDEFF500"]), accounts * dice.choice([1, 1, 1, 2]), version)
 
 
 def with_byte(data, at, byte):

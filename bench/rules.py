@@ -19,15 +19,16 @@ LINES = {
     9: b"corr: too large \\d+ \\d+\n",
     10: b"corr: framing \\d+\n",
     11: b"corr: full \\d+ \\d+ \\d+\n",
+    12: b"corr: version \\d+\n",
 }
 # the statuses of each command; `usage` is any that is none
 STATUSES = {
     b"init": {0, 2, 3, 5, 6},
-    b"run": {0, 2, 3, 4, 5, 6, 8, 9, 10, 11},
-    b"send": {0, 4, 5, 6},
-    b"bookings": {0, 5, 6},
-    b"statements": {0, 4, 5, 6},
-    b"reconcile": {0, 2, 3, 5, 6, 9, 10},
+    b"run": {0, 2, 3, 4, 5, 6, 8, 9, 10, 11, 12},
+    b"send": {0, 4, 5, 6, 12},
+    b"bookings": {0, 5, 6, 12},
+    b"statements": {0, 4, 5, 6, 12},
+    b"reconcile": {0, 2, 3, 5, 6, 9, 10, 12},
     b"generate": {0, 4},
     b"trial": {0},
     b"--help": {0},
@@ -127,7 +128,7 @@ def foreseen(run):
 def opened(name, files, words, journal):
     """The same of a command that opens a journal, from there on."""
     if journal.fault:
-        return 6, journal.fault
+        return (12 if journal.fault.startswith("version ") else 6), journal.fault
     if name == b"run" and journal.entries and day_of(words[1]) < journal.entries[-1].day:
         return 8, f"date back {books.day_text(journal.entries[-1].day)}"
     if name in FILES:
