@@ -6,8 +6,8 @@ ghost use Rattle.fin_fields.specs.Writing.{IsField};
 use corr_text::{List, Memory, Set, Text};
 use fin_fields::{
     Field, FieldFault, FieldLines, Line, Pattern, are_x_runs, copy_lines, cut_fields, cut_lines,
-    is_of_x, is_run_of, is_x_run, lend_field, lend_fields, letter_of, lines_match, matches, nth_of,
-    own_fields, put_fields, refill_lines, tag_of,
+    heading, is_of_x, is_run_of, is_x_run, lend_field, lend_fields, letter_of, lines_match,
+    matches, nth_of, own_fields, put_fields, refill_lines, tag_of,
 };
 use std::alloc::Global;
 use std::test::Fail;
@@ -157,5 +157,29 @@ fn lines_take_the_place_of_others(rt: HostRuntime) -> Result<(), Fail> {
     texts.push(Text::from_bytes(rt.alloc(), b"B")?)?;
     texts.push(Text::from_bytes(rt.alloc(), b"C")?)?;
     assert_eq!(rt; count_refilled(rt.alloc(), &f, texts)?, 1);
+    Ok(())
+}
+
+// Whether a line begins the field of this tag and letter, with this behind it.
+fn begins(line: &[u8], tag: u8, letter: Option<u8>, content: &[u8]) -> bool {
+    heading(line).is_some_and(|h| h.tag == tag && h.letter == letter && h.content == content)
+}
+
+#[test]
+fn a_heading_is_read(rt: HostRuntime) -> Result<(), Fail> {
+    assert!(rt; begins(b":20:REF1", 20, None, b"REF1"));
+    assert!(rt; begins(b":50K:/ACC", 50, Some(b'K'), b"/ACC"));
+    assert!(rt; begins(b":71A:", 71, Some(b'A'), b""));
+    for line in [
+        &b""[..],
+        b":",
+        b":20",
+        b":2:REF1",
+        b"20:REF1",
+        b":20k:REF1",
+        b"A PAYER",
+    ] {
+        assert!(rt; heading(line).is_none());
+    }
     Ok(())
 }

@@ -1,13 +1,18 @@
 //! Pages of statements as messages hold them.
 
 ghost use Rattle.std.specs.Prelude.{All, IsTrue};
+ghost use Rattle.fin_contents.specs.Writing.{IsReadable};
 ghost use Rattle.mt950.specs.Joining.{IsSmallLine};
+ghost use Rattle.mt950.specs.Page.{mt950_of};
 ghost use Rattle.ref_tables.specs.Seen.{few_decimals};
 
 use crate::cutting::{cut, cut_in_place, let_go, tables};
 use corr_text::{Memory, Text};
 use fin_fields::FieldFault;
-use mt950::{Line61, Mark, PageFault, join_pages, put_mt950, read_mt950, read_mt950_lines};
+use mt950::{
+    Line61, Mark, Page950, PageFault, fields_950, join_pages, put_mt950, read_mt950,
+    read_mt950_lines,
+};
 use ref_tables::RefTables;
 use std::alloc::Global;
 use std::test::Fail;
@@ -22,6 +27,35 @@ fn page(alloc: Global, tables: &RefTables, text: &[u8]) -> Result<Option<Text>, 
             let text = put_mt950(alloc, &p);
             let_go(p);
             Ok(Some(text?))
+        }
+        Err(_) => Ok(None),
+    }
+}
+
+// The line of a page's last field; none where it has another number of lines.
+fn last_line(alloc: Global, p: &Page950) -> Result<Option<Text>, Memory>
+    requires { IsReadable mt950_of p.now }
+{
+    let fields = fields_950(alloc, p)?;
+    match fields.as_slice() {
+        [.., last] => match last.lines.as_slice() {
+            [line] => Ok(Some(line.copy(alloc)?)),
+            _ => Ok(None),
+        },
+        [] => Ok(None),
+    }
+}
+
+// The line of the last field of the page of a text; none where the text says none.
+fn page_end(alloc: Global, tables: &RefTables, text: &[u8]) -> Result<Option<Text>, FieldFault>
+    requires { IsTrue (few_decimals tables.now.ccys) }
+{
+    let fields = cut(alloc, text)?;
+    match read_mt950(alloc, fields.as_slice(), tables) {
+        Ok(p) => {
+            let line = last_line(alloc, &p);
+            let_go(p);
+            Ok(line?)
         }
         Err(_) => Ok(None),
     }
@@ -112,6 +146,16 @@ fn a_page_is_read_and_written(rt: HostRuntime) -> Result<(), Fail> {
     match page(rt.alloc(), &tables, TEXT)? {
         Some(got) => assert!(rt; got.bytes() == want.as_slice()),
         None => assert!(rt; false, "a page"),
+    }
+    Ok(())
+}
+
+#[test]
+fn a_page_has_the_fields_that_it_is_written_as(rt: HostRuntime) -> Result<(), Fail> {
+    let tables = tables(rt.alloc())?;
+    match page_end(rt.alloc(), &tables, TEXT)? {
+        Some(line) => assert!(rt; line.bytes() == b"C240603EUR2,00".as_slice()),
+        None => assert!(rt; false, "a line"),
     }
     Ok(())
 }

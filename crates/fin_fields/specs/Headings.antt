@@ -1,5 +1,5 @@
 -- The code's heading of a line, as the definitions see it.
-use Rattle.fin_fields.specs.declared.heading.HeadingLine.{HeadingLine}
+use Rattle.fin_fields.specs.declared.heading_line.HeadingLine.{HeadingLine}
 use Rattle.fin_fields.specs.Fields.{Heading}
 
 -- what the code keeps of a heading

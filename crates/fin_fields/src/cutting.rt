@@ -11,7 +11,7 @@ ghost use Rattle.fin_fields.specs.Faults.{faulty_line, field_fault, has_other_by
 use crate::fault::FieldFault;
 use crate::field::Field;
 use crate::field_lines::FieldLines;
-use crate::heading::{HeadingLine, heading};
+use crate::heading_line::{HeadingLine, heading};
 use crate::lending::own_fields;
 use crate::outside::first_outside_x;
 use corr_text::{List, Memory, first_line, plain_line};

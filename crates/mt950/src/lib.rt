@@ -23,4 +23,4 @@ pub use order::ORDER;
 pub use page::Page950;
 pub use reading::{read_mt950, read_mt950_lines};
 pub use rules::C27;
-pub use writing::put_mt950;
+pub use writing::{fields_950, put_mt950};

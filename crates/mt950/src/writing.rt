@@ -172,8 +172,10 @@ fn push_available(alloc: Global, p: &Page950, fields: &mut List<Field>) -> Resul
     }
 }
 
+/// The fields of a page in the order of their places, as `put_mt950` writes them: 20, 25, 28C, 60F or 60M, a 61 for each line, 62F or
+/// 62M, and 64 if it is there. The balances and the lines are those that a page can say: below 10^14 minor units of its currency.
 #[tactic(auto, unfolding(crate::specs::Writing::fields_950))]
-fn fields_950(alloc: Global, p: &Page950) -> Result<List<Field>, Memory>
+pub fn fields_950(alloc: Global, p: &Page950) -> Result<List<Field>, Memory>
     requires opening { IsBalance p.now.decimals p.now.opening }
     requires lines { All (IsWritableLine p.now.decimals) p.now.lines }
     requires closing { IsBalance p.now.decimals p.now.closing }

@@ -4,11 +4,14 @@ ghost use Rattle.std.specs.Prelude.{◌≡◌, option_map};
 ghost use Rattle.fin_fields.specs.Fields.{heading_of, after_tag, after_letter};
 ghost use Rattle.fin_fields.specs.Headings.{heading_in};
 
-/// What a line says that begins a field.
+/// What a line says that begins a field, as `:32A:` or `:20:`: the handbook's tag, and what stands behind it in the line.
 #[derive(Clone, Copy)]
 pub struct HeadingLine<'a> {
+    /// The number of the tag, 0 to 99.
     pub tag: u8,
+    /// Its letter, a capital one, if it has one.
     pub letter: Option<u8>,
+    /// What the line holds behind the second colon.
     pub content: &'a [u8],
 }
 
