@@ -12,4 +12,5 @@ pub mod Noticed
 pub mod Shaped
 pub mod TextCut
 pub mod Owned
+pub mod Received
 pub mod laws

@@ -1,5 +1,6 @@
 -- Laws of returns.
-use Rattle.std.specs.Prelude.{◌≡◌, ℕ, true, All, List, [], ◌∷◌, ◌++◌, ◌<◌, Some, sum_by}
+use Rattle.std.specs.Prelude.{◌≡◌, ℕ, Bool, true, All, IsTrue, List, [], ◌∷◌, ◌++◌, ◌<◌, codes, Some, None, sum_by}
+use Rattle.std.specs.List.{list_any}
 use Rattle.ref_tables.specs.Seen.{Tables, has_head}
 use Rattle.corr_ids.specs.Bic.{IsBic}
 use Rattle.corr_ids.specs.declared.day.Day.{Day}
@@ -13,10 +14,12 @@ use Rattle.day_model.specs.declared.account.Account.{Account}
 use Rattle.day_model.specs.declared.entry.Entry.{Entry}
 use Rattle.day_model.specs.declared.pay.Pay.{Pay}
 use Rattle.day_model.specs.declared.pay.Side.TheVariants.{Credit, Debit}
+use Rattle.advices.specs.Fields.{is_named}
 use Rattle.advices.specs.Legs.{leg_account, leg_amount}
+use Rattle.advices.specs.Received.{fields_in}
 use Rattle.advices.specs.Valid.{IsNotice, IsOwnPay, IsTabled}
 use Rattle.pay_returns.specs.Opposite.{opposite_legs, opposite_of}
-use Rattle.pay_returns.specs.Returns.{next_tag, return_of, returns_place, tagged_of}
+use Rattle.pay_returns.specs.Returns.{at_place, next_tag, return_of, returns_place, tagged_of}
 
 -- a return credits each account with what the payment debited to it, and debits what that credited
 abbrev pub EffectsCancel : Type 0
@@ -57,3 +60,13 @@ abbrev pub ReturnsOnce : Type 0
 ReturnsOnce =
     (chart : Chart) (entries : List Entry) (r s place : ℕ) → FollowsRules chart entries → returns_place chart entries r ≡ Some place
     → returns_place chart entries s ≡ Some place → r ≡ s
+
+-- a text has a field 32A, with the value date, the currency and the amount: each transfer and each cover that is received has one
+abbrev pub has_32A : List ℕ → Bool
+has_32A text = list_any (is_named 32 (codes "A")) (fields_in text)
+
+-- what was received is never taken for a return, whatever its references are: an entry whose text has a field 32A is none
+abbrev pub ReceivedIsNoReturn : Type 0
+ReceivedIsNoReturn =
+    (chart : Chart) (entries : List Entry) (r : ℕ) (entry : Entry) → FollowsRules chart entries → at_place r entries ≡ Some entry
+    → IsTrue (has_32A entry.pay.text) → returns_place chart entries r ≡ None

@@ -4,11 +4,6 @@ use Rattle.std.specs.List.{list_all}
 use Rattle.std.specs.Option.{option_map_or}
 use Rattle.fin_fields.specs.Faults.{has_other_byte, is_misplaced}
 use Rattle.fin_fields.specs.Fields.{Heading, heading_of}
-use Rattle.pay_returns.specs.declared.heading.HeadingLine.{HeadingLine}
-
--- the code's heading of a line, as the definitions see it
-abbrev pub heading_in : HeadingLine → Heading
-heading_in h = record { tag = h.tag; letter = h.letter; content = h.content.now }
 
 -- what a line that says this gives to a field; none of a misplaced line
 abbrev pub part_with : List ℕ → Option Heading → Option (List ℕ)

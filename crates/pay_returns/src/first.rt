@@ -6,12 +6,12 @@ ghost use Rattle.corr_text.specs.Lines.{lines_of};
 ghost use Rattle.corr_text.specs.Slashes.{has_double_slash, has_stray_slash};
 ghost use Rattle.fin_fields.specs.Faults.{field_fault, has_other_byte, is_misplaced};
 ghost use Rattle.fin_fields.specs.Fields.{heading_of};
+ghost use Rattle.fin_fields.specs.Headings.{heading_in};
 ghost use Rattle.pay_returns.specs.References.{first_reference, is_reference, related_of};
-ghost use Rattle.pay_returns.specs.Walking.{begins_20, begins_field, content_20, ends_there, first_20, heading_in, is_sound_line, only_line_20, part_of};
+ghost use Rattle.pay_returns.specs.Walking.{begins_20, begins_field, content_20, ends_there, first_20, is_sound_line, only_line_20, part_of};
 
-use crate::heading::{HeadingLine, heading};
 use corr_text::{Set, first_line, is_x};
-use fin_fields::is_run_of;
+use fin_fields::{HeadingLine, heading, is_run_of};
 
 fn are_slashes(b: &[u8], next: &[u8]) -> bool
     ensures { result ≡ list_any (λ p. (p.0 == 47) && (p.1 == 47)) (zip b.now next.now) }

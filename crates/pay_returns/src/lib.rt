@@ -5,7 +5,6 @@ mod after;
 mod chain;
 mod fault;
 mod first;
-mod heading;
 mod law;
 mod making;
 mod notices;

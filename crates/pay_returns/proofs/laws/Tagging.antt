@@ -223,7 +223,7 @@ chain chart entries r entry from at =
 
 -- ---- laws
 
-returned : (chart : Chart) (entries : List Entry) (r place : ℕ) → returns_place chart entries r ≡ Some place → Took chart entries r place
+pub returned : (chart : Chart) (entries : List Entry) (r place : ℕ) → returns_place chart entries r ≡ Some place → Took chart entries r place
 returned chart entries r place e =
     let tag = some-of (λ t. t) (at_place r (tagged_of chart entries)) place e in
     let there = at-some r (tagged_of chart entries) tag.it tag.is in
@@ -244,11 +244,15 @@ returned chart entries r place e =
 pub returns-later : ReturnsLater
 returns-later chart entries r place e = (returned chart entries r place e).before
 
+-- what takes an entry back is the pay made for that
+pub opposite-is : (chart : Chart) (origin : Entry) (place : ℕ) (pay : Pay) → is_opposite chart origin place pay ≡ true → pay ≡ opposite_of chart origin place pay.value
+opposite-is chart origin place pay e =
+    let same = (and_parts (is_booked origin.outcome) (is_equal pay (opposite_of chart origin place pay.value)) e).1 in
+    (equal-decides pay (opposite_of chart origin place pay.value)).0 same
+
 -- a return has the reference of its place
 mir-of : (chart : Chart) (origin : Entry) (place : ℕ) (pay : Pay) → is_opposite chart origin place pay ≡ true → pay.mir ≡ return_mir chart.home place
-mir-of chart origin place pay e =
-    let same = (and_parts (is_booked origin.outcome) (is_equal pay (opposite_of chart origin place pay.value)) e).1 in
-    ap (λ (p : Pay). p.mir) ((equal-decides pay (opposite_of chart origin place pay.value)).0 same)
+mir-of chart origin place pay e = ap (λ (p : Pay). p.mir) (opposite-is chart origin place pay e)
 
 pub returns-once : ReturnsOnce
 returns-once chart entries r s place rules e f =

@@ -1,3 +1,4 @@
+use Rattle.pay_returns.proofs.Received.{received-no-return}
 use Rattle.pay_returns.proofs.laws.Tagging.{returns-later, returns-once, tagged-more}
 use Rattle.pay_returns.proofs.law.tag_laws.Goals as goal
 
@@ -9,3 +10,6 @@ returns-clause-later c = returns-later
 
 pub returns-clause-once : goal.returns-clause-once
 returns-clause-once c = returns-once
+
+pub returns-clause-received : goal.returns-clause-received
+returns-clause-received c = received-no-return
