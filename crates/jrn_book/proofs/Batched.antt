@@ -12,25 +12,24 @@ use Rattle.day_model.specs.Legal.{IsLegal}
 use Rattle.day_model.specs.Next.{fold_of}
 use Rattle.acct_locks.specs.Holdings.{Holding, held_with}
 use Rattle.jrn_file.specs.declared.file.JFile.{JFile}
-use Rattle.jrn_file.specs.File.{IsSettled, disk_of, end_of}
+use Rattle.jrn_file.specs.File.{IsSettled, disk_of}
 use Rattle.jrn_file.specs.Journal.{IsBeforeOrAll, StandsFor}
 use Rattle.jrn_codec.specs.Header.{head_bytes}
 use Rattle.jrn_codec.specs.Record.{IsEntry}
-use Rattle.jrn_book.specs.declared.answer.Failed.{Failed}
 use Rattle.jrn_book.specs.declared.answer.Committed.TheVariants.{New}
 use Rattle.jrn_book.specs.declared.answer.CommitFault.TheVariants.{Broken, DiskFault}
 use Rattle.jrn_book.specs.Answers.{Answer}
 use Rattle.jrn_book.specs.Batches.{AnswersInTurn, IsBeforeOrEntered, Stage, all_booked, entered_of, is_disk_fault, is_memory, is_new, is_tried, untouched}
 use Rattle.jrn_book.specs.Book.{Book, IsBook, IsLeftBy}
-use Rattle.jrn_book.specs.CommitsAll.{Adds, CommitsAll, IsUntried, stage_of}
+use Rattle.jrn_book.specs.CommitsAll.{Adds, CommitsAll, stage_of}
 use Rattle.jrn_book.specs.Drafting.{IsFirstNew, records_of}
-use Rattle.jrn_book.specs.Journal.{StandsForBook, file_of, item_records}
+use Rattle.jrn_book.specs.Journal.{StandsForBook, item_records}
 use Rattle.jrn_book.specs.Resuming.{IsResumable, ResumesRun}
 use Rattle.jrn_book.proofs.Chains.{all_tried_apart, any_here, any_same, chain_failing, front_tried, none_here}
 use Rattle.jrn_book.proofs.Commits.{settled}
 use Rattle.jrn_book.proofs.Entering.{held_with-nil, records_all}
 use Rattle.jrn_book.proofs.Resuming.{resumes_here}
-use Rattle.jrn_book.proofs.Roomy.{chain_entered}
+use Rattle.jrn_book.proofs.laws.Rooms.{chain_entered}
 use Rattle.day_model.proofs.laws.Growth.{fold_of_append}
 
 false_true : {P : Type 0} (b : Bool) → b ≡ false → b ≡ true → P

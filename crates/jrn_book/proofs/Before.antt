@@ -1,6 +1,6 @@
 -- A book as it was before its last item, and as it was when an item came.
-use Rattle.std.proofs.Common.{◌≡◌, ℕ, zero, suc, ◌+◌, ◌<◌, ◌≤◌, Bool, true, false, List, [], ◌∷◌, ◌++◌, length, take, refl, sym, ap, ◌∙◌, subst, arith, inl, inr, append_assoc, length-append, length-take, ℤ}
-use Rattle.std.specs.Prelude.{◌⊎◌, ◌&&◌, filter, slice_get}
+use Rattle.std.proofs.Common.{◌≡◌, ℕ, zero, suc, ◌+◌, ◌<◌, ◌≤◌, true, List, [], ◌∷◌, ◌++◌, length, take, refl, sym, ap, ◌∙◌, subst, arith, inl, inr, append_assoc, length-append, length-take, ℤ}
+use Rattle.std.specs.Prelude.{◌⊎◌, ◌&&◌}
 use Rattle.std.specs.List.{list_all}
 use Rattle.std.proofs.lemmas.Bool.{and_from, and_parts, cases_lt, le-leb, leb-true, lt-leb}
 use Rattle.std.proofs.lemmas.List.{append-nil}
@@ -20,7 +20,6 @@ use Rattle.day_model.proofs.laws.Changes.{filter-append, filter_out, in_order_le
 use Rattle.day_model.proofs.laws.Changing.{balance_with_change, last_change, opening_with, same_outcome}
 use Rattle.day_model.proofs.laws.Fronts.{legal_front}
 use Rattle.day_model.proofs.laws.Items.{items_changed, items_entered}
-use Rattle.jrn_book.specs.Reading.{chart_with, entries_with}
 
 -- ---- without the last change
 

@@ -1,24 +1,19 @@
 -- Answers to the pays of a batch, one after another.
-use Rattle.std.proofs.Common.{◌≡◌, ℕ, zero, suc, ◌+◌, ◌-◌, ◌<◌, ◌≤◌, Bool, true, false, ◌&&◌, ◌||◌, cond, List, [], ◌∷◌, ◌++◌, length, replicate, Option, Some, None, refl, sym, ap, ◌∙◌, subst, arith, length-append, append_assoc, append-nil}
-use Rattle.std.specs.Prelude.{IsSome, is_some, nat_le, Ok, Err}
+use Rattle.std.proofs.Common.{◌≡◌, ℕ, zero, suc, ◌+◌, ◌<◌, ◌≤◌, Bool, true, false, ◌&&◌, ◌||◌, cond, List, [], ◌∷◌, ◌++◌, length, replicate, Option, Some, None, refl, sym, ap, ◌∙◌, subst, arith, length-append}
+use Rattle.std.specs.Prelude.{IsSome, is_some, Ok, Err}
 use Rattle.std.specs.List.{list_all, list_any}
-use Rattle.std.proofs.lemmas.Bool.{cases_lt}
 use Rattle.corr_text.specs.Faults.{Rose}
-use Rattle.corr_disk.specs.Disk.{most_disk_bytes}
 use Rattle.corr_ids.specs.declared.day.Day.{Day}
 use Rattle.day_model.specs.declared.pay.Pay.{Pay}
 use Rattle.day_model.specs.declared.entry.Entry.{Entry}
 use Rattle.day_model.specs.declared.entry.Outcome.{Outcome}
 use Rattle.day_model.specs.Chart.{Chart}
-use Rattle.day_model.specs.Log.{most_entries}
-use Rattle.day_model.specs.Next.{entered_at, entry_of, next_history}
-use Rattle.jrn_book.specs.Answers.{Answer, AnswerShows, failed_after, history_after, need_of}
-use Rattle.jrn_book.specs.declared.answer.Failed.{Failed}
+use Rattle.day_model.specs.Next.{entry_of}
+use Rattle.jrn_book.specs.Answers.{Answer, AnswerShows, failed_after, history_after}
 use Rattle.jrn_book.specs.declared.answer.Committed.TheVariants.{New, Kept}
 use Rattle.jrn_book.specs.declared.answer.CommitFault.TheVariants.{Conflict, Full, DiskFault, Broken, Memory}
-use Rattle.jrn_book.specs.Batches.{AnswersInTurn, Stage, entered_of, gate_of, history_with, is_disk_fault, is_memory, is_new, is_tried, lacks_room, stage_after, untouched}
+use Rattle.jrn_book.specs.Batches.{AnswersInTurn, Stage, gate_of, is_disk_fault, is_memory, is_new, is_tried, stage_after}
 use Rattle.jrn_book.specs.Drafting.{IsFirstNew}
-use Rattle.jrn_book.specs.Journal.{file_of}
 use Rattle.jrn_book.proofs.Entering.{next_new}
 
 -- one answer more

@@ -1,50 +1,37 @@
 -- A journal with a change more.
-use Rattle.std.proofs.Common.{◌≡◌, ℕ, ◌+◌, ◌<◌, ◌≤◌, ◌^◌, Bool, List, [], ◌∷◌, ◌++◌, length, length-append, refl, sym, ap, ◌∙◌, subst, arith, inl}
-use Rattle.std.specs.Prelude.{◌⊎◌, IfOk, IsTrue, None, Result, Ok, Err, map}
-use Rattle.std.proofs.lemmas.List.{length-map}
+use Rattle.std.proofs.Common.{◌≡◌, ℕ, ◌+◌, ◌<◌, ◌≤◌, Bool, List, [], ◌∷◌, ◌++◌, length, length-append, sym, ap, ◌∙◌, subst, arith, inl}
+use Rattle.std.specs.Prelude.{◌⊎◌, IfErr, IfOk, IsTrue, Option, None, Some, Result, Ok, Err}
+use Rattle.corr_disk.specs.Calls.{AtMostCalls}
 use Rattle.corr_disk.specs.Disk.{LeavesOnly, Only}
+use Rattle.corr_disk.proofs.laws.Counted.{no_calls}
 use Rattle.corr_disk.proofs.laws.Moments.{weaker}
-use Rattle.day_model.specs.declared.change.Change.{Change}
-use Rattle.day_model.specs.declared.change.Item.{Item}
-use Rattle.day_model.specs.declared.change.Item.TheVariants.{Entered, Changed}
+use Rattle.day_model.specs.declared.change.Item.TheVariants.{Changed}
 use Rattle.day_model.specs.declared.change.What.{What}
 use Rattle.day_model.specs.declared.entry.Entry.{Entry}
 use Rattle.day_model.specs.Balance.{balance_of}
 use Rattle.day_model.specs.Changes.{most_changes}
 use Rattle.day_model.specs.Chart.{Chart, accounts_of, with_change}
-use Rattle.day_model.specs.Items.{Replayed, items_of, replay}
-use Rattle.day_model.specs.Legal.{IsInForm, IsLegal, balance_named}
-use Rattle.day_model.proofs.laws.Items.{replay_items}
+use Rattle.day_model.specs.Legal.{IsLegal, balance_named}
 use Rattle.day_model.proofs.laws.Refusing.{legal_or_refused}
 use Rattle.jrn_file.specs.File.{IsSettled, disk_of}
 use Rattle.jrn_file.specs.Journal.{IsBeforeOrAfter, StandsFor, frame_of, journal_bytes, record_in}
-use Rattle.jrn_file.specs.Reading.{size_of, with_length}
+use Rattle.jrn_file.specs.Reading.{Reading, size_of, with_length}
 use Rattle.jrn_file.specs.declared.file.JFile.{JFile}
 use Rattle.jrn_file.proofs.laws.Frames.{record_in-frame}
 use Rattle.jrn_file.proofs.laws.Sizes.{length-journal_bytes, length-sized}
 use Rattle.jrn_codec.specs.Change.{IsWhat, change_bytes}
 use Rattle.jrn_codec.specs.Header.{head_bytes}
-use Rattle.jrn_codec.specs.Items.{item_bytes}
 use Rattle.jrn_book.specs.declared.version.Version.TheVariants.{Two}
 use Rattle.jrn_book.specs.declared.changing.ChangeFault.{ChangeFault}
-use Rattle.jrn_book.specs.Changing.{change_need, disk_left, refused_now}
+use Rattle.jrn_book.specs.declared.changing.ChangeFault.TheVariants.{Open, Unknown, Rows, Double, Currency, Limits, Full, DiskFault, Memory}
+use Rattle.jrn_book.specs.Changing.{ChangeShows, ChangeTells, LeavesDisk, calls_to_change, change_need, disk_left, fault_in, refused_now}
 use Rattle.jrn_book.specs.Journal.{IsBeforeOrChanged, IsJournal, StandsForBook, item_records}
-use Rattle.jrn_book.specs.Opening.{book}
-use Rattle.jrn_book.proofs.Items.{change_is_legal, journal_with, records_changed}
+use Rattle.jrn_book.specs.Opening.{IsFound, book}
+use Rattle.jrn_book.proofs.Items.{change_is_legal, journal_with}
+use Rattle.jrn_book.proofs.laws.Items.{records_changed, records_count}
 use Rattle.jrn_book.proofs.Refused.{written_in_form}
 
 -- ---- how many changes a file has
-
--- each item that is read is a change or an entry
-items_count : (r : Replayed) (items : List Item) → length (replay r items).changes + length (replay r items).entries ≡ (length r.changes + length r.entries) + length items
-items_count r [] = omega arith
-items_count r (Entered e ∷ items) =
-    let rest = items_count (record r { entries = r.entries ++ e ∷ [] }) items in
-    omega (arith, rest, length-append r.entries (e ∷ []))
-items_count r (Changed what ∷ items) =
-    let c : Change = record { after = length r.entries; what = what } in
-    let rest = items_count (record r { changes = r.changes ++ c ∷ [] }) items in
-    omega (arith, rest, length-append r.changes (c ∷ []))
 
 many_bytes : (records : List (List ℕ)) → length records ≤ size_of records
 many_bytes [] = omega arith
@@ -54,15 +41,10 @@ many_bytes (r ∷ records) = let rest = many_bytes records in omega (arith, rest
 pub few_changes : (chart : Chart) (history : List Entry) (end : ℕ) → IsLegal chart history → end + 1 ≡ length (journal_bytes (head_bytes chart) (item_records chart history))
     → end < most_changes → length chart.changes < most_changes
 few_changes chart history end legal place lt =
-    let items : List Item = items_of chart history in
-    let back = replay_items chart history legal.changes.in_order legal.changes.by_now in
-    let count = items_count (record { changes = []; entries = [] }) items in
-    let both : length (replay (record { changes = []; entries = [] }) items).changes + length (replay (record { changes = []; entries = [] }) items).entries ≡ length chart.changes + length history =
-    ap (λ (r : Replayed). length r.changes + length r.entries) back in
-    let records = length-map items item_bytes in
+    let count = records_count chart history legal in
     let size = length-journal_bytes (head_bytes chart) (item_records chart history) in
     let many = many_bytes (item_records chart history) in
-    omega (arith, place, lt, count, both, records, size, many)
+    omega (arith, place, lt, count, size, many)
 
 -- ---- the change
 
@@ -123,3 +105,41 @@ pub both_ok : {D : Type 0} (r : Result D (D × ChangeFault)) (J : Type 0) (S O :
     → IfOk r (λ d. IsTrue (honest d) → S d × O d) → IsTrue (honest (disk_left r)) → IfOk r (λ d. J × S d × O d)
 both_ok (Ok d) J S O honest j s told = (j, (s told).0, (s told).1)
 both_ok (Err e) J S O honest j s told = tt
+
+-- what a change of a book's journal answers tells that there is one
+pub tells_book : (reading : Reading) (chart : Chart) (history : List Entry) (what : What) (end old new : ℕ) (answer : Option ChangeFault) → IsFound reading (book chart history)
+    → ChangeShows chart history what end old new answer → ChangeTells reading answer
+tells_book reading chart history what end old new None found shows = (chart, history, found)
+tells_book reading chart history what end old new (Some (Open fault)) found shows = absurd shows
+tells_book reading chart history what end old new (Some Unknown) found shows = (chart, history, found)
+tells_book reading chart history what end old new (Some Rows) found shows = (chart, history, found)
+tells_book reading chart history what end old new (Some (Double row)) found shows = (chart, history, found)
+tells_book reading chart history what end old new (Some Currency) found shows = (chart, history, found)
+tells_book reading chart history what end old new (Some (Limits account)) found shows = (chart, history, found)
+tells_book reading chart history what end old new (Some (Full at need)) found shows = (chart, history, found)
+tells_book reading chart history what end old new (Some (DiskFault before after)) found shows = (chart, history, found)
+tells_book reading chart history what end old new (Some Memory) found shows = (chart, history, found)
+
+-- ---- how many calls it makes
+
+-- a disk that is the same was not called
+same_disk : {D : Type 0} (plan : D → ℕ → Option Bool) (old new : D) → new ≡ old → AtMostCalls 0 (plan old) (plan new)
+same_disk plan old new same = subst (λ x. AtMostCalls 0 (plan old) (plan x)) (sym same) (0, omega arith, no_calls (plan old))
+
+calls_by_fault : {D : Type 0} (plan : D → ℕ → Option Bool) (old new : D) (fault : ChangeFault) → AtMostCalls 4 (plan old) (plan new) → LeavesDisk fault (new ≡ old)
+    → AtMostCalls (calls_to_change (Some fault)) (plan old) (plan new)
+calls_by_fault plan old new (Open fault) most same = same_disk plan old new same
+calls_by_fault plan old new Unknown most same = same_disk plan old new same
+calls_by_fault plan old new Rows most same = same_disk plan old new same
+calls_by_fault plan old new (Double row) most same = same_disk plan old new same
+calls_by_fault plan old new Currency most same = same_disk plan old new same
+calls_by_fault plan old new (Limits account) most same = same_disk plan old new same
+calls_by_fault plan old new (Full end need) most same = same_disk plan old new same
+calls_by_fault plan old new (DiskFault before after) most same = most
+calls_by_fault plan old new Memory most same = same_disk plan old new same
+
+-- a change calls the disk where it is made and where the disk fails
+pub calls_by_answer : {D : Type 0} (plan : D → ℕ → Option Bool) (old : D) (r : Result D (D × ChangeFault)) → AtMostCalls 4 (plan old) (plan (disk_left r))
+    → IfErr r (λ e. LeavesDisk e.1 (e.0 ≡ old)) → AtMostCalls (calls_to_change (fault_in r)) (plan old) (plan (disk_left r))
+calls_by_answer plan old (Ok new) most same = most
+calls_by_answer plan old (Err e) most same = calls_by_fault plan old e.0 e.1 most same

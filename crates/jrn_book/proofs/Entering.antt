@@ -1,9 +1,8 @@
 -- What a new entry adds to a book.
 use Rattle.std.proofs.Common.{◌≡◌, ℕ, ◌+◌, ◌<◌, ◌≤◌, All, Bool, true, false, cond, List, [], ◌∷◌, ◌++◌, length, get_or, take, Option, Some, None, refl, sym, ap, ◌∙◌, subst, arith, append_assoc, append-nil, length-append}
-use Rattle.std.specs.Prelude.{◌⊎◌, is_some, map}
+use Rattle.std.specs.Prelude.{◌⊎◌, is_some}
 use Rattle.std.specs.List.{position_from}
 use Rattle.std.specs.Str.{bytes_eq}
-use Rattle.std.proofs.lemmas.Bool.{le-leb, leb-true}
 use Rattle.std.proofs.lemmas.List.{map-append}
 use Rattle.std.proofs.lemmas.List.Elements.{All-nil}
 use Rattle.std.proofs.lemmas.Slice.Eq.{bytes_eq-Decides}
@@ -16,31 +15,25 @@ use Rattle.day_model.specs.declared.entry.Entry.{Entry}
 use Rattle.day_model.specs.declared.entry.Outcome.{Outcome}
 use Rattle.day_model.specs.declared.entry.Outcome.TheVariants.{Booked, Unfunded}
 use Rattle.day_model.specs.Balance.{is_booked}
-use Rattle.day_model.specs.Changes.{is_by}
 use Rattle.day_model.specs.Chart.{AreBy, Chart}
-use Rattle.day_model.specs.Items.{items_of}
-use Rattle.day_model.specs.declared.change.Item.{Item}
-use Rattle.day_model.specs.declared.change.Item.TheVariants.{Entered}
 use Rattle.day_model.specs.Fit.{FitsAccounts}
 use Rattle.day_model.specs.Laws.{IsLatest}
 use Rattle.day_model.specs.Legal.{IsLegal}
 use Rattle.day_model.specs.Next.{entered_at, entry_of, has_mir, next_history}
 use Rattle.day_model.specs.Totals.{Pair, Fits64, booked_legs, legs_pair, plus, totals_of}
-use Rattle.day_model.proofs.laws.Changes.{list_all-then}
 use Rattle.day_model.proofs.laws.Growth.{one_pay_more}
-use Rattle.day_model.proofs.laws.Items.{items_entered}
 use Rattle.day_model.proofs.laws.Pairs.{entry_adds_its_legs, legal_totals_fit, plus_nothing}
 use Rattle.acct_locks.specs.Holdings.{CanSettle, Holding, HoldsOnce, held_totals, held_with}
 use Rattle.jrn_file.specs.Journal.{IsFrame, StandsFor, frame_of}
 use Rattle.jrn_file.specs.Reading.{most_record_bytes}
 use Rattle.jrn_file.proofs.laws.Frames.{record_in-frame}
 use Rattle.jrn_codec.specs.Header.{head_bytes}
-use Rattle.jrn_codec.specs.Items.{item_bytes}
 use Rattle.jrn_codec.specs.Record.{entry_bytes}
 use Rattle.jrn_book.specs.Deciding.{HoldsAll}
 use Rattle.jrn_book.specs.Index.{place_in, references_of}
 use Rattle.jrn_book.specs.Drafting.{records_of}
 use Rattle.jrn_book.specs.Journal.{IsBeforeOrNext, item_records}
+use Rattle.jrn_book.proofs.laws.Items.{by_later, records_more}
 
 -- the next history of a pay whose reference is new
 pub next_new : (chart : Chart) (history : List Entry) (pay : Pay) (day : Day) → entered_at pay.mir history ≡ None → next_history chart history pay day ≡ history ++ entry_of chart history pay day ∷ []
@@ -50,17 +43,7 @@ next_new chart history pay day new = ap (λ (o : Option ℕ). cond (is_some o) h
 pub next_legal : (chart : Chart) (history : List Entry) (pay : Pay) (day : Day) → IsLegal chart history → FitsAccounts chart pay → IsLatest history day → length history < 100000 → entered_at pay.mir history ≡ None → IsLegal chart (history ++ entry_of chart history pay day ∷ [])
 next_legal chart history pay day legal fits latest few new = one_pay_more chart history pay day legal fits latest few (ap is_some new)
 
--- changes that came by then came by later
-pub by_later : (chart : Chart) (k m : ℕ) → k ≤ m → AreBy k chart → AreBy m chart
-by_later chart k m le by =
-    list_all-then (is_by k) (is_by m) chart.changes (λ c is. le-leb c.after m (let l = leb-true c.after k is in omega (arith, l, le))) by
-
--- the records and the references of a history with an entry more, which comes after all changes
-pub records_more : (chart : Chart) (history : List Entry) (e : Entry) → AreBy (length history) chart → item_records chart (history ++ e ∷ []) ≡ item_records chart history ++ entry_bytes e ∷ []
-records_more chart history e by =
-    ap (λ (items : List Item). map item_bytes items) (items_entered chart history e by) ∙ map-append item_bytes (items_of chart history) (Entered e ∷ [])
-
--- and with several more
+-- the records of a history with several entries more
 pub records_all : (chart : Chart) (history entries : List Entry) → AreBy (length history) chart → item_records chart (history ++ entries) ≡ item_records chart history ++ records_of entries
 records_all chart history [] by = ap (item_records chart) (append-nil history) ∙ sym (append-nil (item_records chart history))
 records_all chart history (e ∷ entries) by =
@@ -70,6 +53,7 @@ records_all chart history (e ∷ entries) by =
     ∙ ap (λ (rs : List (List ℕ)). rs ++ records_of entries) (records_more chart history e by)
     ∙ append_assoc (item_records chart history) (entry_bytes e ∷ []) (records_of entries)
 
+-- the references of one with an entry more
 pub references_more : (history : List Entry) (e : Entry) → references_of (history ++ e ∷ []) ≡ references_of history ++ e.pay.mir.0 ∷ []
 references_more history e = map-append (λ (x : Entry). x.pay.mir.0) history (e ∷ [])
 

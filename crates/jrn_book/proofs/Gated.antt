@@ -1,5 +1,5 @@
 -- The records of drafted entries, as they are appended.
-use Rattle.std.proofs.Common.{◌≡◌, ℕ, ◌+◌, ◌≤◌, All, List, [], ◌∷◌, ◌++◌, length, map, drop, refl, sym, ap, ◌∙◌, subst, arith, append_assoc, append-nil, length-append}
+use Rattle.std.proofs.Common.{◌≡◌, ℕ, ◌+◌, ◌≤◌, All, List, [], ◌∷◌, ◌++◌, length, map, drop, refl, sym, ap, ◌∙◌, arith, append_assoc, append-nil}
 use Rattle.std.proofs.lemmas.List.{map-append}
 use Rattle.std.proofs.lemmas.List.Elements.{All-cons, All-head, All-nil, All-tail}
 use Rattle.day_model.specs.declared.entry.Entry.{Entry}
@@ -7,13 +7,12 @@ use Rattle.day_model.specs.Chart.{AreBy, Chart}
 use Rattle.jrn_file.specs.Journal.{AreFrames, after_gates, frames_of}
 use Rattle.jrn_file.specs.Reading.{most_record_bytes, size_of, with_length}
 use Rattle.jrn_file.proofs.laws.Sizes.{after_gates-append, length-after_gates, map-with_gates, size_of-append}
-use Rattle.jrn_codec.specs.Header.{head_bytes}
 use Rattle.jrn_codec.specs.Record.{IsEntry, entry_bytes}
 use Rattle.jrn_codec.proofs.laws.Records.{few_bytes}
 use Rattle.jrn_book.specs.Drafting.{gated_records, records_of}
 use Rattle.jrn_book.specs.Journal.{file_of, item_records}
 use Rattle.jrn_book.proofs.Entering.{records_all}
-use Rattle.jrn_book.proofs.Roomy.{file_long}
+use Rattle.jrn_book.proofs.laws.Sizes.{file_long}
 
 abbrev gated : List (List ℕ) → List (ℕ × List ℕ)
 gated records = map (λ (r : List ℕ). (1, r)) records

@@ -1,41 +1,22 @@
 -- Accounts and a history that are read record by record.
-use Rattle.std.proofs.Common.{◌≡◌, ℕ, ◌+◌, ◌-◌, ◌<◌, ◌≤◌, ◌^◌, All, List, [], ◌∷◌, ◌++◌, length, take, drop, get_or, refl, sym, ap, ◌∙◌, subst, arith}
+use Rattle.std.proofs.Common.{◌≡◌, ℕ, ◌+◌, ◌-◌, ◌<◌, ◌≤◌, ◌^◌, List, [], ◌∷◌, ◌++◌, length, take, drop, get_or, sym, ap, ◌∙◌, subst, arith}
 use Rattle.std.specs.Prelude.{min}
 use Rattle.std.proofs.lemmas.List.{append_assoc, take_all, take_more, take-append-drop}
-use Rattle.std.proofs.lemmas.List.Elements.{All-nil}
-use Rattle.day_model.specs.declared.change.Change.{Change}
-use Rattle.day_model.specs.declared.change.Item.{Item}
-use Rattle.day_model.specs.declared.change.Item.TheVariants.{Changed}
 use Rattle.day_model.specs.declared.entry.Entry.{Entry}
-use Rattle.day_model.specs.Changes.{all_changed}
-use Rattle.day_model.specs.Chart.{Chart, HasCode, bare}
-use Rattle.day_model.proofs.laws.Growth.{empty_is_legal}
+use Rattle.day_model.specs.Chart.{Chart}
 use Rattle.jrn_file.specs.Reading.{size_of, whole}
 use Rattle.jrn_file.proofs.laws.Sizes.{size_of-append}
 use Rattle.jrn_codec.specs.Header.{IsHead}
-use Rattle.jrn_codec.specs.Record.{IsEntry}
 use Rattle.jrn_book.specs.declared.version.Version.{Version}
 use Rattle.jrn_book.specs.declared.version.Version.TheVariants.{One, Two}
 use Rattle.jrn_book.specs.Journal.{IsJournalIn, all_records_in}
 use Rattle.jrn_book.specs.Opening.{IsFaultyAt, IsNoNext}
 use Rattle.jrn_book.specs.Reading.{IsReadNext, Read, chart_with, entries_with}
-use Rattle.jrn_book.specs.Versions.{HasBytes, bytes_in, head_in}
-use Rattle.jrn_book.proofs.Items.{journal_with, records_with}
+use Rattle.jrn_book.specs.Versions.{head_in}
+use Rattle.jrn_book.proofs.Items.{journal_with}
+use Rattle.jrn_book.proofs.laws.Items.{records_with}
 
--- a header and nothing more
-pub empty_journal : (version : Version) (chart : Chart) → IsHead chart → IsJournalIn version chart []
-empty_journal version chart head =
-    let none = head.unchanged in
-    record {
-      head = subst (λ (cs : List Change). IsHead (record chart { changes = cs })) none head;
-      book = head.book;
-      codes = subst (λ (cs : List Change). All HasCode (all_changed cs chart.first)) (sym none) head.codes;
-      changes = subst (λ (cs : List Change). All (λ c. HasBytes version (Changed c.what)) cs) (sym none) (All-nil (λ (c : Change). HasBytes version (Changed c.what)));
-      entries = All-nil IsEntry;
-      legal = empty_is_legal chart none;
-    }
-
--- its one record
+-- a header has one record, and nothing more
 pub head_alone : (version : Version) (chart : Chart) → IsHead chart → all_records_in version chart [] ≡ head_in version chart ∷ []
 head_alone One chart head = λ i. all_records_in One (record { home = chart.home; first = chart.first; changes = head.unchanged i }) []
 head_alone Two chart head = λ i. all_records_in Two (record { home = chart.home; first = chart.first; changes = head.unchanged i }) []

@@ -1,9 +1,9 @@
 -- One item more: its record stands last, and accounts and history are still those of a journal.
-use Rattle.std.proofs.Common.{◌≡◌, ℕ, ◌+◌, ◌-◌, All, List, [], ◌∷◌, ◌++◌, length, Option, Some, None, refl, sym, ap, ◌∙◌, subst, arith, length-append, take}
-use Rattle.std.specs.Prelude.{filter, map, slice_get, slice_set, ℤ}
+use Rattle.std.proofs.Common.{◌≡◌, ℕ, ◌+◌, ◌-◌, All, List, [], ◌∷◌, length, Option, Some, None, refl, sym, ap, ◌∙◌, subst, arith, length-append, take}
+use Rattle.std.specs.Prelude.{slice_get, slice_set, ℤ}
 use Rattle.std.specs.Option.{option_map_or}
-use Rattle.std.proofs.lemmas.List.{map-append, take_all}
-use Rattle.std.proofs.lemmas.List.Elements.{All-append, All-cons, All-filter, All-map, All-nil, All-push, All-head, All-set, All-tail}
+use Rattle.std.proofs.lemmas.List.{take_all}
+use Rattle.std.proofs.lemmas.List.Elements.{All-append, All-cons, All-filter, All-map, All-push, All-head, All-set, All-tail}
 use Rattle.std.proofs.lemmas.Option.{slice_get_within, same_Some, slice_get-get_or}
 use Rattle.day_model.specs.declared.account.Account.{Account}
 use Rattle.day_model.specs.declared.change.Change.{Change}
@@ -19,43 +19,15 @@ use Rattle.day_model.specs.Items.{items_from, items_of}
 use Rattle.day_model.specs.Legal.{IsLegal, IsLegalChange, balance_at, balance_named}
 use Rattle.day_model.proofs.laws.Changes.{named_same}
 use Rattle.day_model.proofs.laws.Changing.{accounts_with, balance_with_change, chart_with_change, last_change, legal_with_change}
-use Rattle.day_model.proofs.laws.Items.{items_changed, items_entered}
-use Rattle.jrn_codec.specs.Items.{IsItem, item_bytes}
+use Rattle.jrn_codec.specs.Items.{IsItem}
 use Rattle.jrn_codec.specs.Record.{IsEntry}
 use Rattle.jrn_book.specs.declared.version.Version.{Version}
 use Rattle.jrn_book.specs.declared.version.Version.TheVariants.{One, Two}
 use Rattle.jrn_book.specs.Following.{MayComeNext}
-use Rattle.jrn_book.specs.Journal.{IsJournalIn, all_records_in, item_records}
+use Rattle.jrn_book.specs.Journal.{IsJournalIn}
 use Rattle.jrn_book.specs.Opening.{IsNextOf}
 use Rattle.jrn_book.specs.Reading.{chart_with, entries_with}
-use Rattle.jrn_book.specs.Versions.{HasBytes, bytes_in, head_in}
-
--- ---- records
-
--- an item that comes next stands last
-pub items_with : (chart : Chart) (history : List Entry) (item : Item) → IsLegal chart history
-    → items_of (chart_with chart history item) (entries_with history item) ≡ items_of chart history ++ item ∷ []
-items_with chart history (Entered e) legal = items_entered chart history e legal.changes.by_now
-items_with chart history (Changed what) legal = items_changed chart history what
-
--- a change isn't in the header
-head_with : (version : Version) (chart : Chart) (history : List Entry) (item : Item) → head_in version (chart_with chart history item) ≡ head_in version chart
-head_with One chart history (Entered e) = refl
-head_with One chart history (Changed what) = refl
-head_with Two chart history (Entered e) = refl
-head_with Two chart history (Changed what) = refl
-
--- so its record stands after the others
-pub records_with : (version : Version) (chart : Chart) (history : List Entry) (item : Item) → IsLegal chart history
-    → all_records_in version (chart_with chart history item) (entries_with history item) ≡ all_records_in version chart history ++ bytes_in version item ∷ []
-records_with version chart history item legal =
-    let records = ap (map (bytes_in version)) (items_with chart history item legal) ∙ map-append (bytes_in version) (items_of chart history) (item ∷ []) in
-    λ i. head_with version chart history item i ∷ records i
-
--- that of a change
-pub records_changed : (chart : Chart) (history : List Entry) (what : What)
-    → item_records (with_change chart (length history) what) history ≡ item_records chart history ++ item_bytes (Changed what) ∷ []
-records_changed chart history what = ap (map item_bytes) (items_changed chart history what) ∙ map-append item_bytes (items_of chart history) (Changed what ∷ [])
+use Rattle.jrn_book.specs.Versions.{HasBytes}
 
 -- ---- each item has its record
 

@@ -10,7 +10,6 @@ pub mod Staying
 pub mod Commits
 pub mod Chains
 pub mod Taking
-pub mod Roomy
 pub mod Gated
 pub mod Drafted
 pub mod Settled

@@ -1,8 +1,7 @@
 -- Entries that are settled one after another.
-use Rattle.std.proofs.Common.{◌≡◌, ◌≢◌, ◌⊎◌, ℕ, ◌+◌, ◌≤◌, All, List, [], ◌∷◌, ◌++◌, length, map, get_or, reverse, IsTrue, Some, refl, sym, ap, ◌∙◌, subst, arith, inl, inr, ⊎_elim, append_assoc, append-nil, length-append}
+use Rattle.std.proofs.Common.{◌≡◌, ℕ, ◌+◌, ◌≤◌, All, List, [], ◌∷◌, ◌++◌, length, get_or, reverse, IsTrue, Some, refl, sym, ap, ◌∙◌, arith, inl, inr, append_assoc, append-nil, length-append}
 use Rattle.std.proofs.lemmas.List.{length-reverse, reverse-append, reverse-reverse}
 use Rattle.day_model.specs.declared.pay.Leg.{Leg}
-use Rattle.day_model.specs.declared.pay.Side.{Side}
 use Rattle.day_model.specs.declared.pay.Side.TheVariants.{Credit, Debit}
 use Rattle.day_model.specs.declared.entry.Entry.{Entry}
 use Rattle.day_model.specs.Balance.{moved}
@@ -12,7 +11,7 @@ use Rattle.day_model.specs.Totals.{HasTotals, Pair, booked_legs, legs_pair, pair
 use Rattle.day_model.proofs.laws.Pairs.{plus_assoc}
 use Rattle.std.proofs.lemmas.List.Sums.{sum_by-append}
 use Rattle.std.proofs.lemmas.Option.{same_Some}
-use Rattle.acct_locks.specs.Holdings.{Holding, Holds, HoldsOnce, held_totals, held_with, holding_with}
+use Rattle.acct_locks.specs.Holdings.{Holding, Holds, HoldsOnce, held_totals, held_with}
 use Rattle.jrn_book.specs.Batches.{all_booked}
 use Rattle.jrn_book.specs.Deciding.{HoldsAll}
 use Rattle.jrn_book.proofs.ByTotals.{sound_legs}

@@ -25,7 +25,7 @@ use Rattle.jrn_book.specs.Appending.{ShowsAppend}
 use Rattle.jrn_book.specs.Book.{Counts, IsBacked, IsLeftBy, StandsOnDisk}
 use Rattle.jrn_book.specs.Index.{References, references_of}
 use Rattle.jrn_book.specs.Journal.{IsJournal, item_records}
-use Rattle.jrn_book.proofs.Entering.{records_more}
+use Rattle.jrn_book.proofs.laws.Items.{records_more}
 
 -- the counts after a fault
 pub counts_after : (day : Day) (at_open count end need old new : ℕ) (fault : CommitFault) → old ≡ at_open → ShowsAppend count end need old new (Err fault) → Counts (failed_after 1 None day (Err fault)) at_open new

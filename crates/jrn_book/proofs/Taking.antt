@@ -1,5 +1,5 @@
 -- The first answer of a batch that says that its pay was entered.
-use Rattle.std.proofs.Common.{◌≡◌, ℕ, zero, suc, ◌+◌, ◌-◌, ◌<◌, Bool, true, false, ◌||◌, cond, List, [], ◌∷◌, ◌++◌, length, take, replicate, Option, Some, None, IsSome, Ok, Err, refl, sym, ap, ◌∙◌, subst, arith, length-append}
+use Rattle.std.proofs.Common.{◌≡◌, ℕ, zero, suc, ◌+◌, Bool, true, false, ◌||◌, cond, List, [], ◌∷◌, length, take, Option, Some, IsSome, Ok, Err, refl, sym, ap, ◌∙◌, subst, arith}
 use Rattle.std.specs.List.{list_any, position_from}
 use Rattle.day_model.specs.declared.entry.Outcome.{Outcome}
 use Rattle.day_model.proofs.laws.Places.{position_from-within}

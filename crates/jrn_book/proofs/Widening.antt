@@ -1,5 +1,5 @@
 -- Totals of accounts when a change comes.
-use Rattle.std.proofs.Common.{◌≡◌, ◌≢◌, ℕ, zero, suc, ◌+◌, ◌-◌, ◌<◌, ◌≤◌, All, List, [], ◌∷◌, ◌++◌, length, take, get_or, Option, Some, None, refl, sym, ap, ◌∙◌, subst, arith, inl, inr, ℤ, cond, length-append}
+use Rattle.std.proofs.Common.{◌≡◌, ℕ, zero, suc, ◌+◌, ◌-◌, ◌<◌, ◌≤◌, All, List, [], ◌∷◌, ◌++◌, length, take, Option, Some, None, refl, sym, ap, ◌∙◌, subst, arith, inl, inr, ℤ, length-append}
 use Rattle.std.specs.Prelude.{slice_get, slice_set}
 use Rattle.std.specs.Option.{option_map_or}
 use Rattle.std.proofs.lemmas.Bool.{cases_lt, cond-false, cond-true, le-ltb, lt-ltb}
@@ -12,7 +12,7 @@ use Rattle.day_model.specs.declared.change.What.TheVariants.{Opened, Limits}
 use Rattle.day_model.specs.declared.entry.Entry.{Entry}
 use Rattle.day_model.specs.declared.pay.Leg.{Leg}
 use Rattle.day_model.specs.Changes.{changed_by, with_ends}
-use Rattle.day_model.specs.Chart.{Chart, IsListed, accounts_of, with_change}
+use Rattle.day_model.specs.Chart.{Chart, accounts_of, with_change}
 use Rattle.day_model.specs.Legal.{IsLegal}
 use Rattle.day_model.specs.Totals.{HasTotals, Pair, booked_legs, legs_pair, pair_at, plus, totals_of}
 use Rattle.day_model.proofs.laws.Changing.{accounts_with}

@@ -12,7 +12,7 @@ use Rattle.day_model.specs.Totals.{booked_legs}
 use Rattle.jrn_book.specs.Answers.{Answer, AnswerShows, failed_after, history_after}
 use Rattle.jrn_book.specs.declared.answer.Failed.{Failed}
 use Rattle.jrn_book.specs.declared.answer.Committed.TheVariants.{New, Kept}
-use Rattle.jrn_book.specs.declared.answer.CommitFault.TheVariants.{Conflict, Full, DiskFault, Broken, Memory}
+use Rattle.jrn_book.specs.declared.answer.CommitFault.TheVariants.{Conflict, Full, DiskFault, Memory}
 use Rattle.jrn_book.specs.Journal.{StandsForBook, file_of}
 
 -- the most pays of a batch

@@ -10,11 +10,12 @@ use Rattle.day_model.specs.Chart.{Chart, accounts_of}
 use Rattle.day_model.specs.Legal.{balance_named}
 use Rattle.day_model.specs.Refusals.{refusal_of}
 use Rattle.jrn_file.specs.Faults.{TellsCounts}
+use Rattle.jrn_file.specs.Reading.{Reading}
 use Rattle.jrn_codec.specs.Change.{change_bytes}
 use Rattle.jrn_book.specs.declared.changing.ChangeFault.{ChangeFault}
 use Rattle.jrn_book.specs.declared.changing.ChangeFault.TheVariants.{Open, Unknown, Rows, Double, Currency, Limits, Full, DiskFault, Memory}
 use Rattle.jrn_book.specs.Journal.{file_of}
-use Rattle.jrn_book.specs.Opening.{BookOpenCause, Finding, book, no_book, other_version, faulty, found_by}
+use Rattle.jrn_book.specs.Opening.{BookOpenCause, Finding, IsFound, book, no_book, other_version, faulty, found_by}
 
 -- why the accounts of a history refuse a change, none where it is legal
 abbrev pub refused_now : Chart → List Entry → What → Option Refusal
@@ -25,7 +26,7 @@ abbrev pub change_need : What → ℕ
 change_need what = length (change_bytes what) + 6
 
 -- The answer to a change of these accounts and this history, whose closed gate stands at `end`, with the disk's count of faults before
--- and after: the first refusal, no room in the file, a fault of the disk, or the change is made.
+-- and after: the first refusal, also where memory is out; no room in the file, a fault of the disk, want of memory, or the change is made.
 abbrev pub ChangeShows : Chart → List Entry → What → ℕ → ℕ → ℕ → Option ChangeFault → Type 0
 ChangeShows chart history what end old new None =
     (refused_now chart history what ≡ None) × (end + change_need what ≤ most_disk_bytes) × (new ≡ old)
@@ -40,7 +41,7 @@ ChangeShows chart history what end old new (Some (Full at need)) =
     (refused_now chart history what ≡ None) × (at ≡ end) × (need ≡ change_need what) × (most_disk_bytes < at + need) × (new ≡ old)
 ChangeShows chart history what end old new (Some (DiskFault before after)) =
     (refused_now chart history what ≡ None) × (end + change_need what ≤ most_disk_bytes) × TellsCounts old before after new
-ChangeShows chart history what end old new (Some Memory) = new ≡ old
+ChangeShows chart history what end old new (Some Memory) = (refused_now chart history what ≡ None) × (new ≡ old)
 
 -- the fault that a refusal is
 abbrev pub fault_of : Refusal → ChangeFault
@@ -90,3 +91,19 @@ abbrev pub ChangeAnswers : Finding → What → ℕ → ℕ → Option ChangeFau
 ChangeAnswers finding what old new None = IsChangeOf finding what old new None
 ChangeAnswers finding what old new (Some (Open fault)) = IfSome (found_by fault) (λ found. found ≡ finding) × BookOpenCause old new fault
 ChangeAnswers finding what old new (Some fault) = IsChangeOf finding what old new (Some fault)
+
+-- the bytes are the journal of a book
+abbrev pub IsOfBook : Reading → Type 0
+IsOfBook reading = (chart : Chart) × (history : List Entry) × IsFound reading (book chart history)
+
+-- what each answer says that the bytes are: a refusal of the opening what it is of, and all others the journal of a book
+abbrev pub ChangeTells : Reading → Option ChangeFault → Type 0
+ChangeTells reading None = IsOfBook reading
+ChangeTells reading (Some (Open fault)) = IfSome (found_by fault) (IsFound reading)
+ChangeTells reading (Some fault) = IsOfBook reading
+
+-- the calls of the disk that a change makes at most after the opening: where it is made and where the disk fails, else none
+abbrev pub calls_to_change : Option ChangeFault → ℕ
+calls_to_change None = 4
+calls_to_change (Some (DiskFault before after)) = 4
+calls_to_change (Some fault) = 0

@@ -6,7 +6,6 @@ use Rattle.corr_disk.specs.Disk.{LeavesOnly}
 use Rattle.corr_ids.specs.declared.day.Day.{Day}
 use Rattle.day_model.specs.declared.pay.Pay.{Pay}
 use Rattle.day_model.specs.declared.entry.Entry.{Entry}
-use Rattle.day_model.specs.Legal.{IsLegal}
 use Rattle.acct_locks.specs.Holdings.{Holding, held_with}
 use Rattle.jrn_file.specs.File.{disk_of, end_of}
 use Rattle.jrn_book.specs.Answers.{Answer}

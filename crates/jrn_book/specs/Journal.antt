@@ -1,5 +1,5 @@
 -- The bytes of a journal, as accounts that change and a history.
-use Rattle.std.specs.Prelude.{◌⊎◌, ℕ, All, List, [], ◌∷◌, ◌++◌, length, map}
+use Rattle.std.specs.Prelude.{◌⊎◌, ℕ, All, List, ◌∷◌, ◌++◌, length, map}
 use Rattle.corr_ids.specs.declared.day.Day.{Day}
 use Rattle.day_model.specs.declared.change.Item.TheVariants.{Changed}
 use Rattle.day_model.specs.declared.change.What.{What}

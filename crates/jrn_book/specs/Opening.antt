@@ -5,14 +5,12 @@ use Rattle.day_model.specs.declared.change.Item.{Item}
 use Rattle.day_model.specs.declared.entry.Entry.{Entry}
 use Rattle.day_model.specs.Chart.{Chart, accounts_of}
 use Rattle.day_model.specs.Items.{IsNextItem}
-use Rattle.day_model.specs.Log.{Log}
 use Rattle.day_model.specs.Totals.{HasTotals, Pair}
 use Rattle.jrn_file.specs.Faults.{TellsCounts}
 use Rattle.jrn_file.specs.File.{disk_of, IsSettled}
 use Rattle.jrn_file.specs.Reading.{Reading, no_journal, whole, cut, all_of, size_of}
 use Rattle.jrn_file.specs.declared.fault.OpenFault.{OpenFault}
 use Rattle.jrn_file.specs.declared.fault.OpenFault.TheVariants.{NotAJournal, Version as OtherVersion, Damaged, DiskFault, Memory}
-use Rattle.jrn_file.specs.declared.file.JFile.{JFile}
 use Rattle.jrn_codec.specs.Header.{IsHead, head_bytes}
 use Rattle.jrn_book.specs.declared.version.Version.{Version}
 use Rattle.jrn_book.specs.declared.version.Version.TheVariants.{Two}

@@ -1,5 +1,5 @@
 -- Records that are read one after another as accounts and a history.
-use Rattle.std.specs.Prelude.{◌≡◌, ℕ, ◌<◌, ◌^◌, List, [], ◌∷◌, ◌++◌, length, nat_lt, Option, None, Some, Result, Ok, Err, if◌then◌else◌}
+use Rattle.std.specs.Prelude.{◌≡◌, ℕ, ◌<◌, ◌^◌, List, [], ◌∷◌, ◌++◌, length, nat_lt, Option, Some, Result, Ok, Err, if◌then◌else◌}
 use Rattle.day_model.specs.declared.change.Item.{Item}
 use Rattle.day_model.specs.declared.change.Item.TheVariants.{Entered, Changed}
 use Rattle.day_model.specs.declared.change.What.{What}

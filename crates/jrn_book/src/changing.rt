@@ -1,6 +1,6 @@
 //! Changing the accounts of a journal.
 
-ghost use Rattle.std.specs.Prelude.{◌≡◌, ◌≤◌, ℕ, List, None, length, IfErr, IfOk, IsTrue};
+ghost use Rattle.std.specs.Prelude.{◌≡◌, ◌+◌, ◌≤◌, ℕ, List, None, length, IfErr, IfOk, IsTrue};
 ghost use Rattle.corr_disk.specs.Calls.{AtMostCalls, CallsMade};
 ghost use Rattle.corr_disk.specs.Disk.{LeavesOnly, Only};
 ghost use Rattle.day_model.specs.declared.entry.Entry.{Entry};
@@ -8,11 +8,13 @@ ghost use Rattle.day_model.specs.Chart.{Chart, with_change};
 ghost use Rattle.day_model.specs.Legal.{IsInForm};
 ghost use Rattle.jrn_file.specs.File.{IsSettled, disk_of, end_of};
 ghost use Rattle.jrn_file.specs.Journal.{frame_of};
+ghost use Rattle.jrn_file.specs.Pieces.{calls_to_open, piece_size};
 ghost use Rattle.jrn_file.specs.Reading.{opened_of};
 ghost use Rattle.jrn_file.specs.Untouched.{IsUntouched};
 ghost use Rattle.jrn_codec.specs.Change.{IsWhat, NumberFits, change_bytes, most_change_bytes};
 ghost use Rattle.jrn_codec.specs.Header.{head_bytes};
-ghost use Rattle.jrn_book.specs.Changing.{ChangeAnswers, ChangeShows, IsRefusedBy, LeavesDisk, disk_left, fault_in, fault_of, refused_now};
+ghost use Rattle.jrn_book.specs.Batches.{gate_of};
+ghost use Rattle.jrn_book.specs.Changing.{ChangeAnswers, ChangeShows, ChangeTells, IsRefusedBy, LeavesDisk, calls_to_change, disk_left, fault_in, fault_of, refused_now};
 ghost use Rattle.jrn_book.specs.Journal.{IsBeforeOrChanged, IsJournal, StandsForBook, item_records};
 ghost use Rattle.jrn_book.specs.Opening.{Finding, IsFound, book};
 
@@ -141,8 +143,8 @@ fn enter<D: Disk>(
 ///
 /// A new account has the form of its columns, as `has_form` of day_model says it; its opening and its limits may be any.
 ///
-/// The faults come in the order of `ChangeFault`, but `Open`, which never comes, and `Memory`, which may come after the refusals;
-/// `DiskFault` comes only where the disk's count of faults rose. After all but `DiskFault` the disk is as before.
+/// The faults come in the order of `ChangeFault`, but `Open`, which never comes, and `Memory`, which may come before `Full` and never
+/// before a refusal; `DiskFault` comes only where the disk's count of faults rose. After all but `DiskFault` the disk is as before.
 pub fn change_opened<D: Disk>(
     alloc: Global,
     past: &Past,
@@ -183,7 +185,9 @@ pub fn change_opened<D: Disk>(
 pub fn change_book<D: Disk>(alloc: Global, disk: D, what: &What) -> Result<D, (D, ChangeFault)>
     requires form { IsInForm what.now }
 
-    // The answer is that of the accounts and the history that the bytes are, or the refusal of what else they are.
+    // What it answers is what the bytes are: of a book's accounts and history what their change tells, or the refusal of what else
+    // they are.
+    ensures told { IsTrue (D.honest disk) → ChangeTells (opened_of (D.reads disk)) (fault_in result) }
     ensures answers { IsTrue (D.honest disk) → (finding : Finding) → IsFound (opened_of (D.reads disk)) finding
         → ChangeAnswers finding what.now (D.faults disk) (D.faults (disk_left result)) (fault_in result) }
 
@@ -197,6 +201,13 @@ pub fn change_book<D: Disk>(alloc: Global, disk: D, what: &What) -> Result<D, (D
         → ((image : List ℕ) → D.may_leave disk image → StandsForBook image chart history)
         → LeavesOnly D.moment D.left_since disk (disk_left result) (IsBeforeOrChanged chart history what.now) }
     ensures untouched { IfErr result (λ e. LeavesDisk e.1 (IsUntouched D.reads D.may_leave D.moment D.left_since disk e.0)) }
+
+    // It makes as many calls as a sync and a read of each 2^16 bytes up to the closed gate are, and then four; where it refuses at
+    // most up to the end, and then none.
+    ensures calls { IsTrue (D.honest disk) → (chart : Chart) (history : List Entry) → IsFound (opened_of (D.reads disk)) (book chart history)
+        → IfOk result (λ new. CallsMade (calls_to_open piece_size (gate_of chart history) + 4) (D.plan disk) (D.plan new)) }
+    ensures no_more_calls { IsTrue (D.honest disk)
+        → AtMostCalls (calls_to_open piece_size (length (D.reads disk)) + calls_to_change (fault_in result)) (D.plan disk) (D.plan (disk_left result)) }
     ensures honest { D.honest (disk_left result) ≡ D.honest disk }
 {
     match open_past(alloc, disk) {

@@ -14,7 +14,7 @@ ghost use Rattle.jrn_file.specs.Reading.{cut, opened_of, size_of, whole};
 ghost use Rattle.jrn_file.specs.Untouched.{IsUntouched};
 ghost use Rattle.jrn_codec.specs.Header.{head_bytes};
 ghost use Rattle.jrn_book.specs.declared.version.Version.TheVariants.{One, Two};
-ghost use Rattle.jrn_book.specs.Journal.{IsJournal, IsJournalIn, item_records};
+ghost use Rattle.jrn_book.specs.Journal.{IsJournal, IsJournalIn, all_records_in, item_records};
 ghost use Rattle.jrn_book.specs.Opening.{BookOpenCause, Finding, HasPurses, IsFound, IsFoundIn, IsNewBook, finding_in, found_by};
 ghost use Rattle.jrn_book.specs.Reading.{IsOfBytes, old_in, past_in};
 ghost use Rattle.jrn_book.specs.Resuming.{ResumesRun};
@@ -123,6 +123,12 @@ pub fn open_old<D: Disk>(alloc: Global, disk: D) -> Result<(Accounts, History, D
     ensures untouched { MatchResult result
         (λ r. IsUntouched D.reads D.may_leave D.moment D.left_since disk r.2)
         (λ e. IsUntouched D.reads D.may_leave D.moment D.left_since disk e.0) }
+
+    // It makes as many calls as a sync and a read of each 2^16 bytes up to the closed gate, which stands after all records, are.
+    ensures calls { IfOk result (λ r. CallsMade (calls_to_open piece_size (size_of (all_records_in One r.0 r.1.entries))) (D.plan disk) (D.plan r.2)) }
+    ensures no_more_calls { IsTrue (D.honest disk) → MatchResult result
+        (λ r. AtMostCalls (calls_to_open piece_size (length (D.reads disk))) (D.plan disk) (D.plan r.2))
+        (λ e. AtMostCalls (calls_to_open piece_size (length (D.reads disk))) (D.plan disk) (D.plan e.0)) }
 
     ensures honest { MatchResult result (λ r. D.honest r.2 ≡ D.honest disk) (λ e. D.honest e.0 ≡ D.honest disk) }
     ensures kept { IfOk result (λ r. D.faults r.2 ≡ D.faults disk) }

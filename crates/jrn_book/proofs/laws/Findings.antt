@@ -1,9 +1,8 @@
 -- Bytes are one thing only as the journal of a book.
-use Rattle.std.proofs.Common.{◌≡◌, ℕ, ◌≤◌, All, List, [], ◌∷◌, ◌++◌, length, get_or, refl, sym, ap, ◌∙◌, subst, inl, inr, arith}
+use Rattle.std.proofs.Common.{◌≡◌, ℕ, All, List, [], ◌∷◌, ◌++◌, length, get_or, refl, sym, ap, ◌∙◌, subst, inl, inr, arith}
 use Rattle.std.specs.Prelude.{◌⊎◌, map}
-use Rattle.std.proofs.lemmas.List.{append_assoc, append-nil}
+use Rattle.std.proofs.lemmas.List.{append-nil}
 use Rattle.std.proofs.lemmas.List.Elements.{All-head, All-tail}
-use Rattle.day_model.specs.declared.change.Change.{Change}
 use Rattle.day_model.specs.declared.change.Item.{Item}
 use Rattle.day_model.specs.declared.change.Item.TheVariants.{Entered, Changed}
 use Rattle.day_model.specs.declared.entry.Entry.{Entry}
@@ -17,9 +16,9 @@ use Rattle.jrn_codec.proofs.laws.Records.{one_entry_1, one_head, one_head_1, one
 use Rattle.jrn_book.specs.declared.version.Version.{Version}
 use Rattle.jrn_book.specs.declared.version.Version.TheVariants.{One, Two}
 use Rattle.jrn_book.specs.Journal.{IsJournalIn, all_records_in}
-use Rattle.jrn_book.specs.Opening.{Finding, book, no_book, other_version, faulty, HasHead, HasNoHead, HasOtherHead, IsFound, IsFoundIn, IsNextOf, IsRefusedIn}
+use Rattle.jrn_book.specs.Opening.{Finding, book, no_book, other_version, faulty, HasHead, HasNoHead, IsFound, IsFoundIn, IsNextOf, IsRefusedIn}
 use Rattle.jrn_book.specs.Versions.{HasBytes, bytes_in, head_in, number_of, other}
-use Rattle.jrn_book.proofs.Before.{WasCut, was_cut}
+use Rattle.jrn_book.proofs.Before.{was_cut}
 use Rattle.jrn_book.proofs.Items.{items_have}
 
 -- ---- records of a version

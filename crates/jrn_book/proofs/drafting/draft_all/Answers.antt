@@ -1,11 +1,10 @@
-use Rattle.std.proofs.Common.{◌≡◌, ◌∙◌, ◌+◌, ◌≤◌, All, List, [], ◌∷◌, ◌++◌, length, reverse, ap, arith, length-append, refl, subst, sym, vec_capacity}
-use Rattle.std.proofs.lemmas.List.{length-reverse, reverse-append, reverse-reverse}
+use Rattle.std.proofs.Common.{◌≡◌, ◌∙◌, ◌≤◌, All, List, [], ◌∷◌, ◌++◌, length, reverse, ap, arith, length-append, refl, subst, sym, vec_capacity}
+use Rattle.std.proofs.lemmas.List.{length-reverse, reverse-reverse}
 use Rattle.day_model.specs.declared.pay.Pay.{Pay}
-use Rattle.day_model.specs.declared.entry.Entry.{Entry}
 use Rattle.day_model.specs.Fit.{FitsAccounts}
 use Rattle.day_model.specs.Shape.{HasShape}
 use Rattle.jrn_book.specs.Answers.{Answer}
-use Rattle.jrn_book.specs.Drafting.{room_for, rooms_for}
+use Rattle.jrn_book.specs.Drafting.{rooms_for}
 use Rattle.jrn_book.proofs.Drafted.{IsDrafting, at_seam, drafts_begin, drafts_next, left_next, rooms_within}
 use Rattle.jrn_book.proofs.drafting.draft_all.Goals as goal
 

@@ -1,4 +1,4 @@
-use Rattle.std.proofs.Common.{◌≡◌, ◌∙◌, ◌⊎◌, ◌≤ℤ◌, ℕ, ◌+◌, ◌-◌, ◌<◌, ◌≤◌, ◌^◌, All, List, [], ◌∷◌, ◌++◌, length, None, Some, Err, ap, append_assoc, arith, inl, inr, length-append, refl, rules, subst, sym, ⊎_elim}
+use Rattle.std.proofs.Common.{◌≡◌, ◌∙◌, ◌≤ℤ◌, ℕ, ◌+◌, ◌<◌, ◌≤◌, All, List, [], ◌∷◌, ◌++◌, length, None, Err, ap, append_assoc, arith, inl, inr, length-append, refl, rules, subst, sym, ⊎_elim}
 use Rattle.std.specs.Prelude.{unwrap_or}
 use Rattle.std.proofs.Math.Seq.{take-append_seam}
 use Rattle.std.proofs.lemmas.Int.{ints}
@@ -11,7 +11,6 @@ use Rattle.day_model.specs.declared.entry.Outcome.TheVariants.{Booked}
 use Rattle.day_model.specs.Balance.{leg_tests, outcome_of}
 use Rattle.day_model.specs.Chart.{accounts_of}
 use Rattle.day_model.specs.Next.{entry_of}
-use Rattle.day_model.specs.Pairs.{PairsFit}
 use Rattle.day_model.specs.Totals.{HasTotals, Pair, booked_legs}
 use Rattle.day_model.proofs.laws.Histories.{entry_fits}
 use Rattle.day_model.proofs.laws.Pairs.{booked_listed}
@@ -19,15 +18,13 @@ use Rattle.day_model.proofs.laws.Slices.{push_last}
 use Rattle.jrn_codec.specs.Record.{entry_bytes}
 use Rattle.jrn_book.specs.Answers.{Answer, AnswerShows, IsFull, need_of}
 use Rattle.jrn_book.specs.declared.answer.CommitFault.{CommitFault}
-use Rattle.jrn_book.specs.declared.answer.CommitFault.TheVariants.{Full}
 use Rattle.jrn_book.specs.Batches.{gate_of}
 use Rattle.jrn_book.specs.Drafting.{IsDrafted}
 use Rattle.jrn_book.specs.Index.{place_in}
 use Rattle.jrn_book.specs.Journal.{file_of}
 use Rattle.jrn_book.proofs.Drafted.{draft_legal, draft_more, end_is, end_small, latest_all}
 use Rattle.jrn_book.proofs.Entering.{next_new, place_of}
-use Rattle.jrn_book.proofs.Roomy.{file_more}
-use Rattle.jrn_book.proofs.laws.Sizes.{no_longer}
+use Rattle.jrn_book.proofs.laws.Sizes.{file_more, no_longer}
 use Rattle.jrn_book.proofs.drafting.draft_new.Goals as goal
 
 pub overflow_add-end : goal.overflow_add-end

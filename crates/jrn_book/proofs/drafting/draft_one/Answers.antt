@@ -1,4 +1,4 @@
-use Rattle.std.proofs.Common.{◌≡◌, ◌∙◌, ◌-◌, List, ◌++◌, length, None, Some, ap, arith, slice_get, sym}
+use Rattle.std.proofs.Common.{◌≡◌, ◌∙◌, ◌-◌, List, ◌++◌, length, Some, ap, arith, slice_get, sym}
 use Rattle.day_model.specs.declared.entry.Entry.{Entry}
 use Rattle.day_model.specs.Next.{entered_at, has_mir}
 use Rattle.day_model.proofs.laws.Places.{position_from-within}

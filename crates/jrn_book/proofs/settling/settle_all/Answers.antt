@@ -1,5 +1,5 @@
 use Rattle.std.proofs.Common.{◌≡◌, ◌∙◌, ◌≤◌, All, List, [], ◌∷◌, ◌++◌, length, reverse, ap, arith, length-append, refl, subst, sym}
-use Rattle.std.proofs.lemmas.List.{length-reverse, reverse-append, reverse-reverse}
+use Rattle.std.proofs.lemmas.List.{reverse-append, reverse-reverse}
 use Rattle.day_model.specs.declared.entry.Entry.{Entry}
 use Rattle.day_model.specs.Legal.{IsLegal}
 use Rattle.day_model.specs.Chart.{accounts_of}
@@ -10,7 +10,7 @@ use Rattle.acct_locks.specs.Sides.{Sides}
 use Rattle.jrn_book.specs.Batches.{all_booked}
 use Rattle.jrn_book.specs.Deciding.{HoldsAll}
 use Rattle.jrn_book.proofs.Drafted.{at_seam}
-use Rattle.jrn_book.proofs.Entering.{by_later}
+use Rattle.jrn_book.proofs.laws.Items.{by_later}
 use Rattle.jrn_book.proofs.Settled.{IsSettling, all_still, all_then, settle_more, settle_none}
 use Rattle.jrn_book.proofs.settling.settle_all.Goals as goal
 

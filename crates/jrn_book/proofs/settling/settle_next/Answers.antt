@@ -8,7 +8,7 @@ use Rattle.day_model.specs.declared.entry.Entry.{Entry}
 use Rattle.day_model.proofs.laws.Fronts.{fits_now}
 use Rattle.day_model.proofs.laws.Histories.{has_entry}
 use Rattle.day_model.proofs.laws.Slices.{push_last}
-use Rattle.acct_locks.specs.Holdings.{CanSettle, held_totals, held_with}
+use Rattle.acct_locks.specs.Holdings.{CanSettle, held_totals}
 use Rattle.acct_locks.specs.Sides.{Sides}
 use Rattle.jrn_book.proofs.Entering.{can_settle}
 use Rattle.jrn_book.proofs.Settled.{all_agreed}

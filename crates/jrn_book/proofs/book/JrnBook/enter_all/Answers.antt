@@ -1,4 +1,4 @@
-use Rattle.std.proofs.Common.{◌≡◌, ◌∙◌, ℕ, ◌+◌, ◌≤◌, All, false, List, [], ◌∷◌, ◌++◌, length, replicate, take, Option, None, Some, Err, IsTrue, refl, sym, ap, subst, arith, append-nil, true, ⊎_elim}
+use Rattle.std.proofs.Common.{◌≡◌, ◌∙◌, ℕ, ◌≤◌, All, false, List, [], ◌++◌, length, replicate, take, Option, None, Some, Err, IsTrue, refl, sym, ap, subst, arith, append-nil, true, ⊎_elim}
 use Rattle.std.proofs.lemmas.Bool.{eqb-false, eqb-true}
 use Rattle.std.proofs.lemmas.List.{nil_from_length}
 use Rattle.atomic_table.specs.Seated.{TableId}
@@ -7,10 +7,8 @@ use Rattle.corr_disk.specs.Disk.{LeavesOnly, most_disk_bytes}
 use Rattle.day_model.specs.declared.pay.Pay.{Pay}
 use Rattle.day_model.specs.declared.entry.Entry.{Entry}
 use Rattle.day_model.specs.Chart.{accounts_of}
-use Rattle.day_model.specs.Fit.{FitsAccounts}
 use Rattle.day_model.specs.Laws.{IsLatest}
-use Rattle.day_model.specs.Totals.{HasTotals, Pair}
-use Rattle.acct_locks.specs.Holdings.{Holding}
+use Rattle.day_model.specs.Totals.{HasTotals}
 use Rattle.acct_locks.specs.Sides.{Sides}
 use Rattle.jrn_file.specs.File.{IsSettled, disk_of, end_of}
 use Rattle.jrn_file.specs.Journal.{IsBeforeOrAll}
@@ -29,7 +27,7 @@ use Rattle.jrn_book.specs.Journal.{IsJournal, file_of, item_records}
 use Rattle.jrn_book.proofs.Batched.{enters, fails, left_by_all, stays}
 use Rattle.jrn_book.proofs.Commits.{settled}
 use Rattle.jrn_book.proofs.Chains.{all_same, any_same, all_tried_apart, chain_memory, none_new, some_new}
-use Rattle.jrn_book.proofs.Drafted.{drafted_none, end_is, from_all, grown, some_first}
+use Rattle.jrn_book.proofs.Drafted.{end_is, from_all, grown, some_first}
 use Rattle.jrn_book.proofs.Entering.{records_all, references_front}
 use Rattle.jrn_book.proofs.Staying.{backed, journal_all}
 use Rattle.jrn_book.proofs.book.JrnBook.enter_all.Goals as goal

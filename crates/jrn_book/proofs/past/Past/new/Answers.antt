@@ -1,4 +1,4 @@
-use Rattle.std.proofs.Common.{◌≡◌, List, length, ap, ◌∙◌, subst, sym}
+use Rattle.std.proofs.Common.{List, length, ap, ◌∙◌, subst, sym}
 use Rattle.day_model.specs.declared.entry.Entry.{Entry}
 use Rattle.day_model.specs.Chart.{accounts_of}
 use Rattle.day_model.specs.Totals.{HasTotals, Pair}
@@ -6,7 +6,7 @@ use Rattle.day_model.proofs.laws.Histories.{has_none}
 use Rattle.jrn_book.specs.declared.version.Version.TheVariants.{Two}
 use Rattle.jrn_book.specs.Index.{references_of}
 use Rattle.jrn_book.specs.Journal.{IsJournal}
-use Rattle.jrn_book.proofs.Growing.{empty_journal}
+use Rattle.jrn_book.proofs.laws.Journals.{empty_journal}
 use Rattle.jrn_book.proofs.past.Past.new.Goals as goal
 
 pub invariant_of-result : goal.invariant_of-result

@@ -1,5 +1,5 @@
 -- Which pays of a batch have room, and the history that they make.
-use Rattle.std.proofs.Common.{◌≡◌, ℕ, ◌+◌, ◌-◌, ◌<◌, ◌≤◌, ◌^◌, Bool, true, false, ◌&&◌, cond, List, [], ◌∷◌, ◌++◌, length, Option, Some, None, refl, sym, ap, ◌∙◌, subst, arith, inl, inr, length-append}
+use Rattle.std.proofs.Common.{◌≡◌, ℕ, ◌+◌, ◌<◌, ◌≤◌, ◌^◌, Bool, true, false, cond, List, [], ◌∷◌, ◌++◌, length, Option, Some, refl, sym, ap, ◌∙◌, subst, arith, inl, inr, length-append}
 use Rattle.std.specs.Prelude.{nat_le, is_some, Ok, Err}
 use Rattle.std.specs.List.{list_all}
 use Rattle.std.proofs.lemmas.Bool.{le-leb, lt-leb, or_from, or_left, or_right}
@@ -9,40 +9,15 @@ use Rattle.day_model.specs.declared.pay.Pay.{Pay}
 use Rattle.day_model.specs.Chart.{AreBy, Chart}
 use Rattle.day_model.specs.Log.{most_entries}
 use Rattle.day_model.specs.Next.{entered_at, entry_of, next_history}
-use Rattle.jrn_file.specs.Reading.{size_of}
-use Rattle.jrn_file.proofs.laws.Sizes.{length-journal_bytes, size_of-append}
-use Rattle.jrn_codec.specs.Header.{head_bytes}
 use Rattle.jrn_codec.specs.Record.{entry_bytes}
 use Rattle.jrn_book.specs.Answers.{Answer, AnswerShows, HasRoomFor, IsFull, history_after, need_of}
 use Rattle.jrn_book.specs.declared.answer.Committed.TheVariants.{New, Kept}
 use Rattle.jrn_book.specs.declared.answer.CommitFault.TheVariants.{Conflict, Full, DiskFault, Broken, Memory}
 use Rattle.jrn_book.specs.Batches.{AnswersInTurn, Stage, entered_of, gate_of, history_with, is_tried, lacks_room, stage_after}
-use Rattle.jrn_book.specs.Journal.{file_of, item_records}
+use Rattle.jrn_book.specs.Journal.{file_of}
 use Rattle.jrn_book.proofs.Chains.{both}
-use Rattle.jrn_book.proofs.Entering.{by_later, records_more}
-
--- how long a file is
-pub file_long : (chart : Chart) (history : List Entry) → length (file_of chart history) ≡ 5 + length (head_bytes chart) + size_of (item_records chart history) + 1
-file_long chart history = length-journal_bytes (head_bytes chart) (item_records chart history)
-
-file_sum : (head all more own file next : ℕ) → file ≡ 5 + head + all + 1 → next ≡ 5 + head + more + 1 → more ≡ all + own → next ≡ file + own
-file_sum head all more own file next is now grown = omega arith
-
-last_record : (r : List ℕ) → size_of (r ∷ []) ≡ 5 + length r
-last_record r = omega arith
-
--- a file with an entry more
-pub file_more : (chart : Chart) (history : List Entry) (e : Entry) → AreBy (length history) chart → length (file_of chart (history ++ e ∷ [])) ≡ length (file_of chart history) + (5 + length (entry_bytes e))
-file_more chart history e by =
-    let records : size_of (item_records chart (history ++ e ∷ [])) ≡ size_of (item_records chart history) + (5 + length (entry_bytes e)) =
-    ap size_of (records_more chart history e by) ∙ size_of-append (item_records chart history) (entry_bytes e ∷ [])
-    ∙ ap (λ (n : ℕ). size_of (item_records chart history) + n) (last_record (entry_bytes e)) in
-    file_sum (length (head_bytes chart)) (size_of (item_records chart history)) (size_of (item_records chart (history ++ e ∷ []))) (5 + length (entry_bytes e)) (length (file_of chart history)) (length (file_of chart (history ++ e ∷ [])))
-    (file_long chart history) (file_long chart (history ++ e ∷ [])) records
-
--- a file has at least one byte, at the place of its closed gate
-pub gate_place : (chart : Chart) (history : List Entry) → gate_of chart history + 1 ≡ length (file_of chart history)
-gate_place chart history = let long = file_long chart history in omega (arith, long)
+use Rattle.jrn_book.proofs.laws.Items.{by_later}
+use Rattle.jrn_book.proofs.laws.Sizes.{file_more, gate_place}
 
 -- the bytes of a file with an entry more, by the place of its closed gate
 past_file : (file own end need most next : ℕ) → next ≡ file + (5 + own) → end + 1 ≡ file → need ≡ own + 6 → most < end + need → most + 1 ≤ next
