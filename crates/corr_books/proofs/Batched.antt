@@ -2,7 +2,7 @@
 use Rattle.std.proofs.Common.{◌≡◌, ◌⊎◌, ⊎_elim, inl, inr, ℕ, ◌<◌, ◌≤◌, All, Bool, true, false, List, [], ◌∷◌, length, replicate, Option, Some, None, Err, refl, ap, sym, ◌∙◌, subst, arith}
 use Rattle.std.specs.Prelude.{IsSome, IsTrue}
 use Rattle.std.specs.List.{list_any}
-use Rattle.std.proofs.lemmas.Bool.{cases_lt}
+use Rattle.std.proofs.lemmas.Bool.{cases_lt, false_from_ne_true}
 use Rattle.std.proofs.lemmas.List.{nil_from_length}
 use Rattle.std.proofs.lemmas.List.Elements.{All-cons, All-nil}
 use mathlib.Core.List.{IsPrefix}
@@ -21,21 +21,22 @@ use Rattle.front_word.proofs.laws.Prefixes.{prefix_self, prefix_trans}
 use Rattle.jrn_file.specs.File.{disk_of}
 use Rattle.jrn_file.specs.declared.file.JFile.{JFile}
 use Rattle.jrn_book.specs.Answers.{Answer}
-use Rattle.jrn_book.specs.Batches.{AnswersInTurn, IsBeforeOrEntered, Stage, entered_of, is_memory}
+use Rattle.jrn_book.specs.Batches.{AnswersInTurn, IsBeforeOrEntered, Stage, entered_of, is_memory, is_new}
 use Rattle.jrn_book.specs.Book.{Book, Counts}
 use Rattle.jrn_book.specs.CommitsAll.{stage_of}
 use Rattle.jrn_book.specs.Journal.{StandsForBook}
 use Rattle.jrn_book.specs.declared.answer.Failed.{Failed}
 use Rattle.jrn_book.specs.declared.answer.CommitFault.TheVariants.{Memory}
-use Rattle.jrn_book.proofs.Roomy.{chain_entered}
+use Rattle.jrn_book.proofs.laws.Rooms.{chain_entered}
 use Rattle.corr_books.specs.Entering.{EntersAll}
 use Rattle.corr_books.specs.Moments.{IsLeftInTurn, LeavesSince, StandsBetween, StandsWithMore}
 use Rattle.corr_books.specs.Opening.{Opening}
 use Rattle.corr_books.specs.Stand.{IsStand, entries_of, history_of}
-use Rattle.corr_books.specs.TellingAll.{AreNextInTurn, AreUntried, MeetsInTurn, ToldAll, is_untried}
-use Rattle.corr_books.proofs.Batching.{Stands, Together, all_tried, as_many, broken_rest, failure_told, next_in_turn, told_in_turn, told_none}
+use Rattle.corr_books.specs.TellingAll.{AreNextInTurn, AreUntried, IsBehind, MeetsInTurn, NoneEntered, NoneTried, ToldAll, stops}
+use Rattle.corr_books.proofs.Batching.{Stands, Together, all_tried, as_many, broken_rest, failure_told, memory_rest, next_in_turn, some_longer, told_in_turn, told_none, tried_on}
 use Rattle.corr_books.proofs.Booking.{told_spare}
 use Rattle.corr_books.proofs.Grown.{GoesOn, entered_grows}
+use Rattle.corr_books.proofs.Together.{none_entered, none_tried_all}
 use Rattle.corr_books.proofs.laws.Moments.{leaves_next}
 
 module _ {D : Type 0} (disk : disks.Ghosts D) (o : Opening) (past : ℕ → List ℕ → Type 0) (purses : TableId) (b b' : Book D) (w : WriterKnows) (pays : List Pay) (answers : List Answer)
@@ -169,6 +170,25 @@ module _ {D : Type 0} (disk : disks.Ghosts D) (o : Opening) (past : ℕ → List
       crash_same honest (e.file rest.none_new rest.none_failed) (ap (λ (x : Stage). x.history) rest.same) (ap (λ (x : Stage). x.failed) rest.same)
   crash honest None whole = by_failure honest whole b'.failed refl
 
+  -- where a batch stops no pay of it was entered
+  still_then : b.failed ≡ None → list_any stops answers ≡ true → (f : Option Failed) → b'.failed ≡ f → list_any is_new answers ≡ false
+  still_then whole stop (Some failed) is =
+      let told = failure_told o.accounts o.day (length pays) o.at_open pays answers first last failed whole is chain in
+      let same = ap (λ (h : List Entry). length h) (e.together told.0) in
+      false_from_ne_true (list_any is_new answers) (λ some. let longer = some_longer o.accounts o.day (length pays) o.at_open pays answers first last some chain in omega (arith, same, longer))
+  still_then whole stop None whole_then = by_want (list_any is_memory answers) refl
+    where
+      by_want : (t : Bool) → list_any is_memory answers ≡ t → list_any is_new answers ≡ false
+      by_want true some = (memory_rest o.accounts o.day (length pays) o.at_open pays answers first last (e.no_memory some).2 chain).none_new
+      by_want false none =
+          absurd (let on = tried_on answers (all_tried o.accounts o.day (length pays) o.at_open pays answers first last whole_then none chain) in cc (on, stop))
+
+  still_all : list_any stops answers ≡ true → (f : Option Failed) → b.failed ≡ f → list_any is_new answers ≡ false
+  still_all stop (Some failed) is =
+      let broken : IsSome b.failed = subst (λ (f : Option Failed). IsSome f) (sym is) refl in
+      (broken_rest o.accounts o.day (length pays) o.at_open pays answers first last broken chain).none_new
+  still_all stop None whole = still_then whole stop b'.failed refl
+
   -- what holds wherever the lock is free holds again
   stand_after_all : (w' : WriterKnows) → Stands o past purses w' last → IsStand disk o past purses record { book = b'; writer = w'; day = o.day }
   stand_after_all w' t = record {
@@ -234,6 +254,14 @@ module _ {D : Type 0} (disk : disks.Ghosts D) (o : Opening) (past : ℕ → List
   next_places number within by =
       subst (λ (d : Day). AreNextInTurn w number pays d answers) (sym s.day) (next_all disk o past purses b b' w pays answers of_day fits enters number within by)
 
+  -- where a batch stops none of its pays was entered
+  pub all_entered : (old new : PassKnows) → ToldAll o pays old answers new → list_any stops answers ≡ true → NoneEntered old new answers
+  all_entered old new told stop = none_entered o pays answers old new told (still_all disk o past purses b b' w pays answers of_day fits enters stop b.failed refl)
+
+  -- and where there is no memory none was tried
+  pub all_wanted : (old new : PassKnows) → ToldAll o pays old answers new → list_any is_memory answers ≡ true → NoneTried old new answers
+  all_wanted old new told some = none_tried_all o pays answers old new told some (e.no_memory some).2
+
   -- what the pass is told, and what stands behind the lock again
   pub booked_all : (old new : PassKnows) (w' : WriterKnows) → length pays ≤ o.most → IsNumber o.made old.number → MeetsInTurn w old.number pays day answers old w' new
       → ToldAll o pays old answers new × IsStand disk o past purses record { book = b'; writer = w'; day = day }
@@ -253,12 +281,12 @@ told_all_spare o (pay ∷ pays) old new spare [] same told = told
 told_all_spare o (pay ∷ pays) old new spare (a ∷ answers) same told = (told.0, told_spare o pay old told.0 spare a told.1, told.2)
 
 -- where there is no memory for as many pays none is tried
-none_tried : (pays : List Pay) → AreUntried pays (replicate (length pays) (Err Memory))
-none_tried [] = record { each = All-nil (λ (a : Answer). is_untried a ≡ true); many = refl }
-none_tried (pay ∷ pays) =
-    let rest = none_tried pays in
+none_tried : (o : Opening) (p : PassKnows) (pays : List Pay) → AreUntried o p (Err Memory) pays (replicate (length pays) (Err Memory))
+none_tried o p [] = record { each = All-nil (IsBehind o.at_open p.mark (Err Memory)); many = refl }
+none_tried o p (pay ∷ pays) =
+    let rest = none_tried o p pays in
     record {
-      each = All-cons (λ (a : Answer). is_untried a ≡ true) (Err Memory) (replicate (length pays) (Err Memory)) refl rest.each;
+      each = All-cons (IsBehind o.at_open p.mark (Err Memory)) (Err Memory) (replicate (length pays) (Err Memory)) refl rest.each;
       many = let many = rest.many in omega (arith, many);
     }
 
@@ -268,5 +296,5 @@ told_memory o [] p = refl
 told_memory o (pay ∷ pays) p = (
   p,
   record { grows = λ (none : ⊥). absurd none; says = tt; whole = λ none. absurd (cc (none)); mine = refl; memory = λ _. refl },
-  (refl, none_tried pays),
+  (refl, none_tried o p pays),
 )

@@ -1,5 +1,5 @@
 -- Answers to a batch, one after another: what they leave behind the lock, and what the pass shows of them.
-use Rattle.std.proofs.Common.{◌≡◌, ℕ, ◌≤◌, All, Bool, true, false, List, [], ◌∷◌, length, Option, Some, None, Ok, Err, refl, ap, sym, ◌∙◌, subst, arith}
+use Rattle.std.proofs.Common.{◌≡◌, ℕ, ◌+◌, ◌<◌, ◌≤◌, All, Bool, true, false, List, [], ◌∷◌, length, Option, Some, None, Ok, Err, refl, ap, sym, ◌∙◌, subst, arith, length-append}
 use Rattle.std.specs.Prelude.{IsSome}
 use Rattle.std.specs.List.{list_all, list_any}
 use Rattle.std.proofs.lemmas.Bool.{and_parts, or_from, or_right}
@@ -7,11 +7,14 @@ use Rattle.std.proofs.lemmas.List.Elements.{All-cons, All-head, All-nil, All-tai
 use Rattle.atomic_table.specs.Seated.{TableId}
 use Rattle.corr_disk.specs.declared.disk.Disk as disks
 use Rattle.corr_ids.specs.declared.day.Day.{Day}
+use Rattle.day_model.specs.declared.entry.Entry.{Entry}
+use Rattle.day_model.specs.declared.entry.Outcome.{Outcome}
 use Rattle.day_model.specs.declared.pay.Pay.{Pay}
 use Rattle.day_model.specs.Chart.{Chart}
 use Rattle.day_model.specs.Fit.{FitsAccounts}
 use Rattle.day_model.specs.Laws.{IsLatest}
 use Rattle.day_model.specs.Legal.{IsLegal}
+use Rattle.day_model.specs.Next.{entry_of}
 use Rattle.day_model.proofs.laws.Growth.{stays_legal}
 use Rattle.front_word.specs.Known.{WriterKnows, PassKnows}
 use Rattle.front_word.specs.Rule.{IsNumber}
@@ -21,14 +24,14 @@ use Rattle.jrn_book.specs.Book.{Book}
 use Rattle.jrn_book.specs.declared.answer.Failed.{Failed}
 use Rattle.jrn_book.specs.declared.answer.Committed.TheVariants.{New, Kept}
 use Rattle.jrn_book.specs.declared.answer.CommitFault.TheVariants.{Conflict, Full, DiskFault, Broken, Memory}
-use Rattle.jrn_book.proofs.Roomy.{gate_place}
+use Rattle.jrn_book.proofs.laws.Sizes.{gate_place}
 use Rattle.corr_books.specs.Entering.{Enters}
 use Rattle.corr_books.specs.Meeting.{IsNext, MeetsAfter, writer_after}
 use Rattle.corr_books.specs.Opening.{Opening}
 use Rattle.corr_books.specs.Stand.{IsStand}
 use Rattle.corr_books.specs.Telling.{Told}
-use Rattle.corr_books.specs.TellingAll.{AreNextInTurn, AreUntried, MeetsInTurn, OneOf, ToldAll, is_untried, stops}
-use Rattle.corr_books.proofs.Booking.{kept_history, next_place, stand_after, told_after}
+use Rattle.corr_books.specs.TellingAll.{AreNextInTurn, AreUntried, IsBehind, MeetsInTurn, OneOf, TellsOfRise, ToldAll, stops}
+use Rattle.corr_books.proofs.Booking.{kept_history, new_history, next_place, stand_after, told_after}
 
 -- A disk of which nothing is told but its count of faults, and of which a crash leaves nothing. Between the answers of a batch books
 -- are as if on such a disk.
@@ -43,9 +46,10 @@ counter o = record {
   plan = λ n k. None;
 }
 
--- no answer of several entered a pay, and none tells of a failure; with each of them a pay wasn't tried, and nothing changed
-pub record ChangeNothing (pays : List Pay) (answers : List Answer) (stage last : Stage) : Type 0 where
-  pub untried : AreUntried pays answers
+-- no answer of several entered a pay, and none tells of a failure of the disk; each of them says this, and nothing changed
+pub record ChangeNothing (P : Answer → Type 0) (pays : List Pay) (answers : List Answer) (stage last : Stage) : Type 0 where
+  pub each : All P answers
+  pub many : length answers ≡ length pays
   pub none_new : list_any is_new answers ≡ false
   pub none_failed : list_any is_disk_fault answers ≡ false
   pub same : last ≡ stage
@@ -56,6 +60,16 @@ Together answers = list_any is_memory answers ≡ true → list_all is_memory an
 
 together_behind : (answer : Answer) (answers : List Answer) → Together (answer ∷ answers) → Together answers
 together_behind answer answers all some = (and_parts (is_memory answer) (list_all is_memory answers) (all (or_right (is_memory answer) (list_any is_memory answers) some))).1
+
+-- where each pay was tried no answer stops the batch
+pub tried_on : (answers : List Answer) → list_all is_tried answers ≡ true → list_any stops answers ≡ false
+tried_on [] tried = refl
+tried_on (Ok committed ∷ answers) tried = tried_on answers (and_parts (is_tried (Ok committed)) (list_all is_tried answers) tried).1
+tried_on (Err (Conflict place) ∷ answers) tried = tried_on answers (and_parts (is_tried (Err (Conflict place))) (list_all is_tried answers) tried).1
+tried_on (Err (Full entries end need) ∷ answers) tried = tried_on answers (and_parts (is_tried (Err (Full entries end need))) (list_all is_tried answers) tried).1
+tried_on (Err (DiskFault before after) ∷ answers) tried = absurd (cc (tried))
+tried_on (Err (Broken from now) ∷ answers) tried = absurd (cc (tried))
+tried_on (Err Memory ∷ answers) tried = absurd (cc (tried))
 
 module _ (chart : Chart) (day : Day) (most at_open : ℕ) where
   -- what an answer tells by a stage, with this count of faults then
@@ -69,17 +83,15 @@ module _ (chart : Chart) (day : Day) (most at_open : ℕ) where
   next_stage stage pay answer now = stage_after chart day most stage pay answer now
 
   -- nothing follows
-  nothing : (stage last : Stage) → last ≡ stage → ChangeNothing [] [] stage last
-  nothing stage last same = record { untried = record { each = All-nil (λ (a : Answer). is_untried a ≡ true); many = refl }; none_new = refl; none_failed = refl; same = same }
+  nothing : (P : Answer → Type 0) (stage last : Stage) → last ≡ stage → ChangeNothing P [] [] stage last
+  nothing P stage last same = record { each = All-nil P; many = refl; none_new = refl; none_failed = refl; same = same }
 
   -- one more answer that changes nothing
-  one_nothing : (pay : Pay) (answer : Answer) (pays : List Pay) (answers : List Answer) (stage last : Stage) → is_untried answer ≡ true → is_new answer ≡ false → is_disk_fault answer ≡ false
-      → ChangeNothing pays answers stage last → ChangeNothing (pay ∷ pays) (answer ∷ answers) stage last
-  one_nothing pay answer pays answers stage last untried new failed rest = record {
-    untried = record {
-      each = All-cons (λ (a : Answer). is_untried a ≡ true) answer answers untried rest.untried.each;
-      many = let many = rest.untried.many in omega (arith, many);
-    };
+  one_nothing : (P : Answer → Type 0) (pay : Pay) (answer : Answer) (pays : List Pay) (answers : List Answer) (stage last : Stage) → P answer → is_new answer ≡ false → is_disk_fault answer ≡ false
+      → ChangeNothing P pays answers stage last → ChangeNothing P (pay ∷ pays) (answer ∷ answers) stage last
+  one_nothing P pay answer pays answers stage last says new failed rest = record {
+    each = All-cons P answer answers says rest.each;
+    many = let many = rest.many in omega (arith, many);
     none_new = or_from (is_new answer) (list_any is_new answers) new rest.none_new;
     none_failed = or_from (is_disk_fault answer) (list_any is_disk_fault answers) failed rest.none_failed;
     same = rest.same;
@@ -89,25 +101,33 @@ module _ (chart : Chart) (day : Day) (most at_open : ℕ) where
   not_whole : {P : Type 0} (stage : Stage) → IsSome stage.failed → stage.failed ≡ None → P
   not_whole stage some none = absurd (let no : IsSome {T = Failed} None = subst (λ (f : Option Failed). IsSome f) none some in cc (no))
 
-  -- where a commit failed all that follows is Broken
-  pub broken_rest : (pays : List Pay) (answers : List Answer) (stage last : Stage) → IsSome stage.failed → Chain stage pays answers last → ChangeNothing pays answers stage last
-  broken_rest [] [] stage last some chain = nothing stage last chain
-  broken_rest [] (a ∷ answers) stage last some chain = absurd chain
-  broken_rest (pay ∷ pays) [] stage last some chain = absurd chain
-  broken_rest (pay ∷ pays) (Ok (New place outcome) ∷ answers) stage last some chain = not_whole stage some chain.1.0
-  broken_rest (pay ∷ pays) (Ok (Kept place outcome) ∷ answers) stage last some chain = not_whole stage some chain.1.0
-  broken_rest (pay ∷ pays) (Err (Conflict place) ∷ answers) stage last some chain = not_whole stage some chain.1.0
-  broken_rest (pay ∷ pays) (Err (Full entries end need) ∷ answers) stage last some chain = not_whole stage some chain.1.0
-  broken_rest (pay ∷ pays) (Err (DiskFault before after) ∷ answers) stage last some chain = not_whole stage some chain.1.0
-  broken_rest (pay ∷ pays) (Err Memory ∷ answers) stage last some chain = not_whole stage some chain.1.0
-  broken_rest (pay ∷ pays) (Err (Broken from now) ∷ answers) stage last some chain =
-      one_nothing pay (Err (Broken from now)) pays answers stage last refl refl refl
-      (subst (λ (n : ℕ). ChangeNothing pays answers (record { history = stage.history; failed = stage.failed; faults = n }) last) chain.1.4
-      (broken_rest pays answers (next_stage stage pay (Err (Broken from now)) chain.0) last some chain.2))
+  -- where a commit failed all that follows is Broken, with the disk's count then
+  broken_by : (mark : ℕ) (pays : List Pay) (answers : List Answer) (stage last : Stage) → stage.faults ≤ mark → IsSome stage.failed → Chain stage pays answers last
+      → ChangeNothing (TellsOfRise at_open mark) pays answers stage last
+  broken_by mark [] [] stage last le some chain = nothing (TellsOfRise at_open mark) stage last chain
+  broken_by mark [] (a ∷ answers) stage last le some chain = absurd chain
+  broken_by mark (pay ∷ pays) [] stage last le some chain = absurd chain
+  broken_by mark (pay ∷ pays) (Ok (New place outcome) ∷ answers) stage last le some chain = not_whole stage some chain.1.0
+  broken_by mark (pay ∷ pays) (Ok (Kept place outcome) ∷ answers) stage last le some chain = not_whole stage some chain.1.0
+  broken_by mark (pay ∷ pays) (Err (Conflict place) ∷ answers) stage last le some chain = not_whole stage some chain.1.0
+  broken_by mark (pay ∷ pays) (Err (Full entries end need) ∷ answers) stage last le some chain = not_whole stage some chain.1.0
+  broken_by mark (pay ∷ pays) (Err (DiskFault before after) ∷ answers) stage last le some chain = not_whole stage some chain.1.0
+  broken_by mark (pay ∷ pays) (Err Memory ∷ answers) stage last le some chain = not_whole stage some chain.1.0
+  broken_by mark (pay ∷ pays) (Err (Broken from now) ∷ answers) stage last le some chain =
+      let is : now ≡ chain.0 = chain.1.2 in
+      let same : chain.0 ≡ stage.faults = chain.1.4 in
+      one_nothing (TellsOfRise at_open mark) pay (Err (Broken from now)) pays answers stage last (chain.1.1, chain.1.3, omega (arith, is, same, le)) refl refl
+      (subst (λ (n : ℕ). ChangeNothing (TellsOfRise at_open mark) pays answers (record { history = stage.history; failed = stage.failed; faults = n }) last) same
+      (broken_by mark pays answers (next_stage stage pay (Err (Broken from now)) chain.0) last (omega (arith, same, le)) some chain.2))
+
+  pub broken_rest : (pays : List Pay) (answers : List Answer) (stage last : Stage) → IsSome stage.failed → Chain stage pays answers last
+      → ChangeNothing (TellsOfRise at_open stage.faults) pays answers stage last
+  broken_rest pays answers stage last some chain = broken_by stage.faults pays answers stage last (omega arith) some chain
 
   -- and where there is no memory for any
-  pub memory_rest : (pays : List Pay) (answers : List Answer) (stage last : Stage) → list_all is_memory answers ≡ true → Chain stage pays answers last → ChangeNothing pays answers stage last
-  memory_rest [] [] stage last all chain = nothing stage last chain
+  pub memory_rest : (pays : List Pay) (answers : List Answer) (stage last : Stage) → list_all is_memory answers ≡ true → Chain stage pays answers last
+      → ChangeNothing (λ answer. answer ≡ Err Memory) pays answers stage last
+  memory_rest [] [] stage last all chain = nothing (λ (answer : Answer). answer ≡ Err Memory) stage last chain
   memory_rest [] (a ∷ answers) stage last all chain = absurd chain
   memory_rest (pay ∷ pays) [] stage last all chain = absurd chain
   memory_rest (pay ∷ pays) (Ok committed ∷ answers) stage last all chain = absurd (cc (all))
@@ -116,20 +136,22 @@ module _ (chart : Chart) (day : Day) (most at_open : ℕ) where
   memory_rest (pay ∷ pays) (Err (DiskFault before after) ∷ answers) stage last all chain = absurd (cc (all))
   memory_rest (pay ∷ pays) (Err (Broken from now) ∷ answers) stage last all chain = absurd (cc (all))
   memory_rest (pay ∷ pays) (Err Memory ∷ answers) stage last all chain =
-      one_nothing pay (Err Memory) pays answers stage last refl refl refl
-      (subst (λ (n : ℕ). ChangeNothing pays answers (record { history = stage.history; failed = stage.failed; faults = n }) last) chain.1.1
+      one_nothing (λ (answer : Answer). answer ≡ Err Memory) pay (Err Memory) pays answers stage last refl refl refl
+      (subst (λ (n : ℕ). ChangeNothing (λ (answer : Answer). answer ≡ Err Memory) pays answers (record { history = stage.history; failed = stage.failed; faults = n }) last) chain.1.1
       (memory_rest pays answers (next_stage stage pay (Err Memory) chain.0) last (and_parts (is_memory (Err Memory)) (list_all is_memory answers) all).1 chain.2))
 
-  -- behind an answer that stops a batch nothing changes
-  stopped : (answer : Answer) (pay : Pay) (pays : List Pay) (answers : List Answer) (stage last : Stage) (now : ℕ) → stops answer ≡ true → Shows stage pay answer now → Together (answer ∷ answers)
-      → Chain (next_stage stage pay answer now) pays answers last → ChangeNothing pays answers (next_stage stage pay answer now) last
-  stopped (Ok committed) pay pays answers stage last now stop shows all chain = absurd (cc (stop))
-  stopped (Err (Conflict place)) pay pays answers stage last now stop shows all chain = absurd (cc (stop))
-  stopped (Err (Full entries end need)) pay pays answers stage last now stop shows all chain = absurd (cc (stop))
-  stopped (Err (DiskFault before after)) pay pays answers stage last now stop shows all chain =
-      broken_rest pays answers (next_stage stage pay (Err (DiskFault before after)) now) last refl chain
-  stopped (Err (Broken from to)) pay pays answers stage last now stop shows all chain = broken_rest pays answers (next_stage stage pay (Err (Broken from to)) now) last shows.0 chain
-  stopped (Err Memory) pay pays answers stage last now stop shows all chain =
+  -- behind an answer that stops a batch nothing changes, and each answer says so
+  stopped : (mark : ℕ) (answer : Answer) (pay : Pay) (pays : List Pay) (answers : List Answer) (stage last : Stage) (now : ℕ) → stops answer ≡ true → (is_memory answer ≡ false → now ≤ mark)
+      → Shows stage pay answer now → Together (answer ∷ answers) → Chain (next_stage stage pay answer now) pays answers last
+      → ChangeNothing (IsBehind at_open mark answer) pays answers (next_stage stage pay answer now) last
+  stopped mark (Ok committed) pay pays answers stage last now stop marks shows all chain = absurd (cc (stop))
+  stopped mark (Err (Conflict place)) pay pays answers stage last now stop marks shows all chain = absurd (cc (stop))
+  stopped mark (Err (Full entries end need)) pay pays answers stage last now stop marks shows all chain = absurd (cc (stop))
+  stopped mark (Err (DiskFault before after)) pay pays answers stage last now stop marks shows all chain =
+      broken_by mark pays answers (next_stage stage pay (Err (DiskFault before after)) now) last (marks refl) refl chain
+  stopped mark (Err (Broken from to)) pay pays answers stage last now stop marks shows all chain =
+      broken_by mark pays answers (next_stage stage pay (Err (Broken from to)) now) last (marks refl) shows.0 chain
+  stopped mark (Err Memory) pay pays answers stage last now stop marks shows all chain =
       memory_rest pays answers (next_stage stage pay (Err Memory) now) last (and_parts (is_memory (Err Memory)) (list_all is_memory answers) (all refl)).1 chain
 
   -- the count of faults doesn't fall, where it is no less at the end than it was
@@ -172,6 +194,44 @@ module _ (chart : Chart) (day : Day) (most at_open : ℕ) where
       not_whole next chain.1.0 (ap (λ (s : Stage). s.failed) (sym same) ∙ whole)
   all_tried (pay ∷ pays) (Err Memory ∷ answers) stage last whole none chain = absurd (cc (none))
 
+  -- a pay that is entered adds one
+  one_longer : (place : ℕ) (outcome : Outcome) (pay : Pay) (stage : Stage) (now : ℕ) → Shows stage pay (Ok (New place outcome)) now
+      → length (history_after chart stage.history pay day (Ok (New place outcome))) ≡ length stage.history + 1
+  one_longer place outcome pay stage now shows =
+      ap (λ (h : List Entry). length h) (new_history chart stage.history pay day shows.1) ∙ length-append stage.history (entry_of chart stage.history pay day ∷ [])
+
+  -- an answer takes no entry away
+  not_shorter : (answer : Answer) (pay : Pay) (stage : Stage) (now : ℕ) → Shows stage pay answer now → length stage.history ≤ length (history_after chart stage.history pay day answer)
+  not_shorter (Ok (New place outcome)) pay stage now shows = let longer = one_longer place outcome pay stage now shows in omega (arith, longer)
+  not_shorter (Ok (Kept place outcome)) pay stage now shows =
+      let same = ap (λ (h : List Entry). length h) (kept_history chart stage.history pay day place shows.1.first) in omega (arith, same)
+  not_shorter (Err fault) pay stage now shows = omega arith
+
+  -- nor do several
+  none_shorter : (pays : List Pay) (answers : List Answer) (stage last : Stage) → Chain stage pays answers last → length stage.history ≤ length last.history
+  none_shorter [] [] stage last chain = let same = ap (λ (s : Stage). length s.history) chain in omega (arith, same)
+  none_shorter [] (a ∷ answers) stage last chain = absurd chain
+  none_shorter (pay ∷ pays) [] stage last chain = absurd chain
+  none_shorter (pay ∷ pays) (answer ∷ answers) stage last chain =
+      let first = not_shorter answer pay stage chain.0 chain.1 in
+      let rest = none_shorter pays answers (next_stage stage pay answer chain.0) last chain.2 in
+      omega (arith, first, rest)
+
+  -- where one was entered the history is longer
+  pub some_longer : (pays : List Pay) (answers : List Answer) (stage last : Stage) → list_any is_new answers ≡ true → Chain stage pays answers last → length stage.history < length last.history
+  some_longer [] [] stage last some chain = absurd (cc (some))
+  some_longer [] (a ∷ answers) stage last some chain = absurd chain
+  some_longer (pay ∷ pays) [] stage last some chain = absurd chain
+  some_longer (pay ∷ pays) (Ok (New place outcome) ∷ answers) stage last some chain =
+      let first = one_longer place outcome pay stage chain.0 chain.1 in
+      let rest = none_shorter pays answers (next_stage stage pay (Ok (New place outcome)) chain.0) last chain.2 in
+      omega (arith, first, rest)
+  some_longer (pay ∷ pays) (Ok (Kept place outcome) ∷ answers) stage last some chain =
+      let first = not_shorter (Ok (Kept place outcome)) pay stage chain.0 chain.1 in
+      let rest = some_longer pays answers (next_stage stage pay (Ok (Kept place outcome)) chain.0) last some chain.2 in
+      omega (arith, first, rest)
+  some_longer (pay ∷ pays) (Err fault ∷ answers) stage last some chain = some_longer pays answers (next_stage stage pay (Err fault) chain.0) last some chain.2
+
   -- there are as many answers as pays
   pub as_many : (pays : List Pay) (answers : List Answer) (stage last : Stage) → Chain stage pays answers last → length answers ≡ length pays
   as_many [] [] stage last chain = refl
@@ -199,6 +259,18 @@ module _ (chart : Chart) (day : Day) (most at_open : ℕ) where
   failure_told (pay ∷ pays) (Err (Broken from now) ∷ answers) stage last failed whole is chain = not_whole stage chain.1.0 whole
   failure_told (pay ∷ pays) (Err Memory ∷ answers) stage last failed whole is chain =
       failure_told pays answers (next_stage stage pay (Err Memory) chain.0) last failed whole is chain.2
+
+-- where a failure stops a batch the pass's mark is no less than the disk's count
+marks_stop : (o : Opening) (most : ℕ) (stage : Stage) (pay : Pay) (answer : Answer) (now : ℕ) (old next : PassKnows) → Told o pay old answer next → Shows o.accounts o.day most o.at_open stage pay answer now
+    → stops answer ≡ true → is_memory answer ≡ false → now ≤ next.mark
+marks_stop o most stage pay (Ok committed) now old next told shows stop some = absurd (cc (stop))
+marks_stop o most stage pay (Err (Conflict place)) now old next told shows stop some = absurd (cc (stop))
+marks_stop o most stage pay (Err (Full entries end need)) now old next told shows stop some = absurd (cc (stop))
+marks_stop o most stage pay (Err (DiskFault before after)) now old next told shows stop some =
+    let is : after ≡ now = shows.4 in let le : after ≤ next.mark = told.says.2 in omega (arith, is, le)
+marks_stop o most stage pay (Err (Broken from to)) now old next told shows stop some =
+    let is : to ≡ now = shows.2 in let le : to ≤ next.mark = told.says.2 in omega (arith, is, le)
+marks_stop o most stage pay (Err Memory) now old next told shows stop some = absurd (cc (some))
 
 module _ (o : Opening) (past : ℕ → List ℕ → Type 0) (purses : TableId) where
   -- the books at a stage, as if on such a disk
@@ -318,13 +390,16 @@ module _ (o : Opening) (past : ℕ → List ℕ → Type 0) (purses : TableId) w
         by_stop : (b : Bool) → stops answer ≡ b → OneOf b ((last_writer ≡ then_writer w pay answer) × (new ≡ next)) (MeetsInTurn (then_writer w pay answer) number pays o.day answers next last_writer new)
             → Ends (pay ∷ pays) (answer ∷ answers) old last_writer last new
         by_stop true is ended =
-            let nothing_more = stopped o.accounts o.day most o.at_open answer pay pays answers stage last now is shows all chain in (
-              (next, told, subst (λ (b : Bool). OneOf b ((new ≡ next) × AreUntried pays answers) (ToldAll o pays next answers new)) (sym is) (ended.1, nothing_more.untried)),
+            let marks : is_memory answer ≡ false → now ≤ new.mark = λ some.
+            subst (λ (p : PassKnows). now ≤ p.mark) (sym ended.1) (marks_stop o most stage pay answer now old next told shows is some) in
+            let nothing_more = stopped o.accounts o.day most o.at_open new.mark answer pay pays answers stage last now is marks shows all chain in
+            let untried : AreUntried o new answer pays answers = record { each = nothing_more.each; many = nothing_more.many } in (
+              (next, told, subst (λ (b : Bool). OneOf b ((new ≡ next) × AreUntried o new answer pays answers) (ToldAll o pays next answers new)) (sym is) (ended.1, untried)),
               subst (λ (x : WriterKnows × Stage). Stands x.0 x.1) (λ i. (sym ended.0 i, sym nothing_more.same i)) stands,
             )
         by_stop false is on =
             let behind = rest on in
-            ((next, told, subst (λ (b : Bool). OneOf b ((new ≡ next) × AreUntried pays answers) (ToldAll o pays next answers new)) (sym is) behind.0), behind.1)
+            ((next, told, subst (λ (b : Bool). OneOf b ((new ≡ next) × AreUntried o new answer pays answers) (ToldAll o pays next answers new)) (sym is) behind.0), behind.1)
 
     pub told_in_turn : (pays : List Pay) (answers : List Answer) (w last_writer : WriterKnows) (stage last : Stage) (old new : PassKnows) → Stands w stage → IsLegal o.accounts stage.history
         → All (FitsAccounts o.accounts) pays → stage.faults ≤ last.faults → AnswersInTurn o.accounts o.day most o.at_open stage pays answers last → Together answers → old.number ≡ number

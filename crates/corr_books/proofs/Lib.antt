@@ -5,6 +5,7 @@ pub mod Booking
 pub mod Grown
 pub mod Gathered
 pub mod Telling
+pub mod Together
 pub mod Batching
 pub mod Batched
 pub mod Counting

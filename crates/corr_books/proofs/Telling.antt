@@ -53,7 +53,7 @@ keeps_on : (old next new : PassKnows) → KeepsPass old next → KeepsPass next 
 keeps_on old next new first then = record { table = then.table ∙ first.table; number = then.number ∙ first.number; base = then.base ∙ first.base }
 
 -- where a batch ends, or goes on
-either_way : {A B P : Type 0} (b : Bool) → (A → P) → (B → P) → OneOf b A B → P
+pub either_way : {A B P : Type 0} (b : Bool) → (A → P) → (B → P) → OneOf b A B → P
 either_way true ended on it = ended it
 either_way false ended on it = on it
 

@@ -1,14 +1,15 @@
 //! Pays that are booked together: their accounts are held at once, and new entries come to the disk under one sync.
 
-ghost use Rattle.std.specs.Prelude.{◌≡◌, ◌+◌, ◌≤◌, ◌++◌, [], All, Err, IfOk, None, OnOk, length, map, replicate, vec_capacity};
+ghost use Rattle.std.specs.Prelude.{◌≡◌, ◌+◌, ◌≤◌, ◌++◌, [], All, Err, IfOk, None, OnOk, length, map, replicate, true, vec_capacity};
+ghost use Rattle.std.specs.List.{list_any};
 ghost use Rattle.day_model.specs.Fit.{FitsAccounts};
 ghost use Rattle.day_model.specs.Shape.{HasShape};
 ghost use Rattle.front_word.specs.Rule.{IsNumber};
 ghost use Rattle.acct_locks.specs.Holdings.{EachOnce, Holds};
-ghost use Rattle.jrn_book.specs.Batches.{most_batch};
+ghost use Rattle.jrn_book.specs.Batches.{is_memory, most_batch};
 ghost use Rattle.jrn_book.specs.Deciding.{HoldsAll};
 ghost use Rattle.corr_books.specs.Passes.{Belongs};
-ghost use Rattle.corr_books.specs.TellingAll.{AreNextInTurn, HasAccountsOf, MeetsInTurn, RiseOrStay, ToldAll, stops};
+ghost use Rattle.corr_books.specs.TellingAll.{AreNextInTurn, HasAccountsOf, MeetsInTurn, NoneEntered, NoneTried, RiseOrStay, ToldAll, stops};
 
 use crate::books::Books;
 use crate::entering::enter_all;
@@ -138,6 +139,8 @@ impl<N: BooksName, D: Disk> Stand<N, D> {
         requires none { answers.old.items ≡ [] }
         requires room { length pays.items ≤ vec_capacity answers.old }
         ensures told { ToldAll N.opening pays.items pass.old answers.new.items pass.new }
+        ensures together { list_any stops answers.new.items ≡ true → NoneEntered pass.old pass.new answers.new.items }
+        ensures memory { list_any is_memory answers.new.items ≡ true → NoneTried pass.old pass.new answers.new.items }
         ensures pass { Belongs N.opening pass.new }
         ensures capacity { vec_capacity answers.new ≡ vec_capacity answers.old }
     {
@@ -164,6 +167,8 @@ impl<N: BooksName, D: Disk> Stand<N, D> {
         requires none { answers.old.items ≡ [] }
         requires room { length pays.items ≤ vec_capacity answers.old }
         ensures told { ToldAll N.opening pays.items pass.old answers.new.items pass.new }
+        ensures together { list_any stops answers.new.items ≡ true → NoneEntered pass.old pass.new answers.new.items }
+        ensures memory { list_any is_memory answers.new.items ≡ true → NoneTried pass.old pass.new answers.new.items }
         ensures pass { Belongs N.opening pass.new }
         ensures capacity { vec_capacity answers.new ≡ vec_capacity answers.old }
     {
@@ -184,8 +189,11 @@ impl<N: BooksName, D: Disk> Books<N, D> {
     ///
     /// Each pay fits the accounts of the books and has the shape of what is written down; there are at most 1,024, and no more than the
     /// name of the books tells. The answers are those of as many calls of `book`, one after another, by a pass that nobody else uses
-    /// (`ToldAll`), up to one of `DiskFault`, `Broken` or `Memory`: the pays behind it aren't tried, and tell the pass nothing. Where the
-    /// disk fails no pay of the batch is entered. After `Memory` the pass is as before.
+    /// (`ToldAll`), up to one of `DiskFault`, `Broken` or `Memory`: the pays behind it aren't tried, and tell the pass nothing. Behind
+    /// `Memory` each answer is that, behind a failure `Broken` with the disk's count at the opening and one to which it has risen.
+    ///
+    /// All new entries are acknowledged together (`together`): where one answer is `DiskFault`, `Broken` or `Memory` none is `New`, and
+    /// no pay of the batch was entered. Where one is `Memory` (`memory`) all are, and the pass is as before.
     pub fn book_all<R: Wait, G: Gate>(
         &self,
         rt: &R,
@@ -203,6 +211,8 @@ impl<N: BooksName, D: Disk> Books<N, D> {
         requires none { answers.old.items ≡ [] }
         requires room { length pays.items ≤ vec_capacity answers.old }
         ensures told { ToldAll N.opening pays.items pass.old answers.new.items pass.new }
+        ensures together { list_any stops answers.new.items ≡ true → NoneEntered pass.old pass.new answers.new.items }
+        ensures memory { list_any is_memory answers.new.items ≡ true → NoneTried pass.old pass.new answers.new.items }
         ensures pass { Belongs N.opening pass.new }
         ensures capacity { vec_capacity answers.new ≡ vec_capacity answers.old }
     {

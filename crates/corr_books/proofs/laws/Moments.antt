@@ -1,5 +1,5 @@
 -- What a crash since the opening may leave, over the calls that follow one another.
-use Rattle.std.proofs.Common.{◌≡◌, ◌⊎◌, ⊎_elim, inl, inr, ℕ, ◌≤◌, List, arith, subst, sym}
+use Rattle.std.proofs.Common.{◌≡◌, ◌⊎◌, ⊎_elim, inl, inr, ℕ, List, arith, subst, sym}
 use Rattle.corr_disk.specs.declared.disk.Disk as disks
 use Rattle.corr_disk.specs.Disk.{LeavesOnly, Only}
 use Rattle.day_model.specs.declared.entry.Entry.{Entry}

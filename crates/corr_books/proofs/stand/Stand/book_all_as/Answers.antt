@@ -5,9 +5,10 @@ use Rattle.front_word.specs.Rule.{IsNumber}
 use Rattle.jrn_book.specs.Answers.{Answer}
 use Rattle.jrn_book.specs.declared.answer.CommitFault.TheVariants.{Memory}
 use Rattle.corr_books.specs.Passes.{Belongs}
-use Rattle.corr_books.specs.TellingAll.{AreNextInTurn, MeetsInTurn, ToldAll}
-use Rattle.corr_books.proofs.Batched.{booked_all, many_answers, next_places, told_all_spare, told_memory}
+use Rattle.corr_books.specs.TellingAll.{AreNextInTurn, MeetsInTurn, NoneEntered, NoneTried, ToldAll}
+use Rattle.corr_books.proofs.Batched.{all_entered, all_wanted, booked_all, many_answers, next_places, told_all_spare, told_memory}
 use Rattle.corr_books.proofs.Telling.{belongs_on}
+use Rattle.corr_books.proofs.Together.{memory_enters_none, memory_tries_none}
 use Rattle.corr_books.proofs.stand.Stand.book_all_as.Goals as goal
 
 pub tell_all-requires-clause-pays : goal.tell_all-requires-clause-pays
@@ -65,6 +66,18 @@ returns-clause-told g c =
     sym c.reserve_for.ensures.same ∙ (c.reserve_for.ensures.again (omega (arith, c.len-count.ensures, c.args.pays.ok.0, zero))).0 in
     told_all_spare o pays old new r.spare answers again (subst (λ (q : PassKnows). ToldAll o pays q answers new) c.reserve_for.ensures.same booked.0)
 
+pub returns-clause-together : goal.returns-clause-together
+returns-clause-together g c stop =
+    let s = c.self.inside in
+    all_entered g.D.Disk g.N.BooksName.opening g.N.BooksName.past g.N.Name.table s.book c.enter_all.new.book s.writer s.day c.args.pays.items c.enter_all.new.answers.items c.self.invariant c.requires.fits
+    c.enter_all.ensures.enters c.args.pass.now c.tell_all.new.pass (returns-clause-told g c) stop
+
+pub returns-clause-memory : goal.returns-clause-memory
+returns-clause-memory g c some =
+    let s = c.self.inside in
+    all_wanted g.D.Disk g.N.BooksName.opening g.N.BooksName.past g.N.Name.table s.book c.enter_all.new.book s.writer s.day c.args.pays.items c.enter_all.new.answers.items c.self.invariant c.requires.fits
+    c.enter_all.ensures.enters c.args.pass.now c.tell_all.new.pass (returns-clause-told g c) some
+
 -- want of memory
 pub returns-then-is_err-clause-told : goal.returns-then-is_err-clause-told
 returns-then-is_err-clause-told g c =
@@ -79,6 +92,20 @@ returns-then-is_err-clause-told g c =
     sym c.reserve_for.ensures.same ∙ (c.reserve_for.ensures.again (omega (arith, count, zero))).0 in
     told_all_spare o pays old r r.spare c.want_memory.new.answers.items again
     (subst (λ (x : PassKnows × List Answer). ToldAll o pays x.0 x.1 r) (λ i. (c.reserve_for.ensures.same i, sym answers i)) (told_memory o pays r))
+
+pub returns-then-is_err-clause-together : goal.returns-then-is_err-clause-together
+returns-then-is_err-clause-together g c stop =
+    let old = c.args.pass.now in
+    let r = c.reserve_for.new.self in
+    let answers : c.want_memory.new.answers.items ≡ replicate c.len-count.result (Err Memory) = c.want_memory.ensures.each ∙ (λ i. c.requires.none i ++ replicate c.len-count.result (Err Memory)) in
+    subst (λ (all : List Answer). NoneEntered old r all) (sym answers) (memory_enters_none old r c.len-count.result c.reserve_for.ensures.same)
+
+pub returns-then-is_err-clause-memory : goal.returns-then-is_err-clause-memory
+returns-then-is_err-clause-memory g c some =
+    let old = c.args.pass.now in
+    let r = c.reserve_for.new.self in
+    let answers : c.want_memory.new.answers.items ≡ replicate c.len-count.result (Err Memory) = c.want_memory.ensures.each ∙ (λ i. c.requires.none i ++ replicate c.len-count.result (Err Memory)) in
+    subst (λ (all : List Answer). NoneTried old r all) (sym answers) (memory_tries_none old r c.len-count.result c.reserve_for.ensures.same)
 
 pub returns-clause-pass : goal.returns-clause-pass
 returns-clause-pass g c =
