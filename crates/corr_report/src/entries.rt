@@ -1,9 +1,10 @@
 //! The entries of a journal as lines.
 
-ghost use Rattle.std.specs.Prelude.{◌≡◌, ◌++◌, IfOk, OnOk, length};
+ghost use Rattle.std.specs.Prelude.{◌≡◌, ◌++◌, ◌-◌, ◌≤◌, IfOk, OnOk, Some, length, slice_get};
 ghost use Rattle.corr_ids.specs.Day.{InCentury};
 ghost use Rattle.day_model.specs.Fit.{FitsAccounts};
 ghost use Rattle.day_model.specs.Legal.{IsLegal};
+ghost use Rattle.day_model.specs.declared.entry.Entry.{Entry as TheEntry};
 ghost use Rattle.corr_report.specs.Bookings.{AreInCentury, booking_line, bookings_of};
 ghost use Rattle.corr_report.specs.Outcomes.{NamesLeg};
 
@@ -48,5 +49,21 @@ pub fn bookings(alloc: Global, a: &Accounts, h: &History) -> Result<Text, Memory
     for place in 1..h.len() + 1 {
         put_line(alloc, a, place, h.get(place), &mut out)?;
     }
+    Ok(out)
+}
+
+/// The line of the entry at a place, counted from 1, as `bookings` has it. The history is legal for the accounts and has this place,
+/// and each entry has a day from 1980 to 2079.
+///
+/// `Memory`: there was no room for the line.
+pub fn booking(alloc: Global, a: &Accounts, h: &History, place: u32) -> Result<Text, Memory>
+    requires legal { IsLegal a.now h.now.entries }
+    requires days { AreInCentury h.now.entries }
+    requires from_one { 1 ≤ place }
+    requires there { place ≤ length h.now.entries }
+    ensures { IfOk result (λ text. (entry : TheEntry) → slice_get h.now.entries (place - 1) ≡ Some entry → text ≡ booking_line a.now place entry) }
+{
+    let mut out = Text::from_bytes(alloc, b"")?;
+    put_line(alloc, a, place, h.get(place), &mut out)?;
     Ok(out)
 }

@@ -12,7 +12,7 @@ mod totals;
 mod turnover;
 mod words;
 
-pub use entries::bookings;
+pub use entries::{booking, bookings};
 pub use generator::generated;
 pub use replies::{put_reply_line, put_report_end, reply_line, report};
 pub use summing::summary;
