@@ -50,7 +50,7 @@ THEIRS 00001 D 10,00 X
 GAP 0,00 -10,00
 ";
 
-fn tables(alloc: Global) -> Result<RefTables, Fail>
+pub fn tables(alloc: Global) -> Result<RefTables, Fail>
     ensures { IfOk result (λ t. IsTrue (few_decimals t.ccys)) }
 {
     match read_tables(alloc, b"ALPHDEFF\n", b"EUR,2\n", b"") {
@@ -61,7 +61,7 @@ fn tables(alloc: Global) -> Result<RefTables, Fail>
 
 /// The fields of a short text.
 #[tactic(auto, using(fin_fields::proofs::laws::Bounds::lines_few))]
-fn cut(alloc: Global, text: &[u8]) -> Result<List<Field>, Fail>
+pub fn cut(alloc: Global, text: &[u8]) -> Result<List<Field>, Fail>
     ensures few { IfOk result (λ fields. length fields ≤ 1000) }
     ensures fit { IfOk result (λ fields. All IsField fields) }
 {

@@ -1,0 +1,11 @@
+pub mod Steps
+pub mod Counts
+pub mod Contents
+pub mod Front
+pub mod Outcome
+pub mod Noted
+pub mod Rounds
+pub mod Walks
+pub mod Loops
+pub mod Told
+pub mod Stated
