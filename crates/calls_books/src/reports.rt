@@ -7,8 +7,8 @@ ghost use Rattle.corr_report.specs.Bookings.{AreInCentury};
 use crate::given::{FIRST, charged, customers, customers_and_fees, history_of, pay};
 use corr_money::Minor;
 use corr_report::{
-    bookings, generated, put_amount, put_balance, put_number, put_reply_line, put_report_end,
-    put_word, reply_line, report, side_letter, summary,
+    booking, bookings, generated, put_amount, put_balance, put_number, put_reply_line,
+    put_report_end, put_word, reply_line, report, side_letter, summary,
 };
 use corr_text::{Decimal, Memory, Text};
 use day_model::{Accounts, History, Reply, Side};
@@ -55,6 +55,15 @@ fn booked(alloc: Global, a: &Accounts, h: &History) -> Result<Text, Memory>
     bookings(alloc, a, h)
 }
 
+// The line of the only entry.
+fn booked_line(alloc: Global, a: &Accounts, h: &History) -> Result<Text, Memory>
+    requires legal { IsLegal a.now h.now.entries }
+    requires days { AreInCentury h.now.entries }
+    requires one { length h.now.entries ≡ 1 }
+{
+    booking(alloc, a, h, 1)
+}
+
 // The summary of a history.
 fn summed(alloc: Global, a: &Accounts, h: &History) -> Result<Text, Memory>
     requires { IsLegal a.now h.now.entries }
@@ -92,6 +101,8 @@ fn a_booked_pay_is_reported(rt: HostRuntime) -> Result<(), Fail> {
     assert!(rt; text.bytes() == in_place.bytes());
     let text = booked(rt.alloc(), &a, &h)?;
     assert!(rt; text.bytes().ends_with(b" BOOKED D A 0,03 C B 0,03\n"));
+    let only = booked_line(rt.alloc(), &a, &h)?;
+    assert!(rt; text.bytes() == only.bytes());
     let text = told(rt.alloc(), &a, &h)?;
     assert!(rt; text.bytes().starts_with(b"000007 240603ALPHDEFF"));
     let text = summed(rt.alloc(), &a, &h)?;

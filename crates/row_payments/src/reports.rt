@@ -1,13 +1,15 @@
-//! Calls of corr_report.
+//! Calls of corr_report and desk_rows.
 
 ghost use Rattle.std.specs.Prelude.{◌≤◌, All, IfOk, length};
 ghost use Rattle.corr_report.specs.Report.{NamesPlace};
 
 use crate::books::{book_in, lines_in, mir, small};
 use crate::histories::history_in;
+use corr_ids::{Day, day_from_yymmdd};
 use corr_report::{bookings, generated, report, summary};
 use corr_text::{Code, Fault, List};
 use day_model::{History, Reply};
+use desk_rows::balances;
 use row_words::answer::Answer;
 use row_words::stop::Stop;
 use row_words::words::Words;
@@ -19,6 +21,7 @@ pub fn call(name: &[u8], words: &mut Words, answer: &mut Answer) -> Result<bool,
         b"report" => reported(words, answer)?,
         b"bookings" => booked(words, answer)?,
         b"summary" => summed(words, answer)?,
+        b"balances" => balanced(words, answer)?,
         b"generated" => made(words, answer)?,
         _ => return Ok(false),
     }
@@ -137,6 +140,23 @@ fn summed(words: &mut Words, answer: &mut Answer) -> Result<(), Stop> {
     let book = book_in(alloc, words.next()?)?;
     let h = history_in(alloc, &book, words.next()?)?;
     let text = summary(alloc, &book, &h)?;
+    Ok(answer.text(text.bytes())?)
+}
+
+/// The next word as a day, none for `-`.
+fn until(words: &mut Words) -> Result<Option<Day>, Stop> {
+    match words.next()? {
+        b"-" => Ok(None),
+        day => Ok(Some(day_from_yymmdd(day).ok_or(Stop::Unreadable)?)),
+    }
+}
+
+/// `balances ACCOUNTS PAYS DAY`: the balances after the history of the pays, or after those up to a day.
+fn balanced(words: &mut Words, answer: &mut Answer) -> Result<(), Stop> {
+    let alloc = answer.alloc();
+    let book = book_in(alloc, words.next()?)?;
+    let h = history_in(alloc, &book, words.next()?)?;
+    let text = balances(alloc, &book, &h, until(words)?)?;
     Ok(answer.text(text.bytes())?)
 }
 

@@ -1,0 +1,4 @@
+pub mod Csv
+pub mod Until
+pub mod Balances
+pub mod Plain
