@@ -28,28 +28,42 @@ corr FOLDER init HOME                 makes journal.bin for the home bank HOME, 
 corr FOLDER run DATE WORKERS          books the messages of messages.fin on DATE (YYMMDD) with 1 to 16
                                       WORKERS, prints the report and appends the messages that leave to
                                       out.fin
+corr FOLDER return PLACE DATE         takes the payment at PLACE back on DATE, prints its entry and appends
+                                      the messages that leave to out.fin
 corr FOLDER send FROM UNTIL           appends to out.fin once more what leaves for the entries at these
                                       places
 corr FOLDER bookings                  prints the entries
 corr FOLDER statements DATE           appends to out.fin what the owners of the vostro accounts are sent
                                       of DATE
+corr FOLDER customer-statements DATE  appends to out.fin what the customers are told of DATE
+corr FOLDER balances [DATE]           prints a row for each account with its balance, after all entries or
+                                      after those up to DATE, with commas
 corr FOLDER reconcile                 prints where the statements of received.fin and the books differ
 corr FOLDER generate COUNT SEED       appends to out.fin a day of COUNT messages, 1 to 50000, made from
                                       the number SEED
 corr FOLDER trial COUNT SEED WORKERS  books such a day in memory with 1 to 16 WORKERS, and prints its
                                       summary
+corr FOLDER mend FROM UNTIL           prints what out.fin should hold: its whole messages, then what leaves
+                                      for the entries at these places and isn't in it
+corr FOLDER open-account ID KIND OWNER CCY FLOOR CEIL
+                                      opens an account in journal.bin, its columns as in accounts.csv,
+                                      with opening 0
+corr FOLDER set-limits ID FLOOR CEIL  gives an account of journal.bin another floor and ceiling
+corr FOLDER migrate                   carries a journal of version 1 over to journal2.bin
 
 A folder has bics.csv, ccys.csv, countries.csv, accounts.csv, ssi.csv, charges.csv, messages.fin
-and, for reconcile, received.fin. generate and trial read no file.
+and, for reconcile, received.fin; mend reads out.fin. generate and trial read no file.
 
 corr --help     prints this
 corr --version  prints the version
 
 Status 0 done; 1 other words; 2 a table row is refused; 3 a file can't be read; 4 the report or
-out.fin can't be written; 5 journal.bin can't be read or written, or is in use; 6 there is no
+out.fin can't be written; 5 journal.bin or journal2.bin can't be read or written, or is in use; 6 there is no
 journal, it is damaged, or it is there already, or the openings don't balance; 7 no memory; 8 DATE
 is before the last entry's day; 9 the message file is too large; 10 it can't be cut; 11 the journal
-is full; 12 it is of another version. Each but 0 has its line on standard error.
+is full; 12 it is of another version; 13 no account has the ID; 14 there is no second journal's file;
+15 no payment stands at PLACE; 16 it is returned already; 17 an account can't take its return.
+Each but 0 has its line on standard error.
 
 To read on: docs/operating.md says what each command reads and writes, and what to do after each status;
 docs/messages.md explains each code of the report.
@@ -60,6 +74,9 @@ const VERSION: &[u8] = b"corr 0.1.0\n";
 
 /// The file of the journal.
 const JOURNAL: &[u8] = b"journal.bin";
+
+/// The file of the journal that `migrate` makes.
+const SECOND: &[u8] = b"journal2.bin";
 
 /// The most bytes of a word of the command line.
 const WORD_LIMIT: usize = 4096;
@@ -78,7 +95,16 @@ const NO_LOCKS: &[u8] = b"corr: journal can't be locked\n";
 const GONE: &[u8] = b"corr: journal was removed or cut\n";
 
 /// The commands that only read the journal, and may do so side by side.
-const READERS: [&[u8]; 4] = [b"send", b"bookings", b"statements", b"reconcile"];
+const READERS: [&[u8]; 8] = [
+    b"send",
+    b"bookings",
+    b"balances",
+    b"statements",
+    b"customer-statements",
+    b"reconcile",
+    b"mend",
+    b"migrate",
+];
 
 /// Puts the null device in the place of each of standard input, output and error that is closed, so that no file that is
 /// opened later gets its number. It is open for reading alone: what is written there fails, as to what is closed.
@@ -163,22 +189,25 @@ fn tables<'a>(
 type Files<'a> = Room<StdSource<'a, HostRuntime>, GuardedSink<'a>, FileDisk<'a, HostRuntime>>;
 
 /// The files of a folder, and standard output for the report. What is sent is appended to `out.fin`. The journal is held alone
-/// but for who only reads it, and nothing is written where it was removed or cut meanwhile.
+/// but for who only reads it, and nothing is written where it was removed or cut meanwhile. A command that copies the journal has
+/// a second disk.
 fn room<'a>(
     rt: &'a HostRuntime,
     folder: &[u8],
     journal: &'a Journal,
     reads: bool,
+    copies: bool,
 ) -> Result<Files<'a>, Memory> {
     let out = path(rt, folder, b"out.fin")?;
     Ok(Room {
         messages: source(rt, folder, b"messages.fin")?,
         received: source(rt, folder, b"received.fin")?,
+        sent: source(rt, folder, b"out.fin")?,
         tables: tables(rt, folder)?,
         report: GuardedSink::new(rt, journal, StdSink::out(rt)),
         out: GuardedSink::new(rt, journal, StdSink::file(rt, out)),
         disk: disk(rt, path(rt, folder, JOURNAL)?, reads).watched(journal.watch()),
-        disk2: None,
+        disk2: second(rt, folder, copies)?,
     })
 }
 
@@ -187,6 +216,19 @@ fn disk<'a>(rt: &'a HostRuntime, path: Text, reads: bool) -> FileDisk<'a, HostRu
         FileDisk::shared(rt, path)
     } else {
         FileDisk::new(rt, path)
+    }
+}
+
+/// The disk of the journal that is made of another one, which is held alone; none for a command that makes none.
+fn second<'a>(
+    rt: &'a HostRuntime,
+    folder: &[u8],
+    copies: bool,
+) -> Result<Option<FileDisk<'a, HostRuntime>>, Memory> {
+    if copies {
+        Ok(Some(FileDisk::new(rt, path(rt, folder, SECOND)?)))
+    } else {
+        Ok(None)
     }
 }
 
@@ -199,6 +241,14 @@ fn is_reader(words: &[Text]) -> bool {
     match words {
         [word, ..] => READERS.iter().any(|reader| word.bytes() == *reader),
         [] => false,
+    }
+}
+
+/// Whether the command of these words makes a copy of the journal.
+fn is_copier(words: &[Text]) -> bool {
+    match words {
+        [word] => word.bytes() == b"migrate".as_slice(),
+        _ => false,
     }
 }
 
@@ -232,7 +282,7 @@ fn run(
         Ok(journal) => journal,
         Err(Memory) => return Ok(Status::Memory),
     };
-    let room = match room(rt, folder, &journal, is_reader(words)) {
+    let room = match room(rt, folder, &journal, is_reader(words), is_copier(words)) {
         Ok(room) => room,
         Err(Memory) => return Ok(Status::Memory),
     };

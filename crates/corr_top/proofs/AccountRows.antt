@@ -41,7 +41,7 @@ small : (z : ℤ) → unsigned_abs z < amount_end → IsSmall z
 small (pos n) below = (omega (arith, ints), omega (arith, ints))
 small (negsuc n) below = (omega (arith, ints), omega (arith, ints))
 
-formed : (home : List ℕ) (t : Tables) (r : AccountRow) → IsAccount home t r → IsFormed (opened r)
+pub formed : (home : List ℕ) (t : Tables) (r : AccountRow) → IsAccount home t r → IsFormed (opened r)
 formed home t r is =
     let id = and_parts (leb 1 (length r.id) && leb (length r.id) 34) (list_all is_c_byte r.id) is.id in
     let long = and_parts (leb 1 (length r.id)) (leb (length r.id) 34) id.0 in

@@ -21,7 +21,8 @@ disk_alone {S} {K} {D} old new rest = record {
   tables = λ name unread. ap (λ (r : Room S K D). table_at name r.tables) rest;
   messages = λ unread. ap (λ (r : Room S K D). r.messages) rest;
   received = λ unread. ap (λ (r : Room S K D). r.received) rest;
-  disk2 = ap (λ (r : Room S K D). r.disk2) rest;
+  sent = λ unread. ap (λ (r : Room S K D). r.sent) rest;
+  disk2 = λ unread. ap (λ (r : Room S K D). r.disk2) rest;
 }
 
 -- a query ends as asking the disk of its room does

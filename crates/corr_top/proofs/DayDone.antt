@@ -137,21 +137,21 @@ module _ (o : Opening) (readings : List (Result Pay NoPay)) (history : List Entr
       let m = get_there made n.0 (let e = told.each in omega (arith, below, e)) in
       one_tried pay m.0 (told.told n.0 (Ok pay) m.0 n.1 m.1) (get_all IsTried made n.0 m.0 all m.1)
 
-  tried_at : (before after : ℕ) (stop : BookStop) → StopsAsServed before after made stop → EachTried o.accounts o.base (pays_in readings) o.day history stop
+  pub tried_at : (before after : ℕ) (stop : BookStop) → StopsAsServed before after made stop → EachTried o.accounts o.base (pays_in readings) o.day history stop
   tried_at before after (booking.DiskFault then now) stops = tt
   tried_at before after (booking.Full entries end need) stops = tried stops.2
   tried_at before after booking.Memory stops = tt
 
   -- ---- which pays one worker entered
 
-  in_order : (before after : ℕ) (stop : BookStop) → StopsAsServed before after made stop → o.made ≡ 1 → EntersInOrder o.accounts o.base (pays_in readings) o.day history stop
+  pub in_order : (before after : ℕ) (stop : BookStop) → StopsAsServed before after made stop → o.made ≡ 1 → EntersInOrder o.accounts o.base (pays_in readings) o.day history stop
   in_order before after (booking.DiskFault then now) stops one = let e = (turn one).entered in record { entered = e.entered; stops = e.failed stops.3 }
   in_order before after (booking.Full entries end need) stops one = let e = (turn one).entered in record { entered = e.entered; stops = e.all stops.2 }
   in_order before after booking.Memory stops one = let e = (turn one).entered in record { entered = e.entered; stops = tt }
 
   -- ---- why there are no texts
 
-  cause_of : (before after : ℕ) (stop : BookStop) → before ≡ o.at_open → after ≡ faults → (IsCalm o.at_open faults → faults ≡ o.at_open) → StopsAsServed before after made stop → StopCause o (pays_in readings) history faults stop
+  pub cause_of : (before after : ℕ) (stop : BookStop) → before ≡ o.at_open → after ≡ faults → (IsCalm o.at_open faults → faults ≡ o.at_open) → StopsAsServed before after made stop → StopCause o (pays_in readings) history faults stop
   cause_of before after (booking.DiskFault then now) was is calm stops = (stops.0 ∙ was, stops.1 ∙ is, subst (λ (x : ℕ × ℕ). Rose x.0 x.1) (λ k. (sym stops.0 k, sym stops.1 k)) stops.2)
   cause_of before after (booking.Full entries end need) was is calm stops =
       (calm (subst (λ (x : ℕ × ℕ). IsCalm x.0 x.1) (λ k. (was k, is k)) stops.0), lacks_of entries end need stops.1, λ one. (turn one).short entries end need stops.1)

@@ -41,7 +41,7 @@ module _ {S K D : Type 0} (source : sources.Ghosts S) (disk : disks.Ghosts D) (s
 
   -- the sinks are none of what a command keeps
   rest_again : (report out : K) → KeepsRest m.steps old room → KeepsRest m.steps old (record room { report = report; out = out })
-  rest_again report out rest = record { tables = rest.tables; messages = rest.messages; received = rest.received; disk2 = rest.disk2 }
+  rest_again report out rest = record { tables = rest.tables; messages = rest.messages; received = rest.received; sent = rest.sent; disk2 = rest.disk2 }
 
   pub ends_ok : (report out : K) (texts : Texts) (s : Status) → HasTexts source disk m old room (Ok texts) → IsWritten sink room.report report texts.report room.out out texts.out s
       → Ends source disk m old (record room { report = report; out = out }) sink s

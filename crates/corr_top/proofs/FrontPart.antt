@@ -6,7 +6,7 @@ use Rattle.day_model.specs.declared.pay.Pay.{Pay}
 use Rattle.day_model.specs.Chart.{Chart}
 use Rattle.day_model.specs.Next.{entered_at}
 use Rattle.jrn_book.specs.Batches.{entered_of, history_with}
-use Rattle.jrn_book.proofs.Roomy.{with_known}
+use Rattle.jrn_book.proofs.laws.Rooms.{with_known}
 use Rattle.corr_top.specs.Booking.{EntersFront}
 
 -- one pay more

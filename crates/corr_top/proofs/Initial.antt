@@ -9,7 +9,7 @@ use Rattle.corr_ids.specs.declared.bic.Bic.{Bic}
 use Rattle.day_model.specs.declared.change.Change.{Change}
 use Rattle.day_model.specs.Chart.{Chart}
 use Rattle.jrn_book.specs.Journal.{IsJournal, item_records}
-use Rattle.jrn_book.proofs.Growing.{empty_journal}
+use Rattle.jrn_book.proofs.laws.Journals.{empty_journal}
 use Rattle.jrn_codec.specs.Header.{IsHead, head_bytes}
 use Rattle.jrn_file.specs.Faults.{MakeCause}
 use Rattle.jrn_file.specs.Journal.{StandsFor}
@@ -82,7 +82,8 @@ module _ {S K D : Type 0} (source : sources.Ghosts S) (d : disks.Ghosts D) (home
     tables = tables_rest ssi charges;
     messages = λ unread. ap (λ (r : Room S K D). r.messages) rest;
     received = λ unread. ap (λ (r : Room S K D). r.received) rest;
-    disk2 = ap (λ (r : Room S K D). r.disk2) rest;
+    sent = λ unread. ap (λ (r : Room S K D). r.sent) rest;
+    disk2 = λ unread. ap (λ (r : Room S K D). r.disk2) rest;
   }
 
   -- the accounts were not read, or their openings don't sum to 0
@@ -96,7 +97,8 @@ module _ {S K D : Type 0} (source : sources.Ghosts S) (d : disks.Ghosts D) (home
       tables = tables_rest stops.ssi stops.charges;
       messages = λ unread. ap (λ (r : Room S K D). r.messages) rest;
       received = λ unread. ap (λ (r : Room S K D). r.received) rest;
-      disk2 = ap (λ (r : Room S K D). r.disk2) rest;
+      sent = λ unread. ap (λ (r : Room S K D). r.sent) rest;
+      disk2 = λ unread. ap (λ (r : Room S K D). r.disk2) rest;
     };
     report = ap (λ (r : Room S K D). r.report) rest;
     out = ap (λ (r : Room S K D). r.out) rest;

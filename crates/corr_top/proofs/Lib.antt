@@ -17,6 +17,8 @@ pub mod Asking
 pub mod Generating
 pub mod Collected
 pub mod Reconciling
+pub mod MendedFile
+pub mod OpenedBooks
 pub mod RunEnds
 pub mod Replying
 pub mod Reporting
@@ -39,4 +41,12 @@ pub mod Spread
 pub mod Trials
 pub mod Sampling
 pub mod Trying
+pub mod SignedWords
+pub mod AccountChanges
+pub mod CarriedOver
+pub mod OnePay
+pub mod EnteredPay
+pub mod Returned
+pub mod BookedPay
+pub mod ReturnEnds
 pub mod promise

@@ -33,6 +33,7 @@ use Rattle.corr_top.proofs.Walking.{contained, halts_back, halts_front, walks_bo
 -- what it leaves as it is, beside the tables of accounts, instructions and charges
 pub record IsRest {S K D : Type 0} (old new : Room S K D) : Type 0 where
   pub messages : new.messages ≡ old.messages
+  pub sent : new.sent ≡ old.sent
   pub disk2 : new.disk2 ≡ old.disk2
   pub report : new.report ≡ old.report
   pub out : new.out ≡ old.out
@@ -53,7 +54,8 @@ module _ {S K D : Type 0} (source : sources.Ghosts S) (d : disks.Ghosts D) (old 
     tables = tables_rest;
     messages = λ unread. rest.messages;
     received = λ unread. absurd (unread (contained Step.received reconcile_steps refl));
-    disk2 = rest.disk2;
+    sent = λ unread. rest.sent;
+    disk2 = λ unread. rest.disk2;
   }
 
   gives_reconcile : (r : Result Texts Status) (i : Inputs) → CommandGives source d (meaning_of (Plain Reconcile)) old new r i → HasTexts source d (meaning_of (Plain Reconcile)) old new r

@@ -11,9 +11,8 @@ use Rattle.day_model.specs.Legal.{IsLegal}
 use Rattle.day_model.specs.Next.{entered_at, entry_of}
 use Rattle.jrn_book.specs.Journal.{file_of}
 use Rattle.jrn_book.specs.Room.{longest_record}
-use Rattle.jrn_book.proofs.laws.Sizes.{no_longer}
-use Rattle.jrn_book.proofs.Entering.{by_later}
-use Rattle.jrn_book.proofs.Roomy.{file_more}
+use Rattle.jrn_book.proofs.laws.Sizes.{file_more, no_longer}
+use Rattle.jrn_book.proofs.laws.Items.{by_later}
 use Rattle.jrn_codec.specs.Record.{entry_bytes}
 use Rattle.corr_top.specs.Booking.{IsEnteredOn, LacksRoomThen}
 use Rattle.corr_top.specs.Complete.{HasRoomForAll}

@@ -1,53 +1,44 @@
 -- How a run ends before anything is written, from how its parts end.
-use Rattle.std.proofs.Common.{◌≡◌, ◌⊎◌, ◌+◌, ◌<ℤ◌, inl, inr, ℕ, All, List, [], ◌∷◌, ◌++◌, Option, None, Some, Result, Ok, Err, refl, sym, ap, ◌∙◌, subst, length, map}
-use Rattle.std.specs.Prelude.{IfSome, IsSome, IsTrue, is_some, slice_get}
+use Rattle.std.proofs.Common.{◌≡◌, ◌+◌, inl, inr, ℕ, All, List, [], ◌∷◌, ◌++◌, Some, Result, Ok, Err, refl, sym, ap, ◌∙◌, subst, length, map}
+use Rattle.std.specs.Prelude.{IsSome, IsTrue, slice_get}
 use Rattle.std.proofs.lemmas.List.{length-map}
 use Rattle.std.specs.List.{Contains}
 use Rattle.corr_books.specs.declared.opening.BooksFault.{BooksFault}
 use Rattle.corr_books.specs.declared.opening.BooksFault.TheVariants.{Open, DateBack}
-use Rattle.corr_books.specs.Closing.{LeavesClosed, LeavesInTurn}
-use Rattle.corr_books.specs.Finding.{BooksCause, IsDateBack, OpensBack, RefusesAs, ShowsBack, TellsOf, is_of_bytes}
-use Rattle.corr_books.specs.Moments.{StandsBetween, StandsWithMore}
+use Rattle.corr_books.specs.Closing.{LeavesInTurn}
+use Rattle.corr_books.specs.Finding.{BooksCause, OpensBack, RefusesAs, ShowsBack, TellsOf, is_of_bytes}
 use Rattle.corr_books.specs.Opening.{Opening, Parts, opening_with, past_of}
 use Rattle.corr_disk.specs.declared.disk.Disk as disks
 use Rattle.corr_io.specs.declared.source.Source as sources
-use Rattle.corr_text.specs.Faults.{Rose}
-use Rattle.corr_ids.specs.Day.{InCentury}
 use Rattle.corr_ids.specs.declared.day.Day.{Day}
 use Rattle.corr_report.specs.Report.{report_of}
 use Rattle.day_model.specs.declared.entry.Entry.{Entry}
 use Rattle.day_model.specs.declared.pay.Pay.{Pay}
 use Rattle.day_model.specs.declared.reply.Reply.{Reply}
-use Rattle.day_model.specs.Chart.{Chart}
 use Rattle.day_model.specs.Laws.{IsLatest}
 use Rattle.day_model.specs.Legal.{IsLegal}
 use Rattle.day_model.specs.Next.{entered_at, fold_of}
-use Rattle.jrn_book.specs.Book.{IsLeftBy}
 use Rattle.jrn_book.specs.Journal.{IsJournal}
-use Rattle.jrn_book.specs.Opening.{Finding, IsFound, book, found_by}
-use Rattle.jrn_codec.specs.Record.{IsEntry}
+use Rattle.jrn_book.specs.Opening.{Finding, IsFound, found_by}
 use Rattle.jrn_file.specs.File.{disk_of}
-use Rattle.jrn_file.specs.Reading.{Reading, opened_of}
+use Rattle.jrn_file.specs.Reading.{opened_of}
 use Rattle.jrn_file.specs.declared.fault.OpenFault.{OpenFault}
 use Rattle.ref_tables.specs.declared.fault.TableName.{TableName}
 use Rattle.ref_tables.specs.declared.fault.TableName.TheVariants as names
-use Rattle.corr_top.specs.declared.answers.BookStop.{BookStop}
-use Rattle.corr_top.specs.declared.answers.BookStop.TheVariants as booking
 use Rattle.corr_top.specs.declared.directory.Directory.{Directory}
 use Rattle.corr_top.specs.declared.room.Room.{Room}
 use Rattle.corr_top.specs.declared.status.Status.{Status}
 use Rattle.corr_top.specs.declared.tables.TableStop.{TableStop}
 use Rattle.corr_top.specs.declared.words.Command.TheVariants.{Run}
 use Rattle.corr_top.specs.declared.writing.Texts.{Texts}
-use Rattle.corr_top.specs.Booking.{AreAnswered, BookCause, EachTried, EntersInOrder, IsEnteredOn, IsBack, LacksRoom, LacksRoomThen, StopsBooking}
-use Rattle.corr_top.specs.Collecting.{IsCalm}
+use Rattle.corr_top.specs.Booking.{AreAnswered, IsEnteredOn, StopsBooking, StopsEntering}
 use Rattle.corr_top.specs.Commands.{meaning_of}
-use Rattle.corr_top.specs.Days.{GivesDay, HasDay, StopCause, StopsAtFile, StopsAtPays}
+use Rattle.corr_top.specs.Days.{GivesDay, HasDay, StopsAtFile, StopsAtPays}
 use Rattle.corr_top.specs.Ends.{CommandGives, HasPassed, HasTexts}
 use Rattle.corr_top.specs.Inputs.{Inputs, new_in, pays_of, replies_of, tables_in}
 use Rattle.corr_top.specs.Message.{pays_in, readings_of, replies_in}
 use Rattle.corr_top.specs.Meaning.{KeepsRest}
-use Rattle.corr_top.specs.OnDisk.{one_of, HoldsJournal, IsLeft, IsLeftMidway, IsOnDisk, IsUnwritten, LeavesMidway, StopsOpening}
+use Rattle.corr_top.specs.OnDisk.{HoldsJournal, IsOnDisk, IsUnwritten, LeavesMidway, StopsOpening}
 use Rattle.corr_top.specs.Origin.{AreSentValid}
 use Rattle.corr_top.specs.Out.{sent_from}
 use Rattle.corr_top.specs.Passing.{StepIsUntouched, Passes, StopsAt, table_at}
@@ -55,11 +46,9 @@ use Rattle.corr_top.specs.Run.{run_out, run_report, run_steps}
 use Rattle.corr_top.specs.Steps.{Halts, Step, Walks}
 use Rattle.corr_top.specs.Stops.{status_of_books, status_of_day, status_of_opening, status_of_table}
 use Rattle.corr_top.specs.Tables.{HasDirectory, StopsDirectory, directory_steps}
-use Rattle.corr_books.proofs.laws.Moments.{leaves_only}
-use Rattle.corr_disk.proofs.laws.Moments.{then_on, weaker}
 use Rattle.day_model.proofs.laws.Folds.{legal_fold}
+use Rattle.corr_top.proofs.OpenedBooks.{closed_alone, entering_stops, found_is, holds_opened, is_back, left_midway}
 use Rattle.corr_top.proofs.Replying.{get_all}
-use Rattle.day_model.proofs.laws.Folds.{get_at}
 use Rattle.corr_top.proofs.Walking.{contained, halts_back, halts_front, walks_both}
 
 -- the steps of a run after its tables
@@ -70,24 +59,10 @@ day_steps = Step.open_journal ∷ Step.day ∷ Step.messages ∷ Step.book ∷ [
 pub record IsRest {S K D : Type 0} (old new : Room S K D) : Type 0 where
   pub accounts : new.tables.accounts ≡ old.tables.accounts
   pub received : new.received ≡ old.received
+  pub sent : new.sent ≡ old.sent
   pub disk2 : new.disk2 ≡ old.disk2
   pub report : new.report ≡ old.report
   pub out : new.out ≡ old.out
-
--- the day of the last entry is after that of the run
-is_back : (chart : Chart) (history : List Entry) (day last : Day) → IsJournal chart history → IsDateBack history day last → IsBack history day last
-is_back chart history day last journal back =
-    let ends = back.ends in
-    let at : slice_get history (length ends.before) ≡ Some ends.entry = ap (λ (es : List Entry). slice_get es (length ends.before)) ends.is ∙ get_at ends.before ends.entry [] in
-    let written = get_all IsEntry history (length ends.before) ends.entry journal.entries at in
-    record {
-      front = ends.before;
-      last = ends.entry;
-      history_is = ends.is;
-      day_is = sym ends.day_is;
-      after = subst (λ (x : Day). day.0 <ℤ x.0) (sym ends.day_is) back.later;
-      century = subst InCentury ends.day_is written.day;
-    }
 
 module _ {S K D : Type 0} (source : sources.Ghosts S) (d : disks.Ghosts D) (day : Day) (workers : ℕ) (old new : Room S K D) (rest : IsRest old new) where
   -- what it doesn't read is as it was
@@ -104,7 +79,8 @@ module _ {S K D : Type 0} (source : sources.Ghosts S) (d : disks.Ghosts D) (day 
     tables = tables_rest;
     messages = λ unread. absurd (unread (contained Step.messages run_steps refl));
     received = λ unread. rest.received;
-    disk2 = rest.disk2;
+    sent = λ unread. rest.sent;
+    disk2 = λ unread. rest.disk2;
   }
 
   gives_run : (r : Result Texts Status) (i : Inputs) → i.day ≡ day → i.workers ≡ workers → CommandGives source d (meaning_of (Run day workers)) old new r i
@@ -154,10 +130,6 @@ module _ {S K D : Type 0} (source : sources.Ghosts S) (d : disks.Ghosts D) (day 
         → ShowsBack (opened_of (d.reads old.disk)) (d.honest old.disk) day fault → IsUnwritten d old.disk new.disk → new.messages ≡ old.messages → HasTexts source d (meaning_of (Run day workers)) old new (Err (status_of_books fault))
     books_stop (Open fault) cause told shows unwritten messages =
         open_stops fault (record { cause = cause; told = λ honest. found_is (found_by fault) (opened_of (d.reads old.disk)) (told honest); untouched = unwritten }) messages
-      where
-        found_is : (found : Option Finding) (reading : Reading) → (IsTrue (is_some found) → (finding : Finding) × IsFound reading finding × IfSome found (λ f. f ≡ finding)) → IfSome found (IsFound reading)
-        found_is None reading told = tt
-        found_is (Some f) reading told = let t = told refl in subst (IsFound reading) (sym t.2) t.1
     books_stop (DateBack last) cause told shows unwritten messages = back_stops last shows cause unwritten messages
 
     module _ (opened : Parts D) (journal : IsJournal opened.accounts opened.base) (told : IsTrue (d.honest old.disk) → TellsOf (opened_of (d.reads old.disk)) day (Ok opened)) (latest : IsLatest opened.base day)
@@ -172,32 +144,14 @@ module _ {S K D : Type 0} (source : sources.Ghosts S) (d : disks.Ghosts D) (day 
       i_of bytes cut entered = record has.inputs { day = day; workers = workers; messages = bytes; cut = cut; chart = opened.accounts; history = opened.base; entered = entered }
 
       holds : HoldsJournal d old.disk opened.accounts opened.base
-      holds = record {
-        journal = journal;
-        stands = λ true_here. let t = told true_here refl in let found : IsFound (opened_of (d.reads old.disk)) (book opened.accounts opened.base) = subst (IsFound (opened_of (d.reads old.disk))) t.2.0 t.1 in found.1;
-      }
+      holds = holds_opened d day workers old.disk new.disk opened journal told
 
       same_pays : (bytes : List ℕ) (cut : List (List ℕ)) (entered : List Pay) → pays_of (i_of bytes cut entered) ≡ pays_in (readings_of directory opened.accounts cut)
       same_pays bytes cut entered = ap (λ (x : Directory). pays_in (readings_of x opened.accounts cut)) (sym has.directory_is)
 
-      -- the disk after the books were closed
-      is_left : (history : List Entry) → LeavesClosed d books history new.disk → IsLeft d old.disk new.disk opened.accounts history day
-      is_left history (inl alone) = inl (alone.sure ∙ at_open, record { stands = alone.stands; durable = alone.durable })
-      is_left history (inr failed) =
-          inr (subst (λ n. Rose n (d.faults new.disk)) at_open failed.0, subst (λ (x : Day). IsLeftBy (d.honest new.disk) (d.may_leave new.disk) opened.accounts history (one_of x)) of_day failed.1)
-
-      -- what a crash left at a moment since the books were opened, where their count was this, and their day
-      abbrev IsLeftSince : List Entry → ℕ → Day → List ℕ → Type 0
-      IsLeftSince history then today image = StandsBetween opened.accounts opened.base history image ⊎ (Rose then (d.faults new.disk) × StandsWithMore opened.accounts history today 1 image)
-
-      -- and at each moment since the run began
+      -- the disk at each moment since the run began
       midway : (history : List Entry) → LeavesInTurn d books (past_of d opened) history new.disk → LeavesMidway d old.disk new.disk opened.accounts opened.base history day
-      midway history leaves true_here =
-          let since = leaves_only d opened workers 1 new.disk (IsLeftSince history opened.at_open opened.day) (leaves (honest ∙ true_here)) in
-          then_on d.moment d.left_since old.disk (disk_of opened.file) new.disk (IsLeftMidway d old.disk new.disk opened.accounts opened.base history day)
-          (weaker d.moment d.left_since old.disk (disk_of opened.file) (d.may_leave old.disk) (IsLeftMidway d old.disk new.disk opened.accounts opened.base history day) (λ image x. inl x) unwritten.any_moment)
-          (weaker d.moment d.left_since (disk_of opened.file) new.disk (IsLeftSince history opened.at_open opened.day) (IsLeftMidway d old.disk new.disk opened.accounts opened.base history day)
-          (λ image x. inr (subst (λ (y : ℕ × Day). IsLeftSince history y.0 y.1 image) (λ i. (at_open i, of_day i)) x)) since)
+      midway = left_midway d day workers old.disk new.disk opened at_open honest of_day unwritten
 
       -- the first steps passed, up to the message file
       pub file_stops : (s : Status) → StopsAtFile source d directory workers old.messages new.messages opened new.disk s → HasTexts source d (meaning_of (Run day workers)) old new (Err s)
@@ -209,36 +163,14 @@ module _ {S K D : Type 0} (source : sources.Ghosts S) (d : disks.Ghosts D) (day 
           (inl (after_tables i s day_steps has.passed
           (inr (holds, inr (latest, inl ((stops.stop, stops.status_is, stops.stops, ap d.faults disk ∙ kept), (subst (IsUnwritten d old.disk) (sym disk) unwritten, tt)))))))
 
-      cause_of : (i : Inputs) (history : List Entry) (stop : BookStop) → i.chart ≡ opened.accounts → StopCause books (pays_of i) history (d.faults new.disk) stop → i.history ≡ opened.base → i.day ≡ opened.day → i.workers ≡ workers
-          → BookCause d old.disk new.disk i history stop
-      cause_of i history (booking.DiskFault before after) chart cause base is number = record { before_is = cause.0 ∙ at_open; after_is = cause.1; rose = cause.2 }
-      cause_of i history (booking.Full entries end need) chart cause base is number = (
-        cause.0 ∙ at_open,
-        subst (λ (x : Chart × (List Entry × Day)). LacksRoomThen x.0 x.1.0 (pays_of i) x.1.1 history entries end need) (λ k. (sym chart k, (sym base k, sym is k))) cause.1,
-        λ one. subst (λ (x : Chart × (List Entry × Day)). LacksRoom x.0 x.1.0 (pays_of i) x.1.1 history entries end need) (λ k. (sym chart k, (sym base k, sym is k))) (cause.2 (sym number ∙ one)),
-      )
-      cause_of i history booking.Memory chart cause base is number = tt
-
       -- not each pay was entered
       pub pays_stop : (s : Status) → StopsAtPays source d directory workers old.messages new.messages opened new.disk s → HasTexts source d (meaning_of (Run day workers)) old new (Err s)
       unfolding meaning_of
       pays_stop s stops =
-          let served = stops.served in
           let i = i_of stops.bytes stops.cut [] in
           let pays = same_pays stops.bytes stops.cut [] in
-          let booked : StopsBooking d old.disk new.disk i stops.stop = record {
-            added = served.added;
-            each = subst (λ (x : List Pay × Day). All (IsEnteredOn x.1 x.0) served.added) (λ k. (sym pays k, of_day k)) served.each;
-            tried = subst (λ es. EachTried opened.accounts opened.base (pays_of i) day es stops.stop) served.is
-                (subst (λ (x : List Pay × Day). EachTried opened.accounts opened.base x.0 x.1 stops.history stops.stop) (λ k. (sym pays k, of_day k)) stops.tried);
-            alone = λ one. subst (λ es. EntersInOrder opened.accounts opened.base (pays_of i) day es stops.stop) served.is
-                (subst (λ (x : List Pay × Day). EntersInOrder opened.accounts opened.base x.0 x.1 stops.history stops.stop) (λ k. (sym pays k, of_day k)) (stops.alone one));
-            journal = subst (λ es. IsJournal opened.accounts es) served.is served.journal;
-            left = subst (λ es. IsLeft d old.disk new.disk opened.accounts es day) served.is (is_left stops.history served.leaves);
-            any_moment = subst (λ es. LeavesMidway d old.disk new.disk opened.accounts opened.base es day) served.is (midway stops.history served.in_turn);
-            cause = subst (λ es. BookCause d old.disk new.disk i es stops.stop) served.is
-                (cause_of i stops.history stops.stop refl (subst (λ ps. StopCause books ps stops.history (d.faults new.disk) stops.stop) (sym pays) stops.cause) refl (sym of_day) refl);
-          } in
+          let booked : StopsBooking d old.disk new.disk i stops.stop = subst (λ (ps : List Pay). StopsEntering d old.disk new.disk opened.accounts opened.base ps day workers stops.stop) (sym pays)
+          (entering_stops d day workers old.disk new.disk opened at_open honest of_day unwritten (readings_of directory opened.accounts stops.cut) stops.history stops.stop stops.served stops.tried stops.alone stops.cause) in
           gives_run (Err s) i refl refl
           (inl (after_tables i s day_steps has.passed
           (inr (holds, inr (latest, inr (stops.file, inl ((stops.stop, stops.status_is, booked), tt)))))))
@@ -271,7 +203,7 @@ module _ {S K D : Type 0} (source : sources.Ghosts S) (d : disks.Ghosts D) (day 
             entered = λ k pay at. subst (λ (es : List Entry). IsSome (entered_at pay.mir es)) history_is (a.entered k pay (ap (λ (ps : List Pay). slice_get ps k) (sym pays) ∙ at));
             alone = λ one. sym history_is ∙ a.alone one ∙ (λ k. fold_of opened.accounts opened.base (sym pays k) (of_day k));
           } in
-          let on : (d.faults new.disk ≡ opened.at_open) × IsOnDisk d new.disk opened.accounts history = alone_on history had.calm served.leaves in (
+          let on : (d.faults new.disk ≡ opened.at_open) × IsOnDisk d new.disk opened.accounts history = closed_alone d day workers old.disk new.disk opened history had.calm served.leaves in (
             record {
               passed = walks_both (Passes source d old new i) directory_steps day_steps has.passed
                   (holds, (latest, (had.file, (answered, tt))));
@@ -285,11 +217,6 @@ module _ {S K D : Type 0} (source : sources.Ghosts S) (d : disks.Ghosts D) (day 
             history_is,
             told,
           )
-        where
-          -- a disk whose count of faults has not risen
-          alone_on : (h : List Entry) → IsCalm opened.at_open (d.faults new.disk) → LeavesClosed d books h new.disk → (d.faults new.disk ≡ opened.at_open) × IsOnDisk d new.disk opened.accounts h
-          alone_on h calm (inl alone) = (alone.sure, record { stands = alone.stands; durable = alone.durable })
-          alone_on h calm (inr failed) = absurd (calm failed.0)
 
       -- the part of a run after the opening of the books
       pub day_ends : (r : Result Texts Status) → GivesDay source d directory workers old.messages new.messages opened new.disk r → HasTexts source d (meaning_of (Run day workers)) old new r

@@ -1,13 +1,18 @@
 -- A status at which a command stopped: a line can tell it, and nothing was written.
-use Rattle.std.proofs.Common.{◌≡◌, List, [], ◌∷◌, false, inl, inr, refl, sym, subst}
+use Rattle.std.proofs.Common.{◌≡◌, ℕ, length, List, [], ◌∷◌, false, inl, inr, refl, sym, subst}
 use Rattle.corr_disk.specs.declared.disk.Disk as disks
 use Rattle.corr_io.specs.declared.source.Source as sources
 use Rattle.day_model.specs.declared.fault.AccountsFault.{AccountsFault}
 use Rattle.day_model.specs.declared.fault.AccountsFault.TheVariants as accounts
+use Rattle.day_model.specs.declared.change.What.{What}
+use Rattle.jrn_book.specs.declared.changing.ChangeFault.{ChangeFault}
+use Rattle.jrn_book.specs.declared.changing.ChangeFault.TheVariants as changing
 use Rattle.jrn_file.specs.declared.fault.MakeFault.{MakeFault}
 use Rattle.jrn_file.specs.declared.fault.MakeFault.TheVariants as making
 use Rattle.jrn_file.specs.declared.fault.OpenFault.{OpenFault}
 use Rattle.jrn_file.specs.declared.fault.OpenFault.TheVariants as opening
+use Rattle.pay_returns.specs.declared.fault.ReturnFault.{ReturnFault}
+use Rattle.pay_returns.specs.declared.fault.ReturnFault.TheVariants as returning
 use Rattle.corr_top.specs.declared.answers.BookStop.{BookStop}
 use Rattle.corr_top.specs.declared.answers.BookStop.TheVariants as booking
 use Rattle.corr_top.specs.declared.cutting.FileStop.{FileStop}
@@ -17,6 +22,7 @@ use Rattle.corr_top.specs.declared.status.Status.{Status}
 use Rattle.corr_top.specs.declared.status.Status.TheVariants as status
 use Rattle.corr_top.specs.declared.tables.TableStop.{TableStop}
 use Rattle.corr_top.specs.declared.tables.TableStop.TheVariants as table
+use Rattle.corr_top.specs.Changed.{what_of}
 use Rattle.corr_top.specs.Ends.{HasStopped}
 use Rattle.corr_top.specs.Inputs.{Inputs}
 use Rattle.corr_top.specs.Meaning.{Meaning}
@@ -24,7 +30,7 @@ use Rattle.corr_top.specs.Passing.{StepIsUntouched, Passes, StopsAt, StopsAtSums
 use Rattle.corr_top.specs.Promise.{writes}
 use Rattle.corr_top.specs.Status.{HasLine}
 use Rattle.corr_top.specs.Steps.{Halts, Step}
-use Rattle.corr_top.specs.Stops.{status_of_booking, status_of_file, status_of_making, status_of_opening, status_of_sums, status_of_table}
+use Rattle.corr_top.specs.Stops.{status_of_booking, status_of_change, status_of_copying, status_of_file, status_of_making, status_of_opening, status_of_return, status_of_sums, status_of_table}
 
 -- a line can tell it, and it isn't one at which something was written
 pub record IsStop (s : Status) : Type 0 where
@@ -64,6 +70,29 @@ booking_stop (booking.DiskFault before after) = record { line = tt; silent = ref
 booking_stop (booking.Full entries end need) = record { line = tt; silent = refl }
 booking_stop booking.Memory = record { line = tt; silent = refl }
 
+change_stop : (what : What) (entries : ℕ) (stop : ChangeFault) → IsStop (status_of_change what entries stop)
+change_stop what entries (changing.Open fault) = opening_stop fault
+change_stop what entries changing.Unknown = record { line = tt; silent = refl }
+change_stop what entries changing.Rows = record { line = tt; silent = refl }
+change_stop what entries (changing.Double row) = record { line = tt; silent = refl }
+change_stop what entries changing.Currency = record { line = tt; silent = refl }
+change_stop what entries (changing.Limits account) = record { line = tt; silent = refl }
+change_stop what entries (changing.Full end need) = record { line = tt; silent = refl }
+change_stop what entries (changing.DiskFault before after) = record { line = tt; silent = refl }
+change_stop what entries changing.Memory = record { line = tt; silent = refl }
+
+copy_stop : (entries : ℕ) (stop : MakeFault) → IsStop (status_of_copying entries stop)
+copy_stop entries (making.Exists first) = record { line = tt; silent = refl }
+copy_stop entries (making.Full end need) = record { line = tt; silent = refl }
+copy_stop entries (making.DiskFault before after) = record { line = tt; silent = refl }
+copy_stop entries making.Memory = record { line = tt; silent = refl }
+
+return_stop : (stop : ReturnFault) → IsStop (status_of_return stop)
+return_stop (returning.NoPayment entries) = record { line = tt; silent = refl }
+return_stop (returning.Returned place) = record { line = tt; silent = refl }
+return_stop (returning.Unfunded leg balance) = record { line = tt; silent = refl }
+return_stop returning.Memory = record { line = tt; silent = refl }
+
 memory_stop : IsStop status.Memory
 memory_stop = record { line = tt; silent = refl }
 
@@ -77,6 +106,15 @@ module _ {S K D : Type 0} (source : sources.Ghosts S) (disk : disks.Ghosts D) (o
   step_stop Step.messages stops = subst IsStop (sym stops.1) (file_stop stops.0)
   step_stop Step.book stops = subst IsStop (sym stops.1) (booking_stop stops.0)
   step_stop Step.received stops = subst IsStop (sym stops.1) (file_stop stops.0)
+  step_stop Step.sent stops = subst IsStop (sym stops.1) (file_stop stops.0)
+  step_stop Step.change (inl row) = subst IsStop (sym row.1) (record { line = tt; silent = refl })
+  step_stop Step.change (inr (inl change)) = subst IsStop (sym change.1) (change_stop (what_of i) (length i.history) change.0)
+  step_stop Step.change (inr (inr memory)) = subst IsStop (sym memory.0) memory_stop
+  step_stop Step.second stops = subst IsStop (sym stops.0) (record { line = tt; silent = refl })
+  step_stop Step.old_journal stops = subst IsStop (sym stops.1) (opening_stop stops.0)
+  step_stop Step.copy stops = subst IsStop (sym stops.1) (copy_stop (length i.history) stops.0)
+  step_stop Step.make_return stops = subst IsStop (sym stops.1) (return_stop stops.0)
+  step_stop Step.book_return stops = subst IsStop (sym stops.1) (booking_stop stops.0)
 
   pub halts_stop : (steps : List Step) → Halts (Passes source disk old new i) (StopsAt source disk old new i s) (StepIsUntouched disk old new) steps → IsStop s
   halts_stop [] halts = absurd halts

@@ -19,6 +19,7 @@ use Rattle.day_model.specs.Chart.{Chart, opening_sum}
 use Rattle.day_model.specs.Gap.{TellsUnbalanced}
 use Rattle.ssi_versions.specs.Rows.{instruction_of}
 use Rattle.ssi_versions.specs.declared.row.SsiRow.{SsiRow}
+use Rattle.corr_top.specs.declared.account_words.AccountChange.TheVariants.{Limit}
 use Rattle.corr_top.specs.declared.directory.Directory.{Directory}
 use Rattle.corr_top.specs.declared.reading.ReadStop.{ReadStop}
 use Rattle.corr_top.specs.declared.reading.ReadStop.TheVariants as stop
@@ -88,6 +89,8 @@ no_inputs = record {
   home = record { head = []; branch = [] };
   day = record { 0 = pos 0 };
   workers = 0;
+  change = Limit [] (record { floor = pos 0; ceil = pos 0 });
+  place = 0;
   bics = [];
   ccys = [];
   countries = [];

@@ -9,12 +9,13 @@ use Rattle.ref_tables.specs.Charges.{charge_in_row}
 use Rattle.ref_tables.specs.Refusals.{RowTest, first_bad_row, first_fault, named}
 use Rattle.ref_tables.specs.Rows.{Cells, rows_of, up_to}
 use Rattle.ref_tables.specs.Seen.{Tables}
-use Rattle.ref_tables.specs.Tables.{tables_of}
+use Rattle.ref_tables.specs.Tables.{bank_in_row, ccy_of, tables_of}
 use Rattle.ref_tables.specs.declared.fault.TableName.{TableName}
 use Rattle.ref_tables.specs.declared.fault.TableName.TheVariants as names
 use Rattle.ref_tables.specs.declared.fault.Why.{Why}
 use Rattle.ref_tables.specs.declared.fault.Why.TheVariants.{Rows}
 use Rattle.ssi_versions.specs.Rows.{instruction_of}
+use Rattle.corr_top.specs.Changed.{lent_in}
 use Rattle.corr_top.specs.Inputs.{Inputs, accounts_in, chart_in, directory_in, opened, tables_in}
 use Rattle.corr_top.specs.Passing.{table_fault, table_file}
 use Rattle.corr_top.specs.Reading.{IsRead, Took}
@@ -66,6 +67,11 @@ same_tables j i bics ccys countries =
     ap (λ (b : List ℕ). tables_of b j.ccys j.countries) bics
     ∙ ap (λ (c : List ℕ). tables_of i.bics c j.countries) ccys
     ∙ ap (λ (c : List ℕ). tables_of i.bics i.ccys c) countries
+
+pub same_lent : (j i : Inputs) → j.bics ≡ i.bics → j.ccys ≡ i.ccys → lent_in j ≡ lent_in i
+same_lent j i bics ccys =
+    ap (λ (b : List ℕ). record { bics = map bank_in_row (rows_of b); ccys = map ccy_of (rows_of j.ccys); countries = [] }) bics
+    ∙ ap (λ (c : List ℕ). record { bics = map bank_in_row (rows_of i.bics); ccys = map ccy_of (rows_of c); countries = [] }) ccys
 
 pub same_accounts : (j i : Inputs) → tables_in j ≡ tables_in i → j.accounts ≡ i.accounts → accounts_in j ≡ accounts_in i
 same_accounts j i tables accounts =

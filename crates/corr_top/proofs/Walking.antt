@@ -28,7 +28,7 @@ abbrev all_steps : List Step
 all_steps =
     Step.sums ∷ Step.make ∷ Step.open_journal ∷ Step.day ∷ Step.messages ∷ Step.book ∷ Step.received
     ∷ Step.table names.Bics ∷ Step.table names.Ccys ∷ Step.table names.Countries ∷ Step.table names.Accounts ∷ Step.table names.Ssi
-    ∷ Step.table names.Charges ∷ []
+    ∷ Step.table names.Charges ∷ Step.change ∷ Step.second ∷ Step.old_journal ∷ Step.copy ∷ Step.sent ∷ Step.make_return ∷ Step.book_return ∷ []
 
 -- the place of a step among them
 abbrev step_place : Step → ℕ
@@ -45,6 +45,13 @@ step_place (Step.table names.Countries) = 9
 step_place (Step.table names.Accounts) = 10
 step_place (Step.table names.Ssi) = 11
 step_place (Step.table names.Charges) = 12
+step_place Step.change = 13
+step_place Step.second = 14
+step_place Step.old_journal = 15
+step_place Step.copy = 16
+step_place Step.sent = 17
+step_place Step.make_return = 18
+step_place Step.book_return = 19
 
 at_place : (s : Step) → slice_get all_steps (step_place s) ≡ Some s
 at_place Step.sums = refl
@@ -60,6 +67,13 @@ at_place (Step.table names.Countries) = refl
 at_place (Step.table names.Accounts) = refl
 at_place (Step.table names.Ssi) = refl
 at_place (Step.table names.Charges) = refl
+at_place Step.change = refl
+at_place Step.second = refl
+at_place Step.old_journal = refl
+at_place Step.copy = refl
+at_place Step.sent = refl
+at_place Step.make_return = refl
+at_place Step.book_return = refl
 
 same_step : (d s : Step) → step_place d ≡ step_place s → d ≡ s
 same_step d s same = let both : Some d ≡ Some s = sym (at_place d) ∙ ap (λ (n : ℕ). slice_get all_steps n) same ∙ at_place s in cc

@@ -78,11 +78,11 @@ pub record LacksRoom (chart : Chart) (history : List Entry) (pays : List Pay) (d
 
 -- the cause: a call of the disk failed; or a pay found no room, of one worker the first in the order of the file, and no call
 -- failed; out of memory tells nothing
-abbrev pub BookCause : {D : Type 0} → outside.Ghosts D → D → D → Inputs → List Entry → BookStop → Type 0
-BookCause d old new i left (booking.DiskFault before after) = TellsCounts (d.faults old) before after (d.faults new)
-BookCause d old new i left (booking.Full entries end need) = HasNotFailed d old new × LacksRoomThen i.chart i.history (pays_of i) i.day left entries end need
-    × (i.workers ≡ 1 → LacksRoom i.chart i.history (pays_of i) i.day left entries end need)
-BookCause d old new i left booking.Memory = Unit {0}
+abbrev pub BookCause : {D : Type 0} → outside.Ghosts D → D → D → Chart → List Entry → List Pay → Day → ℕ → List Entry → BookStop → Type 0
+BookCause d old new chart history pays day workers left (booking.DiskFault before after) = TellsCounts (d.faults old) before after (d.faults new)
+BookCause d old new chart history pays day workers left (booking.Full entries end need) = HasNotFailed d old new × LacksRoomThen chart history pays day left entries end need
+    × (workers ≡ 1 → LacksRoom chart history pays day left entries end need)
+BookCause d old new chart history pays day workers left booking.Memory = Unit {0}
 
 -- a pay found no room in what was entered then, a beginning of what is left
 pub record HadNoRoom (chart : Chart) (history : List Entry) (day : Day) (left : List Entry) (pay : Pay) : Type 0 where
@@ -128,15 +128,19 @@ pub record EntersInOrder (chart : Chart) (history : List Entry) (pays : List Pay
   pub entered : EntersFront chart history pays day left
   pub stops : StopsBefore left stop entered.rest
 
--- How the entering of the pays stops: by its cause. What is left is the journal's history and further entries of the day, each of
--- a pay of the file, in a journal that may be opened again, and a crash at each moment of the run left a front part of it; where room
--- was wanting each pay of the file was tried, and one worker entered a front part of the pays.
-pub record StopsBooking {D : Type 0} (d : outside.Ghosts D) (old new : D) (i : Inputs) (stop : BookStop) : Type 0 where
+-- How the entering of pays on a day stops: by its cause. What is left is the journal's history and further entries of the day, each of
+-- one of the pays, in a journal that may be opened again, and a crash at each moment left a front part of it; where room was wanting
+-- each of the pays was tried, and one worker entered a front part of them.
+pub record StopsEntering {D : Type 0} (d : outside.Ghosts D) (old new : D) (chart : Chart) (history : List Entry) (pays : List Pay) (day : Day) (workers : ℕ) (stop : BookStop) : Type 0 where
   pub added : List Entry
-  pub each : All (IsEnteredOn i.day (pays_of i)) added
-  pub tried : EachTried i.chart i.history (pays_of i) i.day (i.history ++ added) stop
-  pub alone : i.workers ≡ 1 → EntersInOrder i.chart i.history (pays_of i) i.day (i.history ++ added) stop
-  pub journal : IsJournal i.chart (i.history ++ added)
-  pub left : IsLeft d old new i.chart (i.history ++ added) i.day
-  pub any_moment : LeavesMidway d old new i.chart i.history (i.history ++ added) i.day
-  pub cause : BookCause d old new i (i.history ++ added) stop
+  pub each : All (IsEnteredOn day pays) added
+  pub tried : EachTried chart history pays day (history ++ added) stop
+  pub alone : workers ≡ 1 → EntersInOrder chart history pays day (history ++ added) stop
+  pub journal : IsJournal chart (history ++ added)
+  pub left : IsLeft d old new chart (history ++ added) day
+  pub any_moment : LeavesMidway d old new chart history (history ++ added) day
+  pub cause : BookCause d old new chart history pays day workers (history ++ added) stop
+
+-- how the entering of the pays of a file stops
+abbrev pub StopsBooking : {D : Type 0} → outside.Ghosts D → D → D → Inputs → BookStop → Type 0
+StopsBooking d old new i stop = StopsEntering d old new i.chart i.history (pays_of i) i.day i.workers stop

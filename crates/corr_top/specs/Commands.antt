@@ -7,17 +7,25 @@ use Rattle.corr_ids.specs.Bic.{IsBic, bic_of}
 use Rattle.corr_ids.specs.Day.{InCentury, day_of}
 use Rattle.day_model.specs.Log.{most_entries}
 use Rattle.corr_report.specs.Generated.{most_generated}
+use Rattle.ref_tables.specs.Columns.{signed_of}
 use Rattle.work_pool.specs.Served.{most_workers}
+use Rattle.corr_top.specs.declared.account_words.AccountChange.TheVariants.{Open, Limit}
+use Rattle.corr_top.specs.declared.owners.Owners.{Owners}
+use Rattle.corr_top.specs.declared.owners.Owners.TheVariants.{Banks, Customers}
 use Rattle.corr_top.specs.declared.words.Command.{Command}
-use Rattle.corr_top.specs.declared.words.Command.TheVariants.{Run, Trial, Plain}
+use Rattle.corr_top.specs.declared.words.Command.TheVariants.{Return, Run, Trial, Plain}
 use Rattle.corr_top.specs.declared.words.Plain.{Plain as PlainCommand}
-use Rattle.corr_top.specs.declared.words.Plain.TheVariants.{Init, Query, Reconcile, Generate}
-use Rattle.corr_top.specs.declared.words.Query.TheVariants.{Send, Bookings, Statements}
+use Rattle.corr_top.specs.declared.words.Plain.TheVariants.{Change, Init, Query, Reconcile, Generate, Mend, Migrate}
+use Rattle.corr_top.specs.declared.words.Query.TheVariants.{Balances, Send, Bookings, Statements}
+use Rattle.corr_top.specs.Change.{change_meaning}
 use Rattle.corr_top.specs.Generate.{generate_meaning}
 use Rattle.corr_top.specs.Init.{init_meaning}
 use Rattle.corr_top.specs.Meaning.{Meaning}
+use Rattle.corr_top.specs.Mend.{mend_meaning}
+use Rattle.corr_top.specs.Migrate.{migrate_meaning}
 use Rattle.corr_top.specs.Query.{query_meaning}
 use Rattle.corr_top.specs.Reconcile.{reconcile_meaning}
+use Rattle.corr_top.specs.Return.{return_meaning}
 use Rattle.corr_top.specs.Run.{run_meaning}
 use Rattle.corr_top.specs.Trial.{trial_meaning}
 
@@ -34,13 +42,25 @@ workers_of number = option_and_then (λ n. if nat_le 1 n && nat_le n most_worker
 abbrev pub run_command : List ℕ → List ℕ → Option Command
 run_command date workers = option_and_then (λ day. option_map (λ n. Run day n) (workers_of workers)) (day_of date)
 
+-- a place of a journal
+abbrev pub place_of : List ℕ → Option ℕ
+place_of number = option_and_then (λ n. if nat_le 1 n && nat_le n most_entries then Some n else None) (number_of number)
+
+-- `return PLACE DATE` with a place and a day of the calendar
+abbrev pub return_command : List ℕ → List ℕ → Option Command
+return_command place date = option_and_then (λ n. option_map (λ day. Return n day) (day_of date)) (place_of place)
+
 -- `init HOME` with a BIC
 abbrev pub init_of : List ℕ → Option PlainCommand
 init_of home = option_map Init (bic_of home)
 
--- `statements DATE` with a day of the calendar
-abbrev pub statements_of : List ℕ → Option PlainCommand
-statements_of date = option_map (λ day. Query (Statements day)) (day_of date)
+-- `statements DATE` and `customer-statements DATE` with a day of the calendar
+abbrev pub statements_of : Owners → List ℕ → Option PlainCommand
+statements_of owners date = option_map (λ day. Query (Statements owners day)) (day_of date)
+
+-- `balances DATE` with a day of the calendar
+abbrev pub balances_of : List ℕ → Option PlainCommand
+balances_of date = option_map (λ day. Query (Balances (Some day))) (day_of date)
 
 -- a number of messages of a generated day
 abbrev pub count_of : List ℕ → Option ℕ
@@ -59,29 +79,53 @@ trial_of messages seed workers =
 abbrev pub send_of : List ℕ → List ℕ → Option PlainCommand
 send_of from until = option_map (λ places. Query (Send places.0 places.1)) (two_places from until)
 
+-- `mend FROM UNTIL` with two places
+abbrev pub mend_of : List ℕ → List ℕ → Option PlainCommand
+mend_of from until = option_map (λ places. Mend places.0 places.1) (two_places from until)
+
+-- `set-limits ID FLOOR CEIL` with any word and two signed numbers
+abbrev pub limits_of : List ℕ → List ℕ → List ℕ → Option PlainCommand
+limits_of id floor ceil = option_and_then (λ least. option_map (λ most. Change (Limit id (record { floor = least; ceil = most }))) (signed_of ceil)) (signed_of floor)
+
 -- the words of a command; other words are none
 abbrev pub command_of : List (List ℕ) → Option Command
 command_of [] = None
 command_of (word ∷ []) =
     if bytes_eq word (codes "bookings") then Some (Plain (Query Bookings))
+    else if bytes_eq word (codes "balances") then Some (Plain (Query (Balances None)))
     else if bytes_eq word (codes "reconcile") then Some (Plain Reconcile)
+    else if bytes_eq word (codes "migrate") then Some (Plain Migrate)
     else None
 command_of (word ∷ one ∷ []) =
     if bytes_eq word (codes "init") then option_map Plain (init_of one)
-    else if bytes_eq word (codes "statements") then option_map Plain (statements_of one)
+    else if bytes_eq word (codes "statements") then option_map Plain (statements_of Banks one)
+    else if bytes_eq word (codes "customer-statements") then option_map Plain (statements_of Customers one)
+    else if bytes_eq word (codes "balances") then option_map Plain (balances_of one)
     else None
 command_of (word ∷ one ∷ two ∷ []) =
     if bytes_eq word (codes "send") then option_map Plain (send_of one two)
     else if bytes_eq word (codes "run") then run_command one two
     else if bytes_eq word (codes "generate") then option_map Plain (generate_of one two)
+    else if bytes_eq word (codes "mend") then option_map Plain (mend_of one two)
+    else if bytes_eq word (codes "return") then return_command one two
     else None
-command_of (word ∷ one ∷ two ∷ three ∷ []) = if bytes_eq word (codes "trial") then trial_of one two three else None
-command_of (word ∷ one ∷ two ∷ three ∷ four ∷ more) = None
+command_of (word ∷ one ∷ two ∷ three ∷ []) =
+    if bytes_eq word (codes "trial") then trial_of one two three
+    else if bytes_eq word (codes "set-limits") then option_map Plain (limits_of one two three)
+    else None
+command_of (word ∷ one ∷ two ∷ three ∷ four ∷ []) = None
+command_of (word ∷ one ∷ two ∷ three ∷ four ∷ five ∷ []) = None
+command_of (word ∷ id ∷ kind ∷ owner ∷ ccy ∷ floor ∷ ceil ∷ []) =
+    if bytes_eq word (codes "open-account")
+    then Some (Plain (Change (Open (record { id = id; kind = kind; owner = owner; ccy = ccy; floor = floor; ceil = ceil }))))
+    else None
+command_of (word ∷ one ∷ two ∷ three ∷ four ∷ five ∷ six ∷ seven ∷ more) = None
 
 -- a command that waits for nobody
 abbrev pub plain_in : Command → Option PlainCommand
 plain_in (Run day workers) = None
 plain_in (Trial count seed workers) = None
+plain_in (Return place day) = None
 plain_in (Plain command) = Some command
 
 -- the words of such a command
@@ -92,18 +136,27 @@ plain_of words = option_and_then plain_in (command_of words)
 abbrev pub IsSpelled : Command → Type 0
 IsSpelled (Run day workers) = InCentury day × (1 ≤ workers) × (workers ≤ most_workers)
 IsSpelled (Trial count seed workers) = (1 ≤ count) × (count ≤ most_generated) × (1 ≤ workers) × (workers ≤ most_workers)
+IsSpelled (Return place day) = (1 ≤ place) × (place ≤ most_entries) × InCentury day
 IsSpelled (Plain (Init home)) = IsBic home
 IsSpelled (Plain (Query (Send from until))) = (1 ≤ from) × (from ≤ until) × (until ≤ most_entries)
 IsSpelled (Plain (Query Bookings)) = Unit {0}
-IsSpelled (Plain (Query (Statements day))) = InCentury day
+IsSpelled (Plain (Query (Balances until))) = Unit {0}
+IsSpelled (Plain (Query (Statements owners day))) = InCentury day
 IsSpelled (Plain Reconcile) = Unit {0}
 IsSpelled (Plain (Generate count seed)) = (1 ≤ count) × (count ≤ most_generated)
+IsSpelled (Plain (Change change)) = Unit {0}
+IsSpelled (Plain (Mend from until)) = (1 ≤ from) × (from ≤ until) × (until ≤ most_entries)
+IsSpelled (Plain Migrate) = Unit {0}
 
 -- what each command means
 unfoldable pub meaning_of : Command → Meaning
 meaning_of (Run day workers) = run_meaning day workers
 meaning_of (Trial count seed workers) = trial_meaning count seed
+meaning_of (Return place day) = return_meaning place day
 meaning_of (Plain (Init home)) = init_meaning home
 meaning_of (Plain (Query asked)) = query_meaning asked
 meaning_of (Plain Reconcile) = reconcile_meaning
 meaning_of (Plain (Generate count seed)) = generate_meaning count seed
+meaning_of (Plain (Change change)) = change_meaning change
+meaning_of (Plain (Mend from until)) = mend_meaning from until
+meaning_of (Plain Migrate) = migrate_meaning

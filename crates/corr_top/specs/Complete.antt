@@ -1,5 +1,5 @@
 -- A command that nothing stops but out of memory.
-use Rattle.std.specs.Prelude.{ℕ, ◌≡◌, ◌+◌, ◌≤◌, IsTrue, List, length, Some, None, sum_by}
+use Rattle.std.specs.Prelude.{ℕ, ◌≡◌, ◌+◌, ◌≤◌, IsTrue, List, [], ◌∷◌, length, Some, None, sum_by}
 use Rattle.corr_disk.specs.declared.disk.Disk as disks
 use Rattle.corr_io.specs.declared.sink.Sink as sinks
 use Rattle.corr_io.specs.declared.source.Source as sources
@@ -13,11 +13,14 @@ use Rattle.day_model.specs.Log.{most_entries}
 use Rattle.jrn_book.specs.Journal.{file_of as book_file_of}
 use Rattle.jrn_book.specs.Room.{longest_record}
 use Rattle.corr_top.specs.declared.room.Room.{Room}
+use Rattle.corr_top.specs.Changed.{MayChange, lent_in, row_fault, what_of}
+use Rattle.corr_top.specs.Copied.{HasSecond, HoldsOld, OnSecond}
 use Rattle.corr_top.specs.Inputs.{Inputs, pays_of}
 use Rattle.corr_top.specs.Meaning.{Meaning}
 use Rattle.corr_top.specs.MessageFile.{IsMessageFile}
 use Rattle.corr_top.specs.OnDisk.{HoldsJournal, IsMakeable}
-use Rattle.corr_top.specs.Passing.{Balances, table_fault, table_file, table_at}
+use Rattle.corr_top.specs.Passing.{Balances, most_sent_bytes, table_fault, table_file, table_at}
+use Rattle.corr_top.specs.Returned.{IsReturnable}
 use Rattle.corr_top.specs.Steps.{Step, Walks}
 
 -- a source told these bytes, and did not fail
@@ -46,6 +49,15 @@ IsReady source disk old new i Step.day = IsLatest i.history i.day
 IsReady source disk old new i Step.messages = TellsAll source old.messages new.messages i.messages × IsMessageFile i.messages i.cut
 IsReady source disk old new i Step.book = IsSure disk old.disk new.disk × HasRoomForAll i.chart i.history (pays_of i)
 IsReady source disk old new i Step.received = TellsAll source old.received new.received i.messages × IsMessageFile i.messages i.cut
+IsReady source disk old new i Step.sent = TellsAll source old.sent new.sent i.messages × (length i.messages ≤ most_sent_bytes)
+IsReady source disk old new i Step.change = IsSure disk old.disk new.disk × MayChange i.chart i.history (row_fault i.chart (lent_in i) i.change) (what_of i)
+IsReady source disk old new i Step.second = HasSecond old.disk2
+IsReady source disk old new i Step.old_journal = IsSure disk old.disk new.disk × HoldsOld disk old.disk i.chart i.history
+IsReady source disk old new i Step.copy =
+    OnSecond (λ from to. IsSure disk from to × IsMakeable disk from) old.disk2 new.disk2 × (length (book_file_of i.chart i.history) ≤ most_disk_bytes)
+IsReady source disk old new i Step.make_return = (pay : Pay) × IsReturnable i pay
+IsReady source disk old new i Step.book_return =
+    IsSure disk old.disk new.disk × ((pay : Pay) → IsReturnable i pay → HasRoomForAll i.chart i.history (pay ∷ []))
 
 -- nothing is wrong with what a command reads, and neither a source nor a sink nor the disk failed
 pub record IsFaultless {S K D : Type 0} (source : sources.Ghosts S) (sink : sinks.Ghosts K) (disk : disks.Ghosts D) (m : Meaning) (old new : Room S K D) (i : Inputs) : Type 0 where

@@ -19,9 +19,10 @@ pub record Meaning : Type 1 where
   pub valid : Inputs → Type 0
   pub leaves : (D : Type 0) → disks.Ghosts D → D → D → Inputs → Type 0
 
--- a source that none of these steps reads is as it was, and so is the second disk
+-- a source that none of these steps reads is as it was, and so is the second disk where none makes a copy
 pub record KeepsRest {S K D : Type 0} (steps : List Step) (old new : Room S K D) : Type 0 where
   pub tables : (name : TableName) → (Contains steps (Step.table name) → ⊥) → table_at name new.tables ≡ table_at name old.tables
   pub messages : (Contains steps Step.messages → ⊥) → new.messages ≡ old.messages
   pub received : (Contains steps Step.received → ⊥) → new.received ≡ old.received
-  pub disk2 : new.disk2 ≡ old.disk2
+  pub sent : (Contains steps Step.sent → ⊥) → new.sent ≡ old.sent
+  pub disk2 : (Contains steps Step.copy → ⊥) → new.disk2 ≡ old.disk2

@@ -1,5 +1,5 @@
 -- What passing a step of a command means, and how it stops there.
-use Rattle.std.specs.Prelude.{ℕ, ◌≡◌, ◌≤◌, List, Option, Some, None, pos}
+use Rattle.std.specs.Prelude.{ℕ, ◌≡◌, ◌≤◌, ◌<◌, List, length, Option, Some, None, pos}
 use Rattle.corr_disk.specs.declared.disk.Disk as disks
 use Rattle.corr_ids.specs.declared.day.Day.{Day}
 use Rattle.corr_io.specs.declared.source.Source as sources
@@ -10,8 +10,11 @@ use Rattle.day_model.specs.declared.fault.AccountsFault.TheVariants as refused
 use Rattle.day_model.specs.Chart.{opening_sum}
 use Rattle.day_model.specs.Gap.{TellsUnbalanced}
 use Rattle.day_model.specs.Laws.{IsLatest}
+use Rattle.day_model.specs.declared.pay.Pay.{Pay}
 use Rattle.jrn_file.specs.declared.fault.MakeFault.{MakeFault}
 use Rattle.jrn_file.specs.declared.fault.OpenFault.{OpenFault}
+use Rattle.pay_returns.specs.Making.{TellsReturnFault}
+use Rattle.pay_returns.specs.declared.fault.ReturnFault.{ReturnFault}
 use Rattle.ref_tables.specs.Rows.{most_table_bytes}
 use Rattle.ref_tables.specs.declared.fault.TableName.{TableName}
 use Rattle.ref_tables.specs.declared.fault.TableName.TheVariants as names
@@ -27,15 +30,19 @@ use Rattle.corr_top.specs.declared.cutting.FileStop.TheVariants as file
 use Rattle.corr_top.specs.declared.room.Room.{Room}
 use Rattle.corr_top.specs.declared.room.Tables.{Tables}
 use Rattle.corr_top.specs.declared.status.Status.{Status}
+use Rattle.corr_top.specs.declared.status.Status.TheVariants as status
 use Rattle.corr_top.specs.declared.tables.TableStop.{TableStop}
 use Rattle.corr_top.specs.declared.tables.TableStop.TheVariants as table
 use Rattle.corr_top.specs.Booking.{AreAnswered, IsBack, StopsBooking}
+use Rattle.corr_top.specs.Changed.{MayChange, StopsChanging, lent_in, row_fault, what_of}
+use Rattle.corr_top.specs.Copied.{HasCopied, HasSecond, HoldsOld, OnSecond, StopsCopying, StopsOpeningOld}
 use Rattle.corr_top.specs.Inputs.{Inputs, accounts_in, chart_in, tables_in}
 use Rattle.corr_top.specs.MessageFile.{IsMessageFile, StopsCutting, most_message_bytes}
 use Rattle.corr_top.specs.OnDisk.{HasNotFailed, HoldsJournal, IsMakeable, IsUnwritten, StopsMaking, StopsOpening}
 use Rattle.corr_top.specs.Reading.{Failed, Took}
+use Rattle.corr_top.specs.Returned.{IsReturnable, IsReturned, StopsReturning}
 use Rattle.corr_top.specs.Steps.{Step}
-use Rattle.corr_top.specs.Stops.{status_of_booking, status_of_day, status_of_file, status_of_making, status_of_opening, status_of_sums, status_of_table}
+use Rattle.corr_top.specs.Stops.{status_of_booking, status_of_copying, status_of_day, status_of_file, status_of_making, status_of_opening, status_of_return, status_of_sums, status_of_table}
 
 -- ---- a table
 
@@ -111,6 +118,31 @@ StopsAtMessages source old new bytes (file.TooLarge count messages) = Took sourc
 StopsAtMessages source old new bytes (file.Framing at) = Took source.left source.faults most_message_bytes old new bytes × StopsCutting bytes (file.Framing at)
 StopsAtMessages source old new bytes file.Memory = source.faults new ≡ source.faults old
 
+-- ---- the file of messages that leave
+
+-- it has at most 2^30 bytes
+abbrev pub most_sent_bytes : ℕ
+most_sent_bytes = 1073741824
+
+-- it was read, and has these bytes
+pub record HasSent {S : Type 0} (source : sources.Ghosts S) (old new : S) (bytes : List ℕ) : Type 0 where
+  pub took : Took source.left source.faults most_sent_bytes old new bytes
+  pub short : length bytes ≤ most_sent_bytes
+
+-- it has more bytes than that: told are those up to and with the first that is too many, and no message is counted
+pub record IsSentTooLarge {S : Type 0} (source : sources.Ghosts S) (old new : S) (bytes : List ℕ) (count messages : ℕ) : Type 0 where
+  pub took : Took source.left source.faults most_sent_bytes old new bytes
+  pub past : most_sent_bytes < length bytes
+  pub count_is : count ≡ length bytes
+  pub messages_are : messages ≡ 0
+
+-- how reading it stops: its source fails, it is too large, or memory runs out; it is never cut
+abbrev pub StopsAtSent : {S : Type 0} → sources.Ghosts S → S → S → List ℕ → FileStop → Type 0
+StopsAtSent source old new bytes (file.Fault then now) = Failed source.faults old new then now
+StopsAtSent source old new bytes (file.TooLarge count messages) = IsSentTooLarge source old new bytes count messages
+StopsAtSent source old new bytes (file.Framing at) = ⊥
+StopsAtSent source old new bytes file.Memory = source.faults new ≡ source.faults old
+
 -- ---- a step of a command over the objects of a room, as they were and as they are
 
 -- how a command passes there: what the step reads was read and is right, or what it tests holds
@@ -123,6 +155,13 @@ Passes source disk old new i Step.day = IsLatest i.history i.day
 Passes source disk old new i Step.messages = HasMessages source old.messages new.messages i.messages i.cut
 Passes source disk old new i Step.book = AreAnswered i
 Passes source disk old new i Step.received = HasMessages source old.received new.received i.messages i.cut
+Passes source disk old new i Step.sent = HasSent source old.sent new.sent i.messages
+Passes source disk old new i Step.change = MayChange i.chart i.history (row_fault i.chart (lent_in i) i.change) (what_of i)
+Passes source disk old new i Step.second = HasSecond old.disk2
+Passes source disk old new i Step.old_journal = HoldsOld disk old.disk i.chart i.history
+Passes source disk old new i Step.copy = OnSecond (λ from to. HasCopied disk from to i.chart i.history) old.disk2 new.disk2
+Passes source disk old new i Step.make_return = (pay : Pay) × IsReturnable i pay
+Passes source disk old new i Step.book_return = IsReturned i
 
 -- how a command stops there with this status: for a reason that the status tells, by its cause
 abbrev pub StopsAt : {S K D : Type 0} → sources.Ghosts S → disks.Ghosts D → Room S K D → Room S K D → Inputs → Status → Step → Type 0
@@ -135,6 +174,16 @@ StopsAt source disk old new i s Step.day = (stop : Day) × (s ≡ status_of_day 
 StopsAt source disk old new i s Step.messages = (stop : FileStop) × (s ≡ status_of_file stop) × StopsAtMessages source old.messages new.messages i.messages stop × HasNotFailed disk old.disk new.disk
 StopsAt source disk old new i s Step.book = (stop : BookStop) × (s ≡ status_of_booking stop) × StopsBooking disk old.disk new.disk i stop
 StopsAt source disk old new i s Step.received = (stop : FileStop) × (s ≡ status_of_file stop) × StopsAtMessages source old.received new.received i.messages stop × HasNotFailed disk old.disk new.disk × IsUnwritten disk old.disk new.disk
+StopsAt source disk old new i s Step.sent = (stop : FileStop) × (s ≡ status_of_file stop) × StopsAtSent source old.sent new.sent i.messages stop × HasNotFailed disk old.disk new.disk × IsUnwritten disk old.disk new.disk
+StopsAt source disk old new i s Step.change = StopsChanging disk old.disk new.disk i.chart i.history (row_fault i.chart (lent_in i) i.change) (what_of i) s
+StopsAt source disk old new i s Step.second = (s ≡ status.NoSecond) × (old.disk2 ≡ None)
+StopsAt source disk old new i s Step.old_journal = (stop : OpenFault) × (s ≡ status_of_opening stop) × StopsOpeningOld disk old.disk new.disk stop
+StopsAt source disk old new i s Step.copy =
+    (stop : MakeFault) × (s ≡ status_of_copying (length i.history) stop) × OnSecond (λ from to. StopsCopying disk from to i.chart i.history stop) old.disk2 new.disk2
+    × HasNotFailed disk old.disk new.disk × IsUnwritten disk old.disk new.disk
+StopsAt source disk old new i s Step.make_return =
+    (stop : ReturnFault) × (s ≡ status_of_return stop) × TellsReturnFault i.chart i.history i.place i.day stop × HasNotFailed disk old.disk new.disk
+StopsAt source disk old new i s Step.book_return = (stop : BookStop) × (s ≡ status_of_booking stop) × StopsReturning disk old.disk new.disk i stop
 
 -- what a step reads or does is as it was
 abbrev pub StepIsUntouched : {S K D : Type 0} → disks.Ghosts D → Room S K D → Room S K D → Step → Type 0
@@ -146,3 +195,10 @@ StepIsUntouched disk old new Step.day = Unit {0}
 StepIsUntouched disk old new Step.messages = new.messages ≡ old.messages
 StepIsUntouched disk old new Step.book = IsUnwritten disk old.disk new.disk
 StepIsUntouched disk old new Step.received = new.received ≡ old.received
+StepIsUntouched disk old new Step.sent = new.sent ≡ old.sent
+StepIsUntouched disk old new Step.change = IsUnwritten disk old.disk new.disk
+StepIsUntouched disk old new Step.second = Unit {0}
+StepIsUntouched disk old new Step.old_journal = new.disk ≡ old.disk
+StepIsUntouched disk old new Step.copy = new.disk2 ≡ old.disk2
+StepIsUntouched disk old new Step.make_return = Unit {0}
+StepIsUntouched disk old new Step.book_return = IsUnwritten disk old.disk new.disk

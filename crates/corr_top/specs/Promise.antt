@@ -1,6 +1,7 @@
 -- What a bank may rely on. All of it follows from `Ends`, over rooms whose sources and disk tell their bytes.
-use Rattle.std.specs.Prelude.{ℕ, ◌≡◌, ◌⊎◌, ◌+◌, Bool, true, false, All, IsTrue, IsSome, List, [], length, map, take, Some, Result}
+use Rattle.std.specs.Prelude.{ℕ, ◌≡◌, ◌⊎◌, ◌+◌, Bool, true, false, All, IsTrue, IsSome, List, [], length, map, take, Option, Some, None, Result, ◌∷◌, ◌++◌}
 use Rattle.std.specs.List.{Contains}
+use Rattle.std.specs.Option.{option_map}
 use Rattle.std.specs.Io.KnownBytes.{Appends}
 use Rattle.corr_books.specs.Moments.{StandsBetween, StandsWithMore}
 use Rattle.corr_disk.specs.Disk.{Only}
@@ -18,30 +19,43 @@ use Rattle.day_model.specs.Next.{entered_at, fold_of}
 use Rattle.day_model.specs.declared.entry.Entry.{Entry}
 use Rattle.day_model.specs.declared.pay.Pay.{Pay}
 use Rattle.day_model.specs.declared.reply.Reply.{Reply}
+use Rattle.desk_rows.specs.Balances.{balance_rows}
+use Rattle.desk_rows.specs.Until.{entries_until}
 use Rattle.jrn_book.specs.Book.{IsLeftBy}
-use Rattle.jrn_book.specs.Journal.{IsJournal, StandsForBook}
-use Rattle.jrn_file.specs.Making.{IsUnmade}
+use Rattle.jrn_book.specs.Journal.{IsBeforeOrChanged, IsJournal, IsJournalIn, StandsForBook}
+use Rattle.jrn_book.specs.declared.version.Version.TheVariants.{One}
+use Rattle.jrn_file.specs.Making.{IsOther, IsUnmade}
 use Rattle.mt950.specs.declared.joining.Statement.{Statement}
+use Rattle.out_file.specs.Mended.{mended_of}
 use Rattle.reconcile.specs.Bounds.{IsReceived}
 use Rattle.reconcile.specs.Comparison.{AddsUp, StandOnce, TakesFirst, compared_of}
+use Rattle.pay_returns.specs.Laws.{HoldsReturn}
+use Rattle.pay_returns.specs.Making.{MayReturn}
+use Rattle.ref_tables.specs.Seen.{Tables as Known}
 use Rattle.ref_tables.specs.declared.fault.TableName.{TableName}
+use Rattle.corr_top.specs.declared.account_words.AccountChange.{AccountChange}
 use Rattle.corr_top.specs.declared.message.NoPay.{NoPay}
+use Rattle.corr_top.specs.declared.owners.Owners.{Owners}
 use Rattle.corr_top.specs.declared.room.Room.{Room}
 use Rattle.corr_top.specs.declared.status.Status.{Status}
-use Rattle.corr_top.specs.declared.status.Status.TheVariants.{Done, WriteFault}
+use Rattle.corr_top.specs.declared.status.Status.TheVariants.{Done, Memory, WriteFault}
 use Rattle.corr_top.specs.declared.words.Command.{Command}
-use Rattle.corr_top.specs.declared.words.Command.TheVariants.{Run, Trial, Plain}
-use Rattle.corr_top.specs.declared.words.Plain.TheVariants.{Generate, Init, Query, Reconcile}
-use Rattle.corr_top.specs.declared.words.Query.TheVariants.{Bookings, Send, Statements}
+use Rattle.corr_top.specs.declared.words.Command.TheVariants.{Run, Trial, Plain, Return}
+use Rattle.corr_top.specs.declared.words.Plain.TheVariants.{Change, Generate, Init, Mend, Migrate, Query, Reconcile}
+use Rattle.corr_top.specs.declared.words.Query.TheVariants.{Balances, Bookings, Send, Statements}
+use Rattle.corr_top.specs.Change.{change_steps}
+use Rattle.corr_top.specs.Changed.{IsRefusedFor, changed_in, lent_in, row_fault, what_of}
+use Rattle.corr_top.specs.Copied.{OnSecond, StandsForOld}
 use Rattle.corr_top.specs.Init.{init_steps}
 use Rattle.corr_top.specs.Inputs.{Inputs, chart_in, directory_in, tables_in}
 use Rattle.corr_top.specs.Message.{message_reply, pays_in, readings_of}
 use Rattle.corr_top.specs.MessageFile.{IsMessageFile}
-use Rattle.corr_top.specs.OnDisk.{one_of}
+use Rattle.corr_top.specs.OnDisk.{IsUnwritten, one_of}
 use Rattle.corr_top.specs.Origin.{AreSentValid}
-use Rattle.corr_top.specs.Out.{sent_from}
-use Rattle.corr_top.specs.Passing.{table_at, table_file}
+use Rattle.corr_top.specs.Out.{booked_from, sent_from}
+use Rattle.corr_top.specs.Passing.{table_at, table_fault, table_file}
 use Rattle.corr_top.specs.Reconcile.{break_report, reconcile_steps}
+use Rattle.corr_top.specs.Returned.{IsNotTakenBack, booked_on}
 use Rattle.corr_top.specs.Run.{run_steps}
 use Rattle.corr_top.specs.Statements.{AreStatements, sent_statements}
 use Rattle.corr_top.specs.Steps.{Step}
@@ -89,6 +103,11 @@ module _ {S K D : Type 0} (source : sources.Ghosts S) (sink : sinks.Ghosts K) (d
   abbrev pub Told : List Step → Inputs → Type 0
   Told steps i = (name : TableName) → Contains steps (Step.table name) → source.left (table_at name old.tables) ≡ Some (table_file name i)
 
+  -- the sources of the tables that these steps read didn't fail, and these tables are right
+  abbrev pub AreRight : List Step → Inputs → Type 0
+  AreRight steps i = (name : TableName) → Contains steps (Step.table name)
+      → (Rose (source.faults (table_at name old.tables)) (source.faults (table_at name new.tables)) → ⊥) × (table_fault name i ≡ None)
+
   -- each message of the file has its reply, each pay its entry; one worker books in the file's order; what is sent is valid
   pub record AnswersAll (i : Inputs) (books : List Entry) : Type 0 where
     pub cut : List (List ℕ)
@@ -99,6 +118,12 @@ module _ {S K D : Type 0} (source : sources.Ghosts S) (sink : sinks.Ghosts K) (d
     pub alone : i.workers ≡ 1 → books ≡ fold_of i.chart i.history (pays_in (asked i cut)) i.day
     pub wrote : Wrote sink old new s (report_of i.chart books replies) (sent_from i.chart (length i.history + 1) books)
     pub valid : AreSentValid (tables_in i) i.chart (length i.history + 1) books
+
+  -- the journal of version 1 of these books stands on the disk when the command begins
+  pub record IsOldBooks (chart : Chart) (books : List Entry) : Type 0 where
+    pub told : IsTrue (disk.honest old.disk)
+    pub journal : IsJournalIn One chart books
+    pub reads : StandsForOld (disk.reads old.disk) chart books
 
   -- run, whatever the status: the books are those of one clerk who entered pays of the file, one after another; a crash keeps them, or,
   -- after a fault, them or them and one legal entry more; at each moment of the run it leaves the old books and a front part of what was
@@ -114,6 +139,30 @@ module _ {S K D : Type 0} (source : sources.Ghosts S) (sink : sinks.Ghosts K) (d
         ⊎ (Rose (disk.faults old.disk) (disk.faults new.disk) × StandsWithMore i.chart books i.day 1 image))
     pub answers : writes s ≡ true → AnswersAll i books
 
+  -- the payment at a place was taken back: its return is the one entry more, and is booked; its line and its messages are written, and these
+  -- are valid under tables that hold what they say
+  pub record TakesBack (i : Inputs) (books : List Entry) : Type 0 where
+    pub pay : Pay
+    pub may : MayReturn i.chart i.history i.place i.day pay
+    pub books_are : books ≡ i.history ++ booked_on i.day pay ∷ []
+    pub wrote : Wrote sink old new s (booked_from i.chart (length i.history + 1) books) (sent_from i.chart (length i.history + 1) books)
+    pub valid : (t : Known) → HoldsReturn t i.chart pay → AreSentValid t i.chart (length i.history + 1) books
+
+  -- return, whatever the status: the books are as they were, or have the return of the place more, which is booked; a crash keeps them, or,
+  -- after a fault, them or them and one legal entry more; at each moment it leaves the old books or these, or that entry more; done, they have
+  -- it; refused, where no call of the disk failed and memory didn't run out, they are as they were, and the status is the first reason against it
+  pub record ReturnPromise (i : Inputs) : Type 0 where
+    pub books : List Entry
+    pub entered : (books ≡ i.history) ⊎ ((pay : Pay) × MayReturn i.chart i.history i.place i.day pay × (books ≡ i.history ++ booked_on i.day pay ∷ []))
+    pub crash : Keeps disk new.disk i.chart books
+        ⊎ (Rose (disk.faults old.disk) (disk.faults new.disk) × AreBooks i.chart books × IsLeftBy (disk.honest new.disk) (disk.may_leave new.disk) i.chart books (one_of i.day))
+    pub moments : AtEachMoment (λ image. StandsBetween i.chart i.history books image
+        ⊎ (Rose (disk.faults old.disk) (disk.faults new.disk) × StandsWithMore i.chart books i.day 1 image))
+    pub done : writes s ≡ true → Keeps disk new.disk i.chart books
+    pub answers : writes s ≡ true → TakesBack i books
+    pub refused : writes s ≡ false → (Rose (disk.faults old.disk) (disk.faults new.disk) → ⊥) → (s ≡ Memory → ⊥)
+        → Keeps disk new.disk i.chart i.history × IsNotTakenBack i.chart i.history i.place i.day s
+
   -- reconcile: the report; and each line takes the first free entry that says the same, stands once, and what is left over is the gap's change
   pub record ReconcilePromise (i : Inputs) : Type 0 where
     pub cut : List (List ℕ)
@@ -123,22 +172,62 @@ module _ {S K D : Type 0} (source : sources.Ghosts S) (sink : sinks.Ghosts K) (d
         → TakesFirst i.chart n i.history t (compared_of i.chart i.history n t) × StandOnce i.chart n i.history t (compared_of i.chart i.history n t)
         × AddsUp i.chart n i.history t (compared_of i.chart i.history n t)
 
+  -- open-account and set-limits, whatever the status: nothing is written to the sinks; done, the books have this change of their accounts more and nothing else; a crash at
+  -- any moment leaves the books before or with it; refused, where no call of the disk failed and memory didn't run out, they are as they were, and the
+  -- status is the first reason against it, where its tables are right
+  pub record ChangePromise (i : Inputs) : Type 0 where
+    pub done : writes s ≡ true → Keeps disk new.disk (changed_in i) i.history
+    pub moments : AtEachMoment (IsBeforeOrChanged i.chart i.history (what_of i))
+    pub quiet : (new.report ≡ old.report) × (new.out ≡ old.out)
+    pub refused : writes s ≡ false → (Rose (disk.faults old.disk) (disk.faults new.disk) → ⊥) → (s ≡ Memory → ⊥) → Keeps disk new.disk i.chart i.history
+    pub reason : writes s ≡ false → (Rose (disk.faults old.disk) (disk.faults new.disk) → ⊥) → (s ≡ Memory → ⊥) → AreRight (change_steps i.change) i
+        → IsRefusedFor i.chart i.history (row_fault i.chart (lent_in i) i.change) (what_of i) s
+
+  -- migrate, whatever the status: nothing is written to the first disk and to the sinks; the second tells its bytes as it did, has the books of
+  -- the journal of version 1 where it is done, at each moment nothing made yet or all of them where it could be made, and what it had where
+  -- something else stands there; where it is refused, and no call of the second disk failed, it has what it had
+  pub record MigratePromise : Type 0 where
+    pub unwritten : IsUnwritten disk old.disk new.disk
+    pub quiet : (new.report ≡ old.report) × (new.out ≡ old.out)
+    pub honest : option_map disk.honest new.disk2 ≡ option_map disk.honest old.disk2
+    pub done : writes s ≡ true → (chart : Chart) (books : List Entry) → IsOldBooks chart books
+        → OnSecond (λ from to. IsTrue (disk.honest from) → Keeps disk to chart books) old.disk2 new.disk2
+    pub moments : (chart : Chart) (books : List Entry) → IsOldBooks chart books → (from to : D) → old.disk2 ≡ Some from → new.disk2 ≡ Some to
+        → IsTrue (disk.honest from) → Only (disk.reads from) (disk.may_leave from) → IsUnmade (disk.reads from)
+        → (image : List ℕ) → disk.left_since to (disk.moment from) image → IsUnmade image ⊎ StandsForBook image chart books
+    pub other : (from : D) (first : ℕ) → old.disk2 ≡ Some from → IsTrue (disk.honest from) → IsOther (disk.reads from) first
+        → (to : D) × (new.disk2 ≡ Some to) × IsUnwritten disk from to
+    pub refused : writes s ≡ false → (s ≡ Memory → ⊥) → (from to : D) → old.disk2 ≡ Some from → new.disk2 ≡ Some to → IsTrue (disk.honest from)
+        → (Rose (disk.faults from) (disk.faults to) → ⊥) → IsUnwritten disk from to
+
   pub record Promises (command : Command) : Type 0 where
-    -- however it ends, the books on the disk stay; `run` alone adds to them, and `init` makes none over others
+    -- however it ends, the books on the disk stay; `run` and `return` alone add to them, changes of accounts change the accounts alone, and
+    -- `init` makes none over others
     pub keeps : (chart : Chart) (books : List Entry) → Keeps disk old.disk chart books → ((day : Day) (n : ℕ) → command ≡ Run day n → ⊥)
+        → ((change : AccountChange) → command ≡ Plain (Change change) → ⊥) → ((place : ℕ) (day : Day) → command ≡ Return place day → ⊥)
         → Keeps disk new.disk chart books × AtEachMoment (λ image. StandsForBook image chart books)
     pub run : (i : Inputs) → command ≡ Run i.day i.workers → Told run_steps i → source.left old.messages ≡ Some i.messages
         → Keeps disk old.disk i.chart i.history → RunPromise i
+    pub returned : (i : Inputs) → command ≡ Return i.place i.day → Keeps disk old.disk i.chart i.history → ReturnPromise i
+    pub change : (i : Inputs) → command ≡ Plain (Change i.change) → Told (change_steps i.change) i → Keeps disk old.disk i.chart i.history → ChangePromise i
+    pub migrate : command ≡ Plain Migrate → MigratePromise
     pub init : (i : Inputs) → command ≡ Plain (Init i.home) → Told init_steps i → IsTrue (disk.honest old.disk) → writes s ≡ true
         → Keeps disk new.disk (chart_in i) []
     pub made_or_not : (i : Inputs) → command ≡ Plain (Init i.home) → Told init_steps i → IsTrue (disk.honest old.disk)
         → Only (disk.reads old.disk) (disk.may_leave old.disk) → IsUnmade (disk.reads old.disk) → AtEachMoment (λ image. IsUnmade image ⊎ StandsForBook image (chart_in i) [])
-    pub statements : (day : Day) (chart : Chart) (books : List Entry) → command ≡ Plain (Query (Statements day)) → Keeps disk old.disk chart books
-        → writes s ≡ true → Wrote sink old new s [] (sent_statements chart books day) × AreStatements chart books day
+    -- the pages of these owners' accounts: they close at the balances, and are accepted and read back, a customer's with its notes
+    pub statements : (owners : Owners) (day : Day) (chart : Chart) (books : List Entry) → command ≡ Plain (Query (Statements owners day)) → Keeps disk old.disk chart books
+        → writes s ≡ true → Wrote sink old new s [] (sent_statements owners chart books day) × AreStatements owners chart books day
     pub send : (from until : ℕ) (chart : Chart) (books : List Entry) → command ≡ Plain (Query (Send from until)) → Keeps disk old.disk chart books
         → writes s ≡ true → Wrote sink old new s [] (sent_from chart from (take until books))
+    -- the whole messages of the file of messages that leave as they stand, then those of the entries at these places that don't stand whole in it
+    pub mend : (from until : ℕ) (file : List ℕ) (chart : Chart) (books : List Entry) → command ≡ Plain (Mend from until) → source.left old.sent ≡ Some file
+        → Keeps disk old.disk chart books → writes s ≡ true → Wrote sink old new s (mended_of file (sent_from chart from (take until books))) []
     pub bookings : (chart : Chart) (books : List Entry) → command ≡ Plain (Query Bookings) → Keeps disk old.disk chart books → writes s ≡ true
         → Wrote sink old new s (bookings_of chart books) []
+    -- a row for each account, with the balance by the model; the balances of a currency sum to 0
+    pub balances : (until : Option Day) (chart : Chart) (books : List Entry) → command ≡ Plain (Query (Balances until)) → Keeps disk old.disk chart books
+        → writes s ≡ true → Wrote sink old new s (balance_rows chart (entries_until until books)) [] × BalancesCancel chart (entries_until until books)
     pub generate : (count seed : ℕ) → command ≡ Plain (Generate count seed) → writes s ≡ true → Wrote sink old new s [] (generated_of count seed)
     pub trial : (count seed workers : ℕ) → command ≡ Trial count seed workers → writes s ≡ true
         → Wrote sink old new s (trial_report count seed) [] × BooksEach count seed

@@ -4,6 +4,8 @@ use Rattle.corr_disk.specs.declared.disk.Disk as disks
 use Rattle.corr_report.specs.Bookings.{bookings_of}
 use Rattle.day_model.specs.declared.entry.Entry.{Entry}
 use Rattle.day_model.specs.Chart.{Chart}
+use Rattle.desk_rows.specs.Balances.{balance_rows}
+use Rattle.desk_rows.specs.Until.{entries_until}
 use Rattle.jrn_file.specs.declared.fault.OpenFault.{OpenFault}
 use Rattle.corr_top.specs.declared.words.Query.{Query}
 use Rattle.corr_top.specs.declared.words.Query.TheVariants as query
@@ -21,25 +23,28 @@ use Rattle.corr_top.specs.Stops.{status_of_opening}
 abbrev pub query_steps : List Step
 query_steps = Step.open_journal ∷ []
 
--- `bookings` reports a line for each entry
+-- `bookings` reports a line for each entry, and `balances` a row for each account after the entries up to a day, or after all
 abbrev pub query_report : Query → Chart → List Entry → List ℕ
 query_report (query.Send from until) chart history = []
 query_report query.Bookings chart history = bookings_of chart history
-query_report (query.Statements day) chart history = []
+query_report (query.Statements owners day) chart history = []
+query_report (query.Balances until) chart history = balance_rows chart (entries_until until history)
 
--- `send` sends the outgoing messages of the entries at these places, as far as there are any, and `statements` the pages of the
--- vostro accounts, each followed by `$`
+-- `send` sends the outgoing messages of the entries at these places, as far as there are any, `statements` the pages of the vostro
+-- accounts and `customer-statements` those of the customers' accounts, each followed by `$`
 abbrev pub query_out : Query → Chart → List Entry → List ℕ
 query_out (query.Send from until) chart history = sent_from chart from (take until history)
 query_out query.Bookings chart history = []
-query_out (query.Statements day) chart history = sent_statements chart history day
+query_out (query.Balances until) chart history = []
+query_out (query.Statements owners day) chart history = sent_statements owners chart history day
 
--- What is known of what is sent: statements close at the balances, and are accepted. What `send` sends was entered under other
+-- What is known of what is sent: statements close at the balances, and are read back. What `send` sends was entered under other
 -- tables, and may not pass under any that are known.
 abbrev pub QuerySends : Query → Chart → List Entry → Type 0
 QuerySends (query.Send from until) chart history = Unit {0}
 QuerySends query.Bookings chart history = Unit {0}
-QuerySends (query.Statements day) chart history = AreStatements chart history day
+QuerySends (query.Balances until) chart history = Unit {0}
+QuerySends (query.Statements owners day) chart history = AreStatements owners chart history day
 
 module _ {D : Type 0} (disk : disks.Ghosts D) (old new : D) where
   -- nothing is written to the disk, and no call of it failed

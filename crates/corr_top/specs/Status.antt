@@ -1,5 +1,6 @@
 -- Statuses, as numbers and as lines.
-use Rattle.std.specs.Prelude.{ℕ, ◌≤◌, List, ◌++◌, codes}
+use Rattle.std.specs.Prelude.{ℕ, ℤ, ◌≤◌, List, ◌++◌, codes, unsigned_abs, if◌then◌else◌}
+use Rattle.std.specs.Int.{is_negative}
 use Rattle.corr_text.specs.Digits.{padded}
 use Rattle.corr_ids.specs.Day.{InCentury, yymmdd_of}
 use Rattle.corr_money.specs.Amounts.{signed_text, most_decimals}
@@ -8,7 +9,7 @@ use Rattle.ref_tables.specs.declared.fault.TableName.TheVariants as table
 use Rattle.ref_tables.specs.declared.fault.Why.{Why}
 use Rattle.ref_tables.specs.declared.fault.Why.TheVariants as why
 use Rattle.corr_top.specs.declared.status.Status.{Status}
-use Rattle.corr_top.specs.declared.status.Status.TheVariants.{Done, Usage, Table, ReadFault, WriteFault, DiskFault, NotAJournal, Damaged, Unbalanced, Exists, Memory, DateBack, TooLarge, Framing, Full, Version}
+use Rattle.corr_top.specs.declared.status.Status.TheVariants.{Done, Usage, Table, ReadFault, WriteFault, DiskFault, NotAJournal, Damaged, Unbalanced, Exists, Memory, DateBack, TooLarge, Framing, Full, Version, SecondDiskFault, Unknown, NoSecond, NoPayment, Returned, Unfunded}
 
 -- a line can tell it: the decimals of an `Unbalanced` are at most 4, and the day of a `DateBack` is of 1980 to 2079
 abbrev pub HasLine : Status → Type 0
@@ -24,6 +25,7 @@ status_number (Table name row reason) = 2
 status_number (ReadFault before after) = 3
 status_number (WriteFault before after) = 4
 status_number (DiskFault before after) = 5
+status_number (SecondDiskFault before after) = 5
 status_number NotAJournal = 6
 status_number (Damaged at) = 6
 status_number (Unbalanced ccy decimals sum) = 6
@@ -34,10 +36,19 @@ status_number (TooLarge bytes messages) = 9
 status_number (Framing at) = 10
 status_number (Full entries end need) = 11
 status_number (Version found) = 12
+status_number Unknown = 13
+status_number NoSecond = 14
+status_number (NoPayment entries) = 15
+status_number (Returned place) = 16
+status_number (Unfunded leg balance) = 17
 
 -- a number after a space
 unfoldable pub spaced_number : ℕ → List ℕ
 spaced_number n = codes " " ++ padded 1 n
+
+-- the same of a number that may be below 0
+unfoldable pub spaced_signed : ℤ → List ℕ
+spaced_signed v = codes " " ++ (if is_negative v then codes "-" else codes "") ++ padded 1 (unsigned_abs v)
 
 -- the name of a table
 abbrev pub name_text : TableName → List ℕ
@@ -68,6 +79,7 @@ status_text (Table name row reason) = codes "table " ++ name_text name ++ spaced
 status_text (ReadFault before after) = codes "read fault" ++ spaced_number before ++ spaced_number after
 status_text (WriteFault before after) = codes "write fault" ++ spaced_number before ++ spaced_number after
 status_text (DiskFault before after) = codes "disk fault" ++ spaced_number before ++ spaced_number after
+status_text (SecondDiskFault before after) = codes "second disk fault" ++ spaced_number before ++ spaced_number after
 status_text NotAJournal = codes "not a journal"
 status_text (Damaged at) = codes "damaged" ++ spaced_number at
 status_text (Unbalanced ccy decimals sum) = codes "unbalanced " ++ ccy.0 ++ codes " " ++ signed_text decimals sum
@@ -78,6 +90,11 @@ status_text (TooLarge bytes messages) = codes "too large" ++ spaced_number bytes
 status_text (Framing at) = codes "framing" ++ spaced_number at
 status_text (Full entries end need) = codes "full" ++ spaced_number entries ++ spaced_number end ++ spaced_number need
 status_text (Version found) = codes "version" ++ spaced_number found
+status_text Unknown = codes "unknown account"
+status_text NoSecond = codes "no second disk"
+status_text (NoPayment entries) = codes "no payment" ++ spaced_number entries
+status_text (Returned place) = codes "returned" ++ spaced_number place
+status_text (Unfunded leg balance) = codes "unfunded" ++ spaced_number leg ++ spaced_signed balance
 
 -- its line, without a line end
 abbrev pub status_line_of : Status → List ℕ

@@ -3,7 +3,9 @@ use Rattle.std.specs.Prelude.{◌⊎◌, List, [], ◌∷◌}
 use Rattle.ref_tables.specs.declared.fault.TableName.{TableName}
 
 -- What a command reads, tests and does before it writes: a table, the sums of the openings, the making of a journal, the journal
--- as it is opened, the day against that of its last entry, the message file, the entering of its pays, and the received messages.
+-- as it is opened, the day against that of its last entry, the message file, the entering of its pays, and the received messages;
+-- the file of messages that leave; a change of the journal's accounts; the second disk, a journal of version 1 as it is opened, and the
+-- making of its copy; and the making of the pay that takes a payment back, and its entering.
 pub data Step : Type 0 where
   table : TableName → Step
   sums : Step
@@ -13,6 +15,13 @@ pub data Step : Type 0 where
   messages : Step
   book : Step
   received : Step
+  sent : Step
+  change : Step
+  second : Step
+  old_journal : Step
+  copy : Step
+  make_return : Step
+  book_return : Step
 
 -- each step has it
 abbrev pub Walks : (Step → Type 0) → List Step → Type 0

@@ -1,17 +1,26 @@
 -- Why a step of a command stopped, as the status that tells it.
+use Rattle.std.specs.Prelude.{ℕ}
 use Rattle.corr_books.specs.declared.opening.BooksFault.{BooksFault}
 use Rattle.corr_books.specs.declared.opening.BooksFault.TheVariants as books
 use Rattle.corr_ids.specs.declared.day.Day.{Day}
+use Rattle.day_model.specs.declared.change.What.{What}
+use Rattle.day_model.specs.declared.change.What.TheVariants.{Opened, Limits}
 use Rattle.day_model.specs.declared.fault.AccountsFault.{AccountsFault}
 use Rattle.day_model.specs.declared.fault.AccountsFault.TheVariants as accounts
 use Rattle.fin_frame.specs.declared.fault.FrameFault.{FrameFault}
 use Rattle.fin_frame.specs.declared.fault.FrameFault.TheVariants as frame
+use Rattle.jrn_book.specs.declared.changing.ChangeFault.{ChangeFault}
+use Rattle.jrn_book.specs.declared.changing.ChangeFault.TheVariants as changing
 use Rattle.jrn_file.specs.declared.fault.MakeFault.{MakeFault}
 use Rattle.jrn_file.specs.declared.fault.MakeFault.TheVariants as making
 use Rattle.jrn_file.specs.declared.fault.OpenFault.{OpenFault}
 use Rattle.jrn_file.specs.declared.fault.OpenFault.TheVariants as opening
+use Rattle.pay_returns.specs.declared.fault.ReturnFault.{ReturnFault}
+use Rattle.pay_returns.specs.declared.fault.ReturnFault.TheVariants as returning
 use Rattle.ref_tables.specs.declared.fault.TableFault.{TableFault}
 use Rattle.ref_tables.specs.declared.fault.TableFault.TheVariants as refused
+use Rattle.ref_tables.specs.declared.fault.TableName.TheVariants as names
+use Rattle.ref_tables.specs.declared.fault.Why.TheVariants as why
 use Rattle.corr_top.specs.declared.answers.BookStop.{BookStop}
 use Rattle.corr_top.specs.declared.answers.BookStop.TheVariants as booking
 use Rattle.corr_top.specs.declared.cutting.FileStop.{FileStop}
@@ -92,3 +101,39 @@ abbrev pub status_of_booking : BookStop → Status
 status_of_booking (booking.DiskFault before after) = status.DiskFault before after
 status_of_booking (booking.Full entries end need) = status.Full entries end need
 status_of_booking booking.Memory = status.Memory
+
+-- the status where the row that words say is refused, which is row 1
+abbrev pub status_of_row : TableFault → Status
+status_of_row (refused.Bad name row reason) = status.Table names.Accounts 1 reason
+status_of_row refused.Memory = status.Memory
+
+-- the row that a refused change tells: 1 of an account that is opened, else the number of the account
+abbrev pub row_named : What → ℕ
+row_named (Opened account) = 1
+row_named (Limits n floor ceil) = n.0
+
+-- the status where the accounts of a journal of so many entries weren't changed
+abbrev pub status_of_change : What → ℕ → ChangeFault → Status
+status_of_change what entries (changing.Open fault) = status_of_opening fault
+status_of_change what entries changing.Unknown = status.Unknown
+status_of_change what entries changing.Rows = status.Table names.Accounts (row_named what) why.Rows
+status_of_change what entries (changing.Double row) = status.Table names.Accounts (row_named what) (why.Double row)
+status_of_change what entries changing.Currency = status.Table names.Accounts (row_named what) why.Currency
+status_of_change what entries (changing.Limits account) = status.Table names.Accounts (row_named what) why.Limits
+status_of_change what entries (changing.Full end need) = status.Full entries end need
+status_of_change what entries (changing.DiskFault before after) = status.DiskFault before after
+status_of_change what entries changing.Memory = status.Memory
+
+-- the status where a journal of so many entries wasn't made on the second disk
+abbrev pub status_of_copying : ℕ → MakeFault → Status
+status_of_copying entries (making.Exists first) = status.Exists first
+status_of_copying entries (making.Full end need) = status.Full entries end need
+status_of_copying entries (making.DiskFault before after) = status.SecondDiskFault before after
+status_of_copying entries making.Memory = status.Memory
+
+-- the status where a payment isn't taken back
+abbrev pub status_of_return : ReturnFault → Status
+status_of_return (returning.NoPayment entries) = status.NoPayment entries
+status_of_return (returning.Returned place) = status.Returned place
+status_of_return (returning.Unfunded leg balance) = status.Unfunded leg balance
+status_of_return returning.Memory = status.Memory

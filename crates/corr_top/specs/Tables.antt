@@ -10,10 +10,15 @@ use Rattle.corr_top.specs.declared.directory.Directory.{Directory}
 use Rattle.corr_top.specs.declared.room.Tables.{Tables}
 use Rattle.corr_top.specs.declared.status.Status.{Status}
 use Rattle.corr_top.specs.declared.tables.TableStop.{TableStop}
+use Rattle.corr_top.specs.Changed.{lent_in}
 use Rattle.corr_top.specs.Inputs.{Inputs, chart_in, directory_in, tables_in}
 use Rattle.corr_top.specs.Passing.{Balances, IsFine, StopsAtSums, StopsAtTable, table_fault, table_file, table_at}
 use Rattle.corr_top.specs.Steps.{Halts, Step, Walks}
 use Rattle.corr_top.specs.Stops.{status_of_sums, status_of_table}
+
+-- the tables of banks and currencies
+abbrev pub lent_steps : List Step
+lent_steps = Step.table names.Bics ∷ Step.table names.Ccys ∷ []
 
 -- the tables of banks, currencies and countries
 abbrev pub known_steps : List Step
@@ -46,6 +51,20 @@ module _ {S : Type 0} (source : sources.Ghosts S) (old new : Tables S) where
   AreUntouched (Step.table name) = table_at name new ≡ table_at name old
   AreUntouched _ = Unit {0}
 
+  -- no other table than those of banks and currencies was touched
+  pub record LeavesOthers : Type 0 where
+    pub countries : new.countries ≡ old.countries
+    pub accounts : new.accounts ≡ old.accounts
+    pub ssi : new.ssi ≡ old.ssi
+    pub charges : new.charges ≡ old.charges
+
+  -- the tables of banks and currencies were read and are fine, and this is what they say
+  pub record HasLent (known : Known) : Type 0 where
+    pub inputs : Inputs
+    pub passed : Walks (PassesTables inputs) lent_steps
+    pub known_is : known ≡ lent_in inputs
+    pub rest : LeavesOthers
+
   -- the tables of banks, currencies and countries were read and are fine, and this is what they say
   pub record HasKnown (known : Known) : Type 0 where
     pub inputs : Inputs
@@ -75,6 +94,11 @@ module _ {S : Type 0} (source : sources.Ghosts S) (old new : Tables S) where
   pub record StopsIn (steps : List Step) (s : Status) : Type 0 where
     pub inputs : Inputs
     pub halted : Halts (PassesTables inputs) (StopsAtTables inputs s) AreUntouched steps
+
+  -- reading the tables of banks and currencies stops
+  pub record StopsLent (stop : TableStop) : Type 0 where
+    pub at : StopsIn lent_steps (status_of_table stop)
+    pub rest : LeavesOthers
 
   -- reading the three tables stops
   pub record StopsKnown (stop : TableStop) : Type 0 where

@@ -36,7 +36,8 @@ impl From<AccountsFault> for Status {
     }
 }
 
-fn open_account(row: AccountRow) -> Account
+/// An account of the book that a row of the table of accounts says.
+pub fn open_account(row: AccountRow) -> Account
     ensures { result ≡ opened row }
 {
     Account {

@@ -10,10 +10,14 @@ ghost use Rattle.corr_top.specs.Status.{HasLine};
 ghost use Rattle.corr_top.specs.declared.words.Command.{Command as TheCommand};
 ghost use Rattle.corr_top.specs.declared.words.Command.TheVariants.{Plain as PlainCommand};
 
+use crate::changing::change;
 use crate::generate::generate;
 use crate::init::init;
+use crate::mending::mend;
+use crate::migrating::migrate;
 use crate::query::query;
 use crate::received::reconcile;
+use crate::returning::take_back;
 use crate::room::{Done, Room};
 use crate::run::run;
 use crate::status::Status;
@@ -60,11 +64,11 @@ fn end<S: Source, K: Sink, D: Disk>(
 /// Does what a command says that waits for nobody.
 fn perform<S: Source, K: Sink, D: Disk>(
     alloc: Global,
-    command: Plain,
+    command: Plain<'_>,
     room: Room<S, K, D>,
 ) -> Done<S, K, D>
     requires { IsSpelled (PlainCommand command) }
-    ensures ends { Ends S.Source D.Disk (meaning_of (PlainCommand command)) room result.room K.Sink result.status }
+    ensures ends { Ends S.Source D.Disk (meaning_of (PlainCommand command.entry)) room result.room K.Sink result.status }
     ensures honest { D.honest result.room.disk ≡ D.honest room.disk }
 {
     match command {
@@ -81,11 +85,23 @@ fn perform<S: Source, K: Sink, D: Disk>(
             end(room, texts)
         }
         Plain::Generate { count, seed } => end(room, generate(alloc, count, seed)),
+        Plain::Change(asked) => {
+            let (room, texts) = change(alloc, asked, room);
+            end(room, texts)
+        }
+        Plain::Mend { from, until } => {
+            let (room, texts) = mend(alloc, from, until, room);
+            end(room, texts)
+        }
+        Plain::Migrate => {
+            let (room, texts) = migrate(alloc, room);
+            end(room, texts)
+        }
     }
 }
 
-/// Does what the words say, for the commands that wait for nobody, and hands the room back: all but `run` and `trial`,
-/// which are `Usage` to it (docs/operating.md).
+/// Does what the words say, for the commands that wait for nobody, and hands the room back: all but `run`, `return`
+/// and `trial`, which are `Usage` to it (docs/operating.md).
 pub fn plain<S: Source, K: Sink, D: Disk>(
     alloc: Global,
     words: &[Text],
@@ -109,7 +125,7 @@ pub fn plain<S: Source, K: Sink, D: Disk>(
 {
     match spelled(words) {
         Some(Command::Plain(command)) => perform(alloc, command, room),
-        Some(Command::Run { .. } | Command::Trial { .. }) => refuse(room),
+        Some(Command::Run { .. } | Command::Return { .. } | Command::Trial { .. }) => refuse(room),
         None => refuse(room),
     }
 }
@@ -118,13 +134,19 @@ pub fn plain<S: Source, K: Sink, D: Disk>(
 ///
 /// `run DATE WORKERS`, with `DATE` as YYMMDD, reads the tables, opens the journal, lets 1 to 16 workers enter the pays of the
 /// message file's messages on that day, writes the report, and then to `out` the outgoing messages of the entries that were
-/// added, each followed by `$`. Each pay passes the gate once its accounts are held.
+/// added, each followed by `$`. Each pay passes the gate once its accounts are held. `return PLACE DATE` opens the journal, takes the
+/// payment at this place back on that day, and writes the line of the entry that was added, and its outgoing messages to `out`.
 /// `init HOME` makes the journal of the home bank HOME with the accounts of the tables. `send FROM UNTIL` writes the outgoing
 /// messages of the entries at these places, `bookings` a line for each entry, `statements DATE` to `out` what the owners of the
-/// vostro accounts are sent of that day. `reconcile` reads the tables of banks, currencies and countries, opens the journal, reads
+/// vostro accounts are sent of that day; `balances` and `balances DATE` a row for each account, with its balance after all entries or
+/// after those up to a day. `reconcile` reads the tables of banks, currencies and countries, opens the journal, reads
 /// the received messages, and writes what is told of their statements against the books. `generate COUNT SEED` writes a day of
 /// messages, made from a number, to `out`, and `trial COUNT SEED WORKERS` the summary of such a day, run over a journal in memory
-/// by 1 to 16 workers; they touch nothing else. Other words are `Usage`. To the report and to `out` nothing is written but at
+/// by 1 to 16 workers; they touch nothing else. `open-account ID KIND OWNER CCY FLOOR CEIL` reads the tables of banks and
+/// currencies, opens the journal, and opens an account with opening 0; `set-limits ID FLOOR CEIL` gives an account of the journal
+/// another floor and ceiling; `mend FROM UNTIL` opens the journal, reads the file of
+/// messages that leave, and writes to the report what it should hold, with those of the entries at these places; `migrate` carries a
+/// journal of version 1 over to the second disk. Other words are `Usage`. To the report and to `out` nothing is written but at
 /// `Done`, and a front part of both together at `WriteFault`; what was entered stands in the journal at each status.
 pub fn corr<R: Wait + Threads + Sync, S: Source, K: Sink, D: Disk + Drop + Send, G: Gate + Sync>(
     rt: &R,
@@ -153,6 +175,10 @@ pub fn corr<R: Wait + Threads + Sync, S: Source, K: Sink, D: Disk + Drop + Send,
         Some(Command::Plain(command)) => perform(alloc, command, room),
         Some(Command::Run { day, workers }) => {
             let (room, texts) = run(rt, alloc, day, workers, room, gate);
+            end(room, texts)
+        }
+        Some(Command::Return { place, day }) => {
+            let (room, texts) = take_back(rt, alloc, place, day, room, gate);
             end(room, texts)
         }
         Some(

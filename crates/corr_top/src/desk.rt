@@ -92,7 +92,7 @@ pub fn vacate(passes: &mut Vec<Pass>, workers: Vec<Worker>)
 }
 
 /// What the answer to the pay of a reference makes of its message.
-fn as_served(mir: Mir, answer: Result<Committed, CommitFault>) -> Served
+pub fn as_served(mir: Mir, answer: Result<Committed, CommitFault>) -> Served
     ensures { result ≡ served_of mir answer }
 {
     match answer {

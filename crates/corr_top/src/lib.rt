@@ -1,8 +1,10 @@
 //! The commands of the bank's payment engine: what each reads, answers and writes.
 #![tactic(auto)]
 
+mod account_words;
 mod accounts;
 mod answers;
+mod changing;
 mod command;
 mod cutting;
 mod desk;
@@ -10,12 +12,16 @@ mod directory;
 mod generate;
 mod init;
 mod line;
+mod mending;
 mod message;
+mod migrating;
 mod opening;
 mod outgoing;
+mod owners;
 mod query;
 mod reading;
 mod received;
+mod returning;
 mod room;
 mod run;
 mod samples;

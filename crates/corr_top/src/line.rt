@@ -3,7 +3,7 @@
 ghost use Rattle.std.specs.Prelude.{◌≡◌, ◌≤◌, ◌++◌, [], OnOk, OnErr, IfOk, codes};
 ghost use Rattle.corr_ids.specs.Day.{InCentury, yymmdd_of};
 ghost use Rattle.corr_money.specs.Amounts.{signed_text, most_decimals};
-ghost use Rattle.corr_top.specs.Status.{HasLine, status_line_of, name_text, spaced_number, status_text, why_text};
+ghost use Rattle.corr_top.specs.Status.{HasLine, status_line_of, name_text, spaced_number, spaced_signed, status_text, why_text};
 
 use crate::status::Status;
 use corr_ids::{Day, put_yymmdd};
@@ -18,6 +18,16 @@ fn put_number(alloc: Global, n: u64, out: &mut Text) -> Result<(), Memory>
 {
     out.push(b" ")?;
     put_digits(alloc, n, 1, out)
+}
+
+#[tactic(auto, unfolding(crate::specs::Status::spaced_signed))]
+fn put_balance(alloc: Global, v: i64, out: &mut Text) -> Result<(), Memory>
+    ensures { OnOk result (out.new ≡ out.old ++ spaced_signed v) }
+{
+    let sign: &[u8] = if v < 0 { b"-" } else { b"" };
+    out.push(b" ")?;
+    out.push(sign)?;
+    put_digits(alloc, v.unsigned_abs(), 1, out)
 }
 
 fn table_name(table: TableName) -> &'static [u8]
@@ -122,6 +132,9 @@ fn put_status(alloc: Global, s: &Status, out: &mut Text) -> Result<(), Memory>
             out,
         ),
         Status::DiskFault { before, after } => put_two(alloc, b"disk fault", *before, *after, out),
+        Status::SecondDiskFault { before, after } => {
+            put_two(alloc, b"second disk fault", *before, *after, out)
+        }
         Status::NotAJournal => out.push(b"not a journal"),
         Status::Damaged { at } => put_one(alloc, b"damaged", *at, out),
         Status::Unbalanced { ccy, decimals, sum } => {
@@ -140,6 +153,14 @@ fn put_status(alloc: Global, s: &Status, out: &mut Text) -> Result<(), Memory>
             put_number(alloc, *need, out)
         }
         Status::Version { found } => put_one(alloc, b"version", *found as u64, out),
+        Status::Unknown => out.push(b"unknown account"),
+        Status::NoSecond => out.push(b"no second disk"),
+        Status::NoPayment { entries } => put_one(alloc, b"no payment", *entries as u64, out),
+        Status::Returned { place } => put_one(alloc, b"returned", *place as u64, out),
+        Status::Unfunded { leg, balance } => {
+            put_one(alloc, b"unfunded", *leg as u64, out)?;
+            put_balance(alloc, *balance, out)
+        }
     }
 }
 

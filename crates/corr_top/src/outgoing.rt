@@ -36,6 +36,15 @@ pub fn push_parted(messages: &[Text], out: &mut Text) -> Result<(), Memory>
     Ok(())
 }
 
+/// Messages, each followed by `$`.
+pub fn parted(alloc: Global, messages: &[Text]) -> Result<Text, Memory>
+    ensures { IfOk result (λ text. text ≡ parted_all messages.now) }
+{
+    let mut out = Text::from_bytes(alloc, b"")?;
+    push_parted(messages, &mut out)?;
+    Ok(out)
+}
+
 /// Appends the outgoing messages of the entry at a place, each followed by `$`.
 fn push_orders(
     alloc: Global,

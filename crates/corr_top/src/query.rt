@@ -1,4 +1,5 @@
-//! The commands that read the journal and print what it says: `send`, `bookings` and `statements`.
+//! The commands that read the journal and print what it says: `send`, `bookings`, `statements`, `customer-statements` and
+//! `balances`.
 
 ghost use Rattle.std.specs.Prelude.{◌≡◌, IfOk, OnOk};
 ghost use Rattle.corr_top.specs.Commands.{IsSpelled, meaning_of};
@@ -20,6 +21,7 @@ use corr_io::{Sink, Source};
 use corr_report::bookings;
 use corr_text::{Memory, Text};
 use day_model::{Accounts, History};
+use desk_rows::balances;
 use std::alloc::Global;
 
 /// What a query prints of accounts and their history.
@@ -39,9 +41,13 @@ fn printed(alloc: Global, asked: Query, a: &Accounts, h: &History) -> Result<Tex
             report: bookings(alloc, a, h)?,
             out: Text::from_bytes(alloc, b"")?,
         }),
-        Query::Statements { day } => Ok(Texts {
+        Query::Statements { owners, day } => Ok(Texts {
             report: Text::from_bytes(alloc, b"")?,
-            out: statements(alloc, a, h, day)?,
+            out: statements(alloc, owners, a, h, day)?,
+        }),
+        Query::Balances { until } => Ok(Texts {
+            report: balances(alloc, a, h, until)?,
+            out: Text::from_bytes(alloc, b"")?,
         }),
     }
 }

@@ -13,14 +13,15 @@ pub struct Tables<S> {
     pub charges: S,
 }
 
-/// What a command is handed: the table files, the message file, the file of received statements, the sink of its report,
-/// that of the messages that leave, the disk of the journal, and a second disk. The second disk is handed back as it is: no
-/// command uses it yet.
+/// What a command is handed: the table files, the message file, the file of received statements, that of the messages that left,
+/// the sink of its report, that of the messages that leave, the disk of the journal, and a second disk, to which `migrate` alone
+/// carries a journal over.
 #[derive(Drop)]
 pub struct Room<S, K, D> {
     pub tables: Tables<S>,
     pub messages: S,
     pub received: S,
+    pub sent: S,
     pub report: K,
     pub out: K,
     pub disk: D,

@@ -119,7 +119,7 @@ fn texts_of<D: Disk + Drop>(
 }
 
 /// The disk of books that were closed.
-fn into_disk<D: Disk>(closed: Closed<D>) -> D
+pub fn into_disk<D: Disk>(closed: Closed<D>) -> D
     ensures { result ≡ closed.disk }
 {
     closed.disk

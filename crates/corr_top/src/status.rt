@@ -15,7 +15,8 @@ pub enum Status {
     Done,
     /// The words are no command.
     Usage,
-    /// A table file fails a test: its first row that does, from 1, or 0 for the whole file, and why.
+    /// A table file fails a test: its first row that does, from 1, or 0 for the whole file, and why. Of a change of accounts the
+    /// table is that of accounts: row 1 is refused of an account that is opened, and of limits the number of their account.
     Table {
         table: TableName,
         row: u32,
@@ -33,6 +34,11 @@ pub enum Status {
     },
     /// A call of the journal's disk failed: its count of faults before this call and after it.
     DiskFault {
+        before: u64,
+        after: u64,
+    },
+    /// A call of the second disk failed: its count of faults before this call and after it.
+    SecondDiskFault {
         before: u64,
         after: u64,
     },
@@ -59,7 +65,8 @@ pub enum Status {
         last: Day,
     },
     /// The message file, or in `reconcile` that of received statements, passes 67,108,864 bytes or 50,000 messages: how many
-    /// bytes there are up to and with the first that passes a limit, and how many messages begin in them.
+    /// bytes there are up to and with the first that passes a limit, and how many messages begin in them. Or in `mend` the file of
+    /// messages that leave passes 1,073,741,824 bytes, of which no message is counted: 0.
     TooLarge {
         bytes: u64,
         messages: u32,
@@ -69,7 +76,8 @@ pub enum Status {
         at: u64,
     },
     /// A pay found no room in the journal, the first such in the order of the messages: how many entries there were, the place of
-    /// the closed gate, in bytes from 0, and how many bytes the pay needed from there on.
+    /// the closed gate, in bytes from 0, and how many bytes the pay needed from there on. A change of accounts tells the same of
+    /// itself; a journal that is carried over and would be too long, 0 and its whole length.
     Full {
         entries: u32,
         end: u64,
@@ -78,6 +86,23 @@ pub enum Status {
     /// The disk holds a journal of another version, which is told: no command reads it.
     Version {
         found: u8,
+    },
+    /// No account has the id whose limits are to change.
+    Unknown,
+    /// There is no second disk.
+    NoSecond,
+    /// At the place stands no payment that may be taken back: the journal has so many entries.
+    NoPayment {
+        entries: u32,
+    },
+    /// The reference of the return is entered, at this place.
+    Returned {
+        place: u32,
+    },
+    /// The account of this leg of the return, from 1, can't take it, and has this balance in minor units.
+    Unfunded {
+        leg: u8,
+        balance: i64,
     },
 }
 
@@ -93,6 +118,7 @@ impl Status {
             Status::ReadFault { .. } => 3,
             Status::WriteFault { .. } => 4,
             Status::DiskFault { .. } => 5,
+            Status::SecondDiskFault { .. } => 5,
             Status::NotAJournal => 6,
             Status::Damaged { .. } => 6,
             Status::Unbalanced { .. } => 6,
@@ -103,6 +129,11 @@ impl Status {
             Status::Framing { .. } => 10,
             Status::Full { .. } => 11,
             Status::Version { .. } => 12,
+            Status::Unknown => 13,
+            Status::NoSecond => 14,
+            Status::NoPayment { .. } => 15,
+            Status::Returned { .. } => 16,
+            Status::Unfunded { .. } => 17,
         }
     }
 }

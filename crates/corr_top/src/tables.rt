@@ -11,7 +11,7 @@ ghost use Rattle.ref_tables.specs.Tables.{bank_in_row, bics_fault, ccy_of, ccys_
 ghost use Rattle.ref_tables.specs.declared.fault.TableName.TheVariants as names;
 ghost use Rattle.ssi_versions.specs.InstructionList.{AreInstructions};
 ghost use Rattle.ssi_versions.specs.Rows.{instruction_of, ssi_fault};
-ghost use Rattle.corr_top.specs.Tables.{HasKnown, StopsKnown};
+ghost use Rattle.corr_top.specs.Tables.{HasKnown, HasLent, StopsKnown, StopsLent};
 ghost use Rattle.corr_top.specs.Passing.{Bad, IsFine, StopsAtTable};
 ghost use Rattle.corr_top.specs.Reading.{Took};
 
@@ -134,6 +134,16 @@ fn read_countries<S: Source>(
 {
     let file = read_table(alloc, source)?;
     Ok(with_countries(alloc, known, file.bytes())?)
+}
+
+/// What the tables of banks and currencies say, the first read and tested before the second, with no countries; or why the first
+/// that fails wasn't taken.
+pub fn read_lent<S: Source>(alloc: Global, files: &mut Tables<S>) -> Result<RefTables, TableStop>
+    ensures fine { IfOk result (HasLent S.Source files.old files.new) }
+    ensures stopped { IfErr result (StopsLent S.Source files.old files.new) }
+{
+    let banks = read_bics(alloc, &mut files.bics)?;
+    read_ccys(alloc, banks, &mut files.ccys)
 }
 
 /// What the tables of banks, currencies and countries say, each read and tested before the next; or why the first that fails

@@ -1,31 +1,38 @@
 //! The words of a command.
 
-ghost use Rattle.std.specs.Prelude.{◌≡◌, ◌≤◌, IfSome};
+ghost use Rattle.std.specs.Prelude.{◌≡◌, ◌<◌, ◌≤◌, ◌∷◌, ◌^◌, [], IfSome, Some, pos};
 ghost use Rattle.std.specs.Option.{option_map};
 ghost use Rattle.std.specs.Str.{bytes_eq};
 ghost use Rattle.corr_report.specs.Generated.{most_generated};
 ghost use Rattle.day_model.specs.Log.{most_entries};
+ghost use Rattle.ref_tables.specs.Columns.{magnitude_of, signed_of};
 ghost use Rattle.work_pool.specs.Served.{most_workers};
-ghost use Rattle.corr_top.specs.Commands.{IsSpelled, command_of, count_of, generate_of, init_of, two_places, run_command, send_of, statements_of, trial_of, workers_of};
+ghost use Rattle.corr_top.specs.Commands.{IsSpelled, balances_of, command_of, count_of, generate_of, init_of, limits_of, mend_of, two_places, run_command, send_of, statements_of, trial_of, workers_of, place_of, return_command};
+ghost use Rattle.corr_top.specs.declared.account_words.AccountChange.TheVariants.{Open};
 ghost use Rattle.corr_top.specs.declared.words.Command.TheVariants.{Plain as CommandPlain};
+ghost use Rattle.corr_top.specs.declared.words.Plain.TheVariants.{Change as PlainChange};
 
+use crate::account_words::{AccountChange, AccountWords, Ends, Word};
+use crate::owners::Owners;
 use corr_ids::{Bic, Day, day_from_yymmdd, read_bic};
 use corr_text::{Text, digits};
 
 /// What the words say.
-#[derive(Clone, Copy)]
-pub enum Command {
+#[derive(Drop)]
+pub enum Command<'a> {
     /// `run DATE WORKERS`: answers the messages of the message file on a day, with so many workers.
     Run { day: Day, workers: u32 },
+    /// `return PLACE DATE`: takes the payment at a place back, on a day.
+    Return { place: u32, day: Day },
     /// `trial COUNT SEED WORKERS`: runs a generated day over a journal in memory, with so many workers.
     Trial { count: u32, seed: u64, workers: u32 },
     /// A command that waits for nobody.
-    Plain(Plain),
+    Plain(Plain<'a>),
 }
 
 /// The commands that wait for nobody.
-#[derive(Clone, Copy)]
-pub enum Plain {
+#[derive(Drop)]
+pub enum Plain<'a> {
     /// `init HOME`: makes the journal of a home bank.
     Init { home: Bic },
     /// A command that reads the journal and prints.
@@ -34,6 +41,12 @@ pub enum Plain {
     Reconcile,
     /// `generate COUNT SEED`: a day of messages, made from a number.
     Generate { count: u32, seed: u64 },
+    /// `mend FROM UNTIL`: what the file of messages that leave should hold, with those of the entries between two places.
+    Mend { from: u32, until: u32 },
+    /// `open-account` and `set-limits`: the accounts of the journal change.
+    Change(AccountChange<'a>),
+    /// `migrate`: a journal of version 1 is carried over to the second disk.
+    Migrate,
 }
 
 /// The commands that read the journal and print what it says.
@@ -43,8 +56,10 @@ pub enum Query {
     Send { from: u32, until: u32 },
     /// `bookings`: a line for each entry.
     Bookings,
-    /// `statements DATE`: what the owners of the vostro accounts are sent of a day.
-    Statements { day: Day },
+    /// `statements DATE`: what the owners of the vostro accounts are sent of a day. `customer-statements DATE`: what the customers are.
+    Statements { owners: Owners, day: Day },
+    /// `balances` and `balances DATE`: the accounts and their balances, after all entries or after those up to a day.
+    Balances { until: Option<Day> },
 }
 
 /// The last place of a journal that is full.
@@ -77,7 +92,7 @@ fn places(from: &[u8], until: &[u8]) -> Option<(u32, u32)>
 }
 
 /// `init HOME` with a BIC.
-fn init(home: &[u8]) -> Option<Command>
+fn init(home: &[u8]) -> Option<Command<'static>>
     ensures value { result ≡ option_map CommandPlain (init_of home.now) }
     ensures sound { IfSome result IsSpelled }
 {
@@ -86,7 +101,7 @@ fn init(home: &[u8]) -> Option<Command>
 }
 
 /// `send FROM UNTIL` with two places of a journal.
-fn send(from: &[u8], until: &[u8]) -> Option<Command>
+fn send(from: &[u8], until: &[u8]) -> Option<Command<'static>>
     ensures value { result ≡ option_map CommandPlain (send_of from.now until.now) }
     ensures sound { IfSome result IsSpelled }
 {
@@ -94,13 +109,31 @@ fn send(from: &[u8], until: &[u8]) -> Option<Command>
     Some(Command::Plain(Plain::Query(Query::Send { from, until })))
 }
 
-/// `statements DATE` with a day of the calendar.
-fn statements(date: &[u8]) -> Option<Command>
-    ensures value { result ≡ option_map CommandPlain (statements_of date.now) }
+/// `mend FROM UNTIL` with two places of a journal.
+fn mend(from: &[u8], until: &[u8]) -> Option<Command<'static>>
+    ensures value { result ≡ option_map CommandPlain (mend_of from.now until.now) }
+    ensures sound { IfSome result IsSpelled }
+{
+    let (from, until) = places(from, until)?;
+    Some(Command::Plain(Plain::Mend { from, until }))
+}
+
+/// `statements DATE` and `customer-statements DATE` with a day of the calendar.
+fn statements(owners: Owners, date: &[u8]) -> Option<Command<'static>>
+    ensures value { result ≡ option_map CommandPlain (statements_of owners date.now) }
     ensures sound { IfSome result IsSpelled }
 {
     let day = day_from_yymmdd(date)?;
-    Some(Command::Plain(Plain::Query(Query::Statements { day })))
+    Some(Command::Plain(Plain::Query(Query::Statements { owners, day })))
+}
+
+/// `balances DATE` with a day of the calendar.
+fn balances(date: &[u8]) -> Option<Command<'static>>
+    ensures value { result ≡ option_map CommandPlain (balances_of date.now) }
+    ensures sound { IfSome result IsSpelled }
+{
+    let until = Some(day_from_yymmdd(date)?);
+    Some(Command::Plain(Plain::Query(Query::Balances { until })))
 }
 
 /// A number of workers: 1 to 16.
@@ -116,13 +149,35 @@ fn read_workers(b: &[u8]) -> Option<u32>
 }
 
 /// `run DATE WORKERS` with a day of the calendar.
-fn run(date: &[u8], number: &[u8]) -> Option<Command>
+fn run(date: &[u8], number: &[u8]) -> Option<Command<'static>>
     ensures value { result ≡ run_command date.now number.now }
     ensures sound { IfSome result IsSpelled }
 {
     let day = day_from_yymmdd(date)?;
     let workers = read_workers(number)?;
     Some(Command::Run { day, workers })
+}
+
+/// A place of a journal: 1 to 100,000.
+fn read_place(b: &[u8]) -> Option<u32>
+    ensures value { result ≡ place_of b.now }
+    ensures sound { IfSome result (λ n. (1 ≤ n) × (n ≤ most_entries)) }
+{
+    let number = digits(b)?;
+    if number < 1 || number > LAST_PLACE {
+        return None;
+    }
+    Some(number as u32)
+}
+
+/// `return PLACE DATE` with a place of a journal and a day of the calendar.
+fn return_payment(place: &[u8], date: &[u8]) -> Option<Command<'static>>
+    ensures value { result ≡ return_command place.now date.now }
+    ensures sound { IfSome result IsSpelled }
+{
+    let place = read_place(place)?;
+    let day = day_from_yymmdd(date)?;
+    Some(Command::Return { place, day })
 }
 
 /// A number of messages of a generated day: 1 to 50,000.
@@ -138,7 +193,7 @@ fn read_count(b: &[u8]) -> Option<u32>
 }
 
 /// `generate COUNT SEED` with a number of messages and any number.
-fn generate(messages: &[u8], seed: &[u8]) -> Option<Command>
+fn generate(messages: &[u8], seed: &[u8]) -> Option<Command<'static>>
     ensures value { result ≡ option_map CommandPlain (generate_of messages.now seed.now) }
     ensures sound { IfSome result IsSpelled }
 {
@@ -148,7 +203,7 @@ fn generate(messages: &[u8], seed: &[u8]) -> Option<Command>
 }
 
 /// `trial COUNT SEED WORKERS` with these and a number of workers.
-fn trial(messages: &[u8], seed: &[u8], number: &[u8]) -> Option<Command>
+fn trial(messages: &[u8], seed: &[u8], number: &[u8]) -> Option<Command<'static>>
     ensures value { result ≡ trial_of messages.now seed.now number.now }
     ensures sound { IfSome result IsSpelled }
 {
@@ -162,25 +217,160 @@ fn trial(messages: &[u8], seed: &[u8], number: &[u8]) -> Option<Command>
     })
 }
 
+/// The number that 1 to 15 digits write.
+fn magnitude(b: &[u8]) -> Option<u64>
+    ensures value { result ≡ magnitude_of b.now }
+    ensures short { IfSome result (λ n. n < 10 ^ 15) }
+{
+    if b.len() > 15 {
+        return None;
+    }
+    digits(b)
+}
+
+fn unsigned(b: &[u8]) -> Option<i64>
+    ensures { result ≡ option_map pos (magnitude_of b.now) }
+{
+    let n = magnitude(b)?;
+    Some(n as i64)
+}
+
+/// A signed number: a minus sign or none, then 1 to 15 digits.
+fn signed(b: &[u8]) -> Option<i64>
+    ensures { result ≡ signed_of b.now }
+{
+    match b {
+        [b'-', rest @ ..] => Some(-unsigned(rest)?),
+        _ => unsigned(b),
+    }
+}
+
+/// `open-account ID KIND OWNER CCY FLOOR CEIL` with any words: they are tested with the journal's accounts.
+fn open_account<'a>(
+    id: &'a [u8],
+    kind: &'a [u8],
+    owner: &'a [u8],
+    ccy: &'a [u8],
+    floor: &'a [u8],
+    ceil: &'a [u8],
+) -> Option<Command<'a>>
+    ensures value { result ≡ Some (CommandPlain (PlainChange (Open (record { id = id.now; kind = kind.now; owner = owner.now; ccy = ccy.now; floor = floor.now; ceil = ceil.now })))) }
+    ensures sound { IfSome result IsSpelled }
+{
+    let words = AccountWords {
+        id: Word::of(id),
+        kind: Word::of(kind),
+        owner: Word::of(owner),
+        ccy: Word::of(ccy),
+        floor: Word::of(floor),
+        ceil: Word::of(ceil),
+    };
+    Some(Command::Plain(Plain::Change(AccountChange::Open(words))))
+}
+
+/// `set-limits ID FLOOR CEIL` with any word and two signed numbers.
+fn set_limits<'a>(id: &'a [u8], floor: &[u8], ceil: &[u8]) -> Option<Command<'a>>
+    ensures value { result ≡ option_map CommandPlain (limits_of id.now floor.now ceil.now) }
+    ensures sound { IfSome result IsSpelled }
+{
+    let floor = signed(floor)?;
+    let ceil = signed(ceil)?;
+    let id = Word::of(id);
+    let ends = Ends { floor, ceil };
+    Some(Command::Plain(Plain::Change(AccountChange::Limit { id, ends })))
+}
+
+/// A command of one word.
+fn alone(word: &[u8]) -> Option<Command<'static>>
+    ensures value { result ≡ command_of (word.now ∷ []) }
+    ensures sound { IfSome result IsSpelled }
+{
+    if is_word(word, b"bookings") {
+        Some(Command::Plain(Plain::Query(Query::Bookings)))
+    } else if is_word(word, b"balances") {
+        Some(Command::Plain(Plain::Query(Query::Balances { until: None })))
+    } else if is_word(word, b"reconcile") {
+        Some(Command::Plain(Plain::Reconcile))
+    } else if is_word(word, b"migrate") {
+        Some(Command::Plain(Plain::Migrate))
+    } else {
+        None
+    }
+}
+
+/// A command of a word and one more.
+fn with_one(word: &[u8], one: &[u8]) -> Option<Command<'static>>
+    ensures value { result ≡ command_of (word.now ∷ one.now ∷ []) }
+    ensures sound { IfSome result IsSpelled }
+{
+    if is_word(word, b"init") {
+        init(one)
+    } else if is_word(word, b"statements") {
+        statements(Owners::Banks, one)
+    } else if is_word(word, b"customer-statements") {
+        statements(Owners::Customers, one)
+    } else if is_word(word, b"balances") {
+        balances(one)
+    } else {
+        None
+    }
+}
+
+/// A command of a word and two more.
+fn with_two(word: &[u8], one: &[u8], two: &[u8]) -> Option<Command<'static>>
+    ensures value { result ≡ command_of (word.now ∷ one.now ∷ two.now ∷ []) }
+    ensures sound { IfSome result IsSpelled }
+{
+    if is_word(word, b"send") {
+        send(one, two)
+    } else if is_word(word, b"run") {
+        run(one, two)
+    } else if is_word(word, b"generate") {
+        generate(one, two)
+    } else if is_word(word, b"mend") {
+        mend(one, two)
+    } else if is_word(word, b"return") {
+        return_payment(one, two)
+    } else {
+        None
+    }
+}
+
+/// A command of a word and three more.
+fn with_three<'a>(word: &[u8], one: &'a [u8], two: &[u8], three: &[u8]) -> Option<Command<'a>>
+    ensures value { result ≡ command_of (word.now ∷ one.now ∷ two.now ∷ three.now ∷ []) }
+    ensures sound { IfSome result IsSpelled }
+{
+    if is_word(word, b"trial") {
+        trial(one, two, three)
+    } else if is_word(word, b"set-limits") {
+        set_limits(one, two, three)
+    } else {
+        None
+    }
+}
+
 /// The command that the words spell, none where they are no command.
-pub fn spelled(words: &[Text]) -> Option<Command>
+pub fn spelled(words: &[Text]) -> Option<Command<'_>>
     ensures value { result ≡ command_of words.now }
     ensures sound { IfSome result IsSpelled }
 {
     match words {
-        [word] if is_word(word.bytes(), b"bookings") => {
-            Some(Command::Plain(Plain::Query(Query::Bookings)))
+        [word] => alone(word.bytes()),
+        [word, one] => with_one(word.bytes(), one.bytes()),
+        [word, one, two] => with_two(word.bytes(), one.bytes(), two.bytes()),
+        [word, one, two, three] => {
+            with_three(word.bytes(), one.bytes(), two.bytes(), three.bytes())
         }
-        [word] if is_word(word.bytes(), b"reconcile") => Some(Command::Plain(Plain::Reconcile)),
-        [word, home] if is_word(word.bytes(), b"init") => init(home.bytes()),
-        [word, date] if is_word(word.bytes(), b"statements") => statements(date.bytes()),
-        [word, from, until] if is_word(word.bytes(), b"send") => send(from.bytes(), until.bytes()),
-        [word, date, number] if is_word(word.bytes(), b"run") => run(date.bytes(), number.bytes()),
-        [word, messages, seed] if is_word(word.bytes(), b"generate") => {
-            generate(messages.bytes(), seed.bytes())
-        }
-        [word, messages, seed, number] if is_word(word.bytes(), b"trial") => {
-            trial(messages.bytes(), seed.bytes(), number.bytes())
+        [word, id, kind, owner, ccy, floor, ceil] if is_word(word.bytes(), b"open-account") => {
+            open_account(
+                id.bytes(),
+                kind.bytes(),
+                owner.bytes(),
+                ccy.bytes(),
+                floor.bytes(),
+                ceil.bytes(),
+            )
         }
         _ => None,
     }

@@ -94,6 +94,19 @@ module _ {S K D : Type 0} (source : sources.Ghosts S) (sink : sinks.Ghosts K) (d
     ]
   ]
 
+  -- where there is nothing to write, nothing was
+  pub quiet : (m : Meaning) (ended : Ends source disk m old new sink s) → m.report ended.inputs ≡ [] → m.out ended.inputs ≡ [] → (new.report ≡ old.report) × (new.out ≡ old.out)
+  quiet m ended no_report no_out = elim ended.ends [
+    | inl done ↦ (done.report.none no_report, done.out.none no_out)
+    | inr other ↦ elim other [
+      | inl writing ↦ elim writing.failed [
+        | inl first ↦ absurd (first.0.some no_report)
+        | inr second ↦ absurd (second.1.some no_out)
+      ]
+      | inr stop ↦ (stop.report, stop.out)
+    ]
+  ]
+
   -- what a query wrote is said of the books that the disk had
   pub query_promise : (asked : Asked) (chart : Chart) (books : List Entry) → Ends source disk (meaning_of (Plain (Query asked))) old new sink s → Keeps disk old.disk chart books → writes s ≡ true
       → Wrote sink old new s (query_report asked chart books) (query_out asked chart books) × QuerySends asked chart books

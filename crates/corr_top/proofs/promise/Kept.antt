@@ -1,4 +1,4 @@
--- The books on a disk stay, whatever the command, but `run`.
+-- The books on a disk stay, whatever the command, but `run`, `return` and changes of accounts.
 use Rattle.std.proofs.Common.{◌≡◌, ℕ, List, true, false, inl, inr, refl, sym}
 use mathlib.Core.Bool.{true≢false}
 use Rattle.corr_disk.specs.declared.disk.Disk as disks
@@ -17,11 +17,12 @@ use Rattle.corr_top.specs.Meaning.{Meaning}
 use Rattle.corr_top.specs.OnDisk.{IsMakeable, IsUnwritten}
 use Rattle.corr_top.specs.Passing.{Passes}
 use Rattle.corr_top.specs.Steps.{Step}
+use Rattle.corr_top.specs.declared.account_words.AccountChange.{AccountChange}
 use Rattle.corr_top.specs.declared.room.Room.{Room}
 use Rattle.corr_top.specs.declared.status.Status.{Status}
 use Rattle.corr_top.specs.declared.words.Command.{Command}
-use Rattle.corr_top.specs.declared.words.Command.TheVariants.{Run, Trial, Plain}
-use Rattle.corr_top.specs.declared.words.Plain.TheVariants.{Generate, Init, Query, Reconcile}
+use Rattle.corr_top.specs.declared.words.Command.TheVariants.{Run, Trial, Plain, Return}
+use Rattle.corr_top.specs.declared.words.Plain.TheVariants.{Change, Generate, Init, Mend, Migrate, Query, Reconcile}
 use Rattle.corr_top.specs.Promise.{Keeps}
 use Rattle.corr_top.proofs.Journals.{same_unwritten}
 use Rattle.corr_top.proofs.Walking.{is_named, named_has}
@@ -34,12 +35,12 @@ module _ {S K D : Type 0} (source : sources.Ghosts S) (sink : sinks.Ghosts K) (d
   by_unwritten : IsUnwritten disk old.disk new.disk → KeepsAll disk old.disk new.disk chart books
   by_unwritten unwritten = unwritten_keeps disk old.disk new.disk chart books honest unwritten kept
 
-  -- a command that neither makes a journal nor enters pays, and writes nothing where it comes to its end
+  -- a command that neither makes a journal, nor enters pays or a return, nor changes accounts, and writes nothing where it comes to its end
   reads_only : (m : Meaning) (ended : Ends source disk m old new sink s) → (HasPassed source disk m old new ended.inputs → IsUnwritten disk old.disk new.disk)
-      → are_told m.steps ≡ true → is_named Step.make m.steps ≡ false → is_named Step.book m.steps ≡ false → KeepsAll disk old.disk new.disk chart books
-  reads_only m ended at_end told no_make no_book = by_unwritten (elim (came source sink disk old new s m ended) [
+      → are_told m.steps ≡ true → is_named Step.make m.steps ≡ false → is_named Step.book m.steps ≡ false → is_named Step.change m.steps ≡ false → is_named Step.book_return m.steps ≡ false → KeepsAll disk old.disk new.disk chart books
+  reads_only m ended at_end told no_make no_book no_change no_return = by_unwritten (elim (came source sink disk old new s m ended) [
     | inl passed ↦ at_end passed
-    | inr halted ↦ stops_unwritten source disk old new ended.inputs s only m.steps told no_make no_book halted.halts
+    | inr halted ↦ stops_unwritten source disk old new ended.inputs s only m.steps told no_make no_book no_change no_return halted.halts
   ])
 
   -- no journal may be made over these books
@@ -57,7 +58,10 @@ module _ {S K D : Type 0} (source : sources.Ghosts S) (sink : sinks.Ghosts K) (d
         | inl make ↦
             let other = stands_other (disk.reads old.disk) (head_bytes chart) (item_records chart books) kept.reads in
             by_unwritten (make.stops.2.untouched other.0 kept.told other.1)
-        | inr book ↦ absurd (true≢false (sym book.named))
+        | inr written ↦ elim written [
+          | inl book ↦ absurd (true≢false (sym book.named))
+          | inr later ↦ elim later [ inl change ↦ absurd (true≢false (sym change.named)) | inr back ↦ absurd (true≢false (sym back.named)) ]
+        ]
       ]
     ]
   ]
@@ -65,11 +69,16 @@ module _ {S K D : Type 0} (source : sources.Ghosts S) (sink : sinks.Ghosts K) (d
   same_disk : new.disk ≡ old.disk → IsUnwritten disk old.disk new.disk
   same_disk same = same_unwritten disk only old.disk new.disk same
 
-  pub all_keep : (command : Command) → Ends source disk (meaning_of command) old new sink s → ((day : Day) (n : ℕ) → command ≡ Run day n → ⊥) → KeepsAll disk old.disk new.disk chart books
+  pub all_keep : (command : Command) → Ends source disk (meaning_of command) old new sink s → ((day : Day) (n : ℕ) → command ≡ Run day n → ⊥)
+      → ((change : AccountChange) → command ≡ Plain (Change change) → ⊥) → ((place : ℕ) (day : Day) → command ≡ Return place day → ⊥) → KeepsAll disk old.disk new.disk chart books
   unfolding meaning_of
-  all_keep (Run day workers) ended no_run = absurd (no_run day workers refl)
-  all_keep (Trial count seed workers) ended no_run = reads_only (meaning_of (Trial count seed workers)) ended (λ passed. same_disk passed.leaves) refl refl refl
-  all_keep (Plain (Init home)) ended no_run = init_keeps home ended
-  all_keep (Plain (Query asked)) ended no_run = reads_only (meaning_of (Plain (Query asked))) ended (λ passed. passed.leaves.unwritten) refl refl refl
-  all_keep (Plain Reconcile) ended no_run = reads_only (meaning_of (Plain Reconcile)) ended (λ passed. passed.leaves.unwritten) refl refl refl
-  all_keep (Plain (Generate count seed)) ended no_run = reads_only (meaning_of (Plain (Generate count seed))) ended (λ passed. same_disk passed.leaves) refl refl refl
+  all_keep (Run day workers) ended no_run no_change no_return = absurd (no_run day workers refl)
+  all_keep (Return place day) ended no_run no_change no_return = absurd (no_return place day refl)
+  all_keep (Trial count seed workers) ended no_run no_change no_return = reads_only (meaning_of (Trial count seed workers)) ended (λ passed. same_disk passed.leaves) refl refl refl refl refl
+  all_keep (Plain (Init home)) ended no_run no_change no_return = init_keeps home ended
+  all_keep (Plain (Query asked)) ended no_run no_change no_return = reads_only (meaning_of (Plain (Query asked))) ended (λ passed. passed.leaves.unwritten) refl refl refl refl refl
+  all_keep (Plain Reconcile) ended no_run no_change no_return = reads_only (meaning_of (Plain Reconcile)) ended (λ passed. passed.leaves.unwritten) refl refl refl refl refl
+  all_keep (Plain (Generate count seed)) ended no_run no_change no_return = reads_only (meaning_of (Plain (Generate count seed))) ended (λ passed. same_disk passed.leaves) refl refl refl refl refl
+  all_keep (Plain (Change change)) ended no_run no_change no_return = absurd (no_change change refl)
+  all_keep (Plain (Mend from until)) ended no_run no_change no_return = reads_only (meaning_of (Plain (Mend from until))) ended (λ passed. passed.leaves.unwritten) refl refl refl refl refl
+  all_keep (Plain Migrate) ended no_run no_change no_return = reads_only (meaning_of (Plain Migrate)) ended (λ passed. passed.leaves.unwritten) refl refl refl refl refl

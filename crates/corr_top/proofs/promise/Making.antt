@@ -45,7 +45,10 @@ module _ {S K D : Type 0} (source : sources.Ghosts S) (sink : sinks.Ghosts K) (d
           | inl unwritten ↦ inl (subst IsUnmade (sym (only image (unwritten.any_moment.each image left))) unmade)
           | inr at ↦ elim at [
             | inl make ↦ subst P (chart make.ahead) ((make.stops.2.any_moment sure only unmade).each image left)
-            | inr book ↦ absurd (true≢false (sym book.named))
+            | inr written ↦ elim written [
+              | inl book ↦ absurd (true≢false (sym book.named))
+              | inr later ↦ elim later [ inl change ↦ absurd (true≢false (sym change.named)) | inr back ↦ absurd (true≢false (sym back.named)) ]
+            ]
           ]
         ]
       ]

@@ -50,11 +50,11 @@ use Rattle.corr_top.proofs.promise.Lists.{contains_get, filter_map_all, get_cont
 use Rattle.corr_top.proofs.promise.Untouched.{KeepsAll, OnlyNow, stops_somewhere, unwritten_keeps}
 
 -- a list is a front of itself
-whole_front : (books : List Entry) → IsPrefix books books
+pub whole_front : (books : List Entry) → IsPrefix books books
 whole_front books = ([], append-nil books)
 
 -- a journal that stands alone on a disk that tells its bytes
-keeps_on : {D : Type 0} (disk : disks.Ghosts D) (d : D) (chart : Chart) (books : List Entry) → IsTrue (disk.honest d) → IsJournal chart books → IsOnDisk disk d chart books → Keeps disk d chart books
+pub keeps_on : {D : Type 0} (disk : disks.Ghosts D) (d : D) (chart : Chart) (books : List Entry) → IsTrue (disk.honest d) → IsJournal chart books → IsOnDisk disk d chart books → Keeps disk d chart books
 keeps_on disk d chart books told journal on = record {
   told = told;
   sound = sound_books chart books journal;
@@ -221,7 +221,10 @@ module _ {S K D : Type 0} (source : sources.Ghosts S) (sink : sinks.Ghosts K) (d
           | inl unwritten ↦ entered_none source sink disk old new s i j (unwritten_keeps disk old.disk new.disk i.chart i.history honest unwritten kept) halted.silent
           | inr at ↦ elim at [
             | inl make ↦ absurd (true≢false (sym make.named))
-            | inr book ↦ entered_some source sink disk old new s i j (reach book.ahead) kept sure book.stops.2 halted.silent
+            | inr written ↦ elim written [
+              | inl book ↦ entered_some source sink disk old new s i j (reach book.ahead) kept sure book.stops.2 halted.silent
+              | inr later ↦ elim later [ inl change ↦ absurd (true≢false (sym change.named)) | inr back ↦ absurd (true≢false (sym back.named)) ]
+            ]
           ]
         ]
       ]

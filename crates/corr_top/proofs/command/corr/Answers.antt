@@ -1,6 +1,6 @@
 use Rattle.std.proofs.Common.{◌≡◌, IfSome, ap, rules}
 use Rattle.corr_top.specs.declared.words.Command.{Command}
-use Rattle.corr_top.specs.declared.words.Command.TheVariants.{Plain, Run, Trial}
+use Rattle.corr_top.specs.declared.words.Command.TheVariants.{Plain, Return, Run, Trial}
 use Rattle.corr_top.specs.Commands.{command_of, meaning_of}
 use Rattle.corr_top.specs.Ends.{Ends}
 use Rattle.corr_top.proofs.Completing.{complete_if}
@@ -81,3 +81,27 @@ returns-in-Some-Trial-clause-promises g c =
     let ends : IfSome (command_of c.args.words.now) (λ command. Ends g.S.Source g.D.Disk (meaning_of command) c.args.room c.end-in-Some-Trial.result.room g.K.Sink c.end-in-Some-Trial.result.status) = search (done, rules) in
     promised_if g.S.Source g.K.Sink g.D.Disk (λ (command : Command). command) (command_of c.args.words.now) c.args.room c.end-in-Some-Trial.result.room c.end-in-Some-Trial.result.status
     (g.met.D.Disk g.world.𝓛 g.world.𝓜 g.world.𝓡 ((λ s x. x), (λ x. x), (λ x. x), λ x. x)).only_now (ap g.D.Disk.honest c.end-in-Some-Trial.ensures.disk) ends
+
+pub returns-in-Some-Return-clause-ends : goal.returns-in-Some-Return-clause-ends
+returns-in-Some-Return-clause-ends g c =
+    let ends = c.end-in-Some-Return.ensures.ends (Return c.in-Some-Return.place c.in-Some-Return.day) c.args.room c.take_back-room.ensures.texts in
+    search (ends, rules)
+
+pub returns-in-Some-Return-clause-complete : goal.returns-in-Some-Return-clause-complete
+returns-in-Some-Return-clause-complete g c =
+    let done = c.end-in-Some-Return.ensures.ends (Return c.in-Some-Return.place c.in-Some-Return.day) c.args.room c.take_back-room.ensures.texts in
+    let ends : IfSome (command_of c.args.words.now) (λ command. Ends g.S.Source g.D.Disk (meaning_of command) c.args.room c.end-in-Some-Return.result.room g.K.Sink c.end-in-Some-Return.result.status) = search (done, rules) in
+    complete_if g.S.Source g.D.Disk g.K.Sink (λ (command : Command). command) (command_of c.args.words.now) c.args.room c.end-in-Some-Return.result.room c.end-in-Some-Return.result.status ends
+
+pub returns-in-Some-Return-clause-line : goal.returns-in-Some-Return-clause-line
+returns-in-Some-Return-clause-line g c =
+    let command = Return c.in-Some-Return.place c.in-Some-Return.day in
+    ends_line g.S.Source g.D.Disk (meaning_of command) c.args.room c.end-in-Some-Return.result.room g.K.Sink c.end-in-Some-Return.result.status (c.end-in-Some-Return.ensures.ends command c.args.room c.take_back-room.ensures.texts)
+
+pub returns-in-Some-Return-clause-promises : goal.returns-in-Some-Return-clause-promises
+returns-in-Some-Return-clause-promises g c =
+    let done = c.end-in-Some-Return.ensures.ends (Return c.in-Some-Return.place c.in-Some-Return.day) c.args.room c.take_back-room.ensures.texts in
+    let ends : IfSome (command_of c.args.words.now) (λ command. Ends g.S.Source g.D.Disk (meaning_of command) c.args.room c.end-in-Some-Return.result.room g.K.Sink c.end-in-Some-Return.result.status) = search (done, rules) in
+    let honest : g.D.Disk.honest c.end-in-Some-Return.result.room.disk ≡ g.D.Disk.honest c.args.room.disk = search rules in
+    promised_if g.S.Source g.K.Sink g.D.Disk (λ (command : Command). command) (command_of c.args.words.now) c.args.room c.end-in-Some-Return.result.room c.end-in-Some-Return.result.status
+    (g.met.D.Disk g.world.𝓛 g.world.𝓜 g.world.𝓡 ((λ s x. x), (λ x. x), (λ x. x), λ x. x)).only_now honest ends

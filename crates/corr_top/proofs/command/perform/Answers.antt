@@ -27,3 +27,18 @@ returns-in-Generate-clause-ends g c =
     c.end-in-Generate.ensures.ends (PlainCommand c.args.command) c.args.room
     (subst (λ (command : ThePlain). HasTexts g.S.Source g.D.Disk (meaning_of (PlainCommand command)) c.args.room c.args.room c.generate.result) (sym made.is)
     (generated_texts g.S.Source g.D.Disk made.count made.seed c.args.room c.generate.result c.generate.ensures))
+
+pub returns-in-Mend-clause-ends : goal.returns-in-Mend-clause-ends
+returns-in-Mend-clause-ends g c =
+    c.end-in-Mend.ensures.ends (PlainCommand c.args.command) c.args.room
+    (subst (λ (command : ThePlain). HasTexts g.S.Source g.D.Disk (meaning_of (PlainCommand command)) c.args.room c.mend-room.result.0 c.mend-room.result.1) (sym c.in-Mend.is) c.mend-room.ensures.texts)
+
+pub returns-in-Change-clause-ends : goal.returns-in-Change-clause-ends
+returns-in-Change-clause-ends g c =
+    c.end-in-Change.ensures.ends (PlainCommand c.args.command) c.args.room
+    (subst (λ (command : ThePlain). HasTexts g.S.Source g.D.Disk (meaning_of (PlainCommand command)) c.args.room c.change-room.result.0 c.change-room.result.1) (sym c.in-Change.is) c.change-room.ensures.texts)
+
+pub returns-in-Migrate-clause-ends : goal.returns-in-Migrate-clause-ends
+returns-in-Migrate-clause-ends g c =
+    c.end-in-Migrate.ensures.ends (PlainCommand c.args.command) c.args.room
+    (subst (λ (command : ThePlain). HasTexts g.S.Source g.D.Disk (meaning_of (PlainCommand command)) c.args.room c.migrate-room.result.0 c.migrate-room.result.1) (sym c.in-Migrate.is) c.migrate-room.ensures.texts)

@@ -9,6 +9,6 @@ use Rattle.corr_top.proofs.statements.statements.Given as goal
 abbrev pub invariant-loop-n : goal.invariant-loop-n
 invariant-loop-n l = record {
   from_one : 1 ≤ l.n;
-  rest : sent_statements l.a l.h.entries l.day ≡ l.out ++ numbered (pages_sent l.a l.h.entries l.day) l.n (drop (l.n - 1) (accounts_of l.a));
-  valid : AreSoFar l.a l.h.entries l.day l.n;
+  rest : sent_statements l.owners l.a l.h.entries l.day ≡ l.out ++ numbered (pages_sent l.owners l.a l.h.entries l.day) l.n (drop (l.n - 1) (accounts_of l.a));
+  valid : AreSoFar l.owners l.a l.h.entries l.day l.n;
 }

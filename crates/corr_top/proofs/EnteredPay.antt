@@ -1,0 +1,84 @@
+-- One pay that was entered with the one pass of its books, when the books are closed.
+use Rattle.std.proofs.Common.{◌≡◌, ◌+◌, ℕ, All, List, [], ◌∷◌, ◌++◌, Result, Ok, length, length-append, map, ap, sym, subst, arith}
+use Rattle.corr_books.specs.Closing.{Closes, LeavesClosed, LeavesInTurn}
+use Rattle.corr_books.specs.Opening.{Opening, Parts, opening_with}
+use Rattle.corr_books.specs.Passes.{AreNew}
+use Rattle.corr_books.specs.Stand.{entries_of}
+use Rattle.corr_books.specs.Telling.{Told}
+use Rattle.corr_disk.specs.declared.disk.Disk as disks
+use Rattle.day_model.specs.Chart.{AreBy, Chart}
+use Rattle.day_model.specs.Shape.{HasShape}
+use Rattle.day_model.specs.declared.entry.Entry.{Entry}
+use Rattle.day_model.specs.declared.pay.Pay.{Pay}
+use Rattle.front_word.specs.Known.{PassKnows}
+use Rattle.jrn_book.specs.Answers.{Answer}
+use Rattle.jrn_book.specs.Journal.{IsJournal}
+use Rattle.work_pool.specs.Served.{AreServed}
+use Rattle.corr_top.specs.Booking.{IsEnteredOn}
+use Rattle.corr_top.specs.Message.{pays_in}
+use Rattle.corr_top.specs.Returning.{IsEntered, asks_for}
+use Rattle.corr_top.specs.Serving.{AreServedInOrder, AreTold, served_of, starting}
+use Rattle.corr_top.specs.Workers.{Worker}
+use Rattle.corr_top.specs.declared.desk.Served.{Served}
+use Rattle.corr_top.specs.declared.message.NoPay.{NoPay}
+use Rattle.corr_top.specs.declared.returning.Entered.{Entered}
+use Rattle.corr_top.proofs.OnePay.{afterwards, one_served}
+use Rattle.corr_top.proofs.Workers.{Serving, all_added, are_told, turn}
+
+-- what the job of a pay asks for
+abbrev asks : Pay → Result Pay NoPay
+asks pay = Ok pay
+
+module _ (o : Opening) (pay : Pay) (news : List PassKnows) (q p : PassKnows) (is_one : news ≡ q ∷ []) (new : AreNew o news) (history : List Entry) (faults : ℕ) (closes : Closes o history faults (p ∷ []))
+    (answer : Answer) (told : Told o pay q answer p) (shape : HasShape pay) (made : Served) (is : made ≡ served_of pay.mir answer) where
+  abbrev after : List Worker
+  after = afterwards o pay q p made answer told shape is ∷ []
+
+  served : AreServed (Serving o asks (pay ∷ [])) (map starting news) (pay ∷ []) after (made ∷ [])
+  served = subst (λ (ns : List PassKnows). AreServed (Serving o asks (pay ∷ [])) (map starting ns) (pay ∷ []) after (made ∷ [])) (sym is_one) (one_served o pay q p made answer told shape is)
+
+  pub pay_added : All (IsEnteredOn o.day (pays_in (asks_for pay))) (entries_of closes.log)
+  pay_added = all_added o asks (pay ∷ []) news after history faults new closes (made ∷ []) served
+
+  pub pay_told : AreTold o history (asks_for pay) (made ∷ [])
+  pay_told = are_told o asks (pay ∷ []) news after history faults new closes (made ∷ []) served
+
+  pub pay_turn : AreBy (length o.base) o.accounts → o.made ≡ 1 → AreServedInOrder o history (asks_for pay) (made ∷ [])
+  pay_turn by one = turn o asks (pay ∷ []) news after history faults new closes (made ∷ []) served by one
+
+-- a list of one that ends with this has nothing else
+pub only_one : {A : Type 0} (xs rest : List A) (x : A) → xs ≡ rest ++ x ∷ [] → length xs ≡ 1 → xs ≡ x ∷ []
+only_one xs [] x is one = is
+only_one xs (y ∷ rest) x is one =
+    let long : length xs ≡ length (y ∷ rest ++ x ∷ []) = ap length is in
+    let more = length-append rest (x ∷ []) in
+    absurd (omega (arith, long, more, one))
+
+-- ---- the books of a name, which were closed
+
+module _ {D : Type 0} (d : disks.Ghosts D) (opened : Parts D) (past : ℕ → List ℕ → Type 0) (o : Opening) (named : o ≡ opening_with d opened 1 1) (by_now : AreBy (length opened.base) opened.accounts)
+    (pay : Pay) (news : List PassKnows) (q p : PassKnows) (is_one : news ≡ q ∷ []) (new : AreNew o news) (e : Entered D) where
+  abbrev ended : List Entry
+  ended = e.closed.history.entries
+
+  pub entered_named : e.closed.accounts ≡ o.accounts → IsJournal e.closed.accounts ended → Closes o ended (d.faults e.closed.disk) (p ∷ []) → LeavesClosed d o ended e.closed.disk
+      → LeavesInTurn d o past ended e.closed.disk → d.honest e.closed.disk ≡ o.honest → (answer : Answer) → Told o pay q answer p → HasShape pay → e.made ≡ served_of pay.mir answer
+      → IsEntered d (opening_with d opened 1 1) past pay e
+  entered_named accounts journal closes leaves moments honest answer told shape is =
+      let faults = d.faults e.closed.disk in
+      let by : AreBy (length o.base) o.accounts = subst (λ (x : Opening). AreBy (length x.base) x.accounts) (sym named) by_now in
+      let all : IsEntered d o past pay e = record {
+        left = record {
+          accounts = accounts;
+          added = entries_of closes.log;
+          is = closes.is;
+          each = pay_added o pay news q p is_one new ended faults closes answer told shape e.made is;
+          journal = subst (λ (chart : Chart). IsJournal chart ended) accounts journal;
+          leaves = leaves;
+          in_turn = moments;
+          honest = honest;
+        };
+        told = pay_told o pay news q p is_one new ended faults closes answer told shape e.made is;
+        turn = pay_turn o pay news q p is_one new ended faults closes answer told shape e.made is by (ap (λ (x : Opening). x.made) named);
+      } in
+      subst (λ (x : Opening). IsEntered d x past pay e) named all
