@@ -1,25 +1,12 @@
 //! A run that takes a charge out of a transfer.
 
-use crate::commands::{Files, WHOLE, call, is_done, journal, long_lived, run};
+use calls_room::{CHARGED, WHOLE, call, is_done, journal, long_lived, run};
 use corr_disk::MemDisk;
 use corr_text::Memory;
 use std::alloc::Global;
 use std::sync::Wait;
 use std::test::Fail;
 use std::thread::Threads;
-
-const FILES: Files = Files {
-    tables: [
-        b"HOMEUS33\nALPHDEFF\nBETAFRPP\n",
-        b"EUR,2\n",
-        b"DE,Y\nFR,Y\nUS,N\n",
-        b"VALPHEUR,V,ALPHDEFF,EUR,-10000000,90000000000,0\nVBETAEUR,V,BETAFRPP,EUR,0,90000000000,0\nFEEEUR,F,HOMEUS33,EUR,0,90000000000,0\n",
-        b"EUR,BETAFRPP,BOOK,,VBETAEUR,240101,791231\n",
-        b"EUR,500\n",
-    ],
-    messages: b"{1:F01HOMEUS33AXXX0001000007}{2:O1031200240603ALPHDEFFAXXX00010000012406031205N}{4:\r\n:20:REF1\r\n:23B:CRED\r\n:32A:240603EUR1234,5\r\n:50K:A PAYER\r\n:57A:BETAFRPP\r\n:59:/CUST9\r\nA PAYEE\r\n:71A:SHA\r\n-}",
-    received: b"",
-};
 
 const REPORT: &[u8] =
     b"000001 240603ALPHDEFFAXXX0001000001 BOOKED 00000001 EUR 1234,50\nMESSAGES 000001 ENTRIES 00000001\nTOTAL EUR DEBIT 1234,50 CREDIT 1234,50\n";
@@ -33,11 +20,17 @@ const SENT: &[u8] =
 
 // Whether a run over a new journal books the transfer with its charge, and tells it.
 fn is_charged<R: Wait + Threads + Sync>(rt: &R, alloc: Global) -> Result<bool, Memory> {
-    let journal = journal(rt, alloc, FILES)?;
-    let ended = run(rt, alloc, WHOLE, FILES, long_lived(alloc, journal.bytes())?)?;
+    let journal = journal(rt, alloc, CHARGED)?;
+    let ended = run(
+        rt,
+        alloc,
+        WHOLE,
+        CHARGED,
+        long_lived(alloc, journal.bytes())?,
+    )?;
     let is_told = is_done(&ended, REPORT, SENT);
     let disk = MemDisk::new(alloc, ended.disk.left());
-    let listed = call(rt, alloc, &[b"bookings"], WHOLE, FILES, disk)?;
+    let listed = call(rt, alloc, &[b"bookings"], WHOLE, CHARGED, disk)?;
     Ok(is_told && is_done(&listed, BOOKED, b""))
 }
 

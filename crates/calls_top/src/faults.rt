@@ -1,6 +1,6 @@
 //! Commands in which one read or one write fails.
 
-use crate::commands::{Ended, Failing, Files, WHOLE, call, journal, long_lived, run};
+use calls_room::{Ended, Failing, Files, WHOLE, call, journal, long_lived, run};
 use corr_disk::FuseDisk;
 use corr_text::{Memory, Text};
 use corr_top::Status;

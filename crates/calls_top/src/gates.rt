@@ -1,6 +1,6 @@
 //! Workers at one gate.
 
-use crate::commands::{Files, WHOLE, call_at, journal};
+use calls_room::{Files, WHOLE, call_at, journal};
 use corr_disk::MemDisk;
 use corr_ids::Mir;
 use corr_text::Memory;

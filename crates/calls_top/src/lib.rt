@@ -4,8 +4,6 @@
 #[cfg(test)]
 mod charges;
 #[cfg(test)]
-mod commands;
-#[cfg(test)]
 mod faults;
 #[cfg(test)]
 mod gates;

@@ -1,6 +1,6 @@
 //! Commands that book nothing: received statements against the books, a generated day, and a trial of one.
 
-use crate::commands::{Files, WHOLE, booked, call, call_plain, is_done};
+use calls_room::{Files, WHOLE, booked, call, call_plain, is_done};
 use corr_disk::MemDisk;
 use corr_text::{Memory, Text};
 use std::alloc::Global;

@@ -26,6 +26,15 @@ fn version_line(alloc: Global) -> Result<Text, Memory> {
     status_line(alloc, &Status::Version { found: 1 })
 }
 
+// The line of a return that an account can't take.
+fn unfunded_line(alloc: Global) -> Result<Text, Memory> {
+    let unfunded = Status::Unfunded {
+        leg: 2,
+        balance: -150,
+    };
+    status_line(alloc, &unfunded)
+}
+
 #[test]
 fn a_status_has_a_number_and_a_line(rt: HostRuntime) -> Result<(), Fail> {
     assert_eq!(rt; Status::NotAJournal.number(), 6);
@@ -36,5 +45,8 @@ fn a_status_has_a_number_and_a_line(rt: HostRuntime) -> Result<(), Fail> {
     assert_eq!(rt; (Status::Version { found: 1 }).number(), 12);
     let line = version_line(rt.alloc())?;
     assert_eq!(rt; line.bytes(), b"corr: version 1".as_slice());
+    assert_eq!(rt; (Status::NoPayment { entries: 2 }).number(), 15);
+    let line = unfunded_line(rt.alloc())?;
+    assert_eq!(rt; line.bytes(), b"corr: unfunded 2 -150".as_slice());
     Ok(())
 }

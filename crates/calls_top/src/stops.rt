@@ -1,6 +1,6 @@
 //! Disks that fail once or stop.
 
-use crate::commands::{Ended, Files, WHOLE, booked, call, is_done, journal, run, wrote};
+use calls_room::{Ended, FILES, SENT, WHOLE, booked, call, is_done, journal, run, wrote};
 use corr_disk::{Disk, FuseDisk, MemDisk, OnceDisk};
 use corr_text::{Memory, Text};
 use corr_top::Status;
@@ -9,24 +9,8 @@ use std::sync::Wait;
 use std::test::Fail;
 use std::thread::Threads;
 
-const FILES: Files = Files {
-    tables: [
-        b"HOMEUS33\nALPHDEFF\nCORRBEBB\n",
-        b"EUR,2\n",
-        b"DE,Y\nUS,N\n",
-        b"VALPHEUR,V,ALPHDEFF,EUR,-10000000,90000000000,5000000\nCUST1,C,HOMEUS33,EUR,0,90000000000,0\nNCORREUR,N,CORRBEBB,EUR,-90000000000,90000000000,-5000000\n",
-        b"EUR,ALPHDEFF,BOOK,,VALPHEUR,240101,791231\n",
-        b"",
-    ],
-    messages: b"{1:F01HOMEUS33AXXX0001000007}{2:O1031200240603ALPHDEFFAXXX00010000012406031205N}{4:\r\n:20:REF1\r\n:23B:CRED\r\n:32A:240603EUR1234,5\r\n:50K:A PAYER\r\n:59:/CUST1\r\nA PAYEE\r\n:71A:SHA\r\n-}",
-    received: b"",
-};
-
 const REPORT: &[u8] =
     b"000001 240603ALPHDEFFAXXX0001000001 BOOKED 00000001 EUR 1234,50\nMESSAGES 000001 ENTRIES 00000001\nTOTAL EUR DEBIT 1234,50 CREDIT 1234,50\n";
-
-const SENT: &[u8] =
-    b"{1:F01HOMEUS33AXXX0000000000}{2:I900ALPHDEFFXXXXN}{4:\r\n:20:P00000001K1\r\n:21:REF1\r\n:25:VALPHEUR\r\n:32A:240603EUR1234,50\r\n-}$";
 
 const STATEMENT: &[u8] =
     b"{1:F01HOMEUS33AXXX0000000000}{2:I950ALPHDEFFXXXXN}{4:\r\n:20:S2406030001P0001\r\n:25:VALPHEUR\r\n:28C:155/1\r\n:60F:C240602EUR50000,00\r\n:61:2406030603D1234,50S103REF1//P00000001\r\n:62F:C240603EUR48765,50\r\n-}$";

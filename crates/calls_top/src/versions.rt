@@ -1,6 +1,6 @@
 //! A journal of version 1 is refused, and stays.
 
-use crate::commands::{Ended, Files, WHOLE, call, journal, long_lived, run, wrote};
+use calls_room::{Ended, Files, WHOLE, call, journal, long_lived, run, wrote};
 use corr_disk::FuseDisk;
 use corr_text::{Memory, Text};
 use corr_top::Status;

@@ -4,8 +4,8 @@ use Rattle.std.proofs.lemmas.Int.{to_z-of_z}
 use Rattle.day_model.specs.declared.change.Change.{Change}
 use Rattle.day_model.specs.Chart.{Chart, accounts_of, with_change}
 use Rattle.day_model.specs.Legal.{IsLegal, IsLegalChange}
-use Rattle.calls_journal.proofs.Entering.{may_change}
-use Rattle.calls_journal.proofs.changes_of_accounts.change.Goals as goal
+use Rattle.calls_locks.proofs.Entering.{may_change}
+use Rattle.calls_locks.proofs.changes_of_accounts.change.Goals as goal
 
 pub change-requires : goal.change-requires
 change-requires c =

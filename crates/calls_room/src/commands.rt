@@ -10,39 +10,44 @@ use std::sync::Wait;
 use std::thread::Threads;
 use work_pool::{Gate, OpenGate};
 
-// The bytes of the table files, in the order in which they are read, of the message file, and of the file of received statements.
+/// The bytes of the table files, in the order in which they are read, of the message file, and of the file of received statements.
 #[derive(Clone, Copy)]
-pub(crate) struct Files {
-    pub(crate) tables: [&'static [u8]; 6],
-    pub(crate) messages: &'static [u8],
-    pub(crate) received: &'static [u8],
+pub struct Files {
+    pub tables: [&'static [u8]; 6],
+    pub messages: &'static [u8],
+    pub received: &'static [u8],
 }
 
-// The calls that fail, by their numbers from 1: a read of the file at this place, from 0, the message file last, a write
-// of the report, and one of what is sent. 0 names no call.
+/// The calls that fail, by their numbers from 1: a read of the file at this place, from 0, the message file last, a write
+/// of the report, and one of what is sent. 0 names no call.
 #[derive(Clone, Copy)]
-pub(crate) struct Failing {
-    pub(crate) place: usize,
-    pub(crate) read: u64,
-    pub(crate) report: u64,
-    pub(crate) out: u64,
+pub struct Failing {
+    pub place: usize,
+    pub read: u64,
+    pub report: u64,
+    pub out: u64,
 }
 
-pub(crate) const WHOLE: Failing = Failing {
+/// No call fails.
+pub const WHOLE: Failing = Failing {
     place: 0,
     read: 0,
     report: 0,
     out: 0,
 };
 
-// How a command ended, what it wrote, the counts of faults of the files, of the report and of what is sent, and its disk.
+// The place of the file of messages that leave, behind the others.
+const SENT: usize = 8;
+
+/// How a command ended, what it wrote, the counts of faults of the files, of the report and of what is sent, and its disks.
 #[derive(Drop)]
-pub(crate) struct Ended<D: Disk> {
-    pub(crate) status: Status,
-    pub(crate) report: Text,
-    pub(crate) out: Text,
-    pub(crate) faults: [u64; 9],
-    pub(crate) disk: D,
+pub struct Ended<D: Disk> {
+    pub status: Status,
+    pub report: Text,
+    pub out: Text,
+    pub faults: [u64; 9],
+    pub disk: D,
+    pub second: Option<D>,
 }
 
 fn calls(alloc: Global, call: u64) -> Result<List<u64>, Memory> {
@@ -85,16 +90,19 @@ fn room<D: Disk + Drop>(
     alloc: Global,
     failing: Failing,
     files: Files,
+    sent: &[u8],
     disk: D,
+    second: Option<D>,
 ) -> Result<Room<MemSource, MemSink, D>, Memory> {
     Ok(Room {
         tables: tables(alloc, failing, files)?,
         messages: source(alloc, failing, 6, files.messages)?,
         received: source(alloc, WHOLE, 7, files.received)?,
+        sent: source(alloc, failing, SENT, sent)?,
         report: sink(alloc, failing.report)?,
         out: sink(alloc, failing.out)?,
         disk,
-        disk2: None,
+        disk2: second,
     })
 }
 
@@ -127,21 +135,22 @@ fn leave<D: Disk + Drop>(
             room.out.faults(),
         ],
         disk: room.disk,
+        second: room.disk2,
     })
 }
 
-// Whether a command wrote this.
-pub(crate) fn wrote<D: Disk + Drop>(ended: &Ended<D>, report: &[u8], out: &[u8]) -> bool {
+/// Whether a command wrote this.
+pub fn wrote<D: Disk + Drop>(ended: &Ended<D>, report: &[u8], out: &[u8]) -> bool {
     ended.report.bytes() == report && ended.out.bytes() == out
 }
 
-// Whether a command came to its end, and wrote this.
-pub(crate) fn is_done<D: Disk + Drop>(ended: &Ended<D>, report: &[u8], out: &[u8]) -> bool {
+/// Whether a command came to its end, and wrote this.
+pub fn is_done<D: Disk + Drop>(ended: &Ended<D>, report: &[u8], out: &[u8]) -> bool {
     ended.status == Status::Done && wrote(ended, report, out)
 }
 
-// A command over a disk, whose pays pass a gate.
-pub(crate) fn call_at<R: Wait + Threads + Sync, D: Disk + Drop + Send, G: Gate + Sync>(
+/// A command over a disk, whose pays pass a gate.
+pub fn call_at<R: Wait + Threads + Sync, D: Disk + Drop + Send, G: Gate + Sync>(
     rt: &R,
     alloc: Global,
     command: &[&[u8]],
@@ -151,12 +160,12 @@ pub(crate) fn call_at<R: Wait + Threads + Sync, D: Disk + Drop + Send, G: Gate +
     gate: &G,
 ) -> Result<Ended<D>, Memory> {
     let texts = words(alloc, command)?;
-    let room = room(alloc, failing, files, disk)?;
+    let room = room(alloc, failing, files, b"", disk, None)?;
     leave(alloc, corr(rt, alloc, texts.as_slice(), room, gate))
 }
 
-// A command over a disk.
-pub(crate) fn call<R: Wait + Threads + Sync, D: Disk + Drop + Send>(
+/// A command over a disk.
+pub fn call<R: Wait + Threads + Sync, D: Disk + Drop + Send>(
     rt: &R,
     alloc: Global,
     command: &[&[u8]],
@@ -167,20 +176,52 @@ pub(crate) fn call<R: Wait + Threads + Sync, D: Disk + Drop + Send>(
     call_at(rt, alloc, command, failing, files, disk, &OpenGate)
 }
 
-// A command that waits for nobody, over a disk.
-pub(crate) fn call_plain<D: Disk + Drop>(
+/// A command that waits for nobody, over a disk.
+pub fn call_plain<D: Disk + Drop>(
     alloc: Global,
     command: &[&[u8]],
     files: Files,
     disk: D,
 ) -> Result<Ended<D>, Memory> {
     let texts = words(alloc, command)?;
-    let room = room(alloc, WHOLE, files, disk)?;
+    let room = room(alloc, WHOLE, files, b"", disk, None)?;
     leave(alloc, plain(alloc, texts.as_slice(), room))
 }
 
-// A run of one worker over a disk.
-pub(crate) fn run<R: Wait + Threads + Sync, D: Disk + Drop + Send>(
+/// A command that waits for nobody, over a disk and these bytes of the file of messages that leave, of which this read fails.
+pub fn call_after<D: Disk + Drop>(
+    alloc: Global,
+    command: &[&[u8]],
+    sent: &[u8],
+    read: u64,
+    files: Files,
+    disk: D,
+) -> Result<Ended<D>, Memory> {
+    let texts = words(alloc, command)?;
+    let failing = Failing {
+        place: SENT,
+        read,
+        ..WHOLE
+    };
+    let room = room(alloc, failing, files, sent, disk, None)?;
+    leave(alloc, plain(alloc, texts.as_slice(), room))
+}
+
+/// A command that waits for nobody, over a disk and a second one.
+pub fn call_between<D: Disk + Drop>(
+    alloc: Global,
+    command: &[&[u8]],
+    files: Files,
+    disk: D,
+    second: D,
+) -> Result<Ended<D>, Memory> {
+    let texts = words(alloc, command)?;
+    let room = room(alloc, WHOLE, files, b"", disk, Some(second))?;
+    leave(alloc, plain(alloc, texts.as_slice(), room))
+}
+
+/// A run of one worker over a disk.
+pub fn run<R: Wait + Threads + Sync, D: Disk + Drop + Send>(
     rt: &R,
     alloc: Global,
     failing: Failing,
@@ -190,13 +231,13 @@ pub(crate) fn run<R: Wait + Threads + Sync, D: Disk + Drop + Send>(
     call(rt, alloc, &[b"run", b"240603", b"1"], failing, files, disk)
 }
 
-// A disk of these bytes that passes 100 calls.
-pub(crate) fn long_lived(alloc: Global, bytes: &[u8]) -> Result<FuseDisk, Memory> {
+/// A disk of these bytes that passes 100 calls.
+pub fn long_lived(alloc: Global, bytes: &[u8]) -> Result<FuseDisk, Memory> {
     Ok(FuseDisk::new(alloc, Text::from_bytes(alloc, bytes)?, 100, 0))
 }
 
-// The bytes of a new journal.
-pub(crate) fn journal<R: Wait + Threads + Sync>(
+/// The bytes of a new journal.
+pub fn journal<R: Wait + Threads + Sync>(
     rt: &R,
     alloc: Global,
     files: Files,
@@ -206,8 +247,8 @@ pub(crate) fn journal<R: Wait + Threads + Sync>(
     Ok(made.disk.left())
 }
 
-// The bytes of a new journal with the entries of a run of one worker.
-pub(crate) fn booked<R: Wait + Threads + Sync>(
+/// The bytes of a new journal with the entries of a run of one worker.
+pub fn booked<R: Wait + Threads + Sync>(
     rt: &R,
     alloc: Global,
     files: Files,

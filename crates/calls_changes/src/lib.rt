@@ -1,0 +1,18 @@
+//! The commands that change a journal's accounts, carry it over, take payments back, mend what was sent and list balances, over files,
+//! sinks and disks, also such that fail or stop, each by the top call.
+#![tactic(auto)]
+
+#[cfg(test)]
+mod balances;
+#[cfg(test)]
+mod changes;
+#[cfg(test)]
+mod customers;
+#[cfg(test)]
+mod mending;
+#[cfg(test)]
+mod migrations;
+#[cfg(test)]
+mod returns;
+#[cfg(test)]
+mod stopped_twice;
