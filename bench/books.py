@@ -438,7 +438,8 @@ def page_text(journal, number, day, which, balance, lines):
     for place, entry, leg in lines:
         quote = f"P{place:08d}K{leg.quote}" if isinstance(leg.quote, int) else leg.quote.decode()
         amount, kind = amount_text(leg.amount, account.decimals), "S202" if entry.cover else "S103"
-        text += f":61:{day_text(entry.value)}{day_text(day)[2:]}{'DC'[leg.side]}{amount}{kind}{quote}//P{place:08d}\r\n"
+        mark = ["RC", "RD"] if entry.mir[:-10] == b"800101" + journal.home[:8] + b"R" + journal.home[8:] else ["D", "C"]
+        text += f":61:{day_text(entry.value)}{day_text(day)[2:]}{mark[leg.side]}{amount}{kind}{quote}//P{place:08d}\r\n"
         balance += leg.amount if leg.side else -leg.amount
     text += f":62{'F' if page == pages else 'M'}:{balance_text(account, day, balance)}\r\n-}}$"
     return text, balance

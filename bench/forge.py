@@ -455,6 +455,28 @@ def with_version_1(data):
     return books.put_journal([head, *(it[1:] for it in records if it[:1] == books.ENTERED)])
 
 
+def desk_words(dice, journal):
+    """The words of a command that is given between the runs, mostly one that isn't refused."""
+    place, day = b"%d" % dice.randrange(1, len(journal.entries) + 3), dice.choice([b"240604", b"240604", b"240603", b"240601", b"791231"])
+    what = dice.choice(["open", "limits", "return", "return", "balances", "customers", "mend", "statements", "bookings"])
+    if what == "open":
+        it = any_change(dice, journal.accounts)
+        it = it if isinstance(it, books.Account) else books.Account(b"CUST9", b"C", HOME + b"XXX", b"EUR", 2, 0, 10**12, 0)
+        cells = [it.ident, it.kind, dice.choice([it.owner[:8], it.owner]), it.ccy, b"%d" % it.floor, b"%d" % it.ceil]
+        return [b"open-account", *(turn_cell(dice, b",".join(cells)).split(b",") if some(dice, 0.2) else cells)]
+    if what == "limits":
+        account = dice.choice(journal.accounts) if journal.accounts else None
+        floor, ceil = (dice.choice([b"0", b"-1", b"-10000000", b"90000000000", b"-90000000000", b"100000000000000"]) for _ in range(2))
+        return [b"set-limits", account.ident if account and some(dice, 0.9) else b"NOBODY", floor, ceil]
+    if what == "return":
+        return [b"return", place, day]
+    if what == "balances":
+        return [b"balances"] if some(dice, 0.5) else [b"balances", day]
+    if what == "mend":
+        return [b"mend", *dice.choice([(b"1", b"100000"), (place, b"100000"), (place, place)])]
+    return {"customers": [b"customer-statements", day], "statements": [b"statements", day], "bookings": [b"bookings"]}[what]
+
+
 def turn_entry(dice, entry):
     """An entry with a part at or past its limit."""
     day = dice.choice([books.FIRST_DAY, books.FIRST_DAY - 1, books.LAST_DAY, books.LAST_DAY + 1, 0, -1, entry.day + 1, entry.day - 1])
@@ -538,6 +560,8 @@ def with_length(dice, data, found):
 # command lines
 
 COMMANDS = [[b"init", HOME], [b"run", b"240603", b"1"], [b"send", b"1", b"100000"], [b"bookings"], [b"statements", b"240603"], [b"reconcile"]]
+COMMANDS += [[b"balances"], [b"balances", b"240603"], [b"mend", b"1", b"100000"], [b"return", b"1", b"240603"], [b"customer-statements", b"240603"]]
+COMMANDS += [[b"migrate"], [b"set-limits", b"CUST1", b"0", b"1"], [b"open-account", b"CUST3", b"C", b"HOMEUS33", b"EUR", b"0", b"1"]]
 COMMANDS += [[b"generate", b"3", b"7"], [b"trial", b"3", b"7", b"1"], [b"--help"], [b"--version"], [b"batch"], [b""]]
 WORDS = [b"", b"0", b"1", b"01", b"16", b"17", b"0000000000000000001", b"00000000000000000001", b"100000", b"100001", b"50001", b"-1", b"+1", b"1 "]
 WORDS += [b"240603", b"240631", b"2406031", b"24060", b"000229", b"010229", b"HOMEUS33", b"HOMEUS33XXX", b"HOMEUS3", b"homeus33", b"--help", b"-"]

@@ -10,6 +10,7 @@ READS = {
     b"init": ["bics", "ccys", "countries", "accounts"],
     b"run": ["bics", "ccys", "countries", "ssi", "charges"],
     b"reconcile": ["bics", "ccys", "countries"],
+    b"open-account": ["bics", "ccys"],
 }
 FILES = {b"run": "messages.fin", b"reconcile": "received.fin"}
 
@@ -36,15 +37,21 @@ def is_command(words):
         return len(words) == 2 and is_bic(words[1])
     if words[:1] == [b"run"]:
         return len(words) == 3 and is_day(words[1]) and is_number(words[2], 1, 16)
-    if words[:1] == [b"send"]:
+    if words[:1] == [b"return"]:
+        return len(words) == 3 and is_number(words[1], 1, 100_000) and is_day(words[2])
+    if words[:1] == [b"open-account"]:
+        return len(words) == 7
+    if words[:1] == [b"set-limits"]:
+        return len(words) == 4 and all(re.fullmatch(rb"-?\d{1,15}", it) for it in words[2:])
+    if words[:1] in ([b"send"], [b"mend"]):
         return len(words) == 3 and all(is_number(it, 1, 100_000) for it in words[1:]) and int(words[1]) <= int(words[2])
-    if words[:1] == [b"statements"]:
+    if words[:1] in ([b"statements"], [b"customer-statements"]) or (words[:1] == [b"balances"] and len(words) > 1):
         return len(words) == 2 and is_day(words[1])
     if words[:1] == [b"generate"]:
         return len(words) == 3 and is_number(words[1], 1, 50_000) and is_number(words[2], 0, 10**19)
     if words[:1] == [b"trial"]:
         return len(words) == 4 and is_number(words[1], 1, 50_000) and is_number(words[2], 0, 10**19) and is_number(words[3], 1, 16)
-    return words in ([b"bookings"], [b"reconcile"])
+    return words in ([b"bookings"], [b"reconcile"], [b"balances"], [b"migrate"])
 
 
 def is_word(word):

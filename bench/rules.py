@@ -3,6 +3,7 @@ import re
 
 import books
 import breaks
+import desk
 from books import amount_text, day_of, read_journal
 from inputs import FILES, MOST_FILE, MOST_MESSAGES, READS, Refused, cut, is_command, is_word, read_table, rows_of
 
@@ -13,13 +14,17 @@ LINES = {
     2: b"corr: table [a-z]+ \\d+ [a-z]+( \\d+)?\n",
     3: b"corr: read fault 0 1\n",
     4: b"corr: write fault 0 1\n",
-    5: b"corr: (disk fault 0 1|journal is in use|journal can't be locked|journal was removed or cut)\n",
+    5: b"corr: ((second )?disk fault 0 1|journal is in use|journal can't be locked|journal was removed or cut)\n",
     6: b"corr: (not a journal|damaged \\d+|exists \\d+|unbalanced [A-Z]{3} -?\\d+,\\d*)\n",
     8: b"corr: date back \\d{6}\n",
     9: b"corr: too large \\d+ \\d+\n",
     10: b"corr: framing \\d+\n",
     11: b"corr: full \\d+ \\d+ \\d+\n",
     12: b"corr: version \\d+\n",
+    13: b"corr: unknown account\n",
+    15: b"corr: no payment \\d+\n",
+    16: b"corr: returned \\d+\n",
+    17: b"corr: unfunded \\d -?\\d+\n",
 }
 # the statuses of each command; `usage` is any that is none
 STATUSES = {
@@ -29,14 +34,23 @@ STATUSES = {
     b"bookings": {0, 5, 6, 12},
     b"statements": {0, 4, 5, 6, 12},
     b"reconcile": {0, 2, 3, 5, 6, 9, 10, 12},
+    b"balances": {0, 5, 6, 12},
+    b"customer-statements": {0, 4, 5, 6, 12},
+    b"mend": {0, 3, 5, 6, 12},
+    b"open-account": {0, 2, 3, 5, 6, 11, 12},
+    b"set-limits": {0, 2, 5, 6, 11, 12, 13},
+    b"migrate": {0, 5, 6, 11, 12},
+    b"return": {0, 4, 5, 6, 8, 11, 12, 15, 16, 17},
     b"generate": {0, 4},
     b"trial": {0},
     b"--help": {0},
     b"--version": {0},
     b"usage": {1},
 }
-SENDERS = (b"run", b"send", b"statements", b"generate")
-OPENERS = (b"init", b"run", b"send", b"bookings", b"statements", b"reconcile")
+SENDERS = (b"run", b"send", b"statements", b"customer-statements", b"generate", b"return")
+DESK = (b"open-account", b"set-limits", b"migrate", b"return", b"mend", b"balances", b"customer-statements")
+OPENERS = (b"init", b"run", b"send", b"bookings", b"statements", b"reconcile", *DESK)
+CHANGERS = (b"init", b"run", b"return", b"open-account", b"set-limits")
 # the words of a report's line after the reference, by what became of the message
 BECAME = re.compile(rb"(\d{6}) (\S{28}) (BOOKED (\d{8}) ([A-Z]{3}) (\d+,\d*)|UNFUNDED (\d{8}) (\S+) (-?\d+,\d*)|P41 (\d{8})|REFUSED [A-Z]\d\d( \S+ \d+)?)")
 SENT = re.compile(rb"\{1:F01(.{8})A(.{3})0{10}\}\{2:I(\d{3})(.{8})X(.{3})N\}(\{3:.*?\}\})?\{4:\r\n:20:(\S+)\r\n.*?\r\n-\}", re.DOTALL)
@@ -120,15 +134,21 @@ def foreseen(run):
     if is_odd(files, "journal.bin"):
         return 5, "disk fault 0 1"
     data = files.get("journal.bin", b"")
+    if name == b"migrate":
+        return desk.foreseen_copy(files)
     if name == b"init":
         return (6, f"exists {data[0]}") if len(data) > 1 and data[0] else (0, None)
+    if name in DESK:
+        return opened(name, files, words, read_journal(data), run, tables)
     return opened(name, files, words, read_journal(data))
 
 
-def opened(name, files, words, journal):
+def opened(name, files, words, journal, run=None, tables=None):
     """The same of a command that opens a journal, from there on."""
     if journal.fault:
         return (12 if journal.fault.startswith("version ") else 6), journal.fault
+    if name in DESK:
+        return desk.foreseen(run, journal, tables)
     if name == b"run" and journal.entries and day_of(words[1]) < journal.entries[-1].day:
         return 8, f"date back {books.day_text(journal.entries[-1].day)}"
     if name in FILES:
@@ -154,7 +174,11 @@ def wrong_end(run):
 def wrong_files(run):
     """What is wrong with the files of the folder afterwards."""
     before, after = run.before, run.after
-    for name in sorted({*before, *after} - {"journal.bin", "out.fin"}):
+    if run.name != b"migrate" and before.get("journal2.bin") != after.get("journal2.bin"):
+        yield "journal2.bin was written to"
+    elif before.get("journal2.bin", b"") != after.get("journal2.bin", b"") and run.status not in (0, 5):
+        yield "journal2.bin was written to"
+    for name in sorted({*before, *after} - {"journal.bin", "journal2.bin", "out.fin"}):
         if (name in before, before.get(name)) != (name in after, after.get(name)):
             yield f"{name} was written to, made or removed"
     if before.get("out.fin") != after.get("out.fin"):
@@ -164,7 +188,7 @@ def wrong_files(run):
             yield "what stood in out.fin is gone"
     if before.get("journal.bin") != after.get("journal.bin"):
         is_made = "journal.bin" not in before and after.get("journal.bin") == b"" and run.name in OPENERS and run.status == 6
-        if not is_made and not (run.name in (b"init", b"run") and run.status in (0, 4, 11)):
+        if not is_made and not (run.name in CHANGERS and run.status in (0, 4, 11)):
             yield "journal.bin was written to"
 
 
@@ -188,9 +212,13 @@ def wrong_content(run):
         yield from wrong_again(run, journal)
     elif run.name == b"reconcile":
         yield from wrong_breaks(run, journal)
+    elif run.name in DESK:
+        yield from desk.wrong(run, journal)
+    if run.name == b"return":
+        yield from wrong_references(run.appended(), journal, len(journal.entries), len(journal.entries))
     elif run.name == b"trial":
         yield from wrong_trial(run.out)
-    if run.out and run.name in (b"init", b"send", b"statements", b"generate"):
+    if run.out and run.name in (b"init", b"send", b"statements", b"customer-statements", b"generate", b"migrate", b"open-account", b"set-limits"):
         yield f"{len(run.out)} bytes on standard output"
 
 
