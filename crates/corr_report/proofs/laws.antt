@@ -3,3 +3,4 @@ pub mod Days
 pub mod DayFile
 pub mod Reordered
 pub mod Settled
+pub mod LineLists

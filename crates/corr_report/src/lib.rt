@@ -14,6 +14,6 @@ mod words;
 
 pub use entries::{booking, bookings};
 pub use generator::generated;
-pub use replies::{put_reply_line, put_report_end, reply_line, report};
+pub use replies::{put_refused, put_reply_line, put_report_end, reply_line, report};
 pub use summing::summary;
 pub use words::{put_amount, put_balance, put_number, put_word, side_letter};

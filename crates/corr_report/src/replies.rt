@@ -41,9 +41,12 @@ fn mir_or_dashes(mir: &Option<Mir>) -> &[u8]
     }
 }
 
-// Adds the line of a message that a fault refuses.
+/// Adds the line of a message that a fault refuses, after its number: its MIR or 28 dashes, `REFUSED`, and the code, the tag and which of
+/// that tag it is.
+///
+/// `Memory`: there was no room for the line.
 #[inline(never)]
-fn put_refused<'a>(
+pub fn put_refused<'a>(
     number: &'a [u8],
     mir: &'a Option<Mir>,
     fault: &'a Fault,

@@ -11,6 +11,5 @@ pub mod Quotes
 pub mod Noticed
 pub mod Shaped
 pub mod TextCut
-pub mod Owned
 pub mod Received
 pub mod laws

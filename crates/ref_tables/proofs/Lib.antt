@@ -1,6 +1,5 @@
 pub mod laws
 pub mod ReadFaults
-pub mod Numbers
 pub mod Cells
 pub mod Standing
 pub mod Entering

@@ -3,3 +3,4 @@ pub mod Entered
 pub mod Fine
 pub mod Decimals
 pub mod Charged
+pub mod Numbers

@@ -1,6 +1,6 @@
 use Rattle.std.proofs.Common.{◌+◌, [], refl}
 use Rattle.corr_report.specs.Report.{reply_line}
-use Rattle.corr_report.proofs.LineLists.{numbered_more}
+use Rattle.corr_report.proofs.laws.LineLists.{numbered_more}
 use Rattle.corr_report.proofs.replies.report.Goals as goal
 
 pub loop-at-preserved : goal.loop-at-preserved

@@ -4,7 +4,7 @@ use Rattle.std.proofs.lemmas.Option.{slice_get_within, get_or_from_slice_get}
 use Rattle.day_model.specs.Chart.{accounts_of}
 use Rattle.day_model.specs.Balance.{balance_of}
 use Rattle.corr_report.specs.Summary.{balance_line}
-use Rattle.corr_report.proofs.LineLists.{numbered_more}
+use Rattle.corr_report.proofs.laws.LineLists.{numbered_more}
 use Rattle.corr_report.proofs.summing.put_balances.Goals as goal
 
 pub put_line-requires : goal.put_line-requires

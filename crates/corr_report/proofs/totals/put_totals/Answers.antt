@@ -1,7 +1,7 @@
 use Rattle.std.proofs.Common.{◌∙◌}
 use Rattle.day_model.specs.declared.pay.Side.TheVariants.{Debit, Credit}
 use Rattle.corr_report.proofs.Sums.{sum_fits, sum_is}
-use Rattle.corr_report.proofs.LineLists.{total_more}
+use Rattle.corr_report.proofs.laws.LineLists.{total_more}
 use Rattle.corr_report.proofs.totals.put_totals.Goals as goal
 
 pub sum_of-debits-requires-clause-fits : goal.sum_of-debits-requires-clause-fits

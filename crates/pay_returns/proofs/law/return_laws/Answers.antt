@@ -1,7 +1,7 @@
 use Rattle.pay_returns.proofs.Effects.{effects-cancel}
 use Rattle.pay_returns.proofs.laws.Equality.{equal-decides}
 use Rattle.pay_returns.proofs.Fits.{return-fits}
-use Rattle.pay_returns.proofs.Owned.{return-own}
+use Rattle.pay_returns.proofs.laws.Owned.{return-own}
 use Rattle.pay_returns.proofs.law.return_laws.Goals as goal
 
 pub returns-clause-cancel : goal.returns-clause-cancel

@@ -1,4 +1,4 @@
-use Rattle.ref_tables.proofs.Numbers.{written-short}
+use Rattle.ref_tables.proofs.laws.Numbers.{written-short}
 use Rattle.ref_tables.proofs.columns.magnitude.Goals as goal
 
 pub returns-clause-short : goal.returns-clause-short
