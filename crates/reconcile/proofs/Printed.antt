@@ -1,19 +1,16 @@
 -- Lines of text for what is in a list, one after the other; and the entry at a place.
-use Rattle.std.proofs.Common.{◌≡◌, ℕ, zero, suc, ◌+◌, ◌-◌, ◌<◌, ◌≤◌, ◌==◌, Bool, true, false, cond, List, [], ◌∷◌, ◌++◌, map, length, get_or, take, Option, Some, None, option_map, refl, sym, ap, ◌∙◌, subst, arith, inl, inr, append_assoc, nat_lt, Result, Ok, Err}
-use Rattle.std.specs.Prelude.{All, IfSome, codes, option_and_then, slice_get}
+use Rattle.std.proofs.Common.{◌≡◌, ℕ, zero, suc, ◌+◌, ◌-◌, ◌<◌, ◌≤◌, ◌==◌, Bool, true, false, cond, List, [], ◌∷◌, ◌++◌, map, length, get_or, take, drop, Option, Some, None, option_map, refl, sym, ap, ◌∙◌, subst, arith, inl, inr, append_assoc, nat_lt, Result, Ok, Err}
+use Rattle.std.specs.Prelude.{All, IfSome, option_and_then, slice_get}
 use Rattle.std.specs.List.{AllByRecursion, flat_map}
-use Rattle.std.specs.Option.{option_map_or}
 use Rattle.std.specs.List.Sorted.{IsPartitionPoint, IsPartitionedBy}
 use Rattle.std.proofs.lemmas.Bool.{cases_lt, ne_eqb}
 use Rattle.std.proofs.lemmas.Bool.Decides.{nat_tests}
 use Rattle.std.proofs.lemmas.Grind.{flat_map-append}
-use Rattle.std.proofs.lemmas.List.{append-nil, take_more}
+use Rattle.std.proofs.lemmas.List.{append-nil, drop_more, take_more}
 use Rattle.std.proofs.lemmas.List.Elements.{All-from_recursion}
 use Rattle.std.proofs.lemmas.Option.{slice_get-get_or, slice_get_past, slice_get_read}
-use Rattle.corr_report.specs.Lines.{spaced}
 use Rattle.corr_text.specs.Answers.{Refuses}
 use Rattle.day_model.specs.Chart.{Chart}
-use Rattle.day_model.specs.declared.account.AcctNo.{AcctNo}
 use Rattle.day_model.specs.declared.entry.Entry.{Entry}
 use Rattle.mt950.specs.Joining.{joined_of, last_of, told}
 use Rattle.mt950.specs.declared.entry.Line61.{Line61}
@@ -23,11 +20,10 @@ use Rattle.mt950.specs.declared.page.Page950.{Page950}
 use Rattle.statement.specs.Lines.{Placed, PlacesFrom, RiseFrom}
 use Rattle.statement.specs.Running.{placed_by}
 use Rattle.statement.specs.declared.movement.Movement.{Movement}
-use Rattle.reconcile.specs.Breaks.{statement_heading, joined_text, line_feed, nostro_of, piece_text, statement_lines, statement_text}
-use Rattle.reconcile.specs.Comparison.{compared_of, ours_of, placed_at}
-use Rattle.reconcile.specs.Lines.{compared_lines, fault_words}
+use Rattle.reconcile.specs.Breaks.{Adds, joined_left, joined_text, line_feed, piece_left, piece_text, statement_heading, statement_left, statement_text, told_from}
+use Rattle.reconcile.specs.Comparison.{placed_at}
+use Rattle.reconcile.specs.Lines.{fault_words}
 use Rattle.reconcile.specs.Pairing.{alone, alone_from, line_partner, theirs_left}
-use Rattle.reconcile.specs.declared.comparing.Compared.{Compared}
 use Rattle.reconcile.proofs.Rising.{rises}
 use Rattle.reconcile.proofs.Tests.{above, below, itself}
 
@@ -138,21 +134,6 @@ module _ (ours : List Placed) where
   pub theirs-numbered : (lines : List Line61) → All (λ n. 1 ≤ n) (theirs_left ours lines)
   theirs-numbered lines = All-from_recursion (λ n. 1 ≤ n) (theirs_left ours lines) (alone-low 1 [] 1 lines (omega arith))
 
--- ---- a statement
-
-module _ (chart : Chart) (entries : List Entry) (s : Statement) (old new : List ℕ) where
-  pub told-unknown : nostro_of chart s ≡ None → new ≡ old ++ spaced (codes "UNKNOWN" ∷ []) ++ line_feed → new ≡ old ++ statement_text chart entries s
-  told-unknown none e =
-      e ∙ append_assoc old (spaced (codes "UNKNOWN" ∷ [])) line_feed
-      ∙ ap (λ (o : Option AcctNo). old ++ option_map_or (statement_lines chart entries s) o (spaced (codes "UNKNOWN" ∷ []) ++ line_feed)) (sym none)
-
-  pub told-lines : (n : AcctNo) (ours : List Placed) (compared : Compared) (mid : List ℕ) → nostro_of chart s ≡ Some n → mid ≡ old ++ line_feed → ours ≡ ours_of chart n.0 entries s → compared ≡ compared_of chart entries n.0 s
-      → new ≡ mid ++ compared_lines s.decimals ours s.lines compared → new ≡ old ++ statement_text chart entries s
-  told-lines n ours compared mid some feed are is e =
-      e ∙ (λ i. feed i ++ compared_lines s.decimals (are i) s.lines (is i))
-      ∙ append_assoc old line_feed (compared_lines s.decimals (ours_of chart n.0 entries s) s.lines (compared_of chart entries n.0 s))
-      ∙ ap (λ (o : Option AcctNo). old ++ option_map_or (statement_lines chart entries s) o (spaced (codes "UNKNOWN" ∷ []) ++ line_feed)) (sym some)
-
 -- ---- pages that belong together
 
 pub last-at : (page : Page950) (pages : List Page950) (d : Page950) → get_or (page ∷ pages) (length (page ∷ pages) - 1) d ≡ last_of page pages
@@ -161,35 +142,55 @@ last-at page (next ∷ pages) d =
     let place : length (page ∷ next ∷ pages) - 1 ≡ suc (length (next ∷ pages) - 1) = omega arith in
     ap (λ (k : ℕ). get_or (page ∷ next ∷ pages) k d) place ∙ last-at next pages d
 
-module _ (chart : Chart) (entries : List Entry) (page : Page950) (pages : List Page950) (old mid new : List ℕ) where
-  piece-told : (text : List ℕ) → mid ≡ old ++ statement_heading (last_of page pages) → new ≡ mid ++ text → text ≡ joined_text chart entries page.decimals (joined_of (page ∷ pages)) → new ≡ old ++ piece_text chart entries (page ∷ pages)
+module _ (room : ℕ) (chart : Chart) (entries : List Entry) (page : Page950) (pages : List Page950) (old mid new : List ℕ) where
+  abbrev Told : ℕ → Type 0
+  Told left = Adds old new (piece_text room chart entries (page ∷ pages)) left (piece_left room chart entries (page ∷ pages))
+
+  piece-told : (text : List ℕ) → mid ≡ old ++ statement_heading (last_of page pages) → new ≡ mid ++ text → text ≡ joined_text room chart entries page.decimals (joined_of (page ∷ pages))
+      → new ≡ old ++ piece_text room chart entries (page ∷ pages)
   piece-told text heading e is =
-      e ∙ (λ i. heading i ++ is i) ∙ append_assoc old (statement_heading (last_of page pages)) (joined_text chart entries page.decimals (joined_of (page ∷ pages)))
+      e ∙ (λ i. heading i ++ is i) ∙ append_assoc old (statement_heading (last_of page pages)) (joined_text room chart entries page.decimals (joined_of (page ∷ pages)))
 
-  pub told-joined : (s : Statement) → mid ≡ old ++ statement_heading (last_of page pages) → joined_of (page ∷ pages) ≡ Ok s → new ≡ mid ++ statement_text chart entries s → new ≡ old ++ piece_text chart entries (page ∷ pages)
-  told-joined s heading joined e =
-      piece-told (statement_text chart entries s) heading e (ap (joined_text chart entries page.decimals) (sym joined))
+  pub told-joined : (s : Statement) (left : ℕ) → mid ≡ old ++ statement_heading (last_of page pages) → joined_of (page ∷ pages) ≡ Ok s
+      → Adds mid new (statement_text room chart entries s) left (statement_left room chart entries s) → Told left
+  told-joined s left heading joined told = record {
+    added = piece-told (statement_text room chart entries s) heading told.added (ap (joined_text room chart entries page.decimals) (sym joined));
+    rest = told.rest ∙ ap (joined_left room chart entries) (sym joined);
+  }
 
-  pub told-fault : (fault : PageFault) (words : List ℕ) → mid ≡ old ++ statement_heading (last_of page pages) → joined_of (page ∷ pages) ≡ Err fault → words ≡ mid ++ fault_words page.decimals fault → new ≡ words ++ line_feed
-      → new ≡ old ++ piece_text chart entries (page ∷ pages)
-  told-fault fault words heading joined w e =
-      piece-told (fault_words page.decimals fault ++ line_feed) heading (e ∙ ap (λ (t : List ℕ). t ++ line_feed) w ∙ append_assoc mid (fault_words page.decimals fault) line_feed)
-      (ap (joined_text chart entries page.decimals) (sym joined))
+  pub told-fault : (fault : PageFault) (words : List ℕ) → mid ≡ old ++ statement_heading (last_of page pages) → joined_of (page ∷ pages) ≡ Err fault → words ≡ mid ++ fault_words page.decimals fault → new ≡ words ++ line_feed → Told room
+  told-fault fault words heading joined w e = record {
+    added =
+        piece-told (fault_words page.decimals fault ++ line_feed) heading (e ∙ ap (λ (t : List ℕ). t ++ line_feed) w ∙ append_assoc mid (fault_words page.decimals fault) line_feed)
+        (ap (joined_text room chart entries page.decimals) (sym joined));
+    rest = ap (joined_left room chart entries) (sym joined);
+  }
 
 -- the same of a list that has a first page and a last one
-module _ (chart : Chart) (entries : List Entry) (old mid new : List ℕ) where
-  pub all-joined : (all : List Page950) (last : Page950) → 1 ≤ length all → last ≡ get_or all (length all - 1) last → (s : Statement) → mid ≡ old ++ statement_heading last → joined_of all ≡ Ok s
-      → new ≡ mid ++ statement_text chart entries s → new ≡ old ++ piece_text chart entries all
-  all-joined [] last some is s heading joined e = absurd (omega (arith, some))
-  all-joined (page ∷ pages) last some is s heading joined e =
-      told-joined chart entries page pages old mid new s (heading ∙ ap (λ (p : Page950). old ++ statement_heading p) (is ∙ last-at page pages last)) joined e
+module _ (room : ℕ) (chart : Chart) (entries : List Entry) (old mid new : List ℕ) where
+  pub all-joined : (all : List Page950) (last : Page950) → 1 ≤ length all → last ≡ get_or all (length all - 1) last → (s : Statement) (left : ℕ) → mid ≡ old ++ statement_heading last → joined_of all ≡ Ok s
+      → Adds mid new (statement_text room chart entries s) left (statement_left room chart entries s) → Adds old new (piece_text room chart entries all) left (piece_left room chart entries all)
+  all-joined [] last some is s left heading joined told = absurd (omega (arith, some))
+  all-joined (page ∷ pages) last some is s left heading joined told =
+      told-joined room chart entries page pages old mid new s left (heading ∙ ap (λ (p : Page950). old ++ statement_heading p) (is ∙ last-at page pages last)) joined told
 
   pub all-fault : (all : List Page950) (first last : Page950) → 1 ≤ length all → first ≡ get_or all 0 first → last ≡ get_or all (length all - 1) last → (fault : PageFault) (words : List ℕ) → mid ≡ old ++ statement_heading last
-      → joined_of all ≡ Err fault → words ≡ mid ++ fault_words first.decimals fault → new ≡ words ++ line_feed → new ≡ old ++ piece_text chart entries all
+      → joined_of all ≡ Err fault → words ≡ mid ++ fault_words first.decimals fault → new ≡ words ++ line_feed → Adds old new (piece_text room chart entries all) room (piece_left room chart entries all)
   all-fault [] first last some first_is is fault words heading joined w e = absurd (omega (arith, some))
   all-fault (page ∷ pages) first last some first_is is fault words heading joined w e =
-      told-fault chart entries page pages old mid new fault words (heading ∙ ap (λ (p : Page950). old ++ statement_heading p) (is ∙ last-at page pages last)) joined
+      told-fault room chart entries page pages old mid new fault words (heading ∙ ap (λ (p : Page950). old ++ statement_heading p) (is ∙ last-at page pages last)) joined
       (w ∙ ap (λ (p : Page950). mid ++ fault_words p.decimals fault) first_is) e
+
+-- what is told so far, and of the pieces that are left: the next piece takes its part of it
+pub more-pieces : (chart : Chart) (entries : List Entry) (pieces : List (List Page950)) (i room left : ℕ) (piece : List Page950) (whole out next : List ℕ) → piece ≡ get_or pieces i piece → i < length pieces
+    → whole ≡ out ++ told_from room chart entries (drop i pieces) → Adds out next (piece_text room chart entries piece) left (piece_left room chart entries piece)
+    → whole ≡ next ++ told_from left chart entries (drop (i + 1) pieces)
+more-pieces chart entries pieces i room left piece whole out next is lt so added =
+    let rest : List (List Page950) = drop (i + 1) pieces in
+    let front : drop i pieces ≡ piece ∷ rest = drop_more pieces i piece lt ∙ ap (λ (p : List Page950). p ∷ rest) (sym is) in
+    so ∙ ap (λ (ps : List (List Page950)). out ++ told_from room chart entries ps) front
+    ∙ sym (append_assoc out (piece_text room chart entries piece) (told_from (piece_left room chart entries piece) chart entries rest))
+    ∙ (λ k. sym added.added k ++ told_from (sym added.rest k) chart entries rest)
 
 -- a fault that is told is the one that is meant
 pub meant-fault : (meant : Result Statement PageFault) (fault : PageFault) → Refuses told meant fault → told fault ≡ Some fault → meant ≡ Err fault

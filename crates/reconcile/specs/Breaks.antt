@@ -1,6 +1,5 @@
 -- What is told of the pages that were received.
-use Rattle.std.specs.Prelude.{ℕ, ◌==◌, ◌&&◌, Bool, false, List, [], ◌∷◌, ◌++◌, codes, Option, Some, None, option_and_then, Result, Ok, Err, if◌then◌else◌}
-use Rattle.std.specs.List.{flat_map}
+use Rattle.std.specs.Prelude.{◌≡◌, ℕ, ◌-◌, nat_lt, ◌==◌, ◌&&◌, Bool, false, List, [], ◌∷◌, ◌++◌, length, codes, Option, Some, None, option_and_then, Result, Ok, Err, if◌then◌else◌}
 use Rattle.std.specs.Option.{option_map_or}
 use Rattle.corr_ids.specs.Day.{yymmdd_of}
 use Rattle.corr_report.specs.Lines.{spaced}
@@ -29,30 +28,69 @@ abbrev pub nostro_of : Chart → Statement → Option AcctNo
 nostro_of chart s =
     option_and_then (λ n. if option_map_or (is_of_statement s) (account_at chart n.0) false then Some n else None) (number_of_first (has_id s.account) (accounts_of chart))
 
--- its lines against our entries
-abbrev pub statement_lines : Chart → List Entry → Statement → AcctNo → List ℕ
-statement_lines chart entries s n =
-    line_feed ++ compared_lines s.decimals (ours_of chart n.0 entries s) s.lines (compared_of chart entries n.0 s)
+-- the most of our entries that all statements together are compared with: three legs of each entry of a journal. So none is left out
+-- where each account and day come once
+abbrev pub most_compared : ℕ
+most_compared = 300000
+
+-- a statement of our account n has more entries of ours than may still be compared
+abbrev pub is_left_out : ℕ → Chart → List Entry → Statement → AcctNo → Bool
+is_left_out room chart entries s n = nat_lt room (length (ours_of chart n.0 entries s))
+
+-- its lines against our entries; or that it is left out
+abbrev pub statement_lines : ℕ → Chart → List Entry → Statement → AcctNo → List ℕ
+statement_lines room chart entries s n =
+    if is_left_out room chart entries s n then spaced (codes "LEFT" ∷ codes "OUT" ∷ []) ++ line_feed
+    else line_feed ++ compared_lines s.decimals (ours_of chart n.0 entries s) s.lines (compared_of chart entries n.0 s)
+
+-- how many entries may be compared after it
+abbrev pub lines_left : ℕ → Chart → List Entry → Statement → AcctNo → ℕ
+lines_left room chart entries s n = if is_left_out room chart entries s n then room else room - length (ours_of chart n.0 entries s)
 
 -- what is told of a statement after its name
-abbrev pub statement_text : Chart → List Entry → Statement → List ℕ
-statement_text chart entries s = option_map_or (statement_lines chart entries s) (nostro_of chart s) (spaced (codes "UNKNOWN" ∷ []) ++ line_feed)
+abbrev pub statement_text : ℕ → Chart → List Entry → Statement → List ℕ
+statement_text room chart entries s =
+    option_map_or (statement_lines room chart entries s) (nostro_of chart s) (spaced (codes "UNKNOWN" ∷ []) ++ line_feed)
+
+-- how many entries may be compared after it
+abbrev pub statement_left : ℕ → Chart → List Entry → Statement → ℕ
+statement_left room chart entries s = option_map_or (lines_left room chart entries s) (nostro_of chart s) room
 
 -- `STATEMENT NCORREUR 240603`, by the last page
 abbrev pub statement_heading : Page950 → List ℕ
 statement_heading page = codes "STATEMENT" ++ spaced (page.account ∷ yymmdd_of page.closing.day ∷ [])
 
 -- what is told of the pages after their name, with amounts of so many decimals where they are no statement
-abbrev pub joined_text : Chart → List Entry → ℕ → Result Statement PageFault → List ℕ
-joined_text chart entries decimals (Ok s) = statement_text chart entries s
-joined_text chart entries decimals (Err fault) = fault_words decimals fault ++ line_feed
+abbrev pub joined_text : ℕ → Chart → List Entry → ℕ → Result Statement PageFault → List ℕ
+joined_text room chart entries decimals (Ok s) = statement_text room chart entries s
+joined_text room chart entries decimals (Err fault) = fault_words decimals fault ++ line_feed
 
--- what is told of pages that belong together
-abbrev pub piece_text : Chart → List Entry → List Page950 → List ℕ
-piece_text chart entries [] = []
-piece_text chart entries (page ∷ pages) =
-    statement_heading (last_of page pages) ++ joined_text chart entries page.decimals (joined_of (page ∷ pages))
+-- what is told of pages that belong together, where so many entries may be compared
+abbrev pub piece_text : ℕ → Chart → List Entry → List Page950 → List ℕ
+piece_text room chart entries [] = []
+piece_text room chart entries (page ∷ pages) =
+    statement_heading (last_of page pages) ++ joined_text room chart entries page.decimals (joined_of (page ∷ pages))
+
+-- how many entries may be compared after them
+abbrev pub joined_left : ℕ → Chart → List Entry → Result Statement PageFault → ℕ
+joined_left room chart entries (Ok s) = statement_left room chart entries s
+joined_left room chart entries (Err fault) = room
+
+abbrev pub piece_left : ℕ → Chart → List Entry → List Page950 → ℕ
+piece_left room chart entries [] = room
+piece_left room chart entries (page ∷ pages) = joined_left room chart entries (joined_of (page ∷ pages))
+
+-- what is told of pieces one after another, where so many entries may be compared
+abbrev pub told_from : ℕ → Chart → List Entry → List (List Page950) → List ℕ
+told_from room chart entries [] = []
+told_from room chart entries (piece ∷ pieces) =
+    piece_text room chart entries piece ++ told_from (piece_left room chart entries piece) chart entries pieces
 
 -- what is told of all pages, piece by piece
 abbrev pub breaks_of : Chart → List Entry → List Page950 → List ℕ
-breaks_of chart entries pages = flat_map (piece_text chart entries) (pieces_of pages)
+breaks_of chart entries pages = told_from most_compared chart entries (pieces_of pages)
+
+-- a text was added, and so many entries may be compared after it
+pub record Adds (old new text : List ℕ) (left meant : ℕ) : Type 0 where
+  pub added : new ≡ old ++ text
+  pub rest : left ≡ meant

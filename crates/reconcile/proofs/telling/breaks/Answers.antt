@@ -1,12 +1,11 @@
-use Rattle.std.proofs.Common.{◌++◌, [], List, subst, sym, ap, ◌∙◌, refl}
+use Rattle.std.proofs.Common.{◌≡◌, ◌++◌, List, drop, subst, sym, ap, ◌∙◌, refl}
 use Rattle.std.specs.Prelude.{All}
-use Rattle.std.specs.List.{flat_map}
-use Rattle.std.proofs.lemmas.List.{take_all}
+use Rattle.std.proofs.lemmas.List.{append-nil, drop_all}
 use Rattle.mt950.specs.declared.page.Page950.{Page950}
 use Rattle.statement.specs.Seen.{SeenBook}
 use Rattle.reconcile.specs.Bounds.{IsIndexFor}
-use Rattle.reconcile.specs.Breaks.{piece_text}
-use Rattle.reconcile.proofs.Printed.{more-lines}
+use Rattle.reconcile.specs.Breaks.{Adds, most_compared, piece_left, piece_text, told_from}
+use Rattle.reconcile.proofs.Printed.{more-pieces}
 use Rattle.reconcile.proofs.Within.{CanBeJoined, pieces-join}
 use Rattle.reconcile.proofs.telling.breaks.Goals as goal
 
@@ -30,10 +29,20 @@ loop-piece-preserved c =
     let entries = c.args.h.now.entries in
     let book : SeenBook = record { chart = a; entries = entries } in
     let tells : IsIndexFor c.in_ok-index.index a book = record { is = c.in_ok-index.ensures; shaped = c.requires.shaped; same = refl } in
-    more-lines (piece_text a entries) c.deref-piece-items.result.now c.loop-piece.piece-index c.piece-item.result [] c.loop-piece.out c.put_piece.new.out c.piece-item.is c.loop-piece-test.true c.loop-piece.invariant
-    (c.in_ok-put_piece.ensures book tells ∙ ap (λ (piece : List Page950). c.loop-piece.out ++ piece_text a entries piece) c.as_slice.ensures)
+    let items = c.deref-piece-items.result.now in
+    let room = c.loop-piece.room in
+    let left = c.in_ok-room.room in
+    let added : Adds c.loop-piece.out c.put_piece.new.out (piece_text room a entries c.piece-item.result) left (piece_left room a entries c.piece-item.result) =
+    subst (λ (piece : List Page950). Adds c.loop-piece.out c.put_piece.new.out (piece_text room a entries piece) left (piece_left room a entries piece)) c.as_slice.ensures (c.in_ok-room.ensures book tells) in
+    more-pieces a entries items c.loop-piece.piece-index room left c.piece-item.result (told_from most_compared a entries items) c.loop-piece.out c.put_piece.new.out
+    c.piece-item.is c.loop-piece-test.true c.loop-piece.invariant added
 
 pub returns : goal.returns
 returns c =
-    let lines = piece_text c.args.a.now c.args.h.now.entries in
-    c.loop-piece.invariant ∙ ap (flat_map lines) (take_all c.loop-piece.piece-index c.deref-piece-items.result.now c.loop-piece-test.false ∙ c.deref-piece-items.ensures.value ∙ c.in_ok-groups.ensures)
+    let a = c.args.a.now in
+    let entries = c.args.h.now.entries in
+    let items = c.deref-piece-items.result.now in
+    let out = c.loop-piece.out in
+    let none : out ++ told_from c.loop-piece.room a entries (drop c.loop-piece.piece-index items) ≡ out =
+    ap (λ (ps : List (List Page950)). out ++ told_from c.loop-piece.room a entries ps) (drop_all c.loop-piece.piece-index items c.loop-piece-test.false) ∙ append-nil out in
+    sym none ∙ sym c.loop-piece.invariant ∙ ap (told_from most_compared a entries) (c.deref-piece-items.ensures.value ∙ c.in_ok-groups.ensures)

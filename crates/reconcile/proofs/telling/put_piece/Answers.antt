@@ -1,8 +1,11 @@
 use Rattle.std.proofs.Common.{◌-◌, ◌<◌, length, subst, sym, arith}
-use Rattle.std.proofs.lemmas.Result.{on_ok_weaker}
+use Rattle.std.proofs.lemmas.Result.{IfOk-weaker}
 use Rattle.fin_contents.specs.Writing.{IsReadable}
 use Rattle.mt950.specs.Joining.{joined_of}
 use Rattle.mt950.specs.Page.{mt950_of}
+use Rattle.statement.specs.Seen.{SeenBook}
+use Rattle.reconcile.specs.Bounds.{IsIndexFor}
+use Rattle.reconcile.specs.Breaks.{Adds, piece_left, piece_text, statement_left, statement_text}
 use Rattle.reconcile.proofs.Bounded.{page-day, page-decimals}
 use Rattle.reconcile.proofs.Printed.{all-fault, all-joined, meant-fault}
 use Rattle.reconcile.proofs.telling.put_piece.Goals as goal
@@ -22,13 +25,17 @@ put_fault-requires c =
 
 pub returns-in-Ok : goal.returns-in-Ok
 returns-in-Ok c =
-    on_ok_weaker c.put_statement.result (λ put book tells.
-    all-joined book.chart book.entries c.args.out.now c.put_heading.new.out c.put_statement.new.out c.args.pages.now c.index-pages-pages.result c.in-len1-up.len_at_least c.index-pages-pages.is
-    c.in-Ok.statement c.in_ok-put_heading.ensures c.in-Ok.ensures.joined (put book tells)) c.put_statement.ensures
+    IfOk-weaker c.put_statement.result
+    (λ left. (book : SeenBook) → IsIndexFor c.args.ix.now c.args.a.now book
+    → Adds c.put_heading.new.out c.put_statement.new.out (statement_text c.args.room book.chart book.entries c.in-Ok.statement) left (statement_left c.args.room book.chart book.entries c.in-Ok.statement))
+    (λ left. (book : SeenBook) → IsIndexFor c.args.ix.now c.args.a.now book
+    → Adds c.args.out.now c.put_statement.new.out (piece_text c.args.room book.chart book.entries c.args.pages.now) left (piece_left c.args.room book.chart book.entries c.args.pages.now))
+    (λ left put book tells.
+    all-joined c.args.room book.chart book.entries c.args.out.now c.put_heading.new.out c.put_statement.new.out c.args.pages.now c.index-pages-pages.result c.in-len1-up.len_at_least c.index-pages-pages.is
+    c.in-Ok.statement left c.in_ok-put_heading.ensures c.in-Ok.ensures.joined (put book tells)) c.put_statement.ensures
 
-pub returns-in_ok-put_fault-in-Err : goal.returns-in_ok-put_fault-in-Err
-returns-in_ok-put_fault-in-Err c =
-    on_ok_weaker c.push.result (λ put book tells.
-    all-fault book.chart book.entries c.args.out.now c.put_heading.new.out c.push.new.self c.args.pages.now c.first-item.result c.index-pages-pages.result c.in-len1-up.len_at_least c.first-item.is c.index-pages-pages.is
+pub returns-in_ok-push-in-Err : goal.returns-in_ok-push-in-Err
+returns-in_ok-push-in-Err c book tells =
+    all-fault c.args.room book.chart book.entries c.args.out.now c.put_heading.new.out c.push.new.self c.args.pages.now c.first-item.result c.index-pages-pages.result c.in-len1-up.len_at_least c.first-item.is c.index-pages-pages.is
     c.in-Err.fault c.put_fault.new.out c.in_ok-put_heading.ensures (meant-fault (joined_of c.args.pages.now) c.in-Err.fault c.in-Err.ensures.joined c.in_ok-put_fault-in-Err.ensures.told)
-    c.in_ok-put_fault-in-Err.ensures.words put) c.push.ensures.ok
+    c.in_ok-put_fault-in-Err.ensures.words c.in_ok-push-in-Err.ensures.ok
