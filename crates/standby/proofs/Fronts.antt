@@ -58,7 +58,7 @@ module _ (bytes : List ℕ) (number : ℕ) (r rest : List ℕ) (b : BeginsWithPa
       omega (arith, ap length b.is, length-append (packet_of number r) rest, length-append (to_be_bytes w32 number) (with_length r), length-sized r)
 
   -- the length behind its number
-  behind : drop 4 bytes ≡ with_length r ++ rest
+  pub behind : drop 4 bytes ≡ with_length r ++ rest
   behind =
       ap (λ (l : List ℕ). drop 4 l) (b.is ∙ append_assoc (to_be_bytes w32 number) (with_length r) rest)
       ∙ drop_at (to_be_bytes w32 number) (with_length r ++ rest) 4 refl

@@ -1,3 +1,4 @@
 pub mod Next
+pub mod Packets
 pub mod Shipped
 pub mod Worlds
