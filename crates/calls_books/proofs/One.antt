@@ -12,6 +12,7 @@ use Rattle.day_model.specs.Next.{entry_of}
 use Rattle.day_model.specs.Legal.{IsLegal}
 use Rattle.day_model.proofs.laws.Growth.{empty_is_legal, one_pay_more}
 use Rattle.corr_report.specs.Bookings.{AreInCentury}
+use Rattle.desk_rows.specs.Entries.{AreValued}
 
 -- it is legal where the pay fits accounts without changes
 pub only_legal : (chart : Chart) (entries : List Entry) (pay : Pay) (day : Day) → chart.changes ≡ [] → FitsAccounts chart pay → entries ≡ entry_of chart [] pay day ∷ [] → IsLegal chart entries
@@ -27,3 +28,13 @@ day_of_only only (suc i) e day at = absurd (none-some e at)
 pub only_day : (chart : Chart) (entries : List Entry) (pay : Pay) (day : Day) → InCentury day → entries ≡ entry_of chart [] pay day ∷ [] → AreInCentury entries
 only_day chart entries pay day within is =
     subst AreInCentury (sym is) (λ i e at. day_of_only (entry_of chart [] pay day) i e within at)
+
+-- the value date of the only entry
+value_of_only : (only : Entry) (i : ℕ) (e : Entry) → InCentury only.pay.value → slice_get (only ∷ []) i ≡ Some e → InCentury e.pay.value
+value_of_only only zero e value at = subst (λ (x : Entry). InCentury x.pay.value) (same_Some only e at) value
+value_of_only only (suc i) e value at = absurd (none-some e at)
+
+-- its value date is the pay's
+pub only_value : (chart : Chart) (entries : List Entry) (pay : Pay) (day value : Day) → InCentury value → pay.value ≡ value → entries ≡ entry_of chart [] pay day ∷ [] → AreValued entries
+only_value chart entries pay day value within same is =
+    subst AreValued (sym is) (λ i e at. value_of_only (entry_of chart [] pay day) i e (subst InCentury (sym same) within) at)

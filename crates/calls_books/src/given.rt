@@ -5,6 +5,7 @@ ghost use Rattle.day_model.specs.Fit.{FitsAccounts};
 ghost use Rattle.day_model.specs.Legal.{IsLegal};
 ghost use Rattle.day_model.specs.Next.{entry_of};
 ghost use Rattle.corr_report.specs.Bookings.{AreInCentury};
+ghost use Rattle.desk_rows.specs.Entries.{AreValued};
 
 use corr_ids::{Bic, Day, Mir};
 use corr_money::{Ccy, Minor};
@@ -108,7 +109,9 @@ pub(crate) fn leg(alloc: Global, account: u32, side: Side, amount: u64) -> Resul
 }
 
 // 0,03 from the first account to the second.
-pub(crate) fn pay(alloc: Global) -> Result<Pay, Memory> {
+pub(crate) fn pay(alloc: Global) -> Result<Pay, Memory>
+    ensures { IfOk result (λ p. p.value ≡ TODAY) }
+{
     let mut legs = List::new(alloc);
     legs.push(leg(alloc, 1, Side::Debit, 3)?)?;
     legs.push(leg(alloc, 2, Side::Credit, 3)?)?;
@@ -116,7 +119,9 @@ pub(crate) fn pay(alloc: Global) -> Result<Pay, Memory> {
 }
 
 // 0,03 from the second account to the third, of which 0,01 are a charge and go to the first.
-pub(crate) fn charged(alloc: Global) -> Result<Pay, Memory> {
+pub(crate) fn charged(alloc: Global) -> Result<Pay, Memory>
+    ensures { IfOk result (λ p. p.value ≡ TODAY) }
+{
     let mut legs = List::new(alloc);
     legs.push(leg(alloc, 2, Side::Debit, 3)?)?;
     legs.push(leg(alloc, 3, Side::Credit, 2)?)?;
@@ -124,7 +129,9 @@ pub(crate) fn charged(alloc: Global) -> Result<Pay, Memory> {
     pay_of(alloc, legs)
 }
 
-fn pay_of(alloc: Global, legs: List<Leg>) -> Result<Pay, Memory> {
+fn pay_of(alloc: Global, legs: List<Leg>) -> Result<Pay, Memory>
+    ensures { IfOk result (λ p. p.value ≡ TODAY) }
+{
     Ok(Pay {
         mir: FIRST,
         mt: Mt::Transfer,
@@ -155,13 +162,15 @@ fn enter(a: &Accounts, h: &mut History, pay: Pay) -> Result<(), Memory>
 }
 
 // The history of a pay.
-#[tactic(auto, using(crate::proofs::One::only_legal, crate::proofs::One::only_day))]
+#[tactic(auto, using(crate::proofs::One::only_legal, crate::proofs::One::only_day, crate::proofs::One::only_value))]
 pub(crate) fn history_of(alloc: Global, a: &Accounts, pay: Pay) -> Result<History, Memory>
     requires bare { a.now.changes ≡ [] }
     requires fits { FitsAccounts a.now pay }
+    requires value { pay.value ≡ TODAY }
     ensures legal { IfOk result (λ h. IsLegal a.now h.entries) }
     ensures one { IfOk result (λ h. length h.entries ≡ 1) }
     ensures days { IfOk result (λ h. AreInCentury h.entries) }
+    ensures values { IfOk result (λ h. AreValued h.entries) }
 {
     let mut h = History::new(alloc);
     enter(a, &mut h, pay)?;

@@ -1,2 +1,5 @@
+pub mod Added
 pub mod Counted
+pub mod Legs
+pub mod Quoted
 pub mod laws

@@ -1,7 +1,7 @@
--- Rows with commas (RFC 4180). No cell has a comma, a quote or a line end, so none needs quotes.
-use Rattle.std.specs.Prelude.{ℕ, ◌+◌, ◌-◌, ◌==◌, List, [], ◌∷◌, ◌++◌, length, take, drop, ℤ, unsigned_abs, if◌then◌else◌}
+-- Rows with commas (RFC 4180).
+use Rattle.std.specs.Prelude.{ℕ, ◌+◌, ◌-◌, ◌==◌, ◌&&◌, Bool, not, List, [], ◌∷◌, ◌++◌, length, take, drop, ℤ, unsigned_abs, if◌then◌else◌}
 use Rattle.std.specs.Int.{is_negative}
-use Rattle.std.specs.List.{flat_map}
+use Rattle.std.specs.List.{flat_map, list_all}
 use Rattle.corr_text.specs.Digits.{padded}
 
 -- cells after others, each with a comma before it
@@ -11,6 +11,27 @@ commaed cells = flat_map (λ cell. 44 ∷ cell) cells
 -- the end of a row: CR LF
 abbrev pub row_end : List ℕ
 row_end = 13 ∷ 10 ∷ []
+
+-- a byte that a cell may have without quotes: no comma, no quote, and neither CR nor LF
+abbrev pub is_bare : ℕ → Bool
+is_bare b = not (b == 44) && not (b == 34) && not (b == 13) && not (b == 10)
+
+-- a quote twice, any other byte once
+abbrev pub doubled : ℕ → List ℕ
+doubled b = if b == 34 then 34 ∷ 34 ∷ [] else b ∷ []
+
+-- a text as a cell: as it is where no byte of it needs quotes, else between quotes, with its own quotes doubled
+unfoldable pub quoted : List ℕ → List ℕ
+quoted text = if list_all is_bare text then text else 34 ∷ flat_map doubled text ++ 34 ∷ []
+
+-- cells after others, each with a comma before it, and between quotes where it needs them
+abbrev pub next_cells : List (List ℕ) → List ℕ
+next_cells cells = flat_map (λ cell. 44 ∷ quoted cell) cells
+
+-- the row of some cells
+abbrev pub row_of_cells : List (List ℕ) → List ℕ
+row_of_cells [] = row_end
+row_of_cells (cell ∷ cells) = quoted cell ++ next_cells cells ++ row_end
 
 -- the point before so many decimals: none where there are none
 abbrev pub point_of : ℕ → List ℕ

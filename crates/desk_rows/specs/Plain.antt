@@ -1,5 +1,5 @@
 -- Rows of which no cell needs quotes (RFC 4180).
-use Rattle.std.specs.Prelude.{◌≡◌, ℕ, ◌≤◌, ◌==◌, ◌&&◌, Bool, not, IsTrue, List, [], ◌∷◌, ◌++◌, length, Option, Some}
+use Rattle.std.specs.Prelude.{◌≡◌, ℕ, ◌≤◌, IsTrue, List, [], ◌∷◌, ◌++◌, length, Option, Some}
 use Rattle.std.specs.List.{list_all}
 use Rattle.corr_ids.specs.declared.day.Day.{Day}
 use Rattle.day_model.specs.Chart.{Chart, IsChart, account_at}
@@ -7,12 +7,8 @@ use Rattle.day_model.specs.Legal.{IsLegal}
 use Rattle.day_model.specs.declared.account.Account.{Account}
 use Rattle.day_model.specs.declared.entry.Entry.{Entry}
 use Rattle.desk_rows.specs.Balances.{row_of}
-use Rattle.desk_rows.specs.Csv.{commaed, row_end}
+use Rattle.desk_rows.specs.Csv.{commaed, is_bare, row_end}
 use Rattle.desk_rows.specs.Until.{entries_until}
-
--- a byte that a cell may have without quotes: no comma, no quote, and neither CR nor LF
-abbrev pub is_bare : ℕ → Bool
-is_bare b = not (b == 44) && not (b == 34) && not (b == 13) && not (b == 10)
 
 -- cells with commas between them
 abbrev pub joined : List (List ℕ) → List ℕ

@@ -3,8 +3,10 @@
 
 mod account_rows;
 mod cells;
+mod entry_rows;
 mod law;
 mod until;
 
 pub use account_rows::balances;
-pub use law::{balances_cancel, rows_are_plain};
+pub use entry_rows::entries;
+pub use law::{balances_cancel, entries_read_back, rows_are_plain};

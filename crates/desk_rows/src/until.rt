@@ -1,6 +1,6 @@
 //! Each account's totals up to a day.
 
-ghost use Rattle.std.specs.Prelude.{◌≡◌, [], IfOk, length, if◌then◌else◌};
+ghost use Rattle.std.specs.Prelude.{◌≡◌, [], IfOk, length};
 ghost use Rattle.day_model.specs.Chart.{accounts_of};
 ghost use Rattle.day_model.specs.Legal.{IsLegal};
 ghost use Rattle.day_model.specs.Totals.{HasTotals};

@@ -13,6 +13,7 @@ use Rattle.day_model.specs.Next.{entered_at, entry_of}
 use Rattle.day_model.proofs.laws.Growth.{one_pay_more, still_latest}
 use Rattle.day_model.proofs.laws.Slices.{in_pushed}
 use Rattle.corr_report.specs.Bookings.{AreInCentury}
+use Rattle.desk_rows.specs.Entries.{AreValued}
 
 -- it stays legal
 pub more_legal : (chart : Chart) (entries more : List Entry) (pay : Pay) (day : Day) → IsLegal chart entries → FitsAccounts chart pay → IsLatest entries day → length entries < 100000 → is_some (entered_at pay.mir entries) ≡ false → more ≡ entries ++ entry_of chart entries pay day ∷ [] → IsLegal chart more
@@ -30,4 +31,12 @@ more_days chart entries more pay day days within is =
     subst AreInCentury (sym is) (λ i e at. elim (in_pushed entries (entry_of chart entries pay day) i e at) [
       | inl old ↦ days i e old
       | inr new ↦ subst (λ (x : Entry). InCentury x.day) new.1 within
+    ])
+
+-- each value date does
+pub more_values : (chart : Chart) (entries more : List Entry) (pay : Pay) (day : Day) → AreValued entries → InCentury pay.value → more ≡ entries ++ entry_of chart entries pay day ∷ [] → AreValued more
+more_values chart entries more pay day values within is =
+    subst AreValued (sym is) (λ i e at. elim (in_pushed entries (entry_of chart entries pay day) i e at) [
+      | inl old ↦ values i e old
+      | inr new ↦ subst (λ (x : Entry). InCentury x.pay.value) new.1 within
     ])

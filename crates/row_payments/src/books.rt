@@ -134,23 +134,47 @@ pub fn mir(alloc: Global, number: u64) -> Result<Mir, Stop> {
     Ok(Mir(bytes))
 }
 
-fn leg(alloc: Global, account: u32, side: Side, amount: u64) -> Result<Leg, Memory> {
+/// The account that is debited, the one that is credited, and the amount.
+#[derive(Clone, Copy)]
+struct Transfer {
+    debit: u32,
+    credit: u32,
+    amount: u64,
+}
+
+fn read_transfer(words: &mut Words) -> Result<Transfer, Stop> {
+    Ok(Transfer {
+        debit: small(words)?,
+        credit: small(words)?,
+        amount: words.number()?,
+    })
+}
+
+fn leg(
+    alloc: Global,
+    account: u32,
+    side: Side,
+    amount: u64,
+    reference: &[u8],
+) -> Result<Leg, Memory> {
     Ok(Leg {
         account: AcctNo(account),
         side,
         amount: Minor(amount),
-        quote: Quote::Theirs(Text::from_bytes(alloc, b"REF1")?),
+        quote: Quote::Theirs(Text::from_bytes(alloc, reference)?),
     })
 }
 
-/// Two legs: the account that is debited, the one that is credited, and the amount.
-fn legs(alloc: Global, words: &mut Words) -> Result<List<Leg>, Stop> {
-    let debit = small(words)?;
-    let credit = small(words)?;
-    let amount = words.number()?;
+/// Both legs of a transfer, which quote this reference.
+fn legs(alloc: Global, asked: Transfer, reference: &[u8]) -> Result<List<Leg>, Stop> {
+    let Transfer {
+        debit,
+        credit,
+        amount,
+    } = asked;
     let mut legs = List::new(alloc);
-    legs.push(leg(alloc, debit, Side::Debit, amount)?)?;
-    legs.push(leg(alloc, credit, Side::Credit, amount)?)?;
+    legs.push(leg(alloc, debit, Side::Debit, amount, reference)?)?;
+    legs.push(leg(alloc, credit, Side::Credit, amount, reference)?)?;
     Ok(legs)
 }
 
@@ -190,12 +214,24 @@ fn read_message(alloc: Global, words: &mut Words) -> Result<Message, Stop> {
     })
 }
 
+/// The reference that the legs quote: the next word, or `REF1` where there is none.
+fn quoted<'a>(words: &mut Words<'a>) -> Result<&'a [u8], Stop> {
+    if words.are_used() {
+        Ok(b"REF1")
+    } else {
+        words.next()
+    }
+}
+
 /// The pay of some words: the number of its reference, the account that is debited, the one that is credited and the amount;
-/// and where they are given its text, `cover` for a cover, and its UETR.
-pub fn pay(alloc: Global, words: &mut Words) -> Result<Pay, Stop> {
+/// and where they are given its text, `cover` for a cover, its UETR, and the reference that its legs quote.
+pub fn pay(alloc: Global, words: &mut Words) -> Result<Pay, Stop>
+    ensures { IfOk result (λ p. p.value ≡ TODAY) }
+{
     let mir = mir(alloc, words.number()?)?;
-    let legs = legs(alloc, words)?;
+    let asked = read_transfer(words)?;
     let Message { text, mt, uetr } = read_message(alloc, words)?;
+    let legs = legs(alloc, asked, quoted(words)?)?;
     Ok(Pay {
         mir,
         legs,

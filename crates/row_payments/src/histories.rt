@@ -7,6 +7,7 @@ ghost use Rattle.day_model.specs.Laws.{IsLatest};
 ghost use Rattle.day_model.specs.Legal.{IsLegal};
 ghost use Rattle.day_model.specs.Next.{entry_of};
 ghost use Rattle.day_model.specs.Log.{most_entries};
+ghost use Rattle.desk_rows.specs.Entries.{AreValued};
 
 use crate::books::{TODAY, lines_in, pay};
 use corr_text::Memory;
@@ -37,9 +38,12 @@ fn enter(a: &Accounts, h: &mut History, p: Pay) -> Result<(), Stop>
     requires legal { IsLegal a.now h.old.entries }
     requires latest { IsLatest h.old.entries TODAY }
     requires days { AreInCentury h.old.entries }
+    requires values { AreValued h.old.entries }
+    requires value { p.value ≡ TODAY }
     ensures legal { OnOk result (IsLegal a.now h.new.entries) }
     ensures latest { OnOk result (IsLatest h.new.entries TODAY) }
     ensures days { OnOk result (AreInCentury h.new.entries) }
+    ensures values { OnOk result (AreValued h.new.entries) }
 {
     if !a.fits(&p) || h.find(&p.mir).is_some() || h.len() == 100_000 {
         return Err(Stop::Unreadable);
@@ -53,6 +57,7 @@ pub fn history_in(alloc: Global, a: &Accounts, lines: &[u8]) -> Result<History, 
     requires { a.now.changes ≡ [] }
     ensures legal { IfOk result (λ h. IsLegal a.now h.entries) }
     ensures days { IfOk result (λ h. AreInCentury h.entries) }
+    ensures values { IfOk result (λ h. AreValued h.entries) }
 {
     let mut h = History::new(alloc);
     for cells in lines_in(alloc, lines)?.as_slice() {

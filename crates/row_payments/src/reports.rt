@@ -9,7 +9,7 @@ use corr_ids::{Day, day_from_yymmdd};
 use corr_report::{bookings, generated, report, summary};
 use corr_text::{Code, Fault, List};
 use day_model::{History, Reply};
-use desk_rows::balances;
+use desk_rows::{balances, entries};
 use row_words::answer::Answer;
 use row_words::stop::Stop;
 use row_words::words::Words;
@@ -22,6 +22,7 @@ pub fn call(name: &[u8], words: &mut Words, answer: &mut Answer) -> Result<bool,
         b"bookings" => booked(words, answer)?,
         b"summary" => summed(words, answer)?,
         b"balances" => balanced(words, answer)?,
+        b"entries" => listed(words, answer)?,
         b"generated" => made(words, answer)?,
         _ => return Ok(false),
     }
@@ -157,6 +158,22 @@ fn balanced(words: &mut Words, answer: &mut Answer) -> Result<(), Stop> {
     let book = book_in(alloc, words.next()?)?;
     let h = history_in(alloc, &book, words.next()?)?;
     let text = balances(alloc, &book, &h, until(words)?)?;
+    Ok(answer.text(text.bytes())?)
+}
+
+/// The next word as a day.
+fn day(words: &mut Words) -> Result<Day, Stop> {
+    day_from_yymmdd(words.next()?).ok_or(Stop::Unreadable)
+}
+
+/// `entries ACCOUNTS PAYS FROM UNTIL`: the entries of the history of the pays from one day to another.
+fn listed(words: &mut Words, answer: &mut Answer) -> Result<(), Stop> {
+    let alloc = answer.alloc();
+    let book = book_in(alloc, words.next()?)?;
+    let h = history_in(alloc, &book, words.next()?)?;
+    let from = day(words)?;
+    let until = day(words)?;
+    let text = entries(alloc, &book, &h, from, until)?;
     Ok(answer.text(text.bytes())?)
 }
 

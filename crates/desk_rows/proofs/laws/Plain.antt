@@ -21,12 +21,12 @@ use Rattle.corr_ids.proofs.laws.Spelling.{bic-printed, some_if}
 use Rattle.day_model.specs.Balance.{balance_of, credits_of, debits_of}
 use Rattle.day_model.specs.Chart.{IsFormed, IsSmall, accounts_of, is_kind}
 use Rattle.day_model.proofs.laws.Changes.{list_all-then}
-use Rattle.desk_rows.specs.Csv.{commaed, point_of, pointed, row_end, signed_pointed}
-use Rattle.desk_rows.specs.Plain.{RowsArePlain, is_bare}
+use Rattle.desk_rows.specs.Csv.{commaed, is_bare, point_of, pointed, row_end, signed_pointed}
+use Rattle.desk_rows.specs.Plain.{RowsArePlain}
 use Rattle.desk_rows.specs.Until.{entries_until}
 use Rattle.desk_rows.proofs.Counted.{opening_small, small_until, totals_until_fit}
 
-abbrev AreBare : List ℕ → Type 0
+abbrev pub AreBare : List ℕ → Type 0
 AreBare bs = list_all is_bare bs ≡ true
 
 -- ---- bytes
@@ -45,7 +45,7 @@ digit_bare n lt = grind (arith, nat_tests)
 
 -- ---- texts
 
-both_bare : (a b : List ℕ) → AreBare a → AreBare b → AreBare (a ++ b)
+pub both_bare : (a b : List ℕ) → AreBare a → AreBare b → AreBare (a ++ b)
 both_bare a b p q = list_all-append is_bare a b ∙ and_from (list_all is_bare a) (list_all is_bare b) p q
 
 parts_bare : (a b : List ℕ) → AreBare (a ++ b) → AreBare a × AreBare b
@@ -76,23 +76,25 @@ zeros_bare (suc k) = zeros_bare k
 point_bare : (decimals : ℕ) → AreBare (point_of decimals)
 point_bare decimals = cond_both (decimals == 0) [] (46 ∷ []) AreBare (λ _. refl) (λ _. refl)
 
-pointed_bare : (decimals n : ℕ) → n < 2 ^ 64 → AreBare (pointed decimals n)
+pub padded_bare : (width n : ℕ) → n < 2 ^ 64 → AreBare (padded width n)
+padded_bare width n small = both_bare (replicate (width - length (decimal n)) 48) (decimal n) (zeros_bare (width - length (decimal n))) (decimal_bare n small)
+
+pub pointed_bare : (decimals n : ℕ) → n < 2 ^ 64 → AreBare (pointed decimals n)
 unfolding pointed
 pointed_bare decimals n small =
     let ds : List ℕ = padded (decimals + 1) n in
     let whole : ℕ = length ds - decimals in
-    let digits : AreBare ds = both_bare (replicate (decimals + 1 - length (decimal n)) 48) (decimal n) (zeros_bare (decimals + 1 - length (decimal n))) (decimal_bare n small) in
-    let cut = parts_bare (take whole ds) (drop whole ds) (subst AreBare (sym (take-append-drop whole ds)) digits) in
+    let cut = parts_bare (take whole ds) (drop whole ds) (subst AreBare (sym (take-append-drop whole ds)) (padded_bare (decimals + 1) n small)) in
     both_bare (take whole ds ++ point_of decimals) (drop whole ds) (both_bare (take whole ds) (point_of decimals) cut.0 (point_bare decimals)) cut.1
 
 abs_small : (v : ℤ) → IsSmall v → unsigned_abs v < 2 ^ 64
 abs_small (pos k) small = let high = small.1 in omega (arith, ints, high)
 abs_small (negsuc k) small = let low = small.0 in omega (arith, ints, low)
 
-signed_bare : (decimals : ℕ) (v : ℤ) → IsSmall v → AreBare (signed_pointed decimals v)
+pub signed_bare : (decimals : ℕ) (v : ℤ) → unsigned_abs v < 2 ^ 64 → AreBare (signed_pointed decimals v)
 unfolding signed_pointed
 signed_bare decimals v small =
-    let amount : AreBare (pointed decimals (unsigned_abs v)) = pointed_bare decimals (unsigned_abs v) (abs_small v small) in
+    let amount : AreBare (pointed decimals (unsigned_abs v)) = pointed_bare decimals (unsigned_abs v) small in
     cond_both (is_negative v) (45 ∷ pointed decimals (unsigned_abs v)) (pointed decimals (unsigned_abs v)) AreBare (λ _. amount) (λ _. amount)
 
 -- ---- rows
@@ -138,16 +140,16 @@ rows_are_plain chart entries until n account sound legal low at =
             (
               list_all-then is_ascii_uppercase is_bare account.ccy.0 letter_bare formed.ccy,
               (
-                signed_bare d account.floor ends.0,
+                signed_bare d account.floor (abs_small account.floor ends.0),
                 (
-                  signed_bare d account.ceil ends.1,
+                  signed_bare d account.ceil (abs_small account.ceil ends.1),
                   (
-                    signed_bare d account.opening (opening_small chart entries n account sound legal (low, high) at),
+                    signed_bare d account.opening (abs_small account.opening (opening_small chart entries n account sound legal (low, high) at)),
                     (
                       pointed_bare d (debits_of kept n) totals.1,
                       (
                         pointed_bare d (credits_of kept n) totals.0,
-                        (signed_bare d (balance_of chart kept n) (small_until chart entries until n sound legal (low, high)), tt),
+                        (signed_bare d (balance_of chart kept n) (abs_small (balance_of chart kept n) (small_until chart entries until n sound legal (low, high))), tt),
                       ),
                     ),
                   ),

@@ -4,7 +4,7 @@ use Rattle.day_model.specs.declared.account.Account.{Account}
 use Rattle.day_model.specs.Balance.{balance_of}
 use Rattle.day_model.specs.Chart.{IsListed, IsSmall, accounts_of}
 use Rattle.day_model.specs.Totals.{Pair}
-use Rattle.corr_report.proofs.LineLists.{numbered_more}
+use Rattle.corr_report.proofs.laws.LineLists.{numbered_more}
 use Rattle.desk_rows.specs.Balances.{account_row, balance_header, row_of}
 use Rattle.desk_rows.specs.Until.{entries_until}
 use Rattle.desk_rows.proofs.Counted.{balance_is, pair_is, small_until}

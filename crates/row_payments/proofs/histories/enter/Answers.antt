@@ -1,4 +1,4 @@
-use Rattle.std.proofs.Common.{◌≡◌, ◌<◌, false, length, arith, rules}
+use Rattle.std.proofs.Common.{◌≡◌, ◌<◌, false, length, sym, subst, arith, rules}
 use Rattle.std.specs.Prelude.{is_some}
 use Rattle.std.proofs.lemmas.Grind.{common_steps}
 use Rattle.std.proofs.lemmas.Result.{on_ok_weaker}
@@ -6,7 +6,7 @@ use Rattle.corr_ids.specs.Day.{InCentury}
 use Rattle.day_model.specs.Fit.{FitsAccounts}
 use Rattle.day_model.specs.Next.{entered_at}
 use Rattle.row_payments.specs.declared.books.TheConstants.{TODAY}
-use Rattle.row_payments.proofs.Entered.{more_legal, more_latest, more_days}
+use Rattle.row_payments.proofs.Entered.{more_legal, more_latest, more_days, more_values}
 use Rattle.row_payments.proofs.histories.enter.Goals as goal
 
 pub returns-clause-legal : goal.returns-clause-legal
@@ -26,3 +26,9 @@ pub returns-clause-days : goal.returns-clause-days
 returns-clause-days c =
     let within : InCentury TODAY = search rules in
     on_ok_weaker c.enter_new.result (more_days c.args.a.now c.args.h.now.entries c.enter_new.new.h.entries c.args.p TODAY c.requires.days within) c.enter_new.ensures
+
+pub returns-clause-values : goal.returns-clause-values
+returns-clause-values c =
+    let today : InCentury TODAY = search rules in
+    let within : InCentury c.args.p.value = subst InCentury (sym c.requires.value) today in
+    on_ok_weaker c.enter_new.result (more_values c.args.a.now c.args.h.now.entries c.enter_new.new.h.entries c.args.p TODAY c.requires.values within) c.enter_new.ensures
