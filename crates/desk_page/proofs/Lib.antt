@@ -1,0 +1,4 @@
+pub mod Balances
+pub mod Known
+pub mod Standings
+pub mod laws

@@ -1,0 +1,13 @@
+pub mod Markup
+pub mod Escaped
+pub mod Cells
+pub mod Reasons
+pub mod Row
+pub mod Books
+pub mod Messages
+pub mod AccountTable
+pub mod Ahead
+pub mod Nostros
+pub mod Twice
+pub mod Page
+pub mod Laws
