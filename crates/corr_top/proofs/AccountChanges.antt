@@ -229,7 +229,7 @@ module _ {S K D : Type 0} (source : sources.Ghosts S) (d : disks.Ghosts D) (old 
     inputs = i;
     are_for = asked;
     gives = gives;
-    rest = record { tables = tables_rest change kept; messages = λ unread. rest.messages; received = λ unread. rest.received; sent = λ unread. rest.sent; disk2 = λ unread. rest.disk2 };
+    rest = record { tables = tables_rest change kept; messages = λ unread. rest.messages; received = λ unread unpacked. rest.received; sent = λ unread. rest.sent; disk2 = λ unread. rest.disk2 };
     report = rest.report;
     out = rest.out;
   }

@@ -20,7 +20,7 @@ disk_alone : {S K D : Type 0} (old new : Room S K D) → (new ≡ record old { d
 disk_alone {S} {K} {D} old new rest = record {
   tables = λ name unread. ap (λ (r : Room S K D). table_at name r.tables) rest;
   messages = λ unread. ap (λ (r : Room S K D). r.messages) rest;
-  received = λ unread. ap (λ (r : Room S K D). r.received) rest;
+  received = λ unread unpacked. ap (λ (r : Room S K D). r.received) rest;
   sent = λ unread. ap (λ (r : Room S K D). r.sent) rest;
   disk2 = λ unread. ap (λ (r : Room S K D). r.disk2) rest;
 }

@@ -93,7 +93,7 @@ module _ {D : Type 0} (d : disks.Ghosts D) (old : Parts D) (pay : Pay) (e : Ente
           served = served;
           tried = tried_at o (asks_for pay) history faults made is.told turn before faults stop gives.2;
           in_order = in_order o (asks_for pay) history faults made is.told turn before faults stop gives.2 refl;
-          cause = cause_of o (asks_for pay) history faults made is.told turn before faults stop count refl (λ calm. (closed_alone d old.day 1 left left old history calm served.leaves).0) gives.2;
+          cause = cause_of o (asks_for pay) history faults made is.told turn before faults stop count refl (λ calm. (closed_alone d old.day 1 1 left left old history calm served.leaves).0) gives.2;
         },
       )
 

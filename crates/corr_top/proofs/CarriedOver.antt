@@ -196,7 +196,7 @@ module _ {S K D : Type 0} (source : sources.Ghosts S) (d : disks.Ghosts D) (old 
     rest = record {
       tables = λ name unread. ap (λ t. table_at name t) rest.tables;
       messages = λ unread. rest.messages;
-      received = λ unread. rest.received;
+      received = λ unread unpacked. rest.received;
       sent = λ unread. rest.sent;
       disk2 = λ unread. absurd (unread (contained Step.copy migrate_steps refl));
     };

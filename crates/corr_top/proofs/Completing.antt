@@ -32,7 +32,6 @@ use Rattle.jrn_book.specs.Journal.{file_of}
 use Rattle.jrn_book.specs.Opening.{BookOpenCause, Finding, IsFound, IsFoundIn, found_by, book, faulty, no_book, other_version}
 use Rattle.jrn_book.proofs.laws.Items.{by_later}
 use Rattle.jrn_book.proofs.laws.Findings.{one_finding, one_finding_in}
-use Rattle.jrn_file.specs.Faults.{TellsCounts}
 use Rattle.jrn_file.specs.Reading.{Reading, opened_of}
 use Rattle.jrn_file.specs.declared.fault.MakeFault.{MakeFault}
 use Rattle.jrn_file.specs.declared.fault.MakeFault.TheVariants as making
@@ -63,7 +62,7 @@ use Rattle.corr_top.specs.declared.tables.TableStop.{TableStop}
 use Rattle.corr_top.specs.declared.tables.TableStop.TheVariants as table
 use Rattle.corr_top.specs.declared.words.Command.{Command}
 use Rattle.corr_top.specs.declared.words.Command.TheVariants.{Run, Trial, Plain, Return}
-use Rattle.corr_top.specs.declared.words.Plain.TheVariants.{Change, Generate, Init, Mend, Migrate, Query, Reconcile}
+use Rattle.corr_top.specs.declared.words.Plain.TheVariants.{Change, Follow, Generate, Init, Mend, Migrate, Query, Reconcile, Check, Page}
 use Rattle.corr_top.specs.Booking.{IsEnteredOn, IsBack, LacksRoomThen, StopsBooking, StopsEntering}
 use Rattle.corr_top.specs.Change.{change_steps}
 use Rattle.corr_top.specs.Changed.{StopsChanging, lent_in, opened_by, row_fault, what_in, what_of, words_fault}
@@ -71,17 +70,20 @@ use Rattle.corr_top.specs.Commands.{meaning_of}
 use Rattle.corr_top.specs.Copied.{HasSecond, HoldsOld, OnSecond, StopsCopying, StopsOpeningOld}
 use Rattle.corr_top.specs.Complete.{HasRoomForAll, IsReady, IsFaultless, IsSure, TellsAll}
 use Rattle.corr_top.specs.Ends.{Ends, HasStopped}
+use Rattle.corr_top.specs.Follow.{follow_steps}
+use Rattle.corr_top.specs.Followed.{ArePackets, IsTakeable}
 use Rattle.corr_top.specs.Init.{init_steps}
 use Rattle.corr_top.specs.Inputs.{Inputs, accounts_in, directory_in, pays_of, tables_in}
 use Rattle.corr_top.specs.Message.{pays_in, readings_of}
 use Rattle.corr_top.specs.Mend.{mend_steps}
 use Rattle.corr_top.specs.MessageFile.{IsMessageFile, StopsCutting}
 use Rattle.corr_top.specs.Migrate.{migrate_steps}
+use Rattle.corr_top.specs.Page.{page_steps}
 use Rattle.corr_top.specs.OnDisk.{HoldsJournal, IsMakeable, StopsMaking, StopsOpening}
 use Rattle.corr_top.specs.Passing.{Bad, Balances, HasMessages, StepIsUntouched, Passes, StopsAt, StopsAtMessages, StopsAtSent, StopsAtSums, StopsAtTable, most_sent_bytes, table_fault, table_file}
-use Rattle.corr_top.specs.Reading.{Failed}
 use Rattle.corr_top.specs.Query.{query_steps}
 use Rattle.corr_top.specs.Reconcile.{reconcile_steps}
+use Rattle.corr_top.specs.Check.{check_steps}
 use Rattle.corr_top.specs.Return.{return_steps}
 use Rattle.corr_top.specs.Returned.{IsReturnable}
 use Rattle.corr_top.specs.Run.{run_steps}
@@ -89,6 +91,10 @@ use Rattle.corr_top.specs.Steps.{Halts, Step, Walks}
 use Rattle.corr_top.specs.Stops.{status_of_booking, status_of_change, status_of_copying, status_of_file, status_of_making, status_of_opening, status_of_return, status_of_sums, status_of_table}
 use Rattle.corr_top.specs.Writing.{FailsWriting}
 use Rattle.corr_top.proofs.MessageFiles.{no-fault}
+use Rattle.standby.specs.declared.packet.Packet.{Packet}
+use Rattle.standby.specs.Held.{Held}
+use Rattle.corr_top.proofs.FaultCounts.{same_rose, tells_rose}
+use Rattle.corr_top.proofs.FollowedDisk.{beginning_memory, one_cut, packets_memory, same_held, taking_memory}
 use Rattle.corr_top.proofs.Rooms.{has_room}
 use Rattle.day_model.proofs.laws.Fronts.{legal_front}
 use Rattle.corr_top.proofs.Fronts.{All-front}
@@ -108,6 +114,8 @@ Agrees j i Step.open_journal = SameJournal j i
 Agrees j i Step.messages = j.cut ≡ i.cut
 Agrees j i Step.received = j.cut ≡ i.cut
 Agrees j i Step.old_journal = SameJournal j i
+Agrees j i Step.begin = j.held ≡ i.held
+Agrees j i Step.packets = j.packets ≡ i.packets
 Agrees j i _ = Unit {0}
 
 -- the tables of banks, currencies and countries are passed
@@ -150,6 +158,10 @@ IsAfter change done Step.old_journal = Unit {0}
 IsAfter change done Step.copy = Has done Step.old_journal
 IsAfter change done Step.make_return = Has done Step.open_journal
 IsAfter change done Step.book_return = Has done Step.open_journal
+IsAfter change done Step.begin = Unit {0}
+IsAfter change done Step.packets = Unit {0}
+IsAfter change done Step.take = Has done Step.begin × Has done Step.packets
+IsAfter change done Step.aside = Unit {0}
 
 abbrev AreOrdered : AccountChange → List Step → List Step → Type 0
 AreOrdered change done [] = Unit {0}
@@ -191,12 +203,6 @@ same_what j i done (Open words) has all = ap (λ (known : Tables). opened_by kno
 same_what j i done (Limit id ends) has all = refl
 
 -- ---- a step that stops wants memory
-
-same_rose : {A : Type 0} (faults : A → ℕ) (old new : A) (then now : ℕ) → Failed faults old new then now → Rose (faults old) (faults new)
-same_rose faults old new then now f = subst (λ n. Rose n (faults new)) f.then_is (subst (λ n. Rose then n) f.now_is f.rose)
-
-pub tells_rose : (old before after new : ℕ) → TellsCounts old before after new → Rose old new
-tells_rose old before after new t = subst (λ n. Rose n new) t.before_is (subst (λ n. Rose before n) t.after_is t.rose)
 
 pub table_memory : {S : Type 0} (source : sources.Ghosts S) (old new : S) (bytes meant_bytes : List ℕ) (fault meant : Option Bad) (stop : TableStop) → TellsAll source old new meant_bytes → meant ≡ None → length meant_bytes ≤ 8388608
     → (bytes ≡ meant_bytes → fault ≡ meant) → StopsAtTable source old new bytes fault stop → status_of_table stop ≡ status.Memory
@@ -275,19 +281,19 @@ module _ (chart : Chart) (history : List Entry) (pays : List Pay) (day : Day) (a
   front_added each lacks = All-front (IsEnteredOn day pays) lacks.front lacks.later (subst (λ (es : List Entry). All (IsEnteredOn day pays) es) (added_is history added lacks.front lacks.later lacks.left_is) each)
 
 -- pays that have room
-entering_memory : {D : Type 0} (d : disks.Ghosts D) (old new : D) (chart : Chart) (history : List Entry) (pays : List Pay) (day : Day) (workers : ℕ) (stop : BookStop) → IsSure d old new → AreBy (length history) chart → HasRoomForAll chart history pays
-    → StopsEntering d old new chart history pays day workers stop → status_of_booking stop ≡ status.Memory
-entering_memory d old new chart history pays day workers (booking.DiskFault b a) sure by room stops = absurd (sure.sound (tells_rose (d.faults old) b a (d.faults new) stops.cause))
-entering_memory d old new chart history pays day workers (booking.Full entries end need) sure by room stops =
+entering_memory : {D : Type 0} (d : disks.Ghosts D) (old new : D) (chart : Chart) (history : List Entry) (pays : List Pay) (day : Day) (workers most : ℕ) (stop : BookStop) → IsSure d old new → AreBy (length history) chart → HasRoomForAll chart history pays
+    → StopsEntering d old new chart history pays day workers most stop → status_of_booking stop ≡ status.Memory
+entering_memory d old new chart history pays day workers most (booking.DiskFault b a) sure by room stops = absurd (sure.sound (tells_rose (d.faults old) b a (d.faults new) stops.cause))
+entering_memory d old new chart history pays day workers most (booking.Full entries end need) sure by room stops =
     absurd (has_room chart history pays day (history ++ stops.added) entries end need by room stops.cause.1
     (front_legal chart history pays day stops.added by stops.cause.1 stops.journal.legal) (front_added chart history pays day stops.added stops.each stops.cause.1))
-entering_memory d old new chart history pays day workers booking.Memory sure by room stops = refl
+entering_memory d old new chart history pays day workers most booking.Memory sure by room stops = refl
 
 booking_memory : {D : Type 0} (d : disks.Ghosts D) (old new : D) (j i : Inputs) (stop : BookStop) → IsSure d old new → HasRoomForAll i.chart i.history (pays_of i) → SameJournal j i → pays_of j ≡ pays_of i
     → StopsBooking d old new j stop → status_of_booking stop ≡ status.Memory
 booking_memory d old new j i stop sure room same pays stops =
     let by : AreBy (length j.history) j.chart = subst (λ (x : List Entry × Chart). AreBy (length x.0) x.1) (λ k. (sym same.history k, sym same.chart k)) same.by_now in
-    entering_memory d old new j.chart j.history (pays_of j) j.day j.workers stop sure by
+    entering_memory d old new j.chart j.history (pays_of j) j.day j.workers j.entries stop sure by
     (subst (λ (c : Chart). HasRoomForAll c j.history (pays_of j)) (sym same.chart) (subst (λ (h : List Entry). HasRoomForAll i.chart h (pays_of j)) (sym same.history) (subst (λ (ps : List Pay). HasRoomForAll i.chart i.history ps) (sym pays) room)))
     stops
 
@@ -405,7 +411,15 @@ module _ {S K D : Type 0} (source : sources.Ghosts S) (d : disks.Ghosts D) (old 
       let back = stops.2 in
       let may : IsReturnable i back.0 = subst (λ (x : Chart × (List Entry × (ℕ × Day))). MayReturn x.0 x.1.0 x.1.1.0 x.1.1.1 back.0) (λ k. (journal.chart k, (journal.history k, (place k, day k)))) back.1 in
       let room = subst (λ (x : List Entry × Chart). HasRoomForAll x.1 x.0 (back.0 ∷ [])) (λ k. (sym journal.history k, sym journal.chart k)) (ready.1 back.0 may) in
-      stops.1 ∙ entering_memory d old.disk new.disk j.chart j.history (back.0 ∷ []) j.day 1 stops.0 ready.0 by room back.2
+      stops.1 ∙ entering_memory d old.disk new.disk j.chart j.history (back.0 ∷ []) j.day 1 1 stops.0 ready.0 by room back.2
+  step_memory s done Step.begin after all ready stops = stops.1 ∙ beginning_memory d old.disk new.disk i.held stops.0 ready.0 ready.1 stops.2
+  step_memory s done Step.packets after all ready stops = stops.1 ∙ packets_memory source old.received new.received j.messages i.messages i.packets stops.0 ready.0 ready.1 ready.2 stops.2
+  step_memory s done Step.take after all ready stops =
+      let held = walked (Agrees j i) done Step.begin all after.0 in
+      let packets = walked (Agrees j i) done Step.packets all after.1 in
+      let may = subst (λ (x : Held × List Packet). IsTakeable x.0 x.1) (λ k. (sym held k, sym packets k)) ready.1 in
+      stops.2 ∙ taking_memory d old.disk new.disk j.held j.packets stops.0 stops.1 ready.0 may stops.3
+  step_memory s done Step.aside after all ready stops = absurd stops
 
   -- the messages of a file that was read are those that were told
   cut_agrees : (from to : S) → TellsAll source from to i.messages → IsMessageFile i.messages i.cut → HasMessages source from to j.messages j.cut → j.cut ≡ i.cut
@@ -433,6 +447,12 @@ module _ {S K D : Type 0} (source : sources.Ghosts S) (d : disks.Ghosts D) (old 
   step_agrees Step.copy ready passes = tt
   step_agrees Step.make_return ready passes = tt
   step_agrees Step.book_return ready passes = tt
+  step_agrees Step.begin ready passes = same_held (d.reads old.disk) j.held i.held (passes.told ready.0.told) (ready.1.told ready.0.told)
+  step_agrees Step.packets ready passes =
+      let same = took_whole source.left source.faults 67108864 old.received new.received j.messages i.messages ready.0.told ready.1 passes.file.took in
+      one_cut i.messages j.packets i.packets (subst (λ (b : List ℕ). ArePackets b j.packets) same passes.are) ready.2
+  step_agrees Step.take ready passes = tt
+  step_agrees Step.aside ready passes = tt
 
   halts_memory : (s : Status) (done steps : List Step) → AreOrdered i.change done steps → Walks (Agrees j i) done → Walks (IsReady source d old new i) steps
       → Halts (Passes source d old new j) (StopsAt source d old new j s) (StepIsUntouched d old new) steps → s ≡ status.Memory
@@ -483,7 +503,7 @@ change_ordered (Limit id ends) = (tt, ((find Step.open_journal (Step.open_journa
 
 ordered : (change : AccountChange) (command : Command) → IsAsked change command → AreOrdered change [] (meaning_of command).steps
 unfolding meaning_of
-ordered change (Run day workers) is =
+ordered change (Run day workers entries) is =
     let ssi = three_in after_banks refl refl refl in
     let charges = three_in (Step.table names.Ssi ∷ after_banks) refl refl refl in
     (tt, (tt, (tt, (ssi, (charges, (tt, (find Step.open_journal after_journal refl, (tt, (all_read, tt)))))))))
@@ -497,12 +517,20 @@ ordered change (Plain (Init home)) is =
     (tt, (tt, (tt, (three_in after_banks refl refl refl, ((three, find (Step.table names.Accounts) accounts refl), (tt, tt))))))
 ordered change (Plain (Query asked)) is = (tt, tt)
 ordered change (Plain Reconcile) is = (tt, (tt, (tt, (tt, (tt, tt)))))
+ordered change (Plain (Check home)) is = (tt, (tt, (tt, (tt, (tt, tt)))))
 ordered change (Plain (Generate count seed)) is = tt
 ordered change (Plain (Change asked)) is = subst (λ (x : AccountChange). AreOrdered x [] (change_steps asked)) (sym is) (change_ordered asked)
 ordered change (Plain (Mend from until)) is = (tt, (tt, tt))
 ordered change (Plain Migrate) is =
     let done = Step.old_journal ∷ Step.second ∷ [] in
     (tt, (tt, (find Step.old_journal done refl, tt)))
+ordered change (Plain Follow) is =
+    let done = Step.packets ∷ Step.begin ∷ [] in
+    (tt, (tt, ((find Step.begin done refl, find Step.packets done refl), tt)))
+ordered change (Plain (Page day)) is =
+    let ssi = three_in after_banks refl refl refl in
+    let charges = three_in (Step.table names.Ssi ∷ after_banks) refl refl refl in
+    (tt, (tt, (tt, (ssi, (charges, (tt, (tt, tt)))))))
 
 no_write_fault : {K : Type 0} (sink : sinks.Ghosts K) (old new : K) (report : List ℕ) (from to : K) (out : List ℕ) (then now : ℕ) → (Rose (sink.faults old) (sink.faults new) → ⊥) → (Rose (sink.faults from) (sink.faults to) → ⊥)
     → FailsWriting sink.held sink.faults old new report from to out then now → ⊥
@@ -513,8 +541,8 @@ no_write_fault sink old new report from to out then now sound sent (inr f) = sen
 stopped_memory : {S K D : Type 0} (source : sources.Ghosts S) (d : disks.Ghosts D) (sink : sinks.Ghosts K) (command : Command) (old new : Room S K D) (j i : Inputs) (s : Status)
     → (meaning_of command).is_for j → IsFaultless source sink d (meaning_of command) old new i → HasStopped source d (meaning_of command) old new s j → s ≡ status.Memory
 unfolding meaning_of
-stopped_memory source d sink (Run day workers) old new j i s is sound (inl halts) =
-    halts_memory source d old new j (record i { home = j.home; change = j.change; place = j.place }) refl (is.0 ∙ sym sound.are_for.0) refl refl s [] run_steps (ordered j.change (Run day workers) tt) tt sound.ready halts
+stopped_memory source d sink (Run day workers entries) old new j i s is sound (inl halts) =
+    halts_memory source d old new j (record i { home = j.home; change = j.change; place = j.place }) refl (is.0 ∙ sym sound.are_for.0) refl refl s [] run_steps (ordered j.change (Run day workers entries) tt) tt sound.ready halts
 stopped_memory source d sink (Trial count seed workers) old new j i s is sound (inl halts) = absurd halts
 stopped_memory source d sink (Return place day) old new j i s is sound (inl halts) =
     halts_memory source d old new j (record i { home = j.home; change = j.change }) refl (is.1 ∙ sym sound.are_for.1) refl (is.0 ∙ sym sound.are_for.0) s [] return_steps (ordered j.change (Return place day) tt) tt sound.ready halts
@@ -524,6 +552,8 @@ stopped_memory source d sink (Plain (Query asked)) old new j i s is sound (inl h
     halts_memory source d old new j (record i { home = j.home; day = j.day; change = j.change; place = j.place }) refl refl refl refl s [] query_steps (ordered j.change (Plain (Query asked)) tt) tt sound.ready halts
 stopped_memory source d sink (Plain Reconcile) old new j i s is sound (inl halts) =
     halts_memory source d old new j (record i { home = j.home; day = j.day; change = j.change; place = j.place }) refl refl refl refl s [] reconcile_steps (ordered j.change (Plain Reconcile) tt) tt sound.ready halts
+stopped_memory source d sink (Plain (Check home)) old new j i s is sound (inl halts) =
+    halts_memory source d old new j (record i { day = j.day; change = j.change; place = j.place }) (is ∙ sym sound.are_for) refl refl refl s [] check_steps (ordered j.change (Plain (Check home)) tt) tt sound.ready halts
 stopped_memory source d sink (Plain (Generate count seed)) old new j i s is sound (inl halts) = absurd halts
 stopped_memory source d sink (Plain (Change (Open words))) old new j i s is sound (inl halts) =
     halts_memory source d old new j (record i { home = j.home; day = j.day; place = j.place }) refl refl (is ∙ sym sound.are_for) refl s [] (change_steps (Open words)) (ordered i.change (Plain (Change (Open words))) sound.are_for) tt sound.ready halts
@@ -533,6 +563,10 @@ stopped_memory source d sink (Plain (Mend from until)) old new j i s is sound (i
     halts_memory source d old new j (record i { home = j.home; day = j.day; change = j.change; place = j.place }) refl refl refl refl s [] mend_steps (ordered j.change (Plain (Mend from until)) tt) tt sound.ready halts
 stopped_memory source d sink (Plain Migrate) old new j i s is sound (inl halts) =
     halts_memory source d old new j (record i { home = j.home; day = j.day; change = j.change; place = j.place }) refl refl refl refl s [] migrate_steps (ordered j.change (Plain Migrate) tt) tt sound.ready halts
+stopped_memory source d sink (Plain Follow) old new j i s is sound (inl halts) =
+    halts_memory source d old new j (record i { home = j.home; day = j.day; change = j.change; place = j.place }) refl refl refl refl s [] follow_steps (ordered j.change (Plain Follow) tt) tt sound.ready halts
+stopped_memory source d sink (Plain (Page day)) old new j i s is sound (inl halts) =
+    halts_memory source d old new j (record i { home = j.home; change = j.change; place = j.place }) refl (is ∙ sym sound.are_for) refl refl s [] page_steps (ordered j.change (Plain (Page day)) tt) tt sound.ready halts
 stopped_memory source d sink command old new j i s is sound (inr memory) = memory.1
 
 pub done_or_memory : {S K D : Type 0} (source : sources.Ghosts S) (d : disks.Ghosts D) (sink : sinks.Ghosts K) (command : Command) (old new : Room S K D) (s : Status) (i : Inputs)

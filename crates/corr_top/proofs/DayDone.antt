@@ -43,7 +43,7 @@ use Rattle.corr_top.proofs.Fronts.{All-after}
 use Rattle.corr_top.proofs.NoRoom.{finds_none}
 use Rattle.corr_top.proofs.Origins.{sent-valid}
 use Rattle.corr_top.proofs.Replying.{get_all}
-use Rattle.corr_top.proofs.Workers.{get_there, unmapped}
+use Rattle.corr_top.proofs.Batches.{get_there, unmapped}
 
 -- the entries after the opening have the shape of what is written down
 shapes_of : (base added history : List Entry) → history ≡ base ++ added → All IsEntry history → All HasPayShape added
@@ -157,10 +157,10 @@ module _ (o : Opening) (readings : List (Result Pay NoPay)) (history : List Entr
       (calm (subst (λ (x : ℕ × ℕ). IsCalm x.0 x.1) (λ k. (was k, is k)) stops.0), lacks_of entries end need stops.1, λ one. (turn one).short entries end need stops.1)
   cause_of before after booking.Memory was is calm stops = tt
 
-module _ {S D : Type 0} (source : sources.Ghosts S) (d : disks.Ghosts D) (directory : Directory) (workers : ℕ) (from to : S) (old : Parts D) (new : D) (bytes : List ℕ) (cut : List (List ℕ)) (file : HasMessages source from to bytes cut)
-    (history : List Entry) (left : HasServed d (opening_with d old workers 1) (past_of d old) (readings_of directory old.accounts cut) old.accounts history new) where
+module _ {S D : Type 0} (source : sources.Ghosts S) (d : disks.Ghosts D) (directory : Directory) (workers most : ℕ) (from to : S) (old : Parts D) (new : D) (bytes : List ℕ) (cut : List (List ℕ)) (file : HasMessages source from to bytes cut)
+    (history : List Entry) (left : HasServed d (opening_with d old workers most) (past_of d old) (readings_of directory old.accounts cut) old.accounts history new) where
   abbrev books : Opening
-  books = opening_with d old workers 1
+  books = opening_with d old workers most
 
   abbrev readings : List (Result Pay NoPay)
   readings = readings_of directory old.accounts cut
@@ -171,7 +171,7 @@ module _ {S D : Type 0} (source : sources.Ghosts S) (d : disks.Ghosts D) (direct
   still (inr failed) calm = absurd (calm failed.0)
 
   -- there was no memory to serve any message
-  pub day_unserved : history ≡ old.base → GivesDay source d directory workers from to old new (Err (status_of_booking booking.Memory))
+  pub day_unserved : history ≡ old.base → GivesDay source d directory workers most from to old new (Err (status_of_booking booking.Memory))
   day_unserved none = inr (record {
     stop = booking.Memory;
     bytes = bytes;
@@ -188,7 +188,7 @@ module _ {S D : Type 0} (source : sources.Ghosts S) (d : disks.Ghosts D) (direct
   module _ (made : List Served) (told : AreTold books history readings made) (turn : workers ≡ 1 → AreServedInOrder books history readings made) where
     -- its texts were made
     pub day_done : (count before : ℕ) (texts : Texts) → before ≡ old.at_open → count ≡ length old.base → AreInstructions directory.tables directory.ssi → IsChart old.accounts
-        → GivesTexts old.accounts history made before (d.faults new) count (Ok texts) → GivesDay source d directory workers from to old new (Ok texts)
+        → GivesTexts old.accounts history made before (d.faults new) count (Ok texts) → GivesDay source d directory workers most from to old new (Ok texts)
     day_done count before texts was counted are sound gives =
         let replies = gives.0 in
         let calm = subst (λ (n : ℕ). IsCalm n (d.faults new)) was gives.2 in
@@ -209,7 +209,7 @@ module _ {S D : Type 0} (source : sources.Ghosts S) (d : disks.Ghosts D) (direct
         )
 
     -- or not
-    pub day_stops : (count before : ℕ) (s : Status) → before ≡ old.at_open → GivesTexts old.accounts history made before (d.faults new) count (Err s) → GivesDay source d directory workers from to old new (Err s)
+    pub day_stops : (count before : ℕ) (s : Status) → before ≡ old.at_open → GivesTexts old.accounts history made before (d.faults new) count (Err s) → GivesDay source d directory workers most from to old new (Err s)
     day_stops count before s was gives = inr (record {
       stop = gives.0;
       bytes = bytes;
@@ -229,21 +229,21 @@ module _ {S D : Type 0} (source : sources.Ghosts S) (d : disks.Ghosts D) (direct
 left_on : {D : Type 0} (d : disks.Ghosts D) (o : Opening) (past : ℕ → List ℕ → Type 0) (readings : List (Result Pay NoPay)) (chart : Chart) (history : List Entry) (left : D) → HasServed d o past readings chart history left → HasServed d o past readings o.accounts history left
 left_on d o past asked chart history left has = record { accounts = refl; added = has.added; is = has.is; each = has.each; journal = has.journal; leaves = has.leaves; in_turn = has.in_turn; honest = has.honest }
 
-module _ {S D : Type 0} (source : sources.Ghosts S) (d : disks.Ghosts D) (directory : Directory) (workers : ℕ) (from to : S) (old : Parts D) (bytes : List ℕ) (cut : List (List ℕ)) (file : HasMessages source from to bytes cut)
+module _ {S D : Type 0} (source : sources.Ghosts S) (d : disks.Ghosts D) (directory : Directory) (workers most : ℕ) (from to : S) (old : Parts D) (bytes : List ℕ) (cut : List (List ℕ)) (file : HasMessages source from to bytes cut)
     (are : AreInstructions directory.tables directory.ssi) (sound : IsChart old.accounts) (count before : ℕ) (was : before ≡ old.at_open) (counted : count ≡ length old.base) where
-  by_served : {V M : Type 0} (items : V → List Served) (history : List Entry) (new : D) → HasServed d (opening_with d old workers 1) (past_of d old) (readings_of directory old.accounts cut) old.accounts history new
-      → (served : Result V M) → IfOk served (λ made. AreTold (opening_with d old workers 1) history (readings_of directory old.accounts cut) (items made))
-      → IfOk served (λ made. workers ≡ 1 → AreServedInOrder (opening_with d old workers 1) history (readings_of directory old.accounts cut) (items made)) → IfErr served (λ _. history ≡ old.base)
+  by_served : {V M : Type 0} (items : V → List Served) (history : List Entry) (new : D) → HasServed d (opening_with d old workers most) (past_of d old) (readings_of directory old.accounts cut) old.accounts history new
+      → (served : Result V M) → IfOk served (λ made. AreTold (opening_with d old workers most) history (readings_of directory old.accounts cut) (items made))
+      → IfOk served (λ made. workers ≡ 1 → AreServedInOrder (opening_with d old workers most) history (readings_of directory old.accounts cut) (items made)) → IfErr served (λ _. history ≡ old.base)
       → (r : Result Texts Status) → IfOk served (λ made. GivesTexts old.accounts history (items made) before (d.faults new) count r) → IfErr served (λ _. r ≡ Err status.Memory)
-      → GivesDay source d directory workers from to old new r
-  by_served items history new left (Ok made) told turn none (Ok texts) gives memory = day_done source d directory workers from to old new bytes cut file history left (items made) told turn count before texts was counted are sound gives
-  by_served items history new left (Ok made) told turn none (Err s) gives memory = day_stops source d directory workers from to old new bytes cut file history left (items made) told turn count before s was gives
+      → GivesDay source d directory workers most from to old new r
+  by_served items history new left (Ok made) told turn none (Ok texts) gives memory = day_done source d directory workers most from to old new bytes cut file history left (items made) told turn count before texts was counted are sound gives
+  by_served items history new left (Ok made) told turn none (Err s) gives memory = day_stops source d directory workers most from to old new bytes cut file history left (items made) told turn count before s was gives
   by_served items history new left (Err e) told turn none r gives memory =
-      subst (GivesDay source d directory workers from to old new) (sym memory) (day_unserved source d directory workers from to old new bytes cut file history left none)
+      subst (GivesDay source d directory workers most from to old new) (sym memory) (day_unserved source d directory workers most from to old new bytes cut file history left none)
 
-  pub day_ends : (day : ServedDay D) → AllServed d (opening_with d old workers 1) (past_of d old) (readings_of directory old.accounts cut) day → (r : Result Texts Status) → GivesServed d day before count r → GivesDay source d directory workers from to old day.closed.disk r
+  pub day_ends : (day : ServedDay D) → AllServed d (opening_with d old workers most) (past_of d old) (readings_of directory old.accounts cut) day → (r : Result Texts Status) → GivesServed d day before count r → GivesDay source d directory workers most from to old day.closed.disk r
   day_ends day all r gives =
-      by_served (λ made. made.items) day.closed.history.entries day.closed.disk (left_on d (opening_with d old workers 1) (past_of d old) (readings_of directory old.accounts cut) day.closed.accounts day.closed.history.entries day.closed.disk all.left)
+      by_served (λ made. made.items) day.closed.history.entries day.closed.disk (left_on d (opening_with d old workers most) (past_of d old) (readings_of directory old.accounts cut) day.closed.accounts day.closed.history.entries day.closed.disk all.left)
       day.served all.told all.turn all.none r
       (subst (λ (c : Chart). IfOk day.served (λ made. GivesTexts c day.closed.history.entries made.items before (d.faults day.closed.disk) count r)) all.left.accounts gives.texts) gives.none
 

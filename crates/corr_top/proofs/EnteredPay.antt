@@ -13,7 +13,6 @@ use Rattle.day_model.specs.declared.pay.Pay.{Pay}
 use Rattle.front_word.specs.Known.{PassKnows}
 use Rattle.jrn_book.specs.Answers.{Answer}
 use Rattle.jrn_book.specs.Journal.{IsJournal}
-use Rattle.work_pool.specs.Served.{AreServed}
 use Rattle.corr_top.specs.Booking.{IsEnteredOn}
 use Rattle.corr_top.specs.Message.{pays_in}
 use Rattle.corr_top.specs.Returning.{IsEntered, asks_for}
@@ -22,6 +21,7 @@ use Rattle.corr_top.specs.Workers.{Worker}
 use Rattle.corr_top.specs.declared.desk.Served.{Served}
 use Rattle.corr_top.specs.declared.message.NoPay.{NoPay}
 use Rattle.corr_top.specs.declared.returning.Entered.{Entered}
+use Rattle.corr_top.proofs.Batches.{HaveServed}
 use Rattle.corr_top.proofs.OnePay.{afterwards, one_served}
 use Rattle.corr_top.proofs.Workers.{Serving, all_added, are_told, turn}
 
@@ -34,8 +34,8 @@ module _ (o : Opening) (pay : Pay) (news : List PassKnows) (q p : PassKnows) (is
   abbrev after : List Worker
   after = afterwards o pay q p made answer told shape is ∷ []
 
-  served : AreServed (Serving o asks (pay ∷ [])) (map starting news) (pay ∷ []) after (made ∷ [])
-  served = subst (λ (ns : List PassKnows). AreServed (Serving o asks (pay ∷ [])) (map starting ns) (pay ∷ []) after (made ∷ [])) (sym is_one) (one_served o pay q p made answer told shape is)
+  served : HaveServed (Serving o asks (pay ∷ [])) (map starting news) (pay ∷ []) after (made ∷ [])
+  served = subst (λ (ns : List PassKnows). HaveServed (Serving o asks (pay ∷ [])) (map starting ns) (pay ∷ []) after (made ∷ [])) (sym is_one) (one_served o pay q p made answer told shape is)
 
   pub pay_added : All (IsEnteredOn o.day (pays_in (asks_for pay))) (entries_of closes.log)
   pay_added = all_added o asks (pay ∷ []) news after history faults new closes (made ∷ []) served

@@ -81,7 +81,7 @@ module _ {S K D : Type 0} (source : sources.Ghosts S) (d : disks.Ghosts D) (home
   keeps_rest ssi charges rest = record {
     tables = tables_rest ssi charges;
     messages = λ unread. ap (λ (r : Room S K D). r.messages) rest;
-    received = λ unread. ap (λ (r : Room S K D). r.received) rest;
+    received = λ unread unpacked. ap (λ (r : Room S K D). r.received) rest;
     sent = λ unread. ap (λ (r : Room S K D). r.sent) rest;
     disk2 = λ unread. ap (λ (r : Room S K D). r.disk2) rest;
   }
@@ -96,7 +96,7 @@ module _ {S K D : Type 0} (source : sources.Ghosts S) (d : disks.Ghosts D) (home
     rest = record {
       tables = tables_rest stops.ssi stops.charges;
       messages = λ unread. ap (λ (r : Room S K D). r.messages) rest;
-      received = λ unread. ap (λ (r : Room S K D). r.received) rest;
+      received = λ unread unpacked. ap (λ (r : Room S K D). r.received) rest;
       sent = λ unread. ap (λ (r : Room S K D). r.sent) rest;
       disk2 = λ unread. ap (λ (r : Room S K D). r.disk2) rest;
     };

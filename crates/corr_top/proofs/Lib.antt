@@ -17,7 +17,13 @@ pub mod Asking
 pub mod Generating
 pub mod Collected
 pub mod Reconciling
+pub mod Judging
 pub mod MendedFile
+pub mod JournalRecords
+pub mod FaultCounts
+pub mod FollowedDisk
+pub mod PacketsInTurn
+pub mod FollowEnds
 pub mod OpenedBooks
 pub mod RunEnds
 pub mod Replying
@@ -27,6 +33,8 @@ pub mod Serves
 pub mod Rooms
 pub mod NoRoom
 pub mod FrontPart
+pub mod Batches
+pub mod Batched
 pub mod Chains
 pub mod InTurn
 pub mod OneWorker
@@ -41,7 +49,6 @@ pub mod Spread
 pub mod Trials
 pub mod Sampling
 pub mod Trying
-pub mod SignedWords
 pub mod AccountChanges
 pub mod CarriedOver
 pub mod OnePay
@@ -49,4 +56,7 @@ pub mod EnteredPay
 pub mod Returned
 pub mod BookedPay
 pub mod ReturnEnds
+pub mod ShownRows
+pub mod ShownValues
+pub mod PageEnds
 pub mod promise

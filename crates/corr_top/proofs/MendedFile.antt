@@ -48,7 +48,7 @@ module _ {S K D : Type 0} (source : sources.Ghosts S) (d : disks.Ghosts D) (from
   keeps_rest = record {
     tables = λ name unread. ap (λ (t : Tables S). table_at name t) rest.tables;
     messages = λ unread. rest.messages;
-    received = λ unread. rest.received;
+    received = λ unread unpacked. rest.received;
     sent = λ unread. absurd (unread (contained Step.sent mend_steps refl));
     disk2 = λ unread. rest.disk2;
   }

@@ -1,5 +1,5 @@
 -- One pay that was entered with the one pass of its books.
-use Rattle.std.proofs.Common.{◌≡◌, ◌⊎◌, Bool, true, false, ℕ, zero, suc, ◌+◌, ◌-◌, ◌%◌, List, [], ◌∷◌, ◌++◌, Some, None, Ok, inl, inr, refl, sym, ap, ◌∙◌, subst, arith, if◌then◌else◌, is_some, Option}
+use Rattle.std.proofs.Common.{◌≡◌, ◌⊎◌, Bool, true, false, ℕ, zero, suc, List, [], ◌∷◌, ◌++◌, Some, None, Ok, inl, inr, refl, sym, ap, ◌∙◌, subst, arith, if◌then◌else◌, is_some, Option}
 use Rattle.std.specs.Prelude.{slice_get}
 use Rattle.std.proofs.lemmas.Option.{none-some, same_Some}
 use Rattle.corr_books.specs.Opening.{Opening}
@@ -16,12 +16,13 @@ use Rattle.day_model.specs.declared.pay.Pay.{Pay}
 use Rattle.front_word.specs.Known.{PassKnows}
 use Rattle.jrn_book.specs.Answers.{Answer}
 use Rattle.jrn_book.specs.Batches.{entered_of, history_with, lacks_room}
-use Rattle.work_pool.specs.Served.{AreDealt, AreServed, ServedWith, StandsIn}
+use Rattle.work_pool.specs.Served.{ServedWith, StandsIn}
 use Rattle.corr_top.specs.Booking.{EntersFront}
 use Rattle.corr_top.specs.Returned.{booked_on}
 use Rattle.corr_top.specs.Serving.{Serves, halt_of, served_of, starting}
 use Rattle.corr_top.specs.Workers.{Worker}
 use Rattle.corr_top.specs.declared.desk.Served.{Served}
+use Rattle.corr_top.proofs.Batches.{HaveServed}
 
 -- ---- one job, dealt to one pass
 
@@ -38,18 +39,6 @@ only_there k n stands =
     let here = only_place (1 ∷ []) stands.0 k stands.1 in
     let there = only_place 1 n stands.2 (subst (λ (l : List ℕ). slice_get l stands.2 ≡ Some n) (sym here.1) stands.3) in (here.0, there.1)
 
-one_dealt : AreDealt 1 1 one_list
-one_dealt = record {
-  one_each = refl;
-  rising = λ k numbers at i j m n less first second.
-      let here = only_place (1 ∷ []) numbers k at in
-      let later = only_place 1 n j (subst (λ (l : List ℕ). slice_get l j ≡ Some n) (sym here.1) second) in
-      absurd (omega (arith, less, later.0));
-  jobs_only = λ k n stands. let is = (only_there k n stands).1 in (omega (arith, is), omega (arith, is));
-  every_job = λ n low high. (0, (1 ∷ [], refl, 0, ap (λ (x : ℕ). Some x) (let is : 1 ≡ n = omega (arith, low, high) in is)));
-  one_pass = λ k l n first second. (only_there k n first).0 ∙ sym (only_there l n second).0;
-}
-
 module _ (o : Opening) (pay : Pay) (q p : PassKnows) (made : Served) (answer : Answer) (told : Told o pay q answer p) (shape : HasShape pay) (is : made ≡ served_of pay.mir answer) where
   -- the pass afterwards, as that of a worker
   abbrev pub afterwards : Worker
@@ -61,11 +50,16 @@ module _ (o : Opening) (pay : Pay) (q p : PassKnows) (made : Served) (answer : A
   served_once : Serves o (Ok pay) (starting q) afterwards made
   served_once = inl (refl, inr (answer, told, shape, is), refl)
 
-  pub one_served : AreServed Serving (starting q ∷ []) (pay ∷ []) (afterwards ∷ []) (made ∷ [])
+  pub one_served : HaveServed Serving (starting q ∷ []) (pay ∷ []) (afterwards ∷ []) (made ∷ [])
   one_served = record {
     lists = one_list;
-    dealt = one_dealt;
-    in_turn = λ k n stands. let is = only_there k n stands in is.0 ∙ (let e : 0 ≡ (n - 1) % 1 = subst (λ (m : ℕ). 0 ≡ (m - 1) % 1) is.1 refl in e);
+    one_each = refl;
+    rising = λ k numbers at i j m n less first second.
+        let here = only_place (1 ∷ []) numbers k at in
+        let later = only_place 1 n j (subst (λ (l : List ℕ). slice_get l j ≡ Some n) (sym here.1) second) in
+        absurd (omega (arith, less, later.0));
+    jobs_only = λ k n stands. let is = (only_there k n stands).1 in (omega (arith, is), omega (arith, is));
+    every_job = λ n low high. (0, (1 ∷ [], refl, 0, ap (λ (x : ℕ). Some x) (let is : 1 ≡ n = omega (arith, low, high) in is)));
     passes = refl;
     replies_count = refl;
     served = λ k numbers pass next at before after.

@@ -53,7 +53,7 @@ module _ {S K D : Type 0} (source : sources.Ghosts S) (d : disks.Ghosts D) (old 
   keeps_rest = record {
     tables = tables_rest;
     messages = λ unread. rest.messages;
-    received = λ unread. absurd (unread (contained Step.received reconcile_steps refl));
+    received = λ unread unpacked. absurd (unread (contained Step.received reconcile_steps refl));
     sent = λ unread. rest.sent;
     disk2 = λ unread. rest.disk2;
   }

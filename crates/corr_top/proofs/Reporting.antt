@@ -13,7 +13,7 @@ use Rattle.corr_top.specs.declared.desk.Served.{Served}
 use Rattle.corr_top.specs.declared.desk.Served.TheVariants as served
 use Rattle.corr_top.specs.Serving.{are_replies}
 use Rattle.corr_top.proofs.Adding.{numbered_done, numbered_next}
-use Rattle.corr_top.proofs.Workers.{get_there}
+use Rattle.corr_top.proofs.Batches.{get_there}
 
 -- the reply that was made, or this one
 abbrev reply_or : Reply → Served → Reply

@@ -59,7 +59,7 @@ module _ {S K D : Type 0} (source : sources.Ghosts S) (d : disks.Ghosts D) (plac
   keeps_rest = record {
     tables = λ name unread. ap (table_at name) rest.tables;
     messages = λ unread. rest.messages;
-    received = λ unread. rest.received;
+    received = λ unread unpacked. rest.received;
     sent = λ unread. rest.sent;
     disk2 = λ unread. rest.disk2;
   }
@@ -103,7 +103,7 @@ module _ {S K D : Type 0} (source : sources.Ghosts S) (d : disks.Ghosts D) (plac
     i_of entered = record asked { chart = opened.accounts; history = opened.base; entered = entered }
 
     holds : HoldsJournal d old.disk opened.accounts opened.base
-    holds = holds_opened d day 1 old.disk new.disk opened journal told
+    holds = holds_opened d day 1 1 old.disk new.disk opened journal told
 
     -- no return was made, and the disk is as the opening left it
     pub made_none : (stop : ReturnFault) → TellsReturnFault opened.accounts opened.base place day stop → new.disk ≡ disk_of opened.file → HasTexts source d (meaning_of (Return place day)) old new (Err (status_of_return stop))
@@ -117,7 +117,7 @@ module _ {S K D : Type 0} (source : sources.Ghosts S) (d : disks.Ghosts D) (plac
       pub pay_stops : (s : Status) (stop : BookStop) → s ≡ status_of_booking stop → StopsAtPay d opened new.disk pay stop → HasTexts source d (meaning_of (Return place day)) old new (Err s)
       unfolding meaning_of
       pay_stops s stop is stops =
-          let entering = entering_stops d day 1 old.disk new.disk opened at_open honest of_day unwritten (asks_for pay) stops.history stop stops.served stops.tried (λ one. stops.in_order) stops.cause in
+          let entering = entering_stops d day 1 1 old.disk new.disk opened at_open honest of_day unwritten (asks_for pay) stops.history stop stops.served stops.tried (λ one. stops.in_order) stops.cause in
           gives_return (Err s) (i_of []) refl refl
           (inl (inr (holds, inr (latest, inr ((pay, may), inl ((stop, is, (pay, may, entering)), tt))))))
 
@@ -134,15 +134,15 @@ module _ {S K D : Type 0} (source : sources.Ghosts S) (d : disks.Ghosts D) (plac
       passed history had =
           let is = history_is history had in
           let served = had.served in
-          let on : (d.faults new.disk ≡ opened.at_open) × IsOnDisk d new.disk opened.accounts history = closed_alone d day 1 old.disk new.disk opened history had.calm served.leaves in
+          let on : (d.faults new.disk ≡ opened.at_open) × IsOnDisk d new.disk opened.accounts history = closed_alone d day 1 1 old.disk new.disk opened history had.calm served.leaves in
           record {
             passed = (holds, (latest, ((pay, may), (record { pay = pay; may = may; entered_is = refl; is = new_is }, tt))));
             leaves = record {
               sure = on.0 ∙ at_open;
               entered = subst (λ es. IsOnDisk d new.disk opened.accounts es) is on.1;
               journal = subst (λ es. IsJournal opened.accounts es) is served.journal;
-              any_moment = subst (λ es. LeavesMidway d old.disk new.disk opened.accounts opened.base es day) is
-                  (left_midway d day 1 old.disk new.disk opened at_open honest of_day unwritten history served.in_turn);
+              any_moment = subst (λ es. LeavesMidway d old.disk new.disk opened.accounts opened.base es day 1) is
+                  (left_midway d day 1 1 old.disk new.disk opened at_open honest of_day unwritten history served.in_turn);
             };
           }
 

@@ -15,7 +15,7 @@ use Rattle.day_model.proofs.laws.Folds.{get_at}
 use Rattle.front_word.proofs.laws.Prefixes.{get_below}
 use Rattle.jrn_book.specs.Journal.{IsJournal}
 use Rattle.jrn_codec.specs.Record.{IsEntry}
-use Rattle.pay_returns.proofs.Owned.{return-own}
+use Rattle.pay_returns.proofs.laws.Owned.{return-own}
 use Rattle.pay_returns.specs.Laws.{HoldsReturn}
 use Rattle.pay_returns.specs.Making.{MayReturn}
 use Rattle.ref_tables.specs.Seen.{Tables}

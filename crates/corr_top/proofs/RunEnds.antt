@@ -64,7 +64,7 @@ pub record IsRest {S K D : Type 0} (old new : Room S K D) : Type 0 where
   pub report : new.report ≡ old.report
   pub out : new.out ≡ old.out
 
-module _ {S K D : Type 0} (source : sources.Ghosts S) (d : disks.Ghosts D) (day : Day) (workers : ℕ) (old new : Room S K D) (rest : IsRest old new) where
+module _ {S K D : Type 0} (source : sources.Ghosts S) (d : disks.Ghosts D) (day : Day) (workers entries : ℕ) (old new : Room S K D) (rest : IsRest old new) where
   -- what it doesn't read is as it was
   tables_rest : (name : TableName) → (Contains run_steps (Step.table name) → ⊥) → table_at name new.tables ≡ table_at name old.tables
   tables_rest names.Bics unread = absurd (unread (contained (Step.table names.Bics) run_steps refl))
@@ -78,23 +78,23 @@ module _ {S K D : Type 0} (source : sources.Ghosts S) (d : disks.Ghosts D) (day 
   keeps_rest = record {
     tables = tables_rest;
     messages = λ unread. absurd (unread (contained Step.messages run_steps refl));
-    received = λ unread. rest.received;
+    received = λ unread unpacked. rest.received;
     sent = λ unread. rest.sent;
     disk2 = λ unread. rest.disk2;
   }
 
-  gives_run : (r : Result Texts Status) (i : Inputs) → i.day ≡ day → i.workers ≡ workers → CommandGives source d (meaning_of (Run day workers)) old new r i
-      → HasTexts source d (meaning_of (Run day workers)) old new r
+  gives_run : (r : Result Texts Status) (i : Inputs) → i.day ≡ day → i.workers ≡ workers → i.entries ≡ entries → CommandGives source d (meaning_of (Run day workers entries)) old new r i
+      → HasTexts source d (meaning_of (Run day workers entries)) old new r
   unfolding meaning_of
-  gives_run r i is number gives = record { inputs = i; are_for = (is, number); gives = gives; rest = keeps_rest; report = rest.report; out = rest.out }
+  gives_run r i is number most gives = record { inputs = i; are_for = (is, number, most); gives = gives; rest = keeps_rest; report = rest.report; out = rest.out }
 
   -- a table stopped it
   pub tables_stop : (stop : TableStop) → StopsDirectory source old.tables new.tables stop → new.messages ≡ old.messages → new.disk ≡ old.disk → IsUnwritten d old.disk new.disk
-      → HasTexts source d (meaning_of (Run day workers)) old new (Err (status_of_table stop))
+      → HasTexts source d (meaning_of (Run day workers entries)) old new (Err (status_of_table stop))
   unfolding meaning_of
   tables_stop stop stops messages disk unwritten =
-      let i = record stops.at.inputs { day = day; workers = workers } in
-      gives_run (Err (status_of_table stop)) i refl refl
+      let i = record stops.at.inputs { day = day; workers = workers; entries = entries } in
+      gives_run (Err (status_of_table stop)) i refl refl refl
       (inl (halts_front (Passes source d old new i) (StopsAt source d old new i (status_of_table stop)) (StepIsUntouched d old new)
       directory_steps day_steps stops.at.halted (disk, (tt, (messages, (unwritten, tt))))))
 
@@ -106,28 +106,28 @@ module _ {S K D : Type 0} (source : sources.Ghosts S) (d : disks.Ghosts D) (day 
 
   module _ (directory : Directory) (has : HasDirectory source old.tables new.tables directory) where
     -- the books were not opened, for a reason that opening the journal gave
-    open_stops : (fault : OpenFault) → StopsOpening d old.disk new.disk fault → new.messages ≡ old.messages → HasTexts source d (meaning_of (Run day workers)) old new (Err (status_of_opening fault))
+    open_stops : (fault : OpenFault) → StopsOpening d old.disk new.disk fault → new.messages ≡ old.messages → HasTexts source d (meaning_of (Run day workers entries)) old new (Err (status_of_opening fault))
     unfolding meaning_of
     open_stops fault stops messages =
-        let i = record has.inputs { day = day; workers = workers } in
-        gives_run (Err (status_of_opening fault)) i refl refl
+        let i = record has.inputs { day = day; workers = workers; entries = entries } in
+        gives_run (Err (status_of_opening fault)) i refl refl refl
         (inl (after_tables i (status_of_opening fault) day_steps has.passed
         (inl ((fault, refl, stops), (tt, (messages, (stops.untouched, tt)))))))
 
     -- or for the day of the last entry
     back_stops : (last : Day) → OpensBack (opened_of (d.reads old.disk)) (d.honest old.disk) day last → d.faults new.disk ≡ d.faults old.disk → IsUnwritten d old.disk new.disk → new.messages ≡ old.messages
-        → HasTexts source d (meaning_of (Run day workers)) old new (Err (status_of_day last))
+        → HasTexts source d (meaning_of (Run day workers entries)) old new (Err (status_of_day last))
     unfolding meaning_of
     back_stops last shows sure unwritten messages =
-        let i = record has.inputs { day = day; workers = workers; chart = shows.accounts; history = shows.history } in
+        let i = record has.inputs { day = day; workers = workers; entries = entries; chart = shows.accounts; history = shows.history } in
         let holds : HoldsJournal d old.disk shows.accounts shows.history = record { journal = shows.journal; stands = λ honest. (shows.found honest).1 } in
-        gives_run (Err (status_of_day last)) i refl refl
+        gives_run (Err (status_of_day last)) i refl refl refl
         (inl (after_tables i (status_of_day last) day_steps has.passed
         (inr (holds, inl ((last, refl, is_back shows.accounts shows.history day last shows.journal shows.back, sure), (messages, (unwritten, tt)))))))
 
     -- opening the books stopped it
     pub books_stop : (fault : BooksFault) → BooksCause (d.faults old.disk) (d.faults new.disk) fault → (IsTrue (d.honest old.disk) → IsTrue (is_of_bytes fault) → (finding : Finding) × IsFound (opened_of (d.reads old.disk)) finding × RefusesAs day fault finding)
-        → ShowsBack (opened_of (d.reads old.disk)) (d.honest old.disk) day fault → IsUnwritten d old.disk new.disk → new.messages ≡ old.messages → HasTexts source d (meaning_of (Run day workers)) old new (Err (status_of_books fault))
+        → ShowsBack (opened_of (d.reads old.disk)) (d.honest old.disk) day fault → IsUnwritten d old.disk new.disk → new.messages ≡ old.messages → HasTexts source d (meaning_of (Run day workers entries)) old new (Err (status_of_books fault))
     books_stop (Open fault) cause told shows unwritten messages =
         open_stops fault (record { cause = cause; told = λ honest. found_is (found_by fault) (opened_of (d.reads old.disk)) (told honest); untouched = unwritten }) messages
     books_stop (DateBack last) cause told shows unwritten messages = back_stops last shows cause unwritten messages
@@ -137,41 +137,41 @@ module _ {S K D : Type 0} (source : sources.Ghosts S) (d : disks.Ghosts D) (day 
         (of_day : opened.day ≡ day) (unwritten : IsUnwritten d old.disk (disk_of opened.file)) where
       -- the opening of these books
       abbrev pub books : Opening
-      books = opening_with d opened workers 1
+      books = opening_with d opened workers entries
 
       -- the inputs of a run that opened its books, and entered these pays
       abbrev i_of : List ℕ → List (List ℕ) → List Pay → Inputs
-      i_of bytes cut entered = record has.inputs { day = day; workers = workers; messages = bytes; cut = cut; chart = opened.accounts; history = opened.base; entered = entered }
+      i_of bytes cut entered = record has.inputs { day = day; workers = workers; entries = entries; messages = bytes; cut = cut; chart = opened.accounts; history = opened.base; entered = entered }
 
       holds : HoldsJournal d old.disk opened.accounts opened.base
-      holds = holds_opened d day workers old.disk new.disk opened journal told
+      holds = holds_opened d day workers entries old.disk new.disk opened journal told
 
       same_pays : (bytes : List ℕ) (cut : List (List ℕ)) (entered : List Pay) → pays_of (i_of bytes cut entered) ≡ pays_in (readings_of directory opened.accounts cut)
       same_pays bytes cut entered = ap (λ (x : Directory). pays_in (readings_of x opened.accounts cut)) (sym has.directory_is)
 
       -- the disk at each moment since the run began
-      midway : (history : List Entry) → LeavesInTurn d books (past_of d opened) history new.disk → LeavesMidway d old.disk new.disk opened.accounts opened.base history day
-      midway = left_midway d day workers old.disk new.disk opened at_open honest of_day unwritten
+      midway : (history : List Entry) → LeavesInTurn d books (past_of d opened) history new.disk → LeavesMidway d old.disk new.disk opened.accounts opened.base history day entries
+      midway = left_midway d day workers entries old.disk new.disk opened at_open honest of_day unwritten
 
       -- the first steps passed, up to the message file
-      pub file_stops : (s : Status) → StopsAtFile source d directory workers old.messages new.messages opened new.disk s → HasTexts source d (meaning_of (Run day workers)) old new (Err s)
+      pub file_stops : (s : Status) → StopsAtFile source d directory workers entries old.messages new.messages opened new.disk s → HasTexts source d (meaning_of (Run day workers entries)) old new (Err s)
       unfolding meaning_of
       file_stops s stops =
           let disk = stops.same in
           let i = i_of stops.bytes [] [] in
-          gives_run (Err s) i refl refl
+          gives_run (Err s) i refl refl refl
           (inl (after_tables i s day_steps has.passed
           (inr (holds, inr (latest, inl ((stops.stop, stops.status_is, stops.stops, ap d.faults disk ∙ kept), (subst (IsUnwritten d old.disk) (sym disk) unwritten, tt)))))))
 
       -- not each pay was entered
-      pub pays_stop : (s : Status) → StopsAtPays source d directory workers old.messages new.messages opened new.disk s → HasTexts source d (meaning_of (Run day workers)) old new (Err s)
+      pub pays_stop : (s : Status) → StopsAtPays source d directory workers entries old.messages new.messages opened new.disk s → HasTexts source d (meaning_of (Run day workers entries)) old new (Err s)
       unfolding meaning_of
       pays_stop s stops =
           let i = i_of stops.bytes stops.cut [] in
           let pays = same_pays stops.bytes stops.cut [] in
-          let booked : StopsBooking d old.disk new.disk i stops.stop = subst (λ (ps : List Pay). StopsEntering d old.disk new.disk opened.accounts opened.base ps day workers stops.stop) (sym pays)
-          (entering_stops d day workers old.disk new.disk opened at_open honest of_day unwritten (readings_of directory opened.accounts stops.cut) stops.history stops.stop stops.served stops.tried stops.alone stops.cause) in
-          gives_run (Err s) i refl refl
+          let booked : StopsBooking d old.disk new.disk i stops.stop = subst (λ (ps : List Pay). StopsEntering d old.disk new.disk opened.accounts opened.base ps day workers entries stops.stop) (sym pays)
+          (entering_stops d day workers entries old.disk new.disk opened at_open honest of_day unwritten (readings_of directory opened.accounts stops.cut) stops.history stops.stop stops.served stops.tried stops.alone stops.cause) in
+          gives_run (Err s) i refl refl refl
           (inl (after_tables i s day_steps has.passed
           (inr (holds, inr (latest, inr (stops.file, inl ((stops.stop, stops.status_is, booked), tt)))))))
 
@@ -180,8 +180,8 @@ module _ {S K D : Type 0} (source : sources.Ghosts S) (d : disks.Ghosts D) (day 
       entered_of added = map (λ e. e.pay) added
 
       -- each message was answered
-      has_passed : (bytes : List ℕ) (cut : List (List ℕ)) (history : List Entry) (replies : List Reply) → (had : HasDay source d directory workers old.messages new.messages opened new.disk bytes cut history replies)
-          → HasPassed source d (meaning_of (Run day workers)) old new (i_of bytes cut (entered_of had.served.added)) × (history ≡ new_in (i_of bytes cut (entered_of had.served.added))) × (replies ≡ replies_of (i_of bytes cut (entered_of had.served.added)))
+      has_passed : (bytes : List ℕ) (cut : List (List ℕ)) (history : List Entry) (replies : List Reply) → (had : HasDay source d directory workers entries old.messages new.messages opened new.disk bytes cut history replies)
+          → HasPassed source d (meaning_of (Run day workers entries)) old new (i_of bytes cut (entered_of had.served.added)) × (history ≡ new_in (i_of bytes cut (entered_of had.served.added))) × (replies ≡ replies_of (i_of bytes cut (entered_of had.served.added)))
       unfolding meaning_of
       has_passed bytes cut history replies had =
           let served = had.served in
@@ -203,7 +203,7 @@ module _ {S K D : Type 0} (source : sources.Ghosts S) (d : disks.Ghosts D) (day 
             entered = λ k pay at. subst (λ (es : List Entry). IsSome (entered_at pay.mir es)) history_is (a.entered k pay (ap (λ (ps : List Pay). slice_get ps k) (sym pays) ∙ at));
             alone = λ one. sym history_is ∙ a.alone one ∙ (λ k. fold_of opened.accounts opened.base (sym pays k) (of_day k));
           } in
-          let on : (d.faults new.disk ≡ opened.at_open) × IsOnDisk d new.disk opened.accounts history = closed_alone d day workers old.disk new.disk opened history had.calm served.leaves in (
+          let on : (d.faults new.disk ≡ opened.at_open) × IsOnDisk d new.disk opened.accounts history = closed_alone d day workers entries old.disk new.disk opened history had.calm served.leaves in (
             record {
               passed = walks_both (Passes source d old new i) directory_steps day_steps has.passed
                   (holds, (latest, (had.file, (answered, tt))));
@@ -211,7 +211,7 @@ module _ {S K D : Type 0} (source : sources.Ghosts S) (d : disks.Ghosts D) (day 
                 sure = on.0 ∙ at_open;
                 entered = subst (λ es. IsOnDisk d new.disk opened.accounts es) history_is on.1;
                 journal = subst (λ es. IsJournal opened.accounts es) history_is served.journal;
-                any_moment = subst (λ es. LeavesMidway d old.disk new.disk opened.accounts opened.base es day) history_is (midway history served.in_turn);
+                any_moment = subst (λ es. LeavesMidway d old.disk new.disk opened.accounts opened.base es day entries) history_is (midway history served.in_turn);
               };
             },
             history_is,
@@ -219,14 +219,14 @@ module _ {S K D : Type 0} (source : sources.Ghosts S) (d : disks.Ghosts D) (day 
           )
 
       -- the part of a run after the opening of the books
-      pub day_ends : (r : Result Texts Status) → GivesDay source d directory workers old.messages new.messages opened new.disk r → HasTexts source d (meaning_of (Run day workers)) old new r
+      pub day_ends : (r : Result Texts Status) → GivesDay source d directory workers entries old.messages new.messages opened new.disk r → HasTexts source d (meaning_of (Run day workers entries)) old new r
       unfolding meaning_of run_report run_out
       day_ends (Ok texts) gives =
           let history = gives.2 in
           let had = gives.4 in
           let i = i_of gives.0 gives.1 (entered_of had.served.added) in
           let done = has_passed gives.0 gives.1 history gives.3 had in
-          gives_run (Ok texts) i refl refl (
+          gives_run (Ok texts) i refl refl refl (
             done.0,
             gives.5 ∙ ap (λ es. report_of opened.accounts es gives.3) done.1 ∙ ap (report_of opened.accounts (new_in i)) done.2,
             gives.6 ∙ ap (sent_from opened.accounts (length opened.base + 1)) done.1,
@@ -237,8 +237,8 @@ module _ {S K D : Type 0} (source : sources.Ghosts S) (d : disks.Ghosts D) (day 
       day_ends (Err s) (inr stops) = pays_stop s stops
 
 -- whether the disk tells its bytes stays
-pub day_honest : {S D : Type 0} (source : sources.Ghosts S) (d : disks.Ghosts D) (directory : Directory) (workers : ℕ) (from to : S) (opened : Parts D) (new : D) (r : Result Texts Status)
-    → GivesDay source d directory workers from to opened new r → d.honest new ≡ d.honest (disk_of opened.file)
-day_honest source d directory workers from to opened new (Ok texts) gives = gives.4.served.honest
-day_honest source d directory workers from to opened new (Err s) (inl stops) = ap d.honest stops.same
-day_honest source d directory workers from to opened new (Err s) (inr stops) = stops.served.honest
+pub day_honest : {S D : Type 0} (source : sources.Ghosts S) (d : disks.Ghosts D) (directory : Directory) (workers entries : ℕ) (from to : S) (opened : Parts D) (new : D) (r : Result Texts Status)
+    → GivesDay source d directory workers entries from to opened new r → d.honest new ≡ d.honest (disk_of opened.file)
+day_honest source d directory workers entries from to opened new (Ok texts) gives = gives.4.served.honest
+day_honest source d directory workers entries from to opened new (Err s) (inl stops) = ap d.honest stops.same
+day_honest source d directory workers entries from to opened new (Err s) (inr stops) = stops.served.honest

@@ -13,6 +13,8 @@ use Rattle.jrn_file.specs.declared.fault.OpenFault.{OpenFault}
 use Rattle.jrn_file.specs.declared.fault.OpenFault.TheVariants as opening
 use Rattle.pay_returns.specs.declared.fault.ReturnFault.{ReturnFault}
 use Rattle.pay_returns.specs.declared.fault.ReturnFault.TheVariants as returning
+use Rattle.standby.specs.declared.answer.TakeFault.{TakeFault}
+use Rattle.standby.specs.declared.answer.TakeFault.TheVariants as taking
 use Rattle.corr_top.specs.declared.answers.BookStop.{BookStop}
 use Rattle.corr_top.specs.declared.answers.BookStop.TheVariants as booking
 use Rattle.corr_top.specs.declared.cutting.FileStop.{FileStop}
@@ -30,7 +32,7 @@ use Rattle.corr_top.specs.Passing.{StepIsUntouched, Passes, StopsAt, StopsAtSums
 use Rattle.corr_top.specs.Promise.{writes}
 use Rattle.corr_top.specs.Status.{HasLine}
 use Rattle.corr_top.specs.Steps.{Halts, Step}
-use Rattle.corr_top.specs.Stops.{status_of_booking, status_of_change, status_of_copying, status_of_file, status_of_making, status_of_opening, status_of_return, status_of_sums, status_of_table}
+use Rattle.corr_top.specs.Stops.{status_of_booking, status_of_change, status_of_copying, status_of_file, status_of_making, status_of_opening, status_of_return, status_of_sums, status_of_table, status_of_taking}
 
 -- a line can tell it, and it isn't one at which something was written
 pub record IsStop (s : Status) : Type 0 where
@@ -93,6 +95,14 @@ return_stop (returning.Returned place) = record { line = tt; silent = refl }
 return_stop (returning.Unfunded leg balance) = record { line = tt; silent = refl }
 return_stop returning.Memory = record { line = tt; silent = refl }
 
+taking_stop : (entries : ℕ) (stop : TakeFault) → IsStop (status_of_taking entries stop)
+taking_stop entries taking.NotAPacket = record { line = tt; silent = refl }
+taking_stop entries (taking.NotNext number) = record { line = tt; silent = refl }
+taking_stop entries (taking.Full end need) = record { line = tt; silent = refl }
+taking_stop entries (taking.DiskFault before after) = record { line = tt; silent = refl }
+taking_stop entries (taking.Broken at_open now) = record { line = tt; silent = refl }
+taking_stop entries taking.Memory = record { line = tt; silent = refl }
+
 memory_stop : IsStop status.Memory
 memory_stop = record { line = tt; silent = refl }
 
@@ -115,6 +125,10 @@ module _ {S K D : Type 0} (source : sources.Ghosts S) (disk : disks.Ghosts D) (o
   step_stop Step.copy stops = subst IsStop (sym stops.1) (copy_stop (length i.history) stops.0)
   step_stop Step.make_return stops = subst IsStop (sym stops.1) (return_stop stops.0)
   step_stop Step.book_return stops = subst IsStop (sym stops.1) (booking_stop stops.0)
+  step_stop Step.begin stops = subst IsStop (sym stops.1) (opening_stop stops.0)
+  step_stop Step.packets stops = subst IsStop (sym stops.1) (file_stop stops.0)
+  step_stop Step.take stops = subst IsStop (sym stops.2) (taking_stop stops.1 stops.0)
+  step_stop Step.aside stops = absurd stops
 
   pub halts_stop : (steps : List Step) → Halts (Passes source disk old new i) (StopsAt source disk old new i s) (StepIsUntouched disk old new) steps → IsStop s
   halts_stop [] halts = absurd halts

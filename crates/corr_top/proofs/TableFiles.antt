@@ -24,6 +24,7 @@ use Rattle.corr_top.specs.declared.directory.Directory.{Directory}
 use Rattle.corr_top.specs.declared.reading.ReadStop.{ReadStop}
 use Rattle.corr_top.specs.declared.reading.ReadStop.TheVariants as stop
 use Rattle.corr_top.specs.declared.tables.TableStop.{TableStop}
+use Rattle.standby.specs.Held.{nothing}
 use Rattle.corr_top.specs.Inputs.{Inputs, accounts_in, directory_in, opened, tables_in}
 use Rattle.corr_top.specs.Passing.{Bad, Balances, IsFine, StopsAtSums, StopsAtTable, TellsDecimals}
 use Rattle.corr_top.specs.Reading.{IsStopped}
@@ -89,6 +90,7 @@ no_inputs = record {
   home = record { head = []; branch = [] };
   day = record { 0 = pos 0 };
   workers = 0;
+  entries = 0;
   change = Limit [] (record { floor = pos 0; ceil = pos 0 });
   place = 0;
   bics = [];
@@ -102,6 +104,8 @@ no_inputs = record {
   chart = record { home = record { head = []; branch = [] }; first = []; changes = [] };
   history = [];
   entered = [];
+  held = nothing;
+  packets = [];
 }
 
 -- the tables of a directory after those three

@@ -28,7 +28,8 @@ abbrev all_steps : List Step
 all_steps =
     Step.sums ∷ Step.make ∷ Step.open_journal ∷ Step.day ∷ Step.messages ∷ Step.book ∷ Step.received
     ∷ Step.table names.Bics ∷ Step.table names.Ccys ∷ Step.table names.Countries ∷ Step.table names.Accounts ∷ Step.table names.Ssi
-    ∷ Step.table names.Charges ∷ Step.change ∷ Step.second ∷ Step.old_journal ∷ Step.copy ∷ Step.sent ∷ Step.make_return ∷ Step.book_return ∷ []
+    ∷ Step.table names.Charges ∷ Step.change ∷ Step.second ∷ Step.old_journal ∷ Step.copy ∷ Step.sent ∷ Step.make_return ∷ Step.book_return ∷ Step.aside
+    ∷ Step.begin ∷ Step.packets ∷ Step.take ∷ []
 
 -- the place of a step among them
 abbrev step_place : Step → ℕ
@@ -52,6 +53,10 @@ step_place Step.copy = 16
 step_place Step.sent = 17
 step_place Step.make_return = 18
 step_place Step.book_return = 19
+step_place Step.aside = 20
+step_place Step.begin = 21
+step_place Step.packets = 22
+step_place Step.take = 23
 
 at_place : (s : Step) → slice_get all_steps (step_place s) ≡ Some s
 at_place Step.sums = refl
@@ -74,6 +79,10 @@ at_place Step.copy = refl
 at_place Step.sent = refl
 at_place Step.make_return = refl
 at_place Step.book_return = refl
+at_place Step.begin = refl
+at_place Step.packets = refl
+at_place Step.take = refl
+at_place Step.aside = refl
 
 same_step : (d s : Step) → step_place d ≡ step_place s → d ≡ s
 same_step d s same = let both : Some d ≡ Some s = sym (at_place d) ∙ ap (λ (n : ℕ). slice_get all_steps n) same ∙ at_place s in cc

@@ -1,10 +1,9 @@
 -- All workers together: what stands when their passes are back and the books are closed.
 use Rattle.std.proofs.Common.{◌≡◌, ℕ, zero, suc, ◌+◌, ◌-◌, ◌<◌, ◌≤◌, All, List, [], ◌∷◌, ◌++◌, length, map, Some, Result, Ok, Err, refl, sym, ap, ◌∙◌, subst, arith, append-nil}
 use Rattle.std.specs.Prelude.{IfErr, IfOk, OnErr, slice_get}
-use Rattle.std.specs.Option.{option_map}
 use Rattle.std.proofs.lemmas.List.{length-map}
 use Rattle.std.proofs.lemmas.List.Elements.{All-append, All-nil}
-use Rattle.std.proofs.lemmas.Option.{same_Some, none-some, slice_get-map}
+use Rattle.std.proofs.lemmas.Option.{same_Some, none-some}
 use mathlib.Core.List.{IsPrefix}
 use Rattle.day_model.specs.declared.entry.Entry.{Entry}
 use Rattle.day_model.specs.Chart.{AreBy}
@@ -12,7 +11,7 @@ use Rattle.day_model.specs.declared.pay.Pay.{Pay}
 use Rattle.front_word.specs.declared.view.Act.{Act}
 use Rattle.front_word.specs.Known.{PassKnows}
 use Rattle.front_word.proofs.laws.Prefixes.{get_below}
-use Rattle.work_pool.specs.Served.{AreServed, StandsIn}
+use Rattle.work_pool.specs.Served.{StandsIn}
 use Rattle.corr_books.specs.Closing.{Closes}
 use Rattle.corr_books.specs.Opening.{Opening}
 use Rattle.corr_books.specs.Passes.{AreNew}
@@ -24,20 +23,13 @@ use Rattle.corr_top.specs.Booking.{IsEnteredOn}
 use Rattle.corr_top.specs.Message.{pays_in}
 use Rattle.corr_top.specs.Serving.{AreServedInOrder, AreTold, IsTold, Serves, starting}
 use Rattle.corr_top.proofs.Chains.{Chain, IsServed, each_stands, grew, of_jobs}
+use Rattle.corr_top.proofs.Batches.{HaveServed, get_mapped, get_there, unmapped}
 use Rattle.corr_top.proofs.Replying.{all_one}
 use Rattle.corr_top.proofs.OneWorker.{in_order, in_turn}
 use Rattle.day_model.proofs.laws.Folds.{get_at}
 use Rattle.corr_top.proofs.Serves.{IsFrom, begins}
 
 -- ---- lists
-
-pub get_there : {A : Type 0} (xs : List A) (k : ℕ) → k < length xs → (x : A) × (slice_get xs k ≡ Some x)
-get_there [] k within = absurd (omega arith)
-get_there (x ∷ xs) zero within = (x, refl)
-get_there (x ∷ xs) (suc k) within = get_there xs k (omega arith)
-
-get_mapped : {A B : Type 0} (f : A → B) (xs : List A) (i : ℕ) (x : A) → slice_get xs i ≡ Some x → slice_get (map f xs) i ≡ Some (f x)
-get_mapped f xs i x at = slice_get-map f xs i ∙ ap (option_map f) at
 
 -- the pay of a message stands among the pays
 pub in_pays : (readings : List (Result Pay NoPay)) (n : ℕ) (pay : Pay) → slice_get readings n ≡ Some (Ok pay) → (k : ℕ) × (slice_get (pays_in readings) k ≡ Some pay)
@@ -50,12 +42,6 @@ in_pays (Err why ∷ readings) (suc n) pay at = in_pays readings n pay at
 all_entries : (P : Entry → Type 0) (log : List Act) → ((i : ℕ) (a : Act) → slice_get log i ≡ Some a → P a.entry) → All P (entries_of log)
 all_entries P [] each = All-nil P
 all_entries P (a ∷ log) each = All-append P (a.entry ∷ []) (entries_of log) (all_one P a.entry (each 0 a refl)) (all_entries P log (λ i b at. each (suc i) b at))
-
--- and back: what a place of the mapped list has
-pub unmapped : {A B : Type 0} (f : A → B) (xs : List A) (i : ℕ) (y : B) → slice_get (map f xs) i ≡ Some y → (x : A) × (slice_get xs i ≡ Some x) × (f x ≡ y)
-unmapped f [] i y at = absurd (none-some y at)
-unmapped f (x ∷ xs) zero y at = (x, refl, same_Some (f x) y at)
-unmapped f (x ∷ xs) (suc i) y at = unmapped f xs i y at
 
 -- a list without elements
 nothing : {A : Type 0} (xs : List A) → ((i : ℕ) (x : A) → slice_get xs i ≡ Some x → ⊥) → xs ≡ []
@@ -91,7 +77,7 @@ module _ {Job : Type 0} (o : Opening) (reading : Job → Result Pay NoPay) (jobs
         pay_is = there.1 ∙ ap (λ (x : Entry). Some x.pay) (sym from.4);
       }
 
-  module _ (news : List PassKnows) (after : List Worker) (history : List Entry) (faults : ℕ) (new : AreNew o news) (closes : Closes o history faults (passes_of after)) (made : List Served) (served : AreServed Serving (map starting news) jobs after made) where
+  module _ (news : List PassKnows) (after : List Worker) (history : List Entry) (faults : ℕ) (new : AreNew o news) (closes : Closes o history faults (passes_of after)) (made : List Served) (served : HaveServed Serving (map starting news) jobs after made) where
     count : length (map starting news) ≡ length news
     count = length-map news starting
 
@@ -100,7 +86,7 @@ module _ {Job : Type 0} (o : Opening) (reading : Job → Result Pay NoPay) (jobs
     chain_at k w at =
         let below = get_below after k w at in
         let q = get_there news k (omega (arith, below, served.passes, count)) in
-        let l = get_there served.lists k (omega (arith, below, served.passes, served.dealt.one_each)) in
+        let l = get_there served.lists k (omega (arith, below, served.passes, served.one_each)) in
         (l.0, q.0, l.1, q.1, served.served k l.0 (starting q.0) w l.1 (get_mapped starting news k q.0 q.1) at)
 
     -- each entry that was added is of the day, and of a pay of the messages
@@ -123,12 +109,12 @@ module _ {Job : Type 0} (o : Opening) (reading : Job → Result Pay NoPay) (jobs
     -- what was made of the job with a number stands
     job_stands : (n : ℕ) → 1 ≤ n → n ≤ length jobs → IsServed o reading jobs made closes.log history closes.is closes.legal n
     job_stands n low high =
-        let there = served.dealt.every_job n low high in
+        let there = served.every_job n low high in
         let k = there.0 in
         let numbers = there.1.0 in
         let below = get_below served.lists k numbers there.1.1 in
-        let w = get_there after k (omega (arith, below, served.passes, served.dealt.one_each)) in
-        let q = get_there news k (omega (arith, below, served.dealt.one_each, count)) in
+        let w = get_there after k (omega (arith, below, served.passes, served.one_each)) in
+        let q = get_there news k (omega (arith, below, served.one_each, count)) in
         let chain = served.served k numbers (starting q.0) w.0 there.1.1 (get_mapped starting news k q.0 q.1) w.1 in
         each_stands o reading jobs made closes.log history closes.is closes.legal numbers (starting q.0) w.0 chain (closes.parts k w.0.pass (get_mapped (λ (x : Worker). x.pass) after k w.0 w.1)).known there.1.2 n there.1.3
 
@@ -162,7 +148,7 @@ module _ {Job : Type 0} (o : Opening) (reading : Job → Result Pay NoPay) (jobs
     nothing_added = closes.is ∙ ap (λ (l : List Act). history_of o.base l) none_added ∙ append-nil o.base
 
   -- One worker of books that make one pass: its serves are those of all jobs in their order, and all entries are its own.
-  module _ (q : PassKnows) (p : Worker) (history : List Entry) (faults : ℕ) (new : AreNew o (q ∷ [])) (closes : Closes o history faults (p.pass ∷ [])) (made : List Served) (served : AreServed Serving (starting q ∷ []) jobs (p ∷ []) made) where
+  module _ (q : PassKnows) (p : Worker) (history : List Entry) (faults : ℕ) (new : AreNew o (q ∷ [])) (closes : Closes o history faults (p.pass ∷ [])) (made : List Served) (served : HaveServed Serving (starting q ∷ []) jobs (p ∷ []) made) where
     owned_by : {a : ℕ} (at : ℕ) (pass : PassKnows) → slice_get (p.pass ∷ []) at ≡ Some pass → a ≡ pass.number → a ≡ p.pass.number
     owned_by zero pass there tagged = tagged ∙ ap (λ (x : PassKnows). x.number) (sym (same_Some p.pass pass there))
     owned_by (suc at) pass there tagged = absurd (none-some pass there)
@@ -184,13 +170,13 @@ module _ {Job : Type 0} (o : Opening) (reading : Job → Result Pay NoPay) (jobs
     every : (numbers : List ℕ) → slice_get served.lists 0 ≡ Some numbers → (n : ℕ) → (k : ℕ) × StandsIn served.lists k n → (i : ℕ) × (slice_get numbers i ≡ Some n)
     every numbers at n (k, stands) =
         let below = get_below served.lists k stands.0 stands.1 in
-        let zero_is : k ≡ 0 = (let e = served.dealt.one_each in omega (arith, below, e)) in
+        let zero_is : k ≡ 0 = (let e = served.one_each in omega (arith, below, e)) in
         let same : numbers ≡ stands.0 = same_Some numbers stands.0 (sym at ∙ ap (slice_get served.lists) (sym zero_is) ∙ stands.1) in
         (stands.2, subst (λ (l : List ℕ). slice_get l stands.2 ≡ Some n) (sym same) stands.3)
 
     alone : AreBy (length o.base) o.accounts → AreServedInOrder o history readings made
     alone by =
-        let lists = get_there served.lists 0 (let e = served.dealt.one_each in omega (arith, e)) in
+        let lists = get_there served.lists 0 (let e = served.one_each in omega (arith, e)) in
         let numbers = lists.0 in
         let chain = served.served 0 numbers (starting q) p lists.1 refl refl in
         let g = grew o reading jobs made numbers (starting q) p chain in
@@ -198,9 +184,9 @@ module _ {Job : Type 0} (o : Opening) (reading : Job → Result Pay NoPay) (jobs
           chain = chain;
           on = refl;
           opened = by;
-          order = in_order 1 (length jobs + 1) numbers (omega arith) (served.dealt.rising 0 numbers lists.1)
-              (λ i n at. let w = served.dealt.jobs_only 0 n (numbers, lists.1, i, at) in (w.0, omega (arith, w.1)))
-              (λ n low high. every numbers lists.1 n (served.dealt.every_job n low (omega arith)));
+          order = in_order 1 (length jobs + 1) numbers (omega arith) (served.rising 0 numbers lists.1)
+              (λ i n at. let w = served.jobs_only 0 n (numbers, lists.1, i, at) in (w.0, omega (arith, w.1)))
+              (λ n low high. every numbers lists.1 n (served.every_job n low (omega arith)));
           none = (new.each 0 q refl).known;
           tags = λ i a at. own i a (subst (λ (l : List Act). slice_get l i ≡ Some a) (sym log) at) ∙ g.number;
           begins = λ known pre. begins o closes.log history closes.is closes.legal known (subst (IsPrefix known) (sym log) pre);
@@ -208,14 +194,14 @@ module _ {Job : Type 0} (o : Opening) (reading : Job → Result Pay NoPay) (jobs
           replies = served.replies_count;
         })
 
-  pub turn : (news : List PassKnows) (after : List Worker) (history : List Entry) (faults : ℕ) (new : AreNew o news) (closes : Closes o history faults (passes_of after)) (made : List Served) (served : AreServed Serving (map starting news) jobs after made)
+  pub turn : (news : List PassKnows) (after : List Worker) (history : List Entry) (faults : ℕ) (new : AreNew o news) (closes : Closes o history faults (passes_of after)) (made : List Served) (served : HaveServed Serving (map starting news) jobs after made)
       → AreBy (length o.base) o.accounts → o.made ≡ 1 → AreServedInOrder o history readings made
   turn news after history faults new closes made served by one =
       let q = single_of news (new.count ∙ one) in
       let count : length after ≡ 1 = served.passes ∙ length-map news starting ∙ new.count ∙ one in
       let p = single_of after count in
       alone q.0 p.0 history faults (subst (AreNew o) q.1 new) (subst (λ (ws : List Worker). Closes o history faults (passes_of ws)) p.1 closes) made
-      (subst (λ (x : List PassKnows × List Worker). AreServed Serving (map starting x.0) jobs x.1 made) (λ i. (q.1 i, p.1 i)) served) by
+      (subst (λ (x : List PassKnows × List Worker). HaveServed Serving (map starting x.0) jobs x.1 made) (λ i. (q.1 i, p.1 i)) served) by
 
   -- ---- whether the jobs were served or not
 
@@ -226,12 +212,12 @@ module _ {Job : Type 0} (o : Opening) (reading : Job → Result Pay NoPay) (jobs
   same_passes : (news : List PassKnows) (before after : List Worker) → before ≡ map starting news → after ≡ before → passes_of after ≡ news
   same_passes news before after seated none = ap passes_of (none ∙ seated) ∙ passes_back news
 
-  from_seats : (news : List PassKnows) (before after : List Worker) (made : List Served) → before ≡ map starting news → AreServed Serving before jobs after made → AreServed Serving (map starting news) jobs after made
-  from_seats news before after made seated done = subst (λ (ws : List Worker). AreServed Serving ws jobs after made) seated done
+  from_seats : (news : List PassKnows) (before after : List Worker) (made : List Served) → before ≡ map starting news → HaveServed Serving before jobs after made → HaveServed Serving (map starting news) jobs after made
+  from_seats news before after made seated done = subst (λ (ws : List Worker). HaveServed Serving ws jobs after made) seated done
 
   module _ {R E : Type 0} (items : R → List Served) (news : List PassKnows) (before after : List Worker) (seated : before ≡ map starting news) where
     abbrev pub IsDone : Result R E → Type 0
-    IsDone r = IfOk r (λ rs. AreServed Serving before jobs after (items rs))
+    IsDone r = IfOk r (λ rs. HaveServed Serving before jobs after (items rs))
 
     abbrev pub IsNone : Result R E → Type 0
     IsNone r = OnErr r (after ≡ before)

@@ -130,17 +130,17 @@ pub record EntersInOrder (chart : Chart) (history : List Entry) (pays : List Pay
 
 -- How the entering of pays on a day stops: by its cause. What is left is the journal's history and further entries of the day, each of
 -- one of the pays, in a journal that may be opened again, and a crash at each moment left a front part of it; where room was wanting
--- each of the pays was tried, and one worker entered a front part of them.
-pub record StopsEntering {D : Type 0} (d : outside.Ghosts D) (old new : D) (chart : Chart) (history : List Entry) (pays : List Pay) (day : Day) (workers : ℕ) (stop : BookStop) : Type 0 where
+-- each of the pays was tried, and one worker entered a front part of them. At most so many entries were written by one call.
+pub record StopsEntering {D : Type 0} (d : outside.Ghosts D) (old new : D) (chart : Chart) (history : List Entry) (pays : List Pay) (day : Day) (workers most : ℕ) (stop : BookStop) : Type 0 where
   pub added : List Entry
   pub each : All (IsEnteredOn day pays) added
   pub tried : EachTried chart history pays day (history ++ added) stop
   pub alone : workers ≡ 1 → EntersInOrder chart history pays day (history ++ added) stop
   pub journal : IsJournal chart (history ++ added)
-  pub left : IsLeft d old new chart (history ++ added) day
-  pub any_moment : LeavesMidway d old new chart history (history ++ added) day
+  pub left : IsLeft d old new chart (history ++ added) day most
+  pub any_moment : LeavesMidway d old new chart history (history ++ added) day most
   pub cause : BookCause d old new chart history pays day workers (history ++ added) stop
 
 -- how the entering of the pays of a file stops
 abbrev pub StopsBooking : {D : Type 0} → outside.Ghosts D → D → D → Inputs → BookStop → Type 0
-StopsBooking d old new i stop = StopsEntering d old new i.chart i.history (pays_of i) i.day i.workers stop
+StopsBooking d old new i stop = StopsEntering d old new i.chart i.history (pays_of i) i.day i.workers i.entries stop

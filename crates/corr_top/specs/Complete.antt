@@ -15,9 +15,10 @@ use Rattle.jrn_book.specs.Room.{longest_record}
 use Rattle.corr_top.specs.declared.room.Room.{Room}
 use Rattle.corr_top.specs.Changed.{MayChange, lent_in, row_fault, what_of}
 use Rattle.corr_top.specs.Copied.{HasSecond, HoldsOld, OnSecond}
+use Rattle.corr_top.specs.Followed.{ArePackets, HoldsRecords, IsTakeable}
 use Rattle.corr_top.specs.Inputs.{Inputs, pays_of}
 use Rattle.corr_top.specs.Meaning.{Meaning}
-use Rattle.corr_top.specs.MessageFile.{IsMessageFile}
+use Rattle.corr_top.specs.MessageFile.{IsMessageFile, most_message_bytes}
 use Rattle.corr_top.specs.OnDisk.{HoldsJournal, IsMakeable}
 use Rattle.corr_top.specs.Passing.{Balances, most_sent_bytes, table_fault, table_file, table_at}
 use Rattle.corr_top.specs.Returned.{IsReturnable}
@@ -58,6 +59,11 @@ IsReady source disk old new i Step.copy =
 IsReady source disk old new i Step.make_return = (pay : Pay) × IsReturnable i pay
 IsReady source disk old new i Step.book_return =
     IsSure disk old.disk new.disk × ((pay : Pay) → IsReturnable i pay → HasRoomForAll i.chart i.history (pay ∷ []))
+IsReady source disk old new i Step.begin = IsSure disk old.disk new.disk × HoldsRecords disk old.disk i.held
+IsReady source disk old new i Step.packets =
+    TellsAll source old.received new.received i.messages × (length i.messages ≤ most_message_bytes) × ArePackets i.messages i.packets
+IsReady source disk old new i Step.take = IsSure disk old.disk new.disk × IsTakeable i.held i.packets
+IsReady source disk old new i Step.aside = Unit {0}
 
 -- nothing is wrong with what a command reads, and neither a source nor a sink nor the disk failed
 pub record IsFaultless {S K D : Type 0} (source : sources.Ghosts S) (sink : sinks.Ghosts K) (disk : disks.Ghosts D) (m : Meaning) (old new : Room S K D) (i : Inputs) : Type 0 where

@@ -58,7 +58,7 @@ StopCause o pays history faults (booking.Full entries end need) =
     × (o.made ≡ 1 → LacksRoom o.accounts o.base pays o.day history entries end need)
 StopCause o pays history faults booking.Memory = Unit {0}
 
-module _ {S D : Type 0} (source : sources.Ghosts S) (disk : disks.Ghosts D) (directory : Directory) (workers : ℕ) (from to : S) (old : Parts D) (new : D) where
+module _ {S D : Type 0} (source : sources.Ghosts S) (disk : disks.Ghosts D) (directory : Directory) (workers most : ℕ) (from to : S) (old : Parts D) (new : D) where
   -- what the messages ask for
   abbrev pub readings_in : List (List ℕ) → List (Result Pay NoPay)
   readings_in cut = readings_of directory old.accounts cut
@@ -66,9 +66,9 @@ module _ {S D : Type 0} (source : sources.Ghosts S) (disk : disks.Ghosts D) (dir
   -- the message file is these messages, and the workers answered each of them
   pub record HasDay (bytes : List ℕ) (cut : List (List ℕ)) (history : List Entry) (replies : List Reply) : Type 0 where
     pub file : HasMessages source from to bytes cut
-    pub served : HasServed disk (opening_with disk old workers 1) (past_of disk old) (readings_in cut) old.accounts history new
+    pub served : HasServed disk (opening_with disk old workers most) (past_of disk old) (readings_in cut) old.accounts history new
     pub calm : IsCalm old.at_open (disk.faults new)
-    pub answered : HasAnswered (opening_with disk old workers 1) (readings_in cut) history replies
+    pub answered : HasAnswered (opening_with disk old workers most) (readings_in cut) history replies
 
   -- the message file was not taken, or there was no memory for its workers: the disk is as it was
   pub record StopsAtFile (s : Status) : Type 0 where
@@ -86,10 +86,10 @@ module _ {S D : Type 0} (source : sources.Ghosts S) (disk : disks.Ghosts D) (dir
     pub history : List Entry
     pub status_is : s ≡ status_of_booking stop
     pub file : HasMessages source from to bytes cut
-    pub served : HasServed disk (opening_with disk old workers 1) (past_of disk old) (readings_in cut) old.accounts history new
+    pub served : HasServed disk (opening_with disk old workers most) (past_of disk old) (readings_in cut) old.accounts history new
     pub tried : EachTried old.accounts old.base (pays_in (readings_in cut)) old.day history stop
     pub alone : workers ≡ 1 → EntersInOrder old.accounts old.base (pays_in (readings_in cut)) old.day history stop
-    pub cause : StopCause (opening_with disk old workers 1) (pays_in (readings_in cut)) history (disk.faults new) stop
+    pub cause : StopCause (opening_with disk old workers most) (pays_in (readings_in cut)) history (disk.faults new) stop
 
   -- the texts over what was answered, with messages that are valid under the tables, or why there are none
   abbrev pub GivesDay : Result Texts Status → Type 0

@@ -15,17 +15,21 @@ use Rattle.ref_tables.specs.Rows.{rows_of}
 use Rattle.ref_tables.specs.Seen.{Tables}
 use Rattle.ref_tables.specs.Tables.{tables_of}
 use Rattle.ssi_versions.specs.Rows.{instruction_of}
+use Rattle.standby.specs.declared.packet.Packet.{Packet}
+use Rattle.standby.specs.Held.{Held}
 use Rattle.corr_top.specs.declared.account_words.AccountChange.{AccountChange}
 use Rattle.corr_top.specs.declared.directory.Directory.{Directory}
 use Rattle.corr_top.specs.Message.{pays_in, readings_of, replies_in}
 
--- The home bank, the day, the number of workers, the change of accounts and the place that the words name; the bytes that were read of each table
+-- The home bank, the day, the number of workers, how many entries come under one sync at most, the change of accounts and the place that the words name; the bytes that were read of each table
 -- and of the one other file that the command reads, and the messages of that file; the accounts and the history of the journal as it was opened;
--- and the pays that the workers entered, in the order of the journal. What was not reached has none.
+-- the pays that the workers entered, in the order of the journal; and what a follower's disk holds, and the packets of its file. What was
+-- not reached has none.
 pub record Inputs : Type 0 where
   pub home : Bic
   pub day : Day
   pub workers : ℕ
+  pub entries : ℕ
   pub change : AccountChange
   pub place : ℕ
   pub bics : List ℕ
@@ -39,6 +43,8 @@ pub record Inputs : Type 0 where
   pub chart : Chart
   pub history : List Entry
   pub entered : List Pay
+  pub held : Held
+  pub packets : List Packet
 
 -- the tables of banks, currencies and countries
 abbrev pub tables_in : Inputs → Tables

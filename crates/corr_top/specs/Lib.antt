@@ -13,6 +13,8 @@ pub mod OnDisk
 pub mod Booking
 pub mod Changed
 pub mod Copied
+pub mod Ship
+pub mod Followed
 pub mod Returned
 pub mod Passing
 pub mod Meaning
@@ -25,13 +27,18 @@ pub mod Statements
 pub mod Query
 pub mod Change
 pub mod Migrate
+pub mod Follow
 pub mod Reconcile
+pub mod Check
+pub mod Shown
+pub mod Page
 pub mod Mend
 pub mod Generate
 pub mod Samples
 pub mod Trial
 pub mod Origin
 pub mod Serving
+pub mod Batching
 pub mod Collecting
 pub mod Days
 pub mod Returning

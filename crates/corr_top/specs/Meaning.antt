@@ -23,6 +23,6 @@ pub record Meaning : Type 1 where
 pub record KeepsRest {S K D : Type 0} (steps : List Step) (old new : Room S K D) : Type 0 where
   pub tables : (name : TableName) → (Contains steps (Step.table name) → ⊥) → table_at name new.tables ≡ table_at name old.tables
   pub messages : (Contains steps Step.messages → ⊥) → new.messages ≡ old.messages
-  pub received : (Contains steps Step.received → ⊥) → new.received ≡ old.received
+  pub received : (Contains steps Step.received → ⊥) → (Contains steps Step.packets → ⊥) → new.received ≡ old.received
   pub sent : (Contains steps Step.sent → ⊥) → new.sent ≡ old.sent
   pub disk2 : (Contains steps Step.copy → ⊥) → new.disk2 ≡ old.disk2

@@ -21,9 +21,9 @@ use Rattle.jrn_book.specs.Book.{Book, IsLeftBy}
 use Rattle.jrn_book.specs.Journal.{IsJournal, StandsForBook, item_records}
 use Rattle.jrn_book.specs.Opening.{IsFound, BookOpenCause, found_by}
 
--- a commit of this day failed, which was writing one entry
-abbrev pub one_of : Day → Failed
-one_of day = record { day = day; most = 1 }
+-- a commit of this day failed, which was writing at most so many entries
+abbrev pub up_to : ℕ → Day → Failed
+up_to most day = record { day = day; most = most }
 
 module _ {D : Type 0} (d : outside.Ghosts D) where
   -- a disk holds the journal of these accounts and this history, and a crash leaves nothing else
@@ -77,17 +77,17 @@ module _ {D : Type 0} (d : outside.Ghosts D) where
     pub sure : HasNotFailed disk (disk_of book.file)
 
   -- What the entering of pays of a day left, whether it came to its end or not: this history alone, or, where a call failed, it
-  -- or it and one legal entry more of that day.
-  abbrev pub IsLeft : D → D → Chart → List Entry → Day → Type 0
-  IsLeft old new chart history day =
-      (HasNotFailed old new × IsOnDisk new chart history) ⊎ (Rose (d.faults old) (d.faults new) × IsLeftBy (d.honest new) (d.may_leave new) chart history (one_of day))
+  -- or it and all of the legal entries of that day that one call was writing, at most so many.
+  abbrev pub IsLeft : D → D → Chart → List Entry → Day → ℕ → Type 0
+  IsLeft old new chart history day most =
+      (HasNotFailed old new × IsOnDisk new chart history) ⊎ (Rose (d.faults old) (d.faults new) × IsLeftBy (d.honest new) (d.may_leave new) chart history (up_to most day))
 
   -- What a crash at a moment of it leaves: what it might have left before; or the history at the opening and a front part of what was
-  -- entered since, in its order; or, where a call failed, the last history and one legal entry more of that day.
-  abbrev pub IsLeftMidway : D → D → Chart → List Entry → List Entry → Day → List ℕ → Type 0
-  IsLeftMidway old new chart first last day image =
-      d.may_leave old image ⊎ (StandsBetween chart first last image ⊎ (Rose (d.faults old) (d.faults new) × StandsWithMore chart last day 1 image))
+  -- entered since, in its order; or, where a call failed, the last history and the legal entries of that day that one call was writing.
+  abbrev pub IsLeftMidway : D → D → Chart → List Entry → List Entry → Day → ℕ → List ℕ → Type 0
+  IsLeftMidway old new chart first last day most image =
+      d.may_leave old image ⊎ (StandsBetween chart first last image ⊎ (Rose (d.faults old) (d.faults new) × StandsWithMore chart last day most image))
 
   -- so it is at each moment of the call
-  abbrev pub LeavesMidway : D → D → Chart → List Entry → List Entry → Day → Type 0
-  LeavesMidway old new chart first last day = IsTrue (d.honest old) → LeavesOnly d.moment d.left_since old new (IsLeftMidway old new chart first last day)
+  abbrev pub LeavesMidway : D → D → Chart → List Entry → List Entry → Day → ℕ → Type 0
+  LeavesMidway old new chart first last day most = IsTrue (d.honest old) → LeavesOnly d.moment d.left_since old new (IsLeftMidway old new chart first last day most)

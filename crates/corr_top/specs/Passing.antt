@@ -36,6 +36,7 @@ use Rattle.corr_top.specs.declared.tables.TableStop.TheVariants as table
 use Rattle.corr_top.specs.Booking.{AreAnswered, IsBack, StopsBooking}
 use Rattle.corr_top.specs.Changed.{MayChange, StopsChanging, lent_in, row_fault, what_of}
 use Rattle.corr_top.specs.Copied.{HasCopied, HasSecond, HoldsOld, OnSecond, StopsCopying, StopsOpeningOld}
+use Rattle.corr_top.specs.Followed.{HasPackets, HasTaken, HoldsRecords, StopsAtPackets, StopsAtTake, StopsBeginning}
 use Rattle.corr_top.specs.Inputs.{Inputs, accounts_in, chart_in, tables_in}
 use Rattle.corr_top.specs.MessageFile.{IsMessageFile, StopsCutting, most_message_bytes}
 use Rattle.corr_top.specs.OnDisk.{HasNotFailed, HoldsJournal, IsMakeable, IsUnwritten, StopsMaking, StopsOpening}
@@ -162,6 +163,10 @@ Passes source disk old new i Step.old_journal = HoldsOld disk old.disk i.chart i
 Passes source disk old new i Step.copy = OnSecond (λ from to. HasCopied disk from to i.chart i.history) old.disk2 new.disk2
 Passes source disk old new i Step.make_return = (pay : Pay) × IsReturnable i pay
 Passes source disk old new i Step.book_return = IsReturned i
+Passes source disk old new i Step.begin = HoldsRecords disk old.disk i.held
+Passes source disk old new i Step.packets = HasPackets source old.received new.received i.messages i.packets
+Passes source disk old new i Step.take = HasTaken disk old.disk new.disk i.held i.packets
+Passes source disk old new i Step.aside = new.disk ≡ old.disk
 
 -- how a command stops there with this status: for a reason that the status tells, by its cause
 abbrev pub StopsAt : {S K D : Type 0} → sources.Ghosts S → disks.Ghosts D → Room S K D → Room S K D → Inputs → Status → Step → Type 0
@@ -184,6 +189,11 @@ StopsAt source disk old new i s Step.copy =
 StopsAt source disk old new i s Step.make_return =
     (stop : ReturnFault) × (s ≡ status_of_return stop) × TellsReturnFault i.chart i.history i.place i.day stop × HasNotFailed disk old.disk new.disk
 StopsAt source disk old new i s Step.book_return = (stop : BookStop) × (s ≡ status_of_booking stop) × StopsReturning disk old.disk new.disk i stop
+StopsAt source disk old new i s Step.begin = (stop : OpenFault) × (s ≡ status_of_opening stop) × StopsBeginning disk old.disk new.disk stop
+StopsAt source disk old new i s Step.packets =
+    (stop : FileStop) × (s ≡ status_of_file stop) × StopsAtPackets source old.received new.received i.messages stop × HasNotFailed disk old.disk new.disk × IsUnwritten disk old.disk new.disk
+StopsAt source disk old new i s Step.take = StopsAtTake disk old.disk new.disk i.held i.packets s
+StopsAt source disk old new i s Step.aside = ⊥
 
 -- what a step reads or does is as it was
 abbrev pub StepIsUntouched : {S K D : Type 0} → disks.Ghosts D → Room S K D → Room S K D → Step → Type 0
@@ -202,3 +212,7 @@ StepIsUntouched disk old new Step.old_journal = new.disk ≡ old.disk
 StepIsUntouched disk old new Step.copy = new.disk2 ≡ old.disk2
 StepIsUntouched disk old new Step.make_return = Unit {0}
 StepIsUntouched disk old new Step.book_return = IsUnwritten disk old.disk new.disk
+StepIsUntouched disk old new Step.begin = new.disk ≡ old.disk
+StepIsUntouched disk old new Step.packets = new.received ≡ old.received
+StepIsUntouched disk old new Step.take = IsUnwritten disk old.disk new.disk
+StepIsUntouched disk old new Step.aside = new.disk ≡ old.disk

@@ -1,8 +1,8 @@
 -- What a bank may rely on. All of it follows from `Ends`, over rooms whose sources and disk tell their bytes.
-use Rattle.std.specs.Prelude.{ℕ, ◌≡◌, ◌⊎◌, ◌+◌, Bool, true, false, All, IsTrue, IsSome, List, [], length, map, take, Option, Some, None, Result, ◌∷◌, ◌++◌}
+use Rattle.std.specs.Prelude.{ℕ, ◌≡◌, ◌⊎◌, ◌+◌, Bool, true, false, All, IsTrue, IsSome, List, [], length, map, slice_get, take, Option, Some, None, Result, ◌∷◌, ◌++◌}
 use Rattle.std.specs.List.{Contains}
 use Rattle.std.specs.Option.{option_map}
-use Rattle.std.specs.Io.KnownBytes.{Appends}
+use Rattle.std.specs.Io.KnownBytes.{Appends, IsAtEnd}
 use Rattle.corr_books.specs.Moments.{StandsBetween, StandsWithMore}
 use Rattle.corr_disk.specs.Disk.{Only}
 use Rattle.corr_disk.specs.declared.disk.Disk as disks
@@ -20,6 +20,7 @@ use Rattle.day_model.specs.declared.entry.Entry.{Entry}
 use Rattle.day_model.specs.declared.pay.Pay.{Pay}
 use Rattle.day_model.specs.declared.reply.Reply.{Reply}
 use Rattle.desk_rows.specs.Balances.{balance_rows}
+use Rattle.desk_rows.specs.Entries.{entry_rows}
 use Rattle.desk_rows.specs.Until.{entries_until}
 use Rattle.jrn_book.specs.Book.{IsLeftBy}
 use Rattle.jrn_book.specs.Journal.{IsBeforeOrChanged, IsJournal, IsJournalIn, StandsForBook}
@@ -33,30 +34,38 @@ use Rattle.pay_returns.specs.Laws.{HoldsReturn}
 use Rattle.pay_returns.specs.Making.{MayReturn}
 use Rattle.ref_tables.specs.Seen.{Tables as Known}
 use Rattle.ref_tables.specs.declared.fault.TableName.{TableName}
+use Rattle.standby.specs.declared.packet.Packet.{Packet}
+use Rattle.standby.specs.Held.{Held, IsHeld, MayComeNext, StandsForAll, count_of, entries_of, journal, nothing, records_of}
+use Rattle.standby.specs.Shipping.{AreSentBy, IsFrontOf, shipped}
+use Rattle.standby.specs.Taking.{IsFull}
 use Rattle.corr_top.specs.declared.account_words.AccountChange.{AccountChange}
 use Rattle.corr_top.specs.declared.message.NoPay.{NoPay}
 use Rattle.corr_top.specs.declared.owners.Owners.{Owners}
 use Rattle.corr_top.specs.declared.room.Room.{Room}
 use Rattle.corr_top.specs.declared.status.Status.{Status}
-use Rattle.corr_top.specs.declared.status.Status.TheVariants.{Done, Memory, WriteFault}
+use Rattle.corr_top.specs.declared.status.Status.TheVariants.{DiskFault, Done, Full, Memory, NotNext, WriteFault}
 use Rattle.corr_top.specs.declared.words.Command.{Command}
 use Rattle.corr_top.specs.declared.words.Command.TheVariants.{Run, Trial, Plain, Return}
-use Rattle.corr_top.specs.declared.words.Plain.TheVariants.{Change, Generate, Init, Mend, Migrate, Query, Reconcile}
-use Rattle.corr_top.specs.declared.words.Query.TheVariants.{Balances, Bookings, Send, Statements}
+use Rattle.corr_top.specs.declared.words.Plain.TheVariants.{Change, Follow, Generate, Init, Mend, Migrate, Query, Reconcile, Check, Page}
+use Rattle.corr_top.specs.declared.words.Query.TheVariants.{Balances, Bookings, Send, Ship, Statements, Entries}
 use Rattle.corr_top.specs.Change.{change_steps}
 use Rattle.corr_top.specs.Changed.{IsRefusedFor, changed_in, lent_in, row_fault, what_of}
 use Rattle.corr_top.specs.Copied.{OnSecond, StandsForOld}
+use Rattle.corr_top.specs.Followed.{ArePackets, IsHeldOrTaken, LeavesRecords, follow_line}
 use Rattle.corr_top.specs.Init.{init_steps}
 use Rattle.corr_top.specs.Inputs.{Inputs, chart_in, directory_in, tables_in}
 use Rattle.corr_top.specs.Message.{message_reply, pays_in, readings_of}
 use Rattle.corr_top.specs.MessageFile.{IsMessageFile}
-use Rattle.corr_top.specs.OnDisk.{IsUnwritten, one_of}
+use Rattle.corr_top.specs.OnDisk.{IsUnwritten, up_to}
 use Rattle.corr_top.specs.Origin.{AreSentValid}
 use Rattle.corr_top.specs.Out.{booked_from, sent_from}
+use Rattle.corr_top.specs.Page.{day_page, page_steps}
 use Rattle.corr_top.specs.Passing.{table_at, table_fault, table_file}
+use Rattle.corr_top.specs.Check.{check_lines, check_steps}
 use Rattle.corr_top.specs.Reconcile.{break_report, reconcile_steps}
 use Rattle.corr_top.specs.Returned.{IsNotTakenBack, booked_on}
 use Rattle.corr_top.specs.Run.{run_steps}
+use Rattle.corr_top.specs.Ship.{shipped_out}
 use Rattle.corr_top.specs.Statements.{AreStatements, sent_statements}
 use Rattle.corr_top.specs.Steps.{Step}
 use Rattle.corr_top.specs.Trial.{BooksEach, trial_report}
@@ -77,6 +86,26 @@ writes Done = true
 writes (WriteFault then now) = true
 writes _ = false
 
+-- the statuses at which `follow` refuses a packet
+abbrev pub refuses_packet : Status → Bool
+refuses_packet (NotNext number) = true
+refuses_packet (Full entries end need) = true
+refuses_packet _ = false
+
+-- those at which it may have taken some
+abbrev pub may_take : Status → Bool
+may_take Done = true
+may_take (WriteFault then now) = true
+may_take (DiskFault before after) = true
+may_take Memory = true
+may_take s = refuses_packet s
+
+-- why a packet isn't taken where this is held: its record may not stand next, or has no room
+abbrev pub IsNotTaken : Held → Packet → Status → Type 0
+IsNotTaken held packet (NotNext number) = (number ≡ packet.number) × (MayComeNext held packet.body → ⊥)
+IsNotTaken held packet (Full entries end need) = (entries ≡ length (entries_of held)) × MayComeNext held packet.body × IsFull held packet.body end need
+IsNotTaken held packet _ = ⊥
+
 module _ {D : Type 0} (disk : disks.Ghosts D) where
   -- a disk that tells its bytes: a read gives these books, and so does whatever a crash leaves
   pub record Keeps (d : D) (chart : Chart) (books : List Entry) : Type 0 where
@@ -84,6 +113,17 @@ module _ {D : Type 0} (disk : disks.Ghosts D) where
     pub sound : AreBooks chart books
     pub reads : StandsForBook (disk.reads d) chart books
     pub crash : (image : List ℕ) → disk.may_leave d image → StandsForBook image chart books
+
+  -- so it is with what a follower holds: no record yet, where a journal may be made, or books
+  abbrev pub KeepsHeld : D → Held → Type 0
+  KeepsHeld d nothing = IsTrue (disk.honest d) × IsUnmade (disk.reads d) × ((image : List ℕ) → disk.may_leave d image → IsUnmade image)
+  KeepsHeld d (journal chart books) = Keeps d chart books
+
+  -- a disk that tells its bytes, which stand for what a follower holds; a crash may leave others
+  pub record Holds (d : D) (held : Held) : Type 0 where
+    pub told : IsTrue (disk.honest d)
+    pub good : IsHeld held
+    pub reads : StandsForAll (records_of held) (disk.reads d)
 
 module _ {S K D : Type 0} (sink : sinks.Ghosts K) (old new : Room S K D) where
   -- Done: just these texts were received; WriteFault: a front part of the report, or all of it and a front part of what is sent
@@ -125,18 +165,18 @@ module _ {S K D : Type 0} (source : sources.Ghosts S) (sink : sinks.Ghosts K) (d
     pub journal : IsJournalIn One chart books
     pub reads : StandsForOld (disk.reads old.disk) chart books
 
-  -- run, whatever the status: the books are those of one clerk who entered pays of the file, one after another; a crash keeps them, or,
-  -- after a fault, them or them and one legal entry more; at each moment of the run it leaves the old books and a front part of what was
-  -- entered, or that entry more
+  -- run and batch, whatever the status: the books are those of one clerk who entered pays of the file, one after another; a crash keeps them,
+  -- or, after a fault, them or them and all of the legal entries that one call was writing, at most as many as the words name, which is one in
+  -- `run`; at each moment it leaves the old books and a front part of what was entered, or those entries more
   pub record RunPromise (i : Inputs) : Type 0 where
     pub books : List Entry
     pub entered : List Pay
     pub one_clerk : books ≡ fold_of i.chart i.history entered i.day
     pub of_file : (entered ≡ []) ⊎ ((cut : List (List ℕ)) × IsMessageFile i.messages cut × All (Contains (pays_in (asked i cut))) entered)
     pub crash : Keeps disk new.disk i.chart books
-        ⊎ (Rose (disk.faults old.disk) (disk.faults new.disk) × AreBooks i.chart books × IsLeftBy (disk.honest new.disk) (disk.may_leave new.disk) i.chart books (one_of i.day))
+        ⊎ (Rose (disk.faults old.disk) (disk.faults new.disk) × AreBooks i.chart books × IsLeftBy (disk.honest new.disk) (disk.may_leave new.disk) i.chart books (up_to i.entries i.day))
     pub moments : AtEachMoment (λ image. StandsBetween i.chart i.history books image
-        ⊎ (Rose (disk.faults old.disk) (disk.faults new.disk) × StandsWithMore i.chart books i.day 1 image))
+        ⊎ (Rose (disk.faults old.disk) (disk.faults new.disk) × StandsWithMore i.chart books i.day i.entries image))
     pub answers : writes s ≡ true → AnswersAll i books
 
   -- the payment at a place was taken back: its return is the one entry more, and is booked; its line and its messages are written, and these
@@ -155,7 +195,7 @@ module _ {S K D : Type 0} (source : sources.Ghosts S) (sink : sinks.Ghosts K) (d
     pub books : List Entry
     pub entered : (books ≡ i.history) ⊎ ((pay : Pay) × MayReturn i.chart i.history i.place i.day pay × (books ≡ i.history ++ booked_on i.day pay ∷ []))
     pub crash : Keeps disk new.disk i.chart books
-        ⊎ (Rose (disk.faults old.disk) (disk.faults new.disk) × AreBooks i.chart books × IsLeftBy (disk.honest new.disk) (disk.may_leave new.disk) i.chart books (one_of i.day))
+        ⊎ (Rose (disk.faults old.disk) (disk.faults new.disk) × AreBooks i.chart books × IsLeftBy (disk.honest new.disk) (disk.may_leave new.disk) i.chart books (up_to 1 i.day))
     pub moments : AtEachMoment (λ image. StandsBetween i.chart i.history books image
         ⊎ (Rose (disk.faults old.disk) (disk.faults new.disk) × StandsWithMore i.chart books i.day 1 image))
     pub done : writes s ≡ true → Keeps disk new.disk i.chart books
@@ -171,6 +211,18 @@ module _ {S K D : Type 0} (source : sources.Ghosts S) (sink : sinks.Ghosts K) (d
     pub rule : (n : ℕ) (t : Statement) → IsReceived t
         → TakesFirst i.chart n i.history t (compared_of i.chart i.history n t) × StandOnce i.chart n i.history t (compared_of i.chart i.history n t)
         × AddsUp i.chart n i.history t (compared_of i.chart i.history n t)
+
+  -- check: a line for each message of the file, by the verdict on it as one to the home bank
+  pub record CheckPromise (i : Inputs) : Type 0 where
+    pub cut : List (List ℕ)
+    pub file : IsMessageFile i.messages cut
+    pub wrote : Wrote sink old new s (check_lines i.home (tables_in i) cut) []
+
+  -- page: the messages of the file, each by what `run` would answer to it, and the books, on the page of the day
+  pub record PagePromise (i : Inputs) : Type 0 where
+    pub cut : List (List ℕ)
+    pub file : IsMessageFile i.messages cut
+    pub wrote : Wrote sink old new s (day_page (directory_in i) i.chart i.history i.day cut) []
 
   -- open-account and set-limits, whatever the status: nothing is written to the sinks; done, the books have this change of their accounts more and nothing else; a crash at
   -- any moment leaves the books before or with it; refused, where no call of the disk failed and memory didn't run out, they are as they were, and the
@@ -200,17 +252,54 @@ module _ {S K D : Type 0} (source : sources.Ghosts S) (sink : sinks.Ghosts K) (d
     pub refused : writes s ≡ false → (s ≡ Memory → ⊥) → (from to : D) → old.disk2 ≡ Some from → new.disk2 ≡ Some to → IsTrue (disk.honest from)
         → (Rose (disk.faults from) (disk.faults to) → ⊥) → IsUnwritten disk from to
 
+  -- the packets of the file were taken, which was read to its end: what is held then stays on the disk, and begins with what was held; of packets of one leader, of whose records a
+  -- front was held, it is such a front; the report tells how many packets there were, how many records came, and how many are held
+  pub record TakesAll (file : List ℕ) (held : Held) : Type 0 where
+    pub packets : List Packet
+    pub are : ArePackets file packets
+    pub read : IsAtEnd (source.left new.received)
+    pub after : Held
+    pub ships : records_of after ≡ shipped (records_of held) packets
+    pub keeps : KeepsHeld disk new.disk after
+    pub begins : IsFrontOf (records_of held) (records_of after)
+    pub front : (leader : List (List ℕ)) → IsFrontOf (records_of held) leader → AreSentBy leader packets → IsFrontOf (records_of after) leader
+    pub wrote : Wrote sink old new s (follow_line (length packets) (count_of held) (count_of after)) []
+
+  -- one of them is refused: those ahead of it were taken, what is held then stays on the disk, and the status is the reason against the next
+  pub record RefusesOne (file : List ℕ) (held : Held) : Type 0 where
+    pub packets : List Packet
+    pub are : ArePackets file packets
+    pub taken : ℕ
+    pub packet : Packet
+    pub at : slice_get packets taken ≡ Some packet
+    pub after : Held
+    pub ships : records_of after ≡ shipped (records_of held) (take taken packets)
+    pub keeps : KeepsHeld disk new.disk after
+    pub next : packet.number ≡ count_of after + 1
+    pub reason : IsNotTaken after packet s
+
+  -- follow, over the bytes of its file, and what the disk holds when it begins: done, all packets are taken; or one is refused; whatever the status, a
+  -- crash at any moment leaves what was held, or what is held after some of them, where it left what was held before; and at the statuses that come ahead
+  -- of the first packet nothing is written to the disk
+  pub record FollowPromise : Type 0 where
+    pub done : (file : List ℕ) (held : Held) → source.left old.received ≡ Some file → Holds disk old.disk held → writes s ≡ true → TakesAll file held
+    pub refused : (file : List ℕ) (held : Held) → source.left old.received ≡ Some file → Holds disk old.disk held → refuses_packet s ≡ true → RefusesOne file held
+    pub moments : (file : List ℕ) (held : Held) → source.left old.received ≡ Some file → Holds disk old.disk held → LeavesRecords disk old.disk held
+        → AtEachMoment (IsHeldOrTaken file held)
+    pub unwritten : may_take s ≡ false → IsUnwritten disk old.disk new.disk
+
   pub record Promises (command : Command) : Type 0 where
-    -- however it ends, the books on the disk stay; `run` and `return` alone add to them, changes of accounts change the accounts alone, and
-    -- `init` makes none over others
-    pub keeps : (chart : Chart) (books : List Entry) → Keeps disk old.disk chart books → ((day : Day) (n : ℕ) → command ≡ Run day n → ⊥)
-        → ((change : AccountChange) → command ≡ Plain (Change change) → ⊥) → ((place : ℕ) (day : Day) → command ≡ Return place day → ⊥)
+    -- however it ends, the books on the disk stay; `run`, `batch`, `return` and `follow` alone add to them, changes of accounts change the accounts
+    -- alone, and `init` makes none over others
+    pub keeps : (chart : Chart) (books : List Entry) → Keeps disk old.disk chart books → ((day : Day) (n entries : ℕ) → command ≡ Run day n entries → ⊥)
+        → ((change : AccountChange) → command ≡ Plain (Change change) → ⊥) → ((place : ℕ) (day : Day) → command ≡ Return place day → ⊥) → (command ≡ Plain Follow → ⊥)
         → Keeps disk new.disk chart books × AtEachMoment (λ image. StandsForBook image chart books)
-    pub run : (i : Inputs) → command ≡ Run i.day i.workers → Told run_steps i → source.left old.messages ≡ Some i.messages
+    pub run : (i : Inputs) → command ≡ Run i.day i.workers i.entries → Told run_steps i → source.left old.messages ≡ Some i.messages
         → Keeps disk old.disk i.chart i.history → RunPromise i
     pub returned : (i : Inputs) → command ≡ Return i.place i.day → Keeps disk old.disk i.chart i.history → ReturnPromise i
     pub change : (i : Inputs) → command ≡ Plain (Change i.change) → Told (change_steps i.change) i → Keeps disk old.disk i.chart i.history → ChangePromise i
     pub migrate : command ≡ Plain Migrate → MigratePromise
+    pub follow : command ≡ Plain Follow → FollowPromise
     pub init : (i : Inputs) → command ≡ Plain (Init i.home) → Told init_steps i → IsTrue (disk.honest old.disk) → writes s ≡ true
         → Keeps disk new.disk (chart_in i) []
     pub made_or_not : (i : Inputs) → command ≡ Plain (Init i.home) → Told init_steps i → IsTrue (disk.honest old.disk)
@@ -220,6 +309,9 @@ module _ {S K D : Type 0} (source : sources.Ghosts S) (sink : sinks.Ghosts K) (d
         → writes s ≡ true → Wrote sink old new s [] (sent_statements owners chart books day) × AreStatements owners chart books day
     pub send : (from until : ℕ) (chart : Chart) (books : List Entry) → command ≡ Plain (Query (Send from until)) → Keeps disk old.disk chart books
         → writes s ≡ true → Wrote sink old new s [] (sent_from chart from (take until books))
+    -- the packets of the records with these numbers, header first, that there are
+    pub ship : (from until : ℕ) (chart : Chart) (books : List Entry) → command ≡ Plain (Query (Ship from until)) → Keeps disk old.disk chart books
+        → writes s ≡ true → Wrote sink old new s [] (shipped_out from until chart books)
     -- the whole messages of the file of messages that leave as they stand, then those of the entries at these places that don't stand whole in it
     pub mend : (from until : ℕ) (file : List ℕ) (chart : Chart) (books : List Entry) → command ≡ Plain (Mend from until) → source.left old.sent ≡ Some file
         → Keeps disk old.disk chart books → writes s ≡ true → Wrote sink old new s (mended_of file (sent_from chart from (take until books))) []
@@ -228,9 +320,16 @@ module _ {S K D : Type 0} (source : sources.Ghosts S) (sink : sinks.Ghosts K) (d
     -- a row for each account, with the balance by the model; the balances of a currency sum to 0
     pub balances : (until : Option Day) (chart : Chart) (books : List Entry) → command ≡ Plain (Query (Balances until)) → Keeps disk old.disk chart books
         → writes s ≡ true → Wrote sink old new s (balance_rows chart (entries_until until books)) [] × BalancesCancel chart (entries_until until books)
+    -- a row for each entry of the days, exactly
+    pub entries : (from until : Day) (chart : Chart) (books : List Entry) → command ≡ Plain (Query (Entries from until)) → Keeps disk old.disk chart books
+        → writes s ≡ true → Wrote sink old new s (entry_rows chart from until books) []
     pub generate : (count seed : ℕ) → command ≡ Plain (Generate count seed) → writes s ≡ true → Wrote sink old new s [] (generated_of count seed)
     pub trial : (count seed workers : ℕ) → command ≡ Trial count seed workers → writes s ≡ true
         → Wrote sink old new s (trial_report count seed) [] × BooksEach count seed
     pub reconcile : (i : Inputs) → command ≡ Plain Reconcile → Told reconcile_steps i → source.left old.received ≡ Some i.messages
         → Keeps disk old.disk i.chart i.history → writes s ≡ true → ReconcilePromise i
+    pub check : (i : Inputs) → command ≡ Plain (Check i.home) → Told check_steps i → source.left old.messages ≡ Some i.messages → writes s ≡ true
+        → CheckPromise i
+    pub page : (i : Inputs) → command ≡ Plain (Page i.day) → Told page_steps i → source.left old.messages ≡ Some i.messages
+        → Keeps disk old.disk i.chart i.history → writes s ≡ true → PagePromise i
     pub silent : writes s ≡ false → (new.report ≡ old.report) × (new.out ≡ old.out)

@@ -25,5 +25,5 @@ return_meaning place day = record {
   report = return_report;
   out = run_out;
   valid = ReturnSends;
-  leaves = λ D disk old new i. RunLeaves disk old new i;
+  leaves = λ D disk old new i. RunLeaves disk 1 old new i;
 }

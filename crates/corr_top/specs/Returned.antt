@@ -49,4 +49,4 @@ ReturnSends i = (t : Tables) (pay : Pay) → i.entered ≡ pay ∷ [] → HoldsR
 
 -- how its entering stops, by one worker
 abbrev pub StopsReturning : {D : Type 0} → disks.Ghosts D → D → D → Inputs → BookStop → Type 0
-StopsReturning d old new i stop = (pay : Pay) × IsReturnable i pay × StopsEntering d old new i.chart i.history (pay ∷ []) i.day 1 stop
+StopsReturning d old new i stop = (pay : Pay) × IsReturnable i pay × StopsEntering d old new i.chart i.history (pay ∷ []) i.day 1 1 stop

@@ -1,4 +1,4 @@
--- The command `run`: the messages of a file are answered on a day.
+-- The commands `run` and `batch`: the messages of a file are answered on a day.
 use Rattle.std.specs.Prelude.{ℕ, ◌≡◌, ◌+◌, List, [], ◌∷◌, length}
 use Rattle.corr_disk.specs.declared.disk.Disk as disks
 use Rattle.corr_ids.specs.declared.day.Day.{Day}
@@ -28,21 +28,21 @@ unfoldable pub run_out : Inputs → List ℕ
 run_out i = sent_from i.chart (length i.history + 1) (new_in i)
 
 -- what it leaves: that history, in a journal that may be opened again, and nothing else; a crash at each moment of the run leaves a
--- front part of it
-pub record RunLeaves {D : Type 0} (disk : disks.Ghosts D) (old new : D) (i : Inputs) : Type 0 where
+-- front part of it; at most so many entries come under one sync
+pub record RunLeaves {D : Type 0} (disk : disks.Ghosts D) (most : ℕ) (old new : D) (i : Inputs) : Type 0 where
   pub sure : HasNotFailed disk old new
   pub entered : IsOnDisk disk new i.chart (new_in i)
   pub journal : IsJournal i.chart (new_in i)
-  pub any_moment : LeavesMidway disk old new i.chart i.history (new_in i) i.day
+  pub any_moment : LeavesMidway disk old new i.chart i.history (new_in i) i.day most
 
--- it is of the day and the number of workers that the words name; each message that it sends passes the tests of a sent message under
+-- it is of the day, the number of workers and the number of entries under one sync that the words name, which is one in `run`; each message that it sends passes the tests of a sent message under
 -- the tables that it read
-abbrev pub run_meaning : Day → ℕ → Meaning
-run_meaning day workers = record {
-  is_for = λ i. (i.day ≡ day) × (i.workers ≡ workers);
+abbrev pub run_meaning : Day → ℕ → ℕ → Meaning
+run_meaning day workers entries = record {
+  is_for = λ i. (i.day ≡ day) × (i.workers ≡ workers) × (i.entries ≡ entries);
   steps = run_steps;
   report = run_report;
   out = run_out;
   valid = λ i. AreSentValid (tables_in i) i.chart (length i.history + 1) (new_in i);
-  leaves = λ D disk old new i. RunLeaves disk old new i;
+  leaves = λ D disk old new i. RunLeaves disk entries old new i;
 }

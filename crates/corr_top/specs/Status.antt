@@ -9,7 +9,7 @@ use Rattle.ref_tables.specs.declared.fault.TableName.TheVariants as table
 use Rattle.ref_tables.specs.declared.fault.Why.{Why}
 use Rattle.ref_tables.specs.declared.fault.Why.TheVariants as why
 use Rattle.corr_top.specs.declared.status.Status.{Status}
-use Rattle.corr_top.specs.declared.status.Status.TheVariants.{Done, Usage, Table, ReadFault, WriteFault, DiskFault, NotAJournal, Damaged, Unbalanced, Exists, Memory, DateBack, TooLarge, Framing, Full, Version, SecondDiskFault, Unknown, NoSecond, NoPayment, Returned, Unfunded}
+use Rattle.corr_top.specs.declared.status.Status.TheVariants.{Done, Usage, Table, ReadFault, WriteFault, DiskFault, NotAJournal, Damaged, Unbalanced, Exists, Memory, DateBack, TooLarge, Framing, Full, Version, SecondDiskFault, Unknown, NoSecond, NoPayment, Returned, Unfunded, NotNext}
 
 -- a line can tell it: the decimals of an `Unbalanced` are at most 4, and the day of a `DateBack` is of 1980 to 2079
 abbrev pub HasLine : Status → Type 0
@@ -41,6 +41,7 @@ status_number NoSecond = 14
 status_number (NoPayment entries) = 15
 status_number (Returned place) = 16
 status_number (Unfunded leg balance) = 17
+status_number (NotNext number) = 18
 
 -- a number after a space
 unfoldable pub spaced_number : ℕ → List ℕ
@@ -95,6 +96,7 @@ status_text NoSecond = codes "no second disk"
 status_text (NoPayment entries) = codes "no payment" ++ spaced_number entries
 status_text (Returned place) = codes "returned" ++ spaced_number place
 status_text (Unfunded leg balance) = codes "unfunded" ++ spaced_number leg ++ spaced_signed balance
+status_text (NotNext number) = codes "not next" ++ spaced_number number
 
 -- its line, without a line end
 abbrev pub status_line_of : Status → List ℕ

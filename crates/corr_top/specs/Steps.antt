@@ -5,7 +5,8 @@ use Rattle.ref_tables.specs.declared.fault.TableName.{TableName}
 -- What a command reads, tests and does before it writes: a table, the sums of the openings, the making of a journal, the journal
 -- as it is opened, the day against that of its last entry, the message file, the entering of its pays, and the received messages;
 -- the file of messages that leave; a change of the journal's accounts; the second disk, a journal of version 1 as it is opened, and the
--- making of its copy; and the making of the pay that takes a payment back, and its entering.
+-- making of its copy; the making of the pay that takes a payment back, and its entering; that a disk which a command doesn't need is left
+-- aside; and what a follower's disk holds, the packets of the received file, and the taking of these.
 pub data Step : Type 0 where
   table : TableName → Step
   sums : Step
@@ -22,6 +23,10 @@ pub data Step : Type 0 where
   copy : Step
   make_return : Step
   book_return : Step
+  begin : Step
+  packets : Step
+  take : Step
+  aside : Step
 
 -- each step has it
 abbrev pub Walks : (Step → Type 0) → List Step → Type 0

@@ -21,6 +21,8 @@ use Rattle.ref_tables.specs.declared.fault.TableFault.{TableFault}
 use Rattle.ref_tables.specs.declared.fault.TableFault.TheVariants as refused
 use Rattle.ref_tables.specs.declared.fault.TableName.TheVariants as names
 use Rattle.ref_tables.specs.declared.fault.Why.TheVariants as why
+use Rattle.standby.specs.declared.answer.TakeFault.{TakeFault}
+use Rattle.standby.specs.declared.answer.TakeFault.TheVariants as taking
 use Rattle.corr_top.specs.declared.answers.BookStop.{BookStop}
 use Rattle.corr_top.specs.declared.answers.BookStop.TheVariants as booking
 use Rattle.corr_top.specs.declared.cutting.FileStop.{FileStop}
@@ -137,3 +139,13 @@ status_of_return (returning.NoPayment entries) = status.NoPayment entries
 status_of_return (returning.Returned place) = status.Returned place
 status_of_return (returning.Unfunded leg balance) = status.Unfunded leg balance
 status_of_return returning.Memory = status.Memory
+
+-- the status where a packet wasn't taken by a follower that holds so many entries; the bytes are one whole packet, and the follower is
+-- left after the first fault of its disk, so that neither NotAPacket nor Broken comes
+abbrev pub status_of_taking : ℕ → TakeFault → Status
+status_of_taking entries taking.NotAPacket = status.Framing 0
+status_of_taking entries (taking.NotNext number) = status.NotNext number
+status_of_taking entries (taking.Full end need) = status.Full entries end need
+status_of_taking entries (taking.DiskFault before after) = status.DiskFault before after
+status_of_taking entries (taking.Broken at_open now) = status.DiskFault at_open now
+status_of_taking entries taking.Memory = status.Memory

@@ -11,10 +11,13 @@ ghost use Rattle.corr_top.specs.declared.words.Command.{Command as TheCommand};
 ghost use Rattle.corr_top.specs.declared.words.Command.TheVariants.{Plain as PlainCommand};
 
 use crate::changing::change;
+use crate::checking::check;
+use crate::following::follow;
 use crate::generate::generate;
 use crate::init::init;
 use crate::mending::mend;
 use crate::migrating::migrate;
+use crate::paging::page;
 use crate::query::query;
 use crate::received::reconcile;
 use crate::returning::take_back;
@@ -84,6 +87,10 @@ fn perform<S: Source, K: Sink, D: Disk>(
             let (room, texts) = reconcile(alloc, room);
             end(room, texts)
         }
+        Plain::Check { home } => {
+            let (room, texts) = check(alloc, &home, room);
+            end(room, texts)
+        }
         Plain::Generate { count, seed } => end(room, generate(alloc, count, seed)),
         Plain::Change(asked) => {
             let (room, texts) = change(alloc, asked, room);
@@ -97,11 +104,19 @@ fn perform<S: Source, K: Sink, D: Disk>(
             let (room, texts) = migrate(alloc, room);
             end(room, texts)
         }
+        Plain::Follow => {
+            let (room, texts) = follow(alloc, room);
+            end(room, texts)
+        }
+        Plain::Page { day } => {
+            let (room, texts) = page(alloc, day, room);
+            end(room, texts)
+        }
     }
 }
 
-/// Does what the words say, for the commands that wait for nobody, and hands the room back: all but `run`, `return`
-/// and `trial`, which are `Usage` to it (docs/operating.md).
+/// Does what the words say, for the commands that wait for nobody, and hands the room back: all but `run`, `batch`,
+/// `return` and `trial`, which are `Usage` to it (docs/operating.md).
 pub fn plain<S: Source, K: Sink, D: Disk>(
     alloc: Global,
     words: &[Text],
@@ -134,20 +149,31 @@ pub fn plain<S: Source, K: Sink, D: Disk>(
 ///
 /// `run DATE WORKERS`, with `DATE` as YYMMDD, reads the tables, opens the journal, lets 1 to 16 workers enter the pays of the
 /// message file's messages on that day, writes the report, and then to `out` the outgoing messages of the entries that were
-/// added, each followed by `$`. Each pay passes the gate once its accounts are held. `return PLACE DATE` opens the journal, takes the
-/// payment at this place back on that day, and writes the line of the entry that was added, and its outgoing messages to `out`.
-/// `init HOME` makes the journal of the home bank HOME with the accounts of the tables. `send FROM UNTIL` writes the outgoing
-/// messages of the entries at these places, `bookings` a line for each entry, `statements DATE` to `out` what the owners of the
-/// vostro accounts are sent of that day; `balances` and `balances DATE` a row for each account, with its balance after all entries or
-/// after those up to a day. `reconcile` reads the tables of banks, currencies and countries, opens the journal, reads
-/// the received messages, and writes what is told of their statements against the books. `generate COUNT SEED` writes a day of
-/// messages, made from a number, to `out`, and `trial COUNT SEED WORKERS` the summary of such a day, run over a journal in memory
-/// by 1 to 16 workers; they touch nothing else. `open-account ID KIND OWNER CCY FLOOR CEIL` reads the tables of banks and
-/// currencies, opens the journal, and opens an account with opening 0; `set-limits ID FLOOR CEIL` gives an account of the journal
-/// another floor and ceiling; `mend FROM UNTIL` opens the journal, reads the file of
-/// messages that leave, and writes to the report what it should hold, with those of the entries at these places; `migrate` carries a
-/// journal of version 1 over to the second disk. Other words are `Usage`. To the report and to `out` nothing is written but at
-/// `Done`, and a front part of both together at `WriteFault`; what was entered stands in the journal at each status.
+/// added, each followed by `$`. Each pay passes the gate once its accounts are held. `batch DATE WORKERS ENTRIES` does so too,
+/// with up to ENTRIES entries, 1 to 1,024, under one sync; `run` has one.
+///
+/// `return PLACE DATE` opens the journal, takes the payment at this place back on that day, and writes the line of the entry
+/// that was added, and its outgoing messages to `out`. `init HOME` makes the journal of the home bank HOME with the accounts of
+/// the tables. `open-account ID KIND OWNER CCY FLOOR CEIL` reads the tables of banks and currencies, opens the journal, and opens
+/// an account with opening 0; `set-limits ID FLOOR CEIL` gives an account of the journal another floor and ceiling. `migrate`
+/// carries a journal of version 1 over to the second disk. `follow` takes the packets of the received file, in their order, into
+/// the journal, which the first of them may make, and writes how many there were, how many records came, and how many are held.
+///
+/// From the journal alone, `send FROM UNTIL` writes the outgoing messages of the entries at these places to `out`, `ship FROM
+/// UNTIL` the packets of the records with these numbers to `out`, with nothing between them, `bookings` a line for each entry,
+/// `balances` and `balances DATE` a row for each account, with its balance after all entries or after those up to a day, `entries
+/// FROM UNTIL` a row for each entry of these days, `statements DATE` to `out` what the owners of the vostro accounts are sent of
+/// that day, and `customer-statements DATE` what the customers are. `mend FROM UNTIL` opens the journal, reads the file of messages
+/// that leave, and writes to the report what it should hold, with those of the entries at these places.
+///
+/// `reconcile` reads the tables of banks, currencies and countries, opens the journal, reads the received messages, and writes
+/// what is told of their statements against the books. `check HOME` reads these tables and the messages, and writes the verdict on
+/// each, as one to the home bank HOME, without a journal. `page DATE` reads what `run` reads, books nothing, and writes the page of
+/// that day to the report. `generate COUNT SEED` writes a day of messages, made from a number, to `out`, and `trial COUNT SEED
+/// WORKERS` the summary of such a day, run over a journal in memory by 1 to 16 workers; they touch nothing else.
+///
+/// Other words are `Usage`. To the report and to `out` nothing is written but at `Done`, and a front part of both together at
+/// `WriteFault`; what was entered stands in the journal at each status.
 pub fn corr<R: Wait + Threads + Sync, S: Source, K: Sink, D: Disk + Drop + Send, G: Gate + Sync>(
     rt: &R,
     alloc: Global,
@@ -173,8 +199,14 @@ pub fn corr<R: Wait + Threads + Sync, S: Source, K: Sink, D: Disk + Drop + Send,
 {
     match spelled(words) {
         Some(Command::Plain(command)) => perform(alloc, command, room),
-        Some(Command::Run { day, workers }) => {
-            let (room, texts) = run(rt, alloc, day, workers, room, gate);
+        Some(
+            Command::Run {
+                day,
+                workers,
+                entries,
+            },
+        ) => {
+            let (room, texts) = run(rt, alloc, day, workers, entries, room, gate);
             end(room, texts)
         }
         Some(Command::Return { place, day }) => {

@@ -1,25 +1,29 @@
-//! The desk of a run: what a worker does with a message.
+//! The desk of a run: what a worker does with messages.
 
-ghost use Rattle.std.specs.Prelude.{◌≡◌, ◌≤◌, [], IsSome, length, map, vec_capacity, vec_len};
+ghost use Rattle.std.specs.Prelude.{◌≡◌, ◌≤◌, [], ◌∷◌, All, IfSome, IsSome, None, Ok, length, map, vec_capacity, vec_len};
+ghost use mathlib.Core.List.{IsPrefix};
 ghost use Rattle.fin_frame.specs.File.{most_bytes};
 ghost use Rattle.corr_books.specs.Passes.{Belongs};
-ghost use Rattle.day_model.specs.Shape.{most_text};
+ghost use Rattle.day_model.specs.Fit.{FitsAccounts};
+ghost use Rattle.day_model.specs.Shape.{HasShape, most_text};
 ghost use Rattle.fin_message.specs.Sound.{Goes, HasEnvelope, TextSays, lines_in};
 ghost use Rattle.fin_message.specs.declared.direction.Direction.TheVariants.{Received};
 ghost use Rattle.pay_plan.specs.Plan.{plan_of};
 ghost use Rattle.pay_plan.specs.Readable.{IsSomeReading, IsWritable};
 ghost use Rattle.corr_top.specs.Asks.{unplaced};
-ghost use Rattle.corr_top.specs.Message.{IsRouted, IsRoutedAs, pay_asked_of, pay_in, unrouted};
+ghost use Rattle.corr_top.specs.Batching.{IsBatch, IsSoundReading, ServesInTurn, made_in};
+ghost use Rattle.corr_top.specs.Message.{IsRouted, IsRoutedAs, pay_asked_of, pay_in, readings_of, unrouted};
 ghost use Rattle.corr_top.specs.Serving.{AnswersMessage, halt_of, served_of, starting};
 
+use crate::batching::{Batch, Lists, Made, make_lists, part, put_left, put_made};
 use crate::directory::Directory;
-use crate::message::{Stop, read_message, reply_for};
+use crate::message::{NoPay, Stop, read_message, reply_for};
 use crate::worker::Worker;
 use corr_books::{Books, BooksName};
 use corr_disk::Disk;
 use corr_ids::{Envelope, Mir};
 use corr_text::{Text, let_go};
-use day_model::Reply;
+use day_model::{Pay, Reply};
 use fin_frame::Framed;
 use fin_layout::Found;
 use fin_message::Message;
@@ -107,7 +111,7 @@ pub fn as_served(mir: Mir, answer: Result<Committed, CommitFault>) -> Served
 }
 
 /// Why the worker of a message serves no more.
-fn halt_of(made: &Served) -> Option<Halt>
+pub fn halt_of(made: &Served) -> Option<Halt>
     ensures { result ≡ halt_of made.now }
 {
     match made {
@@ -141,7 +145,9 @@ impl<'a, N: BooksName, D: Disk> RunDesk<'a, N, D> {
         }
     }
 
-    /// Enters the pay that a valid message asks for on these accounts, less what it is charged.
+    /// Enters the pay that a valid message asks for on these accounts, less what it is charged. The locks are taken once the pay is
+    /// known. It stands apart, so that what a pay takes isn't made room for where a message is refused.
+    #[inline(never)]
     fn enter<R: Wait, G: Gate>(
         &self,
         rt: &R,
@@ -158,81 +164,201 @@ impl<'a, N: BooksName, D: Disk> RunDesk<'a, N, D> {
         ensures pass { Belongs N.opening pass.new }
         ensures answered { AnswersMessage N.opening (pay_in self.now.directory.now N.opening.accounts message.now) pass.old pass.new result }
     {
+        match self.make_pay(message, charged) {
+            Some(pay) => as_served(pay.mir, self.books.book(rt, pass, worker, &pay, gate)),
+            None => Served::Stopped(Halt::Memory),
+        }
+    }
+
+    /// The pay that a valid message asks for on these accounts, less what it is charged. None where memory ran out.
+    fn make_pay(&self, message: &Message, charged: &Charged) -> Option<Pay>
+        requires received { Goes Received message.now × TextSays self.now.directory.now.tables message.now × HasEnvelope message.now }
+        requires short { length (lines_in message.now) ≤ most_text }
+        requires routed { IsRouted self.now.directory.now N.opening.accounts message.now charged.now }
+        ensures value { IfSome result (λ pay. pay_in self.now.directory.now N.opening.accounts message.now ≡ Ok pay) }
+        ensures fits { IfSome result (FitsAccounts N.opening.accounts) }
+        ensures shape { IfSome result HasShape }
+    {
         match message {
             Message::Transfer(envelope, text, transfer) => {
-                let ask = Ask::Transfer(transfer);
-                self.enter_pay(rt, pass, envelope, text, ask, charged, worker, gate)
+                self.pay_of(envelope, text, Ask::Transfer(transfer), charged)
             }
             Message::Cover(envelope, text, cover) => {
-                let ask = Ask::Cover(cover);
-                self.enter_pay(rt, pass, envelope, text, ask, charged, worker, gate)
+                self.pay_of(envelope, text, Ask::Cover(cover), charged)
             }
             Message::Debit(..) | Message::Credit(..) | Message::Page(..) => unreachable!(),
         }
     }
 
-    /// Enters the pay of a transfer or a cover. The locks are taken once the pay is known. It stands apart, so that what a pay
-    /// takes isn't made room for where a message is refused.
-    #[inline(never)]
-    fn enter_pay<R: Wait, G: Gate>(
+    /// The pay of a transfer or a cover.
+    fn pay_of(
         &self,
-        rt: &R,
-        pass: &mut Pass,
         envelope: &Envelope,
         text: &Text,
         ask: Ask<'_>,
         charged: &Charged,
-        worker: u32,
-        gate: &G,
-    ) -> Served
-        requires pass { Belongs N.opening pass.old }
+    ) -> Option<Pay>
         requires received { IsSome envelope.now.mir }
         requires read { IsSomeReading ask }
         requires writable { IsWritable envelope.now text.now }
         requires routed { IsRoutedAs self.now.directory.now N.opening.accounts envelope.now text.now (unplaced ask) charged.now }
-        ensures pass { Belongs N.opening pass.new }
-        ensures answered { AnswersMessage N.opening (unrouted envelope.now (plan_of envelope.now text.now (unplaced ask.entry) self.now.directory.now.ssi self.now.directory.now.charges N.opening.accounts)) pass.old pass.new result }
+        ensures value { IfSome result (λ pay. unrouted envelope.now (plan_of envelope.now text.now (unplaced ask.entry) self.now.directory.now.ssi self.now.directory.now.charges N.opening.accounts) ≡ Ok pay) }
+        ensures fits { IfSome result (FitsAccounts N.opening.accounts) }
+        ensures shape { IfSome result HasShape }
     {
         let accounts = self.books.accounts();
         match pay_on(self.alloc, envelope, text, ask, charged, accounts) {
-            Ok(pay) => as_served(pay.mir, self.books.book(rt, pass, worker, &pay, gate)),
-            Err(_) => Served::Stopped(Halt::Memory),
+            Ok(pay) => Some(pay),
+            Err(_) => None,
         }
+    }
+
+    /// Reads a message: the pay that it asks for, or why it gives none. None where memory ran out.
+    fn read(&self, room: &mut Message, found: &mut Found, text: &[u8]) -> Option<Result<Pay, NoPay>>
+        requires short { length text.now ≤ most_bytes }
+        ensures value { IfSome result (λ reading. reading ≡ pay_asked_of self.now.directory.now N.opening.accounts text.now) }
+        ensures sound { IfSome result (IsSoundReading N.opening.accounts) }
+    {
+        let accounts = self.books.accounts();
+        match read_message(self.alloc, self.directory, accounts, text, found, room) {
+            Ok(charged) => Some(Ok(self.make_pay(room, &charged)?)),
+            Err(Stop::NoPay(why)) => Some(Err(why)),
+            Err(Stop::Memory) => None,
+        }
+    }
+
+    /// Reads messages, up to the first for which memory ran out.
+    fn read_all(
+        &self,
+        room: &mut Message,
+        found: &mut Found,
+        messages: &[Framed<'a>],
+        readings: &mut Vec<Result<Pay, NoPay>>,
+    )
+        requires none { readings.old.items ≡ [] }
+        requires room { length messages.now ≤ vec_capacity readings.old }
+        ensures front { IsPrefix readings.new.items (readings_of self.now.directory.now N.opening.accounts messages.now) }
+        ensures sound { All (IsSoundReading N.opening.accounts) readings.new.items }
+    {
+        for message in messages {
+            let Some(reading) = self.read(room, found, message.bytes()) else {
+                return;
+            };
+            readings.push_reserved(reading);
+        }
+    }
+
+    /// Answers the messages of a batch together, by a worker that goes on. Their new entries come under one sync.
+    fn answer_all<R: Wait, G: Gate>(
+        &self,
+        rt: &R,
+        pass: &mut Worker,
+        worker: u32,
+        messages: &[Framed<'a>],
+        gate: &G,
+    ) -> Made
+        requires pass { Belongs N.opening pass.old.pass }
+        requires on { pass.old.halted ≡ None }
+        requires batch { IsBatch N.opening.most messages.now }
+        ensures pass { Belongs N.opening pass.new.pass }
+        ensures served { ServesInTurn N.opening (readings_of self.now.directory.now N.opening.accounts messages.now) pass.old pass.new (made_in result) }
+    {
+        let count = messages.len();
+        let Ok(lists) = make_lists(self.alloc, count) else {
+            pass.halted = Some(Halt::Memory);
+            return Made::None {
+                messages: count,
+                why: Halt::Memory,
+            };
+        };
+        let Lists {
+            mut readings,
+            mut asks,
+            mut pays,
+            mut answers,
+            mut made,
+        } = lists;
+        self.read_all(&mut pass.room, &mut pass.found, messages, &mut readings);
+        part(readings, &mut asks, &mut pays);
+        self.books.book_all(
+            rt,
+            self.alloc,
+            &mut pass.pass,
+            worker,
+            pays,
+            gate,
+            &mut answers,
+        );
+        let halted = put_made(asks, answers.as_slice(), &mut made);
+        pass.halted = put_left(&mut made, count, halted);
+        Made::Each(made)
+    }
+
+    /// Answers the one message of a batch, by a worker that goes on. It needs no lists.
+    fn answer_one<R: Wait, G: Gate>(
+        &self,
+        rt: &R,
+        pass: &mut Worker,
+        worker: u32,
+        message: &Framed<'a>,
+        gate: &G,
+    ) -> Made
+        requires pass { Belongs N.opening pass.old.pass }
+        requires on { pass.old.halted ≡ None }
+        ensures pass { Belongs N.opening pass.new.pass }
+        ensures served { ServesInTurn N.opening (pay_asked_of self.now.directory.now N.opening.accounts message.now ∷ []) pass.old pass.new (made_in result) }
+    {
+        let room = &mut pass.room;
+        let found = &mut pass.found;
+        let one = self.answer(
+            rt,
+            &mut pass.pass,
+            room,
+            found,
+            worker,
+            message.bytes(),
+            gate,
+        );
+        pass.halted = halt_of(&one);
+        Made::One(one)
     }
 }
 
 impl<'a, N: BooksName + Send + Sync, D: Disk + Drop + Send> Desk for RunDesk<'a, N, D> {
     ghost use Rattle.corr_books.specs.Passes.{Belongs};
-    ghost use Rattle.corr_top.specs.Serving.{Serves};
-    ghost use Rattle.corr_top.specs.Message.{pay_asked_of};
+    ghost use Rattle.corr_top.specs.Batching.{ServesInTurn, made_in};
+    ghost use Rattle.corr_top.specs.Message.{readings_of};
 
     type Pass = Worker;
 
-    type Job = Framed<'a>;
+    type Job = Batch<'a, N>;
 
-    type Reply = Served;
+    type Reply = Made;
 
     ghost takes = { λ _ worker. Belongs N.opening worker.pass };
 
-    ghost serves = { λ desk old job new served. Serves N.opening (pay_asked_of desk.directory.now N.opening.accounts job) old new served };
+    ghost serves = { λ desk old job new made. ServesInTurn N.opening (readings_of desk.directory.now N.opening.accounts job) old new (made_in made) };
 
-    /// Answers the message, unless the worker has stopped. It stops where the disk failed and where memory ran out: so a
+    /// Answers the messages of a batch, unless the worker has stopped. It stops where the disk failed and where memory ran out: so a
     /// worker enters what stands ahead of a message before what stands after it, or nothing after it.
     fn serve<R: Wait, G: Gate>(
         &self,
         rt: &R,
         pass: &mut Worker,
         worker: u32,
-        job: &Framed<'a>,
+        job: &Batch<'a, N>,
         gate: &G,
-    ) -> Served {
+    ) -> Made {
+        let messages = job.messages();
         if let Some(why) = pass.halted {
-            return Served::Stopped(why);
+            return Made::None {
+                messages: messages.len(),
+                why,
+            };
         }
-        let room = &mut pass.room;
-        let found = &mut pass.found;
-        let made = self.answer(rt, &mut pass.pass, room, found, worker, job.bytes(), gate);
-        pass.halted = halt_of(&made);
-        made
+        match messages {
+            [message] => self.answer_one(rt, pass, worker, message, gate),
+            _ => self.answer_all(rt, pass, worker, messages, gate),
+        }
     }
 }

@@ -1,6 +1,7 @@
 //! The directory of a day: banks, currencies, countries, instructions, and charges.
 
-ghost use Rattle.std.specs.Prelude.{IfOk, IfErr};
+ghost use Rattle.std.specs.Prelude.{IfOk, IfErr, IsTrue};
+ghost use Rattle.ref_tables.specs.Seen.{few_decimals};
 ghost use Rattle.ssi_versions.specs.InstructionList.{AreInstructions};
 ghost use Rattle.corr_top.specs.Tables.{HasDirectory, StopsDirectory};
 
@@ -26,6 +27,7 @@ pub fn read_directory<S: Source>(
     files: &mut Tables<S>,
 ) -> Result<Directory, TableStop>
     ensures fine { IfOk result (HasDirectory S.Source files.old files.new) }
+    ensures few { IfOk result (λ directory. IsTrue (few_decimals directory.tables.ccys)) }
     ensures instructions { IfOk result (λ directory. AreInstructions directory.tables directory.ssi) }
     ensures stopped { IfErr result (StopsDirectory S.Source files.old files.new) }
 {

@@ -157,6 +157,7 @@ fn put_status(alloc: Global, s: &Status, out: &mut Text) -> Result<(), Memory>
         Status::NoSecond => out.push(b"no second disk"),
         Status::NoPayment { entries } => put_one(alloc, b"no payment", *entries as u64, out),
         Status::Returned { place } => put_one(alloc, b"returned", *place as u64, out),
+        Status::NotNext { number } => put_one(alloc, b"not next", *number as u64, out),
         Status::Unfunded { leg, balance } => {
             put_one(alloc, b"unfunded", *leg as u64, out)?;
             put_balance(alloc, *balance, out)

@@ -73,7 +73,7 @@ pub fn reference(envelope: &Envelope) -> Mir
 }
 
 /// The accounts of a message that asks for a pay and what it is charged, or why it has none.
-fn find_accounts(
+pub fn find_accounts(
     directory: &Directory,
     accounts: &Accounts,
     envelope: &Envelope,

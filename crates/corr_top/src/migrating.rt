@@ -14,15 +14,16 @@ ghost use Rattle.corr_top.specs.Stops.{status_of_copying};
 ghost use Rattle.corr_top.specs.declared.words.Command.TheVariants.{Plain as PlainCommand};
 ghost use Rattle.corr_top.specs.declared.words.Plain.TheVariants as plain;
 
+use crate::records::record_of;
 use crate::room::Room;
 use crate::status::Status;
 use crate::writing::Texts;
 use corr_disk::Disk;
 use corr_io::{Sink, Source};
 use corr_text::{Buf, Memory, Text};
-use day_model::{Accounts, Entry, History};
+use day_model::{Accounts, History};
 use jrn_book::open_old;
-use jrn_codec::{put_entry, put_head};
+use jrn_codec::put_head;
 use jrn_file::{MakeFault, create_with};
 use std::alloc::Global;
 
@@ -32,17 +33,6 @@ pub struct Prepared {
     pub head: Text,
     pub records: Vec<Text>,
     pub texts: Texts,
-}
-
-/// The record of an entry, which is written in a room for records first.
-fn record_of(alloc: Global, entry: &Entry, room: &mut Buf) -> Result<Text, Memory>
-    requires { IsEntry entry.now }
-    ensures value { IfOk result (λ text. text ≡ entry_bytes entry.now) }
-    ensures few { length (entry_bytes entry.now) ≤ most_record_bytes }
-{
-    room.clear();
-    put_entry(entry, room)?;
-    Text::from_bytes(alloc, room.bytes())
 }
 
 /// The records of the entries, in their order.

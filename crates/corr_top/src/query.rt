@@ -1,5 +1,5 @@
-//! The commands that read the journal and print what it says: `send`, `bookings`, `statements`, `customer-statements` and
-//! `balances`.
+//! The commands that read the journal and print what it says: `send`, `ship`, `bookings`, `statements`,
+//! `customer-statements`, `balances` and `entries`.
 
 ghost use Rattle.std.specs.Prelude.{◌≡◌, IfOk, OnOk};
 ghost use Rattle.corr_top.specs.Commands.{IsSpelled, meaning_of};
@@ -12,6 +12,7 @@ ghost use Rattle.jrn_book.specs.Journal.{IsJournal};
 use crate::opening::{close_journal, open_journal};
 use crate::outgoing::outgoing;
 use crate::room::Room;
+use crate::shipping::ship;
 use crate::statements::statements;
 use crate::status::Status;
 use crate::words::Query;
@@ -21,7 +22,7 @@ use corr_io::{Sink, Source};
 use corr_report::bookings;
 use corr_text::{Memory, Text};
 use day_model::{Accounts, History};
-use desk_rows::balances;
+use desk_rows::{balances, entries};
 use std::alloc::Global;
 
 /// What a query prints of accounts and their history.
@@ -37,6 +38,10 @@ fn printed(alloc: Global, asked: Query, a: &Accounts, h: &History) -> Result<Tex
             report: Text::from_bytes(alloc, b"")?,
             out: outgoing(alloc, a, h, from, until)?,
         }),
+        Query::Ship { from, until } => Ok(Texts {
+            report: Text::from_bytes(alloc, b"")?,
+            out: ship(alloc, a, h, from, until)?,
+        }),
         Query::Bookings => Ok(Texts {
             report: bookings(alloc, a, h)?,
             out: Text::from_bytes(alloc, b"")?,
@@ -47,6 +52,10 @@ fn printed(alloc: Global, asked: Query, a: &Accounts, h: &History) -> Result<Tex
         }),
         Query::Balances { until } => Ok(Texts {
             report: balances(alloc, a, h, until)?,
+            out: Text::from_bytes(alloc, b"")?,
+        }),
+        Query::Entries { from, until } => Ok(Texts {
+            report: entries(alloc, a, h, from, until)?,
             out: Text::from_bytes(alloc, b"")?,
         }),
     }

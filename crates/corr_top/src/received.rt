@@ -45,7 +45,7 @@ pub enum Read {
 }
 
 /// The envelope of a message.
-fn envelope(message: &Message) -> &Envelope
+pub fn envelope(message: &Message) -> &Envelope
     ensures { result.now ≡ envelope_in message.now }
 {
     match message {

@@ -1,10 +1,11 @@
-//! The command `run`: every message of a file is answered, the report is made, and the next messages are made.
+//! The commands `run` and `batch`: every message of a file is answered, the report is made, and the next messages are made.
 
 ghost use Rattle.std.specs.Prelude.{◌≡◌, ◌≤◌, ◌+◌, All, List, IfOk, OnOk, length};
 ghost use Rattle.corr_ids.specs.Bic.{IsBic};
 ghost use Rattle.corr_ids.specs.Day.{InCentury};
 ghost use Rattle.corr_report.specs.Report.{NamesPlace, report_of};
 ghost use Rattle.day_model.specs.Legal.{IsLegal};
+ghost use Rattle.jrn_book.specs.Batches.{most_batch};
 ghost use Rattle.jrn_book.specs.Journal.{IsJournal};
 ghost use Rattle.ssi_versions.specs.InstructionList.{AreInstructions};
 ghost use Rattle.work_pool.specs.Served.{most_workers};
@@ -160,13 +161,15 @@ fn run_day<R: Wait + Threads + Sync, S: Source, D: Disk + Drop + Send, G: Gate +
     opened: Opened<D>,
     before: u64,
     workers: u32,
+    entries: u32,
     gate: &G,
 ) -> (D, Result<Texts, Status>)
     requires instructions { AreInstructions directory.now.tables directory.now.ssi }
     requires workers { (1 ≤ workers) × (workers ≤ most_workers) }
+    requires entries { (1 ≤ entries) × (entries ≤ most_batch) }
     requires journal { IsJournal opened.accounts opened.base }
     requires count { before ≡ opened.at_open }
-    ensures { GivesDay S.Source D.Disk directory.now workers source.old source.new opened result.0 result.1 }
+    ensures { GivesDay S.Source D.Disk directory.now workers entries source.old source.new opened result.0 result.1 }
 {
     let file = match read_file(alloc, source) {
         Ok(file) => file,
@@ -178,25 +181,30 @@ fn run_day<R: Wait + Threads + Sync, S: Source, D: Disk + Drop + Send, G: Gate +
     };
     let count = opened.history().len();
     let messages = messages.into_vec();
-    match serve_all(rt, alloc, directory, opened, workers, messages, gate) {
+    match serve_all(
+        rt, alloc, directory, opened, workers, entries, messages, gate,
+    ) {
         Ok(day) => end_day(alloc, day, before, count, file),
         Err((disk, memory)) => (disk, Err(Status::from(memory))),
     }
 }
 
 /// Reads the tables of banks, currencies, countries and instructions, opens the journal, and lets the workers enter the pays of
-/// the message file's messages on a day. The texts are the report, and the outgoing messages of the entries that were added.
+/// the message file's messages on a day, with up to so many entries under one sync. The texts are the report, and the outgoing
+/// messages of the entries that were added.
 pub fn run<R: Wait + Threads + Sync, S: Source, K: Sink, D: Disk + Drop + Send, G: Gate + Sync>(
     rt: &R,
     alloc: Global,
     day: Day,
     workers: u32,
+    entries: u32,
     room: Room<S, K, D>,
     gate: &G,
 ) -> (Room<S, K, D>, Result<Texts, Status>)
     requires day { InCentury day }
     requires workers { (1 ≤ workers) × (workers ≤ most_workers) }
-    ensures texts { HasTexts S.Source D.Disk (meaning_of (Run day workers)) room result.0 result.1 }
+    requires entries { (1 ≤ entries) × (entries ≤ most_batch) }
+    ensures texts { HasTexts S.Source D.Disk (meaning_of (Run day workers entries)) room result.0 result.1 }
     ensures honest { D.honest result.0.disk ≡ D.honest room.disk }
 {
     let mut room = room;
@@ -214,7 +222,9 @@ pub fn run<R: Wait + Threads + Sync, S: Source, K: Sink, D: Disk + Drop + Send, 
         }
     };
     let source = &mut room.messages;
-    let (disk, texts) = run_day(rt, alloc, &directory, source, opened, before, workers, gate);
+    let (disk, texts) = run_day(
+        rt, alloc, &directory, source, opened, before, workers, entries, gate,
+    );
     let_go(directory);
     room.disk = disk;
     (room, texts)

@@ -1,13 +1,16 @@
 //! Workers serve the messages of a day over the books of a journal.
 
-ghost use Rattle.std.specs.Prelude.{◌≡◌, ◌≤◌, [], IfErr, IfOk, vec_capacity};
+ghost use Rattle.std.specs.Prelude.{◌≡◌, ◌≤◌, [], IfErr, IfOk, length, vec_capacity};
+ghost use Rattle.jrn_book.specs.Batches.{most_batch};
 ghost use Rattle.jrn_book.specs.Journal.{IsJournal};
 ghost use Rattle.jrn_file.specs.File.{disk_of};
 ghost use Rattle.corr_books.specs.Opening.{IsNamed, opening_with, past_of};
 ghost use Rattle.work_pool.specs.Served.{most_workers};
+ghost use Rattle.corr_top.specs.Batching.{all_made};
 ghost use Rattle.corr_top.specs.Message.{readings_of};
 ghost use Rattle.corr_top.specs.Serving.{AllServed};
 
+use crate::batching::{Made, put_all, share_of, share_out};
 use crate::desk::{RunDesk, Served, seat, vacate};
 use crate::directory::Directory;
 use crate::worker::Worker;
@@ -30,28 +33,45 @@ pub struct ServedDay<D: Disk> {
     pub served: Result<Vec<Served>, Memory>,
 }
 
-/// The memory that serving takes: room for the workers and for their passes at the end.
+/// The memory that serving takes: room for the workers, for their passes at the end, and for what becomes of the messages.
 #[derive(Drop)]
 struct Places {
     workers: Vec<Worker>,
     passes: Vec<Pass>,
+    served: Vec<Served>,
 }
 
-/// Room for so many workers.
-fn make_places(alloc: Global, workers: u32) -> Result<Places, Memory>
+/// Room for so many workers and so many messages.
+fn make_places(alloc: Global, workers: u32, messages: usize) -> Result<Places, Memory>
     ensures workers { IfOk result (λ places. (places.workers.items ≡ []) × (workers ≤ vec_capacity places.workers)) }
     ensures passes { IfOk result (λ places. (places.passes.items ≡ []) × (workers ≤ vec_capacity places.passes)) }
+    ensures served { IfOk result (λ places. (places.served.items ≡ []) × (messages ≤ vec_capacity places.served)) }
 {
     Ok(Places {
         workers: Vec::with_capacity(alloc, workers as usize)?,
         passes: Vec::with_capacity(alloc, workers as usize)?,
+        served: Vec::with_capacity(alloc, messages)?,
     })
 }
 
-/// What `serve_all` does, where `N` names the opening, and one entry under one sync.
+/// What became of each message, in a list that has room for all of them.
+fn served_of(replies: Result<Vec<Made>, Memory>, room: Vec<Served>) -> Result<Vec<Served>, Memory>
+    requires none { room.items ≡ [] }
+    requires room { IfOk replies (λ made. length (all_made made.items) ≤ vec_capacity room) }
+    ensures made { IfOk replies (λ made. IfOk result (λ served. served.items ≡ all_made made.items)) }
+    ensures ok { IfErr result (λ _. IfOk replies (λ _. ⊥)) }
+    ensures err { IfOk result (λ _. IfErr replies (λ _. ⊥)) }
+{
+    let mut served = room;
+    put_all(replies?, &mut served);
+    Ok(served)
+}
+
+/// What `serve_all` does, where `N` names the opening, and so many entries under one sync.
 ///
 /// Where there is no memory for the books, the disk comes back as it was.
 fn serve_named<
+    'a,
     N: BooksName + Send + Sync,
     R: Wait + Threads + Sync,
     D: Disk + Drop + Send,
@@ -59,20 +79,26 @@ fn serve_named<
 >(
     rt: &R,
     alloc: Global,
-    directory: &Directory,
+    directory: &'a Directory,
     opened: Opened<D>,
     workers: u32,
-    messages: Vec<Framed<'_>>,
+    entries: u32,
+    messages: &'a [Framed<'a>],
     gate: &G,
 ) -> Result<ServedDay<D>, (D, Memory)>
     requires named { IsNamed D.Disk N.opening N.past N.table opened workers }
-    requires most { N.opening.most ≡ 1 }
+    requires most { N.opening.most ≡ entries }
+    requires entries { (1 ≤ entries) × (entries ≤ most_batch) }
     requires journal { IsJournal opened.accounts opened.base }
     requires count { (1 ≤ workers) × (workers ≤ most_workers) }
-    ensures served { IfOk result (λ day. AllServed D.Disk (opening_with D.Disk opened workers 1) N.past (readings_of directory.now opened.accounts messages.entry.items) day) }
+    ensures served { IfOk result (λ day. AllServed D.Disk (opening_with D.Disk opened workers entries) N.past (readings_of directory.now opened.accounts messages.now) day) }
     ensures disk { IfErr result (λ e. e.0 ≡ disk_of opened.file) }
 {
-    let Ok(places) = make_places(alloc, workers) else {
+    let Ok(places) = make_places(alloc, workers, messages.len()) else {
+        return Err((opened.into_disk(), Memory));
+    };
+    let share = share_of(messages.len(), workers, entries);
+    let Ok(batches) = share_out::<N>(alloc, messages, share) else {
         return Err((opened.into_disk(), Memory));
     };
     let (books, passes) = match opened.books::<N>(alloc, workers) {
@@ -82,6 +108,7 @@ fn serve_named<
     let Places {
         workers: mut staff,
         passes: mut back,
+        served,
     } = places;
     seat(alloc, &mut staff, passes);
     let desk = RunDesk {
@@ -89,7 +116,7 @@ fn serve_named<
         directory,
         books,
     };
-    let worked = run_jobs(rt, alloc, &desk, staff, messages, gate);
+    let worked = run_jobs(rt, alloc, &desk, staff, batches, gate);
     let RunDesk { books, .. } = desk;
     vacate(&mut back, worked.passes);
     let closed = match books.close(back) {
@@ -98,11 +125,12 @@ fn serve_named<
     };
     Ok(ServedDay {
         closed,
-        served: worked.replies,
+        served: served_of(worked.replies, served),
     })
 }
 
-/// Lets 1 to 16 workers serve messages over the books of an opening, and closes the books.
+/// Lets 1 to 16 workers serve messages over the books of an opening, with up to so many entries under one sync, and closes the
+/// books.
 ///
 /// Where there is no memory for the books, the disk comes back as it was.
 pub fn serve_all<R: Wait + Threads + Sync, D: Disk + Drop + Send, G: Gate + Sync>(
@@ -111,13 +139,24 @@ pub fn serve_all<R: Wait + Threads + Sync, D: Disk + Drop + Send, G: Gate + Sync
     directory: &Directory,
     opened: Opened<D>,
     workers: u32,
+    entries: u32,
     messages: Vec<Framed<'_>>,
     gate: &G,
 ) -> Result<ServedDay<D>, (D, Memory)>
     requires count { (1 ≤ workers) × (workers ≤ most_workers) }
+    requires entries { (1 ≤ entries) × (entries ≤ most_batch) }
     requires journal { IsJournal opened.accounts opened.base }
-    ensures served { IfOk result (λ day. AllServed D.Disk (opening_with D.Disk opened workers 1) (past_of D.Disk opened) (readings_of directory.now opened.accounts messages.entry.items) day) }
+    ensures served { IfOk result (λ day. AllServed D.Disk (opening_with D.Disk opened workers entries) (past_of D.Disk opened) (readings_of directory.now opened.accounts messages.entry.items) day) }
     ensures disk { IfErr result (λ e. e.0 ≡ disk_of opened.file) }
 {
-    serve_named::<Brand, _, _, _>(rt, alloc, directory, opened, workers, messages, gate)
+    serve_named::<Brand, _, _, _>(
+        rt,
+        alloc,
+        directory,
+        opened,
+        workers,
+        entries,
+        messages.as_slice(),
+        gate,
+    )
 }

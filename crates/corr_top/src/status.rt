@@ -66,18 +66,19 @@ pub enum Status {
     },
     /// The message file, or in `reconcile` that of received statements, passes 67,108,864 bytes or 50,000 messages: how many
     /// bytes there are up to and with the first that passes a limit, and how many messages begin in them. Or in `mend` the file of
-    /// messages that leave passes 1,073,741,824 bytes, of which no message is counted: 0.
+    /// messages that leave passes 1,073,741,824 bytes, or in `follow` that of packets 67,108,864, of which no message is counted: 0.
     TooLarge {
         bytes: u64,
         messages: u32,
     },
-    /// The message file, or in `reconcile` that of received statements, can't be cut: the place of the fault, in bytes from 0.
+    /// The message file, or in `reconcile` that of received statements, can't be cut, or in `follow` that of packets: the place of the
+    /// fault, in bytes from 0.
     Framing {
         at: u64,
     },
     /// A pay found no room in the journal, the first such in the order of the messages: how many entries there were, the place of
     /// the closed gate, in bytes from 0, and how many bytes the pay needed from there on. A change of accounts tells the same of
-    /// itself; a journal that is carried over and would be too long, 0 and its whole length.
+    /// itself, and the record of a packet; a journal that is carried over and would be too long, 0 and its whole length.
     Full {
         entries: u32,
         end: u64,
@@ -103,6 +104,11 @@ pub enum Status {
     Unfunded {
         leg: u8,
         balance: i64,
+    },
+    /// A packet has the next number, which is told, and its record may not stand next: it is no header, or none of an entry or a change
+    /// that is legal there.
+    NotNext {
+        number: u32,
     },
 }
 
@@ -134,6 +140,7 @@ impl Status {
             Status::NoPayment { .. } => 15,
             Status::Returned { .. } => 16,
             Status::Unfunded { .. } => 17,
+            Status::NotNext { .. } => 18,
         }
     }
 }

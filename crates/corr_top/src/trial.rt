@@ -38,6 +38,9 @@ use std::sync::Wait;
 use std::thread::Threads;
 use work_pool::Gate;
 
+/// How many entries a trial writes together at most.
+const ENTRIES: u32 = 1024;
+
 /// A source of these bytes, which never fails.
 fn source(alloc: Global, bytes: &[u8]) -> Result<MemSource, Memory>
     ensures { IfOk result (λ source. source ≡ supply_of bytes.now) }
@@ -152,7 +155,9 @@ fn run_trial<R: Wait + Threads + Sync, G: Gate + Sync>(
         }
     };
     let messages = messages.into_vec();
-    let served = serve_all(rt, alloc, &directory, opened, workers, messages, gate);
+    let served = serve_all(
+        rt, alloc, &directory, opened, workers, ENTRIES, messages, gate,
+    );
     let_go(directory);
     match served {
         Ok(day) => {

@@ -5,9 +5,10 @@ ghost use Rattle.std.specs.Option.{option_map};
 ghost use Rattle.std.specs.Str.{bytes_eq};
 ghost use Rattle.corr_report.specs.Generated.{most_generated};
 ghost use Rattle.day_model.specs.Log.{most_entries};
+ghost use Rattle.jrn_book.specs.Batches.{most_batch};
 ghost use Rattle.ref_tables.specs.Columns.{magnitude_of, signed_of};
 ghost use Rattle.work_pool.specs.Served.{most_workers};
-ghost use Rattle.corr_top.specs.Commands.{IsSpelled, balances_of, command_of, count_of, generate_of, init_of, limits_of, mend_of, two_places, run_command, send_of, statements_of, trial_of, workers_of, place_of, return_command};
+ghost use Rattle.corr_top.specs.Commands.{IsSpelled, balances_of, check_of, command_of, count_of, entries_of, generate_of, init_of, limits_of, mend_of, two_places, run_command, send_of, statements_of, trial_of, workers_of, place_of, return_command, two_numbers, ship_of, batch_command, batch_of, page_command};
 ghost use Rattle.corr_top.specs.declared.account_words.AccountChange.TheVariants.{Open};
 ghost use Rattle.corr_top.specs.declared.words.Command.TheVariants.{Plain as CommandPlain};
 ghost use Rattle.corr_top.specs.declared.words.Plain.TheVariants.{Change as PlainChange};
@@ -20,12 +21,24 @@ use corr_text::{Text, digits};
 /// What the words say.
 #[derive(Drop)]
 pub enum Command<'a> {
-    /// `run DATE WORKERS`: answers the messages of the message file on a day, with so many workers.
-    Run { day: Day, workers: u32 },
+    /// `run DATE WORKERS`: answers the messages of the message file on a day, with so many workers, one entry under one sync.
+    /// `batch DATE WORKERS ENTRIES`: so too, with up to so many entries under one sync.
+    Run {
+        day: Day,
+        workers: u32,
+        entries: u32,
+    },
     /// `return PLACE DATE`: takes the payment at a place back, on a day.
-    Return { place: u32, day: Day },
+    Return {
+        place: u32,
+        day: Day,
+    },
     /// `trial COUNT SEED WORKERS`: runs a generated day over a journal in memory, with so many workers.
-    Trial { count: u32, seed: u64, workers: u32 },
+    Trial {
+        count: u32,
+        seed: u64,
+        workers: u32,
+    },
     /// A command that waits for nobody.
     Plain(Plain<'a>),
 }
@@ -39,6 +52,8 @@ pub enum Plain<'a> {
     Query(Query),
     /// `reconcile`: the statements of the received messages against the books.
     Reconcile,
+    /// `check HOME`: the verdict on each message of the message file, as one to a home bank.
+    Check { home: Bic },
     /// `generate COUNT SEED`: a day of messages, made from a number.
     Generate { count: u32, seed: u64 },
     /// `mend FROM UNTIL`: what the file of messages that leave should hold, with those of the entries between two places.
@@ -47,6 +62,10 @@ pub enum Plain<'a> {
     Change(AccountChange<'a>),
     /// `migrate`: a journal of version 1 is carried over to the second disk.
     Migrate,
+    /// `follow`: packets that were received are taken into the journal of a second machine.
+    Follow,
+    /// `page DATE`: the messages of the message file and the books, as a page for a desk.
+    Page { day: Day },
 }
 
 /// The commands that read the journal and print what it says.
@@ -54,22 +73,32 @@ pub enum Plain<'a> {
 pub enum Query {
     /// `send FROM UNTIL`: the outgoing messages of the entries between two places.
     Send { from: u32, until: u32 },
+    /// `ship FROM UNTIL`: the records of the journal with the numbers from one to another, as packets.
+    Ship { from: u32, until: u32 },
     /// `bookings`: a line for each entry.
     Bookings,
     /// `statements DATE`: what the owners of the vostro accounts are sent of a day. `customer-statements DATE`: what the customers are.
     Statements { owners: Owners, day: Day },
     /// `balances` and `balances DATE`: the accounts and their balances, after all entries or after those up to a day.
     Balances { until: Option<Day> },
+    /// `entries FROM UNTIL`: a row for each entry of the days from the first to the last.
+    Entries { from: Day, until: Day },
 }
 
 /// The last place of a journal that is full.
 const LAST_PLACE: u64 = 100_000;
+
+/// The last record that a command can name.
+const LAST_RECORD: u64 = 1_000_000;
 
 /// The most messages of a generated day.
 const MOST_MESSAGES: u64 = 50_000;
 
 /// The most workers of a run.
 const MOST_WORKERS: u64 = 16;
+
+/// The most entries under one sync.
+const MOST_BATCH: u64 = 1024;
 
 /// Whether bytes are this word.
 fn is_word(b: &[u8], word: &[u8]) -> bool
@@ -78,17 +107,26 @@ fn is_word(b: &[u8], word: &[u8]) -> bool
     b == word
 }
 
+/// Two numbers from 1 to the last, the second not before the first.
+fn numbers(from: &[u8], until: &[u8], last: u64) -> Option<(u32, u32)>
+    requires { last < 2 ^ 32 }
+    ensures value { result ≡ two_numbers last from.now until.now }
+    ensures sound { IfSome result (λ numbers. (1 ≤ numbers.0) × (numbers.0 ≤ numbers.1) × (numbers.1 ≤ last)) }
+{
+    let from = digits(from)?;
+    let until = digits(until)?;
+    if from < 1 || until < from || until > last {
+        return None;
+    }
+    Some((from as u32, until as u32))
+}
+
 /// Two places of a journal, the second not before the first.
 fn places(from: &[u8], until: &[u8]) -> Option<(u32, u32)>
     ensures value { result ≡ two_places from.now until.now }
     ensures sound { IfSome result (λ places. (1 ≤ places.0) × (places.0 ≤ places.1) × (places.1 ≤ most_entries)) }
 {
-    let from = digits(from)?;
-    let until = digits(until)?;
-    if from < 1 || until < from || until > LAST_PLACE {
-        return None;
-    }
-    Some((from as u32, until as u32))
+    numbers(from, until, LAST_PLACE)
 }
 
 /// `init HOME` with a BIC.
@@ -100,6 +138,15 @@ fn init(home: &[u8]) -> Option<Command<'static>>
     Some(Command::Plain(Plain::Init { home }))
 }
 
+/// `check HOME` with a BIC.
+fn check(home: &[u8]) -> Option<Command<'static>>
+    ensures value { result ≡ option_map CommandPlain (check_of home.now) }
+    ensures sound { IfSome result IsSpelled }
+{
+    let home = read_bic(home)?;
+    Some(Command::Plain(Plain::Check { home }))
+}
+
 /// `send FROM UNTIL` with two places of a journal.
 fn send(from: &[u8], until: &[u8]) -> Option<Command<'static>>
     ensures value { result ≡ option_map CommandPlain (send_of from.now until.now) }
@@ -107,6 +154,15 @@ fn send(from: &[u8], until: &[u8]) -> Option<Command<'static>>
 {
     let (from, until) = places(from, until)?;
     Some(Command::Plain(Plain::Query(Query::Send { from, until })))
+}
+
+/// `ship FROM UNTIL` with two numbers of records.
+fn ship(from: &[u8], until: &[u8]) -> Option<Command<'static>>
+    ensures value { result ≡ option_map CommandPlain (ship_of from.now until.now) }
+    ensures sound { IfSome result IsSpelled }
+{
+    let (from, until) = numbers(from, until, LAST_RECORD)?;
+    Some(Command::Plain(Plain::Query(Query::Ship { from, until })))
 }
 
 /// `mend FROM UNTIL` with two places of a journal.
@@ -136,6 +192,25 @@ fn balances(date: &[u8]) -> Option<Command<'static>>
     Some(Command::Plain(Plain::Query(Query::Balances { until })))
 }
 
+/// `entries FROM UNTIL` with two days of the calendar.
+fn entries(from: &[u8], until: &[u8]) -> Option<Command<'static>>
+    ensures value { result ≡ option_map CommandPlain (entries_of from.now until.now) }
+    ensures sound { IfSome result IsSpelled }
+{
+    let from = day_from_yymmdd(from)?;
+    let until = day_from_yymmdd(until)?;
+    Some(Command::Plain(Plain::Query(Query::Entries { from, until })))
+}
+
+/// `page DATE` with a day of the calendar.
+fn page(date: &[u8]) -> Option<Command<'static>>
+    ensures value { result ≡ option_map CommandPlain (page_command date.now) }
+    ensures sound { IfSome result IsSpelled }
+{
+    let day = day_from_yymmdd(date)?;
+    Some(Command::Plain(Plain::Page { day }))
+}
+
 /// A number of workers: 1 to 16.
 fn read_workers(b: &[u8]) -> Option<u32>
     ensures value { result ≡ workers_of b.now }
@@ -155,7 +230,38 @@ fn run(date: &[u8], number: &[u8]) -> Option<Command<'static>>
 {
     let day = day_from_yymmdd(date)?;
     let workers = read_workers(number)?;
-    Some(Command::Run { day, workers })
+    Some(Command::Run {
+        day,
+        workers,
+        entries: 1,
+    })
+}
+
+/// A number of entries under one sync: 1 to 1,024.
+fn read_entries(b: &[u8]) -> Option<u32>
+    ensures value { result ≡ batch_of b.now }
+    ensures sound { IfSome result (λ n. (1 ≤ n) × (n ≤ most_batch)) }
+{
+    let number = digits(b)?;
+    if number < 1 || number > MOST_BATCH {
+        return None;
+    }
+    Some(number as u32)
+}
+
+/// `batch DATE WORKERS ENTRIES` with a day of the calendar, a number of workers and one of entries under one sync.
+fn batch(date: &[u8], number: &[u8], entries: &[u8]) -> Option<Command<'static>>
+    ensures value { result ≡ batch_command date.now number.now entries.now }
+    ensures sound { IfSome result IsSpelled }
+{
+    let day = day_from_yymmdd(date)?;
+    let workers = read_workers(number)?;
+    let entries = read_entries(entries)?;
+    Some(Command::Run {
+        day,
+        workers,
+        entries,
+    })
 }
 
 /// A place of a journal: 1 to 100,000.
@@ -293,6 +399,8 @@ fn alone(word: &[u8]) -> Option<Command<'static>>
         Some(Command::Plain(Plain::Reconcile))
     } else if is_word(word, b"migrate") {
         Some(Command::Plain(Plain::Migrate))
+    } else if is_word(word, b"follow") {
+        Some(Command::Plain(Plain::Follow))
     } else {
         None
     }
@@ -305,12 +413,16 @@ fn with_one(word: &[u8], one: &[u8]) -> Option<Command<'static>>
 {
     if is_word(word, b"init") {
         init(one)
+    } else if is_word(word, b"check") {
+        check(one)
     } else if is_word(word, b"statements") {
         statements(Owners::Banks, one)
     } else if is_word(word, b"customer-statements") {
         statements(Owners::Customers, one)
     } else if is_word(word, b"balances") {
         balances(one)
+    } else if is_word(word, b"page") {
+        page(one)
     } else {
         None
     }
@@ -323,6 +435,10 @@ fn with_two(word: &[u8], one: &[u8], two: &[u8]) -> Option<Command<'static>>
 {
     if is_word(word, b"send") {
         send(one, two)
+    } else if is_word(word, b"entries") {
+        entries(one, two)
+    } else if is_word(word, b"ship") {
+        ship(one, two)
     } else if is_word(word, b"run") {
         run(one, two)
     } else if is_word(word, b"generate") {
@@ -343,6 +459,8 @@ fn with_three<'a>(word: &[u8], one: &'a [u8], two: &[u8], three: &[u8]) -> Optio
 {
     if is_word(word, b"trial") {
         trial(one, two, three)
+    } else if is_word(word, b"batch") {
+        batch(one, two, three)
     } else if is_word(word, b"set-limits") {
         set_limits(one, two, three)
     } else {

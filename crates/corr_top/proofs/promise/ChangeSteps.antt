@@ -42,6 +42,10 @@ pub returns_none : (change : AccountChange) → is_named Step.book_return (chang
 returns_none (Open words) = refl
 returns_none (Limit id ends) = refl
 
+pub takes_none : (change : AccountChange) → is_named Step.take (change_steps change) ≡ false
+takes_none (Open words) = refl
+takes_none (Limit id ends) = refl
+
 pub enters_none : (change : AccountChange) → is_named Step.book (change_steps change) ≡ false
 enters_none (Open words) = refl
 enters_none (Limit id ends) = refl

@@ -27,9 +27,9 @@ use Rattle.corr_top.specs.OnDisk.{IsUnwritten}
 use Rattle.corr_top.specs.Passing.{Passes, StepIsUntouched, StopsAt}
 use Rattle.corr_top.specs.Promise.{AtEachMoment, ChangePromise, Keeps, Told, writes}
 use Rattle.corr_top.specs.Steps.{Halts, Step, Walks}
-use Rattle.corr_top.proofs.Completing.{tells_rose}
+use Rattle.corr_top.proofs.FaultCounts.{tells_rose}
 use Rattle.corr_top.proofs.Walking.{walks_ahead}
-use Rattle.corr_top.proofs.promise.ChangeSteps.{Reached, each_told, enters_none, first_steps, makes_none, on_told, reached, returns_none}
+use Rattle.corr_top.proofs.promise.ChangeSteps.{Reached, each_told, enters_none, first_steps, makes_none, on_told, reached, returns_none, takes_none}
 use Rattle.corr_top.proofs.promise.Finished.{finished, quiet}
 use Rattle.corr_top.proofs.promise.Refusing.{refused_for}
 use Rattle.corr_top.proofs.promise.Running.{keeps_on}
@@ -105,7 +105,10 @@ module _ {S K D : Type 0} (source : sources.Ghosts S) (sink : sinks.Ghosts K) (d
             | inl change ↦
                 let row = row_fault j.chart (lent_in j) j.change in
                 refused_at row (on_told source sink disk old new s i j (λ chart history what. StopsChanging disk old.disk new.disk chart history row what s) (reach change.ahead) change.stops)
-            | inr back ↦ absurd (true≢false (sym back.named ∙ returns_none i.change))
+            | inr last ↦ elim last [
+              | inl back ↦ absurd (true≢false (sym back.named ∙ returns_none i.change))
+              | inr taking ↦ absurd (true≢false (sym taking.named ∙ takes_none i.change))
+            ]
           ]
         ]
       ]

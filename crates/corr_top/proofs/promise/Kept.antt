@@ -22,7 +22,7 @@ use Rattle.corr_top.specs.declared.room.Room.{Room}
 use Rattle.corr_top.specs.declared.status.Status.{Status}
 use Rattle.corr_top.specs.declared.words.Command.{Command}
 use Rattle.corr_top.specs.declared.words.Command.TheVariants.{Run, Trial, Plain, Return}
-use Rattle.corr_top.specs.declared.words.Plain.TheVariants.{Change, Generate, Init, Mend, Migrate, Query, Reconcile}
+use Rattle.corr_top.specs.declared.words.Plain.TheVariants.{Change, Follow, Generate, Init, Mend, Migrate, Query, Reconcile, Check, Page}
 use Rattle.corr_top.specs.Promise.{Keeps}
 use Rattle.corr_top.proofs.Journals.{same_unwritten}
 use Rattle.corr_top.proofs.Walking.{is_named, named_has}
@@ -35,12 +35,12 @@ module _ {S K D : Type 0} (source : sources.Ghosts S) (sink : sinks.Ghosts K) (d
   by_unwritten : IsUnwritten disk old.disk new.disk → KeepsAll disk old.disk new.disk chart books
   by_unwritten unwritten = unwritten_keeps disk old.disk new.disk chart books honest unwritten kept
 
-  -- a command that neither makes a journal, nor enters pays or a return, nor changes accounts, and writes nothing where it comes to its end
+  -- a command that neither makes a journal, nor enters pays or a return, nor changes accounts, nor takes packets, and writes nothing where it comes to its end
   reads_only : (m : Meaning) (ended : Ends source disk m old new sink s) → (HasPassed source disk m old new ended.inputs → IsUnwritten disk old.disk new.disk)
-      → are_told m.steps ≡ true → is_named Step.make m.steps ≡ false → is_named Step.book m.steps ≡ false → is_named Step.change m.steps ≡ false → is_named Step.book_return m.steps ≡ false → KeepsAll disk old.disk new.disk chart books
-  reads_only m ended at_end told no_make no_book no_change no_return = by_unwritten (elim (came source sink disk old new s m ended) [
+      → are_told m.steps ≡ true → is_named Step.make m.steps ≡ false → is_named Step.book m.steps ≡ false → is_named Step.change m.steps ≡ false → is_named Step.book_return m.steps ≡ false → is_named Step.take m.steps ≡ false → KeepsAll disk old.disk new.disk chart books
+  reads_only m ended at_end told no_make no_book no_change no_return no_take = by_unwritten (elim (came source sink disk old new s m ended) [
     | inl passed ↦ at_end passed
-    | inr halted ↦ stops_unwritten source disk old new ended.inputs s only m.steps told no_make no_book no_change no_return halted.halts
+    | inr halted ↦ stops_unwritten source disk old new ended.inputs s only m.steps told no_make no_book no_change no_return no_take halted.halts
   ])
 
   -- no journal may be made over these books
@@ -60,7 +60,10 @@ module _ {S K D : Type 0} (source : sources.Ghosts S) (sink : sinks.Ghosts K) (d
             by_unwritten (make.stops.2.untouched other.0 kept.told other.1)
         | inr written ↦ elim written [
           | inl book ↦ absurd (true≢false (sym book.named))
-          | inr later ↦ elim later [ inl change ↦ absurd (true≢false (sym change.named)) | inr back ↦ absurd (true≢false (sym back.named)) ]
+          | inr later ↦ elim later [
+            | inl change ↦ absurd (true≢false (sym change.named))
+            | inr last ↦ elim last [ inl back ↦ absurd (true≢false (sym back.named)) | inr taking ↦ absurd (true≢false (sym taking.named)) ]
+          ]
         ]
       ]
     ]
@@ -69,16 +72,19 @@ module _ {S K D : Type 0} (source : sources.Ghosts S) (sink : sinks.Ghosts K) (d
   same_disk : new.disk ≡ old.disk → IsUnwritten disk old.disk new.disk
   same_disk same = same_unwritten disk only old.disk new.disk same
 
-  pub all_keep : (command : Command) → Ends source disk (meaning_of command) old new sink s → ((day : Day) (n : ℕ) → command ≡ Run day n → ⊥)
-      → ((change : AccountChange) → command ≡ Plain (Change change) → ⊥) → ((place : ℕ) (day : Day) → command ≡ Return place day → ⊥) → KeepsAll disk old.disk new.disk chart books
+  pub all_keep : (command : Command) → Ends source disk (meaning_of command) old new sink s → ((day : Day) (n entries : ℕ) → command ≡ Run day n entries → ⊥)
+      → ((change : AccountChange) → command ≡ Plain (Change change) → ⊥) → ((place : ℕ) (day : Day) → command ≡ Return place day → ⊥) → (command ≡ Plain Follow → ⊥) → KeepsAll disk old.disk new.disk chart books
   unfolding meaning_of
-  all_keep (Run day workers) ended no_run no_change no_return = absurd (no_run day workers refl)
-  all_keep (Return place day) ended no_run no_change no_return = absurd (no_return place day refl)
-  all_keep (Trial count seed workers) ended no_run no_change no_return = reads_only (meaning_of (Trial count seed workers)) ended (λ passed. same_disk passed.leaves) refl refl refl refl refl
-  all_keep (Plain (Init home)) ended no_run no_change no_return = init_keeps home ended
-  all_keep (Plain (Query asked)) ended no_run no_change no_return = reads_only (meaning_of (Plain (Query asked))) ended (λ passed. passed.leaves.unwritten) refl refl refl refl refl
-  all_keep (Plain Reconcile) ended no_run no_change no_return = reads_only (meaning_of (Plain Reconcile)) ended (λ passed. passed.leaves.unwritten) refl refl refl refl refl
-  all_keep (Plain (Generate count seed)) ended no_run no_change no_return = reads_only (meaning_of (Plain (Generate count seed))) ended (λ passed. same_disk passed.leaves) refl refl refl refl refl
-  all_keep (Plain (Change change)) ended no_run no_change no_return = absurd (no_change change refl)
-  all_keep (Plain (Mend from until)) ended no_run no_change no_return = reads_only (meaning_of (Plain (Mend from until))) ended (λ passed. passed.leaves.unwritten) refl refl refl refl refl
-  all_keep (Plain Migrate) ended no_run no_change no_return = reads_only (meaning_of (Plain Migrate)) ended (λ passed. passed.leaves.unwritten) refl refl refl refl refl
+  all_keep (Run day workers entries) ended no_run no_change no_return no_follow = absurd (no_run day workers entries refl)
+  all_keep (Return place day) ended no_run no_change no_return no_follow = absurd (no_return place day refl)
+  all_keep (Trial count seed workers) ended no_run no_change no_return no_follow = reads_only (meaning_of (Trial count seed workers)) ended (λ passed. same_disk passed.leaves) refl refl refl refl refl refl
+  all_keep (Plain (Init home)) ended no_run no_change no_return no_follow = init_keeps home ended
+  all_keep (Plain (Query asked)) ended no_run no_change no_return no_follow = reads_only (meaning_of (Plain (Query asked))) ended (λ passed. passed.leaves.unwritten) refl refl refl refl refl refl
+  all_keep (Plain Reconcile) ended no_run no_change no_return no_follow = reads_only (meaning_of (Plain Reconcile)) ended (λ passed. passed.leaves.unwritten) refl refl refl refl refl refl
+  all_keep (Plain (Check home)) ended no_run no_change no_return no_follow = reads_only (meaning_of (Plain (Check home))) ended (λ passed. same_disk passed.leaves) refl refl refl refl refl refl
+  all_keep (Plain (Generate count seed)) ended no_run no_change no_return no_follow = reads_only (meaning_of (Plain (Generate count seed))) ended (λ passed. same_disk passed.leaves) refl refl refl refl refl refl
+  all_keep (Plain (Change change)) ended no_run no_change no_return no_follow = absurd (no_change change refl)
+  all_keep (Plain (Mend from until)) ended no_run no_change no_return no_follow = reads_only (meaning_of (Plain (Mend from until))) ended (λ passed. passed.leaves.unwritten) refl refl refl refl refl refl
+  all_keep (Plain Migrate) ended no_run no_change no_return no_follow = reads_only (meaning_of (Plain Migrate)) ended (λ passed. passed.leaves.unwritten) refl refl refl refl refl refl
+  all_keep (Plain Follow) ended no_run no_change no_return no_follow = absurd (no_follow refl)
+  all_keep (Plain (Page day)) ended no_run no_change no_return no_follow = reads_only (meaning_of (Plain (Page day))) ended (λ passed. passed.leaves.unwritten) refl refl refl refl refl refl

@@ -47,7 +47,10 @@ module _ {S K D : Type 0} (source : sources.Ghosts S) (sink : sinks.Ghosts K) (d
             | inl make ↦ subst P (chart make.ahead) ((make.stops.2.any_moment sure only unmade).each image left)
             | inr written ↦ elim written [
               | inl book ↦ absurd (true≢false (sym book.named))
-              | inr later ↦ elim later [ inl change ↦ absurd (true≢false (sym change.named)) | inr back ↦ absurd (true≢false (sym back.named)) ]
+              | inr later ↦ elim later [
+                | inl change ↦ absurd (true≢false (sym change.named))
+                | inr last ↦ elim last [ inl back ↦ absurd (true≢false (sym back.named)) | inr taking ↦ absurd (true≢false (sym taking.named)) ]
+              ]
             ]
           ]
         ]

@@ -33,7 +33,7 @@ use Rattle.corr_top.specs.Passing.{Passes, StepIsUntouched, StopsAt}
 use Rattle.corr_top.specs.Promise.{IsOldBooks, Keeps, MigratePromise, writes}
 use Rattle.corr_top.specs.Steps.{Halts, Step, Walks}
 use Rattle.corr_top.specs.Stops.{status_of_copying}
-use Rattle.corr_top.proofs.Completing.{tells_rose}
+use Rattle.corr_top.proofs.FaultCounts.{tells_rose}
 use Rattle.corr_top.proofs.Journals.{same_unwritten}
 use Rattle.corr_top.proofs.promise.Finished.{came, finished, quiet}
 use Rattle.corr_top.proofs.promise.Running.{keeps_on}
@@ -197,7 +197,7 @@ module _ {S K D : Type 0} (source : sources.Ghosts S) (sink : sinks.Ghosts K) (d
   unwritten : Ends source disk migrate_meaning old new sink s → IsUnwritten disk old.disk new.disk
   unwritten ended = elim (came source sink disk old new s migrate_meaning ended) [
     | inl passed ↦ passed.leaves.unwritten
-    | inr halted ↦ stops_unwritten source disk old new ended.inputs s only migrate_steps refl refl refl refl refl halted.halts
+    | inr halted ↦ stops_unwritten source disk old new ended.inputs s only migrate_steps refl refl refl refl refl refl halted.halts
   ]
 
   pub migrate_promise : Ends source disk (meaning_of (Plain Migrate)) old new sink s → MigratePromise source sink disk old new s

@@ -31,7 +31,8 @@ use Rattle.corr_top.specs.declared.answers.BookStop.TheVariants as booking
 use Rattle.corr_top.specs.declared.room.Room.{Room}
 use Rattle.corr_top.specs.declared.status.Status.{Status}
 use Rattle.corr_top.specs.declared.status.Status.TheVariants as status
-use Rattle.corr_top.proofs.Completing.{opening_memory, tells_rose}
+use Rattle.corr_top.proofs.Completing.{opening_memory}
+use Rattle.corr_top.proofs.FaultCounts.{tells_rose}
 use Rattle.corr_top.proofs.promise.Agreeing.{SameBooks, same_books}
 use Rattle.corr_top.proofs.promise.Running.{keeps_on}
 use Rattle.corr_top.proofs.promise.Untouched.{OnlyNow, unwritten_keeps}
@@ -76,7 +77,7 @@ module _ {S K D : Type 0} (source : sources.Ghosts S) (sink : sinks.Ghosts K) (d
   opens j stops =
       enough (stops.1 ∙ opening_memory disk old.disk new.disk i.chart i.history stops.0 (record { told = kept.told; sound = sound }) (record { journal = kept.sound.journal; stands = λ told. kept.reads }) stops.2)
 
-  by_stop : (stop : BookStop) → s ≡ status_of_booking stop → (pay : Pay) → MayReturn i.chart i.history i.place i.day pay → StopsEntering disk old.disk new.disk i.chart i.history (pay ∷ []) i.day 1 stop → Refused
+  by_stop : (stop : BookStop) → s ≡ status_of_booking stop → (pay : Pay) → MayReturn i.chart i.history i.place i.day pay → StopsEntering disk old.disk new.disk i.chart i.history (pay ∷ []) i.day 1 1 stop → Refused
   by_stop (booking.DiskFault before after) is pay may stops = absurd (sound (tells_rose (disk.faults old.disk) before after (disk.faults new.disk) stops.cause))
   by_stop (booking.Full entries end need) is pay may stops =
       let left = i.history ++ stops.added in
@@ -104,7 +105,7 @@ module _ {S K D : Type 0} (source : sources.Ghosts S) (sink : sinks.Ghosts K) (d
                     let stops = here.0.2 in
                     let pay = stops.0 in
                     by_stop here.0.0 here.0.1 pay (same_words i j place day books (λ c h p t. MayReturn c h p t pay) stops.1)
-                    (same_words i j place day books (λ c h p t. StopsEntering disk old.disk new.disk c h (pay ∷ []) t 1 here.0.0) stops.2)
+                    (same_words i j place day books (λ c h p t. StopsEntering disk old.disk new.disk c h (pay ∷ []) t 1 1 here.0.0) stops.2)
                 | inr four ↦ absurd four.1
               ]
             ]

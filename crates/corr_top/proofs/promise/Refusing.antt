@@ -33,7 +33,8 @@ use Rattle.corr_top.specs.Passing.{Passes, StepIsUntouched, StopsAt, table_at, t
 use Rattle.corr_top.specs.Promise.{AreRight, Keeps, Told, writes}
 use Rattle.corr_top.specs.Steps.{Halts, Step, Walks}
 use Rattle.corr_top.specs.Stops.{status_of_change}
-use Rattle.corr_top.proofs.Completing.{opening_memory, table_memory, tells_rose}
+use Rattle.corr_top.proofs.Completing.{opening_memory, table_memory}
+use Rattle.corr_top.proofs.FaultCounts.{tells_rose}
 use Rattle.corr_top.proofs.Told.{small_table}
 use Rattle.corr_top.proofs.Walking.{contained}
 use Rattle.corr_top.proofs.promise.ChangeSteps.{first_steps, on_row, reached}

@@ -60,7 +60,7 @@ module _ {S K D : Type 0} (source : sources.Ghosts S) (sink : sinks.Ghosts K) (d
 module _ {S K D : Type 0} (source : sources.Ghosts S) (sink : sinks.Ghosts K) (disk : disks.Ghosts D) (old new : Room S K D) (s : Status) (i j : Inputs)
     (place : j.place ≡ i.place) (day : j.day ≡ i.day) (books : SameBooks j i.chart i.history) (refused : WhyNot source sink disk old new s i) where
   -- what a crash left at each moment since the books were opened
-  midway : (now : List Entry) → IsPrefix i.history now → Keeps disk old.disk i.chart i.history → LeavesMidway disk old.disk new.disk i.chart i.history now i.day
+  midway : (now : List Entry) → IsPrefix i.history now → Keeps disk old.disk i.chart i.history → LeavesMidway disk old.disk new.disk i.chart i.history now i.day 1
       → AtEachMoment source sink disk old new s (λ image. StandsBetween i.chart i.history now image ⊎ (Rose (disk.faults old.disk) (disk.faults new.disk) × StandsWithMore i.chart now i.day 1 image))
   midway now begins kept leaves image left = elim ((leaves kept.told).each image left) [
     | inl before ↦ inl (record { history = i.history; goes_on = whole_front i.history; begins = begins; stands = kept.crash image before })
@@ -69,7 +69,7 @@ module _ {S K D : Type 0} (source : sources.Ghosts S) (sink : sinks.Ghosts K) (d
 
   module _ (kept : Keeps disk old.disk i.chart i.history) (sure : IsTrue (disk.honest new.disk)) where
     -- it was entered
-    entered_all : (back : IsReturned j) → RunLeaves disk old.disk new.disk j → (writes s ≡ true → TakesBack source sink disk old new s i (i.history ++ booked_on i.day back.pay ∷ [])) → ReturnPromise source sink disk old new s i
+    entered_all : (back : IsReturned j) → RunLeaves disk 1 old.disk new.disk j → (writes s ≡ true → TakesBack source sink disk old new s i (i.history ++ booked_on i.day back.pay ∷ [])) → ReturnPromise source sink disk old new s i
     entered_all back leaves answers =
         let pay = back.pay in
         let now = i.history ++ booked_on i.day pay ∷ [] in
@@ -80,14 +80,14 @@ module _ {S K D : Type 0} (source : sources.Ghosts S) (sink : sinks.Ghosts K) (d
           entered = inr (pay, same_words i j place day books (λ c h p t. MayReturn c h p t pay) back.may, refl);
           crash = inl made;
           moments = midway now (prefix-append i.history (booked_on i.day pay ∷ [])) kept
-              (subst (λ (es : List Entry). LeavesMidway disk old.disk new.disk i.chart i.history es i.day) is (same_words i j place day books (λ c h p t. LeavesMidway disk old.disk new.disk c h (new_in j) t) leaves.any_moment));
+              (subst (λ (es : List Entry). LeavesMidway disk old.disk new.disk i.chart i.history es i.day 1) is (same_words i j place day books (λ c h p t. LeavesMidway disk old.disk new.disk c h (new_in j) t 1) leaves.any_moment));
           done = λ some. made;
           answers = answers;
           refused = refused;
         }
 
     -- its entering stopped
-    entered_some : (pay : Pay) → MayReturn i.chart i.history i.place i.day pay → {stop : _} → StopsEntering disk old.disk new.disk i.chart i.history (pay ∷ []) i.day 1 stop → writes s ≡ false → ReturnPromise source sink disk old new s i
+    entered_some : (pay : Pay) → MayReturn i.chart i.history i.place i.day pay → {stop : _} → StopsEntering disk old.disk new.disk i.chart i.history (pay ∷ []) i.day 1 1 stop → writes s ≡ false → ReturnPromise source sink disk old new s i
     entered_some pay may st silent =
         let now = i.history ++ st.added in
         let sound = sound_books i.chart now st.journal in
@@ -146,13 +146,16 @@ module _ {S K D : Type 0} (source : sources.Ghosts S) (sink : sinks.Ghosts K) (d
               | inl book ↦ absurd (true≢false (sym book.named))
               | inr later ↦ elim later [
                 | inl change ↦ absurd (true≢false (sym change.named))
-                | inr back ↦
-                    let books = same_books disk old.disk j i.chart i.history (named_has passes Step.open_journal (ahead_of Step.book_return return_steps) refl back.ahead) kept in
-                    let stops = back.stops.2 in
-                    let pay = stops.0 in
-                    let may = same_words i j place day books (λ c h p t. MayReturn c h p t pay) stops.1 in
-                    let entering = same_words i j place day books (λ c h p t. StopsEntering disk old.disk new.disk c h (pay ∷ []) t 1 back.stops.0) stops.2 in
-                    entered_some source sink disk old new s i j place day books refused kept sure pay may entering halted.silent
+                | inr last ↦ elim last [
+                  | inl back ↦
+                      let books = same_books disk old.disk j i.chart i.history (named_has passes Step.open_journal (ahead_of Step.book_return return_steps) refl back.ahead) kept in
+                      let stops = back.stops.2 in
+                      let pay = stops.0 in
+                      let may = same_words i j place day books (λ c h p t. MayReturn c h p t pay) stops.1 in
+                      let entering = same_words i j place day books (λ c h p t. StopsEntering disk old.disk new.disk c h (pay ∷ []) t 1 1 back.stops.0) stops.2 in
+                      entered_some source sink disk old new s i j place day books refused kept sure pay may entering halted.silent
+                  | inr taking ↦ absurd (true≢false (sym taking.named))
+                ]
               ]
             ]
           ]

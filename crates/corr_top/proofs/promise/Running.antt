@@ -32,7 +32,7 @@ use Rattle.corr_top.specs.Ends.{Ends}
 use Rattle.corr_top.specs.Inputs.{Inputs, directory_in, new_in, pays_of, replies_of, tables_in}
 use Rattle.corr_top.specs.Message.{message_reply, pays_in, readings_of}
 use Rattle.corr_top.specs.MessageFile.{IsMessageFile}
-use Rattle.corr_top.specs.OnDisk.{one_of, IsOnDisk, LeavesMidway}
+use Rattle.corr_top.specs.OnDisk.{up_to, IsOnDisk, LeavesMidway}
 use Rattle.corr_top.specs.Origin.{AreSentValid}
 use Rattle.corr_top.specs.Out.{sent_from}
 use Rattle.corr_top.specs.Run.{run_meaning, run_out, run_report, run_steps}
@@ -80,10 +80,11 @@ module _ {S K D : Type 0} (source : sources.Ghosts S) (sink : sinks.Ghosts K) (d
     books : SameBooks j i.chart i.history
     file : IsMessageFile i.messages j.cut
     day : j.day ≡ i.day
+    entries : j.entries ≡ i.entries
 
-  reached : Told source sink disk old new s run_steps i → source.left old.messages ≡ Some i.messages → Keeps disk old.disk i.chart i.history → j.day ≡ i.day
+  reached : Told source sink disk old new s run_steps i → source.left old.messages ≡ Some i.messages → Keeps disk old.disk i.chart i.history → j.day ≡ i.day → j.entries ≡ i.entries
       → Walks (Passes source disk old new j) file_steps → Reached
-  reached told messages kept day passed =
+  reached told messages kept day entries passed =
       let P = Passes source disk old new j in
       let same : (name : TableName) → is_named (Step.table name) run_steps ≡ true → is_named (Step.table name) file_steps ≡ true → table_file name j ≡ table_file name i =
       table_told source sink disk old new s j i run_steps file_steps told passed in
@@ -97,6 +98,7 @@ module _ {S K D : Type 0} (source : sources.Ghosts S) (sink : sinks.Ghosts K) (d
         books = same_books disk old.disk j i.chart i.history (named_has P Step.open_journal file_steps refl passed) kept;
         file = subst (λ (m : List ℕ). IsMessageFile m j.cut) bytes had.are;
         day = day;
+        entries = entries;
       }
 
   module _ (r : Reached) where
@@ -136,14 +138,14 @@ module _ {S K D : Type 0} (source : sources.Ghosts S) (sink : sinks.Ghosts K) (d
     -- what a crash leaves at each moment, said of the books that the disk had
     abbrev Midway : List Entry → Type 0
     Midway books = AtEachMoment source sink disk old new s (λ image. StandsBetween i.chart i.history books image
-        ⊎ (Rose (disk.faults old.disk) (disk.faults new.disk) × StandsWithMore i.chart books i.day 1 image))
+        ⊎ (Rose (disk.faults old.disk) (disk.faults new.disk) × StandsWithMore i.chart books i.day i.entries image))
 
-    midway : Keeps disk old.disk i.chart i.history → (books : List Entry) → IsPrefix j.history books → LeavesMidway disk old.disk new.disk j.chart j.history books j.day → Midway books
+    midway : Keeps disk old.disk i.chart i.history → (books : List Entry) → IsPrefix j.history books → LeavesMidway disk old.disk new.disk j.chart j.history books j.day i.entries → Midway books
     midway kept books begins leaves =
-        let same : LeavesMidway disk old.disk new.disk i.chart i.history books i.day =
-        subst (λ (d : Day). LeavesMidway disk old.disk new.disk i.chart i.history books d) r.day
-        (subst (λ (b : List Entry). LeavesMidway disk old.disk new.disk i.chart b books j.day) r.books.books_is
-        (subst (λ (c : Chart). LeavesMidway disk old.disk new.disk c j.history books j.day) r.books.chart_is leaves)) in
+        let same : LeavesMidway disk old.disk new.disk i.chart i.history books i.day i.entries =
+        subst (λ (d : Day). LeavesMidway disk old.disk new.disk i.chart i.history books d i.entries) r.day
+        (subst (λ (b : List Entry). LeavesMidway disk old.disk new.disk i.chart b books j.day i.entries) r.books.books_is
+        (subst (λ (c : Chart). LeavesMidway disk old.disk new.disk c j.history books j.day i.entries) r.books.chart_is leaves)) in
         λ image left. elim ((same kept.told).each image left) [
           | inl before ↦ inl (record {
             history = i.history;
@@ -155,7 +157,7 @@ module _ {S K D : Type 0} (source : sources.Ghosts S) (sink : sinks.Ghosts K) (d
         ]
 
     -- all was entered
-    entered_all : Keeps disk old.disk i.chart i.history → LeavesMidway disk old.disk new.disk j.chart j.history (new_in j) j.day → IsTrue (disk.honest new.disk) → AreAnswered j → IsJournal j.chart (new_in j) → IsOnDisk disk new.disk j.chart (new_in j) → (writes s ≡ true → AnswersAll source sink disk old new s i (new_in j))
+    entered_all : Keeps disk old.disk i.chart i.history → LeavesMidway disk old.disk new.disk j.chart j.history (new_in j) j.day i.entries → IsTrue (disk.honest new.disk) → AreAnswered j → IsJournal j.chart (new_in j) → IsOnDisk disk new.disk j.chart (new_in j) → (writes s ≡ true → AnswersAll source sink disk old new s i (new_in j))
         → RunPromise source sink disk old new s i
     entered_all kept leaves sure a journal on answers = record {
       books = new_in j;
@@ -173,16 +175,18 @@ module _ {S K D : Type 0} (source : sources.Ghosts S) (sink : sinks.Ghosts K) (d
         let books = j.history ++ st.added in
         let pays = map (λ (e : Entry). e.pay) st.added in
         let sound = sound_books j.chart books st.journal in
-        let M : Chart → Day → Type 0 = λ c d.
-        Keeps disk new.disk c books ⊎ (Rose (disk.faults old.disk) (disk.faults new.disk) × AreBooks c books × IsLeftBy (disk.honest new.disk) (disk.may_leave new.disk) c books (one_of d)) in
-        let here : M j.chart j.day = elim st.left [ inl calm ↦ inl (keeps_on disk new.disk j.chart books sure st.journal calm.1) | inr rose ↦ inr (rose.0, sound, rose.1) ] in
+        let M : Chart → Day → ℕ → Type 0 = λ c d n.
+        Keeps disk new.disk c books ⊎ (Rose (disk.faults old.disk) (disk.faults new.disk) × AreBooks c books × IsLeftBy (disk.honest new.disk) (disk.may_leave new.disk) c books (up_to n d)) in
+        let here : M j.chart j.day j.entries = elim st.left [ inl calm ↦ inl (keeps_on disk new.disk j.chart books sure st.journal calm.1) | inr rose ↦ inr (rose.0, sound, rose.1) ] in
         record {
           books = books;
           entered = pays;
           one_clerk = legal_fold j.chart j.history st.added j.day st.journal.legal.rules (λ k e at. (get_all (IsEnteredOn j.day (pays_of j)) st.added k e st.each at).day_is) ∙ one_fold pays;
           of_file = inr (j.cut, r.file, of_asked pays (of_pays j.day (pays_of j) st.added st.each));
-          moments = midway kept books (prefix-append j.history st.added) st.any_moment;
-          crash = subst (λ (d : Day). M i.chart d) r.day (subst (λ (c : Chart). M c j.day) r.books.chart_is here);
+          moments = midway kept books (prefix-append j.history st.added)
+              (subst (λ (n : ℕ). LeavesMidway disk old.disk new.disk j.chart j.history books j.day n) r.entries st.any_moment);
+          crash = subst (λ (d : Day). M i.chart d i.entries) r.day
+              (subst (λ (n : ℕ). M i.chart j.day n) r.entries (subst (λ (c : Chart). M c j.day j.entries) r.books.chart_is here));
           answers = λ some. absurd (true≢false (sym some ∙ silent));
         }
 
@@ -204,13 +208,13 @@ module _ {S K D : Type 0} (source : sources.Ghosts S) (sink : sinks.Ghosts K) (d
   sure : IsTrue (disk.honest new.disk)
   sure = subst IsTrue (sym honest) kept.told
 
-  pub run_promise : Ends source disk (meaning_of (Run i.day i.workers)) old new sink s → RunPromise source sink disk old new s i
+  pub run_promise : Ends source disk (meaning_of (Run i.day i.workers i.entries)) old new sink s → RunPromise source sink disk old new s i
   unfolding meaning_of run_report run_out
   run_promise ended =
-      let m = run_meaning i.day i.workers in
+      let m = run_meaning i.day i.workers i.entries in
       let j = ended.inputs in
       let passes = Passes source disk old new j in
-      let reach = reached source sink disk old new s i j told messages kept ended.are_for.0 in
+      let reach = reached source sink disk old new s i j told messages kept ended.are_for.0 ended.are_for.2 in
       elim (came source sink disk old new s m ended) [
         | inl done ↦
             let read = reach (walks_ahead passes Step.book run_steps done.passed) in
@@ -223,7 +227,10 @@ module _ {S K D : Type 0} (source : sources.Ghosts S) (sink : sinks.Ghosts K) (d
             | inl make ↦ absurd (true≢false (sym make.named))
             | inr written ↦ elim written [
               | inl book ↦ entered_some source sink disk old new s i j (reach book.ahead) kept sure book.stops.2 halted.silent
-              | inr later ↦ elim later [ inl change ↦ absurd (true≢false (sym change.named)) | inr back ↦ absurd (true≢false (sym back.named)) ]
+              | inr later ↦ elim later [
+                | inl change ↦ absurd (true≢false (sym change.named))
+                | inr last ↦ elim last [ inl back ↦ absurd (true≢false (sym back.named)) | inr taking ↦ absurd (true≢false (sym taking.named)) ]
+              ]
             ]
           ]
         ]

@@ -49,6 +49,9 @@ leaves_disk Step.book = true
 leaves_disk Step.change = true
 leaves_disk Step.old_journal = true
 leaves_disk Step.book_return = true
+leaves_disk Step.begin = true
+leaves_disk Step.take = true
+leaves_disk Step.aside = true
 leaves_disk _ = false
 
 -- a stop at this step says itself what was done to the disk
@@ -62,6 +65,10 @@ tells_disk Step.change = true
 tells_disk Step.old_journal = true
 tells_disk Step.copy = true
 tells_disk Step.book_return = true
+tells_disk Step.begin = true
+tells_disk Step.packets = true
+tells_disk Step.take = true
+tells_disk Step.aside = true
 tells_disk _ = false
 
 -- of each step, a stop there tells it, or a step after it does
@@ -84,10 +91,10 @@ module _ {S K D : Type 0} (source : sources.Ghosts S) (disk : disks.Ghosts D) (o
     pub stops : StopsAt source disk old new i s step
     pub ahead : Walks (Passes source disk old new i) (ahead_of step steps)
 
-  -- nothing was written to the disk, or it stopped at the making of a journal, at the entering of pays, at a change of accounts, or at
-  -- the entering of a return
+  -- nothing was written to the disk, or it stopped at the making of a journal, at the entering of pays, at a change of accounts, at
+  -- the entering of a return, or at the taking of packets
   abbrev pub StopsSomewhere : List Step → Type 0
-  StopsSomewhere steps = IsUnwritten disk old.disk new.disk ⊎ (StopsNamed Step.make steps ⊎ (StopsNamed Step.book steps ⊎ (StopsNamed Step.change steps ⊎ StopsNamed Step.book_return steps)))
+  StopsSomewhere steps = IsUnwritten disk old.disk new.disk ⊎ (StopsNamed Step.make steps ⊎ (StopsNamed Step.book steps ⊎ (StopsNamed Step.change steps ⊎ (StopsNamed Step.book_return steps ⊎ StopsNamed Step.take steps))))
 
   unreached : (step : Step) → leaves_disk step ≡ true → StepIsUntouched disk old new step → IsUnwritten disk old.disk new.disk
   unreached Step.make told same = same_unwritten disk only old.disk new.disk same
@@ -95,6 +102,10 @@ module _ {S K D : Type 0} (source : sources.Ghosts S) (disk : disks.Ghosts D) (o
   unreached Step.book told unwritten = unwritten
   unreached Step.change told unwritten = unwritten
   unreached Step.book_return told unwritten = unwritten
+  unreached Step.begin told same = same_unwritten disk only old.disk new.disk same
+  unreached Step.take told unwritten = unwritten
+  unreached Step.packets told same = absurd (true≢false (sym told))
+  unreached Step.aside told same = same_unwritten disk only old.disk new.disk same
   unreached Step.old_journal told same = same_unwritten disk only old.disk new.disk same
   unreached (Step.table name) told same = absurd (true≢false (sym told))
   unreached Step.sums told same = absurd (true≢false (sym told))
@@ -120,12 +131,16 @@ module _ {S K D : Type 0} (source : sources.Ghosts S) (disk : disks.Ghosts D) (o
   stops_here Step.make steps told stops all = inr (inl (record { named = refl; stops = stops; ahead = tt }))
   stops_here Step.book steps told stops all = inr (inr (inl (record { named = refl; stops = stops; ahead = tt })))
   stops_here Step.change steps told stops all = inr (inr (inr (inl (record { named = refl; stops = stops; ahead = tt }))))
-  stops_here Step.book_return steps told stops all = inr (inr (inr (inr (record { named = refl; stops = stops; ahead = tt }))))
+  stops_here Step.book_return steps told stops all = inr (inr (inr (inr (inl (record { named = refl; stops = stops; ahead = tt })))))
+  stops_here Step.take steps told stops all = inr (inr (inr (inr (inr (record { named = refl; stops = stops; ahead = tt })))))
+  stops_here Step.begin steps told stops all = inl stops.2.untouched
+  stops_here Step.packets steps told stops all = inl stops.4
   stops_here Step.open_journal steps told stops all = inl stops.2.untouched
   stops_here Step.received steps told stops all = inl stops.4
   stops_here Step.sent steps told stops all = inl stops.4
   stops_here Step.old_journal steps told stops all = inl stops.2.untouched
   stops_here Step.copy steps told stops all = inl stops.4
+  stops_here Step.aside steps told stops all = absurd stops
   stops_here (Step.table name) steps told stops all = inl (rest_unwritten steps told all)
   stops_here Step.sums steps told stops all = inl (rest_unwritten steps told all)
   stops_here Step.day steps told stops all = inl (rest_unwritten steps told all)
@@ -149,7 +164,10 @@ module _ {S K D : Type 0} (source : sources.Ghosts S) (disk : disks.Ghosts D) (o
         | inl book ↦ inr (inr (inl (with_more Step.book step steps passed book)))
         | inr later ↦ elim later [
           | inl change ↦ inr (inr (inr (inl (with_more Step.change step steps passed change))))
-          | inr back ↦ inr (inr (inr (inr (with_more Step.book_return step steps passed back))))
+          | inr last ↦ elim last [
+            | inl back ↦ inr (inr (inr (inr (inl (with_more Step.book_return step steps passed back)))))
+            | inr taking ↦ inr (inr (inr (inr (inr (with_more Step.take step steps passed taking)))))
+          ]
         ]
       ]
     ]
@@ -161,10 +179,10 @@ module _ {S K D : Type 0} (source : sources.Ghosts S) (disk : disks.Ghosts D) (o
   stops_somewhere (step ∷ steps) told (inr later) =
       stops_later step steps later.0 (stops_somewhere steps (both_true (tells_disk step || list_any leaves_disk steps) (are_told steps) told).1 later.1)
 
-  -- a command that neither makes a journal, nor enters pays or a return, nor changes accounts wrote nothing where it stopped
+  -- a command that neither makes a journal, nor enters pays or a return, nor changes accounts, nor takes packets wrote nothing where it stopped
   pub stops_unwritten : (steps : List Step) → are_told steps ≡ true → is_named Step.make steps ≡ false → is_named Step.book steps ≡ false
-      → is_named Step.change steps ≡ false → is_named Step.book_return steps ≡ false → Halts (Passes source disk old new i) (StopsAt source disk old new i s) (StepIsUntouched disk old new) steps → IsUnwritten disk old.disk new.disk
-  stops_unwritten steps told no_make no_book no_change no_return halts = elim (stops_somewhere steps told halts) [
+      → is_named Step.change steps ≡ false → is_named Step.book_return steps ≡ false → is_named Step.take steps ≡ false → Halts (Passes source disk old new i) (StopsAt source disk old new i s) (StepIsUntouched disk old new) steps → IsUnwritten disk old.disk new.disk
+  stops_unwritten steps told no_make no_book no_change no_return no_take halts = elim (stops_somewhere steps told halts) [
     | inl unwritten ↦ unwritten
     | inr at ↦ elim at [
       | inl make ↦ absurd (true≢false (sym make.named ∙ no_make))
@@ -172,7 +190,10 @@ module _ {S K D : Type 0} (source : sources.Ghosts S) (disk : disks.Ghosts D) (o
         | inl book ↦ absurd (true≢false (sym book.named ∙ no_book))
         | inr later ↦ elim later [
           | inl change ↦ absurd (true≢false (sym change.named ∙ no_change))
-          | inr back ↦ absurd (true≢false (sym back.named ∙ no_return))
+          | inr last ↦ elim last [
+            | inl back ↦ absurd (true≢false (sym back.named ∙ no_return))
+            | inr taking ↦ absurd (true≢false (sym taking.named ∙ no_take))
+          ]
         ]
       ]
     ]

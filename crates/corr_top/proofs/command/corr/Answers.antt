@@ -23,18 +23,18 @@ returns-in-Some-Plain-clause-ends g c = search rules
 
 pub returns-in-Some-Run-clause-ends : goal.returns-in-Some-Run-clause-ends
 returns-in-Some-Run-clause-ends g c =
-    let ends = c.end.ensures.ends (Run c.in-Some-Run.day c.in-Some-Run.workers) c.args.room c.run-room.ensures.texts in
+    let ends = c.end.ensures.ends (Run c.in-Some-Run.day c.in-Some-Run.workers c.in-Some-Run.entries) c.args.room c.run-room.ensures.texts in
     search (ends, rules)
 
 pub returns-in-Some-Run-clause-complete : goal.returns-in-Some-Run-clause-complete
 returns-in-Some-Run-clause-complete g c =
-    let done = c.end.ensures.ends (Run c.in-Some-Run.day c.in-Some-Run.workers) c.args.room c.run-room.ensures.texts in
+    let done = c.end.ensures.ends (Run c.in-Some-Run.day c.in-Some-Run.workers c.in-Some-Run.entries) c.args.room c.run-room.ensures.texts in
     let ends : IfSome (command_of c.args.words.now) (λ command. Ends g.S.Source g.D.Disk (meaning_of command) c.args.room c.end.result.room g.K.Sink c.end.result.status) = search (done, rules) in
     complete_if g.S.Source g.D.Disk g.K.Sink (λ (command : Command). command) (command_of c.args.words.now) c.args.room c.end.result.room c.end.result.status ends
 
 pub returns-in-Some-Run-clause-line : goal.returns-in-Some-Run-clause-line
 returns-in-Some-Run-clause-line g c =
-    let command = Run c.in-Some-Run.day c.in-Some-Run.workers in
+    let command = Run c.in-Some-Run.day c.in-Some-Run.workers c.in-Some-Run.entries in
     ends_line g.S.Source g.D.Disk (meaning_of command) c.args.room c.end.result.room g.K.Sink c.end.result.status (c.end.ensures.ends command c.args.room c.run-room.ensures.texts)
 
 pub returns-in-Some-Trial-clause-ends : goal.returns-in-Some-Trial-clause-ends
@@ -67,7 +67,7 @@ returns-in-Some-Plain-clause-promises g c =
 
 pub returns-in-Some-Run-clause-promises : goal.returns-in-Some-Run-clause-promises
 returns-in-Some-Run-clause-promises g c =
-    let done = c.end.ensures.ends (Run c.in-Some-Run.day c.in-Some-Run.workers) c.args.room c.run-room.ensures.texts in
+    let done = c.end.ensures.ends (Run c.in-Some-Run.day c.in-Some-Run.workers c.in-Some-Run.entries) c.args.room c.run-room.ensures.texts in
     let ends : IfSome (command_of c.args.words.now) (λ command. Ends g.S.Source g.D.Disk (meaning_of command) c.args.room c.end.result.room g.K.Sink c.end.result.status) = search (done, rules) in
     let honest : g.D.Disk.honest c.end.result.room.disk ≡ g.D.Disk.honest c.args.room.disk = search rules in
     promised_if g.S.Source g.K.Sink g.D.Disk (λ (command : Command). command) (command_of c.args.words.now) c.args.room c.end.result.room c.end.result.status

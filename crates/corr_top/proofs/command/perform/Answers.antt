@@ -21,6 +21,11 @@ returns-in-Reconcile-clause-ends g c =
     c.end-in-Reconcile.ensures.ends (PlainCommand c.args.command) c.args.room
     (subst (λ (command : ThePlain). HasTexts g.S.Source g.D.Disk (meaning_of (PlainCommand command)) c.args.room c.reconcile-room.result.0 c.reconcile-room.result.1) (sym c.in-Reconcile.is) c.reconcile-room.ensures.texts)
 
+pub returns-in-Check-clause-ends : goal.returns-in-Check-clause-ends
+returns-in-Check-clause-ends g c =
+    c.end-in-Check.ensures.ends (PlainCommand c.args.command) c.args.room
+    (subst (λ (command : ThePlain). HasTexts g.S.Source g.D.Disk (meaning_of (PlainCommand command)) c.args.room c.check-room.result.0 c.check-room.result.1) (sym c.in-Check.is) c.check-room.ensures.texts)
+
 pub returns-in-Generate-clause-ends : goal.returns-in-Generate-clause-ends
 returns-in-Generate-clause-ends g c =
     let made = c.in-Generate in
@@ -38,7 +43,17 @@ returns-in-Change-clause-ends g c =
     c.end-in-Change.ensures.ends (PlainCommand c.args.command) c.args.room
     (subst (λ (command : ThePlain). HasTexts g.S.Source g.D.Disk (meaning_of (PlainCommand command)) c.args.room c.change-room.result.0 c.change-room.result.1) (sym c.in-Change.is) c.change-room.ensures.texts)
 
+pub returns-in-Page-clause-ends : goal.returns-in-Page-clause-ends
+returns-in-Page-clause-ends g c =
+    c.end-in-Page.ensures.ends (PlainCommand c.args.command) c.args.room
+    (subst (λ (command : ThePlain). HasTexts g.S.Source g.D.Disk (meaning_of (PlainCommand command)) c.args.room c.page-room.result.0 c.page-room.result.1) (sym c.in-Page.is) c.page-room.ensures.texts)
+
 pub returns-in-Migrate-clause-ends : goal.returns-in-Migrate-clause-ends
 returns-in-Migrate-clause-ends g c =
     c.end-in-Migrate.ensures.ends (PlainCommand c.args.command) c.args.room
     (subst (λ (command : ThePlain). HasTexts g.S.Source g.D.Disk (meaning_of (PlainCommand command)) c.args.room c.migrate-room.result.0 c.migrate-room.result.1) (sym c.in-Migrate.is) c.migrate-room.ensures.texts)
+
+pub returns-in-Follow-clause-ends : goal.returns-in-Follow-clause-ends
+returns-in-Follow-clause-ends g c =
+    c.end-in-Follow.ensures.ends (PlainCommand c.args.command) c.args.room
+    (subst (λ (command : ThePlain). HasTexts g.S.Source g.D.Disk (meaning_of (PlainCommand command)) c.args.room c.follow-room.result.0 c.follow-room.result.1) (sym c.in-Follow.is) c.follow-room.ensures.texts)

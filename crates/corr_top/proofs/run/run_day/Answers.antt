@@ -40,9 +40,9 @@ returns-in-Err-cut_file g c =
     })
 
 -- what became of the messages of the file
-served_file : {S D : Type 0} (source : sources.Ghosts S) (d : disks.Ghosts D) (directory : Directory) (workers : ℕ) (opened : Parts D) (given cut : List (List ℕ)) (day : ServedDay D) → given ≡ cut
-    → AllServed d (opening_with d opened workers 1) (past_of d opened) (readings_of directory opened.accounts given) day → AllServed d (opening_with d opened workers 1) (past_of d opened) (readings_of directory opened.accounts cut) day
-served_file source d directory workers opened given cut day same all = subst (λ (ms : List (List ℕ)). AllServed d (opening_with d opened workers 1) (past_of d opened) (readings_of directory opened.accounts ms) day) same all
+served_file : {S D : Type 0} (source : sources.Ghosts S) (d : disks.Ghosts D) (directory : Directory) (workers most : ℕ) (opened : Parts D) (given cut : List (List ℕ)) (day : ServedDay D) → given ≡ cut
+    → AllServed d (opening_with d opened workers most) (past_of d opened) (readings_of directory opened.accounts given) day → AllServed d (opening_with d opened workers most) (past_of d opened) (readings_of directory opened.accounts cut) day
+served_file source d directory workers most opened given cut day same all = subst (λ (ms : List (List ℕ)). AllServed d (opening_with d opened workers most) (past_of d opened) (readings_of directory opened.accounts ms) day) same all
 
 counted_is : (n : ℕ) (history base : List Entry) → n ≡ length history → history ≡ base → n ≡ length base
 counted_is n history base is same = is ∙ ap (λ (es : List Entry). length es) same
@@ -53,7 +53,7 @@ no_longer_than n base added history is same = let l = length-append base added i
 pub end_day-requires-clause-places : goal.end_day-requires-clause-places
 end_day-requires-clause-places g c =
     let opened = c.args.opened in
-    places_in g.D.Disk (opening_with g.D.Disk opened c.args.workers 1) (past_of g.D.Disk opened) (readings_of c.args.directory.now opened.accounts c.into_vec-messages.result.items) c.in-Ok-serve_all.day c.in-Ok-serve_all.ensures.served
+    places_in g.D.Disk (opening_with g.D.Disk opened c.args.workers c.args.entries) (past_of g.D.Disk opened) (readings_of c.args.directory.now opened.accounts c.into_vec-messages.result.items) c.in-Ok-serve_all.day c.in-Ok-serve_all.ensures.served
 
 pub end_day-requires-clause-few : goal.end_day-requires-clause-few
 end_day-requires-clause-few g c =
@@ -62,7 +62,7 @@ end_day-requires-clause-few g c =
     let all = c.in-Ok-serve_all.ensures.served in
     let short : length given ≤ 50000 = subst (λ (ms : List (List ℕ)). length ms ≤ 50000) (sym c.into_vec-messages.ensures) c.in-Ok-cut_file.ensures.ok.few in (
       no_longer_than c.len-count.result opened.base all.left.added c.in-Ok-serve_all.day.closed.history.entries (counted_is c.len-count.result c.history.result.now.entries opened.base c.len-count.ensures.count c.history.ensures) all.left.is,
-      few_made g.D.Disk (opening_with g.D.Disk opened c.args.workers 1) (past_of g.D.Disk opened) (readings_of c.args.directory.now opened.accounts given) c.in-Ok-serve_all.day all 50000 (let l = length-map given (pay_asked_of c.args.directory.now opened.accounts) in omega (arith, l, short)),
+      few_made g.D.Disk (opening_with g.D.Disk opened c.args.workers c.args.entries) (past_of g.D.Disk opened) (readings_of c.args.directory.now opened.accounts given) c.in-Ok-serve_all.day all 50000 (let l = length-map given (pay_asked_of c.args.directory.now opened.accounts) in omega (arith, l, short)),
     )
 
 pub returns-in-Ok-serve_all : goal.returns-in-Ok-serve_all
@@ -73,7 +73,7 @@ returns-in-Ok-serve_all g c =
     let cut = c.in-Ok-cut_file.messages in
     let has : HasMessages g.S.Source c.args.source.now c.read_file.new.source file cut = record { took = c.in-Ok.ensures.read; are = subst (λ (bs : List ℕ). IsMessageFile bs cut) c.bytes.ensures c.in-Ok-cut_file.ensures.ok } in
     let day = c.in-Ok-serve_all.day in
-    let all = served_file g.S.Source g.D.Disk directory c.args.workers opened c.into_vec-messages.result.items cut day c.into_vec-messages.ensures c.in-Ok-serve_all.ensures.served in
-    subst (λ (x : g.row.D.Denot). GivesDay g.S.Source g.D.Disk directory c.args.workers c.args.source.now c.read_file.new.source opened x c.end_day.result.1) (sym c.end_day.ensures.disk)
-    (day_ends g.S.Source g.D.Disk directory c.args.workers c.args.source.now c.read_file.new.source opened file cut has c.requires.instructions c.requires.journal.book
+    let all = served_file g.S.Source g.D.Disk directory c.args.workers c.args.entries opened c.into_vec-messages.result.items cut day c.into_vec-messages.ensures c.in-Ok-serve_all.ensures.served in
+    subst (λ (x : g.row.D.Denot). GivesDay g.S.Source g.D.Disk directory c.args.workers c.args.entries c.args.source.now c.read_file.new.source opened x c.end_day.result.1) (sym c.end_day.ensures.disk)
+    (day_ends g.S.Source g.D.Disk directory c.args.workers c.args.entries c.args.source.now c.read_file.new.source opened file cut has c.requires.instructions c.requires.journal.book
     c.len-count.result c.args.before c.requires.count (counted_is c.len-count.result c.history.result.now.entries opened.base c.len-count.ensures.count c.history.ensures) day all c.end_day.result.1 c.end_day.ensures.texts)

@@ -1,9 +1,9 @@
 use Rattle.corr_books.specs.Opening.{opening_with, past_of}
 use Rattle.corr_top.proofs.serving.serve_all.Given as goal
 
--- the books of this opening, with a pass for each worker and one entry under one sync, and what the disk might have left until then
+-- the books of this opening, with a pass for each worker and so many entries under one sync, and what the disk might have left until then
 abbrev pub ghosts-serve_named-N-BooksName : goal.ghosts-serve_named-N-BooksName
-ghosts-serve_named-N-BooksName g a = record { opening = opening_with g.D.Disk a.opened a.workers 1; past = past_of g.D.Disk a.opened }
+ghosts-serve_named-N-BooksName g a = record { opening = opening_with g.D.Disk a.opened a.workers a.entries; past = past_of g.D.Disk a.opened }
 
 abbrev pub ghosts-serve_named-N-Name : goal.ghosts-serve_named-N-Name
 ghosts-serve_named-N-Name g a = record { table = a.opened.purses }

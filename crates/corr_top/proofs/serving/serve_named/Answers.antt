@@ -11,9 +11,13 @@ use Rattle.front_word.specs.Known.{PassKnows}
 use Rattle.jrn_book.specs.Journal.{IsJournal}
 use Rattle.corr_top.specs.Workers.{Worker}
 use Rattle.corr_top.specs.declared.message.NoPay.{NoPay}
+use Rattle.corr_top.specs.declared.desk.Served.{Served}
+use Rattle.corr_top.specs.Batching.{all_made}
 use Rattle.corr_top.specs.Message.{pay_asked_of, readings_of}
-use Rattle.corr_top.specs.Serving.{AllServed, starting}
-use Rattle.corr_top.proofs.Workers.{added_of, all_back, none_of, told_of, turn_of, unmapped}
+use Rattle.corr_top.specs.Serving.{AllServed, AreServedInOrder, AreTold, starting}
+use Rattle.corr_top.proofs.Batches.{unmapped}
+use Rattle.corr_top.proofs.Batched.{carried, carried_none, done_of, room_for}
+use Rattle.corr_top.proofs.Workers.{added_of, all_back, none_of, told_of, turn_of}
 use Rattle.corr_top.proofs.serving.serve_named.Goals as goal
 
 pub seat-requires-clause-room : goal.seat-requires-clause-room
@@ -42,7 +46,8 @@ vacate-requires-clause-room g c =
     let made = ap (λ (x : Opening). x.made) c.requires.named.opening_is in
     let worked = c.run_jobs-worked in
     let reading = pay_asked_of c.args.directory.now o.accounts in
-    let back = all_back o reading c.args.messages.items (λ v. v.items) c.in-Ok-books.made.1.items c.seat.new.workers.items worked.result.passes.items c.seat.ensures worked.result.replies worked.ensures.served worked.ensures.none in
+    let done = done_of o reading c.seat.new.workers.items worked.result.passes.items c.in-Ok-share_out.batches.items c.args.messages.now c.in-Ok-share_out.ensures (λ v. v.items) worked.result.replies worked.ensures.served in
+    let back = all_back o reading c.args.messages.now (λ v. all_made v.items) c.in-Ok-books.made.1.items c.seat.new.workers.items worked.result.passes.items c.seat.ensures worked.result.replies done worked.ensures.none in
     omega (arith, count, made, back, c.in-Ok.ensures.passes.1)
 
 pub close-requires : goal.close-requires
@@ -59,8 +64,9 @@ unreachable-requires g c =
     let count = c.in-Ok-books.ensures.passes.count in
     let worked = c.run_jobs-worked in
     let reading = pay_asked_of c.args.directory.now o.accounts in
+    let done = done_of o reading c.seat.new.workers.items worked.result.passes.items c.in-Ok-share_out.batches.items c.args.messages.now c.in-Ok-share_out.ensures (λ v. v.items) worked.result.replies worked.ensures.served in
     let after = worked.result.passes.items in
-    let back = all_back o reading c.args.messages.items (λ v. v.items) c.in-Ok-books.made.1.items c.seat.new.workers.items after c.seat.ensures worked.result.replies worked.ensures.served worked.ensures.none in
+    let back = all_back o reading c.args.messages.now (λ v. all_made v.items) c.in-Ok-books.made.1.items c.seat.new.workers.items after c.seat.ensures worked.result.replies done worked.ensures.none in
     let given : length c.vacate.new.passes.items ≡ length after = ap length c.vacate.ensures ∙ length-map after (λ (w : Worker). w.pass) in
     c.in-Err-close.ensures.fault.1 (omega (arith, count, back, given))
 
@@ -71,33 +77,49 @@ returns-clause-served g c =
     let by : AreBy (length o.base) o.accounts = subst (λ (x : Opening). AreBy (length x.base) x.accounts) (sym named) c.requires.journal.legal.changes.by_now in
     let directory = c.args.directory.now in
     let reading = pay_asked_of directory o.accounts in
-    let jobs = c.args.messages.items in
+    let jobs = c.args.messages.now in
     let news = c.in-Ok-books.made.1.items in
     let new = c.in-Ok-books.ensures.passes in
     let worked = c.run_jobs-worked in
     let before = c.seat.new.workers.items in
     let after = worked.result.passes.items in
     let replies = worked.result.replies in
+    let done = done_of o reading c.seat.new.workers.items worked.result.passes.items c.in-Ok-share_out.batches.items c.args.messages.now c.in-Ok-share_out.ensures (λ v. v.items) worked.result.replies worked.ensures.served in
+    let served = c.served_of.result in
+    let kept = c.served_of.ensures in
     let closed = c.in-Ok-close.closed in
     let ends = c.in-Ok-close.ensures in
     let history = closed.history.entries in
     let faults = g.D.Disk.faults closed.disk in
     let closes = subst (λ (ps : List PassKnows). Closes o history faults ps) c.vacate.ensures ends.closes in
     let read : map reading jobs ≡ readings_of directory c.args.opened.accounts jobs = ap (λ (x : Opening). map (pay_asked_of directory x.accounts) jobs) named in
-    let all : AllServed g.D.Disk o g.N.BooksName.past (map reading jobs) (record { closed = closed; served = replies }) =
+    let all : AllServed g.D.Disk o g.N.BooksName.past (map reading jobs) (record { closed = closed; served = served }) =
     record {
       left = record {
         accounts = ends.accounts;
         added = entries_of closes.log;
         is = closes.is;
-        each = added_of o reading jobs (λ v. v.items) news before after c.seat.ensures history faults new closes replies worked.ensures.served worked.ensures.none;
+        each = added_of o reading jobs (λ v. all_made v.items) news before after c.seat.ensures history faults new closes replies done worked.ensures.none;
         journal = subst (λ (chart : Chart). IsJournal chart history) ends.accounts ends.journal;
         leaves = ends.disk;
         in_turn = ends.any_moment;
         honest = ends.honest;
       };
-      told = told_of o reading jobs (λ v. v.items) news before after c.seat.ensures history faults new closes replies worked.ensures.served;
-      turn = turn_of o reading jobs (λ v. v.items) news before after c.seat.ensures history faults new closes by replies worked.ensures.served;
-      none = none_of o reading jobs (λ v. v.items) news before after c.seat.ensures history faults new closes replies worked.ensures.none;
+      told = carried (λ m. all_made m.items) (λ v. v.items) (λ (l : List Served). AreTold o history (map reading jobs) l) replies served kept.made kept.err (told_of o reading jobs (λ v. all_made v.items) news before after c.seat.ensures history faults new closes replies done);
+      turn = carried (λ m. all_made m.items) (λ v. v.items) (λ (l : List Served). o.made ≡ 1 → AreServedInOrder o history (map reading jobs) l) replies served kept.made kept.err (turn_of o reading jobs (λ v. all_made v.items) news before after c.seat.ensures history faults new closes by replies done);
+      none = carried_none (history ≡ o.base) replies served kept.ok (none_of o reading jobs (λ v. all_made v.items) news before after c.seat.ensures history faults new closes replies worked.ensures.none);
     } in
-    subst (λ (x : Opening × List (Result Pay NoPay)). AllServed g.D.Disk x.0 g.N.BooksName.past x.1 (record { closed = closed; served = replies })) (λ i. (named i, read i)) all
+    subst (λ (x : Opening × List (Result Pay NoPay)). AllServed g.D.Disk x.0 g.N.BooksName.past x.1 (record { closed = closed; served = served })) (λ i. (named i, read i)) all
+
+-- the share is within what the name tells
+pub share_out-requires-clause-few : goal.share_out-requires-clause-few
+share_out-requires-clause-few g c = let few = c.share_of-share.ensures.few in let most = c.requires.most in let entries = c.requires.entries.1 in (omega (arith, few, entries), omega (arith, few, most))
+
+-- there is room for what became of each message
+pub served_of-requires-clause-room : goal.served_of-requires-clause-room
+served_of-requires-clause-room g c =
+    let o = g.N.BooksName.opening in
+    let worked = c.run_jobs-worked in
+    let room = c.in-Ok.ensures.served.1 in
+    room_for o (pay_asked_of c.args.directory.now o.accounts) c.seat.new.workers.items worked.result.passes.items c.in-Ok-share_out.batches.items c.args.messages.now c.in-Ok-share_out.ensures (λ v. v.items) _
+    (omega (arith, room)) worked.result.replies worked.ensures.served

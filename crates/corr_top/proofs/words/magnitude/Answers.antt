@@ -1,4 +1,4 @@
-use Rattle.corr_top.proofs.SignedWords.{written-short}
+use Rattle.ref_tables.proofs.laws.Numbers.{written-short}
 use Rattle.corr_top.proofs.words.magnitude.Goals as goal
 
 pub returns-clause-short : goal.returns-clause-short

@@ -1,5 +1,5 @@
 use Rattle.std.proofs.Common.{refl, sym}
-use Rattle.corr_top.proofs.SignedWords.{fits, signed-same}
+use Rattle.ref_tables.proofs.laws.Numbers.{fits, signed-same}
 use Rattle.corr_top.proofs.words.unsigned.Goals as goal
 
 pub overflow_cast-result : goal.overflow_cast-result

@@ -2,10 +2,10 @@ use Rattle.std.proofs.Common.{◌≡◌, Ok, rules}
 use Rattle.pay_plan.specs.Plan.{plan_of}
 use Rattle.corr_top.specs.Asks.{unplaced}
 use Rattle.corr_top.proofs.Routes.{plan_on}
-use Rattle.corr_top.proofs.desk.RunDesk.enter_pay.Goals as goal
+use Rattle.corr_top.proofs.desk.RunDesk.pay_of.Goals as goal
 
-pub returns-in-Ok-clause-answered : goal.returns-in-Ok-clause-answered
-returns-in-Ok-clause-answered g c =
+pub returns-in-Ok-clause-value : goal.returns-in-Ok-clause-value
+returns-in-Ok-clause-value g c =
     let chart = g.N.BooksName.opening.accounts in
     let directory = c.args.self.now.directory.now in
     let books = c.accounts-accounts in

@@ -1,0 +1,278 @@
+//! Batches of messages: what a worker answers together, and what it makes of them.
+
+ghost use Rattle.std.specs.Prelude.{◌≡◌, ◌+◌, ◌-◌, ◌≤◌, ◌++◌, [], IfOk, drop, length, map, take, vec_capacity};
+ghost use Rattle.jrn_book.specs.Batches.{most_batch};
+ghost use Rattle.corr_top.specs.Batching.{IsBatch, all_made, ask_of, halt_after, halted_by, made_by, messages_in, stopped_so, why_of};
+ghost use Rattle.corr_top.specs.Message.{pays_in};
+
+use crate::desk::{Halt, Served, as_served, halt_of};
+use crate::message::{NoPay, reply_for};
+use corr_books::BooksName;
+use corr_ids::Mir;
+use corr_text::Memory;
+use day_model::{Pay, Reply};
+use fin_frame::Framed;
+use jrn_book::{CommitFault, Committed};
+use std::alloc::Global;
+use std::marker::{Model, PhantomData};
+
+/// Messages that a worker answers together: one at least, and no more than entries come under one sync by the name of the books.
+#[derive(Drop)]
+pub struct Batch<'a, N: BooksName> {
+    messages: &'a [Framed<'a>],
+    of: PhantomData<N>,
+}
+
+impl<'a, N: BooksName> Model for Batch<'a, N> {
+    ghost use Rattle.std.specs.Prelude.{List, ℕ};
+    ghost use Rattle.corr_top.specs.Batching.{IsBatch};
+
+    ghost Value = { List (List ℕ) };
+
+    ghost view = { λ batch. batch.messages.now };
+
+    ghost invariant = { λ batch. IsBatch N.opening.most batch.messages.now };
+}
+
+impl<'a, N: BooksName> Batch<'a, N> {
+    fn new(messages: &'a [Framed<'a>]) -> Batch<'a, N>
+        requires { IsBatch N.opening.most messages.now }
+        ensures { result ≡ messages.now }
+    {
+        Batch {
+            messages,
+            of: PhantomData,
+        }
+    }
+
+    /// The messages, in their order.
+    pub fn messages(&self) -> &'a [Framed<'a>]
+        ensures messages { result.now ≡ self.now }
+        ensures batch { IsBatch N.opening.most self.now }
+    {
+        self.messages
+    }
+}
+
+/// What became of the messages of a batch.
+#[derive(Drop)]
+pub enum Made {
+    /// Of its one message.
+    One(Served),
+    /// Of each, in their order.
+    Each(Vec<Served>),
+    /// None of so many messages was answered: their worker stopped at the first, or had stopped before it.
+    None { messages: usize, why: Halt },
+}
+
+/// What a message asks for, once its pay was taken out.
+#[derive(Clone, Copy)]
+pub enum Asked {
+    /// A pay with this reference.
+    Pay(Mir),
+    /// None, and this is its reply.
+    Reply(Reply),
+}
+
+/// The lists that answering a batch takes.
+#[derive(Drop)]
+pub struct Lists {
+    pub readings: Vec<Result<Pay, NoPay>>,
+    pub asks: Vec<Asked>,
+    pub pays: Vec<Pay>,
+    pub answers: Vec<Result<Committed, CommitFault>>,
+    pub made: Vec<Served>,
+}
+
+/// Room for so many messages.
+pub fn make_lists(alloc: Global, count: usize) -> Result<Lists, Memory>
+    ensures readings { IfOk result (λ lists. (lists.readings.items ≡ []) × (count ≤ vec_capacity lists.readings)) }
+    ensures asks { IfOk result (λ lists. (lists.asks.items ≡ []) × (count ≤ vec_capacity lists.asks)) }
+    ensures pays { IfOk result (λ lists. (lists.pays.items ≡ []) × (count ≤ vec_capacity lists.pays)) }
+    ensures answers { IfOk result (λ lists. (lists.answers.items ≡ []) × (count ≤ vec_capacity lists.answers)) }
+    ensures made { IfOk result (λ lists. (lists.made.items ≡ []) × (count ≤ vec_capacity lists.made)) }
+{
+    Ok(Lists {
+        readings: Vec::with_capacity(alloc, count)?,
+        asks: Vec::with_capacity(alloc, count)?,
+        pays: Vec::with_capacity(alloc, count)?,
+        answers: Vec::with_capacity(alloc, count)?,
+        made: Vec::with_capacity(alloc, count)?,
+    })
+}
+
+/// The most messages of a batch. Some workers share the messages of a file, so that each has two batches and more; few messages
+/// are dealt one by one. No clause speaks of it.
+pub fn share_of(count: usize, workers: u32, entries: u32) -> usize
+    requires workers { 1 ≤ workers }
+    requires entries { 1 ≤ entries }
+    ensures some { 1 ≤ result }
+    ensures few { result ≤ entries }
+{
+    let entries = entries as usize;
+    if workers == 1 {
+        return entries;
+    }
+    let workers = workers as usize;
+    if count < 16 * workers {
+        return 1;
+    }
+    let share = count / (2 * workers);
+    if share < 1 {
+        1
+    } else if share < entries {
+        share
+    } else {
+        entries
+    }
+}
+
+/// How many messages the next batch has, where so many are left.
+fn next_count(left: usize, share: usize) -> usize
+    requires left { 1 ≤ left }
+    requires share { 1 ≤ share }
+    ensures some { 1 ≤ result }
+    ensures within { result ≤ left }
+    ensures few { result ≤ share }
+{
+    if share < left { share } else { left }
+}
+
+/// So many messages, behind those that were dealt.
+fn next_front<'a>(messages: &'a [Framed<'a>], at: usize, count: usize) -> &'a [Framed<'a>]
+    requires within { at + count ≤ length messages.now }
+    ensures { result.now ≡ take count (drop at messages.now) }
+{
+    messages.split_at(at).1.split_at(count).0
+}
+
+/// The messages in batches of so many; the last may have fewer.
+#[tactic(auto, using(crate::proofs::Batched::dealt, crate::proofs::Batched::all_dealt))]
+pub fn share_out<'a, N: BooksName>(
+    alloc: Global,
+    messages: &'a [Framed<'a>],
+    share: usize,
+) -> Result<Vec<Batch<'a, N>>, Memory>
+    requires some { 1 ≤ share }
+    requires few { (share ≤ most_batch) × (share ≤ N.opening.most) }
+    ensures { IfOk result (λ batches. messages_in batches.items ≡ messages.now) }
+{
+    let mut batches = Vec::new(alloc);
+    let mut at = 0;
+    while at < messages.len() {
+        let count = next_count(messages.len() - at, share);
+        let front = next_front(messages, at, count);
+        batches.push(Batch::new(front))?;
+        at += count;
+    }
+    Ok(batches)
+}
+
+/// Parts what messages ask for from their pays, each in their order.
+pub fn part(readings: Vec<Result<Pay, NoPay>>, asks: &mut Vec<Asked>, pays: &mut Vec<Pay>)
+    requires none { (asks.old.items ≡ []) × (pays.old.items ≡ []) }
+    requires room { (length readings.items ≤ vec_capacity asks.old) × (length readings.items ≤ vec_capacity pays.old) }
+    ensures asks { asks.new.items ≡ map ask_of readings.items }
+    ensures pays { pays.new.items ≡ pays_in readings.items }
+{
+    for reading in readings {
+        match reading {
+            Ok(pay) => {
+                asks.push_reserved(Asked::Pay(pay.mir));
+                pays.push_reserved(pay);
+            }
+            Err(why) => asks.push_reserved(Asked::Reply(reply_for(why))),
+        }
+    }
+}
+
+/// Puts what became of messages, by what they ask for and the answers to their pays, up to the first that stops their worker; and
+/// answers why that did.
+pub fn put_made(
+    asks: Vec<Asked>,
+    answers: &[Result<Committed, CommitFault>],
+    made: &mut Vec<Served>,
+) -> Option<Halt>
+    requires none { made.old.items ≡ [] }
+    requires room { length asks.items ≤ vec_capacity made.old }
+    ensures made { made.new.items ≡ made_by asks.items answers.now }
+    ensures halted { result ≡ halted_by asks.items answers.now }
+    ensures capacity { vec_capacity made.new ≡ vec_capacity made.old }
+{
+    let mut left = answers;
+    for ask in asks {
+        match ask {
+            Asked::Reply(reply) => made.push_reserved(Served::Reply(reply)),
+            Asked::Pay(mir) => {
+                let [answer, more @ ..] = left else {
+                    return Some(Halt::Memory);
+                };
+                left = more;
+                let one = as_served(mir, *answer);
+                let halted = halt_of(&one);
+                made.push_reserved(one);
+                if halted.is_some() {
+                    return halted;
+                }
+            }
+        }
+    }
+    None
+}
+
+/// Puts so many times that a worker stopped.
+pub fn put_stopped(made: &mut Vec<Served>, count: usize, why: Halt)
+    requires room { length made.old.items + count ≤ vec_capacity made.old }
+    ensures each { made.new.items ≡ made.old.items ++ stopped_so count why }
+    ensures capacity { vec_capacity made.new ≡ vec_capacity made.old }
+{
+    for _at in 0..count {
+        made.push_reserved(Served::Stopped(why));
+    }
+}
+
+/// Puts of each message that is left of so many that its worker stopped: for this reason, or, where there is none, for want of
+/// memory. Answers why it serves no more, if it doesn't.
+pub fn put_left(made: &mut Vec<Served>, count: usize, halted: Option<Halt>) -> Option<Halt>
+    requires within { length made.old.items ≤ count }
+    requires room { count ≤ vec_capacity made.old }
+    ensures made { made.new.items ≡ made.old.items ++ stopped_so (count - length made.old.items) (why_of halted) }
+    ensures halted { result ≡ halt_after (count - length made.old.items) halted }
+{
+    let left = count - made.len();
+    if left == 0 {
+        return halted;
+    }
+    let why = match halted {
+        Some(why) => why,
+        None => Halt::Memory,
+    };
+    put_stopped(made, left, why);
+    Some(why)
+}
+
+// Puts what became of each message.
+fn put_list(each: Vec<Served>, served: &mut Vec<Served>)
+    requires room { length served.old.items + length each.items ≤ vec_capacity served.old }
+    ensures each { served.new.items ≡ served.old.items ++ each.items }
+    ensures capacity { vec_capacity served.new ≡ vec_capacity served.old }
+{
+    for one in each {
+        served.push_reserved(one);
+    }
+}
+
+/// Puts what became of each message of batches, in their order.
+pub fn put_all(replies: Vec<Made>, served: &mut Vec<Served>)
+    requires none { served.old.items ≡ [] }
+    requires room { length (all_made replies.items) ≤ vec_capacity served.old }
+    ensures { served.new.items ≡ all_made replies.items }
+{
+    for made in replies {
+        match made {
+            Made::One(one) => served.push_reserved(one),
+            Made::Each(each) => put_list(each, served),
+            Made::None { messages, why } => put_stopped(served, messages, why),
+        }
+    }
+}
