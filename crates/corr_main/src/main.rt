@@ -4,9 +4,13 @@
 ghost use Rattle.std.specs.Prelude.{IfErr, IfOk};
 ghost use Rattle.corr_top.specs.Status.{HasLine};
 
+mod explain;
 mod guarded_sink;
+mod meanings;
 
+use crate::explain::explained;
 use crate::guarded_sink::{GuardedSink, Journal};
+use crate::meanings::MEANINGS;
 use corr_disk::{FileDisk, Trouble};
 use corr_io::{StdSink, StdSource};
 use corr_text::{Memory, Text, let_go};
@@ -28,16 +32,26 @@ corr FOLDER init HOME                 makes journal.bin for the home bank HOME, 
 corr FOLDER run DATE WORKERS          books the messages of messages.fin on DATE (YYMMDD) with 1 to 16
                                       WORKERS, prints the report and appends the messages that leave to
                                       out.fin
+corr FOLDER batch DATE WORKERS ENTRIES
+                                      as run, with up to ENTRIES entries, 1 to 1024, under one sync of the
+                                      disk
 corr FOLDER return PLACE DATE         takes the payment at PLACE back on DATE, prints its entry and appends
                                       the messages that leave to out.fin
 corr FOLDER send FROM UNTIL           appends to out.fin once more what leaves for the entries at these
                                       places
+corr FOLDER ship FROM UNTIL           appends to out.fin the packets of the records FROM to UNTIL of
+                                      journal.bin, its header being 1
 corr FOLDER bookings                  prints the entries
 corr FOLDER statements DATE           appends to out.fin what the owners of the vostro accounts are sent
                                       of DATE
 corr FOLDER customer-statements DATE  appends to out.fin what the customers are told of DATE
 corr FOLDER balances [DATE]           prints a row for each account with its balance, after all entries or
                                       after those up to DATE, with commas
+corr FOLDER entries FROM UNTIL        prints a row for each entry of these days (YYMMDD), with commas
+corr FOLDER check HOME                prints what is wrong with each message of messages.fin, as one to the
+                                      home bank HOME; it books nothing, and needs no journal
+corr FOLDER page DATE                 prints a page (HTML) of DATE for a desk: what needs somebody of
+                                      messages.fin, and the accounts; it books nothing
 corr FOLDER reconcile                 prints where the statements of received.fin and the books differ
 corr FOLDER generate COUNT SEED       appends to out.fin a day of COUNT messages, 1 to 50000, made from
                                       the number SEED
@@ -50,19 +64,23 @@ corr FOLDER open-account ID KIND OWNER CCY FLOOR CEIL
                                       with opening 0
 corr FOLDER set-limits ID FLOOR CEIL  gives an account of journal.bin another floor and ceiling
 corr FOLDER migrate                   carries a journal of version 1 over to journal2.bin
+corr FOLDER follow                    takes the packets of received.fin into journal.bin, which record 1
+                                      makes, and prints how many records it has
 
 A folder has bics.csv, ccys.csv, countries.csv, accounts.csv, ssi.csv, charges.csv, messages.fin
-and, for reconcile, received.fin; mend reads out.fin. generate and trial read no file.
+and, for reconcile and follow, received.fin; mend reads out.fin. generate and trial read no file.
 
-corr --help     prints this
-corr --version  prints the version
+corr --help             prints this
+corr --version          prints the version
+corr --explain CODE ..  prints what codes of a report say and what to do, and the names of fields by their tags
 
 Status 0 done; 1 other words; 2 a table row is refused; 3 a file can't be read; 4 the report or
 out.fin can't be written; 5 journal.bin or journal2.bin can't be read or written, or is in use; 6 there is no
 journal, it is damaged, or it is there already, or the openings don't balance; 7 no memory; 8 DATE
 is before the last entry's day; 9 the message file is too large; 10 it can't be cut; 11 the journal
 is full; 12 it is of another version; 13 no account has the ID; 14 there is no second journal's file;
-15 no payment stands at PLACE; 16 it is returned already; 17 an account can't take its return.
+15 no payment stands at PLACE; 16 it is returned already; 17 an account can't take its return;
+18 a packet's record may not stand next.
 Each but 0 has its line on standard error.
 
 To read on: docs/operating.md says what each command reads and writes, and what to do after each status;
@@ -95,15 +113,18 @@ const NO_LOCKS: &[u8] = b"corr: journal can't be locked\n";
 const GONE: &[u8] = b"corr: journal was removed or cut\n";
 
 /// The commands that only read the journal, and may do so side by side.
-const READERS: [&[u8]; 8] = [
+const READERS: [&[u8]; 11] = [
     b"send",
+    b"ship",
     b"bookings",
     b"balances",
+    b"entries",
     b"statements",
     b"customer-statements",
     b"reconcile",
     b"mend",
     b"migrate",
+    b"page",
 ];
 
 /// Puts the null device in the place of each of standard input, output and error that is closed, so that no file that is
@@ -309,6 +330,20 @@ fn print(rt: &HostRuntime, text: &[u8]) -> Status
     }
 }
 
+/// Prints what codes and tags mean. `Usage`: there is none, or a word is neither; then nothing is printed.
+fn print_codes(rt: &HostRuntime, words: &[Text]) -> Status
+    ensures { HasLine result }
+{
+    if words.is_empty() {
+        return Status::Usage;
+    }
+    match explained(rt.alloc(), words, MEANINGS) {
+        Ok(Some(text)) => print(rt, text.bytes()),
+        Ok(None) => Status::Usage,
+        Err(Memory) => Status::Memory,
+    }
+}
+
 /// Without a folder, or with an empty one, no file is touched.
 fn command(
     rt: &HostRuntime,
@@ -322,6 +357,7 @@ fn command(
         [folder, ..] if folder.bytes().is_empty() => Ok(Status::Usage),
         [word] if word.bytes() == b"--help".as_slice() => Ok(print(rt, HELP)),
         [word] if word.bytes() == b"--version".as_slice() => Ok(print(rt, VERSION)),
+        [word, codes @ ..] if word.bytes() == b"--explain".as_slice() => Ok(print_codes(rt, codes)),
         [folder, words @ ..] => run(rt, waiter, folder.bytes(), words),
     }
 }
