@@ -10,7 +10,7 @@ use std::test::Fail;
 
 // The first record of these bytes, which an open gate and its length stand in front of, and the bytes behind it; none behind a
 // closed gate.
-fn first_record(journal: &[u8]) -> Option<(&[u8], &[u8])> {
+pub(crate) fn first_record(journal: &[u8]) -> Option<(&[u8], &[u8])> {
     match journal {
         [1, a, b, c, d, rest @ ..] => {
             rest.split_at_checked(u32::from_be_bytes([*a, *b, *c, *d]) as usize)

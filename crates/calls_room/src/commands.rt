@@ -220,6 +220,20 @@ pub fn call_between<D: Disk + Drop>(
     leave(alloc, plain(alloc, texts.as_slice(), room))
 }
 
+/// A command that waits for nobody, over a disk and these bytes of the received file.
+pub fn call_received<D: Disk + Drop>(
+    alloc: Global,
+    command: &[&[u8]],
+    received: &[u8],
+    files: Files,
+    disk: D,
+) -> Result<Ended<D>, Memory> {
+    let texts = words(alloc, command)?;
+    let mut room = room(alloc, WHOLE, files, b"", disk, None)?;
+    room.received = source(alloc, WHOLE, 7, received)?;
+    leave(alloc, plain(alloc, texts.as_slice(), room))
+}
+
 /// A run of one worker over a disk.
 pub fn run<R: Wait + Threads + Sync, D: Disk + Drop + Send>(
     rt: &R,

@@ -6,6 +6,6 @@ mod days;
 
 pub use commands::{
     Ended, Failing, Files, WHOLE, booked, call, call_after, call_at, call_between, call_plain,
-    is_done, journal, long_lived, run, wrote,
+    call_received, is_done, journal, long_lived, run, wrote,
 };
 pub use days::{CHARGED, FILES, SENT};
