@@ -9,10 +9,22 @@ ROWS = {"bics": 100_000, "ccys": 1_000, "countries": 1_000, "accounts": 1_000, "
 READS = {
     b"init": ["bics", "ccys", "countries", "accounts"],
     b"run": ["bics", "ccys", "countries", "ssi", "charges"],
+    b"batch": ["bics", "ccys", "countries", "ssi", "charges"],
+    b"page": ["bics", "ccys", "countries", "ssi", "charges"],
+    b"check": ["bics", "ccys", "countries"],
     b"reconcile": ["bics", "ccys", "countries"],
     b"open-account": ["bics", "ccys"],
 }
-FILES = {b"run": "messages.fin", b"reconcile": "received.fin"}
+FILES = {b"run": "messages.fin", b"batch": "messages.fin", b"page": "messages.fin", b"check": "messages.fin", b"reconcile": "received.fin"}
+# commands that a program may lack: it has those that its `--help` lists
+LATER = {b"batch", b"entries", b"check", b"page", b"ship", b"follow"}
+OFFERED = set()
+
+
+def offer(help_text):
+    """Notes which of these commands a program has."""
+    OFFERED.clear()
+    OFFERED.update(LATER & set(re.findall(rb"^corr FOLDER (\S+)", help_text, re.M)))
 
 
 class Refused(Exception):
@@ -33,10 +45,14 @@ def is_number(text, least, most):
 
 def is_command(words):
     """Whether the words after the folder are a command."""
+    if words and words[0] in LATER:
+        return words[0] in OFFERED and is_later(words)
     if words[:1] == [b"init"]:
         return len(words) == 2 and is_bic(words[1])
     if words[:1] == [b"run"]:
         return len(words) == 3 and is_day(words[1]) and is_number(words[2], 1, 16)
+    if words[:1] == [b"batch"]:
+        return len(words) == 4 and is_day(words[1]) and is_number(words[2], 1, 16) and is_number(words[3], 1, 1_024)
     if words[:1] == [b"return"]:
         return len(words) == 3 and is_number(words[1], 1, 100_000) and is_day(words[2])
     if words[:1] == [b"open-account"]:
@@ -52,6 +68,22 @@ def is_command(words):
     if words[:1] == [b"trial"]:
         return len(words) == 4 and is_number(words[1], 1, 50_000) and is_number(words[2], 0, 10**19) and is_number(words[3], 1, 16)
     return words in ([b"bookings"], [b"reconcile"], [b"balances"], [b"migrate"])
+
+
+def is_later(words):
+    """The same of a command that not each program has."""
+    name, rest = words[0], words[1:]
+    if name == b"batch":
+        return len(rest) == 3 and is_day(rest[0]) and is_number(rest[1], 1, 16) and is_number(rest[2], 1, 1_024)
+    if name == b"entries":
+        return len(rest) == 2 and all(map(is_day, rest))
+    if name == b"check":
+        return len(rest) == 1 and is_bic(rest[0])
+    if name == b"page":
+        return len(rest) == 1 and is_day(rest[0])
+    if name == b"ship":
+        return len(rest) == 2 and all(is_number(it, 1, 1_000_000) for it in rest) and int(rest[0]) <= int(rest[1])
+    return not rest
 
 
 def is_word(word):

@@ -4,6 +4,9 @@ import re
 import books
 import breaks
 import desk
+import links
+import lists
+import markup
 from books import amount_text, day_of, read_journal
 from inputs import FILES, MOST_FILE, MOST_MESSAGES, READS, Refused, cut, is_command, is_word, read_table, rows_of
 
@@ -25,11 +28,13 @@ LINES = {
     15: b"corr: no payment \\d+\n",
     16: b"corr: returned \\d+\n",
     17: b"corr: unfunded \\d -?\\d+\n",
+    18: b"corr: not next \\d+\n",
 }
 # the statuses of each command; `usage` is any that is none
 STATUSES = {
     b"init": {0, 2, 3, 5, 6},
     b"run": {0, 2, 3, 4, 5, 6, 8, 9, 10, 11, 12},
+    b"batch": {0, 2, 3, 4, 5, 6, 8, 9, 10, 11, 12},
     b"send": {0, 4, 5, 6, 12},
     b"bookings": {0, 5, 6, 12},
     b"statements": {0, 4, 5, 6, 12},
@@ -41,16 +46,23 @@ STATUSES = {
     b"set-limits": {0, 2, 5, 6, 11, 12, 13},
     b"migrate": {0, 5, 6, 11, 12},
     b"return": {0, 4, 5, 6, 8, 11, 12, 15, 16, 17},
+    b"entries": {0, 5, 6, 12},
+    b"check": {0, 2, 3, 9, 10},
+    b"page": {0, 2, 3, 5, 6, 9, 10, 12},
+    b"ship": {0, 4, 5, 6, 12},
+    b"follow": {0, 3, 5, 6, 9, 10, 11, 12, 18},
     b"generate": {0, 4},
     b"trial": {0},
     b"--help": {0},
     b"--version": {0},
     b"usage": {1},
 }
-SENDERS = (b"run", b"send", b"statements", b"customer-statements", b"generate", b"return")
+RUNS = (b"run", b"batch")
+SENDERS = (*RUNS, b"send", b"statements", b"customer-statements", b"generate", b"return", b"ship")
 DESK = (b"open-account", b"set-limits", b"migrate", b"return", b"mend", b"balances", b"customer-statements")
-OPENERS = (b"init", b"run", b"send", b"bookings", b"statements", b"reconcile", *DESK)
-CHANGERS = (b"init", b"run", b"return", b"open-account", b"set-limits")
+OPENERS = (b"init", *RUNS, b"send", b"bookings", b"statements", b"reconcile", b"entries", b"page", b"ship", b"follow", *DESK)
+CHANGERS = (b"init", *RUNS, b"return", b"open-account", b"set-limits", b"follow")
+SILENT = (b"init", b"send", b"statements", b"customer-statements", b"generate", b"migrate", b"open-account", b"set-limits", b"ship")
 # the words of a report's line after the reference, by what became of the message
 BECAME = re.compile(rb"(\d{6}) (\S{28}) (BOOKED (\d{8}) ([A-Z]{3}) (\d+,\d*)|UNFUNDED (\d{8}) (\S+) (-?\d+,\d*)|P41 (\d{8})|REFUSED [A-Z]\d\d( \S+ \d+)?)")
 SENT = re.compile(rb"\{1:F01(.{8})A(.{3})0{10}\}\{2:I(\d{3})(.{8})X(.{3})N\}(\{3:.*?\}\})?\{4:\r\n:20:(\S+)\r\n.*?\r\n-\}", re.DOTALL)
@@ -124,18 +136,22 @@ def foreseen(run):
     name, files, words = run.name, run.before, run.words
     if name == b"usage":
         return 1, "usage"
-    if name not in OPENERS:
+    if name not in OPENERS and name != b"check":
         return 0, None
     tables, fault = table_fault(name, files, words[1] if name == b"init" else None)
     if fault:
         return fault
     if name == b"init" and unbalanced(tables):
         return unbalanced(tables)
+    if name == b"check" or name == b"page" and message_fault(files.get("messages.fin")):
+        return message_fault(files.get("messages.fin")) or (0, None)
     if is_odd(files, "journal.bin"):
         return 5, "disk fault 0 1"
     data = files.get("journal.bin", b"")
     if name == b"migrate":
         return desk.foreseen_copy(files)
+    if name == b"follow":
+        return links.taken(files)[1]
     if name == b"init":
         return (6, f"exists {data[0]}") if len(data) > 1 and data[0] else (0, None)
     if name in DESK:
@@ -149,7 +165,7 @@ def opened(name, files, words, journal, run=None, tables=None):
         return (12 if journal.fault.startswith("version ") else 6), journal.fault
     if name in DESK:
         return desk.foreseen(run, journal, tables)
-    if name == b"run" and journal.entries and day_of(words[1]) < journal.entries[-1].day:
+    if name in RUNS and journal.entries and day_of(words[1]) < journal.entries[-1].day:
         return 8, f"date back {books.day_text(journal.entries[-1].day)}"
     if name in FILES:
         return message_fault(files.get(FILES[name])) or (0, None)
@@ -187,19 +203,22 @@ def wrong_files(run):
         elif not (after.get("out.fin") or b"").startswith(before.get("out.fin") or b""):
             yield "what stood in out.fin is gone"
     if before.get("journal.bin") != after.get("journal.bin"):
-        is_made = "journal.bin" not in before and after.get("journal.bin") == b"" and run.name in OPENERS and run.status == 6
-        if not is_made and not (run.name in CHANGERS and run.status in (0, 4, 11)):
+        is_empty = "journal.bin" not in before and after.get("journal.bin") == b""
+        is_made = is_empty and run.name in OPENERS and (run.status == 6 or run.name == b"follow")
+        if not is_made and not (run.name in CHANGERS and run.status in (0, 4, 11, 18)):
             yield "journal.bin was written to"
 
 
 def wrong_content(run):
     """What is wrong with what a command that ended well printed, sent and entered."""
-    if run.status in (0, 4, 11) and run.name == b"run":
+    if run.status in (0, 4, 11) and run.name in RUNS:
         yield from wrong_history(run)
+    if run.name in (b"ship", b"follow"):
+        yield from links.wrong(run)
     if run.status != 0:
         return
     journal = read_journal(run.after.get("journal.bin") or b"") if run.name in OPENERS else None
-    if run.name == b"run":
+    if run.name in RUNS:
         yield from wrong_report(run, journal)
         yield from wrong_sent(run, journal)
     elif run.name == b"init":
@@ -212,13 +231,17 @@ def wrong_content(run):
         yield from wrong_again(run, journal)
     elif run.name == b"reconcile":
         yield from wrong_breaks(run, journal)
+    elif run.name in (b"entries", b"check"):
+        yield from lists.wrong(run, journal)
+    elif run.name == b"page":
+        yield from markup.wrong(run, journal)
     elif run.name in DESK:
         yield from desk.wrong(run, journal)
     if run.name == b"return":
         yield from wrong_references(run.appended(), journal, len(journal.entries), len(journal.entries))
     elif run.name == b"trial":
         yield from wrong_trial(run.out)
-    if run.out and run.name in (b"init", b"send", b"statements", b"customer-statements", b"generate", b"migrate", b"open-account", b"set-limits"):
+    if run.out and run.name in SILENT:
         yield f"{len(run.out)} bytes on standard output"
 
 

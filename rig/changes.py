@@ -1,4 +1,4 @@
-"""Changes of accounts and copies of old journals that are stopped by `kill -9`, and given again (see rig/stops)."""
+"""Changes of accounts, returns, copies of old journals and packets that are taken, stopped by `kill -9` and given again (see rig/stops)."""
 import pathlib
 import shutil
 import subprocess
@@ -10,6 +10,7 @@ from days import DAY, TOP, call, demand, make_folder
 sys.path.insert(0, str(TOP / "bench"))
 import books
 import forge
+import links
 
 # each command, and what it says when what it does was done already: its status and a word of its line
 CHANGES = [
@@ -17,6 +18,8 @@ CHANGES = [
     (["set-limits", "CUST1", "0", "80000000000"], (0, b"")),
 ]
 COPIES = [(["migrate"], (6, b"exists"))]
+RETURNS = [(["return", "1", "240604"], (16, b"returned"))]
+PACKETS = [(["follow"], (0, b""))]
 
 
 def read(folder, name):
@@ -67,6 +70,41 @@ class Changed:
         return wrong or (None if self.stands(folder, whole) else "the change doesn't stand in the end")
 
 
+class Returned(Changed):
+    """The journal has its entries, and the return or not; in the end it has it."""
+
+    commands = RETURNS
+
+    def wrong_stop(self, folder, whole):
+        found, before, after = (books.read_journal(read(it, "journal.bin")) for it in (folder, self.model, whole))
+        if found.fault:
+            return f"the journal is refused: {found.fault}"
+        return None if found.entries in (before.entries, after.entries) else "the entries are neither those before nor those after"
+
+    def stands(self, folder, whole):
+        return books.read_journal(read(folder, "journal.bin")).entries == books.read_journal(read(whole, "journal.bin")).entries
+
+
+class Followed(Changed):
+    """The second machine's journal holds a front of the records that were shipped, and in the end all of them."""
+
+    commands = PACKETS
+
+    def records(self, folder):
+        data = read(folder, "journal.bin")
+        return links.records_of(data) if len(data) > 1 and data[0] else []
+
+    def wrong_stop(self, folder, whole):
+        held, sent = self.records(folder), self.records(whole)
+        fault = books.read_journal(read(folder, "journal.bin")).fault if held else None
+        if fault:
+            return f"the journal is refused: {fault}"
+        return None if held == sent[: len(held)] else "what is held is no front of what was shipped"
+
+    def stands(self, folder, whole):
+        return self.records(folder) == self.records(whole)
+
+
 class Copied:
     """The old journal stays as it is, whatever stops; in the end the copy is that of a command that was never stopped."""
 
@@ -112,21 +150,27 @@ def never_stopped(program, model, folder, words):
     return time.monotonic() - start
 
 
-def make_model(program, model, entries, is_old):
-    """A folder with a journal of so many entries, of version 1 where it is old."""
+def make_model(program, model, entries, what):
+    """A folder with a journal of so many entries, for copies of version 1; or for packets with those of such a journal alone."""
     make_folder(model, range(1, entries + 1))
     demand(call(program, model, "init", "HOMEUS33"), "init")
     demand(call(program, model, "run", DAY, "4"), "the run before")
-    if is_old:
-        path = pathlib.Path(model, "journal.bin")
+    path = pathlib.Path(model, "journal.bin")
+    if what == "copies":
         path.write_bytes(forge.with_version_1(path.read_bytes()))
+    elif what == "packets":
+        (model / "received.fin").write_bytes(links.shipped(path.read_bytes(), 1, 1_000_000))
+        path.unlink()
+
+
+RULES = {"changes": Changed, "returns": Returned, "copies": Copied, "packets": Followed}
 
 
 def rounds(program, what, runs, entries, moments, top):
     """Rounds over a journal of so many entries, with what they come to; how many are faulty."""
     model, folder = pathlib.Path(top, "model"), pathlib.Path(top, "run")
-    make_model(program, model, entries, what == "copies")
-    rules = Copied(model) if what == "copies" else Changed(model)
+    make_model(program, model, entries, what)
+    rules = RULES[what](model)
     wholes = [pathlib.Path(top, f"whole{at}") for at in range(len(rules.commands))]
     took = [never_stopped(program, model, whole, words) for whole, (words, _) in zip(wholes, rules.commands)]
     early = faulty = done = 0

@@ -2,7 +2,8 @@
  *
  *   FAULT_CALL   open (for reading), make (an open for writing), read, write (to any descriptor but 2), tell (a write to descriptor 2),
  *                journal (an open, a read, a write or a sync of a file journal.bin, which is none of the others), hold (a lock of it, or
- *                a look at its path) or memory
+ *                a look at its path), second (an open, a read, a write, a sync or a lock of a file journal2.bin, or a look at its
+ *                path) or memory
  *   FAULT_KIND   refused (EIO; no memory), short (one byte is moved) or interrupted (EINTR); a call that moves no bytes has
  *                no short kind, and a look isn't interrupted
  *   FAULT_AT     the number of the call, from 1
@@ -29,10 +30,10 @@ extern void *__libc_calloc(size_t count, size_t size);
 extern void *__libc_realloc(void *old, size_t size);
 extern void *__libc_memalign(size_t align, size_t size);
 
-enum call { OPEN, MAKE, READ, WRITE, TELL, JOURNAL, HOLD, MEMORY, CALLS };
+enum call { OPEN, MAKE, READ, WRITE, TELL, JOURNAL, HOLD, SECOND, MEMORY, CALLS };
 enum kind { PASS, REFUSED, SHORT, INTERRUPTED };
 
-static const char *const names[CALLS] = {"open", "make", "read", "write", "tell", "journal", "hold", "memory"};
+static const char *const names[CALLS] = {"open", "make", "read", "write", "tell", "journal", "hold", "second", "memory"};
 
 static int armed;
 static long seen[CALLS];
@@ -41,7 +42,7 @@ static enum kind chosen_kind;
 static long first;
 static int later;
 static const char *count_file;
-static int journal = -1;
+static int journal = -1, second = -1;
 
 /* What becomes of the next call of a sort. */
 static enum kind next(enum call call)
@@ -68,9 +69,15 @@ static size_t moved(enum kind kind, size_t size)
     return kind == SHORT && size > 1 ? 1 : size;
 }
 
+/* The sort of a read. */
+static enum call reading(int fd)
+{
+    return fd == journal ? JOURNAL : fd == second ? SECOND : READ;
+}
+
 ssize_t read(int fd, void *buf, size_t size)
 {
-    enum kind kind = next(fd == journal ? JOURNAL : READ);
+    enum kind kind = next(reading(fd));
     if (fails(kind))
         return -1;
     return syscall(SYS_read, fd, buf, moved(kind, size));
@@ -78,7 +85,7 @@ ssize_t read(int fd, void *buf, size_t size)
 
 static enum call writing(int fd)
 {
-    return fd == journal ? JOURNAL : fd == 2 ? TELL : WRITE;
+    return fd == journal ? JOURNAL : fd == second ? SECOND : fd == 2 ? TELL : WRITE;
 }
 
 ssize_t write(int fd, const void *buf, size_t size)
@@ -99,23 +106,29 @@ ssize_t writev(int fd, const struct iovec *parts, int count)
     return syscall(SYS_writev, fd, parts, count);
 }
 
+/* Whether a sync fails. */
+static int unsynced(int fd)
+{
+    return (fd == journal && fails(next(JOURNAL))) || (fd == second && fails(next(SECOND)));
+}
+
 int fsync(int fd)
 {
-    if (fd == journal && fails(next(JOURNAL)))
+    if (unsynced(fd))
         return -1;
     return syscall(SYS_fsync, fd);
 }
 
 int fdatasync(int fd)
 {
-    if (fd == journal && fails(next(JOURNAL)))
+    if (unsynced(fd))
         return -1;
     return syscall(SYS_fdatasync, fd);
 }
 
 ssize_t pread(int fd, void *buf, size_t size, off_t offset)
 {
-    enum kind kind = next(fd == journal ? JOURNAL : READ);
+    enum kind kind = next(reading(fd));
     if (fails(kind))
         return -1;
     return syscall(SYS_pread64, fd, buf, moved(kind, size), offset);
@@ -143,25 +156,37 @@ int close(int fd)
 {
     if (fd == journal)
         journal = -1;
+    if (fd == second)
+        second = -1;
     return syscall(SYS_close, fd);
+}
+
+static int is_named(const char *path, const char *wanted)
+{
+    const char *name = strrchr(path, '/');
+    return !strcmp(name ? name + 1 : path, wanted);
 }
 
 static int is_journal(const char *path)
 {
-    const char *name = strrchr(path, '/');
-    return !strcmp(name ? name + 1 : path, "journal.bin");
+    return is_named(path, "journal.bin");
+}
+
+static int is_second(const char *path)
+{
+    return is_named(path, "journal2.bin");
 }
 
 int flock(int fd, int how)
 {
-    if (fd == journal && fails(next(HOLD)))
+    if ((fd == journal && fails(next(HOLD))) || (fd == second && fails(next(SECOND))))
         return -1;
     return syscall(SYS_flock, fd, how);
 }
 
 int statx(int dir, const char *path, int flags, unsigned mask, struct statx *out)
 {
-    enum kind kind = is_journal(path) ? next(HOLD) : PASS;
+    enum kind kind = is_journal(path) ? next(HOLD) : is_second(path) ? next(SECOND) : PASS;
     if (kind == REFUSED && fails(kind))
         return -1;
     return syscall(SYS_statx, dir, path, flags, mask, out);
@@ -169,12 +194,14 @@ int statx(int dir, const char *path, int flags, unsigned mask, struct statx *out
 
 static int open_at(int dir, const char *path, int flags, unsigned mode)
 {
-    int own = is_journal(path);
-    if (fails(next(own ? JOURNAL : (flags & O_ACCMODE) == O_RDONLY ? OPEN : MAKE)))
+    int own = is_journal(path), other = is_second(path);
+    if (fails(next(own ? JOURNAL : other ? SECOND : (flags & O_ACCMODE) == O_RDONLY ? OPEN : MAKE)))
         return -1;
     int fd = syscall(SYS_openat, dir, path, flags, mode);
     if (own && fd >= 0)
         journal = fd;
+    if (other && fd >= 0)
+        second = fd;
     return fd;
 }
 
