@@ -91,7 +91,7 @@ def is_word(word):
         word.decode()
     except UnicodeDecodeError:
         return False
-    return 0 < len(word) <= 4096
+    return len(word) <= 4096
 
 
 class Group:
