@@ -4,7 +4,8 @@ use Rattle.std.proofs.lemmas.List.{length-take-le}
 use Rattle.std.proofs.lemmas.Slice.{drop-append-drop}
 use Rattle.std.proofs.lemmas.Grind.{common_steps}
 use Rattle.corr_disk.specs.Disk.{written, Torn, Follows, NoMore, Only, Elapses}
-use Rattle.corr_disk.specs.Past.{DiskStep, bytes_after, Image, LeftSince, Settles}
+use Rattle.corr_disk.specs.Past.{DiskStep, bytes_after, Image, LeftSince}
+use Rattle.corr_disk.specs.inner.Past.{Settles}
 use Rattle.corr_disk.specs.Laws.{reads_stay}
 
 -- a write of which a part is done is torn, and so is one that is done whole

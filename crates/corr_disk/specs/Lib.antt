@@ -3,3 +3,4 @@ pub mod Disk
 pub mod Laws
 pub mod Past
 pub mod Tearing
+pub mod inner

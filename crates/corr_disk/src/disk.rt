@@ -7,6 +7,9 @@ ghost use Rattle.corr_text.specs.Faults.{HasCause};
 
 use corr_text::Failed;
 
+/// The most bytes that a disk has: 1 GiB.
+pub const MOST_DISK_BYTES: u64 = 1 << 30;
+
 /// One file, and what a crash may leave of it. Each call that succeeds leaves its count of faults, and each that
 /// answers `Failed` adds one to it; the count stays at `2^64 - 1` once it is there.
 ///

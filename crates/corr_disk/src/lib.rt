@@ -13,7 +13,7 @@ mod plan;
 mod planned_disk;
 
 pub use corr_text::Failed;
-pub use disk::Disk;
+pub use disk::{Disk, MOST_DISK_BYTES};
 pub use file_disk::FileDisk;
 pub use file_watch::FileWatch;
 pub use fuse_disk::FuseDisk;

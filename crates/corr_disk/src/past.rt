@@ -2,7 +2,8 @@
 
 ghost use Rattle.std.specs.Prelude.{◌≡◌, ◌+◌, ◌≤◌, [], ◌∷◌, Some, length, OnOk, OnErr};
 ghost use Rattle.corr_disk.specs.Disk.{written, most_disk_bytes};
-ghost use Rattle.corr_disk.specs.Past.{History, bytes_after, Settles};
+ghost use Rattle.corr_disk.specs.Past.{bytes_after};
+ghost use Rattle.corr_disk.specs.inner.Past.{History, Settles};
 
 use corr_text::{Memory, Text};
 use std::alloc::Global;
@@ -32,7 +33,8 @@ pub(crate) struct Past {
 
 impl Model for Past {
     ghost use Rattle.std.specs.Prelude.{◌≡◌, unwrap_or, option_map};
-    ghost use Rattle.corr_disk.specs.Past.{History, bytes_after, steps_of};
+    ghost use Rattle.corr_disk.specs.Past.{bytes_after};
+    ghost use Rattle.corr_disk.specs.inner.Past.{History, steps_of};
 
     ghost Value = { History };
 

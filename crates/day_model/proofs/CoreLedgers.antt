@@ -11,7 +11,8 @@ use Rattle.day_model.specs.declared.core_job.Mark.TheVariants.{Entered, Refused}
 use Rattle.day_model.specs.Fit.{FitsAccounts}
 use Rattle.day_model.specs.Balance.{is_booked, outcome_of}
 use Rattle.day_model.specs.Next.{entered_at, entry_of, next_history}
-use Rattle.day_model.specs.CoreLedger.{AreAtBalance, CanAddAll, IsSoundLedger, LedgerState, is_entered, ledger_after, mark_of, may_enter}
+use Rattle.day_model.specs.CoreLedger.{AreAtBalance, IsSoundLedger, LedgerState, is_entered, ledger_after, mark_of, may_enter}
+use Rattle.day_model.specs.inner.CoreLedger.{CanAddAll}
 use Rattle.day_model.proofs.laws.Fitting.{fitting}
 use Rattle.day_model.proofs.laws.Growth.{enters_new, next_begins, one_pay_more, still, still_latest}
 use Rattle.day_model.proofs.CorePurses.{can_add_all, purses_more, purses_with}

@@ -18,7 +18,8 @@ use Rattle.day_model.specs.Chart.{Chart, IsChart, IsListed, IsSmall, account_at,
 use Rattle.day_model.specs.Fit.{are_apart, is_apart_from, is_side}
 use Rattle.day_model.specs.Balance.{balance_of, changed, is_booked, credits_of, debits_of, moved, moved_by, opening_of}
 use Rattle.day_model.specs.Legal.{IsLegal}
-use Rattle.day_model.specs.CoreLedger.{AreAtBalance, CanAdd, CanAddAll, purse_of, with_leg, with_legs}
+use Rattle.day_model.specs.CoreLedger.{AreAtBalance, purse_of, with_leg, with_legs}
+use Rattle.day_model.specs.inner.CoreLedger.{CanAdd, CanAddAll}
 use Rattle.day_model.specs.Totals.{Pair, HasTotals, pair_at, totals_of}
 use Rattle.day_model.proofs.laws.PairLists.{pair_read}
 use Rattle.day_model.proofs.laws.Fitting.{LegsFit, all_at}

@@ -10,7 +10,8 @@ use Rattle.day_model.specs.declared.core_event.Event.TheVariants.{Draw, Take, Co
 use Rattle.day_model.specs.declared.core_job.Job.{Job}
 use Rattle.day_model.specs.declared.core_job.Mark.{Mark}
 use Rattle.day_model.specs.CoreStep.{CoreState, holder_of, is_allowed, is_number, job_at, may_commit, may_give_back, may_take, run_of, wanted_by}
-use Rattle.day_model.specs.CoreSound.{AllIdle, HasHeld, IsSound, MayGoOn, NoDeadlock, RunsAreKept, can_go_on, goes_on_with_job, is_free}
+use Rattle.day_model.specs.CoreSound.{AllIdle, HasHeld, IsSound, MayGoOn, NoDeadlock, RunsAreKept, goes_on_with_job}
+use Rattle.day_model.specs.inner.CoreSound.{can_go_on, is_free}
 use Rattle.day_model.proofs.laws.Growth.{none_passes}
 use Rattle.day_model.proofs.CoreWorkers.{job_there}
 use Rattle.day_model.proofs.CoreHoldings.{account_listed, holder_held, job_here, no_holder, position_at, position_least, wanted_own}

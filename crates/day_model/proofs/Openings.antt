@@ -16,7 +16,8 @@ use Rattle.corr_money.specs.declared.amount.Ccy.{Ccy}
 use Rattle.day_model.specs.declared.account.Account.{Account}
 use Rattle.day_model.specs.declared.gap.Gap.{Gap}
 use Rattle.day_model.specs.Chart.{IsLimited, is_same_ccy, opening_sum}
-use Rattle.day_model.specs.Gap.{AreOpeningSums, is_before, IsGapOf, GapOf, earlier_of, FirstGap, sum_in}
+use Rattle.day_model.specs.Gap.{is_before, IsGapOf}
+use Rattle.day_model.specs.inner.Gap.{AreOpeningSums, GapOf, earlier_of, FirstGap, sum_in}
 
 abbrev pub opening_in : Ccy → Account → ℤ
 opening_in ccy account = if is_same_ccy account.ccy ccy then account.opening else pos 0

@@ -16,7 +16,8 @@ use Rattle.corr_money.specs.declared.amount.Ccy.{Ccy}
 use Rattle.day_model.specs.declared.account.Account.{Account}
 use Rattle.day_model.specs.Chart.{AreApart, AreEnds, AreRows, IsFormed, IsSameBank, is_same_ccy, is_kind, customer}
 use Rattle.day_model.proofs.laws.Fitting.{all_at}
-use Rattle.day_model.specs.RowTests.{agrees, all_apart, apart, are_ends, has_limits, is_formed, is_row, is_same_bank, is_same_bic, meets, reads_itself, rows_fit}
+use Rattle.day_model.specs.RowTests.{agrees, are_ends, has_limits, is_same_bank, meets}
+use Rattle.day_model.specs.inner.RowTests.{all_apart, apart, is_formed, is_row, is_same_bic, reads_itself, rows_fit}
 
 -- each is apart from every later one
 apart_at : (xs : List Account) (i j : ℕ) (a b : Account) → all_apart xs ≡ true → i < j → slice_get xs i ≡ Some a → slice_get xs j ≡ Some b

@@ -1,13 +1,12 @@
 -- What the workers of a core enter into: the history, and one purse per account.
-use Rattle.std.specs.Prelude.{◌≡◌, ℕ, ◌-◌, ◌<◌, ◌≤◌, ◌&&◌, ◌||◌, Bool, false, not, List, [], ◌∷◌, Some, length, slice_get, slice_set, is_some, unwrap_or, option_map, ℤ, pos, nat_lt, if◌then◌else◌}
+use Rattle.std.specs.Prelude.{◌≡◌, ℕ, ◌-◌, ◌&&◌, ◌||◌, Bool, false, not, List, [], ◌∷◌, Some, length, slice_get, slice_set, is_some, unwrap_or, option_map, ℤ, pos, nat_lt, if◌then◌else◌}
 use Rattle.corr_ids.specs.declared.day.Day.{Day}
-use Rattle.corr_money.specs.Amounts.{amount_end}
 use Rattle.day_model.specs.declared.pay.Leg.{Leg}
 use Rattle.day_model.specs.declared.pay.Pay.{Pay}
 use Rattle.day_model.specs.declared.entry.Entry.{Entry}
 use Rattle.day_model.specs.declared.core_job.Mark.{Mark}
 use Rattle.day_model.specs.declared.core_job.Mark.TheVariants.{Entered, Refused}
-use Rattle.day_model.specs.Chart.{Chart, IsChart, IsListed, IsSmall, accounts_of}
+use Rattle.day_model.specs.Chart.{Chart, IsChart, IsListed, accounts_of}
 use Rattle.day_model.specs.Log.{most_entries}
 use Rattle.day_model.specs.Balance.{balance_of, changed, is_booked, outcome_of}
 use Rattle.day_model.specs.Next.{entered_at, next_history}
@@ -34,18 +33,6 @@ with_leg purses leg = slice_set purses (leg.account.0 - 1) (changed leg.side leg
 abbrev pub with_legs : List ℤ → List Leg → List ℤ
 with_legs purses [] = purses
 with_legs purses (leg ∷ legs) = with_legs (with_leg purses leg) legs
-
--- a leg's account has a purse, and neither the purse nor the amount is large
-pub record CanAdd (purses : List ℤ) (leg : Leg) : Type 0 where
-  pub from_one : 1 ≤ leg.account.0
-  pub there : leg.account.0 ≤ length purses
-  pub small : IsSmall (purse_of purses leg.account.0)
-  pub amount : leg.amount.0 < amount_end
-
--- each leg can be added after those before it
-abbrev pub CanAddAll : List ℤ → List Leg → Type 0
-CanAddAll purses [] = Unit {0}
-CanAddAll purses (leg ∷ legs) = CanAdd purses leg × CanAddAll (with_leg purses leg) legs
 
 -- a pay's reference is in the history
 abbrev pub is_entered : LedgerState → Pay → Bool

@@ -1,5 +1,5 @@
 -- What holds of a core after every list of events.
-use Rattle.std.specs.Prelude.{◌≡◌, ℕ, ◌<◌, ◌^◌, ◌==◌, ◌||◌, Bool, true, false, List, ◌++◌, Option, Some, None, length, slice_get, is_some, is_none}
+use Rattle.std.specs.Prelude.{◌≡◌, ℕ, ◌<◌, ◌^◌, ◌==◌, Bool, true, false, List, ◌++◌, Option, Some, None, length, slice_get}
 use Rattle.std.specs.List.{list_any}
 use Rattle.day_model.specs.declared.entry.Entry.{Entry}
 use Rattle.day_model.specs.declared.pay.Pay.{Pay}
@@ -10,7 +10,7 @@ use Rattle.day_model.specs.declared.core_job.Mark.TheVariants.{Entered}
 use Rattle.day_model.specs.Chart.{Chart}
 use Rattle.day_model.specs.Fit.{FitsAccounts}
 use Rattle.day_model.specs.CoreLedger.{LedgerState, IsSoundLedger, IsFirstLedger, is_entered}
-use Rattle.day_model.specs.CoreStep.{CoreState, job_at, holder_of, holds, wanted_by, is_allowed, step_of, run_of}
+use Rattle.day_model.specs.CoreStep.{CoreState, job_at, holds, is_allowed, step_of, run_of}
 
 -- no worker has a job
 abbrev pub AllIdle : List (Option Job) → Type 0
@@ -61,16 +61,6 @@ pub record MayGoOn (s : CoreState) (worker : ℕ) : Type 0 where
   pub event : Event
   pub its_own : goes_on_with_job worker event ≡ true
   pub allowed : is_allowed s event ≡ true
-
--- nobody holds the account, or there is none to hold
-abbrev pub is_free : List (Option Job) → Option ℕ → Bool
-is_free workers (Some n) = is_none (holder_of workers n)
-is_free workers None = true
-
--- a worker that may go on: its job is committed, or the account that it wants is free, or it wants none
-abbrev pub can_go_on : List (Option Job) → Option Job → Bool
-can_go_on workers (Some job) = is_some job.mark || is_free workers (wanted_by job)
-can_go_on workers None = false
 
 -- where a worker has a job, some worker may go on
 abbrev pub NoDeadlock : CoreState → Type 0

@@ -35,11 +35,6 @@ abbrev pub IsLegalChange : List Account → ℤ → What → Type 0
 IsLegalChange before balance (Opened account) = MayOpen before account
 IsLegalChange before balance (Limits n floor ceil) = MayLimit before n.0 floor ceil balance
 
--- the account that limits name is there
-abbrev pub CanMake : List Account → What → Type 0
-CanMake accounts (Opened account) = Unit {0}
-CanMake accounts (Limits n floor ceil) = IsTrue (is_in accounts n.0)
-
 -- a new account has the form of its columns
 abbrev pub IsInForm : What → Type 0
 IsInForm (Opened account) = IsFormed account

@@ -17,3 +17,4 @@ pub mod Pairs
 pub mod CoreLedger
 pub mod CoreStep
 pub mod CoreSound
+pub mod inner

@@ -1,12 +1,7 @@
 -- Lists of the accounts' totals, and what legs add to them.
-use Rattle.std.specs.Prelude.{◌≡◌, ℕ, zero, suc, ◌+◌, List, [], ◌∷◌, Some, slice_set}
+use Rattle.std.specs.Prelude.{◌≡◌, ℕ, ◌+◌, List, [], ◌∷◌, Some}
 use Rattle.day_model.specs.declared.pay.Leg.{Leg}
 use Rattle.day_model.specs.Totals.{Pair, plus, Fits64, legs_pair, pair_at}
-
--- the pairs with p for account n
-abbrev pub with_pair : List Pair → ℕ → Pair → List Pair
-with_pair pairs zero p = pairs
-with_pair pairs (suc k) p = slice_set pairs k p
 
 -- pairs of which the first is account n's, each with what the legs add to it
 abbrev pub pairs_from : ℕ → List Leg → List Pair → List Pair

@@ -5,7 +5,8 @@ ghost use Rattle.std.specs.List.{list_all, position_from};
 ghost use Rattle.day_model.specs.Changes.{changed_by};
 ghost use Rattle.day_model.specs.Chart.{accounts_of, most_accounts};
 ghost use Rattle.day_model.specs.Fit.{is_in};
-ghost use Rattle.day_model.specs.Legal.{CanMake, IsInForm, IsLegalChange};
+ghost use Rattle.day_model.specs.Legal.{IsInForm, IsLegalChange};
+ghost use Rattle.day_model.specs.inner.Legal.{CanMake};
 ghost use Rattle.day_model.specs.Refusals.{begins_empty, met_by, refusal_of};
 ghost use Rattle.day_model.specs.RowTests.{agrees, meets};
 

@@ -5,7 +5,8 @@ ghost use Rattle.day_model.specs.Fit.{FitsAccounts};
 ghost use Rattle.day_model.specs.Balance.{is_booked};
 ghost use Rattle.day_model.specs.Legal.{IsLegal};
 ghost use Rattle.day_model.specs.Log.{most_entries};
-ghost use Rattle.day_model.specs.CoreLedger.{AreAtBalance, CanAdd, CanAddAll, IsFirstLedger, IsSoundLedger, day_of_last, is_entered};
+ghost use Rattle.day_model.specs.CoreLedger.{AreAtBalance, IsFirstLedger, IsSoundLedger, day_of_last, is_entered};
+ghost use Rattle.day_model.specs.inner.CoreLedger.{CanAdd, CanAddAll};
 ghost use Rattle.day_model.specs.CoreLedger.{ledger_after, mark_of, with_leg, with_legs};
 
 use crate::account::AcctNo;

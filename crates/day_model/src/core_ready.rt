@@ -2,7 +2,7 @@
 
 ghost use Rattle.std.specs.Prelude.{◌≡◌, ◌<◌, ◌^◌, length};
 ghost use Rattle.std.specs.List.{position_from};
-ghost use Rattle.day_model.specs.CoreSound.{can_go_on, is_free};
+ghost use Rattle.day_model.specs.inner.CoreSound.{can_go_on, is_free};
 
 use crate::core_job::{Job, holder};
 

@@ -3,7 +3,8 @@
 ghost use Rattle.std.specs.Prelude.{◌≡◌, List, IfOk};
 ghost use Rattle.day_model.specs.Chart.{AreRows, opening_sum};
 ghost use Rattle.day_model.specs.declared.account.Account.{Account};
-ghost use Rattle.day_model.specs.Gap.{AreOpeningSums, FirstGap, GapOf, earlier_of, is_before};
+ghost use Rattle.day_model.specs.Gap.{is_before};
+ghost use Rattle.day_model.specs.inner.Gap.{AreOpeningSums, FirstGap, GapOf, earlier_of};
 
 use crate::account::Account;
 use corr_money::Ccy;

@@ -12,7 +12,7 @@ use std::alloc::Global;
 use std::marker::Model;
 
 /// How many entries a history has at most.
-pub(crate) const MOST_ENTRIES: u32 = 100_000;
+pub const MOST_ENTRIES: u32 = 100_000;
 
 /// The entries of a journal in their order, at most 100,000. Places are numbered from 1.
 ///

@@ -37,7 +37,7 @@ pub use entry::{Entry, Outcome};
 pub use fault::AccountsFault;
 pub use fit::{are_legs, legs_sum};
 pub use funds::{after_leg, balance, decide, may_hold};
-pub use history::History;
+pub use history::{History, MOST_ENTRIES};
 pub use kind::Kind;
 pub use law::{change_laws, fold_laws, item_laws, totals_laws};
 pub use pay::{Leg, Mt, Order, Pay, Quote, Side, Skip};

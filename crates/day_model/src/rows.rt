@@ -4,8 +4,9 @@ ghost use Rattle.std.specs.Prelude.{◌≡◌, ◌==◌, IsTrue};
 ghost use Rattle.std.specs.List.{list_all};
 ghost use Rattle.std.specs.Char.{is_ascii_uppercase};
 ghost use Rattle.corr_text.specs.Sets.{is_c_byte};
-ghost use Rattle.day_model.specs.RowTests.{agrees, all_apart, apart, are_ends, has_limits, is_formed, is_row, is_same_bank, meets};
-ghost use Rattle.day_model.specs.RowTests.{reads_itself, rows_fit};
+ghost use Rattle.day_model.specs.RowTests.{agrees, are_ends, has_limits, is_same_bank, meets};
+ghost use Rattle.day_model.specs.inner.RowTests.{all_apart, apart, is_formed, is_row};
+ghost use Rattle.day_model.specs.inner.RowTests.{reads_itself, rows_fit};
 ghost use Rattle.day_model.specs.Chart.{AreRows, IsFormed, customer, is_kind};
 
 use crate::account::Account;

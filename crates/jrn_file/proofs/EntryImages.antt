@@ -1,7 +1,7 @@
 -- What each call of an entry may leave.
 use Rattle.std.proofs.Common.{◌≡◌, inl, inr, ℕ, ◌+◌, List, length, refl, sym, subst, arith}
 use Rattle.corr_disk.specs.Disk.{written, Torn, Follows, Only}
-use Rattle.jrn_file.specs.Making.{IsEntering}
+use Rattle.jrn_file.specs.inner.Making.{IsEntering}
 
 module _ (gate : ℕ) (frame bytes : List ℕ) where
   -- at the start

@@ -5,9 +5,10 @@ use Rattle.std.proofs.lemmas.List.{append-nil, drop-drop, drop_all, map-append, 
 use Rattle.std.proofs.lemmas.Bool.{cases_eq}
 use Rattle.corr_disk.specs.Disk.{written, Torn}
 use Rattle.jrn_file.specs.Reading.{most_record_bytes, with_length, size_of}
-use Rattle.jrn_file.specs.Journal.{after_gates, frames_of, journal_bytes, AreOpen, StandsFor}
+use Rattle.jrn_file.specs.Journal.{after_gates, frames_of, journal_bytes, StandsFor}
+use Rattle.jrn_file.specs.inner.Journal.{AreOpen}
 use Rattle.jrn_file.specs.Making.{IsUnmadeOrMadeWith, made_with_over}
-use Rattle.jrn_file.specs.Sending.{open_frames, IsShutFront}
+use Rattle.jrn_file.specs.inner.Sending.{open_frames, IsShutFront}
 use Rattle.jrn_file.proofs.Bytes.{written-after, written-gate, torn-gate}
 use Rattle.jrn_file.proofs.Readings.{spelled-stands}
 use Rattle.jrn_file.proofs.Records.{gates-one}

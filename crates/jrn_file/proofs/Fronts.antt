@@ -8,7 +8,8 @@ use Rattle.corr_disk.specs.Calls.{CallsMade, AtMostCalls}
 use Rattle.corr_disk.proofs.laws.Counted.{at_most_weaker, calls_in_turn, calls_then}
 use Rattle.jrn_file.specs.declared.making.Front.{Front}
 use Rattle.jrn_file.specs.declared.making.Front.TheVariants.{Short, Closed}
-use Rattle.jrn_file.specs.Making.{IsFront, calls_to_look, calls_to_make, calls_to_make_with}
+use Rattle.jrn_file.specs.Making.{calls_to_make, calls_to_make_with}
+use Rattle.jrn_file.specs.inner.Making.{IsFront, calls_to_look}
 
 pub short-calls : (bytes : List ℕ) → length bytes ≤ 1 → calls_to_make bytes ≡ 7
 short-calls [] short = refl

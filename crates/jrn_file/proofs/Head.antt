@@ -5,7 +5,8 @@ use Rattle.std.proofs.lemmas.Bool.{cases_eq}
 use Rattle.corr_disk.specs.Disk.{written, Torn, Follows, Only}
 use Rattle.jrn_file.specs.Reading.{most_record_bytes, with_length}
 use Rattle.jrn_file.specs.Journal.{frame_of, record_in, journal_bytes, IsFrame, StandsFor}
-use Rattle.jrn_file.specs.Making.{IsUnmade, IsUnmadeOrMade, IsEntering, made_over}
+use Rattle.jrn_file.specs.Making.{IsUnmade, IsUnmadeOrMade, made_over}
+use Rattle.jrn_file.specs.inner.Making.{IsEntering}
 use Rattle.jrn_file.proofs.Bytes.{written-after, written-gate, torn-after, torn-gate}
 use Rattle.jrn_file.proofs.Readings.{spelled-stands}
 use Rattle.jrn_file.proofs.laws.Sizes.{length-sized, length-journal_bytes}

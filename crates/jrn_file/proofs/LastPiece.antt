@@ -4,9 +4,10 @@ use Rattle.std.proofs.lemmas.List.{take_at}
 use Rattle.std.proofs.lemmas.Bool.{cases_lt}
 use Rattle.std.proofs.Math.Seq.{take-append-add}
 use Rattle.jrn_file.specs.Reading.{most_record_bytes, with_length}
-use Rattle.jrn_file.specs.Journal.{after_gates, AreOpen}
-use Rattle.jrn_file.specs.Opening.{IsWhole, HasNoRecord, IsShut}
-use Rattle.jrn_file.specs.Pieces.{AreTakenOff}
+use Rattle.jrn_file.specs.Journal.{after_gates}
+use Rattle.jrn_file.specs.inner.Journal.{AreOpen}
+use Rattle.jrn_file.specs.inner.Opening.{IsWhole, HasNoRecord, IsShut}
+use Rattle.jrn_file.specs.inner.Pieces.{AreTakenOff}
 
 -- a front that is longer than a record has it whole
 whole-in-front : (r next after piece : List ℕ) → length r ≤ most_record_bytes → after ++ piece ≡ with_length r ++ next → length (with_length r) < length after → IsWhole after

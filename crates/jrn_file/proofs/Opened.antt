@@ -4,8 +4,9 @@ use Rattle.corr_disk.specs.Disk.{Only}
 use Rattle.jrn_file.specs.Journal.{StandsFor}
 use Rattle.jrn_file.specs.File.{disk_of, end_of}
 use Rattle.jrn_file.specs.Reading.{AreAt, Reading, all_of, whole, opened_of}
-use Rattle.jrn_file.specs.Opening.{IsReadAs, ReadCause, OpenCause, IsOpened}
-use Rattle.jrn_file.specs.Pieces.{OfBytes}
+use Rattle.jrn_file.specs.Opening.{ReadCause, OpenCause, IsOpened}
+use Rattle.jrn_file.specs.inner.Opening.{IsReadAs}
+use Rattle.jrn_file.specs.inner.Pieces.{OfBytes}
 use Rattle.jrn_file.specs.declared.file.JFile.{JFile}
 use Rattle.jrn_file.specs.declared.fault.OpenFault.{OpenFault}
 use Rattle.jrn_file.specs.declared.fault.OpenFault.TheVariants.{NotAJournal, Version, Damaged, DiskFault, Memory}

@@ -4,9 +4,10 @@ use Rattle.std.proofs.lemmas.List.{append-nil, drop_all, drop_min, drop-drop, le
 use Rattle.std.proofs.lemmas.Nat.{div-mul-add}
 use Rattle.std.proofs.Math.Nat.{le-div_iff_mul-le}
 use Rattle.jrn_file.specs.Reading.{no_journal, cut, opened_of}
-use Rattle.jrn_file.specs.Opening.{HasNoRecord, IsShut, IsTooLong, IsReadAs}
+use Rattle.jrn_file.specs.inner.Opening.{HasNoRecord, IsShut, IsTooLong, IsReadAs}
 use Rattle.jrn_file.specs.Journal.{after_gates}
-use Rattle.jrn_file.specs.Pieces.{IsPiece, AreTakenOff, OfBytes, calls_to_open}
+use Rattle.jrn_file.specs.Pieces.{calls_to_open}
+use Rattle.jrn_file.specs.inner.Pieces.{IsPiece, AreTakenOff, OfBytes}
 use Rattle.jrn_file.proofs.Taken.{taken-start, taken-then, taken-end, taken-none, taken-refused, taken-cut, long-refused, long-cut}
 use Rattle.jrn_file.proofs.LastPiece.{in-last-piece}
 

@@ -10,9 +10,10 @@ use Rattle.std.proofs.lemmas.Nat.{from_be_bytes-to_be_bytes_4}
 use Rattle.std.proofs.lemmas.Option.{same_Some, none-some}
 use Rattle.std.proofs.lemmas.Slice.Eq.{bytes_eq-Decides}
 use Rattle.jrn_file.specs.Reading.{Reading, no_journal, whole, cut, begins_with_record, is_whole, most_record_bytes, opened_of, reading_of, record_at, records_in, records_of, size_of, with_length}
-use Rattle.jrn_file.specs.Journal.{after_gates, AreOpen, StandsFor}
-use Rattle.jrn_file.specs.Opening.{BeginsWith, HasNoRecord, IsWhole}
-use Rattle.jrn_file.specs.Pieces.{AreTakenOff}
+use Rattle.jrn_file.specs.Journal.{after_gates, StandsFor}
+use Rattle.jrn_file.specs.inner.Journal.{AreOpen}
+use Rattle.jrn_file.specs.inner.Opening.{BeginsWith, HasNoRecord, IsWhole}
+use Rattle.jrn_file.specs.inner.Pieces.{AreTakenOff}
 use Rattle.jrn_file.proofs.laws.Sizes.{length-sized, length-after_gates}
 
 -- the length that is told of a record that was begun

@@ -6,8 +6,9 @@ use Rattle.std.proofs.lemmas.List.{map-append}
 use Rattle.std.proofs.lemmas.Bool.{cases_eq}
 use Rattle.corr_disk.specs.Disk.{written, Torn}
 use Rattle.jrn_file.specs.Reading.{most_record_bytes, with_length, size_of}
-use Rattle.jrn_file.specs.Journal.{frames_of, record_in, IsFrame, AreFrames, after_gates, journal_bytes, AreOpen, StandsFor, IsBeforeOrAll}
-use Rattle.jrn_file.specs.Making.{IsEntering}
+use Rattle.jrn_file.specs.Journal.{frames_of, record_in, IsFrame, AreFrames, after_gates, journal_bytes, StandsFor, IsBeforeOrAll}
+use Rattle.jrn_file.specs.inner.Journal.{AreOpen}
+use Rattle.jrn_file.specs.inner.Making.{IsEntering}
 use Rattle.jrn_file.proofs.Readings.{Spelled, spelled-stands}
 use Rattle.jrn_file.proofs.laws.Sizes.{length-sized, length-after_gates, length-journal_bytes, map-with_gates, size_of-append, after_gates-append, AreOpen-append}
 use Rattle.jrn_file.proofs.Bytes.{length-gate, written-after, written-gate, torn-after, torn-gate}

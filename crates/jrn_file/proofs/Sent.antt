@@ -8,7 +8,7 @@ use Rattle.std.specs.Int.{div_ceil}
 use Rattle.corr_disk.specs.Calls.{AtMostCalls}
 use Rattle.corr_disk.specs.Disk.{written}
 use Rattle.corr_disk.proofs.laws.Counted.{no_calls, at_most_weaker, calls_in_turn, calls_then, calls_within}
-use Rattle.jrn_file.specs.Sending.{IsSent, SendsBy, StartsAt, place_of, waiting}
+use Rattle.jrn_file.specs.inner.Sending.{IsSent, SendsBy, StartsAt, place_of, waiting}
 use Rattle.jrn_file.proofs.Pieces.{pieces-ceil}
 use Rattle.jrn_file.specs.declared.sending.Sender.{Sender}
 

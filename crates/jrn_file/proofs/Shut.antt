@@ -3,7 +3,7 @@ use Rattle.std.proofs.Common.{ℕ, ◌<◌, ◌≤◌, List, take, sym, ◌∙�
 use Rattle.std.proofs.lemmas.List.{take-take}
 use Rattle.corr_disk.specs.Disk.{Torn, Follows, NoMore, Elapses}
 use Rattle.corr_disk.proofs.laws.Moments.{started, goes_on, then_on}
-use Rattle.jrn_file.specs.Sending.{IsShutFront, LeavesShut, StaysShut}
+use Rattle.jrn_file.specs.inner.Sending.{IsShutFront, LeavesShut, StaysShut}
 
 -- a torn write after the first byte
 pub torn-shut : (at n : ℕ) (old new : List ℕ) → 0 < at → Torn at n old new → IsShutFront old → IsShutFront new

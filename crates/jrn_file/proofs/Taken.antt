@@ -6,8 +6,8 @@ use Rattle.std.proofs.lemmas.Bool.{cases_lt, false_from_ne_true}
 use Rattle.std.proofs.lemmas.Slice.Eq.{bytes_eq-Decides}
 use Rattle.jrn_file.specs.Reading.{no_journal, whole, cut, opened_of, reading_of, size_of, with_length}
 use Rattle.jrn_file.specs.Journal.{after_gates}
-use Rattle.jrn_file.specs.Opening.{BeginsWith, IsWhole, HasNoRecord, IsShut, IsTooLong, IsReadAs}
-use Rattle.jrn_file.specs.Pieces.{AreTakenOff}
+use Rattle.jrn_file.specs.inner.Opening.{BeginsWith, IsWhole, HasNoRecord, IsShut, IsTooLong, IsReadAs}
+use Rattle.jrn_file.specs.inner.Pieces.{AreTakenOff}
 use Rattle.jrn_file.proofs.Readings.{none-beyond, taken-read}
 use Rattle.jrn_file.proofs.laws.Sizes.{length-after_gates, length-journal_bytes, length-sized, after_gates-append, AreOpen-append}
 

@@ -4,7 +4,7 @@ use Rattle.std.specs.Int.{w32, to_be_bytes, from_be_bytes}
 use Rattle.std.proofs.lemmas.List.{drop_more, length-take-le}
 use Rattle.std.proofs.lemmas.Nat.{be_bytes_4}
 use Rattle.jrn_file.specs.Reading.{most_record_bytes, with_length}
-use Rattle.jrn_file.specs.Opening.{BeginsWith}
+use Rattle.jrn_file.specs.inner.Opening.{BeginsWith}
 
 small-take : (n : ℕ) (xs : List ℕ) → ((i : ℕ) → get_or xs i 0 < 256) → (i : ℕ) → get_or (take n xs) i 0 < 256
 small-take zero xs small i = omega arith

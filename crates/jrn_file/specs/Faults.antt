@@ -6,8 +6,6 @@ use Rattle.jrn_file.specs.declared.fault.AppendFault.{AppendFault}
 use Rattle.jrn_file.specs.declared.fault.AppendFault.TheVariants as append
 use Rattle.jrn_file.specs.declared.fault.MakeFault.{MakeFault}
 use Rattle.jrn_file.specs.declared.fault.MakeFault.TheVariants as making
-use Rattle.jrn_file.specs.declared.loading.LoadFault.{LoadFault}
-use Rattle.jrn_file.specs.declared.loading.LoadFault.TheVariants as load
 
 -- the counts that a fault of the disk tells: that at entry, and one more, which is that at the return
 pub record TellsCounts (old before after new : ℕ) : Type 0 where
@@ -48,10 +46,3 @@ IsRefusal front (making.Exists first) = first ≡ front
 IsRefusal front (making.Full end need) = ⊥
 IsRefusal front (making.DiskFault before after) = Unit {0}
 IsRefusal front making.Memory = Unit {0}
-
--- a fault of the disk raised its count by one, and all else left it
-abbrev pub LoadCause : ℕ → ℕ → LoadFault → Type 0
-LoadCause before now load.Disk = Rose before now
-LoadCause before now load.NotAJournal = now ≡ before
-LoadCause before now (load.Cut at records) = now ≡ before
-LoadCause before now load.Memory = now ≡ before

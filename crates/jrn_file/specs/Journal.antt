@@ -1,5 +1,5 @@
 -- The bytes of a journal, and what the bytes of a disk stand for.
-use Rattle.std.specs.Prelude.{◌≡◌, ◌≢◌, ◌⊎◌, ℕ, ◌-◌, ◌≤◌, List, [], ◌∷◌, ◌++◌, length, map, take, drop, All}
+use Rattle.std.specs.Prelude.{◌≡◌, ◌⊎◌, ℕ, ◌-◌, ◌≤◌, List, [], ◌∷◌, ◌++◌, length, map, take, drop, All}
 use Rattle.jrn_file.specs.Reading.{most_record_bytes, with_length, opened_of, whole}
 
 -- a record as it is appended: after its length, and a closed gate after it
@@ -32,11 +32,6 @@ pub record AreFrames (frames first : List ℕ) (more : List (List ℕ)) : Type 0
 -- the journal of a header and records: each after the gate 1, and then a closed gate
 abbrev pub journal_bytes : List ℕ → List (List ℕ) → List ℕ
 journal_bytes head records = after_gates (map (λ r. (1, r)) (head ∷ records)) ++ 0 ∷ []
-
--- each gate is open, which any byte but 0 is, and no record is longer than one may be
-abbrev pub AreOpen : List (ℕ × List ℕ) → Type 0
-AreOpen [] = Unit {0}
-AreOpen (entry ∷ more) = (entry.0 ≢ 0) × (length entry.1 ≤ most_record_bytes) × AreOpen more
 
 -- The bytes hold the journal of this header and these records: these are the whole records in front, after which a closed gate
 -- stands. What follows it is anything.

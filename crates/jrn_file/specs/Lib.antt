@@ -6,4 +6,4 @@ pub mod Making
 pub mod Opening
 pub mod Untouched
 pub mod Pieces
-pub mod Sending
+pub mod inner

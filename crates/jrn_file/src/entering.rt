@@ -4,7 +4,7 @@ ghost use Rattle.std.specs.Prelude.{◌≡◌, ◌+◌, ◌<◌, ◌≤◌, [], 
 ghost use Rattle.corr_disk.specs.Calls.{CallsMade, AtMostCalls};
 ghost use Rattle.corr_disk.specs.Disk.{written, Only, LeavesOnly, most_disk_bytes};
 ghost use Rattle.corr_text.specs.Faults.{HasCause};
-ghost use Rattle.jrn_file.specs.Making.{IsEntering};
+ghost use Rattle.jrn_file.specs.inner.Making.{IsEntering};
 
 use corr_disk::{Disk, Failed};
 

@@ -9,10 +9,7 @@ ghost use Rattle.jrn_file.specs.Faults.{AppendCause};
 
 use crate::entering::enter;
 use crate::fault::AppendFault;
-use corr_disk::{Disk, Failed};
-
-/// The most bytes that a journal has.
-pub(crate) const MAX_BYTES: u64 = 1 << 30;
+use corr_disk::{Disk, Failed, MOST_DISK_BYTES};
 
 /// A journal that was opened, ready for more records.
 #[derive(Drop)]
@@ -127,7 +124,7 @@ impl<D: Disk> JFile<D> {
         ensures honest { D.honest (disk_of self.new) ≡ D.honest (disk_of self.old) }
     {
         let need = frames.len() as u64 + 1;
-        if need > MAX_BYTES.saturating_sub(self.end) {
+        if need > MOST_DISK_BYTES.saturating_sub(self.end) {
             return Err(AppendFault::Full {
                 end: self.end,
                 need,

@@ -8,7 +8,7 @@ ghost use Rattle.corr_text.specs.Faults.{HasCause};
 ghost use Rattle.jrn_file.specs.Journal.{StandsFor, frames_of, journal_bytes};
 ghost use Rattle.jrn_file.specs.Making.{IsUnmadeOrMadeWith, made_with_over};
 ghost use Rattle.jrn_file.specs.Reading.{most_record_bytes};
-ghost use Rattle.jrn_file.specs.Sending.{IsSent, IsShutFront, LeavesShut, SendsBy, StartsAt, StaysShut, open_frames, place_of};
+ghost use Rattle.jrn_file.specs.inner.Sending.{IsSent, IsShutFront, LeavesShut, SendsBy, StartsAt, StaysShut, open_frames, place_of};
 
 use crate::entering::OPEN;
 use crate::sending::Sender;

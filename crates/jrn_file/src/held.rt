@@ -3,9 +3,9 @@
 ghost use Rattle.std.specs.Prelude.{◌≡◌, ◌≤◌, ◌<◌, [], drop, length, take, IfErr, IfOk, IsTrue, OnOk};
 ghost use Rattle.corr_disk.specs.Calls.{AtMostCalls, CallsMade};
 ghost use Rattle.corr_disk.specs.Disk.{most_disk_bytes};
-ghost use Rattle.jrn_file.specs.Faults.{LoadCause};
-ghost use Rattle.jrn_file.specs.Opening.{ExplainsLoad};
-ghost use Rattle.jrn_file.specs.Pieces.{IsPiece};
+ghost use Rattle.jrn_file.specs.inner.Faults.{LoadCause};
+ghost use Rattle.jrn_file.specs.inner.Opening.{ExplainsLoad};
+ghost use Rattle.jrn_file.specs.inner.Pieces.{IsPiece};
 ghost use Rattle.jrn_file.specs.Untouched.{IsUntouched};
 
 use crate::loading::LoadFault;

@@ -3,9 +3,10 @@
 ghost use Rattle.std.specs.Prelude.{◌≡◌, ◌+◌, ◌<◌, ◌≤◌, length, IsTrue, IfOk, IfErr, OnOk};
 ghost use Rattle.corr_disk.specs.Calls.{CallsMade, AtMostCalls};
 ghost use Rattle.corr_disk.specs.Disk.{Only, most_disk_bytes};
-ghost use Rattle.jrn_file.specs.Faults.{LoadCause};
-ghost use Rattle.jrn_file.specs.Opening.{IsReadAs, ExplainsLoad};
-ghost use Rattle.jrn_file.specs.Pieces.{OfBytes, calls_to_open};
+ghost use Rattle.jrn_file.specs.inner.Faults.{LoadCause};
+ghost use Rattle.jrn_file.specs.inner.Opening.{IsReadAs, ExplainsLoad};
+ghost use Rattle.jrn_file.specs.Pieces.{calls_to_open};
+ghost use Rattle.jrn_file.specs.inner.Pieces.{OfBytes};
 ghost use Rattle.jrn_file.specs.Untouched.{IsUntouched};
 
 use crate::held::{Held, read_piece};

@@ -6,7 +6,8 @@ ghost use Rattle.corr_disk.specs.Disk.{Only, LeavesOnly, most_disk_bytes};
 ghost use Rattle.corr_text.specs.Faults.{HasCause};
 ghost use Rattle.jrn_file.specs.Faults.{MakeCause, IsRefusal};
 ghost use Rattle.jrn_file.specs.Journal.{StandsFor, IsFrame, record_in};
-ghost use Rattle.jrn_file.specs.Making.{IsOther, IsUnmade, IsUnmadeOrMade, IsFront, calls_to_look, calls_to_make, made_over};
+ghost use Rattle.jrn_file.specs.Making.{IsOther, IsUnmade, IsUnmadeOrMade, calls_to_make, made_over};
+ghost use Rattle.jrn_file.specs.inner.Making.{IsFront, calls_to_look};
 ghost use Rattle.jrn_file.specs.Reading.{most_record_bytes};
 ghost use Rattle.jrn_file.specs.Untouched.{IsUntouched};
 

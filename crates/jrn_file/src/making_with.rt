@@ -6,17 +6,17 @@ ghost use Rattle.corr_disk.specs.Disk.{LeavesOnly, Only, most_disk_bytes};
 ghost use Rattle.corr_text.specs.Faults.{HasCause};
 ghost use Rattle.jrn_file.specs.Faults.{IsRefusal, MakeWithCause};
 ghost use Rattle.jrn_file.specs.Journal.{StandsFor, journal_bytes};
-ghost use Rattle.jrn_file.specs.Making.{IsOther, IsUnmade, IsUnmadeOrMadeWith, calls_to_make_with, made_with_over, most_piece_bytes, Refuses};
+ghost use Rattle.jrn_file.specs.Making.{IsOther, IsUnmade, IsUnmadeOrMadeWith, calls_to_make_with, made_with_over, most_piece_bytes};
+ghost use Rattle.jrn_file.specs.inner.Making.{Refuses};
 ghost use Rattle.jrn_file.specs.Reading.{most_record_bytes};
-ghost use Rattle.jrn_file.specs.Sending.{StartsAt};
+ghost use Rattle.jrn_file.specs.inner.Sending.{StartsAt};
 ghost use Rattle.jrn_file.specs.Untouched.{IsUntouched};
 
 use crate::fault::MakeFault;
-use crate::file::MAX_BYTES;
 use crate::filling::fill;
 use crate::making::{Front, blank, look_in_front};
 use crate::sending::Sender;
-use corr_disk::{Disk, Failed};
+use corr_disk::{Disk, Failed, MOST_DISK_BYTES};
 use corr_text::Text;
 use std::alloc::Global;
 
@@ -136,7 +136,7 @@ fn make_with<D: Disk>(
     ensures calls { IsTrue (D.honest disk.old) → IfOk result (λ refusal. IfNone refusal (CallsMade (calls_to_make_with most_piece_bytes size (D.reads disk.old)) (D.plan disk.old) (D.plan disk.new))) }
     ensures no_more_calls { IsTrue (D.honest disk.old) → AtMostCalls (calls_to_make_with most_piece_bytes size (D.reads disk.old)) (D.plan disk.old) (D.plan disk.new) }
 {
-    let is_long = size > MAX_BYTES;
+    let is_long = size > MOST_DISK_BYTES;
     match look_in_front(disk)? {
         Front::Open(first) => Ok(Some(Refusal::Other(first))),
         Front::Closed => {

@@ -3,8 +3,8 @@
 ghost use Rattle.std.specs.Prelude.{◌≡◌, ◌≢◌, ◌<◌, ◌≤◌, ◌⊎◌, ◌++◌, ℕ, List, length, take, drop, slice_index, IfOk, OnOk, IfSome, IfNone};
 ghost use Rattle.std.specs.Bool.{OnTrue, OnFalse};
 ghost use Rattle.std.specs.Int.{w32, from_be_bytes};
-ghost use Rattle.jrn_file.specs.Opening.{BeginsWith, IsWhole, HasNoRecord, IsShut, IsTooLong};
-ghost use Rattle.jrn_file.specs.Pieces.{AreTakenOff};
+ghost use Rattle.jrn_file.specs.inner.Opening.{BeginsWith, IsWhole, HasNoRecord, IsShut, IsTooLong};
+ghost use Rattle.jrn_file.specs.inner.Pieces.{AreTakenOff};
 
 use crate::held::Held;
 use crate::loading::LoadFault;

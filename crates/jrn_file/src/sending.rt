@@ -4,7 +4,7 @@ ghost use Rattle.std.specs.Prelude.{◌≡◌, ◌+◌, ◌-◌, ◌/◌, ◌<�
 ghost use Rattle.corr_disk.specs.Calls.{AtMostCalls, CallsMade};
 ghost use Rattle.corr_disk.specs.Disk.{most_disk_bytes, written};
 ghost use Rattle.corr_text.specs.Faults.{HasCause};
-ghost use Rattle.jrn_file.specs.Sending.{IsSent, LeavesShut, SendsBy, StartsAt, StaysShut, place_of, waiting};
+ghost use Rattle.jrn_file.specs.inner.Sending.{IsSent, LeavesShut, SendsBy, StartsAt, StaysShut, place_of, waiting};
 
 use corr_disk::{Disk, Failed};
 use std::alloc::{AllocError, Global};

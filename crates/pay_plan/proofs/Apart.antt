@@ -12,9 +12,8 @@ use Rattle.ssi_versions.specs.declared.row.SsiRow.{SsiRow}
 use Rattle.routing.specs.Accounts.{AreBetween, fits_amount, fits_at}
 use Rattle.routing.specs.declared.routed.Routed.{Routed}
 use Rattle.routing.proofs.laws.Routes.{AreNoFees, route-no-fees}
-use Rattle.pay_plan.specs.declared.ask.Ask.{Ask}
 use Rattle.pay_plan.specs.declared.charging.Charge.{Charge}
-use Rattle.pay_plan.specs.Asked.{amount_in, asked_of}
+use Rattle.pay_plan.specs.Asked.{Asked}
 use Rattle.pay_plan.specs.Charging.{AreCharged, IsApart, IsTaken}
 use Rattle.pay_plan.specs.Plan.{route_asked}
 use Rattle.pay_plan.proofs.Fitting.{with_charge}
@@ -43,9 +42,8 @@ apart chart amount routed (Some c) none taken =
     }
 
 -- a route and the charge that is taken out of what goes by it
-pub charged-are : (env : Envelope) (ask : Ask) (rows : List SsiRow) (chart : Chart) (routed : Routed) (charge : Option Charge) → route_asked env ask rows chart ≡ Ok routed
-    → AreBetween chart (amount_in ask) routed → IfSome charge (IsTaken chart (amount_in ask)) → AreCharged chart (amount_in ask) (with_charge routed charge)
-charged-are env ask rows chart routed charge found between taken =
-    let asked = asked_of chart.home ask in
+pub charged-are : (env : Envelope) (asked : Asked) (rows : List SsiRow) (chart : Chart) (routed : Routed) (charge : Option Charge) → route_asked env asked rows chart ≡ Ok routed
+    → AreBetween chart asked.amount routed → IfSome charge (IsTaken chart asked.amount) → AreCharged chart asked.amount (with_charge routed charge)
+charged-are env asked rows chart routed charge found between taken =
     let none = route-no-fees env.sender asked.amount asked.value asked.cover asked.target rows chart routed found in
-    record { between = between; taken = taken; apart = apart chart (amount_in ask) routed charge none taken }
+    record { between = between; taken = taken; apart = apart chart asked.amount routed charge none taken }

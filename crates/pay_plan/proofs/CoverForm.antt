@@ -16,7 +16,7 @@ use Rattle.fin_contents.specs.Parties.{known_party_of}
 use Rattle.fin_contents.specs.Plain.{reference_of, texts_of, time_of}
 use Rattle.mt202cov.specs.Rules.{all_rules}
 use Rattle.mt202cov.specs.Message.{contents_of, field_tests, mt202cov_of}
-use Rattle.mt202cov.specs.Parts.{banks_of, beneficiary_side_of, contents_in_parts, cover_of_parts, sender_side_of, sequence_a_of, sequence_b_of, terms_of}
+use Rattle.mt202cov.specs.inner.Parts.{banks_of, beneficiary_side_of, contents_in_parts, cover_of_parts, sender_side_of, sequence_a_of, sequence_b_of, terms_of}
 use Rattle.mt202cov.specs.declared.banks.Banks.{Banks}
 use Rattle.mt202cov.specs.declared.banks.BeneficiarySide.{BeneficiarySide}
 use Rattle.mt202cov.specs.declared.message.Mt202Cov.{Mt202Cov}

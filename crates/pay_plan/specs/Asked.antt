@@ -32,11 +32,6 @@ abbrev pub amount_in : Ask → Amount
 amount_in (Transfer m) = m.now.amount
 amount_in (Cover m) = m.now.amount
 
--- its value date
-abbrev pub value_in : Ask → Day
-value_in (Transfer m) = m.now.value
-value_in (Cover m) = m.now.value
-
 -- how it is covered
 abbrev pub cover_in : Ask → HowCovered
 cover_in (Transfer m) = cover_of m.now.p53 m.now.p54

@@ -7,4 +7,4 @@ pub mod Orders
 pub mod Pay
 pub mod Plan
 pub mod Readable
-pub mod Sends
+pub mod inner

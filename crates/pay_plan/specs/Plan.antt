@@ -49,17 +49,15 @@ pay_of env text asked charged chart =
     }
 
 -- the route of what a message asks
-abbrev pub route_asked : Envelope → Ask → List SsiRow → Chart → Result Routed Code
-route_asked env ask rows chart =
-    let asked = asked_of chart.home ask in
-    route_of env.sender asked.amount asked.value asked.cover asked.target rows chart
+abbrev pub route_asked : Envelope → Asked → List SsiRow → Chart → Result Routed Code
+route_asked env asked rows chart = route_of env.sender asked.amount asked.value asked.cover asked.target rows chart
 
 -- the accounts of a message and its charge, or the code of the first test that it fails: a cover for the home bank is refused before
 -- its accounts are looked for, and the charge is looked at last
 abbrev pub accounts_of : Envelope → Ask → List SsiRow → ChargeRows → Chart → Result Charged Code
 accounts_of env ask rows charges chart = do
   _ ← check (not (is_for_home chart.home ask)) (code "P34")
-  routed ← route_asked env ask rows chart
+  routed ← route_asked env (asked_of chart.home ask) rows chart
   charge ← charge_of ask charges chart
   Ok (record { routed = routed; charge = charge })
 
@@ -77,10 +75,6 @@ plan_of env text ask rows charges chart = booked env text ask chart (accounts_of
 abbrev pub told : PlanFault → Option Code
 told (fault.Code code) = Some code
 told fault.Memory = None
-
--- a refusal is the first test that fails, or out of memory
-abbrev pub Refuses : PlanFault → Result Pay Code → Type 0
-Refuses e plan = answers.Refuses told plan e
 
 -- what is answered is the plan
 abbrev pub Plans : Result Pay PlanFault → Result Pay Code → Type 0

@@ -2,13 +2,13 @@
 
 ghost use Rattle.std.specs.Prelude.{◌≡◌};
 ghost use Rattle.routing.specs.Lent.{cover_lent, target_lent};
-ghost use Rattle.pay_plan.specs.Asked.{amount_in, asked_with, cover_in, is_for_home, target_in, value_in};
+ghost use Rattle.pay_plan.specs.Asked.{amount_in, asked_of, asked_with, cover_in, is_for_home, target_in};
 
 use crate::ask::Ask;
 use crate::asked::Asked;
 use crate::cover::cover_of;
 use crate::target::{cover_target, names_home, transfer_target};
-use corr_ids::{Bic, Day};
+use corr_ids::Bic;
 use corr_money::Amount;
 use day_model::Mt;
 use routing::{LentCover, LentTarget};
@@ -33,18 +33,8 @@ pub fn amount_in<'a>(ask: Ask<'a>) -> &'a Amount
     }
 }
 
-/// The value date of a message.
-pub fn value_in(ask: Ask<'_>) -> Day
-    ensures { result ≡ value_in ask.entry }
-{
-    match ask {
-        Ask::Transfer(m) => m.value,
-        Ask::Cover(m) => m.value,
-    }
-}
-
-/// How a message says that it is covered.
-pub fn cover_in<'a>(ask: Ask<'a>) -> LentCover<'a>
+// How a message says that it is covered.
+fn cover_in<'a>(ask: Ask<'a>) -> LentCover<'a>
     ensures { cover_lent result ≡ cover_in ask.entry }
 {
     let (p53, p54) = match ask {
@@ -54,8 +44,8 @@ pub fn cover_in<'a>(ask: Ask<'a>) -> LentCover<'a>
     cover_of(p53, p54)
 }
 
-/// For whom a message says that it is.
-pub fn target_in<'a>(home: &Bic, ask: Ask<'a>) -> LentTarget<'a>
+// For whom a message says that it is.
+fn target_in<'a>(home: &Bic, ask: Ask<'a>) -> LentTarget<'a>
     ensures { target_lent result ≡ target_in home.now ask.entry }
 {
     match ask {
@@ -64,8 +54,8 @@ pub fn target_in<'a>(home: &Bic, ask: Ask<'a>) -> LentTarget<'a>
     }
 }
 
-/// What a message asks of the books, with this cover and target.
-pub fn asked_with<'a>(ask: Ask<'a>, cover: LentCover<'a>, target: LentTarget<'a>) -> Asked<'a>
+// What a message asks of the books, with this cover and target.
+fn asked_with<'a>(ask: Ask<'a>, cover: LentCover<'a>, target: LentTarget<'a>) -> Asked<'a>
     ensures { result ≡ asked_with ask.entry (cover_lent cover.entry) (target_lent target.entry) }
 {
     match ask {
@@ -88,4 +78,12 @@ pub fn asked_with<'a>(ask: Ask<'a>, cover: LentCover<'a>, target: LentTarget<'a>
             target,
         },
     }
+}
+
+/// What a message asks of the books: its type, value date, amount and references, how it is covered, and for whom it is, at the bank
+/// `home`. Takes no memory.
+pub fn asked_of<'a>(home: &Bic, ask: Ask<'a>) -> Asked<'a>
+    ensures { result ≡ asked_of home.now ask.entry }
+{
+    asked_with(ask, cover_in(ask), target_in(home, ask))
 }

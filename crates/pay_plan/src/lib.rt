@@ -15,6 +15,8 @@ mod target;
 mod way;
 
 pub use ask::Ask;
+pub use asked::Asked;
+pub use asking::asked_of;
 pub use charging::{Charge, Charged};
 pub use fault::{P34, P39, P40, PlanFault};
 pub use planning::{accounts_of, pay_on, plan};

@@ -7,14 +7,14 @@ ghost use Rattle.day_model.specs.Fit.{FitsAccounts};
 ghost use Rattle.day_model.specs.Shape.{HasShape};
 ghost use Rattle.day_model.specs.declared.account.Account.{Account};
 ghost use Rattle.routing.specs.Accounts.{AreBetween};
-ghost use Rattle.pay_plan.specs.Asked.{amount_in, asked_of};
+ghost use Rattle.pay_plan.specs.Asked.{asked_of};
 ghost use Rattle.pay_plan.specs.Charging.{AreCharged};
 ghost use Rattle.pay_plan.specs.Plan.{Plans, accounts_of, booked, pay_of, plan_of, route_asked};
-ghost use Rattle.pay_plan.specs.Readable.{IsSomeReading, IsWritable};
+ghost use Rattle.pay_plan.specs.Readable.{IsSomeAsked, IsSomeReading, IsWritable};
 
 use crate::ask::Ask;
 use crate::asked::Asked;
-use crate::asking::{amount_in, asked_with, cover_in, is_for_home, target_in, value_in};
+use crate::asking::{asked_of, is_for_home};
 use crate::charging::{Charged, charge_of};
 use crate::fault::{P34, PlanFault};
 use crate::legs::legs_of;
@@ -59,20 +59,22 @@ fn pay_of(
 }
 
 // The route of what a message asks.
-fn route_asked(env: &Envelope, ask: Ask<'_>, ssi: &Ssi, accounts: &Accounts) -> Result<Routed, Code>
-    ensures value { result ≡ route_asked env.now ask.entry ssi.now accounts.now }
-    ensures accounts { IfOk result (AreBetween accounts.now (amount_in ask.entry)) }
+fn route_asked(
+    env: &Envelope,
+    asked: &Asked<'_>,
+    ssi: &Ssi,
+    accounts: &Accounts,
+) -> Result<Routed, Code>
+    ensures value { result ≡ route_asked env.now asked.now ssi.now accounts.now }
+    ensures accounts { IfOk result (AreBetween accounts.now asked.now.amount) }
     ensures via { IfOk result (λ routed. IfSome routed.via IsBic) }
 {
-    let cover = cover_in(ask);
-    let target = target_in(accounts.home(), ask);
-    let amount = amount_in(ask);
     route_lent(
         &env.sender,
-        amount,
-        value_in(ask),
-        cover,
-        target,
+        &asked.amount,
+        asked.value,
+        asked.cover,
+        asked.target,
         ssi,
         accounts,
     )
@@ -81,51 +83,53 @@ fn route_asked(env: &Envelope, ask: Ask<'_>, ssi: &Ssi, accounts: &Accounts) -> 
 /// The accounts of a message and the charge that is taken out of it, or the code with which it is refused: P34, one of `route`, or
 /// P39 or P40 of its charge (docs/operating.md, "Accounts of a payment" and "Charges"). Takes no memory; `pay_on` gives the pay
 /// between them.
+///
+/// `asked` is what the message asks of the home bank of the accounts.
 pub fn accounts_of(
     env: &Envelope,
     ask: Ask<'_>,
+    asked: &Asked<'_>,
     ssi: &Ssi,
     accounts: &Accounts,
     charges: &Charges,
 ) -> Result<Charged, Code>
+    requires asked { asked.now ≡ asked_of accounts.now.home ask }
     ensures charged { result ≡ accounts_of env.now ask.entry ssi.now charges.now accounts.now }
     ensures value { (text : List ℕ) → plan_of env.now text ask.entry ssi.now charges.now accounts.now ≡ booked env.now text ask.entry accounts.now result }
-    ensures accounts { IfOk result (AreCharged accounts.now (amount_in ask.entry)) }
+    ensures accounts { IfOk result (AreCharged accounts.now asked.now.amount) }
     ensures via { IfOk result (λ charged. IfSome charged.routed.via IsBic) }
 {
     if is_for_home(accounts.home(), ask) {
         return Err(P34);
     }
-    let routed = route_asked(env, ask, ssi, accounts)?;
+    let routed = route_asked(env, asked, ssi, accounts)?;
     let charge = charge_of(ask, charges, accounts)?;
     Ok(Charged { routed, charge })
 }
 
-/// The pay that a message asks for on the accounts that `accounts_of` gives it. `Memory`: there was no room for it.
+/// The pay of what a message asks, on the accounts that `accounts_of` gives it. `Memory`: there was no room for it.
 ///
-/// The pay can be written down where the reference and the UETR of `env` meet their grammar and the text has at most
-/// 32,768 bytes.
+/// `mir` is the reference of `env`. The pay can be written down where the reference and the UETR of `env` meet their grammar and the
+/// text has at most 32,768 bytes.
 pub fn pay_on(
     alloc: Global,
+    mir: Mir,
     env: &Envelope,
     text: &Text,
-    ask: Ask<'_>,
+    asked: &Asked<'_>,
     charged: &Charged,
     accounts: &Accounts,
 ) -> Result<Pay, Memory>
-    requires received { IsSome env.now.mir }
-    requires message { IsSomeReading ask }
-    requires accounts { AreCharged accounts.now (amount_in ask) charged.now }
+    requires reference { env.now.mir ≡ Some mir }
+    requires message { IsSomeAsked accounts.now.home asked.now }
+    requires accounts { AreCharged accounts.now asked.now.amount charged.now }
     requires via { IfSome charged.now.routed.via IsBic }
-    ensures value { IfOk result (λ pay. pay ≡ pay_of env.now text.now (asked_of accounts.now.home ask.entry) charged.now accounts.now) }
+    ensures value { IfOk result (λ pay. pay ≡ pay_of env.now text.now asked.now charged.now accounts.now) }
     ensures fit { IfOk result (FitsAccounts accounts.now) }
     ensures form { IsWritable env.now text.now → IfOk result HasShape }
     ensures sound { OnOk result (IsChart accounts.now) }
 {
-    let Some(mir) = env.mir else { unreachable!() };
-    let target = target_in(accounts.home(), ask);
-    let asked = asked_with(ask, cover_in(ask), target);
-    pay_of(alloc, mir, env, text, &asked, charged, accounts)
+    pay_of(alloc, mir, env, text, asked, charged, accounts)
 }
 
 /// The pay that a message asks for under these instructions and accounts, or the first reason why it has none
@@ -153,6 +157,8 @@ pub fn plan(
     ensures form { IsWritable env.now text.now → IfOk result HasShape }
     ensures sound { OnOk result (IsChart accounts.now) }
 {
-    let charged = accounts_of(env, ask, ssi, accounts, charges)?;
-    Ok(pay_on(alloc, env, text, ask, &charged, accounts)?)
+    let mir = env.mir.unwrap();
+    let asked = asked_of(accounts.home(), ask);
+    let charged = accounts_of(env, ask, &asked, ssi, accounts, charges)?;
+    Ok(pay_on(alloc, mir, env, text, &asked, &charged, accounts)?)
 }

@@ -10,9 +10,10 @@ use Rattle.day_model.specs.declared.pay.Leg.{Leg}
 use Rattle.day_model.specs.declared.pay.Order.{Order}
 use Rattle.day_model.specs.declared.pay.Pay.{Pay}
 use Rattle.day_model.specs.declared.pay.Side.TheVariants.{Credit, Debit}
-use Rattle.pay_returns.specs.Equal.{are_all, is_equal, is_leg, is_order, is_stamped_as}
+use Rattle.pay_returns.specs.Equal.{are_all, is_equal, is_leg, is_order}
+use Rattle.pay_returns.specs.inner.Equal.{is_stamped_as}
 use Rattle.pay_returns.specs.Opposite.{notices_of, on_side, opposite_leg, opposite_legs, opposite_pay, return_mir, return_text}
-use Rattle.pay_returns.specs.Texts.{after_all}
+use Rattle.pay_returns.specs.inner.Texts.{after_all}
 use Rattle.pay_returns.specs.declared.origin.Origin.{Origin}
 use Rattle.pay_returns.proofs.Pieces.{front_first}
 use Rattle.pay_returns.proofs.laws.Equality.{all-equal, leg-decided}

@@ -12,7 +12,7 @@ use Rattle.fin_fields.specs.Fields.{Grouped, Heading, fields_of, grouped, headin
 use Rattle.fin_fields.specs.declared.fault.FieldFault.{FieldFault}
 use Rattle.fin_fields.specs.declared.fault.FieldFault.TheVariants.{P20}
 use Rattle.fin_fields.specs.declared.field.Field.{Field}
-use Rattle.pay_returns.specs.Walking.{are_sound_lines, is_sound_line, part_with}
+use Rattle.pay_returns.specs.inner.Walking.{are_sound_lines, is_sound_line, part_with}
 use Rattle.pay_returns.proofs.Choices.{some-position}
 
 -- a byte of grouped lines is outside set X

@@ -8,7 +8,7 @@ use Rattle.fin_fields.specs.Faults.{field_fault}
 use Rattle.fin_fields.specs.Fields.{Heading, field_begun, grouped, heading_of}
 use Rattle.fin_fields.specs.declared.field.Field.{Field}
 use Rattle.pay_returns.specs.References.{first_reference, is_20, reference_if, reference_in}
-use Rattle.pay_returns.specs.Walking.{begins_20, content_20, ends_there, first_20, only_line_20}
+use Rattle.pay_returns.specs.inner.Walking.{begins_20, content_20, ends_there, first_20, only_line_20}
 use Rattle.pay_returns.proofs.Choices.{or-nothing}
 
 -- the lines of a field 20 that begins so

@@ -15,7 +15,8 @@ use Rattle.day_model.specs.declared.pay.Side.{Side}
 use Rattle.day_model.specs.declared.pay.Side.TheVariants.{Credit, Debit}
 use Rattle.day_model.proofs.laws.Fitting.{LegsFit, Sound, fitting}
 use Rattle.pay_returns.specs.Laws.{ReturnFits}
-use Rattle.pay_returns.specs.Opposite.{AreListed, on_side, opposite_leg, opposite_legs, opposite_side}
+use Rattle.pay_returns.specs.Opposite.{on_side, opposite_leg, opposite_legs, opposite_side}
+use Rattle.pay_returns.specs.inner.Opposite.{AreListed}
 use Rattle.pay_returns.proofs.Effects.{both-sides, opposite-side, sum-both}
 
 -- ---- both sides of a return have what the other side of the payment has

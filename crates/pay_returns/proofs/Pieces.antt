@@ -6,7 +6,7 @@ use Rattle.std.specs.Option.{option_map_or}
 use Rattle.std.proofs.lemmas.Bool.{cases_Bool, ne_eqb}
 use Rattle.std.proofs.lemmas.List.{append-nil, at_drop_more}
 use Rattle.pay_returns.specs.Equal.{are_all}
-use Rattle.pay_returns.specs.Texts.{after, after_all}
+use Rattle.pay_returns.specs.inner.Texts.{after, after_all}
 use Rattle.pay_returns.proofs.Choices.{and-grouped}
 
 -- a text is a piece and what follows exactly where it begins with the piece and goes on so

@@ -16,7 +16,8 @@ use Rattle.day_model.specs.declared.pay.Leg.{Leg}
 use Rattle.day_model.specs.declared.pay.Side.{Side}
 use Rattle.day_model.specs.declared.pay.Side.TheVariants.{Credit, Debit}
 use Rattle.day_model.proofs.laws.Fitting.{fitting}
-use Rattle.pay_returns.specs.Opposite.{AreByteQuotes, on_side, opposite_leg, opposite_legs, opposite_of, return_text}
+use Rattle.pay_returns.specs.Opposite.{on_side, opposite_leg, opposite_legs, opposite_of, return_text}
+use Rattle.pay_returns.specs.inner.Opposite.{AreByteQuotes}
 use Rattle.pay_returns.specs.References.{IsByteQuote, own_reference, related_of}
 use Rattle.pay_returns.proofs.Fits.{opposites-fit}
 use Rattle.pay_returns.proofs.Mirs.{return-is-mir}

@@ -10,9 +10,10 @@ use Rattle.day_model.specs.declared.pay.Side.{Side}
 use Rattle.day_model.specs.declared.pay.Side.TheVariants.{Credit, Debit}
 use Rattle.day_model.proofs.laws.Changes.{filter-append}
 use Rattle.pay_returns.specs.Equal.{is_leg}
-use Rattle.pay_returns.specs.Opposite.{AreByteQuotes, on_side, opposite_leg}
+use Rattle.pay_returns.specs.Opposite.{on_side, opposite_leg}
+use Rattle.pay_returns.specs.inner.Opposite.{AreByteQuotes}
 use Rattle.pay_returns.specs.References.{IsByteQuote}
-use Rattle.pay_returns.specs.Texts.{after_all}
+use Rattle.pay_returns.specs.inner.Texts.{after_all}
 
 -- what stands after two lists
 pub after-both : {A : Type 0} (same : A → A → Bool) (front back xs : List A) → after_all same (front ++ back) xs ≡ option_and_then (after_all same back) (after_all same front xs)

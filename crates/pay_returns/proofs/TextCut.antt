@@ -16,7 +16,7 @@ use Rattle.fin_fields.specs.Fields.{grouped}
 use Rattle.advices.specs.Received.{fields_in}
 use Rattle.pay_returns.specs.Opposite.{return_text}
 use Rattle.pay_returns.specs.References.{own_reference}
-use Rattle.pay_returns.specs.Walking.{are_sound_lines}
+use Rattle.pay_returns.specs.inner.Walking.{are_sound_lines}
 use Rattle.pay_returns.proofs.Faultless.{faultless}
 
 x-inner : (b : ℕ) → is_x_byte b ≡ true → is_inner b ≡ true

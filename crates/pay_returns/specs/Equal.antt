@@ -1,9 +1,8 @@
 -- When two pays are equal in all their parts.
-use Rattle.std.specs.Prelude.{◌≡◌, ◌↔◌, ℕ, ◌==◌, ◌&&◌, Bool, true, false, List, [], ◌∷◌, Option, Some, None, IsTrue}
+use Rattle.std.specs.Prelude.{◌≡◌, ◌↔◌, ◌==◌, ◌&&◌, Bool, true, false, List, [], ◌∷◌, Option, Some, None, IsTrue}
 use Rattle.std.specs.Ordering.{int_eq}
 use Rattle.std.specs.Str.{bytes_eq}
 use Rattle.corr_ids.specs.declared.bic.Bic.{Bic}
-use Rattle.corr_ids.specs.declared.uetr.Uetr.{Uetr}
 use Rattle.day_model.specs.Fit.{is_side}
 use Rattle.day_model.specs.Same.{is_mt, is_same_uetr}
 use Rattle.day_model.specs.declared.pay.Leg.{Leg}
@@ -59,10 +58,6 @@ are_all same [] [] = true
 are_all same [] (y ∷ ys) = false
 are_all same (x ∷ xs) [] = false
 are_all same (x ∷ xs) (y ∷ ys) = same x y && are_all same xs ys
-
--- a pay has this reference, the type of a cover, this UETR and this text
-abbrev pub is_stamped_as : Pay → List ℕ → Option Uetr → List ℕ → Bool
-is_stamped_as p mir uetr text = bytes_eq p.mir.0 mir && is_mt p.mt Cover && is_same_uetr p.uetr uetr && bytes_eq p.text text
 
 -- two pays are equal in all their parts
 abbrev pub is_equal : Pay → Pay → Bool

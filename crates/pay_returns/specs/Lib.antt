@@ -1,9 +1,8 @@
 pub mod References
-pub mod Walking
-pub mod Texts
 pub mod Opposite
 pub mod Origins
 pub mod Equal
 pub mod Returns
 pub mod Making
 pub mod Laws
+pub mod inner

@@ -1,11 +1,11 @@
 -- The pay that takes a booked payment back.
-use Rattle.std.specs.Prelude.{ℕ, ◌-◌, ◌==◌, All, Bool, List, ◌∷◌, ◌++◌, codes, map, slice_get, Option, Some, None, option_and_then, option_map, option_to_list, if◌then◌else◌}
+use Rattle.std.specs.Prelude.{ℕ, ◌-◌, ◌==◌, Bool, List, ◌∷◌, ◌++◌, codes, map, slice_get, Option, Some, None, option_and_then, option_map, option_to_list, if◌then◌else◌}
 use Rattle.std.specs.List.{filter, position_from}
 use Rattle.corr_text.specs.Digits.{padded}
 use Rattle.corr_ids.specs.declared.bic.Bic.{Bic}
 use Rattle.corr_ids.specs.declared.day.Day.{Day}
 use Rattle.corr_ids.specs.declared.mir.Mir.{Mir}
-use Rattle.day_model.specs.Chart.{Chart, IsListed, account_at, vostro}
+use Rattle.day_model.specs.Chart.{Chart, account_at, vostro}
 use Rattle.day_model.specs.Fit.{is_side}
 use Rattle.day_model.specs.declared.account.Account.{Account}
 use Rattle.day_model.specs.declared.entry.Entry.{Entry}
@@ -18,7 +18,7 @@ use Rattle.day_model.specs.declared.pay.Quote.TheVariants.{Theirs}
 use Rattle.day_model.specs.declared.pay.Side.{Side}
 use Rattle.day_model.specs.declared.pay.Side.TheVariants.{Credit, Debit}
 use Rattle.pay_returns.specs.declared.origin.Origin.{Origin}
-use Rattle.pay_returns.specs.References.{IsByteQuote, own_reference, quote_text, related_of}
+use Rattle.pay_returns.specs.References.{own_reference, quote_text, related_of}
 
 -- the reference of the return of the entry at a place: terminal R of the home bank sent it on the first day of all, numbered by
 -- the place
@@ -99,11 +99,3 @@ opposite_pay chart origin place day =
 -- the one that takes back the entry at a place
 abbrev pub opposite_of : Chart → Entry → ℕ → Day → Pay
 opposite_of chart entry place day = opposite_pay chart (origin_of entry) place day
-
--- the accounts of legs are of the book
-abbrev pub AreListed : Chart → List Leg → Type 0
-AreListed chart legs = All (λ leg. IsListed chart leg.account.0) legs
-
--- the orders that legs quote have bytes as their numbers
-abbrev pub AreByteQuotes : List Leg → Type 0
-AreByteQuotes legs = All (λ leg. IsByteQuote leg.quote) legs

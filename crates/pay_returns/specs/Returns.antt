@@ -29,10 +29,6 @@ opposed_at chart entries pay place = option_and_then (λ entry. if is_opposite c
 abbrev pub opposed_by : Chart → List Entry → Pay → Option ℕ
 opposed_by chart entries pay = option_and_then (opposed_at chart entries pay) (named_place pay)
 
--- the place before r that the entry at place r takes back, whether or not that is a return itself
-abbrev pub opposed_before : Chart → List Entry → ℕ → Option ℕ
-opposed_before chart entries r = option_and_then (λ entry. opposed_by chart (take (r - 1) entries) entry.pay) (at_place r entries)
-
 -- of each entry the place that it takes back, if it is a return
 abbrev pub Tags : Type 0
 Tags = List (Option ℕ)

@@ -3,10 +3,10 @@
 ghost use Rattle.std.specs.Prelude.{◌≡◌, ◌<◌, Some, length, option_map, slice_get};
 ghost use Rattle.std.specs.List.{flat_map};
 ghost use Rattle.std.specs.Str.{bytes_eq};
-ghost use Rattle.pay_returns.specs.Texts.{after};
+ghost use Rattle.pay_returns.specs.inner.Texts.{after};
 
 /// What stands in a text after a beginning; none of a text that begins otherwise.
-#[tactic(auto, unfolding(crate::specs::Texts::after))]
+#[tactic(auto, unfolding(crate::specs::inner::Texts::after))]
 fn after<'a>(text: &'a [u8], front: &[u8]) -> Option<&'a [u8]>
     ensures { option_map (λ rest. rest.now) result ≡ after front.now text.now }
 {

@@ -3,7 +3,8 @@
 ghost use Rattle.std.specs.Prelude.{◌≡◌, ◌≤◌, ◌-◌, is_some, length, take};
 ghost use Rattle.day_model.specs.Fit.{FitsAccounts};
 ghost use Rattle.day_model.specs.Legal.{IsLegal};
-ghost use Rattle.pay_returns.specs.Returns.{is_opposite, named_place, opposed_before, opposed_by, returns_place};
+ghost use Rattle.pay_returns.specs.Returns.{is_opposite, named_place, opposed_by, returns_place};
+ghost use Rattle.pay_returns.specs.inner.Returns.{opposed_before};
 
 use crate::notices::notices_of;
 use crate::opposite::is_opposite;

@@ -8,7 +8,7 @@ ghost use Rattle.fin_fields.specs.Faults.{field_fault, has_other_byte, is_mispla
 ghost use Rattle.fin_fields.specs.Fields.{heading_of};
 ghost use Rattle.fin_fields.specs.Headings.{heading_in};
 ghost use Rattle.pay_returns.specs.References.{first_reference, is_reference, related_of};
-ghost use Rattle.pay_returns.specs.Walking.{begins_20, begins_field, content_20, ends_there, first_20, is_sound_line, only_line_20, part_of};
+ghost use Rattle.pay_returns.specs.inner.Walking.{begins_20, begins_field, content_20, ends_there, first_20, is_sound_line, only_line_20, part_of};
 
 use corr_text::{Set, first_line, is_x};
 use fin_fields::{HeadingLine, heading, is_run_of};

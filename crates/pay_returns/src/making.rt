@@ -5,6 +5,7 @@ ghost use Rattle.corr_ids.specs.Bic.{IsBic};
 ghost use Rattle.corr_ids.specs.Day.{InCentury};
 ghost use Rattle.day_model.specs.Fit.{FitsAccounts};
 ghost use Rattle.day_model.specs.Legal.{IsLegal};
+ghost use Rattle.day_model.specs.Log.{most_entries};
 ghost use Rattle.day_model.specs.Shape.{HasShape};
 ghost use Rattle.pay_returns.specs.Making.{MayReturn, TellsReturnFault};
 ghost use Rattle.pay_returns.specs.Opposite.{opposite_of};
@@ -25,7 +26,7 @@ fn opposite_of(alloc: Global, a: &Accounts, e: &Entry, place: u32, day: Day) -> 
     requires fits { FitsAccounts a.now e.now.pay }
     requires shape { HasShape e.now.pay }
     requires bank { IsBic a.now.home }
-    requires place { place ≤ 100000 }
+    requires place { place ≤ most_entries }
     requires day { InCentury day }
     ensures value { IfOk result (λ pay. pay ≡ opposite_of a.now e.now place day) }
     ensures shape { IfOk result HasShape }

@@ -4,7 +4,8 @@ ghost use Rattle.std.specs.Prelude.{◌≡◌, ◌≤◌, IfOk, length};
 ghost use Rattle.std.specs.List.{position_from};
 ghost use Rattle.day_model.specs.Chart.{IsChart, IsListed};
 ghost use Rattle.pay_returns.specs.Equal.{are_all, is_order};
-ghost use Rattle.pay_returns.specs.Opposite.{AreListed, credit_notice, debit_notice, is_credit, notices_of, told_of, vostro_owner};
+ghost use Rattle.pay_returns.specs.Opposite.{credit_notice, debit_notice, is_credit, notices_of, told_of, vostro_owner};
+ghost use Rattle.pay_returns.specs.inner.Opposite.{AreListed};
 ghost use Rattle.pay_returns.specs.Origins.{orders_in};
 
 use corr_ids::Bic;

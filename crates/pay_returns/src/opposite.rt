@@ -4,11 +4,14 @@ ghost use Rattle.std.specs.Prelude.{◌≡◌, ◌≤◌, ◌∷◌, [], ◌++�
 ghost use Rattle.std.specs.Str.{bytes_eq};
 ghost use Rattle.corr_ids.specs.Bic.{IsBic};
 ghost use Rattle.day_model.specs.Chart.{Chart};
-ghost use Rattle.pay_returns.specs.Equal.{are_all, is_equal, is_leg, is_stamped_as};
-ghost use Rattle.pay_returns.specs.Opposite.{AreByteQuotes, on_side, opposite_leg, opposite_legs, opposite_pay, opposite_side, notices_of, return_mir, return_text};
+ghost use Rattle.day_model.specs.Log.{most_entries};
+ghost use Rattle.pay_returns.specs.Equal.{are_all, is_equal, is_leg};
+ghost use Rattle.pay_returns.specs.inner.Equal.{is_stamped_as};
+ghost use Rattle.pay_returns.specs.Opposite.{on_side, opposite_leg, opposite_legs, opposite_pay, opposite_side, notices_of, return_mir, return_text};
+ghost use Rattle.pay_returns.specs.inner.Opposite.{AreByteQuotes};
 ghost use Rattle.pay_returns.specs.Origins.{lent_in, orders_in};
 ghost use Rattle.pay_returns.specs.References.{IsByteQuote};
-ghost use Rattle.pay_returns.specs.Texts.{after_all};
+ghost use Rattle.pay_returns.specs.inner.Texts.{after_all};
 
 use crate::after::is_made_of;
 use crate::notices::{Notices, are_notices};
@@ -40,7 +43,7 @@ fn opposite_side(side: Side) -> Side
 /// The reference of the return of the entry at a place.
 pub fn return_mir(alloc: Global, home: &Bic, place: u32) -> Result<Mir, Memory>
     requires bank { IsBic home.now }
-    requires place { place ≤ 100000 }
+    requires place { place ≤ most_entries }
     ensures { IfOk result (λ mir. mir ≡ return_mir home.now place) }
 {
     let mut number = Decimal::new();
@@ -142,7 +145,7 @@ pub fn opposite_pay(
     orders: List<Order>,
 ) -> Result<Pay, Memory>
     requires bank { IsBic home.now }
-    requires place { place ≤ 100000 }
+    requires place { place ≤ most_entries }
     requires legs { legs ≡ opposite_legs place (lent_in origin).legs }
     ensures { IfOk result (λ pay. (chart : Chart) → chart.home ≡ home.now → orders ≡ notices_of chart legs → pay ≡ opposite_pay chart (lent_in origin.entry) place day) }
 {

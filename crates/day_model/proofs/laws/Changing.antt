@@ -23,7 +23,8 @@ use Rattle.day_model.specs.Changes.{all_changed, by_then, changed_by, is_by, wit
 use Rattle.day_model.specs.Chart.{AreAccounts, AreApart, AreBalanced, AreRows, Chart, IsBounded, IsChart, IsFormed, KeepsRows, account_at, accounts_of, chart_at, is_same_ccy, opening_sum, with_change}
 use Rattle.day_model.specs.Fit.{are_legs, fit_in}
 use Rattle.day_model.specs.Laws.{ChangeStaysLegal}
-use Rattle.day_model.specs.Legal.{CanMake, FollowsRules, IsLegal, IsLegalChange, balance_at, balance_named}
+use Rattle.day_model.specs.Legal.{FollowsRules, IsLegal, IsLegalChange, balance_at, balance_named}
+use Rattle.day_model.specs.inner.Legal.{CanMake}
 use Rattle.day_model.proofs.laws.Changes.{IsStill, all_changed-append, change_stays, filter-append, filter_out, in_order_push, in_turn_both, in_turn_parts, in_turn_same, list_all-append, named_same}
 use Rattle.day_model.proofs.laws.Slices.{in_pushed, slice_get-set_other, slice_get-set_same}
 use Rattle.day_model.proofs.laws.Standing.{new_is_empty, opening_or}

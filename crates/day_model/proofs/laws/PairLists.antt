@@ -6,7 +6,8 @@ use Rattle.std.proofs.lemmas.Option.{none-some, same_Some, slice_get_read, slice
 use Rattle.day_model.specs.declared.pay.Leg.{Leg}
 use Rattle.day_model.specs.Totals.{Pair, plus, Fits64, leg_pair, legs_pair, pair_at}
 use Rattle.day_model.proofs.laws.Pairs.{plus_assoc, plus_nothing, legs_pair-cons, own_leg, other_leg}
-use Rattle.day_model.specs.Pairs.{with_pair, pairs_from, pairs_with, PairsFit}
+use Rattle.day_model.specs.Pairs.{pairs_from, pairs_with, PairsFit}
+use Rattle.day_model.specs.inner.Pairs.{with_pair}
 
 -- one leg after another adds what both add
 pub plus_leg : (n : ℕ) (p : Pair) (leg : Leg) (legs : List Leg)

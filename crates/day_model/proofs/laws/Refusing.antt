@@ -17,7 +17,8 @@ use Rattle.day_model.specs.Chart.{AreApart, IsFormed}
 use Rattle.day_model.specs.Fit.{is_in}
 use Rattle.day_model.specs.Legal.{IsInForm, IsLegalChange, MayLimit, MayOpen}
 use Rattle.day_model.specs.Refusals.{begins_empty, met_by, refusal_of}
-use Rattle.day_model.specs.RowTests.{agrees, apart, are_ends, has_limits, meets}
+use Rattle.day_model.specs.RowTests.{agrees, are_ends, has_limits, meets}
+use Rattle.day_model.specs.inner.RowTests.{apart}
 use Rattle.day_model.proofs.Testing.{Apart, all_pass, apart_from, ends_complete, ends_sound, parted}
 use Rattle.day_model.proofs.laws.Fitting.{all_at}
 use Rattle.day_model.proofs.laws.Folds.{none_found}

@@ -3,7 +3,8 @@ use Rattle.std.proofs.Common.{◌≡◌, ℕ, ◌+◌, Bool, true, false, cond, 
 use Rattle.std.specs.Int.{w32, to_be_bytes}
 use Rattle.std.specs.Str.{bytes_eq}
 use Rattle.jrn_file.specs.Reading.{whole, cut, opened_of, reading_of, records_of, size_of, with_length}
-use Rattle.jrn_file.specs.Journal.{after_gates, journal_bytes, AreOpen}
+use Rattle.jrn_file.specs.Journal.{after_gates, journal_bytes}
+use Rattle.jrn_file.specs.inner.Journal.{AreOpen}
 
 -- a record after its length
 pub length-sized : (r : List ℕ) → length (with_length r) ≡ 4 + length r

@@ -45,7 +45,7 @@ use Rattle.pay_plan.specs.Orders.{next_orders, notices_of, orders_by, orders_of,
 use Rattle.pay_plan.specs.Pay.{legs_of, quote_of, rest_after}
 use Rattle.pay_plan.specs.Plan.{accounts_of, pay_of, plan_of, route_asked}
 use Rattle.pay_plan.specs.Readable.{IsReadBy}
-use Rattle.pay_plan.specs.Sends.{FollowsMessage, IsChargeOf, IsPayOf}
+use Rattle.pay_plan.specs.inner.Sends.{FollowsMessage, IsChargeOf, IsPayOf}
 use Rattle.pay_plan.specs.Way.{cover_way, transfer_way, way_of}
 use Rattle.pay_plan.proofs.Fitting.{with_charge}
 use Rattle.pay_plan.proofs.Parties.{ok-is}
@@ -197,7 +197,7 @@ accounts-are : (t : Tables) (env : Envelope) (ask : Ask) (rows : List SsiRow) (c
 accounts-are t env ask rows charges chart charged rows_know e =
     let asked = asked_of chart.home ask in
     let apart = checked (not (is_for_home chart.home ask)) (code "P34") _ charged e in
-    let routed = read-then (route_asked env ask rows chart) _ charged apart.1 in
+    let routed = read-then (route_asked env asked rows chart) _ charged apart.1 in
     let charge = read-then (charge_of ask charges chart) _ charged routed.2 in
     subst (λ (c : Charged). IsRouted t env.sender asked.amount chart c.routed × IfSome c.charge (IsChargeFor chart ask)) (ok-is (with_charge routed.0 charge.0) charged charge.2)
     (route-is t env.sender asked.amount asked.value asked.cover asked.target rows chart routed.0 rows_know routed.1, charge-is chart ask charges charge.0 charge.1)

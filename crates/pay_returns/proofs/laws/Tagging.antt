@@ -12,7 +12,8 @@ use Rattle.day_model.proofs.laws.Slices.{front_get, push_last}
 use Rattle.pay_returns.specs.Equal.{is_equal}
 use Rattle.pay_returns.specs.Laws.{ReturnsLater, ReturnsOnce, TaggedMore}
 use Rattle.pay_returns.specs.Opposite.{opposite_of, return_mir}
-use Rattle.pay_returns.specs.Returns.{Tags, at_place, is_opposite, is_payment, named_place, next_tag, opposed_at, opposed_before, opposed_by, payment_at, returns_place, tag_at, tagged_of, tags_from}
+use Rattle.pay_returns.specs.Returns.{Tags, at_place, is_opposite, is_payment, named_place, next_tag, opposed_at, opposed_by, payment_at, returns_place, tag_at, tagged_of, tags_from}
+use Rattle.pay_returns.specs.inner.Returns.{opposed_before}
 use Rattle.pay_returns.proofs.laws.Equality.{equal-decides}
 
 module _ (chart : Chart) where

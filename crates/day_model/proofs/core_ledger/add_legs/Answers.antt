@@ -1,7 +1,8 @@
 use Rattle.std.proofs.Common.{◌≡◌, ◌∷◌, ◌+◌, ◌∙◌, List, ℤ, drop, ap, sym, subst}
 use Rattle.std.proofs.lemmas.List.{drop_more}
 use Rattle.day_model.specs.declared.pay.Leg.{Leg}
-use Rattle.day_model.specs.CoreLedger.{CanAddAll, with_legs}
+use Rattle.day_model.specs.CoreLedger.{with_legs}
+use Rattle.day_model.specs.inner.CoreLedger.{CanAddAll}
 use Rattle.day_model.proofs.core_ledger.add_legs.Goals as goal
 
 pub add_leg-requires : goal.add_leg-requires

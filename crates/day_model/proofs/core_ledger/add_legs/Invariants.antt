@@ -1,5 +1,6 @@
 use Rattle.std.proofs.Common.{◌≡◌, drop}
-use Rattle.day_model.specs.CoreLedger.{CanAddAll, with_legs}
+use Rattle.day_model.specs.CoreLedger.{with_legs}
+use Rattle.day_model.specs.inner.CoreLedger.{CanAddAll}
 use Rattle.day_model.proofs.core_ledger.add_legs.Given as goal
 
 abbrev pub invariant-loop-leg : goal.invariant-loop-leg

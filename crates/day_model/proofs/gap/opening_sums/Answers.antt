@@ -2,7 +2,7 @@ use Rattle.std.proofs.Common.{◌≡◌, refl, ap, ◌∙◌, arith, ℤ, ◌+�
 use Rattle.std.proofs.lemmas.Int.{to_z-of_z}
 use Rattle.std.proofs.lemmas.Option.{slice_get_read}
 use Rattle.day_model.specs.declared.account.Account.{Account}
-use Rattle.day_model.specs.Gap.{sum_in}
+use Rattle.day_model.specs.inner.Gap.{sum_in}
 use Rattle.day_model.proofs.Openings.{sums_fit, sums_more}
 use Rattle.day_model.proofs.gap.opening_sums.Goals as goal
 

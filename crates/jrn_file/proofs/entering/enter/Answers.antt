@@ -1,5 +1,5 @@
 use Rattle.corr_disk.proofs.laws.Moments.{started, goes_on}
-use Rattle.jrn_file.specs.Making.{IsEntering}
+use Rattle.jrn_file.specs.inner.Making.{IsEntering}
 use Rattle.jrn_file.proofs.EntryImages.{entering-only, entering-frame, entering-gate}
 use Rattle.std.proofs.Common.{arith}
 use Rattle.corr_disk.proofs.laws.Counted.{call_more, calls_within}

@@ -8,7 +8,7 @@ use Rattle.corr_disk.proofs.laws.Counted.{at_most_weaker, call_more, calls_withi
 use Rattle.corr_disk.proofs.laws.Moments.{goes_on, weaker}
 use Rattle.jrn_file.specs.Journal.{frames_of, journal_bytes}
 use Rattle.jrn_file.specs.Making.{IsUnmadeOrMadeWith}
-use Rattle.jrn_file.specs.Sending.{IsShutFront, LeavesShut}
+use Rattle.jrn_file.specs.inner.Sending.{IsShutFront, LeavesShut}
 use Rattle.jrn_file.proofs.Filled.{journal-framed, filling-gate, filled-stands, filled-bytes, shut-some}
 use Rattle.jrn_file.proofs.Shut.{shut-call}
 use Rattle.jrn_file.proofs.filling.fill.Goals as goal

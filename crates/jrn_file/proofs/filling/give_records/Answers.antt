@@ -1,5 +1,5 @@
 use Rattle.std.proofs.Common.{◌≡◌, ◌+◌, ◌++◌, ◌∷◌, [], List, ℕ, length, get_or, take, ◌∙◌, ap, arith}
-use Rattle.jrn_file.specs.Sending.{open_frames}
+use Rattle.jrn_file.specs.inner.Sending.{open_frames}
 use Rattle.jrn_file.specs.Reading.{with_length}
 use Rattle.jrn_file.proofs.Filled.{frames-next, frames-step, frames-within}
 use Rattle.jrn_file.proofs.Sent.{sent-then, sent-size, calls-so-far, calls-more}

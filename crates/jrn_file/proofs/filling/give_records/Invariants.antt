@@ -1,5 +1,5 @@
 use Rattle.std.proofs.Common.{◌≡◌, ◌<◌, length, take}
-use Rattle.jrn_file.specs.Sending.{IsSent, LeavesShut, StaysShut, open_frames, place_of}
+use Rattle.jrn_file.specs.inner.Sending.{IsSent, LeavesShut, StaysShut, open_frames, place_of}
 use Rattle.jrn_file.proofs.filling.give_records.Given as goal
 
 abbrev pub invariant-loop-record : goal.invariant-loop-record

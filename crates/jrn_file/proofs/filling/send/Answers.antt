@@ -4,7 +4,7 @@ use Rattle.std.proofs.lemmas.Result.{on_ok_weaker}
 use Rattle.corr_disk.specs.Calls.{AtMostCalls, CallsMade}
 use Rattle.corr_disk.proofs.laws.Counted.{at_most_weaker, calls_in_turn, calls_then}
 use Rattle.jrn_file.specs.Journal.{frames_of}
-use Rattle.jrn_file.specs.Sending.{SendsBy, open_frames}
+use Rattle.jrn_file.specs.inner.Sending.{SendsBy, open_frames}
 use Rattle.jrn_file.proofs.Filled.{frames-closed}
 use Rattle.jrn_file.proofs.Pieces.{pieces-fewer}
 use Rattle.jrn_file.proofs.Sent.{sent-then, sent-size, calls-more, all-written, all-pieces}

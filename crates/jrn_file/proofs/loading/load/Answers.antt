@@ -3,10 +3,11 @@ use Rattle.std.proofs.lemmas.Bool.{cases_lt}
 use Rattle.std.proofs.lemmas.Grind.{common_steps}
 use Rattle.corr_disk.specs.Calls.{CallsMade}
 use Rattle.corr_disk.proofs.laws.Counted.{calls_in_turn, calls_then, calls_within}
-use Rattle.jrn_file.specs.Faults.{LoadCause}
+use Rattle.jrn_file.specs.inner.Faults.{LoadCause}
 use Rattle.jrn_file.specs.Reading.{cut, opened_of}
-use Rattle.jrn_file.specs.Opening.{ExplainsLoad, HasNoRecord, IsShut, IsReadAs}
-use Rattle.jrn_file.specs.Pieces.{OfBytes, calls_to_open}
+use Rattle.jrn_file.specs.inner.Opening.{ExplainsLoad, HasNoRecord, IsShut, IsReadAs}
+use Rattle.jrn_file.specs.Pieces.{calls_to_open}
+use Rattle.jrn_file.specs.inner.Pieces.{OfBytes}
 use Rattle.jrn_file.proofs.Calls.{untouched-start, untouched-call, untouched-then, untouched-only}
 use Rattle.jrn_file.proofs.ReadTo.{ReadTo, read-begun, piece-of, read-on, last-piece, read-end, read-none, read-refused, read-cut, read-within, held-within, gate-in-piece, calls-within, in-range}
 use Rattle.jrn_file.specs.declared.loading.LoadFault.{LoadFault}

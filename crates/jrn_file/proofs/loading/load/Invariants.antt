@@ -1,7 +1,7 @@
 use Rattle.std.proofs.Common.{◌≡◌, ◌+◌, ◌*◌}
 use Rattle.corr_disk.specs.Calls.{CallsMade}
 use Rattle.corr_disk.specs.Disk.{Only}
-use Rattle.jrn_file.specs.Opening.{HasNoRecord, IsShut}
+use Rattle.jrn_file.specs.inner.Opening.{HasNoRecord, IsShut}
 use Rattle.jrn_file.specs.Untouched.{IsUntouched}
 use Rattle.jrn_file.proofs.ReadTo.{ReadTo}
 use Rattle.jrn_file.proofs.loading.load.Given as goal

@@ -1,7 +1,8 @@
 use Rattle.std.proofs.Common.{IsTrue, arith, sym, ◌∙◌, ap, subst}
 use Rattle.corr_disk.proofs.laws.Counted.{calls_then, at_most_weaker}
 use Rattle.jrn_file.specs.Journal.{record_in}
-use Rattle.jrn_file.specs.Making.{IsFront, made_over}
+use Rattle.jrn_file.specs.Making.{made_over}
+use Rattle.jrn_file.specs.inner.Making.{IsFront}
 use Rattle.jrn_file.proofs.Fronts.{closed-within, short-within}
 use Rattle.jrn_file.proofs.Head.{over-short}
 use Rattle.jrn_file.proofs.making.make.Goals as goal

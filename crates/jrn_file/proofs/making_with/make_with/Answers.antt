@@ -2,7 +2,8 @@ use Rattle.std.proofs.Common.{◌≡◌, ◌+◌, ◌-◌, ◌≤◌, ℕ, IsTru
 use Rattle.std.specs.Int.{div_ceil}
 use Rattle.corr_disk.specs.Calls.{AtMostCalls, CallsMade}
 use Rattle.corr_disk.proofs.laws.Counted.{at_most_weaker, calls_in_turn, calls_then}
-use Rattle.jrn_file.specs.Making.{IsFront, made_with_over, most_piece_bytes}
+use Rattle.jrn_file.specs.Making.{made_with_over, most_piece_bytes}
+use Rattle.jrn_file.specs.inner.Making.{IsFront}
 use Rattle.jrn_file.proofs.Filled.{over-one}
 use Rattle.jrn_file.proofs.Fronts.{closed-filling, closed-filled, short-filling, short-filled}
 use Rattle.jrn_file.proofs.making_with.make_with.Goals as goal

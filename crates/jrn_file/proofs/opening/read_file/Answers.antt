@@ -1,7 +1,7 @@
 use Rattle.std.proofs.Common.{subst, sym}
 use Rattle.corr_disk.specs.Calls.{CallsMade}
 use Rattle.jrn_file.specs.Reading.{cut, whole}
-use Rattle.jrn_file.specs.Opening.{ExplainsLoad}
+use Rattle.jrn_file.specs.inner.Opening.{ExplainsLoad}
 use Rattle.jrn_file.specs.Pieces.{calls_to_open}
 use Rattle.jrn_file.proofs.Opened.{opened, read-of, read-places, told-of}
 use Rattle.jrn_file.proofs.opening.read_file.Goals as goal

@@ -1,6 +1,6 @@
 use Rattle.std.proofs.Common.{◌+◌, ◌∷◌, [], ◌++◌, ap, arith, subst, ◌∙◌, append_assoc}
 use Rattle.std.proofs.lemmas.List.{take_rest}
-use Rattle.jrn_file.specs.Opening.{BeginsWith}
+use Rattle.jrn_file.specs.inner.Opening.{BeginsWith}
 use Rattle.jrn_file.proofs.Taken.{taken-more, record-within}
 use Rattle.jrn_file.proofs.reading.copy_records.Goals as goal
 

@@ -1,5 +1,5 @@
 use Rattle.std.proofs.Common.{◌≡◌, ◌≤◌, ◌-◌, ◌++◌, ℕ, List, drop, length}
-use Rattle.jrn_file.specs.Pieces.{AreTakenOff}
+use Rattle.jrn_file.specs.inner.Pieces.{AreTakenOff}
 use Rattle.jrn_file.proofs.reading.copy_records.Given as goal
 
 abbrev pub invariant-loop-alloc : goal.invariant-loop-alloc

@@ -1,5 +1,5 @@
 use Rattle.std.proofs.Common.{◌≡◌, ◌+◌, ◌-◌, take, drop, arith, subst}
-use Rattle.jrn_file.specs.Opening.{BeginsWith}
+use Rattle.jrn_file.specs.inner.Opening.{BeginsWith}
 use Rattle.jrn_file.proofs.Whole.{begins-with}
 use Rattle.jrn_file.proofs.reading.whole_record.Goals as goal
 

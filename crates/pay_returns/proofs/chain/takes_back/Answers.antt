@@ -1,5 +1,5 @@
 use Rattle.std.proofs.Common.{sym, subst}
-use Rattle.pay_returns.specs.Opposite.{AreListed}
+use Rattle.pay_returns.specs.inner.Opposite.{AreListed}
 use Rattle.pay_returns.proofs.Fits.{legs-listed}
 use Rattle.pay_returns.proofs.chain.takes_back.Goals as goal
 

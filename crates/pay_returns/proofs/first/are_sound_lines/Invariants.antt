@@ -1,7 +1,7 @@
 use Rattle.std.proofs.Common.{◌≡◌, length}
 use Rattle.std.specs.List.{list_all}
 use Rattle.corr_text.specs.Lines.{lines_of}
-use Rattle.pay_returns.specs.Walking.{is_sound_line}
+use Rattle.pay_returns.specs.inner.Walking.{is_sound_line}
 use Rattle.pay_returns.proofs.first.are_sound_lines.Given as goal
 
 -- all lines are sound exactly where the rest of them are

@@ -1,6 +1,6 @@
 use Rattle.std.proofs.Common.{◌≡◌, length}
 use Rattle.corr_text.specs.Lines.{lines_of}
-use Rattle.pay_returns.specs.Walking.{first_20}
+use Rattle.pay_returns.specs.inner.Walking.{first_20}
 use Rattle.pay_returns.proofs.first.first_20.Given as goal
 
 -- no line so far begins field 20

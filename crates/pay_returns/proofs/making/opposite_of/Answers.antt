@@ -5,7 +5,8 @@ use Rattle.day_model.specs.declared.pay.Leg.{Leg}
 use Rattle.day_model.specs.declared.pay.Pay.{Pay}
 use Rattle.day_model.specs.Chart.{Chart}
 use Rattle.day_model.proofs.laws.Fitting.{fitting}
-use Rattle.pay_returns.specs.Opposite.{AreByteQuotes, AreListed, notices_of, opposite_legs, opposite_pay}
+use Rattle.pay_returns.specs.Opposite.{notices_of, opposite_legs, opposite_pay}
+use Rattle.pay_returns.specs.inner.Opposite.{AreByteQuotes, AreListed}
 use Rattle.pay_returns.specs.Origins.{lent_in}
 use Rattle.pay_returns.specs.declared.origin.Origin.{Origin}
 use Rattle.pay_returns.proofs.Fits.{legs-listed, opposites-fit}

@@ -1,7 +1,7 @@
 use Rattle.std.proofs.Common.{◌≡◌, drop, map}
 use Rattle.pay_returns.specs.Equal.{is_leg}
 use Rattle.pay_returns.specs.Opposite.{on_side, opposite_leg}
-use Rattle.pay_returns.specs.Texts.{after_all}
+use Rattle.pay_returns.specs.inner.Texts.{after_all}
 use Rattle.pay_returns.proofs.opposite.after_opposites.Given as goal
 
 -- the opposites of the legs so far stand in front of the rest

@@ -4,7 +4,7 @@ use Rattle.day_model.specs.declared.pay.Leg.{Leg}
 use Rattle.day_model.specs.declared.pay.Side.TheVariants.{Credit, Debit}
 use Rattle.pay_returns.specs.Equal.{are_all, is_leg}
 use Rattle.pay_returns.specs.Opposite.{on_side, opposite_leg}
-use Rattle.pay_returns.specs.Texts.{after_all}
+use Rattle.pay_returns.specs.inner.Texts.{after_all}
 use Rattle.pay_returns.proofs.Comparing.{by-sides}
 use Rattle.pay_returns.proofs.opposite.are_opposite_legs.Goals as goal
 

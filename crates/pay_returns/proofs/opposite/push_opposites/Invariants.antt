@@ -1,5 +1,6 @@
 use Rattle.std.proofs.Common.{◌≡◌, ◌++◌, map, take}
-use Rattle.pay_returns.specs.Opposite.{AreByteQuotes, on_side, opposite_leg}
+use Rattle.pay_returns.specs.Opposite.{on_side, opposite_leg}
+use Rattle.pay_returns.specs.inner.Opposite.{AreByteQuotes}
 use Rattle.pay_returns.proofs.opposite.push_opposites.Given as goal
 
 -- the opposites of the legs so far, each of which quotes a byte

@@ -1,5 +1,6 @@
 use Rattle.std.proofs.Common.{◌≡◌, ◌∷◌, Some, refl, ◌∙◌, ap, length, arith, ◌≤◌}
-use Rattle.corr_disk.specs.Past.{History, DiskStep}
+use Rattle.corr_disk.specs.Past.{DiskStep}
+use Rattle.corr_disk.specs.inner.Past.{History}
 use Rattle.corr_disk.proofs.Steps.{write-crash, part_is_torn}
 use Rattle.corr_disk.proofs.fuse_disk.FuseDiskDisk.write_at.Goals as goal
 

@@ -1,5 +1,5 @@
 use Rattle.std.proofs.Common.{subst}
-use Rattle.corr_disk.specs.Past.{Settles}
+use Rattle.corr_disk.specs.inner.Past.{Settles}
 use Rattle.corr_disk.proofs.Steps.{sync-crash}
 use Rattle.corr_disk.proofs.planned_disk.PlannedDiskDisk.sync.Goals as goal
 

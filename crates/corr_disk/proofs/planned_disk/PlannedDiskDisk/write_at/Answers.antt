@@ -1,5 +1,6 @@
 use Rattle.std.proofs.Common.{◌≡◌, ◌∷◌, Some, refl, ◌∙◌, ap}
-use Rattle.corr_disk.specs.Past.{History, DiskStep}
+use Rattle.corr_disk.specs.Past.{DiskStep}
+use Rattle.corr_disk.specs.inner.Past.{History}
 use Rattle.corr_disk.proofs.Steps.{write-crash}
 use Rattle.corr_disk.proofs.planned_disk.PlannedDiskDisk.write_at.Goals as goal
 

@@ -2,7 +2,8 @@ use Rattle.std.proofs.Common.{◌≡◌, ℕ, List, [], ◌∷◌, ◌++◌, ap,
 use Rattle.day_model.specs.declared.account.Account.{Account}
 use Rattle.day_model.specs.declared.change.Change.{Change}
 use Rattle.day_model.specs.Chart.{Chart, accounts_of, with_change}
-use Rattle.day_model.specs.Legal.{CanMake, IsLegal}
+use Rattle.day_model.specs.Legal.{IsLegal}
+use Rattle.day_model.specs.inner.Legal.{CanMake}
 use Rattle.day_model.proofs.laws.Changing.{can_make, keeps_with_change, last_change}
 use Rattle.day_model.proofs.accounts.Accounts.change.Goals as goal
 

@@ -2,7 +2,7 @@ use Rattle.std.proofs.Common.{List, None, Option, ◌∙◌, subst}
 use Rattle.day_model.specs.declared.account.Account.{Account}
 use Rattle.day_model.specs.declared.gap.Gap.{Gap}
 use Rattle.day_model.specs.Chart.{AreBalanced}
-use Rattle.day_model.specs.Gap.{FirstGap}
+use Rattle.day_model.specs.inner.Gap.{FirstGap}
 use Rattle.day_model.proofs.laws.Changing.{keeps_first}
 use Rattle.day_model.proofs.accounts.Accounts.new.Goals as goal
 

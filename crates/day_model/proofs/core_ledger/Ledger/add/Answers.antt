@@ -1,6 +1,7 @@
 use Rattle.std.proofs.Common.{List, sym, subst}
 use Rattle.day_model.specs.declared.pay.Leg.{Leg}
-use Rattle.day_model.specs.CoreLedger.{CanAddAll, LedgerState}
+use Rattle.day_model.specs.CoreLedger.{LedgerState}
+use Rattle.day_model.specs.inner.CoreLedger.{CanAddAll}
 use Rattle.day_model.proofs.CoreLedgers.{can_add_now}
 use Rattle.day_model.proofs.core_ledger.Ledger.add.Goals as goal
 

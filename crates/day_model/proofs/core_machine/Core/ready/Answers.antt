@@ -4,7 +4,8 @@ use Rattle.std.specs.List.{position_from}
 use Rattle.std.proofs.lemmas.Bool.{false≢true}
 use Rattle.day_model.specs.declared.core_job.Job.{Job}
 use Rattle.day_model.specs.CoreStep.{CoreState}
-use Rattle.day_model.specs.CoreSound.{IsSound, can_go_on}
+use Rattle.day_model.specs.CoreSound.{IsSound}
+use Rattle.day_model.specs.inner.CoreSound.{can_go_on}
 use Rattle.day_model.proofs.CoreReady.{idle_none, none_ready, ready_least, ready_may}
 use Rattle.day_model.proofs.laws.Places.{one-Some, one-None, position_from-within}
 use Rattle.day_model.proofs.core_machine.Core.ready.Goals as goal

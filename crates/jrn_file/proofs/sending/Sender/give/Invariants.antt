@@ -1,5 +1,5 @@
 use Rattle.std.proofs.Common.{◌≡◌, ◌≤◌, ◌<◌, ◌-◌, length, take}
-use Rattle.jrn_file.specs.Sending.{IsSent, LeavesShut, StaysShut, place_of}
+use Rattle.jrn_file.specs.inner.Sending.{IsSent, LeavesShut, StaysShut, place_of}
 use Rattle.jrn_file.proofs.sending.Sender.give.Given as goal
 
 abbrev pub invariant-loop-given : goal.invariant-loop-given

@@ -1,0 +1,6 @@
+pub mod CoreLedger
+pub mod CoreSound
+pub mod Gap
+pub mod Legal
+pub mod Pairs
+pub mod RowTests

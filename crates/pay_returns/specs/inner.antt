@@ -1,0 +1,5 @@
+pub mod Equal
+pub mod Opposite
+pub mod Returns
+pub mod Texts
+pub mod Walking
