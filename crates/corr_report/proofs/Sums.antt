@@ -13,7 +13,7 @@ use Rattle.day_model.specs.Legal.{IsLegal}
 use Rattle.day_model.specs.Laws.{sum_in, turnover}
 use Rattle.day_model.specs.Totals.{Pair, HasTotals, totals_of}
 use Rattle.day_model.proofs.laws.Turnovers.{turnover_by_accounts, turnover_fits}
-use Rattle.corr_report.specs.Totals.{part_at, part_of, sum_over}
+use Rattle.corr_report.specs.inner.Totals.{part_at, part_of, sum_over}
 
 over_same : (f g : ℕ → ℕ) (ccy : Ccy) (i : ℕ) (accounts : List Account) → ((n : ℕ) → i ≤ n → n < i + length accounts → f n ≡ g n) → sum_over f ccy i accounts ≡ sum_over g ccy i accounts
 over_same f g ccy i [] h = refl

@@ -4,3 +4,5 @@ pub mod DayFile
 pub mod Reordered
 pub mod Settled
 pub mod LineLists
+pub mod FailingLeg
+pub mod Totals

@@ -2,6 +2,6 @@ pub mod Lines
 pub mod Report
 pub mod Bookings
 pub mod Totals
-pub mod Outcomes
 pub mod Generated
 pub mod Summary
+pub mod inner

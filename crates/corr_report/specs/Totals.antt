@@ -1,19 +1,16 @@
 -- The currencies of a book, and what its booked entries move in each.
-use Rattle.std.specs.Prelude.{◌≡◌, ℕ, ◌+◌, true, List, [], ◌∷◌, unwrap_or, codes, if◌then◌else◌}
+use Rattle.std.specs.Prelude.{◌≡◌, ℕ, true, List, [], ◌∷◌, codes, if◌then◌else◌}
 use Rattle.std.specs.List.{All, Contains, flat_map, insert, list_any, position_or_len}
 use Rattle.std.specs.List.Sorted.{IsStrictlySortedBy}
 use Rattle.std.specs.Ordering.{nat_cmp}
 use Rattle.std.specs.Cmp.Lexicographic.{slice_cmp}
 use Rattle.corr_money.specs.Amounts.{amount_text}
-use Rattle.corr_money.specs.declared.amount.Ccy.{Ccy}
 use Rattle.day_model.specs.declared.account.Account.{Account}
 use Rattle.day_model.specs.declared.entry.Entry.{Entry}
-use Rattle.day_model.specs.declared.pay.Side.{Side}
 use Rattle.day_model.specs.declared.pay.Side.TheVariants.{Debit, Credit}
 use Rattle.day_model.specs.Chart.{Chart, accounts_of, is_same_ccy}
 use Rattle.day_model.specs.Gap.{is_before}
 use Rattle.day_model.specs.Laws.{turnover}
-use Rattle.day_model.specs.Totals.{Pair, pair_at}
 use Rattle.corr_report.specs.declared.currency.Currency.{Currency}
 use Rattle.corr_report.specs.Lines.{line}
 
@@ -49,17 +46,3 @@ total_of chart entries unit =
 -- a line for each currency
 abbrev pub total_lines : Chart → List Entry → List ℕ
 total_lines chart entries = flat_map (total_of chart entries) (currencies_of [] (accounts_of chart))
-
--- the sum of a number of each account of a currency, the first account having number n
-abbrev pub sum_over : (ℕ → ℕ) → Ccy → ℕ → List Account → ℕ
-sum_over moved ccy n [] = 0
-sum_over moved ccy n (account ∷ accounts) = (if is_same_ccy account.ccy ccy then moved n else 0) + sum_over moved ccy (n + 1) accounts
-
--- one side of an account's totals
-abbrev pub part_of : Side → Pair → ℕ
-part_of Credit p = p.0
-part_of Debit p = p.1
-
--- one side of the totals of account n, in a list that begins with account 1's
-abbrev pub part_at : Side → List Pair → ℕ → ℕ
-part_at side pairs n = part_of side (unwrap_or (pair_at pairs n) (0, 0))

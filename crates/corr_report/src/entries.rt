@@ -6,7 +6,7 @@ ghost use Rattle.day_model.specs.Fit.{FitsAccounts};
 ghost use Rattle.day_model.specs.Legal.{IsLegal};
 ghost use Rattle.day_model.specs.declared.entry.Entry.{Entry as TheEntry};
 ghost use Rattle.corr_report.specs.Bookings.{AreInCentury, booking_line, bookings_of};
-ghost use Rattle.corr_report.specs.Outcomes.{NamesLeg};
+ghost use Rattle.corr_report.specs.inner.Outcomes.{NamesLeg};
 
 use crate::outcome::put_outcome;
 use crate::words::put_word;

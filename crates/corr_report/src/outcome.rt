@@ -7,7 +7,7 @@ ghost use Rattle.day_model.specs.Chart.{IsListed, account_at};
 ghost use Rattle.day_model.specs.Fit.{FitsAccounts};
 ghost use Rattle.corr_report.specs.Bookings.{leg_words, outcome_words};
 ghost use Rattle.corr_report.specs.Lines.{said, spaced};
-ghost use Rattle.corr_report.specs.Outcomes.{NamesLeg};
+ghost use Rattle.corr_report.specs.inner.Outcomes.{NamesLeg};
 ghost use Rattle.corr_report.specs.Report.{amount_words, balance_words, debited_words, entry_words};
 
 use crate::words::{put_amount, put_balance, put_number, put_word, side_letter};

@@ -2,7 +2,7 @@
 
 ghost use Rattle.std.specs.Prelude.{◌≡◌, ◌<◌, ◌≤◌, ◌^◌, length, if◌then◌else◌};
 ghost use Rattle.day_model.specs.Chart.{accounts_of, is_same_ccy};
-ghost use Rattle.corr_report.specs.Totals.{part_at, part_of, sum_over};
+ghost use Rattle.corr_report.specs.inner.Totals.{part_at, part_of, sum_over};
 
 use corr_money::Ccy;
 use day_model::{Account, Accounts, AcctNo, Side};

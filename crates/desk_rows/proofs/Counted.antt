@@ -1,7 +1,7 @@
 -- What the entries up to a day make of the totals of accounts.
-use Rattle.std.proofs.Common.{◌≡◌, ℕ, suc, ◌+◌, ◌-◌, ◌<◌, ◌≤◌, Bool, true, false, cond, List, [], ◌∷◌, ◌++◌, Option, Some, None, length, take, get_or, refl, sym, ap, ◌∙◌, subst, arith, inl, inr}
+use Rattle.std.proofs.Common.{◌≡◌, ℕ, suc, ◌+◌, ◌-◌, ◌<◌, ◌≤◌, Bool, true, false, cond, List, [], ◌∷◌, ◌++◌, Option, Some, None, length, take, refl, sym, ap, ◌∙◌, subst, arith, inl, inr}
 use Rattle.std.proofs.Common.{ℤ, pos, ◌+ℤ◌, ◌-ℤ◌, ◌≤ℤ◌}
-use Rattle.std.specs.Prelude.{All, filter, int_le, not, option_map, slice_get, sum_by, unwrap_or}
+use Rattle.std.specs.Prelude.{All, filter, int_le, not, slice_get, sum_by}
 use Rattle.std.proofs.lemmas.Bool.{cases_Bool, cond_both, true≢false}
 use Rattle.std.proofs.lemmas.Int.{ints}
 use Rattle.std.proofs.lemmas.List.{append-nil, take_all}
@@ -13,16 +13,18 @@ use Rattle.day_model.specs.declared.account.Account.{Account}
 use Rattle.day_model.specs.declared.entry.Entry.{Entry}
 use Rattle.day_model.specs.declared.pay.Leg.{Leg}
 use Rattle.day_model.specs.declared.pay.Side.TheVariants.{Credit, Debit}
-use Rattle.day_model.specs.Balance.{balance_of, credits_of, debits_of, moved_by, opening_of}
+use Rattle.day_model.specs.Balance.{balance_of, moved_by}
 use Rattle.day_model.specs.Chart.{Chart, IsChart, IsListed, IsSmall, account_at, accounts_of}
 use Rattle.day_model.specs.Legal.{IsLegal}
 use Rattle.day_model.specs.Pairs.{PairsFit, pairs_with}
 use Rattle.day_model.specs.Totals.{Fits64, HasTotals, Pair, booked_legs, legs_pair, plus, totals_of}
 use Rattle.day_model.proofs.laws.Histories.{has_entry}
-use Rattle.day_model.proofs.laws.PairLists.{pair_after, pair_read, pairs_with-nil, there_is}
+use Rattle.day_model.proofs.laws.PairLists.{pair_after, pairs_with-nil, there_is}
 use Rattle.day_model.proofs.laws.Pairs.{booked_listed, legal_totals_fit, totals_so_far}
 use Rattle.day_model.proofs.laws.Standing.{small_at}
-use Rattle.desk_rows.specs.Until.{entries_until, is_until, legs_until}
+use Rattle.corr_report.proofs.laws.Totals.{balance_is}
+use Rattle.desk_rows.specs.Until.{entries_until, is_until}
+use Rattle.desk_rows.specs.inner.Until.{legs_until}
 
 -- where no day is told all entries count
 pub all_count : (entries : List Entry) → entries_until None entries ≡ entries
@@ -128,21 +130,7 @@ module _ (until : Option Day) where
       subst (λ (es : List Entry). Fits64 (totals_of n (entries_until until es))) (take_all (length entries) entries (omega arith))
       (totals_fit chart entries (length entries) n legal)
 
--- ---- the pair of an account
-
--- is its totals
-pub pair_is : (entries : List Entry) (pairs : List Pair) (n count : ℕ) (p : Pair) → HasTotals pairs count entries → 1 ≤ n → n ≤ count → p ≡ get_or pairs (n - 1) p → p ≡ totals_of n entries
-pair_is entries pairs n count p has low high is =
-    same_Some p (totals_of n entries) (sym (pair_read pairs n p low (omega (arith, high, has.size)) is) ∙ has.each n low high)
-
--- and gives its balance
-pub balance_is : (chart : Chart) (entries : List Entry) (n : ℕ) (p : Pair) (account : Account) → p ≡ totals_of n entries → account_at chart n ≡ Some account
-    → (account.opening +ℤ pos p.0) -ℤ pos p.1 ≡ balance_of chart entries n
-balance_is chart entries n p account totals at =
-    let opening : account.opening ≡ opening_of chart n = ap (λ (o : Option Account). unwrap_or (option_map (λ x. x.opening) o) (pos 0)) (sym at) in
-    ap (λ (q : Pair). (account.opening +ℤ pos q.0) -ℤ pos q.1) totals ∙ ap (λ (z : ℤ). (z +ℤ pos (credits_of entries n)) -ℤ pos (debits_of entries n)) opening
-
--- its opening is below 10^14 in size
+-- the opening of an account is below 10^14 in size
 pub opening_small : (chart : Chart) (entries : List Entry) (n : ℕ) (account : Account) → IsChart chart → IsLegal chart entries → IsListed chart n
     → account_at chart n ≡ Some account → IsSmall account.opening
 opening_small chart entries n account sound legal listed at =

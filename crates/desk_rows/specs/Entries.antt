@@ -61,10 +61,11 @@ abbrev pub is_second_credit : List Leg → Bool
 is_second_credit (first ∷ second ∷ legs) = is_side Credit second.side
 is_second_credit _ = false
 
--- where the leg stands that credits, counted from 0, and where the charge's does
+-- where the leg stands that credits, counted from 0
 abbrev pub credit_place : List Leg → ℕ
 credit_place legs = if is_second_credit legs then 1 else 2
 
+-- where the charge's does
 abbrev pub fee_place : List Leg → ℕ
 fee_place legs = if is_second_credit legs then 2 else 1
 

@@ -4,3 +4,4 @@ pub mod Balances
 pub mod Plain
 pub mod Entries
 pub mod Reading
+pub mod inner

@@ -4,7 +4,7 @@ ghost use Rattle.std.specs.Prelude.{◌≡◌, ◌≤◌, ◌<◌, ◌++◌, ◌
 ghost use Rattle.corr_ids.specs.Day.{InCentury, yymmdd_of};
 ghost use Rattle.corr_money.specs.Amounts.{most_decimals};
 ghost use Rattle.corr_report.specs.Bookings.{AreInCentury};
-ghost use Rattle.corr_report.specs.Outcomes.{NamesLeg};
+ghost use Rattle.corr_report.specs.inner.Outcomes.{NamesLeg};
 ghost use Rattle.day_model.specs.Chart.{IsListed, account_at};
 ghost use Rattle.day_model.specs.Fit.{FitsAccounts};
 ghost use Rattle.day_model.specs.Legal.{IsLegal};

@@ -4,7 +4,8 @@ ghost use Rattle.std.specs.Prelude.{◌≡◌, [], IfOk, length};
 ghost use Rattle.day_model.specs.Chart.{accounts_of};
 ghost use Rattle.day_model.specs.Legal.{IsLegal};
 ghost use Rattle.day_model.specs.Totals.{HasTotals};
-ghost use Rattle.desk_rows.specs.Until.{entries_until, is_until, legs_until};
+ghost use Rattle.desk_rows.specs.Until.{entries_until, is_until};
+ghost use Rattle.desk_rows.specs.inner.Until.{legs_until};
 
 use corr_ids::Day;
 use corr_text::Memory;

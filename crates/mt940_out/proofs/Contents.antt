@@ -16,7 +16,7 @@ use Rattle.fin_layout.specs.Tests.{contents_from}
 use Rattle.fin_contents.proofs.laws.Bytes.{and-both}
 use Rattle.mt950.specs.Order.{order_950}
 use Rattle.mt950.specs.Page.{content_test}
-use Rattle.mt940_out.specs.Faults.{first_bad_note, is_ahead}
+use Rattle.mt940_out.specs.inner.Faults.{first_bad_note, is_ahead}
 use Rattle.mt940_out.specs.Order.{is_line, is_note, places_940, without_notes}
 use Rattle.mt940_out.specs.Page.{content_test_940, is_note_text, note_fault}
 use Rattle.mt940_out.proofs.Counts.{SameCounts, ahead-within, count-front, counts-field, counts-note, fault-behind, not-ahead, told-alike, told_behind}

@@ -8,7 +8,7 @@ use Rattle.corr_text.specs.declared.fault.Fault.{Fault}
 use Rattle.fin_fields.specs.Faults.{is_like, letter_of, tag_of}
 use Rattle.fin_fields.specs.declared.field.Field.{Field}
 use Rattle.fin_layout.specs.Naming.{fault_at}
-use Rattle.mt940_out.specs.Faults.{has_tag, is_ahead}
+use Rattle.mt940_out.specs.inner.Faults.{has_tag, is_ahead}
 use Rattle.mt940_out.specs.Order.{is_note}
 
 -- ---- a fault of the field behind others

@@ -14,7 +14,7 @@ use Rattle.fin_contents.proofs.laws.Bytes.{and-both}
 use Rattle.mt950.specs.Order.{order_950}
 use Rattle.mt950.specs.Rules.{currency_rules, is_same, of_available, same_two_letters}
 use Rattle.mt950.specs.declared.said.Said.{Said}
-use Rattle.mt940_out.specs.Faults.{first_bad_note, has_tag, is_ahead}
+use Rattle.mt940_out.specs.inner.Faults.{first_bad_note, has_tag, is_ahead}
 use Rattle.mt940_out.specs.Order.{is_line, is_note, places_940}
 use Rattle.mt940_out.specs.Page.{is_note_text}
 use Rattle.mt940_out.proofs.Contents.{counted, moved}

@@ -10,10 +10,11 @@ use Rattle.fin_layout.specs.Order.{free_after, place_from, places_from}
 use Rattle.fin_contents.specs.Writing.{lines_field, lines_fields}
 use Rattle.fin_contents.proofs.laws.Bytes.{and-both}
 use Rattle.mt950.specs.Order.{order_950}
-use Rattle.mt940_out.specs.Faults.{first_bad_note}
+use Rattle.mt940_out.specs.inner.Faults.{first_bad_note}
 use Rattle.mt940_out.specs.Order.{is_line, is_note, note_behind, notes_of, places_940, without_notes}
 use Rattle.mt940_out.specs.Page.{is_note_text}
-use Rattle.mt940_out.specs.Writing.{IsNote, first_note, other_notes, with_notes}
+use Rattle.mt940_out.specs.Writing.{first_note, other_notes, with_notes}
+use Rattle.mt940_out.specs.inner.Writing.{IsNote}
 use Rattle.mt940_out.proofs.Front.{AllPlaced}
 use Rattle.mt940_out.proofs.Steps.{Takes, bad-note, good-note, next-place, no-note, no-place, option-cases, places-placed, takes-no-note, without-field, without-note}
 

@@ -8,7 +8,8 @@ use Rattle.ref_tables.specs.Seen.{Tables}
 use Rattle.fin_fields.specs.declared.field.Field.{Field}
 use Rattle.fin_layout.specs.Naming.{fault_at}
 use Rattle.fin_layout.specs.Order.{free_after, places_from}
-use Rattle.fin_layout.specs.Reading.{Fails, Tells}
+use Rattle.fin_layout.specs.Reading.{Tells}
+use Rattle.fin_layout.specs.inner.Reading.{Fails}
 use Rattle.fin_layout.specs.Tests.{lacking, misplaced}
 use Rattle.fin_layout.specs.declared.fault.MtFault.{MtFault}
 use Rattle.fin_layout.specs.declared.fault.MtFault.TheVariants as faults
@@ -19,7 +20,7 @@ use Rattle.mt950.specs.Rules.{currency_rules}
 use Rattle.mt950.specs.declared.page.Page950.{Page950}
 use Rattle.mt950.specs.declared.said.Said.{Said}
 use Rattle.mt950.proofs.laws.Pages.{fields-pass-950}
-use Rattle.mt940_out.specs.Faults.{earlier_fault, first_bad_note, is_ahead, structure_940}
+use Rattle.mt940_out.specs.inner.Faults.{earlier_fault, first_bad_note, is_ahead, structure_940}
 use Rattle.mt940_out.specs.Order.{fields_beside, is_line, notes_of, places_940, without_notes}
 use Rattle.mt940_out.specs.Page.{decimals_940, misplaced_940, mt940_of, tests_940}
 use Rattle.mt940_out.specs.declared.page.Page940.{Page940}

@@ -38,10 +38,11 @@ use Rattle.mt950.specs.declared.said.Said.{Said}
 use Rattle.mt950.proofs.laws.Pages.{fields-fit-950, fields-pass-950, page-readable, page-reads-back, readable-page}
 use Rattle.advices.specs.Fields.{is_named}
 use Rattle.advices.proofs.laws.Finding.{Agrees, agree}
-use Rattle.mt940_out.specs.Faults.{first_bad_note, is_ahead, structure_940}
+use Rattle.mt940_out.specs.inner.Faults.{first_bad_note, is_ahead, structure_940}
 use Rattle.mt940_out.specs.Order.{fields_beside, is_line, notes_of, places_940}
 use Rattle.mt940_out.specs.Page.{misplaced_940, mt940_of, tests_940}
-use Rattle.mt940_out.specs.Writing.{IsNote, fields_940, with_notes}
+use Rattle.mt940_out.specs.Writing.{fields_940, with_notes}
+use Rattle.mt940_out.specs.inner.Writing.{IsNote}
 use Rattle.mt940_out.specs.declared.page.Page940.{Page940}
 use Rattle.mt940_out.proofs.Contents.{chosen}
 use Rattle.mt940_out.proofs.Noted.{HasForm, NoNotes, all-fine, all-stay, beside-fit, lines-kept, lines_in, noted-fit, notes-again, notes-count, notes-formed, notes-kept, placed-free, without-with}

@@ -15,7 +15,8 @@ use Rattle.day_model.specs.declared.entry.Entry.{Entry}
 use Rattle.statement.specs.Lines.{Placed, lines_on}
 use Rattle.statement.specs.Pages.{lines_of_page, page_at, pages_for, pages_from, placed_page, placed_pages_of, statement_of}
 use Rattle.statement.specs.Seen.{SeenBook}
-use Rattle.statement.specs.Valid.{IsPrintable, Prints}
+use Rattle.statement.specs.Valid.{Prints}
+use Rattle.statement.specs.inner.Valid.{IsPrintable}
 use Rattle.statement.specs.declared.index.HistoryIndex.{HistoryIndex}
 use Rattle.statement.specs.declared.page.PlacedPage.{PlacedPage}
 use Rattle.statement.proofs.laws.Readable.{page-written}

@@ -10,7 +10,7 @@ use Rattle.fin_layout.specs.Order.{fits, free_after, place_from, places_from}
 use Rattle.fin_contents.proofs.laws.Bytes.{and-both}
 use Rattle.mt950.specs.Order.{order_950}
 use Rattle.mt940_out.specs.Order.{is_line, is_note, places_940, without_notes}
-use Rattle.mt940_out.specs.Faults.{first_bad_note}
+use Rattle.mt940_out.specs.inner.Faults.{first_bad_note}
 use Rattle.mt940_out.specs.Page.{is_note_text}
 
 pub option-cases : (o : Option ℕ) → (o ≡ None) ⊎ ((k : ℕ) × (o ≡ Some k))

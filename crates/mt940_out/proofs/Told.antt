@@ -15,7 +15,7 @@ use Rattle.advices.specs.Fields.{is_named}
 use Rattle.advices.specs.Received.{first_fields, sequence_b}
 use Rattle.advices.proofs.laws.Copies.{found-each}
 use Rattle.mt940_out.specs.Notes.{lines_named, may_continue, note_at, note_in, note_of, transfer_fields}
-use Rattle.mt940_out.specs.Writing.{IsNote}
+use Rattle.mt940_out.specs.inner.Writing.{IsNote}
 
 -- a line of X
 abbrev Plain : List ℕ → Type 0

@@ -10,7 +10,7 @@ use Rattle.fin_layout.specs.Naming.{absent, fault_at}
 use Rattle.fin_layout.specs.Order.{free_after, missing_from, places_from}
 use Rattle.fin_layout.specs.Tests.{lacking}
 use Rattle.mt950.specs.Order.{order_950}
-use Rattle.mt940_out.specs.Faults.{place_beside, place_past, structure_940}
+use Rattle.mt940_out.specs.inner.Faults.{place_beside, place_past, structure_940}
 use Rattle.mt940_out.specs.Order.{fields_beside, is_line, is_note, places_940, without_notes}
 use Rattle.mt940_out.specs.Page.{misplaced_940}
 use Rattle.mt940_out.proofs.Steps.{Step, next-place, no-place, places-note, places-placed, places-unplaced, step-of, without-field, without-note}

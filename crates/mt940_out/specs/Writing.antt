@@ -1,17 +1,17 @@
 -- A page with its notes written as fields.
-use Rattle.std.specs.Prelude.{ℕ, ◌⊎◌, ◌≡◌, List, [], ◌∷◌, ◌++◌, None, if◌then◌else◌}
-use Rattle.fin_fields.specs.Writing.{IsField}
+use Rattle.std.specs.Prelude.{ℕ, List, [], ◌∷◌, ◌++◌, None, if◌then◌else◌}
 use Rattle.fin_fields.specs.declared.field.Field.{Field}
-use Rattle.fin_contents.specs.Writing.{lines_field, lines_fields}
+use Rattle.fin_contents.specs.Writing.{lines_fields}
 use Rattle.mt950.specs.Writing.{fields_950}
 use Rattle.mt940_out.specs.Order.{is_line}
 use Rattle.mt940_out.specs.declared.page.Page940.{Page940}
 
--- the note of the next 61, and those of the others
+-- the note of the next 61
 abbrev pub first_note : List (List (List ℕ)) → List (List ℕ)
 first_note [] = []
 first_note (note ∷ notes) = note
 
+-- the notes of the others
 abbrev pub other_notes : List (List (List ℕ)) → List (List (List ℕ))
 other_notes [] = []
 other_notes (note ∷ notes) = notes
@@ -26,7 +26,3 @@ with_notes notes (f ∷ fs) =
 -- the fields of a page: those of its MT950, each 61 with its note
 abbrev pub fields_940 : Page940 → List Field
 fields_940 p = with_notes p.notes (fields_950 p.page)
-
--- lines that can be a note: none, or those of an 86 that a text may hold
-abbrev pub IsNote : List (List ℕ) → Type 0
-IsNote note = (note ≡ []) ⊎ IsField (lines_field 86 None note)

@@ -3,7 +3,7 @@
 ghost use Rattle.std.specs.Prelude.{◌≡◌, ◌==◌, ◌&&◌, ◌≤◌, ◌<◌, IfOk, IfSome, false, length};
 ghost use Rattle.fin_fields.specs.Faults.{letter_of};
 ghost use Rattle.mt940_out.specs.Order.{fields_beside, is_line, is_note, note_behind, notes_of};
-ghost use Rattle.mt940_out.specs.Faults.{first_bad_note, place_beside};
+ghost use Rattle.mt940_out.specs.inner.Faults.{first_bad_note, place_beside};
 
 use corr_text::{List, Memory, Text, copy_texts};
 use fin_fields::{Field, FieldLines, Pattern, lend_field, matches};

@@ -9,7 +9,7 @@ ghost use Rattle.statement.specs.Valid.{AreShaped};
 ghost use Rattle.mt940_out.specs.Notes.{note_at};
 ghost use Rattle.mt940_out.specs.Pages.{customer_message, noted_page};
 ghost use Rattle.mt940_out.specs.Valid.{IsSent};
-ghost use Rattle.mt940_out.specs.Writing.{IsNote};
+ghost use Rattle.mt940_out.specs.inner.Writing.{IsNote};
 
 use crate::note::note_of;
 use crate::writing::put_noted;

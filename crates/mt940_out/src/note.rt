@@ -8,7 +8,7 @@ ghost use Rattle.day_model.specs.Shape.{most_text};
 ghost use Rattle.fin_fields.specs.Faults.{letter_of};
 ghost use Rattle.fin_fields.specs.Writing.{IsField};
 ghost use Rattle.mt940_out.specs.Notes.{lines_named, may_continue, note_in, note_of, transfer_fields};
-ghost use Rattle.mt940_out.specs.Writing.{IsNote};
+ghost use Rattle.mt940_out.specs.inner.Writing.{IsNote};
 
 use corr_text::{List, Memory, Text};
 use day_model::{Mt, Pay};

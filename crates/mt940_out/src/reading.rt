@@ -9,7 +9,7 @@ ghost use Rattle.fin_layout.specs.Reading.{Gives, Tells};
 ghost use Rattle.fin_layout.specs.Tests.{lacking};
 ghost use Rattle.mt950.specs.Order.{order_950};
 ghost use Rattle.ref_tables.specs.Seen.{few_decimals};
-ghost use Rattle.mt940_out.specs.Faults.{earlier_fault, first_bad_note, is_ahead, structure_940};
+ghost use Rattle.mt940_out.specs.inner.Faults.{earlier_fault, first_bad_note, is_ahead, structure_940};
 ghost use Rattle.mt940_out.specs.Order.{fields_beside};
 ghost use Rattle.mt940_out.specs.Page.{mt940_of, tests_940};
 

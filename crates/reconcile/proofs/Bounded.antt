@@ -31,12 +31,13 @@ use Rattle.statement.specs.Legs.{before_day}
 use Rattle.statement.specs.Lines.{Placed, lines_on, up_to_day}
 use Rattle.statement.specs.Running.{placed_by}
 use Rattle.statement.specs.Seen.{SeenBook}
-use Rattle.statement.specs.Valid.{IsPrintable}
+use Rattle.statement.specs.inner.Valid.{IsPrintable}
 use Rattle.statement.specs.declared.index.HistoryIndex.{HistoryIndex}
 use Rattle.statement.specs.declared.movement.Movement.{Movement}
 use Rattle.statement.proofs.laws.Balances.{small-before, small-up-to}
 use Rattle.statement.proofs.laws.Readable.{lines-written}
-use Rattle.reconcile.specs.Bounds.{CanBeKeyed, Compares, IsLine, IsReceived, IsIndexFor}
+use Rattle.reconcile.specs.Bounds.{IsReceived}
+use Rattle.reconcile.specs.inner.Bounds.{CanBeKeyed, Compares, IsLine, IsIndexFor}
 use Rattle.reconcile.proofs.Tests.{middle}
 
 short-run : (most : ℕ) (text : List ℕ) → (nat_le 1 (length text) && nat_le (length text) most && list_all (is_in X) text) ≡ true → length text ≤ most

@@ -10,7 +10,8 @@ use Rattle.std.proofs.lemmas.Option.{get_or_from_slice_get, same_Some, slice_get
 use Rattle.std.proofs.lemmas.Slice.Eq.{bytes_eq-Decides}
 use Rattle.mt950.specs.Entry.{effect_of}
 use Rattle.mt950.specs.declared.entry.Line61.{Line61}
-use Rattle.statement.specs.Lines.{Placed, PlacesFrom}
+use Rattle.statement.specs.Lines.{Placed}
+use Rattle.statement.specs.inner.Lines.{PlacesFrom}
 use Rattle.reconcile.specs.Pairing.{matches, pairs_of, line_partner, says_same}
 use Rattle.reconcile.specs.Rule.{IsFirstFree, IsFree, IsPairing}
 use Rattle.reconcile.proofs.Counting.{count-lt, kept-at, kept-from, nth}

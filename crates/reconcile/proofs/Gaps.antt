@@ -10,7 +10,8 @@ use Rattle.std.proofs.lemmas.Option.{none-some, same_Some}
 use Rattle.mt950.specs.Entry.{effect_of}
 use Rattle.mt950.specs.Joining.{effects_of}
 use Rattle.mt950.specs.declared.entry.Line61.{Line61}
-use Rattle.statement.specs.Lines.{Placed, PlacesFrom}
+use Rattle.statement.specs.Lines.{Placed}
+use Rattle.statement.specs.inner.Lines.{PlacesFrom}
 use Rattle.reconcile.specs.Comparison.{added_by, effects_at, entry_at, line_at, placed_at, total}
 use Rattle.reconcile.specs.Pairing.{ours_left, pairs_of, entry_places, theirs_left}
 use Rattle.reconcile.proofs.First.{at-contains, by-the-rule, contains-at, meets}

@@ -12,7 +12,7 @@ use Rattle.std.proofs.lemmas.List.Elements.{filter-append}
 use Rattle.std.proofs.lemmas.Option.{none-some, same_Some, slice_get_read, slice_get_within}
 use Rattle.std.proofs.lemmas.Slice.Eq.{bytes_eq-Decides}
 use Rattle.mt950.specs.declared.page.Page950.{Page950}
-use Rattle.reconcile.specs.Gathering.{Gathers, page_account, is_open, open_at, place_after, place_for_page, room_in}
+use Rattle.reconcile.specs.inner.Gathering.{Gathers, page_account, is_open, open_at, place_after, place_for_page, room_in}
 use Rattle.reconcile.specs.Pieces.{begins_piece, is_unfinished, is_of, pieces_of}
 use Rattle.reconcile.specs.declared.grouping.Gathered.{Gathered}
 use Rattle.reconcile.proofs.Growing.{begun, extended, pieces-more}

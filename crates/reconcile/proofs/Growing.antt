@@ -5,7 +5,7 @@ use Rattle.std.specs.Str.{bytes_eq}
 use Rattle.std.proofs.lemmas.List.{append-nil}
 use Rattle.std.proofs.lemmas.List.Elements.{filter-append}
 use Rattle.mt950.specs.declared.page.Page950.{Page950}
-use Rattle.reconcile.specs.Gathering.{page_account, is_open}
+use Rattle.reconcile.specs.inner.Gathering.{page_account, is_open}
 use Rattle.reconcile.specs.Pieces.{begins_piece, is_unfinished, is_of, piece_of, pieces_from, pieces_of, until_closed}
 use Rattle.reconcile.proofs.Keyed.{short-eq}
 

@@ -12,7 +12,7 @@ use Rattle.mt950.specs.Entry.{effect_of}
 use Rattle.mt950.specs.declared.entry.Line61.{Line61}
 use Rattle.statement.specs.Running.{placed_by}
 use Rattle.statement.specs.declared.movement.Movement.{Movement}
-use Rattle.reconcile.specs.Keys.{is_key, key_of, short_of, taken_by}
+use Rattle.reconcile.specs.inner.Keys.{is_key, key_of, short_of, taken_by}
 use Rattle.reconcile.specs.Pairing.{matches, says_same}
 
 pub same-truth : (p q : Bool) → (p ≡ true → q ≡ true) → (q ≡ true → p ≡ true) → p ≡ q

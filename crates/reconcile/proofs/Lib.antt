@@ -18,3 +18,5 @@ pub mod Nostro
 pub mod Growing
 pub mod Within
 pub mod Gathering
+pub mod Spread
+pub mod LeftOut

@@ -9,9 +9,9 @@ use Rattle.mt950.specs.declared.entry.Line61.{Line61}
 use Rattle.statement.specs.Lines.{Placed}
 use Rattle.statement.specs.Running.{placed_by}
 use Rattle.statement.specs.declared.movement.Movement.{Movement}
-use Rattle.reconcile.specs.Keys.{is_key, taken_by}
+use Rattle.reconcile.specs.inner.Keys.{is_key, taken_by}
 use Rattle.reconcile.specs.Pairing.{matches, line_partner, entry_places, says_same}
-use Rattle.reconcile.specs.Waiting.{WithoutFirst, has_key, places_with, waiting_for}
+use Rattle.reconcile.specs.inner.Waiting.{WithoutFirst, has_key, places_with, waiting_for}
 use Rattle.reconcile.specs.declared.key.Key.{Key}
 use Rattle.reconcile.specs.declared.waiting.Waiting.{Waiting}
 use Rattle.reconcile.proofs.Keyed.{key-matches, key-same}

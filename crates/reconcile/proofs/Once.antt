@@ -8,7 +8,8 @@ use Rattle.std.proofs.lemmas.List.Elements.{filter_agree}
 use Rattle.std.proofs.lemmas.List.Sorted.{IsPermutation-append_right, IsPermutation-cons, IsPermutation-filter_both, IsPermutation-middle, IsPermutation-refl, IsPermutation-sym, IsPermutation-trans}
 use Rattle.std.proofs.lemmas.Option.{none-some, same_Some, slice_get-map}
 use Rattle.mt950.specs.declared.entry.Line61.{Line61}
-use Rattle.statement.specs.Lines.{Placed, PlacesFrom, RiseFrom}
+use Rattle.statement.specs.Lines.{Placed}
+use Rattle.statement.specs.inner.Lines.{PlacesFrom, RiseFrom}
 use Rattle.reconcile.specs.Pairing.{alone, alone_from, is_paired, matches, line_numbers, ours_left, pair_with, line_pairs_from, pairs_of, line_partner, entry_places, says_same, theirs_left}
 use Rattle.reconcile.proofs.Counting.{kept-at, kept-from}
 use Rattle.reconcile.proofs.First.{apart, contains-at}

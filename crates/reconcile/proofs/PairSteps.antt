@@ -7,9 +7,9 @@ use Rattle.mt950.specs.declared.entry.Line61.{Line61}
 use Rattle.statement.specs.Lines.{Placed}
 use Rattle.statement.specs.Running.{placed_by}
 use Rattle.statement.specs.declared.movement.Movement.{Movement}
-use Rattle.reconcile.specs.Keys.{taken_by}
+use Rattle.reconcile.specs.inner.Keys.{taken_by}
 use Rattle.reconcile.specs.Pairing.{alone, alone_from, pair_with, line_pairs_from, pairs_of, line_partner, theirs_left}
-use Rattle.reconcile.specs.Waiting.{AllWait, WithoutFirst, waiting_for}
+use Rattle.reconcile.specs.inner.Waiting.{AllWait, WithoutFirst, waiting_for}
 use Rattle.reconcile.specs.declared.waiting.Waiting.{Waiting}
 use Rattle.reconcile.proofs.Matching.{AreLeft, first-is-partner, left-after}
 

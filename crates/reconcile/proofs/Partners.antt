@@ -6,7 +6,8 @@ use Rattle.std.proofs.lemmas.List.{append-nil}
 use Rattle.std.proofs.lemmas.List.Elements.{Contains-append_cases, Contains-append_left, Contains-append_right}
 use Rattle.std.proofs.lemmas.Option.{none-some, same_Some}
 use Rattle.mt950.specs.declared.entry.Line61.{Line61}
-use Rattle.statement.specs.Lines.{Placed, RiseFrom}
+use Rattle.statement.specs.Lines.{Placed}
+use Rattle.statement.specs.inner.Lines.{RiseFrom}
 use Rattle.reconcile.specs.Pairing.{pair_with, line_pairs_from, line_partner}
 use Rattle.reconcile.proofs.Rising.{rise-later, rises}
 

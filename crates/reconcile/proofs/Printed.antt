@@ -17,10 +17,12 @@ use Rattle.mt950.specs.declared.entry.Line61.{Line61}
 use Rattle.mt950.specs.declared.joining.PageFault.{PageFault}
 use Rattle.mt950.specs.declared.joining.Statement.{Statement}
 use Rattle.mt950.specs.declared.page.Page950.{Page950}
-use Rattle.statement.specs.Lines.{Placed, PlacesFrom, RiseFrom}
+use Rattle.statement.specs.Lines.{Placed}
+use Rattle.statement.specs.inner.Lines.{PlacesFrom, RiseFrom}
 use Rattle.statement.specs.Running.{placed_by}
 use Rattle.statement.specs.declared.movement.Movement.{Movement}
-use Rattle.reconcile.specs.Breaks.{Adds, joined_left, joined_text, line_feed, piece_left, piece_text, statement_heading, statement_left, statement_text, told_from}
+use Rattle.reconcile.specs.Breaks.{joined_left, joined_text, line_feed, piece_left, piece_text, statement_heading, statement_left, statement_text, told_from}
+use Rattle.reconcile.specs.inner.Breaks.{Adds}
 use Rattle.reconcile.specs.Comparison.{placed_at}
 use Rattle.reconcile.specs.Lines.{fault_words}
 use Rattle.reconcile.specs.Pairing.{alone, alone_from, line_partner, theirs_left}

@@ -12,8 +12,8 @@ use Rattle.std.proofs.lemmas.List.Elements.{filter-append}
 use Rattle.std.proofs.lemmas.Slice.Eq.{bytes_eq-Decides}
 use Rattle.statement.specs.Running.{placed_by}
 use Rattle.statement.specs.declared.movement.Movement.{Movement}
-use Rattle.reconcile.specs.Keys.{is_key, key_of}
-use Rattle.reconcile.specs.Waiting.{AllWait, has_key, places_with, waiting_for}
+use Rattle.reconcile.specs.inner.Keys.{is_key, key_of}
+use Rattle.reconcile.specs.inner.Waiting.{AllWait, has_key, places_with, waiting_for}
 use Rattle.reconcile.specs.declared.key.Key.{Key}
 use Rattle.reconcile.specs.declared.waiting.Waiting.{Waiting}
 use Rattle.reconcile.proofs.Keyed.{same-truth}

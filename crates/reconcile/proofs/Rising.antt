@@ -4,7 +4,7 @@ use Rattle.std.specs.Prelude.{slice_get}
 use Rattle.std.specs.List.{filter}
 use Rattle.std.proofs.lemmas.Bool.{cases_lt}
 use Rattle.std.proofs.lemmas.Option.{none-some, same_Some}
-use Rattle.statement.specs.Lines.{RiseFrom}
+use Rattle.statement.specs.inner.Lines.{RiseFrom}
 
 module _ {A : Type 0} (number : A → ℕ) where
   pub rise-later : (low more : ℕ) (xs : List A) → low ≤ more → RiseFrom number more xs → RiseFrom number low xs

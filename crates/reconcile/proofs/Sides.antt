@@ -5,7 +5,7 @@ use Rattle.day_model.specs.declared.pay.Side.{Side}
 use Rattle.day_model.specs.declared.pay.Side.TheVariants.{Credit, Debit}
 use Rattle.mt950.specs.Entry.{signed_amount}
 use Rattle.statement.specs.Lines.{statement_mark}
-use Rattle.reconcile.specs.Keys.{added_on}
+use Rattle.reconcile.specs.inner.Keys.{added_on}
 use Rattle.reconcile.specs.Lines.{side_text}
 
 -- a mark adds what its side adds, in a return too

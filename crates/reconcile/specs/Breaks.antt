@@ -1,5 +1,5 @@
 -- What is told of the pages that were received.
-use Rattle.std.specs.Prelude.{◌≡◌, ℕ, ◌-◌, nat_lt, ◌==◌, ◌&&◌, Bool, false, List, [], ◌∷◌, ◌++◌, length, codes, Option, Some, None, option_and_then, Result, Ok, Err, if◌then◌else◌}
+use Rattle.std.specs.Prelude.{ℕ, ◌-◌, nat_lt, ◌==◌, ◌&&◌, Bool, false, List, [], ◌∷◌, ◌++◌, length, codes, Option, Some, None, option_and_then, Result, Ok, Err, if◌then◌else◌}
 use Rattle.std.specs.Option.{option_map_or}
 use Rattle.corr_ids.specs.Day.{yymmdd_of}
 use Rattle.corr_report.specs.Lines.{spaced}
@@ -28,8 +28,8 @@ abbrev pub nostro_of : Chart → Statement → Option AcctNo
 nostro_of chart s =
     option_and_then (λ n. if option_map_or (is_of_statement s) (account_at chart n.0) false then Some n else None) (number_of_first (has_id s.account) (accounts_of chart))
 
--- the most of our entries that all statements together are compared with: three legs of each entry of a journal. So none is left out
--- where each account and day come once
+-- the most of our entries that all statements together are compared with: three legs of each entry of a journal, so that none is left out
+-- where each account and day come once (`NoneLeftOut`)
 abbrev pub most_compared : ℕ
 most_compared = 300000
 
@@ -76,6 +76,7 @@ abbrev pub joined_left : ℕ → Chart → List Entry → Result Statement PageF
 joined_left room chart entries (Ok s) = statement_left room chart entries s
 joined_left room chart entries (Err fault) = room
 
+-- the same of pages that belong together
 abbrev pub piece_left : ℕ → Chart → List Entry → List Page950 → ℕ
 piece_left room chart entries [] = room
 piece_left room chart entries (page ∷ pages) = joined_left room chart entries (joined_of (page ∷ pages))
@@ -89,8 +90,3 @@ told_from room chart entries (piece ∷ pieces) =
 -- what is told of all pages, piece by piece
 abbrev pub breaks_of : Chart → List Entry → List Page950 → List ℕ
 breaks_of chart entries pages = told_from most_compared chart entries (pieces_of pages)
-
--- a text was added, and so many entries may be compared after it
-pub record Adds (old new text : List ℕ) (left meant : ℕ) : Type 0 where
-  pub added : new ≡ old ++ text
-  pub rest : left ≡ meant

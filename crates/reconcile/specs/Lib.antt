@@ -1,10 +1,9 @@
 pub mod Bounds
-pub mod Keys
 pub mod Pairing
 pub mod Rule
-pub mod Waiting
 pub mod Comparison
 pub mod Pieces
-pub mod Gathering
 pub mod Lines
 pub mod Breaks
+pub mod LeftOut
+pub mod inner

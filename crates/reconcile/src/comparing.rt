@@ -5,7 +5,8 @@ ghost use Rattle.day_model.specs.Chart.{IsListed};
 ghost use Rattle.day_model.specs.Legal.{IsLegal};
 ghost use Rattle.statement.specs.Seen.{SeenBook};
 ghost use Rattle.statement.specs.Valid.{AreShaped};
-ghost use Rattle.reconcile.specs.Bounds.{Compares, IsReceived};
+ghost use Rattle.reconcile.specs.Bounds.{IsReceived};
+ghost use Rattle.reconcile.specs.inner.Bounds.{Compares};
 ghost use Rattle.reconcile.specs.Comparison.{AddsUp, StandOnce, TakesFirst, compared_of};
 
 use crate::pairing::{Paired, pair_up, unpaired};

@@ -5,7 +5,7 @@ ghost use Rattle.std.specs.Str.{bytes_eq};
 ghost use Rattle.fin_contents.specs.Writing.{IsReadable};
 ghost use Rattle.mt950.specs.Page.{mt950_of};
 ghost use Rattle.mt950.specs.declared.page.Page950.{Page950 as PageOf};
-ghost use Rattle.reconcile.specs.Gathering.{Gathers, open_at, place_after, place_for_page, room_in};
+ghost use Rattle.reconcile.specs.inner.Gathering.{Gathers, open_at, place_after, place_for_page, room_in};
 ghost use Rattle.reconcile.specs.Pieces.{pieces_of};
 
 use crate::key::short;

@@ -3,8 +3,8 @@
 ghost use Rattle.std.specs.Prelude.{◌≡◌, ◌<◌, ◌≤◌, length};
 ghost use Rattle.corr_money.specs.Amounts.{amount_end};
 ghost use Rattle.statement.specs.Running.{placed_by};
-ghost use Rattle.reconcile.specs.Bounds.{CanBeKeyed, IsLine};
-ghost use Rattle.reconcile.specs.Keys.{added_on, key_of, short_of, taken_by};
+ghost use Rattle.reconcile.specs.inner.Bounds.{CanBeKeyed, IsLine};
+ghost use Rattle.reconcile.specs.inner.Keys.{added_on, key_of, short_of, taken_by};
 
 use corr_money::Minor;
 use day_model::Side;

@@ -5,6 +5,7 @@
 mod comparing;
 mod grouping;
 mod key;
+mod law;
 mod lines;
 mod pairing;
 mod telling;
@@ -12,4 +13,5 @@ mod waiting;
 
 pub use comparing::{Compared, compare};
 pub use grouping::pieces;
+pub use law::{few_compared, none_left_out};
 pub use telling::breaks;

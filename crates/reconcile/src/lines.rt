@@ -6,9 +6,9 @@ ghost use Rattle.std.specs.Option.{option_copied, option_map};
 ghost use Rattle.corr_money.specs.Amounts.{amount_end, most_decimals};
 ghost use Rattle.mt950.specs.Joining.{told};
 ghost use Rattle.mt950.specs.declared.joining.PageFault.TheVariants as fault;
-ghost use Rattle.statement.specs.Lines.{PlacesFrom};
+ghost use Rattle.statement.specs.inner.Lines.{PlacesFrom};
 ghost use Rattle.statement.specs.Running.{placed_by};
-ghost use Rattle.reconcile.specs.Bounds.{CanBeKeyed, IsLine};
+ghost use Rattle.reconcile.specs.inner.Bounds.{CanBeKeyed, IsLine};
 ghost use Rattle.reconcile.specs.Comparison.{placed_at};
 ghost use Rattle.reconcile.specs.Lines.{compared_lines, fault_words, gap_line, ours_line, ours_lines, pair_line, pair_lines, theirs_line, theirs_lines};
 

@@ -4,7 +4,7 @@ ghost use Rattle.std.specs.Prelude.{◌≡◌, ◌+◌, ℕ, All, IfOk, map};
 ghost use Rattle.indexmap.specs.IndexSet.{contains};
 ghost use Rattle.std.specs.Prelude.{nat_eq};
 ghost use Rattle.statement.specs.Running.{placed_by};
-ghost use Rattle.reconcile.specs.Bounds.{CanBeKeyed, IsLine};
+ghost use Rattle.reconcile.specs.inner.Bounds.{CanBeKeyed, IsLine};
 ghost use Rattle.reconcile.specs.Pairing.{is_paired, ours_left, pairs_of, theirs_left};
 
 use crate::key::line_key;

@@ -9,8 +9,10 @@ ghost use Rattle.mt950.specs.Joining.{most_pages};
 ghost use Rattle.mt950.specs.Page.{mt950_of};
 ghost use Rattle.statement.specs.Seen.{SeenBook};
 ghost use Rattle.statement.specs.Valid.{AreShaped};
-ghost use Rattle.reconcile.specs.Bounds.{Compares, IsReceived, IsIndexFor};
-ghost use Rattle.reconcile.specs.Breaks.{Adds, breaks_of, is_of_statement, nostro_of, piece_left, piece_text, statement_heading, statement_left, statement_text};
+ghost use Rattle.reconcile.specs.Bounds.{IsReceived};
+ghost use Rattle.reconcile.specs.inner.Bounds.{Compares, IsIndexFor};
+ghost use Rattle.reconcile.specs.Breaks.{breaks_of, is_of_statement, nostro_of, piece_left, piece_text, statement_heading, statement_left, statement_text};
+ghost use Rattle.reconcile.specs.inner.Breaks.{Adds};
 ghost use Rattle.reconcile.specs.Comparison.{compared_of, ours_of};
 ghost use Rattle.reconcile.specs.Lines.{compared_lines};
 
@@ -142,7 +144,7 @@ fn put_piece(
 /// they are, or should be, in the order of the first pages, its account and day, and on the same line that it has a gap, isn't
 /// carried over, doesn't add up, or is of no account of ours. Else the lines and our entries that are pairs follow, what is left of
 /// ours and of theirs, and the gaps. All statements together are compared with 300,000 of our entries at most, as many as a journal
-/// has legs, and one that would pass that is told as left out: so there is none where each account and day come once.
+/// has legs, and one that would pass that is told as left out: none where each account and day come once (`none_left_out`).
 ///
 /// There are at most 50,000 pages, and each is one that `read_mt950` gives; the history is legal and its pays can be written down.
 /// `Memory`: there was no room for the text.

@@ -1,8 +1,8 @@
 //! Entries that wait for a line.
 
 ghost use Rattle.std.specs.Prelude.{◌≡◌, ◌++◌, ◌∷◌, [], All, IfOk, OnOk, slice_get};
-ghost use Rattle.reconcile.specs.Bounds.{CanBeKeyed};
-ghost use Rattle.reconcile.specs.Waiting.{AllWait, WithoutFirst, places_with, waiting_for};
+ghost use Rattle.reconcile.specs.inner.Bounds.{CanBeKeyed};
+ghost use Rattle.reconcile.specs.inner.Waiting.{AllWait, WithoutFirst, places_with, waiting_for};
 ghost use Rattle.reconcile.specs.declared.key.Key.{Key as KeyOf};
 
 use crate::key::{Key, entry_key};

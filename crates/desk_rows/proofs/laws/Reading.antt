@@ -8,7 +8,8 @@ use Rattle.std.proofs.lemmas.Bool.Decides.{nat_tests}
 use Rattle.std.proofs.lemmas.List.{append-nil}
 use Rattle.std.proofs.lemmas.Option.{slice_get_cases}
 use Rattle.corr_report.specs.Lines.{said}
-use Rattle.corr_report.specs.Outcomes.{NamesLeg}
+use Rattle.corr_report.specs.inner.Outcomes.{NamesLeg}
+use Rattle.corr_report.proofs.laws.FailingLeg.{names_leg}
 use Rattle.corr_text.specs.Digits.{padded}
 use Rattle.day_model.specs.Chart.{Chart, account_at}
 use Rattle.day_model.specs.declared.account.Account.{Account}
@@ -21,7 +22,6 @@ use Rattle.day_model.proofs.laws.Fronts.{fits_now}
 use Rattle.desk_rows.specs.Csv.{doubled, is_bare, next_cells, pointed, quoted, row_end, signed_pointed}
 use Rattle.desk_rows.specs.Entries.{cell_of, credit_cells, credit_place, debit_cells, fee_cells, fee_place, leg_cells, money_cells, name_cells, outcome_cells, sign_of, stamp_cells, theirs_of, uetr_text}
 use Rattle.desk_rows.specs.Reading.{EntriesReadBack, ReadsRow, RowsReadBack, between, cells_from, past, plain, rest_from}
-use Rattle.desk_rows.proofs.Legs.{names_leg}
 use Rattle.desk_rows.proofs.Quoted.{bare_itself, other_quoted}
 use Rattle.desk_rows.proofs.laws.Plain.{AreBare}
 

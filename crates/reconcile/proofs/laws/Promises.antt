@@ -6,7 +6,8 @@ use Rattle.day_model.specs.Legal.{IsLegal}
 use Rattle.day_model.specs.declared.entry.Entry.{Entry}
 use Rattle.mt950.specs.declared.joining.Statement.{Statement}
 use Rattle.statement.specs.Legs.{before_day}
-use Rattle.statement.specs.Lines.{PlacesFrom, up_to_day}
+use Rattle.statement.specs.Lines.{up_to_day}
+use Rattle.statement.specs.inner.Lines.{PlacesFrom}
 use Rattle.statement.proofs.laws.Balances.{lines-add}
 use Rattle.statement.proofs.laws.Fronts.{whole-front}
 use Rattle.statement.proofs.laws.Placing.{places-rise}

@@ -2,7 +2,7 @@ use Rattle.std.proofs.Common.{ℕ, ◌-◌, List, ◌++◌, ap, ◌∙◌, sym}
 use Rattle.std.proofs.lemmas.Option.{same_Some}
 use Rattle.day_model.proofs.laws.Fronts.{fits_now}
 use Rattle.corr_report.specs.Bookings.{booking_line}
-use Rattle.corr_report.proofs.FailingLeg.{names_leg}
+use Rattle.corr_report.proofs.laws.FailingLeg.{names_leg}
 use Rattle.corr_report.proofs.entries.booking.Goals as goal
 
 pub put_line-requires-clause-fits : goal.put_line-requires-clause-fits

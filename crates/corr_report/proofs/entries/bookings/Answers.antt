@@ -2,7 +2,7 @@ use Rattle.std.proofs.Common.{◌≡◌, ◌+◌, ◌-◌, [], ◌++◌, ap, sym
 use Rattle.std.proofs.lemmas.Option.{slice_get_within, get_or_from_slice_get}
 use Rattle.day_model.proofs.laws.Fronts.{fits_now}
 use Rattle.corr_report.specs.Bookings.{booking_line}
-use Rattle.corr_report.proofs.FailingLeg.{names_leg}
+use Rattle.corr_report.proofs.laws.FailingLeg.{names_leg}
 use Rattle.corr_report.proofs.laws.LineLists.{numbered_more}
 use Rattle.corr_report.proofs.entries.bookings.Goals as goal
 

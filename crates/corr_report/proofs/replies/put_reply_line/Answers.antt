@@ -1,5 +1,5 @@
 use Rattle.day_model.proofs.laws.Fronts.{fits_now}
-use Rattle.corr_report.proofs.FailingLeg.{names_leg}
+use Rattle.corr_report.proofs.laws.FailingLeg.{names_leg}
 use Rattle.corr_report.proofs.replies.put_reply_line.Goals as goal
 
 pub put_entry-requires-clause-fits : goal.put_entry-requires-clause-fits

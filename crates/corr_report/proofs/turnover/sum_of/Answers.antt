@@ -1,7 +1,7 @@
 use Rattle.std.proofs.Common.{ℕ, cond, ap, ◌∙◌, arith}
 use Rattle.day_model.specs.Chart.{accounts_of, is_same_ccy}
 use Rattle.corr_report.proofs.laws.Rests.{rest_at}
-use Rattle.corr_report.specs.Totals.{part_at, sum_over}
+use Rattle.corr_report.specs.inner.Totals.{part_at, sum_over}
 use Rattle.corr_report.proofs.turnover.sum_of.Goals as goal
 
 pub overflow_add-sum : goal.overflow_add-sum

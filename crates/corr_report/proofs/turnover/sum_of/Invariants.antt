@@ -1,6 +1,6 @@
 use Rattle.std.proofs.Common.{◌≡◌, ◌+◌, ◌-◌, drop}
 use Rattle.day_model.specs.Chart.{accounts_of}
-use Rattle.corr_report.specs.Totals.{part_at, sum_over}
+use Rattle.corr_report.specs.inner.Totals.{part_at, sum_over}
 use Rattle.corr_report.proofs.turnover.sum_of.Given as goal
 
 -- with the accounts that are left the sum becomes that of all accounts

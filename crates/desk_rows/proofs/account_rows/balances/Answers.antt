@@ -5,9 +5,10 @@ use Rattle.day_model.specs.Balance.{balance_of}
 use Rattle.day_model.specs.Chart.{IsListed, IsSmall, accounts_of}
 use Rattle.day_model.specs.Totals.{Pair}
 use Rattle.corr_report.proofs.laws.LineLists.{numbered_more}
+use Rattle.corr_report.proofs.laws.Totals.{balance_is, pair_is}
 use Rattle.desk_rows.specs.Balances.{account_row, balance_header, row_of}
 use Rattle.desk_rows.specs.Until.{entries_until}
-use Rattle.desk_rows.proofs.Counted.{balance_is, pair_is, small_until}
+use Rattle.desk_rows.proofs.Counted.{small_until}
 use Rattle.desk_rows.proofs.account_rows.balances.Goals as goal
 
 pub put_row-requires-clause-decimals : goal.put_row-requires-clause-decimals
@@ -23,7 +24,7 @@ put_row-requires-clause-small c =
     let p = c.index.result.now in
     let within : l.n - 1 < length (accounts_of chart) = slice_get_within (accounts_of chart) (l.n - 1) account c.get.ensures.value in
     let there : IsListed chart l.n = (omega (arith, l.auto.n), omega (arith, l.auto.n, within)) in
-    let totals = pair_is entries c.in_ok-totals.totals.items l.n (length (accounts_of chart)) p c.in_ok-totals.ensures.value there.0 there.1 c.index.ensures in
+    let totals = pair_is entries c.in_ok-totals.totals.items l.n (length (accounts_of chart)) p p c.in_ok-totals.ensures.value there.0 there.1 c.index.ensures in
     subst IsSmall (sym (balance_is chart entries l.n p account totals c.get.ensures.value)) (small_until chart all c.args.until l.n c.get.ensures.sound c.requires there)
 
 pub loop-n-preserved : goal.loop-n-preserved
@@ -37,7 +38,7 @@ loop-n-preserved c =
     let within : l.n - 1 < length accounts = slice_get_within accounts (l.n - 1) account c.get.ensures.value in
     let item = get_or_from_slice_get accounts (l.n - 1) account account c.get.ensures.value in
     let there : IsListed chart l.n = (omega (arith, l.auto.n), omega (arith, l.auto.n, within)) in
-    let totals = pair_is entries c.in_ok-totals.totals.items l.n (length accounts) p c.in_ok-totals.ensures.value there.0 there.1 c.index.ensures in
+    let totals = pair_is entries c.in_ok-totals.totals.items l.n (length accounts) p p c.in_ok-totals.ensures.value there.0 there.1 c.index.ensures in
     let balance = balance_is chart entries l.n p account totals c.get.ensures.value in
     let next : l.n - 1 + 1 ≡ l.n + 1 - 1 = omega (arith, l.auto.n) in
     let number : l.n - 1 + 1 ≡ l.n = omega (arith, l.auto.n) in

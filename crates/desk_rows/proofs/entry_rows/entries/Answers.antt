@@ -3,8 +3,8 @@ use Rattle.std.proofs.lemmas.Option.{slice_get_within, get_or_from_slice_get}
 use Rattle.day_model.proofs.laws.Fitting.{fitting}
 use Rattle.day_model.proofs.laws.Fronts.{fits_now}
 use Rattle.corr_report.proofs.laws.LineLists.{numbered_more}
+use Rattle.corr_report.proofs.laws.FailingLeg.{names_leg}
 use Rattle.desk_rows.specs.Entries.{entry_header, row_between}
-use Rattle.desk_rows.proofs.Legs.{names_leg}
 use Rattle.desk_rows.proofs.entry_rows.entries.Goals as goal
 
 pub put_if_between-requires-clause-fits : goal.put_if_between-requires-clause-fits

@@ -5,7 +5,8 @@ use Rattle.day_model.specs.declared.pay.Leg.{Leg}
 use Rattle.day_model.specs.Chart.{accounts_of}
 use Rattle.day_model.specs.Pairs.{PairsFit, pairs_with}
 use Rattle.day_model.specs.Totals.{HasTotals, Pair}
-use Rattle.desk_rows.specs.Until.{entries_until, legs_until}
+use Rattle.desk_rows.specs.Until.{entries_until}
+use Rattle.desk_rows.specs.inner.Until.{legs_until}
 use Rattle.desk_rows.proofs.Counted.{has_next, next_fits, next_listed}
 use Rattle.desk_rows.proofs.until.totals_until.Goals as goal
 

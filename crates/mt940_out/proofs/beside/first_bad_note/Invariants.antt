@@ -1,5 +1,5 @@
 use Rattle.std.proofs.Common.{◌≡◌, drop, false}
-use Rattle.mt940_out.specs.Faults.{first_bad_note}
+use Rattle.mt940_out.specs.inner.Faults.{first_bad_note}
 use Rattle.mt940_out.proofs.beside.first_bad_note.Given as goal
 
 abbrev pub invariant-loop-at : goal.invariant-loop-at

@@ -1,5 +1,5 @@
 use Rattle.std.proofs.Common.{◌≡◌, ◌+◌, drop, false}
-use Rattle.mt940_out.specs.Faults.{place_beside}
+use Rattle.mt940_out.specs.inner.Faults.{place_beside}
 use Rattle.mt940_out.proofs.beside.place_beside.Given as goal
 
 abbrev pub invariant-loop-at : goal.invariant-loop-at

@@ -3,7 +3,8 @@ use Rattle.std.specs.Prelude.{All}
 use Rattle.fin_blocks.specs.Sending.{IsText, are_subblocks}
 use Rattle.mt950.specs.Writing.{fields_950}
 use Rattle.advices.proofs.laws.Sendable.{fields-are-text}
-use Rattle.mt940_out.specs.Writing.{IsNote, with_notes}
+use Rattle.mt940_out.specs.Writing.{with_notes}
+use Rattle.mt940_out.specs.inner.Writing.{IsNote}
 use Rattle.mt940_out.proofs.Rounds.{page-fit}
 use Rattle.mt940_out.proofs.message.customer_message.Goals as goal
 

@@ -3,7 +3,7 @@ use Rattle.std.specs.Prelude.{All}
 use Rattle.std.proofs.lemmas.List.{map-append, take_more}
 use Rattle.std.proofs.lemmas.List.Elements.{All-append}
 use Rattle.mt940_out.specs.Notes.{note_at}
-use Rattle.mt940_out.specs.Writing.{IsNote}
+use Rattle.mt940_out.specs.inner.Writing.{IsNote}
 use Rattle.mt940_out.proofs.Told.{all-one}
 use Rattle.mt940_out.proofs.message.notes_at.Goals as goal
 

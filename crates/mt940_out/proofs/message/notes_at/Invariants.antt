@@ -1,7 +1,7 @@
 use Rattle.std.proofs.Common.{◌≡◌, map, take}
 use Rattle.std.specs.Prelude.{All}
 use Rattle.mt940_out.specs.Notes.{note_at}
-use Rattle.mt940_out.specs.Writing.{IsNote}
+use Rattle.mt940_out.specs.inner.Writing.{IsNote}
 use Rattle.mt940_out.proofs.message.notes_at.Given as goal
 
 -- the notes so far

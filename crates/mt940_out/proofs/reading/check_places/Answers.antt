@@ -4,7 +4,7 @@ use Rattle.corr_text.specs.declared.fault.Fault.{Fault}
 use Rattle.fin_layout.specs.Naming.{fault_at}
 use Rattle.fin_layout.specs.Order.{missing_from, places_from}
 use Rattle.mt950.specs.Order.{order_950}
-use Rattle.mt940_out.specs.Faults.{place_beside}
+use Rattle.mt940_out.specs.inner.Faults.{place_beside}
 use Rattle.mt940_out.specs.Order.{fields_beside}
 use Rattle.mt940_out.proofs.Walks.{found_beside, lacking-told, misplaced-told, none-told, stops-within}
 use Rattle.mt940_out.proofs.reading.check_places.Goals as goal

@@ -1,7 +1,7 @@
 use Rattle.std.proofs.Common.{List, Ok, sym, ap, ◌∙◌, subst}
 use Rattle.std.proofs.lemmas.Result.{err_from_is_err_and}
 use Rattle.fin_fields.specs.declared.field.Field.{Field}
-use Rattle.fin_layout.specs.Reading.{Fails}
+use Rattle.fin_layout.specs.inner.Reading.{Fails}
 use Rattle.fin_contents.proofs.laws.Readable.{given-readable}
 use Rattle.mt950.specs.Page.{mt950_of}
 use Rattle.mt940_out.specs.Page.{mt940_of}

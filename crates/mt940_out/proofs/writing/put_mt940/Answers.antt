@@ -3,7 +3,8 @@ use Rattle.std.specs.Prelude.{All}
 use Rattle.std.proofs.lemmas.Result.{IfOk-weaker}
 use Rattle.mt950.specs.Writing.{fields_950}
 use Rattle.mt940_out.specs.Page.{mt940_of}
-use Rattle.mt940_out.specs.Writing.{IsNote, with_notes}
+use Rattle.mt940_out.specs.Writing.{with_notes}
+use Rattle.mt940_out.specs.inner.Writing.{IsNote}
 use Rattle.mt940_out.proofs.Rounds.{fields-without, notes-are, page-kept, read-again}
 use Rattle.mt940_out.proofs.writing.put_mt940.Goals as goal
 

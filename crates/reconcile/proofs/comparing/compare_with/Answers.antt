@@ -5,7 +5,7 @@ use Rattle.day_model.specs.Balance.{balance_of}
 use Rattle.statement.specs.Legs.{before_day}
 use Rattle.statement.specs.Lines.{Placed, lines_on, up_to_day}
 use Rattle.statement.specs.Running.{placed_by}
-use Rattle.reconcile.specs.Bounds.{IsLine}
+use Rattle.reconcile.specs.inner.Bounds.{IsLine}
 use Rattle.reconcile.specs.Pairing.{ours_left, pairs_of, theirs_left}
 use Rattle.reconcile.proofs.Bounded.{ours-keyed, received-lines, sum-before, sum-up-to}
 use Rattle.reconcile.proofs.comparing.compare_with.Goals as goal

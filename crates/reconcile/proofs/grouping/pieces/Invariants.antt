@@ -1,5 +1,5 @@
 use Rattle.std.proofs.Common.{◌≡◌, ◌++◌}
-use Rattle.reconcile.specs.Gathering.{Gathers}
+use Rattle.reconcile.specs.inner.Gathering.{Gathers}
 use Rattle.reconcile.proofs.grouping.pieces.Given as goal
 
 -- the pages so far are put together

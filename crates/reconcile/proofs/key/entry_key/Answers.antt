@@ -2,7 +2,7 @@ use Rattle.std.proofs.Common.{◌≡◌, FitsSigned, sym, ap, ◌∙◌, to_z, o
 use Rattle.std.proofs.lemmas.Int.{to_z-of_z}
 use Rattle.mt950.specs.Entry.{effect_of}
 use Rattle.statement.specs.Running.{line_by}
-use Rattle.reconcile.specs.Keys.{short_of}
+use Rattle.reconcile.specs.inner.Keys.{short_of}
 use Rattle.reconcile.proofs.Sides.{as-marked}
 use Rattle.reconcile.proofs.key.entry_key.Goals as goal
 

@@ -2,7 +2,7 @@ use Rattle.std.proofs.Common.{◌≡◌, FitsSigned, ap, ◌∙◌, to_z, of_z, 
 use Rattle.std.specs.Prelude.{neg_ℤ}
 use Rattle.std.proofs.lemmas.Int.{to_z-of_z}
 use Rattle.mt950.specs.Entry.{effect_of}
-use Rattle.reconcile.specs.Keys.{short_of}
+use Rattle.reconcile.specs.inner.Keys.{short_of}
 use Rattle.reconcile.proofs.Bounded.{effect-turns, turned}
 use Rattle.reconcile.proofs.key.line_key.Goals as goal
 

@@ -3,8 +3,9 @@ use Rattle.std.specs.Prelude.{All}
 use Rattle.std.proofs.lemmas.List.{append-nil, drop_all}
 use Rattle.mt950.specs.declared.page.Page950.{Page950}
 use Rattle.statement.specs.Seen.{SeenBook}
-use Rattle.reconcile.specs.Bounds.{IsIndexFor}
-use Rattle.reconcile.specs.Breaks.{Adds, most_compared, piece_left, piece_text, told_from}
+use Rattle.reconcile.specs.inner.Bounds.{IsIndexFor}
+use Rattle.reconcile.specs.Breaks.{most_compared, piece_left, piece_text, told_from}
+use Rattle.reconcile.specs.inner.Breaks.{Adds}
 use Rattle.reconcile.proofs.Printed.{more-pieces}
 use Rattle.reconcile.proofs.Within.{CanBeJoined, pieces-join}
 use Rattle.reconcile.proofs.telling.breaks.Goals as goal

@@ -1,10 +1,11 @@
 use Rattle.std.proofs.Common.{◌≤◌, ◌++◌, List, map, subst, sym, ◌∙◌}
 use Rattle.std.specs.Prelude.{All}
 use Rattle.std.proofs.lemmas.Result.{on_ok_weaker}
-use Rattle.statement.specs.Lines.{Placed, PlacesFrom}
+use Rattle.statement.specs.Lines.{Placed}
+use Rattle.statement.specs.inner.Lines.{PlacesFrom}
 use Rattle.statement.specs.Running.{placed_by}
 use Rattle.statement.proofs.laws.Placing.{places-rise}
-use Rattle.reconcile.specs.Bounds.{IsLine}
+use Rattle.reconcile.specs.inner.Bounds.{IsLine}
 use Rattle.reconcile.specs.Comparison.{ours_of}
 use Rattle.reconcile.specs.Lines.{compared_lines}
 use Rattle.reconcile.specs.declared.comparing.Compared.{Compared}

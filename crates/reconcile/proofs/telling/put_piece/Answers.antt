@@ -4,8 +4,9 @@ use Rattle.fin_contents.specs.Writing.{IsReadable}
 use Rattle.mt950.specs.Joining.{joined_of}
 use Rattle.mt950.specs.Page.{mt950_of}
 use Rattle.statement.specs.Seen.{SeenBook}
-use Rattle.reconcile.specs.Bounds.{IsIndexFor}
-use Rattle.reconcile.specs.Breaks.{Adds, piece_left, piece_text, statement_left, statement_text}
+use Rattle.reconcile.specs.inner.Bounds.{IsIndexFor}
+use Rattle.reconcile.specs.Breaks.{piece_left, piece_text, statement_left, statement_text}
+use Rattle.reconcile.specs.inner.Breaks.{Adds}
 use Rattle.reconcile.proofs.Bounded.{page-day, page-decimals}
 use Rattle.reconcile.proofs.Printed.{all-fault, all-joined, meant-fault}
 use Rattle.reconcile.proofs.telling.put_piece.Goals as goal

@@ -3,8 +3,8 @@ use Rattle.std.specs.Str.{bytes_eq}
 use Rattle.std.proofs.Math.ListN.{set}
 use Rattle.std.proofs.lemmas.Result.{on_ok_weaker}
 use Rattle.mt950.specs.declared.page.Page950.{Page950}
-use Rattle.reconcile.specs.Gathering.{page_account, open_at, place_after, place_for_page, room_in}
-use Rattle.reconcile.specs.Keys.{short_of}
+use Rattle.reconcile.specs.inner.Gathering.{page_account, open_at, place_after, place_for_page, room_in}
+use Rattle.reconcile.specs.inner.Keys.{short_of}
 use Rattle.reconcile.proofs.Bounded.{account-short}
 use Rattle.reconcile.proofs.Gathering.{gathered-more, place-within}
 use Rattle.reconcile.proofs.grouping.Gathered.add.Goals as goal

@@ -1,6 +1,6 @@
 use Rattle.std.proofs.Common.{◌≡◌, ◌++◌, ◌∷◌, [], ap, arith, ◌∙◌, unwrap_or}
 use Rattle.std.specs.Map.{lookup}
-use Rattle.reconcile.specs.Keys.{is_key}
+use Rattle.reconcile.specs.inner.Keys.{is_key}
 use Rattle.reconcile.proofs.Queues.{added, of-default, queue}
 use Rattle.reconcile.proofs.waiting.Waiting.add.Goals as goal
 

@@ -1,5 +1,5 @@
 use Rattle.std.proofs.Common.{take}
-use Rattle.reconcile.specs.Waiting.{AllWait}
+use Rattle.reconcile.specs.inner.Waiting.{AllWait}
 use Rattle.reconcile.proofs.waiting.Waiting.all.Given as goal
 
 -- the entries so far wait

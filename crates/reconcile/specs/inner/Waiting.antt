@@ -5,7 +5,7 @@ use Rattle.std.specs.Map.{lookup}
 use Rattle.std.specs.Option.{option_map_or}
 use Rattle.statement.specs.Running.{placed_by}
 use Rattle.statement.specs.declared.movement.Movement.{Movement}
-use Rattle.reconcile.specs.Keys.{is_key, key_of}
+use Rattle.reconcile.specs.inner.Keys.{is_key, key_of}
 use Rattle.reconcile.specs.declared.key.Key.{Key}
 use Rattle.reconcile.specs.declared.waiting.Waiting.{Waiting}
 

@@ -5,7 +5,7 @@ use Rattle.std.specs.Map.{lookup}
 use Rattle.std.specs.Option.{is_none}
 use Rattle.std.specs.Str.{bytes_eq}
 use Rattle.mt950.specs.declared.page.Page950.{Page950}
-use Rattle.reconcile.specs.Keys.{short_of}
+use Rattle.reconcile.specs.inner.Keys.{short_of}
 use Rattle.reconcile.specs.Pieces.{begins_piece, is_unfinished, pieces_of}
 use Rattle.reconcile.specs.declared.grouping.Gathered.{Gathered}
 

@@ -1,4 +1,4 @@
--- The leg that an outcome names is one of the pay's.
+-- The leg that the outcome of an entry names.
 use Rattle.std.proofs.Common.{◌≡◌, ℕ, ◌+◌, ◌≤◌, List, [], ◌∷◌, length, take, inl, inr, subst, sym, arith, unwrap_or}
 use Rattle.std.specs.Prelude.{slice_get, Some}
 use Rattle.std.proofs.lemmas.Bool.{cases_Bool}
@@ -9,7 +9,7 @@ use Rattle.day_model.specs.declared.pay.Leg.{Leg}
 use Rattle.day_model.specs.Balance.{balance_of, changed, is_within, leg_tests}
 use Rattle.day_model.specs.Chart.{Chart, account_at, chart_at}
 use Rattle.day_model.specs.Legal.{IsLegal}
-use Rattle.corr_report.specs.Outcomes.{NamesLeg}
+use Rattle.corr_report.specs.inner.Outcomes.{NamesLeg}
 
 names_from : (chart : Chart) (entries : List Entry) (n count : ℕ) (legs : List Leg) → 1 ≤ n → n + length legs ≤ count + 1 → NamesLeg count (unwrap_or (first_of (leg_tests chart entries n legs)) Booked)
 names_from chart entries n count [] from upto = tt
@@ -19,6 +19,7 @@ names_from chart entries n count (leg ∷ legs) from upto =
       | inr e ↦ rw e (from, omega arith)
     ]
 
+-- of a legal history it is one of the pay's
 pub names_leg : (chart : Chart) (entries : List Entry) (i : ℕ) (e : Entry) → IsLegal chart entries → slice_get entries i ≡ Some e → NamesLeg (length e.pay.legs) e.outcome
 names_leg chart entries i e legal at =
     subst (NamesLeg (length e.pay.legs)) (sym (legal.rules.decided i e at)) (names_from chart (take i entries) 1 (length e.pay.legs) e.pay.legs (omega arith) (omega arith))

@@ -1,0 +1,5 @@
+pub mod Bounds
+pub mod Breaks
+pub mod Gathering
+pub mod Keys
+pub mod Waiting
