@@ -1,26 +1,27 @@
 -- What is known of the messages ahead, as a set and as a list.
 use Rattle.std.proofs.Common.{◌≡◌, ℕ, zero, suc, ◌+◌, ◌<◌, Bool, false, true, cond, List, [], ◌∷◌, ◌++◌, length, get_or, map, take, drop, refl, sym, ap, ◌∙◌, arith, append_assoc}
 use Rattle.std.specs.Prelude.{◌||◌}
-use Rattle.std.specs.List.{flat_map, list_any}
+use Rattle.std.specs.List.{list_any}
 use Rattle.std.specs.Str.{bytes_eq}
 use Rattle.std.proofs.lemmas.Grind.{flat_map-append}
-use Rattle.std.proofs.lemmas.List.{append-nil, drop_all, drop_more, map-append, take_more}
+use Rattle.std.proofs.lemmas.List.{append-nil, drop_more, map-append, take_more}
 use Rattle.std.proofs.lemmas.Slice.Eq.{bytes_eq-Decides}
 use Rattle.desk_page.specs.declared.row.Payment.{Payment}
 use Rattle.desk_page.specs.declared.row.Row.{Row}
 use Rattle.desk_page.specs.declared.row.Row.TheVariants.{Asks}
 use Rattle.desk_page.specs.declared.row.Standing.{Standing}
-use Rattle.desk_page.specs.Twice.{keys_in, keys_of, stands_in, terms_in, twice_from, twice_if, uetr_keys}
+use Rattle.desk_page.specs.Twice.{keys_of, stands_in, twice_from, twice_if, uetr_keys}
+use Rattle.desk_page.specs.inner.Twice.{keys_in, terms_in}
 
 any_step : (t a b c : Bool) → a ≡ (b || c) → (t || a) ≡ ((t || b) || c)
 any_step true a b c same = refl
 any_step false a b c same = same
 
-any_joined : {X : Type 0} (test : X → Bool) (xs ys : List X) → list_any test (xs ++ ys) ≡ (list_any test xs || list_any test ys)
+pub any_joined : {X : Type 0} (test : X → Bool) (xs ys : List X) → list_any test (xs ++ ys) ≡ (list_any test xs || list_any test ys)
 any_joined test [] ys = refl
 any_joined test (x ∷ xs) ys = any_step (test x) (list_any test (xs ++ ys)) (list_any test xs) (list_any test ys) (any_joined test xs ys)
 
-or_false : (a : Bool) → (a || false) ≡ a
+pub or_false : (a : Bool) → (a || false) ≡ a
 or_false true = refl
 or_false false = refl
 

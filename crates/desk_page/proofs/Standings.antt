@@ -15,8 +15,8 @@ use Rattle.day_model.specs.declared.reply.Reply.TheVariants.{Entered, Conflict a
 use Rattle.day_model.proofs.laws.Fitting.{Sound, fitting, leg_sound}
 use Rattle.day_model.proofs.laws.Fronts.{fits_now}
 use Rattle.day_model.proofs.laws.Places.{position_from-within}
-use Rattle.corr_report.specs.Outcomes.{NamesLeg}
-use Rattle.corr_report.proofs.FailingLeg.{names_leg}
+use Rattle.corr_report.specs.inner.Outcomes.{NamesLeg}
+use Rattle.corr_report.proofs.laws.FailingLeg.{names_leg}
 use Rattle.desk_page.specs.Row.{entered_as, failed_at, standing_by, standing_of}
 use Rattle.desk_page.specs.declared.row.Standing.{Standing}
 use Rattle.desk_page.specs.declared.row.Standing.TheVariants.{Conflict, New, Unfunded}

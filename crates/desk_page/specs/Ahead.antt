@@ -1,6 +1,5 @@
 -- Entries that are booked ahead of their value date.
 use Rattle.std.specs.Prelude.{ℕ, Bool, ◌&&◌, int_le, int_lt, List, [], ◌++◌, Option, Some, None, slice_get, if◌then◌else◌}
-use Rattle.corr_text.specs.Digits.{padded}
 use Rattle.corr_ids.specs.Day.{InCentury}
 use Rattle.corr_ids.specs.declared.day.Day.{Day}
 use Rattle.corr_report.specs.Lines.{numbered}

@@ -3,11 +3,15 @@ pub mod Escaped
 pub mod Cells
 pub mod Reasons
 pub mod Row
+pub mod Groups
 pub mod Books
 pub mod Messages
+pub mod Tally
 pub mod AccountTable
 pub mod Ahead
+pub mod Leaving
 pub mod Nostros
 pub mod Twice
 pub mod Page
 pub mod Laws
+pub mod inner

@@ -1,5 +1,6 @@
 -- The messages of a file on the page.
-use Rattle.std.specs.Prelude.{ℕ, ℤ, pos, ◌-ℤ◌, int_le, List, [], ◌∷◌, ◌++◌, Option, Some, None, if◌then◌else◌}
+use Rattle.std.specs.Prelude.{ℕ, ℤ, pos, ◌-ℤ◌, int_le, List, [], ◌++◌, Option, Some, None, if◌then◌else◌}
+use Rattle.std.specs.List.{flat_map, list_any}
 use Rattle.corr_text.specs.Digits.{padded}
 use Rattle.corr_text.specs.declared.fault.Code.{Code}
 use Rattle.corr_text.specs.declared.fault.Fault.{Fault}
@@ -14,8 +15,8 @@ use Rattle.day_model.specs.declared.entry.Entry.{Entry}
 use Rattle.day_model.specs.declared.pay.Side.{Side}
 use Rattle.desk_page.specs.declared.mark.Piece.{Piece}
 use Rattle.desk_page.specs.declared.mark.Piece.TheVariants as piece
-use Rattle.desk_page.specs.declared.row.Group.{Group}
-use Rattle.desk_page.specs.declared.row.Group.TheVariants.{Ask, Disputed, Fund, InOrder, Route}
+use Rattle.desk_page.specs.declared.group.Group.{Group}
+use Rattle.desk_page.specs.declared.group.Group.TheVariants.{Ask, ByHand, Disputed, Fund, InOrder, Mend, Nothing, Return, Room, Stray, Tables}
 use Rattle.desk_page.specs.declared.row.Payment.{Payment}
 use Rattle.desk_page.specs.declared.row.Row.{Row}
 use Rattle.desk_page.specs.declared.row.Row.TheVariants.{Asks, Refused, Told}
@@ -26,7 +27,7 @@ use Rattle.desk_page.specs.Cells.{amount_cell, bank_cell, cell, day_cell, number
 use Rattle.desk_page.specs.Escaped.{escaped}
 use Rattle.desk_page.specs.Markup.{markup}
 use Rattle.desk_page.specs.Reasons.{reason_of}
-use Rattle.desk_page.specs.Row.{group_of, is_group}
+use Rattle.desk_page.specs.Groups.{is_in, needing, resting}
 
 -- ---- the cells of a message
 
@@ -71,12 +72,14 @@ told_cell (Some account) = markup piece.PageOf ++ escaped account ++ markup piec
 told_cell None = markup piece.Advice
 
 -- what is wrong with a message: the code, the tag, which of that tag it is, and what the code says
-abbrev pub fault_cells : Fault → List ℕ
-fault_cells fault = cell fault.code.0 ++ cell (tag_text fault.tag) ++ number_cell fault.nth ++ cell (reason_of fault.code)
+abbrev pub fault_cell : Fault → List ℕ
+fault_cell fault =
+    markup piece.CellBegin ++ escaped fault.code.0 ++ markup piece.Space ++ escaped (tag_text fault.tag) ++ markup piece.Space ++ padded 1 fault.nth
+    ++ markup piece.Comma ++ escaped (reason_of fault.code) ++ markup piece.CellEnd
 
 -- what is said of a message
 abbrev pub row_cells : Chart → List Entry → Row → List ℕ
-row_cells chart entries (Refused mir fault) = mir_cell mir ++ fault_cells fault
+row_cells chart entries (Refused mir fault) = mir_cell mir ++ markup piece.NoCells ++ fault_cell fault
 row_cells chart entries (Asks payment standing) = cell payment.mir.0 ++ payment_cells payment ++ standing_cell chart entries standing
 row_cells chart entries (Told mir account) = cell mir.0 ++ markup piece.NoCells ++ told_cell account
 
@@ -86,34 +89,44 @@ row_line chart entries n row = markup piece.RowBegin ++ number_cell n ++ row_cel
 
 -- the same where it is of this group
 abbrev pub line_in : Chart → List Entry → Group → ℕ → Row → List ℕ
-line_in chart entries group n row = if is_group (group_of row) group then row_line chart entries n row else []
+line_in chart entries group n row = if is_in group row then row_line chart entries n row else []
 
 -- ---- a group
 
 -- what is to be done with its messages
 abbrev pub group_title : Group → Piece
+group_title Mend = piece.MendTitle
 group_title Ask = piece.AskTitle
-group_title Route = piece.RouteTitle
+group_title Return = piece.ReturnTitle
+group_title Tables = piece.TablesTitle
+group_title ByHand = piece.ByHandTitle
+group_title Stray = piece.StrayTitle
 group_title Fund = piece.FundTitle
+group_title Room = piece.RoomTitle
 group_title Disputed = piece.DisputedTitle
+group_title Nothing = piece.NothingTitle
 group_title InOrder = piece.OrderTitle
-
--- the names of its columns
-abbrev pub group_columns : Group → List ℕ
-group_columns Ask = markup piece.FaultColumns
-group_columns _ = markup piece.PaymentColumns ++ markup piece.StandingColumns
 
 -- its messages, each with its number
 abbrev pub group_lines : Chart → List Entry → Group → List Row → List ℕ
 group_lines chart entries group rows = numbered (line_in chart entries group) 1 rows
 
+-- what stands ahead of them, with the names of the columns
+abbrev pub group_begin : Group → List ℕ
+group_begin group = markup (group_title group) ++ markup piece.TableBegin ++ markup piece.PaymentColumns ++ markup piece.StandingColumns
+
 -- the table of a group
+abbrev pub whole_table : Chart → List Entry → List Row → Group → List ℕ
+whole_table chart entries rows group = group_begin group ++ group_lines chart entries group rows ++ markup piece.TableEnd
+
+-- where a message is of it
 abbrev pub group_table : Chart → List Entry → List Row → Group → List ℕ
-group_table chart entries rows group =
-    markup (group_title group) ++ markup piece.TableBegin ++ group_columns group ++ group_lines chart entries group rows ++ markup piece.TableEnd
+group_table chart entries rows group = if list_any (is_in group) rows then whole_table chart entries rows group else []
 
 -- what needs somebody, by what to do
-abbrev pub needs_section : Chart → List Entry → List Row → List ℕ
-needs_section chart entries rows =
-    markup piece.Needs ++ group_table chart entries rows Ask ++ group_table chart entries rows Route
-    ++ group_table chart entries rows Fund ++ group_table chart entries rows Disputed
+unfoldable pub needs_section : Chart → List Entry → List Row → List ℕ
+needs_section chart entries rows = markup piece.Needs ++ flat_map (group_table chart entries rows) needing
+
+-- all other messages
+unfoldable pub rest_section : Chart → List Entry → List Row → List ℕ
+rest_section chart entries rows = flat_map (group_table chart entries rows) resting

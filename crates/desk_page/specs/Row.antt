@@ -1,5 +1,5 @@
--- What the page says of a message, and where the message stands on it.
-use Rattle.std.specs.Prelude.{◌≡◌, ℕ, ◌-◌, ◌<◌, ◌≤◌, Bool, true, false, List, [], ◌∷◌, ◌++◌, Option, Some, None, option_to_list, slice_get}
+-- What the page says of a message.
+use Rattle.std.specs.Prelude.{ℕ, ◌-◌, ◌<◌, ◌≤◌, List, [], ◌∷◌, ◌++◌, Option, Some, None, option_to_list, slice_get}
 use Rattle.std.specs.List.{flat_map}
 use Rattle.corr_ids.specs.Bic.{bic_text}
 use Rattle.corr_ids.specs.Day.{InCentury}
@@ -13,11 +13,9 @@ use Rattle.day_model.specs.declared.reply.Reply.{Reply}
 use Rattle.day_model.specs.declared.reply.Reply.TheVariants as reply
 use Rattle.fin_parties.specs.declared.party.Party.{Party}
 use Rattle.fin_parties.specs.declared.party.Party.TheVariants as party
-use Rattle.desk_page.specs.declared.row.Group.{Group}
-use Rattle.desk_page.specs.declared.row.Group.TheVariants.{Ask, Disputed, Fund, InOrder, Route}
 use Rattle.desk_page.specs.declared.row.Payment.{Payment}
 use Rattle.desk_page.specs.declared.row.Row.{Row}
-use Rattle.desk_page.specs.declared.row.Row.TheVariants.{Asks, Refused, Told}
+use Rattle.desk_page.specs.declared.row.Row.TheVariants.{Asks}
 use Rattle.desk_page.specs.declared.row.Standing.{Standing}
 use Rattle.desk_page.specs.declared.row.Standing.TheVariants.{Booked, Conflict, New, Unfunded, Unrouted}
 
@@ -51,42 +49,13 @@ abbrev pub entered_as : ℕ → Option Entry → Standing
 entered_as place (Some entry) = standing_of place entry.pay.legs entry.outcome
 entered_as place None = New
 
--- by the reply that a run would give after these entries; none where it isn't entered
+-- by the reply to it after these entries; none where it isn't entered
 abbrev pub standing_by : List Entry → Option Reply → Standing
 standing_by entries (Some (reply.Entered mir place)) = entered_as place (slice_get entries (place - 1))
 standing_by entries (Some (reply.Conflict mir place)) = Conflict place
 standing_by entries (Some (reply.Unrouted mir code)) = Unrouted code
 standing_by entries (Some (reply.Refused mir fault)) = New
 standing_by entries None = New
-
--- ---- the groups
-
--- the group of a payment
-abbrev pub group_for : Standing → Group
-group_for New = InOrder
-group_for (Booked place) = InOrder
-group_for (Unfunded place account side amount) = Fund
-group_for (Conflict place) = Disputed
-group_for (Unrouted code) = Route
-
--- the group of a message
-abbrev pub group_of : Row → Group
-group_of (Refused mir fault) = Ask
-group_of (Asks payment standing) = group_for standing
-group_of (Told mir account) = InOrder
-
--- two groups are the same
-abbrev pub is_group : Group → Group → Bool
-is_group Ask Ask = true
-is_group Route Route = true
-is_group Fund Fund = true
-is_group Disputed Disputed = true
-is_group InOrder InOrder = true
-is_group _ _ = false
-
--- all of them, as they stand on the page
-abbrev pub all_groups : List Group
-all_groups = Ask ∷ Route ∷ Fund ∷ Disputed ∷ InOrder ∷ []
 
 -- ---- what may be shown
 

@@ -1,7 +1,6 @@
--- Messages to look at twice: those that share their UETR, or their sender, field 20 and amount, with a message ahead of them that has another
--- reference.
+-- Messages to look at twice: those whose reference no message ahead of them has, and whose UETR, or sender, field 20 and amount, one has.
 use Rattle.std.specs.Prelude.{ℕ, ◌+◌, ◌&&◌, ◌||◌, not, Bool, false, List, [], ◌∷◌, ◌++◌, Option, Some, None, if◌then◌else◌}
-use Rattle.std.specs.List.{flat_map, list_any}
+use Rattle.std.specs.List.{list_any}
 use Rattle.std.specs.Str.{bytes_eq}
 use Rattle.corr_text.specs.Digits.{padded}
 use Rattle.corr_ids.specs.declared.uetr.Uetr.{Uetr}
@@ -15,12 +14,6 @@ use Rattle.desk_page.specs.Markup.{markup}
 -- sender, currency, amount in minor units, and field 20, one after another: all but the last have one length
 unfoldable pub terms_of : Payment → List ℕ
 terms_of p = p.sender.head ++ p.sender.branch ++ p.amount.ccy.0 ++ padded 14 p.amount.minor.0 ++ p.reference
-
--- those of a message, if it asks for a payment
-abbrev pub terms_in : Row → List ℕ
-terms_in (Asks payment standing) = terms_of payment
-terms_in (Refused mir fault) = []
-terms_in (Told mir account) = []
 
 -- a UETR, if there is one
 abbrev pub uetr_keys : Option Uetr → List (List ℕ)
@@ -67,10 +60,6 @@ twice_if is_known n row = if is_twice is_known row then twice_row n row else []
 abbrev pub twice_from : List (List ℕ) → ℕ → List Row → List ℕ
 twice_from keys n [] = []
 twice_from keys n (row ∷ rows) = twice_if (stands_in keys) n row ++ twice_from (keys ++ keys_of row) (n + 1) rows
-
--- what the messages are known by
-abbrev pub keys_in : List Row → List (List ℕ)
-keys_in rows = flat_map keys_of rows
 
 -- the messages to look at twice
 abbrev pub twice_section : List Row → List ℕ

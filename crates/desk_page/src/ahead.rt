@@ -5,7 +5,7 @@ ghost use Rattle.corr_money.specs.Amounts.{amount_end, most_decimals};
 ghost use Rattle.day_model.specs.Chart.{IsListed, account_at};
 ghost use Rattle.day_model.specs.Fit.{FitsAccounts};
 ghost use Rattle.desk_page.specs.Ahead.{IsDated, ahead_if, ahead_line, ahead_section, is_ahead, leg_cells, paid_on};
-ghost use Rattle.desk_page.specs.Books.{AreSound, chart_in, entries_in};
+ghost use Rattle.desk_page.specs.inner.Books.{AreSound, chart_in, entries_in};
 
 use crate::books::Books;
 use crate::cells::{put_amount, put_cell, put_day, put_place};

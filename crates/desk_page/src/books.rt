@@ -3,7 +3,7 @@
 ghost use Rattle.std.specs.Prelude.{◌≡◌};
 ghost use Rattle.day_model.specs.Balance.{balance_of};
 ghost use Rattle.day_model.specs.Chart.{IsListed, IsSmall};
-ghost use Rattle.desk_page.specs.Books.{AreSound, chart_in, entries_in};
+ghost use Rattle.desk_page.specs.inner.Books.{AreSound, chart_in, entries_in};
 
 use day_model::{Accounts, AcctNo, History, balance_with};
 

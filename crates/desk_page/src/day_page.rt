@@ -3,20 +3,20 @@
 ghost use Rattle.std.specs.Prelude.{◌≡◌, ◌++◌, All, IfOk, OnOk};
 ghost use Rattle.corr_ids.specs.Day.{InCentury};
 ghost use Rattle.day_model.specs.Legal.{IsLegal};
-ghost use Rattle.desk_page.specs.Books.{AreSound, chart_in, entries_in};
+ghost use Rattle.desk_page.specs.inner.Books.{AreSound, chart_in, entries_in};
 ghost use Rattle.desk_page.specs.Ahead.{IsDated};
 ghost use Rattle.desk_page.specs.Page.{bank_text, page_head, page_of, page_style, sections_of, title_text};
 ghost use Rattle.desk_page.specs.Row.{IsShown};
 
 use crate::account_table::put_section;
-use crate::ahead;
 use crate::books::Books;
 use crate::escape::put_escaped;
-use crate::groups::{put_needs, put_table};
+use crate::groups::{put_needs, put_rest};
 use crate::mark::{Piece, mark};
 use crate::nostros::put_nostros;
-use crate::row::{Group, Row};
+use crate::row::Row;
 use crate::twice::put_twice;
+use crate::{ahead, leaving};
 use corr_ids::{Bic, Day, put_yymmdd, with_branch};
 use corr_text::{Memory, Text};
 use day_model::{Accounts, History, totals};
@@ -81,15 +81,16 @@ fn put_sections(
     put_section(alloc, books, out)?;
     put_nostros(books.accounts, rows, out)?;
     ahead::put_section(alloc, books, day, out)?;
-    put_table(alloc, books, rows, Group::InOrder, out)
+    leaving::put_section(alloc, books, day, out)?;
+    put_rest(alloc, books, rows, out)
 }
 
 /// The page of a day, as a file of HTML that needs no script and refers to nothing outside (docs/operating.md, "The page"): what needs
-/// somebody, by what to do; what to look twice at; the accounts with their room; those with other banks, with and without a statement; what is booked ahead of
-/// its value date; and all other messages. `rows` says of each message of the file what it is.
+/// somebody, by what to do; what to look twice at; the accounts with their room, a table a currency; those with other banks, with and without
+/// a statement; what is booked ahead of its value date; what leaves for what is booked on the day; and all other messages. `rows` says of each message of the file what it is.
 ///
-/// The history is legal for the accounts, its days and the day are of 1980 to 2079, and each message can be shown. `Memory`: there was no room for
-/// the text.
+/// The history is legal for the accounts, its days and the day are of 1980 to 2079, and each message can be shown. `Memory`: there was no
+/// room for the text.
 pub fn page(
     alloc: Global,
     a: &Accounts,

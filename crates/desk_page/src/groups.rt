@@ -1,16 +1,17 @@
 //! The messages of the file, in groups.
 
 ghost use Rattle.std.specs.Prelude.{◌≡◌, ◌++◌, All, OnOk};
-ghost use Rattle.desk_page.specs.Books.{AreSound, chart_in, entries_in};
-ghost use Rattle.desk_page.specs.Markup.{markup};
-ghost use Rattle.desk_page.specs.declared.mark.Piece.TheVariants as piece;
-ghost use Rattle.desk_page.specs.Messages.{group_columns, group_lines, group_table, group_title, line_in, needs_section};
+ghost use Rattle.std.specs.List.{flat_map, list_any};
+ghost use Rattle.desk_page.specs.inner.Books.{AreSound, chart_in, entries_in};
+ghost use Rattle.desk_page.specs.Groups.{is_in};
+ghost use Rattle.desk_page.specs.Messages.{group_begin, group_lines, group_table, group_title, line_in, needs_section, rest_section, whole_table};
 ghost use Rattle.desk_page.specs.Row.{IsShown};
 
 use crate::books::Books;
+use crate::group::{Group, is_in};
 use crate::mark::{Piece, mark};
 use crate::message_rows::put_row;
-use crate::row::{Group, Row, group_of, is_group};
+use crate::row::Row;
 use corr_text::{Memory, Text};
 use std::alloc::Global;
 
@@ -19,32 +20,26 @@ fn title(group: Group) -> Piece
     ensures { result ≡ group_title group }
 {
     match group {
+        Group::Mend => Piece::MendTitle,
         Group::Ask => Piece::AskTitle,
-        Group::Route => Piece::RouteTitle,
+        Group::Return => Piece::ReturnTitle,
+        Group::Tables => Piece::TablesTitle,
+        Group::ByHand => Piece::ByHandTitle,
+        Group::Stray => Piece::StrayTitle,
         Group::Fund => Piece::FundTitle,
+        Group::Room => Piece::RoomTitle,
         Group::Disputed => Piece::DisputedTitle,
+        Group::Nothing => Piece::NothingTitle,
         Group::InOrder => Piece::OrderTitle,
     }
 }
 
-/// Adds the names of the columns of payments.
-fn put_payment_columns(out: &mut Text) -> Result<(), Memory>
-    ensures { OnOk result (out.new ≡ out.old ++ markup piece.PaymentColumns ++ markup piece.StandingColumns) }
+/// Adds what stands ahead of the messages of a group.
+fn put_begin(group: Group, out: &mut Text) -> Result<(), Memory>
+    ensures { OnOk result (out.new ≡ out.old ++ group_begin group) }
 {
+    out.push_all(&[mark(title(group)), mark(Piece::TableBegin)])?;
     out.push_all(&[mark(Piece::PaymentColumns), mark(Piece::StandingColumns)])
-}
-
-/// Adds the names of the columns of a group.
-fn put_columns(group: Group, out: &mut Text) -> Result<(), Memory>
-    ensures { OnOk result (out.new ≡ out.old ++ group_columns group) }
-{
-    match group {
-        Group::Ask => out.push(mark(Piece::FaultColumns)),
-        Group::Route => put_payment_columns(out),
-        Group::Fund => put_payment_columns(out),
-        Group::Disputed => put_payment_columns(out),
-        Group::InOrder => put_payment_columns(out),
-    }
 }
 
 /// Adds the row of the `n`-th message where it is of a group.
@@ -60,7 +55,7 @@ fn put_row_in(
     requires shown { IsShown (chart_in books) row.now }
     ensures { OnOk result (out.new ≡ out.old ++ line_in (chart_in books.entry) (entries_in books.entry) group n row.now) }
 {
-    if is_group(group_of(row), group) {
+    if is_in(group, row) {
         return put_row(alloc, books, n, row, out);
     }
     Ok(())
@@ -85,7 +80,31 @@ fn put_lines(
 }
 
 /// Adds the table of a group.
-pub(crate) fn put_table(
+fn put_whole(
+    alloc: Global,
+    books: Books<'_>,
+    rows: &[Row],
+    group: Group,
+    out: &mut Text,
+) -> Result<(), Memory>
+    requires sound { AreSound books }
+    requires shown { All (IsShown (chart_in books)) rows.now }
+    ensures { OnOk result (out.new ≡ out.old ++ whole_table (chart_in books.entry) (entries_in books.entry) rows.now group) }
+{
+    put_begin(group, out)?;
+    put_lines(alloc, books, group, rows, out)?;
+    out.push(mark(Piece::TableEnd))
+}
+
+/// Whether a message is of a group.
+fn is_there(group: Group, rows: &[Row]) -> bool
+    ensures { result ≡ list_any (is_in group) rows.now }
+{
+    rows.iter().any(|row| is_in(group, row))
+}
+
+/// Adds the table of a group where a message is of it.
+fn put_table(
     alloc: Global,
     books: Books<'_>,
     rows: &[Row],
@@ -96,13 +115,32 @@ pub(crate) fn put_table(
     requires shown { All (IsShown (chart_in books)) rows.now }
     ensures { OnOk result (out.new ≡ out.old ++ group_table (chart_in books.entry) (entries_in books.entry) rows.now group) }
 {
-    out.push_all(&[mark(title(group)), mark(Piece::TableBegin)])?;
-    put_columns(group, out)?;
-    put_lines(alloc, books, group, rows, out)?;
-    out.push(mark(Piece::TableEnd))
+    if is_there(group, rows) {
+        return put_whole(alloc, books, rows, group, out);
+    }
+    Ok(())
+}
+
+/// Adds the tables of groups.
+fn put_tables(
+    alloc: Global,
+    books: Books<'_>,
+    rows: &[Row],
+    groups: &[Group],
+    out: &mut Text,
+) -> Result<(), Memory>
+    requires sound { AreSound books }
+    requires shown { All (IsShown (chart_in books)) rows.now }
+    ensures { OnOk result (out.new ≡ out.old ++ flat_map (group_table (chart_in books.entry) (entries_in books.entry) rows.now) groups.now) }
+{
+    for group in groups {
+        put_table(alloc, books, rows, *group, out)?;
+    }
+    Ok(())
 }
 
 /// Adds what needs somebody, by what to do.
+#[tactic(auto, unfolding(crate::specs::Messages::needs_section))]
 pub(crate) fn put_needs(
     alloc: Global,
     books: Books<'_>,
@@ -114,8 +152,31 @@ pub(crate) fn put_needs(
     ensures { OnOk result (out.new ≡ out.old ++ needs_section (chart_in books.entry) (entries_in books.entry) rows.now) }
 {
     out.push(mark(Piece::Needs))?;
-    put_table(alloc, books, rows, Group::Ask, out)?;
-    put_table(alloc, books, rows, Group::Route, out)?;
-    put_table(alloc, books, rows, Group::Fund, out)?;
-    put_table(alloc, books, rows, Group::Disputed, out)
+    let needing = [
+        Group::Mend,
+        Group::Ask,
+        Group::Return,
+        Group::Tables,
+        Group::ByHand,
+        Group::Stray,
+        Group::Fund,
+        Group::Room,
+        Group::Disputed,
+    ];
+    put_tables(alloc, books, rows, &needing, out)
+}
+
+/// Adds all other messages.
+#[tactic(auto, unfolding(crate::specs::Messages::rest_section))]
+pub(crate) fn put_rest(
+    alloc: Global,
+    books: Books<'_>,
+    rows: &[Row],
+    out: &mut Text,
+) -> Result<(), Memory>
+    requires sound { AreSound books }
+    requires shown { All (IsShown (chart_in books)) rows.now }
+    ensures { OnOk result (out.new ≡ out.old ++ rest_section (chart_in books.entry) (entries_in books.entry) rows.now) }
+{
+    put_tables(alloc, books, rows, &[Group::Nothing, Group::InOrder], out)
 }

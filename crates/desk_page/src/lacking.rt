@@ -3,7 +3,8 @@
 ghost use Rattle.std.specs.Prelude.{◌≡◌, ◌<◌, ◌≤◌, ◌++◌, pos, ◌-ℤ◌, OnOk};
 ghost use Rattle.corr_money.specs.Amounts.{amount_end, most_decimals};
 ghost use Rattle.day_model.specs.Chart.{IsListed, IsSmall, account_at};
-ghost use Rattle.desk_page.specs.Books.{AreSound, IsWide, chart_in, entries_in, room_of};
+ghost use Rattle.desk_page.specs.Books.{room_of};
+ghost use Rattle.desk_page.specs.inner.Books.{AreSound, IsWide, chart_in, entries_in};
 ghost use Rattle.desk_page.specs.Messages.{lacking, lacking_cell, lacking_of};
 
 use crate::books::{Books, balance_in};

@@ -1,4 +1,4 @@
-//! The page of a day for a desk: a file of HTML of what a run would do with the messages of a file, and of the books.
+//! The page of a day for a desk: a file of HTML of the messages of a file, by what is to be done with them, and of the books.
 #![tactic(auto)]
 
 mod account_table;
@@ -7,9 +7,11 @@ mod books;
 mod cells;
 mod day_page;
 mod escape;
+mod group;
 mod groups;
 mod lacking;
 mod law;
+mod leaving;
 mod mark;
 mod message_rows;
 mod nostros;
@@ -20,7 +22,8 @@ mod standing;
 mod twice;
 
 pub use day_page::page;
-pub use law::{each_stands_once, texts_are_escaped};
+pub use group::Group;
+pub use law::{each_account_once, each_stands_once, texts_are_escaped};
 pub use party::party_text;
-pub use row::{Group, Payment, Row, Standing};
+pub use row::{Payment, Row, Standing};
 pub use standing::standing_for;

@@ -29,23 +29,37 @@ pub enum Piece {
     /// The heading of what needs somebody.
     Needs,
     /// The heading of faulty messages.
+    MendTitle,
+    /// The heading of messages whose sender is asked.
     AskTitle,
-    /// The heading of payments without accounts.
-    RouteTitle,
-    /// The heading of payments that lack funds.
+    /// The heading of payments that may go back.
+    ReturnTitle,
+    /// The heading of messages that may want a row of a table.
+    TablesTitle,
+    /// The heading of messages that are handled by hand.
+    ByHandTitle,
+    /// The heading of messages that don't belong into the file.
+    StrayTitle,
+    /// The heading of payments whose debit lacks funds.
     FundTitle,
+    /// The heading of payments whose credit has no room.
+    RoomTitle,
     /// The heading of payments under the reference of another one.
     DisputedTitle,
-    /// The heading of all other messages.
+    /// The heading of messages that want nothing.
+    NothingTitle,
+    /// The heading of messages that are in order.
     OrderTitle,
-    /// The columns of faulty messages.
-    FaultColumns,
     /// The first columns of payments.
     PaymentColumns,
     /// The other columns of payments.
     StandingColumns,
     /// The heading of the accounts.
     Accounts,
+    /// What stands before the currency of accounts.
+    CurrencyBegin,
+    /// What stands after it.
+    CurrencyEnd,
     /// The first columns of accounts.
     AccountColumns,
     /// The other columns of accounts.
@@ -104,6 +118,10 @@ pub enum Piece {
     Stated,
     /// None is.
     Unstated,
+    /// The messages that leave, with their columns.
+    LeavingBegin,
+    /// A cell of a type, up to its number.
+    TypeBegin,
     /// The messages to look at twice, with their columns.
     TwiceBegin,
 }
@@ -133,24 +151,35 @@ pub(crate) fn mark(piece: Piece) -> &'static [u8]
         Piece::On => b" on ",
         Piece::PageEnd => b"</body>\n</html>\n",
         Piece::Needs => b"<h2>Needs somebody</h2>\n",
-        Piece::AskTitle => b"<h3>Faulty: ask the sender to mend it and to send it again</h3>\n",
-        Piece::RouteTitle => b"<h3>No accounts: look at the tables and the instructions</h3>\n",
+        Piece::MendTitle => {
+            b"<h3>Tell the sender what is faulty, to mend it and to send it again</h3>\n"
+        }
+        Piece::AskTitle => b"<h3>Ask the sender</h3>\n",
+        Piece::ReturnTitle => b"<h3>Return it, or what its code says in place of that</h3>\n",
+        Piece::TablesTitle => {
+            b"<h3>Look at our tables, and run it again; else tell the sender</h3>\n"
+        }
+        Piece::ByHandTitle => b"<h3>Handle it by hand</h3>\n",
+        Piece::StrayTitle => b"<h3>Find out how it came into the file</h3>\n",
         Piece::FundTitle => {
             b"<h3>Funds are lacking: the sender funds it, and sends it under a new reference</h3>\n"
         }
-        Piece::DisputedTitle => b"<h3>Another payment has the reference: ask the sender</h3>\n",
-        Piece::OrderTitle => b"<h2>In order</h2>\n",
-        Piece::FaultColumns => {
-            b"<tr><th>No</th><th>Reference</th><th>Code</th><th>Field</th><th>Which</th><th>Why</th></tr>\n"
+        Piece::RoomTitle => {
+            b"<h3>Past a ceiling: raise it by set-limits, and the sender sends it under a new reference</h3>\n"
         }
+        Piece::DisputedTitle => {
+            b"<h3>Another payment has the reference: find out which is right</h3>\n"
+        }
+        Piece::NothingTitle => b"<h2>Nothing to do</h2>\n",
+        Piece::OrderTitle => b"<h2>In order</h2>\n",
         Piece::PaymentColumns => {
             b"<tr><th>No</th><th>Reference</th><th>Sender</th><th>Field 20</th><th>Amount</th>"
         }
         Piece::StandingColumns => b"<th>Value date</th><th>Beneficiary</th><th>What</th></tr>\n",
         Piece::Accounts => b"<h2>Accounts</h2>\n",
-        Piece::AccountColumns => {
-            b"<tr><th>Currency</th><th>Account</th><th>Kind</th><th>Owner</th><th>Balance</th>"
-        }
+        Piece::CurrencyBegin => b"<h3>",
+        Piece::CurrencyEnd => b"</h3>\n",
+        Piece::AccountColumns => b"<tr><th>Account</th><th>Kind</th><th>Owner</th><th>Balance</th>",
         Piece::RoomColumns => {
             b"<th>Floor</th><th>Ceiling</th><th>To the floor</th><th>To the ceiling</th><th>Bar</th></tr>\n"
         }
@@ -185,6 +214,10 @@ pub(crate) fn mark(piece: Piece) -> &'static [u8]
         }
         Piece::Stated => b"<td>in the file</td>",
         Piece::Unstated => b"<td>none in the file</td>",
+        Piece::LeavingBegin => {
+            b"<h2>Messages that leave for what is booked on this day</h2>\n<table>\n<tr><th>Receiver</th><th>Type</th><th>How many</th></tr>\n"
+        }
+        Piece::TypeBegin => b"<td>MT",
         Piece::TwiceBegin => {
             b"<h2>Look at twice: an earlier message has the UETR, or the sender, field 20 and amount</h2>\n<table>\n<tr><th>No</th><th>Reference</th><th>Sender</th><th>Field 20</th><th>Amount</th></tr>\n"
         }

@@ -2,8 +2,8 @@
 
 ghost use Rattle.std.specs.Prelude.{◌≡◌, ◌++◌, OnOk};
 ghost use Rattle.corr_report.specs.Report.{tag_text};
-ghost use Rattle.desk_page.specs.Books.{AreSound, chart_in, entries_in};
-ghost use Rattle.desk_page.specs.Messages.{fault_cells, mir_cell, payment_cells, row_cells, row_line, standing_cell, told_cell, unrouted_cell};
+ghost use Rattle.desk_page.specs.inner.Books.{AreSound, chart_in, entries_in};
+ghost use Rattle.desk_page.specs.Messages.{fault_cell, mir_cell, payment_cells, row_cells, row_line, standing_cell, told_cell, unrouted_cell};
 ghost use Rattle.desk_page.specs.Row.{IsShown, IsShownPayment, IsShownStanding};
 
 use crate::books::Books;
@@ -14,7 +14,7 @@ use crate::mark::{Piece, mark};
 use crate::reasons::reason;
 use crate::row::{Payment, Row, Standing};
 use corr_ids::Mir;
-use corr_text::{Code, Fault, Memory, Text};
+use corr_text::{Code, Decimal, Fault, Memory, Text};
 use std::alloc::Global;
 
 /// A tag without the space that a tag of two characters ends with.
@@ -86,14 +86,22 @@ fn put_mir(mir: &Option<Mir>, out: &mut Text) -> Result<(), Memory>
     }
 }
 
-/// Adds the cells of a fault.
+/// Adds the cell of a fault.
 fn put_fault(fault: &Fault, out: &mut Text) -> Result<(), Memory>
-    ensures { OnOk result (out.new ≡ out.old ++ fault_cells fault.now) }
+    ensures { OnOk result (out.new ≡ out.old ++ fault_cell fault.now) }
 {
-    put_cell(&fault.code.0, out)?;
-    put_cell(plain_tag(&fault.tag), out)?;
-    put_number(fault.nth as u64, out)?;
-    put_cell(reason(fault.code), out)
+    let mut room = Decimal::new();
+    out.push(mark(Piece::CellBegin))?;
+    put_escaped(&fault.code.0, out)?;
+    out.push(mark(Piece::Space))?;
+    put_escaped(plain_tag(&fault.tag), out)?;
+    out.push_all(&[
+        mark(Piece::Space),
+        room.padded(fault.nth as u64, 1),
+        mark(Piece::Comma),
+    ])?;
+    put_escaped(reason(fault.code), out)?;
+    out.push(mark(Piece::CellEnd))
 }
 
 /// Adds the cell of a message that tells of an account.
@@ -119,6 +127,7 @@ fn put_cells(alloc: Global, books: Books<'_>, row: &Row, out: &mut Text) -> Resu
     match row {
         Row::Refused { mir, fault } => {
             put_mir(mir, out)?;
+            out.push(mark(Piece::NoCells))?;
             put_fault(fault, out)
         }
         Row::Asks { payment, standing } => {

@@ -6,7 +6,7 @@ ghost use Rattle.desk_page.specs.Reasons.{content_reason, form_reason, frame_rea
 use corr_text::Code;
 
 /// Whether a code is this one.
-fn is_code(code: Code, letters: &[u8]) -> bool
+pub(crate) fn is_code(code: Code, letters: &[u8]) -> bool
     ensures { result ≡ is_code code letters.now }
 {
     code.0.as_slice() == letters

@@ -1,8 +1,5 @@
 //! What the page says of a message.
 
-ghost use Rattle.std.specs.Prelude.{◌≡◌};
-ghost use Rattle.desk_page.specs.Row.{group_for, group_of, is_group};
-
 use corr_ids::{Bic, Day, Mir, Uetr};
 use corr_money::{Amount, Minor};
 use corr_text::{Code, Fault, Text};
@@ -65,49 +62,4 @@ pub enum Row {
         mir: Mir,
         account: Option<Text>,
     },
-}
-
-/// Where a message stands on the page.
-#[derive(Clone, Copy, Debug, PartialEq, Eq)]
-pub enum Group {
-    /// Faulty messages.
-    Ask,
-    /// Payments without accounts.
-    Route,
-    /// Payments whose account lacks funds.
-    Fund,
-    /// Payments under the reference of another one.
-    Disputed,
-    /// All other messages.
-    InOrder,
-}
-
-/// The group of a payment.
-fn group_for(standing: Standing) -> Group
-    ensures { result ≡ group_for standing }
-{
-    match standing {
-        Standing::New | Standing::Booked { .. } => Group::InOrder,
-        Standing::Unfunded { .. } => Group::Fund,
-        Standing::Conflict { .. } => Group::Disputed,
-        Standing::Unrouted { .. } => Group::Route,
-    }
-}
-
-/// The group of a message.
-pub(crate) fn group_of(row: &Row) -> Group
-    ensures { result ≡ group_of row.now }
-{
-    match row {
-        Row::Refused { .. } => Group::Ask,
-        Row::Asks { standing, .. } => group_for(*standing),
-        Row::Told { .. } => Group::InOrder,
-    }
-}
-
-/// Whether two groups are the same.
-pub(crate) fn is_group(group: Group, other: Group) -> bool
-    ensures { result ≡ is_group group other }
-{
-    group == other
 }

@@ -32,8 +32,8 @@ fn standing_at(_a: &Accounts, h: &History, place: u32) -> Standing
     }
 }
 
-/// Where a payment stands whose reference is entered at a place, from 1, or nowhere: what `run` would answer to it, with no entry made.
-/// The history is legal for the accounts.
+/// Where a payment stands whose reference is entered at a place, from 1, or nowhere: then it isn't entered yet, and whether its accounts
+/// could take it is not looked at. The history is legal for the accounts.
 pub fn standing_for(a: &Accounts, h: &History, pay: &Pay, place: Option<u32>) -> Standing
     requires legal { IsLegal a.now h.now.entries }
     requires place { place ≡ entered_at pay.now.mir h.now.entries }

@@ -6,7 +6,8 @@ ghost use Rattle.std.specs.Str.{bytes_eq};
 ghost use Rattle.day_model.specs.Chart.{Chart};
 ghost use Rattle.desk_page.specs.Markup.{markup};
 ghost use Rattle.desk_page.specs.Row.{IsShown, IsShownPayment};
-ghost use Rattle.desk_page.specs.Twice.{is_known_uetr, is_twice, keys_of, stands_in, terms_in, terms_of, twice_from, twice_if, twice_line, twice_row, twice_section, uetr_keys};
+ghost use Rattle.desk_page.specs.Twice.{is_known_uetr, is_twice, keys_of, stands_in, terms_of, twice_from, twice_if, twice_line, twice_row, twice_section, uetr_keys};
+ghost use Rattle.desk_page.specs.inner.Twice.{terms_in};
 ghost use Rattle.desk_page.specs.declared.mark.Piece.TheVariants as piece;
 
 use crate::cells::{put_amount, put_bank, put_cell, put_number};

@@ -4,7 +4,7 @@ use Rattle.corr_report.proofs.laws.LineLists.{numbered_more}
 use Rattle.day_model.specs.declared.entry.Entry.{Entry}
 use Rattle.day_model.proofs.laws.Fronts.{fits_now}
 use Rattle.desk_page.specs.Ahead.{IsDated, ahead_if}
-use Rattle.desk_page.specs.Books.{chart_in, entries_in}
+use Rattle.desk_page.specs.inner.Books.{chart_in, entries_in}
 use Rattle.desk_page.specs.Markup.{markup}
 use Rattle.desk_page.specs.declared.mark.Piece.TheVariants.{AheadBegin}
 use Rattle.desk_page.proofs.ahead.put_section.Goals as goal

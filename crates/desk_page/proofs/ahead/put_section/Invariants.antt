@@ -1,7 +1,7 @@
 use Rattle.std.proofs.Common.{◌≡◌, ◌-◌, ◌++◌, take}
 use Rattle.corr_report.specs.Lines.{numbered}
 use Rattle.desk_page.specs.Ahead.{ahead_if}
-use Rattle.desk_page.specs.Books.{chart_in, entries_in}
+use Rattle.desk_page.specs.inner.Books.{chart_in, entries_in}
 use Rattle.desk_page.specs.Markup.{markup}
 use Rattle.desk_page.specs.declared.mark.Piece.TheVariants.{AheadBegin}
 use Rattle.desk_page.proofs.ahead.put_section.Given as goal

@@ -1,8 +1,7 @@
-use Rattle.std.proofs.Common.{sym, ◌∙◌, subst, w64, to_z, of_z, ◌≡◌}
+use Rattle.std.proofs.Common.{sym, ◌∙◌, subst, w64}
 use Rattle.std.proofs.lemmas.Int.{to_z-of_z}
-use Rattle.day_model.specs.Balance.{balance_of}
 use Rattle.day_model.specs.Chart.{IsSmall}
-use Rattle.desk_page.specs.Books.{chart_in, entries_in}
+use Rattle.desk_page.specs.inner.Books.{chart_in, entries_in}
 use Rattle.desk_page.proofs.Balances.{balance_is, balance_small}
 use Rattle.desk_page.proofs.books.balance_in.Goals as goal
 

@@ -1,6 +1,6 @@
 use Rattle.std.proofs.Common.{◌+◌, ◌++◌, refl, ap, ◌∙◌}
 use Rattle.corr_report.proofs.laws.LineLists.{numbered_more}
-use Rattle.desk_page.specs.Books.{chart_in, entries_in}
+use Rattle.desk_page.specs.inner.Books.{chart_in, entries_in}
 use Rattle.desk_page.specs.Messages.{line_in}
 use Rattle.desk_page.specs.declared.row.Row.{Row}
 use Rattle.desk_page.proofs.groups.put_lines.Goals as goal

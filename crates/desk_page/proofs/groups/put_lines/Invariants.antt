@@ -1,6 +1,6 @@
 use Rattle.std.proofs.Common.{◌≡◌, ◌++◌, take}
 use Rattle.corr_report.specs.Lines.{numbered}
-use Rattle.desk_page.specs.Books.{chart_in, entries_in}
+use Rattle.desk_page.specs.inner.Books.{chart_in, entries_in}
 use Rattle.desk_page.specs.Messages.{line_in}
 use Rattle.desk_page.proofs.groups.put_lines.Given as goal
 

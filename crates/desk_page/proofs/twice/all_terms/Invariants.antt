@@ -1,5 +1,5 @@
 use Rattle.std.proofs.Common.{◌≡◌, map, take}
-use Rattle.desk_page.specs.Twice.{terms_in}
+use Rattle.desk_page.specs.inner.Twice.{terms_in}
 use Rattle.desk_page.proofs.twice.all_terms.Given as goal
 
 -- the terms so far

@@ -1,7 +1,8 @@
 use Rattle.std.proofs.Common.{◌≡◌, ◌+◌, ◌++◌, ℕ, List, [], take, drop}
 use Rattle.std.specs.List.{list_any}
 use Rattle.std.specs.Str.{bytes_eq}
-use Rattle.desk_page.specs.Twice.{keys_in, stands_in, twice_from}
+use Rattle.desk_page.specs.Twice.{stands_in, twice_from}
+use Rattle.desk_page.specs.inner.Twice.{keys_in}
 use Rattle.desk_page.proofs.twice.put_rows.Given as goal
 
 -- what is still to be added, and what is known of the messages so far
