@@ -28,11 +28,14 @@ use Rattle.jrn_book.specs.Journal.{StandsForBook}
 use Rattle.jrn_book.specs.declared.answer.Failed.{Failed}
 use Rattle.jrn_book.specs.declared.answer.CommitFault.TheVariants.{Memory}
 use Rattle.jrn_book.proofs.laws.Rooms.{chain_entered}
-use Rattle.corr_books.specs.Entering.{EntersAll}
-use Rattle.corr_books.specs.Moments.{IsLeftInTurn, LeavesSince, StandsBetween, StandsWithMore}
+use Rattle.corr_books.specs.inner.Entering.{EntersAll}
+use Rattle.corr_books.specs.Moments.{LeavesSince, StandsBetween, StandsWithMore}
+use Rattle.corr_books.specs.inner.Moments.{IsLeftInTurn}
 use Rattle.corr_books.specs.Opening.{Opening}
-use Rattle.corr_books.specs.Stand.{IsStand, entries_of, history_of}
-use Rattle.corr_books.specs.TellingAll.{AreNextInTurn, AreUntried, IsBehind, MeetsInTurn, NoneEntered, NoneTried, ToldAll, stops}
+use Rattle.corr_books.specs.Stand.{entries_of, history_of}
+use Rattle.corr_books.specs.inner.Stand.{IsStand}
+use Rattle.corr_books.specs.TellingAll.{AreUntried, IsBehind, NoneEntered, NoneTried, ToldAll, stops}
+use Rattle.corr_books.specs.inner.TellingAll.{AreNextInTurn, MeetsInTurn}
 use Rattle.corr_books.proofs.Batching.{Stands, Together, all_tried, as_many, broken_rest, failure_told, memory_rest, next_in_turn, some_longer, told_in_turn, told_none, tried_on}
 use Rattle.corr_books.proofs.Booking.{told_spare}
 use Rattle.corr_books.proofs.Grown.{GoesOn, entered_grows}
@@ -80,17 +83,17 @@ module _ {D : Type 0} (disk : disks.Ghosts D) (o : Opening) (past : ℕ → List
     failed = s.failed;
     counts = subst (λ (n : ℕ). Counts b.failed n (disk.faults (disk_of b.file))) s.at_open s.counts;
     mark = s.mark;
-    crash = λ honest. record { later = omega arith; each = λ image left. absurd left; before = λ t image le left. absurd left };
+    crash = λ honest. ([], record { later = omega arith; each = λ image left. absurd left; before = λ t image le left. absurd left });
   }
 
   -- what a crash since the opening leaves now
   abbrev Crash : Type 0
-  Crash = LeavesSince disk o past (disk_of b'.file) (IsLeftInTurn o.accounts o.base b'.history b'.failed)
+  Crash = (more : List Entry) × LeavesSince disk o past (disk_of b'.file) (IsLeftInTurn o.accounts o.base b'.history b'.failed more)
 
   -- nothing changed
   crash_same : IsTrue o.honest → b'.file ≡ b.file → b'.history ≡ b.history → b'.failed ≡ b.failed → Crash
   crash_same honest file history failed =
-      subst (λ (x : JFile D × (List Entry × Option Failed)). LeavesSince disk o past (disk_of x.0) (IsLeftInTurn o.accounts o.base x.1.0 x.1.1)) (λ i. (sym file i, (sym history i, sym failed i))) (s.crash honest)
+      subst (λ (x : JFile D × (List Entry × Option Failed)). (more : List Entry) × LeavesSince disk o past (disk_of x.0) (IsLeftInTurn o.accounts o.base x.1.0 x.1.1 more)) (λ i. (sym file i, (sym history i, sym failed i))) (s.crash honest)
 
   -- the books were whole
   module _ (honest : IsTrue o.honest) (whole : b.failed ≡ None) where
@@ -99,7 +102,9 @@ module _ {D : Type 0} (disk : disks.Ghosts D) (o : Opening) (past : ℕ → List
 
     -- what a crash left before the batch
     left_before : LeavesSince disk o past (disk_of b.file) (StandsBetween o.accounts o.base b.history)
-    left_before = subst (λ (f : Option Failed). LeavesSince disk o past (disk_of b.file) (IsLeftInTurn o.accounts o.base b.history f)) whole (s.crash honest)
+    left_before =
+        let was = s.crash honest in
+        subst (λ (f : Option Failed). LeavesSince disk o past (disk_of b.file) (IsLeftInTurn o.accounts o.base b.history f was.0)) whole was.1
 
     -- and within it
     left_within : LeavesOnly disk.moment disk.left_since (disk_of b.file) (disk_of b'.file) (IsBeforeOrEntered o.accounts b.history pays o.day)
@@ -133,7 +138,7 @@ module _ {D : Type 0} (disk : disks.Ghosts D) (o : Opening) (past : ℕ → List
     -- the disk failed
     crash_failed : b'.history ≡ b.history → b'.failed ≡ Some record { day = o.day; most = length pays } → Crash
     crash_failed same failed =
-        let Left : List Entry → List ℕ → Type 0 = λ h image. StandsBetween o.accounts o.base h image ⊎ StandsWithMore o.accounts h o.day (length pays) image in
+        let Left : List Entry → List ℕ → Type 0 = λ h image. StandsBetween o.accounts o.base h image ⊎ StandsWithMore o.accounts h o.day (length pays) grown.more image in
         let here : LeavesSince disk o past (disk_of b'.file) (Left b.history) =
         leaves_next disk o past (disk_of b.file) (disk_of b'.file) (StandsBetween o.accounts o.base b.history) (IsBeforeOrEntered o.accounts b.history pays o.day) (Left b.history)
         left_before left_within
@@ -141,21 +146,20 @@ module _ {D : Type 0} (disk : disks.Ghosts D) (o : Opening) (past : ℕ → List
         (λ image x. ⊎_elim
         (λ (y : StandsForBook image o.accounts b.history). inl (record { history = b.history; goes_on = goes_on; begins = prefix_self b.history; stands = y }))
         (λ (y : StandsForBook image o.accounts Entered). inr (record {
-          more = grown.more;
           few = grown.few;
           of_day = grown.of_day;
           legal = grown.legal;
           stands = subst (λ (h : List Entry). StandsForBook image o.accounts h) grown.is y;
         }))
         x) in
-        subst (λ (x : List Entry × Option Failed). LeavesSince disk o past (disk_of b'.file) (IsLeftInTurn o.accounts o.base x.0 x.1)) (λ i. (sym same i, sym failed i)) here
+        (grown.more, subst (λ (x : List Entry × Option Failed). LeavesSince disk o past (disk_of b'.file) (IsLeftInTurn o.accounts o.base x.0 x.1 grown.more)) (λ i. (sym same i, sym failed i)) here)
 
     by_memory : b'.failed ≡ None → (t : Bool) → list_any is_memory answers ≡ t → Crash
     by_memory whole_then true some = let rest = e.no_memory some in crash_same honest rest.1 rest.0 (whole_then ∙ sym whole)
     by_memory whole_then false none =
         let tried = all_tried o.accounts o.day (length pays) o.at_open pays answers first last whole_then none chain in
         let entered = chain_entered o.accounts o.day (length pays) o.at_open first last pays answers is_legal.changes.by_now chain tried in
-        subst (λ (f : Option Failed). LeavesSince disk o past (disk_of b'.file) (IsLeftInTurn o.accounts o.base b'.history f)) (sym whole_then) (crash_entered entered)
+        ([], subst (λ (f : Option Failed). LeavesSince disk o past (disk_of b'.file) (IsLeftInTurn o.accounts o.base b'.history f [])) (sym whole_then) (crash_entered entered))
 
     by_failure : (f : Option Failed) → b'.failed ≡ f → Crash
     by_failure (Some failed) is =

@@ -19,18 +19,20 @@ use Rattle.day_model.proofs.laws.Growth.{stays_legal}
 use Rattle.front_word.specs.Known.{WriterKnows, PassKnows}
 use Rattle.front_word.specs.Rule.{IsNumber}
 use Rattle.jrn_book.specs.Answers.{Answer, AnswerShows, calls_disk, history_after}
-use Rattle.jrn_book.specs.Batches.{AnswersInTurn, Stage, gate_of, is_disk_fault, is_memory, is_new, is_tried, stage_after}
+use Rattle.jrn_book.specs.Batches.{AnswersInTurn, Stage, gate_of, is_disk_fault, is_memory, is_new, stage_after}
+use Rattle.jrn_book.specs.inner.Batches.{is_tried}
 use Rattle.jrn_book.specs.Book.{Book}
 use Rattle.jrn_book.specs.declared.answer.Failed.{Failed}
 use Rattle.jrn_book.specs.declared.answer.Committed.TheVariants.{New, Kept}
 use Rattle.jrn_book.specs.declared.answer.CommitFault.TheVariants.{Conflict, Full, DiskFault, Broken, Memory}
 use Rattle.jrn_book.proofs.laws.Sizes.{gate_place}
-use Rattle.corr_books.specs.Entering.{Enters}
-use Rattle.corr_books.specs.Meeting.{IsNext, MeetsAfter, writer_after}
+use Rattle.corr_books.specs.inner.Entering.{Enters}
+use Rattle.corr_books.specs.inner.Meeting.{IsNext, MeetsAfter, writer_after}
 use Rattle.corr_books.specs.Opening.{Opening}
-use Rattle.corr_books.specs.Stand.{IsStand}
+use Rattle.corr_books.specs.inner.Stand.{IsStand}
 use Rattle.corr_books.specs.Telling.{Told}
-use Rattle.corr_books.specs.TellingAll.{AreNextInTurn, AreUntried, IsBehind, MeetsInTurn, OneOf, TellsOfRise, ToldAll, stops}
+use Rattle.corr_books.specs.TellingAll.{AreUntried, IsBehind, OneOf, TellsOfRise, ToldAll, stops}
+use Rattle.corr_books.specs.inner.TellingAll.{AreNextInTurn, MeetsInTurn}
 use Rattle.corr_books.proofs.Booking.{kept_history, new_history, next_place, stand_after, told_after}
 
 -- A disk of which nothing is told but its count of faults, and of which a crash leaves nothing. Between the answers of a batch books

@@ -1,5 +1,5 @@
 -- What stands behind the lock of books that were just made.
-use Rattle.std.proofs.Common.{◌≡◌, ℕ, ◌≤◌, List, Option, refl, ap, sym, ◌∙◌, subst, arith, append-nil}
+use Rattle.std.proofs.Common.{◌≡◌, ℕ, ◌≤◌, List, [], Option, refl, ap, sym, ◌∙◌, subst, arith, append-nil}
 use Rattle.std.specs.Prelude.{IfSome}
 use Rattle.std.proofs.lemmas.Option.{none-some}
 use Rattle.atomic_table.specs.Seated.{TableId}
@@ -12,9 +12,10 @@ use Rattle.front_word.specs.Known.{WriterKnows, beginner}
 use Rattle.jrn_book.specs.Book.{Book, Counts}
 use Rattle.jrn_book.specs.Opening.{IsNewBook}
 use Rattle.jrn_file.specs.File.{disk_of}
-use Rattle.corr_books.specs.Moments.{IsLeftInTurn, LeavesSince, StandsBetween}
+use Rattle.corr_books.specs.Moments.{LeavesSince, StandsBetween}
+use Rattle.corr_books.specs.inner.Moments.{IsLeftInTurn}
 use Rattle.corr_books.specs.Opening.{IsNamed, Opening, Parts, opening_with, parts_from, past_of}
-use Rattle.corr_books.specs.Stand.{IsStand}
+use Rattle.corr_books.specs.inner.Stand.{IsStand}
 use Rattle.corr_books.proofs.laws.Moments.{leaves_first, stands_here}
 
 module _ {D : Type 0} (disk : disks.Ghosts D) (past : ℕ → List ℕ → Type 0) (purses : TableId) (book : Book D) (day : Day) (word : TableId) (made most : ℕ) (some : 1 ≤ most) where
@@ -51,9 +52,12 @@ module _ {D : Type 0} (disk : disks.Ghosts D) (past : ℕ → List ℕ → Type 
     failed = subst (λ (f : Option Failed). IfSome f (λ f. (f.day ≡ day) × (f.most ≤ most))) (sym new.whole) tt;
     counts = subst (λ (f : Option Failed). Counts f book.at_open (disk.faults (disk_of book.file))) (sym new.whole) (sym new.count);
     mark = omega arith;
-    crash = λ honest. subst (λ (f : Option Failed). LeavesSince disk First past (disk_of book.file) (IsLeftInTurn book.accounts book.history book.history f)) (sym new.whole)
-        (leaves_first disk First past (disk_of book.file) (StandsBetween book.accounts book.history book.history) refl told (no_other (disk_of book.file)) (new.settled.durable honest)
-        (stands_here book.accounts book.history (disk.reads (disk_of book.file)) (new.settled.stands honest)));
+    crash = λ honest. (
+      [],
+      subst (λ (f : Option Failed). LeavesSince disk First past (disk_of book.file) (IsLeftInTurn book.accounts book.history book.history f [])) (sym new.whole)
+          (leaves_first disk First past (disk_of book.file) (StandsBetween book.accounts book.history book.history) refl told (no_other (disk_of book.file)) (new.settled.durable honest)
+          (stands_here book.accounts book.history (disk.reads (disk_of book.file)) (new.settled.stands honest))),
+    );
   }
 
   pub stand_begun : (o : Opening) (parts : Parts D) (w : WriterKnows) → most ≡ o.most → IsNamed disk o past purses parts made → parts ≡ Begun → IsNewBook disk.honest disk.reads disk.may_leave disk.faults book → w ≡ Beginner → InCentury day → IsLatest book.history day

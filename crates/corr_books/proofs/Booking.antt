@@ -32,11 +32,13 @@ use Rattle.jrn_book.specs.declared.answer.Committed.TheVariants.{New, Kept}
 use Rattle.jrn_book.specs.declared.answer.CommitFault.TheVariants.{Conflict, Full, DiskFault, Broken, Memory}
 use Rattle.jrn_file.specs.File.{disk_of, end_of}
 use Rattle.jrn_file.specs.declared.file.JFile.{JFile}
-use Rattle.corr_books.specs.Entering.{Enters}
-use Rattle.corr_books.specs.Meeting.{HasMet, IsNext, MeetsAfter, writer_after}
-use Rattle.corr_books.specs.Moments.{IsLeftInTurn, LeavesSince, StandsBetween, StandsWithMore}
+use Rattle.corr_books.specs.inner.Entering.{Enters}
+use Rattle.corr_books.specs.inner.Meeting.{HasMet, IsNext, MeetsAfter, writer_after}
+use Rattle.corr_books.specs.Moments.{LeavesSince, StandsBetween, StandsWithMore}
+use Rattle.corr_books.specs.inner.Moments.{IsLeftInTurn}
 use Rattle.corr_books.specs.Opening.{Opening}
-use Rattle.corr_books.specs.Stand.{IsStand, entries_of, history_of}
+use Rattle.corr_books.specs.Stand.{entries_of, history_of}
+use Rattle.corr_books.specs.inner.Stand.{IsStand}
 use Rattle.corr_books.specs.Telling.{Grows, IsAdded, NothingAdded, Says, ShowsFull, ShowsRoom, Told, entry_on, is_of_whole, known_to}
 use Rattle.corr_books.proofs.laws.Histories.{history_of-push, length-history_of, tags_more, take_front}
 use Rattle.corr_books.proofs.laws.Moments.{leaves_next}
@@ -78,7 +80,7 @@ module _ {D : Type 0} (disk : disks.Ghosts D) (o : Opening) (past : ℕ → List
 
   -- what a crash since the opening leaves of a file, with a history and a failure
   abbrev Crash : JFile D → List Entry → Option Failed → Type 0
-  Crash file history failed = IsTrue o.honest → LeavesSince disk o past (disk_of file) (IsLeftInTurn o.accounts o.base history failed)
+  Crash file history failed = IsTrue o.honest → (more : List Entry) × LeavesSince disk o past (disk_of file) (IsLeftInTurn o.accounts o.base history failed more)
 
   -- nothing was entered: the mark is no more than the disk's count
   still : (answer : Answer) (mark : ℕ) → Before → Entered answer → b'.history ≡ b.history → mark ≤ disk.faults (disk_of b'.file)
@@ -127,7 +129,9 @@ module _ {D : Type 0} (disk : disks.Ghosts D) (o : Opening) (past : ℕ → List
 
     -- what a crash left before the call
     left_before : IsTrue o.honest → LeavesSince disk o past (disk_of b.file) (StandsBetween o.accounts o.base b.history)
-    left_before honest = subst (λ (f : Option Failed). LeavesSince disk o past (disk_of b.file) (IsLeftInTurn o.accounts o.base b.history f)) whole (s.crash honest)
+    left_before honest =
+        let was = s.crash honest in
+        subst (λ (f : Option Failed). LeavesSince disk o past (disk_of b.file) (IsLeftInTurn o.accounts o.base b.history f was.0)) whole was.1
 
     -- and within it
     left_within : (answer : Answer) → Entered answer → IsTrue o.honest → LeavesOnly disk.moment disk.left_since (disk_of b.file) (disk_of b'.file) (IsBeforeOrNext o.accounts b.history pay o.day)
@@ -141,8 +145,8 @@ module _ {D : Type 0} (disk : disks.Ghosts D) (o : Opening) (past : ℕ → List
 
     crash_new : (place : ℕ) (outcome : Outcome) → Entered (Ok (New place outcome)) → IsPrefix b.history b'.history → Crash b'.file b'.history b'.failed
     crash_new place outcome e more honest =
-        subst (λ (f : Option Failed). LeavesSince disk o past (disk_of b'.file) (IsLeftInTurn o.accounts o.base b'.history f)) (sym (e.failed ∙ whole))
-        (leaves_next disk o past (disk_of b.file) (disk_of b'.file) (StandsBetween o.accounts o.base b.history) (IsBeforeOrNext o.accounts b.history pay o.day) (StandsBetween o.accounts o.base b'.history)
+        let within : LeavesSince disk o past (disk_of b'.file) (StandsBetween o.accounts o.base b'.history) =
+        leaves_next disk o past (disk_of b.file) (disk_of b'.file) (StandsBetween o.accounts o.base b.history) (IsBeforeOrNext o.accounts b.history pay o.day) (StandsBetween o.accounts o.base b'.history)
         (left_before honest) (left_within (Ok (New place outcome)) e honest)
         (λ image x. between_more image more x)
         (λ image x. ⊎_elim
@@ -155,7 +159,8 @@ module _ {D : Type 0} (disk : disks.Ghosts D) (o : Opening) (past : ℕ → List
           begins = prefix_self b'.history;
           stands = subst (λ (h : List Entry). StandsForBook image o.accounts h) (sym same) y;
         })
-        x))
+        x) in
+        ([], subst (λ (f : Option Failed). LeavesSince disk o past (disk_of b'.file) (IsLeftInTurn o.accounts o.base b'.history f [])) (sym (e.failed ∙ whole)) within)
 
     crash_failed : 1 ≤ most → (before after : ℕ) → Entered (Err (DiskFault before after)) → FitsAccounts o.accounts pay → Crash b'.file b'.history b'.failed
     crash_failed some before after e fits honest =
@@ -164,7 +169,7 @@ module _ {D : Type 0} (disk : disks.Ghosts D) (o : Opening) (past : ℕ → List
         let legal_here : IsLegal o.accounts b.history = subst (λ (x : Chart × List Entry). IsLegal x.0 x.1) (λ i. ((e.accounts ∙ s.accounts) i, e.history i)) e.legal in
         let few : length b.history < 100000 = shows.2.entries in
         let legal : IsLegal o.accounts (b.history ++ entry ∷ []) = one_pay_more o.accounts b.history pay o.day legal_here fits s.latest few (ap is_some shows.1) in
-        let Left : List Entry → List ℕ → Type 0 = λ h image. StandsBetween o.accounts o.base h image ⊎ StandsWithMore o.accounts h o.day most image in
+        let Left : List Entry → List ℕ → Type 0 = λ h image. StandsBetween o.accounts o.base h image ⊎ StandsWithMore o.accounts h o.day most (entry ∷ []) image in
         let within : LeavesSince disk o past (disk_of b'.file) (Left b.history) =
         leaves_next disk o past (disk_of b.file) (disk_of b'.file) (StandsBetween o.accounts o.base b.history) (IsBeforeOrNext o.accounts b.history pay o.day) (Left b.history)
         (left_before honest) (left_within (Err (DiskFault before after)) e honest)
@@ -172,14 +177,13 @@ module _ {D : Type 0} (disk : disks.Ghosts D) (o : Opening) (past : ℕ → List
         (λ image x. ⊎_elim
         (λ (y : StandsForBook image o.accounts b.history). inl (record { history = b.history; goes_on = goes_on; begins = prefix_self b.history; stands = y }))
         (λ (y : StandsForBook image o.accounts (next_history o.accounts b.history pay o.day)). inr (record {
-          more = entry ∷ [];
           few = omega (arith, some);
           of_day = All-cons (λ (x : Entry). x.day ≡ o.day) entry [] refl (All-nil (λ (x : Entry). x.day ≡ o.day));
           legal = legal;
           stands = subst (λ (h : List Entry). StandsForBook image o.accounts h) (new_history o.accounts b.history pay o.day shows.1) y;
         }))
         x) in
-        subst (λ (x : List Entry × Option Failed). LeavesSince disk o past (disk_of b'.file) (IsLeftInTurn o.accounts o.base x.0 x.1)) (λ i. (sym e.history i, sym e.failed i)) within
+        (entry ∷ [], subst (λ (x : List Entry × Option Failed). LeavesSince disk o past (disk_of b'.file) (IsLeftInTurn o.accounts o.base x.0 x.1 (entry ∷ []))) (λ i. (sym e.history i, sym e.failed i)) within)
 
   -- an answer that entered nothing and left the disk's count
   quiet : (answer : Answer) → Before → Entered answer → b'.history ≡ b.history → failed_after most b.failed o.day answer ≡ b.failed → disk.faults (disk_of b'.file) ≡ disk.faults (disk_of b.file) → calls_disk answer ≡ false

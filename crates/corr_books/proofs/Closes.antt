@@ -22,11 +22,12 @@ use Rattle.atomic_table.specs.Seated.{TableId}
 use Rattle.corr_books.proofs.Counting.{all_among}
 use Rattle.corr_books.proofs.laws.Moments.{leaves_as}
 use Rattle.corr_books.specs.Closing.{Closes, IsOwned, IsPart, LeavesClosed, LeavesInTurn}
-use Rattle.corr_books.specs.Moments.{IsLeftInTurn, LeavesSince, StandsBetween, StandsWithMore}
+use Rattle.corr_books.specs.Moments.{LeavesSince, StandsBetween, StandsWithMore}
+use Rattle.corr_books.specs.inner.Moments.{IsLeftInTurn}
 use Rattle.corr_books.specs.Opening.{Opening}
 use Rattle.corr_books.specs.Passes.{AllBelong}
-use Rattle.corr_books.specs.Stand.{IsStand, StandKnows}
-use Rattle.corr_books.specs.Taking.{AreTaken, IsTakenBack}
+use Rattle.corr_books.specs.inner.Stand.{IsStand, StandKnows}
+use Rattle.corr_books.specs.inner.Taking.{AreTaken, IsTakenBack}
 
 -- a pass that was taken back knows all of its entries
 part_of : (w : WriterKnows) (p : PassKnows) → IsTakenBack w p → IsPart w.acts p
@@ -70,32 +71,38 @@ module _ {D : Type 0} (disk : disks.Ghosts D) (o : Opening) (past : ℕ → List
   }
 
 -- entries of one commit that failed are of the books' day, and no more than the name tells
-more_days : (o : Opening) (history : List Entry) (failed : Failed) → (failed.day ≡ o.day) × (failed.most ≤ o.most) → (image : List ℕ) → StandsWithMore o.accounts history failed.day failed.most image
-    → StandsWithMore o.accounts history o.day o.most image
-more_days o history failed days image y = record {
-  more = y.more;
+more_days : (o : Opening) (history : List Entry) (failed : Failed) → (failed.day ≡ o.day) × (failed.most ≤ o.most) → (more : List Entry) (image : List ℕ)
+    → StandsWithMore o.accounts history failed.day failed.most more image → StandsWithMore o.accounts history o.day o.most more image
+more_days o history failed days more image y = record {
   few = let few = y.few in omega (arith, few, days.1);
-  of_day = subst (λ (d : Day). All (λ (e : Entry). e.day ≡ d) y.more) days.0 y.of_day;
+  of_day = subst (λ (d : Day). All (λ (e : Entry). e.day ≡ d) more) days.0 y.of_day;
   legal = y.legal;
   stands = y.stands;
 }
 
 -- what it left at each moment since the opening
 pub in_turn : {D : Type 0} (disk : disks.Ghosts D) (o : Opening) (past : ℕ → List ℕ → Type 0) (d : D) (history : List Entry) (at_open : ℕ) (failed : Option Failed) → IfSome failed (λ f. (f.day ≡ o.day) × (f.most ≤ o.most)) → at_open ≡ o.at_open
-    → Counts failed at_open (disk.faults d) → (IsTrue o.honest → LeavesSince disk o past d (IsLeftInTurn o.accounts o.base history failed)) → LeavesInTurn disk o past history d
+    → Counts failed at_open (disk.faults d) → (IsTrue o.honest → (more : List Entry) × LeavesSince disk o past d (IsLeftInTurn o.accounts o.base history failed more)) → LeavesInTurn disk o past history d
 in_turn disk o past d history at_open None days opened counts crash honest =
-    leaves_as disk o past d (StandsBetween o.accounts o.base history)
-    (λ image. StandsBetween o.accounts o.base history image ⊎ (Rose o.at_open (disk.faults d) × StandsWithMore o.accounts history o.day o.most image))
-    (crash honest) (λ image x. inl x)
+    let was = crash honest in (
+      was.0,
+      leaves_as disk o past d (StandsBetween o.accounts o.base history)
+          (λ image. StandsBetween o.accounts o.base history image ⊎ (Rose o.at_open (disk.faults d) × StandsWithMore o.accounts history o.day o.most was.0 image))
+          was.1 (λ image x. inl x),
+    )
 in_turn disk o past d history at_open (Some failed) days opened counts crash honest =
     let rose = subst (λ (n : ℕ). Rose n (disk.faults d)) opened counts in
-    leaves_as disk o past d (λ image. StandsBetween o.accounts o.base history image ⊎ StandsWithMore o.accounts history failed.day failed.most image)
-    (λ image. StandsBetween o.accounts o.base history image ⊎ (Rose o.at_open (disk.faults d) × StandsWithMore o.accounts history o.day o.most image))
-    (crash honest)
-    (λ image x. ⊎_elim
-    (λ (y : StandsBetween o.accounts o.base history image). inl y)
-    (λ (y : StandsWithMore o.accounts history failed.day failed.most image). inr (rose, more_days o history failed days image y))
-    x)
+    let was = crash honest in
+    let more = was.0 in (
+      more,
+      leaves_as disk o past d (λ image. StandsBetween o.accounts o.base history image ⊎ StandsWithMore o.accounts history failed.day failed.most more image)
+          (λ image. StandsBetween o.accounts o.base history image ⊎ (Rose o.at_open (disk.faults d) × StandsWithMore o.accounts history o.day o.most more image))
+          was.1
+          (λ image x. ⊎_elim
+          (λ (y : StandsBetween o.accounts o.base history image). inl y)
+          (λ (y : StandsWithMore o.accounts history failed.day failed.most more image). inr (rose, more_days o history failed days more image y))
+          x),
+    )
 
 -- what a crash leaves of the closed books' disk
 pub leaves : {D : Type 0} (disk : disks.Ghosts D) (o : Opening) (file : JFile D) (chart : Chart) (history : List Entry) (at_open : ℕ) (failed : Option Failed) → IfSome failed (λ f. (f.day ≡ o.day) × (f.most ≤ o.most)) → at_open ≡ o.at_open → chart ≡ o.accounts

@@ -2,7 +2,8 @@
 use Rattle.std.proofs.Common.{◌≡◌, ◌≢◌, ◌⊎◌, inl, inr, ⊎_elim, ℕ, zero, suc, ◌+◌, ◌≤◌, List, [], ◌∷◌, length, Some, slice_get, refl, ap, sym, ◌∙◌, subst, arith}
 use mathlib.Core.Logic.{dite}
 use native.Mathlib.Decide.{ℕ_discrete}
-use Rattle.front_word.specs.Rule.{Among, IsNumber, IsDistinct}
+use Rattle.front_word.specs.Rule.{Among, IsNumber}
+use Rattle.front_word.specs.inner.Rule.{IsDistinct}
 
 -- the list without what stands at this place
 drop_at : List ℕ → ℕ → List ℕ

@@ -14,8 +14,8 @@ use Rattle.day_model.specs.Fit.{FitsAccounts}
 use Rattle.day_model.proofs.laws.Fitting.{fitting}
 use Rattle.acct_locks.specs.Holdings.{AllHand, EachOnce, Holding, Holds, HoldsOnce, TakesNext}
 use Rattle.jrn_book.specs.Deciding.{HoldsAll}
-use Rattle.corr_books.specs.Numbers.{IsOneOf}
-use Rattle.corr_books.specs.TellingAll.{HasAccountsOf, RiseOrStay}
+use Rattle.corr_books.specs.inner.Numbers.{IsOneOf}
+use Rattle.corr_books.specs.inner.TellingAll.{HasAccountsOf, RiseOrStay}
 
 -- a number of a list is there when more follow, and so is one of those that follow
 stays_one : (numbers more : List ℕ) (n : ℕ) → IsOneOf numbers n → IsOneOf (numbers ++ more) n

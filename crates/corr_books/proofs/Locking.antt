@@ -5,7 +5,7 @@ use Rattle.acct_locks.specs.Holdings.{EachOnce, Hand, Holding, Holds, HoldsOnce,
 use Rattle.day_model.specs.declared.pay.Leg.{Leg}
 use Rattle.day_model.specs.Chart.{Chart}
 use Rattle.jrn_book.specs.Deciding.{HoldsAll}
-use Rattle.corr_books.specs.Numbers.{AreRising, IsOneOf}
+use Rattle.corr_books.specs.inner.Numbers.{AreRising, IsOneOf}
 
 -- each account that is held is at most n, and is held once
 record IsHeldUpTo (n : ℕ) (held : List Holding) : Type 0 where

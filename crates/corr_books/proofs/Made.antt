@@ -5,7 +5,7 @@ use Rattle.front_word.specs.Known.{WriterKnows, PassKnows, beginner, newcomer}
 use Rattle.front_word.proofs.laws.Prefixes.{get_below, get_snoc}
 use Rattle.corr_books.specs.Opening.{Opening}
 use Rattle.corr_books.specs.Passes.{AreNew}
-use Rattle.corr_books.specs.Taking.{AreMade}
+use Rattle.corr_books.specs.inner.Taking.{AreMade}
 
 -- passes that a writer made that has just begun are new ones of the books
 pub are_new : (o : Opening) (w : WriterKnows) (passes : List PassKnows) → w ≡ beginner o.word o.base → AreMade w o.made passes → AreNew o passes

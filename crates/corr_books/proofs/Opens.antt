@@ -13,7 +13,8 @@ use Rattle.jrn_file.specs.Reading.{Reading}
 use Rattle.jrn_file.specs.declared.fault.OpenFault.{OpenFault}
 use Rattle.corr_books.specs.declared.opening.BooksFault.{BooksFault}
 use Rattle.corr_books.specs.declared.opening.BooksFault.TheVariants.{Open, DateBack}
-use Rattle.corr_books.specs.Finding.{BeginsNot, OpenedBooks, RefusesAs, ShowsBack, TellsOf}
+use Rattle.corr_books.specs.Finding.{OpenedBooks, RefusesAs, ShowsBack, TellsOf}
+use Rattle.corr_books.specs.inner.Finding.{BeginsNot}
 use Rattle.corr_books.specs.Opening.{Parts, parts_from}
 
 -- a list ends with its last element

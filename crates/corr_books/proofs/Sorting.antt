@@ -7,7 +7,7 @@ use Rattle.day_model.specs.declared.pay.Leg.{Leg}
 use Rattle.day_model.specs.Chart.{Chart, IsListed, accounts_of}
 use Rattle.day_model.specs.Fit.{are_apart, is_apart_from, legs_fit}
 use Rattle.day_model.proofs.laws.Fitting.{LegsFit, fitting}
-use Rattle.corr_books.specs.Numbers.{AreRising, IsOneOf, RiseBetween, inserted, sorted_accounts}
+use Rattle.corr_books.specs.inner.Numbers.{AreRising, IsOneOf, RiseBetween, inserted, sorted_accounts}
 
 -- a number that is put in stands before a greater one, or further on
 put_here : (n m : ℕ) (numbers : List ℕ) → n < m → inserted n (m ∷ numbers) ≡ n ∷ m ∷ numbers

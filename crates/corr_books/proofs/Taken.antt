@@ -4,10 +4,11 @@ use mathlib.Core.List.{IsPrefix}
 use mathlib.Core.Logic.{dite}
 use native.Mathlib.Decide.{ℕ_discrete}
 use Rattle.front_word.specs.Known.{WriterKnows, PassKnows, HasPlaces}
-use Rattle.front_word.specs.Rule.{OwedPast, Among, IsDistinct}
+use Rattle.front_word.specs.Rule.{OwedPast, Among}
+use Rattle.front_word.specs.inner.Rule.{IsDistinct}
 use Rattle.front_word.proofs.laws.Prefixes.{prefix_self, prefix_trans, prefix_get, get_below, get_last}
 use Rattle.corr_books.proofs.Counting.{among_more, distinct_more}
-use Rattle.corr_books.specs.Taking.{IsTakenBack, AreTaken}
+use Rattle.corr_books.specs.inner.Taking.{IsTakenBack, AreTaken}
 
 -- none was taken back yet
 pub none_taken : (w : WriterKnows) (passes : List PassKnows) → w.back ≡ [] → AreTaken w passes w passes

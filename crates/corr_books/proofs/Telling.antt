@@ -3,16 +3,17 @@ use Rattle.std.proofs.Common.{◌≡◌, ℕ, ◌+◌, ◌<◌, ◌≤◌, Bool,
 use Rattle.std.proofs.lemmas.List.{drop_all, drop_more}
 use Rattle.corr_ids.specs.declared.day.Day.{Day}
 use Rattle.day_model.specs.declared.pay.Pay.{Pay}
-use Rattle.front_word.specs.Blank.{blank_pay}
+use Rattle.front_word.specs.inner.Blank.{blank_pay}
 use Rattle.front_word.specs.Known.{PassKnows, WriterKnows}
 use Rattle.front_word.specs.Rule.{IsNumber}
 use Rattle.jrn_book.specs.Answers.{Answer}
 use Rattle.jrn_book.specs.declared.answer.Committed.TheVariants.{New, Kept}
 use Rattle.jrn_book.specs.declared.answer.CommitFault.TheVariants.{Conflict, Full, DiskFault, Broken, Memory}
-use Rattle.corr_books.specs.Meeting.{IsNext, MeetsAfter, writer_after}
+use Rattle.corr_books.specs.inner.Meeting.{IsNext, MeetsAfter, writer_after}
 use Rattle.corr_books.specs.Opening.{Opening}
 use Rattle.corr_books.specs.Passes.{Belongs}
-use Rattle.corr_books.specs.TellingAll.{AreNextInTurn, MeetsInTurn, OneOf, stops}
+use Rattle.corr_books.specs.TellingAll.{OneOf, stops}
+use Rattle.corr_books.specs.inner.TellingAll.{AreNextInTurn, MeetsInTurn}
 
 -- what an answer leaves of a writer
 pub record KeepsWriter (w w' : WriterKnows) : Type 0 where

@@ -54,8 +54,9 @@ LeavesClosed disk o history d =
     ⊎ (Rose o.at_open (disk.faults d) × IsLeftBy (disk.honest d) (disk.may_leave d) o.accounts history (record { day = o.day; most = o.most }))
 
 -- So it was at each moment since the opening: of a disk that tells its bytes a crash leaves the history at the opening and a front
--- part of what was entered since, in its order; or, where the count of faults rose, the closed history and the legal entries of one commit.
+-- part of what was entered since, in its order; or, where the count of faults rose, the closed history and the legal entries of one commit,
+-- the same ones whenever it comes.
 abbrev pub LeavesInTurn : {D : Type 0} → disks.Ghosts D → Opening → (ℕ → List ℕ → Type 0) → List Entry → D → Type 0
 LeavesInTurn disk o past history d =
-    IsTrue o.honest → LeavesSince disk o past d (λ image. StandsBetween o.accounts o.base history image
-    ⊎ (Rose o.at_open (disk.faults d) × StandsWithMore o.accounts history o.day o.most image))
+    IsTrue o.honest → (more : List Entry) × LeavesSince disk o past d (λ image. StandsBetween o.accounts o.base history image
+    ⊎ (Rose o.at_open (disk.faults d) × StandsWithMore o.accounts history o.day o.most more image))

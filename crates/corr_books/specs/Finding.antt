@@ -7,7 +7,6 @@ use Rattle.day_model.specs.Laws.{IsLatest}
 use Rattle.jrn_book.specs.Journal.{IsJournal}
 use Rattle.jrn_book.specs.Opening.{Finding, book, no_book, other_version, faulty, IsFound, BookOpenCause, found_by}
 use Rattle.jrn_file.specs.Reading.{Reading}
-use Rattle.jrn_file.specs.declared.fault.OpenFault.TheVariants as open_fault
 use Rattle.corr_books.specs.declared.opening.BooksFault.{BooksFault}
 use Rattle.corr_books.specs.declared.opening.BooksFault.TheVariants.{Open, DateBack}
 use Rattle.corr_books.specs.Opening.{Parts}
@@ -76,8 +75,3 @@ ShowsBack reading honest day (DateBack last) = OpensBack reading honest day last
 abbrev pub BooksCause : ℕ → ℕ → BooksFault → Type 0
 BooksCause old new (Open fault) = BookOpenCause old new fault
 BooksCause old new (DateBack last) = new ≡ old
-
--- a book of this history was not begun for the day: its last entry has a later one, or there was no memory
-abbrev pub BeginsNot : List Entry → Day → BooksFault → Type 0
-BeginsNot history day (Open fault) = fault ≡ open_fault.Memory
-BeginsNot history day (DateBack last) = IsDateBack history day last

@@ -2,12 +2,9 @@ pub mod Opening
 pub mod Finding
 pub mod Moments
 pub mod Passes
-pub mod Numbers
-pub mod Entering
 pub mod Stand
 pub mod Telling
 pub mod TellingAll
-pub mod Meeting
-pub mod Taking
 pub mod Closing
 pub mod Laws
+pub mod inner

@@ -1,9 +1,8 @@
 -- What a crash at some moment since the opening of books may have left.
-use Rattle.std.specs.Prelude.{◌≡◌, ◌⊎◌, ℕ, ◌≤◌, All, List, ◌++◌, length, Option, None, Some}
+use Rattle.std.specs.Prelude.{◌≡◌, ◌⊎◌, ℕ, ◌≤◌, All, List, ◌++◌, length}
 use mathlib.Core.List.{IsPrefix}
 use Rattle.corr_disk.specs.declared.disk.Disk as disks
 use Rattle.corr_ids.specs.declared.day.Day.{Day}
-use Rattle.jrn_book.specs.declared.answer.Failed.{Failed}
 use Rattle.day_model.specs.declared.entry.Entry.{Entry}
 use Rattle.day_model.specs.Chart.{Chart}
 use Rattle.day_model.specs.Legal.{IsLegal}
@@ -17,19 +16,12 @@ pub record StandsBetween (chart : Chart) (first last : List Entry) (image : List
   pub begins : IsPrefix history last
   pub stands : StandsForBook image chart history
 
--- the bytes stand for the history with entries more, at most so many, all of this day, and with them it is legal
-pub record StandsWithMore (chart : Chart) (history : List Entry) (day : Day) (most : ℕ) (image : List ℕ) : Type 0 where
-  pub more : List Entry
+-- the bytes stand for the history with these entries more, which are at most so many, all of this day, and with them it is legal
+pub record StandsWithMore (chart : Chart) (history : List Entry) (day : Day) (most : ℕ) (more : List Entry) (image : List ℕ) : Type 0 where
   pub few : length more ≤ most
   pub of_day : All (λ e. e.day ≡ day) more
   pub legal : IsLegal chart (history ++ more)
   pub stands : StandsForBook image chart (history ++ more)
-
--- What a crash leaves of a book that had the first of these histories at its opening and has the last one now: the first one and a
--- front part of what was entered since, in its order; or, where a commit failed, the last one and the legal entries that it was writing.
-abbrev pub IsLeftInTurn : Chart → List Entry → List Entry → Option Failed → List ℕ → Type 0
-IsLeftInTurn chart first last None image = StandsBetween chart first last image
-IsLeftInTurn chart first last (Some failed) image = StandsBetween chart first last image ⊎ StandsWithMore chart last failed.day failed.most image
 
 -- At each moment since the opening a crash leaves bytes that have P. Of a crash since an earlier moment: it leaves such bytes, or
 -- what it might have left before the opening, which the name of the books tells.

@@ -1,7 +1,6 @@
 -- One opening of books: what its name names.
-use Rattle.std.specs.Prelude.{◌≡◌, ◌≤◌, ℕ, Bool, false, List, [], pos}
+use Rattle.std.specs.Prelude.{◌≡◌, ◌≤◌, ℕ, Bool, List}
 use Rattle.atomic_table.specs.Seated.{TableId}
-use Rattle.acct_locks.specs.Sides.{no_table}
 use Rattle.corr_disk.specs.declared.disk.Disk as disks
 use Rattle.corr_ids.specs.declared.day.Day.{Day}
 use Rattle.day_model.specs.declared.entry.Entry.{Entry}
@@ -23,24 +22,6 @@ pub record Opening : Type 0 where
   pub made : ℕ
   pub word : TableId
   pub most : ℕ
-
--- what a name of an opening is where no call has picked one
-abbrev pub no_opening : Opening
-no_opening = record {
-  accounts = record { home = record { head = []; branch = [] }; first = []; changes = [] };
-  base = [];
-  day = record { 0 = pos 0 };
-  at_open = 0;
-  since = 0;
-  honest = false;
-  made = 0;
-  word = no_table;
-  most = 1;
-}
-
--- and what a crash before it might have left
-abbrev pub no_past : ℕ → List ℕ → Type 0
-no_past t image = ⊥
 
 -- The parts of an opening that have no name yet: its accounts and history, the day, the disk's count of faults then, the open
 -- file, and the tables of the word and of the purses.

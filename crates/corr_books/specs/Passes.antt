@@ -1,6 +1,5 @@
 -- The passes of books.
 use Rattle.std.specs.Prelude.{◌≡◌, ℕ, ◌+◌, ◌≤◌, List, [], length, Some, slice_get}
-use Rattle.atomic_table.specs.Seated.{TableId}
 use Rattle.front_word.specs.Known.{PassKnows}
 use Rattle.front_word.specs.Rule.{IsNumber}
 use Rattle.corr_books.specs.Opening.{Opening}
@@ -27,7 +26,3 @@ pub record IsNew (o : Opening) (k : ℕ) (p : PassKnows) : Type 0 where
 pub record AreNew (o : Opening) (passes : List PassKnows) : Type 0 where
   pub count : length passes ≡ o.made
   pub each : (k : ℕ) (p : PassKnows) → slice_get passes k ≡ Some p → IsNew o k p
-
--- each of the passes is of this table
-abbrev pub AllFit : TableId → List PassKnows → Type 0
-AllFit word passes = (k : ℕ) (p : PassKnows) → slice_get passes k ≡ Some p → p.table ≡ word

@@ -3,14 +3,10 @@ use Rattle.std.specs.Prelude.{◌≡◌, ℕ, ◌≤◌, All, Bool, true, false,
 use Rattle.std.specs.List.{list_all, list_any}
 use Rattle.corr_text.specs.Faults.{Rose}
 use Rattle.day_model.specs.declared.pay.Pay.{Pay}
-use Rattle.day_model.specs.Chart.{Chart, accounts_of}
-use Rattle.corr_ids.specs.declared.day.Day.{Day}
-use Rattle.front_word.specs.Known.{PassKnows, WriterKnows}
+use Rattle.front_word.specs.Known.{PassKnows}
 use Rattle.jrn_book.specs.Answers.{Answer}
 use Rattle.jrn_book.specs.Batches.{is_memory, is_new}
 use Rattle.jrn_book.specs.declared.answer.CommitFault.TheVariants.{Conflict, Full, Broken, Memory}
-use Rattle.corr_books.specs.Meeting.{IsNext, MeetsAfter, writer_after}
-use Rattle.corr_books.specs.Numbers.{IsOneOf}
 use Rattle.corr_books.specs.Opening.{Opening}
 use Rattle.corr_books.specs.Telling.{NothingAdded, Told}
 
@@ -61,29 +57,3 @@ pub record NoneEntered (old new : PassKnows) (answers : List Answer) : Type 0 wh
 pub record NoneTried (old new : PassKnows) (answers : List Answer) : Type 0 where
   pub all : list_all is_memory answers ≡ true
   pub pass : new ≡ record old { spare = new.spare }
-
--- numbers that don't fall, and are at least low
-abbrev pub RiseOrStay : ℕ → List ℕ → Type 0
-RiseOrStay low [] = Unit {0}
-RiseOrStay low (n ∷ numbers) = (low ≤ n) × RiseOrStay n numbers
-
--- the accounts of all legs of these pays, in an order in which they don't fall
-pub record HasAccountsOf (chart : Chart) (pays : List Pay) (numbers : List ℕ) : Type 0 where
-  pub ordered : RiseOrStay 1 numbers
-  pub there : All (λ n. n ≤ length (accounts_of chart)) numbers
-  pub are : All (λ pay. All (λ leg. IsOneOf numbers leg.account.0) pay.legs) pays
-
--- What the answers to pays of a batch make of the writer, and how a pass of this number learns it, one after another up to the first that
--- stops the batch.
-abbrev pub MeetsInTurn : WriterKnows → ℕ → List Pay → Day → List Answer → PassKnows → WriterKnows → PassKnows → Type 0
-MeetsInTurn w number [] day answers old last new = (last ≡ w) × (new ≡ old)
-MeetsInTurn w number (pay ∷ pays) day [] old last new = (last ≡ w) × (new ≡ old)
-MeetsInTurn w number (pay ∷ pays) day (answer ∷ answers) old last new =
-    let after = writer_after w number pay day answer in
-    (next : PassKnows) × MeetsAfter w after answer old next × OneOf (stops answer) ((last ≡ after) × (new ≡ next)) (MeetsInTurn after number pays day answers next last new)
-
--- each place that is new is the next one of the writer's then
-abbrev pub AreNextInTurn : WriterKnows → ℕ → List Pay → Day → List Answer → Type 0
-AreNextInTurn w number [] day answers = Unit {0}
-AreNextInTurn w number (pay ∷ pays) day [] = Unit {0}
-AreNextInTurn w number (pay ∷ pays) day (answer ∷ answers) = IsNext w.base w.acts answer × AreNextInTurn (writer_after w number pay day answer) number pays day answers

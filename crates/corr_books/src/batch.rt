@@ -9,7 +9,8 @@ ghost use Rattle.acct_locks.specs.Holdings.{EachOnce, Holds};
 ghost use Rattle.jrn_book.specs.Batches.{is_memory, most_batch};
 ghost use Rattle.jrn_book.specs.Deciding.{HoldsAll};
 ghost use Rattle.corr_books.specs.Passes.{Belongs};
-ghost use Rattle.corr_books.specs.TellingAll.{AreNextInTurn, HasAccountsOf, MeetsInTurn, NoneEntered, NoneTried, RiseOrStay, ToldAll, stops};
+ghost use Rattle.corr_books.specs.TellingAll.{NoneEntered, NoneTried, ToldAll, stops};
+ghost use Rattle.corr_books.specs.inner.TellingAll.{AreNextInTurn, HasAccountsOf, MeetsInTurn, RiseOrStay};
 
 use crate::books::Books;
 use crate::entering::enter_all;

@@ -7,7 +7,7 @@ ghost use Rattle.day_model.specs.Laws.{IsLatest};
 ghost use Rattle.day_model.specs.Shape.{HasShape};
 ghost use Rattle.jrn_book.specs.Batches.{most_batch};
 ghost use Rattle.jrn_book.specs.Deciding.{HoldsAll};
-ghost use Rattle.corr_books.specs.Entering.{Enters, EntersAll};
+ghost use Rattle.corr_books.specs.inner.Entering.{Enters, EntersAll};
 
 use acct_locks::Held;
 use corr_disk::Disk;

@@ -17,7 +17,7 @@ pub trait BooksName: Name {
 }
 
 impl BooksName for Brand {
-    ghost use Rattle.corr_books.specs.Opening.{no_opening, no_past};
+    ghost use Rattle.corr_books.specs.inner.Opening.{no_opening, no_past};
 
     ghost opening = { no_opening };
 
@@ -32,7 +32,7 @@ pub(crate) trait Act {
 }
 
 impl Act for Brand {
-    ghost use Rattle.front_word.specs.Blank.{blank_act};
+    ghost use Rattle.front_word.specs.inner.Blank.{blank_act};
 
     ghost act = { blank_act };
 }
@@ -59,7 +59,7 @@ pub(crate) trait Paid {
 }
 
 impl Paid for Brand {
-    ghost use Rattle.front_word.specs.Blank.{blank_pay};
+    ghost use Rattle.front_word.specs.inner.Blank.{blank_pay};
 
     ghost pay = { blank_pay };
 }

@@ -10,7 +10,8 @@ ghost use Rattle.jrn_book.specs.Opening.{HasPurses, IsNewBook};
 ghost use Rattle.jrn_file.specs.File.{disk_of};
 ghost use Rattle.jrn_file.specs.Reading.{opened_of};
 ghost use Rattle.jrn_file.specs.Untouched.{IsUntouched};
-ghost use Rattle.corr_books.specs.Finding.{BeginsNot, BooksCause, IsDateBack, IsGivenBy, ShowsBack, TellsOf};
+ghost use Rattle.corr_books.specs.Finding.{BooksCause, IsDateBack, IsGivenBy, ShowsBack, TellsOf};
+ghost use Rattle.corr_books.specs.inner.Finding.{BeginsNot};
 ghost use Rattle.corr_books.specs.Opening.{parts_from};
 
 use crate::naming::Beginning;

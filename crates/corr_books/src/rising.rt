@@ -2,7 +2,7 @@
 
 ghost use Rattle.std.specs.Prelude.{◌≡◌, ◌≤◌, [], ◌∷◌, length, None};
 ghost use Rattle.day_model.specs.Fit.{FitsAccounts};
-ghost use Rattle.corr_books.specs.Numbers.{AreRising, inserted, numbers_of, sorted_accounts};
+ghost use Rattle.corr_books.specs.inner.Numbers.{AreRising, inserted, numbers_of, sorted_accounts};
 
 use day_model::{Accounts, AcctNo, Leg, Pay};
 

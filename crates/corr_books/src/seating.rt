@@ -4,8 +4,8 @@ ghost use Rattle.std.specs.Prelude.{◌≡◌, ◌≤◌, IfErr, IfOk, length};
 ghost use Rattle.jrn_file.specs.File.{disk_of};
 ghost use Rattle.corr_books.specs.Opening.{IsNamed};
 ghost use Rattle.corr_books.specs.Passes.{AreNew};
-ghost use Rattle.corr_books.specs.Stand.{IsStand};
-ghost use Rattle.corr_books.specs.Taking.{AreMade};
+ghost use Rattle.corr_books.specs.inner.Stand.{IsStand};
+ghost use Rattle.corr_books.specs.inner.Taking.{AreMade};
 ghost use Rattle.work_pool.specs.Served.{most_workers};
 
 use crate::books::Books;

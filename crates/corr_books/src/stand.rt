@@ -6,7 +6,7 @@ ghost use Rattle.day_model.specs.Log.{most_entries};
 ghost use Rattle.day_model.specs.Shape.{HasShape};
 ghost use Rattle.front_word.specs.Rule.{IsNumber};
 ghost use Rattle.jrn_book.specs.Deciding.{HoldsAll};
-ghost use Rattle.corr_books.specs.Meeting.{IsNext, MeetsAfter, act_of, owing, writer_after};
+ghost use Rattle.corr_books.specs.inner.Meeting.{IsNext, MeetsAfter, act_of, owing, writer_after};
 ghost use Rattle.corr_books.specs.Passes.{Belongs};
 ghost use Rattle.corr_books.specs.Telling.{Told};
 
@@ -30,7 +30,7 @@ pub(crate) struct Stand<N: BooksName, D: Disk> {
 }
 
 impl<N: BooksName, D: Disk> Model for Stand<N, D> {
-    ghost use Rattle.corr_books.specs.Stand.{StandKnows, IsStand};
+    ghost use Rattle.corr_books.specs.inner.Stand.{StandKnows, IsStand};
 
     ghost Value = { StandKnows D };
 

@@ -1,8 +1,8 @@
 //! Passes are taken back.
 
 ghost use Rattle.std.specs.Prelude.{◌≡◌, [], None};
-ghost use Rattle.corr_books.specs.Passes.{AllFit};
-ghost use Rattle.corr_books.specs.Taking.{AreTaken};
+ghost use Rattle.corr_books.specs.inner.Passes.{AllFit};
+ghost use Rattle.corr_books.specs.inner.Taking.{AreTaken};
 
 use front_word::{Front, Pass, Writer};
 

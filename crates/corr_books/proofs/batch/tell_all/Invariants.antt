@@ -1,5 +1,5 @@
 use Rattle.std.proofs.Common.{get_or}
-use Rattle.front_word.specs.Blank.{blank_pay}
+use Rattle.front_word.specs.inner.Blank.{blank_pay}
 use Rattle.corr_books.proofs.Telling.{HasTold}
 use Rattle.corr_books.proofs.batch.tell_all.Given as goal
 

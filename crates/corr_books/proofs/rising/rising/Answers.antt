@@ -1,5 +1,5 @@
 use Rattle.std.proofs.Common.{sym, ap, ◌∙◌, subst}
-use Rattle.corr_books.specs.Numbers.{AreRising, sorted_accounts}
+use Rattle.corr_books.specs.inner.Numbers.{AreRising, sorted_accounts}
 use Rattle.corr_books.proofs.Sorting.{are_rising, two_or_three}
 use Rattle.corr_books.proofs.rising.rising.Goals as goal
 

@@ -1,5 +1,5 @@
 use Rattle.std.proofs.Common.{◌≡◌}
-use Rattle.corr_books.specs.Taking.{AreMade}
+use Rattle.corr_books.specs.inner.Taking.{AreMade}
 use Rattle.corr_books.proofs.seating.make_passes.Given as goal
 
 abbrev pub invariant-loop-i : goal.invariant-loop-i

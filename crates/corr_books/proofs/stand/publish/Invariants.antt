@@ -1,4 +1,4 @@
-use Rattle.corr_books.specs.Meeting.{act_of}
+use Rattle.corr_books.specs.inner.Meeting.{act_of}
 use Rattle.corr_books.proofs.stand.publish.Given as goal
 
 -- the entry that is published

@@ -1,5 +1,5 @@
 use Rattle.std.proofs.Common.{vec_len}
-use Rattle.corr_books.specs.Taking.{AreTaken}
+use Rattle.corr_books.specs.inner.Taking.{AreTaken}
 use Rattle.corr_books.proofs.taking.take_all.Given as goal
 
 abbrev pub invariant-loop-pass : goal.invariant-loop-pass

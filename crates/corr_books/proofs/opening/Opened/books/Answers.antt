@@ -1,7 +1,7 @@
 use Rattle.std.proofs.Common.{◌∙◌, ℕ, ap, refl, subst, sym}
 use Rattle.front_word.specs.Known.{WriterKnows, beginner}
 use Rattle.corr_books.specs.Opening.{Opening, Parts}
-use Rattle.corr_books.specs.Taking.{AreMade}
+use Rattle.corr_books.specs.inner.Taking.{AreMade}
 use Rattle.corr_books.proofs.Begun.{stand_begun}
 use Rattle.corr_books.proofs.Made.{are_new}
 use Rattle.corr_books.proofs.opening.Opened.books.Goals as goal

@@ -2,9 +2,9 @@ use Rattle.std.proofs.Common.{◌≡◌, ap, sym, subst, refl, arith}
 use Rattle.corr_ids.specs.declared.day.Day.{Day}
 use Rattle.front_word.specs.Rule.{IsNumber}
 use Rattle.front_word.specs.Known.{WriterKnows, PassKnows}
-use Rattle.corr_books.specs.Entering.{Enters}
-use Rattle.corr_books.specs.Meeting.{MeetsAfter, writer_after}
-use Rattle.corr_books.specs.Stand.{IsStand}
+use Rattle.corr_books.specs.inner.Entering.{Enters}
+use Rattle.corr_books.specs.inner.Meeting.{MeetsAfter, writer_after}
+use Rattle.corr_books.specs.inner.Stand.{IsStand}
 use Rattle.corr_books.specs.Telling.{Told}
 use Rattle.corr_books.proofs.Booking.{stand_after, told_after, told_spare}
 use Rattle.corr_books.proofs.stand.Stand.book.Goals as goal

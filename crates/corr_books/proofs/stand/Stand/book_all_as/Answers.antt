@@ -5,7 +5,8 @@ use Rattle.front_word.specs.Rule.{IsNumber}
 use Rattle.jrn_book.specs.Answers.{Answer}
 use Rattle.jrn_book.specs.declared.answer.CommitFault.TheVariants.{Memory}
 use Rattle.corr_books.specs.Passes.{Belongs}
-use Rattle.corr_books.specs.TellingAll.{AreNextInTurn, MeetsInTurn, NoneEntered, NoneTried, ToldAll}
+use Rattle.corr_books.specs.TellingAll.{NoneEntered, NoneTried, ToldAll}
+use Rattle.corr_books.specs.inner.TellingAll.{AreNextInTurn, MeetsInTurn}
 use Rattle.corr_books.proofs.Batched.{all_entered, all_wanted, booked_all, many_answers, next_places, told_all_spare, told_memory}
 use Rattle.corr_books.proofs.Telling.{belongs_on}
 use Rattle.corr_books.proofs.Together.{memory_enters_none, memory_tries_none}

@@ -2,7 +2,8 @@
 use Rattle.std.specs.Prelude.{◌≡◌, ℕ, ◌+◌, ◌≤◌, List, length, Some, None, slice_get}
 use mathlib.Core.List.{IsPrefix}
 use Rattle.front_word.specs.Known.{WriterKnows, PassKnows, HasPlaces, newcomer}
-use Rattle.front_word.specs.Rule.{Among, IsDistinct, OwedPast}
+use Rattle.front_word.specs.Rule.{Among, OwedPast}
+use Rattle.front_word.specs.inner.Rule.{IsDistinct}
 
 -- so many passes, the first of which was made first
 pub record AreMade (w : WriterKnows) (count : ℕ) (passes : List PassKnows) : Type 0 where

@@ -1,0 +1,10 @@
+pub mod Entering
+pub mod Finding
+pub mod Meeting
+pub mod Moments
+pub mod Numbers
+pub mod Opening
+pub mod Passes
+pub mod Stand
+pub mod Taking
+pub mod TellingAll
